@@ -1,0 +1,7 @@
+pub mod Numerals
+pub mod Cuts
+pub mod Returns
+pub mod LineLaws
+pub mod LinesSoFar
+pub mod DeviceCalls
+pub mod RunSoFar

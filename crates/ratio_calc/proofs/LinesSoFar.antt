@@ -1,0 +1,141 @@
+-- The lines of what was read so far, as it grows by a byte.
+use Rattle.std.proofs.Common.{◌≡◌, ℕ, ◌+◌, ◌<◌, List, [], ◌∷◌, ◌++◌, length, Bool, true, false, not, cond, ◌==◌, nat_lt, Option, None, Some, refl, ap, ◌∙◌, sym, arith, ◌≢◌, length-append}
+use Rattle.std.specs.List.{slice_split, onto_first, flat_map}
+use Rattle.std.proofs.lemmas.Bool.Decides.{nat_tests}
+use Rattle.std.proofs.lemmas.List.{append-nil}
+use Rattle.std.proofs.lemmas.List.Concat.{flat_map-append}
+use Rattle.std.proofs.lemmas.List.Splits.{length-slice_split}
+use Rattle.ratio_calc.specs.Answers.{answer_line, answer_to, answers_of, begun_line, front_of, if_begun, is_line_end, last_of, lines_of, whole_answers, whole_lines}
+use Rattle.ratio_calc.specs.KeptLine.{byte_answer, is_empty, kept, kept_answer, last_answer, next_line, pushed}
+
+-- the parts with one more byte, which ends the last part if `ends`
+abbrev grown : Bool → ℕ → List (List ℕ) → List (List ℕ)
+grown ends byte [] = []
+grown ends byte (part ∷ []) = cond ends (part ∷ [] ∷ []) ((part ++ byte ∷ []) ∷ [])
+grown ends byte (part ∷ next ∷ parts) = part ∷ grown ends byte (next ∷ parts)
+
+grown_onto : (ends : Bool) (byte x : ℕ) (parts : List (List ℕ)) → 0 < length parts → onto_first x (grown ends byte parts) ≡ grown ends byte (onto_first x parts)
+grown_onto ends byte x [] some = absurd (omega arith)
+grown_onto true byte x (part ∷ []) some = refl
+grown_onto false byte x (part ∷ []) some = refl
+grown_onto ends byte x (part ∷ next ∷ parts) some = refl
+
+grown_under : (ends : Bool) (byte : ℕ) (parts : List (List ℕ)) → 0 < length parts → [] ∷ grown ends byte parts ≡ grown ends byte ([] ∷ parts)
+grown_under ends byte [] some = absurd (omega arith)
+grown_under ends byte (part ∷ parts) some = refl
+
+some_part : (p : ℕ → Bool) (xs : List ℕ) → 0 < length (slice_split p xs)
+some_part p xs = omega (arith, length-slice_split p xs)
+
+split_more : (p : ℕ → Bool) (xs : List ℕ) (byte : ℕ) → slice_split p (xs ++ byte ∷ []) ≡ grown (p byte) byte (slice_split p xs)
+split_more p [] byte = elim (p byte) as (λ t. cond t ([] ∷ [] ∷ []) ((byte ∷ []) ∷ []) ≡ cond t ([] ∷ [] ∷ []) ((byte ∷ []) ∷ [])) [ true ↦ refl | false ↦ refl ]
+split_more p (x ∷ xs) byte =
+    rw (split_more p xs byte)
+    (elim (p x) as (λ t. cond t ([] ∷ grown (p byte) byte (slice_split p xs)) (onto_first x (grown (p byte) byte (slice_split p xs)))
+    ≡ grown (p byte) byte (cond t ([] ∷ slice_split p xs) (onto_first x (slice_split p xs))))
+    [ true ↦ grown_under (p byte) byte (slice_split p xs) (some_part p xs) | false ↦ grown_onto (p byte) byte x (slice_split p xs) (some_part p xs) ])
+
+some_grown : (ends : Bool) (byte : ℕ) (parts : List (List ℕ)) → 0 < length parts → 0 < length (grown ends byte parts)
+some_grown ends byte [] some = absurd (omega arith)
+some_grown true byte (part ∷ []) some = omega arith
+some_grown false byte (part ∷ []) some = omega arith
+some_grown ends byte (part ∷ next ∷ parts) some = omega arith
+
+front_under : (part : List ℕ) (parts : List (List ℕ)) → 0 < length parts → front_of (part ∷ parts) ≡ part ∷ front_of parts
+front_under part [] some = absurd (omega arith)
+front_under part (next ∷ parts) some = refl
+
+last_under : (part : List ℕ) (parts : List (List ℕ)) → 0 < length parts → last_of (part ∷ parts) ≡ last_of parts
+last_under part [] some = absurd (omega arith)
+last_under part (next ∷ parts) some = refl
+
+front_ended : (byte : ℕ) (parts : List (List ℕ)) → 0 < length parts → front_of (grown true byte parts) ≡ front_of parts ++ last_of parts ∷ []
+front_ended byte [] some = absurd (omega arith)
+front_ended byte (part ∷ []) some = refl
+front_ended byte (part ∷ next ∷ parts) some =
+    front_under part (grown true byte (next ∷ parts)) (some_grown true byte (next ∷ parts) (omega arith))
+    ∙ ap (λ xs. part ∷ xs) (front_ended byte (next ∷ parts) (omega arith))
+
+last_ended : (byte : ℕ) (parts : List (List ℕ)) → 0 < length parts → last_of (grown true byte parts) ≡ []
+last_ended byte [] some = absurd (omega arith)
+last_ended byte (part ∷ []) some = refl
+last_ended byte (part ∷ next ∷ parts) some =
+    last_under part (grown true byte (next ∷ parts)) (some_grown true byte (next ∷ parts) (omega arith)) ∙ last_ended byte (next ∷ parts) (omega arith)
+
+front_begun : (byte : ℕ) (parts : List (List ℕ)) → front_of (grown false byte parts) ≡ front_of parts
+front_begun byte [] = refl
+front_begun byte (part ∷ []) = refl
+front_begun byte (part ∷ next ∷ parts) =
+    front_under part (grown false byte (next ∷ parts)) (some_grown false byte (next ∷ parts) (omega arith))
+    ∙ ap (λ xs. part ∷ xs) (front_begun byte (next ∷ parts))
+
+last_begun : (byte : ℕ) (parts : List (List ℕ)) → 0 < length parts → last_of (grown false byte parts) ≡ last_of parts ++ byte ∷ []
+last_begun byte [] some = absurd (omega arith)
+last_begun byte (part ∷ []) some = refl
+last_begun byte (part ∷ next ∷ parts) some =
+    last_under part (grown false byte (next ∷ parts)) (some_grown false byte (next ∷ parts) (omega arith)) ∙ last_begun byte (next ∷ parts) (omega arith)
+
+longer : (n m : ℕ) → m ≡ n + 1 → nat_lt 120 n ≡ true → nat_lt 120 m ≡ true
+longer n m e h = grind (arith, nat_tests)
+
+room : (n m : ℕ) → m ≡ n + 1 → nat_lt 120 n ≡ false → nat_lt n 120 ≡ not (nat_lt 120 m)
+room n m e h = grind (arith, nat_tests)
+
+cond_not : (t : Bool) (x y : Option (List ℕ)) → cond (not t) x y ≡ cond t y x
+cond_not true x y = refl
+cond_not false x y = refl
+
+pushed_kept : (line : List ℕ) (byte : ℕ) → pushed (kept line) byte ≡ kept (line ++ byte ∷ [])
+pushed_kept line byte =
+    let more : length (line ++ byte ∷ []) ≡ length line + 1 = length-append line (byte ∷ []) in
+    elim (nat_lt 120 (length line)) as (λ t. nat_lt 120 (length line) ≡ t → pushed (cond t None (Some line)) byte ≡ kept (line ++ byte ∷ [])) [
+      | true ↦ λ t. sym (ap (λ s. cond s None (Some (line ++ byte ∷ []))) (longer (length line) (length (line ++ byte ∷ [])) more t))
+      | false ↦ λ t. ap (λ s. cond s (Some (line ++ byte ∷ [])) None) (room (length line) (length (line ++ byte ∷ [])) more t)
+          ∙ cond_not (nat_lt 120 (length (line ++ byte ∷ []))) (Some (line ++ byte ∷ [])) None
+    ] refl
+
+kept_answer_is : (line : List ℕ) → kept_answer (kept line) ≡ answer_to line
+kept_answer_is line =
+    elim (nat_lt 120 (length line)) as (λ t. nat_lt 120 (length line) ≡ t → kept_answer (cond t None (Some line)) ≡ answer_to line)
+    [ true ↦ λ t. rw t refl | false ↦ λ t. refl ] refl
+
+kept_not_empty : (byte : ℕ) (line : List ℕ) → is_empty (kept (byte ∷ line)) ≡ false
+kept_not_empty byte line = elim (nat_lt 120 (length (byte ∷ line))) as (λ t. is_empty (cond t None (Some (byte ∷ line))) ≡ false) [ true ↦ refl | false ↦ grind (arith, nat_tests) ]
+
+last_answer_is : (line : List ℕ) → last_answer (kept line) ≡ flat_map answer_line (if_begun line)
+last_answer_is [] = refl
+last_answer_is (byte ∷ line) =
+    ap (λ t. cond t [] (kept_answer (kept (byte ∷ line)) ++ 10 ∷ [])) (kept_not_empty byte line)
+    ∙ ap (λ xs. xs ++ 10 ∷ []) (kept_answer_is (byte ∷ line)) ∙ sym (append-nil (answer_line (byte ∷ line)))
+
+-- what the end of the input adds to the answers
+pub answers_last : (read : List ℕ) → answers_of read ≡ whole_answers read ++ last_answer (kept (begun_line read))
+answers_last read =
+    flat_map-append answer_line (whole_lines read) (if_begun (begun_line read))
+    ∙ ap (λ xs. whole_answers read ++ xs) (sym (last_answer_is (begun_line read)))
+
+-- the answers to parts that have grown by a byte
+answers_grown : (ends : Bool) (byte : ℕ) (parts : List (List ℕ)) → 0 < length parts
+    → flat_map answer_line (front_of (grown ends byte parts)) ≡ flat_map answer_line (front_of parts) ++ cond ends (kept_answer (kept (last_of parts)) ++ 10 ∷ []) []
+answers_grown true byte parts some =
+    ap (flat_map answer_line) (front_ended byte parts some) ∙ flat_map-append answer_line (front_of parts) (last_of parts ∷ [])
+    ∙ ap (λ xs. flat_map answer_line (front_of parts) ++ xs) (append-nil (answer_line (last_of parts)) ∙ ap (λ xs. xs ++ 10 ∷ []) (sym (kept_answer_is (last_of parts))))
+answers_grown false byte parts some =
+    ap (flat_map answer_line) (front_begun byte parts) ∙ sym (append-nil (flat_map answer_line (front_of parts)))
+
+-- what one more byte adds to the answers
+pub answers_more : (read : List ℕ) (byte : ℕ) → whole_answers (read ++ byte ∷ []) ≡ whole_answers read ++ byte_answer (kept (begun_line read)) byte
+answers_more read byte =
+    ap (λ parts. flat_map answer_line (front_of parts)) (split_more is_line_end read byte)
+    ∙ answers_grown (is_line_end byte) byte (slice_split is_line_end read) (some_part is_line_end read)
+
+kept_grown : (ends : Bool) (byte : ℕ) (parts : List (List ℕ)) → 0 < length parts
+    → kept (last_of (grown ends byte parts)) ≡ cond ends (Some []) (pushed (kept (last_of parts)) byte)
+kept_grown true byte parts some = ap kept (last_ended byte parts some)
+kept_grown false byte parts some = ap kept (last_begun byte parts some) ∙ sym (pushed_kept (last_of parts) byte)
+
+-- what is kept of the begun line after one more byte
+pub kept_more : (read : List ℕ) (byte : ℕ) → kept (begun_line (read ++ byte ∷ [])) ≡ next_line (kept (begun_line read)) byte
+kept_more read byte =
+    ap (λ parts. kept (last_of parts)) (split_more is_line_end read byte)
+    ∙ kept_grown (is_line_end byte) byte (slice_split is_line_end read) (some_part is_line_end read)

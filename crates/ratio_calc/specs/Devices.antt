@@ -1,0 +1,90 @@
+-- What calls of a reader and of a writer do.
+use Rattle.std.specs.Prelude.{◌≡◌, ℕ, ◌+◌, List, [], ◌∷◌, ◌++◌, ◌==◌, ◌&&◌, not, length, take, Option, None, Some, Result, Ok, Err, if◌then◌else◌}
+use Rattle.std.specs.Io.KnownBytes.{Appends, Consumes, IsAtEnd, Keeps}
+use Rattle.ratio_calc.specs.declared.calculator.CalcFault.{CalcFault}
+use Rattle.ratio_calc.specs.declared.calculator.CalcFault.TheVariants.{Read, Write}
+use Rattle.ratio_calc.specs.declared.calls.Calls.{Calls}
+
+-- the calls so far, and one that moved these bytes
+abbrev pub after_moving : Calls → List ℕ → Calls
+after_moving calls bytes = record calls { moved = calls.moved ++ bytes }
+
+-- one that failed
+abbrev pub after_failing : Calls → Calls
+after_failing calls = record calls { failures = calls.failures + 1 }
+
+-- one that said that the reader has ended
+abbrev pub after_ending : Calls → Calls
+after_ending calls = record calls { ends = calls.ends + 1 }
+
+-- one that flushed: the mark goes to the end of what was moved
+abbrev pub after_flushing : Calls → Calls
+after_flushing calls = record calls { flushes = calls.flushes + 1; mark = length calls.moved }
+
+-- a read gives the first n bytes of its buffer at `Ok n`; it has ended where it gives none though there was room
+abbrev pub after_read : {E : Type 0} → Calls → Result ℕ E → List ℕ → Calls
+after_read calls (Ok n) buffer = if (n == 0) && not (length buffer == 0) then after_ending calls else after_moving calls (take n buffer)
+after_read calls (Err e) buffer = after_failing calls
+
+-- a write takes the first n bytes of its piece at `Ok n`; it has failed where it takes none though there were some
+abbrev pub after_write : {E : Type 0} → Calls → Result ℕ E → List ℕ → Calls
+after_write calls (Ok n) piece = if (n == 0) && not (length piece == 0) then after_failing calls else after_moving calls (take n piece)
+after_write calls (Err e) piece = after_failing calls
+
+abbrev pub after_flush : {T E : Type 0} → Calls → Result T E → Calls
+after_flush calls (Ok x) = after_flushing calls
+after_flush calls (Err e) = after_failing calls
+
+-- all that a contract sees of a device: the bytes that a reader has left or a writer holds, where they are known, and its calls
+abbrev pub Device : Type 0
+Device = Option (List ℕ) × Calls
+
+-- the reader gave these bytes
+pub record Gave (old new : Device) (bytes : List ℕ) : Type 0 where
+  pub known : Consumes old.0 new.0 bytes
+  pub calls : new.1 ≡ after_moving old.1 bytes
+
+-- the reader said that it has ended
+pub record Ended (old new : Device) : Type 0 where
+  pub known : Consumes old.0 new.0 []
+  pub at_end : IsAtEnd new.0
+  pub calls : new.1 ≡ after_ending old.1
+
+-- a call failed, and moved nothing
+pub record Failed (old new : Device) : Type 0 where
+  pub known : Keeps old.0 new.0
+  pub calls : new.1 ≡ after_failing old.1
+
+-- the writer took these bytes
+pub record Took (old new : Device) (bytes : List ℕ) : Type 0 where
+  pub known : Appends old.0 new.0 bytes
+  pub calls : new.1 ≡ after_moving old.1 bytes
+
+-- the writer took a beginning of these bytes, and then a call failed
+pub record TookSome (old new : Device) (bytes : List ℕ) : Type 0 where
+  pub written : List ℕ
+  pub rest : List ℕ
+  pub split : written ++ rest ≡ bytes
+  pub known : Appends old.0 new.0 written
+  pub calls : new.1 ≡ after_failing (after_moving old.1 written)
+
+-- the writer was flushed, and took nothing
+pub record Flushed (old new : Device) : Type 0 where
+  pub known : Keeps old.0 new.0
+  pub calls : new.1 ≡ after_flushing old.1
+
+-- the reader gave one byte, or had ended, or failed
+abbrev pub GivesByte : Device → Device → Result (Option ℕ) CalcFault → Type 0
+GivesByte old new (Ok (Some byte)) = Gave old new (byte ∷ [])
+GivesByte old new (Ok None) = Ended old new
+GivesByte old new (Err fault) = (fault ≡ Read) × Failed old new
+
+-- the writer took these bytes, or failed after a beginning of them
+abbrev pub Writes : {T : Type 0} → Device → Device → List ℕ → Result T CalcFault → Type 0
+Writes old new bytes (Ok x) = Took old new bytes
+Writes old new bytes (Err fault) = (fault ≡ Write) × TookSome old new bytes
+
+-- the writer was flushed, or failed
+abbrev pub Flushes : {T : Type 0} → Device → Device → Result T CalcFault → Type 0
+Flushes old new (Ok x) = Flushed old new
+Flushes old new (Err fault) = (fault ≡ Write) × Failed old new

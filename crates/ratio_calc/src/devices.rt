@@ -1,0 +1,93 @@
+//! A reader and a writer over memory, for tests: each fails where a test wants it to.
+ghost use Rattle.std.specs.Prelude.{◌≡◌, ◌<◌, [], Some};
+
+use std::alloc::Global;
+use std::io;
+use std::io::{ErrorKind, Read, Write};
+
+/// Gives its bytes, at most `step` a call. Where `left` is set, each call fails once that many of
+/// them were given.
+#[derive(Drop)]
+pub struct Feed<'a> {
+    pub bytes: &'a [u8],
+    pub step: usize,
+    pub left: Option<usize>,
+    ghost gives: { 0 < step },
+}
+
+impl Read for Feed<'_> {
+    ghost remaining = { λ f. Some f.bytes.now };
+
+    fn read(&mut self, buf: &mut [u8]) -> io::Result<usize> {
+        let mut count = buf.len().min(self.bytes.len()).min(self.step);
+        if let Some(left) = self.left {
+            if left == 0 {
+                return Err(io::Error::from(ErrorKind::Other));
+            }
+            count = count.min(left);
+            self.left = Some(left - count);
+        }
+        let (given, rest) = self.bytes.split_at(count);
+        buf[..count].copy_from_slice(given);
+        self.bytes = rest;
+        Ok(count)
+    }
+}
+
+/// What a writer does once it takes no more.
+#[derive(Clone, Copy, PartialEq, Debug)]
+pub enum Refusal {
+    Fails,
+    TakesNone,
+}
+
+/// Keeps the bytes it takes, at most `step` a call. Where `left` is set, each call is refused once
+/// that many of them were taken.
+#[derive(Drop)]
+pub struct Sink {
+    pub bytes: Vec<u8>,
+    pub step: usize,
+    pub left: Option<usize>,
+    pub refusal: Refusal,
+    pub flush_fails: bool,
+}
+
+impl Sink {
+    /// A writer that takes all there is.
+    pub fn new(alloc: Global) -> Sink
+        ensures { result.bytes.items ≡ [] }
+    {
+        Sink {
+            bytes: Vec::new(alloc),
+            step: usize::MAX,
+            left: None,
+            refusal: Refusal::Fails,
+            flush_fails: false,
+        }
+    }
+}
+
+impl Write for Sink {
+    ghost contents = { λ s. Some s.bytes.items };
+
+    fn write(&mut self, buf: &[u8]) -> io::Result<usize> {
+        let mut count = buf.len().min(self.step);
+        if let Some(left) = self.left {
+            if left == 0 && self.refusal == Refusal::Fails {
+                return Err(io::Error::from(ErrorKind::Other));
+            }
+            count = count.min(left);
+            self.left = Some(left - count);
+        }
+        self.bytes.extend_from_slice(&buf[..count])?;
+        Ok(count)
+    }
+
+    fn flush(&mut self) -> io::Result<()> {
+        if self.flush_fails {
+            Err(io::Error::from(ErrorKind::Other))
+        } else {
+            Ok(())
+        }
+    }
+}

@@ -1,0 +1,7 @@
+pub mod Arithmetic
+pub mod Comparison
+pub mod Division
+pub mod Fraction
+pub mod Laws
+pub mod Primitives
+pub mod Range

@@ -1,0 +1,2 @@
+//! Fractions as texts.
+pub mod reading;

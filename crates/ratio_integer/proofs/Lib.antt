@@ -1,0 +1,2 @@
+pub mod CommonDivisors
+pub mod Halving

@@ -1,0 +1,4 @@
+//! Whole numbers of a fixed width.
+#![tactic(auto)]
+
+mod binary_gcd;

@@ -128,7 +128,7 @@ pair_ended a b x y pair e = pair.same x (dvd_refl x, rw e (dvd_refl y), λ d p q
 one_side : (m n e j g : ℕ) → n % 2 ≡ 1 → IsGcd m n g → IsGcd (m * 2 ^ (e + j)) (n * 2 ^ j) (g * 2 ^ j)
 one_side m n e j g odd is =
     let beside = IsGcd-swap n (m * 2 ^ e) g (odd_beside n m e g odd (IsGcd-swap m n g is)) in
-    let scaled = gcd_scaled (2 ^ j) (m * 2 ^ e) n g (pow_pos j) beside in
+    let scaled = gcd_scaled (2 ^ j) (m * 2 ^ e) n g beside in
     let whole : 2 ^ j * (m * 2 ^ e) ≡ m * 2 ^ (e + j) = turn (2 ^ j) m (2 ^ e) ∙ ap (λ t. m * t) (sym (pow-add 2 e j)) in
     rw (swap (2 ^ j) g, swap (2 ^ j) n, whole) at scaled
   where

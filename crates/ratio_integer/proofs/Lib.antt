@@ -1,2 +1,7 @@
 pub mod CommonDivisors
+pub mod CrossCancelling
+pub mod DivisionLemmas
 pub mod Halving
+pub mod LowestTerms
+pub mod Whole
+pub mod Wide

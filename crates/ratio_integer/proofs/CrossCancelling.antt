@@ -6,7 +6,8 @@ use Rattle.std.proofs.lemmas.Int.{unsigned_abs-mul}
 use Rattle.std.proofs.Math.Nat.{dvd-mul_left, dvd-mul_right}
 use lib.IntN.{*ℤ_comm}
 use Rattle.ratio_integer.specs.Fraction.{IsLowestTerms, IsLowestTermsOf, SameValue}
-use Rattle.ratio_integer.proofs.CommonDivisors.{IsCoprime, coprime-dvd, coprime_divisors, coprime_gcd, coprime_product, coprime_turned}
+use Rattle.ratio_integer.proofs.CommonDivisors.{IsCoprime, coprime_divisors, coprime_gcd, coprime_product, coprime_turned}
+use Rattle.ratio_integer.proofs.GcdLemmas.{coprime-dvd}
 use Rattle.ratio_integer.proofs.LowestTerms.{same_value_chained, same_value_products}
 use Rattle.ratio_integer.proofs.Whole.{mul_nonzero, mul_positive, positive_nonzero, unsigned_abs-products}
 

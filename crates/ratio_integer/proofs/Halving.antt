@@ -8,7 +8,7 @@ use Rattle.std.proofs.lemmas.Nat.{mod-pow-add, div-add-mod', pow-add, pow_pos}
 use Rattle.std.proofs.lemmas.Nat.Bits.{bit_at-trailing_zeros}
 use Rattle.std.proofs.lemmas.Bool.{cases_eq, cases_lt}
 use Rattle.ratio_integer.specs.OddPart.{IsOddPart}
-use Rattle.ratio_integer.proofs.CommonDivisors.{gcd_scaled}
+use Rattle.ratio_integer.proofs.GcdLemmas.{gcd_scaled}
 use mir.Val.{bits}
 
 -- ---- an odd number has nothing in common with factors of 2
@@ -128,7 +128,7 @@ pair_ended a b x y pair e = pair.same x (dvd_refl x, rw e (dvd_refl y), λ d p q
 one_side : (m n e j g : ℕ) → n % 2 ≡ 1 → IsGcd m n g → IsGcd (m * 2 ^ (e + j)) (n * 2 ^ j) (g * 2 ^ j)
 one_side m n e j g odd is =
     let beside = IsGcd-swap n (m * 2 ^ e) g (odd_beside n m e g odd (IsGcd-swap m n g is)) in
-    let scaled = gcd_scaled (2 ^ j) (m * 2 ^ e) n g beside in
+    let scaled = gcd_scaled n (m * 2 ^ e) n g (2 ^ j) (pow_pos j) (omega arith) beside in
     let whole : 2 ^ j * (m * 2 ^ e) ≡ m * 2 ^ (e + j) = turn (2 ^ j) m (2 ^ e) ∙ ap (λ t. m * t) (sym (pow-add 2 e j)) in
     rw (swap (2 ^ j) g, swap (2 ^ j) n, whole) at scaled
   where

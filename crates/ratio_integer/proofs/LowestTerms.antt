@@ -8,8 +8,10 @@ use lib.IntN.{*ℤ_comm}
 use Rattle.ratio_integer.specs.Division.{GcdHeld, IsGcdOf}
 use Rattle.ratio_integer.specs.Fraction.{ChecksLowest, Fits, IsHeldLowest, IsLowestTerms, IsLowestTermsOf, SameValue}
 use Rattle.ratio_integer.specs.Range.{IsHeld, IsRange}
-use Rattle.ratio_integer.proofs.CommonDivisors.{coprime-dvd, coprime_gcd, coprime_turned, gcd_coprime, gcd_exists, gcd_nonzero, int_div-mul}
+use Rattle.ratio_integer.proofs.CommonDivisors.{coprime_gcd, coprime_turned, gcd_coprime, gcd_exists}
 use Rattle.ratio_integer.proofs.DivisionLemmas.{abs_pos, gcd_bounded, low_below, quotient_held}
+use Rattle.ratio_integer.proofs.GcdLemmas.{coprime-dvd}
+use Rattle.ratio_integer.proofs.LcmLemmas.{divisor_nonzero, exact_quotient}
 use Rattle.ratio_integer.proofs.Whole.{mul_assoc, mul_cancel, mul-swap_inner, mul-swap_last, neg-mul-neg, positive_factor, positive_nonzero, unsigned_abs-products}
 
 -- ---- the same value
@@ -108,7 +110,7 @@ lowest_from_gcd n d g a b fraction is n-is d-is positive = record {
         let first : unsigned_abs g * k ∣ unsigned_abs n = rw (sizes n a n-is) (mul-dvd-mul_left k (unsigned_abs g) p) in
         let second : unsigned_abs g * k ∣ unsigned_abs d = rw (sizes d b d-is) (mul-dvd-mul_left k (unsigned_abs g) q) in
         let both : unsigned_abs g * k ∣ unsigned_abs g * 1 = rw (times-one (unsigned_abs g)) (is.divisor.2 _ first second) in
-        eq-one_of_dvd-one (dvd_of_mul-dvd-mul_left k (abs_pos g (gcd_nonzero n d g fraction is)) both);
+        eq-one_of_dvd-one (dvd_of_mul-dvd-mul_left k (abs_pos g (divisor_nonzero n d g fraction is)) both);
   };
 }
   where
@@ -121,10 +123,10 @@ lowest_from_gcd n d g a b fraction is n-is d-is positive = record {
 -- so the quotients are the lowest terms, for a positive denominator
 pub lowest_quotients : (n d g a b : ℤ) → pos 0 <ℤ d → IsGcdOf n d g → a ≡ int_div n g → b ≡ int_div d g → IsLowestTermsOf n d a b
 lowest_quotients n d g a b positive is a-is b-is =
-    let n-whole : a *ℤ g ≡ n = ap (λ (t : ℤ). t *ℤ g) a-is ∙ int_div-mul n g is.divisor.0 in
-    let d-whole : b *ℤ g ≡ d = ap (λ (t : ℤ). t *ℤ g) b-is ∙ int_div-mul d g is.divisor.1 in
+    let n-whole : a *ℤ g ≡ n = ap (λ (t : ℤ). t *ℤ g) a-is ∙ exact_quotient n g is.divisor.0 in
+    let d-whole : b *ℤ g ≡ d = ap (λ (t : ℤ). t *ℤ g) b-is ∙ exact_quotient d g is.divisor.1 in
     let fraction = positive_nonzero d positive in
-    lowest_from_gcd n d g a b fraction is n-whole d-whole (positive_factor b g (above_zero g is.sign (gcd_nonzero n d g fraction is)) (rw d-whole positive))
+    lowest_from_gcd n d g a b fraction is n-whole d-whole (positive_factor b g (above_zero g is.sign (divisor_nonzero n d g fraction is)) (rw d-whole positive))
   where
     above_zero : (g : ℤ) → pos 0 ≤ℤ g → g ≢ pos 0 → pos 0 <ℤ g
     above_zero g sign nonzero = grind (arith, ints)
@@ -144,7 +146,7 @@ gcd_held_positive lo hi n d range d_held positive =
 -- the quotient of a held number by a greatest common divisor is held
 pub quotient_by_gcd_held : (lo hi n d g m : ℤ) → IsRange lo hi → IsHeld lo hi m → IsHeld lo hi g → d ≢ pos 0 → IsGcdOf n d g → IsHeld lo hi (int_div m g)
 quotient_by_gcd_held lo hi n d g m range m_held g_held fraction is =
-    quotient_held lo hi m g range m_held g_held (gcd_nonzero n d g fraction is) (λ e. let sign = is.sign in omega (arith, ints))
+    quotient_held lo hi m g range m_held g_held (divisor_nonzero n d g fraction is) (λ e. let sign = is.sign in omega (arith, ints))
 
 pub held_lowest_quotients : (lo hi n d g a b : ℤ) → IsRange lo hi → IsHeld lo hi n → IsHeld lo hi d → IsHeld lo hi g → pos 0 <ℤ d → IsGcdOf n d g → a ≡ int_div n g → b ≡ int_div d g → IsHeldLowest lo hi n d a b
 held_lowest_quotients lo hi n d g a b range n_held d_held g_held positive is a-is b-is =

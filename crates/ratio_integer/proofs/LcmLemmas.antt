@@ -39,11 +39,6 @@ exact_quotient n g h =
     let none_left : int_rem n g ≡ pos 0 = abs-zero _ (abs-rem n g ∙ mod-eq-zero_of_dvd (unsigned_abs g) h) in
     sym (+ℤ_idr (int_div n g *ℤ g)) ∙ ap (λ (t : ℤ). int_div n g *ℤ g +ℤ t) (sym none_left) ∙ quot-rem n g
 
--- ---- a number without its sign
-
-pub below_zero : (z t y : ℤ) → t ≡ pos 0 → y ≡ pos 0 → z <ℤ t → y -ℤ z ≡ pos (unsigned_abs z)
-below_zero z t y e f h = omega (arith, ints)
-
 -- ---- what is a least common multiple
 
 -- with a number 0 it is 0
@@ -120,7 +115,18 @@ magnitude_held lo hi (negsuc n) (pos m) range hu hb h = by_range lo hi (negsuc n
     by_range lo hi z range low h = grind (arith, ints)
 magnitude_held lo hi (negsuc n) (negsuc m) range hu hb h = h
 
--- the answer by the magnitude of a number that has that of the multiple
-pub lcm_checks : {T : Type 0} (value : T → ℤ) (lo hi a b l : ℤ) (r : Option T) → IsLcmOf a b l → Checks value lo hi l r → ChecksLcm value lo hi a b r
-lcm_checks value lo hi a b l None is h = λ held. h (held.each l is)
-lcm_checks value lo hi a b l (Some y) is h = (lcm_held lo hi a b l is h.0, rw h.1 is)
+-- the answer for a number that has the size of the multiple: its negative where it is below 0, and else itself
+checks_lcm : {T : Type 0} (value : T → ℤ) (lo hi a b l : ℤ) (r : Option T) → IsLcmOf a b l → Checks value lo hi l r → ChecksLcm value lo hi a b r
+checks_lcm value lo hi a b l None is h = λ held. h (held.each l is)
+checks_lcm value lo hi a b l (Some y) is h = (lcm_held lo hi a b l is h.0, rw h.1 is)
+
+pub below_zero : {T : Type 0} (value : T → ℤ) (lo hi a b z test zero : ℤ) (r : Option T) → IsLcmOf a b (pos (unsigned_abs z)) → test ≡ pos 0 → zero ≡ pos 0 → z <ℤ test → Checks value lo hi (zero -ℤ z) r → ChecksLcm value lo hi a b r
+below_zero value lo hi a b z test zero r is e f negative h =
+    let size : zero -ℤ z ≡ pos (unsigned_abs z) = omega (arith, ints) in
+    checks_lcm value lo hi a b (pos (unsigned_abs z)) r is (rw size at h)
+
+pub from_zero : (lo hi a b z test : ℤ) → IsLcmOf a b (pos (unsigned_abs z)) → test ≡ pos 0 → test ≤ℤ z → IsHeld lo hi z → LcmHeld lo hi a b × IsLcmOf a b z
+from_zero lo hi a b z test is e up h =
+    let size : pos (unsigned_abs z) ≡ z = omega (arith, ints) in
+    let is_z : IsLcmOf a b z = rw size at is in
+    (lcm_held lo hi a b z is_z h, is_z)

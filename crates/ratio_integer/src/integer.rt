@@ -4,7 +4,7 @@ ghost use Rattle.std.specs.Bool.{OnFalse, OnTrue};
 ghost use Rattle.std.specs.Ordering.{int_cmp, partial_lt};
 ghost use Rattle.ratio_integer.specs.Arithmetic.{difference_of, sum_of};
 ghost use Rattle.ratio_integer.specs.Comparison.{Tells, lt_tells};
-ghost use Rattle.ratio_integer.specs.Division.{FlooredHeld, GcdHeld, IsFloored, IsFlooredQuotient, IsFlooredRemainder, IsGcdOf, IsMultiple};
+ghost use Rattle.ratio_integer.specs.Division.{ChecksLcm, FlooredHeld, GcdHeld, IsFloored, IsFlooredQuotient, IsFlooredRemainder, IsGcdOf, IsLcmOf, IsMultiple, LcmHeld};
 ghost use Rattle.ratio_integer.specs.Fraction.{ChecksLowest};
 ghost use Rattle.ratio_integer.specs.Laws.{IsLawful};
 ghost use Rattle.ratio_integer.specs.Range.{Checks, IsHeld, IsRange};
@@ -188,6 +188,38 @@ pub trait Integer: Copy + Ord + Hash {
         Some(self.minus(o))
     }
 
+    /// The least common multiple, never negative, or `None` where the type does not hold it; 0 if
+    /// either number is 0.
+    fn try_lcm(self, o: Self) -> Option<Self>
+        ensures { ChecksLcm value lo hi (value self) (value o) result }
+    {
+        if self.is_zero() || o.is_zero() {
+            return Some(Self::ZERO);
+        }
+        let _ = self.held();
+        let _ = o.held();
+        // The greatest common divisor of the least number and itself may not be held.
+        if self == o {
+            return if self < Self::ZERO {
+                Self::ZERO.try_minus(self)
+            } else {
+                Some(self)
+            };
+        }
+        let (part, _) = self.div_rem(self.gcd(o));
+        let _ = part.held();
+        match part.try_times(o) {
+            None => None,
+            Some(product) => {
+                if product < Self::ZERO {
+                    Self::ZERO.try_minus(product)
+                } else {
+                    Some(product)
+                }
+            }
+        }
+    }
+
     /// The floored quotient, and the remainder, which is 0 or has the sign of `o`. The floored
     /// quotient of two held numbers is held, but for that of `-hi-1` by -1.
     fn div_mod_floor(self, o: Self) -> (Self, Self)
@@ -251,6 +283,17 @@ pub trait Integer: Copy + Ord + Hash {
             Self::ZERO.minus(x)
         } else {
             x
+        }
+    }
+
+    /// The least common multiple, never negative; 0 if either number is 0. The test is `try_lcm`.
+    fn lcm(self, o: Self) -> Self
+        requires { LcmHeld lo hi (value self) (value o) }
+        ensures { IsLcmOf (value self) (value o) (value result) }
+    {
+        match self.try_lcm(o) {
+            Some(multiple) => multiple,
+            None => Self::ZERO,
         }
     }
 

@@ -2,6 +2,7 @@
 //! primitive integer types.
 #![tactic(auto)]
 
+mod binary_gcd;
 mod impls;
 mod integer;
 mod primitive;

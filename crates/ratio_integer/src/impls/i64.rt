@@ -84,10 +84,34 @@ impl Integer for i64 {
         None
     }
 
+    fn is_zero(self) -> bool {
+        self == 0
+    }
+
+    fn is_one(self) -> bool {
+        self == 1
+    }
+
+    fn try_plus(self, o: i64) -> Option<i64> {
+        self.checked_add(o)
+    }
+
+    fn try_minus(self, o: i64) -> Option<i64> {
+        self.checked_sub(o)
+    }
+
     ghost laws = { signed_laws (2 ^ 63 - 1) hash.i64 (lit≤ tt) };
 }
 
 impl SignedInteger for i64 {
+    fn negate(self) -> i64 {
+        -self
+    }
+
+    fn try_negate(self) -> Option<i64> {
+        self.checked_neg()
+    }
+
     ghost below_law = { record { lt = tt } };
 }
 

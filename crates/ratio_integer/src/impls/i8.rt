@@ -84,10 +84,34 @@ impl Integer for i8 {
         None
     }
 
+    fn is_zero(self) -> bool {
+        self == 0
+    }
+
+    fn is_one(self) -> bool {
+        self == 1
+    }
+
+    fn try_plus(self, o: i8) -> Option<i8> {
+        self.checked_add(o)
+    }
+
+    fn try_minus(self, o: i8) -> Option<i8> {
+        self.checked_sub(o)
+    }
+
     ghost laws = { signed_laws (2 ^ 7 - 1) hash.i8 (lit≤ tt) };
 }
 
 impl SignedInteger for i8 {
+    fn negate(self) -> i8 {
+        -self
+    }
+
+    fn try_negate(self) -> Option<i8> {
+        self.checked_neg()
+    }
+
     ghost below_law = { record { lt = tt } };
 }
 

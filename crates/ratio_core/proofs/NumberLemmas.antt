@@ -6,7 +6,7 @@ use Rattle.std.proofs.lemmas.Bool.{eqb-true}
 use Rattle.std.proofs.Math.Nat.{pow-suc, pow-zero, mul_comm, mul_assoc, add-mul}
 use Rattle.std.specs.Char.{digit_value}
 use Rattle.std.specs.Str.Parse.{IsNumeral, digits_value, digits_value_after, signed_digits_value, without_leading_plus, without_leading_sign}
-use Rattle.ratio_core.specs.Reading.{digits_sum, minus, plus, IsNumberText}
+use Rattle.ratio_core.specs.Reading.{digits_sum, IsNumberText}
 
 scaled : (a d p q r : ℕ) → q ≡ p * r → (a * r + d) * p ≡ a * q + d * p
 scaled a d p q r e = rw (e, add-mul (a * r) d p, mul_comm p r, mul_assoc a r p)
@@ -35,15 +35,15 @@ unsigned_number : (radix : ℕ) (text : List ℕ) → radix ≤ 36 → IsNumeral
 unsigned_number radix [] small h = absurd (omega (arith, h.0))
 unsigned_number radix (c ∷ cs) small h = rw (no_sign radix c 43 small h.1.0 refl)
 
-signed_case : (lo : ℤ) (radix c : ℕ) (cs : List ℕ) → lo <ℤ pos 0 → (minus plus : Bool) → (c == 45) ≡ minus → (c == 43) ≡ plus
-    → IsNumeral radix (cond minus cs (drop (cond plus 1 0) (c ∷ cs)))
-    → IsNumberText lo radix (c ∷ cs) (cond minus (neg_ℤ (pos (digits_value radix (cond minus cs (drop (cond plus 1 0) (c ∷ cs)))))) (pos (digits_value radix (cond minus cs (drop (cond plus 1 0) (c ∷ cs))))))
-signed_case lo radix c cs below true plus e f h = inr (inr (cs, below, ap (λ x. x ∷ cs) (eqb-true c 45 e), h, ap (λ n. neg_ℤ (pos n)) (digits_value_sum radix cs)))
+signed_case : (lo : ℤ) (radix c : ℕ) (cs : List ℕ) → lo <ℤ pos 0 → (has_minus has_plus : Bool) → (c == 45) ≡ has_minus → (c == 43) ≡ has_plus
+    → IsNumeral radix (cond has_minus cs (drop (cond has_plus 1 0) (c ∷ cs)))
+    → IsNumberText lo radix (c ∷ cs) (cond has_minus (neg_ℤ (pos (digits_value radix (cond has_minus cs (drop (cond has_plus 1 0) (c ∷ cs)))))) (pos (digits_value radix (cond has_minus cs (drop (cond has_plus 1 0) (c ∷ cs))))))
+signed_case lo radix c cs below true has_plus e f h = inr (inr (cs, below, ap (λ x. x ∷ cs) (eqb-true c 45 e), h, ap (λ n. neg_ℤ (pos n)) (digits_value_sum radix cs)))
 signed_case lo radix c cs below false true e f h = inr (inl (cs, ap (λ x. x ∷ cs) (eqb-true c 43 f), h, ap pos (digits_value_sum radix cs)))
 signed_case lo radix c cs below false false e f h = inl (h, ap pos (digits_value_sum radix (c ∷ cs)))
 
-unsigned_case : (lo : ℤ) (radix c : ℕ) (cs : List ℕ) → (plus : Bool) → (c == 43) ≡ plus
-    → IsNumeral radix (drop (cond plus 1 0) (c ∷ cs)) → IsNumberText lo radix (c ∷ cs) (pos (digits_value radix (drop (cond plus 1 0) (c ∷ cs))))
+unsigned_case : (lo : ℤ) (radix c : ℕ) (cs : List ℕ) → (has_plus : Bool) → (c == 43) ≡ has_plus
+    → IsNumeral radix (drop (cond has_plus 1 0) (c ∷ cs)) → IsNumberText lo radix (c ∷ cs) (pos (digits_value radix (drop (cond has_plus 1 0) (c ∷ cs))))
 unsigned_case lo radix c cs true f h = inr (inl (cs, ap (λ x. x ∷ cs) (eqb-true c 43 f), h, ap pos (digits_value_sum radix cs)))
 unsigned_case lo radix c cs false f h = inl (h, ap pos (digits_value_sum radix (c ∷ cs)))
 

@@ -7,7 +7,7 @@ use Rattle.std.specs.Str.Parse.{IsNumeral, signed_digits_value, without_leading_
 use Rattle.std.specs.Int.{w128}
 use mir.Val.{to_z, of_z}
 use Rattle.ratio_integer.specs.Range.{IsHeld, IsRange, Checks}
-use Rattle.ratio_core.specs.Reading.{IsNumberText, ReadsAs, ReadsNumber}
+use Rattle.ratio_core.specs.Reading.{IsNumberText, ReadsNumber}
 use Rattle.ratio_core.proofs.NumberLemmas.{from_signed, from_unsigned, to_signed, to_unsigned}
 
 -- the numbers of a type of at most 128 bits are those of an `i128`, or of a `u128`

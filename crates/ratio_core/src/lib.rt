@@ -1,6 +1,7 @@
 //! The calls on fractions, over the two numbers of a fraction.
 #![tactic(auto)]
 
+pub mod checked;
 mod parse_error;
 pub mod text;
 

@@ -1,2 +1,5 @@
 //! Fractions as texts.
-pub mod reading;
+pub mod laws;
+mod reading;
+
+pub use reading::from_str;

@@ -1,9 +1,29 @@
 //! Reading a fraction from a text.
 ghost use Rattle.std.specs.Prelude.{◌≤◌};
-ghost use Rattle.ratio_core.specs.Reading.{AnswersPair, IsFractionText, ReadsNumber, SidesReadAs};
+ghost use Rattle.ratio_core.specs.Reading.{AnswersPair, AnswersText, IsFractionText, ReadsNumber, SidesReadAs};
 
+use crate::checked::checked_new;
 use crate::parse_error::{ParseRatioError, RatioErrorKind};
 use ratio_integer::Primitive;
+
+/// The fraction of a decimal text in lowest terms: `N/D` for two number texts, or `N` for `N/1`. A
+/// number text is one digit or more after an optional `+`, or `-` for a type with numbers below 0;
+/// leading zeros are allowed, and nothing else is. The kind of the first refusal that applies is
+/// `ParseError` where a part is no number text or the type does not hold its number,
+/// `ZeroDenominator` where the second number is 0, and `ParseError` where the type does not hold
+/// the lowest terms.
+pub fn from_str<T: Primitive>(text: &str) -> Result<(T, T), ParseRatioError>
+    ensures { AnswersText (λ r. T.value r.0) (λ r. T.value r.1) T.lo T.hi
+        (IsFractionText T.lo T.hi text.now) result }
+{
+    match pair::<T>(text) {
+        Err(refusal) => Err(refusal),
+        Ok(read) => match checked_new(read.0, read.1) {
+            Some(low) => Ok(low),
+            None => Err(ParseRatioError::new(RatioErrorKind::ParseError)),
+        },
+    }
+}
 
 /// The number of the text in the radix, or `None` where it is no number text or the type does not
 /// hold its number.

@@ -1,6 +1,5 @@
-use Rattle.std.proofs.Common.{◌≡◌, sym, ◌∙◌, subst, arith, pos, ◌≤ℤ◌, ◌<ℤ◌}
+use Rattle.std.proofs.Common.{sym, ◌∙◌, arith, pos, ◌≤ℤ◌, ◌<ℤ◌}
 use Rattle.std.proofs.lemmas.Int.{ints}
-use Rattle.ratio_core.specs.Reading.{ReadsNumber}
 use Rattle.ratio_core.proofs.WidthLemmas.{signed_some, signed_none, unsigned_some, unsigned_none}
 use Rattle.ratio_core.proofs.text.reading.number.Goals as goal
 

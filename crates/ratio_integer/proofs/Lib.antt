@@ -1,0 +1,9 @@
+pub mod CommonDivisors
+pub mod CrossCancelling
+pub mod DivisionLemmas
+pub mod GcdLemmas
+pub mod Halving
+pub mod LcmLemmas
+pub mod LowestTerms
+pub mod Whole
+pub mod Wide

@@ -1,0 +1,55 @@
+-- What a comparison of two values tells of their numbers.
+use Rattle.std.specs.Prelude.{◌≡◌, ◌⊎◌, ◌≤ℤ◌, ◌<ℤ◌, ℤ, Bool, true, false, Option, Some}
+use Rattle.std.specs.Ordering.{int_cmp, is_lt, partial_lt, partial_le, partial_gt, partial_ge, is_le, is_gt, is_ge, MatchOrdering}
+use Rattle.std.specs.declared.cmp.Ordering.{Ordering}
+use Rattle.std.specs.declared.cmp.Ordering.TheVariants.{Less, Equal, Greater}
+use Rattle.std.proofs.Common.{refl, sym, inl, inr, arith, ◌∙◌}
+use Rattle.std.proofs.lemmas.Int.{ints}
+use Rattle.std.proofs.lemmas.Cmp.{int_ranked}
+
+-- the test b is true where P holds, and false where Q does
+abbrev pub Tells : Bool → Type 0 → Type 0 → Type 0
+Tells b P Q = ((b ≡ true) × P) ⊎ ((b ≡ false) × Q)
+
+lt_rank : (x y : ℤ) (r : Ordering) → MatchOrdering r (x <ℤ y) (x ≡ y) (y <ℤ x) → (b : Bool) → b ≡ is_lt r → Tells b (x <ℤ y) (y ≤ℤ x)
+lt_rank x y Less m b e = inl (e, m)
+lt_rank x y Equal m b e = inr (e, omega (arith, ints))
+lt_rank x y Greater m b e = inr (e, omega (arith, ints))
+
+le_rank : (x y : ℤ) (r : Ordering) → MatchOrdering r (x <ℤ y) (x ≡ y) (y <ℤ x) → (b : Bool) → b ≡ is_le r → Tells b (x ≤ℤ y) (y <ℤ x)
+le_rank x y Less m b e = inl (e, omega (arith, ints))
+le_rank x y Equal m b e = inl (e, omega (arith, ints))
+le_rank x y Greater m b e = inr (e, m)
+
+gt_rank : (x y : ℤ) (r : Ordering) → MatchOrdering r (x <ℤ y) (x ≡ y) (y <ℤ x) → (b : Bool) → b ≡ is_gt r → Tells b (y <ℤ x) (x ≤ℤ y)
+gt_rank x y Less m b e = inr (e, omega (arith, ints))
+gt_rank x y Equal m b e = inr (e, omega (arith, ints))
+gt_rank x y Greater m b e = inl (e, m)
+
+ge_rank : (x y : ℤ) (r : Ordering) → MatchOrdering r (x <ℤ y) (x ≡ y) (y <ℤ x) → (b : Bool) → b ≡ is_ge r → Tells b (y ≤ℤ x) (x <ℤ y)
+ge_rank x y Less m b e = inr (e, m)
+ge_rank x y Equal m b e = inl (e, omega (arith, ints))
+ge_rank x y Greater m b e = inl (e, omega (arith, ints))
+
+-- the four operators, where R orders the values by their numbers
+module _ {A : Type 0} (R : A → A → Option Ordering) (v : A → ℤ) (law : (a b : A) → R a b ≡ Some (int_cmp (v a) (v b))) (a b : A) where
+  pub lt_tells : Tells (partial_lt R a b) (v a <ℤ v b) (v b ≤ℤ v a)
+  lt_tells = lt_rank (v a) (v b) (int_cmp (v a) (v b)) (int_ranked (v a) (v b) _ refl) (partial_lt R a b) (rw (law a b))
+
+  pub le_tells : Tells (partial_le R a b) (v a ≤ℤ v b) (v b <ℤ v a)
+  le_tells = le_rank (v a) (v b) (int_cmp (v a) (v b)) (int_ranked (v a) (v b) _ refl) (partial_le R a b) (rw (law a b))
+
+  pub gt_tells : Tells (partial_gt R a b) (v b <ℤ v a) (v a ≤ℤ v b)
+  gt_tells = gt_rank (v a) (v b) (int_cmp (v a) (v b)) (int_ranked (v a) (v b) _ refl) (partial_gt R a b) (rw (law a b))
+
+  pub ge_tells : Tells (partial_ge R a b) (v b ≤ℤ v a) (v a <ℤ v b)
+  ge_tells = ge_rank (v a) (v b) (int_cmp (v a) (v b)) (int_ranked (v a) (v b) _ refl) (partial_ge R a b) (rw (law a b))
+
+-- a test that came out true, or false
+pub yes : {P Q : Type 0} (b : Bool) → Tells b P Q → b ≡ true → P
+yes b (inl t) e = t.1
+yes b (inr t) e = absurd (let h : true ≡ false = sym e ∙ t.0 in cc)
+
+pub no : {P Q : Type 0} (b : Bool) → Tells b P Q → b ≡ false → Q
+no b (inl t) e = absurd (let h : true ≡ false = sym t.0 ∙ e in cc)
+no b (inr t) e = t.1

@@ -1,0 +1,54 @@
+-- Multiples, floored division, divisors and common multiples, each by its property.
+use Rattle.std.specs.Prelude.{◌≡◌, ◌⊎◌, ◌≤ℤ◌, ◌<ℤ◌, ◌+ℤ◌, ◌*ℤ◌, ℕ, ℤ, pos, unsigned_abs, Option, Some, None}
+use Rattle.std.specs.Int.{◌∣◌, IsGcd}
+use Rattle.ratio_integer.specs.Range.{IsHeld}
+
+-- some whole number times b is a
+abbrev pub IsMultiple : ℤ → ℤ → Type 0
+IsMultiple a b = (k : ℤ) × (a ≡ k *ℤ b)
+
+-- q is the floored quotient of a by b, and r what it leaves: r is 0 or has the sign of b, and is nearer to 0 than b
+pub record IsFloored (a b q r : ℤ) : Type 0 where
+  pub sum : a ≡ q *ℤ b +ℤ r
+  pub rest : ((pos 0 ≤ℤ r) × (r <ℤ b)) ⊎ ((b <ℤ r) × (r ≤ℤ pos 0))
+
+-- the floored quotient of a by b is held
+pub record FlooredHeld (lo hi a b : ℤ) : Type 0 where
+  pub each : (q r : ℤ) → IsFloored a b q r → IsHeld lo hi q
+
+-- q is the floored quotient of a by b
+pub record IsFlooredQuotient (a b q : ℤ) : Type 0 where
+  pub remainder : ℤ
+  pub floored : IsFloored a b q remainder
+
+-- r is the remainder of the floored division of a by b
+pub record IsFlooredRemainder (a b r : ℤ) : Type 0 where
+  pub quotient : ℤ
+  pub floored : IsFloored a b quotient r
+
+-- g is the greatest common divisor of a and b: it divides both, each number that divides both divides it, and it is never
+-- negative; so that of 0 and 0 is 0
+pub record IsGcdOf (a b g : ℤ) : Type 0 where
+  pub sign : pos 0 ≤ℤ g
+  pub divisor : IsGcd (unsigned_abs a) (unsigned_abs b) (unsigned_abs g)
+
+-- the greatest common divisor of a and b is held
+pub record GcdHeld (lo hi a b : ℤ) : Type 0 where
+  pub each : (g : ℤ) → IsGcdOf a b g → IsHeld lo hi g
+
+-- l is the least common multiple of a and b: both divide it, it divides each number that both divide, and it is never
+-- negative; so it is 0 if either is 0
+pub record IsLcmOf (a b l : ℤ) : Type 0 where
+  pub sign : pos 0 ≤ℤ l
+  pub first : unsigned_abs a ∣ unsigned_abs l
+  pub second : unsigned_abs b ∣ unsigned_abs l
+  pub least : (m : ℕ) → unsigned_abs a ∣ m → unsigned_abs b ∣ m → unsigned_abs l ∣ m
+
+-- the least common multiple of a and b is held
+pub record LcmHeld (lo hi a b : ℤ) : Type 0 where
+  pub each : (l : ℤ) → IsLcmOf a b l → IsHeld lo hi l
+
+-- the answer stands for the least common multiple of a and b where that is held, and is `None` where it is not
+abbrev pub ChecksLcm : {T : Type 0} → (T → ℤ) → ℤ → ℤ → ℤ → ℤ → Option T → Type 0
+ChecksLcm value lo hi a b None = ¬ (LcmHeld lo hi a b)
+ChecksLcm value lo hi a b (Some y) = LcmHeld lo hi a b × IsLcmOf a b (value y)

@@ -1,0 +1,41 @@
+-- Fractions as pairs of whole numbers, the second not 0, and their lowest terms.
+use Rattle.std.specs.Prelude.{◌≡◌, ◌≢◌, ◌<ℤ◌, ◌*ℤ◌, ℕ, ℤ, pos, unsigned_abs, Option, Some, None}
+use Rattle.std.specs.Int.{◌∣◌}
+use Rattle.ratio_integer.specs.Range.{IsHeld}
+
+-- n/d and a/b have the same value
+abbrev pub SameValue : ℤ → ℤ → ℤ → ℤ → Type 0
+SameValue n d a b = n *ℤ b ≡ a *ℤ d
+
+-- b is positive, and no whole number above 1 divides both a and b
+pub record IsLowestTerms (a b : ℤ) : Type 0 where
+  pub positive : pos 0 <ℤ b
+  pub only_one : (k : ℕ) → k ∣ unsigned_abs a → k ∣ unsigned_abs b → k ≡ 1
+
+-- n/d is a fraction, and a/b is its value in lowest terms
+pub record IsLowestTermsOf (n d a b : ℤ) : Type 0 where
+  pub fraction : d ≢ pos 0
+  pub same : SameValue n d a b
+  pub lowest : IsLowestTerms a b
+
+-- the same, and a and b are held
+pub record IsHeldLowest (lo hi n d a b : ℤ) : Type 0 where
+  pub terms : IsLowestTermsOf n d a b
+  pub numer_held : IsHeld lo hi a
+  pub denom_held : IsHeld lo hi b
+
+-- n/d is a fraction, and its lowest terms are held
+pub record Fits (lo hi n d : ℤ) : Type 0 where
+  pub numer : ℤ
+  pub denom : ℤ
+  pub low : IsHeldLowest lo hi n d numer denom
+
+-- the answer is the lowest terms of the pair x where these fit, and `None` where they do not; numer and denom read it
+abbrev pub ChecksLowest : {R : Type 0} → (R → ℤ) → (R → ℤ) → ℤ → ℤ → ℤ × ℤ → Option R → Type 0
+ChecksLowest numer denom lo hi x None = ¬ (Fits lo hi x.0 x.1)
+ChecksLowest numer denom lo hi x (Some r) = IsHeldLowest lo hi x.0 x.1 (numer r) (denom r)
+
+-- the answer is the lowest terms of the pair x, which are held, where P holds, and `None` where it does not
+abbrev pub AnswersLowest : {R : Type 0} → (R → ℤ) → (R → ℤ) → ℤ → ℤ → Type 0 → ℤ × ℤ → Option R → Type 0
+AnswersLowest numer denom lo hi P x None = ¬ P
+AnswersLowest numer denom lo hi P x (Some r) = P × IsHeldLowest lo hi x.0 x.1 (numer r) (denom r)

@@ -1,0 +1,13 @@
+//! The primitive types, one a file, each with the same calls in the same order.
+mod i128;
+mod i16;
+mod i32;
+mod i64;
+mod i8;
+mod isize;
+mod u128;
+mod u16;
+mod u32;
+mod u64;
+mod u8;
+mod usize;

@@ -1,0 +1,124 @@
+//! The type `i32`.
+ghost use Rattle.std.specs.Prelude.{◌-◌, ◌^◌, pos, negsuc, false};
+ghost use Rattle.std.specs.Hash as hash;
+ghost use Rattle.std.proofs.Common.{lit≤, refl};
+ghost use Rattle.ratio_integer.specs.Primitives.{one_not_zero, signed_laws};
+
+use crate::integer::Integer;
+use crate::primitive::Primitive;
+use crate::signed::SignedInteger;
+use num_traits::cast;
+
+impl Integer for i32 {
+    ghost lo = { negsuc (2 ^ 31 - 1) };
+
+    ghost hi = { pos (2 ^ 31 - 1) };
+
+    ghost value = { λ x. x };
+
+    ghost number_hash_input = { hash.i32 };
+
+    ghost ZERO = { pos 0 };
+
+    ghost ONE = { pos 1 };
+
+    ghost MIN = { negsuc (2 ^ 31 - 1) };
+
+    ghost MAX = { pos (2 ^ 31 - 1) };
+
+    ghost EXACT_SUMS = { false };
+
+    ghost one_nonzero = { one_not_zero };
+
+    const ZERO: i32 = 0;
+
+    const ONE: i32 = 1;
+
+    const MIN: i32 = i32::MIN;
+
+    const MAX: i32 = i32::MAX;
+
+    const EXACT_SUMS: bool = false;
+
+    fn plus(self, o: i32) -> i32 {
+        self + o
+    }
+
+    fn minus(self, o: i32) -> i32 {
+        self - o
+    }
+
+    fn times(self, o: i32) -> i32 {
+        self * o
+    }
+
+    fn try_times(self, o: i32) -> Option<i32> {
+        self.checked_mul(o)
+    }
+
+    fn div_rem(self, o: i32) -> (i32, i32) {
+        (self / o, self % o)
+    }
+
+    fn to_i128(self) -> Option<i128> {
+        cast(self)
+    }
+
+    fn to_u128(self) -> Option<u128> {
+        cast(self)
+    }
+
+    fn from_i128(n: i128) -> Option<i32> {
+        cast(n)
+    }
+
+    fn from_u128(n: u128) -> Option<i32> {
+        cast(n)
+    }
+
+    fn exact_sum(_a: i32, _b: i32, _c: i32, _d: i32) -> Option<(i32, i32)> {
+        None
+    }
+
+    fn exact_diff(_a: i32, _b: i32, _c: i32, _d: i32) -> Option<(i32, i32)> {
+        None
+    }
+
+    fn is_zero(self) -> bool {
+        self == 0
+    }
+
+    fn is_one(self) -> bool {
+        self == 1
+    }
+
+    fn try_plus(self, o: i32) -> Option<i32> {
+        self.checked_add(o)
+    }
+
+    fn try_minus(self, o: i32) -> Option<i32> {
+        self.checked_sub(o)
+    }
+
+    ghost laws = { signed_laws (2 ^ 31 - 1) hash.i32 (lit≤ tt) };
+}
+
+impl SignedInteger for i32 {
+    fn negate(self) -> i32 {
+        -self
+    }
+
+    fn try_negate(self) -> Option<i32> {
+        self.checked_neg()
+    }
+
+    ghost below_law = { record { lt = tt } };
+}
+
+impl Primitive for i32 {
+    ghost BITS = { 32 };
+
+    const BITS: u32 = 32;
+
+    ghost width_law = { (lit≤ tt, refl) };
+}

@@ -1,0 +1,124 @@
+//! The type `i64`.
+ghost use Rattle.std.specs.Prelude.{◌-◌, ◌^◌, pos, negsuc, false};
+ghost use Rattle.std.specs.Hash as hash;
+ghost use Rattle.std.proofs.Common.{lit≤, refl};
+ghost use Rattle.ratio_integer.specs.Primitives.{one_not_zero, signed_laws};
+
+use crate::integer::Integer;
+use crate::primitive::Primitive;
+use crate::signed::SignedInteger;
+use num_traits::cast;
+
+impl Integer for i64 {
+    ghost lo = { negsuc (2 ^ 63 - 1) };
+
+    ghost hi = { pos (2 ^ 63 - 1) };
+
+    ghost value = { λ x. x };
+
+    ghost number_hash_input = { hash.i64 };
+
+    ghost ZERO = { pos 0 };
+
+    ghost ONE = { pos 1 };
+
+    ghost MIN = { negsuc (2 ^ 63 - 1) };
+
+    ghost MAX = { pos (2 ^ 63 - 1) };
+
+    ghost EXACT_SUMS = { false };
+
+    ghost one_nonzero = { one_not_zero };
+
+    const ZERO: i64 = 0;
+
+    const ONE: i64 = 1;
+
+    const MIN: i64 = i64::MIN;
+
+    const MAX: i64 = i64::MAX;
+
+    const EXACT_SUMS: bool = false;
+
+    fn plus(self, o: i64) -> i64 {
+        self + o
+    }
+
+    fn minus(self, o: i64) -> i64 {
+        self - o
+    }
+
+    fn times(self, o: i64) -> i64 {
+        self * o
+    }
+
+    fn try_times(self, o: i64) -> Option<i64> {
+        self.checked_mul(o)
+    }
+
+    fn div_rem(self, o: i64) -> (i64, i64) {
+        (self / o, self % o)
+    }
+
+    fn to_i128(self) -> Option<i128> {
+        cast(self)
+    }
+
+    fn to_u128(self) -> Option<u128> {
+        cast(self)
+    }
+
+    fn from_i128(n: i128) -> Option<i64> {
+        cast(n)
+    }
+
+    fn from_u128(n: u128) -> Option<i64> {
+        cast(n)
+    }
+
+    fn exact_sum(_a: i64, _b: i64, _c: i64, _d: i64) -> Option<(i64, i64)> {
+        None
+    }
+
+    fn exact_diff(_a: i64, _b: i64, _c: i64, _d: i64) -> Option<(i64, i64)> {
+        None
+    }
+
+    fn is_zero(self) -> bool {
+        self == 0
+    }
+
+    fn is_one(self) -> bool {
+        self == 1
+    }
+
+    fn try_plus(self, o: i64) -> Option<i64> {
+        self.checked_add(o)
+    }
+
+    fn try_minus(self, o: i64) -> Option<i64> {
+        self.checked_sub(o)
+    }
+
+    ghost laws = { signed_laws (2 ^ 63 - 1) hash.i64 (lit≤ tt) };
+}
+
+impl SignedInteger for i64 {
+    fn negate(self) -> i64 {
+        -self
+    }
+
+    fn try_negate(self) -> Option<i64> {
+        self.checked_neg()
+    }
+
+    ghost below_law = { record { lt = tt } };
+}
+
+impl Primitive for i64 {
+    ghost BITS = { 64 };
+
+    const BITS: u32 = 64;
+
+    ghost width_law = { (lit≤ tt, refl) };
+}

@@ -1,0 +1,124 @@
+//! The type `i8`.
+ghost use Rattle.std.specs.Prelude.{◌-◌, ◌^◌, pos, negsuc, false};
+ghost use Rattle.std.specs.Hash as hash;
+ghost use Rattle.std.proofs.Common.{lit≤, refl};
+ghost use Rattle.ratio_integer.specs.Primitives.{one_not_zero, signed_laws};
+
+use crate::integer::Integer;
+use crate::primitive::Primitive;
+use crate::signed::SignedInteger;
+use num_traits::cast;
+
+impl Integer for i8 {
+    ghost lo = { negsuc (2 ^ 7 - 1) };
+
+    ghost hi = { pos (2 ^ 7 - 1) };
+
+    ghost value = { λ x. x };
+
+    ghost number_hash_input = { hash.i8 };
+
+    ghost ZERO = { pos 0 };
+
+    ghost ONE = { pos 1 };
+
+    ghost MIN = { negsuc (2 ^ 7 - 1) };
+
+    ghost MAX = { pos (2 ^ 7 - 1) };
+
+    ghost EXACT_SUMS = { false };
+
+    ghost one_nonzero = { one_not_zero };
+
+    const ZERO: i8 = 0;
+
+    const ONE: i8 = 1;
+
+    const MIN: i8 = i8::MIN;
+
+    const MAX: i8 = i8::MAX;
+
+    const EXACT_SUMS: bool = false;
+
+    fn plus(self, o: i8) -> i8 {
+        self + o
+    }
+
+    fn minus(self, o: i8) -> i8 {
+        self - o
+    }
+
+    fn times(self, o: i8) -> i8 {
+        self * o
+    }
+
+    fn try_times(self, o: i8) -> Option<i8> {
+        self.checked_mul(o)
+    }
+
+    fn div_rem(self, o: i8) -> (i8, i8) {
+        (self / o, self % o)
+    }
+
+    fn to_i128(self) -> Option<i128> {
+        cast(self)
+    }
+
+    fn to_u128(self) -> Option<u128> {
+        cast(self)
+    }
+
+    fn from_i128(n: i128) -> Option<i8> {
+        cast(n)
+    }
+
+    fn from_u128(n: u128) -> Option<i8> {
+        cast(n)
+    }
+
+    fn exact_sum(_a: i8, _b: i8, _c: i8, _d: i8) -> Option<(i8, i8)> {
+        None
+    }
+
+    fn exact_diff(_a: i8, _b: i8, _c: i8, _d: i8) -> Option<(i8, i8)> {
+        None
+    }
+
+    fn is_zero(self) -> bool {
+        self == 0
+    }
+
+    fn is_one(self) -> bool {
+        self == 1
+    }
+
+    fn try_plus(self, o: i8) -> Option<i8> {
+        self.checked_add(o)
+    }
+
+    fn try_minus(self, o: i8) -> Option<i8> {
+        self.checked_sub(o)
+    }
+
+    ghost laws = { signed_laws (2 ^ 7 - 1) hash.i8 (lit≤ tt) };
+}
+
+impl SignedInteger for i8 {
+    fn negate(self) -> i8 {
+        -self
+    }
+
+    fn try_negate(self) -> Option<i8> {
+        self.checked_neg()
+    }
+
+    ghost below_law = { record { lt = tt } };
+}
+
+impl Primitive for i8 {
+    ghost BITS = { 8 };
+
+    const BITS: u32 = 8;
+
+    ghost width_law = { (lit≤ tt, refl) };
+}

@@ -1,0 +1,124 @@
+//! The type `isize`.
+ghost use Rattle.std.specs.Prelude.{◌-◌, ◌^◌, pos, negsuc, false};
+ghost use Rattle.std.specs.Hash as hash;
+ghost use Rattle.std.proofs.Common.{lit≤, refl};
+ghost use Rattle.ratio_integer.specs.Primitives.{one_not_zero, signed_laws};
+
+use crate::integer::Integer;
+use crate::primitive::Primitive;
+use crate::signed::SignedInteger;
+use num_traits::cast;
+
+impl Integer for isize {
+    ghost lo = { negsuc (2 ^ 63 - 1) };
+
+    ghost hi = { pos (2 ^ 63 - 1) };
+
+    ghost value = { λ x. x };
+
+    ghost number_hash_input = { hash.isize };
+
+    ghost ZERO = { pos 0 };
+
+    ghost ONE = { pos 1 };
+
+    ghost MIN = { negsuc (2 ^ 63 - 1) };
+
+    ghost MAX = { pos (2 ^ 63 - 1) };
+
+    ghost EXACT_SUMS = { false };
+
+    ghost one_nonzero = { one_not_zero };
+
+    const ZERO: isize = 0;
+
+    const ONE: isize = 1;
+
+    const MIN: isize = isize::MIN;
+
+    const MAX: isize = isize::MAX;
+
+    const EXACT_SUMS: bool = false;
+
+    fn plus(self, o: isize) -> isize {
+        self + o
+    }
+
+    fn minus(self, o: isize) -> isize {
+        self - o
+    }
+
+    fn times(self, o: isize) -> isize {
+        self * o
+    }
+
+    fn try_times(self, o: isize) -> Option<isize> {
+        self.checked_mul(o)
+    }
+
+    fn div_rem(self, o: isize) -> (isize, isize) {
+        (self / o, self % o)
+    }
+
+    fn to_i128(self) -> Option<i128> {
+        cast(self)
+    }
+
+    fn to_u128(self) -> Option<u128> {
+        cast(self)
+    }
+
+    fn from_i128(n: i128) -> Option<isize> {
+        cast(n)
+    }
+
+    fn from_u128(n: u128) -> Option<isize> {
+        cast(n)
+    }
+
+    fn exact_sum(_a: isize, _b: isize, _c: isize, _d: isize) -> Option<(isize, isize)> {
+        None
+    }
+
+    fn exact_diff(_a: isize, _b: isize, _c: isize, _d: isize) -> Option<(isize, isize)> {
+        None
+    }
+
+    fn is_zero(self) -> bool {
+        self == 0
+    }
+
+    fn is_one(self) -> bool {
+        self == 1
+    }
+
+    fn try_plus(self, o: isize) -> Option<isize> {
+        self.checked_add(o)
+    }
+
+    fn try_minus(self, o: isize) -> Option<isize> {
+        self.checked_sub(o)
+    }
+
+    ghost laws = { signed_laws (2 ^ 63 - 1) hash.isize (lit≤ tt) };
+}
+
+impl SignedInteger for isize {
+    fn negate(self) -> isize {
+        -self
+    }
+
+    fn try_negate(self) -> Option<isize> {
+        self.checked_neg()
+    }
+
+    ghost below_law = { record { lt = tt } };
+}
+
+impl Primitive for isize {
+    ghost BITS = { 64 };
+
+    const BITS: u32 = 64;
+
+    ghost width_law = { (lit≤ tt, refl) };
+}

@@ -1,0 +1,111 @@
+//! The type `u16`.
+ghost use Rattle.std.specs.Prelude.{◌-◌, ◌^◌, pos, unsigned_abs, false};
+ghost use Rattle.std.specs.Hash as hash;
+ghost use Rattle.std.proofs.Common.{lit≤, refl};
+ghost use Rattle.ratio_integer.specs.Primitives.{one_not_zero, unsigned_laws};
+
+use crate::integer::Integer;
+use crate::primitive::Primitive;
+use num_traits::cast;
+
+impl Integer for u16 {
+    ghost lo = { pos 0 };
+
+    ghost hi = { pos (2 ^ 16 - 1) };
+
+    ghost value = { λ x. pos x };
+
+    ghost number_hash_input = { λ z. hash.u16 (unsigned_abs z) };
+
+    ghost ZERO = { 0 };
+
+    ghost ONE = { 1 };
+
+    ghost MIN = { 0 };
+
+    ghost MAX = { 2 ^ 16 - 1 };
+
+    ghost EXACT_SUMS = { false };
+
+    ghost one_nonzero = { one_not_zero };
+
+    const ZERO: u16 = 0;
+
+    const ONE: u16 = 1;
+
+    const MIN: u16 = u16::MIN;
+
+    const MAX: u16 = u16::MAX;
+
+    const EXACT_SUMS: bool = false;
+
+    fn plus(self, o: u16) -> u16 {
+        self + o
+    }
+
+    fn minus(self, o: u16) -> u16 {
+        self - o
+    }
+
+    fn times(self, o: u16) -> u16 {
+        self * o
+    }
+
+    fn try_times(self, o: u16) -> Option<u16> {
+        self.checked_mul(o)
+    }
+
+    fn div_rem(self, o: u16) -> (u16, u16) {
+        (self / o, self % o)
+    }
+
+    fn to_i128(self) -> Option<i128> {
+        cast(self)
+    }
+
+    fn to_u128(self) -> Option<u128> {
+        cast(self)
+    }
+
+    fn from_i128(n: i128) -> Option<u16> {
+        cast(n)
+    }
+
+    fn from_u128(n: u128) -> Option<u16> {
+        cast(n)
+    }
+
+    fn exact_sum(_a: u16, _b: u16, _c: u16, _d: u16) -> Option<(u16, u16)> {
+        None
+    }
+
+    fn exact_diff(_a: u16, _b: u16, _c: u16, _d: u16) -> Option<(u16, u16)> {
+        None
+    }
+
+    fn is_zero(self) -> bool {
+        self == 0
+    }
+
+    fn is_one(self) -> bool {
+        self == 1
+    }
+
+    fn try_plus(self, o: u16) -> Option<u16> {
+        self.checked_add(o)
+    }
+
+    fn try_minus(self, o: u16) -> Option<u16> {
+        self.checked_sub(o)
+    }
+
+    ghost laws = { unsigned_laws (2 ^ 16 - 1) hash.u16 (lit≤ tt) };
+}
+
+impl Primitive for u16 {
+    ghost BITS = { 16 };
+
+    const BITS: u32 = 16;
+
+    ghost width_law = { (lit≤ tt, refl) };
+}

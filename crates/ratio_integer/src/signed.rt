@@ -1,0 +1,25 @@
+//! Types that have numbers below 0.
+ghost use Rattle.std.specs.Prelude.{◌≡◌, ◌<ℤ◌, pos, neg_ℤ};
+ghost use Rattle.ratio_integer.specs.Range.{Checks, IsHeld};
+
+use crate::integer::Integer;
+
+/// A type that has the negative of each of its numbers, but perhaps of the least.
+pub trait SignedInteger: Integer {
+    /// The negative. The test is `try_negate`.
+    fn negate(self) -> Self
+        requires { IsHeld Self.lo Self.hi (neg_ℤ (Self.value self)) }
+        ensures { Self.value result ≡ neg_ℤ (Self.value self) }
+    {
+        Self::ZERO.minus(self)
+    }
+
+    /// The negative, or `None` where the type does not hold it: at most for the least number.
+    fn try_negate(self) -> Option<Self>
+        ensures { Checks Self.value Self.lo Self.hi (neg_ℤ (Self.value self)) result }
+    {
+        Self::ZERO.try_minus(self)
+    }
+
+    ghost below_law: { Self.lo <ℤ pos 0 };
+}

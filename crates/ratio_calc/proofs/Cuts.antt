@@ -4,8 +4,7 @@ use Rattle.std.specs.Option.{MatchOption}
 use Rattle.std.specs.List.{slice_split, onto_first, position_or_len, before_first, after_first, list_any}
 use Rattle.std.proofs.lemmas.List.Splits.{slice_split_first, length-slice_split}
 use Rattle.std.proofs.lemmas.Str.Pattern.{split_once_first, IsSplitOnceResult}
-use Rattle.ratio_calc.specs.Answers.{pieces_text, three_pieces_text, want_three, is_space}
-use Rattle.ratio_calc.specs.Operands.{operand_of, fraction_of, number_of, is_slash}
+use Rattle.ratio_calc.specs.Answers.{IsPiecesAnswer, IsThreeAnswer, is_space, want_three}
 
 -- where no element passes, none is found
 any_none : (p : ℕ → Bool) (xs : List ℕ) → position_or_len p xs ≡ length xs → list_any p xs ≡ false
@@ -56,24 +55,21 @@ cut c text (Some x) h small =
       more = slice_split_first (λ b. b == c) text 0 e.0 ∙ rw (e.1, e.2) refl;
     }
 
-pub operand_cut : (text before after : List ℕ) → IsCut 47 text before after → operand_of text ≡ fraction_of (number_of before) (number_of after)
-operand_cut text before after h = rw (h.some, h.first, h.second) refl
-
-pub operand_uncut : (text : List ℕ) → IsUncut 47 text → operand_of text ≡ fraction_of (number_of text) (Some (pos 1))
-operand_uncut text h = rw h.none refl
-
-pub no_piece : (text : List ℕ) → IsUncut 32 text → pieces_text (slice_split is_space text) ≡ want_three
+pub no_piece : (text : List ℕ) → IsUncut 32 text → IsPiecesAnswer (slice_split is_space text) want_three
 no_piece text h = rw h.one refl
 
-pub two_pieces : (text left rest : List ℕ) → IsCut 32 text left rest → IsUncut 32 rest → pieces_text (slice_split is_space text) ≡ want_three
+pub two_pieces : (text left rest : List ℕ) → IsCut 32 text left rest → IsUncut 32 rest → IsPiecesAnswer (slice_split is_space text) want_three
 two_pieces text left rest h k = rw (h.more, k.one) refl
 
-pub three_pieces : (text left rest operator right : List ℕ) → IsCut 32 text left rest → IsCut 32 rest operator right → IsUncut 32 right → pieces_text (slice_split is_space text) ≡ three_pieces_text left operator right
-three_pieces text left rest operator right h k u = rw (h.more, k.more, u.one) refl
+pub three_pieces : (text left rest operator right answer : List ℕ) → IsCut 32 text left rest → IsCut 32 rest operator right → IsUncut 32 right
+    → IsThreeAnswer left operator right answer → IsPiecesAnswer (slice_split is_space text) answer
+three_pieces text left rest operator right answer h k u three = rw (h.more, k.more, u.one) three
 
-too_many : (left operator right : List ℕ) (others : List (List ℕ)) → 0 < length others → pieces_text (left ∷ operator ∷ right ∷ others) ≡ want_three
+too_many : (left operator right : List ℕ) (others : List (List ℕ)) → 0 < length others → IsPiecesAnswer (left ∷ operator ∷ right ∷ others) want_three
 too_many left operator right [] h = absurd (omega arith)
 too_many left operator right (fourth ∷ others) h = refl
 
-pub more_pieces : (text left rest operator right fourth others : List ℕ) → IsCut 32 text left rest → IsCut 32 rest operator right → IsCut 32 right fourth others → pieces_text (slice_split is_space text) ≡ want_three
-more_pieces text left rest operator right fourth others h k u = rw (h.more, k.more, u.more) (too_many left operator fourth (slice_split (λ b. b == 32) others) (omega (arith, length-slice_split (λ b. b == 32) others)))
+pub more_pieces : (text left rest operator right fourth others : List ℕ) → IsCut 32 text left rest → IsCut 32 rest operator right → IsCut 32 right fourth others
+    → IsPiecesAnswer (slice_split is_space text) want_three
+more_pieces text left rest operator right fourth others h k u =
+    rw (h.more, k.more, u.more) (too_many left operator fourth (slice_split is_space others) (omega (arith, length-slice_split is_space others)))

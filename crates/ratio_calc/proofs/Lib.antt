@@ -1,4 +1,3 @@
-pub mod Numerals
 pub mod Cuts
 pub mod Returns
 pub mod LineLaws

@@ -1,12 +1,12 @@
 -- The lines of what was read so far, as it grows by a byte.
-use Rattle.std.proofs.Common.{◌≡◌, ℕ, ◌+◌, ◌<◌, List, [], ◌∷◌, ◌++◌, length, Bool, true, false, not, cond, ◌==◌, nat_lt, Option, None, Some, refl, ap, ◌∙◌, sym, arith, ◌≢◌, length-append}
-use Rattle.std.specs.List.{slice_split, onto_first, flat_map}
+use Rattle.std.proofs.Common.{◌≡◌, ℕ, ◌+◌, ◌<◌, List, [], ◌∷◌, ◌++◌, length, Bool, true, false, not, cond, ◌==◌, nat_lt, Option, None, Some, refl, ap, ◌∙◌, sym, arith, append_assoc, length-append}
+use Rattle.std.specs.Bool.{MatchBool}
+use Rattle.std.specs.List.{slice_split, onto_first}
 use Rattle.std.proofs.lemmas.Bool.Decides.{nat_tests}
 use Rattle.std.proofs.lemmas.List.{append-nil}
-use Rattle.std.proofs.lemmas.List.Concat.{flat_map-append}
 use Rattle.std.proofs.lemmas.List.Splits.{length-slice_split}
-use Rattle.ratio_calc.specs.Answers.{answer_line, answer_to, answers_of, begun_line, front_of, if_begun, is_line_end, last_of, lines_of, whole_answers, whole_lines}
-use Rattle.ratio_calc.specs.KeptLine.{byte_answer, is_empty, kept, kept_answer, last_answer, next_line, pushed}
+use Rattle.ratio_calc.specs.Answers.{AreAnswers, AreAnswersOf, AreWholeAnswers, IsAnswer, begun_line, front_of, if_begun, is_line_end, last_of, whole_lines}
+use Rattle.ratio_calc.specs.KeptLine.{IsAnswerLine, IsByteAnswer, IsKeptAnswer, IsLastAnswer, is_empty, kept, next_line, pushed}
 
 -- the parts with one more byte, which ends the last part if `ends`
 abbrev grown : Bool → ℕ → List (List ℕ) → List (List ℕ)
@@ -94,40 +94,46 @@ pushed_kept line byte =
           ∙ cond_not (nat_lt 120 (length (line ++ byte ∷ []))) (Some (line ++ byte ∷ [])) None
     ] refl
 
-kept_answer_is : (line : List ℕ) → kept_answer (kept line) ≡ answer_to line
-kept_answer_is line =
-    elim (nat_lt 120 (length line)) as (λ t. nat_lt 120 (length line) ≡ t → kept_answer (cond t None (Some line)) ≡ answer_to line)
-    [ true ↦ λ t. rw t refl | false ↦ λ t. refl ] refl
+kept_answer : (line answer : List ℕ) → IsKeptAnswer (kept line) answer → IsAnswer line answer
+kept_answer line answer h =
+    elim (nat_lt 120 (length line)) as (λ t. nat_lt 120 (length line) ≡ t → IsKeptAnswer (cond t None (Some line)) answer → IsAnswer line answer)
+    [ true ↦ λ t k. rw t k | false ↦ λ t k. k ] refl h
 
 kept_not_empty : (byte : ℕ) (line : List ℕ) → is_empty (kept (byte ∷ line)) ≡ false
 kept_not_empty byte line = elim (nat_lt 120 (length (byte ∷ line))) as (λ t. is_empty (cond t None (Some (byte ∷ line))) ≡ false) [ true ↦ refl | false ↦ grind (arith, nat_tests) ]
 
-last_answer_is : (line : List ℕ) → last_answer (kept line) ≡ flat_map answer_line (if_begun line)
-last_answer_is [] = refl
-last_answer_is (byte ∷ line) =
-    ap (λ t. cond t [] (kept_answer (kept (byte ∷ line)) ++ 10 ∷ [])) (kept_not_empty byte line)
-    ∙ ap (λ xs. xs ++ 10 ∷ []) (kept_answer_is (byte ∷ line)) ∙ sym (append-nil (answer_line (byte ∷ line)))
+-- the answers to some lines and then to others
+answers_both : (lines more : List (List ℕ)) (xs ys : List ℕ) → AreAnswers lines xs → AreAnswers more ys → AreAnswers (lines ++ more) (xs ++ ys)
+answers_both [] more xs ys h k = rw h k
+answers_both (line ∷ lines) more xs ys h k =
+    (h.0, h.1 ++ ys, h.2, answers_both lines more h.1 ys h.3 k, ap (λ zs. zs ++ ys) h.4 ∙ append_assoc h.0 (10 ∷ h.1) ys)
+
+one_answer : (line bytes : List ℕ) → IsAnswerLine (kept line) bytes → AreAnswers (line ∷ []) bytes
+one_answer line bytes h = (h.answer, [], kept_answer line h.answer h.is_answer, refl, h.text)
+
+last_answers : (line bytes : List ℕ) → IsLastAnswer (kept line) bytes → AreAnswers (if_begun line) bytes
+last_answers [] bytes h = h
+last_answers (byte ∷ line) bytes h =
+    let no : IsAnswerLine (kept (byte ∷ line)) bytes = rw (kept_not_empty byte line) at h in one_answer (byte ∷ line) bytes no
 
 -- what the end of the input adds to the answers
-pub answers_last : (read : List ℕ) → answers_of read ≡ whole_answers read ++ last_answer (kept (begun_line read))
-answers_last read =
-    flat_map-append answer_line (whole_lines read) (if_begun (begun_line read))
-    ∙ ap (λ xs. whole_answers read ++ xs) (sym (last_answer_is (begun_line read)))
+pub answers_last : (read answers bytes : List ℕ) → AreWholeAnswers read answers → IsLastAnswer (kept (begun_line read)) bytes → AreAnswersOf read (answers ++ bytes)
+answers_last read answers bytes whole last =
+    answers_both (whole_lines read) (if_begun (begun_line read)) answers bytes whole (last_answers (begun_line read) bytes last)
 
 -- the answers to parts that have grown by a byte
-answers_grown : (ends : Bool) (byte : ℕ) (parts : List (List ℕ)) → 0 < length parts
-    → flat_map answer_line (front_of (grown ends byte parts)) ≡ flat_map answer_line (front_of parts) ++ cond ends (kept_answer (kept (last_of parts)) ++ 10 ∷ []) []
-answers_grown true byte parts some =
-    ap (flat_map answer_line) (front_ended byte parts some) ∙ flat_map-append answer_line (front_of parts) (last_of parts ∷ [])
-    ∙ ap (λ xs. flat_map answer_line (front_of parts) ++ xs) (append-nil (answer_line (last_of parts)) ∙ ap (λ xs. xs ++ 10 ∷ []) (sym (kept_answer_is (last_of parts))))
-answers_grown false byte parts some =
-    ap (flat_map answer_line) (front_begun byte parts) ∙ sym (append-nil (flat_map answer_line (front_of parts)))
+answers_grown : (ends : Bool) (byte : ℕ) (parts : List (List ℕ)) (answers bytes : List ℕ) → 0 < length parts → AreAnswers (front_of parts) answers
+    → MatchBool ends (IsAnswerLine (kept (last_of parts)) bytes) (bytes ≡ []) → AreAnswers (front_of (grown ends byte parts)) (answers ++ bytes)
+answers_grown true byte parts answers bytes some whole line =
+    rw (front_ended byte parts some) (answers_both (front_of parts) (last_of parts ∷ []) answers bytes whole (one_answer (last_of parts) bytes line))
+answers_grown false byte parts answers bytes some whole none =
+    rw (front_begun byte parts, none, append-nil) whole
 
 -- what one more byte adds to the answers
-pub answers_more : (read : List ℕ) (byte : ℕ) → whole_answers (read ++ byte ∷ []) ≡ whole_answers read ++ byte_answer (kept (begun_line read)) byte
-answers_more read byte =
-    ap (λ parts. flat_map answer_line (front_of parts)) (split_more is_line_end read byte)
-    ∙ answers_grown (is_line_end byte) byte (slice_split is_line_end read) (some_part is_line_end read)
+pub answers_more : (read : List ℕ) (byte : ℕ) (answers bytes : List ℕ) → AreWholeAnswers read answers → IsByteAnswer (kept (begun_line read)) byte bytes
+    → AreWholeAnswers (read ++ byte ∷ []) (answers ++ bytes)
+answers_more read byte answers bytes whole more =
+    rw (split_more is_line_end read byte) (answers_grown (is_line_end byte) byte (slice_split is_line_end read) answers bytes (some_part is_line_end read) whole more)
 
 kept_grown : (ends : Bool) (byte : ℕ) (parts : List (List ℕ)) → 0 < length parts
     → kept (last_of (grown ends byte parts)) ≡ cond ends (Some []) (pushed (kept (last_of parts)) byte)
@@ -139,3 +145,10 @@ pub kept_more : (read : List ℕ) (byte : ℕ) → kept (begun_line (read ++ byt
 kept_more read byte =
     ap (λ parts. kept (last_of parts)) (split_more is_line_end read byte)
     ∙ kept_grown (is_line_end byte) byte (slice_split is_line_end read) (some_part is_line_end read)
+
+-- after a line end no line is begun, so the answers to the whole lines are all
+pub answers_ended : (read answers : List ℕ) → AreWholeAnswers (read ++ 10 ∷ []) answers → AreAnswersOf (read ++ 10 ∷ []) answers
+answers_ended read answers whole =
+    let none : begun_line (read ++ 10 ∷ []) ≡ [] =
+    ap last_of (split_more is_line_end read 10) ∙ last_ended 10 (slice_split is_line_end read) (some_part is_line_end read) in
+    rw (none, append-nil) whole

@@ -1,12 +1,12 @@
 -- A trailing carriage return.
 use Rattle.std.proofs.Common.{◌≡◌, ℕ, List, [], ◌∷◌, ◌++◌, length, true, false, cond, Option, None, Some, refl, ap, ◌∙◌, sym, arith, ◌≢◌, Bor, ◌==◌, not, nat_lt, ◌≤◌}
-use Rattle.std.specs.Prelude.{unwrap_or, codes}
+use Rattle.std.specs.Prelude.{MatchBool, codes, unwrap_or}
 use Rattle.std.specs.List.{slice_split}
 use Rattle.std.specs.Str.{IsUtf8, is_utf8}
 use Rattle.std.proofs.lemmas.Str.{IsUtf8-from_is_utf8, is_utf8-from_IsUtf8}
 use Rattle.std.specs.Option.{MatchOption}
 use Rattle.std.proofs.lemmas.Bool.Decides.{nat_tests}
-use Rattle.ratio_calc.specs.Answers.{without_return, answer_to, pieces_text, is_space}
+use Rattle.ratio_calc.specs.Answers.{IsAnswer, IsPiecesAnswer, is_space, without_return}
 
 same : (a b : ℕ) → (a == b) ≡ true → a ≡ b
 same a b e = grind (arith, nat_tests)
@@ -32,11 +32,12 @@ stripped text out (Some x) h e = ap without_return h ∙ dropped x.now ∙ ap (�
 short : (n : ℕ) → n ≤ 120 → nat_lt 120 n ≡ false
 short n h = grind (arith, nat_tests)
 
-pub not_text : (line : List ℕ) → length line ≤ 120 → ¬ (IsUtf8 line) → answer_to line ≡ codes "error: not UTF-8"
-not_text line h k =
-    rw (short (length line) h)
-    (elim (is_utf8 line) as (λ t. is_utf8 line ≡ t → cond (not t) (codes "error: not UTF-8") (pieces_text (slice_split is_space (without_return line))) ≡ codes "error: not UTF-8")
-    [ true ↦ λ t. absurd (k (IsUtf8-from_is_utf8 line t)) | false ↦ λ t. refl ] refl)
+pub not_text : (line : List ℕ) → length line ≤ 120 → ¬ (IsUtf8 line) → IsAnswer line (codes "error: not UTF-8")
+not_text line small no_text =
+    rw (short (length line) small)
+    (elim (is_utf8 line)
+    as (λ t. is_utf8 line ≡ t → MatchBool t (IsPiecesAnswer (slice_split is_space (without_return line)) (codes "error: not UTF-8")) (codes "error: not UTF-8" ≡ codes "error: not UTF-8"))
+    [ true ↦ λ t. absurd (no_text (IsUtf8-from_is_utf8 line t)) | false ↦ λ t. refl ] refl)
 
-pub is_text : (line : List ℕ) → length line ≤ 120 → IsUtf8 line → answer_to line ≡ pieces_text (slice_split is_space (without_return line))
-is_text line h k = rw (short (length line) h, is_utf8-from_IsUtf8 line k) refl
+pub is_text : (line answer : List ℕ) → length line ≤ 120 → IsUtf8 line → IsPiecesAnswer (slice_split is_space (without_return line)) answer → IsAnswer line answer
+is_text line answer small text pieces = rw (short (length line) small, is_utf8-from_IsUtf8 line text) pieces

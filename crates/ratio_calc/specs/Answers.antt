@@ -1,13 +1,13 @@
 -- What the calculator answers to an input, as a whole.
-use Rattle.std.specs.Prelude.{ℕ, List, [], ◌∷◌, ◌++◌, length, Bool, not, ◌||◌, ◌==◌, nat_lt, ℤ, Result, Ok, Err, if◌then◌else◌, codes}
-use Rattle.std.specs.List.{slice_split, flat_map}
+use Rattle.std.specs.Prelude.{◌≡◌, ℕ, List, [], ◌∷◌, ◌++◌, length, Bool, ◌||◌, ◌==◌, nat_lt, ℤ, Result, Ok, Err, if◌then◌else◌, codes, MatchBool}
+use Rattle.std.specs.List.{slice_split}
 use Rattle.std.specs.Cmp.Lexicographic.{pointwise}
 use Rattle.std.specs.Str.{is_utf8}
 use Rattle.std.specs.declared.cmp.Ordering.{Ordering}
 use Rattle.std.specs.declared.cmp.Ordering.TheVariants.{Less, Equal, Greater}
-use Rattle.ratio_calc.specs.Operands.{operand_of, refusal_text}
-use Rattle.ratio_calc.specs.Order.{order_of}
-use Rattle.ratio_calc.specs.declared.operand.Refusal.{Refusal}
+use Rattle.ratio_core.specs.Refusal.{refusal_text}
+use Rattle.ratio_core.specs.declared.parse_error.RatioErrorKind.{RatioErrorKind}
+use Rattle.ratio_calc.specs.Operands.{IsOperand, order_of}
 
 -- the byte that ends a line, and the one between pieces
 abbrev pub is_line_end : ℕ → Bool
@@ -23,25 +23,32 @@ order_text Equal = codes "="
 order_text Greater = codes ">"
 
 -- the answer to two operands: a refusal of the left one, else a refusal of the right one, else their order
-abbrev pub comparison_text : Result (ℤ × ℤ) Refusal → Result (ℤ × ℤ) Refusal → List ℕ
-comparison_text (Err refusal) _ = codes "error: left: " ++ refusal_text refusal
-comparison_text (Ok left) (Err refusal) = codes "error: right: " ++ refusal_text refusal
+abbrev pub comparison_text : Result (ℤ × ℤ) RatioErrorKind → Result (ℤ × ℤ) RatioErrorKind → List ℕ
+comparison_text (Err kind) _ = codes "error: left: " ++ refusal_text kind
+comparison_text (Ok left) (Err kind) = codes "error: right: " ++ refusal_text kind
 comparison_text (Ok left) (Ok right) = order_text (order_of left right)
+
+-- the answer to two texts that are to be compared
+pub record IsComparison (left right answer : List ℕ) : Type 0 where
+  pub left_operand : Result (ℤ × ℤ) RatioErrorKind
+  pub right_operand : Result (ℤ × ℤ) RatioErrorKind
+  pub left_reads : IsOperand left left_operand
+  pub right_reads : IsOperand right right_operand
+  pub text : answer ≡ comparison_text left_operand right_operand
 
 abbrev pub want_three : List ℕ
 want_three = codes "error: want LEFT OP RIGHT"
 
 -- the answer to three pieces, none of which may be empty
-abbrev pub three_pieces_text : List ℕ → List ℕ → List ℕ → List ℕ
-three_pieces_text left operator right =
-    if (length left == 0) || ((length operator == 0) || (length right == 0)) then want_three
-    else (if pointwise (λ a b. a == b) operator (codes "cmp") then comparison_text (operand_of left) (operand_of right)
-    else codes "error: unknown operator")
+abbrev pub IsThreeAnswer : List ℕ → List ℕ → List ℕ → List ℕ → Type 0
+IsThreeAnswer left operator right answer =
+    MatchBool ((length left == 0) || ((length operator == 0) || (length right == 0))) (answer ≡ want_three)
+    (MatchBool (pointwise (λ a b. a == b) operator (codes "cmp")) (IsComparison left right answer) (answer ≡ codes "error: unknown operator"))
 
 -- the answer to the pieces of a line
-abbrev pub pieces_text : List (List ℕ) → List ℕ
-pieces_text (left ∷ operator ∷ right ∷ []) = three_pieces_text left operator right
-pieces_text _ = want_three
+abbrev pub IsPiecesAnswer : List (List ℕ) → List ℕ → Type 0
+IsPiecesAnswer (left ∷ operator ∷ right ∷ []) answer = IsThreeAnswer left operator right answer
+IsPiecesAnswer _ answer = answer ≡ want_three
 
 -- the bytes without one trailing carriage return
 abbrev pub without_return : List ℕ → List ℕ
@@ -50,15 +57,16 @@ without_return (byte ∷ []) = if byte == 13 then [] else byte ∷ []
 without_return (byte ∷ next ∷ bytes) = byte ∷ without_return (next ∷ bytes)
 
 -- the answer to a line without its line end: the first of these that applies
-abbrev pub answer_to : List ℕ → List ℕ
-answer_to line =
-    if nat_lt 120 (length line) then codes "error: line too long"
-    else (if not (is_utf8 line) then codes "error: not UTF-8"
-    else pieces_text (slice_split is_space (without_return line)))
+abbrev pub IsAnswer : List ℕ → List ℕ → Type 0
+IsAnswer line answer =
+    MatchBool (nat_lt 120 (length line)) (answer ≡ codes "error: line too long")
+    (MatchBool (is_utf8 line) (IsPiecesAnswer (slice_split is_space (without_return line)) answer) (answer ≡ codes "error: not UTF-8"))
 
--- the answer as a line
-abbrev pub answer_line : List ℕ → List ℕ
-answer_line line = answer_to line ++ 10 ∷ []
+-- the answers to some lines: those to each, in order, with a line end after each
+abbrev pub AreAnswers : List (List ℕ) → List ℕ → Type 0
+AreAnswers [] written = written ≡ []
+AreAnswers (line ∷ lines) written =
+    (answer : List ℕ) × (rest : List ℕ) × IsAnswer line answer × AreAnswers lines rest × (written ≡ answer ++ 10 ∷ rest)
 
 -- all parts but the last
 abbrev pub front_of : List (List ℕ) → List (List ℕ)
@@ -89,9 +97,9 @@ abbrev pub lines_of : List ℕ → List (List ℕ)
 lines_of input = whole_lines input ++ if_begun (begun_line input)
 
 -- the answers to the lines that have their line end
-abbrev pub whole_answers : List ℕ → List ℕ
-whole_answers input = flat_map answer_line (whole_lines input)
+abbrev pub AreWholeAnswers : List ℕ → List ℕ → Type 0
+AreWholeAnswers input written = AreAnswers (whole_lines input) written
 
--- the answers of an input: one line for each of its lines
-abbrev pub answers_of : List ℕ → List ℕ
-answers_of input = flat_map answer_line (lines_of input)
+-- the answers of an input: those to all of its lines
+abbrev pub AreAnswersOf : List ℕ → List ℕ → Type 0
+AreAnswersOf input written = AreAnswers (lines_of input) written

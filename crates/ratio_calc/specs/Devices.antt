@@ -88,3 +88,9 @@ Writes old new bytes (Err fault) = (fault ≡ Write) × TookSome old new bytes
 abbrev pub Flushes : {T : Type 0} → Device → Device → Result T CalcFault → Type 0
 Flushes old new (Ok x) = Flushed old new
 Flushes old new (Err fault) = (fault ≡ Write) × Failed old new
+
+-- the same for some bytes of which this holds
+pub record WritesFor {T : Type 0} (Is : List ℕ → Type 0) (old new : Device) (result : Result T CalcFault) : Type 0 where
+  pub bytes : List ℕ
+  pub are : Is bytes
+  pub writes : Writes old new bytes result

@@ -1,6 +1,6 @@
 -- The line that is being read, as far as it is kept: `None` once it has more than 120 bytes.
-use Rattle.std.specs.Prelude.{ℕ, List, [], ◌∷◌, ◌++◌, length, Bool, false, ◌==◌, nat_lt, Option, None, Some, if◌then◌else◌, codes}
-use Rattle.ratio_calc.specs.Answers.{answer_to, is_line_end}
+use Rattle.std.specs.Prelude.{◌≡◌, ℕ, List, [], ◌∷◌, ◌++◌, length, Bool, false, ◌==◌, nat_lt, Option, None, Some, if◌then◌else◌, codes, MatchBool}
+use Rattle.ratio_calc.specs.Answers.{IsAnswer, is_line_end}
 
 -- what is kept of a line
 abbrev pub kept : List ℕ → Option (List ℕ)
@@ -16,18 +16,24 @@ is_empty None = false
 is_empty (Some line) = length line == 0
 
 -- the answer to the line that is kept
-abbrev pub kept_answer : Option (List ℕ) → List ℕ
-kept_answer None = codes "error: line too long"
-kept_answer (Some line) = answer_to line
+abbrev pub IsKeptAnswer : Option (List ℕ) → List ℕ → Type 0
+IsKeptAnswer None answer = answer ≡ codes "error: line too long"
+IsKeptAnswer (Some line) answer = IsAnswer line answer
 
--- what the end of the input has answered: nothing, where no line is begun
-abbrev pub last_answer : Option (List ℕ) → List ℕ
-last_answer line = if is_empty line then [] else kept_answer line ++ 10 ∷ []
+-- the same with its line end
+pub record IsAnswerLine (line : Option (List ℕ)) (bytes : List ℕ) : Type 0 where
+  pub answer : List ℕ
+  pub is_answer : IsKeptAnswer line answer
+  pub text : bytes ≡ answer ++ 10 ∷ []
+
+-- what the end of the input answers: nothing, where no line is begun
+abbrev pub IsLastAnswer : Option (List ℕ) → List ℕ → Type 0
+IsLastAnswer line bytes = MatchBool (is_empty line) (bytes ≡ []) (IsAnswerLine line bytes)
 
 -- what is kept after one more byte of the input
 abbrev pub next_line : Option (List ℕ) → ℕ → Option (List ℕ)
 next_line line byte = if is_line_end byte then Some [] else pushed line byte
 
--- what one more byte of the input has answered
-abbrev pub byte_answer : Option (List ℕ) → ℕ → List ℕ
-byte_answer line byte = if is_line_end byte then kept_answer line ++ 10 ∷ [] else []
+-- what one more byte of the input answers
+abbrev pub IsByteAnswer : Option (List ℕ) → ℕ → List ℕ → Type 0
+IsByteAnswer line byte bytes = MatchBool (is_line_end byte) (IsAnswerLine line bytes) (bytes ≡ [])

@@ -1,5 +1,4 @@
 pub mod Operands
-pub mod Order
 pub mod Answers
 pub mod KeptLine
 pub mod Devices

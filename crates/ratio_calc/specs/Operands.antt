@@ -1,58 +1,28 @@
--- What a text says as an operand: number texts, and fractions with a positive denominator.
-use Rattle.std.specs.Prelude.{ℕ, zero, suc, ◌-◌, ◌^◌, List, [], ◌∷◌, length, Bool, not, ◌&&◌, ◌==◌, nat_le, ℤ, pos, negsuc, neg_ℤ, Option, None, Some, Result, Ok, Err, if◌then◌else◌, codes}
-use Rattle.std.specs.Option.{option_map}
-use Rattle.std.specs.List.{before_first, after_first, list_any}
-use Rattle.std.specs.Str.{all_ascii_digits}
-use Rattle.std.specs.Str.Parse.{digits_value}
-use Rattle.ratio_calc.specs.declared.operand.Refusal.{Refusal}
-use Rattle.ratio_calc.specs.declared.operand.Refusal.TheVariants.{NotANumber, ZeroDenominator}
+-- The operands of a line, and how two of them stand to each other.
+use Rattle.std.specs.Prelude.{◌-◌, ◌^◌, ◌*ℤ◌, ℕ, ℤ, pos, negsuc, List, Result, Ok, Err}
+use Rattle.std.specs.Ordering.{int_cmp}
+use Rattle.std.specs.declared.cmp.Ordering.{Ordering}
+use Rattle.ratio_core.specs.Reading.{AnswersText, IsFractionText}
+use Rattle.ratio_core.specs.declared.parse_error.RatioErrorKind.{RatioErrorKind}
+use Rattle.num_rational.specs.Ratio.{numerator, denominator}
+use Rattle.num_rational.specs.declared.ratio.Ratio.{Ratio}
 
--- the bytes '-', '+' and '/'
-abbrev pub is_minus : ℕ → Bool
-is_minus byte = byte == 45
+-- the least and the greatest number of a field
+abbrev pub least : ℤ
+least = negsuc (2 ^ 63 - 1)
 
-abbrev pub is_plus : ℕ → Bool
-is_plus byte = byte == 43
+abbrev pub greatest : ℤ
+greatest = pos (2 ^ 63 - 1)
 
-abbrev pub is_slash : ℕ → Bool
-is_slash byte = byte == 47
+-- what a text is answered as an operand: the two numbers of its fraction in lowest terms, or its first refusal
+abbrev pub IsOperand : List ℕ → Result (ℤ × ℤ) RatioErrorKind → Type 0
+IsOperand text operand = AnswersText (λ x. x.0) (λ x. x.1) least greatest (IsFractionText least greatest text) operand
 
--- one or more decimal digits
-abbrev pub is_numeral : List ℕ → Bool
-is_numeral digits = not (length digits == 0) && all_ascii_digits digits
+-- the two numbers of a fraction that was read
+abbrev pub numbers_of : {T : _} {i : _} {o : _} {e : _} {p : _} {h : _} → Result (Ratio T i o e p h) RatioErrorKind → Result (ℤ × ℤ) RatioErrorKind
+numbers_of (Ok r) = Ok (numerator r, denominator r)
+numbers_of (Err kind) = Err kind
 
--- the number that a numeral writes, where it is at most `most`
-abbrev pub number_up_to : ℕ → List ℕ → Option ℕ
-number_up_to most digits = if is_numeral digits && nat_le (digits_value 10 digits) most then Some (digits_value 10 digits) else None
-
-abbrev pub minus : ℕ → ℤ
-minus n = neg_ℤ (pos n)
-
--- the number of a number text: an optional sign and a numeral, whose number lies from -2^63 to 2^63 - 1
-abbrev pub number_of : List ℕ → Option ℤ
-number_of [] = None
-number_of (byte ∷ digits) =
-    if is_minus byte then option_map minus (number_up_to (2 ^ 63) digits)
-    else (if is_plus byte then option_map pos (number_up_to (2 ^ 63 - 1) digits)
-    else option_map pos (number_up_to (2 ^ 63 - 1) (byte ∷ digits)))
-
--- what is said of an operand that is refused
-abbrev pub refusal_text : Refusal → List ℕ
-refusal_text NotANumber = codes "failed to parse integer"
-refusal_text ZeroDenominator = codes "zero value denominator"
-
--- the fraction of two numbers, as they stand; the numerator is refused first, then a denominator that is no number or
--- is negative, and by its own name the denominator 0
-abbrev pub fraction_of : Option ℤ → Option ℤ → Result (ℤ × ℤ) Refusal
-fraction_of None _ = Err NotANumber
-fraction_of (Some n) None = Err NotANumber
-fraction_of (Some n) (Some (pos zero)) = Err ZeroDenominator
-fraction_of (Some n) (Some (pos (suc d))) = Ok (n, pos (suc d))
-fraction_of (Some n) (Some (negsuc d)) = Err NotANumber
-
--- what an operand reads as: the text is cut at its first slash, and without one the denominator is 1
-abbrev pub operand_of : List ℕ → Result (ℤ × ℤ) Refusal
-operand_of text =
-    if list_any is_slash text
-    then fraction_of (number_of (before_first is_slash text)) (number_of (after_first is_slash text))
-    else fraction_of (number_of text) (Some (pos 1))
+-- the order of two fractions with positive denominators is that of their cross products, in unbounded whole numbers
+abbrev pub order_of : ℤ × ℤ → ℤ × ℤ → Ordering
+order_of left right = int_cmp (left.0 *ℤ right.1) (right.0 *ℤ left.1)

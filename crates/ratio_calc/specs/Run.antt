@@ -1,7 +1,7 @@
 -- What one run of the calculator does.
 use Rattle.std.specs.Prelude.{◌≡◌, ℕ, ◌-◌, ◌^◌, ◌≤◌, List, ◌++◌, length, Option, Result, Ok, Err, MatchResult, codes}
 use Rattle.std.specs.Io.KnownBytes.{Consumes, Appends, IsAtEnd}
-use Rattle.ratio_calc.specs.Answers.{answers_of, begun_line, whole_answers}
+use Rattle.ratio_calc.specs.Answers.{AreAnswersOf, AreWholeAnswers, begun_line}
 use Rattle.ratio_calc.specs.Devices.{Device, Ended, Failed, Gave, Took, TookSome}
 use Rattle.ratio_calc.specs.KeptLine.{kept}
 use Rattle.ratio_calc.specs.declared.calculator.CalcFault.{CalcFault}
@@ -15,9 +15,9 @@ fault_text Endless = codes "ratio_calc: input too long"
 
 -- how what was written stands to what was read, where a run stopped at a fault
 abbrev pub StopsAt : List ℕ → List ℕ → CalcFault → Type 0
-StopsAt read written Read = written ≡ whole_answers read
-StopsAt read written Write = (rest : List ℕ) × (written ++ rest ≡ answers_of read)
-StopsAt read written Endless = (written ≡ whole_answers read) × (2 ^ 64 - 1 ≤ length read)
+StopsAt read written Read = AreWholeAnswers read written
+StopsAt read written Write = (rest : List ℕ) × AreAnswersOf read (written ++ rest)
+StopsAt read written Endless = AreWholeAnswers read written × (2 ^ 64 - 1 ≤ length read)
 
 -- what a run read and what it wrote: the bytes that calls gave, as the beginning of what the reader had left, and the
 -- bytes that calls took, at the end of what the writer held; and how what was written stands to what was read
@@ -28,7 +28,7 @@ pub record Ran {T : Type 0} (reader reader' writer writer' : Device) (result : R
   pub consumed : Consumes reader.0 reader'.0 read
   pub taken : writer'.1.moved ≡ writer.1.moved ++ written
   pub appended : Appends writer.0 writer'.0 written
-  pub answered : MatchResult result (λ _. (written ≡ answers_of read) × IsAtEnd reader'.0) (StopsAt read written)
+  pub answered : MatchResult result (λ _. AreAnswersOf read written × IsAtEnd reader'.0) (StopsAt read written)
 
 -- by how much the failed calls of the reader rise
 abbrev pub read_failures : {T : Type 0} → Result T CalcFault → ℕ
@@ -45,15 +45,16 @@ write_failures (Err Write) = 1
 write_failures (Err Endless) = 0
 
 -- the lines that have their line end are answered, and which line is then begun; or how that stopped
-abbrev pub LinesAre : List ℕ → Device → Device → Device → Device → Result (Option (List ℕ)) CalcFault → Type 0
-LinesAre read reader reader' writer writer' (Ok line) =
-    ((middle : Device) × Gave reader middle read × Ended middle reader') × Took writer writer' (whole_answers read) × (line ≡ kept (begun_line read))
-LinesAre read reader reader' writer writer' (Err Read) =
-    ((middle : Device) × Gave reader middle read × Failed middle reader') × Took writer writer' (whole_answers read)
-LinesAre read reader reader' writer writer' (Err Write) = Gave reader reader' read × TookSome writer writer' (whole_answers read)
-LinesAre read reader reader' writer writer' (Err Endless) =
-    Gave reader reader' read × Took writer writer' (whole_answers read) × (2 ^ 64 - 1 ≤ length read)
+abbrev pub LinesAre : List ℕ → List ℕ → Device → Device → Device → Device → Result (Option (List ℕ)) CalcFault → Type 0
+LinesAre read answers reader reader' writer writer' (Ok line) =
+    ((middle : Device) × Gave reader middle read × Ended middle reader') × AreWholeAnswers read answers × Took writer writer' answers × (line ≡ kept (begun_line read))
+LinesAre read answers reader reader' writer writer' (Err Read) =
+    ((middle : Device) × Gave reader middle read × Failed middle reader') × AreWholeAnswers read answers × Took writer writer' answers
+LinesAre read answers reader reader' writer writer' (Err Write) = Gave reader reader' read × AreAnswersOf read answers × TookSome writer writer' answers
+LinesAre read answers reader reader' writer writer' (Err Endless) =
+    Gave reader reader' read × AreWholeAnswers read answers × Took writer writer' answers × (2 ^ 64 - 1 ≤ length read)
 
 pub record ReadsLines (reader reader' writer writer' : Device) (result : Result (Option (List ℕ)) CalcFault) : Type 0 where
   pub read : List ℕ
-  pub lines : LinesAre read reader reader' writer writer' result
+  pub answers : List ℕ
+  pub lines : LinesAre read answers reader reader' writer writer' result

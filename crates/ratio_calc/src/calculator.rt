@@ -1,7 +1,7 @@
 //! The calculator, from the bytes read to the bytes written.
-ghost use Rattle.std.specs.Prelude.{◌≡◌, ℕ, ◌+◌, ◌++◌, ◌∷◌, [], List, length, OnOk};
-ghost use Rattle.ratio_calc.specs.KeptLine.{byte_answer, kept_answer, last_answer, next_line};
-ghost use Rattle.ratio_calc.specs.Devices.{GivesByte, Writes, Flushes};
+ghost use Rattle.std.specs.Prelude.{◌≡◌, ◌+◌, length, OnOk, OnErr};
+ghost use Rattle.ratio_calc.specs.KeptLine.{IsAnswerLine, IsByteAnswer, IsLastAnswer, next_line};
+ghost use Rattle.ratio_calc.specs.Devices.{GivesByte, Writes, WritesFor, Flushes};
 ghost use Rattle.ratio_calc.specs.Run.{ReadsLines, Ran, fault_text, read_failures, write_failures};
 
 use crate::counted::{CalcRead, CalcWrite};
@@ -58,7 +58,7 @@ fn write_bytes<W: CalcWrite>(writer: &mut W, bytes: &[u8]) -> Result<(), CalcFau
 
 /// Writes the answer to a line.
 fn answer_line<W: CalcWrite>(line: &Line, writer: &mut W) -> Result<(), CalcFault>
-    ensures { Writes (W.contents writer.old, W.calls writer.old) (W.contents writer.new, W.calls writer.new) (kept_answer line.now ++ 10 ∷ []) result }
+    ensures { WritesFor (IsAnswerLine line.now) (W.contents writer.old, W.calls writer.old) (W.contents writer.new, W.calls writer.new) result }
 {
     write_bytes(writer, line.answer().as_bytes())?;
     write_bytes(writer, b"\n")
@@ -67,7 +67,8 @@ fn answer_line<W: CalcWrite>(line: &Line, writer: &mut W) -> Result<(), CalcFaul
 /// Takes one more byte of the input. The end of a line answers it.
 fn take_byte<W: CalcWrite>(line: &mut Line, writer: &mut W, byte: u8) -> Result<(), CalcFault>
     ensures line { OnOk result (line.new ≡ next_line line.old byte) }
-    ensures written { Writes (W.contents writer.old, W.calls writer.old) (W.contents writer.new, W.calls writer.new) (byte_answer line.old byte) result }
+    ensures written { WritesFor (IsByteAnswer line.old byte) (W.contents writer.old, W.calls writer.old) (W.contents writer.new, W.calls writer.new) result }
+    ensures ends { OnErr result (byte ≡ 10) }
 {
     if byte == b'\n' {
         answer_line(line, writer)?;
@@ -99,7 +100,7 @@ fn answer_whole_lines<R: CalcRead, W: CalcWrite>(
 
 /// Answers a last line that has no line end.
 fn answer_last<W: CalcWrite>(line: &Line, writer: &mut W) -> Result<(), CalcFault>
-    ensures { Writes (W.contents writer.old, W.calls writer.old) (W.contents writer.new, W.calls writer.new) (last_answer line.now) result }
+    ensures { WritesFor (IsLastAnswer line.now) (W.contents writer.old, W.calls writer.old) (W.contents writer.new, W.calls writer.new) result }
 {
     if line.is_empty() {
         Ok(())

@@ -1,6 +1,6 @@
 //! The line that is being read.
 ghost use Rattle.std.specs.Prelude.{◌≡◌, ◌↔◌, ℕ, ◌≤◌, List, [], take, Option, Some, None, if◌then◌else◌};
-ghost use Rattle.ratio_calc.specs.KeptLine.{pushed, is_empty, kept_answer};
+ghost use Rattle.ratio_calc.specs.KeptLine.{IsKeptAnswer, is_empty, pushed};
 
 use crate::answer::answer;
 use std::marker::Model;
@@ -65,7 +65,7 @@ impl Line {
 
     /// The answer to this line, without a line end.
     pub fn answer(&self) -> &'static str
-        ensures { result.now ≡ kept_answer self.now }
+        ensures { IsKeptAnswer self.now result.now }
     {
         if self.is_too_long {
             "error: line too long"

@@ -8,7 +8,6 @@ pub mod counted;
 #[cfg(test)]
 mod devices;
 pub mod line;
-pub mod operand;
 #[cfg(test)]
 mod tests;
 

@@ -1,6 +1,6 @@
 //! The worked rows, and runs on devices that fail.
-ghost use Rattle.std.specs.Prelude.{◌≡◌, IfOk};
-ghost use Rattle.ratio_calc.specs.Answers.{answers_of};
+ghost use Rattle.std.specs.Prelude.{IfOk};
+ghost use Rattle.ratio_calc.specs.Answers.{AreAnswersOf};
 
 use crate::calculator::{CalcFault, fault_line, run};
 use crate::counted::Counted;
@@ -11,7 +11,7 @@ use std::test::Fail;
 
 /// What is written for an input: the theorem on `run`, at devices in memory.
 fn answered(alloc: Global, input: &[u8]) -> Result<Vec<u8>, CalcFault>
-    ensures { IfOk result (λ bytes. bytes.items ≡ answers_of input.now) }
+    ensures { IfOk result (λ bytes. AreAnswersOf input.now bytes.items) }
 {
     let mut reader = Counted::new(Feed {
         bytes: input,
@@ -27,7 +27,7 @@ fn answered(alloc: Global, input: &[u8]) -> Result<Vec<u8>, CalcFault>
 
 #[test]
 fn answers_lines(rt: HostRuntime) -> Result<(), Fail> {
-    let rows: [(&[u8], &[u8]); 20] = [
+    let rows: [(&[u8], &[u8]); 24] = [
         (
             b"\x31\x2f\x32\x20\x63\x6d\x70\x20\x31\x2f\x33\x0a",
             b"\x3e\x0a",
@@ -40,7 +40,20 @@ fn answers_lines(rt: HostRuntime) -> Result<(), Fail> {
         (b"1/0 cmp x\n", b"error: left: zero value denominator\n"),
         (b"1 cmp x\n", b"error: right: failed to parse integer\n"),
         (b"1 cmp 0/0\n", b"error: right: zero value denominator\n"),
-        (b"1/-2 cmp 1/2\n", b"error: left: failed to parse integer\n"),
+        (b"1/-2 cmp 1/2\n", b"<\n"),
+        (b"-1/-2 cmp 1/2\n", b"=\n"),
+        (
+            b"-9223372036854775808/-2 cmp 4611686018427387904\n",
+            b"=\n",
+        ),
+        (
+            b"-9223372036854775808/-1 cmp 1\n",
+            b"error: left: failed to parse integer\n",
+        ),
+        (
+            b"1/-9223372036854775808 cmp 1\n",
+            b"error: left: failed to parse integer\n",
+        ),
         (b"1/2 + 1/3\n", b"error: unknown operator\n"),
         (b"1/2 ^ 3\n", b"error: unknown operator\n"),
         (b"x ^ y\n", b"error: unknown operator\n"),

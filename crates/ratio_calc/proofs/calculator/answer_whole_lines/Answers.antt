@@ -12,13 +12,14 @@ returns-in-Err g c = stops_at_read _ _ _ _ _ _ _ _ c.loop-turn.invariant c.in-Er
 
 pub returns-in_err-take_byte-in-Ok-Some : goal.returns-in_err-take_byte-in-Ok-Some
 returns-in_err-take_byte-in-Ok-Some g c =
-    let stopped : c.from_residual.result ≡ Err Write = err_is _ _ c.from_residual.ensures.1 ∙ ap Err c.in_err-take_byte-in-Ok-Some.ensures.written.0 in
-    stops_at_write _ _ _ _ _ _ _ _ _ _ c.loop-turn.invariant (rw c.in-Ok-Some.field-0-is at c.in-Ok-Some.ensures) c.in_err-take_byte-in-Ok-Some.ensures.written.1 stopped
+    let taken = c.in_err-take_byte-in-Ok-Some.ensures.written in
+    let stopped : c.from_residual.result ≡ Err Write = err_is _ _ c.from_residual.ensures.1 ∙ ap Err taken.writes.0 in
+    stops_at_write _ _ _ _ _ _ _ _ _ _ _ c.loop-turn.invariant (rw c.in-Ok-Some.field-0-is at c.in-Ok-Some.ensures) c.in_err-take_byte-in-Ok-Some.ensures.ends taken.are taken.writes.1 stopped
 
 pub loop-turn-preserved : goal.loop-turn-preserved
 loop-turn-preserved g c =
     let taken = c.in_ok-take_byte-in-Ok-Some.ensures in
-    goes_on _ _ _ _ _ _ _ _ _ _ c.loop-turn.invariant (rw c.in-Ok-Some.field-0-is at c.in-Ok-Some.ensures) taken.written taken.line
+    goes_on _ _ _ _ _ _ _ _ _ _ _ c.loop-turn.invariant (rw c.in-Ok-Some.field-0-is at c.in-Ok-Some.ensures) taken.written.are taken.written.writes taken.line
 
 pub returns-in-Ok-None : goal.returns-in-Ok-None
 returns-in-Ok-None g c = reads_all _ _ _ _ _ _ _ c.loop-turn.invariant (rw c.in-Ok-None.field-0-is at c.in-Ok-None.ensures)

@@ -2,7 +2,7 @@ use Rattle.std.proofs.Common.{w64, arith, ℤ, FitsSigned, rules, ◌*ℤ◌, li
 use Rattle.std.specs.Int.{w128}
 use Rattle.std.specs.Prelude.{unsigned_abs}
 use Rattle.std.proofs.lemmas.Int.{to_z-of_z, fits_signed_mul, fits_signed_from_abs}
-use Rattle.ratio_calc.proofs.operand.order.Goals as goal
+use Rattle.ratio_calc.proofs.answer.order.Goals as goal
 
 abs_le : (a : ℤ) → FitsSigned w64 a → unsigned_abs a ≤ 2 ^ 63
 abs_le (pos n) f = let h : n < 2 ^ 63 = f.sfits in omega arith
@@ -21,8 +21,11 @@ product_is a b f g =
 
 pub returns : goal.returns
 returns c =
-    let a0 : FitsSigned w64 c.args.left.0 = search rules in
-    let a1 : FitsSigned w64 c.args.left.1 = search rules in
-    let b0 : FitsSigned w64 c.args.right.0 = search rules in
-    let b1 : FitsSigned w64 c.args.right.1 = search rules in
-    rw (← product_is c.args.left.0 c.args.right.1 a0 b1, ← product_is c.args.right.0 c.args.left.1 b0 a1) c.cmp.ensures
+    let l = c.into_raw-left_numer.ensures in
+    let r = c.into_raw-right_numer.ensures in
+    let ln : FitsSigned w64 c.into_raw-left_numer.result.0 = search rules in
+    let ld : FitsSigned w64 c.into_raw-left_numer.result.1 = search rules in
+    let rn : FitsSigned w64 c.into_raw-right_numer.result.0 = search rules in
+    let rd : FitsSigned w64 c.into_raw-right_numer.result.1 = search rules in
+    rw (← l.numer, ← l.denom, ← r.numer, ← r.denom)
+    (rw (← product_is c.into_raw-left_numer.result.0 c.into_raw-right_numer.result.1 ln rd, ← product_is c.into_raw-right_numer.result.0 c.into_raw-left_numer.result.1 rn ld) c.cmp.ensures)

@@ -1,5 +1,6 @@
 pub mod Cuts
 pub mod Returns
+pub mod AnswerLaws
 pub mod LineLaws
 pub mod LinesSoFar
 pub mod DeviceCalls

@@ -42,10 +42,7 @@ fn answers_lines(rt: HostRuntime) -> Result<(), Fail> {
         (b"1 cmp 0/0\n", b"error: right: zero value denominator\n"),
         (b"1/-2 cmp 1/2\n", b"<\n"),
         (b"-1/-2 cmp 1/2\n", b"=\n"),
-        (
-            b"-9223372036854775808/-2 cmp 4611686018427387904\n",
-            b"=\n",
-        ),
+        (b"-9223372036854775808/-2 cmp 4611686018427387904\n", b"=\n"),
         (
             b"-9223372036854775808/-1 cmp 1\n",
             b"error: left: failed to parse integer\n",

@@ -5,5 +5,8 @@ mod convert;
 mod ratio;
 mod text;
 
+#[cfg(test)]
+mod tests;
+
 pub use ratio::{Constants, Ratio, Rational, Rational32, Rational64};
 pub use ratio_core::{ParseRatioError, RatioErrorKind};

@@ -4,6 +4,7 @@ ghost use Rattle.std.specs.Hash as hash;
 ghost use Rattle.std.proofs.Common.{lit≤, refl};
 ghost use Rattle.ratio_integer.specs.Primitives.{one_not_zero, signed_laws};
 
+use crate::binary_gcd::binary_gcd;
 use crate::integer::Integer;
 use crate::primitive::Primitive;
 use crate::signed::SignedInteger;
@@ -98,6 +99,10 @@ impl Integer for i32 {
 
     fn try_minus(self, o: i32) -> Option<i32> {
         self.checked_sub(o)
+    }
+
+    fn gcd(self, o: i32) -> i32 {
+        binary_gcd(self.unsigned_abs() as u64, o.unsigned_abs() as u64) as i32
     }
 
     ghost laws = { signed_laws (2 ^ 31 - 1) hash.i32 (lit≤ tt) };

@@ -4,6 +4,7 @@ ghost use Rattle.std.specs.Hash as hash;
 ghost use Rattle.std.proofs.Common.{lit≤, refl};
 ghost use Rattle.ratio_integer.specs.Primitives.{one_not_zero, signed_laws};
 
+use crate::binary_gcd::binary_gcd;
 use crate::integer::Integer;
 use crate::primitive::Primitive;
 use crate::signed::SignedInteger;
@@ -98,6 +99,10 @@ impl Integer for i64 {
 
     fn try_minus(self, o: i64) -> Option<i64> {
         self.checked_sub(o)
+    }
+
+    fn gcd(self, o: i64) -> i64 {
+        binary_gcd(self.unsigned_abs(), o.unsigned_abs()) as i64
     }
 
     ghost laws = { signed_laws (2 ^ 63 - 1) hash.i64 (lit≤ tt) };

@@ -1,6 +1,7 @@
 pub mod CommonDivisors
 pub mod CrossCancelling
 pub mod DivisionLemmas
+pub mod FlooredDivision
 pub mod GcdLemmas
 pub mod Halving
 pub mod LcmLemmas

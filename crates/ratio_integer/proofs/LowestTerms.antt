@@ -148,6 +148,9 @@ pub quotient_by_gcd_held : (lo hi n d g m : ℤ) → IsRange lo hi → IsHeld lo
 quotient_by_gcd_held lo hi n d g m range m_held g_held fraction is =
     quotient_held lo hi m g range m_held g_held (divisor_nonzero n d g fraction is) (λ e. let sign = is.sign in omega (arith, ints))
 
+pub held_lowest_by_one : (lo hi n d g : ℤ) → IsHeld lo hi n → IsHeld lo hi d → pos 0 <ℤ d → IsGcdOf n d g → g ≡ pos 1 → IsHeldLowest lo hi n d n d
+held_lowest_by_one lo hi n d g n_held d_held positive is one = record { terms = lowest_by_one n d g positive is one; numer_held = n_held; denom_held = d_held }
+
 pub held_lowest_quotients : (lo hi n d g a b : ℤ) → IsRange lo hi → IsHeld lo hi n → IsHeld lo hi d → IsHeld lo hi g → pos 0 <ℤ d → IsGcdOf n d g → a ≡ int_div n g → b ≡ int_div d g → IsHeldLowest lo hi n d a b
 held_lowest_quotients lo hi n d g a b range n_held d_held g_held positive is a-is b-is =
     let fraction = positive_nonzero d positive in

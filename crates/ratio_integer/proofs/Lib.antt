@@ -5,5 +5,6 @@ pub mod GcdLemmas
 pub mod Halving
 pub mod LcmLemmas
 pub mod LowestTerms
+pub mod MagnitudeGcd
 pub mod Whole
 pub mod Wide

@@ -23,14 +23,14 @@ same_value_turned a b c d same = sym same
 pub same_value_chained : (a b c d e f : ℤ) → d ≢ pos 0 → SameValue a b c d → SameValue c d e f → SameValue a b e f
 same_value_chained a b c d e f fraction first second =
     mul_cancel (a *ℤ f) (e *ℤ b) d fraction (
-      mul-swap_last a f d
-      ∙ sym (mul_assoc a d f)
-      ∙ ap (λ (t : ℤ). t *ℤ f) first
-      ∙ mul-swap_last c b f
-      ∙ sym (mul_assoc c f b)
-      ∙ ap (λ (t : ℤ). t *ℤ b) second
-      ∙ mul-swap_last e d b
-      ∙ sym (mul_assoc e b d))
+    mul-swap_last a f d
+    ∙ sym (mul_assoc a d f)
+    ∙ ap (λ (t : ℤ). t *ℤ f) first
+    ∙ mul-swap_last c b f
+    ∙ sym (mul_assoc c f b)
+    ∙ ap (λ (t : ℤ). t *ℤ b) second
+    ∙ mul-swap_last e d b
+    ∙ sym (mul_assoc e b d))
 
 -- products of the same values have the same value
 pub same_value_products : (a b c d p q s t : ℤ) → SameValue a b p q → SameValue c d s t → SameValue (a *ℤ c) (b *ℤ d) (p *ℤ s) (q *ℤ t)

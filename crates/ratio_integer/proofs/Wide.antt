@@ -7,7 +7,6 @@ use mir.Syntax.{w128}
 use mir.Val.{SFits, of_z, to_z}
 use Rattle.ratio_integer.specs.Fraction.{Fits, IsHeldLowest}
 use Rattle.ratio_integer.specs.Range.{IsHeld}
-use Rattle.ratio_integer.specs.Width.{IsWithin64Bits}
 use Rattle.ratio_integer.proofs.LowestTerms.{denom_out, numer_out}
 
 -- the number of 128 bits with a sign that has z's bits; it is z where z fits
@@ -25,14 +24,6 @@ wide_is z held = to_z-of_z w128 z (wide_fits z held)
 
 abbrev pub HasRoom : ℤ → Type 0
 HasRoom z = IsHeld (negsuc (2 ^ 126 - 1)) (pos (2 ^ 126 - 1)) z
-
-pub narrow_held : (lo hi z : ℤ) → IsWithin64Bits lo hi → IsHeld lo hi z → IsHeld (negsuc (2 ^ 63 - 1)) (pos (2 ^ 63 - 1)) z
-narrow_held lo hi z within held =
-    let low = within.low in
-    let high = within.high in
-    let above = held.above in
-    let below = held.below in
-    record { above = omega (arith, ints); below = omega (arith, ints) }
 
 pub product_room : (x y : ℤ) → IsHeld (negsuc (2 ^ 63 - 1)) (pos (2 ^ 63 - 1)) x → IsHeld (negsuc (2 ^ 63 - 1)) (pos (2 ^ 63 - 1)) y → pos 0 <ℤ y → HasRoom (x *ℤ y)
 product_room x y x_held y_held positive = by_size (x *ℤ y) (

@@ -2,47 +2,87 @@
 //! every sum of two products is held, and reduced there.
 //!
 //! So no condition is left but the one that matters, that the lowest terms are held. A sum over the
-//! least common denominator refuses more, since the denominator may be too great before reducing.
-ghost use Rattle.std.specs.Prelude.{◌≡◌, ◌<ℤ◌, ◌*ℤ◌, ◌-◌, ◌^◌, negsuc, pos};
+//! least common denominator refuses more, since that may be too great before the sum is reduced.
+ghost use Rattle.std.specs.Prelude.{◌≡◌, ◌<ℤ◌, ◌*ℤ◌, ◌-◌, ◌^◌, ℤ, negsuc, pos};
 ghost use Rattle.ratio_integer.specs.Arithmetic.{difference_of, sum_of};
 ghost use Rattle.ratio_integer.specs.Fraction.{ChecksLowest};
-ghost use Rattle.ratio_integer.specs.Range.{IsHeld};
-ghost use Rattle.ratio_integer.specs.Width.{IsWithin64Bits};
+ghost use Rattle.ratio_integer.specs.Range.{Checks, IsHeld};
 
-use crate::integer::Integer;
 use crate::reducing::lowest_terms;
+use num_traits::cast;
 
-/// The number as an `i128`.
-fn wide<T: Integer>(t: T) -> i128
-    requires { IsWithin64Bits T.lo T.hi }
-    ensures number { result ≡ T.value t }
-    ensures held { IsHeld (negsuc (2 ^ 63 - 1)) (pos (2 ^ 63 - 1)) (T.value t) }
-{
-    t.to_i128().unwrap()
+/// A type of at most 64 bits with a sign, by its way into `i128` and back. It stands apart from
+/// `Integer` since the `exact_sum` of an `Integer` is computed by it.
+pub(crate) trait Narrow: Copy {
+    // The least and the greatest number, and the number that a value stands for.
+    ghost lo: { ℤ };
+
+    ghost hi: { ℤ };
+
+    ghost value: { Self → ℤ };
+
+    /// The number as an `i128`.
+    fn wide(self) -> i128
+        ensures number { result ≡ value self }
+        ensures held { IsHeld (negsuc (2 ^ 63 - 1)) (pos (2 ^ 63 - 1)) (value self) };
+
+    /// The value that stands for `n`, or `None` where the type does not hold it.
+    fn narrow(n: i128) -> Option<Self>
+        ensures { Checks value lo hi n result };
+}
+
+impl Narrow for i32 {
+    ghost lo = { negsuc (2 ^ 31 - 1) };
+
+    ghost hi = { pos (2 ^ 31 - 1) };
+
+    ghost value = { λ x. x };
+
+    fn wide(self) -> i128 {
+        self as i128
+    }
+
+    fn narrow(n: i128) -> Option<i32> {
+        cast(n)
+    }
+}
+
+impl Narrow for i64 {
+    ghost lo = { negsuc (2 ^ 63 - 1) };
+
+    ghost hi = { pos (2 ^ 63 - 1) };
+
+    ghost value = { λ x. x };
+
+    fn wide(self) -> i128 {
+        self as i128
+    }
+
+    fn narrow(n: i128) -> Option<i64> {
+        cast(n)
+    }
 }
 
 /// The product of a number and a positive one, which leaves room for a sum of two such products.
-fn product<T: Integer>(number: T, positive: T) -> i128
-    requires narrow { IsWithin64Bits T.lo T.hi }
-    requires positive { pos 0 <ℤ T.value positive }
+fn product<T: Narrow>(number: T, positive: T) -> i128
+    requires { pos 0 <ℤ T.value positive }
     ensures number { result ≡ T.value number *ℤ T.value positive }
     ensures room { IsHeld (negsuc (2 ^ 126 - 1)) (pos (2 ^ 126 - 1)) result }
 {
-    wide(number) * wide(positive)
+    number.wide() * positive.wide()
 }
 
 /// The lowest terms of `n/d` as values of `T`, or `None` where `T` does not hold them.
-fn narrow_lowest_terms<T: Integer>(n: i128, d: i128) -> Option<(T, T)>
+fn narrow_lowest_terms<T: Narrow>(n: i128, d: i128) -> Option<(T, T)>
     requires { pos 0 <ℤ d }
     ensures { ChecksLowest (λ r. T.value r.0) (λ r. T.value r.1) T.lo T.hi (n, d) result }
 {
     let (numer, denom) = lowest_terms(n, d);
-    Some((T::from_i128(numer)?, T::from_i128(denom)?))
+    Some((T::narrow(numer)?, T::narrow(denom)?))
 }
 
 /// The lowest terms of `a/b + c/d`, or `None` where `T` does not hold them.
-pub(crate) fn exact_sum<T: Integer>(a: T, b: T, c: T, d: T) -> Option<(T, T)>
-    requires narrow { IsWithin64Bits T.lo T.hi }
+pub(crate) fn exact_sum<T: Narrow>(a: T, b: T, c: T, d: T) -> Option<(T, T)>
     requires left_positive { pos 0 <ℤ T.value b }
     requires right_positive { pos 0 <ℤ T.value d }
     ensures { ChecksLowest (λ r. T.value r.0) (λ r. T.value r.1) T.lo T.hi
@@ -52,8 +92,7 @@ pub(crate) fn exact_sum<T: Integer>(a: T, b: T, c: T, d: T) -> Option<(T, T)>
 }
 
 /// The lowest terms of `a/b - c/d`, or `None` where `T` does not hold them.
-pub(crate) fn exact_diff<T: Integer>(a: T, b: T, c: T, d: T) -> Option<(T, T)>
-    requires narrow { IsWithin64Bits T.lo T.hi }
+pub(crate) fn exact_diff<T: Narrow>(a: T, b: T, c: T, d: T) -> Option<(T, T)>
     requires left_positive { pos 0 <ℤ T.value b }
     requires right_positive { pos 0 <ℤ T.value d }
     ensures { ChecksLowest (λ r. T.value r.0) (λ r. T.value r.1) T.lo T.hi

@@ -1,10 +1,11 @@
 //! The type `i64`.
-ghost use Rattle.std.specs.Prelude.{◌-◌, ◌^◌, pos, negsuc, false};
+ghost use Rattle.std.specs.Prelude.{◌-◌, ◌^◌, pos, negsuc, true};
 ghost use Rattle.std.specs.Hash as hash;
 ghost use Rattle.std.proofs.Common.{lit≤, refl};
 ghost use Rattle.ratio_integer.specs.Primitives.{one_not_zero, signed_laws};
 
 use crate::binary_gcd::binary_gcd;
+use crate::exact_sum;
 use crate::integer::Integer;
 use crate::primitive::Primitive;
 use crate::signed::SignedInteger;
@@ -27,7 +28,7 @@ impl Integer for i64 {
 
     ghost MAX = { pos (2 ^ 63 - 1) };
 
-    ghost EXACT_SUMS = { false };
+    ghost EXACT_SUMS = { true };
 
     ghost one_nonzero = { one_not_zero };
 
@@ -39,7 +40,7 @@ impl Integer for i64 {
 
     const MAX: i64 = i64::MAX;
 
-    const EXACT_SUMS: bool = false;
+    const EXACT_SUMS: bool = true;
 
     fn plus(self, o: i64) -> i64 {
         self + o
@@ -77,12 +78,12 @@ impl Integer for i64 {
         cast(n)
     }
 
-    fn exact_sum(_a: i64, _b: i64, _c: i64, _d: i64) -> Option<(i64, i64)> {
-        None
+    fn exact_sum(a: i64, b: i64, c: i64, d: i64) -> Option<(i64, i64)> {
+        exact_sum::exact_sum(a, b, c, d)
     }
 
-    fn exact_diff(_a: i64, _b: i64, _c: i64, _d: i64) -> Option<(i64, i64)> {
-        None
+    fn exact_diff(a: i64, b: i64, c: i64, d: i64) -> Option<(i64, i64)> {
+        exact_sum::exact_diff(a, b, c, d)
     }
 
     fn is_zero(self) -> bool {

@@ -33,7 +33,7 @@ pub crossed_lowest : (p q s t : ℤ) → pos 0 <ℤ q → pos 0 <ℤ t → IsCop
 crossed_lowest p q s t q_positive t_positive pq pt sq st = record {
   positive = mul_positive q t q_positive t_positive;
   only_one = rw (unsigned_abs-mul p s, unsigned_abs-mul q t) (
-    coprime_turned _ _ (coprime_product _ _ _
+      coprime_turned _ _ (coprime_product _ _ _
       (coprime_turned _ _ (coprime_product _ _ _ pq pt))
       (coprime_turned _ _ (coprime_product _ _ _ sq st))));
 }
@@ -42,10 +42,10 @@ crossed_lowest p q s t q_positive t_positive pq pt sq st = record {
 module _ (a b c d p q s t : ℤ) (left : IsLowestTerms a b) (right : IsLowestTerms c d) (falling : IsLowestTermsOf a d p t) (rising : IsLowestTermsOf c b s q) where
   pub cancelled_lowest : IsLowestTerms (p *ℤ s) (q *ℤ t)
   cancelled_lowest = crossed_lowest p q s t rising.lowest.positive falling.lowest.positive
-    (coprime_divisors _ _ _ _ left.only_one (numer_divides a d p t falling) (denom_divides c b s q rising))
-    falling.lowest.only_one
-    rising.lowest.only_one
-    (coprime_divisors _ _ _ _ right.only_one (numer_divides c b s q rising) (denom_divides a d p t falling))
+      (coprime_divisors _ _ _ _ left.only_one (numer_divides a d p t falling) (denom_divides c b s q rising))
+      falling.lowest.only_one
+      rising.lowest.only_one
+      (coprime_divisors _ _ _ _ right.only_one (numer_divides c b s q rising) (denom_divides a d p t falling))
 
   pub cancelled_same : SameValue (a *ℤ c) (b *ℤ d) (p *ℤ s) (q *ℤ t)
   cancelled_same = rw (*ℤ_comm b d, *ℤ_comm q t) (same_value_products a d c b p t s q falling.same rising.same)
@@ -56,8 +56,8 @@ pub product_lowest : (m e n f a b c d p q s t : ℤ) → IsLowestTermsOf m e a b
 product_lowest m e n f a b c d p q s t left right falling rising = record {
   fraction = mul_nonzero e f left.fraction right.fraction;
   same = same_value_chained _ _ (a *ℤ c) (b *ℤ d) _ _
-    (mul_nonzero b d (positive_nonzero b left.lowest.positive) (positive_nonzero d right.lowest.positive))
-    (same_value_products m e n f a b c d left.same right.same)
-    (cancelled_same a b c d p q s t left.lowest right.lowest falling rising);
+      (mul_nonzero b d (positive_nonzero b left.lowest.positive) (positive_nonzero d right.lowest.positive))
+      (same_value_products m e n f a b c d left.same right.same)
+      (cancelled_same a b c d p q s t left.lowest right.lowest falling rising);
   lowest = cancelled_lowest a b c d p q s t left.lowest right.lowest falling rising;
 }

@@ -40,7 +40,7 @@ multiple-rem a b = (
 -- ---- floored division
 
 -- dividing by 2 or more at least halves
-halved : (a b : ℕ) → 2 ≤ b → 2 * (a / b) ≤ a
+pub halved : (a b : ℕ) → 2 ≤ b → 2 * (a / b) ≤ a
 halved a b h = omega (arith, mul-le (a / b) 2 (a / b) b (omega arith) h, div-add-mod' a b)
 
 -- the quotient of two held numbers is held, but for the least by -1

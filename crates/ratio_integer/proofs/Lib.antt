@@ -1,9 +1,11 @@
 pub mod CommonDivisors
 pub mod CrossCancelling
 pub mod DivisionLemmas
+pub mod FlooredDivision
 pub mod GcdLemmas
 pub mod Halving
 pub mod LcmLemmas
 pub mod LowestTerms
+pub mod MachineGcd
 pub mod Whole
 pub mod Wide

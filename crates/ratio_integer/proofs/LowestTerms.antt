@@ -23,14 +23,14 @@ same_value_turned a b c d same = sym same
 pub same_value_chained : (a b c d e f : ℤ) → d ≢ pos 0 → SameValue a b c d → SameValue c d e f → SameValue a b e f
 same_value_chained a b c d e f fraction first second =
     mul_cancel (a *ℤ f) (e *ℤ b) d fraction (
-      mul-swap_last a f d
-      ∙ sym (mul_assoc a d f)
-      ∙ ap (λ (t : ℤ). t *ℤ f) first
-      ∙ mul-swap_last c b f
-      ∙ sym (mul_assoc c f b)
-      ∙ ap (λ (t : ℤ). t *ℤ b) second
-      ∙ mul-swap_last e d b
-      ∙ sym (mul_assoc e b d))
+    mul-swap_last a f d
+    ∙ sym (mul_assoc a d f)
+    ∙ ap (λ (t : ℤ). t *ℤ f) first
+    ∙ mul-swap_last c b f
+    ∙ sym (mul_assoc c f b)
+    ∙ ap (λ (t : ℤ). t *ℤ b) second
+    ∙ mul-swap_last e d b
+    ∙ sym (mul_assoc e b d))
 
 -- products of the same values have the same value
 pub same_value_products : (a b c d p q s t : ℤ) → SameValue a b p q → SameValue c d s t → SameValue (a *ℤ c) (b *ℤ d) (p *ℤ s) (q *ℤ t)
@@ -147,6 +147,9 @@ gcd_held_positive lo hi n d range d_held positive =
 pub quotient_by_gcd_held : (lo hi n d g m : ℤ) → IsRange lo hi → IsHeld lo hi m → IsHeld lo hi g → d ≢ pos 0 → IsGcdOf n d g → IsHeld lo hi (int_div m g)
 quotient_by_gcd_held lo hi n d g m range m_held g_held fraction is =
     quotient_held lo hi m g range m_held g_held (divisor_nonzero n d g fraction is) (λ e. let sign = is.sign in omega (arith, ints))
+
+pub held_lowest_by_one : (lo hi n d g : ℤ) → IsHeld lo hi n → IsHeld lo hi d → pos 0 <ℤ d → IsGcdOf n d g → g ≡ pos 1 → IsHeldLowest lo hi n d n d
+held_lowest_by_one lo hi n d g n_held d_held positive is one = record { terms = lowest_by_one n d g positive is one; numer_held = n_held; denom_held = d_held }
 
 pub held_lowest_quotients : (lo hi n d g a b : ℤ) → IsRange lo hi → IsHeld lo hi n → IsHeld lo hi d → IsHeld lo hi g → pos 0 <ℤ d → IsGcdOf n d g → a ≡ int_div n g → b ≡ int_div d g → IsHeldLowest lo hi n d a b
 held_lowest_quotients lo hi n d g a b range n_held d_held g_held positive is a-is b-is =

@@ -6,4 +6,3 @@ pub mod Laws
 pub mod OddPart
 pub mod Primitives
 pub mod Range
-pub mod Width

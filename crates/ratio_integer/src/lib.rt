@@ -3,11 +3,17 @@
 #![tactic(auto)]
 
 mod binary_gcd;
+mod exact_sum;
 mod impls;
 mod integer;
 mod primitive;
+mod reducing;
 mod signed;
 
 pub use integer::Integer;
 pub use primitive::Primitive;
+pub use reducing::lowest_terms;
 pub use signed::SignedInteger;
+
+#[cfg(test)]
+mod tests;

@@ -4,6 +4,7 @@ ghost use Rattle.std.specs.Hash as hash;
 ghost use Rattle.std.proofs.Common.{lit≤, refl};
 ghost use Rattle.ratio_integer.specs.Primitives.{one_not_zero, signed_laws};
 
+use crate::binary_gcd::binary_gcd_wide;
 use crate::integer::Integer;
 use crate::primitive::Primitive;
 use crate::signed::SignedInteger;
@@ -98,6 +99,10 @@ impl Integer for i128 {
 
     fn try_minus(self, o: i128) -> Option<i128> {
         self.checked_sub(o)
+    }
+
+    fn gcd(self, o: i128) -> i128 {
+        binary_gcd_wide(self.unsigned_abs(), o.unsigned_abs()) as i128
     }
 
     ghost laws = { signed_laws (2 ^ 127 - 1) hash.i128 (lit≤ tt) };

@@ -4,6 +4,7 @@ ghost use Rattle.std.specs.Hash as hash;
 ghost use Rattle.std.proofs.Common.{lit≤, refl};
 ghost use Rattle.ratio_integer.specs.Primitives.{one_not_zero, signed_laws};
 
+use crate::binary_gcd::binary_gcd;
 use crate::integer::Integer;
 use crate::primitive::Primitive;
 use crate::signed::SignedInteger;
@@ -98,6 +99,10 @@ impl Integer for i16 {
 
     fn try_minus(self, o: i16) -> Option<i16> {
         self.checked_sub(o)
+    }
+
+    fn gcd(self, o: i16) -> i16 {
+        binary_gcd(self.unsigned_abs() as u64, o.unsigned_abs() as u64) as i16
     }
 
     ghost laws = { signed_laws (2 ^ 15 - 1) hash.i16 (lit≤ tt) };

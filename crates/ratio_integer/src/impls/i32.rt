@@ -1,9 +1,11 @@
 //! The type `i32`.
-ghost use Rattle.std.specs.Prelude.{◌-◌, ◌^◌, pos, negsuc, false};
+ghost use Rattle.std.specs.Prelude.{◌-◌, ◌^◌, pos, negsuc, true};
 ghost use Rattle.std.specs.Hash as hash;
 ghost use Rattle.std.proofs.Common.{lit≤, refl};
 ghost use Rattle.ratio_integer.specs.Primitives.{one_not_zero, signed_laws};
 
+use crate::binary_gcd::binary_gcd;
+use crate::exact_sum;
 use crate::integer::Integer;
 use crate::primitive::Primitive;
 use crate::signed::SignedInteger;
@@ -26,7 +28,7 @@ impl Integer for i32 {
 
     ghost MAX = { pos (2 ^ 31 - 1) };
 
-    ghost EXACT_SUMS = { false };
+    ghost EXACT_SUMS = { true };
 
     ghost one_nonzero = { one_not_zero };
 
@@ -38,7 +40,7 @@ impl Integer for i32 {
 
     const MAX: i32 = i32::MAX;
 
-    const EXACT_SUMS: bool = false;
+    const EXACT_SUMS: bool = true;
 
     fn plus(self, o: i32) -> i32 {
         self + o
@@ -76,12 +78,12 @@ impl Integer for i32 {
         cast(n)
     }
 
-    fn exact_sum(_a: i32, _b: i32, _c: i32, _d: i32) -> Option<(i32, i32)> {
-        None
+    fn exact_sum(a: i32, b: i32, c: i32, d: i32) -> Option<(i32, i32)> {
+        exact_sum::exact_sum(a, b, c, d)
     }
 
-    fn exact_diff(_a: i32, _b: i32, _c: i32, _d: i32) -> Option<(i32, i32)> {
-        None
+    fn exact_diff(a: i32, b: i32, c: i32, d: i32) -> Option<(i32, i32)> {
+        exact_sum::exact_diff(a, b, c, d)
     }
 
     fn is_zero(self) -> bool {
@@ -98,6 +100,10 @@ impl Integer for i32 {
 
     fn try_minus(self, o: i32) -> Option<i32> {
         self.checked_sub(o)
+    }
+
+    fn gcd(self, o: i32) -> i32 {
+        binary_gcd(self.unsigned_abs() as u64, o.unsigned_abs() as u64) as i32
     }
 
     ghost laws = { signed_laws (2 ^ 31 - 1) hash.i32 (lit≤ tt) };

@@ -1,9 +1,11 @@
 //! The type `i64`.
-ghost use Rattle.std.specs.Prelude.{◌-◌, ◌^◌, pos, negsuc, false};
+ghost use Rattle.std.specs.Prelude.{◌-◌, ◌^◌, pos, negsuc, true};
 ghost use Rattle.std.specs.Hash as hash;
 ghost use Rattle.std.proofs.Common.{lit≤, refl};
 ghost use Rattle.ratio_integer.specs.Primitives.{one_not_zero, signed_laws};
 
+use crate::binary_gcd::binary_gcd;
+use crate::exact_sum;
 use crate::integer::Integer;
 use crate::primitive::Primitive;
 use crate::signed::SignedInteger;
@@ -26,7 +28,7 @@ impl Integer for i64 {
 
     ghost MAX = { pos (2 ^ 63 - 1) };
 
-    ghost EXACT_SUMS = { false };
+    ghost EXACT_SUMS = { true };
 
     ghost one_nonzero = { one_not_zero };
 
@@ -38,7 +40,7 @@ impl Integer for i64 {
 
     const MAX: i64 = i64::MAX;
 
-    const EXACT_SUMS: bool = false;
+    const EXACT_SUMS: bool = true;
 
     fn plus(self, o: i64) -> i64 {
         self + o
@@ -76,12 +78,12 @@ impl Integer for i64 {
         cast(n)
     }
 
-    fn exact_sum(_a: i64, _b: i64, _c: i64, _d: i64) -> Option<(i64, i64)> {
-        None
+    fn exact_sum(a: i64, b: i64, c: i64, d: i64) -> Option<(i64, i64)> {
+        exact_sum::exact_sum(a, b, c, d)
     }
 
-    fn exact_diff(_a: i64, _b: i64, _c: i64, _d: i64) -> Option<(i64, i64)> {
-        None
+    fn exact_diff(a: i64, b: i64, c: i64, d: i64) -> Option<(i64, i64)> {
+        exact_sum::exact_diff(a, b, c, d)
     }
 
     fn is_zero(self) -> bool {
@@ -98,6 +100,10 @@ impl Integer for i64 {
 
     fn try_minus(self, o: i64) -> Option<i64> {
         self.checked_sub(o)
+    }
+
+    fn gcd(self, o: i64) -> i64 {
+        binary_gcd(self.unsigned_abs(), o.unsigned_abs()) as i64
     }
 
     ghost laws = { signed_laws (2 ^ 63 - 1) hash.i64 (lit≤ tt) };

@@ -4,6 +4,7 @@ ghost use Rattle.std.specs.Hash as hash;
 ghost use Rattle.std.proofs.Common.{lit≤, refl};
 ghost use Rattle.ratio_integer.specs.Primitives.{one_not_zero, signed_laws};
 
+use crate::binary_gcd::binary_gcd;
 use crate::integer::Integer;
 use crate::primitive::Primitive;
 use crate::signed::SignedInteger;
@@ -98,6 +99,10 @@ impl Integer for i8 {
 
     fn try_minus(self, o: i8) -> Option<i8> {
         self.checked_sub(o)
+    }
+
+    fn gcd(self, o: i8) -> i8 {
+        binary_gcd(self.unsigned_abs() as u64, o.unsigned_abs() as u64) as i8
     }
 
     ghost laws = { signed_laws (2 ^ 7 - 1) hash.i8 (lit≤ tt) };

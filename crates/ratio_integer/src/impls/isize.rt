@@ -4,6 +4,7 @@ ghost use Rattle.std.specs.Hash as hash;
 ghost use Rattle.std.proofs.Common.{lit≤, refl};
 ghost use Rattle.ratio_integer.specs.Primitives.{one_not_zero, signed_laws};
 
+use crate::binary_gcd::binary_gcd;
 use crate::integer::Integer;
 use crate::primitive::Primitive;
 use crate::signed::SignedInteger;
@@ -98,6 +99,10 @@ impl Integer for isize {
 
     fn try_minus(self, o: isize) -> Option<isize> {
         self.checked_sub(o)
+    }
+
+    fn gcd(self, o: isize) -> isize {
+        binary_gcd(self.unsigned_abs() as u64, o.unsigned_abs() as u64) as isize
     }
 
     ghost laws = { signed_laws (2 ^ 63 - 1) hash.isize (lit≤ tt) };

@@ -4,6 +4,7 @@ ghost use Rattle.std.specs.Hash as hash;
 ghost use Rattle.std.proofs.Common.{lit≤, refl};
 ghost use Rattle.ratio_integer.specs.Primitives.{one_not_zero, unsigned_laws};
 
+use crate::binary_gcd::binary_gcd_wide;
 use crate::integer::Integer;
 use crate::primitive::Primitive;
 use num_traits::cast;
@@ -97,6 +98,10 @@ impl Integer for u128 {
 
     fn try_minus(self, o: u128) -> Option<u128> {
         self.checked_sub(o)
+    }
+
+    fn gcd(self, o: u128) -> u128 {
+        binary_gcd_wide(self, o)
     }
 
     ghost laws = { unsigned_laws (2 ^ 128 - 1) hash.u128 (lit≤ tt) };

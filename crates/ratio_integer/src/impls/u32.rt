@@ -4,6 +4,7 @@ ghost use Rattle.std.specs.Hash as hash;
 ghost use Rattle.std.proofs.Common.{lit≤, refl};
 ghost use Rattle.ratio_integer.specs.Primitives.{one_not_zero, unsigned_laws};
 
+use crate::binary_gcd::binary_gcd;
 use crate::integer::Integer;
 use crate::primitive::Primitive;
 use num_traits::cast;
@@ -97,6 +98,10 @@ impl Integer for u32 {
 
     fn try_minus(self, o: u32) -> Option<u32> {
         self.checked_sub(o)
+    }
+
+    fn gcd(self, o: u32) -> u32 {
+        binary_gcd(self as u64, o as u64) as u32
     }
 
     ghost laws = { unsigned_laws (2 ^ 32 - 1) hash.u32 (lit≤ tt) };

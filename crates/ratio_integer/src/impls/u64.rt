@@ -4,6 +4,7 @@ ghost use Rattle.std.specs.Hash as hash;
 ghost use Rattle.std.proofs.Common.{lit≤, refl};
 ghost use Rattle.ratio_integer.specs.Primitives.{one_not_zero, unsigned_laws};
 
+use crate::binary_gcd::binary_gcd;
 use crate::integer::Integer;
 use crate::primitive::Primitive;
 use num_traits::cast;
@@ -97,6 +98,10 @@ impl Integer for u64 {
 
     fn try_minus(self, o: u64) -> Option<u64> {
         self.checked_sub(o)
+    }
+
+    fn gcd(self, o: u64) -> u64 {
+        binary_gcd(self, o)
     }
 
     ghost laws = { unsigned_laws (2 ^ 64 - 1) hash.u64 (lit≤ tt) };

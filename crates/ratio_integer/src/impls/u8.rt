@@ -4,6 +4,7 @@ ghost use Rattle.std.specs.Hash as hash;
 ghost use Rattle.std.proofs.Common.{lit≤, refl};
 ghost use Rattle.ratio_integer.specs.Primitives.{one_not_zero, unsigned_laws};
 
+use crate::binary_gcd::binary_gcd;
 use crate::integer::Integer;
 use crate::primitive::Primitive;
 use num_traits::cast;
@@ -97,6 +98,10 @@ impl Integer for u8 {
 
     fn try_minus(self, o: u8) -> Option<u8> {
         self.checked_sub(o)
+    }
+
+    fn gcd(self, o: u8) -> u8 {
+        binary_gcd(self as u64, o as u64) as u8
     }
 
     ghost laws = { unsigned_laws (2 ^ 8 - 1) hash.u8 (lit≤ tt) };

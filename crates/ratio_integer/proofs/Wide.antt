@@ -27,7 +27,7 @@ HasRoom z = IsHeld (negsuc (2 ^ 126 - 1)) (pos (2 ^ 126 - 1)) z
 
 pub product_room : (x y : ℤ) → IsHeld (negsuc (2 ^ 63 - 1)) (pos (2 ^ 63 - 1)) x → IsHeld (negsuc (2 ^ 63 - 1)) (pos (2 ^ 63 - 1)) y → pos 0 <ℤ y → HasRoom (x *ℤ y)
 product_room x y x_held y_held positive = by_size (x *ℤ y) (
-  rw (unsigned_abs-mul x y) (mul-le (unsigned_abs x) (unsigned_abs y) (2 ^ 63) (2 ^ 63 - 1) (size x x_held) (positive_size y positive y_held)))
+    rw (unsigned_abs-mul x y) (mul-le (unsigned_abs x) (unsigned_abs y) (2 ^ 63) (2 ^ 63 - 1) (size x x_held) (positive_size y positive y_held)))
   where
     size : (z : ℤ) → IsHeld (negsuc (2 ^ 63 - 1)) (pos (2 ^ 63 - 1)) z → unsigned_abs z ≤ 2 ^ 63
     size z held = let above = held.above in let below = held.below in omega (arith, ints)

@@ -11,6 +11,9 @@ mod reducing;
 mod signed;
 
 pub use integer::Integer;
-pub use reducing::lowest_terms;
 pub use primitive::Primitive;
+pub use reducing::lowest_terms;
 pub use signed::SignedInteger;
+
+#[cfg(test)]
+mod tests;

@@ -1,0 +1,4 @@
+//! What no clause says: rows from outside, each call once at each type, and a type that is no primitive.
+mod every_call;
+mod rows;
+mod symmetric;

@@ -1,0 +1,2 @@
+pub mod ContinuedFraction
+pub mod Order

@@ -1,0 +1,4 @@
+pub mod CrossOrder
+pub mod Floored
+pub mod Quotients
+pub mod Rounds

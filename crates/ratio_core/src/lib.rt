@@ -2,6 +2,8 @@
 //! which they are hashed.
 #![tactic(auto)]
 
+mod order;
 mod steps;
 
+pub use order::cmp_counted;
 pub use steps::Steps;

@@ -2,8 +2,12 @@
 //! which they are hashed.
 #![tactic(auto)]
 
+mod code_list;
+mod hash;
 mod order;
 mod steps;
 
+pub use code_list::CodeList;
+pub use hash::hash_counted;
 pub use order::cmp_counted;
 pub use steps::Steps;

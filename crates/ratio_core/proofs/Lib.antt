@@ -1,7 +1,9 @@
 pub mod Codes
 pub mod CrossOrder
 pub mod Floored
+pub mod HashLaws
 pub mod Hashing
+pub mod OrderLaws
 pub mod Quotients
 pub mod Rounds
 pub mod SameValues

@@ -11,3 +11,6 @@ pub use code_list::CodeList;
 pub use hash::hash_counted;
 pub use order::cmp_counted;
 pub use steps::Steps;
+
+#[cfg(test)]
+mod tests;

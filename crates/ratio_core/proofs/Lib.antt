@@ -1,5 +1,14 @@
 pub mod CancellingLemmas
+pub mod Codes
+pub mod CrossOrder
 pub mod CutLemmas
+pub mod Floored
+pub mod HashLaws
+pub mod Hashing
 pub mod NumberLemmas
+pub mod OrderLaws
+pub mod Quotients
 pub mod RefusalLemmas
+pub mod Rounds
+pub mod SameValues
 pub mod WidthLemmas

@@ -1,3 +1,5 @@
 pub mod Cancelling
+pub mod ContinuedFraction
+pub mod Order
 pub mod Reading
 pub mod Refusal

@@ -1,0 +1,19 @@
+use Rattle.std.proofs.Common.{refl}
+use Rattle.std.proofs.lemmas.Bool.{iff_false}
+use Rattle.ratio_core.proofs.Rounds.{above-both, above-first, above-second}
+use Rattle.ratio_core.proofs.order.order_at_top.Goals as goal
+
+pub returns-in-true-true : goal.returns-in-true-true
+returns-in-true-true g c =
+    above-both _ _ _ _ _ _ g.met.T.Integer.range_law c.held.ensures.range c.held-2.ensures.range c.requires.left_nonzero c.requires.right_nonzero
+    (c.in-true-true.ensures.0 refl) (c.in-true-true.ensures'.0 refl)
+
+pub returns-in-true-false : goal.returns-in-true-false
+returns-in-true-false g c =
+    above-first _ _ _ _ _ _ g.met.T.Integer.range_law c.held.ensures.range c.held-2.ensures.range c.requires.left_nonzero c.requires.right_nonzero
+    (c.in-true-false.ensures.0 refl) (iff_false c.in-true-false.ensures' refl)
+
+pub returns-in-false-true : goal.returns-in-false-true
+returns-in-false-true g c =
+    above-second _ _ _ _ _ _ g.met.T.Integer.range_law c.held.ensures.range c.held-2.ensures.range c.requires.left_nonzero c.requires.right_nonzero
+    (iff_false c.in-false-true.ensures refl) (c.in-false-true.ensures'.0 refl)

@@ -1,0 +1,57 @@
+//! The codes by which a fraction is hashed, over its fields.
+ghost use Rattle.std.specs.Prelude.{◌≡◌, ◌≢◌, ◌+◌, ℕ, ℤ, pos, fold, List};
+ghost use Rattle.ratio_core.specs.ContinuedFraction.{AreCodesCounted, IsCodeCount, IsCodesOf, TellsApart};
+
+use crate::code_list::CodeList;
+use crate::order::{divide_left, is_above_max};
+use crate::steps::Steps;
+use ratio_integer::Integer;
+
+/// Hands the codes of `n/d` to `list`: the quotients of its continued fraction, then 0. The quotient
+/// `hi + 1`, which the type does not hold, stands as the least number, twice. Fractions of one value
+/// have one list of codes, for denominators of either sign, reduced or not, and other fractions have
+/// others.
+pub fn hash_counted<T: Integer, L: CodeList<T>>(n: T, d: T, list: &mut L, steps: &mut Steps)
+    requires { T.value d ≢ pos 0 }
+    ensures codes { (codes : List ℤ) × IsCodesOf T.lo T.hi (T.value n) (T.value d) codes
+        × TellsApart T.lo T.hi (T.value n) (T.value d) codes × (list.new ≡ fold L.after list.old codes) }
+    ensures left { (k : ℕ) × (steps.new.left ≡ steps.old.left + k)
+        × IsCodeCount T.hi (T.value n) (T.value d) k }
+    ensures right { steps.new.right ≡ steps.old.right }
+{
+    let _ = n.held();
+    let _ = d.held();
+    take_codes(n, d, list, steps);
+}
+
+/// Euclid's algorithm, each quotient handed to `list`.
+fn take_codes<T: Integer, L: CodeList<T>>(n: T, d: T, list: &mut L, steps: &mut Steps)
+    requires { T.value d ≢ pos 0 }
+    ensures taken { (codes : List ℤ) × (k : ℕ)
+        × AreCodesCounted T.lo T.hi (T.value n) (T.value d) codes k
+        × (list.new ≡ fold L.after list.old codes) × (steps.new.left ≡ steps.old.left + k) }
+    ensures right { steps.new.right ≡ steps.old.right }
+{
+    let mut numer = n;
+    let mut denom = d;
+    'rounds: while !is_above_max(numer, denom) {
+        let (quotient, rest) = divide_left(numer, denom, steps);
+        list.take(quotient);
+        if rest.is_zero() {
+            list.take(T::ZERO);
+            return;
+        }
+        numer = denom;
+        denom = rest;
+    }
+    take_twice(list, T::MIN);
+    list.take(T::ZERO);
+}
+
+/// Hands `t` to `list` twice.
+fn take_twice<T: Integer, L: CodeList<T>>(list: &mut L, t: T)
+    ensures { list.new ≡ L.after (L.after list.old (T.value t)) (T.value t) }
+{
+    list.take(t);
+    list.take(t);
+}

@@ -1,4 +1,8 @@
+pub mod Comparison
+pub mod Hashing
 pub mod Ratio
+pub use Rattle.ratio_core.specs.ContinuedFraction
+pub use Rattle.ratio_core.specs.Order
 pub use Rattle.ratio_core.specs.Reading
 pub use Rattle.ratio_integer.specs.Fraction
 pub use Rattle.ratio_integer.specs.Range

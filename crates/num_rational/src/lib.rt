@@ -2,11 +2,12 @@
 #![tactic(auto)]
 
 mod convert;
+mod hash;
+mod order;
 mod ratio;
-mod text;
-
 #[cfg(test)]
 mod tests;
+mod text;
 
 pub use ratio::{Constants, Ratio, Rational, Rational32, Rational64};
-pub use ratio_core::{ParseRatioError, RatioErrorKind};
+pub use ratio_core::{CodeList, ParseRatioError, RatioErrorKind, Steps};

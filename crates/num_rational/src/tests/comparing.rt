@@ -85,7 +85,10 @@ fn codes(rt: HostRuntime) {
         (-128, -128, &[1, 0]),
     ];
     for (n, d, expected) in rows {
-        assert!(rt; has_codes(&raw(&rt, n, d), Codes::new(), expected), "{n}/{d}");
+        assert!(rt;
+            has_codes(&raw(&rt, n, d), Codes::new(), expected),
+            "{n}/{d}"
+        );
     }
     let rows: [(i64, i64, &[i64]); 4] = [
         (4, 2, &[2, 0]),
@@ -94,6 +97,9 @@ fn codes(rt: HostRuntime) {
         (89, 55, &[1, 1, 1, 1, 1, 1, 1, 1, 2, 0]),
     ];
     for (n, d, expected) in rows {
-        assert!(rt; has_codes(&raw(&rt, n, d), Codes::new(), expected), "{n}/{d}");
+        assert!(rt;
+            has_codes(&raw(&rt, n, d), Codes::new(), expected),
+            "{n}/{d}"
+        );
     }
 }

@@ -6,11 +6,13 @@ mod code_list;
 mod hash;
 mod order;
 mod steps;
+mod taken;
 
 pub use code_list::CodeList;
 pub use hash::hash_counted;
 pub use order::cmp_counted;
 pub use steps::Steps;
+pub use taken::Taken;
 
 #[cfg(test)]
 mod tests;

@@ -7,6 +7,7 @@ mod hash;
 mod order;
 mod parse_error;
 mod steps;
+mod taken;
 #[cfg(test)]
 mod tests;
 pub mod text;
@@ -16,3 +17,4 @@ pub use hash::hash_counted;
 pub use order::cmp_counted;
 pub use parse_error::{ParseRatioError, RatioErrorKind};
 pub use steps::Steps;
+pub use taken::Taken;

@@ -10,4 +10,4 @@ mod tests;
 mod text;
 
 pub use ratio::{Constants, Ratio, Rational, Rational32, Rational64};
-pub use ratio_core::{CodeList, ParseRatioError, RatioErrorKind, Steps};
+pub use ratio_core::{CodeList, ParseRatioError, RatioErrorKind, Steps, Taken};

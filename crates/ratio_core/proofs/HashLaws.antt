@@ -1,7 +1,7 @@
 -- The codes of a fraction as a function of its fields, and what a list of them feeds. A crate above proves by this the law
 -- of its hash.
-use Rattle.std.specs.Prelude.{◌≡◌, ◌≢◌, ◌↔◌, ◌+ℤ◌, ℕ, ℤ, pos, fold, true, List, [], ◌∷◌}
-use Rattle.std.proofs.Common.{refl, sym, ap, ◌∙◌}
+use Rattle.std.specs.Prelude.{◌≡◌, ◌≢◌, ◌+ℤ◌, ℕ, ℤ, pos, fold, true, List, [], ◌∷◌, ◌++◌}
+use Rattle.std.proofs.Common.{refl, sym, ap, append_assoc, append-nil, ◌∙◌}
 use Rattle.std.proofs.lemmas.Grind.{fold-append}
 use Rattle.std.specs.List.{flat_map}
 use Rattle.std.specs.Ordering.{eq_by_cmp, is_eq}
@@ -68,6 +68,11 @@ module _ {S : Type 0} (after : S → ℤ → S) where
   pub fold_keeps : {N : Type 0} (part : S → N) → ((s : S) (z : ℤ) → part (after s z) ≡ part s) → (s : S) (zs : List ℤ) → part (fold after s zs) ≡ part s
   fold_keeps part h s [] = refl
   fold_keeps part h s (z ∷ zs) = fold_keeps part h (after s z) zs ∙ h s z
+
+  -- a list that keeps what it took has all of them at its end
+  pub fold_takes : (taken : S → List ℤ) → ((s : S) (z : ℤ) → taken (after s z) ≡ taken s ++ z ∷ []) → (s : S) (zs : List ℤ) → taken (fold after s zs) ≡ taken s ++ zs
+  fold_takes taken h s [] = sym (append-nil (taken s))
+  fold_takes taken h s (z ∷ zs) = fold_takes taken h (after s z) zs ∙ ap (λ t. t ++ zs) (h s z) ∙ append_assoc (taken s) (z ∷ []) zs
 
   pub fold_writes : {H : Type 0} (now : S → H) (write : H → List ℕ → H) (writes : ℤ → List (List ℕ)) → ((s : S) (z : ℤ) → now (after s z) ≡ fold write (now s) (writes z)) → (s : S) (zs : List ℤ) → now (fold after s zs) ≡ fold write (now s) (flat_map writes zs)
   fold_writes now write writes h s [] = refl

@@ -94,8 +94,8 @@ module _ {S : Type 0} (after : S → ℤ → S) (lo hi n d : ℤ) (start : S) (l
 pub took_two : {S : Type 0} (after : S → ℤ → S) {s s' s'' : S} {a b x y : ℤ} → s' ≡ after s a → s'' ≡ after s' b → a ≡ x → b ≡ y → s'' ≡ fold after s (x ∷ y ∷ [])
 took_two after e f g h = cc
 
-pub took_three : {S : Type 0} (after : S → ℤ → S) {s s' s'' : S} {a b x y : ℤ} → s' ≡ after (after s a) a → s'' ≡ after s' b → a ≡ x → b ≡ y → s'' ≡ fold after s (x ∷ x ∷ y ∷ [])
-took_three after e f g h = cc
+pub took_three : {S : Type 0} (after : S → ℤ → S) {s s' s'' : S} {a b c x y z : ℤ} → s' ≡ after (after s a) b → s'' ≡ after s' c → a ≡ x → b ≡ y → c ≡ z → s'' ≡ fold after s (x ∷ y ∷ z ∷ [])
+took_three after e f g h k = cc
 
 -- ---- what the clauses say
 

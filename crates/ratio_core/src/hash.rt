@@ -44,14 +44,15 @@ fn take_codes<T: Integer, L: CodeList<T>>(n: T, d: T, list: &mut L, steps: &mut 
         numer = denom;
         denom = rest;
     }
-    take_twice(list, T::MIN);
+    // The value is `hi + 1`.
+    take_both(list, T::MIN, T::MIN);
     list.take(T::ZERO);
 }
 
-/// Hands `t` to `list` twice.
-fn take_twice<T: Integer, L: CodeList<T>>(list: &mut L, t: T)
-    ensures { list.new ≡ L.after (L.after list.old (T.value t)) (T.value t) }
+/// Hands both to `list`.
+fn take_both<T: Integer, L: CodeList<T>>(list: &mut L, first: T, second: T)
+    ensures { list.new ≡ L.after (L.after list.old (T.value first)) (T.value second) }
 {
-    list.take(t);
-    list.take(t);
+    list.take(first);
+    list.take(second);
 }

@@ -24,6 +24,6 @@ rounds-preserved g c =
 pub returns-clause-taken : goal.returns-clause-taken
 returns-clause-taken g c =
     hashing_ends _ _ _ _ _ _ _ _ _ _ _ _ _ _ _ c.rounds.invariant.begun
-    (coded-above _ _ _ _ (c.is_above_max.ensures.0 c.rounds-test.false))
-    (took_three g.L.CodeList.after c.take_twice.ensures c.take-2.ensures (ap g.T.Integer.value c.MIN.ensures ∙ g.met.T.Integer.min_law) (ap g.T.Integer.value c.ZERO-2.ensures ∙ g.met.T.Integer.zero_law))
+    (coded-above _ _ _ _ (c.rounds-test.ensures.0 refl))
+    (took_three g.L.CodeList.after c.take_both.ensures c.take-2.ensures (ap g.T.Integer.value c.MIN.ensures ∙ g.met.T.Integer.min_law) (ap g.T.Integer.value c.MIN-2.ensures ∙ g.met.T.Integer.min_law) (ap g.T.Integer.value c.ZERO-2.ensures ∙ g.met.T.Integer.zero_law))
     (omega arith)

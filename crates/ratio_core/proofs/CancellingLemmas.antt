@@ -1,0 +1,106 @@
+-- From a fraction without a common divisor to its lowest terms.
+use Rattle.std.specs.Prelude.{◌≡◌, ◌≢◌, ◌*◌, ◌≤ℤ◌, ◌<ℤ◌, ◌*ℤ◌, ◌-ℤ◌, ℕ, ℤ, pos, neg_ℤ, unsigned_abs, int_div}
+use Rattle.std.specs.Int.{◌∣◌}
+use Rattle.std.proofs.Common.{refl, sym, ap, arith, ◌∙◌}
+use Rattle.std.proofs.Math.Nat.{dvd_of_mul-dvd-mul_left, eq-one_of_dvd-one, mul-dvd-mul_left}
+use Rattle.std.proofs.lemmas.Int.{ints, unsigned_abs-mul}
+use lib.IntN.{*ℤ_comm, zero-*ℤ}
+use Rattle.ratio_integer.specs.Division.{IsGcdOf}
+use Rattle.ratio_integer.specs.Fraction.{IsHeldLowest, IsLowestTerms, IsLowestTermsOf}
+use Rattle.ratio_integer.specs.Range.{IsHeld, IsRange}
+use Rattle.ratio_integer.proofs.CommonDivisors.{gcd_coprime}
+use Rattle.ratio_integer.proofs.DivisionLemmas.{abs_pos, low_below}
+use Rattle.ratio_integer.proofs.LcmLemmas.{divisor_nonzero, exact_quotient}
+use Rattle.ratio_integer.proofs.LowestTerms.{lowest_own}
+use Rattle.ratio_integer.proofs.Whole.{mul-swap_last, neg-mul, unsigned_abs-neg}
+use Rattle.ratio_core.specs.Cancelling.{IsCancelled, IsCancelledOf}
+
+-- ---- 0 and 1
+
+zero_held : (lo hi z : ℤ) → IsRange lo hi → z ≡ pos 0 → IsHeld lo hi z
+zero_held lo hi z range zero = let low = low_below lo hi range in let high = range.high in record { above = omega (arith, ints); below = omega (arith, ints) }
+
+one_held : (lo hi z : ℤ) → IsRange lo hi → z ≡ pos 1 → IsHeld lo hi z
+one_held lo hi z range one = let low = low_below lo hi range in let high = range.high in record { above = omega (arith, ints); below = omega (arith, ints) }
+
+over_one : (a b : ℤ) → b ≡ pos 1 → IsLowestTerms a b
+over_one a b one = record { positive = omega (arith, ints); only_one = λ k p q. let divides_one : k ∣ 1 = rw (ap unsigned_abs one) at q in eq-one_of_dvd-one divides_one }
+
+-- 0/1 is 0/d
+pub lowest_of_zero : (lo hi n d a b : ℤ) → IsRange lo hi → d ≢ pos 0 → n ≡ pos 0 → a ≡ pos 0 → b ≡ pos 1 → IsHeldLowest lo hi n d a b
+lowest_of_zero lo hi n d a b range fraction zero a_zero b_one = record {
+  terms = record {
+    fraction = fraction;
+    same = ap (λ (t : ℤ). t *ℤ b) zero ∙ zero-*ℤ b ∙ sym (zero-*ℤ d) ∙ ap (λ (t : ℤ). t *ℤ d) (sym a_zero);
+    lowest = over_one a b b_one;
+  };
+  numer_held = zero_held lo hi a range a_zero;
+  denom_held = one_held lo hi b range b_one;
+}
+
+-- 1/1 is d/d
+pub lowest_of_same : (lo hi n d a b : ℤ) → IsRange lo hi → d ≢ pos 0 → n ≡ d → a ≡ pos 1 → b ≡ pos 1 → IsHeldLowest lo hi n d a b
+lowest_of_same lo hi n d a b range fraction equal a_one b_one = record {
+  terms = record {
+    fraction = fraction;
+    same = ap (λ (t : ℤ). t *ℤ b) equal ∙ ap (λ (t : ℤ). d *ℤ t) (b_one ∙ sym a_one) ∙ *ℤ_comm d a;
+    lowest = over_one a b b_one;
+  };
+  numer_held = one_held lo hi a range a_one;
+  denom_held = one_held lo hi b range b_one;
+}
+
+-- ---- the common divisor
+
+pub cancelled_by_one : (n d g : ℤ) → d ≢ pos 0 → IsGcdOf n d g → g ≡ pos 1 → IsCancelledOf n d n d
+cancelled_by_one n d g fraction is one = record {
+  same = refl;
+  cancelled = record { fraction = fraction; only_one = gcd_coprime (unsigned_abs n) (unsigned_abs d) (unsigned_abs g) is.divisor (ap unsigned_abs one) };
+}
+
+pub cancelled_by_gcd : (n d g a b : ℤ) → d ≢ pos 0 → IsGcdOf n d g → a ≡ int_div n g → b ≡ int_div d g → IsCancelledOf n d a b
+cancelled_by_gcd n d g a b fraction is a-is b-is =
+    let n-whole : a *ℤ g ≡ n = ap (λ (t : ℤ). t *ℤ g) a-is ∙ exact_quotient n g is.divisor.0 in
+    let d-whole : b *ℤ g ≡ d = ap (λ (t : ℤ). t *ℤ g) b-is ∙ exact_quotient d g is.divisor.1 in
+    record {
+      same = ap (λ (t : ℤ). t *ℤ b) (sym n-whole) ∙ mul-swap_last a g b ∙ ap (λ (t : ℤ). a *ℤ t) d-whole;
+      cancelled = record {
+        fraction = λ zero. fraction (sym d-whole ∙ ap (λ (t : ℤ). t *ℤ g) zero ∙ zero-*ℤ g);
+        only_one = λ k p q.
+            let first : unsigned_abs g * k ∣ unsigned_abs n = rw (sizes n a n-whole) (mul-dvd-mul_left k (unsigned_abs g) p) in
+            let second : unsigned_abs g * k ∣ unsigned_abs d = rw (sizes d b d-whole) (mul-dvd-mul_left k (unsigned_abs g) q) in
+            let both : unsigned_abs g * k ∣ unsigned_abs g * 1 = rw (times-one (unsigned_abs g)) (is.divisor.2 _ first second) in
+            eq-one_of_dvd-one (dvd_of_mul-dvd-mul_left k (abs_pos g (divisor_nonzero n d g fraction is)) both);
+      };
+    }
+  where
+    sizes : (x y : ℤ) → y *ℤ g ≡ x → unsigned_abs x ≡ unsigned_abs g * unsigned_abs y
+    sizes x y e = ap unsigned_abs (sym e ∙ *ℤ_comm y g) ∙ unsigned_abs-mul g y
+
+    times-one : (m : ℕ) → m * 1 ≡ m
+    times-one m = omega arith
+
+-- ---- the sign
+
+pub kept : (lo hi a b zero : ℤ) → IsCancelled a b → zero ≡ pos 0 → zero ≤ℤ b → IsHeld lo hi a → IsHeld lo hi b → IsHeldLowest lo hi a b a b
+kept lo hi a b zero is zero-is above a_held b_held = record {
+  terms = lowest_own a b (record { positive = let nonzero = is.fraction in grind (arith, ints); only_one = is.only_one });
+  numer_held = a_held;
+  denom_held = b_held;
+}
+
+pub turned : (a b p q zero first second : ℤ) → IsCancelled a b → zero ≡ pos 0 → first ≡ pos 0 → second ≡ pos 0 → b <ℤ zero → p ≡ first -ℤ a → q ≡ second -ℤ b → IsLowestTermsOf a b p q
+turned a b p q zero first second is zero-is first-is second-is below p-is q-is =
+    let p-neg : p ≡ neg_ℤ a = omega (arith, ints) in
+    let q-neg : q ≡ neg_ℤ b = omega (arith, ints) in
+    record {
+      fraction = is.fraction;
+      same = ap (λ (t : ℤ). a *ℤ t) q-neg ∙ crossed ∙ ap (λ (t : ℤ). t *ℤ b) (sym p-neg);
+      lowest = record {
+        positive = omega (arith, ints);
+        only_one = λ k x y. is.only_one k (rw (ap unsigned_abs p-neg ∙ unsigned_abs-neg a) at x) (rw (ap unsigned_abs q-neg ∙ unsigned_abs-neg b) at y);
+      };
+    }
+  where
+    crossed : a *ℤ neg_ℤ b ≡ neg_ℤ a *ℤ b
+    crossed = *ℤ_comm a (neg_ℤ b) ∙ neg-mul b a ∙ ap neg_ℤ (*ℤ_comm b a) ∙ sym (neg-mul a b)

@@ -1,0 +1,5 @@
+pub mod CancellingLemmas
+pub mod CutLemmas
+pub mod NumberLemmas
+pub mod RefusalLemmas
+pub mod WidthLemmas

@@ -1,0 +1,27 @@
+use Rattle.std.specs.Prelude.{◌≢◌, pos}
+use Rattle.std.proofs.Common.{arith, ap, refl, sym, ◌∙◌}
+use Rattle.ratio_integer.proofs.LowestTerms.{checks_lowest_moved}
+use Rattle.ratio_core.proofs.CancellingLemmas.{lowest_of_same, lowest_of_zero}
+use Rattle.ratio_core.proofs.checked.checked_new.Goals as goal
+
+pub returns-then-is_zero-2 : goal.returns-then-is_zero-2
+returns-then-is_zero-2 g c =
+    let v = g.T.Integer.value in
+    let m = g.met.T.Integer in
+    let fraction : v c.args.d ≢ pos 0 = grind (arith, c.is_zero.ensures) in
+    lowest_of_zero _ _ _ _ _ _ m.range_law fraction (c.if-is_zero-2.ensures.0 refl) (ap v c.ZERO.ensures ∙ m.zero_law) (ap v c.ONE.ensures ∙ m.one_law)
+
+pub returns-then-eq : goal.returns-then-eq
+returns-then-eq g c =
+    let v = g.T.Integer.value in
+    let m = g.met.T.Integer in
+    let fraction : v c.args.d ≢ pos 0 = grind (arith, c.is_zero.ensures) in
+    let equal = (m.eq_law c.args.n c.args.d).0 (sym c.if-eq.ensures) in
+    lowest_of_same _ _ _ _ _ _ m.range_law fraction equal (ap v c.ONE-then-eq.ensures ∙ m.one_law) (ap v c.ONE-then-eq-2.ensures ∙ m.one_law)
+
+pub returns : goal.returns
+returns g c =
+    let v = g.T.Integer.value in
+    let fraction : v c.args.d ≢ pos 0 = grind (arith, c.is_zero.ensures) in
+    let is = c.cancelled-numer.ensures in
+    checks_lowest_moved (λ r. v r.0) (λ r. v r.1) _ _ (v c.cancelled-numer.result.0) (v c.cancelled-numer.result.1) _ _ c.sign_moved.result is.cancelled.fraction fraction is.same c.sign_moved.ensures

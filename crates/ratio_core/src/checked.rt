@@ -1,0 +1,64 @@
+//! The lowest terms of a fraction, where the type holds them.
+ghost use Rattle.std.specs.Prelude.{◌≢◌, pos};
+ghost use Rattle.ratio_integer.specs.Fraction.{ChecksLowest};
+ghost use Rattle.ratio_core.specs.Cancelling.{IsCancelled, IsCancelledOf};
+
+use ratio_integer::Integer;
+
+/// The lowest terms of `n/d`, or `None` where `d` is 0 or the type does not hold them. Either
+/// number may be the least one.
+pub fn checked_new<T: Integer>(n: T, d: T) -> Option<(T, T)>
+    ensures { ChecksLowest (λ r. T.value r.0) (λ r. T.value r.1) T.lo T.hi (T.value n, T.value d) result }
+{
+    if d.is_zero() {
+        return None;
+    }
+    if n.is_zero() {
+        return Some((T::ZERO, T::ONE));
+    }
+    // The greatest common divisor of the least number and itself may not be held.
+    if n == d {
+        return Some((T::ONE, T::ONE));
+    }
+    let (numer, denom) = cancelled(n, d);
+    sign_moved(numer, denom)
+}
+
+// Both numbers divided by their greatest common divisor.
+fn cancelled<T: Integer>(n: T, d: T) -> (T, T)
+    requires numer { T.value n ≢ pos 0 }
+    requires denom { T.value d ≢ pos 0 }
+    requires apart { T.value n ≢ T.value d }
+    ensures { IsCancelledOf (T.value n) (T.value d) (T.value result.0) (T.value result.1) }
+{
+    let _ = n.held();
+    let _ = d.held();
+    let divisor = n.gcd(d);
+    if divisor.is_one() {
+        return (n, d);
+    }
+    let _ = divisor.held();
+    let (numer, _) = n.div_rem(divisor);
+    let (denom, _) = d.div_rem(divisor);
+    (numer, denom)
+}
+
+// The same fraction with a positive denominator, or `None` where the type does not hold it.
+fn sign_moved<T: Integer>(a: T, b: T) -> Option<(T, T)>
+    requires { IsCancelled (T.value a) (T.value b) }
+    ensures { ChecksLowest (λ r. T.value r.0) (λ r. T.value r.1) T.lo T.hi (T.value a, T.value b) result }
+{
+    if b < T::ZERO {
+        match T::ZERO.try_minus(a) {
+            None => None,
+            Some(numer) => match T::ZERO.try_minus(b) {
+                None => None,
+                Some(denom) => Some((numer, denom)),
+            },
+        }
+    } else {
+        let _ = a.held();
+        let _ = b.held();
+        Some((a, b))
+    }
+}

@@ -1,0 +1,8 @@
+//! The calls on fractions, over the two numbers of a fraction.
+#![tactic(auto)]
+
+pub mod checked;
+mod parse_error;
+pub mod text;
+
+pub use parse_error::{ParseRatioError, RatioErrorKind};

@@ -1,0 +1,61 @@
+//! Why a text is refused as a fraction.
+ghost use Rattle.std.specs.Prelude.{◌≡◌, Some};
+ghost use Rattle.ratio_core.specs.Refusal.{refusal_text};
+
+use std::error::Error;
+use std::fmt;
+use std::marker::Model;
+
+/// What is wrong with a text.
+#[derive(Clone, Copy, PartialEq, Debug)]
+pub enum RatioErrorKind {
+    /// It writes no fraction of numbers that the type holds, or one whose lowest terms it does not hold.
+    ParseError = 1,
+    /// It writes a fraction of such numbers, with the denominator 0.
+    ZeroDenominator = 2,
+}
+
+/// The refusal of a text. A contract sees it as its kind.
+#[derive(Clone, Copy, PartialEq, Debug)]
+pub struct ParseRatioError {
+    kind: RatioErrorKind,
+}
+
+impl Model for ParseRatioError {
+    ghost use Rattle.ratio_core.specs.declared.parse_error.RatioErrorKind.{RatioErrorKind};
+
+    ghost Value = { RatioErrorKind };
+
+    ghost view = { λ e. e.kind };
+
+    ghost inverse = { λ k. record { kind = k } };
+}
+
+impl ParseRatioError {
+    /// The refusal of this kind.
+    pub(crate) fn new(kind: RatioErrorKind) -> ParseRatioError
+        ensures { result ≡ kind }
+    {
+        ParseRatioError { kind }
+    }
+
+    /// What is wrong with the text.
+    pub fn kind(&self) -> RatioErrorKind
+        ensures { result ≡ self.now }
+    {
+        self.kind
+    }
+}
+
+impl fmt::Display for ParseRatioError {
+    ghost output = { λ e. Some (refusal_text e) };
+
+    fn fmt<W: fmt::Write>(&self, f: &mut fmt::Formatter<W>) -> fmt::Result {
+        match self.kind {
+            RatioErrorKind::ParseError => f.write_str("failed to parse integer"),
+            RatioErrorKind::ZeroDenominator => f.write_str("zero value denominator"),
+        }
+    }
+}
+
+impl Error for ParseRatioError {}

@@ -1,0 +1,23 @@
+//! What the words for texts mean: each function's contract is the law, and it does nothing.
+ghost use Rattle.std.specs.Prelude.{◌≡◌, ◌⊎◌, ◌+◌, ◌<◌, ◌≤◌, ℕ, ℤ, List};
+ghost use Rattle.std.specs.Char.{digit_value};
+ghost use Rattle.std.specs.Int.{IsInRange};
+ghost use Rattle.ratio_core.specs.Reading.{IsFractionText, IsNumberText};
+
+/// What a byte is worth as a digit: `0` to `9`, and then the letters in either case; the others are
+/// no digits, which is said by the value 36, since no radix is above it.
+pub fn digits()
+    ensures decimal { (k : ℕ) → k < 10 → digit_value (48 + k) ≡ k }
+    ensures upper { (k : ℕ) → k < 26 → digit_value (65 + k) ≡ k + 10 }
+    ensures lower { (k : ℕ) → k < 26 → digit_value (97 + k) ≡ k + 10 }
+    ensures others { (c : ℕ) → digit_value c < 36
+        → IsInRange 48 57 c ⊎ (IsInRange 65 90 c ⊎ IsInRange 97 122 c) }
+{}
+
+/// A text is the number text of one number at most, and has two numbers in one way at most.
+pub fn one_reading()
+    ensures number { (lo : ℤ) (radix : ℕ) (text : List ℕ) (z y : ℤ) → radix ≤ 36
+        → IsNumberText lo radix text z → IsNumberText lo radix text y → z ≡ y }
+    ensures fraction { (lo hi : ℤ) (text : List ℕ) (n d m e : ℤ)
+        → IsFractionText lo hi text n d → IsFractionText lo hi text m e → (n ≡ m) × (d ≡ e) }
+{}

@@ -1,0 +1,72 @@
+//! Reading a fraction from a text.
+ghost use Rattle.std.specs.Prelude.{◌≤◌};
+ghost use Rattle.ratio_core.specs.Reading.{AnswersPair, AnswersText, IsFractionText, ReadsNumber, SidesReadAs};
+
+use crate::checked::checked_new;
+use crate::parse_error::{ParseRatioError, RatioErrorKind};
+use ratio_integer::Primitive;
+
+/// The fraction of a decimal text in lowest terms: `N/D` for two number texts, or `N` for `N/1`. A
+/// number text is one digit or more after an optional `+`, or `-` for a type with numbers below 0;
+/// leading zeros are allowed, and nothing else is. The kind of the first refusal that applies is
+/// `ParseError` where a part is no number text or the type does not hold its number,
+/// `ZeroDenominator` where the second number is 0, and `ParseError` where the type does not hold
+/// the lowest terms.
+pub fn from_str<T: Primitive>(text: &str) -> Result<(T, T), ParseRatioError>
+    ensures { AnswersText (λ r. T.value r.0) (λ r. T.value r.1) T.lo T.hi
+        (IsFractionText T.lo T.hi text.now) result }
+{
+    match pair::<T>(text) {
+        Err(refusal) => Err(refusal),
+        Ok(read) => match checked_new(read.0, read.1) {
+            Some(low) => Ok(low),
+            None => Err(ParseRatioError::new(RatioErrorKind::ParseError)),
+        },
+    }
+}
+
+/// The number of the text in the radix, or `None` where it is no number text or the type does not
+/// hold its number.
+fn number<T: Primitive>(text: &str, radix: u32) -> Option<T>
+    requires low { 2 ≤ radix }
+    requires high { radix ≤ 36 }
+    ensures { ReadsNumber T.value T.lo T.hi radix text.now result }
+{
+    if T::MIN < T::ZERO {
+        T::from_i128(i128::from_str_radix(text, radix).ok()?)
+    } else {
+        T::from_u128(u128::from_str_radix(text, radix).ok()?)
+    }
+}
+
+// The numbers of the texts before and after a slash.
+fn sides<T: Primitive>(front: &str, back: &str, radix: u32) -> Result<(T, T), ParseRatioError>
+    requires low { 2 ≤ radix }
+    requires high { radix ≤ 36 }
+    ensures { AnswersPair T.value (SidesReadAs T.lo T.hi radix front.now back.now) result }
+{
+    match number::<T>(front, radix) {
+        None => Err(ParseRatioError::new(RatioErrorKind::ParseError)),
+        Some(numer) => match number::<T>(back, radix) {
+            None => Err(ParseRatioError::new(RatioErrorKind::ParseError)),
+            Some(denom) => if denom.is_zero() {
+                Err(ParseRatioError::new(RatioErrorKind::ZeroDenominator))
+            } else {
+                Ok((numer, denom))
+            },
+        },
+    }
+}
+
+// The two numbers of a decimal text, as they stand.
+fn pair<T: Primitive>(text: &str) -> Result<(T, T), ParseRatioError>
+    ensures { AnswersPair T.value (IsFractionText T.lo T.hi text.now) result }
+{
+    match text.split_once('/') {
+        Some((front, back)) => sides(front, back, 10),
+        None => match number(text, 10) {
+            Some(numer) => Ok((numer, T::ONE)),
+            None => Err(ParseRatioError::new(RatioErrorKind::ParseError)),
+        },
+    }
+}

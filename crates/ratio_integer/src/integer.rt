@@ -145,8 +145,8 @@ pub trait Integer: Copy + Ord + Hash {
     {
         let _ = self.held();
         let two = Self::ONE.plus(Self::ONE);
-        let (_, rest) = self.div_rem(two);
-        rest.is_zero()
+        let (_, left_over) = self.div_rem(two);
+        left_over.is_zero()
     }
 
     /// Whether 2 does not divide the number.

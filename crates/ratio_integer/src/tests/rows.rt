@@ -63,3 +63,23 @@ fn parity(rt: HostRuntime) {
     assert!(rt; !(-3i8).is_even());
     assert!(rt; (-3i8).is_odd());
 }
+
+#[test]
+fn exact_sums(rt: HostRuntime) {
+    let most = i32::MAX;
+    assert_eq!(rt; i32::exact_sum(most, 2, most, 2), Some((most, 1)));
+    assert_eq!(rt;
+        i32::exact_sum(1, 11_862_016, 1, 11_993_088),
+        Some((91, 542_687_232))
+    );
+    assert_eq!(rt;
+        i32::exact_diff(1, 11_862_016, 1, 11_993_088),
+        Some((1, 1_085_374_464))
+    );
+    assert_eq!(rt; i32::exact_sum(1, most, 1, 2_147_483_646), None);
+    assert_eq!(rt;
+        i64::exact_sum(i64::MIN, i64::MAX, i64::MIN, i64::MAX),
+        None
+    );
+    assert_eq!(rt; u32::exact_sum(u32::MAX, 2, u32::MAX, 2), None);
+}

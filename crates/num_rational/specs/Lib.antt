@@ -1,0 +1,4 @@
+pub mod Ratio
+pub use Rattle.ratio_core.specs.Reading
+pub use Rattle.ratio_integer.specs.Fraction
+pub use Rattle.ratio_integer.specs.Range

@@ -1,0 +1,44 @@
+-- What a fraction's two numbers are.
+use Rattle.std.specs.Prelude.{◌≡◌, ℕ, ℤ, pos, List, Option, None, Some, Result}
+use Rattle.ratio_integer.specs.Fraction.{ChecksLowest, Fits, IsHeldLowest, IsLowestTermsOf}
+use Rattle.ratio_integer.specs.Range.{IsHeld}
+use Rattle.ratio_core.specs.declared.parse_error.RatioErrorKind.{RatioErrorKind}
+use Rattle.ratio_core.specs.Reading.{AnswersText, IsFractionText}
+use Rattle.num_rational.specs.declared.ratio.Ratio.{Ratio}
+
+-- the numerator and the denominator, as values of the element type
+abbrev pub fields : {T : _} {i : _} {o : _} {e : _} {p : _} {h : _} → Ratio T i o e p h → T × T
+fields r = (r.numer, r.denom)
+
+-- their two numbers
+abbrev pub numerator : {T : _} {i : _} {o : _} {e : _} {p : _} {h : _} → Ratio T i o e p h → ℤ
+numerator {i = i} r = i.value r.numer
+
+abbrev pub denominator : {T : _} {i : _} {o : _} {e : _} {p : _} {h : _} → Ratio T i o e p h → ℤ
+denominator {i = i} r = i.value r.denom
+
+-- r is c over 1
+abbrev pub IsWhole : {T : _} {i : _} {o : _} {e : _} {p : _} {h : _} → ℤ → Ratio T i o e p h → Type 0
+IsWhole c r = (numerator r ≡ c) × (denominator r ≡ pos 1)
+
+-- the answer is c over 1 where the type holds c, and `None` where it does not
+abbrev pub ChecksWhole : {T : _} {i : _} {o : _} {e : _} {p : _} {h : _} → ℤ → Option (Ratio T i o e p h) → Type 0
+ChecksWhole {i = i} c None = ¬ (IsHeld i.lo i.hi c)
+ChecksWhole {i = i} c (Some r) = IsHeld i.lo i.hi c × IsWhole c r
+
+-- r is the lowest terms of the pair x, which are held
+abbrev pub IsLowestOf : {T : _} {i : _} {o : _} {e : _} {p : _} {h : _} → ℤ × ℤ → Ratio T i o e p h → Type 0
+IsLowestOf {i = i} x r = IsHeldLowest i.lo i.hi x.0 x.1 (numerator r) (denominator r)
+
+-- the answer is the lowest terms of the pair x where these are held, and `None` where they are not
+abbrev pub ChecksRatio : {T : _} {i : _} {o : _} {e : _} {p : _} {h : _} → ℤ × ℤ → Option (Ratio T i o e p h) → Type 0
+ChecksRatio {i = i} x result = ChecksLowest numerator denominator i.lo i.hi x result
+
+-- r may be reduced, and its lowest terms are its own two numbers
+pub record IsReduced {T : _} {i : _} {o : _} {e : _} {p : _} {h : _} (r : Ratio T i o e p h) : Type 0 where
+  pub fits : Fits i.lo i.hi (numerator r) (denominator r)
+  pub same : (a b : ℤ) → IsLowestTermsOf (numerator r) (denominator r) a b → (a ≡ numerator r) × (b ≡ denominator r)
+
+-- the answer is the fraction of a decimal text in lowest terms, or the first refusal that applies
+abbrev pub ReadsRatio : {T : _} {i : _} {o : _} {e : _} {p : _} {h : _} → List ℕ → Result (Ratio T i o e p h) RatioErrorKind → Type 0
+ReadsRatio {i = i} text result = AnswersText numerator denominator i.lo i.hi (IsFractionText i.lo i.hi text) result

@@ -3,6 +3,7 @@
 
 pub mod checked;
 mod parse_error;
+pub mod products;
 pub mod text;
 
 pub use parse_error::{ParseRatioError, RatioErrorKind};

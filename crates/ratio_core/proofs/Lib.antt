@@ -3,4 +3,7 @@ pub mod CutLemmas
 pub mod NumberLemmas
 pub mod ProductLemmas
 pub mod RefusalLemmas
+pub mod RemainderLemmas
+pub mod ScalingLemmas
+pub mod SumLemmas
 pub mod WidthLemmas

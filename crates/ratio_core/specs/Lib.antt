@@ -1,3 +1,4 @@
 pub mod Cancelling
+pub mod Conditions
 pub mod Reading
 pub mod Refusal

@@ -4,6 +4,9 @@
 pub mod checked;
 mod parse_error;
 pub mod products;
+pub mod remainder;
+mod scaling;
+pub mod sums;
 pub mod text;
 
 pub use parse_error::{ParseRatioError, RatioErrorKind};

@@ -1,5 +1,6 @@
 pub mod CancellingLemmas
 pub mod CutLemmas
+pub mod LawLemmas
 pub mod NumberLemmas
 pub mod ProductLemmas
 pub mod RefusalLemmas

@@ -2,6 +2,7 @@
 #![tactic(auto)]
 
 pub mod checked;
+pub mod laws;
 mod parse_error;
 pub mod products;
 pub mod remainder;

@@ -1,7 +1,11 @@
--- Where sums and differences are answered, and two fractions over their least common denominator.
+-- Where two fractions' sum, difference, product and quotient are answered, and what is answered then.
 use Rattle.std.specs.Prelude.{ℤ, Bool, true, false, Option, Some, None}
-use Rattle.ratio_integer.specs.Arithmetic.{DifferenceHeld, IsHeldScaled, ScaledHeld, SumHeld, difference_of, sum_of}
-use Rattle.ratio_integer.specs.Fraction.{Fits}
+use Rattle.ratio_integer.specs.Arithmetic.{DifferenceHeld, IsHeldScaled, ScaledHeld, SumHeld, difference_of, product_of, quotient_of, sum_of}
+use Rattle.ratio_integer.specs.Fraction.{Fits, IsHeldLowest}
+
+-- a/b is the lowest terms of the pair x, and both numbers are held
+abbrev pub IsHeldLowestOf : ℤ → ℤ → ℤ × ℤ → ℤ → ℤ → Type 0
+IsHeldLowestOf lo hi x a b = IsHeldLowest lo hi x.0 x.1 a b
 
 -- the answer is the numerators of a/b and c/d over their least common denominator, and that, where all three are held, and
 -- `None` where one of them is not
@@ -19,3 +23,11 @@ SumCondition false lo hi a b c d = SumHeld lo hi a b c d
 abbrev pub DifferenceCondition : Bool → ℤ → ℤ → ℤ → ℤ → ℤ → ℤ → Type 0
 DifferenceCondition true lo hi a b c d = Fits lo hi (difference_of a b c d).0 (difference_of a b c d).1
 DifferenceCondition false lo hi a b c d = DifferenceHeld lo hi a b c d
+
+-- where a/b * c/d is answered: where its lowest terms are held
+abbrev pub ProductCondition : ℤ → ℤ → ℤ → ℤ → ℤ → ℤ → Type 0
+ProductCondition lo hi a b c d = Fits lo hi (product_of a b c d).0 (product_of a b c d).1
+
+-- where a/b divided by c/d is answered: the same, so c is not 0
+abbrev pub QuotientCondition : ℤ → ℤ → ℤ → ℤ → ℤ → ℤ → Type 0
+QuotientCondition lo hi a b c d = Fits lo hi (quotient_of a b c d).0 (quotient_of a b c d).1

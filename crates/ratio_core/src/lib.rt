@@ -11,3 +11,6 @@ pub mod sums;
 pub mod text;
 
 pub use parse_error::{ParseRatioError, RatioErrorKind};
+
+#[cfg(test)]
+mod tests;

@@ -6,6 +6,7 @@
 ghost use Rattle.std.specs.Prelude.{◌<ℤ◌, ◌*ℤ◌, pos};
 ghost use Rattle.ratio_integer.specs.Arithmetic.{product_of, quotient_of};
 ghost use Rattle.ratio_integer.specs.Fraction.{ChecksLowest, IsLowestTerms};
+ghost use Rattle.ratio_core.specs.Conditions.{IsHeldLowestOf, ProductCondition, QuotientCondition};
 
 use crate::checked::checked_new;
 use ratio_integer::{Integer, lowest_terms};
@@ -40,6 +41,34 @@ pub fn checked_div<T: Integer>(a: T, b: T, c: T, d: T) -> Option<(T, T)>
         return checked_new(numer, denom);
     }
     cancelled_quotient(a, b, c, d)
+}
+
+/// The lowest terms of `a/b * c/d`. The test is `checked_mul`.
+pub fn mul<T: Integer>(a: T, b: T, c: T, d: T) -> (T, T)
+    requires left_positive { pos 0 <ℤ T.value b }
+    requires right_positive { pos 0 <ℤ T.value d }
+    requires answered { ProductCondition T.lo T.hi (T.value a) (T.value b) (T.value c) (T.value d) }
+    ensures { IsHeldLowestOf T.lo T.hi (product_of (T.value a) (T.value b) (T.value c) (T.value d))
+        (T.value result.0) (T.value result.1) }
+{
+    match checked_mul(a, b, c, d) {
+        Some(product) => product,
+        None => unreachable!(),
+    }
+}
+
+/// The lowest terms of `a/b` divided by `c/d`. The test is `checked_div`.
+pub fn div<T: Integer>(a: T, b: T, c: T, d: T) -> (T, T)
+    requires left_positive { pos 0 <ℤ T.value b }
+    requires right_positive { pos 0 <ℤ T.value d }
+    requires answered { QuotientCondition T.lo T.hi (T.value a) (T.value b) (T.value c) (T.value d) }
+    ensures { IsHeldLowestOf T.lo T.hi (quotient_of (T.value a) (T.value b) (T.value c) (T.value d))
+        (T.value result.0) (T.value result.1) }
+{
+    match checked_div(a, b, c, d) {
+        Some(quotient) => quotient,
+        None => unreachable!(),
+    }
 }
 
 // The same product, cancelled before it is multiplied.

@@ -2,6 +2,7 @@
 ghost use Rattle.std.specs.Prelude.{◌≡◌, ◌≢◌, ◌<ℤ◌, pos, int_rem};
 ghost use Rattle.ratio_integer.specs.Arithmetic.{RemainderHeld, remainder_of};
 ghost use Rattle.ratio_integer.specs.Fraction.{AnswersLowest};
+ghost use Rattle.ratio_core.specs.Conditions.{IsHeldLowestOf};
 
 use crate::scaling::scaled;
 use ratio_integer::{Integer, lowest_terms};
@@ -21,6 +22,20 @@ pub fn checked_rem<T: Integer>(a: T, b: T, c: T, d: T) -> Option<(T, T)>
     }
     let (left, right, common) = scaled(a, b, c, d)?;
     Some(lowest_terms(truncated_rest(left, right), common))
+}
+
+/// The lowest terms of what `a/b` divided by `c/d` and cut towards zero leaves. The test is `checked_rem`.
+pub fn rem<T: Integer>(a: T, b: T, c: T, d: T) -> (T, T)
+    requires left_positive { pos 0 <ℤ T.value b }
+    requires right_positive { pos 0 <ℤ T.value d }
+    requires answered { RemainderHeld T.lo T.hi (T.value a) (T.value b) (T.value c) (T.value d) }
+    ensures { IsHeldLowestOf T.lo T.hi (remainder_of (T.value a) (T.value b) (T.value c) (T.value d))
+        (T.value result.0) (T.value result.1) }
+{
+    match checked_rem(a, b, c, d) {
+        Some(rest) => rest,
+        None => unreachable!(),
+    }
 }
 
 // The remainder of division cut towards zero. The least number may not be divided by -1.

@@ -5,7 +5,7 @@
 ghost use Rattle.std.specs.Prelude.{◌<ℤ◌, pos};
 ghost use Rattle.ratio_integer.specs.Arithmetic.{DifferenceHeld, SumHeld, difference_of, sum_of};
 ghost use Rattle.ratio_integer.specs.Fraction.{AnswersLowest};
-ghost use Rattle.ratio_core.specs.Conditions.{DifferenceCondition, SumCondition};
+ghost use Rattle.ratio_core.specs.Conditions.{DifferenceCondition, IsHeldLowestOf, SumCondition};
 
 use crate::scaling::scaled;
 use ratio_integer::{Integer, lowest_terms};
@@ -50,6 +50,34 @@ pub fn checked_sub<T: Integer>(a: T, b: T, c: T, d: T) -> Option<(T, T)>
         return Some(lowest_terms(difference, b));
     }
     T::exact_diff(a, b, c, d)
+}
+
+/// The lowest terms of `a/b + c/d`. The test is `checked_add`.
+pub fn add<T: Integer>(a: T, b: T, c: T, d: T) -> (T, T)
+    requires left_positive { pos 0 <ℤ T.value b }
+    requires right_positive { pos 0 <ℤ T.value d }
+    requires answered { SumCondition T.EXACT_SUMS T.lo T.hi (T.value a) (T.value b) (T.value c) (T.value d) }
+    ensures { IsHeldLowestOf T.lo T.hi (sum_of (T.value a) (T.value b) (T.value c) (T.value d))
+        (T.value result.0) (T.value result.1) }
+{
+    match checked_add(a, b, c, d) {
+        Some(sum) => sum,
+        None => unreachable!(),
+    }
+}
+
+/// The lowest terms of `a/b - c/d`. The test is `checked_sub`.
+pub fn sub<T: Integer>(a: T, b: T, c: T, d: T) -> (T, T)
+    requires left_positive { pos 0 <ℤ T.value b }
+    requires right_positive { pos 0 <ℤ T.value d }
+    requires answered { DifferenceCondition T.EXACT_SUMS T.lo T.hi (T.value a) (T.value b) (T.value c) (T.value d) }
+    ensures { IsHeldLowestOf T.lo T.hi (difference_of (T.value a) (T.value b) (T.value c) (T.value d))
+        (T.value result.0) (T.value result.1) }
+{
+    match checked_sub(a, b, c, d) {
+        Some(difference) => difference,
+        None => unreachable!(),
+    }
 }
 
 // The sum formed over the least common denominator.

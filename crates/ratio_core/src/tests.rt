@@ -1,0 +1,2 @@
+//! What no clause says: rows from outside.
+mod arithmetic;

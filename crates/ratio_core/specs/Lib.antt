@@ -1,5 +1,7 @@
 pub mod Cancelling
+pub mod Conditions
 pub mod ContinuedFraction
+pub mod Laws
 pub mod Order
 pub mod Reading
 pub mod Refusal

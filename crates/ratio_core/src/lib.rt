@@ -4,9 +4,14 @@
 pub mod checked;
 mod code_list;
 mod hash;
+pub mod laws;
 mod order;
 mod parse_error;
+pub mod products;
+pub mod remainder;
+mod scaling;
 mod steps;
+pub mod sums;
 #[cfg(test)]
 mod tests;
 pub mod text;

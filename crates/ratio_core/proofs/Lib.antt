@@ -7,8 +7,12 @@ pub mod HashLaws
 pub mod Hashing
 pub mod NumberLemmas
 pub mod OrderLaws
+pub mod ProductLemmas
 pub mod Quotients
 pub mod RefusalLemmas
+pub mod RemainderLemmas
 pub mod Rounds
 pub mod SameValues
+pub mod ScalingLemmas
+pub mod SumLemmas
 pub mod WidthLemmas

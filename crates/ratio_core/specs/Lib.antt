@@ -1,4 +1,5 @@
 pub mod Cancelling
+pub mod Conditions
 pub mod ContinuedFraction
 pub mod Order
 pub mod Reading

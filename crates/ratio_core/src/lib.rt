@@ -6,7 +6,11 @@ mod code_list;
 mod hash;
 mod order;
 mod parse_error;
+pub mod products;
+pub mod remainder;
+mod scaling;
 mod steps;
+pub mod sums;
 #[cfg(test)]
 mod tests;
 pub mod text;

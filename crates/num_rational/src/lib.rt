@@ -2,11 +2,11 @@
 #![tactic(auto)]
 
 mod convert;
+mod ops;
 mod ratio;
-mod text;
-
 #[cfg(test)]
 mod tests;
+mod text;
 
 pub use ratio::{Constants, Ratio, Rational, Rational32, Rational64};
 pub use ratio_core::{ParseRatioError, RatioErrorKind};

@@ -7,7 +7,9 @@ pub mod HashLaws
 pub mod Hashing
 pub mod NumberLemmas
 pub mod OrderLaws
+pub mod PrintingLemmas
 pub mod Quotients
+pub mod ReadingBack
 pub mod RefusalLemmas
 pub mod Rounds
 pub mod SameValues

@@ -1,4 +1,5 @@
-//! Worked rows of the order and of the codes, with their expected values from outside.
+//! Worked rows of the order, of the codes and of texts, with their expected values from outside.
+mod printing;
 mod recorder;
 
 ghost use Rattle.std.specs.Prelude.{◌≢◌, pos};

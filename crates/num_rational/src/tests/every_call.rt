@@ -1,5 +1,5 @@
 //! Each call once, at a concrete type.
-use crate::{Constants, Ratio, RatioErrorKind, Rational, Rational32, Rational64};
+use crate::{Constants, Form, Ratio, RatioErrorKind, Rational, Rational32, Rational64};
 use std::test::Fail;
 
 #[test]
@@ -36,21 +36,49 @@ fn constants(rt: HostRuntime) {
 fn whole_numbers(rt: HostRuntime) {
     let wide = i64::MAX as i128;
     let large = u64::MAX as u128;
-    assert_eq!(rt; Rational64::from_i64(i64::MIN).map(|x| x.into_raw()), Some((i64::MIN, 1)));
-    assert_eq!(rt; Rational64::from_i128(wide).map(|x| x.into_raw()), Some((i64::MAX, 1)));
+    assert_eq!(rt;
+        Rational64::from_i64(i64::MIN).map(|x| x.into_raw()),
+        Some((i64::MIN, 1))
+    );
+    assert_eq!(rt;
+        Rational64::from_i128(wide).map(|x| x.into_raw()),
+        Some((i64::MAX, 1))
+    );
     assert_eq!(rt; Rational64::from_i128(wide + 1).map(|x| x.into_raw()), None);
     assert_eq!(rt; Rational64::from_u64(u64::MAX).map(|x| x.into_raw()), None);
-    assert_eq!(rt; Ratio::<u64>::from_u64(u64::MAX).map(|x| x.into_raw()), Some((u64::MAX, 1)));
-    assert_eq!(rt; Ratio::<u64>::from_u128(large + 1).map(|x| x.into_raw()), None);
+    assert_eq!(rt;
+        Ratio::<u64>::from_u64(u64::MAX).map(|x| x.into_raw()),
+        Some((u64::MAX, 1))
+    );
+    assert_eq!(rt;
+        Ratio::<u64>::from_u128(large + 1).map(|x| x.into_raw()),
+        None
+    );
     assert_eq!(rt; Ratio::<u8>::from_i64(-1).map(|x| x.into_raw()), None);
 }
 
 #[test]
 fn texts(rt: HostRuntime) {
-    assert_eq!(rt; "3/2".parse::<Rational64>().map(|x| x.into_raw()), Ok((3, 2)));
-    assert_eq!(rt; Rational64::from_str("3/-2").map(|x| x.into_raw()), Ok((-3, 2)));
+    assert_eq!(rt;
+        "3/2".parse::<Rational64>().map(|x| x.into_raw()),
+        Ok((3, 2))
+    );
+    assert_eq!(rt;
+        Rational64::from_str("3/-2").map(|x| x.into_raw()),
+        Ok((-3, 2))
+    );
     match "3/0".parse::<Rational64>() {
         Ok(_) => assert!(rt; false, "3/0"),
         Err(refusal) => assert_eq!(rt; refusal.kind(), RatioErrorKind::ZeroDenominator),
     }
+    assert_eq!(rt;
+        Rational64::new(10, 12).text(Form::Decimal, false).as_str(),
+        "5/6"
+    );
+    assert_eq!(rt;
+        Rational64::new_raw(1, -2)
+            .text(Form::Decimal, true)
+            .as_str(),
+        "1/-2"
+    );
 }

@@ -94,7 +94,11 @@ fn refusals_are_printed(rt: HostRuntime) {
         match Ratio::<i8>::from_str(text) {
             Ok(_) => assert!(rt; false, "{text}"),
             Err(refusal) => {
-                assert_eq!(rt; InlineText::<40>::of(format_args!("{refusal}")).as_str(), want, "{text}");
+                assert_eq!(rt;
+                    InlineText::<40>::of(format_args!("{refusal}")).as_str(),
+                    want,
+                    "{text}"
+                );
             }
         }
     }

@@ -1,5 +1,5 @@
-//! Reading and reducing at the ends of each of the twelve types.
-use crate::{ParseRatioError, Ratio, RatioErrorKind};
+//! Reading, printing and reducing at the ends of each of the twelve types.
+use crate::{Form, ParseRatioError, Ratio, RatioErrorKind};
 use ratio_integer::{Integer, Primitive};
 use std::process::Abort;
 
@@ -19,19 +19,49 @@ fn refuses<T: Integer>(x: Result<Ratio<T>, ParseRatioError>) -> bool {
 
 // The texts of the least number, of the greatest and of one more.
 fn at_its_ends<T: Primitive>(rt: &impl Abort, least: &str, greatest: &str, more: &str) {
-    assert!(rt; is(Ratio::<T>::from_str(least).ok(), T::MIN, T::ONE), "{least}");
-    assert!(rt; is(Ratio::<T>::from_str(greatest).ok(), T::MAX, T::ONE), "{greatest}");
+    assert!(rt;
+        is(Ratio::<T>::from_str(least).ok(), T::MIN, T::ONE),
+        "{least}"
+    );
+    assert!(rt;
+        is(Ratio::<T>::from_str(greatest).ok(), T::MAX, T::ONE),
+        "{greatest}"
+    );
     assert!(rt; refuses(Ratio::<T>::from_str(more)), "{more}");
-    assert!(rt; is(Ratio::checked_new(T::MAX, T::MAX), T::ONE, T::ONE), "{greatest}/{greatest}");
-    assert!(rt; is(Ratio::checked_new(T::ZERO, T::MAX), T::ZERO, T::ONE), "0/{greatest}");
+    assert_eq!(rt;
+        Ratio::from_integer(T::MIN)
+            .text(Form::Decimal, false)
+            .as_str(),
+        least
+    );
+    assert_eq!(rt;
+        Ratio::from_integer(T::MAX)
+            .text(Form::Decimal, false)
+            .as_str(),
+        greatest
+    );
+    assert!(rt;
+        is(Ratio::checked_new(T::MAX, T::MAX), T::ONE, T::ONE),
+        "{greatest}/{greatest}"
+    );
+    assert!(rt;
+        is(Ratio::checked_new(T::ZERO, T::MAX), T::ZERO, T::ONE),
+        "0/{greatest}"
+    );
     let turned = Ratio::checked_new(T::MAX, T::MIN);
     assert!(rt; turned.is_none(), "{greatest}/{least}");
     let itself = Ratio::checked_new(T::MIN, T::MIN);
     if T::MIN < T::ZERO {
-        assert!(rt; is(Ratio::checked_new(T::MIN, T::MAX), T::MIN, T::MAX), "{least}/{greatest}");
+        assert!(rt;
+            is(Ratio::checked_new(T::MIN, T::MAX), T::MIN, T::MAX),
+            "{least}/{greatest}"
+        );
         assert!(rt; is(itself, T::ONE, T::ONE), "{least}/{least}");
     } else {
-        assert!(rt; is(Ratio::checked_new(T::MIN, T::MAX), T::ZERO, T::ONE), "{least}/{greatest}");
+        assert!(rt;
+            is(Ratio::checked_new(T::MIN, T::MAX), T::ZERO, T::ONE),
+            "{least}/{greatest}"
+        );
         assert!(rt; itself.is_none(), "{least}/{least}");
     }
 }

@@ -9,4 +9,4 @@ mod tests;
 mod text;
 
 pub use ratio::{Constants, Ratio, Rational, Rational32, Rational64};
-pub use ratio_core::{ParseRatioError, RatioErrorKind};
+pub use ratio_core::{Form, ParseRatioError, RatioErrorKind, RatioText};

@@ -8,8 +8,10 @@ pub mod Hashing
 pub mod LawLemmas
 pub mod NumberLemmas
 pub mod OrderLaws
+pub mod PrintingLemmas
 pub mod ProductLemmas
 pub mod Quotients
+pub mod ReadingBack
 pub mod RefusalLemmas
 pub mod RemainderLemmas
 pub mod Rounds

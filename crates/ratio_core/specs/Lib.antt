@@ -3,5 +3,6 @@ pub mod Conditions
 pub mod ContinuedFraction
 pub mod Laws
 pub mod Order
+pub mod Printing
 pub mod Reading
 pub mod Refusal

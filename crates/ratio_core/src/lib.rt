@@ -21,3 +21,4 @@ pub use hash::hash_counted;
 pub use order::cmp_counted;
 pub use parse_error::{ParseRatioError, RatioErrorKind};
 pub use steps::Steps;
+pub use text::{Form, RatioText};

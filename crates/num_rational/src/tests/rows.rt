@@ -11,6 +11,14 @@ fn made<T: Integer>(n: T, d: T) -> Option<(T, T)> {
     }
 }
 
+// The lowest terms by `from_pair`, where `checked_new` answers.
+fn paired<T: Integer>(pair: (T, T)) -> Option<(T, T)> {
+    match Ratio::checked_new(pair.0, pair.1) {
+        Some(_) => Some(Ratio::from_pair(pair).into_raw()),
+        None => None,
+    }
+}
+
 // The lowest terms by `reduced`, where `checked_new` of the fields answers.
 fn reduced<T: Integer>(x: &Ratio<T>) -> Option<(T, T)> {
     match Ratio::checked_new(*x.numer(), *x.denom()) {
@@ -36,6 +44,8 @@ fn lowest_terms(rt: HostRuntime) {
         (123, 456, Some((41, 152))),
     ] {
         assert_eq!(rt; made(n, d), want, "{n}/{d}");
+        assert_eq!(rt; paired((n, d)), want, "{n}/{d}");
+        assert_eq!(rt; reduced(&Ratio::new_raw(n, d)), want, "{n}/{d}");
     }
     for (n, d, want) in [
         (-128i8, -1, None),
@@ -48,7 +58,6 @@ fn lowest_terms(rt: HostRuntime) {
     ] {
         assert_eq!(rt; made(n, d), want, "{n}/{d}");
     }
-    assert_eq!(rt; reduced(&Ratio::new_raw(123i32, 456)), Some((41, 152)));
 }
 
 #[test]

@@ -2,6 +2,7 @@
 #![tactic(auto)]
 
 mod convert;
+mod fold;
 mod ops;
 mod ratio;
 #[cfg(test)]

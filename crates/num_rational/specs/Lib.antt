@@ -1,6 +1,5 @@
 pub mod Folds
 pub mod Operators
-pub mod Printing
 pub mod Ratio
 pub use Rattle.ratio_core.specs.Conditions
 pub use Rattle.ratio_core.specs.Printing

@@ -3,11 +3,13 @@
 
 mod convert;
 mod fold;
+mod hash;
 mod ops;
+mod order;
 mod ratio;
 #[cfg(test)]
 mod tests;
 mod text;
 
 pub use ratio::{Constants, Ratio, Rational, Rational32, Rational64};
-pub use ratio_core::{Form, ParseRatioError, RatioErrorKind, RatioText};
+pub use ratio_core::{CodeList, Form, ParseRatioError, RatioErrorKind, RatioText, Steps};

@@ -1,4 +1,8 @@
 //! What no clause says: rows from outside, and each call once at a concrete type.
+mod carried;
+mod comparing;
 mod every_call;
+mod keys;
+mod recorder;
 mod rows;
 mod twelve_types;

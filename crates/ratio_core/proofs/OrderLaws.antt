@@ -30,7 +30,7 @@ scaled_at x y k z Less h = larger x y k z h
 scaled_at x y k z Equal h = ap (λ w. w *ℤ pos k) h
 scaled_at x y k z Greater h = larger y x k z h
 
-scaled_cmp : (x y : ℤ) (k : ℕ) → 0 < k → int_cmp (x *ℤ pos k) (y *ℤ pos k) ≡ int_cmp x y
+pub scaled_cmp : (x y : ℤ) (k : ℕ) → 0 < k → int_cmp (x *ℤ pos k) (y *ℤ pos k) ≡ int_cmp x y
 scaled_cmp x y k z = sym (int_cmp_is (x *ℤ pos k) (y *ℤ pos k) (int_cmp x y) (scaled_at x y k z (int_cmp x y) (int_ranks x y)))
 
 turn_factors : (a : ℤ) (x y : ℕ) → (a *ℤ pos x) *ℤ pos y ≡ (a *ℤ pos y) *ℤ pos x

@@ -18,7 +18,7 @@ use Rattle.ratio_core.proofs.Quotients.{Goes}
 cmp-equal : (x y : ℤ) → (int_cmp x y ≡ Equal) ↔ (x ≡ y)
 cmp-equal x y = ((λ e. int_ranked x y Equal (sym e)), (λ e. sym (int_cmp_is x y Equal e)))
 
-unlike_or_not : (d e : ℤ) → HaveUnlikeSigns d e ⊎ ¬ (HaveUnlikeSigns d e)
+pub unlike_or_not : (d e : ℤ) → HaveUnlikeSigns d e ⊎ ¬ (HaveUnlikeSigns d e)
 unlike_or_not (pos d) (pos e) = inr (λ h. grind (arith, ints))
 unlike_or_not (pos d) (negsuc e) = inl (inr (omega (arith, ints), omega (arith, ints)))
 unlike_or_not (negsuc d) (pos e) = inl (inl (omega (arith, ints), omega (arith, ints)))

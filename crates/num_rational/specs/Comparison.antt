@@ -1,0 +1,28 @@
+-- How two fractions stand to one another.
+use Rattle.std.specs.Prelude.{◌≡◌, ◌*ℤ◌, ℤ, Bool}
+use Rattle.std.specs.Ordering.{int_eq}
+use Rattle.std.specs.declared.cmp.Ordering.{Ordering}
+use Rattle.ratio_integer.specs.Fraction.{IsLowestTerms, SameValue}
+use Rattle.ratio_core.specs.Order.{cross_cmp}
+use Rattle.num_rational.specs.declared.ratio.Ratio.{Ratio}
+use Rattle.num_rational.specs.Ratio.{denominator, numerator}
+
+-- the order of their values, by the cross products
+abbrev pub order_of : {T : _} {i : _} {o : _} {e : _} {p : _} {h : _} → Ratio T i o e p h → Ratio T i o e p h → Ordering
+order_of x y = cross_cmp (numerator x) (denominator x) (numerator y) (denominator y)
+
+-- they have the same value
+abbrev pub AreEqual : {T : _} {i : _} {o : _} {e : _} {p : _} {h : _} → Ratio T i o e p h → Ratio T i o e p h → Type 0
+AreEqual x y = SameValue (numerator x) (denominator x) (numerator y) (denominator y)
+
+-- whether they have: the test of `AreEqual`
+abbrev pub same_value : {T : _} {i : _} {o : _} {e : _} {p : _} {h : _} → Ratio T i o e p h → Ratio T i o e p h → Bool
+same_value x y = int_eq (numerator x *ℤ denominator y) (numerator y *ℤ denominator x)
+
+-- their numerators are the same number, and so are their denominators
+abbrev pub HaveSameFields : {T : _} {i : _} {o : _} {e : _} {p : _} {h : _} → Ratio T i o e p h → Ratio T i o e p h → Type 0
+HaveSameFields x y = (numerator x ≡ numerator y) × (denominator x ≡ denominator y)
+
+-- the fraction is in lowest terms as it stands
+abbrev pub IsLowest : {T : _} {i : _} {o : _} {e : _} {p : _} {h : _} → Ratio T i o e p h → Type 0
+IsLowest x = IsLowestTerms (numerator x) (denominator x)

@@ -1,5 +1,5 @@
 //! The hash of fractions, the same for all fractions of one value.
-ghost use Rattle.std.specs.Prelude.{◌≡◌, ◌+◌, ℕ, ℤ, fold, List};
+ghost use Rattle.std.specs.Prelude.{◌≡◌, ◌+◌, ◌++◌, ◌∷◌, [], ℕ, ℤ, fold, List, refl};
 ghost use Rattle.std.specs.List.{flat_map};
 ghost use Rattle.ratio_core.specs.ContinuedFraction.{IsCodeCount, IsCodesOf, TellsApart};
 ghost use Rattle.ratio_core.proofs.EqualityLaws.{same_writes_by_value};
@@ -7,7 +7,7 @@ ghost use Rattle.num_rational.specs.Hashing.{writes_of};
 ghost use Rattle.num_rational.specs.Ratio.{denominator, numerator};
 
 use crate::ratio::Ratio;
-use ratio_core::{CodeList, Steps};
+use ratio_core::{CodeList, Steps, Taken};
 use ratio_integer::Integer;
 use std::hash::{Hash, Hasher};
 
@@ -19,7 +19,8 @@ impl<T: Copy + Integer> Ratio<T> {
     /// of the denominator.
     pub fn hash_counted<L: CodeList<T>>(&self, list: &mut L, steps: &mut Steps)
         ensures codes { (codes : List ℤ) × IsCodesOf T.lo T.hi (numerator self.now) (denominator self.now) codes
-            × TellsApart T.lo T.hi (numerator self.now) (denominator self.now) codes × (list.new ≡ fold L.after list.old codes) }
+            × TellsApart T.lo T.hi (numerator self.now) (denominator self.now) codes
+            × (L.taken list.new ≡ L.taken list.old ++ codes) × (list.new ≡ fold L.after list.old codes) }
         ensures left { (k : ℕ) × (steps.new.left ≡ steps.old.left + k)
             × IsCodeCount T.hi (numerator self.now) (denominator self.now) k }
         ensures right { steps.new.right ≡ steps.old.right }
@@ -31,14 +32,20 @@ impl<T: Copy + Integer> Ratio<T> {
 /// A hasher as a list of codes: each goes to the element's own `hash`.
 struct HashedCodes<'a, H> {
     state: &'a mut H,
+    taken: Taken,
 }
 
 impl<'a, T: Integer, H: Hasher> CodeList<T> for HashedCodes<'a, H> {
-    ghost after = { λ list z. record list { state = record list.state { now = fold H.write list.state.now (T.number_hash_input z) } } };
+    ghost taken = { λ list. list.taken.codes };
+
+    ghost after = { λ list z. record list { state = record list.state { now = fold H.write list.state.now (T.number_hash_input z) }; taken = record { codes = list.taken.codes ++ z ∷ [] } } };
 
     fn take(&mut self, t: T) {
         t.hash(self.state);
+        self.taken.note(&t);
     }
+
+    ghost end_law = { λ list z. refl };
 }
 
 /// Hands the codes of `x` to the hasher behind `list`.
@@ -60,8 +67,11 @@ impl<T: Copy + Integer> Hash for Ratio<T> {
         ensures codes { (codes : List ℤ) × IsCodesOf T.lo T.hi (numerator self.now) (denominator self.now) codes
             × (state.new ≡ fold H.write state.old (flat_map T.number_hash_input codes)) }
     {
-        let mut list = HashedCodes { state };
+        let mut list = HashedCodes {
+            state,
+            taken: Taken::none(),
+        };
         hash_codes(self, &mut list);
-        let HashedCodes { state: _ } = list;
+        let HashedCodes { state: _, taken: _ } = list;
     }
 }

@@ -12,4 +12,4 @@ mod tests;
 mod text;
 
 pub use ratio::{Constants, Ratio, Rational, Rational32, Rational64};
-pub use ratio_core::{CodeList, Form, ParseRatioError, RatioErrorKind, RatioText, Steps};
+pub use ratio_core::{CodeList, Form, ParseRatioError, RatioErrorKind, RatioText, Steps, Taken};

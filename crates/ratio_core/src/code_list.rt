@@ -1,16 +1,21 @@
 //! What the codes of a fraction are handed to, one after another.
-ghost use Rattle.std.specs.Prelude.{◌≡◌, ℤ};
+ghost use Rattle.std.specs.Prelude.{◌≡◌, ℤ, List, [], ◌∷◌, ◌++◌};
 
 use ratio_integer::Integer;
 
 /// A list that takes integers at its end: an array that keeps them, or a hasher that is fed with
-/// them. Contracts see what the list is after it took a number; after several, it is the `fold` of
-/// `after` over them, in their order.
+/// them. Contracts see the numbers that it has taken so far; a list that does not keep them has a
+/// `Taken` beside what it does keep.
 pub trait CodeList<T: Integer> {
+    // The numbers taken so far.
+    ghost taken: { Self → List ℤ };
+
     // The list after it took a value of this number.
     ghost after: { Self → ℤ → Self };
 
     /// Takes `t` at the end.
     fn take(&mut self, t: T)
         ensures { self.new ≡ after self.old (T.value t) };
+
+    ghost end_law: { (list : Self) (z : ℤ) → taken (after list z) ≡ taken list ++ z ∷ [] };
 }

@@ -1,5 +1,5 @@
 //! The codes by which a fraction is hashed, over its fields.
-ghost use Rattle.std.specs.Prelude.{◌≡◌, ◌≢◌, ◌+◌, ℕ, ℤ, pos, fold, List};
+ghost use Rattle.std.specs.Prelude.{◌≡◌, ◌≢◌, ◌+◌, ℕ, ℤ, pos, fold, List, ◌++◌};
 ghost use Rattle.ratio_core.specs.ContinuedFraction.{AreCodesCounted, IsCodeCount, IsCodesOf, TellsApart};
 
 use crate::code_list::CodeList;
@@ -14,7 +14,8 @@ use ratio_integer::Integer;
 pub fn hash_counted<T: Integer, L: CodeList<T>>(n: T, d: T, list: &mut L, steps: &mut Steps)
     requires { T.value d ≢ pos 0 }
     ensures codes { (codes : List ℤ) × IsCodesOf T.lo T.hi (T.value n) (T.value d) codes
-        × TellsApart T.lo T.hi (T.value n) (T.value d) codes × (list.new ≡ fold L.after list.old codes) }
+        × TellsApart T.lo T.hi (T.value n) (T.value d) codes
+        × (L.taken list.new ≡ L.taken list.old ++ codes) × (list.new ≡ fold L.after list.old codes) }
     ensures left { (k : ℕ) × (steps.new.left ≡ steps.old.left + k)
         × IsCodeCount T.hi (T.value n) (T.value d) k }
     ensures right { steps.new.right ≡ steps.old.right }

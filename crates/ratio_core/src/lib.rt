@@ -12,6 +12,7 @@ pub mod remainder;
 mod scaling;
 mod steps;
 pub mod sums;
+mod taken;
 #[cfg(test)]
 mod tests;
 pub mod text;
@@ -21,4 +22,5 @@ pub use hash::hash_counted;
 pub use order::cmp_counted;
 pub use parse_error::{ParseRatioError, RatioErrorKind};
 pub use steps::Steps;
+pub use taken::Taken;
 pub use text::{Form, RatioText};

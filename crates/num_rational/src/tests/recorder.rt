@@ -1,52 +1,60 @@
 //! What a list of codes and a hasher receive, kept in fixed arrays.
-ghost use Rattle.std.specs.Prelude.{◌≡◌, ◌+◌, ◌≤◌, ℕ, ℤ, List, [], ◌∷◌, ◌++◌, if◌then◌else◌, nat_le, nat_lt, length, map, take};
+ghost use Rattle.std.specs.Prelude.{◌≡◌, ◌+◌, ◌≤◌, ℕ, ℤ, List, [], ◌∷◌, ◌++◌, if◌then◌else◌, nat_le, nat_lt, length, map, refl, take};
 
-use crate::CodeList;
+use crate::{CodeList, Taken};
 use ratio_integer::Integer;
 use std::hash::Hasher;
 use std::marker::Model;
 
-/// The first 24 codes that it took. A full one takes nothing more.
+/// The first 24 codes that it took.
 #[derive(Drop)]
 pub struct Codes<T: Integer> {
     codes: [T; 24],
     len: usize,
+    all: Taken,
 }
 
 impl<T: Integer> Model for Codes<T> {
-    ghost Value = { List ℤ };
+    ghost Value = { List ℤ × List ℤ };
 
-    ghost view = { λ r. map T.value (take r.len r.codes) };
+    ghost view = { λ r. (map T.value (take r.len r.codes), r.all.codes) };
 
     ghost invariant = { λ r. r.len ≤ 24 };
 }
 
 impl<T: Integer> Codes<T> {
     pub fn new() -> Codes<T>
-        ensures { result ≡ [] }
+        ensures { result ≡ ([], []) }
     {
         Codes {
             codes: [T::ZERO; 24],
             len: 0,
+            all: Taken::none(),
         }
     }
 
     pub fn as_slice(&self) -> &[T]
-        ensures { map T.value result.now ≡ self.now }
+        ensures { map T.value result.now ≡ self.now.0 }
     {
         &self.codes[..self.len]
     }
 }
 
 impl<T: Integer> CodeList<T> for Codes<T> {
-    ghost after = { λ xs z. if nat_lt (length xs) 24 then xs ++ z ∷ [] else xs };
+    ghost taken = { λ r. r.1 };
+
+    // A full one keeps nothing more.
+    ghost after = { λ r z. (if nat_lt (length r.0) 24 then r.0 ++ z ∷ [] else r.0, r.1 ++ z ∷ []) };
 
     fn take(&mut self, t: T) {
         if self.len < 24 {
             self.codes[self.len] = t;
             self.len += 1;
         }
+        self.all.note(&t);
     }
+
+    ghost end_law = { λ list z. refl };
 }
 
 /// The bytes that it was written, up to 96. A write that does not fit is left out.

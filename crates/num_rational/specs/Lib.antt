@@ -1,8 +1,13 @@
 pub mod Comparison
+pub mod Folds
 pub mod Hashing
+pub mod Operators
 pub mod Ratio
+pub use Rattle.ratio_core.specs.Conditions
 pub use Rattle.ratio_core.specs.ContinuedFraction
 pub use Rattle.ratio_core.specs.Order
+pub use Rattle.ratio_core.specs.Printing
 pub use Rattle.ratio_core.specs.Reading
+pub use Rattle.ratio_integer.specs.Arithmetic
 pub use Rattle.ratio_integer.specs.Fraction
 pub use Rattle.ratio_integer.specs.Range

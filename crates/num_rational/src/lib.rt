@@ -2,7 +2,9 @@
 #![tactic(auto)]
 
 mod convert;
+mod fold;
 mod hash;
+mod ops;
 mod order;
 mod ratio;
 #[cfg(test)]
@@ -10,4 +12,4 @@ mod tests;
 mod text;
 
 pub use ratio::{Constants, Ratio, Rational, Rational32, Rational64};
-pub use ratio_core::{CodeList, ParseRatioError, RatioErrorKind, Steps, Taken};
+pub use ratio_core::{CodeList, Form, ParseRatioError, RatioErrorKind, RatioText, Steps, Taken};

@@ -1,8 +1,11 @@
-//! Fractions of texts.
-ghost use Rattle.num_rational.specs.Ratio.{ReadsRatio};
+//! Fractions of texts, and texts of fractions.
+ghost use Rattle.std.specs.Prelude.{◌≡◌, ◌<ℤ◌, pos};
+ghost use Rattle.num_rational.specs.Ratio.{ReadsRatio, denominator, numerator};
+ghost use Rattle.ratio_core.specs.Printing.{ReadsBack, text_of};
+ghost use Rattle.ratio_core.specs.declared.text.form.Form.TheVariants.{Decimal};
 
 use crate::ratio::Ratio;
-use ratio_core::{ParseRatioError, text};
+use ratio_core::{Form, ParseRatioError, RatioText, text};
 use ratio_integer::Primitive;
 use std::str::FromStr;
 
@@ -19,6 +22,17 @@ impl<T: Primitive> Ratio<T> {
             Ok((numer, denom)) => Ok(Ratio::new_raw(numer, denom)),
             Err(refusal) => Err(refusal),
         }
+    }
+
+    /// The text of the fields as they stand: the numerator, and, unless the denominator is 1, a slash
+    /// and the denominator. With `alternate` a prefix that names the base stands before each number;
+    /// decimal has none. Reading the decimal text of a positive denominator gives the lowest terms.
+    pub fn text(&self, form: Form, alternate: bool) -> RatioText
+        ensures bytes { result ≡ text_of form (numerator self.now) (denominator self.now) }
+        ensures reads_back { form ≡ Decimal → pos 0 <ℤ denominator self.now
+            → ReadsBack T.lo T.hi result (numerator self.now) (denominator self.now) }
+    {
+        text::text(*self.numer(), *self.denom(), form, alternate)
     }
 }
 

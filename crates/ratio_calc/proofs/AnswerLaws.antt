@@ -1,8 +1,9 @@
 -- An input has one list of answers at most, so the relation says exactly what is written.
-use Rattle.std.proofs.Common.{◌≡◌, ◌≢◌, ℕ, ℤ, pos, List, [], ◌∷◌, ◌++◌, length, Bool, true, false, ◌||◌, ◌==◌, nat_lt, Result, Ok, Err, refl, ap, ◌∙◌, sym, subst}
+use Rattle.std.proofs.Common.{◌≡◌, ℕ, ℤ, pos, List, [], ◌∷◌, ◌++◌, length, Bool, true, false, ◌||◌, ◌==◌, nat_lt, Option, None, Some, Result, Ok, Err, refl, ap, ◌∙◌, sym}
 use Rattle.std.specs.Bool.{MatchBool}
-use Rattle.std.specs.Cmp.Lexicographic.{pointwise}
 use Rattle.std.specs.List.{slice_split}
+use Rattle.std.specs.Option.{MatchOption}
+use Rattle.std.specs.Ordering.{int_eq}
 use Rattle.std.specs.Prelude.{codes}
 use Rattle.std.specs.Str.{is_utf8}
 use Rattle.ratio_core.specs.Reading.{IsFractionText, Refuses, ReadsLowest}
@@ -10,9 +11,13 @@ use Rattle.ratio_core.specs.declared.parse_error.RatioErrorKind.{RatioErrorKind}
 use Rattle.ratio_core.specs.declared.parse_error.RatioErrorKind.TheVariants.{ParseError, ZeroDenominator}
 use Rattle.ratio_core.proofs.CutLemmas.{only_fraction}
 use Rattle.ratio_integer.proofs.LowestTerms.{lowest_unique}
-use Rattle.ratio_integer.specs.Fraction.{IsHeldLowest, IsLowestTermsOf}
-use Rattle.ratio_calc.specs.Answers.{AreAnswers, AreAnswersOf, IsAnswer, IsComparison, IsPiecesAnswer, IsThreeAnswer, comparison_text, is_space, lines_of, want_three, without_return}
-use Rattle.ratio_calc.specs.Operands.{IsOperand, greatest, least}
+use Rattle.ratio_integer.specs.Arithmetic.{difference_of, product_of, quotient_of, remainder_of, sum_of}
+use Rattle.ratio_integer.specs.Fraction.{IsHeldLowest}
+use Rattle.ratio_core.specs.Order.{cross_cmp}
+use Rattle.ratio_calc.specs.Answers.{AreAnswers, AreAnswersOf, IsAnswer, IsDivisionAnswer, IsLowest, IsNumberAnswer, IsOperandsAnswer, IsOperatorAnswer, IsPiecesAnswer, IsRemainder, IsTextsAnswer, IsThreeAnswer, is_space, lines_of, number_text, order_text, want_three, without_return}
+use Rattle.ratio_calc.specs.Operands.{IsOperand, greatest, least, operator_of}
+use Rattle.ratio_calc.specs.declared.operator.Operator.{Operator}
+use Rattle.ratio_calc.specs.declared.operator.Operator.TheVariants.{Add, Sub, Mul, Div, Rem, Cmp}
 
 abbrev Reads : List ℕ → ℤ → ℤ → Type 0
 Reads text = IsFractionText least greatest text
@@ -40,12 +45,6 @@ one_operand text (Ok x) (Err kind) h k = absurd (read_or_refused text x kind h k
 one_operand text (Err kind) (Ok y) h k = absurd (read_or_refused text y kind k h)
 one_operand text (Err kind) (Err other) h k = ap Err (one_refusal text kind other h k)
 
-one_comparison : (left right a b : List ℕ) → IsComparison left right a → IsComparison left right b → a ≡ b
-one_comparison left right a b h k =
-    let left_same = one_operand left h.left_operand k.left_operand h.left_reads k.left_reads in
-    let right_same = one_operand right h.right_operand k.right_operand h.right_reads k.right_reads in
-    h.text ∙ ap (λ x. comparison_text x h.right_operand) left_same ∙ ap (λ y. comparison_text k.left_operand y) right_same ∙ sym k.text
-
 one_of_two : (t : Bool) (P Q : List ℕ → Type 0) (a b : List ℕ) → (P a → P b → a ≡ b) → (Q a → Q b → a ≡ b) → MatchBool t (P a) (Q a) → MatchBool t (P b) (Q b) → a ≡ b
 one_of_two true P Q a b p q h k = p h k
 one_of_two false P Q a b p q h k = q h k
@@ -53,12 +52,62 @@ one_of_two false P Q a b p q h k = q h k
 one_text : (text a b : List ℕ) → a ≡ text → b ≡ text → a ≡ b
 one_text text a b h k = h ∙ sym k
 
+-- a pair has its lowest terms alone, held or not
+one_pair : (n d : ℤ) (x y : ℤ × ℤ) → IsHeldLowest least greatest n d x.0 x.1 → IsHeldLowest least greatest n d y.0 y.1 → x ≡ y
+one_pair n d x y h k =
+    let low = lowest_unique n d x.0 x.1 y.0 y.1 h.terms k.terms in
+    ap (λ (a : ℤ). (a, x.1)) low.0 ∙ ap (λ (b : ℤ). (y.0, b)) low.1
+
+one_result : (pair : ℤ × ℤ) (x y : Option (ℤ × ℤ)) → IsLowest pair x → IsLowest pair y → x ≡ y
+one_result pair None None h k = refl
+one_result pair None (Some y) h k = absurd (h (record { numer = y.0; denom = y.1; low = k }))
+one_result pair (Some x) None h k = absurd (k (record { numer = x.0; denom = x.1; low = h }))
+one_result pair (Some x) (Some y) h k = ap Some (one_pair pair.0 pair.1 x y h k)
+
+one_remainder : (a b : ℤ × ℤ) (x y : Option (ℤ × ℤ)) → IsRemainder a b x → IsRemainder a b y → x ≡ y
+one_remainder a b None None h k = refl
+one_remainder a b None (Some y) h k = absurd (h k.0)
+one_remainder a b (Some x) None h k = absurd (k h.0)
+one_remainder a b (Some x) (Some y) h k = ap Some (one_pair (remainder_of a.0 a.1 b.0 b.1).0 (remainder_of a.0 a.1 b.0 b.1).1 x y h.1 k.1)
+
+one_number : (Is : Option (ℤ × ℤ) → Type 0) (a b : List ℕ) → ((x y : Option (ℤ × ℤ)) → Is x → Is y → x ≡ y) → IsNumberAnswer Is a → IsNumberAnswer Is b → a ≡ b
+one_number Is a b one h k = h.text ∙ ap number_text (one h.number k.number h.is_number k.is_number) ∙ sym k.text
+
+one_division : (divisor : ℤ × ℤ) (Is : Option (ℤ × ℤ) → Type 0) (a b : List ℕ) → ((x y : Option (ℤ × ℤ)) → Is x → Is y → x ≡ y)
+    → IsDivisionAnswer divisor Is a → IsDivisionAnswer divisor Is b → a ≡ b
+one_division divisor Is a b one =
+    one_of_two (int_eq divisor.0 (pos 0)) (λ x. x ≡ codes "error: division by zero") (IsNumberAnswer Is) a b
+    (one_text (codes "error: division by zero") a b) (one_number Is a b one)
+
+one_operator : (operator : Operator) (x y : ℤ × ℤ) (a b : List ℕ) → IsOperatorAnswer operator x y a → IsOperatorAnswer operator x y b → a ≡ b
+one_operator Add x y a b = one_number (IsLowest (sum_of x.0 x.1 y.0 y.1)) a b (one_result (sum_of x.0 x.1 y.0 y.1))
+one_operator Sub x y a b = one_number (IsLowest (difference_of x.0 x.1 y.0 y.1)) a b (one_result (difference_of x.0 x.1 y.0 y.1))
+one_operator Mul x y a b = one_number (IsLowest (product_of x.0 x.1 y.0 y.1)) a b (one_result (product_of x.0 x.1 y.0 y.1))
+one_operator Div x y a b = one_division y (IsLowest (quotient_of x.0 x.1 y.0 y.1)) a b (one_result (quotient_of x.0 x.1 y.0 y.1))
+one_operator Rem x y a b = one_division y (IsRemainder x y) a b (one_remainder x y)
+one_operator Cmp x y a b = one_text (order_text (cross_cmp x.0 x.1 y.0 y.1)) a b
+
+one_operands : (operator : Operator) (x y : Result (ℤ × ℤ) RatioErrorKind) (a b : List ℕ) → IsOperandsAnswer operator x y a → IsOperandsAnswer operator x y b → a ≡ b
+one_operands operator (Err kind) y a b h k = h ∙ sym k
+one_operands operator (Ok x) (Err kind) a b h k = h ∙ sym k
+one_operands operator (Ok x) (Ok y) a b h k = one_operator operator x y a b h k
+
+one_texts : (operator : Operator) (left right a b : List ℕ) → IsTextsAnswer operator left right a → IsTextsAnswer operator left right b → a ≡ b
+one_texts operator left right a b h k =
+    let left_same = one_operand left h.left_operand k.left_operand h.left_reads k.left_reads in
+    let right_same = one_operand right h.right_operand k.right_operand h.right_reads k.right_reads in
+    one_operands operator k.left_operand k.right_operand a b (rw (← left_same, ← right_same) h.is_answer) k.is_answer
+
+one_known : (known : Option Operator) (left right a b : List ℕ) → MatchOption known (a ≡ codes "error: unknown operator") (λ operator. IsTextsAnswer operator left right a)
+    → MatchOption known (b ≡ codes "error: unknown operator") (λ operator. IsTextsAnswer operator left right b) → a ≡ b
+one_known None left right a b h k = h ∙ sym k
+one_known (Some operator) left right a b h k = one_texts operator left right a b h k
+
 one_three : (left operator right a b : List ℕ) → IsThreeAnswer left operator right a → IsThreeAnswer left operator right b → a ≡ b
 one_three left operator right a b =
     one_of_two ((length left == 0) || ((length operator == 0) || (length right == 0))) (λ x. x ≡ want_three)
-    (λ x. MatchBool (pointwise (λ c d. c == d) operator (codes "cmp")) (IsComparison left right x) (x ≡ codes "error: unknown operator")) a b (one_text want_three a b)
-    (one_of_two (pointwise (λ c d. c == d) operator (codes "cmp")) (IsComparison left right) (λ x. x ≡ codes "error: unknown operator") a b
-    (one_comparison left right a b) (one_text (codes "error: unknown operator") a b))
+    (λ x. MatchOption (operator_of operator) (x ≡ codes "error: unknown operator") (λ known. IsTextsAnswer known left right x)) a b
+    (one_text want_three a b) (one_known (operator_of operator) left right a b)
 
 one_pieces : (pieces : List (List ℕ)) (a b : List ℕ) → IsPiecesAnswer pieces a → IsPiecesAnswer pieces b → a ≡ b
 one_pieces [] a b h k = h ∙ sym k

@@ -1,13 +1,20 @@
 -- What the calculator answers to an input, as a whole.
-use Rattle.std.specs.Prelude.{◌≡◌, ℕ, List, [], ◌∷◌, ◌++◌, length, Bool, ◌||◌, ◌==◌, nat_lt, ℤ, Result, Ok, Err, if◌then◌else◌, codes, MatchBool}
+use Rattle.std.specs.Prelude.{◌≡◌, ℕ, ℤ, pos, List, [], ◌∷◌, ◌++◌, length, Bool, ◌||◌, ◌==◌, nat_lt, Option, Some, None, Result, Ok, Err, if◌then◌else◌, codes, MatchBool, MatchOption}
 use Rattle.std.specs.List.{slice_split}
-use Rattle.std.specs.Cmp.Lexicographic.{pointwise}
+use Rattle.std.specs.Ordering.{int_eq}
 use Rattle.std.specs.Str.{is_utf8}
 use Rattle.std.specs.declared.cmp.Ordering.{Ordering}
 use Rattle.std.specs.declared.cmp.Ordering.TheVariants.{Less, Equal, Greater}
+use Rattle.ratio_integer.specs.Arithmetic.{RemainderHeld, difference_of, product_of, quotient_of, remainder_of, sum_of}
+use Rattle.ratio_integer.specs.Fraction.{AnswersLowest, ChecksLowest}
+use Rattle.ratio_core.specs.Order.{cross_cmp}
+use Rattle.ratio_core.specs.Printing.{text_of}
 use Rattle.ratio_core.specs.Refusal.{refusal_text}
 use Rattle.ratio_core.specs.declared.parse_error.RatioErrorKind.{RatioErrorKind}
-use Rattle.ratio_calc.specs.Operands.{IsOperand, order_of}
+use Rattle.ratio_core.specs.declared.text.form.Form.TheVariants.{Decimal}
+use Rattle.ratio_calc.specs.Operands.{IsOperand, greatest, least, operator_of}
+use Rattle.ratio_calc.specs.declared.operator.Operator.{Operator}
+use Rattle.ratio_calc.specs.declared.operator.Operator.TheVariants.{Add, Sub, Mul, Div, Rem, Cmp}
 
 -- the byte that ends a line, and the one between pieces
 abbrev pub is_line_end : ℕ → Bool
@@ -16,25 +23,58 @@ is_line_end byte = byte == 10
 abbrev pub is_space : ℕ → Bool
 is_space byte = byte == 32
 
+-- what is said of a number, or that there is none
+abbrev pub number_text : Option (ℤ × ℤ) → List ℕ
+number_text (Some x) = text_of Decimal x.0 x.1
+number_text None = codes "error: out of range"
+
 -- the sign of an order
 abbrev pub order_text : Ordering → List ℕ
 order_text Less = codes "<"
 order_text Equal = codes "="
 order_text Greater = codes ">"
 
--- the answer to two operands: a refusal of the left one, else a refusal of the right one, else their order
-abbrev pub comparison_text : Result (ℤ × ℤ) RatioErrorKind → Result (ℤ × ℤ) RatioErrorKind → List ℕ
-comparison_text (Err kind) _ = codes "error: left: " ++ refusal_text kind
-comparison_text (Ok left) (Err kind) = codes "error: right: " ++ refusal_text kind
-comparison_text (Ok left) (Ok right) = order_text (order_of left right)
+-- the answer is the decimal text of the lowest terms that this says, or that there are none
+pub record IsNumberAnswer (Is : Option (ℤ × ℤ) → Type 0) (answer : List ℕ) : Type 0 where
+  pub number : Option (ℤ × ℤ)
+  pub is_number : Is number
+  pub text : answer ≡ number_text number
 
--- the answer to two texts that are to be compared
-pub record IsComparison (left right answer : List ℕ) : Type 0 where
+-- the number is the lowest terms of a pair where they fit in 64 bits, and there is none where they do not
+abbrev pub IsLowest : ℤ × ℤ → Option (ℤ × ℤ) → Type 0
+IsLowest pair number = ChecksLowest (λ x. x.0) (λ x. x.1) least greatest pair number
+
+-- the same of a remainder, where it is formed
+abbrev pub IsRemainder : ℤ × ℤ → ℤ × ℤ → Option (ℤ × ℤ) → Type 0
+IsRemainder x y number =
+    AnswersLowest (λ z. z.0) (λ z. z.1) least greatest (RemainderHeld least greatest x.0 x.1 y.0 y.1) (remainder_of x.0 x.1 y.0 y.1) number
+
+-- the answer to a division, where no number is divided by 0
+abbrev pub IsDivisionAnswer : ℤ × ℤ → (Option (ℤ × ℤ) → Type 0) → List ℕ → Type 0
+IsDivisionAnswer divisor Is answer = MatchBool (int_eq divisor.0 (pos 0)) (answer ≡ codes "error: division by zero") (IsNumberAnswer Is answer)
+
+-- the answer to an operator between two fractions
+abbrev pub IsOperatorAnswer : Operator → ℤ × ℤ → ℤ × ℤ → List ℕ → Type 0
+IsOperatorAnswer Add x y answer = IsNumberAnswer (IsLowest (sum_of x.0 x.1 y.0 y.1)) answer
+IsOperatorAnswer Sub x y answer = IsNumberAnswer (IsLowest (difference_of x.0 x.1 y.0 y.1)) answer
+IsOperatorAnswer Mul x y answer = IsNumberAnswer (IsLowest (product_of x.0 x.1 y.0 y.1)) answer
+IsOperatorAnswer Div x y answer = IsDivisionAnswer y (IsLowest (quotient_of x.0 x.1 y.0 y.1)) answer
+IsOperatorAnswer Rem x y answer = IsDivisionAnswer y (IsRemainder x y) answer
+IsOperatorAnswer Cmp x y answer = answer ≡ order_text (cross_cmp x.0 x.1 y.0 y.1)
+
+-- the answer to an operator between two operands: a refusal of the left one, else a refusal of the right one, else the operator's
+abbrev pub IsOperandsAnswer : Operator → Result (ℤ × ℤ) RatioErrorKind → Result (ℤ × ℤ) RatioErrorKind → List ℕ → Type 0
+IsOperandsAnswer operator (Err kind) _ answer = answer ≡ codes "error: left: " ++ refusal_text kind
+IsOperandsAnswer operator (Ok x) (Err kind) answer = answer ≡ codes "error: right: " ++ refusal_text kind
+IsOperandsAnswer operator (Ok x) (Ok y) answer = IsOperatorAnswer operator x y answer
+
+-- the answer to an operator between two texts
+pub record IsTextsAnswer (operator : Operator) (left right answer : List ℕ) : Type 0 where
   pub left_operand : Result (ℤ × ℤ) RatioErrorKind
   pub right_operand : Result (ℤ × ℤ) RatioErrorKind
   pub left_reads : IsOperand left left_operand
   pub right_reads : IsOperand right right_operand
-  pub text : answer ≡ comparison_text left_operand right_operand
+  pub is_answer : IsOperandsAnswer operator left_operand right_operand answer
 
 abbrev pub want_three : List ℕ
 want_three = codes "error: want LEFT OP RIGHT"
@@ -43,7 +83,7 @@ want_three = codes "error: want LEFT OP RIGHT"
 abbrev pub IsThreeAnswer : List ℕ → List ℕ → List ℕ → List ℕ → Type 0
 IsThreeAnswer left operator right answer =
     MatchBool ((length left == 0) || ((length operator == 0) || (length right == 0))) (answer ≡ want_three)
-    (MatchBool (pointwise (λ a b. a == b) operator (codes "cmp")) (IsComparison left right answer) (answer ≡ codes "error: unknown operator"))
+    (MatchOption (operator_of operator) (answer ≡ codes "error: unknown operator") (λ known. IsTextsAnswer known left right answer))
 
 -- the answer to the pieces of a line
 abbrev pub IsPiecesAnswer : List (List ℕ) → List ℕ → Type 0

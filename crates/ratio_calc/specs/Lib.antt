@@ -1,5 +1,6 @@
 pub mod Operands
 pub mod Answers
+pub mod AnswerText
 pub mod KeptLine
 pub mod Devices
 pub mod Run

@@ -1,11 +1,12 @@
--- The operands of a line, and how two of them stand to each other.
-use Rattle.std.specs.Prelude.{◌-◌, ◌^◌, ◌*ℤ◌, ℕ, ℤ, pos, negsuc, List, Result, Ok, Err}
-use Rattle.std.specs.Ordering.{int_cmp}
-use Rattle.std.specs.declared.cmp.Ordering.{Ordering}
+-- The operands and the operator of a line.
+use Rattle.std.specs.Prelude.{◌-◌, ◌^◌, ◌==◌, Bool, ℕ, ℤ, pos, negsuc, List, Option, Some, None, Result, Ok, Err, if◌then◌else◌, codes}
+use Rattle.std.specs.Cmp.Lexicographic.{pointwise}
 use Rattle.ratio_core.specs.Reading.{AnswersText, IsFractionText}
 use Rattle.ratio_core.specs.declared.parse_error.RatioErrorKind.{RatioErrorKind}
 use Rattle.num_rational.specs.Ratio.{numerator, denominator}
 use Rattle.num_rational.specs.declared.ratio.Ratio.{Ratio}
+use Rattle.ratio_calc.specs.declared.operator.Operator.{Operator}
+use Rattle.ratio_calc.specs.declared.operator.Operator.TheVariants.{Add, Sub, Mul, Div, Rem, Cmp}
 
 -- the least and the greatest number of a field
 abbrev pub least : ℤ
@@ -23,6 +24,22 @@ abbrev pub numbers_of : {T : _} {i : _} {o : _} {e : _} {p : _} {h : _} → Resu
 numbers_of (Ok r) = Ok (numerator r, denominator r)
 numbers_of (Err kind) = Err kind
 
--- the order of two fractions with positive denominators is that of their cross products, in unbounded whole numbers
-abbrev pub order_of : ℤ × ℤ → ℤ × ℤ → Ordering
-order_of left right = int_cmp (left.0 *ℤ right.1) (right.0 *ℤ left.1)
+-- the two texts have the same bytes
+abbrev pub is_text : List ℕ → List ℕ → Bool
+is_text text other = pointwise (λ a b. a == b) text other
+
+-- the operator that a piece names, if it is one of the six
+abbrev pub operator_of : List ℕ → Option Operator
+operator_of piece =
+    if is_text piece (codes "+") then Some Add
+    else (if is_text piece (codes "-") then Some Sub
+    else (if is_text piece (codes "*") then Some Mul
+    else (if is_text piece (codes "/") then Some Div
+    else (if is_text piece (codes "%") then Some Rem
+    else (if is_text piece (codes "cmp") then Some Cmp
+    else None)))))
+
+-- the two numbers of a fraction that a checked call answered
+abbrev pub number_of : {T : _} {i : _} {o : _} {e : _} {p : _} {h : _} → Option (Ratio T i o e p h) → Option (ℤ × ℤ)
+number_of (Some r) = Some (numerator r, denominator r)
+number_of None = None

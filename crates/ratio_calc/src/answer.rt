@@ -1,94 +1,126 @@
 //! The answer to one line.
-ghost use Rattle.std.specs.Prelude.{◌≡◌, ◌≤◌, length};
+ghost use Rattle.std.specs.Prelude.{◌≡◌, ◌≤◌, ◌<ℤ◌, pos, length};
 ghost use Rattle.std.specs.List.{slice_split};
+ghost use Rattle.std.specs.Result.{ForOk};
 ghost use Rattle.num_rational.specs.Ratio.{numerator, denominator};
-ghost use Rattle.ratio_calc.specs.Answers.{IsAnswer, IsComparison, IsPiecesAnswer, IsThreeAnswer, comparison_text, is_space};
-ghost use Rattle.ratio_calc.specs.Operands.{numbers_of, order_of};
+ghost use Rattle.ratio_calc.specs.Answers.{IsAnswer, IsOperandsAnswer, IsOperatorAnswer, IsPiecesAnswer, IsTextsAnswer, IsThreeAnswer, is_space, number_text, order_text};
+ghost use Rattle.ratio_calc.specs.AnswerText.{bytes_of};
+ghost use Rattle.ratio_calc.specs.Operands.{number_of, numbers_of};
 
-use num_rational::{ParseRatioError, RatioErrorKind, Rational64};
+use crate::answer_text::AnswerText;
+use crate::operator::{Operator, operator};
+use num_rational::{Form, ParseRatioError, RatioErrorKind, Rational64};
 use std::cmp::Ordering;
 
 const WANT_THREE: &str = "error: want LEFT OP RIGHT";
+const DIVISION_BY_ZERO: &str = "error: division by zero";
 
-/// The order of two fractions with positive denominators.
-fn order(left: Rational64, right: Rational64) -> Ordering
-    ensures { result ≡ order_of (numerator left, denominator left) (numerator right, denominator right) }
+/// The text of a number, or that there is none.
+fn number(checked: Option<Rational64>) -> AnswerText
+    ensures { bytes_of result ≡ number_text (number_of checked) }
 {
-    let (left_numer, left_denom) = left.into_raw();
-    let (right_numer, right_denom) = right.into_raw();
-    let left_product = left_numer as i128 * right_denom as i128;
-    let right_product = right_numer as i128 * left_denom as i128;
-    left_product.cmp(&right_product)
-}
-
-/// The answer to two operands, which may have been refused.
-fn comparison(
-    left: Result<Rational64, ParseRatioError>,
-    right: Result<Rational64, ParseRatioError>,
-) -> &'static str
-    ensures { result.now ≡ comparison_text (numbers_of left) (numbers_of right) }
-{
-    match (left, right) {
-        (Ok(left), Ok(right)) => match order(left, right) {
-            Ordering::Less => "<",
-            Ordering::Equal => "=",
-            Ordering::Greater => ">",
-        },
-        (Err(refusal), _) => match refusal.kind() {
-            RatioErrorKind::ParseError => "error: left: failed to parse integer",
-            RatioErrorKind::ZeroDenominator => "error: left: zero value denominator",
-        },
-        (Ok(_), Err(refusal)) => match refusal.kind() {
-            RatioErrorKind::ParseError => "error: right: failed to parse integer",
-            RatioErrorKind::ZeroDenominator => "error: right: zero value denominator",
-        },
+    match checked {
+        Some(number) => AnswerText::Number(number.text(Form::Decimal, false)),
+        None => AnswerText::Known("error: out of range"),
     }
 }
 
-/// The answer to two texts that are to be compared.
-fn compared(left: &str, right: &str) -> &'static str
-    ensures { IsComparison left.now right.now result.now }
+/// The sign of an order.
+fn sign(order: Ordering) -> AnswerText
+    ensures { bytes_of result ≡ order_text order }
 {
-    comparison(Rational64::from_str(left), Rational64::from_str(right))
+    AnswerText::Known(match order {
+        Ordering::Less => "<",
+        Ordering::Equal => "=",
+        Ordering::Greater => ">",
+    })
+}
+
+/// The answer to an operator between two fractions.
+fn operated(operator: Operator, left: Rational64, right: Rational64) -> AnswerText
+    requires left_positive { pos 0 <ℤ denominator left }
+    requires right_positive { pos 0 <ℤ denominator right }
+    ensures { IsOperatorAnswer operator (numerator left, denominator left) (numerator right, denominator right) (bytes_of result) }
+{
+    match operator {
+        Operator::Add => number(left.checked_add(&right)),
+        Operator::Sub => number(left.checked_sub(&right)),
+        Operator::Mul => number(left.checked_mul(&right)),
+        Operator::Div if right.is_zero() => AnswerText::Known(DIVISION_BY_ZERO),
+        Operator::Div => number(left.checked_div(&right)),
+        Operator::Rem if right.is_zero() => AnswerText::Known(DIVISION_BY_ZERO),
+        Operator::Rem => number(left.checked_rem(&right)),
+        Operator::Cmp => sign(left.cmp(&right)),
+    }
+}
+
+/// The answer to an operator between two operands, which may have been refused.
+fn answer_operands(
+    operator: Operator,
+    left: Result<Rational64, ParseRatioError>,
+    right: Result<Rational64, ParseRatioError>,
+) -> AnswerText
+    requires left_positive { ForOk left (λ r. pos 0 <ℤ denominator r) }
+    requires right_positive { ForOk right (λ r. pos 0 <ℤ denominator r) }
+    ensures { IsOperandsAnswer operator (numbers_of left) (numbers_of right) (bytes_of result) }
+{
+    match (left, right) {
+        (Ok(left), Ok(right)) => operated(operator, left, right),
+        (Err(refusal), _) => AnswerText::Known(match refusal.kind() {
+            RatioErrorKind::ParseError => "error: left: failed to parse integer",
+            RatioErrorKind::ZeroDenominator => "error: left: zero value denominator",
+        }),
+        (Ok(_), Err(refusal)) => AnswerText::Known(match refusal.kind() {
+            RatioErrorKind::ParseError => "error: right: failed to parse integer",
+            RatioErrorKind::ZeroDenominator => "error: right: zero value denominator",
+        }),
+    }
+}
+
+/// The answer to an operator between two texts.
+fn answer_texts(operator: Operator, left: &str, right: &str) -> AnswerText
+    ensures { IsTextsAnswer operator left.now right.now (bytes_of result) }
+{
+    answer_operands(operator, Rational64::from_str(left), Rational64::from_str(right))
 }
 
 /// The answer to three pieces.
-fn answer_three(left: &str, operator: &str, right: &str) -> &'static str
-    ensures { IsThreeAnswer left.now operator.now right.now result.now }
+fn answer_three(left: &str, middle: &str, right: &str) -> AnswerText
+    ensures { IsThreeAnswer left.now middle.now right.now (bytes_of result) }
 {
-    if left.is_empty() || operator.is_empty() || right.is_empty() {
-        WANT_THREE
-    } else if operator != "cmp" {
-        "error: unknown operator"
-    } else {
-        compared(left, right)
+    if left.is_empty() || middle.is_empty() || right.is_empty() {
+        return AnswerText::Known(WANT_THREE);
+    }
+    match operator(middle) {
+        Some(operator) => answer_texts(operator, left, right),
+        None => AnswerText::Known("error: unknown operator"),
     }
 }
 
 /// The answer to a text, whose pieces stand between single spaces.
-fn answer_pieces(text: &str) -> &'static str
-    ensures { IsPiecesAnswer (slice_split is_space text.now) result.now }
+fn answer_pieces(text: &str) -> AnswerText
+    ensures { IsPiecesAnswer (slice_split is_space text.now) (bytes_of result) }
 {
     let Some((left, rest)) = text.split_once(' ') else {
-        return WANT_THREE;
+        return AnswerText::Known(WANT_THREE);
     };
-    let Some((operator, right)) = rest.split_once(' ') else {
-        return WANT_THREE;
+    let Some((middle, right)) = rest.split_once(' ') else {
+        return AnswerText::Known(WANT_THREE);
     };
     match right.split_once(' ') {
-        Some(_) => WANT_THREE,
-        None => answer_three(left, operator, right),
+        Some(_) => AnswerText::Known(WANT_THREE),
+        None => answer_three(left, middle, right),
     }
 }
 
 /// The answer to a line that isn't too long, without a line end. One carriage return at its end is
 /// left out of account.
-pub fn answer(line: &[u8]) -> &'static str
+pub fn answer(line: &[u8]) -> AnswerText
     requires { length line.now ≤ 120 }
-    ensures { IsAnswer line.now result.now }
+    ensures { IsAnswer line.now (bytes_of result) }
 {
     let Ok(text) = str::from_utf8(line) else {
-        return "error: not UTF-8";
+        return AnswerText::Known("error: not UTF-8");
     };
     answer_pieces(text.strip_suffix('\r').unwrap_or(text))
 }

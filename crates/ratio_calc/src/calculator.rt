@@ -60,7 +60,8 @@ fn write_bytes<W: CalcWrite>(writer: &mut W, bytes: &[u8]) -> Result<(), CalcFau
 fn answer_line<W: CalcWrite>(line: &Line, writer: &mut W) -> Result<(), CalcFault>
     ensures { WritesFor (IsAnswerLine line.now) (W.contents writer.old, W.calls writer.old) (W.contents writer.new, W.calls writer.new) result }
 {
-    write_bytes(writer, line.answer().as_bytes())?;
+    let answer = line.answer();
+    write_bytes(writer, answer.as_str().as_bytes())?;
     write_bytes(writer, b"\n")
 }
 

@@ -1,8 +1,10 @@
 //! The line that is being read.
 ghost use Rattle.std.specs.Prelude.{◌≡◌, ◌↔◌, ℕ, ◌≤◌, List, [], take, Option, Some, None, if◌then◌else◌};
+ghost use Rattle.ratio_calc.specs.AnswerText.{bytes_of};
 ghost use Rattle.ratio_calc.specs.KeptLine.{IsKeptAnswer, is_empty, pushed};
 
 use crate::answer::answer;
+use crate::answer_text::AnswerText;
 use std::marker::Model;
 
 /// The most bytes that a line may have, without its line end.
@@ -64,11 +66,11 @@ impl Line {
     }
 
     /// The answer to this line, without a line end.
-    pub fn answer(&self) -> &'static str
-        ensures { IsKeptAnswer self.now result.now }
+    pub fn answer(&self) -> AnswerText
+        ensures { IsKeptAnswer self.now (bytes_of result) }
     {
         if self.is_too_long {
-            "error: line too long"
+            AnswerText::Known("error: line too long")
         } else {
             answer(&self.bytes[..self.len])
         }

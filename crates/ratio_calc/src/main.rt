@@ -2,12 +2,14 @@
 #![tactic(auto)]
 
 pub mod answer;
+pub mod answer_text;
 pub mod calculator;
 pub mod calls;
 pub mod counted;
 #[cfg(test)]
 mod devices;
 pub mod line;
+pub mod operator;
 #[cfg(test)]
 mod tests;
 

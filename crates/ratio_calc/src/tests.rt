@@ -27,7 +27,7 @@ fn answered(alloc: Global, input: &[u8]) -> Result<Vec<u8>, CalcFault>
 
 #[test]
 fn answers_lines(rt: HostRuntime) -> Result<(), Fail> {
-    let rows: [(&[u8], &[u8]); 24] = [
+    let rows: [(&[u8], &[u8]); 23] = [
         (
             b"\x31\x2f\x32\x20\x63\x6d\x70\x20\x31\x2f\x33\x0a",
             b"\x3e\x0a",
@@ -51,7 +51,6 @@ fn answers_lines(rt: HostRuntime) -> Result<(), Fail> {
             b"1/-9223372036854775808 cmp 1\n",
             b"error: left: failed to parse integer\n",
         ),
-        (b"1/2 + 1/3\n", b"error: unknown operator\n"),
         (b"1/2 ^ 3\n", b"error: unknown operator\n"),
         (b"x ^ y\n", b"error: unknown operator\n"),
         (b"1  + 2\n", b"error: want LEFT OP RIGHT\n"),
@@ -70,6 +69,54 @@ fn answers_lines(rt: HostRuntime) -> Result<(), Fail> {
             b"-1 cmp +1\n3 cmp 2\n\n2/3 cmp 2/3",
             b"<\n>\nerror: want LEFT OP RIGHT\n=\n",
         ),
+    ];
+    for (input, answers) in rows {
+        assert_eq!(rt; answered(rt.alloc(), input)?.as_slice(), answers);
+    }
+    Ok(())
+}
+
+#[test]
+fn answers_operators(rt: HostRuntime) -> Result<(), Fail> {
+    let rows: [(&[u8], &[u8]); 26] = [
+        (
+            b"\x31\x2f\x32\x20\x2b\x20\x31\x2f\x33\x0a",
+            b"\x35\x2f\x36\x0a",
+        ),
+        (b"1/2 - 1/3", b"1/6\n"),
+        (b"-3/4 * 2/9", b"-1/6\n"),
+        (b"3/2 / -1/2", b"-3\n"),
+        (b"5/2 % 3/2", b"1\n"),
+        (b"-9223372036854775808 % -1", b"0\n"),
+        (b"1/2 cmp 1/3", b">\n"),
+        (b"9223372036854775807 + 1", b"error: out of range\n"),
+        (
+            b"9223372036854775807/2 + 9223372036854775807/2",
+            b"9223372036854775807\n",
+        ),
+        (b"-9223372036854775808 / -1", b"error: out of range\n"),
+        (b"-9223372036854775808 - 1", b"error: out of range\n"),
+        (
+            b"9223372036854775807/2 * 2/9223372036854775807",
+            b"1\n",
+        ),
+        (b"1 / 0", b"error: division by zero\n"),
+        (b"0 / 0", b"error: division by zero\n"),
+        (b"1 % 0/5", b"error: division by zero\n"),
+        (b"1/0 + x", b"error: left: zero value denominator\n"),
+        (b"x / 0", b"error: left: failed to parse integer\n"),
+        (b"x + 1/0", b"error: left: failed to parse integer\n"),
+        (b"1 + x", b"error: right: failed to parse integer\n"),
+        (b"1 / 0/0", b"error: right: zero value denominator\n"),
+        (
+            b"1/-9223372036854775808 + 1",
+            b"error: left: failed to parse integer\n",
+        ),
+        (b"1/2 ^ 3", b"error: unknown operator\n"),
+        (b"1 + 2\r", b"3\n"),
+        (b"1 + 2\r\r", b"error: right: failed to parse integer\n"),
+        (b"1 - 1", b"0\n"),
+        (b"1 + 2\n1 - 2\n1/2 * 1/2\n", b"3\n-1\n1/4\n"),
     ];
     for (input, answers) in rows {
         assert_eq!(rt; answered(rt.alloc(), input)?.as_slice(), answers);

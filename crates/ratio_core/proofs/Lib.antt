@@ -6,10 +6,17 @@ pub mod EqualityLaws
 pub mod Floored
 pub mod HashLaws
 pub mod Hashing
+pub mod LawLemmas
 pub mod NumberLemmas
 pub mod OrderLaws
+pub mod PrintingLemmas
+pub mod ProductLemmas
 pub mod Quotients
+pub mod ReadingBack
 pub mod RefusalLemmas
+pub mod RemainderLemmas
 pub mod Rounds
 pub mod SameValues
+pub mod ScalingLemmas
+pub mod SumLemmas
 pub mod WidthLemmas

@@ -4,9 +4,14 @@
 pub mod checked;
 mod code_list;
 mod hash;
+pub mod laws;
 mod order;
 mod parse_error;
+pub mod products;
+pub mod remainder;
+mod scaling;
 mod steps;
+pub mod sums;
 mod taken;
 #[cfg(test)]
 mod tests;
@@ -18,3 +23,4 @@ pub use order::cmp_counted;
 pub use parse_error::{ParseRatioError, RatioErrorKind};
 pub use steps::Steps;
 pub use taken::Taken;
+pub use text::{Form, RatioText};

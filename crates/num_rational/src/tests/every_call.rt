@@ -1,5 +1,5 @@
 //! Each call once, at a concrete type.
-use crate::{Constants, Ratio, RatioErrorKind, Rational, Rational32, Rational64};
+use crate::{Constants, Form, Ratio, RatioErrorKind, Rational, Rational32, Rational64};
 use std::test::Fail;
 
 #[test]
@@ -70,4 +70,14 @@ fn texts(rt: HostRuntime) {
         Ok(_) => assert!(rt; false, "3/0"),
         Err(refusal) => assert_eq!(rt; refusal.kind(), RatioErrorKind::ZeroDenominator),
     }
+    assert_eq!(rt;
+        Rational64::new(10, 12).text(Form::Decimal, false).as_str(),
+        "5/6"
+    );
+    assert_eq!(rt;
+        Rational64::new_raw(1, -2)
+            .text(Form::Decimal, true)
+            .as_str(),
+        "1/-2"
+    );
 }

@@ -1,5 +1,5 @@
-//! Reading and reducing at the ends of each of the twelve types.
-use crate::{ParseRatioError, Ratio, RatioErrorKind};
+//! Reading, printing and reducing at the ends of each of the twelve types.
+use crate::{Form, ParseRatioError, Ratio, RatioErrorKind};
 use ratio_integer::{Integer, Primitive};
 use std::process::Abort;
 
@@ -28,6 +28,18 @@ fn at_its_ends<T: Primitive>(rt: &impl Abort, least: &str, greatest: &str, more:
         "{greatest}"
     );
     assert!(rt; refuses(Ratio::<T>::from_str(more)), "{more}");
+    assert_eq!(rt;
+        Ratio::from_integer(T::MIN)
+            .text(Form::Decimal, false)
+            .as_str(),
+        least
+    );
+    assert_eq!(rt;
+        Ratio::from_integer(T::MAX)
+            .text(Form::Decimal, false)
+            .as_str(),
+        greatest
+    );
     assert!(rt;
         is(Ratio::checked_new(T::MAX, T::MAX), T::ONE, T::ONE),
         "{greatest}/{greatest}"

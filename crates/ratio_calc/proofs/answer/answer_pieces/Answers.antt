@@ -14,13 +14,13 @@ returns-in_default-split_once c =
 pub returns-in-None : goal.returns-in-None
 returns-in-None c =
     let first = cut 32 c.args.text.now (Some (c.in-Some.left, c.in-Some.rest)) c.in-Some.ensures.cases (lit< tt) in
-    let second = cut 32 c.in-Some.rest.now (Some (c.in-Some-split_once.operator, c.in-Some-split_once.right)) c.in-Some-split_once.ensures.cases (lit< tt) in
+    let second = cut 32 c.in-Some.rest.now (Some (c.in-Some-split_once.middle, c.in-Some-split_once.right)) c.in-Some-split_once.ensures.cases (lit< tt) in
     let third = cut 32 c.in-Some-split_once.right.now None c.in-None.ensures.cases (lit< tt) in
     three_pieces c.args.text.now _ _ _ _ _ first second third c.answer_three.ensures
 
 pub returns-in-Some-split_once-2 : goal.returns-in-Some-split_once-2
 returns-in-Some-split_once-2 c =
     let first = cut 32 c.args.text.now (Some (c.in-Some.left, c.in-Some.rest)) c.in-Some.ensures.cases (lit< tt) in
-    let second = cut 32 c.in-Some.rest.now (Some (c.in-Some-split_once.operator, c.in-Some-split_once.right)) c.in-Some-split_once.ensures.cases (lit< tt) in
+    let second = cut 32 c.in-Some.rest.now (Some (c.in-Some-split_once.middle, c.in-Some-split_once.right)) c.in-Some-split_once.ensures.cases (lit< tt) in
     let third = cut 32 c.in-Some-split_once.right.now (Some c.in-Some-split_once-2.field-0) c.in-Some-split_once-2.ensures.cases (lit< tt) in
     more_pieces c.args.text.now _ _ _ _ _ _ first second third

@@ -1,0 +1,6 @@
+//! The five operators: a file for each, in the same order.
+mod add;
+mod div;
+mod mul;
+mod rem;
+mod sub;

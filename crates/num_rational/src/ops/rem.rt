@@ -1,0 +1,172 @@
+//! Remainders: the checked call, the call that asks for an answer, and the symbols `%` and `%=`.
+ghost use Rattle.std.specs.Prelude.{◌<ℤ◌, pos};
+ghost use Rattle.ratio_integer.specs.Arithmetic.{RemainderHeld};
+ghost use Rattle.num_rational.specs.Operators.{CanTakeRemainder, ChecksRemainder, IsRemainder, numbers, whole};
+ghost use Rattle.num_rational.specs.Ratio.{denominator, numerator};
+
+use crate::ratio::Ratio;
+use ratio_core::remainder;
+use ratio_integer::Integer;
+use std::ops::{Rem, RemAssign};
+
+impl<T: Copy + Integer> Ratio<T> {
+    /// The lowest terms of `x - t*y`, where `t` is the quotient `x/y` cut towards zero: 0, or of the
+    /// sign of `x` and nearer to 0 than `y`. `None` exactly where the divisor is 0, or the least common
+    /// denominator or a numerator over it is not held; the fields count as they stand.
+    pub fn checked_rem(&self, other: &Ratio<T>) -> Option<Ratio<T>>
+        requires left_positive { pos 0 <ℤ denominator self.now }
+        requires right_positive { pos 0 <ℤ denominator other.now }
+        ensures { ChecksRemainder (numbers self.now) (numbers other.now) result }
+    {
+        match remainder::checked_rem(*self.numer(), *self.denom(), *other.numer(), *other.denom()) {
+            Some((numer, denom)) => Some(Ratio::new_raw(numer, denom)),
+            None => None,
+        }
+    }
+
+    /// The remainder in lowest terms, also by the symbol `%`. The test is `checked_rem`.
+    pub fn rem(self, other: Ratio<T>) -> Ratio<T>
+        requires left_positive { pos 0 <ℤ denominator self }
+        requires right_positive { pos 0 <ℤ denominator other }
+        requires answered { RemainderHeld T.lo T.hi (numerator self) (denominator self) (numerator other) (denominator other) }
+        ensures { IsRemainder (numbers self) (numbers other) result }
+    {
+        self.checked_rem(&other).unwrap()
+    }
+}
+
+impl<T: Copy + Integer> Rem<Ratio<T>> for Ratio<T> {
+    type Output = Ratio<T>;
+
+    ghost can_rem = { λ x y. CanTakeRemainder T.lo T.hi (numbers x) (numbers y) };
+
+    ghost rem_gives = { λ x y. IsRemainder (numbers x) (numbers y) };
+
+    fn rem(self, other: Ratio<T>) -> Ratio<T> {
+        self.rem(other)
+    }
+}
+
+impl<T: Copy + Integer> Rem<&Ratio<T>> for Ratio<T> {
+    type Output = Ratio<T>;
+
+    ghost can_rem = { λ x y. CanTakeRemainder T.lo T.hi (numbers x) (numbers y.now) };
+
+    ghost rem_gives = { λ x y. IsRemainder (numbers x) (numbers y.now) };
+
+    fn rem(self, other: &Ratio<T>) -> Ratio<T> {
+        self.rem(*other)
+    }
+}
+
+impl<T: Copy + Integer> Rem<Ratio<T>> for &Ratio<T> {
+    type Output = Ratio<T>;
+
+    ghost can_rem = { λ x y. CanTakeRemainder T.lo T.hi (numbers x.now) (numbers y) };
+
+    ghost rem_gives = { λ x y. IsRemainder (numbers x.now) (numbers y) };
+
+    fn rem(self, other: Ratio<T>) -> Ratio<T> {
+        (*self).rem(other)
+    }
+}
+
+impl<T: Copy + Integer> Rem<&Ratio<T>> for &Ratio<T> {
+    type Output = Ratio<T>;
+
+    ghost can_rem = { λ x y. CanTakeRemainder T.lo T.hi (numbers x.now) (numbers y.now) };
+
+    ghost rem_gives = { λ x y. IsRemainder (numbers x.now) (numbers y.now) };
+
+    fn rem(self, other: &Ratio<T>) -> Ratio<T> {
+        (*self).rem(*other)
+    }
+}
+
+impl<T: Copy + Integer> Rem<T> for Ratio<T> {
+    type Output = Ratio<T>;
+
+    ghost can_rem = { λ x c. CanTakeRemainder T.lo T.hi (numbers x) (whole (T.value c)) };
+
+    ghost rem_gives = { λ x c. IsRemainder (numbers x) (whole (T.value c)) };
+
+    fn rem(self, number: T) -> Ratio<T> {
+        self.rem(Ratio::from_integer(number))
+    }
+}
+
+impl<T: Copy + Integer> Rem<&T> for Ratio<T> {
+    type Output = Ratio<T>;
+
+    ghost can_rem = { λ x c. CanTakeRemainder T.lo T.hi (numbers x) (whole (T.value c.now)) };
+
+    ghost rem_gives = { λ x c. IsRemainder (numbers x) (whole (T.value c.now)) };
+
+    fn rem(self, number: &T) -> Ratio<T> {
+        self.rem(Ratio::from_integer(*number))
+    }
+}
+
+impl<T: Copy + Integer> Rem<T> for &Ratio<T> {
+    type Output = Ratio<T>;
+
+    ghost can_rem = { λ x c. CanTakeRemainder T.lo T.hi (numbers x.now) (whole (T.value c)) };
+
+    ghost rem_gives = { λ x c. IsRemainder (numbers x.now) (whole (T.value c)) };
+
+    fn rem(self, number: T) -> Ratio<T> {
+        (*self).rem(Ratio::from_integer(number))
+    }
+}
+
+impl<T: Copy + Integer> Rem<&T> for &Ratio<T> {
+    type Output = Ratio<T>;
+
+    ghost can_rem = { λ x c. CanTakeRemainder T.lo T.hi (numbers x.now) (whole (T.value c.now)) };
+
+    ghost rem_gives = { λ x c. IsRemainder (numbers x.now) (whole (T.value c.now)) };
+
+    fn rem(self, number: &T) -> Ratio<T> {
+        (*self).rem(Ratio::from_integer(*number))
+    }
+}
+
+impl<T: Copy + Integer> RemAssign<Ratio<T>> for Ratio<T> {
+    ghost can_rem_assign = { λ x y. CanTakeRemainder T.lo T.hi (numbers x) (numbers y) };
+
+    ghost rem_assign_gives = { λ x y. IsRemainder (numbers x) (numbers y) };
+
+    fn rem_assign(&mut self, other: Ratio<T>) {
+        *self = self.rem(other);
+    }
+}
+
+impl<T: Copy + Integer> RemAssign<&Ratio<T>> for Ratio<T> {
+    ghost can_rem_assign = { λ x y. CanTakeRemainder T.lo T.hi (numbers x) (numbers y.now) };
+
+    ghost rem_assign_gives = { λ x y. IsRemainder (numbers x) (numbers y.now) };
+
+    fn rem_assign(&mut self, other: &Ratio<T>) {
+        *self = self.rem(*other);
+    }
+}
+
+impl<T: Copy + Integer> RemAssign<T> for Ratio<T> {
+    ghost can_rem_assign = { λ x c. CanTakeRemainder T.lo T.hi (numbers x) (whole (T.value c)) };
+
+    ghost rem_assign_gives = { λ x c. IsRemainder (numbers x) (whole (T.value c)) };
+
+    fn rem_assign(&mut self, number: T) {
+        *self = self.rem(Ratio::from_integer(number));
+    }
+}
+
+impl<T: Copy + Integer> RemAssign<&T> for Ratio<T> {
+    ghost can_rem_assign = { λ x c. CanTakeRemainder T.lo T.hi (numbers x) (whole (T.value c.now)) };
+
+    ghost rem_assign_gives = { λ x c. IsRemainder (numbers x) (whole (T.value c.now)) };
+
+    fn rem_assign(&mut self, number: &T) {
+        *self = self.rem(Ratio::from_integer(*number));
+    }
+}

@@ -1,0 +1,110 @@
+//! Products and quotients in lowest terms, answered exactly where the type holds these.
+//!
+//! Where both products of the fields are held, one greatest common divisor finishes them. Where one
+//! is not, the operands are brought to lowest terms and cancelled across, and a sign is moved before
+//! anything is multiplied: then the products are the lowest terms, and only these must be held.
+ghost use Rattle.std.specs.Prelude.{◌<ℤ◌, ◌*ℤ◌, pos};
+ghost use Rattle.ratio_integer.specs.Arithmetic.{product_of, quotient_of};
+ghost use Rattle.ratio_integer.specs.Fraction.{ChecksLowest, IsLowestTerms};
+ghost use Rattle.ratio_core.specs.Conditions.{IsHeldLowestOf, ProductCondition, QuotientCondition};
+
+use crate::checked::checked_new;
+use ratio_integer::{Integer, lowest_terms};
+
+/// The lowest terms of `a/b * c/d`, or `None` where the type does not hold them. The fractions need
+/// not be reduced.
+pub fn checked_mul<T: Integer>(a: T, b: T, c: T, d: T) -> Option<(T, T)>
+    requires left_positive { pos 0 <ℤ T.value b }
+    requires right_positive { pos 0 <ℤ T.value d }
+    ensures { ChecksLowest (λ r. T.value r.0) (λ r. T.value r.1) T.lo T.hi
+        (product_of (T.value a) (T.value b) (T.value c) (T.value d)) result }
+{
+    if let Some(numer) = a.try_times(c)
+        && let Some(denom) = b.try_times(d)
+    {
+        return Some(lowest_terms(numer, denom));
+    }
+    cancelled_product(a, b, c, d)
+}
+
+/// The lowest terms of `a/b` divided by `c/d`, or `None` where `c` is 0 or the type does not hold
+/// them. The fractions need not be reduced.
+pub fn checked_div<T: Integer>(a: T, b: T, c: T, d: T) -> Option<(T, T)>
+    requires left_positive { pos 0 <ℤ T.value b }
+    requires right_positive { pos 0 <ℤ T.value d }
+    ensures { ChecksLowest (λ r. T.value r.0) (λ r. T.value r.1) T.lo T.hi
+        (quotient_of (T.value a) (T.value b) (T.value c) (T.value d)) result }
+{
+    if let Some(numer) = a.try_times(d)
+        && let Some(denom) = b.try_times(c)
+    {
+        return checked_new(numer, denom);
+    }
+    cancelled_quotient(a, b, c, d)
+}
+
+/// The lowest terms of `a/b * c/d`. The test is `checked_mul`.
+pub fn mul<T: Integer>(a: T, b: T, c: T, d: T) -> (T, T)
+    requires left_positive { pos 0 <ℤ T.value b }
+    requires right_positive { pos 0 <ℤ T.value d }
+    requires answered { ProductCondition T.lo T.hi (T.value a) (T.value b) (T.value c) (T.value d) }
+    ensures { IsHeldLowestOf T.lo T.hi (product_of (T.value a) (T.value b) (T.value c) (T.value d))
+        (T.value result.0) (T.value result.1) }
+{
+    match checked_mul(a, b, c, d) {
+        Some(product) => product,
+        None => unreachable!(),
+    }
+}
+
+/// The lowest terms of `a/b` divided by `c/d`. The test is `checked_div`.
+pub fn div<T: Integer>(a: T, b: T, c: T, d: T) -> (T, T)
+    requires left_positive { pos 0 <ℤ T.value b }
+    requires right_positive { pos 0 <ℤ T.value d }
+    requires answered { QuotientCondition T.lo T.hi (T.value a) (T.value b) (T.value c) (T.value d) }
+    ensures { IsHeldLowestOf T.lo T.hi (quotient_of (T.value a) (T.value b) (T.value c) (T.value d))
+        (T.value result.0) (T.value result.1) }
+{
+    match checked_div(a, b, c, d) {
+        Some(quotient) => quotient,
+        None => unreachable!(),
+    }
+}
+
+// The same product, cancelled before it is multiplied.
+fn cancelled_product<T: Integer>(a: T, b: T, c: T, d: T) -> Option<(T, T)>
+    requires left_positive { pos 0 <ℤ T.value b }
+    requires right_positive { pos 0 <ℤ T.value d }
+    ensures { ChecksLowest (λ r. T.value r.0) (λ r. T.value r.1) T.lo T.hi
+        (product_of (T.value a) (T.value b) (T.value c) (T.value d)) result }
+{
+    let (a, b) = lowest_terms(a, b);
+    let (c, d) = lowest_terms(c, d);
+    let (p, t) = lowest_terms(a, d);
+    let (s, q) = lowest_terms(c, b);
+    multiplied(p, q, s, t)
+}
+
+// The same quotient: the numerators over one another, which moves the divisor's sign, times the
+// denominators over one another.
+fn cancelled_quotient<T: Integer>(a: T, b: T, c: T, d: T) -> Option<(T, T)>
+    requires left_positive { pos 0 <ℤ T.value b }
+    requires right_positive { pos 0 <ℤ T.value d }
+    ensures { ChecksLowest (λ r. T.value r.0) (λ r. T.value r.1) T.lo T.hi
+        (quotient_of (T.value a) (T.value b) (T.value c) (T.value d)) result }
+{
+    let (a, b) = lowest_terms(a, b);
+    let (c, d) = lowest_terms(c, d);
+    let (s, t) = lowest_terms(d, b);
+    let (p, q) = checked_new(a, c)?;
+    multiplied(p, q, s, t)
+}
+
+// `p/q * s/t` where its products are in lowest terms as they stand.
+fn multiplied<T: Integer>(p: T, q: T, s: T, t: T) -> Option<(T, T)>
+    requires { IsLowestTerms (T.value p *ℤ T.value s) (T.value q *ℤ T.value t) }
+    ensures { ChecksLowest (λ r. T.value r.0) (λ r. T.value r.1) T.lo T.hi
+        (product_of (T.value p) (T.value q) (T.value s) (T.value t)) result }
+{
+    Some((p.try_times(s)?, q.try_times(t)?))
+}

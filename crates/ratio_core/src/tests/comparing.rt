@@ -1,0 +1,103 @@
+//! Worked rows of the order and of the codes, with their expected values from outside.
+ghost use Rattle.std.specs.Prelude.{◌≢◌, pos};
+
+use crate::{Steps, cmp_counted, hash_counted};
+use super::recorder::Recorder;
+use std::cmp::Ordering;
+use std::test::Fail;
+
+#[test]
+fn order_over_i8(rt: HostRuntime) {
+    let rows = [
+        (125i8, 127i8, 124i8, 125i8, Ordering::Less),
+        (1, -2, 1, 2, Ordering::Less),
+        (-128, -1, 127, 1, Ordering::Greater),
+        (127, 1, -128, -1, Ordering::Less),
+        (-128, -1, -128, -1, Ordering::Equal),
+        (-1, -128, 1, 127, Ordering::Less),
+        (127, -128, -127, 127, Ordering::Greater),
+        (2, 4, -1, -2, Ordering::Equal),
+        (0, 2, 0, -5, Ordering::Equal),
+        (-128, -128, 1, 1, Ordering::Equal),
+        (1, -128, -1, 127, Ordering::Greater),
+        (-128, 127, 127, -128, Ordering::Less),
+        // Each answer of a round: a quotient, and either side whole.
+        (127, 2, 125, 2, Ordering::Greater),
+        (126, 2, 127, 2, Ordering::Less),
+        (127, 2, 126, 2, Ordering::Greater),
+        (126, 3, 84, 2, Ordering::Equal),
+    ];
+    for (n, d, m, e, expected) in rows {
+        assert!(rt; d != 0 && e != 0);
+        assert_eq!(rt;
+            cmp_counted(n, d, m, e, &mut Steps::new()),
+            expected,
+            "{n}/{d} and {m}/{e}"
+        );
+    }
+}
+
+#[test]
+fn order_over_i64(rt: HostRuntime) {
+    let rows = [
+        (i64::MIN, -1i64, i64::MAX, 1i64, Ordering::Greater),
+        (i64::MIN, i64::MIN, 1, 1, Ordering::Equal),
+        (1, i64::MIN, -1, i64::MAX, Ordering::Greater),
+        (i64::MIN, i64::MAX, i64::MAX, i64::MIN, Ordering::Less),
+        (
+            i64::MAX,
+            i64::MAX - 1,
+            i64::MAX - 1,
+            i64::MAX - 2,
+            Ordering::Less,
+        ),
+        (1, 2, 1, 3, Ordering::Greater),
+    ];
+    for (n, d, m, e, expected) in rows {
+        assert!(rt; d != 0 && e != 0);
+        assert_eq!(rt;
+            cmp_counted(n, d, m, e, &mut Steps::new()),
+            expected,
+            "{n}/{d} and {m}/{e}"
+        );
+    }
+}
+
+#[test]
+fn codes_over_i8(rt: HostRuntime) -> Result<(), Fail> {
+    let rows: [(i8, i8, &[i8]); 8] = [
+        (-128, -1, &[-128, -128, 0]),
+        (127, -128, &[-1, -128, -128, 0]),
+        (1, -128, &[-1, 1, 127, 0]),
+        (-1, -128, &[0, -128, -128, 0]),
+        (-7, 3, &[-3, 1, 2, 0]),
+        (7, -3, &[-3, 1, 2, 0]),
+        (0, -5, &[0, 0]),
+        (-128, -128, &[1, 0]),
+    ];
+    for (n, d, expected) in rows {
+        assert!(rt; d != 0);
+        let mut list = Recorder::<i8>::new();
+        hash_counted(n, d, &mut list, &mut Steps::new());
+        assert_eq!(rt; list.as_slice(), expected, "{n}/{d}");
+    }
+    Ok(())
+}
+
+#[test]
+fn codes_over_i64(rt: HostRuntime) -> Result<(), Fail> {
+    let rows: [(i64, i64, &[i64]); 5] = [
+        (4, 2, &[2, 0]),
+        (6, 3, &[2, 0]),
+        (-4, -2, &[2, 0]),
+        (89, 55, &[1, 1, 1, 1, 1, 1, 1, 1, 2, 0]),
+        (i64::MIN, -1, &[i64::MIN, i64::MIN, 0]),
+    ];
+    for (n, d, expected) in rows {
+        assert!(rt; d != 0);
+        let mut list = Recorder::<i64>::new();
+        hash_counted(n, d, &mut list, &mut Steps::new());
+        assert_eq!(rt; list.as_slice(), expected, "{n}/{d}");
+    }
+    Ok(())
+}

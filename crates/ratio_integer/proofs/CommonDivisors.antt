@@ -11,6 +11,7 @@ use Rattle.ratio_integer.proofs.LcmLemmas.{exact_quotient}
 
 -- ---- numbers with no common divisor above 1
 
+-- no whole number above 1 divides both a and b
 abbrev pub IsCoprime : ℕ → ℕ → Type 0
 IsCoprime a b = (k : ℕ) → k ∣ a → k ∣ b → k ≡ 1
 

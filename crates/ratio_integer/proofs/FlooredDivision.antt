@@ -1,6 +1,6 @@
 -- Floored division: there is one quotient and one remainder, and the quotient of two held numbers is held but for one pair.
-use Rattle.std.specs.Prelude.{◌≡◌, ◌≢◌, ◌⊎◌, ◌+◌, ◌*◌, ◌%◌, ◌<◌, ◌≤◌, ◌≤ℤ◌, ◌<ℤ◌, ◌+ℤ◌, ◌-ℤ◌, ◌*ℤ◌, ℕ, ℤ, zero, suc, pos, negsuc, neg_ℤ, int_div, int_rem}
-use Rattle.std.proofs.Common.{refl, sym, ap, arith, inl, inr, ◌∙◌, ⊎_elim}
+use Rattle.std.specs.Prelude.{◌≡◌, ◌≢◌, ◌+◌, ◌*◌, ◌%◌, ◌<◌, ◌≤◌, ◌+ℤ◌, ◌-ℤ◌, ◌*ℤ◌, ℕ, ℤ, zero, suc, pos, negsuc, neg_ℤ, int_div, int_rem}
+use Rattle.std.proofs.Common.{refl, sym, ap, arith, ◌∙◌, ⊎_elim}
 use Rattle.std.proofs.lemmas.Int.{ints}
 use borrow.Author.Differences.{up, down, same_in}
 use lib.IntN.{*ℤ_comm, neg_ℤ-neg_ℤ}

@@ -1,8 +1,8 @@
 -- Lowest terms: each fraction has them, they are the only ones, and what dividing by the greatest common divisor gives.
-use Rattle.std.specs.Prelude.{◌≡◌, ◌≢◌, ◌*◌, ◌<◌, ◌≤ℤ◌, ◌<ℤ◌, ◌*ℤ◌, ℕ, ℤ, zero, suc, pos, negsuc, neg_ℤ, unsigned_abs, int_div, Option, Some, None}
+use Rattle.std.specs.Prelude.{◌≡◌, ◌≢◌, ◌*◌, ◌≤ℤ◌, ◌<ℤ◌, ◌*ℤ◌, ℕ, ℤ, zero, suc, pos, negsuc, neg_ℤ, unsigned_abs, int_div, Option, Some, None}
 use Rattle.std.specs.Int.{◌∣◌}
 use Rattle.std.proofs.Common.{refl, sym, ap, arith, ◌∙◌}
-use Rattle.std.proofs.Math.Nat.{dvd_antisymm, dvd-mul_left, dvd-mul_right, dvd_of_mul-dvd-mul_left, eq-one_of_dvd-one, mul-dvd-mul_left}
+use Rattle.std.proofs.Math.Nat.{dvd_antisymm, dvd-mul_left, dvd_of_mul-dvd-mul_left, eq-one_of_dvd-one, mul-dvd-mul_left}
 use Rattle.std.proofs.lemmas.Int.{ints, unsigned_abs-mul}
 use lib.IntN.{*ℤ_comm}
 use Rattle.ratio_integer.specs.Division.{GcdHeld, IsGcdOf}

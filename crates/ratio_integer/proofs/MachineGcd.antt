@@ -1,11 +1,10 @@
 -- How the greatest common divisor of magnitudes answers for the primitive types.
-use Rattle.std.specs.Prelude.{◌≡◌, ◌-◌, ◌^◌, ◌<◌, ◌≤◌, ◌≤ℤ◌, ℕ, ℤ, pos, unsigned_abs, FitsSigned}
+use Rattle.std.specs.Prelude.{◌≡◌, ◌-◌, ◌^◌, ◌<◌, ◌≤ℤ◌, ℕ, ℤ, pos, unsigned_abs, FitsSigned}
 use Rattle.std.specs.Int.{IsGcd, Width}
 use Rattle.std.proofs.Common.{arith, ap, sym, ◌∙◌}
 use Rattle.std.proofs.lemmas.Int.{fits_signed_from_abs, ints, to_z_pos, to_z-of_z}
 use Rattle.std.proofs.lemmas.Nat.{pow_pos}
 use Rattle.ratio_integer.specs.Division.{GcdHeld, IsGcdOf}
-use Rattle.ratio_integer.specs.Range.{IsHeld}
 use mir.Val.{Fits, SFits, bits, hbits, of_z, to_z}
 
 -- where it is held, a signed type has it

@@ -1,5 +1,5 @@
 -- Numbers of 64 bits, computed in 128.
-use Rattle.std.specs.Prelude.{◌≡◌, ◌*◌, ◌-◌, ◌^◌, ◌≤◌, ◌<ℤ◌, ◌*ℤ◌, ◌+ℤ◌, ◌-ℤ◌, ℕ, ℤ, pos, negsuc, unsigned_abs}
+use Rattle.std.specs.Prelude.{◌≡◌, ◌*◌, ◌-◌, ◌^◌, ◌≤◌, ◌<ℤ◌, ◌*ℤ◌, ◌+ℤ◌, ◌-ℤ◌, ℤ, pos, negsuc, unsigned_abs}
 use Rattle.std.proofs.Common.{arith, refl, ◌∙◌}
 use Rattle.std.proofs.lemmas.Int.{ints, to_z-of_z, unsigned_abs-mul}
 use Rattle.std.proofs.lemmas.Nat.{mul-le}
@@ -9,34 +9,37 @@ use Rattle.ratio_integer.specs.Fraction.{Fits, IsHeldLowest}
 use Rattle.ratio_integer.specs.Range.{IsHeld}
 use Rattle.ratio_integer.proofs.LowestTerms.{denom_out, numer_out}
 
--- the number of 128 bits with a sign that has z's bits; it is z where z fits
-abbrev pub wide_of : ℤ → ℤ
-wide_of z = to_z w128 (of_z w128 z)
+-- ---- how wide a number is
 
-pub wide_is : (z : ℤ) → IsHeld (negsuc (2 ^ 127 - 1)) (pos (2 ^ 127 - 1)) z → wide_of z ≡ z
-wide_is z held = to_z-of_z w128 z (wide_fits z held)
-  where
-    wide_fits : (z : ℤ) → IsHeld (negsuc (2 ^ 127 - 1)) (pos (2 ^ 127 - 1)) z → SFits w128 z
-    wide_fits (pos n) held = let below = held.below in record { sfits = omega (arith, ints) }
-    wide_fits (negsuc n) held = let above = held.above in record { sfits = omega (arith, ints) }
+-- z has at most 64 bits with a sign
+abbrev pub IsNarrow : ℤ → Type 0
+IsNarrow z = IsHeld (negsuc (2 ^ 63 - 1)) (pos (2 ^ 63 - 1)) z
 
--- ---- a product of a number of 64 bits and a positive one has at most 126 bits, so two of them have a sum
-
+-- z has at most 127, so that a sum of two such numbers has at most 128
 abbrev pub HasRoom : ℤ → Type 0
 HasRoom z = IsHeld (negsuc (2 ^ 126 - 1)) (pos (2 ^ 126 - 1)) z
 
-pub product_room : (x y : ℤ) → IsHeld (negsuc (2 ^ 63 - 1)) (pos (2 ^ 63 - 1)) x → IsHeld (negsuc (2 ^ 63 - 1)) (pos (2 ^ 63 - 1)) y → pos 0 <ℤ y → HasRoom (x *ℤ y)
-product_room x y x_held y_held positive = by_size (x *ℤ y) (
-    rw (unsigned_abs-mul x y) (mul-le (unsigned_abs x) (unsigned_abs y) (2 ^ 63) (2 ^ 63 - 1) (size x x_held) (positive_size y positive y_held)))
+-- z has at most 128
+abbrev pub IsWide : ℤ → Type 0
+IsWide z = IsHeld (negsuc (2 ^ 127 - 1)) (pos (2 ^ 127 - 1)) z
+
+-- the number of 128 bits that code reads from z's bits
+abbrev pub wide_of : ℤ → ℤ
+wide_of z = to_z w128 (of_z w128 z)
+
+-- it is z
+wide_is : (z : ℤ) → IsWide z → wide_of z ≡ z
+wide_is z wide = to_z-of_z w128 z (wide_fits z wide)
   where
-    size : (z : ℤ) → IsHeld (negsuc (2 ^ 63 - 1)) (pos (2 ^ 63 - 1)) z → unsigned_abs z ≤ 2 ^ 63
-    size z held = let above = held.above in let below = held.below in omega (arith, ints)
+    wide_fits : (z : ℤ) → IsWide z → SFits w128 z
+    wide_fits (pos n) wide = let below = wide.below in record { sfits = omega (arith, ints) }
+    wide_fits (negsuc n) wide = let above = wide.above in record { sfits = omega (arith, ints) }
 
-    positive_size : (z : ℤ) → pos 0 <ℤ z → IsHeld (negsuc (2 ^ 63 - 1)) (pos (2 ^ 63 - 1)) z → unsigned_abs z ≤ 2 ^ 63 - 1
-    positive_size z up held = let below = held.below in omega (arith, ints)
-
-    by_size : (z : ℤ) → unsigned_abs z ≤ 2 ^ 63 * (2 ^ 63 - 1) → HasRoom z
-    by_size z small = record { above = omega (arith, ints); below = omega (arith, ints) }
+narrow_wide : (p x : ℤ) → p ≡ x → IsNarrow x → wide_of p ≡ x
+narrow_wide p x p-is narrow =
+    let above = narrow.above in
+    let below = narrow.below in
+    wide_is p (record { above = omega (arith, ints); below = omega (arith, ints) }) ∙ p-is
 
 pub room_wide : (p x : ℤ) → p ≡ x → HasRoom p → wide_of p ≡ x
 room_wide p x p-is room =
@@ -44,43 +47,53 @@ room_wide p x p-is room =
     let below = room.below in
     wide_is p (record { above = omega (arith, ints); below = omega (arith, ints) }) ∙ p-is
 
--- the product as the code has it, of two numbers that were made wide first
-pub product_wide_room : (p q x y : ℤ) → p ≡ x → q ≡ y → IsHeld (negsuc (2 ^ 63 - 1)) (pos (2 ^ 63 - 1)) x → IsHeld (negsuc (2 ^ 63 - 1)) (pos (2 ^ 63 - 1)) y → pos 0 <ℤ y → HasRoom (wide_of (wide_of p *ℤ wide_of q))
-product_wide_room p q x y p-is q-is x_held y_held positive =
-    let room = product_room x y x_held y_held positive in
-    rw (small_wide p x p-is x_held, small_wide q y q-is y_held, room_wide (x *ℤ y) (x *ℤ y) refl room) room
+-- ---- what `product` gives: a narrow number times a positive narrow one has room
+
+product_room : (x y : ℤ) → IsNarrow x → IsNarrow y → pos 0 <ℤ y → HasRoom (x *ℤ y)
+product_room x y x_narrow y_narrow positive = by_size (x *ℤ y) (
+    rw (unsigned_abs-mul x y) (mul-le (unsigned_abs x) (unsigned_abs y) (2 ^ 63) (2 ^ 63 - 1) (size x x_narrow) (positive_size y positive y_narrow)))
   where
-    small_wide : (p x : ℤ) → p ≡ x → IsHeld (negsuc (2 ^ 63 - 1)) (pos (2 ^ 63 - 1)) x → wide_of p ≡ x
-    small_wide p x p-is held =
-        let above = held.above in
-        let below = held.below in
-        wide_is p (record { above = omega (arith, ints); below = omega (arith, ints) }) ∙ p-is
+    size : (z : ℤ) → IsNarrow z → unsigned_abs z ≤ 2 ^ 63
+    size z narrow = let above = narrow.above in let below = narrow.below in omega (arith, ints)
+
+    positive_size : (z : ℤ) → pos 0 <ℤ z → IsNarrow z → unsigned_abs z ≤ 2 ^ 63 - 1
+    positive_size z above_zero narrow = let below = narrow.below in omega (arith, ints)
+
+    by_size : (z : ℤ) → unsigned_abs z ≤ 2 ^ 63 * (2 ^ 63 - 1) → HasRoom z
+    by_size z small = record { above = omega (arith, ints); below = omega (arith, ints) }
+
+pub product_wide_room : (p q x y : ℤ) → p ≡ x → q ≡ y → IsNarrow x → IsNarrow y → pos 0 <ℤ y → HasRoom (wide_of (wide_of p *ℤ wide_of q))
+product_wide_room p q x y p-is q-is x_narrow y_narrow positive =
+    let room = product_room x y x_narrow y_narrow positive in
+    rw (narrow_wide p x p-is x_narrow, narrow_wide q y q-is y_narrow, room_wide (x *ℤ y) (x *ℤ y) refl room) room
+
+-- ---- what the sum and the difference of two numbers with room give
 
 pub sum_wide : (p q x y : ℤ) → p ≡ x → q ≡ y → HasRoom p → HasRoom q → wide_of (wide_of p +ℤ wide_of q) ≡ x +ℤ y
 sum_wide p q x y p-is q-is p_room q_room =
-    rw (room_wide p x p-is p_room, room_wide q y q-is q_room) (wide_is (x +ℤ y) (sum_held x y (rw p-is at p_room) (rw q-is at q_room)))
+    rw (room_wide p x p-is p_room, room_wide q y q-is q_room) (wide_is (x +ℤ y) (is_wide x y (rw p-is at p_room) (rw q-is at q_room)))
   where
-    sum_held : (x y : ℤ) → HasRoom x → HasRoom y → IsHeld (negsuc (2 ^ 127 - 1)) (pos (2 ^ 127 - 1)) (x +ℤ y)
-    sum_held x y first second =
-        let a = first.above in
-        let b = first.below in
-        let c = second.above in
-        let d = second.below in
+    is_wide : (x y : ℤ) → HasRoom x → HasRoom y → IsWide (x +ℤ y)
+    is_wide x y first second =
+        let first_above = first.above in
+        let first_below = first.below in
+        let second_above = second.above in
+        let second_below = second.below in
         record { above = omega (arith, ints); below = omega (arith, ints) }
 
 pub difference_wide : (p q x y : ℤ) → p ≡ x → q ≡ y → HasRoom p → HasRoom q → wide_of (wide_of p -ℤ wide_of q) ≡ x -ℤ y
 difference_wide p q x y p-is q-is p_room q_room =
-    rw (room_wide p x p-is p_room, room_wide q y q-is q_room) (wide_is (x -ℤ y) (difference_held x y (rw p-is at p_room) (rw q-is at q_room)))
+    rw (room_wide p x p-is p_room, room_wide q y q-is q_room) (wide_is (x -ℤ y) (is_wide x y (rw p-is at p_room) (rw q-is at q_room)))
   where
-    difference_held : (x y : ℤ) → HasRoom x → HasRoom y → IsHeld (negsuc (2 ^ 127 - 1)) (pos (2 ^ 127 - 1)) (x -ℤ y)
-    difference_held x y first second =
-        let a = first.above in
-        let b = first.below in
-        let c = second.above in
-        let d = second.below in
+    is_wide : (x y : ℤ) → HasRoom x → HasRoom y → IsWide (x -ℤ y)
+    is_wide x y first second =
+        let first_above = first.above in
+        let first_below = first.below in
+        let second_above = second.above in
+        let second_below = second.below in
         record { above = omega (arith, ints); below = omega (arith, ints) }
 
--- ---- where a number of the lowest terms, found in 128 bits, is not held by a narrower type
+-- ---- where a number of the lowest terms a/b of n/d, found in 128 bits, is not held from lo to hi, n/d does not fit there
 
 module _ (lo hi n d a b : ℤ) (n_fits : SFits w128 n) (d_fits : SFits w128 d) (low : IsHeldLowest (negsuc (2 ^ 127 - 1)) (pos (2 ^ 127 - 1)) (wide_of n) (wide_of d) a b) where
   pub numer_out_narrow : ¬ (IsHeld lo hi (wide_of a)) → ¬ (Fits lo hi n d)

@@ -1,7 +1,6 @@
-use Rattle.std.specs.Prelude.{◌≡◌, ◌≢◌, ◌⊎◌, ◌≤ℤ◌, ◌<ℤ◌, pos, unsigned_abs, true, false}
+use Rattle.std.specs.Prelude.{◌≡◌, ◌≢◌, ◌⊎◌, ◌≤ℤ◌, ◌<ℤ◌, pos, true, false}
 use Rattle.std.proofs.Common.{arith, ap, inl, inr, refl, sym, ◌∙◌}
 use Rattle.ratio_integer.specs.Comparison.{no, yes}
-use Rattle.ratio_integer.specs.Division.{IsLcmOf}
 use Rattle.ratio_integer.proofs.LcmLemmas.{below_zero, divisor_nonzero, from_zero, gcd_held, lcm_by_gcd, lcm_held, lcm_of_same, lcm_of_zero, magnitude_held, zero_held}
 use Rattle.ratio_integer.proofs.integer.Integer.try_lcm.Goals as goal
 use Rattle.ratio_integer.proofs.integer.Integer.try_lcm.Goals.{then-is_zero-via-then-is_zero, then-is_zero-via-else-is_zero+then-is_zero-2}

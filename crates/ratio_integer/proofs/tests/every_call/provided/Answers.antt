@@ -1,4 +1,4 @@
-use Rattle.std.specs.Prelude.{◌≡◌, ◌≢◌, ◌<ℤ◌, ◌≤ℤ◌, ℤ, pos, negsuc, unsigned_abs}
+use Rattle.std.specs.Prelude.{◌<ℤ◌, ◌≤ℤ◌, ℤ, pos, unsigned_abs}
 use Rattle.std.proofs.Common.{arith}
 use Rattle.std.proofs.lemmas.Int.{ints}
 use Rattle.ratio_integer.specs.Division.{FlooredHeld, GcdHeld}

@@ -1,4 +1,3 @@
-use Rattle.std.specs.Prelude.{pos}
 use Rattle.std.proofs.Common.{arith}
 use Rattle.std.proofs.lemmas.Int.{ints}
 use Rattle.ratio_integer.proofs.DivisionLemmas.{gcd_bounded, gcd_of_zeros}

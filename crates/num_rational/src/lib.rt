@@ -3,6 +3,8 @@
 
 mod convert;
 mod ratio;
+#[cfg(test)]
+mod tests;
 mod text;
 
 pub use ratio::{Constants, Ratio, Rational, Rational32, Rational64};

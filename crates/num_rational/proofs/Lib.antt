@@ -1,1 +1,2 @@
+pub mod PaddingLemmas
 pub mod RatioLemmas

@@ -1,4 +1,4 @@
-pub mod Printing
+pub mod Padding
 pub mod Ratio
 pub use Rattle.ratio_core.specs.Printing
 pub use Rattle.ratio_core.specs.Reading

@@ -2,6 +2,7 @@
 #![tactic(auto)]
 
 mod convert;
+mod printing;
 mod ratio;
 #[cfg(test)]
 mod tests;

@@ -2,6 +2,7 @@ pub mod Comparison
 pub mod Folds
 pub mod Hashing
 pub mod Operators
+pub mod Padding
 pub mod Ratio
 pub use Rattle.ratio_core.specs.Conditions
 pub use Rattle.ratio_core.specs.ContinuedFraction

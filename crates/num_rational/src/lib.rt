@@ -6,6 +6,7 @@ mod fold;
 mod hash;
 mod ops;
 mod order;
+mod printing;
 mod ratio;
 #[cfg(test)]
 mod tests;

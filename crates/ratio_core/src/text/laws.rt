@@ -1,5 +1,5 @@
 //! What the words for texts mean: each function's contract is the law, and it does nothing.
-ghost use Rattle.std.specs.Prelude.{◌≡◌, ◌⊎◌, ◌+◌, ◌<◌, ◌≤◌, ℕ, ℤ, List};
+ghost use Rattle.std.specs.Prelude.{◌≡◌, ◌⊎◌, ◌+◌, ◌/◌, ◌%◌, ◌^◌, ◌<◌, ◌≤◌, ◌∷◌, ◌++◌, [], ℕ, ℤ, List, decimal};
 ghost use Rattle.std.specs.Char.{digit_value};
 ghost use Rattle.std.specs.Int.{IsInRange};
 ghost use Rattle.ratio_core.specs.Reading.{IsFractionText, IsNumberText};
@@ -12,6 +12,14 @@ pub fn digits()
     ensures lower { (k : ℕ) → k < 26 → digit_value (97 + k) ≡ k + 10 }
     ensures others { (c : ℕ) → digit_value c < 36
         → IsInRange 48 57 c ⊎ (IsInRange 65 90 c ⊎ IsInRange 97 122 c) }
+{}
+
+/// The decimal text of a natural number, as std prints it: one byte below 10, and for a greater
+/// number the text of its tenth part and its last digit. No number here has more than 39 digits.
+pub fn decimal_digits()
+    ensures one { (n : ℕ) → n < 10 → decimal n ≡ (48 + n) ∷ [] }
+    ensures more { (n : ℕ) → 10 ≤ n → n < 10 ^ 64
+        → decimal n ≡ decimal (n / 10) ++ (48 + n % 10) ∷ [] }
 {}
 
 /// A text is the number text of one number at most, and has two numbers in one way at most.

@@ -1,0 +1,41 @@
+-- What `pad_integral` writes of a decimal text where a hole has no options.
+use Rattle.std.proofs.Common.{◌≡◌, refl, sym, ◌∙◌, ap, subst, arith, ℕ, ◌-◌, ◌/◌, ◌==◌, Bool, true, false, cond, List, [], ◌∷◌, ◌++◌, length, Result}
+use Rattle.std.specs.Prelude.{◌≢◌}
+use Rattle.std.specs.Str.Parse.{starts_with_minus}
+use Rattle.std.specs.Fmt.{char_count, padded_integral, padding_before, sign_text, IsDefaultSpec, WritesInCalls, WritesOnOk, WritesStyledOnOk, formatter_spec}
+use Rattle.std.specs.declared.fmt.Formatter.{Formatter}
+use Rattle.std.specs.declared.fmt.Error.{Error}
+use Rattle.std.proofs.lemmas.Bool.{ne_eqb}
+use Rattle.std.proofs.lemmas.List.{append-nil}
+
+cond_same : {A : Type 0} (t : Bool) (x : A) → cond t x x ≡ x
+cond_same true x = refl
+cond_same false x = refl
+
+none_before : (s : _) (a : ℕ) → padding_before s 0 a ≡ 0
+none_before s a = both (cond (s.align == 0) a s.align == 1) (cond (s.align == 0) a s.align == 2)
+  where
+    both : (t u : Bool) → cond t 0 (cond u (0 / 2) 0) ≡ 0
+    both true u = refl
+    both false true = refl
+    both false false = refl
+
+plain_text : (s : _) (negative : Bool) (digits : List ℕ) → IsDefaultSpec s → padded_integral s negative [] digits ≡ sign_text negative ++ digits
+unfolding padded_integral
+plain_text s negative digits bare =
+    let none : s.width - length digits - length (sign_text negative) - char_count [] ≡ 0 = omega (arith, bare.width) in
+    rw (bare.plus, bare.alternate, none, none_before s 3) (simp (cond_same, append-nil))
+
+-- so it writes the text as it is
+pub writes_plain : {W : Type 0} (took : W → List ℕ → W → Type 0) (f g : Formatter W) (r : Result (Unit {0}) Error) (negative : Bool) (digits text : List ℕ) → sign_text negative ++ digits ≡ text
+    → WritesStyledOnOk took f r (padded_integral (formatter_spec f) negative [] digits) g → WritesOnOk took f r text g
+writes_plain took f g r negative digits text whole styled = λ plain ok.
+    let written = styled plain.flush ok in
+    record {
+      wrote = subst (λ bytes. WritesInCalls took f.writer bytes g.writer) (plain_text (formatter_spec f) negative digits plain.bare ∙ whole) written.wrote;
+      plain = record { bare = subst IsDefaultSpec (sym written.spec) plain.bare; flush = written.flush };
+    }
+
+pub no_minus : (text : List ℕ) → ((rest : List ℕ) → text ≢ 45 ∷ rest) → starts_with_minus text ≡ false
+no_minus [] other = refl
+no_minus (c ∷ cs) other = ne_eqb c 45 (λ e. other cs (ap (λ x. x ∷ cs) e))

@@ -71,7 +71,9 @@ fn texts(rt: HostRuntime) {
         Err(refusal) => assert_eq!(rt; refusal.kind(), RatioErrorKind::ZeroDenominator),
     }
     assert_eq!(rt;
-        Rational64::new(10, 12).text(Form::Decimal, false).as_str(),
+        Rational64::new_raw(5, 6)
+            .text(Form::Decimal, false)
+            .as_str(),
         "5/6"
     );
     assert_eq!(rt;

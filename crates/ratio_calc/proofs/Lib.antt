@@ -1,4 +1,5 @@
 pub mod Cuts
+pub mod Divisions
 pub mod Returns
 pub mod AnswerLaws
 pub mod LineLaws

@@ -8,11 +8,12 @@ ghost use Rattle.ratio_calc.specs.AnswerText.{bytes_of};
 ghost use Rattle.ratio_calc.specs.Operands.{number_of, numbers_of};
 
 use crate::answer_text::AnswerText;
-use crate::operator::{Operator, operator};
+use crate::operator::{Operator, operator_named};
 use num_rational::{Form, ParseRatioError, RatioErrorKind, Rational64};
 use std::cmp::Ordering;
 
 const WANT_THREE: &str = "error: want LEFT OP RIGHT";
+
 const DIVISION_BY_ZERO: &str = "error: division by zero";
 
 /// The text of a number, or that there is none.
@@ -81,7 +82,11 @@ fn answer_operands(
 fn answer_texts(operator: Operator, left: &str, right: &str) -> AnswerText
     ensures { IsTextsAnswer operator left.now right.now (bytes_of result) }
 {
-    answer_operands(operator, Rational64::from_str(left), Rational64::from_str(right))
+    answer_operands(
+        operator,
+        Rational64::from_str(left),
+        Rational64::from_str(right),
+    )
 }
 
 /// The answer to three pieces.
@@ -91,7 +96,7 @@ fn answer_three(left: &str, middle: &str, right: &str) -> AnswerText
     if left.is_empty() || middle.is_empty() || right.is_empty() {
         return AnswerText::Known(WANT_THREE);
     }
-    match operator(middle) {
+    match operator_named(middle) {
         Some(operator) => answer_texts(operator, left, right),
         None => AnswerText::Known("error: unknown operator"),
     }

@@ -14,7 +14,7 @@ pub enum Operator {
 }
 
 /// The operator that a piece of a line names.
-pub fn operator(piece: &str) -> Option<Operator>
+pub fn operator_named(piece: &str) -> Option<Operator>
     ensures { result ≡ operator_of piece.now }
 {
     if piece == "+" {

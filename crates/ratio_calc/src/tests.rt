@@ -96,10 +96,7 @@ fn answers_operators(rt: HostRuntime) -> Result<(), Fail> {
         ),
         (b"-9223372036854775808 / -1", b"error: out of range\n"),
         (b"-9223372036854775808 - 1", b"error: out of range\n"),
-        (
-            b"9223372036854775807/2 * 2/9223372036854775807",
-            b"1\n",
-        ),
+        (b"9223372036854775807/2 * 2/9223372036854775807", b"1\n"),
         (b"1 / 0", b"error: division by zero\n"),
         (b"0 / 0", b"error: division by zero\n"),
         (b"1 % 0/5", b"error: division by zero\n"),

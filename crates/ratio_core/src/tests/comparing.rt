@@ -1,8 +1,8 @@
 //! Worked rows of the order and of the codes, with their expected values from outside.
 ghost use Rattle.std.specs.Prelude.{◌≢◌, pos};
 
-use crate::{Steps, cmp_counted, hash_counted};
 use super::recorder::Recorder;
+use crate::{Steps, cmp_counted, hash_counted};
 use std::cmp::Ordering;
 use std::test::Fail;
 

@@ -2,7 +2,10 @@
 mod carried;
 mod comparing;
 mod every_call;
+mod folds;
+mod forms;
 mod keys;
+mod operators;
 mod recorder;
 mod rows;
 mod twelve_types;

@@ -6,7 +6,7 @@ ghost use Rattle.num_rational.specs.Ratio.{denominator};
 use crate::Ratio;
 use ratio_integer::Integer;
 
-// The fraction of a row, or 0 where its denominator is not positive.
+/// The fraction of a row, or 0 where its denominator is not positive.
 pub fn fraction<T: Integer>(fields: (T, T)) -> Ratio<T>
     ensures { pos 0 <ℤ denominator result }
 {

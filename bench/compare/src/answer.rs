@@ -1,0 +1,67 @@
+//! Answers, as both libraries write them, and the element types.
+
+use num_integer::Integer;
+use num_traits::{CheckedAdd, CheckedDiv, CheckedMul, CheckedSub};
+use std::fmt::{Debug, Display};
+use std::hash::Hash;
+use std::str::FromStr;
+
+/// Two numbers where the code is 1, and else why there are none: 0 for `None`, 2 and 3 for a text
+/// that is refused.
+#[repr(C)]
+#[derive(Clone, Copy, Debug, PartialEq)]
+pub struct Answer<T> {
+    pub code: u64,
+    pub numer: T,
+    pub denom: T,
+}
+
+impl<T: Number> Answer<T> {
+    pub fn some(numer: T, denom: T) -> Answer<T> {
+        Answer {
+            code: 1,
+            numer,
+            denom,
+        }
+    }
+
+    pub fn none(code: u64) -> Answer<T> {
+        Answer {
+            code,
+            numer: T::zero(),
+            denom: T::zero(),
+        }
+    }
+}
+
+/// What the bench asks of an element type.
+pub trait Number:
+    Copy
+    + Integer
+    + CheckedAdd
+    + CheckedSub
+    + CheckedMul
+    + CheckedDiv
+    + Hash
+    + Display
+    + Debug
+    + FromStr
+{
+    const BITS: u32;
+
+    fn narrow(n: i128) -> Self;
+}
+
+macro_rules! number {
+    ($($t:ty),*) => {$(
+        impl Number for $t {
+            const BITS: u32 = <$t>::BITS;
+
+            fn narrow(n: i128) -> $t {
+                n as $t
+            }
+        }
+    )*};
+}
+
+number!(i32, i64, i128);

@@ -1,0 +1,119 @@
+//! The line calculator as one would write it in plain Rust over num-rational: lines on standard input, answers
+//! on standard output, both buffered. Its rules are those of the repository's README.
+
+use num_integer::Integer;
+use num_rational::Ratio;
+use num_traits::{CheckedAdd, CheckedDiv, CheckedMul, CheckedSub, Zero};
+use std::cmp::Ordering;
+use std::convert::TryFrom;
+use std::io::{self, BufRead, BufReader, BufWriter, Write};
+
+type Fraction = Ratio<i64>;
+type Refusal = &'static str;
+
+const MOST_BYTES: usize = 120;
+
+/// A fraction of wider numbers, where both of its own fit.
+fn narrow(wide: Ratio<i128>) -> Option<Fraction> {
+    let numer = i64::try_from(*wide.numer()).ok()?;
+    Some(Ratio::new_raw(numer, i64::try_from(*wide.denom()).ok()?))
+}
+
+fn wide(x: &Fraction) -> Ratio<i128> {
+    Ratio::new_raw(i128::from(*x.numer()), i128::from(*x.denom()))
+}
+
+fn number(text: &str) -> Result<i64, Refusal> {
+    text.parse().map_err(|_| "failed to parse integer")
+}
+
+fn fraction(text: &str) -> Result<Fraction, Refusal> {
+    let (numer, denom) = match text.split_once('/') {
+        Some((front, back)) => (number(front)?, number(back)?),
+        None => (number(text)?, 1),
+    };
+    if denom == 0 {
+        return Err("zero value denominator");
+    }
+    if numer == i64::MIN || denom == i64::MIN {
+        let low = Ratio::new(i128::from(numer), i128::from(denom));
+        return narrow(low).ok_or("failed to parse integer");
+    }
+    Ok(Ratio::new(numer, denom))
+}
+
+/// What the first leaves of division by the second, where the numbers over the least common denominator fit.
+fn remainder(x: &Fraction, y: &Fraction) -> Option<Fraction> {
+    let common = (x.denom() / x.denom().gcd(y.denom())).checked_mul(*y.denom())?;
+    let left = x.numer().checked_mul(&(common / x.denom()))?;
+    let right = y.numer().checked_mul(&(common / y.denom()))?;
+    Some(Ratio::new(left.checked_rem(right).unwrap_or(0), common))
+}
+
+/// The crate refuses some results that fit: these are formed in wider numbers.
+fn result(operator: &str, x: &Fraction, y: &Fraction) -> Option<Fraction> {
+    match operator {
+        "+" => x.checked_add(y).or_else(|| narrow(wide(x) + wide(y))),
+        "-" => x.checked_sub(y).or_else(|| narrow(wide(x) - wide(y))),
+        "*" => x.checked_mul(y).or_else(|| narrow(wide(x) * wide(y))),
+        "/" => x.checked_div(y).or_else(|| narrow(wide(x) / wide(y))),
+        _ => remainder(x, y),
+    }
+}
+
+fn answer_three(left: &str, operator: &str, right: &str, out: &mut impl Write) -> io::Result<()> {
+    if left.is_empty() || operator.is_empty() || right.is_empty() {
+        return out.write_all(b"error: want LEFT OP RIGHT\n");
+    }
+    if !["+", "-", "*", "/", "%", "cmp"].contains(&operator) {
+        return out.write_all(b"error: unknown operator\n");
+    }
+    let x = match fraction(left) {
+        Ok(x) => x,
+        Err(refusal) => return writeln!(out, "error: left: {}", refusal),
+    };
+    let y = match fraction(right) {
+        Ok(y) => y,
+        Err(refusal) => return writeln!(out, "error: right: {}", refusal),
+    };
+    if operator == "cmp" {
+        return out.write_all(match x.cmp(&y) {
+            Ordering::Less => b"<\n",
+            Ordering::Equal => b"=\n",
+            Ordering::Greater => b">\n",
+        });
+    }
+    if (operator == "/" || operator == "%") && y.is_zero() {
+        return out.write_all(b"error: division by zero\n");
+    }
+    match result(operator, &x, &y) {
+        Some(z) => writeln!(out, "{}", z),
+        None => out.write_all(b"error: out of range\n"),
+    }
+}
+
+fn answer(line: &[u8], out: &mut impl Write) -> io::Result<()> {
+    if line.len() > MOST_BYTES {
+        return out.write_all(b"error: line too long\n");
+    }
+    let text = match std::str::from_utf8(line) {
+        Ok(text) => text.strip_suffix('\r').unwrap_or(text),
+        Err(_) => return out.write_all(b"error: not UTF-8\n"),
+    };
+    let mut pieces = text.split(' ');
+    match (pieces.next(), pieces.next(), pieces.next(), pieces.next()) {
+        (Some(left), Some(operator), Some(right), None) => answer_three(left, operator, right, out),
+        _ => out.write_all(b"error: want LEFT OP RIGHT\n"),
+    }
+}
+
+fn main() -> io::Result<()> {
+    let mut input = BufReader::new(io::stdin());
+    let mut out = BufWriter::new(io::stdout());
+    let mut line = Vec::new();
+    while input.read_until(b'\n', &mut line)? > 0 {
+        answer(line.strip_suffix(b"\n").unwrap_or(&line), &mut out)?;
+        line.clear();
+    }
+    out.flush()
+}

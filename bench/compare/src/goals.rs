@@ -1,0 +1,20 @@
+//! What is aimed at: the most that a call may take, as a part of the crate's time.
+
+/// Nothing takes more than this, unless every answer is `None`.
+pub const MOST: f64 = 1.2;
+
+pub fn goal(call: &str, kind: &str) -> f64 {
+    let simple = kind == "small" || kind == "half";
+    match call {
+        "compare" if simple => 0.2,
+        "compare" if kind == "equal denominators" => MOST,
+        "compare" => 0.8,
+        "gcd" | "reduced" => 0.7,
+        "checked_add" | "checked_sub" if simple => 0.5,
+        "checked_mul" | "checked_div" if simple => 0.3,
+        "hash" => 0.9,
+        "from_str" => 0.6,
+        "text" => 0.4,
+        _ => MOST,
+    }
+}

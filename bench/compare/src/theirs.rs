@@ -1,0 +1,123 @@
+//! The same calls by the Rust crates, one on each pair of a slice.
+
+use crate::answer::{Answer, Number};
+use crate::mixing::Mixing;
+use num_rational::Ratio;
+use num_traits::{CheckedAdd, CheckedDiv, CheckedMul, CheckedSub};
+use std::cmp::Ordering;
+use std::hash::Hash;
+use std::io::Write;
+
+pub type Pair<T> = (Ratio<T>, Ratio<T>);
+
+fn answered<T: Number>(checked: Option<Ratio<T>>) -> Answer<T> {
+    match checked {
+        Some(x) => Answer::some(*x.numer(), *x.denom()),
+        None => Answer::none(0),
+    }
+}
+
+#[inline(never)]
+pub fn compare<T: Number>(pairs: &[Pair<T>], out: &mut [i8]) {
+    for (pair, place) in pairs.iter().zip(out) {
+        *place = match pair.0.cmp(&pair.1) {
+            Ordering::Less => -1,
+            Ordering::Equal => 0,
+            Ordering::Greater => 1,
+        };
+    }
+}
+
+#[inline(never)]
+pub fn hash<T: Number>(pairs: &[Pair<T>], out: &mut [u64]) {
+    for (pair, place) in pairs.iter().zip(out) {
+        let mut mixing = Mixing::new();
+        pair.0.hash(&mut mixing);
+        *place = mixing.digest();
+    }
+}
+
+#[inline(never)]
+pub fn checked_add<T: Number>(pairs: &[Pair<T>], out: &mut [Answer<T>]) {
+    for (pair, place) in pairs.iter().zip(out) {
+        *place = answered(pair.0.checked_add(&pair.1));
+    }
+}
+
+#[inline(never)]
+pub fn checked_sub<T: Number>(pairs: &[Pair<T>], out: &mut [Answer<T>]) {
+    for (pair, place) in pairs.iter().zip(out) {
+        *place = answered(pair.0.checked_sub(&pair.1));
+    }
+}
+
+#[inline(never)]
+pub fn checked_mul<T: Number>(pairs: &[Pair<T>], out: &mut [Answer<T>]) {
+    for (pair, place) in pairs.iter().zip(out) {
+        *place = answered(pair.0.checked_mul(&pair.1));
+    }
+}
+
+#[inline(never)]
+pub fn checked_div<T: Number>(pairs: &[Pair<T>], out: &mut [Answer<T>]) {
+    for (pair, place) in pairs.iter().zip(out) {
+        *place = answered(pair.0.checked_div(&pair.1));
+    }
+}
+
+/// The crate has no checked call for `%`: only where `%` is defined may this be called.
+#[inline(never)]
+pub fn checked_rem<T: Number>(pairs: &[Pair<T>], out: &mut [Answer<T>]) {
+    for (pair, place) in pairs.iter().zip(out) {
+        *place = answered(Some(pair.0 % pair.1));
+    }
+}
+
+#[inline(never)]
+pub fn reduced<T: Number>(pairs: &[Pair<T>], out: &mut [Answer<T>]) {
+    for (pair, place) in pairs.iter().zip(out) {
+        *place = answered(Some(pair.0.reduced()));
+    }
+}
+
+#[inline(never)]
+pub fn gcd<T: Number>(pairs: &[Pair<T>], out: &mut [Answer<T>]) {
+    for (pair, place) in pairs.iter().zip(out) {
+        let divisor = num_integer::Integer::gcd(pair.0.numer(), pair.0.denom());
+        *place = Answer::some(divisor, T::one());
+    }
+}
+
+fn read<T: Number>(text: &str) -> Answer<T> {
+    match text.parse::<Ratio<T>>() {
+        Ok(x) => Answer::some(*x.numer(), *x.denom()),
+        Err(_) => Answer::none(2),
+    }
+}
+
+/// The fractions of texts that stand one after another. They end where `ends` says.
+#[inline(never)]
+pub fn from_str<T: Number>(texts: &[u8], ends: &[usize], out: &mut [Answer<T>]) {
+    let texts = match std::str::from_utf8(texts) {
+        Ok(texts) => texts,
+        Err(_) => return,
+    };
+    let mut start = 0;
+    for (end, place) in ends.iter().zip(out) {
+        *place = match texts.get(start..*end) {
+            Some(text) => read(text),
+            None => Answer::none(4),
+        };
+        start = *end;
+    }
+}
+
+#[inline(never)]
+pub fn text<T: Number>(pairs: &[Pair<T>], out: &mut [u8]) -> usize {
+    let room = out.len();
+    let mut rest = out;
+    for pair in pairs {
+        writeln!(rest, "{}", pair.0).expect("the buffer has room");
+    }
+    room - rest.len()
+}

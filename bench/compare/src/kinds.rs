@@ -48,10 +48,11 @@ fn equal_denominators(bits: u32, random: &mut Random) -> Fields {
     [n, d, m, d]
 }
 
-/// Two fractions of full width that lie as near to one another as their denominators let them, with
-/// one sign: in every other pair two neighbours of the Fibonacci numbers' quotients.
+/// Two fractions of the type's width, or up to 7 bits less, that lie as near to one another as their
+/// denominators let them, with one sign: in every other pair two neighbours of the Fibonacci numbers'
+/// quotients.
 fn near(bits: u32, random: &mut Random) -> Fields {
-    let end = 1u128 << (bits - 1);
+    let end = 1u128 << (bits - 1 - random.below(8) as u32);
     let fibonacci = random.word() & 1 == 0;
     let (mut p, mut q, mut before_p, mut before_q) = (1u128, 1u128, 1u128, 0u128);
     loop {

@@ -77,7 +77,7 @@ head_of x y xs ys e = cc
 tail_of : (x y : ℕ) (xs ys : List ℕ) → x ∷ xs ≡ y ∷ ys → xs ≡ ys
 tail_of x y xs ys e = cc
 
-same_cut : (f g b c : List ℕ) → f ++ slash ∷ b ≡ g ++ slash ∷ c → HasNoSlash f → HasNoSlash g → (f ≡ g) × (b ≡ c)
+pub same_cut : (f g b c : List ℕ) → f ++ slash ∷ b ≡ g ++ slash ∷ c → HasNoSlash f → HasNoSlash g → (f ≡ g) × (b ≡ c)
 same_cut [] [] b c e p q = (refl, tail_of slash slash b c e)
 same_cut [] (y ∷ g) b c e p q = absurd (q 0 (omega arith) (sym (head_of slash y b (g ++ slash ∷ c) e)))
 same_cut (x ∷ f) [] b c e p q = absurd (p 0 (omega arith) (head_of x slash (f ++ slash ∷ b) c e))

@@ -8,11 +8,13 @@ pub mod HashLaws
 pub mod Hashing
 pub mod LawLemmas
 pub mod NumberLemmas
+pub mod NumbersExist
 pub mod OrderLaws
 pub mod PrintingLemmas
 pub mod ProductLemmas
 pub mod Quotients
 pub mod ReadingBack
+pub mod ReadingExists
 pub mod RefusalLemmas
 pub mod RemainderLemmas
 pub mod Rounds

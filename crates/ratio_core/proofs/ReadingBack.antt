@@ -7,11 +7,8 @@ use Rattle.std.specs.Str.Parse.{IsNumeral}
 use Rattle.std.proofs.lemmas.Bool.Decides.{Decides-int_eq}
 use Rattle.std.proofs.lemmas.Fmt.{decimal_is_IsNumeral_wide}
 use Rattle.std.proofs.lemmas.Int.{ints}
-use Rattle.ratio_integer.specs.Division.{IsGcdOf}
 use Rattle.ratio_integer.specs.Fraction.{Fits, IsLowestTermsOf}
 use Rattle.ratio_integer.specs.Range.{IsHeld, IsRange}
-use Rattle.ratio_integer.proofs.CommonDivisors.{gcd_exists}
-use Rattle.ratio_integer.proofs.LowestTerms.{gcd_held_positive, held_lowest_quotients}
 use Rattle.ratio_core.specs.declared.parse_error.RatioErrorKind.{RatioErrorKind}
 use Rattle.ratio_core.specs.declared.parse_error.RatioErrorKind.TheVariants.{ParseError, ZeroDenominator}
 use Rattle.ratio_core.specs.declared.text.form.Form.TheVariants.{Decimal}
@@ -19,6 +16,7 @@ use Rattle.ratio_core.specs.Printing.{ReadsBack, text_of}
 use Rattle.ratio_core.specs.Reading.{digits_sum, IsFractionText, IsNumberText, ReadsAs, Refuses, slash}
 use Rattle.ratio_core.proofs.CutLemmas.{only_fraction}
 use Rattle.ratio_core.proofs.NumberLemmas.{digits_value_sum}
+use Rattle.ratio_core.proofs.NumbersExist.{positive_fits}
 
 -- the digits that std writes of n are a numeral of n
 numeral_back : (n : ℕ) → n < 2 ^ 128 → IsNumeral 10 (decimal n) × (digits_sum 10 (decimal n) ≡ n)
@@ -45,13 +43,6 @@ reads_fields lo hi n d false e n_held d_held n_small d_small = inl (record {
   cut = refl;
   sides = record { numer = reads_number lo hi n n_held n_small; denom = reads_number lo hi d d_held d_small };
 })
-
--- held numbers over a positive denominator fit
-positive_fits : (lo hi n d : ℤ) → IsRange lo hi → IsHeld lo hi n → IsHeld lo hi d → pos 0 <ℤ d → Fits lo hi n d
-positive_fits lo hi n d range n_held d_held positive =
-    let found : (g : ℤ) × IsGcdOf n d g = gcd_exists n d in
-    let divisor_held = (gcd_held_positive lo hi n d range d_held positive).each found.0 found.1 in
-    record { numer = _; denom = _; low = held_lowest_quotients lo hi n d found.0 _ _ range n_held d_held divisor_held positive found.1 refl refl }
 
 none_refused : (lo hi n d : ℤ) (text : List ℕ) → IsFractionText lo hi text n d → Fits lo hi n d → pos 0 <ℤ d → (kind : RatioErrorKind) → ¬ (Refuses lo hi (IsFractionText lo hi text) kind)
 none_refused lo hi n d text reads fits positive ParseError none = (none.each n d reads).1 fits

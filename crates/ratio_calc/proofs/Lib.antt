@@ -2,6 +2,7 @@ pub mod Cuts
 pub mod Divisions
 pub mod Returns
 pub mod AnswerLaws
+pub mod AnswersExist
 pub mod LineLaws
 pub mod LinesSoFar
 pub mod DeviceCalls

@@ -1,14 +1,15 @@
 -- What several calls of a device do together.
-use Rattle.std.proofs.Common.{◌≡◌, ◌≢◌, ℕ, ◌+◌, ◌-◌, ◌≤◌, List, [], ◌∷◌, ◌++◌, length, take, drop, Bool, true, false, Option, None, Some, Result, Ok, Err, refl, ap, ◌∙◌, sym, arith, append_assoc, not, cond, ◌==◌, ◌&&◌}
+use Rattle.std.proofs.Common.{◌≡◌, ◌≢◌, ℕ, ◌+◌, ◌-◌, ◌≤◌, List, [], ◌∷◌, ◌++◌, length, take, drop, Bool, true, false, Option, None, Some, Result, Ok, Err, refl, ap, ◌∙◌, sym, arith, append_assoc, length-take, not, cond, ◌==◌, ◌&&◌}
 use Rattle.std.specs.Io.KnownBytes.{Consumes, Appends, Keeps}
 use Rattle.std.proofs.Math.Seq.{take-add}
 use Rattle.std.proofs.lemmas.List.{append-nil, take-take, take-append-drop}
 use Rattle.ratio_calc.specs.declared.calls.Calls.{Calls}
 use Rattle.std.proofs.lemmas.Bool.Decides.{nat_tests}
-use Rattle.std.specs.Prelude.{IsErrAnd}
+use Rattle.std.specs.Bool.{MatchBool}
+use Rattle.std.specs.Prelude.{IsErrAnd, OnOk}
 use Rattle.ratio_calc.specs.declared.calculator.CalcFault.{CalcFault}
 use Rattle.ratio_calc.specs.declared.calculator.CalcFault.TheVariants.{Write}
-use Rattle.ratio_calc.specs.Devices.{Device, Failed, Gave, Took, TookSome, Writes, after_failing, after_moving, after_write}
+use Rattle.ratio_calc.specs.Devices.{Device, Ended, Failed, Gathers, Gave, GivesPiece, Took, TookSome, Writes, after_failing, after_moving, after_write}
 
 appends_nothing : (held : Option (List ℕ)) → Appends held held []
 appends_nothing None = tt
@@ -144,10 +145,53 @@ pub err_is : {T E : Type 0} (r : Result T E) (e : E) → IsErrAnd r (λ x. x ≡
 err_is (Ok x) e h = absurd h
 err_is (Err y) e h = ap Err h
 
+pub joined : (waited xs ys written between : List ℕ) → waited ++ xs ≡ written ++ between → waited ++ (xs ++ ys) ≡ written ++ (between ++ ys)
+joined waited xs ys written between same = sym (append_assoc waited xs ys) ∙ ap (λ zs. zs ++ ys) same ∙ append_assoc written between ys
+
 pub writes_stopped : {T : Type 0} (a b : Device) (bytes : List ℕ) (r : Result T CalcFault) → r ≡ Err Write → TookSome a b bytes → Writes a b bytes r
 writes_stopped a b bytes r e some = rw e (refl, some)
 
--- a write after another
-pub writes_after : {T : Type 0} (a b c : Device) (xs ys : List ℕ) (r : Result T CalcFault) → Took a b xs → Writes b c ys r → Writes a c (xs ++ ys) r
-writes_after a b c xs ys (Ok x) before h = took_both a b c xs ys before h
-writes_after a b c xs ys (Err e) before h = (h.0, took_some_after a b c xs ys before h.1)
+pub gathers_stopped : {T : Type 0} (a b : Device) (waited waiting bytes : List ℕ) (r : Result T CalcFault) → r ≡ Err Write → TookSome a b (waited ++ bytes)
+    → Gathers a b waited waiting bytes r
+gathers_stopped a b waited waiting bytes r e some = rw e (refl, some)
+
+-- these bytes were added, and then others were added or a call failed
+pub gathers_after : {T : Type 0} (a b c : Device) (waited between waiting xs ys written : List ℕ) (r : Result T CalcFault) → Took a b written → waited ++ xs ≡ written ++ between
+    → Gathers b c between waiting ys r → Gathers a c waited waiting (xs ++ ys) r
+gathers_after a b c waited between waiting xs ys written (Ok x) took same h =
+    (written ++ h.0, took_both a b c written h.0 took h.1, joined waited xs ys written between same ∙ ap (λ zs. written ++ zs) h.2 ∙ sym (append_assoc written h.0 waiting))
+gathers_after a b c waited between waiting xs ys written (Err e) took same h =
+    (h.0, rw (joined waited xs ys written between same) (took_some_after a b c written (between ++ ys) took h.1))
+
+-- some of the first of these bytes
+pub gathers_part : (a b : Device) (waited xs ys : List ℕ) → TookSome a b (waited ++ xs) → TookSome a b (waited ++ (xs ++ ys))
+gathers_part a b waited xs ys some = rw (← append_assoc waited xs ys) (took_some_before a b (waited ++ xs) ys some)
+
+-- these bytes were added, and then all that waited was written or a call failed
+pub gathers_written : {T : Type 0} (a b c : Device) (waited between waiting bytes written : List ℕ) (r : Result T CalcFault) → Took a b written → waited ++ bytes ≡ written ++ between
+    → Writes b c between r → OnOk r (waiting ≡ []) → Gathers a c waited waiting bytes r
+gathers_written a b c waited between waiting bytes written (Ok x) took same h none =
+    (written ++ between, took_both a b c written between took h, same ∙ sym (append-nil (written ++ between)) ∙ ap (λ zs. (written ++ between) ++ zs) (sym none))
+gathers_written a b c waited between waiting bytes written (Err e) took same h none =
+    (h.0, rw same (took_some_after a b c written between took h.1))
+
+-- the same where nothing waited before
+pub writes_gathered : {T : Type 0} (a b c : Device) (waited between bytes written : List ℕ) (r : Result T CalcFault) → waited ≡ [] → Took a b written → waited ++ bytes ≡ written ++ between
+    → Writes b c between r → Writes a c bytes r
+writes_gathered a b c waited between bytes written (Ok x) none took same h =
+    rw (ap (λ zs. zs ++ bytes) (sym none) ∙ same) (took_both a b c written between took h)
+writes_gathered a b c waited between bytes written (Err e) none took same h =
+    (h.0, rw (ap (λ zs. zs ++ bytes) (sym none) ∙ same) (took_some_after a b c written between took h.1))
+
+-- nothing waited, and nothing waits: the writer took all
+pub gathered_all : (a b : Device) (waited waiting bytes written : List ℕ) → waited ≡ [] → waiting ≡ [] → Took a b written → waited ++ bytes ≡ written ++ waiting → Took a b bytes
+gathered_all a b waited waiting bytes written none none_waits took same =
+    let all : bytes ≡ written = ap (λ zs. zs ++ bytes) (sym none) ∙ same ∙ ap (λ zs. written ++ zs) none_waits ∙ append-nil written in rw all took
+
+gave_some : (A B : Type 0) (n : ℕ) → n ≢ 0 → MatchBool (n == 0) A B → B
+gave_some A B n some h =
+    elim (n == 0) as (λ t. (n == 0) ≡ t → MatchBool t A B → B) [ true ↦ λ t k. absurd (some (grind (arith, nat_tests))) | false ↦ λ t k. k ] refl h
+
+-- what a reader gave into a buffer, where it gave some
+pub gave_piece : (a b : Device) (buffer : List ℕ) (n : ℕ) → GivesPiece a b buffer (Ok n) → n ≢ 0 → Gave a b (take n buffer) × (1 ≤ length (take n buffer))
+gave_piece a b buffer n h some = (gave_some (Ended a b) (Gave a b (take n buffer)) n some h.1, simp (length-take) (let within = h.0 in omega arith))

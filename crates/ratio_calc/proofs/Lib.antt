@@ -5,5 +5,7 @@ pub mod AnswerLaws
 pub mod AnswersExist
 pub mod LineLaws
 pub mod LinesSoFar
+pub mod Pieces
+pub mod PieceSoFar
 pub mod DeviceCalls
 pub mod RunSoFar

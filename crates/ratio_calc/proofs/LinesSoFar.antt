@@ -6,7 +6,7 @@ use Rattle.std.proofs.lemmas.Bool.Decides.{nat_tests}
 use Rattle.std.proofs.lemmas.List.{append-nil}
 use Rattle.std.proofs.lemmas.List.Splits.{length-slice_split}
 use Rattle.ratio_calc.specs.Answers.{AreAnswers, AreAnswersOf, AreWholeAnswers, IsAnswer, begun_line, front_of, if_begun, is_line_end, last_of, whole_lines}
-use Rattle.ratio_calc.specs.KeptLine.{IsAnswerLine, IsByteAnswer, IsKeptAnswer, IsLastAnswer, is_empty, kept, next_line, pushed}
+use Rattle.ratio_calc.specs.KeptLine.{ArePieceAnswers, IsAnswerLine, IsByteAnswer, IsKeptAnswer, IsLastAnswer, is_empty, kept, line_after, next_line, pushed}
 
 -- the parts with one more byte, which ends the last part if `ends`
 abbrev grown : Bool → ℕ → List (List ℕ) → List (List ℕ)
@@ -103,7 +103,7 @@ kept_not_empty : (byte : ℕ) (line : List ℕ) → is_empty (kept (byte ∷ lin
 kept_not_empty byte line = elim (nat_lt 120 (length (byte ∷ line))) as (λ t. is_empty (cond t None (Some (byte ∷ line))) ≡ false) [ true ↦ refl | false ↦ grind (arith, nat_tests) ]
 
 -- the answers to some lines and then to others
-answers_both : (lines more : List (List ℕ)) (xs ys : List ℕ) → AreAnswers lines xs → AreAnswers more ys → AreAnswers (lines ++ more) (xs ++ ys)
+pub answers_both : (lines more : List (List ℕ)) (xs ys : List ℕ) → AreAnswers lines xs → AreAnswers more ys → AreAnswers (lines ++ more) (xs ++ ys)
 answers_both [] more xs ys h k = rw h k
 answers_both (line ∷ lines) more xs ys h k =
     (h.0, h.1 ++ ys, h.2, answers_both lines more h.1 ys h.3 k, ap (λ zs. zs ++ ys) h.4 ∙ append_assoc h.0 (10 ∷ h.1) ys)
@@ -146,9 +146,19 @@ kept_more read byte =
     ap (λ parts. kept (last_of parts)) (split_more is_line_end read byte)
     ∙ kept_grown (is_line_end byte) byte (slice_split is_line_end read) (some_part is_line_end read)
 
--- after a line end no line is begun, so the answers to the whole lines are all
-pub answers_ended : (read answers : List ℕ) → AreWholeAnswers (read ++ 10 ∷ []) answers → AreAnswersOf (read ++ 10 ∷ []) answers
-answers_ended read answers whole =
-    let none : begun_line (read ++ 10 ∷ []) ≡ [] =
-    ap last_of (split_more is_line_end read 10) ∙ last_ended 10 (slice_split is_line_end read) (some_part is_line_end read) in
-    rw (none, append-nil) whole
+-- what a piece adds to the answers
+pub answers_piece : (piece read answers bytes : List ℕ) → AreWholeAnswers read answers → ArePieceAnswers (kept (begun_line read)) piece bytes
+    → AreWholeAnswers (read ++ piece) (answers ++ bytes)
+answers_piece [] read answers bytes whole more = rw (more, append-nil, append-nil) whole
+answers_piece (byte ∷ piece) read answers bytes whole more =
+    let first = more.0 in let rest = more.1 in
+    let so_far : AreWholeAnswers (read ++ byte ∷ []) (answers ++ first) = answers_more read byte answers first whole more.2 in
+    let others : ArePieceAnswers (kept (begun_line (read ++ byte ∷ []))) piece rest = rw (kept_more read byte) more.3 in
+    rw (more.4, ← append_assoc read (byte ∷ []) piece, ← append_assoc answers first rest) (answers_piece piece (read ++ byte ∷ []) (answers ++ first) rest so_far others)
+
+-- what is kept of the begun line after a piece
+pub kept_piece : (piece read : List ℕ) → kept (begun_line (read ++ piece)) ≡ line_after (kept (begun_line read)) piece
+kept_piece [] read = ap (λ xs. kept (begun_line xs)) (append-nil read)
+kept_piece (byte ∷ piece) read =
+    ap (λ xs. kept (begun_line xs)) (sym (append_assoc read (byte ∷ []) piece)) ∙ kept_piece piece (read ++ byte ∷ [])
+    ∙ ap (λ line. line_after line piece) (kept_more read byte)

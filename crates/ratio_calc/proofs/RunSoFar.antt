@@ -5,70 +5,79 @@ use Rattle.std.specs.Prelude.{OnOk}
 use Rattle.ratio_calc.specs.declared.calculator.CalcFault.{CalcFault}
 use Rattle.ratio_calc.specs.declared.calculator.CalcFault.TheVariants.{Read, Write, Endless}
 use Rattle.ratio_calc.specs.declared.calls.Calls.{Calls}
-use Rattle.ratio_calc.specs.Answers.{AreAnswersOf, AreWholeAnswers, begun_line}
+use Rattle.ratio_calc.specs.Answers.{AreAnswersOf, AreWholeAnswers, begun_line, if_begun, whole_lines}
 use Rattle.ratio_calc.specs.Devices.{Device, Ended, Failed, Flushes, Gave, Took, TookSome, after_ending, after_failing, after_flushing, after_moving}
-use Rattle.ratio_calc.specs.KeptLine.{IsByteAnswer, IsLastAnswer, kept, next_line}
+use Rattle.ratio_calc.specs.KeptLine.{ArePieceAnswers, IsLastAnswer, kept, line_after}
 use Rattle.ratio_calc.specs.Run.{Ran, ReadsLines, read_failures, write_failures}
-use Rattle.ratio_calc.proofs.DeviceCalls.{appends_kept, consumes_both, consumes_kept, gave_both, gave_nothing, took_all, took_both, took_nothing, took_some_after}
-use Rattle.ratio_calc.proofs.LinesSoFar.{answers_ended, answers_last, answers_more, kept_more}
+use Rattle.ratio_calc.proofs.DeviceCalls.{appends_kept, consumes_both, consumes_kept, gathered_all, gave_both, gave_nothing, took_all, took_both, took_nothing, took_some_after, took_some_before}
+use Rattle.ratio_calc.proofs.AnswersExist.{answers_of_lines}
+use Rattle.ratio_calc.proofs.LinesSoFar.{answers_both, answers_last, answers_piece, kept_piece}
 
--- so many bytes were read, the lines among them that have their line end are answered, and the begun one is kept
-pub record Progress (reader reader' writer writer' : Device) (line : Option (List ℕ)) (count : ℕ) : Type 0 where
+-- so many bytes were read at least, the lines among them that have their line end are answered, the begun one is kept, and no byte waits
+pub record Progress (reader reader' writer writer' : Device) (line : Option (List ℕ)) (waiting : List ℕ) (count : ℕ) : Type 0 where
   pub read : List ℕ
   pub answers : List ℕ
   pub gave : Gave reader reader' read
-  pub counted : length read ≡ count
+  pub counted : count ≤ length read
   pub whole : AreWholeAnswers read answers
   pub took : Took writer writer' answers
   pub begun : line ≡ kept (begun_line read)
+  pub none_waits : waiting ≡ []
 
-pub starts : (reader writer : Device) → Progress reader reader writer writer (Some []) 0
-starts reader writer = record {
+pub starts : (reader writer : Device) (line : Option (List ℕ)) (waiting : List ℕ) → line ≡ Some [] → waiting ≡ [] → Progress reader reader writer writer line waiting 0
+starts reader writer line waiting begins none = record {
   read = [];
   answers = [];
   gave = gave_nothing reader;
-  counted = refl;
+  counted = omega arith;
   whole = refl;
   took = took_nothing writer;
-  begun = refl;
+  begun = begins;
+  none_waits = none;
 }
 
-pub goes_on : (reader a b writer c d : Device) (line next : Option (List ℕ)) (count byte : ℕ) (bytes : List ℕ) → Progress reader a writer c line count
-    → Gave a b (byte ∷ []) → IsByteAnswer line byte bytes → Took c d bytes → next ≡ next_line line byte → Progress reader b writer d next (count + 1)
-goes_on reader a b writer c d line next count byte bytes p gave is_answer took is_next = record {
-  read = p.read ++ byte ∷ [];
+pub goes_on : (reader a b writer c d : Device) (line next : Option (List ℕ)) (waited waiting : List ℕ) (count : ℕ) (piece bytes written : List ℕ)
+    → Progress reader a writer c line waited count → Gave a b piece × (1 ≤ length piece) → ArePieceAnswers line piece bytes → Took c d written → waited ++ bytes ≡ written ++ waiting
+    → next ≡ line_after line piece → waiting ≡ [] → Progress reader b writer d next waiting (count + 1)
+goes_on reader a b writer c d line next waited waiting count piece bytes written p gave are took same is_next none = record {
+  read = p.read ++ piece;
   answers = p.answers ++ bytes;
-  gave = gave_both reader a b p.read (byte ∷ []) p.gave gave;
-  counted = let so_far = p.counted in omega (arith, length-append p.read (byte ∷ []));
-  whole = answers_more p.read byte p.answers bytes p.whole (rw p.begun at is_answer);
-  took = took_both writer c d p.answers bytes p.took took;
-  begun = is_next ∙ ap (λ x. next_line x byte) p.begun ∙ sym (kept_more p.read byte);
+  gave = gave_both reader a b p.read piece p.gave gave.0;
+  counted = let so_far = p.counted in let some = gave.1 in omega (arith, length-append p.read piece);
+  whole = answers_piece piece p.read p.answers bytes p.whole (rw p.begun at are);
+  took = took_both writer c d p.answers bytes p.took (gathered_all c d waited waiting bytes written p.none_waits none took same);
+  begun = is_next ∙ ap (λ x. line_after x piece) p.begun ∙ sym (kept_piece piece p.read);
+  none_waits = none;
 }
 
-pub reads_all : (reader a b writer c : Device) (line : Option (List ℕ)) (count : ℕ) → Progress reader a writer c line count → Ended a b
+pub reads_all : (reader a b writer c : Device) (line : Option (List ℕ)) (waiting : List ℕ) (count : ℕ) → Progress reader a writer c line waiting count → Ended a b
     → ReadsLines reader b writer c (Ok line)
-reads_all reader a b writer c line count p ended = record { read = p.read; answers = p.answers; lines = ((a, p.gave, ended), p.whole, p.took, p.begun) }
+reads_all reader a b writer c line waiting count p ended = record { read = p.read; answers = p.answers; lines = ((a, p.gave, ended), p.whole, p.took, p.begun) }
 
-pub stops_at_read : (reader a b writer c : Device) (line : Option (List ℕ)) (count : ℕ) (r : Result (Option (List ℕ)) CalcFault)
-    → Progress reader a writer c line count → Failed a b → r ≡ Err Read → ReadsLines reader b writer c r
-stops_at_read reader a b writer c line count r p failed e = rw e (record { read = p.read; answers = p.answers; lines = ((a, p.gave, failed), p.whole, p.took) })
+pub stops_at_read : (reader a b writer c : Device) (line : Option (List ℕ)) (waiting : List ℕ) (count : ℕ) (r : Result (Option (List ℕ)) CalcFault)
+    → Progress reader a writer c line waiting count → Failed a b → r ≡ Err Read → ReadsLines reader b writer c r
+stops_at_read reader a b writer c line waiting count r p failed e = rw e (record { read = p.read; answers = p.answers; lines = ((a, p.gave, failed), p.whole, p.took) })
 
-pub stops_at_write : (reader a b writer c d : Device) (line : Option (List ℕ)) (count byte : ℕ) (bytes : List ℕ) (r : Result (Option (List ℕ)) CalcFault)
-    → Progress reader a writer c line count → Gave a b (byte ∷ []) → byte ≡ 10 → IsByteAnswer line byte bytes → TookSome c d bytes → r ≡ Err Write
+pub stops_at_write : (reader a b writer c d : Device) (line : Option (List ℕ)) (waited : List ℕ) (count : ℕ) (piece bytes : List ℕ) (r : Result (Option (List ℕ)) CalcFault)
+    → Progress reader a writer c line waited count → Gave a b piece → ArePieceAnswers line piece bytes → TookSome c d (waited ++ bytes) → r ≡ Err Write
     → ReadsLines reader b writer d r
-stops_at_write reader a b writer c d line count byte bytes r p gave is_end is_answer some e = rw e (record {
-  read = p.read ++ 10 ∷ [];
-  answers = p.answers ++ bytes;
-  lines = (
-    gave_both reader a b p.read (10 ∷ []) p.gave (rw is_end at gave),
-    answers_ended p.read (p.answers ++ bytes) (answers_more p.read 10 p.answers bytes p.whole (rw (p.begun, is_end) at is_answer)),
-    took_some_after writer c d p.answers bytes p.took some,
-  );
-})
+stops_at_write reader a b writer c d line waited count piece bytes r p gave are some e =
+    let more : TookSome c d bytes = rw p.none_waits at some in
+    let whole = answers_piece piece p.read p.answers bytes p.whole (rw p.begun at are) in
+    let last = answers_of_lines (if_begun (begun_line (p.read ++ piece))) in
+    rw e (record {
+      read = p.read ++ piece;
+      answers = (p.answers ++ bytes) ++ last.0;
+      lines = (
+        gave_both reader a b p.read piece p.gave gave,
+        answers_both (whole_lines (p.read ++ piece)) (if_begun (begun_line (p.read ++ piece))) (p.answers ++ bytes) last.0 whole last.1,
+        took_some_before writer d (p.answers ++ bytes) last.0 (took_some_after writer c d p.answers bytes p.took more),
+      );
+    })
 
-pub stops_endless : (reader a writer c : Device) (line : Option (List ℕ)) (count : ℕ) → Progress reader a writer c line count
+pub stops_endless : (reader a writer c : Device) (line : Option (List ℕ)) (waiting : List ℕ) (count : ℕ) → Progress reader a writer c line waiting count
     → 2 ^ 64 - 1 ≤ count → ReadsLines reader a writer c (Err Endless)
-stops_endless reader a writer c line count p many = record {
+stops_endless reader a writer c line waiting count p many = record {
   read = p.read;
   answers = p.answers;
   lines = (p.gave, p.whole, p.took, let so_far = p.counted in omega arith);

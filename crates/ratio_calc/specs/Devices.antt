@@ -1,5 +1,5 @@
 -- What calls of a reader and of a writer do.
-use Rattle.std.specs.Prelude.{◌≡◌, ℕ, ◌+◌, List, [], ◌∷◌, ◌++◌, ◌==◌, ◌&&◌, not, length, take, Option, None, Some, Result, Ok, Err, if◌then◌else◌}
+use Rattle.std.specs.Prelude.{◌≡◌, ℕ, ◌+◌, ◌≤◌, List, [], ◌++◌, ◌==◌, ◌&&◌, not, length, take, Option, None, Some, Result, Ok, Err, if◌then◌else◌, MatchBool}
 use Rattle.std.specs.Io.KnownBytes.{Appends, Consumes, IsAtEnd, Keeps}
 use Rattle.ratio_calc.specs.declared.calculator.CalcFault.{CalcFault}
 use Rattle.ratio_calc.specs.declared.calculator.CalcFault.TheVariants.{Read, Write}
@@ -73,11 +73,10 @@ pub record Flushed (old new : Device) : Type 0 where
   pub known : Keeps old.0 new.0
   pub calls : new.1 ≡ after_flushing old.1
 
--- the reader gave one byte, or had ended, or failed
-abbrev pub GivesByte : Device → Device → Result (Option ℕ) CalcFault → Type 0
-GivesByte old new (Ok (Some byte)) = Gave old new (byte ∷ [])
-GivesByte old new (Ok None) = Ended old new
-GivesByte old new (Err fault) = (fault ≡ Read) × Failed old new
+-- the reader gave the first n bytes of its buffer, or had ended where n is 0, or failed
+abbrev pub GivesPiece : Device → Device → List ℕ → Result ℕ CalcFault → Type 0
+GivesPiece old new buffer (Ok n) = (n ≤ length buffer) × MatchBool (n == 0) (Ended old new) (Gave old new (take n buffer))
+GivesPiece old new buffer (Err fault) = (fault ≡ Read) × Failed old new
 
 -- the writer took these bytes, or failed after a beginning of them
 abbrev pub Writes : {T : Type 0} → Device → Device → List ℕ → Result T CalcFault → Type 0
@@ -94,3 +93,14 @@ pub record WritesFor {T : Type 0} (Is : List ℕ → Type 0) (old new : Device) 
   pub bytes : List ℕ
   pub are : Is bytes
   pub writes : Writes old new bytes result
+
+-- these bytes were added to those that wait, of which the writer took a beginning; or it failed, and took some of all of them
+abbrev pub Gathers : {T : Type 0} → Device → Device → List ℕ → List ℕ → List ℕ → Result T CalcFault → Type 0
+Gathers old new waited waiting bytes (Ok x) = (written : List ℕ) × Took old new written × (waited ++ bytes ≡ written ++ waiting)
+Gathers old new waited waiting bytes (Err fault) = (fault ≡ Write) × TookSome old new (waited ++ bytes)
+
+-- the same for some bytes of which this holds
+pub record GathersFor {T : Type 0} (Is : List ℕ → Type 0) (old new : Device) (waited waiting : List ℕ) (result : Result T CalcFault) : Type 0 where
+  pub bytes : List ℕ
+  pub are : Is bytes
+  pub gathers : Gathers old new waited waiting bytes result

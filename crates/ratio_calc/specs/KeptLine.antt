@@ -11,6 +11,11 @@ abbrev pub pushed : Option (List ℕ) → ℕ → Option (List ℕ)
 pushed None byte = None
 pushed (Some line) byte = if nat_lt (length line) 120 then Some (line ++ byte ∷ []) else None
 
+-- what is kept with more bytes of the same line
+abbrev pub extended : Option (List ℕ) → List ℕ → Option (List ℕ)
+extended line [] = line
+extended line (byte ∷ more) = extended (pushed line byte) more
+
 abbrev pub is_empty : Option (List ℕ) → Bool
 is_empty None = false
 is_empty (Some line) = length line == 0
@@ -37,3 +42,14 @@ next_line line byte = if is_line_end byte then Some [] else pushed line byte
 -- what one more byte of the input answers
 abbrev pub IsByteAnswer : Option (List ℕ) → ℕ → List ℕ → Type 0
 IsByteAnswer line byte bytes = MatchBool (is_line_end byte) (IsAnswerLine line bytes) (bytes ≡ [])
+
+-- what is kept after more bytes of the input
+abbrev pub line_after : Option (List ℕ) → List ℕ → Option (List ℕ)
+line_after line [] = line
+line_after line (byte ∷ piece) = line_after (next_line line byte) piece
+
+-- what more bytes of the input answer: each after the one before
+abbrev pub ArePieceAnswers : Option (List ℕ) → List ℕ → List ℕ → Type 0
+ArePieceAnswers line [] bytes = bytes ≡ []
+ArePieceAnswers line (byte ∷ piece) bytes =
+    (first : List ℕ) × (rest : List ℕ) × IsByteAnswer line byte first × ArePieceAnswers (next_line line byte) piece rest × (bytes ≡ first ++ rest)

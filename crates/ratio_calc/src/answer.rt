@@ -14,6 +14,9 @@ use std::cmp::Ordering;
 
 const WANT_THREE: &str = "error: want LEFT OP RIGHT";
 
+/// The answer to a line that has more than 120 bytes without its line end.
+pub const TOO_LONG: &str = "error: line too long";
+
 const DIVISION_BY_ZERO: &str = "error: division by zero";
 
 /// The text of a number, or that there is none.
@@ -118,12 +121,13 @@ fn answer_pieces(text: &str) -> AnswerText
     }
 }
 
-/// The answer to a line that isn't too long, without a line end. One carriage return at its end is
-/// left out of account.
+/// The answer to a line without its line end. One carriage return at its end is left out of account.
 pub fn answer(line: &[u8]) -> AnswerText
-    requires { length line.now ≤ 120 }
     ensures { IsAnswer line.now (bytes_of result) }
 {
+    if line.len() > 120 {
+        return AnswerText::Known(TOO_LONG);
+    }
     let Ok(text) = str::from_utf8(line) else {
         return AnswerText::Known("error: not UTF-8");
     };

@@ -1,11 +1,13 @@
 //! The calculator, from the bytes read to the bytes written.
-ghost use Rattle.std.specs.Prelude.{◌≡◌, ◌+◌, length, OnOk, OnErr};
-ghost use Rattle.ratio_calc.specs.KeptLine.{IsAnswerLine, IsByteAnswer, IsLastAnswer, next_line};
-ghost use Rattle.ratio_calc.specs.Devices.{GivesByte, Writes, WritesFor, Flushes};
+ghost use Rattle.std.specs.Prelude.{◌≡◌, ◌+◌, [], length, OnOk};
+ghost use Rattle.ratio_calc.specs.KeptLine.{ArePieceAnswers, IsLastAnswer, line_after};
+ghost use Rattle.ratio_calc.specs.Devices.{GathersFor, GivesPiece, WritesFor, Flushes};
 ghost use Rattle.ratio_calc.specs.Run.{ReadsLines, Ran, fault_text, read_failures, write_failures};
 
 use crate::counted::{CalcRead, CalcWrite};
+use crate::gathered::Gathered;
 use crate::line::Line;
+use crate::piece::{answer_piece, put_answer};
 
 /// Why a run stopped.
 #[derive(Clone, Copy, PartialEq, Debug)]
@@ -29,58 +31,18 @@ pub fn fault_line(fault: CalcFault) -> &'static str
     }
 }
 
-/// The next byte, or `None` at the end.
-fn next_byte<R: CalcRead>(reader: &mut R) -> Result<Option<u8>, CalcFault>
-    ensures { GivesByte (R.remaining reader.old, R.calls reader.old) (R.remaining reader.new, R.calls reader.new) result }
+/// Reads a piece, and says of how many bytes: 0 at the end.
+fn read_piece<R: CalcRead>(reader: &mut R, buffer: &mut [u8; 512]) -> Result<usize, CalcFault>
+    ensures { GivesPiece (R.remaining reader.old, R.calls reader.old) (R.remaining reader.new, R.calls reader.new) buffer.new result }
 {
-    let mut byte = [0u8; 1];
-    match reader.read_counted(&mut byte) {
-        Ok(0) => Ok(None),
-        Ok(_) => Ok(Some(byte[0])),
+    match reader.read_counted(buffer) {
+        Ok(count) => Ok(count),
         Err(_) => Err(CalcFault::Read),
     }
 }
 
-/// Writes all the bytes.
-fn write_bytes<W: CalcWrite>(writer: &mut W, bytes: &[u8]) -> Result<(), CalcFault>
-    ensures { Writes (W.contents writer.old, W.calls writer.old) (W.contents writer.new, W.calls writer.new) bytes.now result }
-{
-    let mut at = 0;
-    while at < bytes.len() {
-        match writer.write_counted(&bytes[at..]) {
-            Ok(0) => return Err(CalcFault::Write),
-            Ok(n) => at += n,
-            Err(_) => return Err(CalcFault::Write),
-        }
-    }
-    Ok(())
-}
-
-/// Writes the answer to a line.
-fn answer_line<W: CalcWrite>(line: &Line, writer: &mut W) -> Result<(), CalcFault>
-    ensures { WritesFor (IsAnswerLine line.now) (W.contents writer.old, W.calls writer.old) (W.contents writer.new, W.calls writer.new) result }
-{
-    let answer = line.answer();
-    write_bytes(writer, answer.as_str().as_bytes())?;
-    write_bytes(writer, b"\n")
-}
-
-/// Takes one more byte of the input. The end of a line answers it.
-fn take_byte<W: CalcWrite>(line: &mut Line, writer: &mut W, byte: u8) -> Result<(), CalcFault>
-    ensures line { OnOk result (line.new ≡ next_line line.old byte) }
-    ensures written { WritesFor (IsByteAnswer line.old byte) (W.contents writer.old, W.calls writer.old) (W.contents writer.new, W.calls writer.new) result }
-    ensures ends { OnErr result (byte ≡ 10) }
-{
-    if byte == b'\n' {
-        answer_line(line, writer)?;
-        line.clear();
-    } else {
-        line.push(byte);
-    }
-    Ok(())
-}
-
-/// Answers each line that has its line end, and gives the line that is then begun.
+/// Answers each line that has its line end, and gives the line that is then begun. The answers to
+/// what a piece brought are written before the next piece is read.
 fn answer_whole_lines<R: CalcRead, W: CalcWrite>(
     reader: &mut R,
     writer: &mut W,
@@ -89,14 +51,32 @@ fn answer_whole_lines<R: CalcRead, W: CalcWrite>(
         (W.contents writer.old, W.calls writer.old) (W.contents writer.new, W.calls writer.new) result }
 {
     let mut line = Line::new();
+    let mut gathered = Gathered::new();
+    let mut buffer = [0u8; 512];
     for _turn in 0..u64::MAX {
-        match next_byte(reader) {
-            Ok(Some(byte)) => take_byte(&mut line, writer, byte)?,
-            Ok(None) => return Ok(line),
+        match read_piece(reader, &mut buffer) {
+            Ok(0) => return Ok(line),
+            Ok(count) => take_piece(&mut line, &mut gathered, writer, &buffer[..count])?,
             Err(fault) => return Err(fault),
         }
     }
     Err(CalcFault::Endless)
+}
+
+/// Answers each line that ends in the piece, and writes the answers.
+fn take_piece<W: CalcWrite>(
+    line: &mut Line,
+    gathered: &mut Gathered,
+    writer: &mut W,
+    piece: &[u8],
+) -> Result<(), CalcFault>
+    ensures line { OnOk result (line.new ≡ line_after line.old piece.now) }
+    ensures answered { GathersFor (ArePieceAnswers line.old piece.now) (W.contents writer.old, W.calls writer.old) (W.contents writer.new, W.calls writer.new)
+        gathered.old gathered.new result }
+    ensures none_wait { OnOk result (gathered.new ≡ []) }
+{
+    answer_piece(line, gathered, writer, piece)?;
+    gathered.write_out(writer)
 }
 
 /// Answers a last line that has no line end.
@@ -104,10 +84,11 @@ fn answer_last<W: CalcWrite>(line: &Line, writer: &mut W) -> Result<(), CalcFaul
     ensures { WritesFor (IsLastAnswer line.now) (W.contents writer.old, W.calls writer.old) (W.contents writer.new, W.calls writer.new) result }
 {
     if line.is_empty() {
-        Ok(())
-    } else {
-        answer_line(line, writer)
+        return Ok(());
     }
+    let mut last = Gathered::new();
+    put_answer(&mut last, writer, &line.answer())?;
+    last.write_out(writer)
 }
 
 /// Flushes the writer.

@@ -1,7 +1,8 @@
 //! A reader and a writer over memory, for tests: each fails where a test wants it to.
-ghost use Rattle.std.specs.Prelude.{◌≡◌, ◌<◌, [], Some};
+ghost use Rattle.std.specs.Prelude.{◌≡◌, ◌<◌, [], None, Some};
 
 use std::alloc::Global;
+use std::cell::Cell;
 use std::io;
 use std::io::{ErrorKind, Read, Write};
 
@@ -89,5 +90,81 @@ impl Write for Sink {
         } else {
             Ok(())
         }
+    }
+}
+
+/// What is seen of a run as it goes on: how often it read and wrote, how many line ends it has read
+/// and written, and whether a read came while a whole line had no answer.
+#[derive(Drop)]
+pub struct Watch {
+    pub reads: Cell<usize>,
+    pub writes: Cell<usize>,
+    pub ends_read: Cell<usize>,
+    pub ends_written: Cell<usize>,
+    pub is_late: Cell<bool>,
+}
+
+impl Watch {
+    /// Nothing was seen.
+    pub fn new() -> Watch {
+        Watch {
+            reads: Cell::new(0),
+            writes: Cell::new(0),
+            ends_read: Cell::new(0),
+            ends_written: Cell::new(0),
+            is_late: Cell::new(false),
+        }
+    }
+}
+
+/// How many line ends the bytes have.
+fn line_ends(bytes: &[u8]) -> usize {
+    bytes.iter().filter(|byte| **byte == b'\n').count()
+}
+
+/// Gives its bytes, at most `step` a call, and tells the watch.
+#[derive(Drop)]
+pub struct WatchedFeed<'a> {
+    pub bytes: &'a [u8],
+    pub step: usize,
+    pub watch: &'a Watch,
+}
+
+impl Read for WatchedFeed<'_> {
+    ghost remaining = { λ _. None };
+
+    fn read(&mut self, buf: &mut [u8]) -> io::Result<usize> {
+        let watch = self.watch;
+        watch.reads.set(watch.reads.get().wrapping_add(1));
+        if watch.ends_read.get() != watch.ends_written.get() {
+            watch.is_late.set(true);
+        }
+        let count = buf.len().min(self.bytes.len()).min(self.step);
+        let (given, rest) = self.bytes.split_at(count);
+        buf[..count].copy_from_slice(given);
+        self.bytes = rest;
+        watch.ends_read.set(watch.ends_read.get().wrapping_add(line_ends(given)));
+        Ok(count)
+    }
+}
+
+/// Takes all there is, and tells the watch.
+#[derive(Drop)]
+pub struct WatchedSink<'a> {
+    pub watch: &'a Watch,
+}
+
+impl Write for WatchedSink<'_> {
+    ghost contents = { λ _. None };
+
+    fn write(&mut self, buf: &[u8]) -> io::Result<usize> {
+        let watch = self.watch;
+        watch.writes.set(watch.writes.get().wrapping_add(1));
+        watch.ends_written.set(watch.ends_written.get().wrapping_add(line_ends(buf)));
+        Ok(buf.len())
+    }
+
+    fn flush(&mut self) -> io::Result<()> {
+        Ok(())
     }
 }

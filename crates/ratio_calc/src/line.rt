@@ -1,29 +1,26 @@
 //! The line that is being read.
-ghost use Rattle.std.specs.Prelude.{◌≡◌, ◌↔◌, ℕ, ◌≤◌, List, [], take, Option, Some, None, if◌then◌else◌};
+ghost use Rattle.std.specs.Prelude.{◌≡◌, ℕ, ◌≤◌, List, [], length, Option, Some, None, if◌then◌else◌};
 ghost use Rattle.ratio_calc.specs.AnswerText.{bytes_of};
-ghost use Rattle.ratio_calc.specs.KeptLine.{IsKeptAnswer, is_empty, pushed};
+ghost use Rattle.ratio_calc.specs.KeptLine.{IsKeptAnswer, extended, is_empty};
 
-use crate::answer::answer;
+use crate::answer::{TOO_LONG, answer};
 use crate::answer_text::AnswerText;
+use arrayvec::ArrayVec;
 use std::marker::Model;
-
-/// The most bytes that a line may have, without its line end.
-const MAX_LEN: usize = 120;
 
 /// The bytes of a line so far, or that they are more than a line may have.
 #[derive(Drop)]
 pub struct Line {
-    bytes: [u8; 120],
-    len: usize,
+    bytes: ArrayVec<u8, 120>,
     is_too_long: bool,
 }
 
 impl Model for Line {
     ghost Value = { Option (List ℕ) };
 
-    ghost view = { λ l. if l.is_too_long then None else Some (take l.len l.bytes) };
+    ghost view = { λ l. if l.is_too_long then None else Some l.bytes.items };
 
-    ghost invariant = { λ l. l.len ≤ 120 };
+    ghost invariant = { λ l. length l.bytes.items ≤ 120 };
 }
 
 impl Line {
@@ -32,21 +29,18 @@ impl Line {
         ensures { result ≡ Some [] }
     {
         Line {
-            bytes: [0; 120],
-            len: 0,
+            bytes: ArrayVec::new(),
             is_too_long: false,
         }
     }
 
-    /// Puts a byte at the end. A line that has become too long stays so.
-    pub fn push(&mut self, byte: u8)
-        ensures { self.new ≡ pushed self.old byte }
+    /// Puts more bytes at the end. A line that has become too long stays so.
+    pub fn extend(&mut self, more: &[u8])
+        ensures { self.new ≡ extended self.old more.now }
     {
-        if self.len < MAX_LEN {
-            self.bytes[self.len] = byte;
-            self.len += 1;
-        } else {
-            self.is_too_long = true;
+        match self.bytes.try_extend_from_slice(more) {
+            Ok(()) => {}
+            Err(_) => self.is_too_long = true,
         }
     }
 
@@ -54,7 +48,7 @@ impl Line {
     pub fn clear(&mut self)
         ensures { self.new ≡ Some [] }
     {
-        self.len = 0;
+        self.bytes.clear();
         self.is_too_long = false;
     }
 
@@ -62,7 +56,7 @@ impl Line {
     pub fn is_empty(&self) -> bool
         ensures { result ≡ is_empty self.now }
     {
-        self.len == 0 && !self.is_too_long
+        self.bytes.is_empty() && !self.is_too_long
     }
 
     /// The answer to this line, without a line end.
@@ -70,9 +64,9 @@ impl Line {
         ensures { IsKeptAnswer self.now (bytes_of result) }
     {
         if self.is_too_long {
-            AnswerText::Known("error: line too long")
+            AnswerText::Known(TOO_LONG)
         } else {
-            answer(&self.bytes[..self.len])
+            answer(self.bytes.as_slice())
         }
     }
 }

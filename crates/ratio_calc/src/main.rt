@@ -8,8 +8,10 @@ pub mod calls;
 pub mod counted;
 #[cfg(test)]
 mod devices;
+pub mod gathered;
 pub mod line;
 pub mod operator;
+pub mod piece;
 #[cfg(test)]
 mod tests;
 

@@ -1,21 +1,23 @@
 //! The worked rows, and runs on devices that fail.
-ghost use Rattle.std.specs.Prelude.{IfOk};
+ghost use Rattle.std.specs.Prelude.{◌<◌, IfOk};
 ghost use Rattle.ratio_calc.specs.Answers.{AreAnswersOf};
 
 use crate::calculator::{CalcFault, fault_line, run};
 use crate::counted::Counted;
-use crate::devices::{Feed, Refusal, Sink};
+use crate::devices::{Feed, Refusal, Sink, Watch, WatchedFeed, WatchedSink};
 use std::alloc::Global;
 use std::process::Abort;
 use std::test::Fail;
 
-/// What is written for an input: the theorem on `run`, at devices in memory.
-fn answered(alloc: Global, input: &[u8]) -> Result<Vec<u8>, CalcFault>
+/// What is written for an input that comes in parts of so many bytes: the theorem on `run`, at devices
+/// in memory.
+fn answered(alloc: Global, input: &[u8], step: usize) -> Result<Vec<u8>, CalcFault>
+    requires { 0 < step }
     ensures { IfOk result (λ bytes. AreAnswersOf input.now bytes.items) }
 {
     let mut reader = Counted::new(Feed {
         bytes: input,
-        step: 1,
+        step,
         left: None,
     });
     let mut writer = Counted::new(Sink::new(alloc));
@@ -71,7 +73,9 @@ fn answers_lines(rt: HostRuntime) -> Result<(), Fail> {
         ),
     ];
     for (input, answers) in rows {
-        assert_eq!(rt; answered(rt.alloc(), input)?.as_slice(), answers);
+        for step in [1, 7, 512] {
+            assert_eq!(rt; answered(rt.alloc(), input, step)?.as_slice(), answers);
+        }
     }
     Ok(())
 }
@@ -116,7 +120,9 @@ fn answers_operators(rt: HostRuntime) -> Result<(), Fail> {
         (b"1 + 2\n1 - 2\n1/2 * 1/2\n", b"3\n-1\n1/4\n"),
     ];
     for (input, answers) in rows {
-        assert_eq!(rt; answered(rt.alloc(), input)?.as_slice(), answers);
+        for step in [1, 7, 512] {
+            assert_eq!(rt; answered(rt.alloc(), input, step)?.as_slice(), answers);
+        }
     }
     Ok(())
 }
@@ -129,7 +135,83 @@ fn answers_long_lines(rt: HostRuntime) -> Result<(), Fail> {
         (121, b"error: line too long\n".as_slice()),
         (122, b"error: line too long\n".as_slice()),
     ] {
-        assert_eq!(rt; answered(rt.alloc(), &letters[..count])?.as_slice(), answer);
+        for step in [1, 7, 512] {
+            assert_eq!(rt; answered(rt.alloc(), &letters[..count], step)?.as_slice(), answer);
+        }
+    }
+    Ok(())
+}
+
+/// So many lines of the same bytes.
+fn repeated(alloc: Global, line: &[u8], count: usize) -> Result<Vec<u8>, Fail> {
+    let mut bytes = Vec::new(alloc);
+    for _ in 0..count {
+        bytes.extend_from_slice(line)?;
+    }
+    Ok(bytes)
+}
+
+#[test]
+fn answers_lines_across_pieces(rt: HostRuntime) -> Result<(), Fail> {
+    // 86 lines of 6 bytes: the last one lies across the edge of a piece of 512 bytes.
+    let sums = repeated(rt.alloc(), b"1 + 2\n", 86)?;
+    let threes = repeated(rt.alloc(), b"3\n", 86)?;
+    // A line that is too long, and one after it.
+    let mut long = repeated(rt.alloc(), b"a", 600)?;
+    long.extend_from_slice(b"\n1 - 1\n")?;
+    // A line of 120 bytes whose line end is the first byte of the next piece.
+    let mut full = repeated(rt.alloc(), b"a", 391)?;
+    full.extend_from_slice(b"\n")?;
+    full.extend_from_slice(repeated(rt.alloc(), b"a", 120)?.as_slice())?;
+    full.extend_from_slice(b"\n")?;
+    // A carriage return that is the last byte of a piece.
+    let mut returned = repeated(rt.alloc(), b"a", 505)?;
+    returned.extend_from_slice(b"\n1 + 2\r\n")?;
+    let endless = repeated(rt.alloc(), b"a", 10_000)?;
+    let rows: [(&[u8], &[u8]); 5] = [
+        (sums.as_slice(), threes.as_slice()),
+        (long.as_slice(), b"error: line too long\n0\n"),
+        (endless.as_slice(), b"error: line too long\n"),
+        (full.as_slice(), b"error: line too long\nerror: want LEFT OP RIGHT\n"),
+        (returned.as_slice(), b"error: line too long\n3\n"),
+    ];
+    for (input, answers) in rows {
+        for step in [1, 7, 512] {
+            assert_eq!(rt; answered(rt.alloc(), input, step)?.as_slice(), answers);
+        }
+    }
+    Ok(())
+}
+
+#[test]
+fn answers_more_than_waits(rt: HostRuntime) -> Result<(), Fail> {
+    // The answers to one piece are many times what an array of waiting bytes has room for.
+    let input = repeated(rt.alloc(), b"\n", 600)?;
+    let answers = repeated(rt.alloc(), b"error: want LEFT OP RIGHT\n", 600)?;
+    for step in [1, 7, 512] {
+        assert_eq!(rt; answered(rt.alloc(), input.as_slice(), step)?.as_slice(), answers.as_slice());
+    }
+    Ok(())
+}
+
+#[test]
+fn reads_and_writes_once_a_piece(rt: HostRuntime) -> Result<(), Fail> {
+    let input = repeated(rt.alloc(), b"1 + 2\n", 86)?;
+    // 516 bytes in pieces of 512 and 4 bytes, and a last read that gives none. A write follows each
+    // read that brought a line end.
+    for (step, reads, writes) in [(512, 3, 2), (7, 75, 74), (1, 517, 86)] {
+        let watch = Watch::new();
+        let mut reader = Counted::new(WatchedFeed {
+            bytes: input.as_slice(),
+            step,
+            watch: &watch,
+        });
+        let mut writer = Counted::new(WatchedSink { watch: &watch });
+        assert_eq!(rt; run(&mut reader, &mut writer), Ok(()));
+        assert_eq!(rt; watch.reads.get(), reads);
+        assert_eq!(rt; watch.writes.get(), writes);
+        assert_eq!(rt; watch.ends_written.get(), 86);
+        assert_eq!(rt; watch.is_late.get(), false, "every whole line was answered before a read");
     }
     Ok(())
 }

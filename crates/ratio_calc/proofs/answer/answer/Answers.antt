@@ -1,4 +1,4 @@
-use Rattle.std.proofs.Common.{ap, lit<, sym, ◌∙◌, ◌≡◌, subst, List, ℕ}
+use Rattle.std.proofs.Common.{arith, ap, lit<, sym, ◌∙◌, ◌≡◌, subst, List, ℕ}
 use Rattle.std.specs.List.{slice_split}
 use Rattle.std.proofs.lemmas.Str.Pattern.{strip_suffix_char}
 use Rattle.ratio_calc.specs.AnswerText.{bytes_of}
@@ -7,7 +7,7 @@ use Rattle.ratio_calc.proofs.Returns.{stripped, not_text, is_text}
 use Rattle.ratio_calc.proofs.answer.answer.Goals as goal
 
 pub returns-in_default : goal.returns-in_default
-returns-in_default c = not_text c.args.line.now c.requires c.in_default.ensures.cases.0
+returns-in_default c = not_text c.args.line.now (omega arith) c.in_default.ensures.cases.0
 
 pub returns : goal.returns
 returns c =
@@ -15,4 +15,4 @@ returns c =
     let found = strip_suffix_char 13 c.in-Ok.text.now c.strip_suffix.result c.strip_suffix.ensures.cases (lit< tt) in
     let bytes = stripped c.in-Ok.text c.unwrap_or.result c.strip_suffix.result found c.unwrap_or.ensures in
     let same : c.unwrap_or.result.now ≡ without_return c.args.line.now = sym bytes ∙ ap without_return text.0 in
-    is_text c.args.line.now _ c.requires text.1 (subst (λ (xs : List ℕ). IsPiecesAnswer (slice_split is_space xs) (bytes_of c.answer_pieces.result)) same c.answer_pieces.ensures)
+    is_text c.args.line.now _ (omega arith) text.1 (subst (λ (xs : List ℕ). IsPiecesAnswer (slice_split is_space xs) (bytes_of c.answer_pieces.result)) same c.answer_pieces.ensures)

@@ -1,7 +1,7 @@
 use Rattle.std.proofs.Common.{◌+◌, ◌≤◌, length, take, drop, ◌-◌, arith, refl, length-take, length-drop}
 use Rattle.ratio_calc.specs.Devices.{Failed}
 use Rattle.ratio_calc.proofs.DeviceCalls.{took_nothing, took_more, took_none, stops_within}
-use Rattle.ratio_calc.proofs.calculator.write_bytes.Goals as goal
+use Rattle.ratio_calc.proofs.gathered.write_bytes.Goals as goal
 
 pub loop-at-init : goal.loop-at-init
 loop-at-init g c = record { within = omega arith; took = took_nothing _ }

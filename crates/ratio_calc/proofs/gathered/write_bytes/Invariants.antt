@@ -1,6 +1,6 @@
 use Rattle.std.proofs.Common.{◌≤◌, ◌-◌, length, take}
 use Rattle.ratio_calc.specs.Devices.{Took}
-use Rattle.ratio_calc.proofs.calculator.write_bytes.Given as goal
+use Rattle.ratio_calc.proofs.gathered.write_bytes.Given as goal
 
 abbrev pub invariant-loop-at : goal.invariant-loop-at
 invariant-loop-at g l = record {

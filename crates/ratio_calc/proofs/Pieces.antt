@@ -1,0 +1,125 @@
+-- Where a line ends within a piece, and what a piece does to the begun line.
+use Rattle.std.proofs.Common.{◌≡◌, ℕ, zero, suc, ◌+◌, ◌-◌, ◌<◌, ◌≤◌, List, [], ◌∷◌, ◌++◌, length, take, drop, get_or, Bool, true, false, not, cond, ◌||◌, ◌==◌, nat_lt, Option, None, Some, refl, ap, ◌∙◌, sym, arith, append_assoc, length-append}
+use Rattle.std.specs.Bool.{MatchBool}
+use Rattle.std.specs.List.{list_any}
+use Rattle.std.proofs.lemmas.Bool.Decides.{nat_tests}
+use Rattle.std.proofs.lemmas.List.{append-nil, drop_more, take-append-drop, take_rest}
+use Rattle.std.proofs.Math.Seq.{take-length}
+use Rattle.ratio_calc.specs.Answers.{IsAnswer, is_line_end}
+use Rattle.ratio_calc.specs.KeptLine.{ArePieceAnswers, IsAnswerLine, IsKeptAnswer, extended, is_empty, line_after, pushed}
+use Rattle.ratio_calc.specs.Pieces.{HasNoEnd}
+
+is_end : (byte : ℕ) → is_line_end byte ≡ true → byte ≡ 10
+is_end byte e = grind (arith, nat_tests)
+
+-- no line ends before the n-th byte
+pub none_before : (bytes : List ℕ) (n : ℕ) → n ≤ length bytes → ((k : ℕ) → k < n → ¬ (is_line_end (get_or bytes k 0) ≡ true)) → HasNoEnd (take n bytes)
+none_before bytes zero within none = refl
+none_before [] (suc n) within none = refl
+none_before (byte ∷ bytes) (suc n) within none =
+    elim (is_line_end byte) as (λ t. is_line_end byte ≡ t → (t || list_any is_line_end (take n bytes)) ≡ false) [
+      | true ↦ λ t. absurd (none 0 (omega arith) t)
+      | false ↦ λ t. none_before bytes n (omega arith) (λ k below. none (suc k) (omega arith))
+    ] refl
+
+pub none_at_all : (bytes : List ℕ) → ((k : ℕ) → k < length bytes → ¬ (is_line_end (get_or bytes k 0) ≡ true)) → HasNoEnd bytes
+none_at_all bytes none =
+    let all : HasNoEnd (take (length bytes) bytes) = none_before bytes (length bytes) (omega arith) none in rw take-length at all
+
+-- the bytes on both sides of a line end
+pub cut_at : (bytes : List ℕ) (at : ℕ) → at < length bytes → is_line_end (get_or bytes at 0) ≡ true → bytes ≡ take at bytes ++ 10 ∷ take (length bytes - (at + 1)) (drop (at + 1) bytes)
+cut_at bytes at within ends =
+    sym (take-append-drop at bytes) ∙ ap (λ xs. take at bytes ++ xs) (drop_more bytes at 0 within)
+    ∙ ap (λ byte. take at bytes ++ byte ∷ drop (at + 1) bytes) (is_end (get_or bytes at 0) ends)
+    ∙ ap (λ rest. take at bytes ++ 10 ∷ rest) (sym (take_rest bytes (at + 1)))
+
+below : (n : ℕ) → nat_lt n 120 ≡ true → n < 120
+below n t = grind (arith, nat_tests)
+
+first_no_end : (byte : ℕ) (bytes : List ℕ) → HasNoEnd (byte ∷ bytes) → (is_line_end byte ≡ false) × HasNoEnd bytes
+first_no_end byte bytes none =
+    elim (is_line_end byte) as (λ t. (t || list_any is_line_end bytes) ≡ false → (t ≡ false) × HasNoEnd bytes)
+    [ true ↦ λ n. absurd (let no : true ≡ false = n in cc) | false ↦ λ n. (refl, n) ] none
+
+room : (n m k : ℕ) → m ≡ n + 1 → m + k ≤ 120 → nat_lt n 120 ≡ true
+room n m k e within = grind (arith, nat_tests)
+
+-- what is kept of a line that is not too long with more bytes
+pub extended_within : (line more : List ℕ) → length line + length more ≤ 120 → extended (Some line) more ≡ Some (line ++ more)
+extended_within line [] within = ap Some (sym (append-nil line))
+extended_within line (byte ∷ more) within =
+    let fits : nat_lt (length line) 120 ≡ true = room (length line) (length line + 1) (length more) refl (omega arith) in
+    ap (λ t. extended (cond t (Some (line ++ byte ∷ [])) None) more) fits
+    ∙ extended_within (line ++ byte ∷ []) more (omega (arith, length-append line (byte ∷ [])))
+    ∙ ap Some (append_assoc line (byte ∷ []) more)
+
+-- a line that has become too long stays so
+pub extended_none : (more : List ℕ) → extended None more ≡ None
+extended_none [] = refl
+extended_none (byte ∷ more) = extended_none more
+
+pub extended_beyond : (line more : List ℕ) → length line ≤ 120 → 120 < length line + length more → extended (Some line) more ≡ None
+extended_beyond line [] short beyond = absurd (omega arith)
+extended_beyond line (byte ∷ more) short beyond =
+    elim (nat_lt (length line) 120) as (λ t. nat_lt (length line) 120 ≡ t → extended (cond t (Some (line ++ byte ∷ [])) None) more ≡ None) [
+      | true ↦ λ t. extended_beyond (line ++ byte ∷ []) more (omega (arith, length-append line (byte ∷ []), below (length line) t)) (omega (arith, length-append line (byte ∷ [])))
+      | false ↦ λ t. extended_none more
+    ] refl
+
+-- what `extend` does where there is room
+pub extended_fits : (long : Bool) (line more new : List ℕ) → length line + length more ≤ 120 → new ≡ line ++ more
+    → cond long None (Some new) ≡ extended (cond long None (Some line)) more
+extended_fits true line more new within e = sym (extended_none more)
+extended_fits false line more new within e = ap Some e ∙ sym (extended_within line more within)
+
+within : (n : ℕ) → nat_lt 120 n ≡ false → n ≤ 120
+within n t = grind (arith, nat_tests)
+
+above : (n : ℕ) → nat_lt 120 n ≡ true → 120 < n
+above n t = grind (arith, nat_tests)
+
+beyond : (n : ℕ) → (n ≤ 120 → false ≡ true) → 120 < n
+beyond n never =
+    elim (nat_lt 120 n) as (λ t. nat_lt 120 n ≡ t → 120 < n) [ true ↦ λ t. above n t | false ↦ λ t. absurd (let no : false ≡ true = never (within n t) in cc) ] refl
+
+-- and where there is none
+pub extended_over : (long : Bool) (line more : List ℕ) → length line ≤ 120 → (length line + length more ≤ 120 → false ≡ true) → extended (cond long None (Some line)) more ≡ None
+extended_over true line more short over = extended_none more
+extended_over false line more short over = extended_beyond line more short (beyond (length line + length more) over)
+
+is_nil : (line : List ℕ) → (length line == 0) ≡ true → line ≡ []
+is_nil [] t = refl
+is_nil (byte ∷ line) t = absurd (grind (arith, nat_tests))
+
+-- a line that is empty
+pub empty_line : (line : Option (List ℕ)) → is_empty line ≡ true → line ≡ Some []
+empty_line None t = absurd (let no : false ≡ true = t in cc)
+empty_line (Some line) t = ap Some (is_nil line t)
+
+-- the answer to a whole line is that to what is kept of it
+pub answer_kept : (line answer : List ℕ) → IsAnswer line answer → IsKeptAnswer (extended (Some []) line) answer
+answer_kept line answer h =
+    elim (nat_lt 120 (length line)) as (λ t. nat_lt 120 (length line) ≡ t → IsAnswer line answer → IsKeptAnswer (extended (Some []) line) answer) [
+      | true ↦ λ t k. rw (extended_beyond [] line (omega arith) (omega (arith, above (length line) t))) (rw t at k)
+      | false ↦ λ t k. rw (extended_within [] line (omega (arith, within (length line) t))) k
+    ] refl h
+
+-- bytes without a line end go to the begun line
+pub after_plain : (line : Option (List ℕ)) (bytes rest : List ℕ) → HasNoEnd bytes → line_after line (bytes ++ rest) ≡ line_after (extended line bytes) rest
+after_plain line [] rest none = refl
+after_plain line (byte ∷ bytes) rest none =
+    let first = first_no_end byte bytes none in
+    ap (λ t. line_after (cond t (Some []) (pushed line byte)) (bytes ++ rest)) first.0 ∙ after_plain (pushed line byte) bytes rest first.1
+
+-- they answer nothing
+pub answers_plain : (line : Option (List ℕ)) (bytes rest answers : List ℕ) → HasNoEnd bytes → ArePieceAnswers (extended line bytes) rest answers
+    → ArePieceAnswers line (bytes ++ rest) answers
+answers_plain line [] rest answers none h = h
+answers_plain line (byte ∷ bytes) rest answers none h =
+    let first = first_no_end byte bytes none in
+    ([], answers, rw first.0 refl, rw first.0 (answers_plain (pushed line byte) bytes rest answers first.1 h), refl)
+
+-- a line end after them answers the line
+pub answers_line : (line : Option (List ℕ)) (bytes rest first others : List ℕ) → HasNoEnd bytes → IsAnswerLine (extended line bytes) first → ArePieceAnswers (Some []) rest others
+    → ArePieceAnswers line (bytes ++ 10 ∷ rest) (first ++ others)
+answers_line line bytes rest first others none answer h = answers_plain line bytes (10 ∷ rest) (first ++ others) none (first, others, answer, h, refl)

@@ -1,0 +1,72 @@
+//! The answers to the lines that end in one piece of the input.
+ghost use Rattle.std.specs.Prelude.{◌≡◌, ◌++◌, ◌∷◌, [], Some, OnOk};
+ghost use Rattle.ratio_calc.specs.AnswerText.{bytes_of};
+ghost use Rattle.ratio_calc.specs.Devices.{Gathers, GathersFor};
+ghost use Rattle.ratio_calc.specs.KeptLine.{ArePieceAnswers, IsKeptAnswer, extended, line_after};
+ghost use Rattle.ratio_calc.specs.Pieces.{IsCut};
+
+use crate::answer::answer;
+use crate::answer_text::AnswerText;
+use crate::calculator::CalcFault;
+use crate::counted::CalcWrite;
+use crate::gathered::Gathered;
+use crate::line::Line;
+use memchr::memchr;
+
+/// What stands before the first line end, and what after it.
+fn cut_line(bytes: &[u8]) -> Option<(&[u8], &[u8])>
+    ensures { IsCut bytes.now result }
+{
+    match memchr(b'\n', bytes) {
+        Some(at) => Some((&bytes[..at], &bytes[at + 1..])),
+        None => None,
+    }
+}
+
+/// Gathers an answer and its line end.
+pub fn put_answer<W: CalcWrite>(
+    gathered: &mut Gathered,
+    writer: &mut W,
+    answer: &AnswerText,
+) -> Result<(), CalcFault>
+    ensures { Gathers (W.contents writer.old, W.calls writer.old) (W.contents writer.new, W.calls writer.new)
+        gathered.old gathered.new (bytes_of answer.now ++ 10 ∷ []) result }
+{
+    gathered.put(writer, answer.as_str().as_bytes())?;
+    gathered.put(writer, b"\n")
+}
+
+/// The answer to the line that ends after these bytes. A line that begins with them is answered where
+/// they stand.
+fn ended(line: &mut Line, bytes: &[u8]) -> AnswerText
+    ensures answered { IsKeptAnswer (extended line.old bytes.now) (bytes_of result) }
+    ensures line { line.new ≡ Some [] }
+{
+    if line.is_empty() {
+        return answer(bytes);
+    }
+    line.extend(bytes);
+    let answer = line.answer();
+    line.clear();
+    answer
+}
+
+/// Answers each line that ends in the piece, and keeps what stands after the last line end.
+pub fn answer_piece<W: CalcWrite>(
+    line: &mut Line,
+    gathered: &mut Gathered,
+    writer: &mut W,
+    piece: &[u8],
+) -> Result<(), CalcFault>
+    ensures line { OnOk result (line.new ≡ line_after line.old piece.now) }
+    ensures answered { GathersFor (ArePieceAnswers line.old piece.now) (W.contents writer.old, W.calls writer.old) (W.contents writer.new, W.calls writer.new)
+        gathered.old gathered.new result }
+{
+    let mut rest = piece;
+    while let Some((bytes, after)) = cut_line(rest) {
+        put_answer(gathered, writer, &ended(line, bytes))?;
+        rest = after;
+    }
+    line.extend(rest);
+    Ok(())
+}

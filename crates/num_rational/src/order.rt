@@ -9,7 +9,7 @@ ghost use Rattle.num_rational.specs.Comparison.{AreEqual, HaveSameFields, IsLowe
 ghost use Rattle.num_rational.specs.Ratio.{denominator, numerator};
 
 use crate::ratio::Ratio;
-use ratio_core::Steps;
+use ratio_core::{Steps, compare};
 use ratio_integer::Integer;
 use std::cmp::Ordering;
 
@@ -81,11 +81,12 @@ impl<T: Copy + Integer> Ord for Ratio<T> {
     ghost matches_eq = { same_agrees numerator denominator (λ x. x.nonzero) };
 
     /// The numerators alone decide where the denominators are one positive number.
+    #[inline]
     fn cmp(&self, other: &Ratio<T>) -> Ordering {
         if share_denominator(self, other) {
             self.numer().cmp(other.numer())
         } else {
-            self.cmp_counted(other, &mut Steps::new())
+            compare(*self.numer(), *self.denom(), *other.numer(), *other.denom())
         }
     }
 }

@@ -214,3 +214,23 @@ cross-across n (pos d) m (pos e) dn en h = absurd (grind (arith, ints))
 cross-across n (pos d) m (negsuc e) dn en h = across (sign (pos d *ℤ negsuc e)) (n *ℤ negsuc e) (m *ℤ pos d) (negative-product d e (abs_pos (pos d) dn))
 cross-across n (negsuc d) m (pos e) dn en h = across (sign (negsuc d *ℤ pos e)) (n *ℤ pos e) (m *ℤ negsuc d) (negative-product_left d e (abs_pos (pos e) en))
 cross-across n (negsuc d) m (negsuc e) dn en h = absurd (grind (arith, ints))
+
+-- ---- where 0 lies between the two
+
+below_zero : (a e : ℕ) → 0 < e → (negsuc a *ℤ pos e) <ℤ pos 0
+below_zero a e h = let k : 0 < suc a * e = omega (arith, mul-le-mul_left (suc a) h) in omega (arith, ints)
+
+-- the numerators decide
+pub cross_split : (n d m e : ℤ) → pos 0 <ℤ d → pos 0 <ℤ e → HaveUnlikeSigns n m → int_cmp n m ≡ cross_cmp n d m e
+cross_split n (negsuc d) m e dp ep h = absurd (omega (arith, ints))
+cross_split n (pos d) m (negsuc e) dp ep h = absurd (omega (arith, ints))
+cross_split (pos n) (pos d) (pos m) (pos e) dp ep h = absurd (grind (arith, ints))
+cross_split (negsuc n) (pos d) (negsuc m) (pos e) dp ep h = absurd (grind (arith, ints))
+cross_split (negsuc n) (pos d) (pos m) (pos e) dp ep h =
+    let low : (negsuc n *ℤ pos e) <ℤ pos 0 = below_zero n e (omega (arith, ints)) in
+    let less : (negsuc n *ℤ pos e) <ℤ (pos m *ℤ pos d) = omega (arith, ints) in
+    cmp-less (negsuc n) (pos m) (omega (arith, ints)) ∙ sym (cross-along (negsuc n) (pos d) (pos m) (pos e) (λ z. omega (arith, ints)) (λ z. omega (arith, ints)) (λ u. grind (arith, ints)) ∙ cmp-less _ _ less)
+cross_split (pos n) (pos d) (negsuc m) (pos e) dp ep h =
+    let low : (negsuc m *ℤ pos d) <ℤ pos 0 = below_zero m d (omega (arith, ints)) in
+    let less : (negsuc m *ℤ pos d) <ℤ (pos n *ℤ pos e) = omega (arith, ints) in
+    cmp-greater (pos n) (negsuc m) (omega (arith, ints)) ∙ sym (cross-along (pos n) (pos d) (negsuc m) (pos e) (λ z. omega (arith, ints)) (λ z. omega (arith, ints)) (λ u. grind (arith, ints)) ∙ cmp-greater _ _ less)

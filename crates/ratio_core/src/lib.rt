@@ -3,6 +3,7 @@
 
 pub mod checked;
 mod code_list;
+mod comparing;
 mod hash;
 pub mod laws;
 mod order;
@@ -18,6 +19,7 @@ mod tests;
 pub mod text;
 
 pub use code_list::CodeList;
+pub use comparing::compare;
 pub use hash::hash_counted;
 pub use order::cmp_counted;
 pub use parse_error::{ParseRatioError, RatioErrorKind};

@@ -6,6 +6,7 @@ mod binary_gcd;
 mod exact_sum;
 mod impls;
 mod integer;
+mod narrowed;
 mod primitive;
 mod reducing;
 mod signed;

@@ -6,6 +6,7 @@ ghost use Rattle.ratio_integer.specs.Primitives.{one_not_zero, signed_laws};
 
 use crate::binary_gcd::binary_gcd_wide;
 use crate::integer::Integer;
+use crate::narrowed;
 use crate::primitive::Primitive;
 use crate::signed::SignedInteger;
 use num_traits::cast;
@@ -54,11 +55,11 @@ impl Integer for i128 {
     }
 
     fn try_times(self, o: i128) -> Option<i128> {
-        self.checked_mul(o)
+        narrowed::try_times(self, o)
     }
 
     fn div_rem(self, o: i128) -> (i128, i128) {
-        (self / o, self % o)
+        narrowed::div_rem(self, o)
     }
 
     fn to_i128(self) -> Option<i128> {

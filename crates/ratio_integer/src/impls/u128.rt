@@ -6,6 +6,7 @@ ghost use Rattle.ratio_integer.specs.Primitives.{one_not_zero, unsigned_laws};
 
 use crate::binary_gcd::binary_gcd_wide;
 use crate::integer::Integer;
+use crate::narrowed;
 use crate::primitive::Primitive;
 use num_traits::cast;
 
@@ -57,7 +58,7 @@ impl Integer for u128 {
     }
 
     fn div_rem(self, o: u128) -> (u128, u128) {
-        (self / o, self % o)
+        narrowed::div_rem_unsigned(self, o)
     }
 
     fn to_i128(self) -> Option<i128> {

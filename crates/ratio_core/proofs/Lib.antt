@@ -20,5 +20,6 @@ pub mod RemainderLemmas
 pub mod Rounds
 pub mod SameValues
 pub mod ScalingLemmas
+pub mod ShortDigits
 pub mod SumLemmas
 pub mod WidthLemmas

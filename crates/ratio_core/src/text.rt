@@ -4,6 +4,7 @@ pub mod laws;
 mod printing;
 mod ratio_text;
 mod reading;
+mod short_digits;
 
 pub use form::Form;
 pub use printing::text;

@@ -1,9 +1,11 @@
 //! Reading a fraction from a text.
-ghost use Rattle.std.specs.Prelude.{◌≤◌};
+ghost use Rattle.std.specs.Prelude.{◌≡◌, ◌≤◌};
+ghost use Rattle.std.specs.Str.Parse.{starts_with_minus};
 ghost use Rattle.ratio_core.specs.Reading.{AnswersPair, AnswersText, IsFractionText, ReadsNumber, SidesReadAs};
 
 use crate::checked::checked_new;
 use crate::parse_error::{ParseRatioError, RatioErrorKind};
+use crate::text::short_digits::short_digits;
 use ratio_integer::Primitive;
 
 /// The fraction of a decimal text in lowest terms: `N/D` for two number texts, or `N` for `N/1`. A
@@ -26,8 +28,34 @@ pub fn from_str<T: Primitive>(text: &str) -> Result<(T, T), ParseRatioError>
 }
 
 /// The number of the text in the radix, or `None` where it is no number text or the type does not
-/// hold its number.
+/// hold its number. A few decimal digits are read in 64 bits.
 fn number<T: Primitive>(text: &str, radix: u32) -> Option<T>
+    requires low { 2 ≤ radix }
+    requires high { radix ≤ 36 }
+    ensures { ReadsNumber T.value T.lo T.hi radix text.now result }
+{
+    if radix == 10 {
+        let bytes = text.as_bytes();
+        if T::MIN < T::ZERO && begins_with_minus(bytes) {
+            if let Some(n) = short_digits(bytes, 1) {
+                return T::from_i128(-(n as i128));
+            }
+        } else if let Some(n) = short_digits(bytes, 0) {
+            return T::from_u128(n as u128);
+        }
+    }
+    wide_number(text, radix)
+}
+
+// Whether the first byte is a minus.
+fn begins_with_minus(bytes: &[u8]) -> bool
+    ensures { result ≡ starts_with_minus bytes.now }
+{
+    !bytes.is_empty() && bytes[0] == b'-'
+}
+
+// The same number, read in 128 bits.
+fn wide_number<T: Primitive>(text: &str, radix: u32) -> Option<T>
     requires low { 2 ≤ radix }
     requires high { radix ≤ 36 }
     ensures { ReadsNumber T.value T.lo T.hi radix text.now result }

@@ -74,20 +74,20 @@ ok_from (Err e) P Q R h q = absurd (h.0 q)
 
 -- ---- a text that is written from its end on
 
-pub whole_text : (form : Form) (n d : ℤ) (buf written : List ℕ) → d ≡ pos 1 → length buf ≡ 261 → written ≡ number_text form n ++ drop 261 buf → written ≡ text_of form n d
+pub whole_text : (form : Form) (n d : ℤ) (buf written : List ℕ) → d ≡ pos 1 → length buf ≡ 81 → written ≡ number_text form n ++ drop 81 buf → written ≡ text_of form n d
 whole_text form n d buf written one long is =
-    let none : drop 261 buf ≡ [] = drop_all 261 buf (omega (arith, long)) in
+    let none : drop 81 buf ≡ [] = drop_all 81 buf (omega (arith, long)) in
     is ∙ ap (λ xs. number_text form n ++ xs) (none ∙ ap (λ b. cond b [] (slash ∷ number_text form d)) (sym ((Decides-int_eq d (pos 1)).1 one)))
 
 not_one : (d : ℤ) (b : Bool) → int_eq d (pos 1) ≡ b → d ≢ pos 1 → b ≡ false
 not_one d true e other = absurd (other ((Decides-int_eq d (pos 1)).0 e))
 not_one d false e other = refl
 
-pub slashed_text : (form : Form) (n d : ℤ) (at : ℕ) (buf back written : List ℕ) → d ≢ pos 1 → length buf ≡ 261 → length back ≡ length buf → 1 ≤ at → at ≤ 261
-    → drop at back ≡ number_text form d ++ drop 261 buf → written ≡ number_text form n ++ drop (at - 1) (slice_set back (at - 1) slash) → written ≡ text_of form n d
+pub slashed_text : (form : Form) (n d : ℤ) (at : ℕ) (buf back written : List ℕ) → d ≢ pos 1 → length buf ≡ 81 → length back ≡ length buf → 1 ≤ at → at ≤ 81
+    → drop at back ≡ number_text form d ++ drop 81 buf → written ≡ number_text form n ++ drop (at - 1) (slice_set back (at - 1) slash) → written ≡ text_of form n d
 slashed_text form n d at buf back written other long same low high denom numer =
     let back_at : at - 1 + 1 ≡ at = omega (arith, low) in
-    let none : drop 261 buf ≡ [] = drop_all 261 buf (omega (arith, long)) in
+    let none : drop 81 buf ≡ [] = drop_all 81 buf (omega (arith, long)) in
     let denom_only : drop at back ≡ number_text form d = denom ∙ ap (λ xs. number_text form d ++ xs) none ∙ append-nil (number_text form d) in
     let slash_put : drop (at - 1) (slice_set back (at - 1) slash) ≡ slash ∷ drop (at - 1 + 1) back = drop-set back (at - 1) slash (omega (arith, long, same, low, high)) in
     numer ∙ ap (λ xs. number_text form n ++ xs) (slash_put ∙ ap (λ k. slash ∷ drop k back) back_at ∙ ap (λ xs. slash ∷ xs) denom_only

@@ -20,31 +20,31 @@ pub fn text<T: Primitive>(numer: T, denom: T, form: Form, alternate: bool) -> Ra
 {
     let _ = numer.held();
     let _ = denom.held();
-    let mut bytes = [0u8; 261];
-    let start = put_fraction(numer, denom, form, &mut bytes);
-    RatioText::new(bytes, start)
+    let mut text = RatioText::empty();
+    text.start = put_fraction(numer, denom, form, &mut text.bytes);
+    text
 }
 
 // Writes the fraction so that it ends where the buffer does, and returns where it starts.
 fn put_fraction<T: Primitive>(numer: T, denom: T, form: Form, buf: &mut [u8]) -> usize
-    requires { length buf.old ≡ 261 }
+    requires { length buf.old ≡ 81 }
     ensures written { drop result buf.new ≡ text_of form (T.value numer) (T.value denom) }
-    ensures inside { result ≤ 261 }
+    ensures inside { result ≤ 81 }
 {
     if denom.is_one() {
-        return put_number(numer, form, buf, 261);
+        return put_number(numer, form, buf, 81);
     }
-    let slash = put_number(denom, form, buf, 261) - 1;
+    let slash = put_number(denom, form, buf, 81) - 1;
     buf[slash] = b'/';
     put_number(numer, form, buf, slash)
 }
 
 // Writes the number so that it ends at `end`, and returns where it starts.
 fn put_number<T: Primitive>(t: T, form: Form, buf: &mut [u8], end: usize) -> usize
-    requires room { 130 ≤ end }
+    requires room { 40 ≤ end }
     requires inside { end ≤ length buf.old }
     ensures written { drop result buf.new ≡ number_text form (T.value t) ++ drop end buf.old }
-    ensures start { end ≤ result + 130 }
+    ensures start { end ≤ result + 40 }
     ensures before { result ≤ end }
 {
     match form {

@@ -3,13 +3,13 @@ ghost use Rattle.std.specs.Prelude.{◌≡◌, ◌≤◌, ℕ, List, drop, IsAsc
 
 use std::marker::Model;
 
-/// The text of a fraction, of at most 261 bytes: two numbers of 128 binary digits, each after a
-/// prefix of two bytes, and a slash. A contract sees it as its bytes.
+/// The text of a fraction, of at most 81 bytes: two numbers of 39 digits, each after a minus, and a
+/// slash. A contract sees it as its bytes.
 #[derive(Drop)]
 pub struct RatioText {
     // The text ends where the array does.
-    bytes: [u8; 261],
-    start: usize,
+    pub(crate) bytes: [u8; 81],
+    pub(crate) start: usize,
 }
 
 impl Model for RatioText {
@@ -17,23 +17,23 @@ impl Model for RatioText {
 
     ghost view = { λ t. drop t.start t.bytes };
 
-    ghost invariant = { λ t. (t.start ≤ 261) × IsAscii (drop t.start t.bytes) };
+    ghost invariant = { λ t. (t.start ≤ 81) × IsAscii (drop t.start t.bytes) };
 }
 
 impl RatioText {
-    // The text that begins at `start`.
-    pub(crate) fn new(bytes: [u8; 261], start: usize) -> RatioText
-        requires inside { start ≤ 261 }
-        requires ascii { IsAscii (drop start bytes) }
-        ensures { result ≡ drop start bytes }
-    {
-        RatioText { bytes, start }
+    // No text yet.
+    #[inline(always)]
+    pub(crate) fn empty() -> RatioText {
+        RatioText {
+            bytes: [0; 81],
+            start: 81,
+        }
     }
 
     /// The text.
     pub fn as_str(&self) -> &str
         ensures { result.now ≡ self.now }
     {
-        str::from_utf8(&self.bytes[self.start..]).unwrap()
+        unsafe { str::from_utf8_unchecked(&self.bytes[self.start..]) }
     }
 }

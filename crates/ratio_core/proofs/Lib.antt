@@ -2,6 +2,7 @@ pub mod CancellingLemmas
 pub mod Codes
 pub mod CrossOrder
 pub mod CutLemmas
+pub mod DigitGroups
 pub mod EqualityLaws
 pub mod Floored
 pub mod HashLaws

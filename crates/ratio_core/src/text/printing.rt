@@ -6,7 +6,7 @@ ghost use Rattle.ratio_core.specs.Printing.{ReadsBack, number_text, text_of};
 
 use crate::text::form::Form;
 use crate::text::ratio_text::RatioText;
-use itoa::{Buffer, write_digits};
+use itoa::write_digits;
 use ratio_integer::Primitive;
 
 /// The text of a fraction's two numbers as they stand: the numerator, and, unless the denominator
@@ -68,7 +68,12 @@ fn put_decimal<T: Primitive>(t: T, buf: &mut [u8], end: usize) -> usize
     start
 }
 
-// Writes the decimal digits so that they end at `end`, and returns where they start.
+// What a group of 18 digits counts up to.
+const GROUP: u64 = 1_000_000_000_000_000_000;
+
+// Writes the decimal digits so that they end at `end`, and returns where they start. Past 64 bits
+// they go in groups of 18: each is written after a 1, which keeps its leading zeros, and the digits
+// before the group then stand in the place of the 1.
 fn put_digits(n: u128, buf: &mut [u8], end: usize) -> usize
     requires room { 39 ≤ end }
     requires inside { end ≤ length buf.old }
@@ -76,22 +81,16 @@ fn put_digits(n: u128, buf: &mut [u8], end: usize) -> usize
     ensures start { end ≤ result + 39 }
     ensures before { result ≤ end }
 {
-    if n <= u64::MAX as u128 {
-        return write_digits(n as u64, buf, end);
+    let mut left = n;
+    let mut at = end;
+    'groups: while left > u64::MAX as u128 {
+        let high = left / GROUP as u128;
+        let low = left - high * GROUP as u128;
+        let _ = write_digits(GROUP + low as u64, buf, at);
+        left = high;
+        at -= 18;
     }
-    put_bytes(Buffer::new().format(n).as_bytes(), buf, end)
-}
-
-// Writes the bytes so that they end at `end`, and returns where they start.
-fn put_bytes(bytes: &[u8], buf: &mut [u8], end: usize) -> usize
-    requires room { length bytes.now ≤ end }
-    requires inside { end ≤ length buf.old }
-    ensures written { drop result buf.new ≡ bytes.now ++ drop end buf.old }
-    ensures start { result + length bytes.now ≡ end }
-{
-    let start = end - bytes.len();
-    buf[start..end].copy_from_slice(bytes);
-    start
+    write_digits(left as u64, buf, at)
 }
 
 // The distance of the number from 0.

@@ -1,9 +1,35 @@
 use Rattle.std.proofs.Common.{arith}
-use Rattle.std.proofs.lemmas.Fmt.{length-decimal-le}
+use Rattle.std.proofs.lemmas.Fmt.{length-decimal-le_wide}
+use Rattle.ratio_core.proofs.DigitGroups.{length_after_one, next, room}
 use Rattle.ratio_core.proofs.text.printing.put_digits.Goals as goal
 
 pub write_digits-requires : goal.write_digits-requires
-write_digits-requires c = (omega (arith, length-decimal-le 20 c.args.n (omega arith) (omega arith) (omega arith)), c.requires.inside)
+write_digits-requires c =
+    let l = c.groups in
+    let left = c.groups.left in
+    let long = length_after_one _ _ l.left l.at _ _ (omega (arith, c.groups-test.true)) l.auto.left-fits.fits l.invariant in
+    let enough = room _ _ l.left l.at _ _ (omega (arith, c.groups-test.true)) l.auto.left-fits.fits l.invariant c.requires.room c.ranges.n.fits in
+    (omega (arith, long, enough), omega (arith, l.invariant.before, l.auto.buf, c.requires.inside))
 
-pub returns-then-n-clause-start : goal.returns-then-n-clause-start
-returns-then-n-clause-start c = omega (arith, c.write_digits.ensures.start, length-decimal-le 20 c.args.n (omega arith) (omega arith) (omega arith))
+pub overflow_sub-at : goal.overflow_sub-at
+overflow_sub-at c =
+    let l = c.groups in
+    omega (arith, room _ _ l.left l.at _ _ (omega (arith, c.groups-test.true)) l.auto.left-fits.fits l.invariant c.requires.room c.ranges.n.fits)
+
+pub groups-preserved : goal.groups-preserved
+groups-preserved c =
+    let l = c.groups in
+    let w = c.write_digits in
+    next _ _ l.left l.at _ _ (omega (arith, c.groups-test.true)) l.auto.left-fits.fits l.invariant w.result w.new.buf w.ensures.start w.ensures.written
+    (omega (arith, l.invariant.before, l.auto.buf, c.requires.inside)) w.auto.buf
+
+pub write_digits-requires-2 : goal.write_digits-requires-2
+write_digits-requires-2 c =
+    let l = c.groups in (
+      omega (arith, l.invariant.length_is, c.requires.room, length-decimal-le_wide 39 c.args.n (omega arith) (omega (arith, c.ranges.n.fits)) (omega (arith, c.ranges.n.fits))),
+      omega (arith, l.invariant.before, l.auto.buf, c.requires.inside),
+    )
+
+pub returns-clause-start : goal.returns-clause-start
+returns-clause-start c =
+    omega (arith, c.groups.invariant.length_is, c.write_digits-2.ensures.start, length-decimal-le_wide 39 c.args.n (omega arith) (omega (arith, c.ranges.n.fits)) (omega (arith, c.ranges.n.fits)))

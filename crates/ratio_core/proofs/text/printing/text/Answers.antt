@@ -9,10 +9,12 @@ pub invariant_of-text : goal.invariant_of-text
 invariant_of-text g c =
     let t = g.T.Integer in
     let m = g.met.T.Integer in
-    let width = g.met.T.Primitive.width_law in
-    (c.put_fraction.ensures.inside, subst IsAscii (sym c.put_fraction.ensures.written) (text_ascii c.args.form (t.value c.args.numer) (t.value c.args.denom)
-    (small_magnitude t.lo t.hi g.T.Primitive.BITS (t.value c.args.numer) m.range_law width c.held.ensures.range)
-    (small_magnitude t.lo t.hi g.T.Primitive.BITS (t.value c.args.denom) m.range_law width c.held-2.ensures.range)))
+    let width = g.met.T.Primitive.width_law in (
+      c.put_fraction.ensures.inside,
+      subst IsAscii (sym c.put_fraction.ensures.written) (text_ascii c.args.form (t.value c.args.numer) (t.value c.args.denom)
+          (small_magnitude t.lo t.hi g.T.Primitive.BITS (t.value c.args.numer) m.range_law width c.held.ensures.range)
+          (small_magnitude t.lo t.hi g.T.Primitive.BITS (t.value c.args.denom) m.range_law width c.held-2.ensures.range)),
+    )
 
 pub returns-clause-reads_back : goal.returns-clause-reads_back
 returns-clause-reads_back g c = λ decimal positive.

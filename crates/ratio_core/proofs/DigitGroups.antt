@@ -1,0 +1,95 @@
+-- The decimal text of a number by groups of digits, each with its leading zeros.
+use Rattle.std.proofs.Common.{◌≡◌, refl, sym, ◌∙◌, ap, arith, ℕ, zero, suc, ◌+◌, ◌-◌, ◌*◌, ◌/◌, ◌%◌, ◌^◌, ◌<◌, ◌≤◌, List, [], ◌∷◌, ◌++◌, length, length-append, drop, get_or, append-nil, append_assoc, eq-zero-or-pos, inl, inr}
+use Rattle.std.specs.Fmt.{decimal}
+use Rattle.std.proofs.lemmas.Fmt.{decimal_digit, decimal_step_wide, length-decimal-le_wide}
+use Rattle.std.proofs.lemmas.List.{drop_more}
+use Rattle.std.proofs.Math.Nat.{pow-suc, mul_assoc, pow-le-pow_right}
+
+-- the last k digits of n
+abbrev group : ℕ → ℕ → List ℕ
+group zero n = []
+group (suc k) n = group k (n / 10) ++ (48 + n % 10) ∷ []
+
+length_group : (k n : ℕ) → length (group k n) ≡ k
+length_group zero n = refl
+length_group (suc k) n = omega (arith, length-append (group k (n / 10)) ((48 + n % 10) ∷ []), length_group k (n / 10))
+
+-- a product with a number above 0 is at least the other factor
+at_least : (q p : ℕ) → 1 ≤ q → p ≤ q * p
+at_least zero p some = absurd (omega (arith, some))
+at_least (suc q) p some = omega arith
+
+-- a number is written as what stands before its last k digits, and these
+pub grouped : (k q r : ℕ) → 1 ≤ q → r < 10 ^ k → q * 10 ^ k + r < 10 ^ 64 → decimal (q * 10 ^ k + r) ≡ decimal q ++ group k r
+grouped zero q r some small wide =
+    let same : q * 10 ^ 0 + r ≡ q = omega (arith, small) in
+    ap decimal same ∙ sym (append-nil (decimal q))
+grouped (suc k) q r some small wide =
+    let p = 10 ^ k in
+    let power : 10 ^ suc k ≡ p * 10 = pow-suc 10 k in
+    let positive : 1 ≤ p = pow-le-pow_right {n = 10} (omega arith) {i = 0} {j = k} (omega arith) in
+    let product : q * 10 ^ suc k ≡ q * p * 10 = ap (λ x. q * x) power ∙ sym (mul_assoc q p 10) in
+    let tenth : (q * 10 ^ suc k + r) / 10 ≡ q * p + r / 10 = omega (arith, product) in
+    let last : (q * 10 ^ suc k + r) % 10 ≡ r % 10 = omega (arith, product) in
+    decimal_step_wide (q * 10 ^ suc k + r) (omega (arith, product, positive, at_least q p some)) wide
+    ∙ ap (λ x. decimal x ++ (48 + (q * 10 ^ suc k + r) % 10) ∷ []) tenth
+    ∙ ap (λ x. decimal (q * p + r / 10) ++ (48 + x) ∷ []) last
+    ∙ ap (λ xs. xs ++ (48 + r % 10) ∷ []) (grouped k q (r / 10) some (omega (arith, small, power)) (omega (arith, wide, product)))
+    ∙ append_assoc (decimal q) (group k (r / 10)) ((48 + r % 10) ∷ [])
+
+some_digit : (n : ℕ) → n < 2 ^ 128 → 1 ≤ length (decimal n)
+some_digit n small =
+    elim (eq-zero-or-pos (n - 9)) [
+      | inl h ↦ omega (arith, ap length (decimal_digit n (omega (arith, h))))
+      | inr h ↦ omega (arith, ap length (decimal_step_wide n (omega (arith, h)) (omega (arith, small))), length-append (decimal (n / 10)) ((48 + n % 10) ∷ []))
+    ]
+
+-- ---- a text of groups, written from its end on
+
+-- what is left of n is to be written so that it ends at `at`, before what stands there
+pub record IsLeft (n end left at : ℕ) (buf written : List ℕ) : Type 0 where
+  pub before : at ≤ end
+  pub length_is : at + length (decimal n) ≡ end + length (decimal left)
+  pub text_is : decimal left ++ drop at written ≡ decimal n ++ drop end buf
+
+-- what stands before the last 18 digits of a number, and these
+abbrev front : ℕ → ℕ
+front left = left / 10 ^ 18
+
+abbrev low : ℕ → ℕ
+low left = left - left / 10 ^ 18 * 10 ^ 18
+
+module _ (n end left at : ℕ) (buf written : List ℕ) (wide : 2 ^ 64 ≤ left) (small : left < 2 ^ 128) (l : IsLeft n end left at buf written) where
+  split : decimal left ≡ decimal (front left) ++ group 18 (low left)
+  split =
+      let all : front left * 10 ^ 18 + low left ≡ left = omega arith in
+      sym (ap decimal all) ∙ grouped 18 (front left) (low left) (omega (arith, wide)) (omega arith) (omega (arith, all, small))
+
+  split_length : length (decimal left) ≡ length (decimal (front left)) + 18
+  split_length = omega (arith, ap length split, length-append (decimal (front left)) (group 18 (low left)), length_group 18 (low left))
+
+  after_one : decimal (10 ^ 18 + low left) ≡ 49 ∷ group 18 (low left)
+  after_one = grouped 18 1 (low left) (omega arith) (omega arith) (omega arith) ∙ ap (λ xs. xs ++ group 18 (low left)) (decimal_digit 1 (omega arith))
+
+  pub length_after_one : length (decimal (10 ^ 18 + low left)) ≡ 19
+  length_after_one = omega (arith, ap length after_one, length_group 18 (low left))
+
+  pub room : 39 ≤ end → n < 2 ^ 128 → 19 ≤ at
+  room enough held =
+      omega (arith, l.length_is, split_length, enough, some_digit (front left) (omega (arith, small)), length-decimal-le_wide 39 n (omega arith) (omega (arith, held)) (omega (arith, held)))
+
+  -- a group of 18 digits is written after a 1, which what is written before the group replaces
+  pub next : (start : ℕ) (new : List ℕ) → start + length (decimal (10 ^ 18 + low left)) ≡ at → drop start new ≡ decimal (10 ^ 18 + low left) ++ drop at written
+      → at ≤ length written → length new ≡ length written → IsLeft n end (front left) (at - 18) buf new
+  next start new ends is inside same =
+      let long : start + 19 ≡ at = omega (arith, ends, length_after_one) in
+      let from : at - 18 ≡ start + 1 = omega (arith, long) in
+      let whole : get_or new start 0 ∷ drop (start + 1) new ≡ 49 ∷ (group 18 (low left) ++ drop at written) =
+      sym (drop_more new start 0 (omega (arith, long, inside, same))) ∙ is ∙ ap (λ xs. xs ++ drop at written) after_one in
+      let tail : drop (start + 1) new ≡ group 18 (low left) ++ drop at written = ap (λ xs. drop 1 xs) whole in
+      record {
+        before = omega (arith, l.before);
+        length_is = omega (arith, l.length_is, split_length, long);
+        text_is = ap (λ k. decimal (front left) ++ drop k new) from ∙ ap (λ xs. decimal (front left) ++ xs) tail
+            ∙ sym (append_assoc (decimal (front left)) (group 18 (low left)) (drop at written)) ∙ ap (λ xs. xs ++ drop at written) (sym split) ∙ l.text_is;
+      }

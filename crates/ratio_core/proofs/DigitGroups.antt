@@ -1,8 +1,8 @@
 -- The decimal text of a number by groups of digits, each with its leading zeros.
-use Rattle.std.proofs.Common.{◌≡◌, refl, sym, ◌∙◌, ap, arith, ℕ, zero, suc, ◌+◌, ◌-◌, ◌*◌, ◌/◌, ◌%◌, ◌^◌, ◌<◌, ◌≤◌, List, [], ◌∷◌, ◌++◌, length, length-append, drop, get_or, append-nil, append_assoc, eq-zero-or-pos, inl, inr}
+use Rattle.std.proofs.Common.{◌≡◌, refl, sym, ◌∙◌, ap, arith, ℕ, zero, suc, ◌+◌, ◌-◌, ◌*◌, ◌/◌, ◌%◌, ◌^◌, ◌<◌, ◌≤◌, List, [], ◌∷◌, ◌++◌, length, length-append, drop, get_or, slice_set, append-nil, append_assoc, eq-zero-or-pos, inl, inr}
 use Rattle.std.specs.Fmt.{decimal}
 use Rattle.std.proofs.lemmas.Fmt.{decimal_digit, decimal_step_wide, length-decimal-le_wide}
-use Rattle.std.proofs.lemmas.List.{drop_more}
+use Rattle.std.proofs.lemmas.List.{drop_more, drop-set}
 use Rattle.std.proofs.Math.Nat.{pow-suc, mul_assoc, pow-le-pow_right}
 
 -- the last k digits of n
@@ -52,44 +52,50 @@ pub record IsLeft (n end left at : ℕ) (buf written : List ℕ) : Type 0 where
   pub length_is : at + length (decimal n) ≡ end + length (decimal left)
   pub text_is : decimal left ++ drop at written ≡ decimal n ++ drop end buf
 
--- what stands before the last 18 digits of a number, and these
+-- what stands before the last 19 digits of a number, and these
 abbrev front : ℕ → ℕ
-front left = left / 10 ^ 18
+front left = left / 10 ^ 19
 
 abbrev low : ℕ → ℕ
-low left = left - left / 10 ^ 18 * 10 ^ 18
+low left = left - left / 10 ^ 19 * 10 ^ 19
 
 module _ (n end left at : ℕ) (buf written : List ℕ) (wide : 2 ^ 64 ≤ left) (small : left < 2 ^ 128) (l : IsLeft n end left at buf written) where
-  split : decimal left ≡ decimal (front left) ++ group 18 (low left)
+  split : decimal left ≡ decimal (front left) ++ group 19 (low left)
   split =
-      let all : front left * 10 ^ 18 + low left ≡ left = omega arith in
-      sym (ap decimal all) ∙ grouped 18 (front left) (low left) (omega (arith, wide)) (omega arith) (omega (arith, all, small))
+      let all : front left * 10 ^ 19 + low left ≡ left = omega arith in
+      sym (ap decimal all) ∙ grouped 19 (front left) (low left) (omega (arith, wide)) (omega arith) (omega (arith, all, small))
 
-  split_length : length (decimal left) ≡ length (decimal (front left)) + 18
-  split_length = omega (arith, ap length split, length-append (decimal (front left)) (group 18 (low left)), length_group 18 (low left))
+  split_length : length (decimal left) ≡ length (decimal (front left)) + 19
+  split_length = omega (arith, ap length split, length-append (decimal (front left)) (group 19 (low left)), length_group 19 (low left))
 
-  after_one : decimal (10 ^ 18 + low left) ≡ 49 ∷ group 18 (low left)
-  after_one = grouped 18 1 (low left) (omega arith) (omega arith) (omega arith) ∙ ap (λ xs. xs ++ group 18 (low left)) (decimal_digit 1 (omega arith))
+  after_one : decimal (10 ^ 18 + low left / 10) ≡ 49 ∷ group 18 (low left / 10)
+  after_one = grouped 18 1 (low left / 10) (omega arith) (omega arith) (omega arith) ∙ ap (λ xs. xs ++ group 18 (low left / 10)) (decimal_digit 1 (omega arith))
 
-  pub length_after_one : length (decimal (10 ^ 18 + low left)) ≡ 19
-  length_after_one = omega (arith, ap length after_one, length_group 18 (low left))
+  pub length_after_one : length (decimal (10 ^ 18 + low left / 10)) ≡ 19
+  length_after_one = omega (arith, ap length after_one, length_group 18 (low left / 10))
 
-  pub room : 39 ≤ end → n < 2 ^ 128 → 19 ≤ at
+  pub room : 39 ≤ end → n < 2 ^ 128 → 20 ≤ at
   room enough held =
       omega (arith, l.length_is, split_length, enough, some_digit (front left) (omega (arith, small)), length-decimal-le_wide 39 n (omega arith) (omega (arith, held)) (omega (arith, held)))
 
-  -- a group of 18 digits is written after a 1, which what is written before the group replaces
-  pub next : (start : ℕ) (new : List ℕ) → start + length (decimal (10 ^ 18 + low left)) ≡ at → drop start new ≡ decimal (10 ^ 18 + low left) ++ drop at written
-      → at ≤ length written → length new ≡ length written → IsLeft n end (front left) (at - 18) buf new
-  next start new ends is inside same =
-      let long : start + 19 ≡ at = omega (arith, ends, length_after_one) in
-      let from : at - 18 ≡ start + 1 = omega (arith, long) in
-      let whole : get_or new start 0 ∷ drop (start + 1) new ≡ 49 ∷ (group 18 (low left) ++ drop at written) =
-      sym (drop_more new start 0 (omega (arith, long, inside, same))) ∙ is ∙ ap (λ xs. xs ++ drop at written) after_one in
-      let tail : drop (start + 1) new ≡ group 18 (low left) ++ drop at written = ap (λ xs. drop 1 xs) whole in
+  -- the last digit of a group is written, and the other 18 after a 1, which what is written before the group replaces
+  pub next : (start : ℕ) (new : List ℕ) → start + length (decimal (10 ^ 18 + low left / 10)) ≡ at - 1
+      → drop start new ≡ decimal (10 ^ 18 + low left / 10) ++ drop (at - 1) (slice_set written (at - 1) (48 + low left % 10))
+      → 20 ≤ at → at ≤ length written → length new ≡ length written → IsLeft n end (front left) (at - 19) buf new
+  next start new ends is enough inside same =
+      let long : start + 20 ≡ at = omega (arith, ends, length_after_one, enough) in
+      let from : at - 19 ≡ start + 1 = omega (arith, long) in
+      let back : at - 1 + 1 ≡ at = omega (arith, enough) in
+      let last : drop (at - 1) (slice_set written (at - 1) (48 + low left % 10)) ≡ (48 + low left % 10) ∷ drop at written =
+      drop-set written (at - 1) (48 + low left % 10) (omega (arith, enough, inside)) ∙ ap (λ k. (48 + low left % 10) ∷ drop k written) back in
+      let whole : get_or new start 0 ∷ drop (start + 1) new ≡ 49 ∷ (group 18 (low left / 10) ++ (48 + low left % 10) ∷ drop at written) =
+      sym (drop_more new start 0 (omega (arith, long, inside, same))) ∙ is ∙ ap (λ xs. xs ++ drop (at - 1) (slice_set written (at - 1) (48 + low left % 10))) after_one
+      ∙ ap (λ xs. 49 ∷ (group 18 (low left / 10) ++ xs)) last in
+      let tail : drop (start + 1) new ≡ group 19 (low left) ++ drop at written =
+      ap (λ xs. drop 1 xs) whole ∙ sym (append_assoc (group 18 (low left / 10)) ((48 + low left % 10) ∷ []) (drop at written)) in
       record {
         before = omega (arith, l.before);
         length_is = omega (arith, l.length_is, split_length, long);
         text_is = ap (λ k. decimal (front left) ++ drop k new) from ∙ ap (λ xs. decimal (front left) ++ xs) tail
-            ∙ sym (append_assoc (decimal (front left)) (group 18 (low left)) (drop at written)) ∙ ap (λ xs. xs ++ drop at written) (sym split) ∙ l.text_is;
+            ∙ sym (append_assoc (decimal (front left)) (group 19 (low left)) (drop at written)) ∙ ap (λ xs. xs ++ drop at written) (sym split) ∙ l.text_is;
       }

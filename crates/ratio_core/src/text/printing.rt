@@ -68,12 +68,14 @@ fn put_decimal<T: Primitive>(t: T, buf: &mut [u8], end: usize) -> usize
     start
 }
 
-// What a group of 18 digits counts up to.
-const GROUP: u64 = 1_000_000_000_000_000_000;
+// What 19 digits, and 18, count up to.
+const GROUP: u64 = 10_000_000_000_000_000_000;
+
+const ONE_BEFORE: u64 = 1_000_000_000_000_000_000;
 
 // Writes the decimal digits so that they end at `end`, and returns where they start. Past 64 bits
-// they go in groups of 18: each is written after a 1, which keeps its leading zeros, and the digits
-// before the group then stand in the place of the 1.
+// they go in groups of 19: the last digit, and the 18 before it after a 1, which keeps their leading
+// zeros. The digits before the group then stand in the place of the 1.
 fn put_digits(n: u128, buf: &mut [u8], end: usize) -> usize
     requires room { 39 ≤ end }
     requires inside { end ≤ length buf.old }
@@ -85,10 +87,11 @@ fn put_digits(n: u128, buf: &mut [u8], end: usize) -> usize
     let mut at = end;
     'groups: while left > u64::MAX as u128 {
         let high = left / GROUP as u128;
-        let low = left - high * GROUP as u128;
-        let _ = write_digits(GROUP + low as u64, buf, at);
+        let low = (left - high * GROUP as u128) as u64;
+        buf[at - 1] = b'0' + (low % 10) as u8;
+        let _ = write_digits(ONE_BEFORE + low / 10, buf, at - 1);
         left = high;
-        at -= 18;
+        at -= 19;
     }
     write_digits(left as u64, buf, at)
 }

@@ -1,18 +1,28 @@
-use Rattle.std.proofs.Common.{arith}
+use Rattle.std.proofs.Common.{◌+◌, ◌-◌, ◌*◌, ◌/◌, ◌%◌, ◌^◌, arith, length-set}
 use Rattle.std.proofs.lemmas.Fmt.{length-decimal-le_wide}
 use Rattle.ratio_core.proofs.DigitGroups.{length_after_one, next, room}
 use Rattle.ratio_core.proofs.text.printing.put_digits.Goals as goal
 
-pub write_digits-requires : goal.write_digits-requires
-write_digits-requires c =
+pub overflow_sub-buf : goal.overflow_sub-buf
+overflow_sub-buf c =
     let l = c.groups in
-    let left = c.groups.left in
-    let long = length_after_one _ _ l.left l.at _ _ (omega (arith, c.groups-test.true)) l.auto.left-fits.fits l.invariant in
-    let enough = room _ _ l.left l.at _ _ (omega (arith, c.groups-test.true)) l.auto.left-fits.fits l.invariant c.requires.room c.ranges.n.fits in
-    (omega (arith, long, enough), omega (arith, l.invariant.before, l.auto.buf, c.requires.inside))
+    omega (arith, room _ _ l.left l.at _ _ (omega (arith, c.groups-test.true)) l.auto.left-fits.fits l.invariant c.requires.room c.ranges.n.fits)
 
 pub overflow_sub-at : goal.overflow_sub-at
 overflow_sub-at c =
+    let l = c.groups in
+    omega (arith, room _ _ l.left l.at _ _ (omega (arith, c.groups-test.true)) l.auto.left-fits.fits l.invariant c.requires.room c.ranges.n.fits)
+
+pub write_digits-requires : goal.write_digits-requires
+write_digits-requires c =
+    let l = c.groups in
+    let long = length_after_one _ _ l.left l.at _ _ (omega (arith, c.groups-test.true)) l.auto.left-fits.fits l.invariant in
+    let enough = room _ _ l.left l.at _ _ (omega (arith, c.groups-test.true)) l.auto.left-fits.fits l.invariant c.requires.room c.ranges.n.fits in
+    let kept = length-set l.buf (l.at - 1) (48 + (l.left - l.left / 10 ^ 19 * 10 ^ 19) % 10) in
+    (omega (arith, long, enough), omega (arith, l.invariant.before, l.auto.buf, c.requires.inside, kept))
+
+pub overflow_sub-at-in-groups : goal.overflow_sub-at-in-groups
+overflow_sub-at-in-groups c =
     let l = c.groups in
     omega (arith, room _ _ l.left l.at _ _ (omega (arith, c.groups-test.true)) l.auto.left-fits.fits l.invariant c.requires.room c.ranges.n.fits)
 
@@ -20,8 +30,10 @@ pub groups-preserved : goal.groups-preserved
 groups-preserved c =
     let l = c.groups in
     let w = c.write_digits in
+    let enough = room _ _ l.left l.at _ _ (omega (arith, c.groups-test.true)) l.auto.left-fits.fits l.invariant c.requires.room c.ranges.n.fits in
+    let kept = length-set l.buf (l.at - 1) (48 + (l.left - l.left / 10 ^ 19 * 10 ^ 19) % 10) in
     next _ _ l.left l.at _ _ (omega (arith, c.groups-test.true)) l.auto.left-fits.fits l.invariant w.result w.new.buf w.ensures.start w.ensures.written
-    (omega (arith, l.invariant.before, l.auto.buf, c.requires.inside)) w.auto.buf
+    enough (omega (arith, l.invariant.before, l.auto.buf, c.requires.inside)) (omega (arith, w.auto.buf, kept))
 
 pub write_digits-requires-2 : goal.write_digits-requires-2
 write_digits-requires-2 c =

@@ -17,10 +17,12 @@ pub fn fraction<T: Integer>(fields: (T, T)) -> Ratio<T>
     }
 }
 
+/// Whether the fraction has these fields.
 pub fn has<T: Integer>(x: Ratio<T>, fields: (T, T)) -> bool {
     x.into_raw() == fields
 }
 
+/// The fields of the sum, where the checked call answers it and every other form gives the same.
 pub fn sum<T: Integer>(x: Ratio<T>, y: Ratio<T>) -> Option<(T, T)>
     requires left { pos 0 <ℤ denominator x }
     requires right { pos 0 <ℤ denominator y }
@@ -50,6 +52,7 @@ fn every_sum<T: Integer>(x: Ratio<T>, y: Ratio<T>, fields: (T, T)) -> bool
         && has(by_reference, fields)
 }
 
+/// The same of the sum with an integer.
 pub fn sum_with<T: Integer>(x: Ratio<T>, c: T) -> Option<(T, T)>
     requires { pos 0 <ℤ denominator x }
 {
@@ -78,6 +81,7 @@ fn every_sum_with<T: Integer>(x: Ratio<T>, c: T, fields: (T, T)) -> bool
         && has(by_reference, fields)
 }
 
+/// The same of the difference.
 pub fn difference<T: Integer>(x: Ratio<T>, y: Ratio<T>) -> Option<(T, T)>
     requires left { pos 0 <ℤ denominator x }
     requires right { pos 0 <ℤ denominator y }
@@ -107,6 +111,7 @@ fn every_difference<T: Integer>(x: Ratio<T>, y: Ratio<T>, fields: (T, T)) -> boo
         && has(by_reference, fields)
 }
 
+/// The same of the difference from an integer.
 pub fn difference_with<T: Integer>(x: Ratio<T>, c: T) -> Option<(T, T)>
     requires { pos 0 <ℤ denominator x }
 {
@@ -135,6 +140,7 @@ fn every_difference_with<T: Integer>(x: Ratio<T>, c: T, fields: (T, T)) -> bool
         && has(by_reference, fields)
 }
 
+/// The same of the product.
 pub fn product<T: Integer>(x: Ratio<T>, y: Ratio<T>) -> Option<(T, T)>
     requires left { pos 0 <ℤ denominator x }
     requires right { pos 0 <ℤ denominator y }
@@ -164,6 +170,7 @@ fn every_product<T: Integer>(x: Ratio<T>, y: Ratio<T>, fields: (T, T)) -> bool
         && has(by_reference, fields)
 }
 
+/// The same of the product with an integer.
 pub fn product_with<T: Integer>(x: Ratio<T>, c: T) -> Option<(T, T)>
     requires { pos 0 <ℤ denominator x }
 {
@@ -192,6 +199,7 @@ fn every_product_with<T: Integer>(x: Ratio<T>, c: T, fields: (T, T)) -> bool
         && has(by_reference, fields)
 }
 
+/// The same of the quotient.
 pub fn quotient<T: Integer>(x: Ratio<T>, y: Ratio<T>) -> Option<(T, T)>
     requires left { pos 0 <ℤ denominator x }
     requires right { pos 0 <ℤ denominator y }
@@ -221,6 +229,7 @@ fn every_quotient<T: Integer>(x: Ratio<T>, y: Ratio<T>, fields: (T, T)) -> bool
         && has(by_reference, fields)
 }
 
+/// The same of the quotient by an integer.
 pub fn quotient_with<T: Integer>(x: Ratio<T>, c: T) -> Option<(T, T)>
     requires { pos 0 <ℤ denominator x }
 {
@@ -249,6 +258,7 @@ fn every_quotient_with<T: Integer>(x: Ratio<T>, c: T, fields: (T, T)) -> bool
         && has(by_reference, fields)
 }
 
+/// The same of the remainder.
 pub fn remainder<T: Integer>(x: Ratio<T>, y: Ratio<T>) -> Option<(T, T)>
     requires left { pos 0 <ℤ denominator x }
     requires right { pos 0 <ℤ denominator y }
@@ -278,6 +288,7 @@ fn every_remainder<T: Integer>(x: Ratio<T>, y: Ratio<T>, fields: (T, T)) -> bool
         && has(by_reference, fields)
 }
 
+/// The same of the remainder by an integer.
 pub fn remainder_with<T: Integer>(x: Ratio<T>, c: T) -> Option<(T, T)>
     requires { pos 0 <ℤ denominator x }
 {

@@ -23,6 +23,7 @@ impl<T: Integer> Model for Codes<T> {
 }
 
 impl<T: Integer> Codes<T> {
+    /// No code.
     pub fn new() -> Codes<T>
         ensures { result ≡ ([], []) }
     {
@@ -33,6 +34,7 @@ impl<T: Integer> Codes<T> {
         }
     }
 
+    /// The codes so far.
     pub fn as_slice(&self) -> &[T]
         ensures { map T.value result.now ≡ self.now.0 }
     {
@@ -73,6 +75,7 @@ impl Model for Written {
 }
 
 impl Written {
+    /// No byte.
     pub fn new() -> Written
         ensures { result ≡ [] }
     {
@@ -82,6 +85,7 @@ impl Written {
         }
     }
 
+    /// The bytes so far.
     pub fn as_slice(&self) -> &[u8]
         ensures { result.now ≡ self.now }
     {

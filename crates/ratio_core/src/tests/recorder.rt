@@ -22,6 +22,7 @@ impl<T: Integer> Model for Recorder<T> {
 }
 
 impl<T: Integer> Recorder<T> {
+    /// Nothing recorded.
     pub fn new() -> Recorder<T>
         ensures { result ≡ ([], []) }
     {
@@ -32,6 +33,7 @@ impl<T: Integer> Recorder<T> {
         }
     }
 
+    /// What was recorded so far.
     pub fn as_slice(&self) -> &[T]
         ensures { map T.value result.now ≡ self.now.0 }
     {

@@ -1,8 +1,14 @@
 -- The bytes of an answer.
 use Rattle.std.specs.Prelude.{ℕ, List}
-use Rattle.ratio_calc.specs.declared.answer_text.AnswerText.{AnswerText}
-use Rattle.ratio_calc.specs.declared.answer_text.AnswerText.TheVariants.{Known, Number}
+use Rattle.std.specs.Borrow.{Bor}
+use Rattle.either.specs.declared.Either.{Either}
+use Rattle.either.specs.declared.Either.TheVariants.{Left, Right}
+use Rattle.num_rational.specs.Ratio.{numerator, denominator}
+use Rattle.num_rational.specs.declared.ratio.Ratio.{Ratio}
+use Rattle.ratio_core.specs.Printing.{text_of}
+use Rattle.ratio_core.specs.declared.text.form.Form.TheVariants.{Decimal}
 
-abbrev pub bytes_of : AnswerText → List ℕ
-bytes_of (Known text) = text.now
-bytes_of (Number text) = text
+-- a text that is known beforehand, or the decimal text of a number
+abbrev pub bytes_of : {T : _} {i : _} {o : _} {e : _} {p : _} {h : _} → Either (Bor (List ℕ)) (Ratio T i o e p h) → List ℕ
+bytes_of (Left text) = text.now
+bytes_of (Right number) = text_of Decimal (numerator number) (denominator number)

@@ -9,7 +9,8 @@ ghost use Rattle.ratio_calc.specs.Operands.{number_of, numbers_of};
 
 use crate::answer_text::AnswerText;
 use crate::operator::{Operator, operator_named};
-use num_rational::{Form, ParseRatioError, RatioErrorKind, Rational64};
+use either::Either;
+use num_rational::{ParseRatioError, RatioErrorKind, Rational64};
 use std::cmp::Ordering;
 
 const WANT_THREE: &str = "error: want LEFT OP RIGHT";
@@ -24,8 +25,8 @@ fn number(checked: Option<Rational64>) -> AnswerText
     ensures { bytes_of result ≡ number_text (number_of checked) }
 {
     match checked {
-        Some(number) => AnswerText::Number(number.text(Form::Decimal, false)),
-        None => AnswerText::Known("error: out of range"),
+        Some(number) => Either::Right(number),
+        None => Either::Left("error: out of range"),
     }
 }
 
@@ -33,7 +34,7 @@ fn number(checked: Option<Rational64>) -> AnswerText
 fn sign(order: Ordering) -> AnswerText
     ensures { bytes_of result ≡ order_text order }
 {
-    AnswerText::Known(match order {
+    Either::Left(match order {
         Ordering::Less => "<",
         Ordering::Equal => "=",
         Ordering::Greater => ">",
@@ -50,9 +51,9 @@ fn operated(operator: Operator, left: Rational64, right: Rational64) -> AnswerTe
         Operator::Add => number(left.checked_add(&right)),
         Operator::Sub => number(left.checked_sub(&right)),
         Operator::Mul => number(left.checked_mul(&right)),
-        Operator::Div if right.is_zero() => AnswerText::Known(DIVISION_BY_ZERO),
+        Operator::Div if right.is_zero() => Either::Left(DIVISION_BY_ZERO),
         Operator::Div => number(left.checked_div(&right)),
-        Operator::Rem if right.is_zero() => AnswerText::Known(DIVISION_BY_ZERO),
+        Operator::Rem if right.is_zero() => Either::Left(DIVISION_BY_ZERO),
         Operator::Rem => number(left.checked_rem(&right)),
         Operator::Cmp => sign(left.cmp(&right)),
     }
@@ -70,11 +71,11 @@ fn answer_operands(
 {
     match (left, right) {
         (Ok(left), Ok(right)) => operated(operator, left, right),
-        (Err(refusal), _) => AnswerText::Known(match refusal.kind() {
+        (Err(refusal), _) => Either::Left(match refusal.kind() {
             RatioErrorKind::ParseError => "error: left: failed to parse integer",
             RatioErrorKind::ZeroDenominator => "error: left: zero value denominator",
         }),
-        (Ok(_), Err(refusal)) => AnswerText::Known(match refusal.kind() {
+        (Ok(_), Err(refusal)) => Either::Left(match refusal.kind() {
             RatioErrorKind::ParseError => "error: right: failed to parse integer",
             RatioErrorKind::ZeroDenominator => "error: right: zero value denominator",
         }),
@@ -97,11 +98,11 @@ fn answer_three(left: &str, middle: &str, right: &str) -> AnswerText
     ensures { IsThreeAnswer left.now middle.now right.now (bytes_of result) }
 {
     if left.is_empty() || middle.is_empty() || right.is_empty() {
-        return AnswerText::Known(WANT_THREE);
+        return Either::Left(WANT_THREE);
     }
     match operator_named(middle) {
         Some(operator) => answer_texts(operator, left, right),
-        None => AnswerText::Known("error: unknown operator"),
+        None => Either::Left("error: unknown operator"),
     }
 }
 
@@ -110,13 +111,13 @@ fn answer_pieces(text: &str) -> AnswerText
     ensures { IsPiecesAnswer (slice_split is_space text.now) (bytes_of result) }
 {
     let Some((left, rest)) = text.split_once(' ') else {
-        return AnswerText::Known(WANT_THREE);
+        return Either::Left(WANT_THREE);
     };
     let Some((middle, right)) = rest.split_once(' ') else {
-        return AnswerText::Known(WANT_THREE);
+        return Either::Left(WANT_THREE);
     };
     match right.split_once(' ') {
-        Some(_) => AnswerText::Known(WANT_THREE),
+        Some(_) => Either::Left(WANT_THREE),
         None => answer_three(left, middle, right),
     }
 }
@@ -126,10 +127,10 @@ pub fn answer(line: &[u8]) -> AnswerText
     ensures { IsAnswer line.now (bytes_of result) }
 {
     if line.len() > 120 {
-        return AnswerText::Known(TOO_LONG);
+        return Either::Left(TOO_LONG);
     }
     let Ok(text) = str::from_utf8(line) else {
-        return AnswerText::Known("error: not UTF-8");
+        return Either::Left("error: not UTF-8");
     };
     answer_pieces(text.strip_suffix('\r').unwrap_or(text))
 }

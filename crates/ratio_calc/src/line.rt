@@ -6,6 +6,7 @@ ghost use Rattle.ratio_calc.specs.KeptLine.{IsKeptAnswer, extended, is_empty};
 use crate::answer::{TOO_LONG, answer};
 use crate::answer_text::AnswerText;
 use arrayvec::ArrayVec;
+use either::Either;
 use std::marker::Model;
 
 /// The bytes of a line so far, or that they are more than a line may have.
@@ -64,7 +65,7 @@ impl Line {
         ensures { IsKeptAnswer self.now (bytes_of result) }
     {
         if self.is_too_long {
-            AnswerText::Known(TOO_LONG)
+            Either::Left(TOO_LONG)
         } else {
             answer(self.bytes.as_slice())
         }

@@ -11,7 +11,9 @@ use crate::calculator::CalcFault;
 use crate::counted::CalcWrite;
 use crate::gathered::Gathered;
 use crate::line::Line;
+use either::Either;
 use memchr::memchr;
+use num_rational::Form;
 
 /// What stands before the first line end, and what after it.
 fn cut_line(bytes: &[u8]) -> Option<(&[u8], &[u8])>
@@ -20,6 +22,24 @@ fn cut_line(bytes: &[u8]) -> Option<(&[u8], &[u8])>
     match memchr(b'\n', bytes) {
         Some(at) => Some((&bytes[..at], &bytes[at + 1..])),
         None => None,
+    }
+}
+
+/// Gathers an answer without its line end.
+fn put_text<W: CalcWrite>(
+    gathered: &mut Gathered,
+    writer: &mut W,
+    answer: &AnswerText,
+) -> Result<(), CalcFault>
+    ensures { Gathers (W.contents writer.old, W.calls writer.old) (W.contents writer.new, W.calls writer.new)
+        gathered.old gathered.new (bytes_of answer.now) result }
+{
+    match answer {
+        Either::Left(text) => gathered.put(writer, text.as_bytes()),
+        Either::Right(number) => {
+            let text = number.text(Form::Decimal, false);
+            gathered.put(writer, text.as_str().as_bytes())
+        }
     }
 }
 
@@ -32,7 +52,7 @@ pub fn put_answer<W: CalcWrite>(
     ensures { Gathers (W.contents writer.old, W.calls writer.old) (W.contents writer.new, W.calls writer.new)
         gathered.old gathered.new (bytes_of answer.now ++ 10 ∷ []) result }
 {
-    gathered.put(writer, answer.as_str().as_bytes())?;
+    put_text(gathered, writer, answer)?;
     gathered.put(writer, b"\n")
 }
 

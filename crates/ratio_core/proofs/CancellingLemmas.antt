@@ -10,21 +10,15 @@ use Rattle.ratio_integer.specs.Fraction.{IsHeldLowest, IsLowestTerms, IsLowestTe
 use Rattle.ratio_integer.specs.Range.{IsHeld, IsRange}
 use Rattle.ratio_integer.proofs.CommonDivisors.{gcd_coprime}
 use Rattle.ratio_integer.proofs.DivisionLemmas.{abs_pos, low_below}
-use Rattle.ratio_integer.proofs.LcmLemmas.{divisor_nonzero, exact_quotient}
-use Rattle.ratio_integer.proofs.LowestTerms.{lowest_own}
+use Rattle.ratio_integer.proofs.LcmLemmas.{divisor_nonzero, exact_quotient, zero_held}
+use Rattle.ratio_integer.proofs.LowestTerms.{lowest_own, over_one}
 use Rattle.ratio_integer.proofs.Whole.{mul-swap_last, neg-mul, unsigned_abs-neg}
 use Rattle.ratio_core.specs.Cancelling.{IsCancelled, IsCancelledOf}
 
 -- ---- 0 and 1
 
-zero_held : (lo hi z : ℤ) → IsRange lo hi → z ≡ pos 0 → IsHeld lo hi z
-zero_held lo hi z range zero = let low = low_below lo hi range in let high = range.high in record { above = omega (arith, ints); below = omega (arith, ints) }
-
 one_held : (lo hi z : ℤ) → IsRange lo hi → z ≡ pos 1 → IsHeld lo hi z
 one_held lo hi z range one = let low = low_below lo hi range in let high = range.high in record { above = omega (arith, ints); below = omega (arith, ints) }
-
-over_one : (a b : ℤ) → b ≡ pos 1 → IsLowestTerms a b
-over_one a b one = record { positive = omega (arith, ints); only_one = λ k p q. let divides_one : k ∣ 1 = rw (ap unsigned_abs one) at q in eq-one_of_dvd-one divides_one }
 
 -- 0/1 is 0/d
 pub lowest_of_zero : (lo hi n d a b : ℤ) → IsRange lo hi → d ≢ pos 0 → n ≡ pos 0 → a ≡ pos 0 → b ≡ pos 1 → IsHeldLowest lo hi n d a b

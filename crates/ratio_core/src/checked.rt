@@ -10,6 +10,11 @@ use ratio_integer::Integer;
 pub fn checked_new<T: Integer>(n: T, d: T) -> Option<(T, T)>
     ensures { ChecksLowest (λ r. T.value r.0) (λ r. T.value r.1) T.lo T.hi (T.value n, T.value d) result }
 {
+    if d.is_one() {
+        let _ = n.held();
+        let _ = d.held();
+        return Some((n, d));
+    }
     if d.is_zero() {
         return None;
     }

@@ -66,6 +66,10 @@ lowest_unique n d a b p q first second =
 pub lowest_own : (a b : ℤ) → IsLowestTerms a b → IsLowestTermsOf a b a b
 lowest_own a b lowest = record { fraction = positive_nonzero b lowest.positive; same = refl; lowest = lowest }
 
+-- a whole number is in lowest terms over 1
+pub over_one : (a b : ℤ) → b ≡ pos 1 → IsLowestTerms a b
+over_one a b one = record { positive = omega (arith, ints); only_one = λ k p q. let divides_one : k ∣ 1 = rw (ap unsigned_abs one) at q in eq-one_of_dvd-one divides_one }
+
 -- ---- equal values have the same lowest terms
 
 pub lowest_moved : (n d m e a b : ℤ) → e ≢ pos 0 → SameValue m e n d → IsLowestTermsOf n d a b → IsLowestTermsOf m e a b
@@ -147,6 +151,9 @@ gcd_held_positive lo hi n d range d_held positive =
 pub quotient_by_gcd_held : (lo hi n d g m : ℤ) → IsRange lo hi → IsHeld lo hi m → IsHeld lo hi g → d ≢ pos 0 → IsGcdOf n d g → IsHeld lo hi (int_div m g)
 quotient_by_gcd_held lo hi n d g m range m_held g_held fraction is =
     quotient_held lo hi m g range m_held g_held (divisor_nonzero n d g fraction is) (λ e. let sign = is.sign in omega (arith, ints))
+
+pub held_lowest_over_one : (lo hi n d : ℤ) → IsHeld lo hi n → IsHeld lo hi d → d ≡ pos 1 → IsHeldLowest lo hi n d n d
+held_lowest_over_one lo hi n d n_held d_held one = record { terms = lowest_own n d (over_one n d one); numer_held = n_held; denom_held = d_held }
 
 pub held_lowest_by_one : (lo hi n d g : ℤ) → IsHeld lo hi n → IsHeld lo hi d → pos 0 <ℤ d → IsGcdOf n d g → g ≡ pos 1 → IsHeldLowest lo hi n d n d
 held_lowest_by_one lo hi n d g n_held d_held positive is one = record { terms = lowest_by_one n d g positive is one; numer_held = n_held; denom_held = d_held }

@@ -1,75 +1,85 @@
--- Where a text is cut.
-use Rattle.std.proofs.Common.{◌≡◌, ℕ, pos, ◌<◌, ◌+◌, List, [], ◌∷◌, length, Bool, true, false, not, cond, Option, None, Some, refl, ap, ◌∙◌, arith, Bor, ◌==◌, ◌||◌}
-use Rattle.std.specs.Option.{MatchOption}
-use Rattle.std.specs.List.{slice_split, onto_first, position_or_len, before_first, after_first, list_any}
-use Rattle.std.proofs.lemmas.List.Splits.{slice_split_first, length-slice_split}
-use Rattle.std.proofs.lemmas.Str.Pattern.{split_once_first, IsSplitOnceResult}
+-- Where bytes are cut.
+use Rattle.std.proofs.Common.{◌≡◌, ℕ, zero, suc, ◌<◌, ◌≤◌, ◌+◌, ◌-◌, List, [], ◌∷◌, ◌++◌, length, take, drop, get_or, Bool, true, false, cond, refl, sym, ap, ◌∙◌, arith, ◌==◌, ◌||◌}
+use Rattle.std.specs.List.{slice_split, onto_first, list_any}
+use Rattle.std.proofs.Math.Seq.{take-length}
+use Rattle.std.proofs.lemmas.Bool.Decides.{nat_tests}
+use Rattle.std.proofs.lemmas.List.{drop_more, take-append-drop, take_rest}
+use Rattle.std.proofs.lemmas.List.Splits.{length-slice_split}
 use Rattle.ratio_calc.specs.Answers.{IsPiecesAnswer, IsThreeAnswer, is_space, want_three}
+use Rattle.ratio_calc.specs.Cuts.{HasNone}
 
--- where no element passes, none is found
-any_none : (p : ℕ → Bool) (xs : List ℕ) → position_or_len p xs ≡ length xs → list_any p xs ≡ false
-any_none p [] h = refl
-any_none p (x ∷ xs) h =
-    elim (p x) as (λ b. cond (not b) (1 + position_or_len p xs) 0 ≡ length (x ∷ xs) → (b || list_any p xs) ≡ false) [
-      | true ↦ λ k. let e : 0 ≡ length (x ∷ xs) = k in absurd (omega arith)
-      | false ↦ λ k. let e : 1 + position_or_len p xs ≡ length (x ∷ xs) = k in any_none p xs (omega arith)
-    ] h
+same : (a b : ℕ) → (a == b) ≡ true → a ≡ b
+same a b e = grind (arith, nat_tests)
 
-any_some : (p : ℕ → Bool) (xs : List ℕ) → position_or_len p xs < length xs → list_any p xs ≡ true
-any_some p [] h = absurd (omega arith)
-any_some p (x ∷ xs) h =
-    elim (p x) as (λ b. cond (not b) (1 + position_or_len p xs) 0 < length (x ∷ xs) → (b || list_any p xs) ≡ true)
-    [ true ↦ λ k. refl | false ↦ λ k. let e : 1 + position_or_len p xs < length (x ∷ xs) = k in any_some p xs (omega arith) ] h
+itself : (a : ℕ) → (a == a) ≡ true
+itself a = grind (arith, nat_tests)
 
-split_none : (p : ℕ → Bool) (xs : List ℕ) → position_or_len p xs ≡ length xs → slice_split p xs ≡ xs ∷ []
-split_none p [] h = refl
-split_none p (x ∷ xs) h =
-    elim (p x) as (λ b. cond (not b) (1 + position_or_len p xs) 0 ≡ length (x ∷ xs) → cond b ([] ∷ slice_split p xs) (onto_first x (slice_split p xs)) ≡ (x ∷ xs) ∷ []) [
-      | true ↦ λ k. let e : 0 ≡ length (x ∷ xs) = k in absurd (omega arith)
-      | false ↦ λ k. let e : 1 + position_or_len p xs ≡ length (x ∷ xs) = k in ap (onto_first x) (split_none p xs (omega arith))
-    ] h
+-- the byte stands at no place before the n-th
+pub none_before : (c : ℕ) (bytes : List ℕ) (n : ℕ) → n ≤ length bytes → ((k : ℕ) → k < n → ¬ ((get_or bytes k 0 == c) ≡ true)) → HasNone c (take n bytes)
+none_before c bytes zero within none = refl
+none_before c [] (suc n) within none = refl
+none_before c (byte ∷ bytes) (suc n) within none =
+    elim (byte == c) as (λ t. (byte == c) ≡ t → (t || list_any (λ b. b == c) (take n bytes)) ≡ false) [
+      | true ↦ λ t. absurd (none 0 (omega arith) t)
+      | false ↦ λ t. none_before c bytes n (omega arith) (λ k below. none (suc k) (omega arith))
+    ] refl
 
--- the byte c does not stand in the text
-pub record IsUncut (c : ℕ) (text : List ℕ) : Type 0 where
-  pub none : list_any (λ b. b == c) text ≡ false
-  pub one : slice_split (λ b. b == c) text ≡ text ∷ []
+pub none_at_all : (c : ℕ) (bytes : List ℕ) → ((k : ℕ) → k < length bytes → ¬ ((get_or bytes k 0 == c) ≡ true)) → HasNone c bytes
+none_at_all c bytes none =
+    let all : HasNone c (take (length bytes) bytes) = none_before c bytes (length bytes) (omega arith) none in rw take-length at all
 
--- the text is cut at its first byte c
-pub record IsCut (c : ℕ) (text before after : List ℕ) : Type 0 where
-  pub some : list_any (λ b. b == c) text ≡ true
-  pub first : before ≡ before_first (λ b. b == c) text
-  pub second : after ≡ after_first (λ b. b == c) text
-  pub more : slice_split (λ b. b == c) text ≡ before ∷ slice_split (λ b. b == c) after
+-- the bytes on both sides of a place where it stands
+pub cut_at : (c : ℕ) (bytes : List ℕ) (at : ℕ) → at < length bytes → (get_or bytes at 0 == c) ≡ true → bytes ≡ take at bytes ++ c ∷ drop (at + 1) bytes
+cut_at c bytes at within is =
+    sym (take-append-drop at bytes) ∙ ap (λ xs. take at bytes ++ xs) (drop_more bytes at 0 within)
+    ∙ ap (λ byte. take at bytes ++ byte ∷ drop (at + 1) bytes) (same (get_or bytes at 0) c is)
 
-pub cut : (c : ℕ) (text : List ℕ) (r : Option (Bor (List ℕ) × Bor (List ℕ))) → IsSplitOnceResult c text r → c < 128
-    → MatchOption r (IsUncut c text) (λ x. IsCut c text x.0.now x.1.now)
-cut c text None h small =
-    let e = split_once_first c text None h small in
-    record { none = any_none (λ b. b == c) text e; one = split_none (λ b. b == c) text e }
-cut c text (Some x) h small =
-    let e = split_once_first c text (Some x) h small in
-    record {
-      some = any_some (λ b. b == c) text e.0;
-      first = e.1;
-      second = e.2;
-      more = slice_split_first (λ b. b == c) text 0 e.0 ∙ rw (e.1, e.2) refl;
-    }
+-- the same with what a slice from there on holds
+pub cut_slice : (c : ℕ) (bytes : List ℕ) (at : ℕ) → at < length bytes → (get_or bytes at 0 == c) ≡ true
+    → bytes ≡ take at bytes ++ c ∷ take (length bytes - (at + 1)) (drop (at + 1) bytes)
+cut_slice c bytes at within is = cut_at c bytes at within is ∙ ap (λ rest. take at bytes ++ c ∷ rest) (sym (take_rest bytes (at + 1)))
 
-pub no_piece : (text : List ℕ) → IsUncut 32 text → IsPiecesAnswer (slice_split is_space text) want_three
-no_piece text h = rw h.one refl
+-- a byte that stands at a place is the one looked for
+pub small_at : (c : ℕ) (bytes : List ℕ) (at : ℕ) → c < 128 → (get_or bytes at 0 == c) ≡ true → get_or bytes at 0 < 128
+small_at c bytes at small is = rw (same (get_or bytes at 0) c is) small
 
-pub two_pieces : (text left rest : List ℕ) → IsCut 32 text left rest → IsUncut 32 rest → IsPiecesAnswer (slice_split is_space text) want_three
-two_pieces text left rest h k = rw (h.more, k.one) refl
+pub first_none : (c byte : ℕ) (bytes : List ℕ) → HasNone c (byte ∷ bytes) → ((byte == c) ≡ false) × HasNone c bytes
+first_none c byte bytes none =
+    elim (byte == c) as (λ t. (t || list_any (λ b. b == c) bytes) ≡ false → (t ≡ false) × HasNone c bytes)
+    [ true ↦ λ n. absurd (let no : true ≡ false = n in cc) | false ↦ λ n. (refl, n) ] none
 
-pub three_pieces : (text left rest operator right answer : List ℕ) → IsCut 32 text left rest → IsCut 32 rest operator right → IsUncut 32 right
+split_uncut : (c : ℕ) (text : List ℕ) → HasNone c text → slice_split (λ b. b == c) text ≡ text ∷ []
+split_uncut c [] none = refl
+split_uncut c (byte ∷ text) none =
+    let first = first_none c byte text none in
+    ap (λ t. cond t ([] ∷ slice_split (λ b. b == c) text) (onto_first byte (slice_split (λ b. b == c) text))) first.0 ∙ ap (onto_first byte) (split_uncut c text first.1)
+
+split_cut : (c : ℕ) (before after : List ℕ) → HasNone c before → slice_split (λ b. b == c) (before ++ c ∷ after) ≡ before ∷ slice_split (λ b. b == c) after
+split_cut c [] after none = ap (λ t. cond t ([] ∷ slice_split (λ b. b == c) after) (onto_first c (slice_split (λ b. b == c) after))) (itself c)
+split_cut c (byte ∷ before) after none =
+    let first = first_none c byte before none in
+    ap (λ t. cond t ([] ∷ slice_split (λ b. b == c) (before ++ c ∷ after)) (onto_first byte (slice_split (λ b. b == c) (before ++ c ∷ after)))) first.0
+    ∙ ap (onto_first byte) (split_cut c before after first.1)
+
+-- ---- the pieces of a line
+
+pub no_piece : (text : List ℕ) → HasNone 32 text → IsPiecesAnswer (slice_split is_space text) want_three
+no_piece text none = rw (split_uncut 32 text none) refl
+
+pub two_pieces : (text left rest : List ℕ) → text ≡ left ++ 32 ∷ rest → HasNone 32 left → HasNone 32 rest → IsPiecesAnswer (slice_split is_space text) want_three
+two_pieces text left rest first one none = rw (first, split_cut 32 left rest one, split_uncut 32 rest none) refl
+
+pub three_pieces : (text left rest operator right answer : List ℕ) → text ≡ left ++ 32 ∷ rest → rest ≡ operator ++ 32 ∷ right → HasNone 32 left → HasNone 32 operator → HasNone 32 right
     → IsThreeAnswer left operator right answer → IsPiecesAnswer (slice_split is_space text) answer
-three_pieces text left rest operator right answer h k u three = rw (h.more, k.more, u.one) three
+three_pieces text left rest operator right answer first second one two none three =
+    rw (first, split_cut 32 left rest one, second, split_cut 32 operator right two, split_uncut 32 right none) three
 
 too_many : (left operator right : List ℕ) (others : List (List ℕ)) → 0 < length others → IsPiecesAnswer (left ∷ operator ∷ right ∷ others) want_three
 too_many left operator right [] h = absurd (omega arith)
 too_many left operator right (fourth ∷ others) h = refl
 
-pub more_pieces : (text left rest operator right fourth others : List ℕ) → IsCut 32 text left rest → IsCut 32 rest operator right → IsCut 32 right fourth others
-    → IsPiecesAnswer (slice_split is_space text) want_three
-more_pieces text left rest operator right fourth others h k u =
-    rw (h.more, k.more, u.more) (too_many left operator fourth (slice_split is_space others) (omega (arith, length-slice_split is_space others)))
+pub more_pieces : (text left rest operator right fourth others : List ℕ) → text ≡ left ++ 32 ∷ rest → rest ≡ operator ++ 32 ∷ right → right ≡ fourth ++ 32 ∷ others
+    → HasNone 32 left → HasNone 32 operator → HasNone 32 fourth → IsPiecesAnswer (slice_split is_space text) want_three
+more_pieces text left rest operator right fourth others first second third one two three =
+    rw (first, split_cut 32 left rest one, second, split_cut 32 operator right two, third, split_cut 32 fourth others three)
+    (too_many left operator fourth (slice_split is_space others) (omega (arith, length-slice_split is_space others)))

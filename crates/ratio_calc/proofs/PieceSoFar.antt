@@ -8,7 +8,7 @@ use Rattle.ratio_calc.specs.declared.calculator.CalcFault.TheVariants.{Write}
 use Rattle.ratio_calc.specs.Answers.{is_line_end}
 use Rattle.ratio_calc.specs.Devices.{Device, GathersFor, Took, TookSome}
 use Rattle.ratio_calc.specs.KeptLine.{ArePieceAnswers, IsAnswerLine, IsByteAnswer, IsKeptAnswer, extended, line_after, next_line}
-use Rattle.ratio_calc.specs.Pieces.{HasNoEnd}
+use Rattle.ratio_calc.specs.Cuts.{HasNone}
 use Rattle.ratio_calc.proofs.AnswersExist.{answer_exists}
 use Rattle.ratio_calc.proofs.DeviceCalls.{gathers_part, joined, took_both, took_nothing, took_some_after}
 use Rattle.ratio_calc.proofs.Pieces.{after_plain, answers_line, answers_plain}
@@ -38,7 +38,7 @@ after_shorter rest bytes after split =
 
 -- the answer to the line that ends next
 next_answer : (line line' : Option (List ℕ)) (piece rest bytes after answer : List ℕ) (old new : Device) (waited waiting : List ℕ)
-    → HasNoEnd bytes → rest ≡ bytes ++ 10 ∷ after → IsKeptAnswer (extended line' bytes) answer
+    → HasNone 10 bytes → rest ≡ bytes ++ 10 ∷ after → IsKeptAnswer (extended line' bytes) answer
     → (p : PieceSoFar line line' piece rest old new waited waiting) (others : List ℕ) → ArePieceAnswers (Some []) after others
     → ArePieceAnswers line piece (p.bytes ++ ((answer ++ 10 ∷ []) ++ others))
 next_answer line line' piece rest bytes after answer old new waited waiting none split is_answer p others h =
@@ -46,7 +46,7 @@ next_answer line line' piece rest bytes after answer old new waited waiting none
     (rw split (answers_line line' bytes after (answer ++ 10 ∷ []) others none (record { answer = answer; is_answer = is_answer; text = refl }) h))
 
 pub piece_goes_on : (line line' next : Option (List ℕ)) (piece rest bytes after answer : List ℕ) (a b c : Device) (waited between waiting written : List ℕ)
-    → PieceSoFar line line' piece rest a b waited between → HasNoEnd bytes → rest ≡ bytes ++ 10 ∷ after → IsKeptAnswer (extended line' bytes) answer → next ≡ Some []
+    → PieceSoFar line line' piece rest a b waited between → HasNone 10 bytes → rest ≡ bytes ++ 10 ∷ after → IsKeptAnswer (extended line' bytes) answer → next ≡ Some []
     → Took b c written → between ++ (answer ++ 10 ∷ []) ≡ written ++ waiting → PieceSoFar line next piece after a c waited waiting
 piece_goes_on line line' next piece rest bytes after answer a b c waited between waiting written p none split is_answer begins took same = rw begins (record {
   bytes = p.bytes ++ (answer ++ 10 ∷ []);
@@ -58,12 +58,12 @@ piece_goes_on line line' next piece rest bytes after answer a b c waited between
 })
 
 pub piece_line : (line line' : Option (List ℕ)) (piece rest : List ℕ) (old new : Device) (waited waiting : List ℕ) → PieceSoFar line line' piece rest old new waited waiting
-    → HasNoEnd rest → extended line' rest ≡ line_after line piece
+    → HasNone 10 rest → extended line' rest ≡ line_after line piece
 piece_line line line' piece rest old new waited waiting p none =
     sym (after_plain line' rest [] none) ∙ ap (line_after line') (append-nil rest) ∙ p.after
 
 pub piece_done : {T : Type 0} {x : T} (line line' : Option (List ℕ)) (piece rest : List ℕ) (old new : Device) (waited waiting : List ℕ)
-    → PieceSoFar line line' piece rest old new waited waiting → HasNoEnd rest → GathersFor (ArePieceAnswers line piece) old new waited waiting (Ok x)
+    → PieceSoFar line line' piece rest old new waited waiting → HasNone 10 rest → GathersFor (ArePieceAnswers line piece) old new waited waiting (Ok x)
 piece_done line line' piece rest old new waited waiting p none =
     let nothing : ArePieceAnswers line' (rest ++ []) [] = answers_plain line' rest [] [] none refl in
     record {
@@ -90,7 +90,7 @@ piece_exists line (byte ∷ piece) =
 
 -- a call failed before the answer to the line that ends next was written; what comes after it has its answers too
 pub piece_stops : {T : Type 0} (line line' : Option (List ℕ)) (piece rest bytes after answer : List ℕ) (a b c : Device) (waited between waiting : List ℕ) (r : Result T CalcFault)
-    → PieceSoFar line line' piece rest a b waited between → HasNoEnd bytes → rest ≡ bytes ++ 10 ∷ after → IsKeptAnswer (extended line' bytes) answer
+    → PieceSoFar line line' piece rest a b waited between → HasNone 10 bytes → rest ≡ bytes ++ 10 ∷ after → IsKeptAnswer (extended line' bytes) answer
     → TookSome b c (between ++ (answer ++ 10 ∷ [])) → r ≡ Err Write → GathersFor (ArePieceAnswers line piece) a c waited waiting r
 piece_stops line line' piece rest bytes after answer a b c waited between waiting r p none split is_answer some e =
     let others = piece_exists (Some []) after in

@@ -1,45 +1,15 @@
--- Where a line ends within a piece, and what a piece does to the begun line.
+-- What a piece does to the begun line.
 use Rattle.std.proofs.Common.{◌≡◌, ℕ, zero, suc, ◌+◌, ◌-◌, ◌<◌, ◌≤◌, List, [], ◌∷◌, ◌++◌, length, take, drop, get_or, Bool, true, false, not, cond, ◌||◌, ◌==◌, nat_lt, Option, None, Some, refl, ap, ◌∙◌, sym, arith, append_assoc, length-append}
 use Rattle.std.specs.Bool.{MatchBool}
-use Rattle.std.specs.List.{list_any}
 use Rattle.std.proofs.lemmas.Bool.Decides.{nat_tests}
-use Rattle.std.proofs.lemmas.List.{append-nil, drop_more, take-append-drop, take_rest}
-use Rattle.std.proofs.Math.Seq.{take-length}
-use Rattle.ratio_calc.specs.Answers.{IsAnswer, is_line_end}
+use Rattle.std.proofs.lemmas.List.{append-nil}
+use Rattle.ratio_calc.specs.Answers.{IsAnswer}
 use Rattle.ratio_calc.specs.KeptLine.{ArePieceAnswers, IsAnswerLine, IsKeptAnswer, extended, is_empty, line_after, pushed}
-use Rattle.ratio_calc.specs.Pieces.{HasNoEnd}
-
-is_end : (byte : ℕ) → is_line_end byte ≡ true → byte ≡ 10
-is_end byte e = grind (arith, nat_tests)
-
--- no line ends before the n-th byte
-pub none_before : (bytes : List ℕ) (n : ℕ) → n ≤ length bytes → ((k : ℕ) → k < n → ¬ (is_line_end (get_or bytes k 0) ≡ true)) → HasNoEnd (take n bytes)
-none_before bytes zero within none = refl
-none_before [] (suc n) within none = refl
-none_before (byte ∷ bytes) (suc n) within none =
-    elim (is_line_end byte) as (λ t. is_line_end byte ≡ t → (t || list_any is_line_end (take n bytes)) ≡ false) [
-      | true ↦ λ t. absurd (none 0 (omega arith) t)
-      | false ↦ λ t. none_before bytes n (omega arith) (λ k below. none (suc k) (omega arith))
-    ] refl
-
-pub none_at_all : (bytes : List ℕ) → ((k : ℕ) → k < length bytes → ¬ (is_line_end (get_or bytes k 0) ≡ true)) → HasNoEnd bytes
-none_at_all bytes none =
-    let all : HasNoEnd (take (length bytes) bytes) = none_before bytes (length bytes) (omega arith) none in rw take-length at all
-
--- the bytes on both sides of a line end
-pub cut_at : (bytes : List ℕ) (at : ℕ) → at < length bytes → is_line_end (get_or bytes at 0) ≡ true → bytes ≡ take at bytes ++ 10 ∷ take (length bytes - (at + 1)) (drop (at + 1) bytes)
-cut_at bytes at within ends =
-    sym (take-append-drop at bytes) ∙ ap (λ xs. take at bytes ++ xs) (drop_more bytes at 0 within)
-    ∙ ap (λ byte. take at bytes ++ byte ∷ drop (at + 1) bytes) (is_end (get_or bytes at 0) ends)
-    ∙ ap (λ rest. take at bytes ++ 10 ∷ rest) (sym (take_rest bytes (at + 1)))
+use Rattle.ratio_calc.specs.Cuts.{HasNone}
+use Rattle.ratio_calc.proofs.Cuts.{first_none}
 
 below : (n : ℕ) → nat_lt n 120 ≡ true → n < 120
 below n t = grind (arith, nat_tests)
-
-first_no_end : (byte : ℕ) (bytes : List ℕ) → HasNoEnd (byte ∷ bytes) → (is_line_end byte ≡ false) × HasNoEnd bytes
-first_no_end byte bytes none =
-    elim (is_line_end byte) as (λ t. (t || list_any is_line_end bytes) ≡ false → (t ≡ false) × HasNoEnd bytes)
-    [ true ↦ λ n. absurd (let no : true ≡ false = n in cc) | false ↦ λ n. (refl, n) ] none
 
 room : (n m k : ℕ) → m ≡ n + 1 → m + k ≤ 120 → nat_lt n 120 ≡ true
 room n m k e within = grind (arith, nat_tests)
@@ -105,21 +75,21 @@ answer_kept line answer h =
     ] refl h
 
 -- bytes without a line end go to the begun line
-pub after_plain : (line : Option (List ℕ)) (bytes rest : List ℕ) → HasNoEnd bytes → line_after line (bytes ++ rest) ≡ line_after (extended line bytes) rest
+pub after_plain : (line : Option (List ℕ)) (bytes rest : List ℕ) → HasNone 10 bytes → line_after line (bytes ++ rest) ≡ line_after (extended line bytes) rest
 after_plain line [] rest none = refl
 after_plain line (byte ∷ bytes) rest none =
-    let first = first_no_end byte bytes none in
+    let first = first_none 10 byte bytes none in
     ap (λ t. line_after (cond t (Some []) (pushed line byte)) (bytes ++ rest)) first.0 ∙ after_plain (pushed line byte) bytes rest first.1
 
 -- they answer nothing
-pub answers_plain : (line : Option (List ℕ)) (bytes rest answers : List ℕ) → HasNoEnd bytes → ArePieceAnswers (extended line bytes) rest answers
+pub answers_plain : (line : Option (List ℕ)) (bytes rest answers : List ℕ) → HasNone 10 bytes → ArePieceAnswers (extended line bytes) rest answers
     → ArePieceAnswers line (bytes ++ rest) answers
 answers_plain line [] rest answers none h = h
 answers_plain line (byte ∷ bytes) rest answers none h =
-    let first = first_no_end byte bytes none in
+    let first = first_none 10 byte bytes none in
     ([], answers, rw first.0 refl, rw first.0 (answers_plain (pushed line byte) bytes rest answers first.1 h), refl)
 
 -- a line end after them answers the line
-pub answers_line : (line : Option (List ℕ)) (bytes rest first others : List ℕ) → HasNoEnd bytes → IsAnswerLine (extended line bytes) first → ArePieceAnswers (Some []) rest others
+pub answers_line : (line : Option (List ℕ)) (bytes rest first others : List ℕ) → HasNone 10 bytes → IsAnswerLine (extended line bytes) first → ArePieceAnswers (Some []) rest others
     → ArePieceAnswers line (bytes ++ 10 ∷ rest) (first ++ others)
 answers_line line bytes rest first others none answer h = answers_plain line bytes (10 ∷ rest) (first ++ others) none (first, others, answer, h, refl)

@@ -3,5 +3,5 @@ pub mod Answers
 pub mod AnswerText
 pub mod KeptLine
 pub mod Devices
-pub mod Pieces
+pub mod Cuts
 pub mod Run

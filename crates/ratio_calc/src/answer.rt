@@ -8,6 +8,7 @@ ghost use Rattle.ratio_calc.specs.AnswerText.{bytes_of};
 ghost use Rattle.ratio_calc.specs.Operands.{number_of, numbers_of};
 
 use crate::answer_text::AnswerText;
+use crate::cut::cut_text;
 use crate::operator::{Operator, operator_named};
 use either::Either;
 use num_rational::{ParseRatioError, RatioErrorKind, Rational64};
@@ -110,13 +111,13 @@ fn answer_three(left: &str, middle: &str, right: &str) -> AnswerText
 fn answer_pieces(text: &str) -> AnswerText
     ensures { IsPiecesAnswer (slice_split is_space text.now) (bytes_of result) }
 {
-    let Some((left, rest)) = text.split_once(' ') else {
+    let Some((left, rest)) = cut_text(text, b' ') else {
         return Either::Left(WANT_THREE);
     };
-    let Some((middle, right)) = rest.split_once(' ') else {
+    let Some((middle, right)) = cut_text(rest, b' ') else {
         return Either::Left(WANT_THREE);
     };
-    match right.split_once(' ') {
+    match cut_text(right, b' ') {
         Some(_) => Either::Left(WANT_THREE),
         None => answer_three(left, middle, right),
     }

@@ -6,6 +6,7 @@ pub mod answer_text;
 pub mod calculator;
 pub mod calls;
 pub mod counted;
+pub mod cut;
 #[cfg(test)]
 mod devices;
 pub mod gathered;

@@ -3,27 +3,16 @@ ghost use Rattle.std.specs.Prelude.{◌≡◌, ◌++◌, ◌∷◌, [], Some, On
 ghost use Rattle.ratio_calc.specs.AnswerText.{bytes_of};
 ghost use Rattle.ratio_calc.specs.Devices.{Gathers, GathersFor};
 ghost use Rattle.ratio_calc.specs.KeptLine.{ArePieceAnswers, IsKeptAnswer, extended, line_after};
-ghost use Rattle.ratio_calc.specs.Pieces.{IsCut};
 
 use crate::answer::answer;
 use crate::answer_text::AnswerText;
 use crate::calculator::CalcFault;
 use crate::counted::CalcWrite;
+use crate::cut::cut;
 use crate::gathered::Gathered;
 use crate::line::Line;
 use either::Either;
-use memchr::memchr;
 use num_rational::Form;
-
-/// What stands before the first line end, and what after it.
-fn cut_line(bytes: &[u8]) -> Option<(&[u8], &[u8])>
-    ensures { IsCut bytes.now result }
-{
-    match memchr(b'\n', bytes) {
-        Some(at) => Some((&bytes[..at], &bytes[at + 1..])),
-        None => None,
-    }
-}
 
 /// Gathers an answer without its line end.
 fn put_text<W: CalcWrite>(
@@ -83,7 +72,7 @@ pub fn answer_piece<W: CalcWrite>(
         gathered.old gathered.new result }
 {
     let mut rest = piece;
-    while let Some((bytes, after)) = cut_line(rest) {
+    while let Some((bytes, after)) = cut(rest, b'\n') {
         put_answer(gathered, writer, &ended(line, bytes))?;
         rest = after;
     }

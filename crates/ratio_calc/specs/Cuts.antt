@@ -1,0 +1,13 @@
+-- Where bytes are cut.
+use Rattle.std.specs.Prelude.{◌≡◌, ℕ, List, ◌∷◌, ◌++◌, ◌==◌, Bool, false, Option, None, Some}
+use Rattle.std.specs.Borrow.{Bor}
+use Rattle.std.specs.List.{list_any}
+
+-- no such byte stands here
+abbrev pub HasNone : ℕ → List ℕ → Type 0
+HasNone byte bytes = list_any (λ b. b == byte) bytes ≡ false
+
+-- what stands before the first such byte, and what after it; or there is none
+abbrev pub IsCut : ℕ → List ℕ → Option (Bor (List ℕ) × Bor (List ℕ)) → Type 0
+IsCut byte bytes None = HasNone byte bytes
+IsCut byte bytes (Some cut) = HasNone byte cut.0.now × (bytes ≡ cut.0.now ++ byte ∷ cut.1.now)

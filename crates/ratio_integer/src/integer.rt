@@ -293,7 +293,7 @@ pub trait Integer: Copy + Ord + Hash {
     {
         match self.try_lcm(o) {
             Some(multiple) => multiple,
-            None => Self::ZERO,
+            None => unreachable!(),
         }
     }
 

@@ -1,5 +1,5 @@
 -- What several calls of a device do together.
-use Rattle.std.proofs.Common.{◌≡◌, ◌≢◌, ℕ, ◌+◌, ◌-◌, ◌≤◌, List, [], ◌∷◌, ◌++◌, length, take, drop, Bool, true, false, Option, None, Some, Result, Ok, Err, refl, ap, ◌∙◌, sym, arith, append_assoc, length-take, not, cond, ◌==◌, ◌&&◌}
+use Rattle.std.proofs.Common.{◌≡◌, ◌≢◌, ℕ, ◌+◌, ◌-◌, ◌≤◌, List, [], ◌++◌, length, take, drop, true, false, Option, None, Some, Result, Ok, Err, refl, ap, ◌∙◌, sym, arith, append_assoc, length-take, not, cond, ◌==◌, ◌&&◌}
 use Rattle.std.specs.Io.KnownBytes.{Consumes, Appends, Keeps}
 use Rattle.std.proofs.Math.Seq.{take-add}
 use Rattle.std.proofs.lemmas.List.{append-nil, take-take, take-append-drop}
@@ -9,7 +9,7 @@ use Rattle.std.specs.Bool.{MatchBool}
 use Rattle.std.specs.Prelude.{IsErrAnd, OnOk}
 use Rattle.ratio_calc.specs.declared.calculator.CalcFault.{CalcFault}
 use Rattle.ratio_calc.specs.declared.calculator.CalcFault.TheVariants.{Write}
-use Rattle.ratio_calc.specs.Devices.{Device, Ended, Failed, Gathers, Gave, GivesPiece, Took, TookSome, Writes, after_failing, after_moving, after_write}
+use Rattle.ratio_calc.specs.Devices.{Device, Ended, Failed, Gathers, Gave, GivesPiece, Took, TookSome, Writes, after_failing, after_moving}
 
 appends_nothing : (held : Option (List ℕ)) → Appends held held []
 appends_nothing None = tt

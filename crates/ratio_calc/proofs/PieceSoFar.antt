@@ -7,7 +7,7 @@ use Rattle.ratio_calc.specs.declared.calculator.CalcFault.{CalcFault}
 use Rattle.ratio_calc.specs.declared.calculator.CalcFault.TheVariants.{Write}
 use Rattle.ratio_calc.specs.Answers.{is_line_end}
 use Rattle.ratio_calc.specs.Devices.{Device, GathersFor, Took, TookSome}
-use Rattle.ratio_calc.specs.KeptLine.{ArePieceAnswers, IsAnswerLine, IsByteAnswer, IsKeptAnswer, extended, line_after, next_line}
+use Rattle.ratio_calc.specs.KeptLine.{ArePieceAnswers, IsAnswerLine, IsKeptAnswer, extended, line_after, next_line}
 use Rattle.ratio_calc.specs.Cuts.{HasNone}
 use Rattle.ratio_calc.proofs.AnswersExist.{answer_exists}
 use Rattle.ratio_calc.proofs.DeviceCalls.{gathers_part, joined, took_both, took_nothing, took_some_after}

@@ -1,5 +1,5 @@
 -- A trailing carriage return.
-use Rattle.std.proofs.Common.{◌≡◌, ℕ, List, [], ◌∷◌, ◌++◌, length, true, false, cond, Option, None, Some, refl, ap, ◌∙◌, sym, arith, ◌≢◌, Bor, ◌==◌, not, nat_lt, ◌≤◌}
+use Rattle.std.proofs.Common.{◌≡◌, ℕ, List, [], ◌∷◌, ◌++◌, length, true, false, cond, Option, None, Some, refl, ap, ◌∙◌, sym, arith, ◌≢◌, Bor, ◌==◌, nat_lt, ◌≤◌}
 use Rattle.std.specs.Prelude.{MatchBool, codes, unwrap_or}
 use Rattle.std.specs.List.{slice_split}
 use Rattle.std.specs.Str.{IsUtf8, is_utf8}

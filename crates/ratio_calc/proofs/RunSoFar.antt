@@ -1,12 +1,12 @@
 -- How far a run has come, and how it ends.
-use Rattle.std.proofs.Common.{◌≡◌, ℕ, ◌+◌, ◌-◌, ◌^◌, ◌≤◌, List, [], ◌∷◌, ◌++◌, length, Option, Some, Result, Ok, Err, refl, ap, ◌∙◌, sym, arith, append_assoc, length-append}
+use Rattle.std.proofs.Common.{◌≡◌, ℕ, ◌+◌, ◌-◌, ◌^◌, ◌≤◌, List, [], ◌++◌, length, Option, Some, Result, Ok, Err, refl, ap, ◌∙◌, sym, arith, length-append}
 use Rattle.std.proofs.lemmas.List.{append-nil}
 use Rattle.std.specs.Prelude.{OnOk}
 use Rattle.ratio_calc.specs.declared.calculator.CalcFault.{CalcFault}
 use Rattle.ratio_calc.specs.declared.calculator.CalcFault.TheVariants.{Read, Write, Endless}
 use Rattle.ratio_calc.specs.declared.calls.Calls.{Calls}
 use Rattle.ratio_calc.specs.Answers.{AreAnswersOf, AreWholeAnswers, begun_line, if_begun, whole_lines}
-use Rattle.ratio_calc.specs.Devices.{Device, Ended, Failed, Flushes, Gave, Took, TookSome, after_ending, after_failing, after_flushing, after_moving}
+use Rattle.ratio_calc.specs.Devices.{Device, Ended, Failed, Flushes, Gave, Took, TookSome, after_ending, after_failing, after_flushing}
 use Rattle.ratio_calc.specs.KeptLine.{ArePieceAnswers, IsLastAnswer, kept, line_after}
 use Rattle.ratio_calc.specs.Run.{Ran, ReadsLines, read_failures, write_failures}
 use Rattle.ratio_calc.proofs.DeviceCalls.{appends_kept, consumes_both, consumes_kept, gathered_all, gave_both, gave_nothing, took_all, took_both, took_nothing, took_some_after, took_some_before}

@@ -1,5 +1,5 @@
 -- What calls of a reader and of a writer do.
-use Rattle.std.specs.Prelude.{◌≡◌, ℕ, ◌+◌, ◌≤◌, List, [], ◌++◌, ◌==◌, ◌&&◌, not, length, take, Option, None, Some, Result, Ok, Err, if◌then◌else◌, MatchBool}
+use Rattle.std.specs.Prelude.{◌≡◌, ℕ, ◌+◌, ◌≤◌, List, [], ◌++◌, ◌==◌, ◌&&◌, not, length, take, Option, Result, Ok, Err, if◌then◌else◌, MatchBool}
 use Rattle.std.specs.Io.KnownBytes.{Appends, Consumes, IsAtEnd, Keeps}
 use Rattle.ratio_calc.specs.declared.calculator.CalcFault.{CalcFault}
 use Rattle.ratio_calc.specs.declared.calculator.CalcFault.TheVariants.{Read, Write}

@@ -143,7 +143,9 @@ impl Read for WatchedFeed<'_> {
         let (given, rest) = self.bytes.split_at(count);
         buf[..count].copy_from_slice(given);
         self.bytes = rest;
-        watch.ends_read.set(watch.ends_read.get().wrapping_add(line_ends(given)));
+        watch
+            .ends_read
+            .set(watch.ends_read.get().wrapping_add(line_ends(given)));
         Ok(count)
     }
 }
@@ -160,7 +162,9 @@ impl Write for WatchedSink<'_> {
     fn write(&mut self, buf: &[u8]) -> io::Result<usize> {
         let watch = self.watch;
         watch.writes.set(watch.writes.get().wrapping_add(1));
-        watch.ends_written.set(watch.ends_written.get().wrapping_add(line_ends(buf)));
+        watch
+            .ends_written
+            .set(watch.ends_written.get().wrapping_add(line_ends(buf)));
         Ok(buf.len())
     }
 

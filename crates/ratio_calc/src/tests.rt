@@ -136,7 +136,10 @@ fn answers_long_lines(rt: HostRuntime) -> Result<(), Fail> {
         (122, b"error: line too long\n".as_slice()),
     ] {
         for step in [1, 7, 512] {
-            assert_eq!(rt; answered(rt.alloc(), &letters[..count], step)?.as_slice(), answer);
+            assert_eq!(rt;
+                answered(rt.alloc(), &letters[..count], step)?.as_slice(),
+                answer
+            );
         }
     }
     Ok(())
@@ -172,7 +175,10 @@ fn answers_lines_across_pieces(rt: HostRuntime) -> Result<(), Fail> {
         (sums.as_slice(), threes.as_slice()),
         (long.as_slice(), b"error: line too long\n0\n"),
         (endless.as_slice(), b"error: line too long\n"),
-        (full.as_slice(), b"error: line too long\nerror: want LEFT OP RIGHT\n"),
+        (
+            full.as_slice(),
+            b"error: line too long\nerror: want LEFT OP RIGHT\n",
+        ),
         (returned.as_slice(), b"error: line too long\n3\n"),
     ];
     for (input, answers) in rows {
@@ -189,7 +195,10 @@ fn answers_more_than_waits(rt: HostRuntime) -> Result<(), Fail> {
     let input = repeated(rt.alloc(), b"\n", 600)?;
     let answers = repeated(rt.alloc(), b"error: want LEFT OP RIGHT\n", 600)?;
     for step in [1, 7, 512] {
-        assert_eq!(rt; answered(rt.alloc(), input.as_slice(), step)?.as_slice(), answers.as_slice());
+        assert_eq!(rt;
+            answered(rt.alloc(), input.as_slice(), step)?.as_slice(),
+            answers.as_slice()
+        );
     }
     Ok(())
 }
@@ -211,7 +220,11 @@ fn reads_and_writes_once_a_piece(rt: HostRuntime) -> Result<(), Fail> {
         assert_eq!(rt; watch.reads.get(), reads);
         assert_eq!(rt; watch.writes.get(), writes);
         assert_eq!(rt; watch.ends_written.get(), 86);
-        assert_eq!(rt; watch.is_late.get(), false, "every whole line was answered before a read");
+        assert_eq!(rt;
+            watch.is_late.get(),
+            false,
+            "every whole line was answered before a read"
+        );
     }
     Ok(())
 }

@@ -1,5 +1,4 @@
-use Rattle.std.proofs.Common.{◌≡◌, ◌∙◌, Err, ap}
-use Rattle.ratio_calc.specs.declared.calculator.CalcFault.TheVariants.{Write}
+use Rattle.std.proofs.Common.{◌∙◌, Err, ap}
 use Rattle.ratio_calc.proofs.DeviceCalls.{err_is}
 use Rattle.ratio_calc.proofs.RunSoFar.{finished, stopped_reading, stopped_writing}
 use Rattle.ratio_calc.proofs.calculator.run.Goals as goal

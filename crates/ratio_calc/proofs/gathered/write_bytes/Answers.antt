@@ -1,5 +1,4 @@
-use Rattle.std.proofs.Common.{◌+◌, ◌≤◌, length, take, drop, ◌-◌, arith, refl, length-take, length-drop}
-use Rattle.ratio_calc.specs.Devices.{Failed}
+use Rattle.std.proofs.Common.{◌+◌, ◌≤◌, length, arith, refl, length-take, length-drop}
 use Rattle.ratio_calc.proofs.DeviceCalls.{took_nothing, took_more, took_none, stops_within}
 use Rattle.ratio_calc.proofs.gathered.write_bytes.Goals as goal
 

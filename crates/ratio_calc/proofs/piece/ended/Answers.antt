@@ -1,5 +1,4 @@
-use Rattle.std.proofs.Common.{◌≡◌, true, [], Some, ◌∙◌, ap, sym}
-use Rattle.ratio_calc.specs.KeptLine.{is_empty}
+use Rattle.std.proofs.Common.{◌∙◌, sym}
 use Rattle.ratio_calc.proofs.Pieces.{answer_kept, empty_line}
 use Rattle.ratio_calc.proofs.piece.ended.Goals as goal
 

@@ -1,9 +1,8 @@
 -- A struct without a byte is made, with nothing in its ghost fields.
-use Rattle.std.proofs.Common.{ℕ, List, [], ◌∷◌, refl}
+use Rattle.std.proofs.Common.{[], ◌∷◌, refl}
 use Rattle.std.proofs.raw_atomic.Walks.{proved}
 use base.Fml.{ftrue}
 use mir.Val.{vstruct, vnil}
-use contract.Running.{tables}
 use types.Kit.{‵, ◌⊛◌, ◌$◌, ◌∵◌, !, qed, move, keep, split, suffices, done}
 use types.Run.{no_more, returns, enter}
 use types.Part.{agg}

@@ -1,11 +1,10 @@
 -- The body is empty: the borrow is opened and closed at another ghost value.
-use Rattle.std.proofs.Common.{◌+◌, List, [], ◌∷◌, refl}
+use Rattle.std.proofs.Common.{[], ◌∷◌, refl}
 use Rattle.std.proofs.raw_atomic.Walks.{proved}
 use base.Fml.{ftrue, flft}
 use mir.Syntax.{named}
-use mir.Val.{Val, vunit}
-use contract.Running.{tables}
-use types.Kit.{‵, ◌⊛◌, ◌$◌, ◌∵◌, !, qed, done, move, keep, split, join, fsplit3, fjoin, feq_i, suffices, frame, group}
+use mir.Val.{vunit}
+use types.Kit.{‵, ◌⊛◌, ◌$◌, ◌∵◌, !, qed, done, move, keep, split, join, fsplit3, feq_i, suffices, frame, group}
 use types.Run.{enter, of_opd, unit_lit, returns}
 use types.ByLocal.{alloc_all, pass_all, free_all, look_at, sets}
 use denote.Ref.{MutRef, mut_vals, mut_Tells}

@@ -1,20 +1,19 @@
 -- The body is empty: the borrow is opened and closed at another ghost value.
-use Rattle.std.proofs.Common.{List, [], ◌∷◌, refl, length}
+use Rattle.std.proofs.Common.{List, [], ◌∷◌, refl}
 use Rattle.std.proofs.raw_atomic.Walks.{proved}
 use base.Fml.{ftrue, flft}
 use mir.Syntax.{named}
 use mir.Val.{Val, vunit}
-use contract.Running.{tables}
-use types.Kit.{‵, ◌⊛◌, ◌$◌, ◌∵◌, !, qed, done, move, keep, drop, split, join, fsplit, fsplit3, fjoin, fjoin3, feq_i, suffices, frame, group}
+use types.Kit.{‵, ◌⊛◌, ◌$◌, ◌∵◌, !, qed, done, move, keep, drop, split, join, fsplit, fsplit3, fjoin, fjoin3, feq_i, suffices, frame}
 use types.Run.{enter, of_opd, unit_lit, returns}
 use types.ByLocal.{alloc_all, pass_all, free_all, look_at, sets}
 use denote.Builtin.{u8}
 use denote.Exit.{yes}
 use denote.RattleType.{owns}
 use denote.Ref.{MutRef, mut_vals, mut_Tells}
-use denote.Signature.{plain, types_at}
+use denote.Signature.{plain}
 use denote.Slice.{ShrSlice, shr_slice_vals, shr_slice_Tells}
-use denote.Steps.{nothing, opens, closes}
+use denote.Steps.{opens, closes}
 use denote.Triple.Walked.{Stays, walk_of, says, stay_ref, stay_none_slice, Goes-ref, Goes-none_slice, ends_at}
 use Rattle.ratio_calc.specs.Devices.{after_moving}
 use Rattle.ratio_calc.specs.contracts.calls.Calls.note_moved as f

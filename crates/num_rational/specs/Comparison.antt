@@ -1,5 +1,5 @@
 -- How two fractions stand to one another.
-use Rattle.std.specs.Prelude.{◌≡◌, ◌*ℤ◌, ℤ, Bool}
+use Rattle.std.specs.Prelude.{◌≡◌, ◌*ℤ◌, Bool}
 use Rattle.std.specs.Ordering.{int_eq}
 use Rattle.std.specs.declared.cmp.Ordering.{Ordering}
 use Rattle.ratio_integer.specs.Fraction.{IsLowestTerms, SameValue}

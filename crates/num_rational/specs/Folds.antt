@@ -1,5 +1,5 @@
 -- Sums and products of lists. An item is seen as two whole numbers, and so is the total so far.
-use Rattle.std.specs.Prelude.{◌≡◌, ℤ, pos, Bool, List, [], ◌∷◌, ⊤}
+use Rattle.std.specs.Prelude.{ℤ, pos, Bool, List, [], ◌∷◌, ⊤}
 use Rattle.std.specs.List.{FoldsTo}
 use Rattle.ratio_integer.specs.Arithmetic.{product_of, sum_of}
 use Rattle.ratio_integer.specs.Fraction.{IsLowestTermsOf}

@@ -6,7 +6,7 @@ use Rattle.std.proofs.Math.Nat.{dvd_of_mul-dvd-mul_left, eq-one_of_dvd-one, mul-
 use Rattle.std.proofs.lemmas.Int.{ints, unsigned_abs-mul}
 use lib.IntN.{*ℤ_comm, zero-*ℤ}
 use Rattle.ratio_integer.specs.Division.{IsGcdOf}
-use Rattle.ratio_integer.specs.Fraction.{IsHeldLowest, IsLowestTerms, IsLowestTermsOf}
+use Rattle.ratio_integer.specs.Fraction.{IsHeldLowest, IsLowestTermsOf}
 use Rattle.ratio_integer.specs.Range.{IsHeld, IsRange}
 use Rattle.ratio_integer.proofs.CommonDivisors.{gcd_coprime}
 use Rattle.ratio_integer.proofs.DivisionLemmas.{abs_pos, low_below}

@@ -1,6 +1,6 @@
 use Rattle.std.proofs.Common.{◌≡◌, ◌∙◌, ap, refl, fold}
 use Rattle.std.specs.List.{flat_map}
-use Rattle.ratio_core.proofs.HashLaws.{codes_of, codes_of_known, fold_keeps, fold_writes}
+use Rattle.ratio_core.proofs.HashLaws.{codes_of_known, fold_keeps, fold_writes}
 use Rattle.num_rational.specs.Hashing.{codes_of_ratio}
 use Rattle.num_rational.specs.declared.hash.HashedCodes.{HashedCodes}
 use Rattle.num_rational.proofs.hash.hash_codes.Goals as goal

@@ -1,4 +1,3 @@
-use Rattle.std.proofs.Common.{List, ◌≡◌, ℕ}
 use Rattle.num_rational.specs.Folds.{IsProductOf}
 use Rattle.num_rational.specs.Operators.{numbers}
 use Rattle.num_rational.proofs.ratio.Ratio.product.Given as goal

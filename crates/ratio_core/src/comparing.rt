@@ -2,13 +2,13 @@
 ghost use Rattle.std.specs.Prelude.{◌≡◌, ◌≢◌, ◌↔◌, ◌<ℤ◌, pos, IsTrue};
 ghost use Rattle.ratio_core.specs.Order.{HaveUnlikeSigns, cross_cmp};
 
-use crate::order::{cmp_by_rounds, have_unlike_signs, order_of_products};
+use crate::order::{cmp_counted, have_unlike_signs, order_of_products};
 use crate::steps::Steps;
 use ratio_integer::Integer;
 use std::cmp::Ordering;
 
-/// How `n/d` stands to `m/e`, for denominators of either sign, reduced or not: as `cmp_counted`
-/// answers, whose rounds go on where neither the products nor the numerators alone decide.
+/// How `n/d` stands to `m/e`, for denominators of either sign, reduced or not: the answer of
+/// `cmp_counted`, which is asked where neither the products nor the numerators alone decide.
 #[inline]
 pub fn compare<T: Integer>(n: T, d: T, m: T, e: T) -> Ordering
     requires left_nonzero { T.value d ≢ pos 0 }
@@ -19,7 +19,7 @@ pub fn compare<T: Integer>(n: T, d: T, m: T, e: T) -> Ordering
         Some(order) => order,
         // Tested this late, since the processor cannot guess it.
         None if are_split_by_zero(n, d, m, e) => n.cmp(&m),
-        None => cmp_by_rounds(n, d, m, e, &mut Steps::new()),
+        None => cmp_counted(n, d, m, e, &mut Steps::new()),
     }
 }
 

@@ -2,7 +2,7 @@
 ghost use Rattle.std.specs.Prelude.{◌≢◌, pos};
 
 use super::recorder::Recorder;
-use crate::{Steps, cmp_counted, hash_counted};
+use crate::{Steps, cmp_counted, compare, hash_counted};
 use std::cmp::Ordering;
 use std::test::Fail;
 
@@ -21,6 +21,9 @@ fn order_over_i8(rt: HostRuntime) {
         (-128, -128, 1, 1, Ordering::Equal),
         (1, -128, -1, 127, Ordering::Greater),
         (-128, 127, 127, -128, Ordering::Less),
+        // 0 lies between the two, and their products are not held.
+        (-127, 126, 127, 125, Ordering::Less),
+        (127, 126, -127, 125, Ordering::Greater),
         // Each answer of a round: a quotient, and either side whole.
         (127, 2, 125, 2, Ordering::Greater),
         (126, 2, 127, 2, Ordering::Less),
@@ -33,6 +36,11 @@ fn order_over_i8(rt: HostRuntime) {
             cmp_counted(n, d, m, e, &mut Steps::new()),
             expected,
             "{n}/{d} and {m}/{e}"
+        );
+        assert_eq!(rt;
+            compare(n, d, m, e),
+            expected,
+            "{n}/{d} and {m}/{e}, not counted"
         );
     }
 }
@@ -59,6 +67,11 @@ fn order_over_i64(rt: HostRuntime) {
             cmp_counted(n, d, m, e, &mut Steps::new()),
             expected,
             "{n}/{d} and {m}/{e}"
+        );
+        assert_eq!(rt;
+            compare(n, d, m, e),
+            expected,
+            "{n}/{d} and {m}/{e}, not counted"
         );
     }
 }

@@ -2,7 +2,7 @@
 ghost use Rattle.std.specs.Prelude.{◌≡◌, ◌≢◌, ◌↔◌, pos, IsTrue};
 ghost use Rattle.ratio_integer.specs.Fraction.{Fits};
 
-use ratio_core::checked;
+use ratio_core::checked_new;
 use ratio_integer::Integer;
 use std::alloc::AllocError;
 
@@ -92,7 +92,7 @@ impl<T: Copy + Integer> Ratio<T> {
     pub fn checked_new(n: T, d: T) -> Option<Ratio<T>>
         ensures { ChecksRatio (T.value n, T.value d) result }
     {
-        match checked::checked_new(n, d) {
+        match checked_new::checked_new(n, d) {
             Some((numer, denom)) => Some(Ratio { numer, denom }),
             None => None,
         }

@@ -8,7 +8,7 @@ use Rattle.std.specs.Ordering.{int_eq}
 use Rattle.ratio_integer.specs.Division.{IsFloored}
 use Rattle.ratio_integer.specs.Range.{IsHeld, IsRange}
 use Rattle.ratio_integer.proofs.DivisionLemmas.{abs-zero, abs_pos, low_below}
-use Rattle.ratio_core.specs.ContinuedFraction.{IsCodesOf, IsPartialQuotients, TellsApart, codes}
+use Rattle.ratio_core.specs.ContinuedFraction.{IsCodesOf, IsPartialQuotients, TellsApart, codes_of_quotients}
 use Rattle.ratio_core.specs.Order.{sign}
 use Rattle.ratio_core.proofs.Floored.{floored-sum, floored_below, floored_nonzero, floored_sign, low_above, minus_one-mul, one-mul, sign-mul}
 use Rattle.ratio_core.proofs.Quotients.{Goes, goes_ends, quotients_exist}
@@ -23,62 +23,62 @@ AreTail top (q ∷ qs) = (pos 1 ≤ℤ q) × (q ≡ top → qs ≡ []) × AreTai
 
 module _ (lo top : ℤ) (low : lo ≤ℤ pos 0) where
   tail_at : (p q : ℤ) (ps qs : List ℤ) (b c : Bool) → (b ≡ true → p ≡ top) → (c ≡ true → q ≡ top) → AreTail top (p ∷ ps) → AreTail top (q ∷ qs)
-      → (codes lo top ps ≡ codes lo top qs → ps ≡ qs)
-      → cond b (lo ∷ lo ∷ codes lo top ps) (p ∷ codes lo top ps) ≡ cond c (lo ∷ lo ∷ codes lo top qs) (q ∷ codes lo top qs) → p ∷ ps ≡ q ∷ qs
+      → (codes_of_quotients lo top ps ≡ codes_of_quotients lo top qs → ps ≡ qs)
+      → cond b (lo ∷ lo ∷ codes_of_quotients lo top ps) (p ∷ codes_of_quotients lo top ps) ≡ cond c (lo ∷ lo ∷ codes_of_quotients lo top qs) (q ∷ codes_of_quotients lo top qs) → p ∷ ps ≡ q ∷ qs
   tail_at p q ps qs true true f g h k next e =
       let a : p ≡ top = f refl in let b : q ≡ top = g refl in let c : ps ≡ [] = h.1 a in let d : qs ≡ [] = k.1 b in cc
   tail_at p q ps qs true false f g h k next e = let a : lo ≡ q = cc in absurd (omega (arith, ints, k.0))
   tail_at p q ps qs false true f g h k next e = let a : p ≡ lo = cc in absurd (omega (arith, ints, h.0))
-  tail_at p q ps qs false false f g h k next e = let a : p ≡ q = cc in let b : codes lo top ps ≡ codes lo top qs = cc in let c : ps ≡ qs = next b in cc
+  tail_at p q ps qs false false f g h k next e = let a : p ≡ q = cc in let b : codes_of_quotients lo top ps ≡ codes_of_quotients lo top qs = cc in let c : ps ≡ qs = next b in cc
 
-  ends : (q : ℤ) (qs : List ℤ) (c : Bool) → (pos 1 ≤ℤ q) → (pos 0 ∷ []) ≡ cond c (lo ∷ lo ∷ codes lo top qs) (q ∷ codes lo top qs) → ⊥
+  ends : (q : ℤ) (qs : List ℤ) (c : Bool) → (pos 1 ≤ℤ q) → (pos 0 ∷ []) ≡ cond c (lo ∷ lo ∷ codes_of_quotients lo top qs) (q ∷ codes_of_quotients lo top qs) → ⊥
   ends q qs true h e = cc
   ends q qs false h e = let a : pos 0 ≡ q = cc in omega (arith, ints)
 
-  tails_told : (ps qs : List ℤ) → AreTail top ps → AreTail top qs → codes lo top ps ≡ codes lo top qs → ps ≡ qs
+  tails_told : (ps qs : List ℤ) → AreTail top ps → AreTail top qs → codes_of_quotients lo top ps ≡ codes_of_quotients lo top qs → ps ≡ qs
   tails_told [] [] h k e = refl
   tails_told [] (q ∷ qs) h k e = absurd (ends q qs (int_eq q top) k.0 e)
   tails_told (p ∷ ps) [] h k e = absurd (ends p ps (int_eq p top) h.0 (sym e))
   tails_told (p ∷ ps) (q ∷ qs) h k e = tail_at p q ps qs (int_eq p top) (int_eq q top) (Decides-int_eq p top).0 (Decides-int_eq q top).0 h k (λ w. tails_told ps qs h.2 k.2 w) e
 
-  never_at : (q : ℤ) (qs : List ℤ) (c : Bool) → cond c (lo ∷ lo ∷ codes lo top qs) (q ∷ codes lo top qs) ≡ [] → ⊥
+  never_at : (q : ℤ) (qs : List ℤ) (c : Bool) → cond c (lo ∷ lo ∷ codes_of_quotients lo top qs) (q ∷ codes_of_quotients lo top qs) ≡ [] → ⊥
   never_at q qs true e = cc
   never_at q qs false e = cc
 
-  never : (qs : List ℤ) → codes lo top qs ≡ [] → ⊥
+  never : (qs : List ℤ) → codes_of_quotients lo top qs ≡ [] → ⊥
   never [] e = cc
   never (q ∷ qs) e = never_at q qs (int_eq q top) e
 
-  no_mix_at : (q : ℤ) (qs : List ℤ) (c : Bool) → (pos 1 ≤ℤ q) → cond c (lo ∷ lo ∷ codes lo top qs) (q ∷ codes lo top qs) ≡ (lo ∷ pos 0 ∷ []) → ⊥
-  no_mix_at q qs true h e = let a : lo ∷ codes lo top qs ≡ pos 0 ∷ [] = cc in never qs cc
+  no_mix_at : (q : ℤ) (qs : List ℤ) (c : Bool) → (pos 1 ≤ℤ q) → cond c (lo ∷ lo ∷ codes_of_quotients lo top qs) (q ∷ codes_of_quotients lo top qs) ≡ (lo ∷ pos 0 ∷ []) → ⊥
+  no_mix_at q qs true h e = let a : lo ∷ codes_of_quotients lo top qs ≡ pos 0 ∷ [] = cc in never qs cc
   no_mix_at q qs false h e = let a : q ≡ lo = cc in omega (arith, ints)
 
   -- `lo`, and then 0 alone, is no list of a tail
-  no_mix : (qs : List ℤ) → AreTail top qs → codes lo top qs ≡ (lo ∷ pos 0 ∷ []) → ⊥
+  no_mix : (qs : List ℤ) → AreTail top qs → codes_of_quotients lo top qs ≡ (lo ∷ pos 0 ∷ []) → ⊥
   no_mix [] k e = cc
   no_mix (q ∷ qs) k e = no_mix_at q qs (int_eq q top) k.0 e
 
   head_at : (p q : ℤ) (ps qs : List ℤ) (b c : Bool) → (b ≡ true → p ≡ top) → (c ≡ true → q ≡ top) → (p ≡ top → ps ≡ []) → (q ≡ top → qs ≡ []) → AreTail top ps → AreTail top qs
-      → cond b (lo ∷ lo ∷ codes lo top ps) (p ∷ codes lo top ps) ≡ cond c (lo ∷ lo ∷ codes lo top qs) (q ∷ codes lo top qs) → p ∷ ps ≡ q ∷ qs
+      → cond b (lo ∷ lo ∷ codes_of_quotients lo top ps) (p ∷ codes_of_quotients lo top ps) ≡ cond c (lo ∷ lo ∷ codes_of_quotients lo top qs) (q ∷ codes_of_quotients lo top qs) → p ∷ ps ≡ q ∷ qs
   head_at p q ps qs true true f g pe qe h k e =
       let a : p ≡ top = f refl in let b : q ≡ top = g refl in let c : ps ≡ [] = pe a in let d : qs ≡ [] = qe b in cc
   head_at p q ps qs true false f g pe qe h k e =
       let a : ps ≡ [] = pe (f refl) in
-      let z : codes lo top ps ≡ pos 0 ∷ [] = ap (codes lo top) a in
-      let w : codes lo top qs ≡ lo ∷ pos 0 ∷ [] = cc in
+      let z : codes_of_quotients lo top ps ≡ pos 0 ∷ [] = ap (codes_of_quotients lo top) a in
+      let w : codes_of_quotients lo top qs ≡ lo ∷ pos 0 ∷ [] = cc in
       absurd (no_mix qs k w)
   head_at p q ps qs false true f g pe qe h k e =
       let a : qs ≡ [] = qe (g refl) in
-      let z : codes lo top qs ≡ pos 0 ∷ [] = ap (codes lo top) a in
-      let w : codes lo top ps ≡ lo ∷ pos 0 ∷ [] = cc in
+      let z : codes_of_quotients lo top qs ≡ pos 0 ∷ [] = ap (codes_of_quotients lo top) a in
+      let w : codes_of_quotients lo top ps ≡ lo ∷ pos 0 ∷ [] = cc in
       absurd (no_mix ps h w)
   head_at p q ps qs false false f g pe qe h k e =
       let a : p ≡ q = cc in
-      let b : codes lo top ps ≡ codes lo top qs = cc in
+      let b : codes_of_quotients lo top ps ≡ codes_of_quotients lo top qs = cc in
       let c : ps ≡ qs = tails_told ps qs h k b in cc
 
   lists_told : (p q : ℤ) (ps qs : List ℤ) → (p ≡ top → ps ≡ []) → (q ≡ top → qs ≡ []) → AreTail top ps → AreTail top qs
-      → codes lo top (p ∷ ps) ≡ codes lo top (q ∷ qs) → p ∷ ps ≡ q ∷ qs
+      → codes_of_quotients lo top (p ∷ ps) ≡ codes_of_quotients lo top (q ∷ qs) → p ∷ ps ≡ q ∷ qs
   lists_told p q ps qs pe qe h k e = head_at p q ps qs (int_eq p top) (int_eq q top) (Decides-int_eq p top).0 (Decides-int_eq q top).0 pe qe h k e
 
 -- ---- the quotients of a fraction whose fields are at most h + 1 in magnitude
@@ -126,7 +126,7 @@ tail_of h n d q r (p ∷ ps) b f left k =
     )
 
 both : (lo : ℤ) (h : ℕ) (n d m e : ℤ) (ps qs : List ℤ) → lo ≤ℤ pos 0 → unsigned_abs n ≤ suc h → unsigned_abs d ≤ suc h → unsigned_abs m ≤ suc h → unsigned_abs e ≤ suc h
-    → IsPartialQuotients n d ps → IsPartialQuotients m e qs → codes lo (pos (suc h)) ps ≡ codes lo (pos (suc h)) qs → ps ≡ qs
+    → IsPartialQuotients n d ps → IsPartialQuotients m e qs → codes_of_quotients lo (pos (suc h)) ps ≡ codes_of_quotients lo (pos (suc h)) qs → ps ≡ qs
 both lo h n d m e [] qs low nb db mb eb f g k = absurd f
 both lo h n d m e (p ∷ ps) [] low nb db mb eb f g k = absurd g
 both lo h n d m e (p ∷ ps) (q ∷ qs) low nb db mb eb f g k =
@@ -141,12 +141,12 @@ abs_within lo (pos z) h range held = let below = held.below in omega (arith, int
 abs_within lo (negsuc z) h range held = let above = held.above in let low = low_above lo (pos h) range in omega (arith, ints)
 
 pub codes_told : (lo hi n d m e : ℤ) (ps qs : List ℤ) → IsRange lo hi → IsHeld lo hi n → IsHeld lo hi d → IsHeld lo hi m → IsHeld lo hi e
-    → IsPartialQuotients n d ps → IsPartialQuotients m e qs → codes lo (hi +ℤ pos 1) ps ≡ codes lo (hi +ℤ pos 1) qs → ps ≡ qs
+    → IsPartialQuotients n d ps → IsPartialQuotients m e qs → codes_of_quotients lo (hi +ℤ pos 1) ps ≡ codes_of_quotients lo (hi +ℤ pos 1) qs → ps ≡ qs
 codes_told lo (negsuc h) n d m e ps qs range nh dh mh eh f g k = absurd (let high = range.high in omega (arith, ints))
 codes_told lo (pos h) n d m e ps qs range nh dh mh eh f g k =
     let one_more : pos h +ℤ pos 1 ≡ pos (suc h) = omega (arith, ints) in
     both lo h n d m e ps qs (low_below lo (pos h) range) (abs_within lo n h range nh) (abs_within lo d h range dh) (abs_within lo m h range mh) (abs_within lo e h range eh) f g
-    (ap (λ t. codes lo t ps) (sym one_more) ∙ k ∙ ap (λ t. codes lo t qs) one_more)
+    (ap (λ t. codes_of_quotients lo t ps) (sym one_more) ∙ k ∙ ap (λ t. codes_of_quotients lo t qs) one_more)
 
 -- a list of codes is that of each fraction of the same value, and over a type of no other
 pub codes_tell_apart : (lo hi n d : ℤ) (list : List ℤ) → IsRange lo hi → IsHeld lo hi n → IsHeld lo hi d → d ≢ pos 0 → IsCodesOf lo hi n d list → TellsApart lo hi n d list
@@ -158,6 +158,6 @@ codes_tell_apart lo hi n d list range nh dh dn is = record {
     (λ value.
         let other = quotients_exist m e en in
         let same : is.quotients ≡ other.list = quotients_of_value n d m e is.quotients other.list is.are other.are ((cross_equal n d m e dn en).1 value) in
-        record { quotients = other.list; are = other.are; list_is = is.list_is ∙ ap (codes lo (hi +ℤ pos 1)) same }),
+        record { quotients = other.list; are = other.are; list_is = is.list_is ∙ ap (codes_of_quotients lo (hi +ℤ pos 1)) same }),
   );
 }

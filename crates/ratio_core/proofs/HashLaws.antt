@@ -9,7 +9,7 @@ use Rattle.std.specs.declared.cmp.Ordering.{Ordering}
 use Rattle.std.specs.declared.cmp.Ordering.TheVariants.{Less, Equal, Greater}
 use Rattle.ratio_integer.specs.Fraction.{SameValue}
 use Rattle.ratio_integer.specs.Range.{IsHeld, IsRange}
-use Rattle.ratio_core.specs.ContinuedFraction.{IsCodesOf, codes}
+use Rattle.ratio_core.specs.ContinuedFraction.{IsCodesOf, codes_of_quotients}
 use Rattle.ratio_core.specs.Order.{cross_cmp}
 use Rattle.ratio_core.proofs.Codes.{codes_tell_apart}
 use Rattle.ratio_core.proofs.Quotients.{quotients_exist, quotients_same}
@@ -17,7 +17,7 @@ use Rattle.ratio_core.proofs.SameValues.{cross_equal, quotients_of_value}
 
 -- the codes of n/d over a type from lo to hi
 pub codes_of : (lo hi n d : ℤ) → d ≢ pos 0 → List ℤ
-codes_of lo hi n d nonzero = codes lo (hi +ℤ pos 1) (quotients_exist n d nonzero).list
+codes_of lo hi n d nonzero = codes_of_quotients lo (hi +ℤ pos 1) (quotients_exist n d nonzero).list
 
 module _ (lo hi n d : ℤ) (nonzero : d ≢ pos 0) where
   pub codes_of_are : IsCodesOf lo hi n d (codes_of lo hi n d nonzero)
@@ -31,7 +31,7 @@ module _ (lo hi n d : ℤ) (nonzero : d ≢ pos 0) where
   unfolding codes_of
   codes_of_known list is =
       let known = quotients_exist n d nonzero in
-      is.list_is ∙ ap (codes lo (hi +ℤ pos 1)) (quotients_same n d is.quotients known.list is.are known.are)
+      is.list_is ∙ ap (codes_of_quotients lo (hi +ℤ pos 1)) (quotients_same n d is.quotients known.list is.are known.are)
 
 module _ (lo hi n d m e : ℤ) (dn : d ≢ pos 0) (en : e ≢ pos 0) where
   -- fractions of the same value have the same codes
@@ -40,7 +40,7 @@ module _ (lo hi n d m e : ℤ) (dn : d ≢ pos 0) (en : e ≢ pos 0) where
   codes_of_same value =
       let first = quotients_exist n d dn in
       let second = quotients_exist m e en in
-      ap (codes lo (hi +ℤ pos 1)) (quotients_of_value n d m e first.list second.list first.are second.are ((cross_equal n d m e dn en).1 value))
+      ap (codes_of_quotients lo (hi +ℤ pos 1)) (quotients_of_value n d m e first.list second.list first.are second.are ((cross_equal n d m e dn en).1 value))
 
   -- and over a type, only these
   pub codes_of_tell : IsRange lo hi → IsHeld lo hi n → IsHeld lo hi d → IsHeld lo hi m → IsHeld lo hi e → codes_of lo hi n d dn ≡ codes_of lo hi m e en → SameValue n d m e

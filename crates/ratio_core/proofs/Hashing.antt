@@ -6,7 +6,7 @@ use Rattle.std.proofs.lemmas.Grind.{fold-append}
 use Rattle.std.proofs.lemmas.List.{length_push}
 use Rattle.std.specs.Ordering.{int_eq}
 use Rattle.ratio_integer.specs.Division.{IsFloored}
-use Rattle.ratio_core.specs.ContinuedFraction.{AreCodesCounted, IsCodeCount, IsCodesOf, codes, count_below}
+use Rattle.ratio_core.specs.ContinuedFraction.{AreCodesCounted, IsCodeCount, IsCodesOf, codes_of_quotients, count_below}
 use Rattle.ratio_core.specs.Order.{IsAboveMax}
 use Rattle.ratio_core.proofs.Quotients.{Goes, quotients_short}
 use Rattle.ratio_core.proofs.Rounds.{above_quotients, apart, not_top, same}
@@ -36,11 +36,11 @@ module _ (lo hi n d q r : ℤ) (f : IsFloored n d q r) (below : q ≤ℤ hi) whe
   no : int_eq q (hi +ℤ pos 1) ≡ false
   no = apart q (hi +ℤ pos 1) (not_top hi q below)
 
-  with_rest : (qs : List ℤ) → Goes d r qs → AreCodesCounted lo hi n d (q ∷ codes lo (hi +ℤ pos 1) qs) (1 + count_below (hi +ℤ pos 1) qs)
+  with_rest : (qs : List ℤ) → Goes d r qs → AreCodesCounted lo hi n d (q ∷ codes_of_quotients lo (hi +ℤ pos 1) qs) (1 + count_below (hi +ℤ pos 1) qs)
   with_rest qs g = record {
     quotients = q ∷ qs;
     are = (r, f, g);
-    list_is = sym (cond_no (int_eq q (hi +ℤ pos 1)) (lo ∷ lo ∷ codes lo (hi +ℤ pos 1) qs) (q ∷ codes lo (hi +ℤ pos 1) qs) no);
+    list_is = sym (cond_no (int_eq q (hi +ℤ pos 1)) (lo ∷ lo ∷ codes_of_quotients lo (hi +ℤ pos 1) qs) (q ∷ codes_of_quotients lo (hi +ℤ pos 1) qs) no);
     count = sym (ap (λ x. x + count_below (hi +ℤ pos 1) qs) (cond_no (int_eq q (hi +ℤ pos 1)) 0 1 no));
   }
 

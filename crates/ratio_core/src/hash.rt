@@ -3,7 +3,7 @@ ghost use Rattle.std.specs.Prelude.{◌≡◌, ◌≢◌, ◌+◌, ℕ, ℤ, pos
 ghost use Rattle.ratio_core.specs.ContinuedFraction.{AreCodesCounted, IsCodeCount, IsCodesOf, TellsApart};
 
 use crate::code_list::CodeList;
-use crate::order::{divide_left, is_above_max};
+use crate::order::dividing::{divide_left, is_above_max};
 use crate::steps::Steps;
 use ratio_integer::Integer;
 

@@ -1,9 +1,8 @@
 //! What is computed on fractions, over the two numbers of each.
 #![tactic(auto)]
 
-pub mod checked;
+pub mod checked_new;
 mod code_list;
-mod comparing;
 mod hash;
 pub mod laws;
 mod order;
@@ -19,9 +18,8 @@ mod tests;
 pub mod text;
 
 pub use code_list::CodeList;
-pub use comparing::compare;
 pub use hash::hash_counted;
-pub use order::cmp_counted;
+pub use order::{cmp_counted, compare};
 pub use parse_error::{ParseRatioError, RatioErrorKind};
 pub use steps::Steps;
 pub use taken::Taken;

@@ -8,7 +8,7 @@ ghost use Rattle.ratio_integer.specs.Arithmetic.{product_of, quotient_of};
 ghost use Rattle.ratio_integer.specs.Fraction.{ChecksLowest, IsLowestTerms};
 ghost use Rattle.ratio_core.specs.Conditions.{IsHeldLowestOf, ProductCondition, QuotientCondition};
 
-use crate::checked::checked_new;
+use crate::checked_new::checked_new;
 use ratio_integer::{Integer, lowest_terms};
 
 /// The lowest terms of `a/b * c/d`, or `None` where the type does not hold them. The fractions need

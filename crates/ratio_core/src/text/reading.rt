@@ -3,7 +3,7 @@ ghost use Rattle.std.specs.Prelude.{◌≡◌, ◌≤◌};
 ghost use Rattle.std.specs.Str.Parse.{starts_with_minus};
 ghost use Rattle.ratio_core.specs.Reading.{AnswersPair, AnswersText, IsFractionText, ReadsNumber, SidesReadAs};
 
-use crate::checked::checked_new;
+use crate::checked_new::checked_new;
 use crate::parse_error::{ParseRatioError, RatioErrorKind};
 use crate::text::short_digits::short_digits;
 use ratio_integer::Primitive;

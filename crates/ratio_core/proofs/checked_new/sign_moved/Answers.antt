@@ -3,7 +3,7 @@ use Rattle.std.proofs.Common.{ap, refl, sym, ◌∙◌}
 use Rattle.ratio_integer.specs.Comparison.{yes}
 use Rattle.ratio_integer.proofs.LowestTerms.{denom_out, numer_out}
 use Rattle.ratio_core.proofs.CancellingLemmas.{turned}
-use Rattle.ratio_core.proofs.checked.sign_moved.Goals as goal
+use Rattle.ratio_core.proofs.checked_new.sign_moved.Goals as goal
 
 pub returns-in-None : goal.returns-in-None
 returns-in-None g c =

@@ -1,7 +1,7 @@
 use Rattle.std.proofs.Common.{refl}
 use Rattle.std.proofs.lemmas.Bool.{iff_false}
 use Rattle.ratio_core.proofs.Rounds.{above-both, above-first, above-second}
-use Rattle.ratio_core.proofs.order.order_at_top.Goals as goal
+use Rattle.ratio_core.proofs.order.rounds.order_at_top.Goals as goal
 
 pub returns-in-true-true : goal.returns-in-true-true
 returns-in-true-true g c =

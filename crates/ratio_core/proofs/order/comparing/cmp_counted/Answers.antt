@@ -1,5 +1,5 @@
 use Rattle.ratio_core.proofs.Rounds.{steps-by_rounds, steps_none}
-use Rattle.ratio_core.proofs.order.cmp_counted.Goals as goal
+use Rattle.ratio_core.proofs.order.comparing.cmp_counted.Goals as goal
 
 pub returns-in-Some-clause-steps : goal.returns-in-Some-clause-steps
 returns-in-Some-clause-steps g c = steps_none _ _ c.in-Some.ensures.1 c.in-Some.ensures.2

@@ -1,7 +1,7 @@
 use Rattle.std.proofs.Common.{arith}
 use Rattle.ratio_core.proofs.Floored.{floored_below}
 use Rattle.ratio_core.proofs.Rounds.{round_ends, rounds_begin, rounds_end, rounds_go_on}
-use Rattle.ratio_core.proofs.order.cmp_by_rounds.Goals as goal
+use Rattle.ratio_core.proofs.order.rounds.cmp_by_rounds.Goals as goal
 
 pub rounds-init : goal.rounds-init
 rounds-init g c = record { left_nonzero = c.requires.left_nonzero; right_nonzero = c.requires.right_nonzero; answers = rounds_begin _ _ _ _ _ _ _ }

@@ -1,7 +1,7 @@
 use Rattle.std.proofs.Common.{◌∙◌, sym}
 use Rattle.std.proofs.lemmas.Bool.{iff_false}
 use Rattle.ratio_core.proofs.CrossOrder.{cmp-pairs, cross-across, cross-along}
-use Rattle.ratio_core.proofs.order.order_of_products.Goals as goal
+use Rattle.ratio_core.proofs.order.products.order_of_products.Goals as goal
 
 pub returns-then-have_unlike_signs : goal.returns-then-have_unlike_signs
 returns-then-have_unlike_signs g c = (

@@ -2,7 +2,7 @@ use Rattle.std.specs.Prelude.{◌≢◌, pos}
 use Rattle.std.proofs.Common.{arith, ap, refl, sym, ◌∙◌}
 use Rattle.ratio_integer.proofs.LowestTerms.{checks_lowest_moved, held_lowest_over_one}
 use Rattle.ratio_core.proofs.CancellingLemmas.{lowest_of_same, lowest_of_zero}
-use Rattle.ratio_core.proofs.checked.checked_new.Goals as goal
+use Rattle.ratio_core.proofs.checked_new.checked_new.Goals as goal
 
 pub returns-then-is_one : goal.returns-then-is_one
 returns-then-is_one g c = held_lowest_over_one _ _ _ _ c.held.ensures.range c.held-then-is_one.ensures.range (c.is_one.ensures.0 c.if-is_one.true)

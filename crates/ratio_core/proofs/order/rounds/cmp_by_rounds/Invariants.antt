@@ -1,6 +1,6 @@
 use Rattle.std.proofs.Common.{◌≢◌, ◌+ℤ◌, pos, unsigned_abs}
 use Rattle.ratio_core.proofs.Rounds.{AnswersFor}
-use Rattle.ratio_core.proofs.order.cmp_by_rounds.Given as goal
+use Rattle.ratio_core.proofs.order.rounds.cmp_by_rounds.Given as goal
 
 abbrev pub invariant-rounds : goal.invariant-rounds
 invariant-rounds g l =

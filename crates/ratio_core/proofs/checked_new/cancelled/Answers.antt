@@ -1,7 +1,7 @@
 use Rattle.std.proofs.Common.{refl}
 use Rattle.ratio_integer.proofs.LcmLemmas.{divisor_nonzero, gcd_held}
 use Rattle.ratio_core.proofs.CancellingLemmas.{cancelled_by_gcd, cancelled_by_one}
-use Rattle.ratio_core.proofs.checked.cancelled.Goals as goal
+use Rattle.ratio_core.proofs.checked_new.cancelled.Goals as goal
 
 pub gcd-divisor-requires : goal.gcd-divisor-requires
 gcd-divisor-requires g c =

@@ -1,0 +1,51 @@
+//! The two comparisons of fractions: one that counts each division, and one that divides only where it must.
+ghost use Rattle.std.specs.Prelude.{◌≡◌, ◌≢◌, ◌↔◌, ◌<ℤ◌, ◌+◌, ℕ, pos, IsTrue};
+ghost use Rattle.ratio_core.specs.ContinuedFraction.{IsStepCount};
+ghost use Rattle.ratio_core.specs.Order.{HaveUnlikeSigns, cross_cmp};
+
+use crate::order::products::order_of_products;
+use crate::order::rounds::cmp_by_rounds;
+use crate::order::signs::have_unlike_signs;
+use crate::steps::Steps;
+use ratio_integer::Integer;
+use std::cmp::Ordering;
+
+/// How `n/d` stands to `m/e`, for denominators of either sign, reduced or not. Where the type holds
+/// both cross products these are compared, and no step is made. Elsewhere both fractions are divided
+/// in rounds by Euclid's algorithm, one division a side and round, until two quotients differ.
+pub fn cmp_counted<T: Integer>(n: T, d: T, m: T, e: T, steps: &mut Steps) -> Ordering
+    requires left_nonzero { T.value d ≢ pos 0 }
+    requires right_nonzero { T.value e ≢ pos 0 }
+    ensures order { result ≡ cross_cmp (T.value n) (T.value d) (T.value m) (T.value e) }
+    ensures steps { (k : ℕ) × (steps.new.left ≡ steps.old.left + k)
+        × (steps.new.right ≡ steps.old.right + k)
+        × IsStepCount T.lo T.hi (T.value n) (T.value d) (T.value m) (T.value e) k }
+{
+    match order_of_products(n, d, m, e) {
+        Some(order) => order,
+        None => cmp_by_rounds(n, d, m, e, steps),
+    }
+}
+
+/// How `n/d` stands to `m/e`, for denominators of either sign, reduced or not: the answer of
+/// `cmp_counted`, which is asked where neither the products nor the numerators alone decide.
+#[inline]
+pub fn compare<T: Integer>(n: T, d: T, m: T, e: T) -> Ordering
+    requires left_nonzero { T.value d ≢ pos 0 }
+    requires right_nonzero { T.value e ≢ pos 0 }
+    ensures { result ≡ cross_cmp (T.value n) (T.value d) (T.value m) (T.value e) }
+{
+    match order_of_products(n, d, m, e) {
+        Some(order) => order,
+        // Tested this late, since the processor cannot guess it.
+        None if are_split_by_zero(n, d, m, e) => n.cmp(&m),
+        None => cmp_counted(n, d, m, e, &mut Steps::new()),
+    }
+}
+
+/// Whether both denominators are positive, and one numerator is below 0 and the other is not.
+fn are_split_by_zero<T: Integer>(n: T, d: T, m: T, e: T) -> bool
+    ensures { IsTrue result ↔ ((pos 0 <ℤ T.value d) × (pos 0 <ℤ T.value e) × HaveUnlikeSigns (T.value n) (T.value m)) }
+{
+    T::ZERO < d && T::ZERO < e && have_unlike_signs(n, m)
+}

@@ -1,0 +1,49 @@
+//! The two floored divisions of the order and of the codes, each of which is a step of its side.
+ghost use Rattle.std.specs.Prelude.{◌≡◌, ◌≢◌, ◌↔◌, ◌≤ℤ◌, ◌+◌, pos, IsTrue};
+ghost use Rattle.ratio_integer.specs.Division.{IsFloored};
+ghost use Rattle.ratio_core.specs.Order.{IsAboveMax};
+
+use crate::order::signs::is_negative;
+use crate::steps::Steps;
+use ratio_integer::Integer;
+
+/// A step of the left side: the floored quotient, and what is left over.
+pub(crate) fn divide_left<T: Integer>(n: T, d: T, steps: &mut Steps) -> (T, T)
+    requires nonzero { T.value d ≢ pos 0 }
+    requires held { ¬ (IsAboveMax T.hi (T.value n) (T.value d)) }
+    ensures floored { IsFloored (T.value n) (T.value d) (T.value result.0) (T.value result.1) }
+    ensures below { T.value result.0 ≤ℤ T.hi }
+    ensures left { steps.new.left ≡ steps.old.left + 1 }
+    ensures right { steps.new.right ≡ steps.old.right }
+{
+    let _ = n.held();
+    let _ = d.held();
+    let division = n.div_mod_floor(d);
+    steps.tick_left();
+    division
+}
+
+/// A step of the right side: the floored quotient, and what is left over.
+pub(crate) fn divide_right<T: Integer>(n: T, d: T, steps: &mut Steps) -> (T, T)
+    requires nonzero { T.value d ≢ pos 0 }
+    requires held { ¬ (IsAboveMax T.hi (T.value n) (T.value d)) }
+    ensures floored { IsFloored (T.value n) (T.value d) (T.value result.0) (T.value result.1) }
+    ensures below { T.value result.0 ≤ℤ T.hi }
+    ensures left { steps.new.left ≡ steps.old.left }
+    ensures right { steps.new.right ≡ steps.old.right + 1 }
+{
+    let _ = n.held();
+    let _ = d.held();
+    let division = n.div_mod_floor(d);
+    steps.tick_right();
+    division
+}
+
+/// Whether the pair is `-hi-1` over -1, whose quotient the type does not hold.
+pub(crate) fn is_above_max<T: Integer>(n: T, d: T) -> bool
+    ensures { IsTrue result ↔ IsAboveMax T.hi (T.value n) (T.value d) }
+{
+    let _ = n.held();
+    let _ = d.held();
+    is_negative(d) && is_negative(n) && d.plus(T::ONE).is_zero() && is_negative(n.plus(T::MAX))
+}

@@ -1,0 +1,88 @@
+//! The order of fractions by rounds of Euclid's algorithm on both, one division a side and round.
+ghost use Rattle.std.specs.Prelude.{◌≡◌, ◌≢◌, ◌+ℤ◌, pos, cond, MatchOption};
+ghost use Rattle.std.specs.Ordering.{ordering_reverse};
+ghost use Rattle.ratio_core.specs.ContinuedFraction.{Compares, IsCompared};
+ghost use Rattle.ratio_core.specs.Order.{IsAboveMax, IsOrderOfParts};
+
+use crate::order::dividing::{divide_left, divide_right, is_above_max};
+use crate::steps::Steps;
+use ratio_integer::Integer;
+use std::cmp::Ordering;
+
+/// How `n/d` stands to `m/e`, by rounds alone.
+pub(crate) fn cmp_by_rounds<T: Integer>(n: T, d: T, m: T, e: T, steps: &mut Steps) -> Ordering
+    requires left_nonzero { T.value d ≢ pos 0 }
+    requires right_nonzero { T.value e ≢ pos 0 }
+    ensures { Compares (T.hi +ℤ pos 1) (T.value n) (T.value d) (T.value m) (T.value e) result
+        steps.old.left steps.new.left steps.old.right steps.new.right }
+{
+    let mut numer = n;
+    let mut denom = d;
+    let mut other_numer = m;
+    let mut other_denom = e;
+    // The reciprocals of what a round leaves stand the other way round.
+    let mut reversed = false;
+    'rounds: loop {
+        if let Some(order) = order_at_top(numer, denom, other_numer, other_denom) {
+            return turned(reversed, order);
+        }
+        let (quotient, rest) = divide_left(numer, denom, steps);
+        let (other_quotient, other_rest) = divide_right(other_numer, other_denom, steps);
+        if let Some(order) = order_of_parts(quotient, rest, other_quotient, other_rest) {
+            return turned(reversed, order);
+        }
+        numer = denom;
+        denom = rest;
+        other_numer = other_denom;
+        other_denom = other_rest;
+        reversed = !reversed;
+    }
+}
+
+/// How the two stand where one of them has a value that the type does not hold.
+fn order_at_top<T: Integer>(n: T, d: T, m: T, e: T) -> Option<Ordering>
+    requires left_nonzero { T.value d ≢ pos 0 }
+    requires right_nonzero { T.value e ≢ pos 0 }
+    ensures { MatchOption result
+        ((¬ (IsAboveMax T.hi (T.value n) (T.value d))) × (¬ (IsAboveMax T.hi (T.value m) (T.value e))))
+        (λ order. IsCompared (T.hi +ℤ pos 1) (T.value n) (T.value d) (T.value m) (T.value e) order 0) }
+{
+    let _ = n.held();
+    let _ = m.held();
+    match (is_above_max(n, d), is_above_max(m, e)) {
+        (true, true) => Some(Ordering::Equal),
+        (true, false) => Some(Ordering::Greater),
+        (false, true) => Some(Ordering::Less),
+        (false, false) => None,
+    }
+}
+
+/// How the two stand by their quotients and by whether a rest is left, where these decide.
+fn order_of_parts<T: Integer>(
+    quotient: T,
+    rest: T,
+    other_quotient: T,
+    other_rest: T,
+) -> Option<Ordering>
+    ensures { MatchOption result
+        ((T.value quotient ≡ T.value other_quotient) × (T.value rest ≢ pos 0) × (T.value other_rest ≢ pos 0))
+        (λ order. IsOrderOfParts (T.value quotient) (T.value rest) (T.value other_quotient) (T.value other_rest) order) }
+{
+    match quotient.cmp(&other_quotient) {
+        Ordering::Less => Some(Ordering::Less),
+        Ordering::Greater => Some(Ordering::Greater),
+        Ordering::Equal => match (rest.is_zero(), other_rest.is_zero()) {
+            (true, true) => Some(Ordering::Equal),
+            (true, false) => Some(Ordering::Less),
+            (false, true) => Some(Ordering::Greater),
+            (false, false) => None,
+        },
+    }
+}
+
+/// The answer, turned where `reversed` is set.
+fn turned(reversed: bool, answer: Ordering) -> Ordering
+    ensures { result ≡ cond reversed (ordering_reverse answer) answer }
+{
+    if reversed { answer.reverse() } else { answer }
+}

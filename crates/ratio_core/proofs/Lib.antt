@@ -13,11 +13,14 @@ pub mod NumbersExist
 pub mod OrderLaws
 pub mod PrintingLemmas
 pub mod ProductLemmas
+pub mod ProductOrder
 pub mod Quotients
 pub mod ReadingBack
 pub mod ReadingExists
 pub mod RefusalLemmas
 pub mod RemainderLemmas
+pub mod RoundingLawLemmas
+pub mod RoundingLemmas
 pub mod Rounds
 pub mod SameValues
 pub mod ScalingLemmas

@@ -6,3 +6,5 @@ pub mod Order
 pub mod Printing
 pub mod Reading
 pub mod Refusal
+pub mod Rounding
+pub mod RoundingLaws

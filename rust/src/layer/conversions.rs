@@ -1,0 +1,93 @@
+//! Conversions between fractions, pairs and whole numbers, and the constants by their traits.
+use super::integer::Integer;
+use super::ratio::{Proved, Ratio};
+use num_traits::{FromPrimitive, One, Zero};
+
+impl<T: Integer> Zero for Ratio<T> {
+    #[inline]
+    fn zero() -> Ratio<T> {
+        Ratio::ZERO
+    }
+
+    /// Whether the numerator is 0.
+    #[inline]
+    fn is_zero(&self) -> bool {
+        *self.numer() == T::NUMBER_0
+    }
+}
+
+impl<T: Integer> One for Ratio<T> {
+    #[inline]
+    fn one() -> Ratio<T> {
+        Ratio::ONE
+    }
+
+    /// Whether the fields are equal, as those of 2/2 are.
+    #[inline]
+    fn is_one(&self) -> bool {
+        self.numer() == self.denom()
+    }
+}
+
+impl<T: Integer> Default for Ratio<T> {
+    #[inline]
+    fn default() -> Ratio<T> {
+        Ratio::ZERO
+    }
+}
+
+impl<T: Integer> From<T> for Ratio<T> {
+    #[inline]
+    fn from(number: T) -> Ratio<T> {
+        Ratio::from_integer(number)
+    }
+}
+
+impl<T: Integer> From<(T, T)> for Ratio<T> {
+    /// The lowest terms, as by `new`, which panics where they are not held.
+    #[inline]
+    #[track_caller]
+    fn from((numer, denom): (T, T)) -> Ratio<T> {
+        Ratio::new(numer, denom)
+    }
+}
+
+impl<T: Integer> From<Ratio<T>> for (T, T) {
+    #[inline]
+    fn from(fraction: Ratio<T>) -> (T, T) {
+        fraction.into_raw()
+    }
+}
+
+/// A float is refused: nothing is proved of them.
+impl<T: Integer> FromPrimitive for Ratio<T> {
+    #[inline]
+    fn from_i64(number: i64) -> Option<Ratio<T>> {
+        Proved::<T>::from_i64(number).map(Ratio::from_proved)
+    }
+
+    #[inline]
+    fn from_u64(number: u64) -> Option<Ratio<T>> {
+        Proved::<T>::from_u64(number).map(Ratio::from_proved)
+    }
+
+    #[inline]
+    fn from_i128(number: i128) -> Option<Ratio<T>> {
+        Proved::<T>::from_i128(number).map(Ratio::from_proved)
+    }
+
+    #[inline]
+    fn from_u128(number: u128) -> Option<Ratio<T>> {
+        Proved::<T>::from_u128(number).map(Ratio::from_proved)
+    }
+
+    #[inline]
+    fn from_f32(_: f32) -> Option<Ratio<T>> {
+        None
+    }
+
+    #[inline]
+    fn from_f64(_: f64) -> Option<Ratio<T>> {
+        None
+    }
+}

@@ -1,0 +1,232 @@
+//! The fraction type, how its values are made, and how they become those of the proved calls.
+use super::integer::{Element, Integer};
+use crate::proved::num_rational as proved;
+use crate::proved::ratio_integer::Integer as _;
+
+/// A fraction of two integers. `new` and most calls give lowest terms with a positive denominator; `new_raw`
+/// keeps any two numbers.
+///
+/// ```
+/// use bakhsney::Ratio;
+///
+/// let third = Ratio::new(2, 6);
+/// assert_eq!((*third.numer(), *third.denom()), (1, 3));
+/// assert_eq!(third + Ratio::new(1, 6), Ratio::new(1, 2));
+/// assert!(Ratio::new(1u8, 255) < Ratio::new(1, 254));
+/// assert_eq!("7/21".parse(), Ok(third));
+/// ```
+#[derive(Clone, Copy, Debug)]
+pub struct Ratio<T> {
+    numer: T,
+    denom: T,
+}
+
+/// A fraction of two `isize`.
+///
+/// ```
+/// assert_eq!(bakhsney::Rational::new(4, -6), bakhsney::Rational::new(-2, 3));
+/// ```
+pub type Rational = Ratio<isize>;
+
+/// A fraction of two `i32`.
+///
+/// ```
+/// assert_eq!(bakhsney::Rational32::new(4, -6), bakhsney::Rational32::new(-2, 3));
+/// ```
+pub type Rational32 = Ratio<i32>;
+
+/// A fraction of two `i64`.
+///
+/// ```
+/// assert_eq!(bakhsney::Rational64::new(4, -6), bakhsney::Rational64::new(-2, 3));
+/// ```
+pub type Rational64 = Ratio<i64>;
+
+/// The fraction type of the proved calls.
+pub(super) type Proved<T> = proved::Ratio<<T as Element>::Proved>;
+
+impl<T> Ratio<T> {
+    /// The fraction with these fields, as they are given: they are not reduced, and the denominator may be
+    /// negative. It must not be 0, which is not tested here, since this is a `const fn`: each call on such a
+    /// fraction that needs its value panics.
+    ///
+    /// ```
+    /// use bakhsney::Ratio;
+    ///
+    /// const HALF: Ratio<i32> = Ratio::new_raw(2, 4);
+    /// assert_eq!(HALF.into_raw(), (2, 4));
+    /// assert_eq!(HALF, Ratio::new(1, 2));
+    /// ```
+    #[inline]
+    pub const fn new_raw(numer: T, denom: T) -> Ratio<T> {
+        Ratio { numer, denom }
+    }
+
+    /// The numerator and the denominator, as they stand.
+    ///
+    /// ```
+    /// assert_eq!(bakhsney::Ratio::new_raw(2, -4).into_raw(), (2, -4));
+    /// ```
+    #[inline]
+    pub fn into_raw(self) -> (T, T) {
+        (self.numer, self.denom)
+    }
+
+    /// The numerator, as it stands.
+    ///
+    /// ```
+    /// assert_eq!(*bakhsney::Ratio::new(6, 8).numer(), 3);
+    /// ```
+    #[inline]
+    pub const fn numer(&self) -> &T {
+        &self.numer
+    }
+
+    /// The denominator, as it stands.
+    ///
+    /// ```
+    /// assert_eq!(*bakhsney::Ratio::new(6, 8).denom(), 4);
+    /// ```
+    #[inline]
+    pub const fn denom(&self) -> &T {
+        &self.denom
+    }
+}
+
+impl<T: Integer> Ratio<T> {
+    /// The fraction 0/1.
+    ///
+    /// ```
+    /// assert_eq!(bakhsney::Rational32::ZERO, bakhsney::Ratio::new(0, 5));
+    /// ```
+    pub const ZERO: Ratio<T> = Ratio { numer: T::NUMBER_0, denom: T::NUMBER_1 };
+
+    /// The fraction 1/1.
+    ///
+    /// ```
+    /// assert_eq!(bakhsney::Rational32::ONE, bakhsney::Ratio::new(5, 5));
+    /// ```
+    pub const ONE: Ratio<T> = Ratio { numer: T::NUMBER_1, denom: T::NUMBER_1 };
+
+    /// The lowest terms of `numer/denom`.
+    ///
+    /// # Panics
+    ///
+    /// Where the denominator is 0, or the type does not hold the lowest terms. The test is `checked_new`.
+    ///
+    /// ```
+    /// assert_eq!(bakhsney::Ratio::new(4, -6).into_raw(), (-2, 3));
+    /// ```
+    #[inline]
+    #[track_caller]
+    pub fn new(numer: T, denom: T) -> Ratio<T> {
+        match Ratio::checked_new(numer, denom) {
+            Some(lowest) => lowest,
+            None => refuse_new(denom),
+        }
+    }
+
+    /// The lowest terms of `numer/denom`, or `None` where the denominator is 0 or the type does not hold them.
+    ///
+    /// ```
+    /// use bakhsney::Ratio;
+    ///
+    /// assert_eq!(Ratio::checked_new(2i8, -128), Some(Ratio::new(-1, 64)));
+    /// assert_eq!(Ratio::checked_new(1i8, -128), None);
+    /// assert_eq!(Ratio::checked_new(1i8, 0), None);
+    /// ```
+    #[inline]
+    pub fn checked_new(numer: T, denom: T) -> Option<Ratio<T>> {
+        Proved::<T>::checked_new(numer.into_proved(), denom.into_proved()).map(Ratio::from_proved)
+    }
+
+    /// The whole number over 1.
+    ///
+    /// ```
+    /// assert_eq!(bakhsney::Ratio::from_integer(5).into_raw(), (5, 1));
+    /// ```
+    #[inline]
+    pub fn from_integer(number: T) -> Ratio<T> {
+        Ratio { numer: number, denom: T::NUMBER_1 }
+    }
+
+    /// Whether the denominator is 1. So 4/2, as `new_raw` makes it, is none.
+    ///
+    /// ```
+    /// use bakhsney::Ratio;
+    ///
+    /// assert!(Ratio::new(4, 2).is_integer());
+    /// assert!(!Ratio::new_raw(4, 2).is_integer());
+    /// ```
+    #[inline]
+    pub fn is_integer(&self) -> bool {
+        self.denom == T::NUMBER_1
+    }
+
+    /// The lowest terms of this fraction.
+    ///
+    /// # Panics
+    ///
+    /// Where the denominator is 0, or the type does not hold the lowest terms. The test is `checked_new` of
+    /// the fields.
+    ///
+    /// ```
+    /// assert_eq!(bakhsney::Ratio::new_raw(4, -6).reduced().into_raw(), (-2, 3));
+    /// ```
+    #[inline]
+    #[track_caller]
+    pub fn reduced(&self) -> Ratio<T> {
+        Ratio::new(self.numer, self.denom)
+    }
+
+    /// What a proved call answers.
+    #[inline]
+    pub(super) fn from_proved(fraction: Proved<T>) -> Ratio<T> {
+        let (numer, denom) = fraction.into_raw();
+        Ratio { numer: T::from_proved(numer), denom: T::from_proved(denom) }
+    }
+
+    /// The fraction for calls that ask for a denominator other than 0.
+    #[inline]
+    pub(super) fn proved(&self) -> Proved<T> {
+        let denom = self.denom.into_proved();
+        if denom.is_zero() {
+            refuse_zero();
+        }
+        Proved::<T>::new_raw(self.numer.into_proved(), denom)
+    }
+
+    /// The fraction for calls that ask for a positive denominator: the lowest terms, where it is negative, or
+    /// `None`, where the type does not hold these.
+    #[inline]
+    pub(super) fn positive(&self) -> Option<Proved<T>> {
+        let (numer, denom) = (self.numer.into_proved(), self.denom.into_proved());
+        if T::Proved::ZERO < denom {
+            Some(Proved::<T>::new_raw(numer, denom))
+        } else {
+            self.turned()
+        }
+    }
+
+    #[cold]
+    fn turned(&self) -> Option<Proved<T>> {
+        let (numer, denom) = self.proved().into_raw();
+        Proved::<T>::checked_new(numer, denom)
+    }
+}
+
+#[cold]
+#[inline(never)]
+#[track_caller]
+fn refuse_new<T: Integer>(denom: T) -> ! {
+    if denom.is_zero() {
+        refuse_zero()
+    }
+    panic!("attempt to negate with overflow")
+}
+
+#[cold]
+#[inline(never)]
+fn refuse_zero() -> ! {
+    panic!("denominator == 0")
+}

@@ -1,0 +1,15 @@
+// Erased from crates/num_rational/src/lib.rt by rust/erase: not to be edited.
+//! Exact fractions of machine integers.
+mod convert;
+mod fold;
+mod hash;
+mod ops;
+mod order;
+mod printing;
+mod ratio;
+#[cfg(test)]
+mod tests;
+mod text;
+
+pub use ratio::{Constants, Ratio, Rational, Rational32, Rational64};
+pub use crate::proved::ratio_core::{CodeList, Form, ParseRatioError, RatioErrorKind, RatioText, Steps, Taken};

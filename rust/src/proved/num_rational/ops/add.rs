@@ -1,0 +1,142 @@
+// Erased from crates/num_rational/src/ops/add.rt by rust/erase: not to be edited.
+//! Sums: the checked call, the call that asks for an answer, and the symbols `+` and `+=`.
+
+use crate::proved::num_rational::ratio::Ratio;
+use crate::proved::ratio_core::sums;
+use crate::proved::ratio_integer::Integer;
+use core::ops::{Add, AddAssign};
+
+impl<T: Copy + Integer> Ratio<T> {
+    /// The sum in lowest terms. Where the type's `EXACT_SUMS` is true, as for `i32` and `i64`, `None`
+    /// exactly where the type does not hold them. Where it is false, `None` exactly where the least
+    /// common denominator, a numerator over it or the sum of these is not held; the fields count as
+    /// they stand.
+    ///
+    /// # Conditions
+    ///
+    /// What is proved asks of the caller:
+    ///
+    /// - `left_positive`: `pos 0 <ℤ denominator self.now`
+    /// - `right_positive`: `pos 0 <ℤ denominator other.now`
+    #[inline]
+    pub fn checked_add(&self, other: &Ratio<T>) -> Option<Ratio<T>> {
+        match sums::checked_add(*self.numer(), *self.denom(), *other.numer(), *other.denom()) {
+            Some((numer, denom)) => Some(Ratio::new_raw(numer, denom)),
+            None => None,
+        }
+    }
+
+    /// The sum in lowest terms, also by the symbol `+`. The test is `checked_add`.
+    ///
+    /// # Conditions
+    ///
+    /// What is proved asks of the caller:
+    ///
+    /// - `left_positive`: `pos 0 <ℤ denominator self`
+    /// - `right_positive`: `pos 0 <ℤ denominator other`
+    /// - `answered`: `SumCondition T.EXACT_SUMS T.lo T.hi (numerator self) (denominator self) (numerator other) (denominator other)`
+    #[inline]
+    pub fn add(self, other: Ratio<T>) -> Ratio<T> {
+        self.checked_add(&other).unwrap()
+    }
+}
+
+impl<T: Copy + Integer> Add<Ratio<T>> for Ratio<T> {
+    type Output = Ratio<T>;
+
+    #[inline]
+    fn add(self, other: Ratio<T>) -> Ratio<T> {
+        self.add(other)
+    }
+}
+
+impl<T: Copy + Integer> Add<&Ratio<T>> for Ratio<T> {
+    type Output = Ratio<T>;
+
+    #[inline]
+    fn add(self, other: &Ratio<T>) -> Ratio<T> {
+        self.add(*other)
+    }
+}
+
+impl<T: Copy + Integer> Add<Ratio<T>> for &Ratio<T> {
+    type Output = Ratio<T>;
+
+    #[inline]
+    fn add(self, other: Ratio<T>) -> Ratio<T> {
+        (*self).add(other)
+    }
+}
+
+impl<T: Copy + Integer> Add<&Ratio<T>> for &Ratio<T> {
+    type Output = Ratio<T>;
+
+    #[inline]
+    fn add(self, other: &Ratio<T>) -> Ratio<T> {
+        (*self).add(*other)
+    }
+}
+
+impl<T: Copy + Integer> Add<T> for Ratio<T> {
+    type Output = Ratio<T>;
+
+    #[inline]
+    fn add(self, number: T) -> Ratio<T> {
+        self.add(Ratio::from_integer(number))
+    }
+}
+
+impl<T: Copy + Integer> Add<&T> for Ratio<T> {
+    type Output = Ratio<T>;
+
+    #[inline]
+    fn add(self, number: &T) -> Ratio<T> {
+        self.add(Ratio::from_integer(*number))
+    }
+}
+
+impl<T: Copy + Integer> Add<T> for &Ratio<T> {
+    type Output = Ratio<T>;
+
+    #[inline]
+    fn add(self, number: T) -> Ratio<T> {
+        (*self).add(Ratio::from_integer(number))
+    }
+}
+
+impl<T: Copy + Integer> Add<&T> for &Ratio<T> {
+    type Output = Ratio<T>;
+
+    #[inline]
+    fn add(self, number: &T) -> Ratio<T> {
+        (*self).add(Ratio::from_integer(*number))
+    }
+}
+
+impl<T: Copy + Integer> AddAssign<Ratio<T>> for Ratio<T> {
+    #[inline]
+    fn add_assign(&mut self, other: Ratio<T>) {
+        *self = self.add(other);
+    }
+}
+
+impl<T: Copy + Integer> AddAssign<&Ratio<T>> for Ratio<T> {
+    #[inline]
+    fn add_assign(&mut self, other: &Ratio<T>) {
+        *self = self.add(*other);
+    }
+}
+
+impl<T: Copy + Integer> AddAssign<T> for Ratio<T> {
+    #[inline]
+    fn add_assign(&mut self, number: T) {
+        *self = self.add(Ratio::from_integer(number));
+    }
+}
+
+impl<T: Copy + Integer> AddAssign<&T> for Ratio<T> {
+    #[inline]
+    fn add_assign(&mut self, number: &T) {
+        *self = self.add(Ratio::from_integer(*number));
+    }
+}

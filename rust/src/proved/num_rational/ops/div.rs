@@ -1,0 +1,141 @@
+// Erased from crates/num_rational/src/ops/div.rt by rust/erase: not to be edited.
+//! Quotients: the checked call, the call that asks for an answer, and the symbols `/` and `/=`.
+
+use crate::proved::num_rational::ratio::Ratio;
+use crate::proved::ratio_core::products;
+use crate::proved::ratio_integer::Integer;
+use core::ops::{Div, DivAssign};
+
+impl<T: Copy + Integer> Ratio<T> {
+    /// The quotient in lowest terms, or `None` where the divisor is 0 or the type does not hold them.
+    /// The fractions need not be reduced.
+    ///
+    /// # Conditions
+    ///
+    /// What is proved asks of the caller:
+    ///
+    /// - `left_positive`: `pos 0 <ℤ denominator self.now`
+    /// - `right_positive`: `pos 0 <ℤ denominator other.now`
+    #[inline]
+    pub fn checked_div(&self, other: &Ratio<T>) -> Option<Ratio<T>> {
+        match products::checked_div(*self.numer(), *self.denom(), *other.numer(), *other.denom()) {
+            Some((numer, denom)) => Some(Ratio::new_raw(numer, denom)),
+            None => None,
+        }
+    }
+
+    /// The quotient in lowest terms, also by the symbol `/`. The test is `checked_div`; a divisor 0
+    /// is refused too, since a pair with the denominator 0 has no lowest terms.
+    ///
+    /// # Conditions
+    ///
+    /// What is proved asks of the caller:
+    ///
+    /// - `left_positive`: `pos 0 <ℤ denominator self`
+    /// - `right_positive`: `pos 0 <ℤ denominator other`
+    /// - `answered`: `Fits T.lo T.hi (numerator self *ℤ denominator other) (denominator self *ℤ numerator other)`
+    #[inline]
+    pub fn div(self, other: Ratio<T>) -> Ratio<T> {
+        self.checked_div(&other).unwrap()
+    }
+}
+
+impl<T: Copy + Integer> Div<Ratio<T>> for Ratio<T> {
+    type Output = Ratio<T>;
+
+    #[inline]
+    fn div(self, other: Ratio<T>) -> Ratio<T> {
+        self.div(other)
+    }
+}
+
+impl<T: Copy + Integer> Div<&Ratio<T>> for Ratio<T> {
+    type Output = Ratio<T>;
+
+    #[inline]
+    fn div(self, other: &Ratio<T>) -> Ratio<T> {
+        self.div(*other)
+    }
+}
+
+impl<T: Copy + Integer> Div<Ratio<T>> for &Ratio<T> {
+    type Output = Ratio<T>;
+
+    #[inline]
+    fn div(self, other: Ratio<T>) -> Ratio<T> {
+        (*self).div(other)
+    }
+}
+
+impl<T: Copy + Integer> Div<&Ratio<T>> for &Ratio<T> {
+    type Output = Ratio<T>;
+
+    #[inline]
+    fn div(self, other: &Ratio<T>) -> Ratio<T> {
+        (*self).div(*other)
+    }
+}
+
+impl<T: Copy + Integer> Div<T> for Ratio<T> {
+    type Output = Ratio<T>;
+
+    #[inline]
+    fn div(self, number: T) -> Ratio<T> {
+        self.div(Ratio::from_integer(number))
+    }
+}
+
+impl<T: Copy + Integer> Div<&T> for Ratio<T> {
+    type Output = Ratio<T>;
+
+    #[inline]
+    fn div(self, number: &T) -> Ratio<T> {
+        self.div(Ratio::from_integer(*number))
+    }
+}
+
+impl<T: Copy + Integer> Div<T> for &Ratio<T> {
+    type Output = Ratio<T>;
+
+    #[inline]
+    fn div(self, number: T) -> Ratio<T> {
+        (*self).div(Ratio::from_integer(number))
+    }
+}
+
+impl<T: Copy + Integer> Div<&T> for &Ratio<T> {
+    type Output = Ratio<T>;
+
+    #[inline]
+    fn div(self, number: &T) -> Ratio<T> {
+        (*self).div(Ratio::from_integer(*number))
+    }
+}
+
+impl<T: Copy + Integer> DivAssign<Ratio<T>> for Ratio<T> {
+    #[inline]
+    fn div_assign(&mut self, other: Ratio<T>) {
+        *self = self.div(other);
+    }
+}
+
+impl<T: Copy + Integer> DivAssign<&Ratio<T>> for Ratio<T> {
+    #[inline]
+    fn div_assign(&mut self, other: &Ratio<T>) {
+        *self = self.div(*other);
+    }
+}
+
+impl<T: Copy + Integer> DivAssign<T> for Ratio<T> {
+    #[inline]
+    fn div_assign(&mut self, number: T) {
+        *self = self.div(Ratio::from_integer(number));
+    }
+}
+
+impl<T: Copy + Integer> DivAssign<&T> for Ratio<T> {
+    #[inline]
+    fn div_assign(&mut self, number: &T) {
+        *self = self.div(Ratio::from_integer(*number));
+    }
+}

@@ -1,0 +1,140 @@
+// Erased from crates/num_rational/src/ops/mul.rt by rust/erase: not to be edited.
+//! Products: the checked call, the call that asks for an answer, and the symbols `*` and `*=`.
+
+use crate::proved::num_rational::ratio::Ratio;
+use crate::proved::ratio_core::products;
+use crate::proved::ratio_integer::Integer;
+use core::ops::{Mul, MulAssign};
+
+impl<T: Copy + Integer> Ratio<T> {
+    /// The product in lowest terms, or `None` where the type does not hold them. The fractions need
+    /// not be reduced.
+    ///
+    /// # Conditions
+    ///
+    /// What is proved asks of the caller:
+    ///
+    /// - `left_positive`: `pos 0 <ℤ denominator self.now`
+    /// - `right_positive`: `pos 0 <ℤ denominator other.now`
+    #[inline]
+    pub fn checked_mul(&self, other: &Ratio<T>) -> Option<Ratio<T>> {
+        match products::checked_mul(*self.numer(), *self.denom(), *other.numer(), *other.denom()) {
+            Some((numer, denom)) => Some(Ratio::new_raw(numer, denom)),
+            None => None,
+        }
+    }
+
+    /// The product in lowest terms, also by the symbol `*`. The test is `checked_mul`.
+    ///
+    /// # Conditions
+    ///
+    /// What is proved asks of the caller:
+    ///
+    /// - `left_positive`: `pos 0 <ℤ denominator self`
+    /// - `right_positive`: `pos 0 <ℤ denominator other`
+    /// - `answered`: `Fits T.lo T.hi (numerator self *ℤ numerator other) (denominator self *ℤ denominator other)`
+    #[inline]
+    pub fn mul(self, other: Ratio<T>) -> Ratio<T> {
+        self.checked_mul(&other).unwrap()
+    }
+}
+
+impl<T: Copy + Integer> Mul<Ratio<T>> for Ratio<T> {
+    type Output = Ratio<T>;
+
+    #[inline]
+    fn mul(self, other: Ratio<T>) -> Ratio<T> {
+        self.mul(other)
+    }
+}
+
+impl<T: Copy + Integer> Mul<&Ratio<T>> for Ratio<T> {
+    type Output = Ratio<T>;
+
+    #[inline]
+    fn mul(self, other: &Ratio<T>) -> Ratio<T> {
+        self.mul(*other)
+    }
+}
+
+impl<T: Copy + Integer> Mul<Ratio<T>> for &Ratio<T> {
+    type Output = Ratio<T>;
+
+    #[inline]
+    fn mul(self, other: Ratio<T>) -> Ratio<T> {
+        (*self).mul(other)
+    }
+}
+
+impl<T: Copy + Integer> Mul<&Ratio<T>> for &Ratio<T> {
+    type Output = Ratio<T>;
+
+    #[inline]
+    fn mul(self, other: &Ratio<T>) -> Ratio<T> {
+        (*self).mul(*other)
+    }
+}
+
+impl<T: Copy + Integer> Mul<T> for Ratio<T> {
+    type Output = Ratio<T>;
+
+    #[inline]
+    fn mul(self, number: T) -> Ratio<T> {
+        self.mul(Ratio::from_integer(number))
+    }
+}
+
+impl<T: Copy + Integer> Mul<&T> for Ratio<T> {
+    type Output = Ratio<T>;
+
+    #[inline]
+    fn mul(self, number: &T) -> Ratio<T> {
+        self.mul(Ratio::from_integer(*number))
+    }
+}
+
+impl<T: Copy + Integer> Mul<T> for &Ratio<T> {
+    type Output = Ratio<T>;
+
+    #[inline]
+    fn mul(self, number: T) -> Ratio<T> {
+        (*self).mul(Ratio::from_integer(number))
+    }
+}
+
+impl<T: Copy + Integer> Mul<&T> for &Ratio<T> {
+    type Output = Ratio<T>;
+
+    #[inline]
+    fn mul(self, number: &T) -> Ratio<T> {
+        (*self).mul(Ratio::from_integer(*number))
+    }
+}
+
+impl<T: Copy + Integer> MulAssign<Ratio<T>> for Ratio<T> {
+    #[inline]
+    fn mul_assign(&mut self, other: Ratio<T>) {
+        *self = self.mul(other);
+    }
+}
+
+impl<T: Copy + Integer> MulAssign<&Ratio<T>> for Ratio<T> {
+    #[inline]
+    fn mul_assign(&mut self, other: &Ratio<T>) {
+        *self = self.mul(*other);
+    }
+}
+
+impl<T: Copy + Integer> MulAssign<T> for Ratio<T> {
+    #[inline]
+    fn mul_assign(&mut self, number: T) {
+        *self = self.mul(Ratio::from_integer(number));
+    }
+}
+
+impl<T: Copy + Integer> MulAssign<&T> for Ratio<T> {
+    #[inline]
+    fn mul_assign(&mut self, number: &T) {
+        *self = self.mul(Ratio::from_integer(*number));
+    }
+}

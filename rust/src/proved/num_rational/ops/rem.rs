@@ -1,0 +1,141 @@
+// Erased from crates/num_rational/src/ops/rem.rt by rust/erase: not to be edited.
+//! Remainders: the checked call, the call that asks for an answer, and the symbols `%` and `%=`.
+
+use crate::proved::num_rational::ratio::Ratio;
+use crate::proved::ratio_core::remainder;
+use crate::proved::ratio_integer::Integer;
+use core::ops::{Rem, RemAssign};
+
+impl<T: Copy + Integer> Ratio<T> {
+    /// The lowest terms of `x - t*y`, where `t` is the quotient `x/y` cut towards zero: 0, or of the
+    /// sign of `x` and nearer to 0 than `y`. `None` exactly where the divisor is 0, or the least common
+    /// denominator or a numerator over it is not held; the fields count as they stand.
+    ///
+    /// # Conditions
+    ///
+    /// What is proved asks of the caller:
+    ///
+    /// - `left_positive`: `pos 0 <ℤ denominator self.now`
+    /// - `right_positive`: `pos 0 <ℤ denominator other.now`
+    #[inline]
+    pub fn checked_rem(&self, other: &Ratio<T>) -> Option<Ratio<T>> {
+        match remainder::checked_rem(*self.numer(), *self.denom(), *other.numer(), *other.denom()) {
+            Some((numer, denom)) => Some(Ratio::new_raw(numer, denom)),
+            None => None,
+        }
+    }
+
+    /// The remainder in lowest terms, also by the symbol `%`. The test is `checked_rem`.
+    ///
+    /// # Conditions
+    ///
+    /// What is proved asks of the caller:
+    ///
+    /// - `left_positive`: `pos 0 <ℤ denominator self`
+    /// - `right_positive`: `pos 0 <ℤ denominator other`
+    /// - `answered`: `RemainderHeld T.lo T.hi (numerator self) (denominator self) (numerator other) (denominator other)`
+    #[inline]
+    pub fn rem(self, other: Ratio<T>) -> Ratio<T> {
+        self.checked_rem(&other).unwrap()
+    }
+}
+
+impl<T: Copy + Integer> Rem<Ratio<T>> for Ratio<T> {
+    type Output = Ratio<T>;
+
+    #[inline]
+    fn rem(self, other: Ratio<T>) -> Ratio<T> {
+        self.rem(other)
+    }
+}
+
+impl<T: Copy + Integer> Rem<&Ratio<T>> for Ratio<T> {
+    type Output = Ratio<T>;
+
+    #[inline]
+    fn rem(self, other: &Ratio<T>) -> Ratio<T> {
+        self.rem(*other)
+    }
+}
+
+impl<T: Copy + Integer> Rem<Ratio<T>> for &Ratio<T> {
+    type Output = Ratio<T>;
+
+    #[inline]
+    fn rem(self, other: Ratio<T>) -> Ratio<T> {
+        (*self).rem(other)
+    }
+}
+
+impl<T: Copy + Integer> Rem<&Ratio<T>> for &Ratio<T> {
+    type Output = Ratio<T>;
+
+    #[inline]
+    fn rem(self, other: &Ratio<T>) -> Ratio<T> {
+        (*self).rem(*other)
+    }
+}
+
+impl<T: Copy + Integer> Rem<T> for Ratio<T> {
+    type Output = Ratio<T>;
+
+    #[inline]
+    fn rem(self, number: T) -> Ratio<T> {
+        self.rem(Ratio::from_integer(number))
+    }
+}
+
+impl<T: Copy + Integer> Rem<&T> for Ratio<T> {
+    type Output = Ratio<T>;
+
+    #[inline]
+    fn rem(self, number: &T) -> Ratio<T> {
+        self.rem(Ratio::from_integer(*number))
+    }
+}
+
+impl<T: Copy + Integer> Rem<T> for &Ratio<T> {
+    type Output = Ratio<T>;
+
+    #[inline]
+    fn rem(self, number: T) -> Ratio<T> {
+        (*self).rem(Ratio::from_integer(number))
+    }
+}
+
+impl<T: Copy + Integer> Rem<&T> for &Ratio<T> {
+    type Output = Ratio<T>;
+
+    #[inline]
+    fn rem(self, number: &T) -> Ratio<T> {
+        (*self).rem(Ratio::from_integer(*number))
+    }
+}
+
+impl<T: Copy + Integer> RemAssign<Ratio<T>> for Ratio<T> {
+    #[inline]
+    fn rem_assign(&mut self, other: Ratio<T>) {
+        *self = self.rem(other);
+    }
+}
+
+impl<T: Copy + Integer> RemAssign<&Ratio<T>> for Ratio<T> {
+    #[inline]
+    fn rem_assign(&mut self, other: &Ratio<T>) {
+        *self = self.rem(*other);
+    }
+}
+
+impl<T: Copy + Integer> RemAssign<T> for Ratio<T> {
+    #[inline]
+    fn rem_assign(&mut self, number: T) {
+        *self = self.rem(Ratio::from_integer(number));
+    }
+}
+
+impl<T: Copy + Integer> RemAssign<&T> for Ratio<T> {
+    #[inline]
+    fn rem_assign(&mut self, number: &T) {
+        *self = self.rem(Ratio::from_integer(*number));
+    }
+}

@@ -1,0 +1,183 @@
+// Erased from crates/num_rational/src/ratio.rt by rust/erase: not to be edited.
+//! The fraction type, how its values are made, and what their fields are.
+
+use crate::proved::ratio_core::checked_new;
+use crate::proved::ratio_integer::Integer;
+
+/// A fraction of two numbers of the type `T`, whose denominator is not 0. Its fields are kept as
+/// they were given: `new` and most calls give lowest terms with a positive denominator, `new_raw`
+/// takes any two numbers.
+#[derive(Copy, Debug)]
+pub struct Ratio<T: Copy + Integer> {
+    numer: T,
+    denom: T,
+}
+
+/// A fraction of two `isize`.
+pub type Rational = Ratio<isize>;
+
+/// A fraction of two `i32`.
+pub type Rational32 = Ratio<i32>;
+
+/// A fraction of two `i64`.
+pub type Rational64 = Ratio<i64>;
+
+impl<T: Copy + Integer> Clone for Ratio<T> {
+    #[inline]
+    fn clone(&self) -> Ratio<T> {
+        *self
+    }
+}
+
+impl<T: Copy + Integer> Ratio<T> {
+    /// The fraction with these fields, as they are given: they are not reduced, and the denominator
+    /// may be negative.
+    ///
+    /// # Conditions
+    ///
+    /// What is proved asks of the caller:
+    ///
+    /// - `T.value denom ≢ pos 0`
+    #[inline]
+    pub fn new_raw(numer: T, denom: T) -> Ratio<T> {
+        Ratio { numer, denom }
+    }
+
+    /// The numerator and the denominator, as they stand.
+    #[inline]
+    pub fn into_raw(self) -> (T, T) {
+        (self.numer, self.denom)
+    }
+
+    /// The numerator, as it stands.
+    #[inline]
+    pub fn numer(&self) -> &T {
+        &self.numer
+    }
+
+    /// The denominator, as it stands. It is not 0, but may be negative.
+    #[inline]
+    pub fn denom(&self) -> &T {
+        &self.denom
+    }
+
+    /// The whole number over 1.
+    #[inline]
+    pub fn from_integer(t: T) -> Ratio<T> {
+        Ratio {
+            numer: t,
+            denom: T::ONE,
+        }
+    }
+
+    /// The lowest terms of `n/d`, or `None` where `d` is 0 or the type does not hold them. Over `i8`
+    /// that is `-1/64` for 2 and -128, and `None` for 1 and -128, since it holds no 128.
+    #[inline]
+    pub fn checked_new(n: T, d: T) -> Option<Ratio<T>> {
+        match checked_new::checked_new(n, d) {
+            Some((numer, denom)) => Some(Ratio { numer, denom }),
+            None => None,
+        }
+    }
+
+    /// The lowest terms of `n/d`. The test is `checked_new`.
+    ///
+    /// # Conditions
+    ///
+    /// What is proved asks of the caller:
+    ///
+    /// - `Fits T.lo T.hi (T.value n) (T.value d)`
+    #[inline]
+    pub fn new(n: T, d: T) -> Ratio<T> {
+        Ratio::checked_new(n, d).unwrap()
+    }
+
+    /// The lowest terms of a numerator and a denominator. The test is `checked_new`.
+    ///
+    /// # Conditions
+    ///
+    /// What is proved asks of the caller:
+    ///
+    /// - `Fits T.lo T.hi (T.value pair.0) (T.value pair.1)`
+    #[inline]
+    pub fn from_pair(pair: (T, T)) -> Ratio<T> {
+        Ratio::new(pair.0, pair.1)
+    }
+
+    /// The lowest terms of this fraction; reducing twice is reducing once. The test is
+    /// `checked_new` of the fields: it fails only for a negative denominator.
+    ///
+    /// # Conditions
+    ///
+    /// What is proved asks of the caller:
+    ///
+    /// - `Fits T.lo T.hi (numerator self.now) (denominator self.now)`
+    #[inline]
+    pub fn reduced(&self) -> Ratio<T> {
+        Ratio::new(self.numer, self.denom)
+    }
+
+    /// The fraction 0/1.
+    #[inline]
+    pub fn zero() -> Ratio<T> {
+        Ratio::<T>::ZERO
+    }
+
+    /// The fraction 1/1.
+    #[inline]
+    pub fn one() -> Ratio<T> {
+        Ratio::<T>::ONE
+    }
+
+    /// Becomes 0/1.
+    #[inline]
+    pub fn set_zero(&mut self) {
+        *self = Ratio::zero();
+    }
+
+    /// Becomes 1/1.
+    #[inline]
+    pub fn set_one(&mut self) {
+        *self = Ratio::one();
+    }
+
+    /// Whether the fraction is 0: its numerator is.
+    #[inline]
+    pub fn is_zero(&self) -> bool {
+        self.numer.is_zero()
+    }
+
+    /// Whether the fraction is 1: its fields are equal, as those of 2/2 are.
+    #[inline]
+    pub fn is_one(&self) -> bool {
+        self.numer == self.denom
+    }
+
+    /// Whether the denominator is 1. So 4/2, as `new_raw` makes it, is none.
+    #[inline]
+    pub fn is_integer(&self) -> bool {
+        self.denom.is_one()
+    }
+}
+
+/// The constants of `Ratio`. They stand in a trait, since `ZERO` and `zero` of one type would differ
+/// in case alone.
+pub trait Constants: Sized {
+    /// The fraction 0/1.
+    const ZERO: Self;
+
+    /// The fraction 1/1.
+    const ONE: Self;
+}
+
+impl<T: Copy + Integer> Constants for Ratio<T> {
+    const ZERO: Ratio<T> = Ratio {
+        numer: T::ZERO,
+        denom: T::ONE,
+    };
+
+    const ONE: Ratio<T> = Ratio {
+        numer: T::ONE,
+        denom: T::ONE,
+    };
+}

@@ -1,0 +1,12 @@
+// Erased from crates/num_rational/src/tests.rt by rust/erase: not to be edited.
+//! What no clause says: rows from outside, and each call once at a concrete type.
+mod carried;
+mod comparing;
+mod every_call;
+mod folds;
+mod forms;
+mod keys;
+mod operators;
+mod recorder;
+mod rows;
+mod twelve_types;

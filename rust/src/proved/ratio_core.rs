@@ -1,0 +1,25 @@
+// Erased from crates/ratio_core/src/lib.rt by rust/erase: not to be edited.
+//! What is computed on fractions, over the two numbers of each.
+pub mod checked_new;
+mod code_list;
+mod hash;
+pub mod laws;
+mod order;
+mod parse_error;
+pub mod products;
+pub mod remainder;
+mod scaling;
+mod steps;
+pub mod sums;
+mod taken;
+#[cfg(test)]
+mod tests;
+pub mod text;
+
+pub use code_list::CodeList;
+pub use hash::hash_counted;
+pub use order::{cmp_counted, compare};
+pub use parse_error::{ParseRatioError, RatioErrorKind};
+pub use steps::Steps;
+pub use taken::Taken;
+pub use text::{Form, RatioText};

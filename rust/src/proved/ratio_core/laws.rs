@@ -1,0 +1,15 @@
+// Erased from crates/ratio_core/src/laws.rt by rust/erase: not to be edited.
+//! The laws of sums and products: each function's contract is the law, and it does nothing. An
+//! answer of `checked_add` or `checked_mul` is the sum or the product that they speak of.
+
+/// Sums in lowest terms.
+#[inline]
+pub fn sums() {}
+
+/// Products in lowest terms.
+#[inline]
+pub fn products() {}
+
+/// What sums and differences ask.
+#[inline]
+pub fn conditions() {}

@@ -1,0 +1,48 @@
+// Erased from crates/ratio_core/src/order/dividing.rt by rust/erase: not to be edited.
+//! The two floored divisions of the order and of the codes, each of which is a step of its side.
+
+use crate::proved::ratio_core::order::signs::is_negative;
+use crate::proved::ratio_core::steps::Steps;
+use crate::proved::ratio_integer::Integer;
+
+/// A step of the left side: the floored quotient, and what is left over.
+///
+/// # Conditions
+///
+/// What is proved asks of the caller:
+///
+/// - `nonzero`: `T.value d ≢ pos 0`
+/// - `held`: `¬ (IsAboveMax T.hi (T.value n) (T.value d))`
+#[inline]
+pub(crate) fn divide_left<T: Integer>(n: T, d: T, steps: &mut Steps) -> (T, T) {
+    let _ = n.held();
+    let _ = d.held();
+    let division = n.div_mod_floor(d);
+    steps.tick_left();
+    division
+}
+
+/// A step of the right side: the floored quotient, and what is left over.
+///
+/// # Conditions
+///
+/// What is proved asks of the caller:
+///
+/// - `nonzero`: `T.value d ≢ pos 0`
+/// - `held`: `¬ (IsAboveMax T.hi (T.value n) (T.value d))`
+#[inline]
+pub(crate) fn divide_right<T: Integer>(n: T, d: T, steps: &mut Steps) -> (T, T) {
+    let _ = n.held();
+    let _ = d.held();
+    let division = n.div_mod_floor(d);
+    steps.tick_right();
+    division
+}
+
+/// Whether the pair is `-hi-1` over -1, whose quotient the type does not hold.
+#[inline]
+pub(crate) fn is_above_max<T: Integer>(n: T, d: T) -> bool {
+    let _ = n.held();
+    let _ = d.held();
+    is_negative(d) && is_negative(n) && d.plus(T::ONE).is_zero() && is_negative(n.plus(T::MAX))
+}

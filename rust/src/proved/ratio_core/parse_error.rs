@@ -1,0 +1,48 @@
+// Erased from crates/ratio_core/src/parse_error.rt by rust/erase: not to be edited.
+//! Why a text is refused as a fraction.
+
+#[cfg(feature = "std")]
+use std::error::Error;
+use core::fmt;
+
+/// What is wrong with a text.
+#[derive(Clone, Copy, PartialEq, Debug)]
+pub enum RatioErrorKind {
+    /// It writes no fraction of numbers that the type holds, or one whose lowest terms it does not hold.
+    ParseError = 1,
+    /// It writes a fraction of such numbers, with the denominator 0.
+    ZeroDenominator = 2,
+}
+
+/// The refusal of a text. A contract sees it as its kind.
+#[derive(Clone, Copy, PartialEq, Debug)]
+pub struct ParseRatioError {
+    kind: RatioErrorKind,
+}
+
+impl ParseRatioError {
+    /// The refusal of this kind.
+    #[inline]
+    pub(crate) fn new(kind: RatioErrorKind) -> ParseRatioError {
+        ParseRatioError { kind }
+    }
+
+    /// What is wrong with the text.
+    #[inline]
+    pub fn kind(&self) -> RatioErrorKind {
+        self.kind
+    }
+}
+
+impl fmt::Display for ParseRatioError {
+    #[inline]
+    fn fmt(&self, f: &mut fmt::Formatter<'_>) -> fmt::Result {
+        match self.kind {
+            RatioErrorKind::ParseError => f.write_str("failed to parse integer"),
+            RatioErrorKind::ZeroDenominator => f.write_str("zero value denominator"),
+        }
+    }
+}
+
+#[cfg(feature = "std")]
+impl Error for ParseRatioError {}

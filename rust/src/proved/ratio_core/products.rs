@@ -1,0 +1,108 @@
+// Erased from crates/ratio_core/src/products.rt by rust/erase: not to be edited.
+//! Products and quotients in lowest terms, answered exactly where the type holds these.
+//!
+//! Where both products of the fields are held, one greatest common divisor finishes them. Where one
+//! is not, the operands are brought to lowest terms and cancelled across, and a sign is moved before
+//! anything is multiplied: then the products are the lowest terms, and only these must be held.
+
+use crate::proved::ratio_core::checked_new::checked_new;
+use crate::proved::ratio_integer::{Integer, lowest_terms};
+
+/// The lowest terms of `a/b * c/d`, or `None` where the type does not hold them. The fractions need
+/// not be reduced.
+///
+/// # Conditions
+///
+/// What is proved asks of the caller:
+///
+/// - `left_positive`: `pos 0 <ℤ T.value b`
+/// - `right_positive`: `pos 0 <ℤ T.value d`
+#[inline]
+pub fn checked_mul<T: Integer>(a: T, b: T, c: T, d: T) -> Option<(T, T)> {
+    if let Some(numer) = a.try_times(c) {
+        if let Some(denom) = b.try_times(d) {
+            return Some(lowest_terms(numer, denom));
+        }
+    }
+    cancelled_product(a, b, c, d)
+}
+
+/// The lowest terms of `a/b` divided by `c/d`, or `None` where `c` is 0 or the type does not hold
+/// them. The fractions need not be reduced.
+///
+/// # Conditions
+///
+/// What is proved asks of the caller:
+///
+/// - `left_positive`: `pos 0 <ℤ T.value b`
+/// - `right_positive`: `pos 0 <ℤ T.value d`
+#[inline]
+pub fn checked_div<T: Integer>(a: T, b: T, c: T, d: T) -> Option<(T, T)> {
+    if let Some(numer) = a.try_times(d) {
+        if let Some(denom) = b.try_times(c) {
+            return checked_new(numer, denom);
+        }
+    }
+    cancelled_quotient(a, b, c, d)
+}
+
+/// The lowest terms of `a/b * c/d`. The test is `checked_mul`.
+///
+/// # Conditions
+///
+/// What is proved asks of the caller:
+///
+/// - `left_positive`: `pos 0 <ℤ T.value b`
+/// - `right_positive`: `pos 0 <ℤ T.value d`
+/// - `answered`: `ProductCondition T.lo T.hi (T.value a) (T.value b) (T.value c) (T.value d)`
+#[inline]
+pub fn mul<T: Integer>(a: T, b: T, c: T, d: T) -> (T, T) {
+    match checked_mul(a, b, c, d) {
+        Some(product) => product,
+        None => unreachable!(),
+    }
+}
+
+/// The lowest terms of `a/b` divided by `c/d`. The test is `checked_div`.
+///
+/// # Conditions
+///
+/// What is proved asks of the caller:
+///
+/// - `left_positive`: `pos 0 <ℤ T.value b`
+/// - `right_positive`: `pos 0 <ℤ T.value d`
+/// - `answered`: `QuotientCondition T.lo T.hi (T.value a) (T.value b) (T.value c) (T.value d)`
+#[inline]
+pub fn div<T: Integer>(a: T, b: T, c: T, d: T) -> (T, T) {
+    match checked_div(a, b, c, d) {
+        Some(quotient) => quotient,
+        None => unreachable!(),
+    }
+}
+
+// The same product, cancelled before it is multiplied.
+#[inline]
+fn cancelled_product<T: Integer>(a: T, b: T, c: T, d: T) -> Option<(T, T)> {
+    let (a, b) = lowest_terms(a, b);
+    let (c, d) = lowest_terms(c, d);
+    let (p, t) = lowest_terms(a, d);
+    let (s, q) = lowest_terms(c, b);
+    multiplied(p, q, s, t)
+}
+
+// The same quotient: the numerators over one another, which moves the divisor's sign, times the
+// denominators over one another.
+#[inline]
+fn cancelled_quotient<T: Integer>(a: T, b: T, c: T, d: T) -> Option<(T, T)> {
+    let (a, b) = lowest_terms(a, b);
+    let (c, d) = lowest_terms(c, d);
+    let (s, t) = lowest_terms(d, b);
+    let (p, q) = checked_new(a, c)?;
+    multiplied(p, q, s, t)
+}
+
+// `p/q * s/t` where its products are in lowest terms as they stand.
+#[inline]
+fn multiplied<T: Integer>(p: T, q: T, s: T, t: T) -> Option<(T, T)> {
+    Some((p.try_times(s)?, q.try_times(t)?))
+}

@@ -1,0 +1,6 @@
+// Erased from crates/ratio_core/src/tests.rt by rust/erase: not to be edited.
+//! What no clause says: rows from outside.
+mod arithmetic;
+mod comparing;
+mod printing;
+mod recorder;

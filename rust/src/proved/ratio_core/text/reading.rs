@@ -1,0 +1,92 @@
+// Erased from crates/ratio_core/src/text/reading.rt by rust/erase: not to be edited.
+//! Reading a fraction from a text.
+
+use crate::proved::ratio_core::checked_new::checked_new;
+use crate::proved::ratio_core::parse_error::{ParseRatioError, RatioErrorKind};
+use crate::proved::ratio_core::text::short_digits::short_digits;
+use crate::proved::ratio_integer::Primitive;
+
+/// The fraction of a decimal text in lowest terms: `N/D` for two number texts, or `N` for `N/1`. A
+/// number text is one digit or more after an optional `+`, or `-` for a type with numbers below 0;
+/// leading zeros are allowed, and nothing else is. The kind of the first refusal that applies is
+/// `ParseError` where a part is no number text or the type does not hold its number,
+/// `ZeroDenominator` where the second number is 0, and `ParseError` where the type does not hold
+/// the lowest terms.
+#[inline]
+pub fn from_str<T: Primitive>(text: &str) -> Result<(T, T), ParseRatioError> {
+    match pair::<T>(text) {
+        Err(refusal) => Err(refusal),
+        Ok(read) => match checked_new(read.0, read.1) {
+            Some(low) => Ok(low),
+            None => Err(ParseRatioError::new(RatioErrorKind::ParseError)),
+        },
+    }
+}
+
+/// The number of the text in the radix, or `None` where it is no number text or the type does not
+/// hold its number. A few decimal digits are read in 64 bits.
+///
+/// # Conditions
+///
+/// What is proved asks of the caller:
+///
+/// - `low`: `2 ≤ radix`
+/// - `high`: `radix ≤ 36`
+#[inline]
+fn number<T: Primitive>(text: &str, radix: u32) -> Option<T> {
+    if radix == 10 {
+        let bytes = text.as_bytes();
+        if T::MIN < T::ZERO && begins_with_minus(bytes) {
+            if let Some(n) = short_digits(bytes, 1) {
+                return T::from_i128(-(n as i128));
+            }
+        } else if let Some(n) = short_digits(bytes, 0) {
+            return T::from_u128(n as u128);
+        }
+    }
+    wide_number(text, radix)
+}
+
+// Whether the first byte is a minus.
+#[inline]
+fn begins_with_minus(bytes: &[u8]) -> bool {
+    !bytes.is_empty() && bytes[0] == b'-'
+}
+
+// The same number, read in 128 bits.
+#[inline]
+fn wide_number<T: Primitive>(text: &str, radix: u32) -> Option<T> {
+    if T::MIN < T::ZERO {
+        T::from_i128(i128::from_str_radix(text, radix).ok()?)
+    } else {
+        T::from_u128(u128::from_str_radix(text, radix).ok()?)
+    }
+}
+
+// The numbers of the texts before and after a slash.
+#[inline]
+fn sides<T: Primitive>(front: &str, back: &str, radix: u32) -> Result<(T, T), ParseRatioError> {
+    match number::<T>(front, radix) {
+        None => Err(ParseRatioError::new(RatioErrorKind::ParseError)),
+        Some(numer) => match number::<T>(back, radix) {
+            None => Err(ParseRatioError::new(RatioErrorKind::ParseError)),
+            Some(denom) => if denom.is_zero() {
+                Err(ParseRatioError::new(RatioErrorKind::ZeroDenominator))
+            } else {
+                Ok((numer, denom))
+            },
+        },
+    }
+}
+
+// The two numbers of a decimal text, as they stand.
+#[inline]
+fn pair<T: Primitive>(text: &str) -> Result<(T, T), ParseRatioError> {
+    match text.split_once('/') {
+        Some((front, back)) => sides(front, back, 10),
+        None => match number(text, 10) {
+            Some(numer) => Ok((numer, T::ONE)),
+            None => Err(ParseRatioError::new(RatioErrorKind::ParseError)),
+        },
+    }
+}

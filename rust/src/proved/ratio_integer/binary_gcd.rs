@@ -1,0 +1,141 @@
+// Erased from crates/ratio_integer/src/binary_gcd.rt by rust/erase: not to be edited.
+//! The greatest common divisor of magnitudes by halving and subtracting, without a division.
+//!
+//! This is Stein's algorithm (1967). It rests on three rules: a factor of 2 that both numbers have
+//! is a factor of the answer; one that only one of them has is not; and of two odd numbers the
+//! greater may give way to the difference, which is even, so each step takes off at least one bit.
+//!
+//! Which of the two numbers is the smaller is as good as a coin toss, so a branch on it would be
+//! guessed wrong every other step. `min` and `abs_diff` choose without a branch, and a shift by
+//! `trailing_zeros` halves as often as it goes at once.
+
+/// The number without its factors of 2.
+///
+/// # Conditions
+///
+/// What is proved asks of the caller:
+///
+/// - `n ≢ 0`
+#[inline(always)]
+fn odd_part(n: u64) -> u64 {
+    n >> n.trailing_zeros()
+}
+
+/// The greatest common divisor of two odd numbers.
+///
+/// # Conditions
+///
+/// What is proved asks of the caller:
+///
+/// - `left`: `a % 2 ≡ 1`
+/// - `right`: `b % 2 ≡ 1`
+#[inline]
+fn odd_gcd(a: u64, b: u64) -> u64 {
+    let mut x = a;
+    let mut y = b;
+    while x != y {
+        let difference = x.abs_diff(y);
+        x = x.min(y);
+        y = odd_part(difference);
+    }
+    x
+}
+
+/// The greatest common divisor of magnitudes of at most 64 bits, 0 for 0 and 0.
+#[inline]
+pub(crate) fn binary_gcd(a: u64, b: u64) -> u64 {
+    if a == 0 {
+        return b;
+    }
+    if b == 0 {
+        return a;
+    }
+    let shift = a.trailing_zeros().min(b.trailing_zeros());
+    odd_gcd(odd_part(a), odd_part(b)) << shift
+}
+
+/// The number without its factors of 2.
+///
+/// # Conditions
+///
+/// What is proved asks of the caller:
+///
+/// - `n ≢ 0`
+#[inline(always)]
+fn odd_part_wide(n: u128) -> u128 {
+    n >> n.trailing_zeros()
+}
+
+/// The greatest common divisor of two odd numbers. A step in 128 bits costs several in 64, so the
+/// numbers go over to 64 bits once both fit.
+///
+/// # Conditions
+///
+/// What is proved asks of the caller:
+///
+/// - `left`: `a % 2 ≡ 1`
+/// - `right`: `b % 2 ≡ 1`
+#[inline]
+fn odd_gcd_wide(a: u128, b: u128) -> u128 {
+    let mut x = a;
+    let mut y = b;
+    while x != y {
+        if x <= u64::MAX as u128 && y <= u64::MAX as u128 {
+            return odd_gcd(x as u64, y as u64) as u128;
+        }
+        let difference = x.abs_diff(y);
+        x = x.min(y);
+        y = odd_part_wide(difference);
+    }
+    x
+}
+
+/// The greatest common divisor of magnitudes of at most 128 bits, 0 for 0 and 0.
+#[inline]
+pub(crate) fn binary_gcd_wide(a: u128, b: u128) -> u128 {
+    if a == 0 {
+        return b;
+    }
+    if b == 0 {
+        return a;
+    }
+    let shift = a.trailing_zeros().min(b.trailing_zeros());
+    odd_gcd_wide(odd_part_wide(a), odd_part_wide(b)) << shift
+}
+
+#[cfg(test)]
+mod tests {
+    use super::{binary_gcd, binary_gcd_wide};
+
+    #[test]
+    fn rows_of_64_bits() {
+        let table: [(u64, u64, u64); 6] = [
+            (0, 0, 0),
+            (0, 5, 5),
+            (5, 0, 5),
+            (128, 96, 32),
+            (1 << 63, 1 << 62, 1 << 62),
+            // 641 divides 2^32 + 1, and so 2^64 - 1.
+            (u64::MAX, 1282, 641),
+        ];
+        for (a, b, want) in table {
+            assert_eq!(binary_gcd(a, b), want, "of {a} and {b}");
+        }
+    }
+
+    #[test]
+    fn rows_of_128_bits() {
+        let table: [(u128, u128, u128); 6] = [
+            (0, 0, 0),
+            (0, 5, 5),
+            (1 << 127, 1, 1),
+            (1 << 127, 1 << 126, 1 << 126),
+            (3 << 64, 5 << 64, 1 << 64),
+            // 2^64 - 1 divides 2^128 - 1.
+            (u128::MAX, u64::MAX as u128, u64::MAX as u128),
+        ];
+        for (a, b, want) in table {
+            assert_eq!(binary_gcd_wide(a, b), want, "of {a} and {b}");
+        }
+    }
+}

@@ -1,0 +1,103 @@
+// Erased from crates/ratio_integer/src/impls/u16.rt by rust/erase: not to be edited.
+//! The type `u16`.
+
+use crate::proved::ratio_integer::binary_gcd::binary_gcd;
+use crate::proved::ratio_integer::integer::Integer;
+use crate::proved::ratio_integer::primitive::Primitive;
+use num_traits::cast;
+
+impl Integer for u16 {
+    const ZERO: u16 = 0;
+
+    const ONE: u16 = 1;
+
+    const MIN: u16 = u16::MIN;
+
+    const MAX: u16 = u16::MAX;
+
+    const EXACT_SUMS: bool = false;
+
+    #[inline]
+    fn plus(self, o: u16) -> u16 {
+        self + o
+    }
+
+    #[inline]
+    fn minus(self, o: u16) -> u16 {
+        self - o
+    }
+
+    #[inline]
+    fn times(self, o: u16) -> u16 {
+        self * o
+    }
+
+    #[inline]
+    fn try_times(self, o: u16) -> Option<u16> {
+        self.checked_mul(o)
+    }
+
+    #[inline]
+    fn div_rem(self, o: u16) -> (u16, u16) {
+        (self / o, self % o)
+    }
+
+    #[inline]
+    fn to_i128(self) -> Option<i128> {
+        cast(self)
+    }
+
+    #[inline]
+    fn to_u128(self) -> Option<u128> {
+        cast(self)
+    }
+
+    #[inline]
+    fn from_i128(n: i128) -> Option<u16> {
+        cast(n)
+    }
+
+    #[inline]
+    fn from_u128(n: u128) -> Option<u16> {
+        cast(n)
+    }
+
+    #[inline]
+    fn exact_sum(_a: u16, _b: u16, _c: u16, _d: u16) -> Option<(u16, u16)> {
+        None
+    }
+
+    #[inline]
+    fn exact_diff(_a: u16, _b: u16, _c: u16, _d: u16) -> Option<(u16, u16)> {
+        None
+    }
+
+    #[inline]
+    fn is_zero(self) -> bool {
+        self == 0
+    }
+
+    #[inline]
+    fn is_one(self) -> bool {
+        self == 1
+    }
+
+    #[inline]
+    fn try_plus(self, o: u16) -> Option<u16> {
+        self.checked_add(o)
+    }
+
+    #[inline]
+    fn try_minus(self, o: u16) -> Option<u16> {
+        self.checked_sub(o)
+    }
+
+    #[inline]
+    fn gcd(self, o: u16) -> u16 {
+        binary_gcd(self as u64, o as u64) as u16
+    }
+}
+
+impl Primitive for u16 {
+    const BITS: u32 = 16;
+}

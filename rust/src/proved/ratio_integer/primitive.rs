@@ -1,0 +1,9 @@
+// Erased from crates/ratio_integer/src/primitive.rt by rust/erase: not to be edited.
+//! Types of all whole numbers of a fixed number of bits.
+
+use crate::proved::ratio_integer::integer::Integer;
+
+/// A type that has each whole number of `BITS` bits, with a sign or without one.
+pub trait Primitive: Integer {
+    const BITS: u32;
+}

@@ -1,0 +1,19 @@
+//! What the erased tests need beside plain Rust.
+use std::fmt;
+use std::string::{String, ToString};
+
+/// The error of a test that ends with `?`.
+pub type Fail = std::boxed::Box<dyn std::error::Error>;
+
+/// A printed text. Rattle's has an array of `N` bytes.
+pub struct InlineText<const N: usize>(String);
+
+impl<const N: usize> InlineText<N> {
+    pub fn of(text: fmt::Arguments<'_>) -> Self {
+        InlineText(text.to_string())
+    }
+
+    pub fn as_str(&self) -> &str {
+        &self.0
+    }
+}

@@ -1,0 +1,80 @@
+//! Where a call panics, and with which text; and that no call on a denominator of 0 runs on without end.
+
+// A fraction beside itself is what is tested.
+#![allow(clippy::eq_op)]
+
+use bakhsney::Ratio;
+use std::collections::hash_map::DefaultHasher;
+use std::hash::{Hash, Hasher};
+use std::panic::{catch_unwind, UnwindSafe};
+
+type Call = fn(Ratio<i32>, Ratio<i32>);
+
+/// The text of the panic, or nothing where the call answers.
+fn refusal<R>(call: impl FnOnce() -> R + UnwindSafe) -> String {
+    match catch_unwind(call) {
+        Ok(_) => String::new(),
+        Err(cause) => match cause.downcast_ref::<String>() {
+            Some(text) => text.clone(),
+            None => (*cause.downcast_ref::<&str>().unwrap()).to_owned(),
+        },
+    }
+}
+
+#[test]
+fn conditions_are_tested() {
+    let (greatest, least) = (Ratio::from_integer(i64::MAX), Ratio::from_integer(i64::MIN));
+    let none = Ratio::from_integer(0i64);
+    assert_eq!(refusal(|| Ratio::new(1, 0)), "denominator == 0");
+    assert_eq!(refusal(|| Ratio::new(1i8, -128)), "attempt to negate with overflow");
+    assert_eq!(refusal(|| Ratio::new_raw(1i8, -128).reduced()), "attempt to negate with overflow");
+    assert_eq!(refusal(|| Ratio::from((1, 0))), "denominator == 0");
+    assert_eq!(refusal(move || greatest + 1), "attempt to add with overflow");
+    assert_eq!(refusal(move || least - 1), "attempt to subtract with overflow");
+    assert_eq!(refusal(move || greatest * 2), "attempt to multiply with overflow");
+    assert_eq!(refusal(move || greatest / Ratio::new(1, 2)), "attempt to multiply with overflow");
+    assert_eq!(refusal(move || greatest / none), "denominator == 0");
+    assert_eq!(refusal(move || greatest % none), "attempt to calculate the remainder with a divisor of zero");
+    assert_eq!(refusal(move || [greatest, greatest].iter().sum::<Ratio<i64>>()), "attempt to add with overflow");
+    assert_eq!(refusal(|| Ratio::new_raw(1, 0)), "");
+}
+
+#[test]
+fn a_denominator_of_0_ends_each_call() {
+    let broken = Ratio::new_raw(1i32, 0);
+    let sound = Ratio::new(1, 2);
+    let calls: [(&str, Call); 18] = [
+        ("add", |x, y| done(x + y)),
+        ("sub", |x, y| done(x - y)),
+        ("mul", |x, y| done(x * y)),
+        ("div", |x, y| done(x / y)),
+        ("rem", |x, y| done(x % y)),
+        ("add to", |x, y| done(y + x)),
+        ("sub from", |x, y| done(y - x)),
+        ("mul by", |x, y| done(y * x)),
+        ("div by", |x, y| done(y / x)),
+        ("rem by", |x, y| done(y % x)),
+        ("cmp", |x, y| done(x.cmp(&y))),
+        ("cmp with", |x, y| done(y.cmp(&x))),
+        ("eq", |x, y| done(x == y)),
+        ("itself", |x, _| done(x == x)),
+        ("hash", |x, _| x.hash(&mut DefaultHasher::new())),
+        ("text", |x, _| done(x.to_string())),
+        ("reduced", |x, _| done(x.reduced())),
+        ("sum", |x, y| done([x, y].iter().sum::<Ratio<i32>>())),
+    ];
+    for (name, call) in calls {
+        assert_eq!(refusal(move || call(broken, sound)), "denominator == 0", "{name}");
+    }
+    assert_eq!(broken.into_raw(), (1, 0));
+    assert!(!broken.is_integer());
+    assert_eq!(hash_of(sound), hash_of(Ratio::new_raw(-2, -4)));
+}
+
+fn hash_of(x: Ratio<i32>) -> u64 {
+    let mut state = DefaultHasher::new();
+    x.hash(&mut state);
+    state.finish()
+}
+
+fn done<R>(_: R) {}

@@ -1,0 +1,140 @@
+//! Rows of the calls as a Rust program writes them.
+
+// The forms are what is tested.
+#![allow(clippy::op_ref, clippy::modulo_one)]
+
+use bakhsney::{Integer, ParseRatioError, Ratio, Rational64};
+use num_traits::{CheckedAdd, CheckedDiv, CheckedMul, CheckedRem, CheckedSub, FromPrimitive, One, Zero};
+use std::cmp::Ordering;
+use std::collections::{BTreeSet, HashMap};
+
+fn half() -> Ratio<i32> {
+    Ratio::new(1, 2)
+}
+
+#[test]
+fn operators_in_all_forms() {
+    let (x, y) = (half(), Ratio::new(1, 3));
+    let sum = Ratio::new(5, 6);
+    assert_eq!([x + y, x + &y, &x + y, &x + &y], [sum; 4]);
+    assert_eq!([x + 1, x + &1, &x + 1, &x + &1], [Ratio::new(3, 2); 4]);
+    assert_eq!([x - y, x * y, x / y, x % y], [(1, 6), (1, 6), (3, 2), (1, 6)].map(Ratio::from));
+    assert_eq!([x - 1, x * 3, x / 3, x % 1], [(-1, 2), (3, 2), (1, 6), (1, 2)].map(Ratio::from));
+}
+
+#[test]
+fn assigning_forms() {
+    let mut x = half();
+    x += Ratio::new(1, 3);
+    x += &Ratio::new(1, 6);
+    x += 1;
+    x += &1;
+    assert_eq!(x, Ratio::from_integer(3));
+    x -= half();
+    x *= &Ratio::new(2, 5);
+    x /= 2;
+    assert_eq!(x, half());
+    x %= Ratio::new(1, 3);
+    assert_eq!(x, Ratio::new(1, 6));
+}
+
+#[test]
+fn std_calls_are_not_shadowed() {
+    use std::ops::Add;
+    assert_eq!(half().add(&half()), Ratio::from_integer(1));
+    assert_eq!(half().add(1), Ratio::new(3, 2));
+}
+
+#[test]
+fn either_sign_of_a_denominator() {
+    assert!(Ratio::<i8>::new_raw(-128, -1) >= Ratio::from_integer(127));
+    assert_eq!(Ratio::<i8>::new_raw(1, -2).cmp(&Ratio::new_raw(1, 2)), Ordering::Less);
+    let product = Ratio::<i8>::new_raw(1, -2) * Ratio::new(1, 2);
+    assert_eq!(product.into_raw(), (-1, 4));
+    assert_eq!(Ratio::new_raw(1, -128i8).checked_mul(&Ratio::from_integer(2)), None);
+    assert_eq!(Ratio::new_raw(2, -4).reduced().into_raw(), (-1, 2));
+}
+
+#[test]
+fn checked_calls() {
+    let greatest = Ratio::from_integer(u8::MAX);
+    assert_eq!(greatest.checked_add(&Ratio::one()), None);
+    assert_eq!(Ratio::zero().checked_sub(&greatest), None);
+    assert_eq!(greatest.checked_mul(&Ratio::new(2, 255)), Some(Ratio::from_integer(2)));
+    assert_eq!(greatest.checked_div(&Ratio::zero()), None);
+    assert_eq!(greatest.checked_rem(&Ratio::new(2, 3)), None);
+    assert_eq!(Ratio::new(7u8, 2).checked_rem(&Ratio::one()), Some(Ratio::new(1, 2)));
+}
+
+#[test]
+fn texts() {
+    assert_eq!("1/2".parse::<Ratio<i8>>(), Ok(Ratio::new(1, 2)));
+    assert_eq!("-6/8".parse::<Ratio<i8>>().map(Ratio::into_raw), Ok((-3, 4)));
+    let refused: Vec<Result<Ratio<i8>, ParseRatioError>> = ["1/0", "128", "1/2/3", ""].map(str::parse).to_vec();
+    assert!(refused.iter().all(Result::is_err));
+    assert_eq!(half().to_string(), "1/2");
+    assert_eq!(format!("{:>6}|{:<6}|{:+}", half(), half(), half()), "   1/2|1/2   |+1/2");
+    assert_eq!(format!("{:?}", half()), "Ratio { numer: 1, denom: 2 }");
+    let boxed: Box<dyn std::error::Error> = Box::new("x".parse::<Ratio<i8>>().unwrap_err());
+    assert_eq!(boxed.to_string(), "failed to parse integer");
+}
+
+#[test]
+fn conversions() {
+    assert_eq!(Ratio::<u8>::from_i64(300), None);
+    assert_eq!(Ratio::<u8>::from_u128(200), Some(Ratio::from_integer(200)));
+    assert_eq!(Ratio::<u8>::from_f64(0.5), None);
+    assert_eq!(<(i32, i32)>::from(half()), (1, 2));
+    assert_eq!(Ratio::from((2, 4)), half());
+    assert_eq!(Ratio::from(3), Ratio::from_integer(3));
+    assert_eq!(Ratio::<i64>::default(), Ratio::zero());
+}
+
+#[test]
+fn constants() {
+    const HALF: Ratio<i32> = Ratio::new_raw(1, 2);
+    const NUMER: &i32 = HALF.numer();
+    assert_eq!((*NUMER, *HALF.denom()), (1, 2));
+    assert_eq!((Rational64::ZERO, Rational64::ONE), (Ratio::zero(), Ratio::one()));
+    assert!(Rational64::ONE.is_one() && Rational64::ZERO.is_zero() && Rational64::ONE.is_integer());
+}
+
+#[test]
+fn keys_and_folds() {
+    let mut hashed = HashMap::new();
+    hashed.insert(Rational64::new_raw(4, -6), "found");
+    assert_eq!(hashed.get(&Ratio::new(-2, 3)), Some(&"found"));
+    let ordered: BTreeSet<Ratio<u8>> = [(3, 4), (1, 2), (2, 4), (255, 254)].into_iter().map(Ratio::from).collect();
+    assert_eq!(ordered.into_iter().map(Ratio::into_raw).collect::<Vec<_>>(), [(1, 2), (3, 4), (255, 254)]);
+    let items = [Ratio::new(1i64, 2), Ratio::new(1, 3), Ratio::new(1, 6)];
+    assert_eq!(items.iter().sum::<Ratio<i64>>(), Ratio::one());
+    assert_eq!(items.into_iter().sum::<Ratio<i64>>(), Ratio::one());
+    assert_eq!(items.iter().product::<Ratio<i64>>(), Ratio::new(1, 36));
+    assert_eq!(items.into_iter().product::<Ratio<i64>>(), Ratio::new(1, 36));
+}
+
+fn mean<T: Integer>(items: &[Ratio<T>]) -> Ratio<T> {
+    let mut count = T::zero();
+    for item in items {
+        assert!(!T::is_zero(item.denom()));
+        count = count + T::one();
+    }
+    items.iter().sum::<Ratio<T>>() / count
+}
+
+#[test]
+fn generic_code() {
+    assert_eq!(mean(&[Ratio::new(1u8, 2), Ratio::new(1, 4)]), Ratio::new(3, 8));
+    assert_eq!(mean(&[Ratio::new(1i128, 2), Ratio::new(-1, 2)]), Ratio::zero());
+}
+
+#[cfg(feature = "serde")]
+#[test]
+fn serialized() {
+    let x = Ratio::new_raw(2, -4);
+    let text = serde_json::to_string(&x).unwrap();
+    assert_eq!(text, "[2,-4]");
+    assert_eq!(serde_json::from_str::<Ratio<i32>>(&text).unwrap().into_raw(), (2, -4));
+    assert!(serde_json::from_str::<Ratio<i32>>("[1,0]").is_err());
+    assert!(serde_json::from_str::<Ratio<i8>>("[128,1]").is_err());
+}

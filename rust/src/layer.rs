@@ -8,6 +8,7 @@ mod conversions;
 mod integer;
 mod order;
 mod ratio;
+mod rounding;
 #[cfg(feature = "serde")]
 mod serialized;
 mod text;

@@ -4,7 +4,7 @@
 #![allow(clippy::op_ref, clippy::modulo_one)]
 
 use bakhsney::{Integer, ParseRatioError, Ratio, Rational64};
-use num_traits::{CheckedAdd, CheckedDiv, CheckedMul, CheckedRem, CheckedSub, FromPrimitive, One, Zero};
+use num_traits::{CheckedAdd, CheckedDiv, CheckedMul, CheckedRem, CheckedSub, FromPrimitive, One, ToPrimitive, Zero};
 use std::cmp::Ordering;
 use std::collections::{BTreeSet, HashMap};
 
@@ -88,6 +88,24 @@ fn conversions() {
     assert_eq!(Ratio::from((2, 4)), half());
     assert_eq!(Ratio::from(3), Ratio::from_integer(3));
     assert_eq!(Ratio::<i64>::default(), Ratio::zero());
+}
+
+#[test]
+fn whole_numbers() {
+    let rounded = |n: i8, d| {
+        let x = Ratio::new(n, d);
+        [x.floor(), x.ceil(), x.round(), x.trunc()].map(|y| y.to_integer())
+    };
+    assert_eq!(rounded(-127, 2), [-64, -63, -64, -63]);
+    assert_eq!(rounded(127, 2), [63, 64, 64, 63]);
+    assert_eq!(rounded(2, -3), [-1, 0, -1, 0]);
+    assert_eq!(Ratio::new(-127i8, 2).fract().into_raw(), (-1, 2));
+    assert_eq!(Ratio::new_raw(4, -3).floor(), Ratio::from_integer(-2));
+    let x = Ratio::new(-31i64, 8);
+    assert_eq!((x.to_i64(), x.to_u64(), x.to_i8(), x.to_u128()), (Some(-3), None, Some(-3), None));
+    assert_eq!(Ratio::new(-1i64, 2).to_u64(), Some(0));
+    assert_eq!(Ratio::new(1u128 << 77, 1 << 7).to_i128(), Some(1 << 70));
+    assert_eq!((x.to_f32(), x.to_f64()), (None, None));
 }
 
 #[test]

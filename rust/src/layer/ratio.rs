@@ -208,6 +208,16 @@ impl<T: Integer> Ratio<T> {
         }
     }
 
+    /// The same, with a panic for that `None`.
+    #[inline]
+    #[track_caller]
+    pub(super) fn expect_positive(&self) -> Proved<T> {
+        match self.positive() {
+            Some(fraction) => fraction,
+            None => refuse_new(self.denom),
+        }
+    }
+
     #[cold]
     fn turned(&self) -> Option<Proved<T>> {
         let (numer, denom) = self.proved().into_raw();

@@ -7,6 +7,7 @@ mod ops;
 mod order;
 mod printing;
 mod ratio;
+mod rounding;
 #[cfg(test)]
 mod tests;
 mod text;

@@ -13,3 +13,12 @@ pub fn products() {}
 /// What sums and differences ask.
 #[inline]
 pub fn conditions() {}
+
+/// Whole numbers near a fraction: each fraction has one floor, one ceiling, one truncation and one
+/// rounded value.
+#[inline]
+pub fn roundings() {}
+
+/// They turn on the value of a fraction alone, reduced or not.
+#[inline]
+pub fn roundings_by_value() {}

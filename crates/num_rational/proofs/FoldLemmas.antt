@@ -5,7 +5,8 @@ use Rattle.std.proofs.lemmas.Iterator.Consumers.{YieldsList-so_far}
 use Rattle.std.specs.Iterator.{HoldsAlong, Yields}
 use Rattle.std.specs.List.{FoldsTo}
 use Rattle.ratio_integer.proofs.LowestTerms.{lowest_unique}
-use Rattle.num_rational.specs.Folds.{AddsTo, AnswersFrom, CanProduct, CanSum, IsProductOf, IsSumOf, MultipliesTo}
+use Rattle.ratio_core.specs.Laws.{IsProduct, IsSum}
+use Rattle.num_rational.specs.Folds.{AnswersFrom, CanProduct, CanSum, IsProductOf, IsSumOf}
 use Rattle.num_rational.specs.Operators.{CanAdd, CanMultiply}
 
 module _ {S A : Type 0} (steps : S → Option A → S → Type 0) where
@@ -26,12 +27,12 @@ next_answered view Can Gives (y ∷ xs) x p q answered total = next_answered vie
 pub next_sum : {S A : Type 0} (exact : Bool) (lo hi : ℤ) (view : A → ℤ × ℤ) (steps : S → Option A → S → Type 0) {s i t u : S} (xs : List A) {x : A} {q : ℤ × ℤ} → HoldsAlong steps s (CanSum exact lo hi view) → i ≡ s → Yields steps i xs t → steps t (Some x) u → IsSumOf view xs q → CanAdd exact lo hi q (view x)
 next_sum exact lo hi view steps xs {x} {q} can same gave last total =
     let can_more : CanSum exact lo hi view (xs ++ x ∷ []) = along_more steps xs can same gave last in
-    next_answered view (CanAdd exact lo hi) AddsTo xs x (pos 0, pos 1) q can_more.answered total
+    next_answered view (CanAdd exact lo hi) IsSum xs x (pos 0, pos 1) q can_more.answered total
 
 pub next_product : {S A : Type 0} (lo hi : ℤ) (view : A → ℤ × ℤ) (steps : S → Option A → S → Type 0) {s i t u : S} (xs : List A) {x : A} {q : ℤ × ℤ} → HoldsAlong steps s (CanProduct lo hi view) → i ≡ s → Yields steps i xs t → steps t (Some x) u → IsProductOf view xs q → CanMultiply lo hi q (view x)
 next_product lo hi view steps xs {x} {q} can same gave last total =
     let can_more : CanProduct lo hi view (xs ++ x ∷ []) = along_more steps xs can same gave last in
-    next_answered view (CanMultiply lo hi) MultipliesTo xs x (pos 1, pos 1) q can_more.answered total
+    next_answered view (CanMultiply lo hi) IsProduct xs x (pos 1, pos 1) q can_more.answered total
 
 -- What a caller has: one step after another is answered, and an iterator gives a list.
 
@@ -39,20 +40,20 @@ same_pair : (p q : ℤ × ℤ) → p.0 ≡ q.0 → p.1 ≡ q.1 → p ≡ q
 same_pair p q first second = λ k. (first k, second k)
 
 -- a sum is answered from a total on where its first step is, and the rest from what this gives
-pub sum_step : {A : Type 0} (exact : Bool) (lo hi : ℤ) (view : A → ℤ × ℤ) (total next : ℤ × ℤ) (x : A) (xs : List A) → CanAdd exact lo hi total (view x) → AddsTo total (view x) next → AnswersFrom view (CanAdd exact lo hi) AddsTo next xs → AnswersFrom view (CanAdd exact lo hi) AddsTo total (x ∷ xs)
+pub sum_step : {A : Type 0} (exact : Bool) (lo hi : ℤ) (view : A → ℤ × ℤ) (total next : ℤ × ℤ) (x : A) (xs : List A) → CanAdd exact lo hi total (view x) → IsSum total (view x) next → AnswersFrom view (CanAdd exact lo hi) IsSum next xs → AnswersFrom view (CanAdd exact lo hi) IsSum total (x ∷ xs)
 sum_step exact lo hi view total next x xs can gives answered = (
   can,
   λ q also.
       let one = lowest_unique _ _ next.0 next.1 q.0 q.1 gives also in
-      subst (λ w. AnswersFrom view (CanAdd exact lo hi) AddsTo w xs) (same_pair next q one.0 one.1) answered,
+      subst (λ w. AnswersFrom view (CanAdd exact lo hi) IsSum w xs) (same_pair next q one.0 one.1) answered,
 )
 
-pub product_step : {A : Type 0} (lo hi : ℤ) (view : A → ℤ × ℤ) (total next : ℤ × ℤ) (x : A) (xs : List A) → CanMultiply lo hi total (view x) → MultipliesTo total (view x) next → AnswersFrom view (CanMultiply lo hi) MultipliesTo next xs → AnswersFrom view (CanMultiply lo hi) MultipliesTo total (x ∷ xs)
+pub product_step : {A : Type 0} (lo hi : ℤ) (view : A → ℤ × ℤ) (total next : ℤ × ℤ) (x : A) (xs : List A) → CanMultiply lo hi total (view x) → IsProduct total (view x) next → AnswersFrom view (CanMultiply lo hi) IsProduct next xs → AnswersFrom view (CanMultiply lo hi) IsProduct total (x ∷ xs)
 product_step lo hi view total next x xs can gives answered = (
   can,
   λ q also.
       let one = lowest_unique _ _ next.0 next.1 q.0 q.1 gives also in
-      subst (λ w. AnswersFrom view (CanMultiply lo hi) MultipliesTo w xs) (same_pair next q one.0 one.1) answered,
+      subst (λ w. AnswersFrom view (CanMultiply lo hi) IsProduct w xs) (same_pair next q one.0 one.1) answered,
 )
 
 module _ {A B : Type 0} (view : B → ℤ × ℤ) (v : A → B) (Can : ℤ × ℤ → ℤ × ℤ → Type 0) (Gives : ℤ × ℤ → ℤ × ℤ → ℤ × ℤ → Type 0) where
@@ -67,8 +68,8 @@ module _ {A B : Type 0} (view : B → ℤ × ℤ) (v : A → B) (Can : ℤ × �
       front_answered xs (drop (length xs) all) p (subst (λ w. AnswersFrom view Can Gives p (w ++ drop (length xs) all)) (sym (YieldsList-so_far given xs t gave)) whole)
 
 -- an iterator that gives a list whose sum is answered may be summed
-pub sum_along : {S A B : Type 0} {steps : S → Option A → S → Type 0} {s : S} (exact : Bool) (lo hi : ℤ) (view : B → ℤ × ℤ) (v : A → B) (all : List B) → YieldsList steps v s all → AnswersFrom view (CanAdd exact lo hi) AddsTo (pos 0, pos 1) all → HoldsAlong steps s (CanSum exact lo hi (λ x. view (v x)))
-sum_along exact lo hi view v all given answered xs t gave = record { answered = along_front view v (CanAdd exact lo hi) AddsTo all (pos 0, pos 1) given answered xs t gave }
+pub sum_along : {S A B : Type 0} {steps : S → Option A → S → Type 0} {s : S} (exact : Bool) (lo hi : ℤ) (view : B → ℤ × ℤ) (v : A → B) (all : List B) → YieldsList steps v s all → AnswersFrom view (CanAdd exact lo hi) IsSum (pos 0, pos 1) all → HoldsAlong steps s (CanSum exact lo hi (λ x. view (v x)))
+sum_along exact lo hi view v all given answered xs t gave = record { answered = along_front view v (CanAdd exact lo hi) IsSum all (pos 0, pos 1) given answered xs t gave }
 
-pub product_along : {S A B : Type 0} {steps : S → Option A → S → Type 0} {s : S} (lo hi : ℤ) (view : B → ℤ × ℤ) (v : A → B) (all : List B) → YieldsList steps v s all → AnswersFrom view (CanMultiply lo hi) MultipliesTo (pos 1, pos 1) all → HoldsAlong steps s (CanProduct lo hi (λ x. view (v x)))
-product_along lo hi view v all given answered xs t gave = record { answered = along_front view v (CanMultiply lo hi) MultipliesTo all (pos 1, pos 1) given answered xs t gave }
+pub product_along : {S A B : Type 0} {steps : S → Option A → S → Type 0} {s : S} (lo hi : ℤ) (view : B → ℤ × ℤ) (v : A → B) (all : List B) → YieldsList steps v s all → AnswersFrom view (CanMultiply lo hi) IsProduct (pos 1, pos 1) all → HoldsAlong steps s (CanProduct lo hi (λ x. view (v x)))
+product_along lo hi view v all given answered xs t gave = record { answered = along_front view v (CanMultiply lo hi) IsProduct all (pos 1, pos 1) given answered xs t gave }

@@ -24,5 +24,5 @@ abbrev pub HaveSameFields : {T : _} {i : _} {o : _} {e : _} {p : _} {h : _} → 
 HaveSameFields x y = (numerator x ≡ numerator y) × (denominator x ≡ denominator y)
 
 -- the fraction is in lowest terms as it stands
-abbrev pub IsLowest : {T : _} {i : _} {o : _} {e : _} {p : _} {h : _} → Ratio T i o e p h → Type 0
-IsLowest x = IsLowestTerms (numerator x) (denominator x)
+abbrev pub IsInLowestTerms : {T : _} {i : _} {o : _} {e : _} {p : _} {h : _} → Ratio T i o e p h → Type 0
+IsInLowestTerms x = IsLowestTerms (numerator x) (denominator x)

@@ -6,6 +6,7 @@ pub mod Padding
 pub mod Ratio
 pub use Rattle.ratio_core.specs.Conditions
 pub use Rattle.ratio_core.specs.ContinuedFraction
+pub use Rattle.ratio_core.specs.Laws
 pub use Rattle.ratio_core.specs.Order
 pub use Rattle.ratio_core.specs.Printing
 pub use Rattle.ratio_core.specs.Reading

@@ -4,6 +4,7 @@
 mod convert;
 mod fold;
 mod hash;
+mod operand;
 mod ops;
 mod order;
 mod printing;
@@ -13,5 +14,6 @@ mod rounding;
 mod tests;
 mod text;
 
+pub use operand::Operand;
 pub use ratio::{Constants, Ratio, Rational, Rational32, Rational64};
 pub use ratio_core::{CodeList, Form, ParseRatioError, RatioErrorKind, RatioText, Steps, Taken};

@@ -5,7 +5,7 @@ ghost use Rattle.std.specs.Ordering.{as_partial_cmp};
 ghost use Rattle.ratio_core.specs.ContinuedFraction.{IsStepCount};
 ghost use Rattle.ratio_core.proofs.EqualityLaws.{same_agrees, same_equivalence, same_partial};
 ghost use Rattle.ratio_core.proofs.OrderLaws.{cross_total};
-ghost use Rattle.num_rational.specs.Comparison.{AreEqual, HaveSameFields, IsLowest, order_of, same_value};
+ghost use Rattle.num_rational.specs.Comparison.{AreEqual, HaveSameFields, IsInLowestTerms, order_of, same_value};
 ghost use Rattle.num_rational.specs.Ratio.{denominator, numerator};
 
 use crate::ratio::Ratio;
@@ -51,7 +51,7 @@ impl<T: Copy + Integer> PartialEq for Ratio<T> {
     fn eq(&self, other: &Ratio<T>) -> bool
         ensures answer { result ≡ same_value self.now other.now }
         ensures value { IsTrue result ↔ AreEqual self.now other.now }
-        ensures lowest { IsLowest self.now → IsLowest other.now → IsTrue result ↔ HaveSameFields self.now other.now }
+        ensures lowest { IsInLowestTerms self.now → IsInLowestTerms other.now → IsTrue result ↔ HaveSameFields self.now other.now }
     {
         self.cmp(other).is_eq()
     }

@@ -1,9 +1,10 @@
 //! Sums: the checked call, the call that asks for an answer, and the symbols `+` and `+=`.
 ghost use Rattle.std.specs.Prelude.{◌<ℤ◌, pos};
 ghost use Rattle.ratio_core.specs.Conditions.{SumCondition};
-ghost use Rattle.num_rational.specs.Operators.{CanAdd, ChecksSum, IsSum, numbers, whole};
+ghost use Rattle.num_rational.specs.Operators.{CanAdd, ChecksSum, GivesSum, numbers};
 ghost use Rattle.num_rational.specs.Ratio.{denominator, numerator};
 
+use crate::operand::Operand;
 use crate::ratio::Ratio;
 use ratio_core::sums;
 use ratio_integer::Integer;
@@ -30,144 +31,48 @@ impl<T: Copy + Integer> Ratio<T> {
         requires left_positive { pos 0 <ℤ denominator self }
         requires right_positive { pos 0 <ℤ denominator other }
         requires answered { SumCondition T.EXACT_SUMS T.lo T.hi (numerator self) (denominator self) (numerator other) (denominator other) }
-        ensures { IsSum (numbers self) (numbers other) result }
+        ensures { GivesSum (numbers self) (numbers other) result }
     {
-        self.checked_add(&other).unwrap()
+        let (numer, denom) = sums::add(
+            *self.numer(),
+            *self.denom(),
+            *other.numer(),
+            *other.denom(),
+        );
+        Ratio::new_raw(numer, denom)
     }
 }
 
-impl<T: Copy + Integer> Add<Ratio<T>> for Ratio<T> {
+impl<T: Copy + Integer, O: Operand<T>> Add<O> for Ratio<T> {
     type Output = Ratio<T>;
 
-    ghost can_add = { λ x y. CanAdd T.EXACT_SUMS T.lo T.hi (numbers x) (numbers y) };
+    ghost can_add = { λ x y. CanAdd T.EXACT_SUMS T.lo T.hi (numbers x) (O.pair y) };
 
-    ghost add_gives = { λ x y. IsSum (numbers x) (numbers y) };
+    ghost add_gives = { λ x y. GivesSum (numbers x) (O.pair y) };
 
-    fn add(self, other: Ratio<T>) -> Ratio<T> {
-        self.add(other)
+    fn add(self, other: O) -> Ratio<T> {
+        self.add(other.ratio())
     }
 }
 
-impl<T: Copy + Integer> Add<&Ratio<T>> for Ratio<T> {
+impl<T: Copy + Integer, O: Operand<T>> Add<O> for &Ratio<T> {
     type Output = Ratio<T>;
 
-    ghost can_add = { λ x y. CanAdd T.EXACT_SUMS T.lo T.hi (numbers x) (numbers y.now) };
+    ghost can_add = { λ x y. CanAdd T.EXACT_SUMS T.lo T.hi (numbers x.now) (O.pair y) };
 
-    ghost add_gives = { λ x y. IsSum (numbers x) (numbers y.now) };
+    ghost add_gives = { λ x y. GivesSum (numbers x.now) (O.pair y) };
 
-    fn add(self, other: &Ratio<T>) -> Ratio<T> {
-        self.add(*other)
+    fn add(self, other: O) -> Ratio<T> {
+        (*self).add(other.ratio())
     }
 }
 
-impl<T: Copy + Integer> Add<Ratio<T>> for &Ratio<T> {
-    type Output = Ratio<T>;
+impl<T: Copy + Integer, O: Operand<T>> AddAssign<O> for Ratio<T> {
+    ghost can_add_assign = { λ x y. CanAdd T.EXACT_SUMS T.lo T.hi (numbers x) (O.pair y) };
 
-    ghost can_add = { λ x y. CanAdd T.EXACT_SUMS T.lo T.hi (numbers x.now) (numbers y) };
+    ghost add_assign_gives = { λ x y. GivesSum (numbers x) (O.pair y) };
 
-    ghost add_gives = { λ x y. IsSum (numbers x.now) (numbers y) };
-
-    fn add(self, other: Ratio<T>) -> Ratio<T> {
-        (*self).add(other)
-    }
-}
-
-impl<T: Copy + Integer> Add<&Ratio<T>> for &Ratio<T> {
-    type Output = Ratio<T>;
-
-    ghost can_add = { λ x y. CanAdd T.EXACT_SUMS T.lo T.hi (numbers x.now) (numbers y.now) };
-
-    ghost add_gives = { λ x y. IsSum (numbers x.now) (numbers y.now) };
-
-    fn add(self, other: &Ratio<T>) -> Ratio<T> {
-        (*self).add(*other)
-    }
-}
-
-impl<T: Copy + Integer> Add<T> for Ratio<T> {
-    type Output = Ratio<T>;
-
-    ghost can_add = { λ x c. CanAdd T.EXACT_SUMS T.lo T.hi (numbers x) (whole (T.value c)) };
-
-    ghost add_gives = { λ x c. IsSum (numbers x) (whole (T.value c)) };
-
-    fn add(self, number: T) -> Ratio<T> {
-        self.add(Ratio::from_integer(number))
-    }
-}
-
-impl<T: Copy + Integer> Add<&T> for Ratio<T> {
-    type Output = Ratio<T>;
-
-    ghost can_add = { λ x c. CanAdd T.EXACT_SUMS T.lo T.hi (numbers x) (whole (T.value c.now)) };
-
-    ghost add_gives = { λ x c. IsSum (numbers x) (whole (T.value c.now)) };
-
-    fn add(self, number: &T) -> Ratio<T> {
-        self.add(Ratio::from_integer(*number))
-    }
-}
-
-impl<T: Copy + Integer> Add<T> for &Ratio<T> {
-    type Output = Ratio<T>;
-
-    ghost can_add = { λ x c. CanAdd T.EXACT_SUMS T.lo T.hi (numbers x.now) (whole (T.value c)) };
-
-    ghost add_gives = { λ x c. IsSum (numbers x.now) (whole (T.value c)) };
-
-    fn add(self, number: T) -> Ratio<T> {
-        (*self).add(Ratio::from_integer(number))
-    }
-}
-
-impl<T: Copy + Integer> Add<&T> for &Ratio<T> {
-    type Output = Ratio<T>;
-
-    ghost can_add = { λ x c. CanAdd T.EXACT_SUMS T.lo T.hi (numbers x.now) (whole (T.value c.now)) };
-
-    ghost add_gives = { λ x c. IsSum (numbers x.now) (whole (T.value c.now)) };
-
-    fn add(self, number: &T) -> Ratio<T> {
-        (*self).add(Ratio::from_integer(*number))
-    }
-}
-
-impl<T: Copy + Integer> AddAssign<Ratio<T>> for Ratio<T> {
-    ghost can_add_assign = { λ x y. CanAdd T.EXACT_SUMS T.lo T.hi (numbers x) (numbers y) };
-
-    ghost add_assign_gives = { λ x y. IsSum (numbers x) (numbers y) };
-
-    fn add_assign(&mut self, other: Ratio<T>) {
-        *self = self.add(other);
-    }
-}
-
-impl<T: Copy + Integer> AddAssign<&Ratio<T>> for Ratio<T> {
-    ghost can_add_assign = { λ x y. CanAdd T.EXACT_SUMS T.lo T.hi (numbers x) (numbers y.now) };
-
-    ghost add_assign_gives = { λ x y. IsSum (numbers x) (numbers y.now) };
-
-    fn add_assign(&mut self, other: &Ratio<T>) {
-        *self = self.add(*other);
-    }
-}
-
-impl<T: Copy + Integer> AddAssign<T> for Ratio<T> {
-    ghost can_add_assign = { λ x c. CanAdd T.EXACT_SUMS T.lo T.hi (numbers x) (whole (T.value c)) };
-
-    ghost add_assign_gives = { λ x c. IsSum (numbers x) (whole (T.value c)) };
-
-    fn add_assign(&mut self, number: T) {
-        *self = self.add(Ratio::from_integer(number));
-    }
-}
-
-impl<T: Copy + Integer> AddAssign<&T> for Ratio<T> {
-    ghost can_add_assign = { λ x c. CanAdd T.EXACT_SUMS T.lo T.hi (numbers x) (whole (T.value c.now)) };
-
-    ghost add_assign_gives = { λ x c. IsSum (numbers x) (whole (T.value c.now)) };
-
-    fn add_assign(&mut self, number: &T) {
-        *self = self.add(Ratio::from_integer(*number));
+    fn add_assign(&mut self, other: O) {
+        *self = self.add(other.ratio());
     }
 }

@@ -1,9 +1,10 @@
 //! Quotients: the checked call, the call that asks for an answer, and the symbols `/` and `/=`.
-ghost use Rattle.std.specs.Prelude.{◌<ℤ◌, ◌*ℤ◌, pos};
-ghost use Rattle.ratio_integer.specs.Fraction.{Fits};
-ghost use Rattle.num_rational.specs.Operators.{CanDivide, ChecksQuotient, IsQuotient, numbers, whole};
+ghost use Rattle.std.specs.Prelude.{◌<ℤ◌, pos};
+ghost use Rattle.ratio_core.specs.Conditions.{QuotientCondition};
+ghost use Rattle.num_rational.specs.Operators.{CanDivide, ChecksQuotient, GivesQuotient, numbers};
 ghost use Rattle.num_rational.specs.Ratio.{denominator, numerator};
 
+use crate::operand::Operand;
 use crate::ratio::Ratio;
 use ratio_core::products;
 use ratio_integer::Integer;
@@ -28,145 +29,49 @@ impl<T: Copy + Integer> Ratio<T> {
     pub fn div(self, other: Ratio<T>) -> Ratio<T>
         requires left_positive { pos 0 <ℤ denominator self }
         requires right_positive { pos 0 <ℤ denominator other }
-        requires answered { Fits T.lo T.hi (numerator self *ℤ denominator other) (denominator self *ℤ numerator other) }
-        ensures { IsQuotient (numbers self) (numbers other) result }
+        requires answered { QuotientCondition T.lo T.hi (numerator self) (denominator self) (numerator other) (denominator other) }
+        ensures { GivesQuotient (numbers self) (numbers other) result }
     {
-        self.checked_div(&other).unwrap()
+        let (numer, denom) = products::div(
+            *self.numer(),
+            *self.denom(),
+            *other.numer(),
+            *other.denom(),
+        );
+        Ratio::new_raw(numer, denom)
     }
 }
 
-impl<T: Copy + Integer> Div<Ratio<T>> for Ratio<T> {
+impl<T: Copy + Integer, O: Operand<T>> Div<O> for Ratio<T> {
     type Output = Ratio<T>;
 
-    ghost can_div = { λ x y. CanDivide T.lo T.hi (numbers x) (numbers y) };
+    ghost can_div = { λ x y. CanDivide T.lo T.hi (numbers x) (O.pair y) };
 
-    ghost div_gives = { λ x y. IsQuotient (numbers x) (numbers y) };
+    ghost div_gives = { λ x y. GivesQuotient (numbers x) (O.pair y) };
 
-    fn div(self, other: Ratio<T>) -> Ratio<T> {
-        self.div(other)
+    fn div(self, other: O) -> Ratio<T> {
+        self.div(other.ratio())
     }
 }
 
-impl<T: Copy + Integer> Div<&Ratio<T>> for Ratio<T> {
+impl<T: Copy + Integer, O: Operand<T>> Div<O> for &Ratio<T> {
     type Output = Ratio<T>;
 
-    ghost can_div = { λ x y. CanDivide T.lo T.hi (numbers x) (numbers y.now) };
+    ghost can_div = { λ x y. CanDivide T.lo T.hi (numbers x.now) (O.pair y) };
 
-    ghost div_gives = { λ x y. IsQuotient (numbers x) (numbers y.now) };
+    ghost div_gives = { λ x y. GivesQuotient (numbers x.now) (O.pair y) };
 
-    fn div(self, other: &Ratio<T>) -> Ratio<T> {
-        self.div(*other)
+    fn div(self, other: O) -> Ratio<T> {
+        (*self).div(other.ratio())
     }
 }
 
-impl<T: Copy + Integer> Div<Ratio<T>> for &Ratio<T> {
-    type Output = Ratio<T>;
+impl<T: Copy + Integer, O: Operand<T>> DivAssign<O> for Ratio<T> {
+    ghost can_div_assign = { λ x y. CanDivide T.lo T.hi (numbers x) (O.pair y) };
 
-    ghost can_div = { λ x y. CanDivide T.lo T.hi (numbers x.now) (numbers y) };
+    ghost div_assign_gives = { λ x y. GivesQuotient (numbers x) (O.pair y) };
 
-    ghost div_gives = { λ x y. IsQuotient (numbers x.now) (numbers y) };
-
-    fn div(self, other: Ratio<T>) -> Ratio<T> {
-        (*self).div(other)
-    }
-}
-
-impl<T: Copy + Integer> Div<&Ratio<T>> for &Ratio<T> {
-    type Output = Ratio<T>;
-
-    ghost can_div = { λ x y. CanDivide T.lo T.hi (numbers x.now) (numbers y.now) };
-
-    ghost div_gives = { λ x y. IsQuotient (numbers x.now) (numbers y.now) };
-
-    fn div(self, other: &Ratio<T>) -> Ratio<T> {
-        (*self).div(*other)
-    }
-}
-
-impl<T: Copy + Integer> Div<T> for Ratio<T> {
-    type Output = Ratio<T>;
-
-    ghost can_div = { λ x c. CanDivide T.lo T.hi (numbers x) (whole (T.value c)) };
-
-    ghost div_gives = { λ x c. IsQuotient (numbers x) (whole (T.value c)) };
-
-    fn div(self, number: T) -> Ratio<T> {
-        self.div(Ratio::from_integer(number))
-    }
-}
-
-impl<T: Copy + Integer> Div<&T> for Ratio<T> {
-    type Output = Ratio<T>;
-
-    ghost can_div = { λ x c. CanDivide T.lo T.hi (numbers x) (whole (T.value c.now)) };
-
-    ghost div_gives = { λ x c. IsQuotient (numbers x) (whole (T.value c.now)) };
-
-    fn div(self, number: &T) -> Ratio<T> {
-        self.div(Ratio::from_integer(*number))
-    }
-}
-
-impl<T: Copy + Integer> Div<T> for &Ratio<T> {
-    type Output = Ratio<T>;
-
-    ghost can_div = { λ x c. CanDivide T.lo T.hi (numbers x.now) (whole (T.value c)) };
-
-    ghost div_gives = { λ x c. IsQuotient (numbers x.now) (whole (T.value c)) };
-
-    fn div(self, number: T) -> Ratio<T> {
-        (*self).div(Ratio::from_integer(number))
-    }
-}
-
-impl<T: Copy + Integer> Div<&T> for &Ratio<T> {
-    type Output = Ratio<T>;
-
-    ghost can_div = { λ x c. CanDivide T.lo T.hi (numbers x.now) (whole (T.value c.now)) };
-
-    ghost div_gives = { λ x c. IsQuotient (numbers x.now) (whole (T.value c.now)) };
-
-    fn div(self, number: &T) -> Ratio<T> {
-        (*self).div(Ratio::from_integer(*number))
-    }
-}
-
-impl<T: Copy + Integer> DivAssign<Ratio<T>> for Ratio<T> {
-    ghost can_div_assign = { λ x y. CanDivide T.lo T.hi (numbers x) (numbers y) };
-
-    ghost div_assign_gives = { λ x y. IsQuotient (numbers x) (numbers y) };
-
-    fn div_assign(&mut self, other: Ratio<T>) {
-        *self = self.div(other);
-    }
-}
-
-impl<T: Copy + Integer> DivAssign<&Ratio<T>> for Ratio<T> {
-    ghost can_div_assign = { λ x y. CanDivide T.lo T.hi (numbers x) (numbers y.now) };
-
-    ghost div_assign_gives = { λ x y. IsQuotient (numbers x) (numbers y.now) };
-
-    fn div_assign(&mut self, other: &Ratio<T>) {
-        *self = self.div(*other);
-    }
-}
-
-impl<T: Copy + Integer> DivAssign<T> for Ratio<T> {
-    ghost can_div_assign = { λ x c. CanDivide T.lo T.hi (numbers x) (whole (T.value c)) };
-
-    ghost div_assign_gives = { λ x c. IsQuotient (numbers x) (whole (T.value c)) };
-
-    fn div_assign(&mut self, number: T) {
-        *self = self.div(Ratio::from_integer(number));
-    }
-}
-
-impl<T: Copy + Integer> DivAssign<&T> for Ratio<T> {
-    ghost can_div_assign = { λ x c. CanDivide T.lo T.hi (numbers x) (whole (T.value c.now)) };
-
-    ghost div_assign_gives = { λ x c. IsQuotient (numbers x) (whole (T.value c.now)) };
-
-    fn div_assign(&mut self, number: &T) {
-        *self = self.div(Ratio::from_integer(*number));
+    fn div_assign(&mut self, other: O) {
+        *self = self.div(other.ratio());
     }
 }

@@ -1,9 +1,10 @@
 //! Remainders: the checked call, the call that asks for an answer, and the symbols `%` and `%=`.
 ghost use Rattle.std.specs.Prelude.{◌<ℤ◌, pos};
 ghost use Rattle.ratio_integer.specs.Arithmetic.{RemainderHeld};
-ghost use Rattle.num_rational.specs.Operators.{CanTakeRemainder, ChecksRemainder, IsRemainder, numbers, whole};
+ghost use Rattle.num_rational.specs.Operators.{CanTakeRemainder, ChecksRemainder, GivesRemainder, numbers};
 ghost use Rattle.num_rational.specs.Ratio.{denominator, numerator};
 
+use crate::operand::Operand;
 use crate::ratio::Ratio;
 use ratio_core::remainder;
 use ratio_integer::Integer;
@@ -29,144 +30,48 @@ impl<T: Copy + Integer> Ratio<T> {
         requires left_positive { pos 0 <ℤ denominator self }
         requires right_positive { pos 0 <ℤ denominator other }
         requires answered { RemainderHeld T.lo T.hi (numerator self) (denominator self) (numerator other) (denominator other) }
-        ensures { IsRemainder (numbers self) (numbers other) result }
+        ensures { GivesRemainder (numbers self) (numbers other) result }
     {
-        self.checked_rem(&other).unwrap()
+        let (numer, denom) = remainder::rem(
+            *self.numer(),
+            *self.denom(),
+            *other.numer(),
+            *other.denom(),
+        );
+        Ratio::new_raw(numer, denom)
     }
 }
 
-impl<T: Copy + Integer> Rem<Ratio<T>> for Ratio<T> {
+impl<T: Copy + Integer, O: Operand<T>> Rem<O> for Ratio<T> {
     type Output = Ratio<T>;
 
-    ghost can_rem = { λ x y. CanTakeRemainder T.lo T.hi (numbers x) (numbers y) };
+    ghost can_rem = { λ x y. CanTakeRemainder T.lo T.hi (numbers x) (O.pair y) };
 
-    ghost rem_gives = { λ x y. IsRemainder (numbers x) (numbers y) };
+    ghost rem_gives = { λ x y. GivesRemainder (numbers x) (O.pair y) };
 
-    fn rem(self, other: Ratio<T>) -> Ratio<T> {
-        self.rem(other)
+    fn rem(self, other: O) -> Ratio<T> {
+        self.rem(other.ratio())
     }
 }
 
-impl<T: Copy + Integer> Rem<&Ratio<T>> for Ratio<T> {
+impl<T: Copy + Integer, O: Operand<T>> Rem<O> for &Ratio<T> {
     type Output = Ratio<T>;
 
-    ghost can_rem = { λ x y. CanTakeRemainder T.lo T.hi (numbers x) (numbers y.now) };
+    ghost can_rem = { λ x y. CanTakeRemainder T.lo T.hi (numbers x.now) (O.pair y) };
 
-    ghost rem_gives = { λ x y. IsRemainder (numbers x) (numbers y.now) };
+    ghost rem_gives = { λ x y. GivesRemainder (numbers x.now) (O.pair y) };
 
-    fn rem(self, other: &Ratio<T>) -> Ratio<T> {
-        self.rem(*other)
+    fn rem(self, other: O) -> Ratio<T> {
+        (*self).rem(other.ratio())
     }
 }
 
-impl<T: Copy + Integer> Rem<Ratio<T>> for &Ratio<T> {
-    type Output = Ratio<T>;
+impl<T: Copy + Integer, O: Operand<T>> RemAssign<O> for Ratio<T> {
+    ghost can_rem_assign = { λ x y. CanTakeRemainder T.lo T.hi (numbers x) (O.pair y) };
 
-    ghost can_rem = { λ x y. CanTakeRemainder T.lo T.hi (numbers x.now) (numbers y) };
+    ghost rem_assign_gives = { λ x y. GivesRemainder (numbers x) (O.pair y) };
 
-    ghost rem_gives = { λ x y. IsRemainder (numbers x.now) (numbers y) };
-
-    fn rem(self, other: Ratio<T>) -> Ratio<T> {
-        (*self).rem(other)
-    }
-}
-
-impl<T: Copy + Integer> Rem<&Ratio<T>> for &Ratio<T> {
-    type Output = Ratio<T>;
-
-    ghost can_rem = { λ x y. CanTakeRemainder T.lo T.hi (numbers x.now) (numbers y.now) };
-
-    ghost rem_gives = { λ x y. IsRemainder (numbers x.now) (numbers y.now) };
-
-    fn rem(self, other: &Ratio<T>) -> Ratio<T> {
-        (*self).rem(*other)
-    }
-}
-
-impl<T: Copy + Integer> Rem<T> for Ratio<T> {
-    type Output = Ratio<T>;
-
-    ghost can_rem = { λ x c. CanTakeRemainder T.lo T.hi (numbers x) (whole (T.value c)) };
-
-    ghost rem_gives = { λ x c. IsRemainder (numbers x) (whole (T.value c)) };
-
-    fn rem(self, number: T) -> Ratio<T> {
-        self.rem(Ratio::from_integer(number))
-    }
-}
-
-impl<T: Copy + Integer> Rem<&T> for Ratio<T> {
-    type Output = Ratio<T>;
-
-    ghost can_rem = { λ x c. CanTakeRemainder T.lo T.hi (numbers x) (whole (T.value c.now)) };
-
-    ghost rem_gives = { λ x c. IsRemainder (numbers x) (whole (T.value c.now)) };
-
-    fn rem(self, number: &T) -> Ratio<T> {
-        self.rem(Ratio::from_integer(*number))
-    }
-}
-
-impl<T: Copy + Integer> Rem<T> for &Ratio<T> {
-    type Output = Ratio<T>;
-
-    ghost can_rem = { λ x c. CanTakeRemainder T.lo T.hi (numbers x.now) (whole (T.value c)) };
-
-    ghost rem_gives = { λ x c. IsRemainder (numbers x.now) (whole (T.value c)) };
-
-    fn rem(self, number: T) -> Ratio<T> {
-        (*self).rem(Ratio::from_integer(number))
-    }
-}
-
-impl<T: Copy + Integer> Rem<&T> for &Ratio<T> {
-    type Output = Ratio<T>;
-
-    ghost can_rem = { λ x c. CanTakeRemainder T.lo T.hi (numbers x.now) (whole (T.value c.now)) };
-
-    ghost rem_gives = { λ x c. IsRemainder (numbers x.now) (whole (T.value c.now)) };
-
-    fn rem(self, number: &T) -> Ratio<T> {
-        (*self).rem(Ratio::from_integer(*number))
-    }
-}
-
-impl<T: Copy + Integer> RemAssign<Ratio<T>> for Ratio<T> {
-    ghost can_rem_assign = { λ x y. CanTakeRemainder T.lo T.hi (numbers x) (numbers y) };
-
-    ghost rem_assign_gives = { λ x y. IsRemainder (numbers x) (numbers y) };
-
-    fn rem_assign(&mut self, other: Ratio<T>) {
-        *self = self.rem(other);
-    }
-}
-
-impl<T: Copy + Integer> RemAssign<&Ratio<T>> for Ratio<T> {
-    ghost can_rem_assign = { λ x y. CanTakeRemainder T.lo T.hi (numbers x) (numbers y.now) };
-
-    ghost rem_assign_gives = { λ x y. IsRemainder (numbers x) (numbers y.now) };
-
-    fn rem_assign(&mut self, other: &Ratio<T>) {
-        *self = self.rem(*other);
-    }
-}
-
-impl<T: Copy + Integer> RemAssign<T> for Ratio<T> {
-    ghost can_rem_assign = { λ x c. CanTakeRemainder T.lo T.hi (numbers x) (whole (T.value c)) };
-
-    ghost rem_assign_gives = { λ x c. IsRemainder (numbers x) (whole (T.value c)) };
-
-    fn rem_assign(&mut self, number: T) {
-        *self = self.rem(Ratio::from_integer(number));
-    }
-}
-
-impl<T: Copy + Integer> RemAssign<&T> for Ratio<T> {
-    ghost can_rem_assign = { λ x c. CanTakeRemainder T.lo T.hi (numbers x) (whole (T.value c.now)) };
-
-    ghost rem_assign_gives = { λ x c. IsRemainder (numbers x) (whole (T.value c.now)) };
-
-    fn rem_assign(&mut self, number: &T) {
-        *self = self.rem(Ratio::from_integer(*number));
+    fn rem_assign(&mut self, other: O) {
+        *self = self.rem(other.ratio());
     }
 }

@@ -1,9 +1,10 @@
 //! Differences: the checked call, the call that asks for an answer, and the symbols `-` and `-=`.
 ghost use Rattle.std.specs.Prelude.{◌<ℤ◌, pos};
 ghost use Rattle.ratio_core.specs.Conditions.{DifferenceCondition};
-ghost use Rattle.num_rational.specs.Operators.{CanSubtract, ChecksDifference, IsDifference, numbers, whole};
+ghost use Rattle.num_rational.specs.Operators.{CanSubtract, ChecksDifference, GivesDifference, numbers};
 ghost use Rattle.num_rational.specs.Ratio.{denominator, numerator};
 
+use crate::operand::Operand;
 use crate::ratio::Ratio;
 use ratio_core::sums;
 use ratio_integer::Integer;
@@ -30,144 +31,48 @@ impl<T: Copy + Integer> Ratio<T> {
         requires left_positive { pos 0 <ℤ denominator self }
         requires right_positive { pos 0 <ℤ denominator other }
         requires answered { DifferenceCondition T.EXACT_SUMS T.lo T.hi (numerator self) (denominator self) (numerator other) (denominator other) }
-        ensures { IsDifference (numbers self) (numbers other) result }
+        ensures { GivesDifference (numbers self) (numbers other) result }
     {
-        self.checked_sub(&other).unwrap()
+        let (numer, denom) = sums::sub(
+            *self.numer(),
+            *self.denom(),
+            *other.numer(),
+            *other.denom(),
+        );
+        Ratio::new_raw(numer, denom)
     }
 }
 
-impl<T: Copy + Integer> Sub<Ratio<T>> for Ratio<T> {
+impl<T: Copy + Integer, O: Operand<T>> Sub<O> for Ratio<T> {
     type Output = Ratio<T>;
 
-    ghost can_sub = { λ x y. CanSubtract T.EXACT_SUMS T.lo T.hi (numbers x) (numbers y) };
+    ghost can_sub = { λ x y. CanSubtract T.EXACT_SUMS T.lo T.hi (numbers x) (O.pair y) };
 
-    ghost sub_gives = { λ x y. IsDifference (numbers x) (numbers y) };
+    ghost sub_gives = { λ x y. GivesDifference (numbers x) (O.pair y) };
 
-    fn sub(self, other: Ratio<T>) -> Ratio<T> {
-        self.sub(other)
+    fn sub(self, other: O) -> Ratio<T> {
+        self.sub(other.ratio())
     }
 }
 
-impl<T: Copy + Integer> Sub<&Ratio<T>> for Ratio<T> {
+impl<T: Copy + Integer, O: Operand<T>> Sub<O> for &Ratio<T> {
     type Output = Ratio<T>;
 
-    ghost can_sub = { λ x y. CanSubtract T.EXACT_SUMS T.lo T.hi (numbers x) (numbers y.now) };
+    ghost can_sub = { λ x y. CanSubtract T.EXACT_SUMS T.lo T.hi (numbers x.now) (O.pair y) };
 
-    ghost sub_gives = { λ x y. IsDifference (numbers x) (numbers y.now) };
+    ghost sub_gives = { λ x y. GivesDifference (numbers x.now) (O.pair y) };
 
-    fn sub(self, other: &Ratio<T>) -> Ratio<T> {
-        self.sub(*other)
+    fn sub(self, other: O) -> Ratio<T> {
+        (*self).sub(other.ratio())
     }
 }
 
-impl<T: Copy + Integer> Sub<Ratio<T>> for &Ratio<T> {
-    type Output = Ratio<T>;
+impl<T: Copy + Integer, O: Operand<T>> SubAssign<O> for Ratio<T> {
+    ghost can_sub_assign = { λ x y. CanSubtract T.EXACT_SUMS T.lo T.hi (numbers x) (O.pair y) };
 
-    ghost can_sub = { λ x y. CanSubtract T.EXACT_SUMS T.lo T.hi (numbers x.now) (numbers y) };
+    ghost sub_assign_gives = { λ x y. GivesDifference (numbers x) (O.pair y) };
 
-    ghost sub_gives = { λ x y. IsDifference (numbers x.now) (numbers y) };
-
-    fn sub(self, other: Ratio<T>) -> Ratio<T> {
-        (*self).sub(other)
-    }
-}
-
-impl<T: Copy + Integer> Sub<&Ratio<T>> for &Ratio<T> {
-    type Output = Ratio<T>;
-
-    ghost can_sub = { λ x y. CanSubtract T.EXACT_SUMS T.lo T.hi (numbers x.now) (numbers y.now) };
-
-    ghost sub_gives = { λ x y. IsDifference (numbers x.now) (numbers y.now) };
-
-    fn sub(self, other: &Ratio<T>) -> Ratio<T> {
-        (*self).sub(*other)
-    }
-}
-
-impl<T: Copy + Integer> Sub<T> for Ratio<T> {
-    type Output = Ratio<T>;
-
-    ghost can_sub = { λ x c. CanSubtract T.EXACT_SUMS T.lo T.hi (numbers x) (whole (T.value c)) };
-
-    ghost sub_gives = { λ x c. IsDifference (numbers x) (whole (T.value c)) };
-
-    fn sub(self, number: T) -> Ratio<T> {
-        self.sub(Ratio::from_integer(number))
-    }
-}
-
-impl<T: Copy + Integer> Sub<&T> for Ratio<T> {
-    type Output = Ratio<T>;
-
-    ghost can_sub = { λ x c. CanSubtract T.EXACT_SUMS T.lo T.hi (numbers x) (whole (T.value c.now)) };
-
-    ghost sub_gives = { λ x c. IsDifference (numbers x) (whole (T.value c.now)) };
-
-    fn sub(self, number: &T) -> Ratio<T> {
-        self.sub(Ratio::from_integer(*number))
-    }
-}
-
-impl<T: Copy + Integer> Sub<T> for &Ratio<T> {
-    type Output = Ratio<T>;
-
-    ghost can_sub = { λ x c. CanSubtract T.EXACT_SUMS T.lo T.hi (numbers x.now) (whole (T.value c)) };
-
-    ghost sub_gives = { λ x c. IsDifference (numbers x.now) (whole (T.value c)) };
-
-    fn sub(self, number: T) -> Ratio<T> {
-        (*self).sub(Ratio::from_integer(number))
-    }
-}
-
-impl<T: Copy + Integer> Sub<&T> for &Ratio<T> {
-    type Output = Ratio<T>;
-
-    ghost can_sub = { λ x c. CanSubtract T.EXACT_SUMS T.lo T.hi (numbers x.now) (whole (T.value c.now)) };
-
-    ghost sub_gives = { λ x c. IsDifference (numbers x.now) (whole (T.value c.now)) };
-
-    fn sub(self, number: &T) -> Ratio<T> {
-        (*self).sub(Ratio::from_integer(*number))
-    }
-}
-
-impl<T: Copy + Integer> SubAssign<Ratio<T>> for Ratio<T> {
-    ghost can_sub_assign = { λ x y. CanSubtract T.EXACT_SUMS T.lo T.hi (numbers x) (numbers y) };
-
-    ghost sub_assign_gives = { λ x y. IsDifference (numbers x) (numbers y) };
-
-    fn sub_assign(&mut self, other: Ratio<T>) {
-        *self = self.sub(other);
-    }
-}
-
-impl<T: Copy + Integer> SubAssign<&Ratio<T>> for Ratio<T> {
-    ghost can_sub_assign = { λ x y. CanSubtract T.EXACT_SUMS T.lo T.hi (numbers x) (numbers y.now) };
-
-    ghost sub_assign_gives = { λ x y. IsDifference (numbers x) (numbers y.now) };
-
-    fn sub_assign(&mut self, other: &Ratio<T>) {
-        *self = self.sub(*other);
-    }
-}
-
-impl<T: Copy + Integer> SubAssign<T> for Ratio<T> {
-    ghost can_sub_assign = { λ x c. CanSubtract T.EXACT_SUMS T.lo T.hi (numbers x) (whole (T.value c)) };
-
-    ghost sub_assign_gives = { λ x c. IsDifference (numbers x) (whole (T.value c)) };
-
-    fn sub_assign(&mut self, number: T) {
-        *self = self.sub(Ratio::from_integer(number));
-    }
-}
-
-impl<T: Copy + Integer> SubAssign<&T> for Ratio<T> {
-    ghost can_sub_assign = { λ x c. CanSubtract T.EXACT_SUMS T.lo T.hi (numbers x) (whole (T.value c.now)) };
-
-    ghost sub_assign_gives = { λ x c. IsDifference (numbers x) (whole (T.value c.now)) };
-
-    fn sub_assign(&mut self, number: &T) {
-        *self = self.sub(Ratio::from_integer(*number));
+    fn sub_assign(&mut self, other: O) {
+        *self = self.sub(other.ratio());
     }
 }

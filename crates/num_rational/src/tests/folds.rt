@@ -1,6 +1,7 @@
 //! Sums and products of lists, by every call.
 ghost use Rattle.std.specs.Prelude.{◌<ℤ◌, IfSome, IsTrue, pos};
-ghost use Rattle.num_rational.specs.Folds.{AddsTo, AnswersFrom, MultipliesTo};
+ghost use Rattle.ratio_core.specs.Laws.{IsProduct, IsSum};
+ghost use Rattle.num_rational.specs.Folds.{AnswersFrom};
 ghost use Rattle.num_rational.specs.Operators.{CanAdd, CanMultiply, numbers};
 ghost use Rattle.num_rational.specs.Ratio.{denominator};
 
@@ -17,7 +18,7 @@ fn is_positive<T: Integer>(x: &Ratio<T>) -> bool
 // The sum of `total` and the items, one after another, where each step is answered.
 fn added<T: Integer>(total: Ratio<T>, items: &[Ratio<T>]) -> Option<Ratio<T>>
     requires { pos 0 <ℤ denominator total }
-    ensures { IfSome result (λ _. AnswersFrom numbers (CanAdd T.EXACT_SUMS T.lo T.hi) AddsTo (numbers total) items.now) }
+    ensures { IfSome result (λ _. AnswersFrom numbers (CanAdd T.EXACT_SUMS T.lo T.hi) IsSum (numbers total) items.now) }
 {
     match items.split_first() {
         None => Some(total),
@@ -35,7 +36,7 @@ fn added<T: Integer>(total: Ratio<T>, items: &[Ratio<T>]) -> Option<Ratio<T>>
 // The product of `total` and the items, one after another, where each step is answered.
 fn multiplied<T: Integer>(total: Ratio<T>, items: &[Ratio<T>]) -> Option<Ratio<T>>
     requires { pos 0 <ℤ denominator total }
-    ensures { IfSome result (λ _. AnswersFrom numbers (CanMultiply T.lo T.hi) MultipliesTo (numbers total) items.now) }
+    ensures { IfSome result (λ _. AnswersFrom numbers (CanMultiply T.lo T.hi) IsProduct (numbers total) items.now) }
 {
     match items.split_first() {
         None => Some(total),

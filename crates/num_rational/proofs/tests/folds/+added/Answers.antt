@@ -1,5 +1,6 @@
 use Rattle.std.proofs.Common.{Option, Some, None, IfSome, sym, subst}
-use Rattle.num_rational.specs.Folds.{AddsTo, AnswersFrom}
+use Rattle.ratio_core.specs.Laws.{IsSum}
+use Rattle.num_rational.specs.Folds.{AnswersFrom}
 use Rattle.num_rational.specs.Operators.{CanAdd, numbers}
 use Rattle.num_rational.proofs.FoldLemmas.{sum_step}
 use Rattle.num_rational.proofs.tests.folds.+added.Goals as goal
@@ -18,4 +19,4 @@ returns-in_ok-next-in-Some g t c =
       right_positive = c.is_positive.ensures c.if-is_positive.true;
       answered = given.0;
     } in
-    where_some c.added.result (λ rest. subst (AnswersFrom numbers (CanAdd g.T.Integer.EXACT_SUMS g.T.Integer.lo g.T.Integer.hi) AddsTo (numbers c.args.total)) (sym c.in-Some.ensures.cases.0) (sum_step g.T.Integer.EXACT_SUMS g.T.Integer.lo g.T.Integer.hi numbers (numbers c.args.total) (numbers next) x c.in-Some.rest.now can given.1.terms rest)) c.added.ensures
+    where_some c.added.result (λ rest. subst (AnswersFrom numbers (CanAdd g.T.Integer.EXACT_SUMS g.T.Integer.lo g.T.Integer.hi) IsSum (numbers c.args.total)) (sym c.in-Some.ensures.cases.0) (sum_step g.T.Integer.EXACT_SUMS g.T.Integer.lo g.T.Integer.hi numbers (numbers c.args.total) (numbers next) x c.in-Some.rest.now can given.1.terms rest)) c.added.ensures

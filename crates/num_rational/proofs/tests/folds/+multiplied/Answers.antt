@@ -1,6 +1,7 @@
 use Rattle.std.proofs.Common.{Option, Some, None, IfSome, sym, subst}
 use Rattle.ratio_core.proofs.SumLemmas.{fits_by}
-use Rattle.num_rational.specs.Folds.{MultipliesTo, AnswersFrom}
+use Rattle.ratio_core.specs.Laws.{IsProduct}
+use Rattle.num_rational.specs.Folds.{AnswersFrom}
 use Rattle.num_rational.specs.Operators.{CanMultiply, numbers}
 use Rattle.num_rational.proofs.FoldLemmas.{product_step}
 use Rattle.num_rational.proofs.tests.folds.+multiplied.Goals as goal
@@ -19,4 +20,4 @@ returns-in_ok-next-in-Some g t c =
       right_positive = c.is_positive.ensures c.if-is_positive.true;
       answered = fits_by _ _ _ _ _ _ given;
     } in
-    where_some c.multiplied.result (λ rest. subst (AnswersFrom numbers (CanMultiply g.T.Integer.lo g.T.Integer.hi) MultipliesTo (numbers c.args.total)) (sym c.in-Some.ensures.cases.0) (product_step g.T.Integer.lo g.T.Integer.hi numbers (numbers c.args.total) (numbers next) x c.in-Some.rest.now can given.terms rest)) c.multiplied.ensures
+    where_some c.multiplied.result (λ rest. subst (AnswersFrom numbers (CanMultiply g.T.Integer.lo g.T.Integer.hi) IsProduct (numbers c.args.total)) (sym c.in-Some.ensures.cases.0) (product_step g.T.Integer.lo g.T.Integer.hi numbers (numbers c.args.total) (numbers next) x c.in-Some.rest.now can given.terms rest)) c.multiplied.ensures

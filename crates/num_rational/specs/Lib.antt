@@ -1,6 +1,7 @@
 pub mod Comparison
 pub mod Folds
 pub mod Hashing
+pub mod Negation
 pub mod Operators
 pub mod Padding
 pub mod Ratio
@@ -10,6 +11,8 @@ pub use Rattle.ratio_core.specs.Laws
 pub use Rattle.ratio_core.specs.Order
 pub use Rattle.ratio_core.specs.Printing
 pub use Rattle.ratio_core.specs.Reading
+pub use Rattle.ratio_core.specs.Rounding
+pub use Rattle.ratio_core.specs.Signs
 pub use Rattle.ratio_integer.specs.Arithmetic
 pub use Rattle.ratio_integer.specs.Fraction
 pub use Rattle.ratio_integer.specs.Range

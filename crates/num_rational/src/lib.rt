@@ -10,6 +10,7 @@ mod order;
 mod printing;
 mod ratio;
 mod rounding;
+mod sign;
 #[cfg(test)]
 mod tests;
 mod text;

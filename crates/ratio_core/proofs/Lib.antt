@@ -25,5 +25,7 @@ pub mod Rounds
 pub mod SameValues
 pub mod ScalingLemmas
 pub mod ShortDigits
+pub mod SignLemmas
 pub mod SumLemmas
+pub mod TestLemmas
 pub mod WidthLemmas

@@ -68,7 +68,7 @@ sides_exist lo hi front back below =
 -- ---- the first slash
 
 -- the text is cut at its first slash
-record IsCut (text : List ℕ) : Type 0 where
+record IsTruncatedDivision (text : List ℕ) : Type 0 where
   front : List ℕ
   back : List ℕ
   cut : text ≡ front ++ slash ∷ back
@@ -82,7 +82,7 @@ none_before c cs other free zero inside = other
 none_before c cs other free (suc i) inside = free i (omega (arith, inside))
 
 -- a text has a first slash or none
-cut_exists : (text : List ℕ) → (IsCut text) ⊎ (HasNoSlash text)
+cut_exists : (text : List ℕ) → (IsTruncatedDivision text) ⊎ (HasNoSlash text)
 cut_exists [] = inr none_in_empty
 cut_exists (c ∷ cs) =
     elim (cases_eq c slash) [
@@ -99,7 +99,7 @@ abbrev Pair : ℤ → ℤ → List ℕ → Type 0
 Pair lo hi text = (r : Result (ℤ × ℤ) RatioErrorKind) × AnswersPair itself (IsFractionText lo hi text) r
 
 -- of a text with a slash, those of its two sides
-pair_with_slash : (lo hi : ℤ) (text : List ℕ) → lo <ℤ pos 0 → IsCut text → Pair lo hi text
+pair_with_slash : (lo hi : ℤ) (text : List ℕ) → lo <ℤ pos 0 → IsTruncatedDivision text → Pair lo hi text
 pair_with_slash lo hi text below at =
     let sides = sides_exist lo hi at.front at.back below in (
       sides.0,

@@ -4,7 +4,7 @@ use Rattle.std.proofs.Common.{refl, sym, ap, arith, ◌∙◌, inl, inr}
 use Rattle.std.proofs.lemmas.Int.{ints}
 use lib.IntN.{*ℤ_comm}
 use Rattle.ratio_integer.proofs.Whole.{mul_assoc}
-use Rattle.ratio_core.specs.Rounding.{IsBelowHalf, IsCeiling, IsCut, IsFloor, IsRounded, IsTruncation, IsWithinHalf}
+use Rattle.ratio_core.specs.Rounding.{IsBelowHalf, IsCeiling, IsTruncatedDivision, IsFloor, IsRounded, IsTruncation, IsWithinHalf}
 use Rattle.ratio_core.specs.RoundingLaws.{CeilingsAreNextToFloors, EachHasOne}
 use Rattle.ratio_core.proofs.ProductOrder.{less-times, more-times, times_le, whole_at_most}
 use Rattle.ratio_core.proofs.RoundingLemmas.{ceiling_more, ceiling_same, cut_division, floor_less, floor_same, rounded_less, rounded_more, rounded_same, truncation_of_cut}
@@ -140,7 +140,7 @@ same_rounded n d m e r u w same x = record {
 
 -- ---- there is one
 
-cut_of : (n d : ℤ) → pos 0 <ℤ d → IsCut n d (int_div n d) (int_rem n d)
+cut_of : (n d : ℤ) → pos 0 <ℤ d → IsTruncatedDivision n d (int_div n d) (int_rem n d)
 cut_of n d u = cut_division n d _ _ u refl refl
 
 sides : (r : ℤ) → (r <ℤ pos 0) ⊎ (¬ (r <ℤ pos 0))

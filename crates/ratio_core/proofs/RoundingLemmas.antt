@@ -1,11 +1,10 @@
 -- What a quotient q cut towards zero and its rest r say of the whole numbers near n/d.
-use Rattle.std.specs.Prelude.{◌≡◌, ◌≢◌, ◌⊎◌, ◌↔◌, ◌*◌, ◌%◌, ◌<◌, ◌≤◌, ◌≤ℤ◌, ◌<ℤ◌, ◌*ℤ◌, ◌+ℤ◌, ◌-ℤ◌, ℕ, ℤ, zero, suc, pos, negsuc, neg_ℤ, unsigned_abs, int_div, int_rem, Bool, true, false, IsTrue}
-use Rattle.std.proofs.Common.{sym, arith, inl, inr, ◌∙◌}
+use Rattle.std.specs.Prelude.{◌≡◌, ◌≢◌, ◌⊎◌, ◌↔◌, ◌*◌, ◌%◌, ◌<◌, ◌≤◌, ◌≤ℤ◌, ◌<ℤ◌, ◌*ℤ◌, ◌+ℤ◌, ◌-ℤ◌, ℕ, ℤ, zero, suc, pos, negsuc, neg_ℤ, unsigned_abs, int_div, int_rem}
+use Rattle.std.proofs.Common.{sym, arith, inl, inr}
 use Rattle.std.proofs.lemmas.Int.{ints, quot-rem}
 use Rattle.std.proofs.Math.Nat.{mod-lt}
-use Rattle.ratio_integer.specs.Comparison.{Tells}
 use Rattle.ratio_integer.specs.Range.{IsHeld, IsRange}
-use Rattle.ratio_core.specs.Rounding.{IsBelowHalf, IsCeiling, IsCut, IsFloor, IsFractionalPart, IsRounded, IsTruncation}
+use Rattle.ratio_core.specs.Rounding.{IsBelowHalf, IsCeiling, IsTruncatedDivision, IsFloor, IsFractionalPart, IsRounded, IsTruncation}
 use Rattle.ratio_core.proofs.ProductOrder.{down_times, less-times, more-times, up_times, whole_at_most}
 
 -- ---- the division
@@ -13,10 +12,10 @@ use Rattle.ratio_core.proofs.ProductOrder.{down_times, less-times, more-times, u
 below : (a k : ℕ) → a % suc k < suc k
 below a k = mod-lt a (let h : 0 < suc k = omega arith in h)
 
-pub cut_division : (n d q r : ℤ) → pos 0 <ℤ d → q ≡ int_div n d → r ≡ int_rem n d → IsCut n d q r
+pub cut_division : (n d q r : ℤ) → pos 0 <ℤ d → q ≡ int_div n d → r ≡ int_rem n d → IsTruncatedDivision n d q r
 cut_division n d q r u eq er = rw (eq, er) (go n d u)
   where
-    go : (n d : ℤ) → pos 0 <ℤ d → IsCut n d (int_div n d) (int_rem n d)
+    go : (n d : ℤ) → pos 0 <ℤ d → IsTruncatedDivision n d (int_div n d) (int_rem n d)
     go n (negsuc k) u = absurd (omega (arith, ints))
     go n (pos zero) u = absurd (omega (arith, ints))
     go (pos zero) (pos (suc k)) u = let t = below 0 k in record {
@@ -46,32 +45,32 @@ not_below a b h = grind (arith, ints)
 sides : (n : ℤ) → (n <ℤ pos 0) ⊎ (pos 0 ≤ℤ n)
 sides n = grind (arith, ints)
 
-pub truncation_of_cut : (n d q r : ℤ) → IsCut n d q r → IsTruncation n d q
+pub truncation_of_cut : (n d q r : ℤ) → IsTruncatedDivision n d q r → IsTruncation n d q
 truncation_of_cut n d q r c = record {
   floor = λ h. let s = c.sum in let k = c.rest in let a = c.above h in record { at_most = omega (arith, ints); next_above = omega (arith, ints) };
   ceiling = λ h. let s = c.sum in let k = c.rest in let a = c.below h in record { last_below = omega (arith, ints); at_least = omega (arith, ints) };
 }
 
-pub part_of_cut : (n d q r : ℤ) → IsCut n d q r → IsFractionalPart n d r
+pub part_of_cut : (n d q r : ℤ) → IsTruncatedDivision n d q r → IsFractionalPart n d r
 part_of_cut n d q r c = record { whole = q; truncation = truncation_of_cut n d q r c; sum = c.sum }
 
 -- ---- floor and ceiling
 
-pub floor_less : (n d q r : ℤ) → IsCut n d q r → r <ℤ pos 0 → IsFloor n d (q -ℤ pos 1)
+pub floor_less : (n d q r : ℤ) → IsTruncatedDivision n d q r → r <ℤ pos 0 → IsFloor n d (q -ℤ pos 1)
 floor_less n d q r c h = let s = c.sum in let k = c.rest in record { at_most = omega (arith, ints, less-times q d); next_above = omega (arith, ints, less-times q d) }
 
-pub floor_same : (n d q r : ℤ) → IsCut n d q r → ¬ (r <ℤ pos 0) → IsFloor n d q
+pub floor_same : (n d q r : ℤ) → IsTruncatedDivision n d q r → ¬ (r <ℤ pos 0) → IsFloor n d q
 floor_same n d q r c h = let s = c.sum in let k = c.rest in let a = not_below r (pos 0) h in record { at_most = omega (arith, ints); next_above = omega (arith, ints) }
 
-pub ceiling_more : (n d q r : ℤ) → IsCut n d q r → pos 0 <ℤ r → IsCeiling n d (q +ℤ pos 1)
+pub ceiling_more : (n d q r : ℤ) → IsTruncatedDivision n d q r → pos 0 <ℤ r → IsCeiling n d (q +ℤ pos 1)
 ceiling_more n d q r c h = let s = c.sum in let k = c.rest in record { last_below = omega (arith, ints, more-times q d); at_least = omega (arith, ints, more-times q d) }
 
-pub ceiling_same : (n d q r : ℤ) → IsCut n d q r → ¬ (pos 0 <ℤ r) → IsCeiling n d q
+pub ceiling_same : (n d q r : ℤ) → IsTruncatedDivision n d q r → ¬ (pos 0 <ℤ r) → IsCeiling n d q
 ceiling_same n d q r c h = let s = c.sum in let k = c.rest in let a = not_below (pos 0) r h in record { last_below = omega (arith, ints); at_least = omega (arith, ints) }
 
 -- ---- what is formed is held
 
-pub less_held : (lo hi n d q r : ℤ) → IsRange lo hi → IsHeld lo hi n → IsCut n d q r → r <ℤ pos 0 → IsHeld lo hi (q -ℤ pos 1)
+pub less_held : (lo hi n d q r : ℤ) → IsRange lo hi → IsHeld lo hi n → IsTruncatedDivision n d q r → r <ℤ pos 0 → IsHeld lo hi (q -ℤ pos 1)
 less_held lo hi n d q r range held c h = go (sides n)
   where
     go : (n <ℤ pos 0) ⊎ (pos 0 ≤ℤ n) → IsHeld lo hi (q -ℤ pos 1)
@@ -82,7 +81,7 @@ less_held lo hi n d q r range held c h = go (sides n)
         record { above = omega (arith, ints); below = omega (arith, ints) }
     go (inr s) = absurd (let a = c.above s in omega (arith, ints))
 
-pub more_held : (lo hi n d q r : ℤ) → IsRange lo hi → IsHeld lo hi n → IsCut n d q r → ¬ (r <ℤ pos 0) → r ≢ pos 0 → IsHeld lo hi (q +ℤ pos 1)
+pub more_held : (lo hi n d q r : ℤ) → IsRange lo hi → IsHeld lo hi n → IsTruncatedDivision n d q r → ¬ (r <ℤ pos 0) → r ≢ pos 0 → IsHeld lo hi (q +ℤ pos 1)
 more_held lo hi n d q r range held c h nz = go (sides n)
   where
     low : (z : ℤ) → pos 0 ≤ℤ z → lo ≤ℤ z
@@ -121,14 +120,14 @@ round_above n d t u h low up = record {
       (whole_at_most (pos 0) s d u (omega (arith, ints)));
 }
 
-pub rounded_same : (n d q r : ℤ) → IsCut n d q r → IsBelowHalf d r → IsRounded n d q
+pub rounded_same : (n d q r : ℤ) → IsTruncatedDivision n d q r → IsBelowHalf d r → IsRounded n d q
 rounded_same n d q r c less = go (sides n)
   where
     go : (n <ℤ pos 0) ⊎ (pos 0 ≤ℤ n) → IsRounded n d q
     go (inl s) = let sum = c.sum in let k = c.rest in round_below n d q (omega (arith, ints)) (omega (arith, ints)) (omega (arith, ints)) (omega (arith, ints))
     go (inr s) = let sum = c.sum in let k = c.rest in round_above n d q (omega (arith, ints)) s (omega (arith, ints)) (omega (arith, ints))
 
-pub rounded_less : (n d q r : ℤ) → IsCut n d q r → ¬ (IsBelowHalf d r) → r <ℤ pos 0 → IsRounded n d (q -ℤ pos 1)
+pub rounded_less : (n d q r : ℤ) → IsTruncatedDivision n d q r → ¬ (IsBelowHalf d r) → r <ℤ pos 0 → IsRounded n d (q -ℤ pos 1)
 rounded_less n d q r c half h = go (sides n)
   where
     enough : d ≤ℤ pos (2 * unsigned_abs r)
@@ -138,7 +137,7 @@ rounded_less n d q r c half h = go (sides n)
     go (inl s) = let sum = c.sum in let k = c.rest in let e = enough in round_below n d (q -ℤ pos 1) (omega (arith, ints)) (omega (arith, ints)) (omega (arith, ints, less-times q d)) (omega (arith, ints, less-times q d))
     go (inr s) = absurd (let a = c.above s in omega (arith, ints))
 
-pub rounded_more : (n d q r : ℤ) → IsCut n d q r → ¬ (IsBelowHalf d r) → ¬ (r <ℤ pos 0) → IsRounded n d (q +ℤ pos 1)
+pub rounded_more : (n d q r : ℤ) → IsTruncatedDivision n d q r → ¬ (IsBelowHalf d r) → ¬ (r <ℤ pos 0) → IsRounded n d (q +ℤ pos 1)
 rounded_more n d q r c half h = go (sides n)
   where
     enough : d ≤ℤ pos (2 * unsigned_abs r)
@@ -149,13 +148,8 @@ rounded_more n d q r c half h = go (sides n)
     go (inr s) = let sum = c.sum in let k = c.rest in let b = not_below r (pos 0) h in let e = enough in round_above n d (q +ℤ pos 1) (omega (arith, ints)) s (omega (arith, ints, more-times q d)) (omega (arith, ints, more-times q d))
 
 -- what is not below a half is not nothing
-pub half_nonzero : (n d q r : ℤ) → IsCut n d q r → ¬ (IsBelowHalf d r) → r ≢ pos 0
+pub half_nonzero : (n d q r : ℤ) → IsTruncatedDivision n d q r → ¬ (IsBelowHalf d r) → r ≢ pos 0
 half_nonzero n d q r c half z = let k = c.rest in let e = not_below (pos (2 * unsigned_abs r)) d half in omega (arith, ints)
-
--- a test that tells P from Q is one of R, which P gives and Q does not
-pub tells_iff : {P Q R : Type 0} (b : Bool) → Tells b P Q → (P → R) → (Q → ¬ R) → IsTrue b ↔ R
-tells_iff b (inl t) f g = ((λ e. f t.1), (λ r. t.0))
-tells_iff b (inr t) f g = ((λ e. absurd (let h : true ≡ false = sym e ∙ t.0 in cc)), (λ r. absurd (g t.1 r)))
 
 -- what is missing to d is more than r, for r on either side of 0
 pub missing_below : (d r minus plus nought : ℤ) → r <ℤ pos 0 → nought ≡ pos 0 → minus ≡ nought -ℤ r → plus ≡ r +ℤ d → (minus <ℤ plus) ↔ IsBelowHalf d r
@@ -163,11 +157,3 @@ missing_below d r minus plus nought h z m p = ((λ l. omega (arith, ints)), (λ 
 
 pub missing_above : (d r missing : ℤ) → ¬ (r <ℤ pos 0) → missing ≡ d -ℤ r → (r <ℤ missing) ↔ IsBelowHalf d r
 missing_above d r missing h m = let k = not_below r (pos 0) h in ((λ l. omega (arith, ints)), (λ l. omega (arith, ints)))
-
--- `a < b` tells of two numbers what P says
-pub less_iff : {P : Type 0} (b : Bool) (x y : ℤ) → Tells b (x <ℤ y) (y ≤ℤ x) → (x <ℤ y) ↔ P → IsTrue b ↔ P
-less_iff b x y t i = tells_iff b t i.0 (λ q p. let l = i.1 p in omega (arith, ints))
-
--- a test of P that failed
-pub if_false : {P : Type 0} (b : Bool) → IsTrue b ↔ P → b ≡ false → ¬ P
-if_false b i e p = let h : true ≡ false = sym (i.1 p) ∙ e in cc

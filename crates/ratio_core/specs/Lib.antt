@@ -8,3 +8,4 @@ pub mod Reading
 pub mod Refusal
 pub mod Rounding
 pub mod RoundingLaws
+pub mod Signs

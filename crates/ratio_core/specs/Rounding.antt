@@ -43,7 +43,7 @@ pub record IsRest (d r : ℤ) : Type 0 where
   pub below : r <ℤ d
 
 -- q and r are the quotient of n by d cut towards zero and what it leaves, all on one side of 0: an inner step
-pub record IsCut (n d q r : ℤ) : Type 0 where
+pub record IsTruncatedDivision (n d q r : ℤ) : Type 0 where
   pub sum : n ≡ q *ℤ d +ℤ r
   pub rest : IsRest d r
   pub above : pos 0 ≤ℤ n → (pos 0 ≤ℤ q) × (pos 0 ≤ℤ r)

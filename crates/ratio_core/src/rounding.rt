@@ -4,7 +4,7 @@
 //! between the ends of the type: nothing is doubled, and nothing is added before the division.
 ghost use Rattle.std.specs.Prelude.{◌≡◌, ◌↔◌, ◌-◌, ◌^◌, ◌<ℤ◌, ◌+ℤ◌, ◌-ℤ◌, pos, negsuc, IsTrue};
 ghost use Rattle.ratio_integer.specs.Range.{IsHeld};
-ghost use Rattle.ratio_core.specs.Rounding.{ChecksTruncation, IsBelowHalf, IsCeiling, IsCut, IsFloor, IsFractionalPart, IsRest, IsRounded, IsTruncation};
+ghost use Rattle.ratio_core.specs.Rounding.{ChecksTruncation, IsBelowHalf, IsCeiling, IsTruncatedDivision, IsFloor, IsFractionalPart, IsRest, IsRounded, IsTruncation};
 
 use crate::sign::{is_above_zero, is_below_zero};
 use ratio_integer::Integer;
@@ -109,7 +109,7 @@ pub fn to_u128<T: Integer>(n: T, d: T) -> Option<u128>
 // The quotient cut towards zero and what it leaves. By a positive number each number of the type may be divided.
 fn cut<T: Integer>(n: T, d: T) -> (T, T)
     requires { pos 0 <ℤ T.value d }
-    ensures cut { IsCut (T.value n) (T.value d) (T.value result.0) (T.value result.1) }
+    ensures cut { IsTruncatedDivision (T.value n) (T.value d) (T.value result.0) (T.value result.1) }
     ensures held { IsHeld T.lo T.hi (T.value n) }
 {
     let _ = n.held();

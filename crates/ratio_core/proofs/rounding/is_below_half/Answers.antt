@@ -1,5 +1,6 @@
 use Rattle.std.proofs.Common.{ap, ◌∙◌}
-use Rattle.ratio_core.proofs.RoundingLemmas.{if_false, less_iff, missing_above, missing_below}
+use Rattle.ratio_core.proofs.RoundingLemmas.{missing_above, missing_below}
+use Rattle.ratio_core.proofs.TestLemmas.{if_false, less_iff}
 use Rattle.ratio_core.proofs.rounding.is_below_half.Goals as goal
 
 pub returns-then-is_below_zero : goal.returns-then-is_below_zero

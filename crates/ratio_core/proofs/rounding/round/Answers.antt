@@ -1,4 +1,5 @@
-use Rattle.ratio_core.proofs.RoundingLemmas.{half_nonzero, if_false, less_held, more_held, rounded_less, rounded_more, rounded_same}
+use Rattle.ratio_core.proofs.RoundingLemmas.{half_nonzero, less_held, more_held, rounded_less, rounded_more, rounded_same}
+use Rattle.ratio_core.proofs.TestLemmas.{if_false}
 use Rattle.ratio_core.proofs.rounding.round.Goals as goal
 
 pub previous-requires : goal.previous-requires

@@ -11,6 +11,7 @@ mod ratio;
 mod rounding;
 #[cfg(feature = "serde")]
 mod serialized;
+mod sign;
 mod text;
 
 pub use integer::Integer;

@@ -4,6 +4,7 @@
 #![allow(clippy::eq_op)]
 
 use bakhsney::Ratio;
+use num_traits::ToPrimitive;
 use std::collections::hash_map::DefaultHasher;
 use std::hash::{Hash, Hasher};
 use std::panic::{catch_unwind, UnwindSafe};
@@ -36,6 +37,8 @@ fn conditions_are_tested() {
     assert_eq!(refusal(move || greatest / none), "denominator == 0");
     assert_eq!(refusal(move || greatest % none), "attempt to calculate the remainder with a divisor of zero");
     assert_eq!(refusal(move || [greatest, greatest].iter().sum::<Ratio<i64>>()), "attempt to add with overflow");
+    assert_eq!(refusal(move || -least), "attempt to negate with overflow");
+    assert_eq!(refusal(|| Ratio::new_raw(1i8, -128).floor()), "attempt to negate with overflow");
     assert_eq!(refusal(|| Ratio::new_raw(1, 0)), "");
 }
 
@@ -43,7 +46,7 @@ fn conditions_are_tested() {
 fn a_denominator_of_0_ends_each_call() {
     let broken = Ratio::new_raw(1i32, 0);
     let sound = Ratio::new(1, 2);
-    let calls: [(&str, Call); 18] = [
+    let calls: [(&str, Call); 25] = [
         ("add", |x, y| done(x + y)),
         ("sub", |x, y| done(x - y)),
         ("mul", |x, y| done(x * y)),
@@ -61,6 +64,13 @@ fn a_denominator_of_0_ends_each_call() {
         ("hash", |x, _| x.hash(&mut DefaultHasher::new())),
         ("text", |x, _| done(x.to_string())),
         ("reduced", |x, _| done(x.reduced())),
+        ("neg", |x, _| done(-x)),
+        ("floor", |x, _| done(x.floor())),
+        ("ceil", |x, _| done(x.ceil())),
+        ("round", |x, _| done(x.round())),
+        ("trunc", |x, _| done(x.trunc())),
+        ("fract", |x, _| done(x.fract())),
+        ("to_i64", |x, _| done(x.to_i64())),
         ("sum", |x, y| done([x, y].iter().sum::<Ratio<i32>>())),
     ];
     for (name, call) in calls {

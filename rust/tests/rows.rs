@@ -109,6 +109,13 @@ fn whole_numbers() {
 }
 
 #[test]
+fn negatives() {
+    assert_eq!((-half()).into_raw(), (-1, 2));
+    assert_eq!((-&Ratio::new_raw(1i64, -2)).into_raw(), (-1, -2));
+    assert_eq!(-Ratio::from_integer(i8::MAX), Ratio::from_integer(-127));
+}
+
+#[test]
 fn constants() {
     const HALF: Ratio<i32> = Ratio::new_raw(1, 2);
     const NUMER: &i32 = HALF.numer();
@@ -135,13 +142,18 @@ fn mean<T: Integer>(items: &[Ratio<T>]) -> Ratio<T> {
     let mut count = T::zero();
     for item in items {
         assert!(!T::is_zero(item.denom()));
-        count = count + T::one();
+        count += T::one();
     }
     items.iter().sum::<Ratio<T>>() / count
 }
 
+fn turned<T: Integer + std::ops::Neg<Output = T>>(x: Ratio<T>) -> Ratio<T> {
+    -x - x
+}
+
 #[test]
 fn generic_code() {
+    assert_eq!(turned(half()), Ratio::from_integer(-1));
     assert_eq!(mean(&[Ratio::new(1u8, 2), Ratio::new(1, 4)]), Ratio::new(3, 8));
     assert_eq!(mean(&[Ratio::new(1i128, 2), Ratio::new(-1, 2)]), Ratio::zero());
 }

@@ -3,14 +3,17 @@
 mod convert;
 mod fold;
 mod hash;
+mod operand;
 mod ops;
 mod order;
 mod printing;
 mod ratio;
 mod rounding;
+mod sign;
 #[cfg(test)]
 mod tests;
 mod text;
 
+pub use operand::Operand;
 pub use ratio::{Constants, Ratio, Rational, Rational32, Rational64};
 pub use crate::proved::ratio_core::{CodeList, Form, ParseRatioError, RatioErrorKind, RatioText, Steps, Taken};

@@ -1,6 +1,7 @@
 // Erased from crates/num_rational/src/ops/add.rt by rust/erase: not to be edited.
 //! Sums: the checked call, the call that asks for an answer, and the symbols `+` and `+=`.
 
+use crate::proved::num_rational::operand::Operand;
 use crate::proved::num_rational::ratio::Ratio;
 use crate::proved::ratio_core::sums;
 use crate::proved::ratio_integer::Integer;
@@ -37,106 +38,37 @@ impl<T: Copy + Integer> Ratio<T> {
     /// - `answered`: `SumCondition T.EXACT_SUMS T.lo T.hi (numerator self) (denominator self) (numerator other) (denominator other)`
     #[inline]
     pub fn add(self, other: Ratio<T>) -> Ratio<T> {
-        self.checked_add(&other).unwrap()
+        let (numer, denom) = sums::add(
+            *self.numer(),
+            *self.denom(),
+            *other.numer(),
+            *other.denom(),
+        );
+        Ratio::new_raw(numer, denom)
     }
 }
 
-impl<T: Copy + Integer> Add<Ratio<T>> for Ratio<T> {
+impl<T: Copy + Integer, O: Operand<T>> Add<O> for Ratio<T> {
     type Output = Ratio<T>;
 
     #[inline]
-    fn add(self, other: Ratio<T>) -> Ratio<T> {
-        self.add(other)
+    fn add(self, other: O) -> Ratio<T> {
+        self.add(other.ratio())
     }
 }
 
-impl<T: Copy + Integer> Add<&Ratio<T>> for Ratio<T> {
+impl<T: Copy + Integer, O: Operand<T>> Add<O> for &Ratio<T> {
     type Output = Ratio<T>;
 
     #[inline]
-    fn add(self, other: &Ratio<T>) -> Ratio<T> {
-        self.add(*other)
+    fn add(self, other: O) -> Ratio<T> {
+        (*self).add(other.ratio())
     }
 }
 
-impl<T: Copy + Integer> Add<Ratio<T>> for &Ratio<T> {
-    type Output = Ratio<T>;
-
+impl<T: Copy + Integer, O: Operand<T>> AddAssign<O> for Ratio<T> {
     #[inline]
-    fn add(self, other: Ratio<T>) -> Ratio<T> {
-        (*self).add(other)
-    }
-}
-
-impl<T: Copy + Integer> Add<&Ratio<T>> for &Ratio<T> {
-    type Output = Ratio<T>;
-
-    #[inline]
-    fn add(self, other: &Ratio<T>) -> Ratio<T> {
-        (*self).add(*other)
-    }
-}
-
-impl<T: Copy + Integer> Add<T> for Ratio<T> {
-    type Output = Ratio<T>;
-
-    #[inline]
-    fn add(self, number: T) -> Ratio<T> {
-        self.add(Ratio::from_integer(number))
-    }
-}
-
-impl<T: Copy + Integer> Add<&T> for Ratio<T> {
-    type Output = Ratio<T>;
-
-    #[inline]
-    fn add(self, number: &T) -> Ratio<T> {
-        self.add(Ratio::from_integer(*number))
-    }
-}
-
-impl<T: Copy + Integer> Add<T> for &Ratio<T> {
-    type Output = Ratio<T>;
-
-    #[inline]
-    fn add(self, number: T) -> Ratio<T> {
-        (*self).add(Ratio::from_integer(number))
-    }
-}
-
-impl<T: Copy + Integer> Add<&T> for &Ratio<T> {
-    type Output = Ratio<T>;
-
-    #[inline]
-    fn add(self, number: &T) -> Ratio<T> {
-        (*self).add(Ratio::from_integer(*number))
-    }
-}
-
-impl<T: Copy + Integer> AddAssign<Ratio<T>> for Ratio<T> {
-    #[inline]
-    fn add_assign(&mut self, other: Ratio<T>) {
-        *self = self.add(other);
-    }
-}
-
-impl<T: Copy + Integer> AddAssign<&Ratio<T>> for Ratio<T> {
-    #[inline]
-    fn add_assign(&mut self, other: &Ratio<T>) {
-        *self = self.add(*other);
-    }
-}
-
-impl<T: Copy + Integer> AddAssign<T> for Ratio<T> {
-    #[inline]
-    fn add_assign(&mut self, number: T) {
-        *self = self.add(Ratio::from_integer(number));
-    }
-}
-
-impl<T: Copy + Integer> AddAssign<&T> for Ratio<T> {
-    #[inline]
-    fn add_assign(&mut self, number: &T) {
-        *self = self.add(Ratio::from_integer(*number));
+    fn add_assign(&mut self, other: O) {
+        *self = self.add(other.ratio());
     }
 }

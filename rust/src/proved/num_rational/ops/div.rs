@@ -1,6 +1,7 @@
 // Erased from crates/num_rational/src/ops/div.rt by rust/erase: not to be edited.
 //! Quotients: the checked call, the call that asks for an answer, and the symbols `/` and `/=`.
 
+use crate::proved::num_rational::operand::Operand;
 use crate::proved::num_rational::ratio::Ratio;
 use crate::proved::ratio_core::products;
 use crate::proved::ratio_integer::Integer;
@@ -33,109 +34,40 @@ impl<T: Copy + Integer> Ratio<T> {
     ///
     /// - `left_positive`: `pos 0 <ℤ denominator self`
     /// - `right_positive`: `pos 0 <ℤ denominator other`
-    /// - `answered`: `Fits T.lo T.hi (numerator self *ℤ denominator other) (denominator self *ℤ numerator other)`
+    /// - `answered`: `QuotientCondition T.lo T.hi (numerator self) (denominator self) (numerator other) (denominator other)`
     #[inline]
     pub fn div(self, other: Ratio<T>) -> Ratio<T> {
-        self.checked_div(&other).unwrap()
+        let (numer, denom) = products::div(
+            *self.numer(),
+            *self.denom(),
+            *other.numer(),
+            *other.denom(),
+        );
+        Ratio::new_raw(numer, denom)
     }
 }
 
-impl<T: Copy + Integer> Div<Ratio<T>> for Ratio<T> {
+impl<T: Copy + Integer, O: Operand<T>> Div<O> for Ratio<T> {
     type Output = Ratio<T>;
 
     #[inline]
-    fn div(self, other: Ratio<T>) -> Ratio<T> {
-        self.div(other)
+    fn div(self, other: O) -> Ratio<T> {
+        self.div(other.ratio())
     }
 }
 
-impl<T: Copy + Integer> Div<&Ratio<T>> for Ratio<T> {
+impl<T: Copy + Integer, O: Operand<T>> Div<O> for &Ratio<T> {
     type Output = Ratio<T>;
 
     #[inline]
-    fn div(self, other: &Ratio<T>) -> Ratio<T> {
-        self.div(*other)
+    fn div(self, other: O) -> Ratio<T> {
+        (*self).div(other.ratio())
     }
 }
 
-impl<T: Copy + Integer> Div<Ratio<T>> for &Ratio<T> {
-    type Output = Ratio<T>;
-
+impl<T: Copy + Integer, O: Operand<T>> DivAssign<O> for Ratio<T> {
     #[inline]
-    fn div(self, other: Ratio<T>) -> Ratio<T> {
-        (*self).div(other)
-    }
-}
-
-impl<T: Copy + Integer> Div<&Ratio<T>> for &Ratio<T> {
-    type Output = Ratio<T>;
-
-    #[inline]
-    fn div(self, other: &Ratio<T>) -> Ratio<T> {
-        (*self).div(*other)
-    }
-}
-
-impl<T: Copy + Integer> Div<T> for Ratio<T> {
-    type Output = Ratio<T>;
-
-    #[inline]
-    fn div(self, number: T) -> Ratio<T> {
-        self.div(Ratio::from_integer(number))
-    }
-}
-
-impl<T: Copy + Integer> Div<&T> for Ratio<T> {
-    type Output = Ratio<T>;
-
-    #[inline]
-    fn div(self, number: &T) -> Ratio<T> {
-        self.div(Ratio::from_integer(*number))
-    }
-}
-
-impl<T: Copy + Integer> Div<T> for &Ratio<T> {
-    type Output = Ratio<T>;
-
-    #[inline]
-    fn div(self, number: T) -> Ratio<T> {
-        (*self).div(Ratio::from_integer(number))
-    }
-}
-
-impl<T: Copy + Integer> Div<&T> for &Ratio<T> {
-    type Output = Ratio<T>;
-
-    #[inline]
-    fn div(self, number: &T) -> Ratio<T> {
-        (*self).div(Ratio::from_integer(*number))
-    }
-}
-
-impl<T: Copy + Integer> DivAssign<Ratio<T>> for Ratio<T> {
-    #[inline]
-    fn div_assign(&mut self, other: Ratio<T>) {
-        *self = self.div(other);
-    }
-}
-
-impl<T: Copy + Integer> DivAssign<&Ratio<T>> for Ratio<T> {
-    #[inline]
-    fn div_assign(&mut self, other: &Ratio<T>) {
-        *self = self.div(*other);
-    }
-}
-
-impl<T: Copy + Integer> DivAssign<T> for Ratio<T> {
-    #[inline]
-    fn div_assign(&mut self, number: T) {
-        *self = self.div(Ratio::from_integer(number));
-    }
-}
-
-impl<T: Copy + Integer> DivAssign<&T> for Ratio<T> {
-    #[inline]
-    fn div_assign(&mut self, number: &T) {
-        *self = self.div(Ratio::from_integer(*number));
+    fn div_assign(&mut self, other: O) {
+        *self = self.div(other.ratio());
     }
 }

@@ -1,6 +1,7 @@
 // Erased from crates/num_rational/src/ops/mul.rt by rust/erase: not to be edited.
 //! Products: the checked call, the call that asks for an answer, and the symbols `*` and `*=`.
 
+use crate::proved::num_rational::operand::Operand;
 use crate::proved::num_rational::ratio::Ratio;
 use crate::proved::ratio_core::products;
 use crate::proved::ratio_integer::Integer;
@@ -32,109 +33,40 @@ impl<T: Copy + Integer> Ratio<T> {
     ///
     /// - `left_positive`: `pos 0 <ℤ denominator self`
     /// - `right_positive`: `pos 0 <ℤ denominator other`
-    /// - `answered`: `Fits T.lo T.hi (numerator self *ℤ numerator other) (denominator self *ℤ denominator other)`
+    /// - `answered`: `ProductCondition T.lo T.hi (numerator self) (denominator self) (numerator other) (denominator other)`
     #[inline]
     pub fn mul(self, other: Ratio<T>) -> Ratio<T> {
-        self.checked_mul(&other).unwrap()
+        let (numer, denom) = products::mul(
+            *self.numer(),
+            *self.denom(),
+            *other.numer(),
+            *other.denom(),
+        );
+        Ratio::new_raw(numer, denom)
     }
 }
 
-impl<T: Copy + Integer> Mul<Ratio<T>> for Ratio<T> {
+impl<T: Copy + Integer, O: Operand<T>> Mul<O> for Ratio<T> {
     type Output = Ratio<T>;
 
     #[inline]
-    fn mul(self, other: Ratio<T>) -> Ratio<T> {
-        self.mul(other)
+    fn mul(self, other: O) -> Ratio<T> {
+        self.mul(other.ratio())
     }
 }
 
-impl<T: Copy + Integer> Mul<&Ratio<T>> for Ratio<T> {
+impl<T: Copy + Integer, O: Operand<T>> Mul<O> for &Ratio<T> {
     type Output = Ratio<T>;
 
     #[inline]
-    fn mul(self, other: &Ratio<T>) -> Ratio<T> {
-        self.mul(*other)
+    fn mul(self, other: O) -> Ratio<T> {
+        (*self).mul(other.ratio())
     }
 }
 
-impl<T: Copy + Integer> Mul<Ratio<T>> for &Ratio<T> {
-    type Output = Ratio<T>;
-
+impl<T: Copy + Integer, O: Operand<T>> MulAssign<O> for Ratio<T> {
     #[inline]
-    fn mul(self, other: Ratio<T>) -> Ratio<T> {
-        (*self).mul(other)
-    }
-}
-
-impl<T: Copy + Integer> Mul<&Ratio<T>> for &Ratio<T> {
-    type Output = Ratio<T>;
-
-    #[inline]
-    fn mul(self, other: &Ratio<T>) -> Ratio<T> {
-        (*self).mul(*other)
-    }
-}
-
-impl<T: Copy + Integer> Mul<T> for Ratio<T> {
-    type Output = Ratio<T>;
-
-    #[inline]
-    fn mul(self, number: T) -> Ratio<T> {
-        self.mul(Ratio::from_integer(number))
-    }
-}
-
-impl<T: Copy + Integer> Mul<&T> for Ratio<T> {
-    type Output = Ratio<T>;
-
-    #[inline]
-    fn mul(self, number: &T) -> Ratio<T> {
-        self.mul(Ratio::from_integer(*number))
-    }
-}
-
-impl<T: Copy + Integer> Mul<T> for &Ratio<T> {
-    type Output = Ratio<T>;
-
-    #[inline]
-    fn mul(self, number: T) -> Ratio<T> {
-        (*self).mul(Ratio::from_integer(number))
-    }
-}
-
-impl<T: Copy + Integer> Mul<&T> for &Ratio<T> {
-    type Output = Ratio<T>;
-
-    #[inline]
-    fn mul(self, number: &T) -> Ratio<T> {
-        (*self).mul(Ratio::from_integer(*number))
-    }
-}
-
-impl<T: Copy + Integer> MulAssign<Ratio<T>> for Ratio<T> {
-    #[inline]
-    fn mul_assign(&mut self, other: Ratio<T>) {
-        *self = self.mul(other);
-    }
-}
-
-impl<T: Copy + Integer> MulAssign<&Ratio<T>> for Ratio<T> {
-    #[inline]
-    fn mul_assign(&mut self, other: &Ratio<T>) {
-        *self = self.mul(*other);
-    }
-}
-
-impl<T: Copy + Integer> MulAssign<T> for Ratio<T> {
-    #[inline]
-    fn mul_assign(&mut self, number: T) {
-        *self = self.mul(Ratio::from_integer(number));
-    }
-}
-
-impl<T: Copy + Integer> MulAssign<&T> for Ratio<T> {
-    #[inline]
-    fn mul_assign(&mut self, number: &T) {
-        *self = self.mul(Ratio::from_integer(*number));
+    fn mul_assign(&mut self, other: O) {
+        *self = self.mul(other.ratio());
     }
 }

@@ -1,6 +1,7 @@
 // Erased from crates/num_rational/src/ops/rem.rt by rust/erase: not to be edited.
 //! Remainders: the checked call, the call that asks for an answer, and the symbols `%` and `%=`.
 
+use crate::proved::num_rational::operand::Operand;
 use crate::proved::num_rational::ratio::Ratio;
 use crate::proved::ratio_core::remainder;
 use crate::proved::ratio_integer::Integer;
@@ -36,106 +37,37 @@ impl<T: Copy + Integer> Ratio<T> {
     /// - `answered`: `RemainderHeld T.lo T.hi (numerator self) (denominator self) (numerator other) (denominator other)`
     #[inline]
     pub fn rem(self, other: Ratio<T>) -> Ratio<T> {
-        self.checked_rem(&other).unwrap()
+        let (numer, denom) = remainder::rem(
+            *self.numer(),
+            *self.denom(),
+            *other.numer(),
+            *other.denom(),
+        );
+        Ratio::new_raw(numer, denom)
     }
 }
 
-impl<T: Copy + Integer> Rem<Ratio<T>> for Ratio<T> {
+impl<T: Copy + Integer, O: Operand<T>> Rem<O> for Ratio<T> {
     type Output = Ratio<T>;
 
     #[inline]
-    fn rem(self, other: Ratio<T>) -> Ratio<T> {
-        self.rem(other)
+    fn rem(self, other: O) -> Ratio<T> {
+        self.rem(other.ratio())
     }
 }
 
-impl<T: Copy + Integer> Rem<&Ratio<T>> for Ratio<T> {
+impl<T: Copy + Integer, O: Operand<T>> Rem<O> for &Ratio<T> {
     type Output = Ratio<T>;
 
     #[inline]
-    fn rem(self, other: &Ratio<T>) -> Ratio<T> {
-        self.rem(*other)
+    fn rem(self, other: O) -> Ratio<T> {
+        (*self).rem(other.ratio())
     }
 }
 
-impl<T: Copy + Integer> Rem<Ratio<T>> for &Ratio<T> {
-    type Output = Ratio<T>;
-
+impl<T: Copy + Integer, O: Operand<T>> RemAssign<O> for Ratio<T> {
     #[inline]
-    fn rem(self, other: Ratio<T>) -> Ratio<T> {
-        (*self).rem(other)
-    }
-}
-
-impl<T: Copy + Integer> Rem<&Ratio<T>> for &Ratio<T> {
-    type Output = Ratio<T>;
-
-    #[inline]
-    fn rem(self, other: &Ratio<T>) -> Ratio<T> {
-        (*self).rem(*other)
-    }
-}
-
-impl<T: Copy + Integer> Rem<T> for Ratio<T> {
-    type Output = Ratio<T>;
-
-    #[inline]
-    fn rem(self, number: T) -> Ratio<T> {
-        self.rem(Ratio::from_integer(number))
-    }
-}
-
-impl<T: Copy + Integer> Rem<&T> for Ratio<T> {
-    type Output = Ratio<T>;
-
-    #[inline]
-    fn rem(self, number: &T) -> Ratio<T> {
-        self.rem(Ratio::from_integer(*number))
-    }
-}
-
-impl<T: Copy + Integer> Rem<T> for &Ratio<T> {
-    type Output = Ratio<T>;
-
-    #[inline]
-    fn rem(self, number: T) -> Ratio<T> {
-        (*self).rem(Ratio::from_integer(number))
-    }
-}
-
-impl<T: Copy + Integer> Rem<&T> for &Ratio<T> {
-    type Output = Ratio<T>;
-
-    #[inline]
-    fn rem(self, number: &T) -> Ratio<T> {
-        (*self).rem(Ratio::from_integer(*number))
-    }
-}
-
-impl<T: Copy + Integer> RemAssign<Ratio<T>> for Ratio<T> {
-    #[inline]
-    fn rem_assign(&mut self, other: Ratio<T>) {
-        *self = self.rem(other);
-    }
-}
-
-impl<T: Copy + Integer> RemAssign<&Ratio<T>> for Ratio<T> {
-    #[inline]
-    fn rem_assign(&mut self, other: &Ratio<T>) {
-        *self = self.rem(*other);
-    }
-}
-
-impl<T: Copy + Integer> RemAssign<T> for Ratio<T> {
-    #[inline]
-    fn rem_assign(&mut self, number: T) {
-        *self = self.rem(Ratio::from_integer(number));
-    }
-}
-
-impl<T: Copy + Integer> RemAssign<&T> for Ratio<T> {
-    #[inline]
-    fn rem_assign(&mut self, number: &T) {
-        *self = self.rem(Ratio::from_integer(*number));
+    fn rem_assign(&mut self, other: O) {
+        *self = self.rem(other.ratio());
     }
 }

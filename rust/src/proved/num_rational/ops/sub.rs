@@ -1,6 +1,7 @@
 // Erased from crates/num_rational/src/ops/sub.rt by rust/erase: not to be edited.
 //! Differences: the checked call, the call that asks for an answer, and the symbols `-` and `-=`.
 
+use crate::proved::num_rational::operand::Operand;
 use crate::proved::num_rational::ratio::Ratio;
 use crate::proved::ratio_core::sums;
 use crate::proved::ratio_integer::Integer;
@@ -37,106 +38,37 @@ impl<T: Copy + Integer> Ratio<T> {
     /// - `answered`: `DifferenceCondition T.EXACT_SUMS T.lo T.hi (numerator self) (denominator self) (numerator other) (denominator other)`
     #[inline]
     pub fn sub(self, other: Ratio<T>) -> Ratio<T> {
-        self.checked_sub(&other).unwrap()
+        let (numer, denom) = sums::sub(
+            *self.numer(),
+            *self.denom(),
+            *other.numer(),
+            *other.denom(),
+        );
+        Ratio::new_raw(numer, denom)
     }
 }
 
-impl<T: Copy + Integer> Sub<Ratio<T>> for Ratio<T> {
+impl<T: Copy + Integer, O: Operand<T>> Sub<O> for Ratio<T> {
     type Output = Ratio<T>;
 
     #[inline]
-    fn sub(self, other: Ratio<T>) -> Ratio<T> {
-        self.sub(other)
+    fn sub(self, other: O) -> Ratio<T> {
+        self.sub(other.ratio())
     }
 }
 
-impl<T: Copy + Integer> Sub<&Ratio<T>> for Ratio<T> {
+impl<T: Copy + Integer, O: Operand<T>> Sub<O> for &Ratio<T> {
     type Output = Ratio<T>;
 
     #[inline]
-    fn sub(self, other: &Ratio<T>) -> Ratio<T> {
-        self.sub(*other)
+    fn sub(self, other: O) -> Ratio<T> {
+        (*self).sub(other.ratio())
     }
 }
 
-impl<T: Copy + Integer> Sub<Ratio<T>> for &Ratio<T> {
-    type Output = Ratio<T>;
-
+impl<T: Copy + Integer, O: Operand<T>> SubAssign<O> for Ratio<T> {
     #[inline]
-    fn sub(self, other: Ratio<T>) -> Ratio<T> {
-        (*self).sub(other)
-    }
-}
-
-impl<T: Copy + Integer> Sub<&Ratio<T>> for &Ratio<T> {
-    type Output = Ratio<T>;
-
-    #[inline]
-    fn sub(self, other: &Ratio<T>) -> Ratio<T> {
-        (*self).sub(*other)
-    }
-}
-
-impl<T: Copy + Integer> Sub<T> for Ratio<T> {
-    type Output = Ratio<T>;
-
-    #[inline]
-    fn sub(self, number: T) -> Ratio<T> {
-        self.sub(Ratio::from_integer(number))
-    }
-}
-
-impl<T: Copy + Integer> Sub<&T> for Ratio<T> {
-    type Output = Ratio<T>;
-
-    #[inline]
-    fn sub(self, number: &T) -> Ratio<T> {
-        self.sub(Ratio::from_integer(*number))
-    }
-}
-
-impl<T: Copy + Integer> Sub<T> for &Ratio<T> {
-    type Output = Ratio<T>;
-
-    #[inline]
-    fn sub(self, number: T) -> Ratio<T> {
-        (*self).sub(Ratio::from_integer(number))
-    }
-}
-
-impl<T: Copy + Integer> Sub<&T> for &Ratio<T> {
-    type Output = Ratio<T>;
-
-    #[inline]
-    fn sub(self, number: &T) -> Ratio<T> {
-        (*self).sub(Ratio::from_integer(*number))
-    }
-}
-
-impl<T: Copy + Integer> SubAssign<Ratio<T>> for Ratio<T> {
-    #[inline]
-    fn sub_assign(&mut self, other: Ratio<T>) {
-        *self = self.sub(other);
-    }
-}
-
-impl<T: Copy + Integer> SubAssign<&Ratio<T>> for Ratio<T> {
-    #[inline]
-    fn sub_assign(&mut self, other: &Ratio<T>) {
-        *self = self.sub(*other);
-    }
-}
-
-impl<T: Copy + Integer> SubAssign<T> for Ratio<T> {
-    #[inline]
-    fn sub_assign(&mut self, number: T) {
-        *self = self.sub(Ratio::from_integer(number));
-    }
-}
-
-impl<T: Copy + Integer> SubAssign<&T> for Ratio<T> {
-    #[inline]
-    fn sub_assign(&mut self, number: &T) {
-        *self = self.sub(Ratio::from_integer(*number));
+    fn sub_assign(&mut self, other: O) {
+        *self = self.sub(other.ratio());
     }
 }

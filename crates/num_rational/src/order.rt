@@ -1,5 +1,5 @@
 //! The order and the equality of fractions, by their values.
-ghost use Rattle.std.specs.Prelude.{◌≡◌, ◌↔◌, ◌<ℤ◌, ◌+◌, ℕ, pos, refl, IsTrue};
+ghost use Rattle.std.specs.Prelude.{◌≡◌, ◌↔◌, ◌+◌, ℕ, refl, IsTrue};
 ghost use Rattle.std.specs.Cmp.{partial_equiv_from_equiv};
 ghost use Rattle.std.specs.Ordering.{as_partial_cmp};
 ghost use Rattle.ratio_core.specs.ContinuedFraction.{IsStepCount};
@@ -33,13 +33,6 @@ impl<T: Copy + Integer> Ratio<T> {
             steps,
         )
     }
-}
-
-/// Whether the denominators are one positive number.
-fn share_denominator<T: Copy + Integer>(x: &Ratio<T>, y: &Ratio<T>) -> bool
-    ensures { IsTrue result ↔ ((denominator x.now ≡ denominator y.now) × (pos 0 <ℤ denominator x.now)) }
-{
-    *x.denom() == *y.denom() && T::ZERO < *x.denom()
 }
 
 impl<T: Copy + Integer> PartialEq for Ratio<T> {
@@ -80,13 +73,11 @@ impl<T: Copy + Integer> Ord for Ratio<T> {
 
     ghost matches_eq = { same_agrees numerator denominator (λ x. x.nonzero) };
 
-    /// The numerators alone decide where the denominators are one positive number.
+    /// The order by `compare`, which settles what it can before it divides.
     #[inline]
     fn cmp(&self, other: &Ratio<T>) -> Ordering {
-        if share_denominator(self, other) {
-            self.numer().cmp(other.numer())
-        } else {
-            compare(*self.numer(), *self.denom(), *other.numer(), *other.denom())
-        }
+        let (n, d) = (*self.numer(), *self.denom());
+        let (m, e) = (*other.numer(), *other.denom());
+        compare(n, d, m, e, &mut Steps::new())
     }
 }

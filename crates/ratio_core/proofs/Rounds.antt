@@ -1,5 +1,5 @@
 -- The rounds of a comparison: how many there are, and what each of them answers.
-use Rattle.std.specs.Prelude.{◌≡◌, ◌≢◌, ◌+◌, ◌*◌, ◌^◌, ◌<◌, ◌≤◌, ◌≤ℤ◌, ◌+ℤ◌, ◌*ℤ◌, ◌||◌, ℕ, ℤ, suc, pos, negsuc, unsigned_abs, min, Bool, true, false, cond, not, List, [], ◌∷◌, length}
+use Rattle.std.specs.Prelude.{◌≡◌, ◌≢◌, ◌⊎◌, ◌+◌, ◌*◌, ◌^◌, ◌<◌, ◌≤◌, ◌≤ℤ◌, ◌<ℤ◌, ◌+ℤ◌, ◌*ℤ◌, ◌||◌, ℕ, ℤ, suc, pos, negsuc, unsigned_abs, min, Bool, true, false, cond, not, List, [], ◌∷◌, length}
 use Rattle.std.proofs.Common.{refl, sym, ap, arith, subst, inl, inr, ◌∙◌}
 use Rattle.std.proofs.lemmas.Bool.{true≢false}
 use Rattle.std.proofs.lemmas.Bool.Decides.{Decides-int_eq}
@@ -9,8 +9,8 @@ use Rattle.std.specs.declared.cmp.Ordering.{Ordering}
 use Rattle.std.specs.declared.cmp.Ordering.TheVariants.{Less, Equal, Greater}
 use Rattle.ratio_integer.specs.Division.{IsFloored}
 use Rattle.ratio_integer.specs.Range.{IsHeld, IsRange}
-use Rattle.ratio_core.specs.ContinuedFraction.{Compares, IsCompared, IsPartialQuotients, IsStepCount, IsWithinBits, rounds}
-use Rattle.ratio_core.specs.Order.{IsAboveMax, IsOrderOfParts}
+use Rattle.ratio_core.specs.ContinuedFraction.{Compares, IsCompared, IsPartialQuotients, IsRoundsUnless, IsWithinBits, rounds}
+use Rattle.ratio_core.specs.Order.{AreProductsHeld, DoNumeratorsDecide, HaveUnlikeSigns, IsAboveMax, IsOrderOfParts}
 use Rattle.ratio_core.proofs.CrossOrder.{divided-greater, divided-less, tied-both, tied-first, tied-rest, tied-second, top-equal, top-greater, top-less}
 use Rattle.ratio_core.proofs.Quotients.{Goes, goes_ends, goes_on, quotients_exist, quotients_known, quotients_short}
 
@@ -238,9 +238,9 @@ rounds_within top n d m e ps qs f g j h = by_least (unsigned_abs d) (unsigned_ab
     (λ b. let a : length ps ≤ 2 * j = quotients_short j n d ps f b in omega (arith, rounds_le_first top ps qs))
     (λ b. let a : length qs ≤ 2 * j = quotients_short j m e qs g b in omega (arith, rounds_le_second top ps qs))
 
-pub steps-by_rounds : {lo hi n d m e : ℤ} {answer : Ordering} {l l' r r' : ℕ} → d ≢ pos 0 → e ≢ pos 0 → Compares (hi +ℤ pos 1) n d m e answer l l' r r'
-    → (k : ℕ) × (l' ≡ l + k) × (r' ≡ r + k) × IsStepCount lo hi n d m e k
-steps-by_rounds {lo} {hi} {n} {d} {m} {e} dn en h =
+pub steps-by_rounds : {Settled : Type 0} {hi n d m e : ℤ} {answer : Ordering} {l l' r r' : ℕ} → d ≢ pos 0 → e ≢ pos 0 → ¬ Settled → Compares (hi +ℤ pos 1) n d m e answer l l' r r'
+    → (k : ℕ) × (l' ≡ l + k) × (r' ≡ r + k) × IsRoundsUnless Settled hi n d m e k
+steps-by_rounds {hi = hi} {n} {d} {m} {e} dn en unsettled h =
     let f = quotients_exist n d dn in
     let g = quotients_exist m e en in
     let top : ℤ = hi +ℤ pos 1 in
@@ -249,11 +249,25 @@ steps-by_rounds {lo} {hi} {n} {d} {m} {e} dn en h =
       h.left_rose,
       h.right_rose,
       record {
-        exact = inr (record { left = f.list; right = g.list; left_are = f.are; right_are = g.are; count = count });
+        exact = inr (unsettled, record { left = f.list; right = g.list; left_are = f.are; right_are = g.are; count = count });
         bound = subst (IsWithinBits (min (unsigned_abs d) (unsigned_abs e))) (sym count) (rounds_within top n d m e f.list g.list f.are g.are);
       },
     )
 
-pub steps_none : {lo hi n d m e : ℤ} (l r : ℕ) → IsHeld lo hi (n *ℤ e) → IsHeld lo hi (m *ℤ d)
-    → (k : ℕ) × (l ≡ l + k) × (r ≡ r + k) × IsStepCount lo hi n d m e k
-steps_none l r left right = (0, omega arith, omega arith, record { exact = inl (refl, left, right); bound = λ j h. omega arith })
+-- where this is settled, nothing is counted
+pub steps_none : {Settled : Type 0} {hi n d m e : ℤ} (l r : ℕ) → Settled → (k : ℕ) × (l ≡ l + k) × (r ≡ r + k) × IsRoundsUnless Settled hi n d m e k
+steps_none l r settled = (0, omega arith, omega arith, record { exact = inl (settled, refl); bound = λ j h. omega arith })
+
+still_unsettled : {Held Settled Rounds : Type 0} {k : ℕ} → ¬ Held → ¬ Settled → (Held × (k ≡ 0)) ⊎ ((¬ Held) × Rounds) → (Settled × (k ≡ 0)) ⊎ ((¬ Settled) × Rounds)
+still_unsettled out unsettled (inl h) = absurd (out h.0)
+still_unsettled out unsettled (inr h) = inr (unsettled, h.1)
+
+-- where neither of two facts settles it, both count alike
+pub unsettled_by_both : {Held Settled : Type 0} {hi n d m e : ℤ} {k : ℕ} → ¬ Held → ¬ Settled → IsRoundsUnless Held hi n d m e k → IsRoundsUnless Settled hi n d m e k
+unsettled_by_both out unsettled is = record { exact = still_unsettled out unsettled is.exact; bound = is.bound }
+
+-- where no test of a sparing comparison decides, nothing settles it
+pub nothing_settles : {lo hi n d m e : ℤ} → ¬ ((d ≡ e) × (pos 0 <ℤ d)) → ¬ ((pos 0 <ℤ d) × (pos 0 <ℤ e) × HaveUnlikeSigns n m) → ¬ (AreProductsHeld lo hi n d m e)
+    → ¬ (DoNumeratorsDecide n d m e ⊎ AreProductsHeld lo hi n d m e)
+nothing_settles shared split held (inr h) = held h
+nothing_settles shared split held (inl h) = elim h.2 [ inl same ↦ shared (same, h.0) | inr unlike ↦ split (h.0, h.1, unlike) ]

@@ -8,7 +8,7 @@ pub record IsCancelled (a b : ℤ) : Type 0 where
   pub fraction : b ≢ pos 0
   pub only_one : (k : ℕ) → k ∣ unsigned_abs a → k ∣ unsigned_abs b → k ≡ 1
 
--- a/b is so, and has the value of n/d
+-- a/b has the value of n/d, b is not 0, and no whole number above 1 divides both a and b
 pub record IsCancelledOf (n d a b : ℤ) : Type 0 where
   pub same : SameValue n d a b
   pub cancelled : IsCancelled a b

@@ -56,7 +56,7 @@ FormedSumsFit =
     → SumHeld lo hi a b c d
     → Fits lo hi (sum_of a b c d).0 (sum_of a b c d).1
 
--- and so does a difference
+-- a difference formed over the least common denominator fits
 abbrev pub FormedDifferencesFit : Type 0
 FormedDifferencesFit =
     (lo hi a b c d : ℤ)

@@ -2,13 +2,14 @@
 use Rattle.std.specs.Prelude.{◌≡◌, ◌≢◌, ◌⊎◌, ◌≤ℤ◌, ◌<ℤ◌, ◌-ℤ◌, ◌*ℤ◌, ℤ, pos, negsuc, neg_ℤ}
 use Rattle.std.specs.Ordering.{MatchOrdering, int_cmp}
 use Rattle.std.specs.declared.cmp.Ordering.{Ordering}
+use Rattle.ratio_integer.specs.Range.{IsHeld}
 
--- 1, or -1 for a number below 0
+-- the sign of a number is -1 where it is below 0, and else 1
 abbrev pub sign : ℤ → ℤ
 sign (pos n) = pos 1
 sign (negsuc n) = negsuc 0
 
--- how n/d stands to m/e: as n*e to m*d, where d and e have one sign, and the other way round where they do not
+-- n/d stands to m/e as n*e does to m*d where d and e have one sign, and the other way round where they do not
 unfoldable pub cross_cmp : ℤ → ℤ → ℤ → ℤ → Ordering
 cross_cmp n d m e = int_cmp (sign (d *ℤ e) *ℤ (n *ℤ e)) (sign (d *ℤ e) *ℤ (m *ℤ d))
 
@@ -21,8 +22,18 @@ pub record IsAboveMax (hi n d : ℤ) : Type 0 where
 abbrev pub HaveUnlikeSigns : ℤ → ℤ → Type 0
 HaveUnlikeSigns d e = ((d <ℤ pos 0) × (pos 0 ≤ℤ e)) ⊎ ((pos 0 ≤ℤ d) × (e <ℤ pos 0))
 
--- how p + x stands to q + y, where x and y are from 0 to below 1, and r and s are 0 where x and y are: as the whole numbers
--- p and q, and where these are equal, the one that is whole is below the other
+-- the type holds both cross products of n/d and m/e
+pub record AreProductsHeld (lo hi n d m e : ℤ) : Type 0 where
+  pub left : IsHeld lo hi (n *ℤ e)
+  pub right : IsHeld lo hi (m *ℤ d)
+
+-- both denominators are positive, and they are one number or exactly one of the numerators is below 0: the numerators stand as
+-- the fractions do
+abbrev pub DoNumeratorsDecide : ℤ → ℤ → ℤ → ℤ → Type 0
+DoNumeratorsDecide n d m e = (pos 0 <ℤ d) × (pos 0 <ℤ e) × ((d ≡ e) ⊎ HaveUnlikeSigns n m)
+
+-- the whole parts p and q and the rests r and s decide the order o: it is that of p and q where they differ, and where they are
+-- equal, one without a rest is below one with a rest, and two without are equal
 abbrev pub IsOrderOfParts : ℤ → ℤ → ℤ → ℤ → Ordering → Type 0
 IsOrderOfParts p r q s o =
     MatchOrdering o

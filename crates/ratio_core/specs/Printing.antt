@@ -8,11 +8,11 @@ use Rattle.ratio_core.specs.declared.text.form.Form.{Form}
 use Rattle.ratio_core.specs.declared.text.form.Form.TheVariants.{Decimal}
 use Rattle.ratio_core.specs.Reading.{IsFractionText, ReadsLowest, Refuses, slash}
 
--- a number in a form: its decimal digits are those that std prints, after a minus if it is below 0
+-- the decimal text of a number is what std prints of it: its digits, after a minus if it is below 0
 abbrev pub number_text : Form → ℤ → List ℕ
 number_text Decimal z = signed_decimal z
 
--- the numerator, and, unless the denominator is 1, a slash and the denominator, both as they stand
+-- the text of n/d is that of n and, unless d is 1, a slash and that of d, both as they stand
 abbrev pub text_of : Form → ℤ → ℤ → List ℕ
 text_of form n d = number_text form n ++ (if int_eq d (pos 1) then [] else slash ∷ number_text form d)
 

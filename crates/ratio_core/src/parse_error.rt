@@ -1,5 +1,6 @@
 //! Why a text is refused as a fraction.
 ghost use Rattle.std.specs.Prelude.{◌≡◌, Some};
+ghost use Rattle.std.specs.Fmt.{padded};
 ghost use Rattle.ratio_core.specs.Refusal.{refusal_text};
 
 use std::error::Error;
@@ -50,10 +51,12 @@ impl ParseRatioError {
 impl fmt::Display for ParseRatioError {
     ghost output = { λ e. Some (refusal_text e) };
 
+    ghost styled_output = { λ e options. Some (padded options (refusal_text e)) };
+
     fn fmt<W: fmt::Write>(&self, f: &mut fmt::Formatter<W>) -> fmt::Result {
         match self.kind {
-            RatioErrorKind::ParseError => f.write_str("failed to parse integer"),
-            RatioErrorKind::ZeroDenominator => f.write_str("zero value denominator"),
+            RatioErrorKind::ParseError => f.pad("failed to parse integer"),
+            RatioErrorKind::ZeroDenominator => f.pad("zero value denominator"),
         }
     }
 }

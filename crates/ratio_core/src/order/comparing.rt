@@ -1,6 +1,6 @@
 //! The two comparisons of fractions: one that counts each division, and one that divides only where it must.
 ghost use Rattle.std.specs.Prelude.{◌≡◌, ◌≢◌, ◌↔◌, ◌<ℤ◌, ◌+◌, ℕ, pos, IsTrue};
-ghost use Rattle.ratio_core.specs.ContinuedFraction.{IsStepCount};
+ghost use Rattle.ratio_core.specs.ContinuedFraction.{IsSparingStepCount, IsStepCount};
 ghost use Rattle.ratio_core.specs.Order.{HaveUnlikeSigns, cross_cmp};
 
 use crate::order::products::order_of_products;
@@ -22,25 +22,40 @@ pub fn cmp_counted<T: Integer>(n: T, d: T, m: T, e: T, steps: &mut Steps) -> Ord
         × IsStepCount T.lo T.hi (T.value n) (T.value d) (T.value m) (T.value e) k }
 {
     match order_of_products(n, d, m, e) {
-        Some(order) => order,
         None => cmp_by_rounds(n, d, m, e, steps),
+        Some(order) => order,
     }
 }
 
 /// How `n/d` stands to `m/e`, for denominators of either sign, reduced or not: the answer of
-/// `cmp_counted`, which is asked where neither the products nor the numerators alone decide.
+/// `cmp_counted`, which is asked only where neither the numerators alone nor the products decide.
 #[inline]
-pub fn compare<T: Integer>(n: T, d: T, m: T, e: T) -> Ordering
+pub fn compare<T: Integer>(n: T, d: T, m: T, e: T, steps: &mut Steps) -> Ordering
     requires left_nonzero { T.value d ≢ pos 0 }
     requires right_nonzero { T.value e ≢ pos 0 }
-    ensures { result ≡ cross_cmp (T.value n) (T.value d) (T.value m) (T.value e) }
+    ensures order { result ≡ cross_cmp (T.value n) (T.value d) (T.value m) (T.value e) }
+    ensures steps { (k : ℕ) × (steps.new.left ≡ steps.old.left + k)
+        × (steps.new.right ≡ steps.old.right + k)
+        × IsSparingStepCount T.lo T.hi (T.value n) (T.value d) (T.value m) (T.value e) k }
 {
-    match order_of_products(n, d, m, e) {
-        Some(order) => order,
-        // Tested this late, since the processor cannot guess it.
-        None if are_split_by_zero(n, d, m, e) => n.cmp(&m),
-        None => cmp_counted(n, d, m, e, &mut Steps::new()),
+    if share_denominator(d, e) {
+        return n.cmp(&m);
     }
+    if let Some(order) = order_of_products(n, d, m, e) {
+        return order;
+    }
+    // Tested this late, since the processor cannot guess it.
+    if are_split_by_zero(n, d, m, e) {
+        return n.cmp(&m);
+    }
+    cmp_counted(n, d, m, e, steps)
+}
+
+/// Whether the denominators are one positive number.
+fn share_denominator<T: Integer>(d: T, e: T) -> bool
+    ensures { IsTrue result ↔ ((T.value d ≡ T.value e) × (pos 0 <ℤ T.value d)) }
+{
+    d == e && T::ZERO < d
 }
 
 /// Whether both denominators are positive, and one numerator is below 0 and the other is not.

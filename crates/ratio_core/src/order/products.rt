@@ -1,7 +1,6 @@
 //! The order of fractions by their cross products, where the type holds both.
-ghost use Rattle.std.specs.Prelude.{◌≡◌, ◌≢◌, ◌*ℤ◌, pos, IfSome};
-ghost use Rattle.ratio_integer.specs.Range.{IsHeld};
-ghost use Rattle.ratio_core.specs.Order.{cross_cmp};
+ghost use Rattle.std.specs.Prelude.{◌≡◌, ◌≢◌, pos, MatchOption};
+ghost use Rattle.ratio_core.specs.Order.{AreProductsHeld, cross_cmp};
 
 use crate::order::signs::have_unlike_signs;
 use ratio_integer::Integer;
@@ -12,15 +11,16 @@ use std::cmp::Ordering;
 pub(crate) fn order_of_products<T: Integer>(n: T, d: T, m: T, e: T) -> Option<Ordering>
     requires left_nonzero { T.value d ≢ pos 0 }
     requires right_nonzero { T.value e ≢ pos 0 }
-    ensures { IfSome result (λ order. (order ≡ cross_cmp (T.value n) (T.value d) (T.value m) (T.value e))
-        × IsHeld T.lo T.hi (T.value n *ℤ T.value e) × IsHeld T.lo T.hi (T.value m *ℤ T.value d)) }
+    ensures { MatchOption result
+        (¬ (AreProductsHeld T.lo T.hi (T.value n) (T.value d) (T.value m) (T.value e)))
+        (λ order. (order ≡ cross_cmp (T.value n) (T.value d) (T.value m) (T.value e))
+            × AreProductsHeld T.lo T.hi (T.value n) (T.value d) (T.value m) (T.value e)) }
 {
-    match (n.try_times(e), m.try_times(d)) {
-        (Some(left), Some(right)) => Some(if have_unlike_signs(d, e) {
-            right.cmp(&left)
-        } else {
-            left.cmp(&right)
-        }),
-        _ => None,
-    }
+    let left = n.try_times(e)?;
+    let right = m.try_times(d)?;
+    Some(if have_unlike_signs(d, e) {
+        right.cmp(&left)
+    } else {
+        left.cmp(&right)
+    })
 }

@@ -1,0 +1,12 @@
+//! The laws are calls like any other.
+use crate::{laws, text};
+
+#[test]
+fn each_law_is_called(_rt: HostRuntime) {
+    laws::sums();
+    laws::products();
+    laws::conditions();
+    text::laws::digits();
+    text::laws::decimal_digits();
+    text::laws::one_reading();
+}

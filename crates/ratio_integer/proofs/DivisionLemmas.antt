@@ -1,11 +1,11 @@
 -- Truncated division of whole numbers, and what follows for floored division and divisors.
 use Rattle.std.specs.Prelude.{◌≡◌, ◌≢◌, ◌⊎◌, ◌↔◌, ◌*◌, ◌/◌, ◌%◌, ◌<◌, ◌≤◌, ◌≤ℤ◌, ◌<ℤ◌, ◌+ℤ◌, ◌-ℤ◌, ◌*ℤ◌, ℕ, ℤ, Bool, zero, suc, pos, negsuc, neg_ℤ, unsigned_abs, int_div, int_rem}
-use Rattle.std.proofs.Common.{refl, sym, ap, arith, inl, inr, ◌∙◌, ⊎_elim}
-use Rattle.std.proofs.Math.Nat.{dvd-mul_left, mod-eq-zero_of_dvd, div-le_self, mod-le, le_of_dvd, eq-zero_of_zero-dvd, dvd-zero}
+use Rattle.std.proofs.Common.{refl, sym, ap, arith, inl, inr, ◌∙◌}
+use Rattle.std.proofs.Math.Nat.{dvd-mul_left, mod-eq-zero_of_dvd, div-le_self, mod-le, le_of_dvd}
 use Rattle.std.proofs.lemmas.Int.{ints, quot-rem, rem_below, unsigned_abs-mul}
 use Rattle.std.proofs.lemmas.Nat.{mul-le, div-add-mod'}
 use lib.IntN.{+ℤ_idr, -ℤ_one, pred_ℤ-*ℤ, *ℤ-zero, zero-*ℤ, *ℤ-negsuc, *ℤ-one, neg_ℤ-neg_ℤ, one}
-use Rattle.ratio_integer.specs.Division.{IsFloored, IsMultiple, FlooredHeld, GcdHeld}
+use Rattle.ratio_integer.specs.Division.{GcdHeld, IsAboveMax, IsFloored, IsMultiple}
 use Rattle.ratio_integer.specs.Comparison.{Tells}
 use Rattle.ratio_integer.specs.Range.{IsHeld, IsRange}
 
@@ -43,13 +43,15 @@ multiple-rem a b = (
 pub halved : (a b : ℕ) → 2 ≤ b → 2 * (a / b) ≤ a
 halved a b h = omega (arith, mul-le (a / b) 2 (a / b) b (omega arith) h, div-add-mod' a b)
 
--- the quotient of two held numbers is held, but for the least by -1
-pub quotient_held : (lo hi a b : ℤ) → IsRange lo hi → IsHeld lo hi a → IsHeld lo hi b → b ≢ pos 0 → b ≢ negsuc 0 → IsHeld lo hi (int_div a b)
-quotient_held lo hi (pos n) (pos k) range ha hb nz nm = grind (arith, ints, div-le_self n k)
-quotient_held lo hi (pos n) (negsuc k) range ha hb nz nm = grind (arith, ints, div-le_self n (suc k))
-quotient_held lo hi (negsuc n) (pos k) range ha hb nz nm = grind (arith, ints, div-le_self (suc n) k)
-quotient_held lo hi (negsuc n) (negsuc zero) range ha hb nz nm = absurd (nm refl)
-quotient_held lo hi (negsuc n) (negsuc (suc k)) range ha hb nz nm = grind (arith, ints, halved (suc n) (suc (suc k)) (omega arith))
+-- the quotient of two held numbers is held, but for that of -hi-1 by -1
+pub quotient_held : (lo hi a b : ℤ) → IsRange lo hi → IsHeld lo hi a → IsHeld lo hi b → b ≢ pos 0 → ¬ (IsAboveMax hi a b) → IsHeld lo hi (int_div a b)
+quotient_held lo hi (pos n) (pos k) range ha hb nz out = grind (arith, ints, div-le_self n k)
+quotient_held lo hi (pos n) (negsuc k) range ha hb nz out = grind (arith, ints, div-le_self n (suc k))
+quotient_held lo hi (negsuc n) (pos k) range ha hb nz out = grind (arith, ints, div-le_self (suc n) k)
+quotient_held lo hi (negsuc n) (negsuc zero) range ha hb nz out =
+    let other : negsuc n ≢ neg_ℤ hi -ℤ pos 1 = λ e. out (record { numer = e; denom = refl }) in
+    grind (arith, ints, div-le_self (suc n) 1)
+quotient_held lo hi (negsuc n) (negsuc (suc k)) range ha hb nz out = grind (arith, ints, halved (suc n) (suc (suc k)) (omega arith))
 
 pub remainder_held : (lo hi a b : ℤ) → IsRange lo hi → IsHeld lo hi a → IsHeld lo hi (int_rem a b)
 remainder_held lo hi (pos n) b range ha = grind (arith, ints, mod-le n (unsigned_abs b))
@@ -73,13 +75,6 @@ floored_less a b side =
     let below : unsigned_abs (int_rem a b) < unsigned_abs b = rem_below a b (abs_pos b nz) in
     record { sum = product-less _ b _ a (quot-rem a b); rest = grind (arith, ints) }
 
--- and the truncated one is not above 0
-pub quotient_below : (a b : ℤ) → ((int_rem a b <ℤ pos 0) × (pos 0 <ℤ b)) ⊎ ((pos 0 <ℤ int_rem a b) × (b <ℤ pos 0)) → int_div a b ≤ℤ pos 0
-quotient_below (pos n) (pos k) side = grind (arith, ints)
-quotient_below (pos n) (negsuc k) side = grind (arith, ints)
-quotient_below (negsuc n) (pos k) side = grind (arith, ints)
-quotient_below (negsuc n) (negsuc k) side = grind (arith, ints)
-
 -- what `div_mod_floor` asks of `div_rem`, and which of its two answers is right
 unfoldable pub Side : ℤ → ℤ → Type 0
 Side r b = ((r <ℤ pos 0) × (pos 0 <ℤ b)) ⊎ ((pos 0 <ℤ r) × (b <ℤ pos 0))
@@ -90,16 +85,6 @@ Same r b = ((r ≤ℤ pos 0) × (b <ℤ pos 0)) ⊎ ((pos 0 ≤ℤ r) × (pos 0 
 pub sides : (r b : ℤ) → b ≢ pos 0 → Side r b ⊎ Same r b
 unfolding Side Same
 sides r b nz = grind (arith, ints)
-
-pub truncated_held : (lo hi a b : ℤ) → IsRange lo hi → b ≢ pos 0 → FlooredHeld lo hi a b → IsHeld lo hi (int_div a b)
-unfolding Side Same
-truncated_held lo hi a b range nz held = ⊎_elim
-    (λ s. let f = held.each _ _ (floored_less a b s) in
-    let q : int_div a b ≤ℤ pos 0 = quotient_below a b s in
-    let h : pos 2 ≤ℤ hi = range.high in
-    record { above = omega (arith, ints); below = omega (arith, ints) })
-    (λ s. held.each _ _ (floored_same a b nz s))
-    (sides (int_rem a b) b nz)
 
 -- where the remainder is moved to the divisor's side
 pub moved : (a b q r one q' r' : ℤ) → q ≡ int_div a b → r ≡ int_rem a b → one ≡ pos 1 → Side r b → q' ≡ q -ℤ one → r' ≡ r +ℤ b → IsFloored a b q' r'
@@ -147,12 +132,5 @@ gcd_bounded lo hi a b low nz h = record {
   each = λ m is.
       let s : pos 0 ≤ℤ m = is.sign in
       let le : unsigned_abs m ≤ unsigned_abs b = le_of_dvd (abs_pos b nz) is.divisor.1 in
-      record { above = omega (arith, ints); below = omega (arith, ints) };
-}
-
-pub gcd_of_zeros : (lo hi : ℤ) → lo ≤ℤ pos 0 → pos 0 ≤ℤ hi → GcdHeld lo hi (pos 0) (pos 0)
-gcd_of_zeros lo hi low h = record {
-  each = λ m is.
-      let z : m ≡ pos 0 = abs-zero m (eq-zero_of_zero-dvd (is.divisor.2 0 (dvd-zero 0) (dvd-zero 0))) in
       record { above = omega (arith, ints); below = omega (arith, ints) };
 }

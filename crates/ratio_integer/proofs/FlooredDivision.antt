@@ -1,10 +1,12 @@
--- Floored division: there is one quotient and one remainder, and the quotient of two held numbers is held but for one pair.
+-- Floored division: there is one quotient and one remainder, and where the quotient of two held numbers is held.
 use Rattle.std.specs.Prelude.{◌≡◌, ◌≢◌, ◌+◌, ◌*◌, ◌%◌, ◌<◌, ◌≤◌, ◌+ℤ◌, ◌-ℤ◌, ◌*ℤ◌, ℕ, ℤ, zero, suc, pos, negsuc, neg_ℤ, int_div, int_rem}
 use Rattle.std.proofs.Common.{refl, sym, ap, arith, ◌∙◌, ⊎_elim}
+use Rattle.std.proofs.Math.Nat.{div-one}
 use Rattle.std.proofs.lemmas.Int.{ints}
 use borrow.Author.Differences.{up, down, same_in}
 use lib.IntN.{*ℤ_comm, neg_ℤ-neg_ℤ}
-use Rattle.ratio_integer.specs.Division.{FlooredHeld, IsFloored}
+use Rattle.ratio_integer.specs.Division.{FlooredHeld, IsAboveMax, IsFloored}
+use Rattle.ratio_integer.specs.HeldResults.{FlooredHeldButOne, QuotientHeldButOne}
 use Rattle.ratio_integer.specs.Range.{IsHeld, IsRange}
 use Rattle.ratio_integer.proofs.DivisionLemmas.{Same, Side, floored_less, floored_same, halved, quotient_held, sides}
 use Rattle.ratio_integer.proofs.Whole.{neg-mul}
@@ -56,19 +58,48 @@ at_least_two m zero up left_over = absurd (omega arith)
 at_least_two m (suc zero) up left_over = absurd (omega arith)
 at_least_two m (suc (suc k)) up left_over = omega arith
 
-less_held : (lo hi a b : ℤ) → IsRange lo hi → IsHeld lo hi a → IsHeld lo hi b → Side (int_rem a b) b → IsHeld lo hi (int_div a b -ℤ pos 1)
+pub less_held : (lo hi a b : ℤ) → IsRange lo hi → IsHeld lo hi a → IsHeld lo hi b → Side (int_rem a b) b → IsHeld lo hi (int_div a b -ℤ pos 1)
 unfolding Side
 less_held lo hi (pos n) (pos k) range ha hb side = absurd (grind (arith, ints))
 less_held lo hi (pos n) (negsuc k) range ha hb side = grind (arith, ints, halved n (suc k) (at_least_two n (suc k) (omega arith) (grind (arith, ints))))
 less_held lo hi (negsuc n) (pos k) range ha hb side = grind (arith, ints, halved (suc n) k (at_least_two (suc n) k (grind (arith, ints)) (grind (arith, ints))))
 less_held lo hi (negsuc n) (negsuc k) range ha hb side = absurd (grind (arith, ints))
 
--- it is held, but for the least number by -1
-pub floored_held : (lo hi a b : ℤ) → IsRange lo hi → IsHeld lo hi a → IsHeld lo hi b → b ≢ pos 0 → b ≢ negsuc 0 → FlooredHeld lo hi a b
+-- it is held, but for that of -hi-1 by -1
+pub floored_held : (lo hi a b : ℤ) → IsRange lo hi → IsHeld lo hi a → IsHeld lo hi b → b ≢ pos 0 → ¬ (IsAboveMax hi a b) → FlooredHeld lo hi a b
 unfolding Side Same
-floored_held lo hi a b range ha hb nonzero not_minus_one = record {
+floored_held lo hi a b range ha hb nonzero out = record {
   each = λ q r is. ⊎_elim
       (λ side. rw (floored_unique a b q r _ _ is (floored_less a b side)).0 (less_held lo hi a b range ha hb side))
-      (λ same. rw (floored_unique a b q r _ _ is (floored_same a b nonzero same)).0 (quotient_held lo hi a b range ha hb nonzero not_minus_one))
+      (λ same. rw (floored_unique a b q r _ _ is (floored_same a b nonzero same)).0 (quotient_held lo hi a b range ha hb nonzero out))
       (sides (int_rem a b) b nonzero);
 }
+
+-- ---- where it is not
+
+quotient_at_top : (h : ℕ) (n d : ℤ) → IsAboveMax (pos h) n d → int_div n d ≡ pos (suc h)
+quotient_at_top h n d is =
+    let top : n ≡ negsuc h = (let e = is.numer in omega (arith, ints)) in
+    rw (top, is.denom) (ap pos (div-one (suc h)))
+
+floored_at_top : (h : ℕ) (n d : ℤ) → IsAboveMax (pos h) n d → IsFloored n d (pos (suc h)) (pos 0)
+floored_at_top h n d is =
+    let e = is.numer in
+    let f = is.denom in
+    record { sum = rw f (omega (arith, ints)); rest = grind (arith, ints) }
+
+-- ---- so exactly there
+
+pub quotient_held_but_one : QuotientHeldButOne
+quotient_held_but_one lo (pos h) a b range a_held b_held nonzero = (
+  (λ held is. let bad = (rw (quotient_at_top h a b is) at held).below in omega (arith, ints)),
+  quotient_held lo (pos h) a b range a_held b_held nonzero,
+)
+quotient_held_but_one lo (negsuc h) a b range a_held b_held nonzero = absurd (let high = range.high in omega (arith, ints))
+
+pub floored_held_but_one : FlooredHeldButOne
+floored_held_but_one lo (pos h) a b range a_held b_held nonzero = (
+  (λ held is. let bad = (held.each (pos (suc h)) (pos 0) (floored_at_top h a b is)).below in omega (arith, ints)),
+  floored_held lo (pos h) a b range a_held b_held nonzero,
+)
+floored_held_but_one lo (negsuc h) a b range a_held b_held nonzero = absurd (let high = range.high in omega (arith, ints))

@@ -1,29 +1,55 @@
 -- The least common multiple of two numbers: by the greatest common divisor, and that there is one.
-use Rattle.std.specs.Prelude.{◌≡◌, ◌≢◌, ◌⊎◌, ◌*◌, ◌≤◌, ◌≤ℤ◌, ◌<ℤ◌, ◌*ℤ◌, ◌-ℤ◌, ◌+ℤ◌, ℕ, ℤ, pos, negsuc, unsigned_abs, int_div, int_rem, Option, Some, None}
+use Rattle.std.specs.Prelude.{◌≡◌, ◌≢◌, ◌⊎◌, ◌*◌, ◌≤◌, ◌≤ℤ◌, ◌<ℤ◌, ◌*ℤ◌, ◌-ℤ◌, ◌+ℤ◌, ℕ, ℤ, suc, pos, negsuc, neg_ℤ, unsigned_abs, int_div, int_rem, Option, Some, None}
 use Rattle.std.specs.Int.{◌∣◌}
 use Rattle.std.proofs.Common.{sym, ap, arith, ◌∙◌, inl, inr}
 use Rattle.std.proofs.lemmas.Int.{ints, quot-rem, unsigned_abs-mul}
+use Rattle.std.proofs.lemmas.Nat.Gcd.{IsGcd-from_zero}
 use Rattle.std.proofs.Math.Nat.{dvd_antisymm, dvd-mul_left, dvd-zero, dvd_refl, eq-zero_of_zero-dvd, le_of_dvd, mod-eq-zero_of_dvd}
 use lib.IntN.{*ℤ_comm, +ℤ_idr}
-use Rattle.ratio_integer.specs.Division.{ChecksLcm, GcdHeld, IsGcdOf, IsLcmOf, LcmHeld}
+use Rattle.ratio_integer.specs.Division.{ChecksLcm, GcdHeld, IsGcdAboveMax, IsGcdOf, IsLcmOf, LcmHeld}
+use Rattle.ratio_integer.specs.HeldResults.{GcdHeldButThree}
 use Rattle.ratio_integer.specs.Range.{Checks, IsHeld, IsRange}
 use Rattle.ratio_integer.proofs.DivisionLemmas.{abs-rem, abs-zero, abs_pos, low_below}
 use Rattle.ratio_integer.proofs.GcdLemmas.{lcm_least}
 
--- ---- the greatest common divisor of two numbers that are neither 0 nor the same
+-- ---- the greatest common divisor of two held numbers
 
-bounded : (lo hi n d m : ℤ) → IsRange lo hi → IsHeld lo hi n → IsHeld lo hi d → n ≢ d → pos 0 ≤ℤ m → unsigned_abs m ≤ unsigned_abs n → unsigned_abs m ≤ unsigned_abs d → IsHeld lo hi m
-bounded lo hi n d m range hn hd ne up first second = grind (arith, ints)
+bounded : (lo hi n d m : ℤ) → IsRange lo hi → IsHeld lo hi n → IsHeld lo hi d → ¬ (IsGcdAboveMax hi n d) → pos 0 ≤ℤ m → (n ≢ pos 0 → unsigned_abs m ≤ unsigned_abs n) → (d ≢ pos 0 → unsigned_abs m ≤ unsigned_abs d) → (n ≡ pos 0 → d ≡ pos 0 → m ≡ pos 0) → IsHeld lo hi m
+bounded lo hi n d m range hn hd out up first second both =
+    let not_same : n ≡ neg_ℤ hi -ℤ pos 1 → d ≡ neg_ℤ hi -ℤ pos 1 → ⊥ = λ e f. out (inl (e, inl f)) in
+    let not_right : n ≡ neg_ℤ hi -ℤ pos 1 → d ≡ pos 0 → ⊥ = λ e f. out (inl (e, inr f)) in
+    let not_left : n ≡ pos 0 → d ≡ neg_ℤ hi -ℤ pos 1 → ⊥ = λ e f. out (inr (e, f)) in
+    grind (arith, ints)
 
--- it is held
-pub gcd_held : (lo hi n d : ℤ) → IsRange lo hi → IsHeld lo hi n → IsHeld lo hi d → n ≢ pos 0 → d ≢ pos 0 → n ≢ d → GcdHeld lo hi n d
-gcd_held lo hi n d range hn hd zn zd ne = record {
-  each = λ m is.
-      let up : pos 0 ≤ℤ m = is.sign in
-      let first : unsigned_abs m ≤ unsigned_abs n = le_of_dvd (abs_pos n zn) is.divisor.0 in
-      let second : unsigned_abs m ≤ unsigned_abs d = le_of_dvd (abs_pos d zd) is.divisor.1 in
-      bounded lo hi n d m range hn hd ne up first second;
+-- it is held, but where one is -hi-1 and the other -hi-1 or 0
+pub gcd_held : (lo hi n d : ℤ) → IsRange lo hi → IsHeld lo hi n → IsHeld lo hi d → ¬ (IsGcdAboveMax hi n d) → GcdHeld lo hi n d
+gcd_held lo hi n d range hn hd out = record {
+  each = λ m is. bounded lo hi n d m range hn hd out is.sign
+      (λ nonzero. le_of_dvd (abs_pos n nonzero) is.divisor.0)
+      (λ nonzero. le_of_dvd (abs_pos d nonzero) is.divisor.1)
+      (λ e f. abs-zero m (eq-zero_of_zero-dvd (is.divisor.2 0 (rw (ap unsigned_abs e) (dvd-zero 0)) (rw (ap unsigned_abs f) (dvd-zero 0)))));
 }
+
+-- there it is hi+1
+gcd_at_top : (h : ℕ) (n d : ℤ) → IsGcdAboveMax (pos h) n d → IsGcdOf n d (pos (suc h))
+gcd_at_top h n d (inl (e, inl f)) =
+    let left : unsigned_abs n ≡ suc h = omega (arith, ints) in
+    let right : unsigned_abs d ≡ suc h = omega (arith, ints) in
+    record { sign = omega (arith, ints); divisor = rw (left, right) (dvd_refl (suc h), dvd_refl (suc h), λ k p q. p) }
+gcd_at_top h n d (inl (e, inr f)) =
+    let left : unsigned_abs n ≡ suc h = omega (arith, ints) in
+    record { sign = omega (arith, ints); divisor = rw left (IsGcd-from_zero (suc h) (unsigned_abs d) (ap unsigned_abs f)) }
+gcd_at_top h n d (inr (e, f)) =
+    let left : unsigned_abs n ≡ 0 = ap unsigned_abs e in
+    let right : unsigned_abs d ≡ suc h = omega (arith, ints) in
+    record { sign = omega (arith, ints); divisor = rw (left, right) (dvd-zero (suc h), dvd_refl (suc h), λ k p q. q) }
+
+pub gcd_held_but_three : GcdHeldButThree
+gcd_held_but_three lo (pos h) n d range n_held d_held = (
+  (λ held is. let bad = (held.each (pos (suc h)) (gcd_at_top h n d is)).below in omega (arith, ints)),
+  gcd_held lo (pos h) n d range n_held d_held,
+)
+gcd_held_but_three lo (negsuc h) n d range n_held d_held = absurd (let high = range.high in omega (arith, ints))
 
 -- it is not 0
 pub divisor_nonzero : (n d g : ℤ) → d ≢ pos 0 → IsGcdOf n d g → g ≢ pos 0

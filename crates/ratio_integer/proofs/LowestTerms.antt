@@ -4,11 +4,11 @@ use Rattle.std.specs.Int.{◌∣◌}
 use Rattle.std.proofs.Common.{refl, sym, ap, arith, ◌∙◌}
 use Rattle.std.proofs.Math.Nat.{dvd_antisymm, dvd-mul_left, dvd_of_mul-dvd-mul_left, eq-one_of_dvd-one, mul-dvd-mul_left}
 use Rattle.std.proofs.lemmas.Int.{ints, unsigned_abs-mul}
-use lib.IntN.{*ℤ_comm}
+use lib.IntN.{one, *ℤ_comm, *ℤ-one, zero-*ℤ}
 use Rattle.ratio_integer.specs.Division.{GcdHeld, IsGcdOf}
-use Rattle.ratio_integer.specs.Fraction.{ChecksLowest, Fits, IsHeldLowest, IsLowestTerms, IsLowestTermsOf, SameValue}
+use Rattle.ratio_integer.specs.Fraction.{ChecksLowest, Fits, IsCancelledOf, IsHeldLowest, IsLowestTerms, IsLowestTermsOf, SameValue}
 use Rattle.ratio_integer.specs.Range.{IsHeld, IsRange}
-use Rattle.ratio_integer.proofs.CommonDivisors.{coprime_gcd, coprime_turned, gcd_coprime, gcd_exists}
+use Rattle.ratio_integer.proofs.CommonDivisors.{coprime_gcd, coprime_turned, gcd_exists}
 use Rattle.ratio_integer.proofs.DivisionLemmas.{abs_pos, gcd_bounded, low_below, quotient_held}
 use Rattle.ratio_integer.proofs.GcdLemmas.{coprime-dvd}
 use Rattle.ratio_integer.proofs.LcmLemmas.{divisor_nonzero, exact_quotient}
@@ -104,41 +104,60 @@ denom_out lo hi n d a b low out fits = out (rw (lowest_unique n d fits.numer fit
 -- ---- dividing by the greatest common divisor
 
 -- what is left of both numbers has no common divisor above 1
-pub lowest_from_gcd : (n d g a b : ℤ) → d ≢ pos 0 → IsGcdOf n d g → a *ℤ g ≡ n → b *ℤ g ≡ d → pos 0 <ℤ b → IsLowestTermsOf n d a b
-lowest_from_gcd n d g a b fraction is n-is d-is positive = record {
-  fraction = fraction;
-  same = ap (λ (t : ℤ). t *ℤ b) (sym n-is) ∙ mul-swap_last a g b ∙ ap (λ (t : ℤ). a *ℤ t) d-is;
-  lowest = record {
-    positive = positive;
-    only_one = λ k p q.
-        let first : unsigned_abs g * k ∣ unsigned_abs n = rw (sizes n a n-is) (mul-dvd-mul_left k (unsigned_abs g) p) in
-        let second : unsigned_abs g * k ∣ unsigned_abs d = rw (sizes d b d-is) (mul-dvd-mul_left k (unsigned_abs g) q) in
-        let both : unsigned_abs g * k ∣ unsigned_abs g * 1 = rw (times-one (unsigned_abs g)) (is.divisor.2 _ first second) in
-        eq-one_of_dvd-one (dvd_of_mul-dvd-mul_left k (abs_pos g (divisor_nonzero n d g fraction is)) both);
-  };
-}
+pub cancelled_coprime : (n d a b : ℤ) → d ≢ pos 0 → IsCancelledOf n d a b → (k : ℕ) → k ∣ unsigned_abs a → k ∣ unsigned_abs b → k ≡ 1
+cancelled_coprime n d a b fraction is k p q =
+    let g = is.divisor in
+    let first : unsigned_abs g * k ∣ unsigned_abs n = rw (sizes g n a is.numer) (mul-dvd-mul_left k (unsigned_abs g) p) in
+    let second : unsigned_abs g * k ∣ unsigned_abs d = rw (sizes g d b is.denom) (mul-dvd-mul_left k (unsigned_abs g) q) in
+    let both : unsigned_abs g * k ∣ unsigned_abs g * 1 = rw (times-one (unsigned_abs g)) (is.greatest.divisor.2 _ first second) in
+    eq-one_of_dvd-one (dvd_of_mul-dvd-mul_left k (abs_pos g (divisor_nonzero n d g fraction is.greatest)) both)
   where
-    sizes : (x y : ℤ) → y *ℤ g ≡ x → unsigned_abs x ≡ unsigned_abs g * unsigned_abs y
-    sizes x y e = ap unsigned_abs (sym e ∙ *ℤ_comm y g) ∙ unsigned_abs-mul g y
+    sizes : (g x y : ℤ) → y *ℤ g ≡ x → unsigned_abs x ≡ unsigned_abs g * unsigned_abs y
+    sizes g x y e = ap unsigned_abs (sym e ∙ *ℤ_comm y g) ∙ unsigned_abs-mul g y
 
     times-one : (m : ℕ) → m * 1 ≡ m
     times-one m = omega arith
 
--- so the quotients are the lowest terms, for a positive denominator
-pub lowest_quotients : (n d g a b : ℤ) → pos 0 <ℤ d → IsGcdOf n d g → a ≡ int_div n g → b ≡ int_div d g → IsLowestTermsOf n d a b
-lowest_quotients n d g a b positive is a-is b-is =
-    let n-whole : a *ℤ g ≡ n = ap (λ (t : ℤ). t *ℤ g) a-is ∙ exact_quotient n g is.divisor.0 in
-    let d-whole : b *ℤ g ≡ d = ap (λ (t : ℤ). t *ℤ g) b-is ∙ exact_quotient d g is.divisor.1 in
+-- it is a fraction of the same value
+pub cancelled_fraction : (n d a b : ℤ) → d ≢ pos 0 → IsCancelledOf n d a b → b ≢ pos 0
+cancelled_fraction n d a b fraction is none =
+    fraction (sym is.denom ∙ ap (λ (t : ℤ). t *ℤ is.divisor) none ∙ zero-*ℤ is.divisor)
+
+pub cancelled_same : (n d a b : ℤ) → IsCancelledOf n d a b → SameValue n d a b
+cancelled_same n d a b is =
+    ap (λ (t : ℤ). t *ℤ b) (sym is.numer) ∙ mul-swap_last a is.divisor b ∙ ap (λ (t : ℤ). a *ℤ t) is.denom
+
+-- and in lowest terms, for a positive denominator
+pub lowest_cancelled : (n d a b : ℤ) → pos 0 <ℤ d → IsCancelledOf n d a b → IsLowestTermsOf n d a b
+lowest_cancelled n d a b positive is =
     let fraction = positive_nonzero d positive in
-    lowest_from_gcd n d g a b fraction is n-whole d-whole (positive_factor b g (above_zero g is.sign (divisor_nonzero n d g fraction is)) (rw d-whole positive))
+    record {
+      fraction = fraction;
+      same = cancelled_same n d a b is;
+      lowest = record {
+        positive = positive_factor b is.divisor (above_zero is.divisor is.greatest.sign (divisor_nonzero n d is.divisor fraction is.greatest)) (rw is.denom positive);
+        only_one = cancelled_coprime n d a b fraction is;
+      };
+    }
   where
     above_zero : (g : ℤ) → pos 0 ≤ℤ g → g ≢ pos 0 → pos 0 <ℤ g
     above_zero g sign nonzero = grind (arith, ints)
 
--- a pair with no common divisor above 1 is in lowest terms as it stands
-pub lowest_by_one : (n d g : ℤ) → pos 0 <ℤ d → IsGcdOf n d g → g ≡ pos 1 → IsLowestTermsOf n d n d
-lowest_by_one n d g positive is one =
-    lowest_own n d (record { positive = positive; only_one = gcd_coprime (unsigned_abs n) (unsigned_abs d) (unsigned_abs g) is.divisor (ap unsigned_abs one) })
+-- the quotients by the greatest common divisor are what is left, and the numbers themselves where it is 1
+pub cancelled_quotients : (n d g a b : ℤ) → IsGcdOf n d g → a ≡ int_div n g → b ≡ int_div d g → IsCancelledOf n d a b
+cancelled_quotients n d g a b is a-is b-is = record {
+  divisor = g;
+  greatest = is;
+  numer = ap (λ (t : ℤ). t *ℤ g) a-is ∙ exact_quotient n g is.divisor.0;
+  denom = ap (λ (t : ℤ). t *ℤ g) b-is ∙ exact_quotient d g is.divisor.1;
+}
+
+pub cancelled_by_one : (n d g : ℤ) → IsGcdOf n d g → g ≡ pos 1 → IsCancelledOf n d n d
+unfolding one
+cancelled_by_one n d g is single = record { divisor = g; greatest = is; numer = rw single (*ℤ-one n); denom = rw single (*ℤ-one d) }
+
+pub lowest_quotients : (n d g a b : ℤ) → pos 0 <ℤ d → IsGcdOf n d g → a ≡ int_div n g → b ≡ int_div d g → IsLowestTermsOf n d a b
+lowest_quotients n d g a b positive is a-is b-is = lowest_cancelled n d a b positive (cancelled_quotients n d g a b is a-is b-is)
 
 -- ---- the same for held numbers
 
@@ -150,13 +169,13 @@ gcd_held_positive lo hi n d range d_held positive =
 -- the quotient of a held number by a greatest common divisor is held
 pub quotient_by_gcd_held : (lo hi n d g m : ℤ) → IsRange lo hi → IsHeld lo hi m → IsHeld lo hi g → d ≢ pos 0 → IsGcdOf n d g → IsHeld lo hi (int_div m g)
 quotient_by_gcd_held lo hi n d g m range m_held g_held fraction is =
-    quotient_held lo hi m g range m_held g_held (divisor_nonzero n d g fraction is) (λ e. let sign = is.sign in omega (arith, ints))
+    quotient_held lo hi m g range m_held g_held (divisor_nonzero n d g fraction is) (λ top. let sign = is.sign in let e = top.denom in omega (arith, ints))
 
 pub held_lowest_over_one : (lo hi n d : ℤ) → IsHeld lo hi n → IsHeld lo hi d → d ≡ pos 1 → IsHeldLowest lo hi n d n d
 held_lowest_over_one lo hi n d n_held d_held one = record { terms = lowest_own n d (over_one n d one); numer_held = n_held; denom_held = d_held }
 
-pub held_lowest_by_one : (lo hi n d g : ℤ) → IsHeld lo hi n → IsHeld lo hi d → pos 0 <ℤ d → IsGcdOf n d g → g ≡ pos 1 → IsHeldLowest lo hi n d n d
-held_lowest_by_one lo hi n d g n_held d_held positive is one = record { terms = lowest_by_one n d g positive is one; numer_held = n_held; denom_held = d_held }
+pub held_lowest_cancelled : (lo hi n d a b : ℤ) → IsHeld lo hi a → IsHeld lo hi b → pos 0 <ℤ d → IsCancelledOf n d a b → IsHeldLowest lo hi n d a b
+held_lowest_cancelled lo hi n d a b a_held b_held positive is = record { terms = lowest_cancelled n d a b positive is; numer_held = a_held; denom_held = b_held }
 
 pub held_lowest_quotients : (lo hi n d g a b : ℤ) → IsRange lo hi → IsHeld lo hi n → IsHeld lo hi d → IsHeld lo hi g → pos 0 <ℤ d → IsGcdOf n d g → a ≡ int_div n g → b ≡ int_div d g → IsHeldLowest lo hi n d a b
 held_lowest_quotients lo hi n d g a b range n_held d_held g_held positive is a-is b-is =

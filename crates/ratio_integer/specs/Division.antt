@@ -1,5 +1,5 @@
 -- Multiples, floored division, divisors and common multiples, each by its property.
-use Rattle.std.specs.Prelude.{◌≡◌, ◌⊎◌, ◌≤ℤ◌, ◌<ℤ◌, ◌+ℤ◌, ◌*ℤ◌, ℕ, ℤ, pos, unsigned_abs, Option, Some, None}
+use Rattle.std.specs.Prelude.{◌≡◌, ◌⊎◌, ◌≤ℤ◌, ◌<ℤ◌, ◌+ℤ◌, ◌-ℤ◌, ◌*ℤ◌, ℕ, ℤ, pos, negsuc, neg_ℤ, unsigned_abs, Option, Some, None}
 use Rattle.std.specs.Int.{◌∣◌, IsGcd}
 use Rattle.ratio_integer.specs.Range.{IsHeld}
 
@@ -11,6 +11,11 @@ IsMultiple a b = (k : ℤ) × (a ≡ k *ℤ b)
 pub record IsFloored (a b q r : ℤ) : Type 0 where
   pub sum : a ≡ q *ℤ b +ℤ r
   pub rest : ((pos 0 ≤ℤ r) × (r <ℤ b)) ⊎ ((b <ℤ r) × (r ≤ℤ pos 0))
+
+-- n/d is -hi-1 over -1: its value is hi+1, and no other pair of a type up to hi has one above hi
+pub record IsAboveMax (hi n d : ℤ) : Type 0 where
+  pub numer : n ≡ neg_ℤ hi -ℤ pos 1
+  pub denom : d ≡ negsuc 0
 
 -- the floored quotient of a by b is held
 pub record FlooredHeld (lo hi a b : ℤ) : Type 0 where
@@ -31,6 +36,13 @@ pub record IsFlooredRemainder (a b r : ℤ) : Type 0 where
 pub record IsGcdOf (a b g : ℤ) : Type 0 where
   pub sign : pos 0 ≤ℤ g
   pub divisor : IsGcd (unsigned_abs a) (unsigned_abs b) (unsigned_abs g)
+
+-- one of a and b is -hi-1, and the other is -hi-1 or 0: their greatest common divisor is hi+1, and no other two numbers of a type
+-- up to hi have one above hi
+abbrev pub IsGcdAboveMax : ℤ → ℤ → ℤ → Type 0
+IsGcdAboveMax hi a b =
+    ((a ≡ neg_ℤ hi -ℤ pos 1) × ((b ≡ neg_ℤ hi -ℤ pos 1) ⊎ (b ≡ pos 0)))
+    ⊎ ((a ≡ pos 0) × (b ≡ neg_ℤ hi -ℤ pos 1))
 
 -- the greatest common divisor of a and b is held
 pub record GcdHeld (lo hi a b : ℤ) : Type 0 where

@@ -1,6 +1,7 @@
 -- Fractions as pairs of whole numbers, the second not 0, and their lowest terms.
 use Rattle.std.specs.Prelude.{◌≡◌, ◌≢◌, ◌<ℤ◌, ◌*ℤ◌, ℕ, ℤ, pos, unsigned_abs, Option, Some, None}
 use Rattle.std.specs.Int.{◌∣◌}
+use Rattle.ratio_integer.specs.Division.{IsGcdOf}
 use Rattle.ratio_integer.specs.Range.{IsHeld}
 
 -- n/d and a/b have the same value
@@ -11,6 +12,13 @@ SameValue n d a b = n *ℤ b ≡ a *ℤ d
 pub record IsLowestTerms (a b : ℤ) : Type 0 where
   pub positive : pos 0 <ℤ b
   pub only_one : (k : ℕ) → k ∣ unsigned_abs a → k ∣ unsigned_abs b → k ≡ 1
+
+-- a and b are n and d divided by their greatest common divisor
+pub record IsCancelledOf (n d a b : ℤ) : Type 0 where
+  pub divisor : ℤ
+  pub greatest : IsGcdOf n d divisor
+  pub numer : a *ℤ divisor ≡ n
+  pub denom : b *ℤ divisor ≡ d
 
 -- n/d is a fraction, and a/b is its value in lowest terms
 pub record IsLowestTermsOf (n d a b : ℤ) : Type 0 where

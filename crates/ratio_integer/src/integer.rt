@@ -4,7 +4,7 @@ ghost use Rattle.std.specs.Bool.{OnFalse, OnTrue};
 ghost use Rattle.std.specs.Ordering.{int_cmp, partial_lt};
 ghost use Rattle.ratio_integer.specs.Arithmetic.{difference_of, sum_of};
 ghost use Rattle.ratio_integer.specs.Comparison.{Tells, lt_tells};
-ghost use Rattle.ratio_integer.specs.Division.{ChecksLcm, FlooredHeld, GcdHeld, IsFloored, IsFlooredQuotient, IsFlooredRemainder, IsGcdOf, IsLcmOf, IsMultiple, LcmHeld};
+ghost use Rattle.ratio_integer.specs.Division.{ChecksLcm, IsAboveMax, IsFloored, IsFlooredQuotient, IsFlooredRemainder, IsGcdAboveMax, IsGcdOf, IsLcmOf, IsMultiple, LcmHeld};
 ghost use Rattle.ratio_integer.specs.Fraction.{ChecksLowest};
 ghost use Rattle.ratio_integer.specs.Laws.{IsLawful};
 ghost use Rattle.ratio_integer.specs.Range.{Checks, IsHeld, IsRange};
@@ -76,7 +76,7 @@ pub trait Integer: Copy + Ord + Hash {
     /// quotient of two held numbers is held, but for that of `-hi-1` by -1.
     fn div_rem(self, o: Self) -> (Self, Self)
         requires nonzero { value o ≢ pos 0 }
-        requires held { IsHeld lo hi (int_div (value self) (value o)) }
+        requires held { ¬ (IsAboveMax hi (value self) (value o)) }
         ensures quotient { value result.0 ≡ int_div (value self) (value o) }
         ensures remainder { value result.1 ≡ int_rem (value self) (value o) };
 
@@ -224,7 +224,7 @@ pub trait Integer: Copy + Ord + Hash {
     /// quotient of two held numbers is held, but for that of `-hi-1` by -1.
     fn div_mod_floor(self, o: Self) -> (Self, Self)
         requires nonzero { value o ≢ pos 0 }
-        requires held { FlooredHeld lo hi (value self) (value o) }
+        requires held { ¬ (IsAboveMax hi (value self) (value o)) }
         ensures { IsFloored (value self) (value o) (value result.0) (value result.1) }
     {
         let _ = self.held();
@@ -245,7 +245,7 @@ pub trait Integer: Copy + Ord + Hash {
     /// The floored quotient, the greatest whole number that is not above the exact one.
     fn div_floor(self, o: Self) -> Self
         requires nonzero { value o ≢ pos 0 }
-        requires held { FlooredHeld lo hi (value self) (value o) }
+        requires held { ¬ (IsAboveMax hi (value self) (value o)) }
         ensures { IsFlooredQuotient (value self) (value o) (value result) }
     {
         self.div_mod_floor(o).0
@@ -254,7 +254,7 @@ pub trait Integer: Copy + Ord + Hash {
     /// The remainder of floored division, which is 0 or has the sign of `o`.
     fn mod_floor(self, o: Self) -> Self
         requires nonzero { value o ≢ pos 0 }
-        requires held { FlooredHeld lo hi (value self) (value o) }
+        requires held { ¬ (IsAboveMax hi (value self) (value o)) }
         ensures { IsFlooredRemainder (value self) (value o) (value result) }
     {
         self.div_mod_floor(o).1
@@ -263,7 +263,7 @@ pub trait Integer: Copy + Ord + Hash {
     /// The greatest common divisor, never negative; that of 0 and 0 is 0. It is held, but for the
     /// one case that one number is `-hi-1` and the other is `-hi-1` or 0.
     fn gcd(self, o: Self) -> Self
-        requires { GcdHeld lo hi (value self) (value o) }
+        requires { ¬ (IsGcdAboveMax hi (value self) (value o)) }
         ensures { IsGcdOf (value self) (value o) (value result) }
     {
         let _ = self.held();

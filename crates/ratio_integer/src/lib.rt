@@ -6,6 +6,7 @@ mod binary_gcd;
 mod exact_sum;
 mod impls;
 mod integer;
+pub mod laws;
 mod narrowed;
 mod primitive;
 mod reducing;
@@ -13,7 +14,7 @@ mod signed;
 
 pub use integer::Integer;
 pub use primitive::Primitive;
-pub use reducing::lowest_terms;
+pub use reducing::{cancelled, lowest_terms};
 pub use signed::SignedInteger;
 
 #[cfg(test)]

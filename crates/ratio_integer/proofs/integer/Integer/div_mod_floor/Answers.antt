@@ -2,13 +2,10 @@ use Rattle.std.specs.Prelude.{◌≡◌, pos}
 use Rattle.std.proofs.Common.{arith, ap, sym, refl, inl, inr, ◌∙◌}
 use Rattle.std.proofs.lemmas.Int.{ints}
 use Rattle.ratio_integer.specs.Comparison.{Tells, yes, no}
-use Rattle.ratio_integer.proofs.DivisionLemmas.{Side, Same, left, moved, moved_held, other_side, truncated_held}
+use Rattle.ratio_integer.proofs.DivisionLemmas.{Side, Same, left, moved, moved_held, other_side}
+use Rattle.ratio_integer.proofs.FlooredDivision.{floored_held}
 use Rattle.ratio_integer.proofs.integer.Integer.div_mod_floor.Goals as goal
 use Rattle.ratio_integer.proofs.integer.Integer.div_mod_floor.Goals.{then-lt, else-lt}
-
-pub div_rem-quotient-requires-clause-held : goal.div_rem-quotient-requires-clause-held
-div_rem-quotient-requires-clause-held g c =
-    truncated_held _ _ _ _ g.met.Self.Integer.range_law c.requires.nonzero c.requires.held
 
 pub minus-requires : goal.minus-requires
 minus-requires g c =
@@ -23,7 +20,7 @@ minus-requires g c =
       | else-lt w ↦ inr (let h = no _ (m.lt_law c.args.o c.ZERO.result) (sym c.lt.ensures ∙ w.if-lt.false) in omega (arith, ints, ap v c.ZERO.ensures, h), rw (w.other_side-is, w.lt-other_side-else-lt.ensures, ← w.ZERO-else-lt.ensures) (m.lt_law c.div_rem-quotient.result.1 w.ZERO-else-lt.result))
     ]) in
     let one : v c.ONE.result ≡ pos 1 = ap v c.ONE.ensures ∙ m.one_law in
-    c.requires.held.each _ _ (moved _ _ _ _ (v c.ONE.result) _ _ c.div_rem-quotient.ensures.quotient c.div_rem-quotient.ensures.remainder one (yes _ t c.if-other_side.true) refl refl)
+    (floored_held _ _ _ _ m.range_law c.held.ensures.range c.held-2.ensures.range c.requires.nonzero c.requires.held).each _ _ (moved _ _ _ _ (v c.ONE.result) _ _ c.div_rem-quotient.ensures.quotient c.div_rem-quotient.ensures.remainder one (yes _ t c.if-other_side.true) refl refl)
 
 pub plus-requires : goal.plus-requires
 plus-requires g c =

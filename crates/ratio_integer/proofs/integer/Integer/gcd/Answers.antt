@@ -7,7 +7,8 @@ use Rattle.std.proofs.Math.Nat.{one-dvd}
 use lib.IntN.{+ℤ_idl}
 use Rattle.ratio_integer.specs.Division.{IsGcdOf}
 use Rattle.ratio_integer.specs.Comparison.{yes, no}
-use Rattle.ratio_integer.proofs.DivisionLemmas.{abs-rem, abs_pos, quotient_held, remainder_held}
+use Rattle.ratio_integer.proofs.DivisionLemmas.{abs-rem, abs_pos, remainder_held}
+use Rattle.ratio_integer.proofs.LcmLemmas.{gcd_held}
 use Rattle.ratio_integer.proofs.integer.Integer.gcd.Goals as goal
 use Rattle.ratio_integer.proofs.integer.Integer.gcd.Goals.{else-lt-via-then-lt+else-is_zero, else-lt-via-else-lt}
 
@@ -45,10 +46,9 @@ pub div_rem-rest-requires-clause-held : goal.div_rem-rest-requires-clause-held
 div_rem-rest-requires-clause-held g c =
     let v = g.Self.Integer.value in
     let m = g.met.Self.Integer in
-    let nz : v c.steps.y ≢ pos 0 = grind (arith, c.is_zero.ensures) in
     let nm : v c.steps.y ≢ negsuc 0 =
     elim c.else-lt.branch [ else-lt-via-then-lt+else-is_zero w ↦ grind (arith, ints, m.one_law, w.is_zero-then-lt.ensures) | else-lt-via-else-lt w ↦ grind (arith, ints, m.zero_law, m.lt_law) ] in
-    quotient_held _ _ (v c.steps.x) (v c.steps.y) m.range_law c.steps.invariant.x_held c.steps.invariant.y_held nz nm
+    λ is. nm is.denom
 
 pub steps-smaller : goal.steps-smaller
 steps-smaller g c =
@@ -88,7 +88,7 @@ minus-requires g c =
     let z2 : v c.ZERO-2.result ≡ pos 0 = ap v c.ZERO-2.ensures ∙ m.zero_law in
     let below : v c.steps.x <ℤ v c.ZERO-2.result = yes _ (m.lt_law c.steps.x c.ZERO-2.result) (sym (c.if-lt-2.ensures)) in
     let up : pos 0 ≤ℤ (pos 0 -ℤ v c.steps.x) = omega (arith, ints) in
-    rw z (c.requires.each _ (ends (v c.steps.x) (v c.steps.y) _ _ c.steps.invariant.same y (pos 0 -ℤ v c.steps.x) up (size-neg (v c.steps.x))))
+    rw z ((gcd_held _ _ _ _ m.range_law c.held.ensures.range c.held-2.ensures.range c.requires).each _ (ends (v c.steps.x) (v c.steps.y) _ _ c.steps.invariant.same y (pos 0 -ℤ v c.steps.x) up (size-neg (v c.steps.x))))
 
 pub returns-then-lt-2 : goal.returns-then-lt-2
 returns-then-lt-2 g c =

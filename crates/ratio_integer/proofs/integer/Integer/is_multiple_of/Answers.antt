@@ -1,7 +1,7 @@
 use Rattle.std.specs.Prelude.{◌≡◌, ◌≢◌, pos, negsuc, int_rem}
 use Rattle.std.proofs.Common.{arith, ap, sym, ◌∙◌, refl}
 use Rattle.std.proofs.lemmas.Int.{ints}
-use Rattle.ratio_integer.proofs.DivisionLemmas.{multiple-rem, multiple-zero, multiple_of_minus_one, quotient_held}
+use Rattle.ratio_integer.proofs.DivisionLemmas.{multiple-rem, multiple-zero, multiple_of_minus_one}
 use Rattle.ratio_integer.proofs.integer.Integer.is_multiple_of.Goals as goal
 use Rattle.ratio_integer.proofs.integer.Integer.is_multiple_of.Goals.{else-lt-via-then-lt+else-is_zero-2, else-lt-via-else-lt}
 
@@ -31,10 +31,9 @@ pub div_rem-rest-requires-clause-held : goal.div_rem-rest-requires-clause-held
 div_rem-rest-requires-clause-held g c =
     let v = g.Self.Integer.value in
     let m = g.met.Self.Integer in
-    let nz : v c.args.o ≢ pos 0 = grind (arith, c.is_zero.ensures) in
     let nm : v c.args.o ≢ negsuc 0 =
     elim c.else-lt.branch [ else-lt-via-then-lt+else-is_zero-2 w ↦ (λ e. let first : v w.ONE.result ≡ pos 1 = ap v w.ONE.ensures ∙ m.one_law in let sum : v w.plus.result ≡ pos 0 = omega (arith, ints) in let bad = w.if-is_zero-2.ensures.1 sum in cc) | else-lt-via-else-lt w ↦ grind (arith, ints, m.zero_law, m.lt_law) ] in
-    quotient_held _ _ (v c.args.self) (v c.args.o) m.range_law c.held.ensures.range c.held-2.ensures.range nz nm
+    λ is. nm is.denom
 
 pub returns : goal.returns
 returns g c =

@@ -1,7 +1,8 @@
 use Rattle.std.specs.Prelude.{◌≡◌, ◌≢◌, ◌⊎◌, ◌≤ℤ◌, ◌<ℤ◌, pos, true, false}
 use Rattle.std.proofs.Common.{arith, ap, inl, inr, refl, sym, ◌∙◌}
+use Rattle.std.proofs.lemmas.Int.{ints}
 use Rattle.ratio_integer.specs.Comparison.{no, yes}
-use Rattle.ratio_integer.proofs.LcmLemmas.{below_zero, divisor_nonzero, from_zero, gcd_held, lcm_by_gcd, lcm_held, lcm_of_same, lcm_of_zero, magnitude_held, zero_held}
+use Rattle.ratio_integer.proofs.LcmLemmas.{below_zero, divisor_nonzero, from_zero, lcm_by_gcd, lcm_held, lcm_of_same, lcm_of_zero, magnitude_held, zero_held}
 use Rattle.ratio_integer.proofs.integer.Integer.try_lcm.Goals as goal
 use Rattle.ratio_integer.proofs.integer.Integer.try_lcm.Goals.{then-is_zero-via-then-is_zero, then-is_zero-via-else-is_zero+then-is_zero-2}
 
@@ -22,7 +23,7 @@ gcd-requires g c =
     let left : v c.args.self ≢ pos 0 = grind (arith, c.is_zero.ensures) in
     let right : v c.args.o ≢ pos 0 = grind (arith, c.is_zero-else-is_zero.ensures) in
     let apart : v c.args.self ≢ v c.args.o = (λ e. let bad : false ≡ true = c.if-eq.ensures ∙ (m.eq_law c.args.self c.args.o).1 e in cc) in
-    gcd_held _ _ _ _ m.range_law c.held.ensures.range c.held-2.ensures.range left right apart
+    grind (arith, ints)
 
 pub div_rem-part-requires-clause-nonzero : goal.div_rem-part-requires-clause-nonzero
 div_rem-part-requires-clause-nonzero g c =

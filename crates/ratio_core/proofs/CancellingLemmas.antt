@@ -6,14 +6,14 @@ use Rattle.std.proofs.Math.Nat.{dvd_of_mul-dvd-mul_left, eq-one_of_dvd-one, mul-
 use Rattle.std.proofs.lemmas.Int.{ints, unsigned_abs-mul}
 use lib.IntN.{*ℤ_comm, zero-*ℤ}
 use Rattle.ratio_integer.specs.Division.{IsGcdOf}
-use Rattle.ratio_integer.specs.Fraction.{IsHeldLowest, IsLowestTermsOf}
+use Rattle.ratio_integer.specs.Fraction.{IsCancelledOf, IsHeldLowest, IsLowestTermsOf}
 use Rattle.ratio_integer.specs.Range.{IsHeld, IsRange}
 use Rattle.ratio_integer.proofs.CommonDivisors.{gcd_coprime}
 use Rattle.ratio_integer.proofs.DivisionLemmas.{abs_pos, low_below}
 use Rattle.ratio_integer.proofs.LcmLemmas.{divisor_nonzero, exact_quotient, zero_held}
-use Rattle.ratio_integer.proofs.LowestTerms.{lowest_own, over_one}
+use Rattle.ratio_integer.proofs.LowestTerms.{cancelled_coprime, cancelled_fraction, lowest_own, over_one}
 use Rattle.ratio_integer.proofs.Whole.{mul-swap_last, neg-mul, unsigned_abs-neg}
-use Rattle.ratio_core.specs.Cancelling.{IsCancelled, IsCancelledOf}
+use Rattle.ratio_core.specs.Cancelling.{IsCancelled}
 
 -- ---- 0 and 1
 
@@ -46,33 +46,8 @@ lowest_of_same lo hi n d a b range fraction equal a_one b_one = record {
 
 -- ---- the common divisor
 
-pub cancelled_by_one : (n d g : ℤ) → d ≢ pos 0 → IsGcdOf n d g → g ≡ pos 1 → IsCancelledOf n d n d
-cancelled_by_one n d g fraction is one = record {
-  same = refl;
-  cancelled = record { fraction = fraction; only_one = gcd_coprime (unsigned_abs n) (unsigned_abs d) (unsigned_abs g) is.divisor (ap unsigned_abs one) };
-}
-
-pub cancelled_by_gcd : (n d g a b : ℤ) → d ≢ pos 0 → IsGcdOf n d g → a ≡ int_div n g → b ≡ int_div d g → IsCancelledOf n d a b
-cancelled_by_gcd n d g a b fraction is a-is b-is =
-    let n-whole : a *ℤ g ≡ n = ap (λ (t : ℤ). t *ℤ g) a-is ∙ exact_quotient n g is.divisor.0 in
-    let d-whole : b *ℤ g ≡ d = ap (λ (t : ℤ). t *ℤ g) b-is ∙ exact_quotient d g is.divisor.1 in
-    record {
-      same = ap (λ (t : ℤ). t *ℤ b) (sym n-whole) ∙ mul-swap_last a g b ∙ ap (λ (t : ℤ). a *ℤ t) d-whole;
-      cancelled = record {
-        fraction = λ zero. fraction (sym d-whole ∙ ap (λ (t : ℤ). t *ℤ g) zero ∙ zero-*ℤ g);
-        only_one = λ k p q.
-            let first : unsigned_abs g * k ∣ unsigned_abs n = rw (sizes n a n-whole) (mul-dvd-mul_left k (unsigned_abs g) p) in
-            let second : unsigned_abs g * k ∣ unsigned_abs d = rw (sizes d b d-whole) (mul-dvd-mul_left k (unsigned_abs g) q) in
-            let both : unsigned_abs g * k ∣ unsigned_abs g * 1 = rw (times-one (unsigned_abs g)) (is.divisor.2 _ first second) in
-            eq-one_of_dvd-one (dvd_of_mul-dvd-mul_left k (abs_pos g (divisor_nonzero n d g fraction is)) both);
-      };
-    }
-  where
-    sizes : (x y : ℤ) → y *ℤ g ≡ x → unsigned_abs x ≡ unsigned_abs g * unsigned_abs y
-    sizes x y e = ap unsigned_abs (sym e ∙ *ℤ_comm y g) ∙ unsigned_abs-mul g y
-
-    times-one : (m : ℕ) → m * 1 ≡ m
-    times-one m = omega arith
+pub cancelled_left : (n d a b : ℤ) → d ≢ pos 0 → IsCancelledOf n d a b → IsCancelled a b
+cancelled_left n d a b fraction is = record { fraction = cancelled_fraction n d a b fraction is; only_one = cancelled_coprime n d a b fraction is }
 
 -- ---- the sign
 

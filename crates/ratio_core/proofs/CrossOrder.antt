@@ -7,11 +7,11 @@ use Rattle.std.specs.Cmp.{int_cmp_is, int_cmp_total, int_ranks}
 use Rattle.std.specs.Ordering.{MatchOrdering, int_cmp, ordering_reverse}
 use Rattle.std.specs.declared.cmp.Ordering.{Ordering}
 use Rattle.std.specs.declared.cmp.Ordering.TheVariants.{Less, Equal, Greater}
-use Rattle.ratio_integer.specs.Division.{IsFloored}
+use Rattle.ratio_integer.specs.Division.{IsAboveMax, IsFloored}
 use Rattle.ratio_integer.specs.Range.{IsHeld, IsRange}
 use Rattle.ratio_integer.proofs.DivisionLemmas.{abs_pos}
 use Rattle.ratio_integer.proofs.Whole.{add-mul, mul_assoc}
-use Rattle.ratio_core.specs.Order.{HaveUnlikeSigns, IsAboveMax, cross_cmp, sign}
+use Rattle.ratio_core.specs.Order.{HaveUnlikeSigns, cross_cmp, sign}
 use Rattle.ratio_core.proofs.Floored.{below_above_max, floored-sum, floored_below, floored_nonzero, floored_sign, low_above, one-mul, room, sign-mul}
 
 -- ---- comparisons by a difference

@@ -4,10 +4,10 @@ use Rattle.std.proofs.Common.{refl, sym, ap, arith, inl, inr, ⊎_elim, ◌∙�
 use Rattle.std.proofs.Math.Nat.{mul-le-mul_right}
 use Rattle.std.proofs.lemmas.Int.{ints}
 use borrow.Author.Differences.{up, down}
-use Rattle.ratio_integer.specs.Division.{FlooredHeld, IsFloored}
+use Rattle.ratio_integer.specs.Division.{IsAboveMax, IsFloored}
 use Rattle.ratio_integer.specs.Range.{IsHeld, IsRange}
 use Rattle.ratio_integer.proofs.DivisionLemmas.{Same, Side, abs_pos, floored_less, floored_same, low_below, sides}
-use Rattle.ratio_core.specs.Order.{IsAboveMax, sign}
+use Rattle.ratio_core.specs.Order.{sign}
 
 -- ---- a number by its sign and its magnitude
 
@@ -134,45 +134,3 @@ below_above_max h m (negsuc (suc e)) below above nonzero out =
 
 pub low_above : (lo hi : ℤ) → IsRange lo hi → (neg_ℤ hi -ℤ pos 1) ≤ℤ lo
 low_above lo hi range = grind (arith, ints)
-
-not_higher : (h : ℕ) (n d q r : ℤ) → (sign d *ℤ n) <ℤ pos (suc h * unsigned_abs d) → IsFloored n d q r → pos h <ℤ q → ⊥
-not_higher h n d q r small is larger =
-    let sum = floored-sum n d q r is in
-    let more : (pos h *ℤ pos (unsigned_abs d) +ℤ pos (unsigned_abs d)) ≤ℤ (q *ℤ pos (unsigned_abs d)) = room (pos h) q (unsigned_abs d) larger in
-    omega (arith, ints)
-
-signed_above : (lo hi n d : ℤ) → IsRange lo hi → IsHeld lo hi n → IsHeld lo hi d → lo ≤ℤ (sign d *ℤ n)
-signed_above lo hi n (pos d) range n_held d_held = omega (arith, ints, one-mul n, n_held.above)
-signed_above lo hi n (negsuc d) range n_held d_held =
-    let k = minus_one-mul n in
-    let above = d_held.above in
-    let below = n_held.below in
-    grind (arith, ints)
-
-times_shrinks : (lo : ℤ) (k : ℕ) → lo ≤ℤ pos 0 → 0 < k → (lo *ℤ pos k) ≤ℤ lo
-times_shrinks (pos zero) (suc k) low h = omega (arith, ints)
-times_shrinks (pos (suc n)) k low h = absurd (omega (arith, ints))
-times_shrinks (negsuc n) (suc k) low h = omega (arith, ints)
-times_shrinks lo zero low h = absurd (omega arith)
-
-not_lower : (lo n d q r : ℤ) → lo ≤ℤ pos 0 → lo ≤ℤ (sign d *ℤ n) → IsFloored n d q r → q <ℤ lo → ⊥
-not_lower lo n d q r low above is smaller =
-    let sum = floored-sum n d q r is in
-    let less = floored_below n d q r is in
-    let more = room q lo (unsigned_abs d) smaller in
-    let least = times_shrinks lo (unsigned_abs d) low (abs_pos d (floored_nonzero n d q r is)) in
-    omega (arith, ints)
-
-not_less : (x y : ℤ) → (x <ℤ y → ⊥) → y ≤ℤ x
-not_less x y h = grind (arith, ints)
-
-pub floored_held : (lo hi n d : ℤ) → IsRange lo hi → IsHeld lo hi n → IsHeld lo hi d → ¬ (IsAboveMax hi n d) → FlooredHeld lo hi n d
-floored_held lo (negsuc h) n d range n_held d_held out = absurd (let high = range.high in omega (arith, ints))
-floored_held lo (pos h) n d range n_held d_held out = record {
-  each = λ q r is.
-      let above : (neg_ℤ (pos h) -ℤ pos 1) ≤ℤ n = (let low = low_above lo (pos h) range in let k = n_held.above in omega (arith, ints)) in
-      record {
-        above = not_less q lo (not_lower lo n d q r (low_below lo (pos h) range) (signed_above lo (pos h) n d range n_held d_held) is);
-        below = not_less (pos h) q (not_higher h n d q r (below_above_max h n d n_held.below above (floored_nonzero n d q r is) out) is);
-      };
-}

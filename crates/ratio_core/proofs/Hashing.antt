@@ -5,9 +5,8 @@ use Rattle.std.proofs.lemmas.Bool.{true≢false}
 use Rattle.std.proofs.lemmas.Grind.{fold-append}
 use Rattle.std.proofs.lemmas.List.{length_push}
 use Rattle.std.specs.Ordering.{int_eq}
-use Rattle.ratio_integer.specs.Division.{IsFloored}
+use Rattle.ratio_integer.specs.Division.{IsAboveMax, IsFloored}
 use Rattle.ratio_core.specs.ContinuedFraction.{AreCodesCounted, IsCodeCount, IsCodesOf, codes_of_quotients, count_below}
-use Rattle.ratio_core.specs.Order.{IsAboveMax}
 use Rattle.ratio_core.proofs.Quotients.{Goes, quotients_short}
 use Rattle.ratio_core.proofs.Rounds.{above_quotients, apart, not_top, same}
 

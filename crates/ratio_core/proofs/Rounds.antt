@@ -7,10 +7,10 @@ use Rattle.std.proofs.lemmas.Int.{ints}
 use Rattle.std.specs.Ordering.{int_eq, ordering_reverse}
 use Rattle.std.specs.declared.cmp.Ordering.{Ordering}
 use Rattle.std.specs.declared.cmp.Ordering.TheVariants.{Less, Equal, Greater}
-use Rattle.ratio_integer.specs.Division.{IsFloored}
+use Rattle.ratio_integer.specs.Division.{IsAboveMax, IsFloored}
 use Rattle.ratio_integer.specs.Range.{IsHeld, IsRange}
 use Rattle.ratio_core.specs.ContinuedFraction.{Compares, IsCompared, IsPartialQuotients, IsRoundsUnless, IsWithinBits, rounds}
-use Rattle.ratio_core.specs.Order.{AreProductsHeld, DoNumeratorsDecide, HaveUnlikeSigns, IsAboveMax, IsOrderOfParts}
+use Rattle.ratio_core.specs.Order.{AreProductsHeld, DoNumeratorsDecide, HaveUnlikeSigns, IsOrderOfParts}
 use Rattle.ratio_core.proofs.CrossOrder.{divided-greater, divided-less, tied-both, tied-first, tied-rest, tied-second, top-equal, top-greater, top-less}
 use Rattle.ratio_core.proofs.Quotients.{Goes, goes_ends, goes_on, quotients_exist, quotients_known, quotients_short}
 

@@ -1,14 +1,8 @@
 -- Fractions without a common divisor, whatever the sign of the denominator.
 use Rattle.std.specs.Prelude.{◌≡◌, ◌≢◌, ℕ, ℤ, pos, unsigned_abs}
 use Rattle.std.specs.Int.{◌∣◌}
-use Rattle.ratio_integer.specs.Fraction.{SameValue}
 
 -- b is not 0, and no whole number above 1 divides both a and b
 pub record IsCancelled (a b : ℤ) : Type 0 where
   pub fraction : b ≢ pos 0
   pub only_one : (k : ℕ) → k ∣ unsigned_abs a → k ∣ unsigned_abs b → k ≡ 1
-
--- a/b has the value of n/d, b is not 0, and no whole number above 1 divides both a and b
-pub record IsCancelledOf (n d a b : ℤ) : Type 0 where
-  pub same : SameValue n d a b
-  pub cancelled : IsCancelled a b

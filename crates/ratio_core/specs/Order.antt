@@ -13,11 +13,6 @@ sign (negsuc n) = negsuc 0
 unfoldable pub cross_cmp : ℤ → ℤ → ℤ → ℤ → Ordering
 cross_cmp n d m e = int_cmp (sign (d *ℤ e) *ℤ (n *ℤ e)) (sign (d *ℤ e) *ℤ (m *ℤ d))
 
--- n/d is -hi-1 over -1: its value is hi+1, and no other pair of a type up to hi has one above hi
-pub record IsAboveMax (hi n d : ℤ) : Type 0 where
-  pub numer : n ≡ neg_ℤ hi -ℤ pos 1
-  pub denom : d ≡ negsuc 0
-
 -- one of the two is below 0, and the other is not
 abbrev pub HaveUnlikeSigns : ℤ → ℤ → Type 0
 HaveUnlikeSigns d e = ((d <ℤ pos 0) × (pos 0 ≤ℤ e)) ⊎ ((pos 0 ≤ℤ d) × (e <ℤ pos 0))

@@ -1,9 +1,9 @@
 //! The lowest terms of a fraction, where the type holds them.
-ghost use Rattle.std.specs.Prelude.{◌≢◌, pos};
+ghost use Rattle.std.specs.Prelude.{pos};
 ghost use Rattle.ratio_integer.specs.Fraction.{ChecksLowest};
-ghost use Rattle.ratio_core.specs.Cancelling.{IsCancelled, IsCancelledOf};
+ghost use Rattle.ratio_core.specs.Cancelling.{IsCancelled};
 
-use ratio_integer::Integer;
+use ratio_integer::{Integer, cancelled};
 
 /// The lowest terms of `n/d`, or `None` where `d` is 0 or the type does not hold them. Either
 /// number may be the least one.
@@ -27,25 +27,6 @@ pub fn checked_new<T: Integer>(n: T, d: T) -> Option<(T, T)>
     }
     let (numer, denom) = cancelled(n, d);
     sign_moved(numer, denom)
-}
-
-// Both numbers divided by their greatest common divisor.
-fn cancelled<T: Integer>(n: T, d: T) -> (T, T)
-    requires numer { T.value n ≢ pos 0 }
-    requires denom { T.value d ≢ pos 0 }
-    requires apart { T.value n ≢ T.value d }
-    ensures { IsCancelledOf (T.value n) (T.value d) (T.value result.0) (T.value result.1) }
-{
-    let _ = n.held();
-    let _ = d.held();
-    let divisor = n.gcd(d);
-    if divisor.is_one() {
-        return (n, d);
-    }
-    let _ = divisor.held();
-    let (numer, _) = n.div_rem(divisor);
-    let (denom, _) = d.div_rem(divisor);
-    (numer, denom)
 }
 
 // The same fraction with a positive denominator, or `None` where the type does not hold it.

@@ -1,7 +1,6 @@
 //! The two floored divisions of the order and of the codes, each of which is a step of its side.
 ghost use Rattle.std.specs.Prelude.{◌≡◌, ◌≢◌, ◌↔◌, ◌≤ℤ◌, ◌+◌, pos, IsTrue};
-ghost use Rattle.ratio_integer.specs.Division.{IsFloored};
-ghost use Rattle.ratio_core.specs.Order.{IsAboveMax};
+ghost use Rattle.ratio_integer.specs.Division.{IsAboveMax, IsFloored};
 
 use crate::order::signs::is_negative;
 use crate::steps::Steps;
@@ -16,9 +15,8 @@ pub(crate) fn divide_left<T: Integer>(n: T, d: T, steps: &mut Steps) -> (T, T)
     ensures left { steps.new.left ≡ steps.old.left + 1 }
     ensures right { steps.new.right ≡ steps.old.right }
 {
-    let _ = n.held();
-    let _ = d.held();
     let division = n.div_mod_floor(d);
+    let _ = division.0.held();
     steps.tick_left();
     division
 }
@@ -32,9 +30,8 @@ pub(crate) fn divide_right<T: Integer>(n: T, d: T, steps: &mut Steps) -> (T, T)
     ensures left { steps.new.left ≡ steps.old.left }
     ensures right { steps.new.right ≡ steps.old.right + 1 }
 {
-    let _ = n.held();
-    let _ = d.held();
     let division = n.div_mod_floor(d);
+    let _ = division.0.held();
     steps.tick_right();
     division
 }

@@ -2,7 +2,8 @@
 ghost use Rattle.std.specs.Prelude.{◌≡◌, ◌≢◌, ◌+ℤ◌, pos, cond, MatchOption};
 ghost use Rattle.std.specs.Ordering.{ordering_reverse};
 ghost use Rattle.ratio_core.specs.ContinuedFraction.{Compares, IsCompared};
-ghost use Rattle.ratio_core.specs.Order.{IsAboveMax, IsOrderOfParts};
+ghost use Rattle.ratio_integer.specs.Division.{IsAboveMax};
+ghost use Rattle.ratio_core.specs.Order.{IsOrderOfParts};
 
 use crate::order::dividing::{divide_left, divide_right, is_above_max};
 use crate::steps::Steps;

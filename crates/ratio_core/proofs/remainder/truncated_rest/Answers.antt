@@ -1,7 +1,6 @@
 use Rattle.std.specs.Prelude.{◌≡◌, ◌≢◌, pos, negsuc}
 use Rattle.std.proofs.Common.{arith, ap, refl, sym, ◌∙◌}
 use Rattle.std.proofs.lemmas.Int.{ints}
-use Rattle.ratio_integer.proofs.DivisionLemmas.{quotient_held}
 use Rattle.ratio_core.proofs.RemainderLemmas.{rest_by_minus_one}
 use Rattle.ratio_core.proofs.remainder.truncated_rest.Goals as goal
 use Rattle.ratio_core.proofs.remainder.truncated_rest.Goals.{else-lt-via-then-lt+else-is_zero, else-lt-via-else-lt}
@@ -26,4 +25,4 @@ div_rem-requires-clause-held g c =
     let m = g.met.T.Integer in
     let other : v c.args.q ≢ negsuc 0 =
     elim c.else-lt.branch [ else-lt-via-then-lt+else-is_zero w ↦ (λ e. let first : v w.ONE.result ≡ pos 1 = ap v w.ONE.ensures ∙ m.one_law in let sum : v w.plus.result ≡ pos 0 = omega (arith, ints) in let bad = w.if-is_zero.ensures.1 sum in cc) | else-lt-via-else-lt w ↦ grind (arith, ints, m.zero_law, m.lt_law) ] in
-    quotient_held _ _ (v c.args.p) (v c.args.q) m.range_law c.held.ensures.range c.held-2.ensures.range c.requires other
+    λ is. other is.denom

@@ -1,18 +1,14 @@
 -- From a fraction without a common divisor to its lowest terms.
-use Rattle.std.specs.Prelude.{◌≡◌, ◌≢◌, ◌*◌, ◌≤ℤ◌, ◌<ℤ◌, ◌*ℤ◌, ◌-ℤ◌, ℕ, ℤ, pos, neg_ℤ, unsigned_abs, int_div}
-use Rattle.std.specs.Int.{◌∣◌}
-use Rattle.std.proofs.Common.{refl, sym, ap, arith, ◌∙◌}
-use Rattle.std.proofs.Math.Nat.{dvd_of_mul-dvd-mul_left, eq-one_of_dvd-one, mul-dvd-mul_left}
-use Rattle.std.proofs.lemmas.Int.{ints, unsigned_abs-mul}
+use Rattle.std.specs.Prelude.{◌≡◌, ◌≢◌, ◌≤ℤ◌, ◌<ℤ◌, ◌*ℤ◌, ◌-ℤ◌, ℤ, pos, neg_ℤ, unsigned_abs}
+use Rattle.std.proofs.Common.{sym, ap, arith, ◌∙◌}
+use Rattle.std.proofs.lemmas.Int.{ints}
 use lib.IntN.{*ℤ_comm, zero-*ℤ}
-use Rattle.ratio_integer.specs.Division.{IsGcdOf}
 use Rattle.ratio_integer.specs.Fraction.{IsCancelledOf, IsHeldLowest, IsLowestTermsOf}
 use Rattle.ratio_integer.specs.Range.{IsHeld, IsRange}
-use Rattle.ratio_integer.proofs.CommonDivisors.{gcd_coprime}
-use Rattle.ratio_integer.proofs.DivisionLemmas.{abs_pos, low_below}
-use Rattle.ratio_integer.proofs.LcmLemmas.{divisor_nonzero, exact_quotient, zero_held}
+use Rattle.ratio_integer.proofs.DivisionLemmas.{low_below}
+use Rattle.ratio_integer.proofs.LcmLemmas.{zero_held}
 use Rattle.ratio_integer.proofs.LowestTerms.{cancelled_coprime, cancelled_fraction, lowest_own, over_one}
-use Rattle.ratio_integer.proofs.Whole.{mul-swap_last, neg-mul, unsigned_abs-neg}
+use Rattle.ratio_integer.proofs.Whole.{neg-mul, unsigned_abs-neg}
 use Rattle.ratio_core.specs.Cancelling.{IsCancelled}
 
 -- ---- 0 and 1

@@ -5,8 +5,8 @@ use Rattle.std.proofs.Math.Nat.{mul-le-mul_right}
 use Rattle.std.proofs.lemmas.Int.{ints}
 use borrow.Author.Differences.{up, down}
 use Rattle.ratio_integer.specs.Division.{IsAboveMax, IsFloored}
-use Rattle.ratio_integer.specs.Range.{IsHeld, IsRange}
-use Rattle.ratio_integer.proofs.DivisionLemmas.{Same, Side, abs_pos, floored_less, floored_same, low_below, sides}
+use Rattle.ratio_integer.specs.Range.{IsRange}
+use Rattle.ratio_integer.proofs.DivisionLemmas.{Same, Side, floored_less, floored_same, sides}
 use Rattle.ratio_core.specs.Order.{sign}
 
 -- ---- a number by its sign and its magnitude

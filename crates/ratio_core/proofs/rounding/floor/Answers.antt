@@ -1,4 +1,4 @@
-use Rattle.ratio_core.proofs.RoundingLemmas.{floor_less, floor_same, less_held}
+use Rattle.ratio_core.proofs.RoundingLemmas.{floor_less, less_held}
 use Rattle.ratio_core.proofs.rounding.floor.Goals as goal
 
 pub previous-requires : goal.previous-requires

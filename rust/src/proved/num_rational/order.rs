@@ -24,12 +24,6 @@ impl<T: Copy + Integer> Ratio<T> {
     }
 }
 
-/// Whether the denominators are one positive number.
-#[inline]
-fn share_denominator<T: Copy + Integer>(x: &Ratio<T>, y: &Ratio<T>) -> bool {
-    *x.denom() == *y.denom() && T::ZERO < *x.denom()
-}
-
 impl<T: Copy + Integer> PartialEq for Ratio<T> {
     /// Whether the values are equal: so for fields in lowest terms, whether the fields are.
     #[inline]
@@ -49,13 +43,11 @@ impl<T: Copy + Integer> PartialOrd for Ratio<T> {
 }
 
 impl<T: Copy + Integer> Ord for Ratio<T> {
-    /// The numerators alone decide where the denominators are one positive number.
+    /// The order by `compare`, which settles what it can before it divides.
     #[inline]
     fn cmp(&self, other: &Ratio<T>) -> Ordering {
-        if share_denominator(self, other) {
-            self.numer().cmp(other.numer())
-        } else {
-            compare(*self.numer(), *self.denom(), *other.numer(), *other.denom())
-        }
+        let (n, d) = (*self.numer(), *self.denom());
+        let (m, e) = (*other.numer(), *other.denom());
+        compare(n, d, m, e, &mut Steps::new())
     }
 }

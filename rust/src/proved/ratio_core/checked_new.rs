@@ -1,7 +1,7 @@
 // Erased from crates/ratio_core/src/checked_new.rt by rust/erase: not to be edited.
 //! The lowest terms of a fraction, where the type holds them.
 
-use crate::proved::ratio_integer::Integer;
+use crate::proved::ratio_integer::{Integer, cancelled};
 
 /// The lowest terms of `n/d`, or `None` where `d` is 0 or the type does not hold them. Either
 /// number may be the least one.
@@ -24,21 +24,6 @@ pub fn checked_new<T: Integer>(n: T, d: T) -> Option<(T, T)> {
     }
     let (numer, denom) = cancelled(n, d);
     sign_moved(numer, denom)
-}
-
-// Both numbers divided by their greatest common divisor.
-#[inline]
-fn cancelled<T: Integer>(n: T, d: T) -> (T, T) {
-    let _ = n.held();
-    let _ = d.held();
-    let divisor = n.gcd(d);
-    if divisor.is_one() {
-        return (n, d);
-    }
-    let _ = divisor.held();
-    let (numer, _) = n.div_rem(divisor);
-    let (denom, _) = d.div_rem(divisor);
-    (numer, denom)
 }
 
 // The same fraction with a positive denominator, or `None` where the type does not hold it.

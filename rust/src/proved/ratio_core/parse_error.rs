@@ -38,8 +38,8 @@ impl fmt::Display for ParseRatioError {
     #[inline]
     fn fmt(&self, f: &mut fmt::Formatter<'_>) -> fmt::Result {
         match self.kind {
-            RatioErrorKind::ParseError => f.write_str("failed to parse integer"),
-            RatioErrorKind::ZeroDenominator => f.write_str("zero value denominator"),
+            RatioErrorKind::ParseError => f.pad("failed to parse integer"),
+            RatioErrorKind::ZeroDenominator => f.pad("zero value denominator"),
         }
     }
 }

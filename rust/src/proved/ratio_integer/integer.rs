@@ -59,7 +59,7 @@ pub trait Integer: Copy + Ord + Hash {
     /// What is proved asks of the caller:
     ///
     /// - `nonzero`: `value o ≢ pos 0`
-    /// - `held`: `IsHeld lo hi (int_div (value self) (value o))`
+    /// - `held`: `¬ (IsAboveMax hi (value self) (value o))`
     fn div_rem(self, o: Self) -> (Self, Self);
 
     /// The number as an `i128`, or `None` where that type does not hold it. A value in hand lies
@@ -200,7 +200,7 @@ pub trait Integer: Copy + Ord + Hash {
     /// What is proved asks of the caller:
     ///
     /// - `nonzero`: `value o ≢ pos 0`
-    /// - `held`: `FlooredHeld lo hi (value self) (value o)`
+    /// - `held`: `¬ (IsAboveMax hi (value self) (value o))`
     #[inline]
     fn div_mod_floor(self, o: Self) -> (Self, Self) {
         let _ = self.held();
@@ -225,7 +225,7 @@ pub trait Integer: Copy + Ord + Hash {
     /// What is proved asks of the caller:
     ///
     /// - `nonzero`: `value o ≢ pos 0`
-    /// - `held`: `FlooredHeld lo hi (value self) (value o)`
+    /// - `held`: `¬ (IsAboveMax hi (value self) (value o))`
     #[inline]
     fn div_floor(self, o: Self) -> Self {
         self.div_mod_floor(o).0
@@ -238,7 +238,7 @@ pub trait Integer: Copy + Ord + Hash {
     /// What is proved asks of the caller:
     ///
     /// - `nonzero`: `value o ≢ pos 0`
-    /// - `held`: `FlooredHeld lo hi (value self) (value o)`
+    /// - `held`: `¬ (IsAboveMax hi (value self) (value o))`
     #[inline]
     fn mod_floor(self, o: Self) -> Self {
         self.div_mod_floor(o).1
@@ -251,7 +251,7 @@ pub trait Integer: Copy + Ord + Hash {
     ///
     /// What is proved asks of the caller:
     ///
-    /// - `GcdHeld lo hi (value self) (value o)`
+    /// - `¬ (IsGcdAboveMax hi (value self) (value o))`
     #[inline]
     fn gcd(self, o: Self) -> Self {
         let _ = self.held();

@@ -21,13 +21,13 @@ use core::cmp::Ordering;
 #[inline]
 pub fn cmp_counted<T: Integer>(n: T, d: T, m: T, e: T, steps: &mut Steps) -> Ordering {
     match order_of_products(n, d, m, e) {
-        Some(order) => order,
         None => cmp_by_rounds(n, d, m, e, steps),
+        Some(order) => order,
     }
 }
 
 /// How `n/d` stands to `m/e`, for denominators of either sign, reduced or not: the answer of
-/// `cmp_counted`, which is asked where neither the products nor the numerators alone decide.
+/// `cmp_counted`, which is asked only where neither the numerators alone nor the products decide.
 ///
 /// # Conditions
 ///
@@ -36,13 +36,24 @@ pub fn cmp_counted<T: Integer>(n: T, d: T, m: T, e: T, steps: &mut Steps) -> Ord
 /// - `left_nonzero`: `T.value d ≢ pos 0`
 /// - `right_nonzero`: `T.value e ≢ pos 0`
 #[inline]
-pub fn compare<T: Integer>(n: T, d: T, m: T, e: T) -> Ordering {
-    match order_of_products(n, d, m, e) {
-        Some(order) => order,
-        // Tested this late, since the processor cannot guess it.
-        None if are_split_by_zero(n, d, m, e) => n.cmp(&m),
-        None => cmp_counted(n, d, m, e, &mut Steps::new()),
+pub fn compare<T: Integer>(n: T, d: T, m: T, e: T, steps: &mut Steps) -> Ordering {
+    if share_denominator(d, e) {
+        return n.cmp(&m);
     }
+    if let Some(order) = order_of_products(n, d, m, e) {
+        return order;
+    }
+    // Tested this late, since the processor cannot guess it.
+    if are_split_by_zero(n, d, m, e) {
+        return n.cmp(&m);
+    }
+    cmp_counted(n, d, m, e, steps)
+}
+
+/// Whether the denominators are one positive number.
+#[inline]
+fn share_denominator<T: Integer>(d: T, e: T) -> bool {
+    d == e && T::ZERO < d
 }
 
 /// Whether both denominators are positive, and one numerator is below 0 and the other is not.

@@ -15,9 +15,8 @@ use crate::proved::ratio_integer::Integer;
 /// - `held`: `¬ (IsAboveMax T.hi (T.value n) (T.value d))`
 #[inline]
 pub(crate) fn divide_left<T: Integer>(n: T, d: T, steps: &mut Steps) -> (T, T) {
-    let _ = n.held();
-    let _ = d.held();
     let division = n.div_mod_floor(d);
+    let _ = division.0.held();
     steps.tick_left();
     division
 }
@@ -32,9 +31,8 @@ pub(crate) fn divide_left<T: Integer>(n: T, d: T, steps: &mut Steps) -> (T, T) {
 /// - `held`: `¬ (IsAboveMax T.hi (T.value n) (T.value d))`
 #[inline]
 pub(crate) fn divide_right<T: Integer>(n: T, d: T, steps: &mut Steps) -> (T, T) {
-    let _ = n.held();
-    let _ = d.held();
     let division = n.div_mod_floor(d);
+    let _ = division.0.held();
     steps.tick_right();
     division
 }

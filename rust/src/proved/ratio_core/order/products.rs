@@ -15,12 +15,11 @@ use core::cmp::Ordering;
 /// - `right_nonzero`: `T.value e ≢ pos 0`
 #[inline(always)]
 pub(crate) fn order_of_products<T: Integer>(n: T, d: T, m: T, e: T) -> Option<Ordering> {
-    match (n.try_times(e), m.try_times(d)) {
-        (Some(left), Some(right)) => Some(if have_unlike_signs(d, e) {
-            right.cmp(&left)
-        } else {
-            left.cmp(&right)
-        }),
-        _ => None,
-    }
+    let left = n.try_times(e)?;
+    let right = m.try_times(d)?;
+    Some(if have_unlike_signs(d, e) {
+        right.cmp(&left)
+    } else {
+        left.cmp(&right)
+    })
 }

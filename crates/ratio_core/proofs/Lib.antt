@@ -27,5 +27,6 @@ pub mod ScalingLemmas
 pub mod ShortDigits
 pub mod SignLemmas
 pub mod SumLemmas
+pub mod Ticks
 pub mod TestLemmas
 pub mod WidthLemmas

@@ -4,11 +4,13 @@ pub mod Hashing
 pub mod Negation
 pub mod Operators
 pub mod Padding
+pub mod Powers
 pub mod Ratio
 pub use Rattle.ratio_core.specs.Conditions
 pub use Rattle.ratio_core.specs.ContinuedFraction
 pub use Rattle.ratio_core.specs.Laws
 pub use Rattle.ratio_core.specs.Order
+pub use Rattle.ratio_core.specs.Power
 pub use Rattle.ratio_core.specs.Printing
 pub use Rattle.ratio_core.specs.Reading
 pub use Rattle.ratio_core.specs.Rounding

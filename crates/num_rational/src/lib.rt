@@ -7,6 +7,7 @@ mod hash;
 mod operand;
 mod ops;
 mod order;
+mod pow;
 mod printing;
 mod ratio;
 mod rounding;
@@ -17,4 +18,6 @@ mod text;
 
 pub use operand::Operand;
 pub use ratio::{Constants, Ratio, Rational, Rational32, Rational64};
-pub use ratio_core::{CodeList, Form, ParseRatioError, RatioErrorKind, RatioText, Steps, Taken};
+pub use ratio_core::{
+    CodeList, Exponent, Form, ParseRatioError, RatioErrorKind, RatioText, Steps, Taken,
+};

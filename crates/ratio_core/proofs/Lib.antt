@@ -11,12 +11,15 @@ pub mod LawLemmas
 pub mod NumberLemmas
 pub mod NumbersExist
 pub mod OrderLaws
+pub mod PowerLemmas
+pub mod PowerLoop
 pub mod PrintingLemmas
 pub mod ProductLemmas
 pub mod ProductOrder
 pub mod Quotients
 pub mod ReadingBack
 pub mod ReadingExists
+pub mod ReciprocalLemmas
 pub mod RefusalLemmas
 pub mod RemainderLemmas
 pub mod RoundingLawLemmas

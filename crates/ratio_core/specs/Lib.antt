@@ -3,6 +3,7 @@ pub mod Conditions
 pub mod ContinuedFraction
 pub mod Laws
 pub mod Order
+pub mod Power
 pub mod Printing
 pub mod Reading
 pub mod Refusal

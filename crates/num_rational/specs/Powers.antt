@@ -1,0 +1,25 @@
+-- The reciprocal and the powers of a fraction.
+use Rattle.std.specs.Prelude.{◌≢◌, ◌<ℤ◌, ℤ, pos, neg_ℤ, Option}
+use Rattle.ratio_integer.specs.Range.{IsHeld}
+use Rattle.ratio_core.specs.Power.{ChecksPower, IsPower, IsReciprocal}
+use Rattle.num_rational.specs.declared.ratio.Ratio.{Ratio}
+use Rattle.num_rational.specs.Ratio.{denominator, numerator}
+
+-- x may be asked for its reciprocal: its denominator is positive, it is not 0, and where it is negative, its numerator has a
+-- negative
+pub record CanInvert {T : _} {i : _} {o : _} {e : _} {p : _} {h : _} (x : Ratio T i o e p h) : Type 0 where
+  pub positive : pos 0 <ℤ denominator x
+  pub nonzero : numerator x ≢ pos 0
+  pub held : numerator x <ℤ pos 0 → IsHeld i.lo i.hi (neg_ℤ (numerator x))
+
+-- r is the reciprocal of x, not reduced
+abbrev pub GivesReciprocal : {T : _} {i : _} {o : _} {e : _} {p : _} {h : _} → Ratio T i o e p h → Ratio T i o e p h → Type 0
+GivesReciprocal x r = IsReciprocal (numerator x) (denominator x) (numerator r) (denominator r)
+
+-- r is x to the exponent, not reduced
+abbrev pub GivesPower : {T : _} {i : _} {o : _} {e : _} {p : _} {h : _} → Ratio T i o e p h → ℤ → Ratio T i o e p h → Type 0
+GivesPower x exponent r = IsPower (numerator x) (denominator x) exponent (numerator r) (denominator r)
+
+-- the answer is x to the exponent where that is answered, and `None` where it is not
+abbrev pub ChecksRatioPower : {T : _} {i : _} {o : _} {e : _} {p : _} {h : _} → Ratio T i o e p h → ℤ → Option (Ratio T i o e p h) → Type 0
+ChecksRatioPower {i = i} x exponent result = ChecksPower numerator denominator i.lo i.hi (numerator x) (denominator x) exponent result

@@ -1,0 +1,191 @@
+-- The loop that forms a power by squaring.
+use Rattle.std.specs.Prelude.{◌≡◌, ◌≢◌, ◌⊎◌, ◌*◌, ◌/◌, ◌%◌, ◌^◌, ◌<◌, ◌≤◌, ◌≤ℤ◌, ◌<ℤ◌, ◌*ℤ◌, ◌+ℤ◌, ℕ, ℤ, zero, suc, pos, negsuc, unsigned_abs}
+use Rattle.std.specs.Int.{int_pow}
+use Rattle.std.proofs.Common.{sym, ap, arith, ◌∙◌, inl, inr, pow-suc}
+use Rattle.std.proofs.lemmas.Int.{ints, unsigned_abs-mul}
+use Rattle.std.proofs.lemmas.Nat.{mul-le}
+use Rattle.std.proofs.Math.Nat.{one-le-pow}
+use lib.IntN.{*ℤ_comm, pos-*ℤ-pos, negsuc-*ℤ-negsuc, *ℤ-zero}
+use Rattle.ratio_integer.specs.Range.{IsHeld, IsRange}
+use Rattle.ratio_integer.proofs.DivisionLemmas.{low_below}
+use Rattle.ratio_integer.proofs.Whole.{mul_assoc}
+use Rattle.ratio_core.proofs.PowerLemmas.{int_pow-double, int_pow-one, int_pow-suc}
+use Rattle.ratio_core.proofs.ProductOrder.{down_times, up_times}
+
+-- ---- the loop
+
+-- the power that is wanted, total, is p times s to what is left
+pub record PowerSoFar (total p s : ℤ) (left : ℕ) : Type 0 where
+  pub some : 1 ≤ left
+  pub whole : total ≡ p *ℤ int_pow s left
+  pub size : 2 ≤ unsigned_abs s → (p ≡ pos 1) ⊎ (2 ≤ unsigned_abs p)
+
+-- the same in mid-turn, where the square of s is wanted
+pub record PowerInTurn (total p s : ℤ) (left : ℕ) : Type 0 where
+  pub some : 1 ≤ left
+  pub whole : total ≡ p *ℤ int_pow (s *ℤ s) left
+  pub size : 2 ≤ unsigned_abs s → (p ≡ pos 1) ⊎ (2 ≤ unsigned_abs p)
+
+pub start : (z one : ℤ) (e : ℕ) → 1 ≤ e → one ≡ pos 1 → PowerSoFar (int_pow z e) one z e
+start z one e h o = record {
+  some = h;
+  whole = sym (ap (λ (t : ℤ). t *ℤ int_pow z e) o ∙ one-times (int_pow z e));
+  size = λ k. inl o;
+}
+  where
+    one-times : (t : ℤ) → pos 1 *ℤ t ≡ t
+    one-times t = omega (arith, ints)
+
+even-half : (left : ℕ) → left % 2 ≢ 1 → left ≡ 2 * (left / 2)
+even-half left h = omega arith
+
+odd-half : (left : ℕ) → left % 2 ≡ 1 → left ≡ suc (2 * (left / 2))
+odd-half left h = omega arith
+
+pub even : (total p s : ℤ) (left : ℕ) → PowerSoFar total p s left → 1 < left → left % 2 ≢ 1 → PowerInTurn total p s (left / 2)
+even total p s left g more h = record {
+  some = omega arith;
+  whole = g.whole ∙ ap (λ k. p *ℤ int_pow s k) (even-half left h) ∙ ap (λ (t : ℤ). p *ℤ t) (sym (int_pow-double s (left / 2)));
+  size = g.size;
+}
+
+swap-last : (p x s : ℤ) → p *ℤ (x *ℤ s) ≡ (p *ℤ s) *ℤ x
+swap-last p x s = ap (λ (t : ℤ). p *ℤ t) (*ℤ_comm x s) ∙ sym (mul_assoc p s x)
+
+odd-whole : (total p s : ℤ) (left : ℕ) → total ≡ p *ℤ int_pow s left → left % 2 ≡ 1 → total ≡ (p *ℤ s) *ℤ int_pow (s *ℤ s) (left / 2)
+odd-whole total p s left e h =
+    e
+    ∙ ap (λ k. p *ℤ int_pow s k) (odd-half left h)
+    ∙ ap (λ (t : ℤ). p *ℤ t) (int_pow-suc s (2 * (left / 2)) ∙ ap (λ (t : ℤ). t *ℤ s) (sym (int_pow-double s (left / 2))))
+    ∙ swap-last p (int_pow (s *ℤ s) (left / 2)) s
+
+grows : (a b : ℕ) → 1 ≤ a → 2 ≤ b → 2 ≤ a * b
+grows a b h k = omega (arith, mul-le 1 2 a b h k)
+
+pub odd : (total p s w : ℤ) (left : ℕ) → PowerSoFar total p s left → 1 < left → left % 2 ≡ 1 → w ≡ p *ℤ s → PowerInTurn total w s (left / 2)
+odd total p s w left g more h e = rw e (record {
+  some = omega arith;
+  whole = odd-whole total p s left g.whole h;
+  size = λ k. inr (rw (unsigned_abs-mul p s) (grows (unsigned_abs p) (unsigned_abs s) (nonzero (g.size k)) k));
+})
+  where
+    nonzero : (p ≡ pos 1) ⊎ (2 ≤ unsigned_abs p) → 1 ≤ unsigned_abs p
+    nonzero (inl o) = rw o (omega arith)
+    nonzero (inr o) = omega arith
+
+root : (a : ℕ) → 2 ≤ a * a → 2 ≤ a
+root zero h = absurd (omega arith)
+root (suc zero) h = absurd (omega arith)
+root (suc (suc a)) h = omega arith
+
+pub next : (total p s w : ℤ) (left : ℕ) → PowerInTurn total p s left → w ≡ s *ℤ s → PowerSoFar total p w left
+next total p s w left g e = rw e (record {
+  some = g.some;
+  whole = g.whole;
+  size = λ k. g.size (root (unsigned_abs s) (rw (unsigned_abs-mul s s) at k));
+})
+
+pub last : (total p s : ℤ) (left : ℕ) → PowerSoFar total p s left → left ≤ 1 → total ≡ p *ℤ s
+last total p s left g h =
+    let e : left ≡ 1 = omega (arith, g.some) in
+    g.whole ∙ ap (λ k. p *ℤ int_pow s k) e ∙ ap (λ (t : ℤ). p *ℤ t) (int_pow-one s)
+
+-- ---- where the type ends
+
+pub square : (s : ℤ) → s *ℤ s ≡ pos (unsigned_abs s * unsigned_abs s)
+square (pos n) = pos-*ℤ-pos n n
+square (negsuc n) = negsuc-*ℤ-negsuc n n
+
+square-pow : (s : ℤ) (k : ℕ) → int_pow (s *ℤ s) k ≡ pos ((unsigned_abs s * unsigned_abs s) ^ k)
+square-pow s k = ap (λ (t : ℤ). int_pow t k) (square s)
+
+-- what is not held is not held times 1 or more
+out_times : (lo hi w : ℤ) (k : ℕ) → IsRange lo hi → 1 ≤ k → ¬ (IsHeld lo hi w) → ¬ (IsHeld lo hi (w *ℤ pos k))
+out_times lo hi w k range h out held = go w out held
+  where
+    low : lo ≤ℤ pos 0
+    low = low_below lo hi range
+
+    high : pos 2 ≤ℤ hi
+    high = range.high
+
+    go : (w : ℤ) → ¬ (IsHeld lo hi w) → IsHeld lo hi (w *ℤ pos k) → ⊥
+    go (pos n) out x = let t = up_times (pos n) (pos k) (omega (arith, ints)) (omega (arith, ints)) in let a = x.below in out (record { above = omega (arith, ints, low); below = omega (arith, ints) })
+    go (negsuc n) out x = let t = down_times (negsuc n) (pos k) (omega (arith, ints)) (omega (arith, ints)) in let a = x.above in out (record { above = omega (arith, ints); below = omega (arith, ints, high) })
+
+-- a factor that is wanted is not held
+pub factor_out : (lo hi total p s : ℤ) (left : ℕ) → IsRange lo hi → PowerSoFar total p s left → left % 2 ≡ 1 → ¬ (IsHeld lo hi (p *ℤ s)) → ¬ (IsHeld lo hi total)
+factor_out lo hi total p s left range g h out held = out_times lo hi (p *ℤ s) k range (some s out) out (rw (odd-whole total p s left g.whole h ∙ ap (λ (t : ℤ). (p *ℤ s) *ℤ t) (square-pow s (left / 2))) at held)
+  where
+    k : ℕ
+    k = (unsigned_abs s * unsigned_abs s) ^ (left / 2)
+
+    some : (s : ℤ) → ¬ (IsHeld lo hi (p *ℤ s)) → 1 ≤ (unsigned_abs s * unsigned_abs s) ^ (left / 2)
+    some (pos zero) out = absurd (out (rw (*ℤ-zero p) (record { above = low_below lo hi range; below = let high : pos 2 ≤ℤ hi = range.high in omega (arith, ints) })))
+    some (pos (suc n)) out = one-le-pow (left / 2) (suc n * suc n) (omega arith)
+    some (negsuc n) out = one-le-pow (left / 2) (suc n * suc n) (omega arith)
+
+-- a power of 1 or more has its base as a factor
+base_below : (a k : ℕ) → 1 ≤ a → 1 ≤ k → a ≤ a ^ k
+base_below a zero h i = absurd (omega arith)
+base_below a (suc k) h i = rw (pow-suc a k) (omega (arith, mul-le 1 a (a ^ k) a (one-le-pow k a h) (omega arith)))
+
+doubled : (a b c : ℕ) → 2 ≤ a → b ≤ c → 2 * b ≤ a * c
+doubled a b c h k = mul-le 2 b a c h k
+
+-- the sizes of a type's numbers
+pub size_below : (lo hi z : ℤ) → IsRange lo hi → IsHeld lo hi z → pos (unsigned_abs z) ≤ℤ (hi +ℤ pos 1)
+size_below lo hi z range h = grind (arith, ints)
+
+-- a square that is wanted is not held
+pub square_out : (lo hi total p s : ℤ) (left : ℕ) → IsRange lo hi → PowerInTurn total p s left → ¬ (IsHeld lo hi (s *ℤ s)) → ¬ (IsHeld lo hi total)
+square_out lo hi total p s left range g out held = go (g.size (above (unsigned_abs s) past))
+  where
+    high : pos 2 ≤ℤ hi
+    high = range.high
+
+    low : lo ≤ℤ pos 0
+    low = low_below lo hi range
+
+    a : ℕ
+    a = unsigned_abs s * unsigned_abs s
+
+    above_hi : (m : ℕ) → ¬ (IsHeld lo hi (pos m)) → hi <ℤ pos m
+    above_hi m o = grind (arith, ints)
+
+    past : hi <ℤ pos (unsigned_abs s * unsigned_abs s)
+    past = above_hi (unsigned_abs s * unsigned_abs s) (λ x. out (rw (square s) x))
+
+    above : (m : ℕ) → hi <ℤ pos (m * m) → 2 ≤ m
+    above zero o = absurd (omega (arith, ints))
+    above (suc zero) o = absurd (omega (arith, ints))
+    above (suc (suc m)) o = omega arith
+
+    total-is : total ≡ p *ℤ pos ((unsigned_abs s * unsigned_abs s) ^ left)
+    total-is = g.whole ∙ ap (λ (t : ℤ). p *ℤ t) (square-pow s left)
+
+    one_up : (m : ℕ) → hi <ℤ pos m → 1 ≤ m
+    one_up m o = omega (arith, ints)
+
+    grown : unsigned_abs s * unsigned_abs s ≤ (unsigned_abs s * unsigned_abs s) ^ left
+    grown = base_below (unsigned_abs s * unsigned_abs s) left (one_up (unsigned_abs s * unsigned_abs s) past) g.some
+
+    too_big : (m b : ℕ) → m ≤ b → hi <ℤ pos m → hi <ℤ pos b
+    too_big m b x y = omega (arith, ints)
+
+    clash : (m b t : ℕ) → hi <ℤ pos m → 2 * m ≤ b → pos b ≤ℤ (hi +ℤ pos 1) → ⊥
+    clash m b t x y z = omega (arith, ints)
+
+    total-size : unsigned_abs total ≡ unsigned_abs p * (unsigned_abs s * unsigned_abs s) ^ left
+    total-size = ap unsigned_abs total-is ∙ unsigned_abs-mul p (pos ((unsigned_abs s * unsigned_abs s) ^ left))
+
+    one-times : (t : ℤ) → pos 1 *ℤ t ≡ t
+    one-times t = omega (arith, ints)
+
+    go : (p ≡ pos 1) ⊎ (2 ≤ unsigned_abs p) → ⊥
+    go (inl o) =
+        let e : total ≡ pos ((unsigned_abs s * unsigned_abs s) ^ left) = total-is ∙ ap (λ (t : ℤ). t *ℤ pos ((unsigned_abs s * unsigned_abs s) ^ left)) o ∙ one-times (pos ((unsigned_abs s * unsigned_abs s) ^ left)) in
+        let x : hi <ℤ pos ((unsigned_abs s * unsigned_abs s) ^ left) = too_big _ _ grown past in
+        let y : total ≤ℤ hi = held.below in
+        omega (arith, ints)
+    go (inr o) = clash (unsigned_abs s * unsigned_abs s) (unsigned_abs total) 0 past (rw total-size (doubled (unsigned_abs p) (unsigned_abs s * unsigned_abs s) _ o grown)) (size_below lo hi total range held)

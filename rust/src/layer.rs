@@ -7,6 +7,7 @@ mod arithmetic;
 mod conversions;
 mod integer;
 mod order;
+mod powers;
 mod ratio;
 mod rounding;
 #[cfg(feature = "serde")]

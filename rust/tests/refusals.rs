@@ -37,6 +37,10 @@ fn conditions_are_tested() {
     assert_eq!(refusal(move || greatest / none), "denominator == 0");
     assert_eq!(refusal(move || greatest % none), "attempt to calculate the remainder with a divisor of zero");
     assert_eq!(refusal(move || [greatest, greatest].iter().sum::<Ratio<i64>>()), "attempt to add with overflow");
+    assert_eq!(refusal(move || none.recip()), "division by zero");
+    assert_eq!(refusal(move || none.pow(-1)), "division by zero");
+    assert_eq!(refusal(move || least.recip()), "attempt to negate with overflow");
+    assert_eq!(refusal(move || greatest.pow(2)), "attempt to multiply with overflow");
     assert_eq!(refusal(move || -least), "attempt to negate with overflow");
     assert_eq!(refusal(|| Ratio::new_raw(1i8, -128).floor()), "attempt to negate with overflow");
     assert_eq!(refusal(|| Ratio::new_raw(1, 0)), "");
@@ -46,7 +50,7 @@ fn conditions_are_tested() {
 fn a_denominator_of_0_ends_each_call() {
     let broken = Ratio::new_raw(1i32, 0);
     let sound = Ratio::new(1, 2);
-    let calls: [(&str, Call); 25] = [
+    let calls: [(&str, Call); 28] = [
         ("add", |x, y| done(x + y)),
         ("sub", |x, y| done(x - y)),
         ("mul", |x, y| done(x * y)),
@@ -64,6 +68,9 @@ fn a_denominator_of_0_ends_each_call() {
         ("hash", |x, _| x.hash(&mut DefaultHasher::new())),
         ("text", |x, _| done(x.to_string())),
         ("reduced", |x, _| done(x.reduced())),
+        ("recip", |x, _| done(x.recip())),
+        ("pow", |x, _| done(x.pow(2))),
+        ("pow of 0", |x, _| done(x.pow(0))),
         ("neg", |x, _| done(-x)),
         ("floor", |x, _| done(x.floor())),
         ("ceil", |x, _| done(x.ceil())),

@@ -1,10 +1,10 @@
 //! Rows of the calls as a Rust program writes them.
 
 // The forms are what is tested.
-#![allow(clippy::op_ref, clippy::modulo_one)]
+#![allow(clippy::op_ref, clippy::modulo_one, clippy::needless_borrows_for_generic_args)]
 
 use bakhsney::{Integer, ParseRatioError, Ratio, Rational64};
-use num_traits::{CheckedAdd, CheckedDiv, CheckedMul, CheckedRem, CheckedSub, FromPrimitive, One, ToPrimitive, Zero};
+use num_traits::{CheckedAdd, CheckedDiv, CheckedMul, CheckedRem, CheckedSub, FromPrimitive, Inv, One, ToPrimitive, Zero};
 use std::cmp::Ordering;
 use std::collections::{BTreeSet, HashMap};
 
@@ -167,4 +167,21 @@ fn serialized() {
     assert_eq!(serde_json::from_str::<Ratio<i32>>(&text).unwrap().into_raw(), (2, -4));
     assert!(serde_json::from_str::<Ratio<i32>>("[1,0]").is_err());
     assert!(serde_json::from_str::<Ratio<i8>>("[128,1]").is_err());
+}
+
+fn pow<B: num_traits::Pow<E, Output = Ratio<i64>>, E>(base: B, exponent: E) -> Ratio<i64> {
+    base.pow(exponent)
+}
+
+#[test]
+fn powers() {
+    let x = Ratio::new(3i64, 2);
+    assert_eq!((x.pow(3), x.pow(-1), x.pow(0)), (Ratio::new(27, 8), Ratio::new(2, 3), Ratio::one()));
+    assert_eq!((x.checked_pow(39).is_some(), x.checked_pow(40)), (true, None));
+    assert_eq!(Ratio::new_raw(2i64, 4).pow(2).into_raw(), (4, 16));
+    assert_eq!(Ratio::new(1, -2i8).pow(i32::MIN.wrapping_add(i32::MAX)), Ratio::from_integer(-2));
+    assert_eq!(Ratio::<i64>::one().pow(i32::MIN), Ratio::one());
+    assert_eq!([pow(x, 2u8), pow(x, -2i128).recip(), pow(&x, &2usize), pow(&x, 2i16)], [x * x; 4]);
+    assert_eq!([x.recip(), Inv::inv(x), Inv::inv(&x)], [Ratio::new(2, 3); 3]);
+    assert_eq!(Ratio::new(-2, 3).recip().into_raw(), (-3, 2));
 }

@@ -6,6 +6,7 @@ mod hash;
 mod operand;
 mod ops;
 mod order;
+mod pow;
 mod printing;
 mod ratio;
 mod rounding;
@@ -16,4 +17,6 @@ mod text;
 
 pub use operand::Operand;
 pub use ratio::{Constants, Ratio, Rational, Rational32, Rational64};
-pub use crate::proved::ratio_core::{CodeList, Form, ParseRatioError, RatioErrorKind, RatioText, Steps, Taken};
+pub use crate::proved::ratio_core::{
+    CodeList, Exponent, Form, ParseRatioError, RatioErrorKind, RatioText, Steps, Taken,
+};

@@ -2,10 +2,12 @@
 //! What is computed on fractions, over the two numbers of each.
 pub mod checked_new;
 mod code_list;
+mod exponent;
 mod hash;
 pub mod laws;
 mod order;
 mod parse_error;
+pub mod pow;
 pub mod products;
 pub mod remainder;
 pub mod rounding;
@@ -19,6 +21,7 @@ mod tests;
 pub mod text;
 
 pub use code_list::CodeList;
+pub use exponent::Exponent;
 pub use hash::hash_counted;
 pub use order::{cmp_counted, compare};
 pub use parse_error::{ParseRatioError, RatioErrorKind};

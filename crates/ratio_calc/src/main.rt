@@ -1,23 +1,9 @@
-//! The calculator: answers each line of standard input with a line on standard output.
+//! The calculator on standard input and standard output.
 #![tactic(auto)]
 
-pub mod answer;
-pub mod answer_text;
-pub mod calculator;
-pub mod calls;
-pub mod counted;
-pub mod cut;
-#[cfg(test)]
-mod devices;
-pub mod gathered;
-pub mod line;
-pub mod operator;
-pub mod piece;
-#[cfg(test)]
-mod tests;
-
-use calculator::{fault_line, run};
-use counted::Counted;
+use ratio_lines::calculator::run;
+use ratio_lines::counted::Counted;
+use ratio_lines::fault::fault_line;
 use std::process::ExitCode;
 
 fn main(rt: HostRuntime) -> ExitCode {

@@ -1,7 +1,0 @@
-pub mod Operands
-pub mod Answers
-pub mod AnswerText
-pub mod KeptLine
-pub mod Devices
-pub mod Cuts
-pub mod Run

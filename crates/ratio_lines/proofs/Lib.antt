@@ -1,0 +1,12 @@
+pub mod Bytes
+pub mod Cuts
+pub mod Divisions
+pub mod Returns
+pub mod AnswerLaws
+pub mod AnswersExist
+pub mod LineLaws
+pub mod LinesSoFar
+pub mod Pieces
+pub mod PieceSoFar
+pub mod DeviceCalls
+pub mod RunSoFar

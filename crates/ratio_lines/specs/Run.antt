@@ -1,0 +1,66 @@
+-- What one run of the calculator does.
+use Rattle.std.specs.Prelude.{◌≡◌, ℕ, ◌-◌, ◌^◌, ◌≤◌, List, ◌++◌, length, Option, Result, Ok, Err, MatchResult, codes}
+use Rattle.std.specs.Io.KnownBytes.{Consumes, Appends, IsAtEnd}
+use Rattle.ratio_lines.specs.Answers.{AreAnswersOf, AreWholeAnswers}
+use Rattle.ratio_lines.specs.Lines.{begun_line}
+use Rattle.ratio_lines.specs.Devices.{Change, Device, Ended, Failed, Gave, Took, TookSome}
+use Rattle.ratio_lines.specs.KeptLine.{kept}
+use Rattle.ratio_lines.specs.declared.fault.CalcFault.{CalcFault}
+use Rattle.ratio_lines.specs.declared.fault.CalcFault.TheVariants.{Read, Write, Endless}
+
+-- what the program says of a fault
+abbrev pub fault_text : CalcFault → List ℕ
+fault_text Read = codes "ratio_calc: read failed"
+fault_text Write = codes "ratio_calc: write failed"
+fault_text Endless = codes "ratio_calc: input too long"
+
+-- where a run stopped at a fault, what was written is all answers to the whole lines of what was read, or a beginning of the answers to what was read
+abbrev pub StopsAt : List ℕ → List ℕ → CalcFault → Type 0
+StopsAt read written Read = AreWholeAnswers read written
+StopsAt read written Write = (rest : List ℕ) × AreAnswersOf read (written ++ rest)
+StopsAt read written Endless = AreWholeAnswers read written × (2 ^ 64 - 1 ≤ length read)
+
+-- a run read the bytes that calls of the reader gave, which it takes from what the reader had left; it wrote the bytes that
+-- calls of the writer took, which it adds to what the writer held; and what was written answers what was read
+pub record Ran {T : Type 0} (reader writer : Change) (result : Result T CalcFault) : Type 0 where
+  pub read : List ℕ
+  pub written : List ℕ
+  pub given : reader.new.1.moved ≡ reader.old.1.moved ++ read
+  pub consumed : Consumes reader.old.0 reader.new.0 read
+  pub taken : writer.new.1.moved ≡ writer.old.1.moved ++ written
+  pub appended : Appends writer.old.0 writer.new.0 written
+  pub answered : MatchResult result (λ _. AreAnswersOf read written × IsAtEnd reader.new.0) (StopsAt read written)
+
+-- by how much the failed calls of the reader rise
+abbrev pub read_failures : {T : Type 0} → Result T CalcFault → ℕ
+read_failures (Ok _) = 0
+read_failures (Err Read) = 1
+read_failures (Err Write) = 0
+read_failures (Err Endless) = 0
+
+-- by how much the failed calls of the writer rise
+abbrev pub write_failures : {T : Type 0} → Result T CalcFault → ℕ
+write_failures (Ok _) = 0
+write_failures (Err Read) = 0
+write_failures (Err Write) = 1
+write_failures (Err Endless) = 0
+
+-- the reader gave `read` and then ended, at a line begun, or failed, or gave on; the writer took the answers to the whole lines of
+-- `read`, or failed after a beginning of the answers to `read`
+abbrev pub LinesAre : List ℕ → List ℕ → Change → Change → Result (Option (List ℕ)) CalcFault → Type 0
+LinesAre read answers reader writer (Ok line) =
+    ((middle : Device) × Gave reader.old middle read × Ended middle reader.new)
+    × AreWholeAnswers read answers
+    × Took writer.old writer.new answers
+    × (line ≡ kept (begun_line read))
+LinesAre read answers reader writer (Err Read) =
+    ((middle : Device) × Gave reader.old middle read × Failed middle reader.new) × AreWholeAnswers read answers × Took writer.old writer.new answers
+LinesAre read answers reader writer (Err Write) = Gave reader.old reader.new read × AreAnswersOf read answers × TookSome writer.old writer.new answers
+LinesAre read answers reader writer (Err Endless) =
+    Gave reader.old reader.new read × AreWholeAnswers read answers × Took writer.old writer.new answers × (2 ^ 64 - 1 ≤ length read)
+
+-- the reader gave some bytes, and the writer took answers to lines of them, as `LinesAre` says
+pub record ReadsLines (reader writer : Change) (result : Result (Option (List ℕ)) CalcFault) : Type 0 where
+  pub read : List ℕ
+  pub answers : List ℕ
+  pub lines : LinesAre read answers reader writer result

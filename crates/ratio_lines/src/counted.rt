@@ -1,0 +1,161 @@
+//! Readers and writers whose calls contracts can follow.
+ghost use Rattle.std.specs.Prelude.{◌≡◌, ℕ};
+ghost use Rattle.std.specs.Io.{ReadsAtMost, WritesAtMost};
+ghost use Rattle.std.specs.Io.KnownBytes.{ReadConsumes, WriteAppends, Keeps};
+ghost use Rattle.ratio_lines.specs.Devices.{Followed, after_read, after_write, after_flush, no_calls};
+ghost use Rattle.ratio_lines.specs.declared.calls.Calls.{Calls};
+
+use crate::calls::Calls;
+use std::io;
+use std::io::{Read, Write};
+use std::marker::Model;
+
+/// A reader whose calls are followed.
+pub trait CalcRead: Read {
+    /// What calls did so far.
+    ghost calls: { Self → Calls };
+
+    /// Reads as `read` does. A call that answers `Err` has failed.
+    fn read_counted(&mut self, buf: &mut [u8]) -> io::Result<usize>
+        ensures bound { ReadsAtMost result buf.new }
+        ensures bytes { ReadConsumes (Self.remaining self.old) (Self.remaining self.new) result buf.new }
+        ensures calls { calls self.new ≡ after_read (calls self.old) result buf.new };
+}
+
+/// A writer whose calls are followed.
+pub trait CalcWrite: Write {
+    /// What calls did so far.
+    ghost calls: { Self → Calls };
+
+    /// Writes as `write` does. A call that answers `Err`, or takes no byte where there are some, has
+    /// failed.
+    fn write_counted(&mut self, buf: &[u8]) -> io::Result<usize>
+        ensures bound { WritesAtMost result buf.now }
+        ensures bytes { WriteAppends (Self.contents self.old) (Self.contents self.new) result buf.now }
+        ensures calls { calls self.new ≡ after_write (calls self.old) result buf.now };
+
+    /// Flushes as `flush` does.
+    fn flush_counted(&mut self) -> io::Result<()>
+        ensures bytes { Keeps (Self.contents self.old) (Self.contents self.new) }
+        ensures calls { calls self.new ≡ after_flush (calls self.old) result };
+}
+
+/// Any reader or writer, with its calls followed. That takes no bytes at run time.
+#[derive(Drop)]
+pub struct Counted<D> {
+    device: D,
+    reads: Calls,
+    writes: Calls,
+}
+
+impl<D> Model for Counted<D> {
+    ghost Value = { Followed D };
+
+    ghost view = { λ c. record { device = c.device; reads = c.reads; writes = c.writes } };
+}
+
+impl<D> Counted<D> {
+    /// A device of which no call has been made.
+    pub fn new(device: D) -> Counted<D>
+        ensures { result ≡ record { device = device; reads = no_calls; writes = no_calls } }
+    {
+        Counted {
+            device,
+            reads: Calls::none(),
+            writes: Calls::none(),
+        }
+    }
+
+    /// The device.
+    pub fn into_inner(self) -> D
+        ensures { result ≡ self.device }
+    {
+        self.device
+    }
+}
+
+impl<D: Read> Read for Counted<D> {
+    ghost remaining = { λ c. D.remaining c.device };
+
+    fn read(&mut self, buf: &mut [u8]) -> io::Result<usize>
+        ensures bound { ReadsAtMost result buf.new }
+        ensures bytes { ReadConsumes (D.remaining self.old.device) (D.remaining self.new.device) result buf.new }
+        ensures calls { self.new.reads ≡ after_read self.old.reads result buf.new }
+    {
+        self.read_counted(buf)
+    }
+}
+
+impl<D: Read> CalcRead for Counted<D> {
+    ghost calls = { λ c. c.reads };
+
+    fn read_counted(&mut self, buf: &mut [u8]) -> io::Result<usize> {
+        match self.device.read(buf) {
+            Ok(0) if !buf.is_empty() => {
+                self.reads.note_ended();
+                Ok(0)
+            }
+            Ok(n) => {
+                self.reads.note_moved(&buf[..n]);
+                Ok(n)
+            }
+            Err(e) => {
+                self.reads.note_failed();
+                Err(e)
+            }
+        }
+    }
+}
+
+impl<D: Write> Write for Counted<D> {
+    ghost contents = { λ c. D.contents c.device };
+
+    fn write(&mut self, buf: &[u8]) -> io::Result<usize>
+        ensures bound { WritesAtMost result buf.now }
+        ensures bytes { WriteAppends (D.contents self.old.device) (D.contents self.new.device) result buf.now }
+        ensures calls { self.new.writes ≡ after_write self.old.writes result buf.now }
+    {
+        self.write_counted(buf)
+    }
+
+    fn flush(&mut self) -> io::Result<()>
+        ensures bytes { Keeps (D.contents self.old.device) (D.contents self.new.device) }
+        ensures calls { self.new.writes ≡ after_flush self.old.writes result }
+    {
+        self.flush_counted()
+    }
+}
+
+impl<D: Write> CalcWrite for Counted<D> {
+    ghost calls = { λ c. c.writes };
+
+    fn write_counted(&mut self, buf: &[u8]) -> io::Result<usize> {
+        match self.device.write(buf) {
+            Ok(0) if !buf.is_empty() => {
+                self.writes.note_failed();
+                Ok(0)
+            }
+            Ok(n) => {
+                self.writes.note_moved(&buf[..n]);
+                Ok(n)
+            }
+            Err(e) => {
+                self.writes.note_failed();
+                Err(e)
+            }
+        }
+    }
+
+    fn flush_counted(&mut self) -> io::Result<()> {
+        match self.device.flush() {
+            Ok(()) => {
+                self.writes.note_flushed();
+                Ok(())
+            }
+            Err(e) => {
+                self.writes.note_failed();
+                Err(e)
+            }
+        }
+    }
+}

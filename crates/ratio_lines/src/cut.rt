@@ -1,0 +1,26 @@
+//! Cutting at the first byte of a value.
+ghost use Rattle.std.specs.Prelude.{◌<◌};
+ghost use Rattle.ratio_lines.specs.Cuts.{IsCut};
+
+use memchr::memchr;
+
+/// What stands before the first such byte, and what after it.
+pub fn cut(bytes: &[u8], byte: u8) -> Option<(&[u8], &[u8])>
+    ensures { IsCut byte bytes.now result }
+{
+    match memchr(byte, bytes) {
+        Some(at) => Some((&bytes[..at], &bytes[at + 1..])),
+        None => None,
+    }
+}
+
+/// The same of a text, at a byte that is a character of its own.
+pub fn cut_text(text: &str, byte: u8) -> Option<(&str, &str)>
+    requires { byte < 128 }
+    ensures { IsCut byte text.now result }
+{
+    match memchr(byte, text.as_bytes()) {
+        Some(at) => Some((text.split_at(at).0, text.split_at(at + 1).1)),
+        None => None,
+    }
+}

@@ -1,0 +1,183 @@
+//! A reader and a writer over memory, for tests: each fails where a test wants it to.
+ghost use Rattle.std.specs.Prelude.{◌≡◌, ◌<◌, [], None, Some};
+
+use std::alloc::Global;
+use std::cell::Cell;
+use std::io;
+use std::io::{ErrorKind, Read, Write};
+
+/// Gives its bytes, at most `step` a call. Where `left` is set, each call fails once that many of
+/// them were given.
+#[derive(Drop)]
+pub struct Feed<'a> {
+    pub bytes: &'a [u8],
+    pub step: usize,
+    pub left: Option<usize>,
+    ghost gives: { 0 < step },
+}
+
+impl Read for Feed<'_> {
+    ghost remaining = { λ f. Some f.bytes.now };
+
+    fn read(&mut self, buf: &mut [u8]) -> io::Result<usize> {
+        let mut count = buf.len().min(self.bytes.len()).min(self.step);
+        if let Some(left) = self.left {
+            if left == 0 {
+                return Err(io::Error::from(ErrorKind::Other));
+            }
+            count = count.min(left);
+            self.left = Some(left - count);
+        }
+        let (given, rest) = self.bytes.split_at(count);
+        buf[..count].copy_from_slice(given);
+        self.bytes = rest;
+        Ok(count)
+    }
+}
+
+/// What a writer does once it takes no more.
+#[derive(Clone, Copy, PartialEq, Debug)]
+pub enum Refusal {
+    Fails,
+    TakesNone,
+}
+
+/// Keeps the bytes it takes, at most `step` a call. Where `left` is set, each call is refused once
+/// that many of them were taken.
+#[derive(Drop)]
+pub struct Sink {
+    pub bytes: Vec<u8>,
+    pub step: usize,
+    pub left: Option<usize>,
+    pub refusal: Refusal,
+    pub flush_fails: bool,
+}
+
+impl Sink {
+    /// A writer that takes all there is.
+    pub fn new(alloc: Global) -> Sink
+        ensures { result.bytes.items ≡ [] }
+    {
+        Sink {
+            bytes: Vec::new(alloc),
+            step: usize::MAX,
+            left: None,
+            refusal: Refusal::Fails,
+            flush_fails: false,
+        }
+    }
+}
+
+impl Write for Sink {
+    ghost contents = { λ s. Some s.bytes.items };
+
+    fn write(&mut self, buf: &[u8]) -> io::Result<usize> {
+        let mut count = buf.len().min(self.step);
+        if let Some(left) = self.left {
+            if left == 0 && self.refusal == Refusal::Fails {
+                return Err(io::Error::from(ErrorKind::Other));
+            }
+            count = count.min(left);
+            self.left = Some(left - count);
+        }
+        self.bytes.extend_from_slice(&buf[..count])?;
+        Ok(count)
+    }
+
+    fn flush(&mut self) -> io::Result<()> {
+        if self.flush_fails {
+            Err(io::Error::from(ErrorKind::Other))
+        } else {
+            Ok(())
+        }
+    }
+}
+
+/// What is seen of a run as it goes on: how often it read and wrote, how many bytes its first reads
+/// gave, how many line ends it has read and written, and whether a read came while a whole line had no
+/// answer.
+#[derive(Drop)]
+pub struct Watch {
+    pub reads: Cell<usize>,
+    pub first_reads: Cell<[usize; 3]>,
+    pub writes: Cell<usize>,
+    pub ends_read: Cell<usize>,
+    pub ends_written: Cell<usize>,
+    pub is_late: Cell<bool>,
+}
+
+impl Watch {
+    /// Nothing was seen.
+    pub fn new() -> Watch {
+        Watch {
+            reads: Cell::new(0),
+            first_reads: Cell::new([0; 3]),
+            writes: Cell::new(0),
+            ends_read: Cell::new(0),
+            ends_written: Cell::new(0),
+            is_late: Cell::new(false),
+        }
+    }
+}
+
+/// How many line ends the bytes have.
+fn line_ends(bytes: &[u8]) -> usize {
+    bytes.iter().filter(|byte| **byte == b'\n').count()
+}
+
+/// Gives its bytes, at most `step` a call, and tells the watch.
+#[derive(Drop)]
+pub struct WatchedFeed<'a> {
+    pub bytes: &'a [u8],
+    pub step: usize,
+    pub watch: &'a Watch,
+}
+
+impl Read for WatchedFeed<'_> {
+    ghost remaining = { λ _. None };
+
+    fn read(&mut self, buf: &mut [u8]) -> io::Result<usize> {
+        let watch = self.watch;
+        let turn = watch.reads.get();
+        watch.reads.set(turn.wrapping_add(1));
+        if watch.ends_read.get() != watch.ends_written.get() {
+            watch.is_late.set(true);
+        }
+        let count = buf.len().min(self.bytes.len()).min(self.step);
+        let mut first_reads = watch.first_reads.get();
+        if turn < 3 {
+            first_reads[turn] = count;
+            watch.first_reads.set(first_reads);
+        }
+        let (given, rest) = self.bytes.split_at(count);
+        buf[..count].copy_from_slice(given);
+        self.bytes = rest;
+        watch
+            .ends_read
+            .set(watch.ends_read.get().wrapping_add(line_ends(given)));
+        Ok(count)
+    }
+}
+
+/// Takes all there is, and tells the watch.
+#[derive(Drop)]
+pub struct WatchedSink<'a> {
+    pub watch: &'a Watch,
+}
+
+impl Write for WatchedSink<'_> {
+    ghost contents = { λ _. None };
+
+    fn write(&mut self, buf: &[u8]) -> io::Result<usize> {
+        let watch = self.watch;
+        watch.writes.set(watch.writes.get().wrapping_add(1));
+        watch
+            .ends_written
+            .set(watch.ends_written.get().wrapping_add(line_ends(buf)));
+        Ok(buf.len())
+    }
+
+    fn flush(&mut self) -> io::Result<()> {
+        Ok(())
+    }
+}

@@ -1,0 +1,25 @@
+//! Why a run stopped, and what the program says of it.
+ghost use Rattle.std.specs.Prelude.{◌≡◌};
+ghost use Rattle.ratio_lines.specs.Run.{fault_text};
+
+/// Why a run stopped.
+#[derive(Clone, Copy, PartialEq, Debug)]
+pub enum CalcFault {
+    /// A call of the reader failed.
+    Read = 1,
+    /// A call of the writer failed.
+    Write = 2,
+    /// At least 2^64-1 bytes were read, and the reader has not said that it has ended.
+    Endless = 3,
+}
+
+/// What the program says of a fault.
+pub fn fault_line(fault: CalcFault) -> &'static str
+    ensures { result.now ≡ fault_text fault }
+{
+    match fault {
+        CalcFault::Read => "ratio_calc: read failed",
+        CalcFault::Write => "ratio_calc: write failed",
+        CalcFault::Endless => "ratio_calc: input too long",
+    }
+}

@@ -1,0 +1,19 @@
+//! The calculator as a library: answers each line of an input with a line of an output.
+#![tactic(auto)]
+
+pub mod answer;
+pub mod answer_text;
+pub mod calculator;
+pub mod calls;
+pub mod counted;
+pub mod cut;
+#[cfg(test)]
+mod devices;
+pub mod fault;
+pub mod gathered;
+pub mod limits;
+pub mod line;
+pub mod operator;
+pub mod piece;
+#[cfg(test)]
+mod tests;

@@ -15,12 +15,17 @@
 #[cfg(not(target_pointer_width = "64"))]
 compile_error!("what is proved of isize and usize is proved of 64 bits, and this target has another width");
 
+#[cfg(all(test, not(feature = "std")))]
+extern crate std;
+
 mod layer;
 mod proved;
 #[cfg(test)]
 mod test_support;
 
 pub use layer::{Integer, Ratio, Rational, Rational32, Rational64};
+/// What `parse` answers where a text is no fraction, or none that the type holds.
+///
 /// ```
 /// use bakhsney::Ratio;
 ///
@@ -29,6 +34,8 @@ pub use layer::{Integer, Ratio, Rational, Rational32, Rational64};
 /// ```
 #[doc(inline)]
 pub use proved::num_rational::ParseRatioError;
+/// The two kinds of that, as `kind` shows them.
+///
 /// ```
 /// use bakhsney::{Ratio, RatioErrorKind};
 ///

@@ -185,3 +185,18 @@ fn powers() {
     assert_eq!([x.recip(), Inv::inv(x), Inv::inv(&x)], [Ratio::new(2, 3); 3]);
     assert_eq!(Ratio::new(-2, 3).recip().into_raw(), (-3, 2));
 }
+
+#[test]
+fn where_num_rational_fails() {
+    let whole = Ratio::<i8>::from_integer;
+    let raw = Ratio::<i8>::new_raw;
+    assert_eq!(whole(1).cmp(&raw(1, -1)), Ordering::Greater);
+    assert!(whole(0) < raw(-128, -1) && whole(0) != raw(-128, -1));
+    assert_eq!(whole(-1).checked_mul(&raw(-128, 2)), Some(whole(64)));
+    assert_eq!(raw(1, 127).checked_div(&raw(2, 2)), Some(raw(1, 127)));
+    assert_eq!(whole(0).checked_div(&raw(-128, 2)), Some(whole(0)));
+    assert_eq!(whole(1).checked_add(&raw(1, 127)), None);
+    assert_eq!([whole(-1) * raw(-128, 2), whole(0) / -128, whole(-128) % -1], [64, 0, 0].map(whole));
+    assert_eq!([whole(-128).floor(), raw(1, 127).ceil()], [-128, 1].map(whole));
+    assert!("1/-128".parse::<Ratio<i8>>().is_err());
+}

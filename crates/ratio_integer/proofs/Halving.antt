@@ -1,8 +1,8 @@
 -- Binary gcd: factors of 2, and the steps of two odd numbers.
-use Rattle.std.specs.Prelude.{◌≡◌, ◌+◌, ◌*◌, ◌-◌, ◌/◌, ◌%◌, ◌^◌, ◌<◌, ◌≤◌, ℕ, zero, suc, min}
+use Rattle.std.specs.Prelude.{◌≡◌, ◌≢◌, ◌⊎◌, ◌+◌, ◌*◌, ◌-◌, ◌/◌, ◌%◌, ◌^◌, ◌<◌, ◌≤◌, ℕ, zero, suc, min}
 use Rattle.std.specs.Int.{◌∣◌, IsGcd, Width, abs_diff, bit_at, trailing_zeros}
 use Rattle.std.proofs.Common.{sym, ap, arith, ◌∙◌, inl, inr}
-use Rattle.std.proofs.Math.Nat.{dvd-mul_right, dvd-mul_right_of_dvd, mul-div_cancel', pow-suc, min-eq_left, min-eq_right, mod-eq_of_lt}
+use Rattle.std.proofs.Math.Nat.{dvd-mul_right, dvd-mul_right_of_dvd, mul-div_cancel, mul-div_cancel', pow-suc, add-mod_right, min-eq_left, min-eq_right, mod-eq_of_lt, mod-lt}
 use Rattle.std.proofs.lemmas.Nat.Gcd.{IsGcd-from_sub, IsGcd-swap, dvd_refl, le_of_dvd}
 use Rattle.std.proofs.lemmas.Nat.{mod-pow-add, div-add-mod', pow-add, pow_pos}
 use Rattle.std.proofs.lemmas.Nat.Bits.{bit_at-trailing_zeros}
@@ -82,6 +82,118 @@ odd_part_is w n above fits =
       whole = let split = div-add-mod' n (2 ^ trailing_zeros w n) in omega (arith, rest);
       odd = ends.1;
     }
+
+-- ---- the factors of 2 of a distance, counted in a wrapped difference
+
+odd_part_of : (d m t : ℕ) → d ≡ m * 2 ^ t → m % 2 ≡ 1 → IsOddPart d (d / 2 ^ t) t
+odd_part_of d m t whole odd =
+    let part : d / 2 ^ t ≡ m = ap (λ n. n / 2 ^ t) whole ∙ mul-div_cancel m (pow_pos t) in
+    rw part (record { whole = whole; odd = odd })
+
+times_more : (q n p : ℕ) → n < q → n * p + p ≤ q * p
+times_more q n p less = grind arith
+
+split_multiple : (q n p : ℕ) → n ≤ q → q * p ≡ (q - n) * p + n * p
+split_multiple q n p below = let whole : q ≡ (q - n) + n = omega arith in ap (λ k. k * p) whole ∙ spread (q - n) n p
+  where
+    spread : (a b p : ℕ) → (a + b) * p ≡ a * p + b * p
+    spread a b p = omega arith
+
+-- n and a multiple of 2^w beside it, on either side, have the same factors of 2
+pub odd_part_beside : (w d n q m t : ℕ) → t < w → IsOddPart n m t → (d ≡ n + q * 2 ^ w) ⊎ (d + n ≡ q * 2 ^ w) → IsOddPart d (d / 2 ^ t) t
+odd_part_beside w d n q m t below part either =
+    let order : w ≡ suc (w - t - 1) + t = omega arith in
+    let half = 2 ^ (w - t - 1) in
+    let place : 2 ^ w ≡ half * 2 * 2 ^ t = ap (λ k. 2 ^ k) order ∙ pow-add 2 (suc (w - t - 1)) t ∙ ap (λ k. k * 2 ^ t) (pow-suc 2 (w - t - 1)) in
+    let n-is : n ≡ m * 2 ^ t = part.whole in
+    let odd : m % 2 ≡ 1 = part.odd in
+    elim either [
+      | inl more ↦ odd_part_of d (m + q * (half * 2)) t (above d n q m half (2 ^ t) (2 ^ w) place n-is more) (twice m q half odd)
+      | inr less ↦
+          let sum : d + m * 2 ^ t ≡ q * (half * 2) * 2 ^ t = under d n q m half (2 ^ t) (2 ^ w) place n-is less in
+          let not_over : m ≤ q * (half * 2) = kept d m (q * (half * 2)) (2 ^ t) (pow_pos t) sum in
+          odd_part_of d (q * (half * 2) - m) t (taken d m (q * (half * 2)) (2 ^ t) not_over sum) (untwice m q half not_over odd)
+    ]
+  where
+    above : (d n q m h p w : ℕ) → w ≡ h * 2 * p → n ≡ m * p → d ≡ n + q * w → d ≡ (m + q * (h * 2)) * p
+    above d n q m h p w e f more = more ∙ rw (e, f) (omega arith)
+
+    under : (d n q m h p w : ℕ) → w ≡ h * 2 * p → n ≡ m * p → d + n ≡ q * w → d + m * p ≡ q * (h * 2) * p
+    under d n q m h p w e f less = ap (λ k. d + k) (sym f) ∙ less ∙ rw e (omega arith)
+
+    kept : (d m r p : ℕ) → 0 < p → d + m * p ≡ r * p → m ≤ r
+    kept d m r p positive sum = elim (cases_lt r m) [ inl over ↦ absurd (let h = times_more m r p over in omega arith) | inr fine ↦ fine ]
+
+    taken : (d m r p : ℕ) → m ≤ r → d + m * p ≡ r * p → d ≡ (r - m) * p
+    taken d m r p below sum =
+        let split = split_multiple r m p below in
+        omega arith
+
+    twice : (m q h : ℕ) → m % 2 ≡ 1 → (m + q * (h * 2)) % 2 ≡ 1
+    twice m q h odd = let even : q * (h * 2) ≡ (q * h) * 2 = omega arith in omega arith
+
+    untwice : (m q h : ℕ) → m ≤ q * (h * 2) → m % 2 ≡ 1 → (q * (h * 2) - m) % 2 ≡ 1
+    untwice m q h below odd = let even : q * (h * 2) ≡ (q * h) * 2 = omega arith in omega arith
+
+-- the wrapped difference of two numbers below p
+wrapped_less : (p x y : ℕ) → x < p → y < x → (y + (p - x)) % p ≡ y + (p - x)
+wrapped_less p x y fits less = mod-eq_of_lt (omega arith)
+
+wrapped_more : (p x y : ℕ) → x < p → y < p → x ≤ y → (y + (p - x)) % p ≡ y - x
+wrapped_more p x y x-fits y-fits more =
+    let round : y + (p - x) ≡ (y - x) + p = omega arith in
+    ap (λ k. k % p) round ∙ add-mod_right (y - x) p ∙ mod-eq_of_lt (omega arith)
+
+-- how far two numbers are apart is the wrapped difference of their lower parts and a multiple of p, on either side
+pub lower_distance : (p x y : ℕ) → 0 < p → (q : ℕ) × ((abs_diff x y ≡ (y % p + (p - x % p)) % p + q * p) ⊎ (abs_diff x y + (y % p + (p - x % p)) % p ≡ q * p))
+lower_distance p x y positive =
+    by_parts x y (x / p) (y / p) (x % p) (y % p) (sym (div-add-mod' x p)) (sym (div-add-mod' y p)) (mod-lt x positive) (mod-lt y positive)
+  where
+    by_parts : (x y a b m n : ℕ) → x ≡ a * p + m → y ≡ b * p + n → m < p → n < p → (q : ℕ) × ((abs_diff x y ≡ (n + (p - m)) % p + q * p) ⊎ (abs_diff x y + (n + (p - m)) % p ≡ q * p))
+    by_parts x y a b m n x-is y-is m-fits n-fits = elim (cases_lt n m) [
+      | inl less ↦
+          let wrapped = wrapped_less p m n m-fits less in
+          elim (cases_lt y x) [
+            | inl left ↦
+                let order : b ≤ a = elim (cases_lt a b) [ inl over ↦ absurd (let h = times_more b a p over in omega arith) | inr fine ↦ fine ] in
+                let split = split_multiple a b p order in
+                (a - b + 1, inr (rw wrapped (omega arith)))
+            | inr right ↦
+                let order : a < b = elim (cases_lt a b) [ inl fine ↦ fine | inr over ↦ absurd (let h = split_multiple a b p over in omega arith) ] in
+                let split = split_multiple b (a + 1) p (omega arith) in
+                (b - (a + 1), inl (rw wrapped (omega arith)))
+          ]
+      | inr more ↦
+          let wrapped = wrapped_more p m n m-fits n-fits more in
+          elim (cases_lt y x) [
+            | inl left ↦
+                let order : b ≤ a = elim (cases_lt a b) [ inl over ↦ absurd (let h = times_more b a p over in omega arith) | inr fine ↦ fine ] in
+                let split = split_multiple a b p order in
+                (a - b, inr (rw wrapped (omega arith)))
+            | inr right ↦
+                let order : a ≤ b = elim (cases_lt b a) [ inl over ↦ absurd (let h = times_more a b p over in omega arith) | inr fine ↦ fine ] in
+                let split = split_multiple b a p order in
+                (b - a, inl (rw wrapped (omega arith)))
+          ]
+    ]
+
+-- what is left of a distance without the factors of 2 of the wrapped difference of the lower parts
+pub lower_part : (w : Width) (x y d m n : ℕ) → d ≡ abs_diff x y → m ≡ x % 2 ^ bits w → n ≡ y % 2 ^ bits w → 0 < (n + (2 ^ bits w - m)) % 2 ^ bits w → (k : ℕ) × IsOddPart (abs_diff x y) (d / 2 ^ trailing_zeros w ((n + (2 ^ bits w - m)) % 2 ^ bits w)) k
+lower_part w x y d m n d-is m-is n-is above =
+    let positive : 0 < 2 ^ bits w = pow_pos (bits w) in
+    let wrapped = (n + (2 ^ bits w - m)) % 2 ^ bits w in
+    let fits : wrapped < 2 ^ bits w = mod-lt (n + (2 ^ bits w - m)) positive in
+    let stands = rw (sym m-is, sym n-is) at (lower_distance (2 ^ bits w) x y positive) in
+    let t = trailing_zeros w wrapped in
+    rw d-is (t, odd_part_beside (bits w) (abs_diff x y) wrapped stands.0 (wrapped / 2 ^ t) t (bit_at-trailing_zeros w wrapped above fits).0 (odd_part_is w wrapped above fits) stands.1)
+
+-- and of the whole wrapped difference of two numbers that are not the same
+pub distance_part : (w : Width) (x y d : ℕ) → x < 2 ^ bits w → y < 2 ^ bits w → x ≢ y → d ≡ abs_diff x y → (k : ℕ) × IsOddPart (abs_diff x y) (d / 2 ^ trailing_zeros w ((y + (2 ^ bits w - x)) % 2 ^ bits w)) k
+distance_part w x y d x-fits y-fits apart d-is =
+    lower_part w x y d x y d-is (sym (mod-eq_of_lt x-fits)) (sym (mod-eq_of_lt y-fits)) (elim (cases_lt y x) [
+      | inl less ↦ rw (wrapped_less (2 ^ bits w) x y x-fits less) (omega arith)
+      | inr more ↦ rw (wrapped_more (2 ^ bits w) x y x-fits y-fits more) (omega arith)
+    ])
 
 -- ---- a step of two odd numbers
 

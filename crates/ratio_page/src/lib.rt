@@ -1,0 +1,33 @@
+//! The calculator over memory: the lines of a text go in, and their answers come out.
+#![tactic(auto)]
+
+ghost use Rattle.ratio_page.specs.Page.{Shows};
+
+mod room;
+#[cfg(test)]
+mod tests;
+
+use ratio_lines::cut::cut;
+use room::put_answer;
+
+/// Writes the answers to the lines of `input` to the beginning of `room`, and says how many bytes they
+/// are. Where they have no place there, it says so by the greatest number, and `room` has their
+/// beginning.
+#[unsafe(no_mangle)]
+pub extern "C" fn ratio_page_answers(input: &[u8], room: &mut [u8]) -> usize
+    ensures { Shows input.now room.old room.new result }
+{
+    let mut rest = input;
+    let mut filled = 0;
+    'lines: while let Some((line, after)) = cut(rest, b'\n') {
+        match put_answer(line, room, filled) {
+            Some(end) => filled = end,
+            None => return usize::MAX,
+        }
+        rest = after;
+    }
+    if rest.is_empty() {
+        return filled;
+    }
+    put_answer(rest, room, filled).unwrap_or(usize::MAX)
+}

@@ -1,0 +1,49 @@
+//! Putting answers into a piece of memory, one behind the other.
+ghost use Rattle.std.specs.Prelude.{◌≡◌, ◌≤◌, length};
+ghost use Rattle.ratio_lines.specs.AnswerText.{bytes_of};
+ghost use Rattle.ratio_page.specs.Page.{IsAnswerPut, IsPut};
+
+use either::Either;
+use num_rational::Form;
+use ratio_lines::answer::answer;
+use ratio_lines::answer_text::AnswerText;
+
+/// Puts the answer to a line and a line end at a place, and says where they end. Where they have no
+/// place up to the room's end, their beginning fills it.
+pub fn put_answer(line: &[u8], room: &mut [u8], at: usize) -> Option<usize>
+    requires { at ≤ length room.old }
+    ensures { IsAnswerPut line.now at room.old room.new result }
+{
+    let end = put_text(&answer(line), room, at)?;
+    put(b"\n", room, end)
+}
+
+/// The same of an answer without its line end.
+fn put_text(answer: &AnswerText, room: &mut [u8], at: usize) -> Option<usize>
+    requires { at ≤ length room.old }
+    ensures { IsPut (bytes_of answer.now) at room.old room.new result }
+{
+    match answer {
+        Either::Left(text) => put(text.as_bytes(), room, at),
+        Either::Right(number) => {
+            let text = number.text(Form::Decimal, false);
+            put(text.as_str().as_bytes(), room, at)
+        }
+    }
+}
+
+/// The same of any bytes.
+fn put(bytes: &[u8], room: &mut [u8], at: usize) -> Option<usize>
+    requires { at ≤ length room.old }
+    ensures { IsPut bytes.now at room.old room.new result }
+{
+    let space = room.len() - at;
+    if bytes.len() <= space {
+        let end = at + bytes.len();
+        room[at..end].copy_from_slice(bytes);
+        Some(end)
+    } else {
+        room[at..].copy_from_slice(&bytes[..space]);
+        None
+    }
+}

@@ -1,0 +1,34 @@
+//! What stands in a room after a call, for rooms of every length around that of the answers.
+
+use crate::ratio_page_answers;
+use std::process::Abort;
+use std::test::Fail;
+
+const INPUT: &[u8] = b"1/2 + 1/3\n1 / 0\n\n2/4 cmp 1/2";
+
+const ANSWERS: &[u8] = b"5/6\nerror: division by zero\nerror: want LEFT OP RIGHT\n=\n";
+
+/// The room of this length has the answers and is untouched behind them, or has their beginning.
+fn shows(rt: &impl Abort, room: &mut [u8]) {
+    let count = ratio_page_answers(INPUT, room);
+    let fits = ANSWERS.len() <= room.len();
+    assert_eq!(rt; count, if fits { ANSWERS.len() } else { usize::MAX });
+    for i in 0..room.len() {
+        assert_eq!(rt; room[i], if i < ANSWERS.len() { ANSWERS[i] } else { b'.' });
+    }
+}
+
+#[test]
+fn rooms(rt: HostRuntime) -> Result<(), Fail> {
+    for length in [0, 1, 4, 55, 56, 57, 64] {
+        let mut room = [b'.'; 64];
+        shows(&rt, &mut room[..length]);
+    }
+    Ok(())
+}
+
+#[test]
+fn no_lines(rt: HostRuntime) -> Result<(), Fail> {
+    assert_eq!(rt; ratio_page_answers(b"", &mut []), 0);
+    Ok(())
+}

@@ -21,6 +21,20 @@ fn odd_part(n: u64) -> u64 {
     n >> n.trailing_zeros()
 }
 
+/// How far apart the two numbers are, without the factors of 2. The wrapped difference has as many, and
+/// a processor counts these while it takes the distance.
+///
+/// # Conditions
+///
+/// What is proved asks of the caller:
+///
+/// - `x ≢ y`
+#[inline(always)]
+fn odd_distance(x: u64, y: u64) -> u64 {
+    let zeros = y.wrapping_sub(x).trailing_zeros();
+    x.abs_diff(y) >> zeros
+}
+
 /// The greatest common divisor of two odd numbers.
 ///
 /// # Conditions
@@ -34,9 +48,9 @@ fn odd_gcd(a: u64, b: u64) -> u64 {
     let mut x = a;
     let mut y = b;
     while x != y {
-        let difference = x.abs_diff(y);
+        let rest = odd_distance(x, y);
         x = x.min(y);
-        y = odd_part(difference);
+        y = rest;
     }
     x
 }
@@ -66,6 +80,31 @@ fn odd_part_wide(n: u128) -> u128 {
     n >> n.trailing_zeros()
 }
 
+/// How far apart the two numbers are, without the factors of 2: those of the lower halves' wrapped
+/// difference, where that is not 0.
+///
+/// # Conditions
+///
+/// What is proved asks of the caller:
+///
+/// - `x ≢ y`
+#[inline(always)]
+fn odd_distance_wide(x: u128, y: u128) -> u128 {
+    let low = lower_half(y).wrapping_sub(lower_half(x));
+    let distance = x.abs_diff(y);
+    if low == 0 {
+        odd_part_wide(distance)
+    } else {
+        distance >> low.trailing_zeros()
+    }
+}
+
+/// The number without its upper 64 bits.
+#[inline(always)]
+fn lower_half(n: u128) -> u64 {
+    (n % (1 << 64)) as u64
+}
+
 /// The greatest common divisor of two odd numbers. A step in 128 bits costs several in 64, so the
 /// numbers go over to 64 bits once both fit.
 ///
@@ -83,9 +122,9 @@ fn odd_gcd_wide(a: u128, b: u128) -> u128 {
         if x <= u64::MAX as u128 && y <= u64::MAX as u128 {
             return odd_gcd(x as u64, y as u64) as u128;
         }
-        let difference = x.abs_diff(y);
+        let rest = odd_distance_wide(x, y);
         x = x.min(y);
-        y = odd_part_wide(difference);
+        y = rest;
     }
     x
 }

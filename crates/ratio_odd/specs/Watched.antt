@@ -1,0 +1,11 @@
+-- Watched numbers: what they stand for.
+use Rattle.std.specs.Prelude.{ℤ, None}
+use Rattle.ratio_odd.specs.declared.watch8.Watched.{Watched}
+
+-- the number that a watched number stands for
+abbrev pub watched_number : {C : _} → Watched C → ℤ
+watched_number w = w.n
+
+-- the number z without counters
+abbrev pub unwatched : {C : _} → ℤ → Watched C
+unwatched z = record { n = z; counters = None }

@@ -1,0 +1,15 @@
+//! Types that meet the laws of `Integer` and are no primitive ones, and every fraction of the smallest
+//! of them walked.
+#![tactic(auto)]
+
+mod nat2;
+mod sym5;
+#[cfg(test)]
+mod tests;
+mod two3;
+mod watch8;
+
+pub use nat2::Nat2;
+pub use sym5::Sym5;
+pub use two3::Two3;
+pub use watch8::{Counter, Watch8, Watched};

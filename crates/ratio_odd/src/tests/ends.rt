@@ -1,0 +1,58 @@
+//! Rows at the ends of the signed primitive types.
+use super::written::Written;
+use num_rational::Ratio;
+use ratio_integer::SignedInteger;
+use std::cmp::Ordering;
+use std::hash::Hash;
+
+/// Whether `n/d` stands so to `m/e`.
+fn stands<T: SignedInteger>(n: T, d: T, m: T, e: T, order: Ordering) -> bool {
+    !d.is_zero() && !e.is_zero() && Ratio::new_raw(n, d).cmp(&Ratio::new_raw(m, e)) == order
+}
+
+/// Whether a hasher is fed with these codes of `n/d`, and with no others.
+fn has_codes<T: SignedInteger>(n: T, d: T, codes: &[T]) -> bool {
+    if d.is_zero() {
+        return false;
+    }
+    let mut wanted = Written::new();
+    for code in codes {
+        code.hash(&mut wanted);
+    }
+    Written::of(&Ratio::new_raw(n, d)).as_slice() == wanted.as_slice()
+}
+
+/// Whether the greatest and the least fraction are ordered and hashed by their values.
+fn are_ordered<T: SignedInteger>(minus_one: T, above_max: &[T], one: &[T]) -> bool {
+    stands(T::MIN, minus_one, T::MAX, T::ONE, Ordering::Greater)
+        && stands(T::MIN, T::MIN, T::ONE, T::ONE, Ordering::Equal)
+        && stands(T::ONE, T::MIN, minus_one, T::MAX, Ordering::Greater)
+        && stands(T::MIN, T::MAX, T::MAX, T::MIN, Ordering::Less)
+        && has_codes(T::MIN, minus_one, above_max)
+        && has_codes(T::MIN, T::MIN, one)
+}
+
+/// Whether the ends are rounded to themselves, and a 0 over the least number is 0/1.
+fn are_whole<T: SignedInteger>() -> bool {
+    let zero = match Ratio::checked_new(T::ZERO, T::MIN) {
+        Some(zero) => zero.into_raw() == (T::ZERO, T::ONE),
+        None => false,
+    };
+    zero && Ratio::from_integer(T::MIN).floor().into_raw() == (T::MIN, T::ONE)
+        && Ratio::from_integer(T::MAX).ceil().into_raw() == (T::MAX, T::ONE)
+}
+
+/// Whether all rows hold over `T`: the codes are those of `MIN/-1` and of 1.
+fn hold<T: SignedInteger>(minus_one: T, above_max: &[T], one: &[T]) -> bool {
+    are_ordered(minus_one, above_max, one) && are_whole::<T>()
+}
+
+#[test]
+fn signed_primitives(rt: HostRuntime) {
+    assert!(rt; hold(-1, &[i8::MIN, i8::MIN, 0], &[1, 0]));
+    assert!(rt; hold(-1, &[i16::MIN, i16::MIN, 0], &[1, 0]));
+    assert!(rt; hold(-1, &[i32::MIN, i32::MIN, 0], &[1, 0]));
+    assert!(rt; hold(-1, &[i64::MIN, i64::MIN, 0], &[1, 0]));
+    assert!(rt; hold(-1, &[i128::MIN, i128::MIN, 0], &[1, 0]));
+    assert!(rt; hold(-1, &[isize::MIN, isize::MIN, 0], &[1, 0]));
+}

@@ -1,0 +1,72 @@
+//! Powers of every fraction of the three smallest types, beside a plain model.
+use super::fractions::{fraction, has, looked_at};
+use super::plain::{Plain, Range};
+use crate::{Nat2, Sym5, Two3};
+use ratio_integer::Integer;
+use std::process::Abort;
+use std::test::Fail;
+
+/// The power's numerator and denominator, if the type holds them: each number to the magnitude of the
+/// exponent, and for a negative one these turned over, with the sign above.
+fn power(x: Plain, exponent: i32, range: Range) -> Option<(i128, i128)> {
+    let numer = (x.n as i128).checked_pow(exponent.unsigned_abs())?;
+    let denom = (x.d as i128).checked_pow(exponent.unsigned_abs())?;
+    if !range.holds(numer) || !range.holds(denom) {
+        return None;
+    }
+    if exponent >= 0 {
+        return Some((numer, denom));
+    }
+    let turned = numer.checked_neg()?;
+    if numer > 0 {
+        Some((denom, numer))
+    } else if numer < 0 && range.holds(turned) {
+        Some((denom.checked_neg()?, turned))
+    } else {
+        None
+    }
+}
+
+/// Whether `checked_pow` answers what the model does, if `T` has the fraction and its denominator is
+/// positive.
+fn raised_well<T: Integer>(x: Plain, exponent: i32, range: Range) -> Option<bool> {
+    let value = fraction::<T>(x)?;
+    if T::ZERO < *value.denom() {
+        Some(
+            match (value.checked_pow(exponent), power(x, exponent, range)) {
+                (Some(answer), Some((numer, denom))) => has(answer, numer, denom),
+                (None, None) => true,
+                _ => false,
+            },
+        )
+    } else {
+        None
+    }
+}
+
+/// How many fractions of `T` are raised as in the model, to each exponent from -4 to 4.
+fn raised<T: Integer>(rt: &impl Abort, range: Range) -> u32 {
+    let mut looked = 0;
+    for n in -5..=5 {
+        for d in 1..=5 {
+            for exponent in -4..=4 {
+                looked = looked_at(
+                    rt,
+                    looked,
+                    raised_well::<T>(Plain { n, d }, exponent, range),
+                );
+            }
+        }
+    }
+    looked
+}
+
+#[test]
+fn every_power(rt: HostRuntime) -> Result<(), Fail> {
+    let sym5 = raised::<Sym5>(&rt, Range { lo: -5, hi: 5 });
+    let nat2 = raised::<Nat2>(&rt, Range { lo: 0, hi: 2 });
+    let two3 = raised::<Two3>(&rt, Range { lo: -3, hi: 2 });
+    println!(rt; "raised: {sym5}, {nat2}, {two3}")?;
+    assert!(rt; sym5 == 9 * 55 && nat2 == 9 * 6 && two3 == 9 * 12);
+    Ok(())
+}

@@ -1,0 +1,140 @@
+//! The divisions of the order and of the codes, counted where they are made.
+use super::fractions::looked_at;
+use super::plain::{self, Euclid, Plain};
+use super::written::Written;
+use crate::Watch8;
+use num_rational::Ratio;
+use ratio_integer::Integer;
+use std::cell::Cell;
+use std::process::Abort;
+use std::test::Fail;
+
+/// The quotient of -128 by -1, the only one that `i8` does not hold.
+const ABOVE_MAX: i128 = 128;
+
+/// The watched fraction.
+fn watched<'a>(x: Plain, divs: &'a Cell<u32>, sums: &'a Cell<u32>) -> Option<Ratio<Watch8<'a>>> {
+    let denom = Watch8::new(x.d, divs, sums);
+    if denom.is_zero() {
+        None
+    } else {
+        Some(Ratio::new_raw(Watch8::new(x.n, divs, sums), denom))
+    }
+}
+
+/// Whether the counts are at most so many divisions, and eight times one more sums and differences.
+fn are_within(divs: &Cell<u32>, sums: &Cell<u32>, most: u8) -> bool {
+    divs.get() <= most as u32 && sums.get() <= 8 * (most as u32 + 1)
+}
+
+/// Whether `cmp` of the two makes at most so many divisions and answers as the model does, if both
+/// are fractions.
+fn compares_within(x: Plain, y: Plain, most: u8) -> Option<bool> {
+    let divs = Cell::new(0);
+    let sums = Cell::new(0);
+    let left = watched(x, &divs, &sums)?;
+    let right = watched(y, &divs, &sums)?;
+    let order = left.cmp(&right);
+    Some(order == plain::order(x, y) && are_within(&divs, &sums, most))
+}
+
+/// Whether `hash` makes at most so many divisions, if this is a fraction.
+fn hashes_within(x: Plain, most: u8) -> Option<bool> {
+    let divs = Cell::new(0);
+    let sums = Cell::new(0);
+    let fraction = watched(x, &divs, &sums)?;
+    let _ = Written::of(&fraction);
+    Some(are_within(&divs, &sums, most))
+}
+
+/// How many divisions both sides may make together: none where both cross products are held, else one
+/// a side for each pair of quotients up to the first that differ, or that the type does not hold.
+fn divisions_of_order(x: Plain, y: Plain) -> u8 {
+    if i8::from_i128(plain::times(x.n, y.d) as i128).is_some()
+        && i8::from_i128(plain::times(y.n, x.d) as i128).is_some()
+    {
+        return 0;
+    }
+    let mut left = Euclid::of(x);
+    let mut right = Euclid::of(y);
+    let mut divisions = 0u8;
+    for _ in 0..20 {
+        match (left.quotient(), right.quotient()) {
+            (Some(p), Some(q)) if p != ABOVE_MAX && q != ABOVE_MAX => {
+                divisions = divisions.wrapping_add(2);
+                if p != q {
+                    return divisions;
+                }
+            }
+            _ => return divisions,
+        }
+    }
+    divisions
+}
+
+/// How many divisions the codes may take: one for each quotient that the type holds.
+fn divisions_of_codes(x: Plain) -> u8 {
+    let mut euclid = Euclid::of(x);
+    let mut divisions = 0u8;
+    for _ in 0..20 {
+        match euclid.quotient() {
+            Some(q) if q != ABOVE_MAX => divisions = divisions.wrapping_add(1),
+            _ => return divisions,
+        }
+    }
+    divisions
+}
+
+#[test]
+fn rows(rt: HostRuntime) {
+    for (n, d, m, e, most) in [(125, 127, 124, 125, 6), (127, 2, 1, 3, 2)] {
+        assert!(rt; compares_within(Plain { n, d }, Plain { n: m, d: e }, most) == Some(true));
+    }
+    for (n, d, most) in [(89, 55, 9), (127, 1, 1), (-128, -1, 0), (-1, -128, 1)] {
+        assert!(rt; hashes_within(Plain { n, d }, most) == Some(true));
+        assert!(rt; divisions_of_codes(Plain { n, d }) == most);
+    }
+}
+
+/// How many fractions are compared with `y`, both ways, within the divisions of the model.
+fn compared(rt: &impl Abort, y: Plain) -> u32 {
+    let mut looked = 0;
+    for n in i8::MIN..=i8::MAX {
+        for d in i8::MIN..=i8::MAX {
+            let x = Plain { n, d };
+            looked = looked_at(rt, looked, compares_within(x, y, divisions_of_order(x, y)));
+            looked = looked_at(rt, looked, compares_within(y, x, divisions_of_order(y, x)));
+        }
+    }
+    looked
+}
+
+/// How many fractions are hashed within the divisions of the model.
+fn hashed(rt: &impl Abort) -> u32 {
+    let mut looked = 0;
+    for n in i8::MIN..=i8::MAX {
+        for d in i8::MIN..=i8::MAX {
+            let x = Plain { n, d };
+            looked = looked_at(rt, looked, hashes_within(x, divisions_of_codes(x)));
+        }
+    }
+    looked
+}
+
+#[test]
+fn every_comparison(rt: HostRuntime) -> Result<(), Fail> {
+    for (n, d) in [(1, 3), (-128, -1), (-1, -128)] {
+        let looked = compared(&rt, Plain { n, d });
+        println!(rt; "{looked} watched comparisons with {n}/{d}")?;
+        assert!(rt; looked == 2 * 65_280);
+    }
+    Ok(())
+}
+
+#[test]
+fn every_hash(rt: HostRuntime) -> Result<(), Fail> {
+    let looked = hashed(&rt);
+    println!(rt; "{looked} watched hashes")?;
+    assert!(rt; looked == 65_280);
+    Ok(())
+}

@@ -102,6 +102,10 @@ rest_unique n d x r y s f g =
     let same : x *ℤ d ≡ y *ℤ d = ap (λ (t : ℤ). t *ℤ d) (quotient_unique n d x r y s f g) in
     omega (arith, ints, f.sum, g.sum)
 
+-- a number over 1 is its own quotient
+pub floored_by_one : (n d : ℤ) → d ≡ pos 1 → IsFloored n d n (pos 0)
+floored_by_one n d one = record { sum = (let whole : n *ℤ d ≡ n *ℤ pos 1 = ap (λ (t : ℤ). n *ℤ t) one in omega (arith, ints)); rest = inl (omega (arith, ints), omega (arith, ints)) }
+
 -- ---- there is one
 
 pub record HasFloored (n d : ℤ) : Type 0 where

@@ -5,6 +5,7 @@ pub mod CutLemmas
 pub mod DigitGroups
 pub mod EqualityLaws
 pub mod Floored
+pub mod Following
 pub mod HashLaws
 pub mod Hashing
 pub mod LawLemmas

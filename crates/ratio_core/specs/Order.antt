@@ -1,7 +1,8 @@
 -- How fractions stand to one another, by their cross products.
-use Rattle.std.specs.Prelude.{◌≡◌, ◌≢◌, ◌⊎◌, ◌≤ℤ◌, ◌<ℤ◌, ◌*ℤ◌, ℤ, pos, negsuc}
+use Rattle.std.specs.Prelude.{◌≡◌, ◌≢◌, ◌⊎◌, ◌≤ℤ◌, ◌<ℤ◌, ◌*ℤ◌, ℤ, pos, negsuc, Result, Ok, Err}
 use Rattle.std.specs.Ordering.{MatchOrdering, int_cmp}
 use Rattle.std.specs.declared.cmp.Ordering.{Ordering}
+use Rattle.ratio_integer.specs.Division.{IsFloored}
 use Rattle.ratio_integer.specs.Range.{IsHeld}
 
 -- the sign of a number is -1 where it is below 0, and else 1
@@ -26,6 +27,19 @@ pub record AreProductsHeld (lo hi n d m e : ℤ) : Type 0 where
 -- the fractions do
 abbrev pub DoNumeratorsDecide : ℤ → ℤ → ℤ → ℤ → Type 0
 DoNumeratorsDecide n d m e = (pos 0 <ℤ d) × (pos 0 <ℤ e) × ((d ≡ e) ⊎ HaveUnlikeSigns n m)
+
+-- the floored quotient of n/d is another number than q, and at most hi, and q stands to it so
+pub record IsOrderOfQuotients (hi q n d : ℤ) (order : Ordering) : Type 0 where
+  pub quotient : ℤ
+  pub rest : ℤ
+  pub floored : IsFloored n d quotient rest
+  pub below : quotient ≤ℤ hi
+  pub apart : MatchOrdering order (q <ℤ quotient) ⊥ (quotient <ℤ q)
+
+-- the answer is the rest of n/d where q is its floored quotient, and else how q stands to that
+abbrev pub FollowsQuotient : {T : Type 0} → (T → ℤ) → ℤ → ℤ → ℤ → ℤ → Result T Ordering → Type 0
+FollowsQuotient value hi q n d (Ok rest) = IsFloored n d q (value rest)
+FollowsQuotient value hi q n d (Err order) = IsOrderOfQuotients hi q n d order
 
 -- the whole parts p and q and the rests r and s decide the order o: it is that of p and q where they differ, and where they are
 -- equal, one without a rest is below one with a rest, and two without are equal

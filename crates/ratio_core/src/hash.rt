@@ -36,6 +36,14 @@ fn take_codes<T: Integer, L: CodeList<T>>(n: T, d: T, list: &mut L, steps: &mut 
     let mut numer = n;
     let mut denom = d;
     'rounds: while !is_above_max(numer, denom) {
+        // A number over 1 is its own quotient: a step without a division.
+        if denom.is_one() {
+            let _ = numer.held();
+            steps.tick_left();
+            list.take(numer);
+            list.take(T::ZERO);
+            return;
+        }
         let (quotient, rest) = divide_left(numer, denom, steps);
         list.take(quotient);
         if rest.is_zero() {

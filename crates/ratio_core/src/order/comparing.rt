@@ -12,7 +12,7 @@ use std::cmp::Ordering;
 
 /// How `n/d` stands to `m/e`, for denominators of either sign, reduced or not. Where the type holds
 /// both cross products these are compared, and no step is made. Elsewhere both fractions are divided
-/// in rounds by Euclid's algorithm, one division a side and round, until two quotients differ.
+/// in rounds by Euclid's algorithm, one step a side and round, until two quotients differ.
 pub fn cmp_counted<T: Integer>(n: T, d: T, m: T, e: T, steps: &mut Steps) -> Ordering
     requires left_nonzero { T.value d ≢ pos 0 }
     requires right_nonzero { T.value e ≢ pos 0 }

@@ -14,7 +14,7 @@ pub(crate) fn order_of_products<T: Integer>(n: T, d: T, m: T, e: T) -> Option<Or
     ensures { MatchOption result
         (¬ (AreProductsHeld T.lo T.hi (T.value n) (T.value d) (T.value m) (T.value e)))
         (λ order. (order ≡ cross_cmp (T.value n) (T.value d) (T.value m) (T.value e))
-            × AreProductsHeld T.lo T.hi (T.value n) (T.value d) (T.value m) (T.value e)) }
+        × AreProductsHeld T.lo T.hi (T.value n) (T.value d) (T.value m) (T.value e)) }
 {
     let left = n.try_times(e)?;
     let right = m.try_times(d)?;

@@ -1,11 +1,12 @@
-//! The order of fractions by rounds of Euclid's algorithm on both, one division a side and round.
-ghost use Rattle.std.specs.Prelude.{◌≡◌, ◌≢◌, ◌+ℤ◌, pos, cond, MatchOption};
+//! The order of fractions by rounds of Euclid's algorithm on both, a step a side and round.
+ghost use Rattle.std.specs.Prelude.{◌≡◌, ◌≢◌, ◌+ℤ◌, ℤ, pos, cond, MatchOption};
 ghost use Rattle.std.specs.Ordering.{ordering_reverse};
 ghost use Rattle.ratio_core.specs.ContinuedFraction.{Compares, IsCompared};
 ghost use Rattle.ratio_integer.specs.Division.{IsAboveMax};
 ghost use Rattle.ratio_core.specs.Order.{IsOrderOfParts};
 
-use crate::order::dividing::{divide_left, divide_right, is_above_max};
+use crate::order::dividing::{divide_left, is_above_max};
+use crate::order::following::follow_right;
 use crate::steps::Steps;
 use ratio_integer::Integer;
 use std::cmp::Ordering;
@@ -28,8 +29,11 @@ pub(crate) fn cmp_by_rounds<T: Integer>(n: T, d: T, m: T, e: T, steps: &mut Step
             return turned(reversed, order);
         }
         let (quotient, rest) = divide_left(numer, denom, steps);
-        let (other_quotient, other_rest) = divide_right(other_numer, other_denom, steps);
-        if let Some(order) = order_of_parts(quotient, rest, other_quotient, other_rest) {
+        let other_rest = match follow_right(quotient, other_numer, other_denom, steps) {
+            Ok(other_rest) => other_rest,
+            Err(order) => return turned(reversed, order),
+        };
+        if let Some(order) = order_of_rests(rest, other_rest) {
             return turned(reversed, order);
         }
         numer = denom;
@@ -58,26 +62,16 @@ fn order_at_top<T: Integer>(n: T, d: T, m: T, e: T) -> Option<Ordering>
     }
 }
 
-/// How the two stand by their quotients and by whether a rest is left, where these decide.
-fn order_of_parts<T: Integer>(
-    quotient: T,
-    rest: T,
-    other_quotient: T,
-    other_rest: T,
-) -> Option<Ordering>
-    ensures { MatchOption result
-        ((T.value quotient ≡ T.value other_quotient) × (T.value rest ≢ pos 0) × (T.value other_rest ≢ pos 0))
-        (λ order. IsOrderOfParts (T.value quotient) (T.value rest) (T.value other_quotient) (T.value other_rest) order) }
+/// How two of one quotient stand, by whether a rest is left, where this decides.
+fn order_of_rests<T: Integer>(rest: T, other_rest: T) -> Option<Ordering>
+    ensures { MatchOption result ((T.value rest ≢ pos 0) × (T.value other_rest ≢ pos 0))
+        (λ order. (quotient : ℤ) → IsOrderOfParts quotient (T.value rest) quotient (T.value other_rest) order) }
 {
-    match quotient.cmp(&other_quotient) {
-        Ordering::Less => Some(Ordering::Less),
-        Ordering::Greater => Some(Ordering::Greater),
-        Ordering::Equal => match (rest.is_zero(), other_rest.is_zero()) {
-            (true, true) => Some(Ordering::Equal),
-            (true, false) => Some(Ordering::Less),
-            (false, true) => Some(Ordering::Greater),
-            (false, false) => None,
-        },
+    match (rest.is_zero(), other_rest.is_zero()) {
+        (true, true) => Some(Ordering::Equal),
+        (true, false) => Some(Ordering::Less),
+        (false, true) => Some(Ordering::Greater),
+        (false, false) => None,
     }
 }
 

@@ -2,7 +2,7 @@
 //! A count of divisions that only contracts see.
 
 /// How many steps each side of a comparison has taken, or, on the left side, a list of codes. A step
-/// is one division. It has no bytes at run time: both numbers are unbounded, and only clauses and
+/// finds one quotient, by one division at most. It has no bytes at run time: both numbers are unbounded, and only clauses and
 /// proofs see them.
 pub struct Steps {}
 

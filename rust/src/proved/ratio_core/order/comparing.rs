@@ -10,7 +10,7 @@ use core::cmp::Ordering;
 
 /// How `n/d` stands to `m/e`, for denominators of either sign, reduced or not. Where the type holds
 /// both cross products these are compared, and no step is made. Elsewhere both fractions are divided
-/// in rounds by Euclid's algorithm, one division a side and round, until two quotients differ.
+/// in rounds by Euclid's algorithm, one step a side and round, until two quotients differ.
 ///
 /// # Conditions
 ///

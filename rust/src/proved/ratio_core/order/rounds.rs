@@ -1,7 +1,8 @@
 // Erased from crates/ratio_core/src/order/rounds.rt by rust/erase: not to be edited.
-//! The order of fractions by rounds of Euclid's algorithm on both, one division a side and round.
+//! The order of fractions by rounds of Euclid's algorithm on both, a step a side and round.
 
-use crate::proved::ratio_core::order::dividing::{divide_left, divide_right, is_above_max};
+use crate::proved::ratio_core::order::dividing::{divide_left, is_above_max};
+use crate::proved::ratio_core::order::following::follow_right;
 use crate::proved::ratio_core::steps::Steps;
 use crate::proved::ratio_integer::Integer;
 use core::cmp::Ordering;
@@ -27,8 +28,11 @@ pub(crate) fn cmp_by_rounds<T: Integer>(n: T, d: T, m: T, e: T, steps: &mut Step
             return turned(reversed, order);
         }
         let (quotient, rest) = divide_left(numer, denom, steps);
-        let (other_quotient, other_rest) = divide_right(other_numer, other_denom, steps);
-        if let Some(order) = order_of_parts(quotient, rest, other_quotient, other_rest) {
+        let other_rest = match follow_right(quotient, other_numer, other_denom, steps) {
+            Ok(other_rest) => other_rest,
+            Err(order) => return turned(reversed, order),
+        };
+        if let Some(order) = order_of_rests(rest, other_rest) {
             return turned(reversed, order);
         }
         numer = denom;
@@ -59,23 +63,14 @@ fn order_at_top<T: Integer>(n: T, d: T, m: T, e: T) -> Option<Ordering> {
     }
 }
 
-/// How the two stand by their quotients and by whether a rest is left, where these decide.
+/// How two of one quotient stand, by whether a rest is left, where this decides.
 #[inline]
-fn order_of_parts<T: Integer>(
-    quotient: T,
-    rest: T,
-    other_quotient: T,
-    other_rest: T,
-) -> Option<Ordering> {
-    match quotient.cmp(&other_quotient) {
-        Ordering::Less => Some(Ordering::Less),
-        Ordering::Greater => Some(Ordering::Greater),
-        Ordering::Equal => match (rest.is_zero(), other_rest.is_zero()) {
-            (true, true) => Some(Ordering::Equal),
-            (true, false) => Some(Ordering::Less),
-            (false, true) => Some(Ordering::Greater),
-            (false, false) => None,
-        },
+fn order_of_rests<T: Integer>(rest: T, other_rest: T) -> Option<Ordering> {
+    match (rest.is_zero(), other_rest.is_zero()) {
+        (true, true) => Some(Ordering::Equal),
+        (true, false) => Some(Ordering::Less),
+        (false, true) => Some(Ordering::Greater),
+        (false, false) => None,
     }
 }
 

@@ -12,6 +12,7 @@ pub mod LawLemmas
 pub mod NumberLemmas
 pub mod NumbersExist
 pub mod OrderLaws
+pub mod PowerLawLemmas
 pub mod PowerLemmas
 pub mod PowerLoop
 pub mod PrintingLemmas

@@ -4,6 +4,7 @@ pub mod ContinuedFraction
 pub mod Laws
 pub mod Order
 pub mod Power
+pub mod PowerLaws
 pub mod Printing
 pub mod Reading
 pub mod Refusal

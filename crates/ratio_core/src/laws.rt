@@ -1,6 +1,7 @@
 //! The laws of sums and products: each function's contract is the law, and it does nothing. An
 //! answer of `checked_add` or `checked_mul` is the sum or the product that they speak of.
 ghost use Rattle.ratio_core.specs.Laws.{FormedDifferencesFit, FormedSumsFit, ProductsAssociate, ProductsCommute, ProductsDistribute, SumConditionsCommute, SumsAssociate, SumsCommute};
+ghost use Rattle.ratio_core.specs.PowerLaws.{PartsAddUp, PartsAreAnswered, PowersAdd, PowersAreProducts, ReciprocalsInvert};
 ghost use Rattle.ratio_core.specs.Rounding.{IsCeiling, IsFloor, IsRounded, IsTruncation};
 ghost use Rattle.ratio_core.specs.RoundingLaws.{CeilingsAreNextToFloors, EachHasOne, IsByValue};
 
@@ -40,4 +41,17 @@ pub fn roundings_by_value()
     ensures ceilings { IsByValue IsCeiling }
     ensures truncations { IsByValue IsTruncation }
     ensures rounded { IsByValue IsRounded }
+{}
+
+/// Reciprocals and powers.
+pub fn powers()
+    ensures products { PowersAreProducts }
+    ensures add { PowersAdd }
+    ensures invert { ReciprocalsInvert }
+{}
+
+/// A fraction is the sum of its two parts, and this sum is always answered.
+pub fn parts()
+    ensures add_up { PartsAddUp }
+    ensures answered { PartsAreAnswered }
 {}

@@ -14,5 +14,5 @@ pub returns-else-is_below_zero : goal.returns-else-is_below_zero
 returns-else-is_below_zero g c =
     let v = g.T.Integer.value in
     let m = g.met.T.Integer in
-    less_iff c.lt-else-is_below_zero.result (v c.args.rest) (v c.minus-else-is_below_zero.result) (rw c.lt-else-is_below_zero.ensures (m.lt_law c.args.rest c.minus-else-is_below_zero.result)) (
+    less_iff c.lt-else-is_below_zero.result (v c.args.part) (v c.minus-else-is_below_zero.result) (rw c.lt-else-is_below_zero.ensures (m.lt_law c.args.part c.minus-else-is_below_zero.result)) (
     missing_above _ _ _ (if_false _ c.is_below_zero.ensures c.if-is_below_zero.false) c.minus-else-is_below_zero.ensures)

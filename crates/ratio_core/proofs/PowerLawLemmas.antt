@@ -1,18 +1,18 @@
 -- Powers of sums of exponents, reciprocals as inverses, and a fraction as the sum of its parts.
-use Rattle.std.specs.Prelude.{◌≡◌, ◌≢◌, ◌⊎◌, ◌+◌, ◌*◌, ◌≤ℤ◌, ◌<ℤ◌, ◌+ℤ◌, ◌-ℤ◌, ◌*ℤ◌, ℕ, ℤ, Bool, true, false, zero, suc, pos, negsuc, neg_ℤ}
+use Rattle.std.specs.Prelude.{◌≡◌, ◌≢◌, ◌⊎◌, ◌+◌, ◌*◌, ◌≤ℤ◌, ◌<ℤ◌, ◌+ℤ◌, ◌-ℤ◌, ◌*ℤ◌, ℕ, ℤ, true, false, zero, suc, pos, negsuc, neg_ℤ}
 use Rattle.std.specs.Int.{int_pow}
 use Rattle.std.proofs.Common.{refl, sym, ap, arith, ◌∙◌, inl, inr, add-one}
 use Rattle.std.proofs.lemmas.Int.{ints}
 use borrow.Author.Differences.{up, down, product_is, same_in}
 use Rattle.std.proofs.Math.Nat.{eq-one_of_dvd-one}
 use lib.IntN.{*ℤ_comm}
-use Rattle.ratio_integer.specs.Arithmetic.{IsHeldScaled, IsLeastCommon, IsScaled, SumHeld, product_of}
-use Rattle.ratio_integer.specs.Fraction.{IsLowestTerms, SameValue}
+use Rattle.ratio_integer.specs.Arithmetic.{IsLeastCommon, SumHeld}
+use Rattle.ratio_integer.specs.Fraction.{IsLowestTerms}
 use Rattle.ratio_integer.specs.Range.{IsHeld, IsRange}
 use Rattle.ratio_integer.proofs.DivisionLemmas.{low_below}
 use Rattle.ratio_integer.proofs.Whole.{mul_assoc, mul-swap_inner, mul_cancel, mul_nonzero, neg-mul, positive_factor, positive_nonzero}
-use Rattle.ratio_core.specs.Laws.{IsProduct, IsSum}
-use Rattle.ratio_core.specs.Power.{IsPower, IsReciprocal, PowerCondition}
+use Rattle.ratio_core.specs.Laws.{IsProduct}
+use Rattle.ratio_core.specs.Power.{IsPower, PowerCondition}
 use Rattle.ratio_core.specs.PowerLaws.{PartsAddUp, PartsAreAnswered, PowersAdd, PowersAreProducts, ReciprocalsInvert}
 use Rattle.ratio_core.specs.Rounding.{IsFractionalPart, IsTruncation}
 use Rattle.ratio_core.proofs.LawLemmas.{formed_sums_fit}

@@ -1,6 +1,7 @@
 //! Answers, as both libraries write them, and the element types.
 
 use num_integer::Integer;
+use num_rational::Ratio;
 use num_traits::{CheckedAdd, CheckedDiv, CheckedMul, CheckedSub};
 use std::fmt::{Debug, Display};
 use std::hash::Hash;
@@ -50,6 +51,9 @@ pub trait Number:
     const BITS: u32;
 
     fn narrow(n: i128) -> Self;
+
+    /// A power by the crate, which asks for a trait of references to the type.
+    fn power(x: &Ratio<Self>, exponent: i32) -> Ratio<Self>;
 }
 
 macro_rules! number {
@@ -59,6 +63,10 @@ macro_rules! number {
 
             fn narrow(n: i128) -> $t {
                 n as $t
+            }
+
+            fn power(x: &Ratio<$t>, exponent: i32) -> Ratio<$t> {
+                x.pow(exponent)
             }
         }
     )*};

@@ -82,6 +82,14 @@ impl<'a, C: Crossing> Bench<'a, C> {
             self.remainders(kind, &low);
             self.answers("reduced", kind, &raw, e.reduced, theirs::reduced);
             self.answers("gcd", kind, &raw, e.gcd, theirs::gcd);
+            // Of wider fields the crate rounds some wrongly, and no type holds most powers.
+            if kind == "small" || kind == "half" {
+                self.answers("floor", kind, &low, e.floor, theirs::floor);
+                self.answers("round", kind, &low, e.round, theirs::round);
+                self.answers("to_integer", kind, &low, e.to_integer, theirs::to_integer);
+                self.answers("recip", kind, &low, e.recip, theirs::recip);
+                self.powers(kind, &low);
+            }
             self.from_str(kind, &raw);
             self.text(kind, &low);
         }
@@ -204,6 +212,32 @@ impl<'a, C: Crossing> Bench<'a, C> {
         }
         let run = self.exports.checked_rem;
         self.answers("checked_rem", kind, &Inputs::new(defined), run, theirs::checked_rem);
+    }
+
+    /// Powers of each first fraction that is not 0, with small exponents of both signs: each is held.
+    fn powers(&mut self, kind: &str, inputs: &Inputs<C>) {
+        if !self.passes("pow", kind) {
+            return;
+        }
+        let fields: Vec<Fields> = inputs.fields.iter().filter(|f| f[0] != 0).copied().collect();
+        let inputs = Inputs::<C>::new(fields);
+        let most = if kind == "small" { 3 } else { 2 };
+        let exponent = |f: &Fields| f[2].rem_euclid(2 * most + 1) as i32 - most as i32;
+        let exponents: Vec<i32> = inputs.fields.iter().map(exponent).collect();
+        let run = self.exports.pow;
+        let len = inputs.ours.len();
+        let mut a = vec![Place::<C>::empty(); len];
+        let mut b = vec![Answer::none(8); len];
+        let (pairs, places) = (inputs.ours.as_ptr(), a.as_mut_ptr());
+        let mut ours = || unsafe { run(pairs, len, exponents.as_ptr(), len, places, len) };
+        let mut theirs = || theirs::pow(&inputs.theirs, &exponents, &mut b);
+        let times = times(len, &mut ours, &mut theirs);
+        for i in 0..len {
+            if a[i].answer() != b[i] {
+                self.differs("pow", &(&inputs.fields[i], exponents[i]), &a[i].answer(), &b[i]);
+            }
+        }
+        self.row("pow", kind, times, Counts { both: len, ..Counts::default() });
     }
 
     fn from_str(&mut self, kind: &str, inputs: &Inputs<C>) {

@@ -12,6 +12,8 @@ pub fn goal(call: &str, kind: &str) -> f64 {
         "gcd" | "reduced" => 0.7,
         "checked_add" | "checked_sub" if simple => 0.5,
         "checked_mul" | "checked_div" if simple => 0.3,
+        "floor" | "round" => 0.8,
+        "to_integer" | "recip" | "pow" => 1.0,
         "hash" => 0.9,
         "from_str" => 0.6,
         "text" => 0.4,

@@ -114,13 +114,19 @@ pub struct Exports<C> {
     pub checked_rem: Answering<C>,
     pub reduced: Answering<C>,
     pub gcd: Answering<C>,
+    pub floor: Answering<C>,
+    pub round: Answering<C>,
+    pub to_integer: Answering<C>,
+    pub recip: Answering<C>,
+    pub pow: unsafe extern "C" fn(*const Pair<C>, usize, *const i32, usize, *mut Place<C>, usize),
     pub from_str: unsafe extern "C" fn(*const u8, usize, *const usize, usize, *mut Place<C>, usize),
     pub text: unsafe extern "C" fn(*const Pair<C>, usize, *mut u8, usize) -> usize,
 }
 
 macro_rules! exports {
     ($list:ident, $c:ty, $compare:ident, $hash:ident, $add:ident, $sub:ident, $mul:ident,
-     $div:ident, $rem:ident, $reduced:ident, $gcd:ident, $from_str:ident, $text:ident) => {
+     $div:ident, $rem:ident, $reduced:ident, $gcd:ident, $floor:ident, $round:ident, $to_integer:ident,
+     $recip:ident, $pow:ident, $from_str:ident, $text:ident) => {
         extern "C" {
             fn $compare(pairs: *const Pair<$c>, len: usize, out: *mut i8, room: usize);
             fn $hash(pairs: *const Pair<$c>, len: usize, out: *mut u64, room: usize);
@@ -131,6 +137,18 @@ macro_rules! exports {
             fn $rem(pairs: *const Pair<$c>, len: usize, out: *mut Place<$c>, room: usize);
             fn $reduced(pairs: *const Pair<$c>, len: usize, out: *mut Place<$c>, room: usize);
             fn $gcd(pairs: *const Pair<$c>, len: usize, out: *mut Place<$c>, room: usize);
+            fn $floor(pairs: *const Pair<$c>, len: usize, out: *mut Place<$c>, room: usize);
+            fn $round(pairs: *const Pair<$c>, len: usize, out: *mut Place<$c>, room: usize);
+            fn $to_integer(pairs: *const Pair<$c>, len: usize, out: *mut Place<$c>, room: usize);
+            fn $recip(pairs: *const Pair<$c>, len: usize, out: *mut Place<$c>, room: usize);
+            fn $pow(
+                pairs: *const Pair<$c>,
+                len: usize,
+                exponents: *const i32,
+                count: usize,
+                out: *mut Place<$c>,
+                room: usize,
+            );
             fn $from_str(
                 texts: *const u8,
                 len: usize,
@@ -152,6 +170,11 @@ macro_rules! exports {
             checked_rem: $rem,
             reduced: $reduced,
             gcd: $gcd,
+            floor: $floor,
+            round: $round,
+            to_integer: $to_integer,
+            recip: $recip,
+            pow: $pow,
             from_str: $from_str,
             text: $text,
         };
@@ -162,17 +185,23 @@ exports!(
     EXPORTS_32, i32, fraction_calls_compare_32, fraction_calls_hash_32,
     fraction_calls_checked_add_32, fraction_calls_checked_sub_32, fraction_calls_checked_mul_32,
     fraction_calls_checked_div_32, fraction_calls_checked_rem_32, fraction_calls_reduced_32,
-    fraction_calls_gcd_32, fraction_calls_from_str_32, fraction_calls_text_32
+    fraction_calls_gcd_32, fraction_calls_floor_32, fraction_calls_round_32,
+    fraction_calls_to_integer_32, fraction_calls_recip_32, fraction_calls_pow_32,
+    fraction_calls_from_str_32, fraction_calls_text_32
 );
 exports!(
     EXPORTS_64, i64, fraction_calls_compare_64, fraction_calls_hash_64,
     fraction_calls_checked_add_64, fraction_calls_checked_sub_64, fraction_calls_checked_mul_64,
     fraction_calls_checked_div_64, fraction_calls_checked_rem_64, fraction_calls_reduced_64,
-    fraction_calls_gcd_64, fraction_calls_from_str_64, fraction_calls_text_64
+    fraction_calls_gcd_64, fraction_calls_floor_64, fraction_calls_round_64,
+    fraction_calls_to_integer_64, fraction_calls_recip_64, fraction_calls_pow_64,
+    fraction_calls_from_str_64, fraction_calls_text_64
 );
 exports!(
     EXPORTS_128, Wide, fraction_calls_compare_128, fraction_calls_hash_128,
     fraction_calls_checked_add_128, fraction_calls_checked_sub_128, fraction_calls_checked_mul_128,
     fraction_calls_checked_div_128, fraction_calls_checked_rem_128, fraction_calls_reduced_128,
-    fraction_calls_gcd_128, fraction_calls_from_str_128, fraction_calls_text_128
+    fraction_calls_gcd_128, fraction_calls_floor_128, fraction_calls_round_128,
+    fraction_calls_to_integer_128, fraction_calls_recip_128, fraction_calls_pow_128,
+    fraction_calls_from_str_128, fraction_calls_text_128
 );

@@ -88,6 +88,44 @@ pub fn gcd<T: Number>(pairs: &[Pair<T>], out: &mut [Answer<T>]) {
     }
 }
 
+#[inline(never)]
+pub fn floor<T: Number>(pairs: &[Pair<T>], out: &mut [Answer<T>]) {
+    for (pair, place) in pairs.iter().zip(out) {
+        *place = answered(Some(pair.0.floor()));
+    }
+}
+
+#[inline(never)]
+pub fn round<T: Number>(pairs: &[Pair<T>], out: &mut [Answer<T>]) {
+    for (pair, place) in pairs.iter().zip(out) {
+        *place = answered(Some(pair.0.round()));
+    }
+}
+
+#[inline(never)]
+pub fn to_integer<T: Number>(pairs: &[Pair<T>], out: &mut [Answer<T>]) {
+    for (pair, place) in pairs.iter().zip(out) {
+        *place = Answer::some(pair.0.to_integer(), T::one());
+    }
+}
+
+/// The reciprocal of each first fraction that is above 0; any other as it is.
+#[inline(never)]
+pub fn recip<T: Number>(pairs: &[Pair<T>], out: &mut [Answer<T>]) {
+    for (pair, place) in pairs.iter().zip(out) {
+        let x = pair.0;
+        *place = answered(Some(if T::zero() < *x.numer() { x.recip() } else { x }));
+    }
+}
+
+/// Only where the power is held may this be called.
+#[inline(never)]
+pub fn pow<T: Number>(pairs: &[Pair<T>], exponents: &[i32], out: &mut [Answer<T>]) {
+    for ((pair, exponent), place) in pairs.iter().zip(exponents).zip(out) {
+        *place = answered(Some(T::power(&pair.0, *exponent)));
+    }
+}
+
 fn read<T: Number>(text: &str) -> Answer<T> {
     match text.parse::<Ratio<T>>() {
         Ok(x) => Answer::some(*x.numer(), *x.denom()),

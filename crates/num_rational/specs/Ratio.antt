@@ -10,10 +10,15 @@ use Rattle.num_rational.specs.declared.ratio.Ratio.{Ratio}
 abbrev pub fields : {T : _} {i : _} {o : _} {e : _} {p : _} {h : _} → Ratio T i o e p h → T × T
 fields r = (r.numer, r.denom)
 
--- their two numbers
+-- the fraction c over 1, with its fields
+abbrev pub from_integer : {T : Type 0} {i : _} {o : _} {e : _} {p : _} {h : _} → T → Ratio T i o e p h
+from_integer {i = i} c = record { numer = c; denom = i.ONE; nonzero = i.one_nonzero }
+
+-- the numerator, as a whole number
 abbrev pub numerator : {T : _} {i : _} {o : _} {e : _} {p : _} {h : _} → Ratio T i o e p h → ℤ
 numerator {i = i} r = i.value r.numer
 
+-- the denominator, as a whole number
 abbrev pub denominator : {T : _} {i : _} {o : _} {e : _} {p : _} {h : _} → Ratio T i o e p h → ℤ
 denominator {i = i} r = i.value r.denom
 

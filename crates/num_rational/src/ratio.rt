@@ -189,9 +189,11 @@ pub trait Constants: Sized {
 }
 
 impl<T: Copy + Integer> Constants for Ratio<T> {
-    ghost ZERO = { record { numer = T.ZERO; denom = T.ONE; nonzero = T.one_nonzero } };
+    ghost use Rattle.num_rational.specs.Ratio.{from_integer};
 
-    ghost ONE = { record { numer = T.ONE; denom = T.ONE; nonzero = T.one_nonzero } };
+    ghost ZERO = { from_integer T.ZERO };
+
+    ghost ONE = { from_integer T.ONE };
 
     const ZERO: Ratio<T> = Ratio {
         numer: T::ZERO,

@@ -1,4 +1,5 @@
 //! What no clause says: rows from outside, and each call once at a concrete type.
+mod asserting;
 mod carried;
 mod comparing;
 mod every_call;

@@ -1,4 +1,7 @@
-//! The values of the Rust crate's own tests, under the names that they have there.
+//! The values of the Rust crate's own tests, under the names that they have there: construction, access
+//! and comparison.
+use super::asserting::{holds, is};
+use super::forms::{self, fraction};
 use super::recorder::Written;
 use crate::{Constants, Ratio, Rational32, Rational64};
 use ratio_integer::Integer;
@@ -13,111 +16,200 @@ fn new<T: Integer>(n: T, d: T) -> Ratio<T> {
     }
 }
 
-// 0, 1, 2, 1/2, 3/2 and -1/2, each made by a call of its own, and the fields of each.
-fn made() -> [(Rational64, i64, i64); 6] {
+// A fraction and its fields.
+#[derive(Drop)]
+struct Made {
+    x: Rational64,
+    numer: i64,
+    denom: i64,
+}
+
+fn entry(x: Rational64, numer: i64, denom: i64) -> Made {
+    Made { x, numer, denom }
+}
+
+// 0, 1, 2, 1/2, 3/2 and -1/2, each made by a call of its own.
+fn six() -> [Made; 6] {
     [
-        (Rational64::zero(), 0, 1),
-        (Rational64::one(), 1, 1),
-        (Rational64::from_integer(2), 2, 1),
-        (new(1, 2), 1, 2),
-        (new(3, 2), 3, 2),
-        (new(-1, 2), -1, 2),
+        entry(Rational64::zero(), 0, 1),
+        entry(Rational64::one(), 1, 1),
+        entry(Rational64::from_integer(2), 2, 1),
+        entry(new(1, 2), 1, 2),
+        entry(new(3, 2), 3, 2),
+        entry(new(-1, 2), -1, 2),
     ]
 }
 
 #[test]
-fn test_numer_denom_and_is_integer(rt: HostRuntime) {
-    for (x, numer, denom) in made() {
-        assert_eq!(rt; (*x.numer(), *x.denom()), (numer, denom));
-        assert_eq!(rt; x.is_integer(), denom == 1);
+fn test_numer(rt: HostRuntime) {
+    let rows = six();
+    for row in &rows {
+        assert!(rt; *row.x.numer() == row.numer);
+    }
+}
+
+#[test]
+fn test_denom(rt: HostRuntime) {
+    let rows = six();
+    for row in &rows {
+        assert!(rt; *row.x.denom() == row.denom);
+    }
+}
+
+#[test]
+fn test_is_integer(rt: HostRuntime) {
+    let rows = six();
+    for row in &rows {
+        assert!(rt; row.x.is_integer() == (row.denom == 1));
     }
 }
 
 #[test]
 fn test_test_constants(rt: HostRuntime) {
-    let [
-        (zero, _, _),
-        (one, _, _),
-        (two, _, _),
-        (half, _, _),
-        _,
-        (negative_half, _, _),
-    ] = made();
-    assert!(rt; zero == Ratio::ZERO && zero == Ratio::from(0) && zero == new(0, 1));
-    assert!(rt; one == Ratio::ONE && one == Ratio::from(1) && one == new(1, 1));
-    assert!(rt; two == Ratio::from(2) && two == new(2, 1));
-    assert!(rt; half == Ratio::new_raw(2, 4) && negative_half == Ratio::new_raw(1, -2));
+    let [zero, one, two, half, three_halves, minus_half] = six();
+    holds(
+        &rt,
+        "0",
+        zero.x == Ratio::ZERO && zero.x == Ratio::from(0) && zero.x == new(0, 1),
+    );
+    holds(
+        &rt,
+        "1",
+        one.x == Ratio::ONE && one.x == Ratio::from(1) && one.x == new(1, 1),
+    );
+    holds(&rt, "2", two.x == Ratio::from(2) && two.x == new(2, 1));
+    holds(&rt, "1/2", half.x == Ratio::new_raw(2, 4));
+    holds(&rt, "3/2", three_halves.x == Ratio::new_raw(6, 4));
+    holds(&rt, "-1/2", minus_half.x == Ratio::new_raw(1, -2));
 }
 
 #[test]
 fn test_new_reduce(rt: HostRuntime) {
-    for (n, d, numer, denom) in [
-        (2, 2, 1, 1),
-        (0, i32::MIN, 0, 1),
-        (i32::MIN, i32::MIN, 1, 1),
-    ] {
-        assert_eq!(rt; new(n, d).into_raw(), (numer, denom), "{n}/{d}");
-    }
+    is(&rt, new(2i32, 2), 1, 1);
+    is(&rt, new(0, i32::MIN), 0, 1);
+    is(&rt, new(i32::MIN, i32::MIN), 1, 1);
 }
 
 #[test]
 fn test_cmp(rt: HostRuntime) {
     let zero = Rational64::zero();
     let one = Rational64::one();
-    assert!(rt; zero == zero && one == one && zero != one && one != zero);
-    assert!(rt; zero < one && !(one < zero) && one > zero && !(zero > one));
-    assert!(rt; zero <= one && zero <= zero && one <= one && !(one <= zero));
-    assert!(rt; one >= zero && zero >= zero && one >= one && !(zero >= one));
-    assert_eq!(rt; zero.cmp(&one), Ordering::Less);
-    assert_eq!(rt; one.cmp(&zero), Ordering::Greater);
-    assert!(rt; Rational64::new_raw(0, 2) == zero);
+    holds(
+        &rt,
+        "==",
+        zero == zero && one == one && Rational64::new_raw(0, 2) == zero,
+    );
+    holds(&rt, "!=", zero != one && one != zero);
+    holds(&rt, "<", zero < one && !(one < zero));
+    holds(&rt, ">", one > zero && !(zero > one));
+    holds(
+        &rt,
+        "<=",
+        zero <= one && zero <= zero && one <= one && !(one <= zero),
+    );
+    holds(
+        &rt,
+        ">=",
+        one >= zero && zero >= zero && one >= one && !(zero >= one),
+    );
+    holds(&rt, "below", zero.cmp(&one) == Ordering::Less);
+    holds(&rt, "above", one.cmp(&zero) == Ordering::Greater);
+}
+
+// The pair that a fraction with these fields gives.
+fn pair_of(numer: i64, denom: i64) -> (i64, i64) {
+    if denom == 0 {
+        return (numer, denom);
+    }
+    Ratio::new_raw(numer, denom).into()
 }
 
 #[test]
-fn test_into_pair_and_from_pair(rt: HostRuntime) {
-    for (numer, denom) in [(0i64, 1i64), (-2, 1), (1, -2)] {
-        assert!(rt; denom != 0);
-        let pair: (i64, i64) = Ratio::new_raw(numer, denom).into();
-        assert_eq!(rt; pair, (numer, denom));
-    }
-    for (pair, numer, denom) in [
-        ((0i64, 1i64), 0, 1),
-        ((1, 1), 1, 1),
-        ((-2, 1), -2, 1),
-        ((1, -2), -1, 2),
-    ] {
-        let made = match Ratio::checked_new(pair.0, pair.1) {
-            Some(_) => Ratio::from_pair(pair).into_raw(),
-            None => (0, 0),
-        };
-        assert_eq!(rt; made, (numer, denom));
+fn test_into_pair(rt: HostRuntime) {
+    holds(&rt, "0/1", pair_of(0, 1) == (0, 1));
+    holds(&rt, "-2/1", pair_of(-2, 1) == (-2, 1));
+    holds(&rt, "1/-2", pair_of(1, -2) == (1, -2));
+}
+
+// The fraction of a pair, where `checked_new` answers.
+fn from_pair(pair: (i64, i64)) -> Rational64 {
+    match Ratio::checked_new(pair.0, pair.1) {
+        Some(_) => Ratio::from_pair(pair),
+        None => Ratio::zero(),
     }
 }
 
-fn written(x: &Rational64) -> Written {
-    let mut list = Written::new();
-    x.hash(&mut list);
-    list
+#[test]
+fn test_from_pair(rt: HostRuntime) {
+    is(&rt, from_pair((0, 1)), 0, 1);
+    is(&rt, from_pair((1, 1)), 1, 1);
+    is(&rt, from_pair((-2, 1)), -2, 1);
+    is(&rt, from_pair((1, -2)), -1, 2);
+}
+
+#[test]
+fn test_num_zero(rt: HostRuntime) {
+    holds(&rt, "0", Rational64::zero().is_zero());
+    let mut x = fraction((123, 456));
+    holds(&rt, "not 0", !x.is_zero());
+    let sum = forms::sum(x, Rational64::zero());
+    holds(
+        &rt,
+        "+ 0",
+        sum == Some((41, 152)) && x == Ratio::new_raw(41, 152),
+    );
+    x.set_zero();
+    holds(&rt, "becomes 0", x.is_zero());
+}
+
+#[test]
+fn test_num_one(rt: HostRuntime) {
+    holds(&rt, "1", Rational64::one().is_one());
+    let mut x = fraction((123, 456));
+    holds(&rt, "not 1", !x.is_one());
+    let product = forms::product(x, Rational64::one());
+    holds(
+        &rt,
+        "* 1",
+        product == Some((41, 152)) && x == Ratio::new_raw(41, 152),
+    );
+    x.set_one();
+    holds(&rt, "becomes 1", x.is_one());
+}
+
+// Whether a hasher receives the same of both.
+fn write_alike(x: &Rational64, y: &Rational64) -> bool {
+    let mut first = Written::new();
+    x.hash(&mut first);
+    let mut second = Written::new();
+    y.hash(&mut second);
+    first.as_slice() == second.as_slice()
 }
 
 #[test]
 fn test_hash(rt: HostRuntime) {
-    let zero = written(&Ratio::zero());
-    assert!(rt; zero.as_slice() != written(&Ratio::one()).as_slice());
-    assert!(rt; zero.as_slice() != written(&new(3, 2)).as_slice());
-    let two = written(&Ratio::new_raw(4, 2));
-    assert!(rt; two.as_slice() == written(&Ratio::new_raw(6, 3)).as_slice());
-    let thousandths = written(&Ratio::new_raw(123456789, 1000));
-    assert!(rt; thousandths.as_slice() == written(&Ratio::new_raw(617283945, 5000)).as_slice());
+    let zero = Rational64::zero();
+    holds(&rt, "0 and 1", !write_alike(&zero, &Ratio::one()));
+    holds(&rt, "0 and 3/2", !write_alike(&zero, &new(3, 2)));
+    holds(
+        &rt,
+        "4/2 and 6/3",
+        write_alike(&Ratio::new_raw(4, 2), &Ratio::new_raw(6, 3)),
+    );
+    let (x, y) = (
+        Ratio::new_raw(123456789, 1000),
+        Ratio::new_raw(617283945, 5000),
+    );
+    holds(&rt, "thousandths", write_alike(&x, &y));
 }
 
 #[test]
 fn test_const(rt: HostRuntime) {
     let x = Rational32::new_raw(123, 456);
-    assert_eq!(rt; (*x.numer(), *x.denom()), (123, 456));
-    let reduced = match Ratio::checked_new(123, 456) {
-        Some(_) => x.reduced(),
-        None => x,
-    };
-    assert_eq!(rt; reduced.into_raw(), (41, 152));
+    holds(&rt, "fields", *x.numer() == 123 && *x.denom() == 456);
+    if Ratio::checked_new(123i32, 456).is_some() {
+        is(&rt, x.reduced(), 41, 152);
+    } else {
+        holds(&rt, "reduced", false);
+    }
 }

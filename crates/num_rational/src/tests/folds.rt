@@ -1,93 +1,132 @@
 //! Sums and products of lists, by every call.
-ghost use Rattle.std.specs.Prelude.{◌<ℤ◌, IfSome, IsTrue, pos};
-ghost use Rattle.ratio_core.specs.Laws.{IsProduct, IsSum};
-ghost use Rattle.num_rational.specs.Folds.{AnswersFrom};
-ghost use Rattle.num_rational.specs.Operators.{CanAdd, CanMultiply, numbers};
-ghost use Rattle.num_rational.specs.Ratio.{denominator};
+ghost use Rattle.std.specs.Prelude.{IsTrue};
+ghost use Rattle.num_rational.specs.Folds.{ArePositive, CanProduct, CanSum};
+ghost use Rattle.num_rational.specs.Operators.{numbers};
 
-use super::forms::has;
+use super::asserting::holds;
+use super::forms::{self, fraction, has};
 use crate::{Ratio, Rational32};
 use ratio_integer::Integer;
+use std::iter::{Product, Sum};
 
-fn is_positive<T: Integer>(x: &Ratio<T>) -> bool
-    ensures { IsTrue result → pos 0 <ℤ denominator x.now }
+fn are_positive<T: Integer>(items: &[Ratio<T>]) -> bool
+    ensures { IsTrue result → ArePositive numbers items.now }
 {
-    *x.denom() > T::ZERO
+    items.iter().all(|x| *x.denom() > T::ZERO)
 }
 
-// The sum of `total` and the items, one after another, where each step is answered.
-fn added<T: Integer>(total: Ratio<T>, items: &[Ratio<T>]) -> Option<Ratio<T>>
-    requires { pos 0 <ℤ denominator total }
-    ensures { IfSome result (λ _. AnswersFrom numbers (CanAdd T.EXACT_SUMS T.lo T.hi) IsSum (numbers total) items.now) }
+// The fields of the sum, where both checked calls answer it and every other call gives the same.
+fn sum<T: Integer>(items: &[Ratio<T>]) -> Option<(T, T)>
+    requires { ArePositive numbers items.now }
 {
-    match items.split_first() {
-        None => Some(total),
-        Some((x, rest)) => {
-            if is_positive(x) {
-                let next = total.checked_add(x)?;
-                added(next, rest)
-            } else {
-                None
-            }
-        }
+    let fields = Ratio::checked_sum_refs(items.iter())?.into_raw();
+    let by_value = Ratio::checked_sum(items.iter().copied())?;
+    if has(by_value, fields) && every_sum(items, fields) {
+        Some(fields)
+    } else {
+        None
     }
 }
 
-// The product of `total` and the items, one after another, where each step is answered.
-fn multiplied<T: Integer>(total: Ratio<T>, items: &[Ratio<T>]) -> Option<Ratio<T>>
-    requires { pos 0 <ℤ denominator total }
-    ensures { IfSome result (λ _. AnswersFrom numbers (CanMultiply T.lo T.hi) IsProduct (numbers total) items.now) }
+fn every_sum<T: Integer>(items: &[Ratio<T>], fields: (T, T)) -> bool
+    requires { CanSum T.EXACT_SUMS T.lo T.hi numbers items.now }
 {
-    match items.split_first() {
-        None => Some(total),
-        Some((x, rest)) => {
-            if is_positive(x) {
-                let next = total.checked_mul(x)?;
-                multiplied(next, rest)
-            } else {
-                None
-            }
-        }
-    }
-}
-
-fn sum<T: Integer>(items: &[Ratio<T>]) -> Option<(T, T)> {
-    let total = added(Ratio::zero(), items)?;
     let by_value = Ratio::<T>::sum(items.iter().copied());
     let by_reference = Ratio::<T>::sum_refs(items.iter());
-    let fields = total.into_raw();
-    if has(by_value, fields) && has(by_reference, fields) {
+    let of_values = <Ratio<T> as Sum<Ratio<T>>>::sum(items.iter().copied());
+    let of_references = <Ratio<T> as Sum<&Ratio<T>>>::sum(items.iter());
+    has(by_value, fields)
+        && has(by_reference, fields)
+        && has(of_values, fields)
+        && has(of_references, fields)
+}
+
+// The same of the product.
+fn product<T: Integer>(items: &[Ratio<T>]) -> Option<(T, T)>
+    requires { ArePositive numbers items.now }
+{
+    let fields = Ratio::checked_product_refs(items.iter())?.into_raw();
+    let by_value = Ratio::checked_product(items.iter().copied())?;
+    if has(by_value, fields) && every_product(items, fields) {
         Some(fields)
     } else {
         None
     }
 }
 
-fn product<T: Integer>(items: &[Ratio<T>]) -> Option<(T, T)> {
-    let total = multiplied(Ratio::one(), items)?;
+fn every_product<T: Integer>(items: &[Ratio<T>], fields: (T, T)) -> bool
+    requires { CanProduct T.lo T.hi numbers items.now }
+{
     let by_value = Ratio::<T>::product(items.iter().copied());
     let by_reference = Ratio::<T>::product_refs(items.iter());
-    let fields = total.into_raw();
-    if has(by_value, fields) && has(by_reference, fields) {
-        Some(fields)
-    } else {
-        None
-    }
+    let of_values = <Ratio<T> as Product<Ratio<T>>>::product(items.iter().copied());
+    let of_references = <Ratio<T> as Product<&Ratio<T>>>::product(items.iter());
+    has(by_value, fields)
+        && has(by_reference, fields)
+        && has(of_values, fields)
+        && has(of_references, fields)
 }
 
-#[test]
-fn of_many(rt: HostRuntime) {
+// The sum by `+`, one item after another.
+fn added<T: Integer>(items: &[Ratio<T>]) -> Option<(T, T)> {
+    let mut total = (T::ZERO, T::ONE);
+    for x in items {
+        total = forms::sum(fraction(total), fraction(x.into_raw()))?;
+    }
+    Some(total)
+}
+
+// The product by `*`, one item after another.
+fn multiplied<T: Integer>(items: &[Ratio<T>]) -> Option<(T, T)> {
+    let mut total = (T::ONE, T::ONE);
+    for x in items {
+        total = forms::product(fraction(total), fraction(x.into_raw()))?;
+    }
+    Some(total)
+}
+
+// Whether the sum is this by every call, or by none.
+fn is_sum<T: Integer>(items: &[Ratio<T>], want: Option<(T, T)>) -> bool {
+    are_positive(items) && sum(items) == want && added(items) == want
+}
+
+fn is_product<T: Integer>(items: &[Ratio<T>], want: Option<(T, T)>) -> bool {
+    are_positive(items) && product(items) == want && multiplied(items) == want
+}
+
+// 0/500, 1/500 and so on.
+fn five_hundredths() -> [Rational32; 1000] {
     let mut items = [Rational32::zero(); 1000];
     for n in 0..1000usize {
         items[n] = Ratio::new_raw(n as i32, 500);
     }
-    assert_eq!(rt; sum(&items), Some((999, 1)));
-    assert_eq!(rt; product(&items), Some((0, 1)));
+    items
+}
+
+#[test]
+fn ratio_iter_sum(rt: HostRuntime) {
+    holds(&rt, "999", is_sum(&five_hundredths(), Some((999, 1))));
+}
+
+#[test]
+fn ratio_iter_product(rt: HostRuntime) {
+    holds(&rt, "0", is_product(&five_hundredths(), Some((0, 1))));
 }
 
 #[test]
 fn of_none(rt: HostRuntime) {
     let none: [Rational32; 0] = [];
-    assert_eq!(rt; sum(&none), Some((0, 1)));
-    assert_eq!(rt; product(&none), Some((1, 1)));
+    holds(&rt, "0", is_sum(&none, Some((0, 1))));
+    holds(&rt, "1", is_product(&none, Some((1, 1))));
+}
+
+#[test]
+fn refused(rt: HostRuntime) {
+    let items = [
+        Ratio::new_raw(100i8, 1),
+        Ratio::new_raw(100, 1),
+        Ratio::new_raw(-100, 1),
+    ];
+    holds(&rt, "200", is_sum(&items, None));
+    holds(&rt, "10000", is_product(&items, None));
 }

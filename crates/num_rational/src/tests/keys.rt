@@ -1,34 +1,49 @@
 //! Fractions as keys of maps.
 use crate::Rational64;
 use std::collections::{BTreeMap, HashMap};
+use std::process::Abort;
 use std::test::Fail;
+
+// The fields of a key, and those of an equal one.
+#[derive(Drop)]
+struct Row {
+    key: (i64, i64),
+    equal: (i64, i64),
+}
+
+fn entry(key: (i64, i64), equal: (i64, i64)) -> Row {
+    Row { key, equal }
+}
+
+fn raw(rt: &impl Abort, fields: (i64, i64)) -> Rational64 {
+    assert!(rt; fields.1 != 0);
+    Rational64::new_raw(fields.0, fields.1)
+}
 
 #[test]
 fn keys_are_found_by_equal_keys(rt: HostRuntime) -> Result<(), Fail> {
-    // The fields of a key, and those of an equal one. Only the least number over -1 has no others.
+    // Only the least number over -1 has no other fields.
     let rows = [
-        (1i64, 2i64, -3i64, -6i64),
-        (4, -6, -2, 3),
-        (0, -5, 0, 7),
-        (i64::MIN, -1, i64::MIN, -1),
-        (i64::MIN, i64::MIN, 5, 5),
-        (2, i64::MIN, -1, 1 << 62),
-        (-7, 3, 14, -6),
-        (8, 4, 2, 1),
+        entry((1, 2), (-3, -6)),
+        entry((4, -6), (-2, 3)),
+        entry((0, -5), (0, 7)),
+        entry((i64::MIN, -1), (i64::MIN, -1)),
+        entry((i64::MIN, i64::MIN), (5, 5)),
+        entry((2, i64::MIN), (-1, 1 << 62)),
+        entry((-7, 3), (14, -6)),
+        entry((8, 4), (2, 1)),
     ];
     let mut ordered = BTreeMap::new(rt.alloc());
     let mut hashed = HashMap::new(rt.alloc());
-    for (n, d, _, _) in rows {
-        assert!(rt; d != 0);
-        let key = Rational64::new_raw(n, d);
-        ordered.insert(key, n)?;
-        hashed.insert(key, n)?;
+    for row in &rows {
+        let key = raw(&rt, row.key);
+        ordered.insert(key, row.key.0)?;
+        hashed.insert(key, row.key.0)?;
     }
-    for (n, d, m, e) in rows {
-        assert!(rt; e != 0);
-        let key = Rational64::new_raw(m, e);
-        assert_eq!(rt; ordered.get(&key), Some(&n), "{n}/{d} by {m}/{e}");
-        assert_eq!(rt; hashed.get(&key), Some(&n), "{n}/{d} by {m}/{e}");
+    for row in &rows {
+        let key = raw(&rt, row.equal);
+        let want = Some(&row.key.0);
+        assert!(rt; ordered.get(&key) == want && hashed.get(&key) == want);
     }
     let other = Rational64::new_raw(1, 3);
     assert!(rt; ordered.get(&other).is_none() && hashed.get(&other).is_none());

@@ -1,14 +1,9 @@
 //! Reading, printing and reducing at the ends of each of the twelve types.
+use super::asserting::{answers, holds, reads};
 use crate::{Form, ParseRatioError, Ratio, RatioErrorKind};
 use ratio_integer::{Integer, Primitive};
+use std::fmt::Debug;
 use std::process::Abort;
-
-fn is<T: Integer>(x: Option<Ratio<T>>, numer: T, denom: T) -> bool {
-    match x {
-        Some(x) => *x.numer() == numer && *x.denom() == denom,
-        None => false,
-    }
-}
 
 fn refuses<T: Integer>(x: Result<Ratio<T>, ParseRatioError>) -> bool {
     match x {
@@ -18,52 +13,37 @@ fn refuses<T: Integer>(x: Result<Ratio<T>, ParseRatioError>) -> bool {
 }
 
 // The texts of the least number, of the greatest and of one more.
-fn at_its_ends<T: Primitive>(rt: &impl Abort, least: &str, greatest: &str, more: &str) {
-    assert!(rt;
-        is(Ratio::<T>::from_str(least).ok(), T::MIN, T::ONE),
-        "{least}"
+fn at_its_ends<T: Primitive + Debug>(rt: &impl Abort, least: &str, greatest: &str, more: &str) {
+    let (low, high) = (Ratio::from_integer(T::MIN), Ratio::from_integer(T::MAX));
+    answers(rt, Ratio::<T>::from_str(least).ok(), Some((T::MIN, T::ONE)));
+    answers(
+        rt,
+        Ratio::<T>::from_str(greatest).ok(),
+        Some((T::MAX, T::ONE)),
     );
-    assert!(rt;
-        is(Ratio::<T>::from_str(greatest).ok(), T::MAX, T::ONE),
-        "{greatest}"
-    );
-    assert!(rt; refuses(Ratio::<T>::from_str(more)), "{more}");
-    assert_eq!(rt;
-        Ratio::from_integer(T::MIN)
-            .text(Form::Decimal, false)
-            .as_str(),
-        least
-    );
-    assert_eq!(rt;
-        Ratio::from_integer(T::MAX)
-            .text(Form::Decimal, false)
-            .as_str(),
-        greatest
-    );
-    assert!(rt;
-        is(Ratio::checked_new(T::MAX, T::MAX), T::ONE, T::ONE),
-        "{greatest}/{greatest}"
-    );
-    assert!(rt;
-        is(Ratio::checked_new(T::ZERO, T::MAX), T::ZERO, T::ONE),
-        "0/{greatest}"
-    );
-    let turned = Ratio::checked_new(T::MAX, T::MIN);
-    assert!(rt; turned.is_none(), "{greatest}/{least}");
-    let itself = Ratio::checked_new(T::MIN, T::MIN);
-    if T::MIN < T::ZERO {
-        assert!(rt;
-            is(Ratio::checked_new(T::MIN, T::MAX), T::MIN, T::MAX),
-            "{least}/{greatest}"
-        );
-        assert!(rt; is(itself, T::ONE, T::ONE), "{least}/{least}");
+    holds(rt, more, refuses(Ratio::<T>::from_str(more)));
+    reads(rt, low.text(Form::Decimal, false).as_str(), least);
+    reads(rt, high.text(Form::Decimal, false).as_str(), greatest);
+    reduces_at_its_ends::<T>(rt);
+}
+
+fn reduces_at_its_ends<T: Primitive + Debug>(rt: &impl Abort) {
+    let (least, most) = (T::MIN, T::MAX);
+    let is_signed = least < T::ZERO;
+    let (low, itself) = if is_signed {
+        ((least, most), Some((T::ONE, T::ONE)))
     } else {
-        assert!(rt;
-            is(Ratio::checked_new(T::MIN, T::MAX), T::ZERO, T::ONE),
-            "{least}/{greatest}"
-        );
-        assert!(rt; itself.is_none(), "{least}/{least}");
-    }
+        ((T::ZERO, T::ONE), None)
+    };
+    answers(rt, Ratio::checked_new(most, most), Some((T::ONE, T::ONE)));
+    answers(
+        rt,
+        Ratio::checked_new(T::ZERO, most),
+        Some((T::ZERO, T::ONE)),
+    );
+    answers(rt, Ratio::checked_new(most, least), None);
+    answers(rt, Ratio::checked_new(least, most), Some(low));
+    answers(rt, Ratio::checked_new(least, least), itself);
 }
 
 #[test]

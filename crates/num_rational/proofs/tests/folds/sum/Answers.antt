@@ -1,16 +1,20 @@
-use Rattle.std.proofs.Common.{refl}
+use Rattle.std.proofs.Common.{pos, refl}
 use Rattle.std.proofs.lemmas.Iterator.{YieldsList-from_slice}
 use Rattle.std.proofs.lemmas.Iterator.Consumers.{YieldsList-from_copied}
-use Rattle.num_rational.specs.Operators.{numbers}
-use Rattle.num_rational.proofs.FoldLemmas.{sum_along}
+use Rattle.ratio_core.specs.Laws.{IsSum}
+use Rattle.num_rational.specs.Operators.{CanAdd, numbers}
+use Rattle.num_rational.proofs.FoldLemmas.{positive_along, whole_answered}
 use Rattle.num_rational.proofs.tests.folds.sum.Goals as goal
 
-pub sum-by_value-requires-clause-answered : goal.sum-by_value-requires-clause-answered
-sum-by_value-requires-clause-answered g c =
-    let answered = rw c.zero.ensures.0 at (rw c.zero.ensures.1 at c.in_ok-total.ensures) in
-    sum_along g.T.Integer.EXACT_SUMS g.T.Integer.lo g.T.Integer.hi numbers (λ x. x) c.args.items.now (YieldsList-from_copied (YieldsList-from_slice c.args.items.now cc)) answered
+pub checked_sum_refs-requires : goal.checked_sum_refs-requires
+checked_sum_refs-requires g c κs =
+    ((refl, tt), (tt, (tt, positive_along numbers (λ x. x.now) c.args.items.now (YieldsList-from_slice c.args.items.now c.iter.ensures.rest) c.requires)))
 
-pub sum_refs-by_reference-requires : goal.sum_refs-by_reference-requires
-sum_refs-by_reference-requires g c κs =
-    let answered = rw c.zero.ensures.0 at (rw c.zero.ensures.1 at c.in_ok-total.ensures) in
-    ((refl, tt), (tt, (tt, sum_along g.T.Integer.EXACT_SUMS g.T.Integer.lo g.T.Integer.hi numbers (λ x. x.now) c.args.items.now (YieldsList-from_slice c.args.items.now cc) answered)))
+pub checked_sum-requires-clause-positive : goal.checked_sum-requires-clause-positive
+checked_sum-requires-clause-positive g c =
+    positive_along numbers (λ x. x) c.args.items.now (YieldsList-from_copied (YieldsList-from_slice c.args.items.now cc)) c.requires
+
+pub every_sum-requires : goal.every_sum-requires
+every_sum-requires g c =
+    let gave = c.in_ok-checked_sum_refs.ensures in
+    record { answered = whole_answered numbers (λ x. x.now) (CanAdd g.T.Integer.EXACT_SUMS g.T.Integer.lo g.T.Integer.hi) IsSum gave.0 c.args.items.now (pos 0, pos 1) (gave.1.0, gave.1.1, λ whole. gave.1.2 refl) (YieldsList-from_slice c.args.items.now c.iter.ensures.rest) gave.2.0.answered }

@@ -22,3 +22,11 @@ pub fn roundings() {}
 /// They turn on the value of a fraction alone, reduced or not.
 #[inline]
 pub fn roundings_by_value() {}
+
+/// Reciprocals and powers.
+#[inline]
+pub fn powers() {}
+
+/// A fraction is the sum of its two parts, and this sum is always answered.
+#[inline]
+pub fn parts() {}

@@ -151,15 +151,15 @@ fn cut<T: Integer>(n: T, d: T) -> (T, T) {
     n.div_rem(d)
 }
 
-// Whether a rest is less than half of the denominator. Twice the rest may not be held, so it is compared with what
+// Whether a part of the denominator is less than half of it. Twice the part may not be held, so it is compared with what
 // lacks.
 #[inline]
-fn is_below_half<T: Integer>(rest: T, d: T) -> bool {
+fn is_below_half<T: Integer>(part: T, d: T) -> bool {
     let _ = d.held();
-    if is_below_zero(rest) {
-        T::ZERO.minus(rest) < rest.plus(d)
+    if is_below_zero(part) {
+        T::ZERO.minus(part) < part.plus(d)
     } else {
-        rest < d.minus(rest)
+        part < d.minus(part)
     }
 }
 

@@ -1,5 +1,6 @@
 // Erased from crates/num_rational/src/tests.rt by rust/erase: not to be edited.
 //! What no clause says: rows from outside, and each call once at a concrete type.
+mod asserting;
 mod carried;
 mod comparing;
 mod every_call;

@@ -1,5 +1,8 @@
 // Erased from crates/num_rational/src/tests/carried.rt by rust/erase: not to be edited.
-//! The values of the Rust crate's own tests, under the names that they have there.
+//! The values of the Rust crate's own tests, under the names that they have there: construction, access
+//! and comparison.
+use super::asserting::{holds, is};
+use super::forms::{self, fraction};
 use super::recorder::Written;
 use crate::proved::num_rational::{Constants, Ratio, Rational32, Rational64};
 use crate::proved::ratio_integer::Integer;
@@ -15,113 +18,196 @@ fn new<T: Integer>(n: T, d: T) -> Ratio<T> {
     }
 }
 
-// 0, 1, 2, 1/2, 3/2 and -1/2, each made by a call of its own, and the fields of each.
+// A fraction and its fields.
+struct Made {
+    x: Rational64,
+    numer: i64,
+    denom: i64,
+}
+
 #[inline]
-fn made() -> [(Rational64, i64, i64); 6] {
+fn entry(x: Rational64, numer: i64, denom: i64) -> Made {
+    Made { x, numer, denom }
+}
+
+// 0, 1, 2, 1/2, 3/2 and -1/2, each made by a call of its own.
+#[inline]
+fn six() -> [Made; 6] {
     [
-        (Rational64::zero(), 0, 1),
-        (Rational64::one(), 1, 1),
-        (Rational64::from_integer(2), 2, 1),
-        (new(1, 2), 1, 2),
-        (new(3, 2), 3, 2),
-        (new(-1, 2), -1, 2),
+        entry(Rational64::zero(), 0, 1),
+        entry(Rational64::one(), 1, 1),
+        entry(Rational64::from_integer(2), 2, 1),
+        entry(new(1, 2), 1, 2),
+        entry(new(3, 2), 3, 2),
+        entry(new(-1, 2), -1, 2),
     ]
 }
 
 #[test]
-fn test_numer_denom_and_is_integer() {
-    for (x, numer, denom) in made() {
-        assert_eq!((*x.numer(), *x.denom()), (numer, denom));
-        assert_eq!(x.is_integer(), denom == 1);
+fn test_numer() {
+    let rows = six();
+    for row in &rows {
+        assert!(*row.x.numer() == row.numer);
+    }
+}
+
+#[test]
+fn test_denom() {
+    let rows = six();
+    for row in &rows {
+        assert!(*row.x.denom() == row.denom);
+    }
+}
+
+#[test]
+fn test_is_integer() {
+    let rows = six();
+    for row in &rows {
+        assert!(row.x.is_integer() == (row.denom == 1));
     }
 }
 
 #[test]
 fn test_test_constants() {
-    let [
-        (zero, _, _),
-        (one, _, _),
-        (two, _, _),
-        (half, _, _),
-        _,
-        (negative_half, _, _),
-    ] = made();
-    assert!(zero == Ratio::ZERO && zero == Ratio::from(0) && zero == new(0, 1));
-    assert!(one == Ratio::ONE && one == Ratio::from(1) && one == new(1, 1));
-    assert!(two == Ratio::from(2) && two == new(2, 1));
-    assert!(half == Ratio::new_raw(2, 4) && negative_half == Ratio::new_raw(1, -2));
+    let [zero, one, two, half, three_halves, minus_half] = six();
+    holds(
+        "0",
+        zero.x == Ratio::ZERO && zero.x == Ratio::from(0) && zero.x == new(0, 1),
+    );
+    holds(
+        "1",
+        one.x == Ratio::ONE && one.x == Ratio::from(1) && one.x == new(1, 1),
+    );
+    holds("2", two.x == Ratio::from(2) && two.x == new(2, 1));
+    holds("1/2", half.x == Ratio::new_raw(2, 4));
+    holds("3/2", three_halves.x == Ratio::new_raw(6, 4));
+    holds("-1/2", minus_half.x == Ratio::new_raw(1, -2));
 }
 
 #[test]
 fn test_new_reduce() {
-    for (n, d, numer, denom) in [
-        (2, 2, 1, 1),
-        (0, i32::MIN, 0, 1),
-        (i32::MIN, i32::MIN, 1, 1),
-    ] {
-        assert_eq!(new(n, d).into_raw(), (numer, denom), "{n}/{d}");
-    }
+    is(new(2i32, 2), 1, 1);
+    is(new(0, i32::MIN), 0, 1);
+    is(new(i32::MIN, i32::MIN), 1, 1);
 }
 
 #[test]
 fn test_cmp() {
     let zero = Rational64::zero();
     let one = Rational64::one();
-    assert!(zero == zero && one == one && zero != one && one != zero);
-    assert!(zero < one && !(one < zero) && one > zero && !(zero > one));
-    assert!(zero <= one && zero <= zero && one <= one && !(one <= zero));
-    assert!(one >= zero && zero >= zero && one >= one && !(zero >= one));
-    assert_eq!(zero.cmp(&one), Ordering::Less);
-    assert_eq!(one.cmp(&zero), Ordering::Greater);
-    assert!(Rational64::new_raw(0, 2) == zero);
+    holds(
+        "==",
+        zero == zero && one == one && Rational64::new_raw(0, 2) == zero,
+    );
+    holds("!=", zero != one && one != zero);
+    holds("<", zero < one && !(one < zero));
+    holds(">", one > zero && !(zero > one));
+    holds(
+        "<=",
+        zero <= one && zero <= zero && one <= one && !(one <= zero),
+    );
+    holds(
+        ">=",
+        one >= zero && zero >= zero && one >= one && !(zero >= one),
+    );
+    holds("below", zero.cmp(&one) == Ordering::Less);
+    holds("above", one.cmp(&zero) == Ordering::Greater);
+}
+
+// The pair that a fraction with these fields gives.
+#[inline]
+fn pair_of(numer: i64, denom: i64) -> (i64, i64) {
+    if denom == 0 {
+        return (numer, denom);
+    }
+    Ratio::new_raw(numer, denom).into()
 }
 
 #[test]
-fn test_into_pair_and_from_pair() {
-    for (numer, denom) in [(0i64, 1i64), (-2, 1), (1, -2)] {
-        assert!(denom != 0);
-        let pair: (i64, i64) = Ratio::new_raw(numer, denom).into();
-        assert_eq!(pair, (numer, denom));
-    }
-    for (pair, numer, denom) in [
-        ((0i64, 1i64), 0, 1),
-        ((1, 1), 1, 1),
-        ((-2, 1), -2, 1),
-        ((1, -2), -1, 2),
-    ] {
-        let made = match Ratio::checked_new(pair.0, pair.1) {
-            Some(_) => Ratio::from_pair(pair).into_raw(),
-            None => (0, 0),
-        };
-        assert_eq!(made, (numer, denom));
+fn test_into_pair() {
+    holds("0/1", pair_of(0, 1) == (0, 1));
+    holds("-2/1", pair_of(-2, 1) == (-2, 1));
+    holds("1/-2", pair_of(1, -2) == (1, -2));
+}
+
+// The fraction of a pair, where `checked_new` answers.
+#[inline]
+fn from_pair(pair: (i64, i64)) -> Rational64 {
+    match Ratio::checked_new(pair.0, pair.1) {
+        Some(_) => Ratio::from_pair(pair),
+        None => Ratio::zero(),
     }
 }
 
+#[test]
+fn test_from_pair() {
+    is(from_pair((0, 1)), 0, 1);
+    is(from_pair((1, 1)), 1, 1);
+    is(from_pair((-2, 1)), -2, 1);
+    is(from_pair((1, -2)), -1, 2);
+}
+
+#[test]
+fn test_num_zero() {
+    holds("0", Rational64::zero().is_zero());
+    let mut x = fraction((123, 456));
+    holds("not 0", !x.is_zero());
+    let sum = forms::sum(x, Rational64::zero());
+    holds(
+        "+ 0",
+        sum == Some((41, 152)) && x == Ratio::new_raw(41, 152),
+    );
+    x.set_zero();
+    holds("becomes 0", x.is_zero());
+}
+
+#[test]
+fn test_num_one() {
+    holds("1", Rational64::one().is_one());
+    let mut x = fraction((123, 456));
+    holds("not 1", !x.is_one());
+    let product = forms::product(x, Rational64::one());
+    holds(
+        "* 1",
+        product == Some((41, 152)) && x == Ratio::new_raw(41, 152),
+    );
+    x.set_one();
+    holds("becomes 1", x.is_one());
+}
+
+// Whether a hasher receives the same of both.
 #[inline]
-fn written(x: &Rational64) -> Written {
-    let mut list = Written::new();
-    x.hash(&mut list);
-    list
+fn write_alike(x: &Rational64, y: &Rational64) -> bool {
+    let mut first = Written::new();
+    x.hash(&mut first);
+    let mut second = Written::new();
+    y.hash(&mut second);
+    first.as_slice() == second.as_slice()
 }
 
 #[test]
 fn test_hash() {
-    let zero = written(&Ratio::zero());
-    assert!(zero.as_slice() != written(&Ratio::one()).as_slice());
-    assert!(zero.as_slice() != written(&new(3, 2)).as_slice());
-    let two = written(&Ratio::new_raw(4, 2));
-    assert!(two.as_slice() == written(&Ratio::new_raw(6, 3)).as_slice());
-    let thousandths = written(&Ratio::new_raw(123456789, 1000));
-    assert!(thousandths.as_slice() == written(&Ratio::new_raw(617283945, 5000)).as_slice());
+    let zero = Rational64::zero();
+    holds("0 and 1", !write_alike(&zero, &Ratio::one()));
+    holds("0 and 3/2", !write_alike(&zero, &new(3, 2)));
+    holds(
+        "4/2 and 6/3",
+        write_alike(&Ratio::new_raw(4, 2), &Ratio::new_raw(6, 3)),
+    );
+    let (x, y) = (
+        Ratio::new_raw(123456789, 1000),
+        Ratio::new_raw(617283945, 5000),
+    );
+    holds("thousandths", write_alike(&x, &y));
 }
 
 #[test]
 fn test_const() {
     let x = Rational32::new_raw(123, 456);
-    assert_eq!((*x.numer(), *x.denom()), (123, 456));
-    let reduced = match Ratio::checked_new(123, 456) {
-        Some(_) => x.reduced(),
-        None => x,
-    };
-    assert_eq!(reduced.into_raw(), (41, 152));
+    holds("fields", *x.numer() == 123 && *x.denom() == 456);
+    if Ratio::checked_new(123i32, 456).is_some() {
+        is(x.reduced(), 41, 152);
+    } else {
+        holds("reduced", false);
+    }
 }

@@ -4,53 +4,58 @@ use super::recorder::{Codes, Written};
 use crate::proved::num_rational::{Ratio, Steps};
 use crate::proved::ratio_integer::{Integer, SignedInteger};
 use core::cmp::Ordering;
+use core::fmt::Debug;
 use core::hash::Hash;
 
 #[inline]
-fn raw<T: Integer>(n: T, d: T) -> Ratio<T> {
-    assert!(!d.is_zero());
-    Ratio::new_raw(n, d)
+fn raw<T: Integer>(fields: (T, T)) -> Ratio<T> {
+    assert!(!fields.1.is_zero());
+    Ratio::new_raw(fields.0, fields.1)
 }
 
-// How n/d stands to m/e, by each call that compares.
+// Whether each call that compares says that x stands so to y.
 #[inline]
-fn stands<T: Integer>(n: T, d: T, m: T, e: T) -> Ordering {
-    let x = raw(n, d);
-    let y = raw(m, e);
-    let order = x.cmp(&y);
-    assert!(x.cmp_counted(&y, &mut Steps::new()) == order);
-    assert!(x.partial_cmp(&y) == Some(order));
-    assert!((x == y) == order.is_eq() && (x != y) == order.is_ne());
-    assert!((x < y) == order.is_lt() && (x <= y) == order.is_le());
-    assert!((x > y) == order.is_gt() && (x >= y) == order.is_ge());
-    assert!(y.cmp(&x) == order.reverse() && x == x);
-    order
+fn stand<T: Integer>(x: Ratio<T>, y: Ratio<T>, order: Ordering) -> bool {
+    x.cmp(&y) == order
+        && y.cmp(&x) == order.reverse()
+        && x.cmp_counted(&y, &mut Steps::new()) == order
+        && x.partial_cmp(&y) == Some(order)
+        && (x == y) == order.is_eq()
+        && (x != y) == order.is_ne()
+        && (x < y) == order.is_lt()
+        && (x <= y) == order.is_le()
+        && (x > y) == order.is_gt()
+        && (x >= y) == order.is_ge()
+        && x == x
+}
+
+#[inline]
+fn stands<T: Integer + Debug>(left: (T, T), right: (T, T), order: Ordering) {
+    let (x, y) = (raw(left), raw(right));
+    assert!(stand(x, y, order), "{left:?} and {right:?}");
 }
 
 #[test]
 fn order_over_i8() {
-    for (n, d, m, e, expected) in [
-        (125i8, 127i8, 124i8, 125i8, Ordering::Less),
-        (1, -2, 1, 2, Ordering::Less),
-        (-128, -1, 127, 1, Ordering::Greater),
-        (-128, -1, -128, -1, Ordering::Equal),
-        (-1, -128, 1, 127, Ordering::Less),
-        (127, -128, -127, 127, Ordering::Greater),
-        (3, 7, 2, 7, Ordering::Greater),
-        (3, -7, 2, -7, Ordering::Less),
-        (0, 2, 0, -5, Ordering::Equal),
-    ] {
-        assert!(stands(n, d, m, e) == expected, "{n}/{d} and {m}/{e}");
-    }
+    stands((125i8, 127), (124, 125), Ordering::Less);
+    stands((1i8, -2), (1, 2), Ordering::Less);
+    stands((-128i8, -1), (127, 1), Ordering::Greater);
+    stands((-128i8, -1), (-128, -1), Ordering::Equal);
+    stands((-1i8, -128), (1, 127), Ordering::Less);
+    stands((127i8, -128), (-127, 127), Ordering::Greater);
+    stands((3i8, 7), (2, 7), Ordering::Greater);
+    stands((3i8, -7), (2, -7), Ordering::Less);
+    stands((0i8, 2), (0, -5), Ordering::Equal);
 }
 
 // Rows at the ends of a signed type.
 #[inline]
-fn at_its_ends<T: SignedInteger>(minus_one: T) {
-    assert!(stands(T::MIN, minus_one, T::MAX, T::ONE) == Ordering::Greater);
-    assert!(stands(T::MIN, T::MIN, T::ONE, T::ONE) == Ordering::Equal);
-    assert!(stands(T::ONE, T::MIN, minus_one, T::MAX) == Ordering::Greater);
-    assert!(stands(T::MIN, T::MAX, T::MAX, T::MIN) == Ordering::Less);
+fn at_its_ends<T: SignedInteger + Debug>(minus_one: T) {
+    let (least, most) = (T::MIN, T::MAX);
+    stands((least, minus_one), (most, T::ONE), Ordering::Greater);
+    stands((least, least), (T::ONE, T::ONE), Ordering::Equal);
+    stands((T::ONE, least), (minus_one, most), Ordering::Greater);
+    stands((least, most), (most, least), Ordering::Less);
 }
 
 #[test]
@@ -76,34 +81,30 @@ fn has_codes<T: Integer>(x: &Ratio<T>, mut list: Codes<T>, expected: &[T]) -> bo
     list.as_slice() == expected && hashed.as_slice() == written.as_slice()
 }
 
+#[inline]
+fn codes_of_8_bits(fields: (i8, i8), expected: &[i8]) {
+    let x = raw(fields);
+    assert!(has_codes(&x, Codes::new(), expected), "{fields:?}");
+}
+
+#[inline]
+fn codes_of_64_bits(fields: (i64, i64), expected: &[i64]) {
+    let x = raw(fields);
+    assert!(has_codes(&x, Codes::new(), expected), "{fields:?}");
+}
+
 #[test]
 fn codes() {
-    let rows: [(i8, i8, &[i8]); 8] = [
-        (-128, -1, &[-128, -128, 0]),
-        (127, -128, &[-1, -128, -128, 0]),
-        (1, -128, &[-1, 1, 127, 0]),
-        (-1, -128, &[0, -128, -128, 0]),
-        (-7, 3, &[-3, 1, 2, 0]),
-        (7, -3, &[-3, 1, 2, 0]),
-        (0, -5, &[0, 0]),
-        (-128, -128, &[1, 0]),
-    ];
-    for (n, d, expected) in rows {
-        assert!(
-            has_codes(&raw(n, d), Codes::new(), expected),
-            "{n}/{d}"
-        );
-    }
-    let rows: [(i64, i64, &[i64]); 4] = [
-        (4, 2, &[2, 0]),
-        (6, 3, &[2, 0]),
-        (-4, -2, &[2, 0]),
-        (89, 55, &[1, 1, 1, 1, 1, 1, 1, 1, 2, 0]),
-    ];
-    for (n, d, expected) in rows {
-        assert!(
-            has_codes(&raw(n, d), Codes::new(), expected),
-            "{n}/{d}"
-        );
-    }
+    codes_of_8_bits((-128, -1), &[-128, -128, 0]);
+    codes_of_8_bits((127, -128), &[-1, -128, -128, 0]);
+    codes_of_8_bits((1, -128), &[-1, 1, 127, 0]);
+    codes_of_8_bits((-1, -128), &[0, -128, -128, 0]);
+    codes_of_8_bits((-7, 3), &[-3, 1, 2, 0]);
+    codes_of_8_bits((7, -3), &[-3, 1, 2, 0]);
+    codes_of_8_bits((0, -5), &[0, 0]);
+    codes_of_8_bits((-128, -128), &[1, 0]);
+    codes_of_64_bits((4, 2), &[2, 0]);
+    codes_of_64_bits((6, 3), &[2, 0]);
+    codes_of_64_bits((-4, -2), &[2, 0]);
+    codes_of_64_bits((89, 55), &[1, 1, 1, 1, 1, 1, 1, 1, 2, 0]);
 }

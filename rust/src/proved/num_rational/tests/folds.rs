@@ -1,54 +1,23 @@
 // Erased from crates/num_rational/src/tests/folds.rt by rust/erase: not to be edited.
 //! Sums and products of lists, by every call.
 
-use super::forms::has;
+use super::asserting::holds;
+use super::forms::{self, fraction, has};
 use crate::proved::num_rational::{Ratio, Rational32};
 use crate::proved::ratio_integer::Integer;
+use core::iter::{Product, Sum};
 
 #[inline]
-fn is_positive<T: Integer>(x: &Ratio<T>) -> bool {
-    *x.denom() > T::ZERO
+fn are_positive<T: Integer>(items: &[Ratio<T>]) -> bool {
+    items.iter().all(|x| *x.denom() > T::ZERO)
 }
 
-// The sum of `total` and the items, one after another, where each step is answered.
-#[inline]
-fn added<T: Integer>(total: Ratio<T>, items: &[Ratio<T>]) -> Option<Ratio<T>> {
-    match items.split_first() {
-        None => Some(total),
-        Some((x, rest)) => {
-            if is_positive(x) {
-                let next = total.checked_add(x)?;
-                added(next, rest)
-            } else {
-                None
-            }
-        }
-    }
-}
-
-// The product of `total` and the items, one after another, where each step is answered.
-#[inline]
-fn multiplied<T: Integer>(total: Ratio<T>, items: &[Ratio<T>]) -> Option<Ratio<T>> {
-    match items.split_first() {
-        None => Some(total),
-        Some((x, rest)) => {
-            if is_positive(x) {
-                let next = total.checked_mul(x)?;
-                multiplied(next, rest)
-            } else {
-                None
-            }
-        }
-    }
-}
-
+// The fields of the sum, where both checked calls answer it and every other call gives the same.
 #[inline]
 fn sum<T: Integer>(items: &[Ratio<T>]) -> Option<(T, T)> {
-    let total = added(Ratio::zero(), items)?;
-    let by_value = Ratio::<T>::sum(items.iter().copied());
-    let by_reference = Ratio::<T>::sum_refs(items.iter());
-    let fields = total.into_raw();
-    if has(by_value, fields) && has(by_reference, fields) {
+    let fields = Ratio::checked_sum_refs(items.iter())?.into_raw();
+    let by_value = Ratio::checked_sum(items.iter().copied())?;
+    if has(by_value, fields) && every_sum(items, fields) {
         Some(fields)
     } else {
         None
@@ -56,31 +25,106 @@ fn sum<T: Integer>(items: &[Ratio<T>]) -> Option<(T, T)> {
 }
 
 #[inline]
+fn every_sum<T: Integer>(items: &[Ratio<T>], fields: (T, T)) -> bool {
+    let by_value = Ratio::<T>::sum(items.iter().copied());
+    let by_reference = Ratio::<T>::sum_refs(items.iter());
+    let of_values = <Ratio<T> as Sum<Ratio<T>>>::sum(items.iter().copied());
+    let of_references = <Ratio<T> as Sum<&Ratio<T>>>::sum(items.iter());
+    has(by_value, fields)
+        && has(by_reference, fields)
+        && has(of_values, fields)
+        && has(of_references, fields)
+}
+
+// The same of the product.
+#[inline]
 fn product<T: Integer>(items: &[Ratio<T>]) -> Option<(T, T)> {
-    let total = multiplied(Ratio::one(), items)?;
-    let by_value = Ratio::<T>::product(items.iter().copied());
-    let by_reference = Ratio::<T>::product_refs(items.iter());
-    let fields = total.into_raw();
-    if has(by_value, fields) && has(by_reference, fields) {
+    let fields = Ratio::checked_product_refs(items.iter())?.into_raw();
+    let by_value = Ratio::checked_product(items.iter().copied())?;
+    if has(by_value, fields) && every_product(items, fields) {
         Some(fields)
     } else {
         None
     }
 }
 
-#[test]
-fn of_many() {
+#[inline]
+fn every_product<T: Integer>(items: &[Ratio<T>], fields: (T, T)) -> bool {
+    let by_value = Ratio::<T>::product(items.iter().copied());
+    let by_reference = Ratio::<T>::product_refs(items.iter());
+    let of_values = <Ratio<T> as Product<Ratio<T>>>::product(items.iter().copied());
+    let of_references = <Ratio<T> as Product<&Ratio<T>>>::product(items.iter());
+    has(by_value, fields)
+        && has(by_reference, fields)
+        && has(of_values, fields)
+        && has(of_references, fields)
+}
+
+// The sum by `+`, one item after another.
+#[inline]
+fn added<T: Integer>(items: &[Ratio<T>]) -> Option<(T, T)> {
+    let mut total = (T::ZERO, T::ONE);
+    for x in items {
+        total = forms::sum(fraction(total), fraction(x.into_raw()))?;
+    }
+    Some(total)
+}
+
+// The product by `*`, one item after another.
+#[inline]
+fn multiplied<T: Integer>(items: &[Ratio<T>]) -> Option<(T, T)> {
+    let mut total = (T::ONE, T::ONE);
+    for x in items {
+        total = forms::product(fraction(total), fraction(x.into_raw()))?;
+    }
+    Some(total)
+}
+
+// Whether the sum is this by every call, or by none.
+#[inline]
+fn is_sum<T: Integer>(items: &[Ratio<T>], want: Option<(T, T)>) -> bool {
+    are_positive(items) && sum(items) == want && added(items) == want
+}
+
+#[inline]
+fn is_product<T: Integer>(items: &[Ratio<T>], want: Option<(T, T)>) -> bool {
+    are_positive(items) && product(items) == want && multiplied(items) == want
+}
+
+// 0/500, 1/500 and so on.
+#[inline]
+fn five_hundredths() -> [Rational32; 1000] {
     let mut items = [Rational32::zero(); 1000];
     for n in 0..1000usize {
         items[n] = Ratio::new_raw(n as i32, 500);
     }
-    assert_eq!(sum(&items), Some((999, 1)));
-    assert_eq!(product(&items), Some((0, 1)));
+    items
+}
+
+#[test]
+fn ratio_iter_sum() {
+    holds("999", is_sum(&five_hundredths(), Some((999, 1))));
+}
+
+#[test]
+fn ratio_iter_product() {
+    holds("0", is_product(&five_hundredths(), Some((0, 1))));
 }
 
 #[test]
 fn of_none() {
     let none: [Rational32; 0] = [];
-    assert_eq!(sum(&none), Some((0, 1)));
-    assert_eq!(product(&none), Some((1, 1)));
+    holds("0", is_sum(&none, Some((0, 1))));
+    holds("1", is_product(&none, Some((1, 1))));
+}
+
+#[test]
+fn refused() {
+    let items = [
+        Ratio::new_raw(100i8, 1),
+        Ratio::new_raw(100, 1),
+        Ratio::new_raw(-100, 1),
+    ];
+    holds("200", is_sum(&items, None));
+    holds("10000", is_product(&items, None));
 }

@@ -1,7 +1,8 @@
 // Erased from crates/num_rational/src/tests/forms.rt by rust/erase: not to be edited.
-//! Every form of an operator: the checked call, the named call, the symbol and its assigning forms.
+//! Every form of an operator: the checked call, the named call, the symbol and its assigning form. The
+//! right operand is of any form that an operator takes.
 
-use crate::proved::num_rational::Ratio;
+use crate::proved::num_rational::{Operand, Ratio};
 use crate::proved::ratio_integer::Integer;
 
 /// The fraction of a row, or 0 where its denominator is not positive.
@@ -27,12 +28,12 @@ pub fn has<T: Integer>(x: Ratio<T>, fields: (T, T)) -> bool {
 /// What is proved asks of the caller:
 ///
 /// - `left`: `pos 0 <ℤ denominator x`
-/// - `right`: `pos 0 <ℤ denominator y`
+/// - `right`: `pos 0 <ℤ (O.pair o).1`
 #[inline]
-pub fn sum<T: Integer>(x: Ratio<T>, y: Ratio<T>) -> Option<(T, T)> {
-    let checked = x.checked_add(&y)?;
-    let fields = checked.into_raw();
-    if every_sum(x, y, fields) {
+pub fn sum<T: Integer, O: Operand<T> + Copy>(x: Ratio<T>, o: O) -> Option<(T, T)> {
+    let y = o.ratio();
+    let fields = x.checked_add(&y)?.into_raw();
+    if every_sum(x, o, fields) {
         Some(fields)
     } else {
         None
@@ -40,51 +41,13 @@ pub fn sum<T: Integer>(x: Ratio<T>, y: Ratio<T>) -> Option<(T, T)> {
 }
 
 #[inline]
-fn every_sum<T: Integer>(x: Ratio<T>, y: Ratio<T>, fields: (T, T)) -> bool {
-    let mut by_value = x;
-    by_value += y;
-    let mut by_reference = x;
-    by_reference += &y;
-    has(x.add(y), fields)
-        && has(x + y, fields)
-        && has(x + &y, fields)
-        && has(&x + y, fields)
-        && has(&x + &y, fields)
-        && has(by_value, fields)
-        && has(by_reference, fields)
-}
-
-/// The same of the sum with an integer.
-///
-/// # Conditions
-///
-/// What is proved asks of the caller:
-///
-/// - `pos 0 <ℤ denominator x`
-#[inline]
-pub fn sum_with<T: Integer>(x: Ratio<T>, c: T) -> Option<(T, T)> {
-    let y = Ratio::from_integer(c);
-    let checked = x.checked_add(&y)?;
-    let fields = checked.into_raw();
-    if every_sum_with(x, c, fields) {
-        Some(fields)
-    } else {
-        None
-    }
-}
-
-#[inline]
-fn every_sum_with<T: Integer>(x: Ratio<T>, c: T, fields: (T, T)) -> bool {
-    let mut by_value = x;
-    by_value += c;
-    let mut by_reference = x;
-    by_reference += &c;
-    has(x + c, fields)
-        && has(x + &c, fields)
-        && has(&x + c, fields)
-        && has(&x + &c, fields)
-        && has(by_value, fields)
-        && has(by_reference, fields)
+fn every_sum<T: Integer, O: Operand<T> + Copy>(x: Ratio<T>, o: O, fields: (T, T)) -> bool {
+    let mut assigned = x;
+    assigned += o;
+    has(x.add(o.ratio()), fields)
+        && has(x + o, fields)
+        && has(&x + o, fields)
+        && has(assigned, fields)
 }
 
 /// The same of the difference.
@@ -94,12 +57,12 @@ fn every_sum_with<T: Integer>(x: Ratio<T>, c: T, fields: (T, T)) -> bool {
 /// What is proved asks of the caller:
 ///
 /// - `left`: `pos 0 <ℤ denominator x`
-/// - `right`: `pos 0 <ℤ denominator y`
+/// - `right`: `pos 0 <ℤ (O.pair o).1`
 #[inline]
-pub fn difference<T: Integer>(x: Ratio<T>, y: Ratio<T>) -> Option<(T, T)> {
-    let checked = x.checked_sub(&y)?;
-    let fields = checked.into_raw();
-    if every_difference(x, y, fields) {
+pub fn difference<T: Integer, O: Operand<T> + Copy>(x: Ratio<T>, o: O) -> Option<(T, T)> {
+    let y = o.ratio();
+    let fields = x.checked_sub(&y)?.into_raw();
+    if every_difference(x, o, fields) {
         Some(fields)
     } else {
         None
@@ -107,51 +70,13 @@ pub fn difference<T: Integer>(x: Ratio<T>, y: Ratio<T>) -> Option<(T, T)> {
 }
 
 #[inline]
-fn every_difference<T: Integer>(x: Ratio<T>, y: Ratio<T>, fields: (T, T)) -> bool {
-    let mut by_value = x;
-    by_value -= y;
-    let mut by_reference = x;
-    by_reference -= &y;
-    has(x.sub(y), fields)
-        && has(x - y, fields)
-        && has(x - &y, fields)
-        && has(&x - y, fields)
-        && has(&x - &y, fields)
-        && has(by_value, fields)
-        && has(by_reference, fields)
-}
-
-/// The same of the difference from an integer.
-///
-/// # Conditions
-///
-/// What is proved asks of the caller:
-///
-/// - `pos 0 <ℤ denominator x`
-#[inline]
-pub fn difference_with<T: Integer>(x: Ratio<T>, c: T) -> Option<(T, T)> {
-    let y = Ratio::from_integer(c);
-    let checked = x.checked_sub(&y)?;
-    let fields = checked.into_raw();
-    if every_difference_with(x, c, fields) {
-        Some(fields)
-    } else {
-        None
-    }
-}
-
-#[inline]
-fn every_difference_with<T: Integer>(x: Ratio<T>, c: T, fields: (T, T)) -> bool {
-    let mut by_value = x;
-    by_value -= c;
-    let mut by_reference = x;
-    by_reference -= &c;
-    has(x - c, fields)
-        && has(x - &c, fields)
-        && has(&x - c, fields)
-        && has(&x - &c, fields)
-        && has(by_value, fields)
-        && has(by_reference, fields)
+fn every_difference<T: Integer, O: Operand<T> + Copy>(x: Ratio<T>, o: O, fields: (T, T)) -> bool {
+    let mut assigned = x;
+    assigned -= o;
+    has(x.sub(o.ratio()), fields)
+        && has(x - o, fields)
+        && has(&x - o, fields)
+        && has(assigned, fields)
 }
 
 /// The same of the product.
@@ -161,12 +86,12 @@ fn every_difference_with<T: Integer>(x: Ratio<T>, c: T, fields: (T, T)) -> bool 
 /// What is proved asks of the caller:
 ///
 /// - `left`: `pos 0 <ℤ denominator x`
-/// - `right`: `pos 0 <ℤ denominator y`
+/// - `right`: `pos 0 <ℤ (O.pair o).1`
 #[inline]
-pub fn product<T: Integer>(x: Ratio<T>, y: Ratio<T>) -> Option<(T, T)> {
-    let checked = x.checked_mul(&y)?;
-    let fields = checked.into_raw();
-    if every_product(x, y, fields) {
+pub fn product<T: Integer, O: Operand<T> + Copy>(x: Ratio<T>, o: O) -> Option<(T, T)> {
+    let y = o.ratio();
+    let fields = x.checked_mul(&y)?.into_raw();
+    if every_product(x, o, fields) {
         Some(fields)
     } else {
         None
@@ -174,51 +99,13 @@ pub fn product<T: Integer>(x: Ratio<T>, y: Ratio<T>) -> Option<(T, T)> {
 }
 
 #[inline]
-fn every_product<T: Integer>(x: Ratio<T>, y: Ratio<T>, fields: (T, T)) -> bool {
-    let mut by_value = x;
-    by_value *= y;
-    let mut by_reference = x;
-    by_reference *= &y;
-    has(x.mul(y), fields)
-        && has(x * y, fields)
-        && has(x * &y, fields)
-        && has(&x * y, fields)
-        && has(&x * &y, fields)
-        && has(by_value, fields)
-        && has(by_reference, fields)
-}
-
-/// The same of the product with an integer.
-///
-/// # Conditions
-///
-/// What is proved asks of the caller:
-///
-/// - `pos 0 <ℤ denominator x`
-#[inline]
-pub fn product_with<T: Integer>(x: Ratio<T>, c: T) -> Option<(T, T)> {
-    let y = Ratio::from_integer(c);
-    let checked = x.checked_mul(&y)?;
-    let fields = checked.into_raw();
-    if every_product_with(x, c, fields) {
-        Some(fields)
-    } else {
-        None
-    }
-}
-
-#[inline]
-fn every_product_with<T: Integer>(x: Ratio<T>, c: T, fields: (T, T)) -> bool {
-    let mut by_value = x;
-    by_value *= c;
-    let mut by_reference = x;
-    by_reference *= &c;
-    has(x * c, fields)
-        && has(x * &c, fields)
-        && has(&x * c, fields)
-        && has(&x * &c, fields)
-        && has(by_value, fields)
-        && has(by_reference, fields)
+fn every_product<T: Integer, O: Operand<T> + Copy>(x: Ratio<T>, o: O, fields: (T, T)) -> bool {
+    let mut assigned = x;
+    assigned *= o;
+    has(x.mul(o.ratio()), fields)
+        && has(x * o, fields)
+        && has(&x * o, fields)
+        && has(assigned, fields)
 }
 
 /// The same of the quotient.
@@ -228,12 +115,12 @@ fn every_product_with<T: Integer>(x: Ratio<T>, c: T, fields: (T, T)) -> bool {
 /// What is proved asks of the caller:
 ///
 /// - `left`: `pos 0 <ℤ denominator x`
-/// - `right`: `pos 0 <ℤ denominator y`
+/// - `right`: `pos 0 <ℤ (O.pair o).1`
 #[inline]
-pub fn quotient<T: Integer>(x: Ratio<T>, y: Ratio<T>) -> Option<(T, T)> {
-    let checked = x.checked_div(&y)?;
-    let fields = checked.into_raw();
-    if every_quotient(x, y, fields) {
+pub fn quotient<T: Integer, O: Operand<T> + Copy>(x: Ratio<T>, o: O) -> Option<(T, T)> {
+    let y = o.ratio();
+    let fields = x.checked_div(&y)?.into_raw();
+    if every_quotient(x, o, fields) {
         Some(fields)
     } else {
         None
@@ -241,51 +128,13 @@ pub fn quotient<T: Integer>(x: Ratio<T>, y: Ratio<T>) -> Option<(T, T)> {
 }
 
 #[inline]
-fn every_quotient<T: Integer>(x: Ratio<T>, y: Ratio<T>, fields: (T, T)) -> bool {
-    let mut by_value = x;
-    by_value /= y;
-    let mut by_reference = x;
-    by_reference /= &y;
-    has(x.div(y), fields)
-        && has(x / y, fields)
-        && has(x / &y, fields)
-        && has(&x / y, fields)
-        && has(&x / &y, fields)
-        && has(by_value, fields)
-        && has(by_reference, fields)
-}
-
-/// The same of the quotient by an integer.
-///
-/// # Conditions
-///
-/// What is proved asks of the caller:
-///
-/// - `pos 0 <ℤ denominator x`
-#[inline]
-pub fn quotient_with<T: Integer>(x: Ratio<T>, c: T) -> Option<(T, T)> {
-    let y = Ratio::from_integer(c);
-    let checked = x.checked_div(&y)?;
-    let fields = checked.into_raw();
-    if every_quotient_with(x, c, fields) {
-        Some(fields)
-    } else {
-        None
-    }
-}
-
-#[inline]
-fn every_quotient_with<T: Integer>(x: Ratio<T>, c: T, fields: (T, T)) -> bool {
-    let mut by_value = x;
-    by_value /= c;
-    let mut by_reference = x;
-    by_reference /= &c;
-    has(x / c, fields)
-        && has(x / &c, fields)
-        && has(&x / c, fields)
-        && has(&x / &c, fields)
-        && has(by_value, fields)
-        && has(by_reference, fields)
+fn every_quotient<T: Integer, O: Operand<T> + Copy>(x: Ratio<T>, o: O, fields: (T, T)) -> bool {
+    let mut assigned = x;
+    assigned /= o;
+    has(x.div(o.ratio()), fields)
+        && has(x / o, fields)
+        && has(&x / o, fields)
+        && has(assigned, fields)
 }
 
 /// The same of the remainder.
@@ -295,12 +144,12 @@ fn every_quotient_with<T: Integer>(x: Ratio<T>, c: T, fields: (T, T)) -> bool {
 /// What is proved asks of the caller:
 ///
 /// - `left`: `pos 0 <ℤ denominator x`
-/// - `right`: `pos 0 <ℤ denominator y`
+/// - `right`: `pos 0 <ℤ (O.pair o).1`
 #[inline]
-pub fn remainder<T: Integer>(x: Ratio<T>, y: Ratio<T>) -> Option<(T, T)> {
-    let checked = x.checked_rem(&y)?;
-    let fields = checked.into_raw();
-    if every_remainder(x, y, fields) {
+pub fn remainder<T: Integer, O: Operand<T> + Copy>(x: Ratio<T>, o: O) -> Option<(T, T)> {
+    let y = o.ratio();
+    let fields = x.checked_rem(&y)?.into_raw();
+    if every_remainder(x, o, fields) {
         Some(fields)
     } else {
         None
@@ -308,49 +157,11 @@ pub fn remainder<T: Integer>(x: Ratio<T>, y: Ratio<T>) -> Option<(T, T)> {
 }
 
 #[inline]
-fn every_remainder<T: Integer>(x: Ratio<T>, y: Ratio<T>, fields: (T, T)) -> bool {
-    let mut by_value = x;
-    by_value %= y;
-    let mut by_reference = x;
-    by_reference %= &y;
-    has(x.rem(y), fields)
-        && has(x % y, fields)
-        && has(x % &y, fields)
-        && has(&x % y, fields)
-        && has(&x % &y, fields)
-        && has(by_value, fields)
-        && has(by_reference, fields)
-}
-
-/// The same of the remainder by an integer.
-///
-/// # Conditions
-///
-/// What is proved asks of the caller:
-///
-/// - `pos 0 <ℤ denominator x`
-#[inline]
-pub fn remainder_with<T: Integer>(x: Ratio<T>, c: T) -> Option<(T, T)> {
-    let y = Ratio::from_integer(c);
-    let checked = x.checked_rem(&y)?;
-    let fields = checked.into_raw();
-    if every_remainder_with(x, c, fields) {
-        Some(fields)
-    } else {
-        None
-    }
-}
-
-#[inline]
-fn every_remainder_with<T: Integer>(x: Ratio<T>, c: T, fields: (T, T)) -> bool {
-    let mut by_value = x;
-    by_value %= c;
-    let mut by_reference = x;
-    by_reference %= &c;
-    has(x % c, fields)
-        && has(x % &c, fields)
-        && has(&x % c, fields)
-        && has(&x % &c, fields)
-        && has(by_value, fields)
-        && has(by_reference, fields)
+fn every_remainder<T: Integer, O: Operand<T> + Copy>(x: Ratio<T>, o: O, fields: (T, T)) -> bool {
+    let mut assigned = x;
+    assigned %= o;
+    has(x.rem(o.ratio()), fields)
+        && has(x % o, fields)
+        && has(&x % o, fields)
+        && has(assigned, fields)
 }

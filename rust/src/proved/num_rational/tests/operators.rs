@@ -1,210 +1,301 @@
 // Erased from crates/num_rational/src/tests/operators.rt by rust/erase: not to be edited.
-//! Rows of the five operators, from outside, by every form of each.
+//! Rows of the five operators, by every form of each: the values of the Rust crate's own tests, under
+//! the names that they have there, and where a range ends.
+
 use super::forms::{self, fraction};
+use crate::proved::num_rational::{Operand, Ratio};
 use crate::proved::ratio_integer::{Integer, Primitive};
+use core::fmt::Debug;
 
 #[inline]
-fn answer<T: Integer>(left: (T, T), symbol: char, right: (T, T)) -> Option<(T, T)> {
+fn answer<T: Integer, O: Operand<T> + Copy>(x: Ratio<T>, symbol: char, o: O) -> Option<(T, T)> {
+    match symbol {
+        '+' => forms::sum(x, o),
+        '-' => forms::difference(x, o),
+        '*' => forms::product(x, o),
+        '/' => forms::quotient(x, o),
+        _ => forms::remainder(x, o),
+    }
+}
+
+// A row: the right operand stands by value and behind a reference.
+#[inline]
+fn holds<T: Integer + Debug>(
+    left: (T, T),
+    symbol: char,
+    right: (T, T),
+    want: Option<(T, T)>,
+) {
     let (x, y) = (fraction(left), fraction(right));
-    match symbol {
-        '+' => forms::sum(x, y),
-        '-' => forms::difference(x, y),
-        '*' => forms::product(x, y),
-        '/' => forms::quotient(x, y),
-        _ => forms::remainder(x, y),
-    }
+    assert!(
+        answer(x, symbol, y) == want && answer(x, symbol, &y) == want,
+        "{left:?} {symbol} {right:?}"
+    );
 }
 
+// The same of a row with a whole number.
 #[inline]
-fn answer_with<T: Integer>(left: (T, T), symbol: char, c: T) -> Option<(T, T)> {
+fn holds_with<T: Integer + Debug>(
+    left: (T, T),
+    symbol: char,
+    c: T,
+    want: Option<(T, T)>,
+) {
     let x = fraction(left);
-    match symbol {
-        '+' => forms::sum_with(x, c),
-        '-' => forms::difference_with(x, c),
-        '*' => forms::product_with(x, c),
-        '/' => forms::quotient_with(x, c),
-        _ => forms::remainder_with(x, c),
-    }
+    assert!(
+        answer(x, symbol, c) == want && answer(x, symbol, &c) == want,
+        "{left:?} {symbol} {c:?}"
+    );
 }
 
-#[test]
-fn fractions() {
-    for ((a, b), symbol, (c, d), numer, denom) in [
-        ((1i64, 1), '+', (1i64, 2), 3i64, 2i64),
-        ((1, 1), '+', (1, 1), 2, 1),
-        ((1, 2), '+', (3, 2), 2, 1),
-        ((1, 2), '+', (-1, 2), 0, 1),
-        ((0, 1), '+', (0, 1), 0, 1),
-        ((123, 456), '+', (0, 1), 41, 152),
-        ((1, 1), '-', (1, 2), 1, 2),
-        ((3, 2), '-', (1, 2), 1, 1),
-        ((1, 1), '-', (-1, 2), 3, 2),
-        ((0, 1), '-', (0, 1), 0, 1),
-        ((1, 1), '*', (1, 2), 1, 2),
-        ((3, 2), '*', (1, 2), 3, 4),
-        ((-1, 2), '*', (1, 2), -1, 4),
-        ((0, 1), '*', (0, 1), 0, 1),
-        ((0, 1), '*', (1, 1), 0, 1),
-        ((123, 456), '*', (1, 1), 41, 152),
-        ((1, 1), '/', (1, 2), 2, 1),
-        ((3, 2), '/', (1, 2), 3, 1),
-        ((1, 1), '/', (-1, 2), -2, 1),
-        ((0, 1), '/', (-1, 2), 0, 1),
-        ((3, 2), '%', (1, 1), 1, 2),
-        ((3, 2), '%', (1, 2), 0, 1),
-        ((5, 2), '%', (3, 2), 1, 1),
-        ((2, 1), '%', (-1, 2), 0, 1),
-        ((1, 2), '%', (2, 1), 1, 2),
-        ((-7, 2), '%', (1, 1), -1, 2),
-    ] {
-        assert_eq!(
-            answer((a, b), symbol, (c, d)),
-            Some((numer, denom)),
-            "{a}/{b} {symbol} {c}/{d}"
-        );
-    }
+// The same rows at each of the twelve types.
+macro_rules! at_each_type {
+    ($rows:ident) => {
+        $rows::<i8>();
+        $rows::<u8>();
+        $rows::<i16>();
+        $rows::<u16>();
+        $rows::<i32>();
+        $rows::<u32>();
+        $rows::<i64>();
+        $rows::<u64>();
+        $rows::<isize>();
+        $rows::<usize>();
+        $rows::<i128>();
+        $rows::<u128>();
+    };
 }
 
-#[test]
-fn whole_numbers() {
-    for ((a, b), symbol, c, numer, denom) in [
-        ((1i64, 2), '+', 1i64, 3i64, 2i64),
-        ((1, 2), '-', 1, -1, 2),
-        ((1, 2), '*', 2, 1, 1),
-        ((1, 1), '/', 2, 1, 2),
-        ((3, 2), '%', 1, 1, 2),
-    ] {
-        assert_eq!(
-            answer_with((a, b), symbol, c),
-            Some((numer, denom)),
-            "{a}/{b} {symbol} {c}"
-        );
-    }
-}
-
-#[test]
-fn where_the_range_ends() {
-    for ((a, b), symbol, (c, d), want) in [
-        ((64i8, 1), '/', (-1i8, 2), Some((-128i8, 1i8))),
-        ((100, 100), '*', (7, 7), Some((1, 1))),
-        ((-128, 1), '/', (-128, 1), Some((1, 1))),
-        ((-128, 1), '%', (-1, 1), Some((0, 1))),
-        ((0, 1), '/', (-128, 3), Some((0, 1))),
-        ((127, 2), '*', (2, 127), Some((1, 1))),
-        ((127, 2), '*', (127, 1), None),
-        ((-128, 3), '*', (3, 1), Some((-128, 1))),
-        ((-128, 1), '/', (-1, 1), None),
-        ((1, 1), '/', (-128, 127), None),
-        ((-127, 2), '%', (1, 1), Some((-1, 2))),
-    ] {
-        assert_eq!(
-            answer((a, b), symbol, (c, d)),
-            want,
-            "{a}/{b} {symbol} {c}/{d}"
-        );
-    }
-    for ((a, b), symbol, (c, d)) in [
-        ((255u8, 2), '+', (255u8, 2)),
-        ((1, 2), '-', (1, 1)),
-        ((1, 1), '%', (0, 3)),
-        ((128, 1), '+', (128, 1)),
-        ((1, 128), '-', (128, 1)),
-        ((128, 1), '*', (128, 1)),
-        ((1, 128), '/', (128, 1)),
-    ] {
-        assert_eq!(
-            answer((a, b), symbol, (c, d)),
-            None,
-            "{a}/{b} {symbol} {c}/{d}"
-        );
-    }
-    let half = (4294967295u32, 2);
-    assert_eq!(answer(half, '+', half), None);
-}
-
-#[test]
-fn sums_of_32_bits_are_exact() {
-    let half = (2147483647i32, 2);
-    assert_eq!(answer(half, '+', half), Some((2147483647, 1)));
-    let (x, y) = ((1i32, 11862016), (1, 11993088));
-    assert_eq!(answer(x, '+', y), Some((91, 542687232)));
-    assert_eq!(answer(x, '-', y), Some((1, 1085374464)));
-    assert_eq!(answer((1i32, 2147483647), '+', (1, 2147483646)), None);
-}
-
-#[test]
-fn least_and_greatest_of_64_bits() {
-    let (least, greatest) = (i64::MIN, i64::MAX);
-    for ((a, b), symbol, (c, d), want) in [
-        ((least, greatest), '+', (least, greatest), None),
-        ((1, 1), '/', (least, 1), None),
-        ((least, 1), '+', (greatest, 1), Some((-1, 1))),
-        ((0, 1), '-', (least, 1), None),
-        ((least, 1), '/', (greatest, 1), Some((least, greatest))),
-        ((greatest, 1), '/', (least, 1), None),
-        ((1, 1), '/', (0, 1), None),
-    ] {
-        assert_eq!(
-            answer((a, b), symbol, (c, d)),
-            want,
-            "{a}/{b} {symbol} {c}/{d}"
-        );
-    }
-    // The four answers to whole numbers, each whole.
-    for (a, c, want) in [
-        (0, 0, [Some(0), Some(0), Some(0), None]),
-        (least, least, [None, Some(0), None, Some(1)]),
-        (0, least, [Some(least), None, Some(0), Some(0)]),
-        (1, least, [Some(least + 1), None, Some(least), None]),
-        (least, 0, [Some(least), Some(least), Some(0), None]),
-        (least, 1, [Some(least + 1), None, Some(least), Some(least)]),
-    ] {
-        for (symbol, number) in [
-            ('+', want[0]),
-            ('-', want[1]),
-            ('*', want[2]),
-            ('/', want[3]),
-        ] {
-            let fields = number.map(|n| (n, 1));
-            assert_eq!(answer((a, 1), symbol, (c, 1)), fields, "{a} {symbol} {c}");
-        }
-    }
-}
-
-// Whether numbers near the greatest one are met, where naive products of the fields are not held.
+// The greatest number of a type.
 #[inline]
-fn near_the_greatest<T: Primitive>() -> Option<bool> {
-    let one = T::ONE;
-    let two = T::from_u128(2)?;
-    let three = T::from_u128(3)?;
-    let most = T::MAX.to_u128()?;
-    let even = T::from_u128(most / 2 * 2)?;
-    let quarter = most / 4 * 2;
-    let (b, b_and_half) = (T::from_u128(quarter)?, T::from_u128(quarter / 2 * 3)?);
-    let c = T::from_u128(most / 6 * 3 + 1)?;
-    Some(
-        answer((one, T::MAX), '+', (one, T::MAX)) == Some((two, T::MAX))
-            && answer((one, T::MAX), '-', (one, T::MAX)) == Some((T::ZERO, one))
-            && answer((one, b), '*', (two, three)) == Some((one, b_and_half))
-            && answer((one, b), '/', (three, two)) == Some((one, b_and_half))
-            && answer_with((c, three), '*', three) == Some((c, one))
-            && answer_with((three, c), '/', three) == Some((one, c))
-            && answer((one, two), '%', (one, even)) == Some((T::ZERO, one)),
-    )
+fn most<T: Primitive>() -> u128 {
+    T::MAX.to_u128().unwrap_or(0)
+}
+
+// The number as one of a type that holds it.
+#[inline]
+fn number<T: Primitive>(n: u128) -> T {
+    T::from_u128(n).unwrap_or(T::ZERO)
 }
 
 #[test]
-fn near_the_greatest_number() {
-    assert_eq!(near_the_greatest::<i8>(), Some(true));
-    assert_eq!(near_the_greatest::<u8>(), Some(true));
-    assert_eq!(near_the_greatest::<i16>(), Some(true));
-    assert_eq!(near_the_greatest::<u16>(), Some(true));
-    assert_eq!(near_the_greatest::<i32>(), Some(true));
-    assert_eq!(near_the_greatest::<u32>(), Some(true));
-    assert_eq!(near_the_greatest::<i64>(), Some(true));
-    assert_eq!(near_the_greatest::<u64>(), Some(true));
-    assert_eq!(near_the_greatest::<isize>(), Some(true));
-    assert_eq!(near_the_greatest::<usize>(), Some(true));
-    assert_eq!(near_the_greatest::<i128>(), Some(true));
-    assert_eq!(near_the_greatest::<u128>(), Some(true));
+fn test_add() {
+    holds((1i64, 1), '+', (1, 2), Some((3, 2)));
+    holds((1i64, 1), '+', (1, 1), Some((2, 1)));
+    holds((1i64, 2), '+', (3, 2), Some((2, 1)));
+    holds((1i64, 2), '+', (-1, 2), Some((0, 1)));
+    holds_with((1i64, 2), '+', 1, Some((3, 2)));
+}
+
+#[test]
+fn test_sub() {
+    holds((1i64, 1), '-', (1, 2), Some((1, 2)));
+    holds((3i64, 2), '-', (1, 2), Some((1, 1)));
+    holds((1i64, 1), '-', (-1, 2), Some((3, 2)));
+    holds_with((1i64, 2), '-', 1, Some((-1, 2)));
+}
+
+#[test]
+fn test_mul() {
+    holds((1i64, 1), '*', (1, 2), Some((1, 2)));
+    holds((3i64, 2), '*', (1, 2), Some((3, 4)));
+    holds((-1i64, 2), '*', (1, 2), Some((-1, 4)));
+    holds_with((1i64, 2), '*', 2, Some((1, 1)));
+}
+
+#[test]
+fn test_div() {
+    holds((1i64, 1), '/', (1, 2), Some((2, 1)));
+    holds((3i64, 2), '/', (1, 2), Some((3, 1)));
+    holds((1i64, 1), '/', (-1, 2), Some((-2, 1)));
+    holds_with((1i64, 1), '/', 2, Some((1, 2)));
+}
+
+#[test]
+fn test_rem() {
+    holds((3i64, 2), '%', (1, 1), Some((1, 2)));
+    holds((3i64, 2), '%', (1, 2), Some((0, 1)));
+    holds((5i64, 2), '%', (3, 2), Some((1, 1)));
+    holds((2i64, 1), '%', (-1, 2), Some((0, 1)));
+    holds((1i64, 2), '%', (2, 1), Some((1, 2)));
+    holds((-7i64, 2), '%', (1, 1), Some((-1, 2)));
+    holds_with((3i64, 2), '%', 1, Some((1, 2)));
+}
+
+// Near the greatest number M, where naive products of the fields are not held.
+#[inline]
+fn sums_near_the_greatest<T: Primitive + Debug>() {
+    let x = (T::ONE, T::MAX);
+    holds(x, '+', x, Some((number(2), T::MAX)));
+}
+
+#[test]
+fn test_add_overflow() {
+    at_each_type!(sums_near_the_greatest);
+}
+
+#[inline]
+fn differences_near_the_greatest<T: Primitive + Debug>() {
+    let x = (T::ONE, T::MAX);
+    holds(x, '-', x, Some((T::ZERO, T::ONE)));
+}
+
+#[test]
+fn test_sub_overflow() {
+    at_each_type!(differences_near_the_greatest);
+}
+
+// 1 over about half of M, and what it is times 2/3.
+#[inline]
+fn halves<T: Primitive>() -> ((T, T), (T, T)) {
+    let half = most::<T>() / 4;
+    ((T::ONE, number(half * 2)), (T::ONE, number(half * 3)))
+}
+
+// The number after three times a sixth of M.
+#[inline]
+fn about_half<T: Primitive>() -> T {
+    number(most::<T>() / 6 * 3 + 1)
+}
+
+#[inline]
+fn products_near_the_greatest<T: Primitive + Debug>() {
+    let (x, want) = halves::<T>();
+    let c = about_half::<T>();
+    holds(x, '*', (number(2), number(3)), Some(want));
+    holds_with((c, number(3)), '*', number(3), Some((c, T::ONE)));
+}
+
+#[test]
+fn test_mul_overflow() {
+    at_each_type!(products_near_the_greatest);
+}
+
+#[inline]
+fn quotients_near_the_greatest<T: Primitive + Debug>() {
+    let (x, want) = halves::<T>();
+    let c = about_half::<T>();
+    holds(x, '/', (number(3), number(2)), Some(want));
+    holds_with((number(3), c), '/', number(3), Some((T::ONE, c)));
+}
+
+#[test]
+fn test_div_overflow() {
+    at_each_type!(quotients_near_the_greatest);
+}
+
+#[inline]
+fn remainders_near_the_greatest<T: Primitive + Debug>() {
+    let y = (T::ONE, number(most::<T>() / 2 * 2));
+    holds((T::ONE, number(2)), '%', y, Some((T::ZERO, T::ONE)));
+}
+
+#[test]
+fn test_rem_overflow() {
+    at_each_type!(remainders_near_the_greatest);
+}
+
+#[test]
+fn test_zero() {
+    holds((0i64, 1), '+', (0, 1), Some((0, 1)));
+    holds((0i64, 1), '*', (0, 1), Some((0, 1)));
+    holds((0i64, 1), '*', (1, 1), Some((0, 1)));
+    holds((0i64, 1), '/', (-1, 2), Some((0, 1)));
+    holds((0i64, 1), '-', (0, 1), Some((0, 1)));
+}
+
+#[test]
+fn test_checked_failures() {
+    holds((128u8, 1), '+', (128, 1), None);
+    holds((1u8, 128), '-', (128, 1), None);
+    holds((128u8, 1), '*', (128, 1), None);
+    holds((1u8, 128), '/', (128, 1), None);
+    holds((1i64, 1), '/', (0, 1), None);
+}
+
+#[inline]
+fn whole(n: i64) -> Option<(i64, i64)> {
+    Some((n, 1))
+}
+
+// The sum, the difference, the product and the quotient of two whole numbers.
+#[inline]
+fn four_hold(a: i64, c: i64, want: [Option<(i64, i64)>; 4]) {
+    let [sum, difference, product, quotient] = want;
+    holds((a, 1), '+', (c, 1), sum);
+    holds((a, 1), '-', (c, 1), difference);
+    holds((a, 1), '*', (c, 1), product);
+    holds((a, 1), '/', (c, 1), quotient);
+}
+
+#[test]
+fn test_checked_zeros() {
+    four_hold(0, 0, [whole(0), whole(0), whole(0), None]);
+}
+
+#[test]
+fn test_checked_min() {
+    let least = i64::MIN;
+    let (same, next) = (whole(least), whole(least + 1));
+    four_hold(least, least, [None, whole(0), None, whole(1)]);
+    four_hold(0, least, [same, None, whole(0), whole(0)]);
+    four_hold(1, least, [next, None, same, None]);
+    four_hold(least, 0, [same, same, whole(0), None]);
+    four_hold(least, 1, [next, None, same, same]);
+}
+
+#[test]
+fn test_checked_max() {
+    let most = i64::MAX;
+    let (same, turned) = (whole(most), Some((1, most)));
+    four_hold(most, most, [None, whole(0), None, whole(1)]);
+    four_hold(0, most, [same, whole(-most), whole(0), whole(0)]);
+    four_hold(1, most, [None, whole(1 - most), same, turned]);
+    four_hold(most, 0, [same, same, whole(0), None]);
+    four_hold(most, 1, [None, whole(most - 1), same, same]);
+}
+
+#[test]
+fn test_checked_min_max() {
+    let (least, most) = (i64::MIN, i64::MAX);
+    let quotient = Some((least, most));
+    four_hold(least, most, [whole(-1), None, None, quotient]);
+    four_hold(most, least, [whole(-1), None, None, None]);
+}
+
+#[test]
+fn where_8_bits_end() {
+    holds((64i8, 1), '/', (-1, 2), Some((-128, 1)));
+    holds((100i8, 100), '*', (7, 7), Some((1, 1)));
+    holds((-128i8, 1), '/', (-128, 1), Some((1, 1)));
+    holds((-128i8, 1), '%', (-1, 1), Some((0, 1)));
+    holds((0i8, 1), '/', (-128, 3), Some((0, 1)));
+    holds((127i8, 2), '*', (2, 127), Some((1, 1)));
+    holds((127i8, 2), '*', (127, 1), None);
+    holds((-128i8, 3), '*', (3, 1), Some((-128, 1)));
+    holds((-128i8, 1), '/', (-1, 1), None);
+    holds((1i8, 1), '/', (-128, 127), None);
+    holds((-127i8, 2), '%', (1, 1), Some((-1, 2)));
+    holds((255u8, 2), '+', (255, 2), None);
+    holds((1u8, 2), '-', (1, 1), None);
+    holds((1u8, 1), '%', (0, 3), None);
+}
+
+#[test]
+fn where_32_bits_end() {
+    let half = (4294967295u32, 2);
+    holds(half, '+', half, None);
+    let half = (2147483647i32, 2);
+    holds(half, '+', half, Some((2147483647, 1)));
+    let (x, y) = ((1i32, 11862016), (1, 11993088));
+    holds(x, '+', y, Some((91, 542687232)));
+    holds(x, '-', y, Some((1, 1085374464)));
+    holds((1i32, 2147483647), '+', (1, 2147483646), None);
+}
+
+#[test]
+fn where_64_bits_end() {
+    let (least, most) = (i64::MIN, i64::MAX);
+    holds((least, most), '+', (least, most), None);
+    holds((1, 1), '/', (least, 1), None);
 }

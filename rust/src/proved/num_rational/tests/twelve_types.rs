@@ -1,15 +1,9 @@
 // Erased from crates/num_rational/src/tests/twelve_types.rt by rust/erase: not to be edited.
 //! Reading, printing and reducing at the ends of each of the twelve types.
+use super::asserting::{answers, holds, reads};
 use crate::proved::num_rational::{Form, ParseRatioError, Ratio, RatioErrorKind};
 use crate::proved::ratio_integer::{Integer, Primitive};
-
-#[inline]
-fn is<T: Integer>(x: Option<Ratio<T>>, numer: T, denom: T) -> bool {
-    match x {
-        Some(x) => *x.numer() == numer && *x.denom() == denom,
-        None => false,
-    }
-}
+use core::fmt::Debug;
 
 #[inline]
 fn refuses<T: Integer>(x: Result<Ratio<T>, ParseRatioError>) -> bool {
@@ -21,52 +15,36 @@ fn refuses<T: Integer>(x: Result<Ratio<T>, ParseRatioError>) -> bool {
 
 // The texts of the least number, of the greatest and of one more.
 #[inline]
-fn at_its_ends<T: Primitive>(least: &str, greatest: &str, more: &str) {
-    assert!(
-        is(Ratio::<T>::from_str(least).ok(), T::MIN, T::ONE),
-        "{least}"
+fn at_its_ends<T: Primitive + Debug>(least: &str, greatest: &str, more: &str) {
+    let (low, high) = (Ratio::from_integer(T::MIN), Ratio::from_integer(T::MAX));
+    answers(Ratio::<T>::from_str(least).ok(), Some((T::MIN, T::ONE)));
+    answers(
+        Ratio::<T>::from_str(greatest).ok(),
+        Some((T::MAX, T::ONE)),
     );
-    assert!(
-        is(Ratio::<T>::from_str(greatest).ok(), T::MAX, T::ONE),
-        "{greatest}"
-    );
-    assert!(refuses(Ratio::<T>::from_str(more)), "{more}");
-    assert_eq!(
-        Ratio::from_integer(T::MIN)
-            .text(Form::Decimal, false)
-            .as_str(),
-        least
-    );
-    assert_eq!(
-        Ratio::from_integer(T::MAX)
-            .text(Form::Decimal, false)
-            .as_str(),
-        greatest
-    );
-    assert!(
-        is(Ratio::checked_new(T::MAX, T::MAX), T::ONE, T::ONE),
-        "{greatest}/{greatest}"
-    );
-    assert!(
-        is(Ratio::checked_new(T::ZERO, T::MAX), T::ZERO, T::ONE),
-        "0/{greatest}"
-    );
-    let turned = Ratio::checked_new(T::MAX, T::MIN);
-    assert!(turned.is_none(), "{greatest}/{least}");
-    let itself = Ratio::checked_new(T::MIN, T::MIN);
-    if T::MIN < T::ZERO {
-        assert!(
-            is(Ratio::checked_new(T::MIN, T::MAX), T::MIN, T::MAX),
-            "{least}/{greatest}"
-        );
-        assert!(is(itself, T::ONE, T::ONE), "{least}/{least}");
+    holds(more, refuses(Ratio::<T>::from_str(more)));
+    reads(low.text(Form::Decimal, false).as_str(), least);
+    reads(high.text(Form::Decimal, false).as_str(), greatest);
+    reduces_at_its_ends::<T>();
+}
+
+#[inline]
+fn reduces_at_its_ends<T: Primitive + Debug>() {
+    let (least, most) = (T::MIN, T::MAX);
+    let is_signed = least < T::ZERO;
+    let (low, itself) = if is_signed {
+        ((least, most), Some((T::ONE, T::ONE)))
     } else {
-        assert!(
-            is(Ratio::checked_new(T::MIN, T::MAX), T::ZERO, T::ONE),
-            "{least}/{greatest}"
-        );
-        assert!(itself.is_none(), "{least}/{least}");
-    }
+        ((T::ZERO, T::ONE), None)
+    };
+    answers(Ratio::checked_new(most, most), Some((T::ONE, T::ONE)));
+    answers(
+        Ratio::checked_new(T::ZERO, most),
+        Some((T::ZERO, T::ONE)),
+    );
+    answers(Ratio::checked_new(most, least), None);
+    answers(Ratio::checked_new(least, most), Some(low));
+    answers(Ratio::checked_new(least, least), itself);
 }
 
 #[test]

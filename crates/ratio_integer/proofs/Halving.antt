@@ -1,13 +1,15 @@
 -- Binary gcd: factors of 2, and the steps of two odd numbers.
-use Rattle.std.specs.Prelude.{◌≡◌, ◌≢◌, ◌⊎◌, ◌+◌, ◌*◌, ◌-◌, ◌/◌, ◌%◌, ◌^◌, ◌<◌, ◌≤◌, ℕ, zero, suc, min}
+use Rattle.std.specs.Prelude.{◌≡◌, ◌≢◌, ◌⊎◌, ◌+◌, ◌*◌, ◌-◌, ◌/◌, ◌%◌, ◌^◌, ◌<◌, ◌≤◌, ℕ, ℤ, zero, suc, pos, unsigned_abs, min}
 use Rattle.std.specs.Int.{◌∣◌, IsGcd, Width, abs_diff, bit_at, trailing_zeros}
 use Rattle.std.proofs.Common.{sym, ap, arith, ◌∙◌, inl, inr}
 use Rattle.std.proofs.Math.Nat.{dvd-mul_right, dvd-mul_right_of_dvd, mul-div_cancel, mul-div_cancel', pow-suc, add-mod_right, min-eq_left, min-eq_right, mod-eq_of_lt, mod-lt}
-use Rattle.std.proofs.lemmas.Nat.Gcd.{IsGcd-from_sub, IsGcd-swap, dvd_refl, le_of_dvd}
-use Rattle.std.proofs.lemmas.Nat.{mod-pow-add, div-add-mod', pow-add, pow_pos}
+use Rattle.std.proofs.lemmas.Nat.Gcd.{IsGcd-from_sub, IsGcd-swap, dvd_refl, le_of_dvd, same_from_IsGcd}
+use Rattle.std.proofs.lemmas.Nat.{mul-le, mod-pow-add, div-add-mod', pow-add, pow_pos}
 use Rattle.std.proofs.lemmas.Nat.Bits.{bit_at-trailing_zeros}
 use Rattle.std.proofs.lemmas.Bool.{cases_eq, cases_lt}
 use Rattle.ratio_integer.specs.OddPart.{IsOddPart}
+use Rattle.ratio_integer.specs.Division.{IsGcdOf}
+use Rattle.ratio_integer.proofs.CommonDivisors.{gcd_exists}
 use Rattle.ratio_integer.proofs.GcdLemmas.{gcd_scaled}
 use mir.Val.{bits}
 
@@ -90,7 +92,7 @@ odd_part_of d m t whole odd =
     let part : d / 2 ^ t ≡ m = ap (λ n. n / 2 ^ t) whole ∙ mul-div_cancel m (pow_pos t) in
     rw part (record { whole = whole; odd = odd })
 
-times_more : (q n p : ℕ) → n < q → n * p + p ≤ q * p
+pub times_more : (q n p : ℕ) → n < q → n * p + p ≤ q * p
 times_more q n p less = grind arith
 
 split_multiple : (q n p : ℕ) → n ≤ q → q * p ≡ (q - n) * p + n * p
@@ -270,3 +272,27 @@ shifted_back w a b m n i j g above fits first second is =
     let small : g * 2 ^ min i j ≤ a = le_of_dvd above whole.0 in
     let kept : g * 2 ^ min i j % 2 ^ w ≡ g * 2 ^ min i j = mod-eq_of_lt (omega arith) in
     rw kept whole
+
+-- ---- where only a divisor above a bound is of use
+
+-- what bounds the greatest common divisor of x and y bounds that of a and b
+pub pair_bounded : (a b x y bound : ℕ) → IsOddPair a b x y → ((g : ℕ) → IsGcd x y g → g ≤ bound) → (g : ℕ) → IsGcd a b g → g ≤ bound
+pair_bounded a b x y bound pair small g is =
+    let found : (k : ℤ) × IsGcdOf (pos x) (pos y) k = gcd_exists (pos x) (pos y) in
+    rw (same_from_IsGcd a b g (unsigned_abs found.0) is (pair.same _ found.1.divisor)) (small _ found.1.divisor)
+
+-- it is at most x
+pub pair_at_most : (a b x y bound : ℕ) → IsOddPair a b x y → x ≤ bound → (g : ℕ) → IsGcd a b g → g ≤ bound
+pair_at_most a b x y bound pair below =
+    pair_bounded a b x y bound pair (λ g is. let odd = pair.left in let small = le_of_dvd (omega arith) is.0 in omega arith)
+
+-- without the factors of 2 the bound has as many fewer
+pub shifted_bounded : (a b m n i j bound : ℕ) → IsOddPart a m i → IsOddPart b n j → ((g : ℕ) → IsGcd m n g → g ≤ bound / 2 ^ min i j) → (g : ℕ) → IsGcd a b g → g ≤ bound
+shifted_bounded a b m n i j bound first second small g is =
+    let found : (k : ℤ) × IsGcdOf (pos m) (pos n) k = gcd_exists (pos m) (pos n) in
+    let k : ℕ = unsigned_abs found.0 in
+    let same : g ≡ k * 2 ^ min i j = same_from_IsGcd a b g _ is (joined a b m n i j k first second found.1.divisor) in
+    let below : k ≤ bound / 2 ^ min i j = small k found.1.divisor in
+    let times = mul-le k (2 ^ min i j) (bound / 2 ^ min i j) (2 ^ min i j) below (omega arith) in
+    let whole = div-add-mod' bound (2 ^ min i j) in
+    omega arith

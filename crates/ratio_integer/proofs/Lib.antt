@@ -1,3 +1,4 @@
+pub mod BoundedTerms
 pub mod CommonDivisors
 pub mod CrossCancelling
 pub mod DivisionLemmas

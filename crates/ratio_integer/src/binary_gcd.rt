@@ -7,7 +7,7 @@
 //! Which of the two numbers is the smaller is as good as a coin toss, so a branch on it would be
 //! guessed wrong every other step. `min` and `abs_diff` choose without a branch, and a shift by
 //! `trailing_zeros` halves as often as it goes at once.
-ghost use Rattle.std.specs.Prelude.{◌≡◌, ◌≢◌, ◌%◌, ◌^◌, ℕ};
+ghost use Rattle.std.specs.Prelude.{◌≡◌, ◌≢◌, ◌≤◌, ◌%◌, ◌^◌, ℕ, MatchOption};
 ghost use Rattle.std.specs.Int.{IsGcd, abs_diff, trailing_zeros, w64, w128};
 ghost use Rattle.ratio_integer.specs.OddPart.{IsOddPart};
 
@@ -126,6 +126,69 @@ pub(crate) fn binary_gcd_wide(a: u128, b: u128) -> u128
     }
     let shift = a.trailing_zeros().min(b.trailing_zeros());
     odd_gcd_wide(odd_part_wide(a), odd_part_wide(b)) << shift
+}
+
+/// The greatest common divisor of two odd numbers, or `None`, which is answered only where it is not
+/// above `bound`: it divides the smaller number on the way.
+fn odd_gcd_above(a: u64, b: u64, bound: u64) -> Option<u64>
+    requires left { a % 2 ≡ 1 }
+    requires right { b % 2 ≡ 1 }
+    ensures { MatchOption result ((g : ℕ) → IsGcd a b g → g ≤ bound) (λ g. IsGcd a b g) }
+{
+    let mut x = a;
+    let mut y = b;
+    'steps: while x != y {
+        if x <= bound {
+            return None;
+        }
+        let rest = odd_distance(x, y);
+        x = x.min(y);
+        y = rest;
+    }
+    Some(x)
+}
+
+/// The same for numbers of at most 128 bits.
+fn odd_gcd_above_wide(a: u128, b: u128, bound: u128) -> Option<u128>
+    requires left { a % 2 ≡ 1 }
+    requires right { b % 2 ≡ 1 }
+    ensures { MatchOption result ((g : ℕ) → IsGcd a b g → g ≤ bound) (λ g. IsGcd a b g) }
+{
+    let mut x = a;
+    let mut y = b;
+    'steps: while x != y {
+        if x <= bound {
+            return None;
+        }
+        if x <= u64::MAX as u128 && y <= u64::MAX as u128 {
+            return match odd_gcd_above(x as u64, y as u64, bound as u64) {
+                None => None,
+                Some(divisor) => Some(divisor as u128),
+            };
+        }
+        let rest = odd_distance_wide(x, y);
+        x = x.min(y);
+        y = rest;
+    }
+    Some(x)
+}
+
+/// The greatest common divisor of magnitudes of at most 128 bits, or `None`, which is answered only
+/// where it is not above `bound`.
+pub(crate) fn gcd_above(a: u128, b: u128, bound: u128) -> Option<u128>
+    ensures { MatchOption result ((g : ℕ) → IsGcd a b g → g ≤ bound) (λ g. IsGcd a b g) }
+{
+    if a == 0 {
+        return Some(b);
+    }
+    if b == 0 {
+        return Some(a);
+    }
+    let shift = a.trailing_zeros().min(b.trailing_zeros());
+    match odd_gcd_above_wide(odd_part_wide(a), odd_part_wide(b), bound >> shift) {
+        None => None,
+        Some(divisor) => Some(divisor << shift),
+    }
 }
 
 #[cfg(test)]

@@ -1,6 +1,6 @@
 //! The two numbers of a fraction without their common divisors, and its lowest terms.
 ghost use Rattle.std.specs.Prelude.{◌≢◌, ◌<ℤ◌, pos};
-ghost use Rattle.ratio_integer.specs.Division.{IsGcdAboveMax};
+ghost use Rattle.ratio_integer.specs.Division.{IsGcdAboveMax, IsGcdOf};
 ghost use Rattle.ratio_integer.specs.Fraction.{IsCancelledOf, IsHeldLowest};
 
 use crate::integer::Integer;
@@ -29,7 +29,15 @@ pub fn cancelled<T: Integer>(n: T, d: T) -> (T, T)
     requires held { ¬ (IsGcdAboveMax T.hi (T.value n) (T.value d)) }
     ensures { IsCancelledOf (T.value n) (T.value d) (T.value result.0) (T.value result.1) }
 {
-    let divisor = n.gcd(d);
+    divided(n, d, n.gcd(d))
+}
+
+/// The same, by the greatest common divisor.
+pub(crate) fn divided<T: Integer>(n: T, d: T, divisor: T) -> (T, T)
+    requires fraction { T.value d ≢ pos 0 }
+    requires greatest { IsGcdOf (T.value n) (T.value d) (T.value divisor) }
+    ensures { IsCancelledOf (T.value n) (T.value d) (T.value result.0) (T.value result.1) }
+{
     if divisor.is_one() {
         return (n, d);
     }

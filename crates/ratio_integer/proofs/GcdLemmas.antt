@@ -2,25 +2,13 @@
 use Rattle.std.specs.Prelude.{◌≡◌, ◌+◌, ◌*◌, ◌/◌, ◌%◌, ◌<◌, ◌≤◌, ℕ, zero, suc}
 use Rattle.std.specs.Int.{◌∣◌, IsGcd}
 use Rattle.std.proofs.Common.{refl, sym, ap, arith, ◌∙◌}
-use Rattle.std.proofs.Math.Nat.{eq-zero_of_zero-dvd, dvd-mul_left, dvd-zero, dvd-mod_iff, dvd_of_mul-dvd-mul_left, mod-lt, mul-dvd-mul_left, one-dvd, mul-div_cancel'}
-use Rattle.std.proofs.lemmas.Nat.Gcd.{IsGcd-from_mod, IsGcd-from_zero, IsGcd-swap, same_from_IsGcd}
+use Rattle.std.proofs.Math.Nat.{dvd-mul_left, dvd-zero, dvd-mod_iff, dvd_of_mul-dvd-mul_left, mod-lt, mul-dvd-mul_left, one-dvd, mul-div_cancel'}
+use Rattle.std.proofs.lemmas.Nat.Gcd.{IsGcd-from_mod, IsGcd-from_zero, same_from_IsGcd}
 use Rattle.std.proofs.lemmas.Nat.{mod-mul-add, div-add-mod'}
 
 -- the step of Euclid's algorithm, the other way
 pub gcd_step : (a b g : ℕ) → IsGcd a b g → IsGcd b (a % b) g
 gcd_step a b g (p, q, r) = (q, (dvd-mod_iff g q).1 p, λ d x y. r d ((dvd-mod_iff d x).0 y) x)
-
--- the same, where r is what a leaves over
-pub gcd_from_rest : (a b r g : ℕ) → r ≡ a % b → IsGcd r b g → IsGcd a b g
-gcd_from_rest a b r g e is = IsGcd-from_mod a b g (IsGcd-swap (a % b) b g (rw e at is))
-
-pub gcd_to_rest : (a b r g : ℕ) → r ≡ a % b → IsGcd a b g → IsGcd r b g
-gcd_to_rest a b r g e is = rw e (IsGcd-swap b (a % b) g (gcd_step a b g is))
-
--- the greatest common divisor with a positive number is positive
-pub gcd_positive : (a b g : ℕ) → 0 < b → IsGcd a b g → 0 < g
-gcd_positive a b zero above is = absurd (let none = eq-zero_of_zero-dvd is.1 in omega arith)
-gcd_positive a b (suc g) above is = omega arith
 
 -- a remainder times m
 split : (m q b r : ℕ) → m * (q * b + r) ≡ q * (m * b) + m * r

@@ -4,7 +4,7 @@ use Rattle.std.specs.Int.{IsGcd, Width, w8, w16, w32, w64, w128}
 use Rattle.std.proofs.Common.{arith, ap, sym, lit≤, ◌∙◌}
 use Rattle.std.proofs.lemmas.Int.{fits_signed_from_abs, ints, to_z_pos, to_z-of_z}
 use Rattle.std.proofs.lemmas.Nat.{pow_pos}
-use Rattle.ratio_integer.specs.Division.{GcdHeld, IsGcdAboveMax, IsGcdOf}
+use Rattle.ratio_integer.specs.Division.{IsGcdAboveMax, IsGcdOf}
 use Rattle.ratio_integer.specs.Primitives.{signed_laws, unsigned_laws}
 use Rattle.ratio_integer.specs.Range.{IsHeld}
 use Rattle.ratio_integer.proofs.LcmLemmas.{gcd_held}

@@ -11,6 +11,7 @@ mod exact_sum;
 mod impls;
 mod integer;
 pub mod laws;
+mod narrow;
 mod narrowed;
 mod primitive;
 mod reducing;

@@ -142,6 +142,76 @@ pub(crate) fn binary_gcd_wide(a: u128, b: u128) -> u128 {
     odd_gcd_wide(odd_part_wide(a), odd_part_wide(b)) << shift
 }
 
+/// The greatest common divisor of two odd numbers, or `None`, which is answered only where it is not
+/// above `bound`: it divides the smaller number on the way.
+///
+/// # Conditions
+///
+/// What is proved asks of the caller:
+///
+/// - `left`: `a % 2 ≡ 1`
+/// - `right`: `b % 2 ≡ 1`
+#[inline]
+fn odd_gcd_above(a: u64, b: u64, bound: u64) -> Option<u64> {
+    let mut x = a;
+    let mut y = b;
+    while x != y {
+        if x <= bound {
+            return None;
+        }
+        let rest = odd_distance(x, y);
+        x = x.min(y);
+        y = rest;
+    }
+    Some(x)
+}
+
+/// The same for numbers of at most 128 bits.
+///
+/// # Conditions
+///
+/// What is proved asks of the caller:
+///
+/// - `left`: `a % 2 ≡ 1`
+/// - `right`: `b % 2 ≡ 1`
+#[inline]
+fn odd_gcd_above_wide(a: u128, b: u128, bound: u128) -> Option<u128> {
+    let mut x = a;
+    let mut y = b;
+    while x != y {
+        if x <= bound {
+            return None;
+        }
+        if x <= u64::MAX as u128 && y <= u64::MAX as u128 {
+            return match odd_gcd_above(x as u64, y as u64, bound as u64) {
+                None => None,
+                Some(divisor) => Some(divisor as u128),
+            };
+        }
+        let rest = odd_distance_wide(x, y);
+        x = x.min(y);
+        y = rest;
+    }
+    Some(x)
+}
+
+/// The greatest common divisor of magnitudes of at most 128 bits, or `None`, which is answered only
+/// where it is not above `bound`.
+#[inline]
+pub(crate) fn gcd_above(a: u128, b: u128, bound: u128) -> Option<u128> {
+    if a == 0 {
+        return Some(b);
+    }
+    if b == 0 {
+        return Some(a);
+    }
+    let shift = a.trailing_zeros().min(b.trailing_zeros());
+    match odd_gcd_above_wide(odd_part_wide(a), odd_part_wide(b), bound >> shift) {
+        None => None,
+        Some(divisor) => Some(divisor << shift),
+    }
+}
+
 #[cfg(test)]
 mod tests {
     use super::{binary_gcd, binary_gcd_wide};

@@ -5,42 +5,9 @@
 //! So no condition is left but the one that matters, that the lowest terms are held. A sum over the
 //! least common denominator refuses more, since that may be too great before the sum is reduced.
 
-use crate::proved::ratio_integer::reducing::lowest_terms;
-use num_traits::cast;
-
-/// A type of at most 64 bits with a sign, by its way into `i128` and back. It stands apart from
-/// `Integer` since the `exact_sum` of an `Integer` is computed by it.
-pub(crate) trait Narrow: Copy {
-    /// The number as an `i128`.
-    fn wide(self) -> i128;
-
-    /// The value that stands for `n`, or `None` where the type does not hold it.
-    fn narrow(n: i128) -> Option<Self>;
-}
-
-impl Narrow for i32 {
-    #[inline]
-    fn wide(self) -> i128 {
-        self as i128
-    }
-
-    #[inline]
-    fn narrow(n: i128) -> Option<i32> {
-        cast(n)
-    }
-}
-
-impl Narrow for i64 {
-    #[inline]
-    fn wide(self) -> i128 {
-        self as i128
-    }
-
-    #[inline]
-    fn narrow(n: i128) -> Option<i64> {
-        cast(n)
-    }
-}
+use crate::proved::ratio_integer::binary_gcd::gcd_above;
+use crate::proved::ratio_integer::narrow::Narrow;
+use crate::proved::ratio_integer::reducing::divided;
 
 /// The product of a number and a positive one, which leaves room for a sum of two such products.
 ///
@@ -54,7 +21,8 @@ fn product<T: Narrow>(number: T, positive: T) -> i128 {
     number.wide() * positive.wide()
 }
 
-/// The lowest terms of `n/d` as values of `T`, or `None` where `T` does not hold them.
+/// The lowest terms of `n/d` as values of `T`, or `None` where `T` does not hold them. For the denominator
+/// to be held the greatest common divisor has to be above a bound, so it is looked for only above that.
 ///
 /// # Conditions
 ///
@@ -63,8 +31,14 @@ fn product<T: Narrow>(number: T, positive: T) -> i128 {
 /// - `pos 0 <ℤ d`
 #[inline]
 fn narrow_lowest_terms<T: Narrow>(n: i128, d: i128) -> Option<(T, T)> {
-    let (numer, denom) = lowest_terms(n, d);
-    Some((T::narrow(numer)?, T::narrow(denom)?))
+    let size = d.unsigned_abs();
+    match gcd_above(n.unsigned_abs(), size, size >> T::ROOM) {
+        None => None,
+        Some(divisor) => {
+            let (numer, denom) = divided(n, d, divisor as i128);
+            Some((T::narrow(numer)?, T::narrow(denom)?))
+        }
+    }
 }
 
 /// The lowest terms of `a/b + c/d`, or `None` where `T` does not hold them.

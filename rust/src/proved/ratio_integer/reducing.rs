@@ -35,7 +35,19 @@ pub fn lowest_terms<T: Integer>(n: T, d: T) -> (T, T) {
 /// - `held`: `¬ (IsGcdAboveMax T.hi (T.value n) (T.value d))`
 #[inline]
 pub fn cancelled<T: Integer>(n: T, d: T) -> (T, T) {
-    let divisor = n.gcd(d);
+    divided(n, d, n.gcd(d))
+}
+
+/// The same, by the greatest common divisor.
+///
+/// # Conditions
+///
+/// What is proved asks of the caller:
+///
+/// - `fraction`: `T.value d ≢ pos 0`
+/// - `greatest`: `IsGcdOf (T.value n) (T.value d) (T.value divisor)`
+#[inline]
+pub(crate) fn divided<T: Integer>(n: T, d: T, divisor: T) -> (T, T) {
     if divisor.is_one() {
         return (n, d);
     }

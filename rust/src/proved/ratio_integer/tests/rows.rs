@@ -82,5 +82,10 @@ fn exact_sums() {
         i64::exact_sum(i64::MIN, i64::MAX, i64::MIN, i64::MAX),
         None
     );
+    assert_eq!(
+        i32::exact_sum(1, 805_306_368, 1, 1_342_177_280),
+        Some((1, 503_316_480))
+    );
+    assert_eq!(i64::exact_sum(1, 1 << 62, 1, 1 << 62), Some((1, 1 << 61)));
     assert_eq!(u32::exact_sum(u32::MAX, 2, u32::MAX, 2), None);
 }

@@ -1,3 +1,4 @@
+pub mod Around
 pub mod CancellingLemmas
 pub mod Codes
 pub mod CrossOrder
@@ -8,7 +9,14 @@ pub mod Floored
 pub mod Following
 pub mod HashLaws
 pub mod Hashing
+pub mod HeldAround
 pub mod LawLemmas
+pub mod NearestChoice
+pub mod NearestCounting
+pub mod NearestLawLemmas
+pub mod NearestMoves
+pub mod NearestPreference
+pub mod Neighbours
 pub mod NumberLemmas
 pub mod NumbersExist
 pub mod OrderLaws
@@ -29,9 +37,11 @@ pub mod RoundingLemmas
 pub mod Rounds
 pub mod SameValues
 pub mod ScalingLemmas
+pub mod Shares
 pub mod ShortDigits
 pub mod SignLemmas
 pub mod SumLemmas
 pub mod Ticks
 pub mod TestLemmas
+pub mod TwoNearest
 pub mod WidthLemmas

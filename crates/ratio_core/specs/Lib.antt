@@ -2,6 +2,9 @@ pub mod Cancelling
 pub mod Conditions
 pub mod ContinuedFraction
 pub mod Laws
+pub mod Moving
+pub mod Nearest
+pub mod NearestLaws
 pub mod Order
 pub mod Power
 pub mod PowerLaws

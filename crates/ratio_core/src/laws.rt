@@ -1,6 +1,7 @@
 //! The laws of sums and products: each function's contract is the law, and it does nothing. An
 //! answer of `checked_add` or `checked_mul` is the sum or the product that they speak of.
 ghost use Rattle.ratio_core.specs.Laws.{FormedDifferencesFit, FormedSumsFit, ProductsAssociate, ProductsCommute, ProductsDistribute, SumConditionsCommute, SumsAssociate, SumsCommute};
+ghost use Rattle.ratio_core.specs.NearestLaws.{LowestIsNearest, NearestIsLowest, OneIsNearest, SameValueSameNearest};
 ghost use Rattle.ratio_core.specs.PowerLaws.{PartsAddUp, PartsAreAnswered, PowersAdd, PowersAreProducts, ReciprocalsInvert};
 ghost use Rattle.ratio_core.specs.Rounding.{IsCeiling, IsFloor, IsRounded, IsTruncation};
 ghost use Rattle.ratio_core.specs.RoundingLaws.{CeilingsAreNextToFloors, EachHasOne, IsByValue};
@@ -54,4 +55,12 @@ pub fn powers()
 pub fn parts()
     ensures add_up { PartsAddUp }
     ensures answered { PartsAreAnswered }
+{}
+
+/// The nearest fraction with a bounded denominator, as `nearest` answers it.
+pub fn nearest_fractions()
+    ensures one { OneIsNearest }
+    ensures lowest { NearestIsLowest }
+    ensures own { LowestIsNearest }
+    ensures value { SameValueSameNearest }
 {}

@@ -6,6 +6,7 @@ mod code_list;
 mod exponent;
 mod hash;
 pub mod laws;
+pub mod nearest;
 mod order;
 mod parse_error;
 pub mod pow;

@@ -2,5 +2,6 @@
 mod arithmetic;
 mod comparing;
 mod laws;
+mod nearest;
 mod printing;
 mod recorder;

@@ -3,6 +3,7 @@
 mod convert;
 mod fold;
 mod hash;
+mod nearest;
 mod operand;
 mod ops;
 mod order;

@@ -103,3 +103,8 @@ fn fractions_are_displayed(rt: HostRuntime) {
         "     1/2",
     );
 }
+
+#[test]
+fn nearest_is_called(rt: HostRuntime) {
+    assert!(rt; Ratio::new_raw(355i64, 113).nearest(100).into_raw() == (311, 99));
+}

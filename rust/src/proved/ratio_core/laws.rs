@@ -30,3 +30,7 @@ pub fn powers() {}
 /// A fraction is the sum of its two parts, and this sum is always answered.
 #[inline]
 pub fn parts() {}
+
+/// The nearest fraction with a bounded denominator, as `nearest` answers it.
+#[inline]
+pub fn nearest_fractions() {}

@@ -3,5 +3,6 @@
 mod arithmetic;
 mod comparing;
 mod laws;
+mod nearest;
 mod printing;
 mod recorder;

@@ -98,3 +98,8 @@ fn fractions_are_displayed() {
         "     1/2",
     );
 }
+
+#[test]
+fn nearest_is_called() {
+    assert!(Ratio::new_raw(355i64, 113).nearest(100).into_raw() == (311, 99));
+}

@@ -7,6 +7,7 @@ fn each_law_is_called() {
     laws::sums();
     laws::products();
     laws::conditions();
+    laws::nearest_fractions();
     text::laws::digits();
     text::laws::decimal_digits();
     text::laws::one_reading();

@@ -1,0 +1,68 @@
+//! The nearest fraction whose denominator is at most a bound, over the two numbers of each.
+mod neighbour;
+
+ghost use Rattle.std.specs.Prelude.{◌≡◌, ◌<ℤ◌, ◌+◌, ℕ, pos, unsigned_abs};
+ghost use Rattle.ratio_integer.specs.Fraction.{IsLowestTerms};
+ghost use Rattle.ratio_core.specs.ContinuedFraction.{IsWithinBits};
+ghost use Rattle.ratio_core.specs.Nearest.{IsNearest};
+
+use crate::nearest::neighbour::{Neighbour, first_of, moved, steps_towards};
+use crate::order::dividing::divide_left;
+use crate::steps::Steps;
+use ratio_integer::Integer;
+
+/// Of all fractions with a denominator from 1 to `most` the one that lies nearest to `n/d`, in
+/// lowest terms; of two that lie as near the one with the smaller denominator, and of two whole
+/// numbers the lesser one.
+pub fn nearest<T: Integer>(n: T, d: T, most: T) -> (T, T)
+    requires positive { pos 0 <ℤ T.value d }
+    requires room { pos 0 <ℤ T.value most }
+    ensures nearest { IsNearest (T.value n) (T.value d) (T.value most) (T.value result.0) (T.value result.1) }
+    ensures lowest { IsLowestTerms (T.value result.0) (T.value result.1) }
+{
+    nearest_counted(n, d, most, &mut Steps::new())
+}
+
+/// The same, by Euclid's algorithm, with every division counted: the left side divides what is left
+/// of `n/d`, the right side the room below `most`. Each makes at most twice as many divisions as `d`
+/// has binary digits.
+pub fn nearest_counted<T: Integer>(n: T, d: T, most: T, steps: &mut Steps) -> (T, T)
+    requires positive { pos 0 <ℤ T.value d }
+    requires room { pos 0 <ℤ T.value most }
+    ensures nearest { IsNearest (T.value n) (T.value d) (T.value most) (T.value result.0) (T.value result.1) }
+    ensures lowest { IsLowestTerms (T.value result.0) (T.value result.1) }
+    ensures left { (k : ℕ) × (steps.new.left ≡ steps.old.left + k) × IsWithinBits (unsigned_abs (T.value d)) k }
+    ensures right { (k : ℕ) × (steps.new.right ≡ steps.old.right + k) × IsWithinBits (unsigned_abs (T.value d)) k }
+{
+    let _ = n.held();
+    let _ = d.held();
+    let _ = most.held();
+    let (floor, rest) = divide_left(n, d, steps);
+    if rest.is_zero() {
+        return (floor, T::ONE);
+    }
+    let mut fixed = Neighbour {
+        numer: floor,
+        denom: T::ONE,
+        gap: rest,
+    };
+    let mut moving = Neighbour {
+        numer: floor.plus(T::ONE),
+        denom: T::ONE,
+        gap: d.minus(rest),
+    };
+    'steps: loop {
+        let (whole, room) = steps_towards(moving, fixed, most, steps);
+        if room < whole {
+            let last = moved(moving, fixed, room);
+            let first = first_of(last, fixed);
+            return (first.numer, first.denom);
+        }
+        let next = moved(moving, fixed, whole);
+        if next.gap.is_zero() {
+            return (next.numer, next.denom);
+        }
+        moving = fixed;
+        fixed = next;
+    }
+}

@@ -1,4 +1,3 @@
-//! What no clause says: rows from outside, each call once at each type, and a type that is no primitive.
+//! What no clause says: rows from outside, and each call once at each type.
 mod every_call;
 mod rows;
-mod symmetric;

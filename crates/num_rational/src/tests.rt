@@ -12,4 +12,5 @@ mod recorder;
 mod rounding;
 mod rows;
 mod signs;
+mod texts;
 mod twelve_types;

@@ -1,7 +1,8 @@
 //! Fractions of texts, and texts of fractions.
-ghost use Rattle.std.specs.Prelude.{◌≡◌, ◌<ℤ◌, pos};
+ghost use Rattle.std.specs.Prelude.{◌≡◌, ◌≤◌, ◌<ℤ◌, pos};
 ghost use Rattle.num_rational.specs.Ratio.{ReadsRatio, denominator, numerator};
 ghost use Rattle.ratio_core.specs.Printing.{ReadsBack, text_of};
+ghost use Rattle.ratio_core.specs.Reading.{AnswersText, IsSlashedText};
 ghost use Rattle.ratio_core.specs.declared.text.form.Form.TheVariants.{Decimal};
 
 use crate::ratio::Ratio;
@@ -19,6 +20,21 @@ impl<T: Primitive> Ratio<T> {
         ensures { ReadsRatio text.now result }
     {
         match text::from_str::<T>(text) {
+            Ok((numer, denom)) => Ok(Ratio::new_raw(numer, denom)),
+            Err(refusal) => Err(refusal),
+        }
+    }
+
+    /// The fraction of a text `N/D` in the radix, from 2 to 36, in lowest terms. A number text is as for
+    /// `from_str`; its digits above 9 are the letters, in either case, and no prefix such as `0x` is a
+    /// part of it. A text without a slash is a parse error, and the other refusals come as there.
+    pub fn from_str_radix(text: &str, radix: u32) -> Result<Ratio<T>, ParseRatioError>
+        requires low { 2 ≤ radix }
+        requires high { radix ≤ 36 }
+        ensures { AnswersText numerator denominator T.lo T.hi
+            (IsSlashedText T.lo T.hi radix text.now) result }
+    {
+        match text::from_str_radix::<T>(text, radix) {
             Ok((numer, denom)) => Ok(Ratio::new_raw(numer, denom)),
             Err(refusal) => Err(refusal),
         }

@@ -8,7 +8,7 @@ use Rattle.ratio_integer.specs.Range.{IsHeld}
 use Rattle.ratio_core.specs.declared.parse_error.RatioErrorKind.{RatioErrorKind}
 use Rattle.ratio_core.specs.declared.parse_error.RatioErrorKind.TheVariants.{ParseError, ZeroDenominator}
 use Rattle.ratio_core.specs.Reading.{slash, AnswersPair, AnswersText, IsFractionText, ReadsNumber, SidesReadAs}
-use Rattle.ratio_core.proofs.CutLemmas.{HasNoSlash, fraction_with_slash, no_fraction, same_cut, with_slash}
+use Rattle.ratio_core.proofs.CutLemmas.{HasNoSlash, fraction_with_slash, no_fraction, only_fraction, same_cut, with_slash}
 use Rattle.ratio_core.proofs.NumberLemmas.{from_signed, to_signed}
 use Rattle.ratio_core.proofs.NumbersExist.{fits_decided, held_decided, zero_decided}
 use Rattle.ratio_core.proofs.RefusalLemmas.{none_fits, refused}
@@ -131,7 +131,7 @@ answer_by lo hi text (Err kind) pair = (Err kind, refused itself lo hi (IsFracti
 answer_by lo hi text (Ok p) pair =
     elim (fits_decided lo hi p.0 p.1) [
       | yes fits ↦ (Ok (fits.numer, fits.denom), record { n = p.0; d = p.1; reads = pair.0; low = fits.low })
-      | no out ↦ (Err ParseError, none_fits lo hi text p.0 p.1 pair.0 pair.1 out)
+      | no out ↦ (Err ParseError, none_fits lo hi (IsFractionText lo hi text) p.0 p.1 (λ m e other. only_fraction lo hi text m e p.0 p.1 other pair.0) pair.1 out)
     ]
 
 -- each text has an answer, for a type with numbers below 0

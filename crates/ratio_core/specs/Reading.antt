@@ -86,3 +86,8 @@ abbrev pub AnswersPair : {T : Type 0} → (T → ℤ) → (ℤ → ℤ → Type 
 AnswersPair value Reads (Ok p) = Reads (value p.0) (value p.1) × (value p.1 ≢ pos 0)
 AnswersPair value Reads (Err ParseError) = (n d : ℤ) → ¬ (Reads n d)
 AnswersPair value Reads (Err ZeroDenominator) = (n : ℤ) × Reads n (pos 0)
+
+-- the answer is the lowest terms of n/d, or a parse error where they are not held
+abbrev pub AnswersFraction : {T : Type 0} → (T → ℤ) → ℤ → ℤ → ℤ → ℤ → Result (T × T) RatioErrorKind → Type 0
+AnswersFraction value lo hi n d (Ok r) = IsHeldLowest lo hi n d (value r.0) (value r.1)
+AnswersFraction value lo hi n d (Err kind) = (kind ≡ ParseError) × ¬ (Fits lo hi n d)

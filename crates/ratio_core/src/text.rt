@@ -9,4 +9,4 @@ mod short_digits;
 pub use form::Form;
 pub use printing::text;
 pub use ratio_text::RatioText;
-pub use reading::from_str;
+pub use reading::{from_str, from_str_radix};

@@ -2,7 +2,7 @@
 ghost use Rattle.std.specs.Prelude.{◌≡◌, ◌⊎◌, ◌+◌, ◌/◌, ◌%◌, ◌^◌, ◌<◌, ◌≤◌, ◌∷◌, ◌++◌, [], ℕ, ℤ, List, decimal};
 ghost use Rattle.std.specs.Char.{digit_value};
 ghost use Rattle.std.specs.Int.{IsInRange};
-ghost use Rattle.ratio_core.specs.Reading.{IsFractionText, IsNumberText};
+ghost use Rattle.ratio_core.specs.Reading.{IsFractionText, IsNumberText, IsSlashedText};
 
 /// What a byte is worth as a digit: `0` to `9`, and then the letters in either case; the others are
 /// no digits, which is said by the value 36, since no radix is above it.
@@ -26,6 +26,9 @@ pub fn decimal_digits()
 pub fn one_reading()
     ensures number { (lo : ℤ) (radix : ℕ) (text : List ℕ) (z y : ℤ) → radix ≤ 36
         → IsNumberText lo radix text z → IsNumberText lo radix text y → z ≡ y }
+    ensures slashed { (lo hi : ℤ) (radix : ℕ) (text : List ℕ) (n d m e : ℤ) → radix ≤ 36
+        → IsSlashedText lo hi radix text n d → IsSlashedText lo hi radix text m e
+        → (n ≡ m) × (d ≡ e) }
     ensures fraction { (lo hi : ℤ) (text : List ℕ) (n d m e : ℤ)
         → IsFractionText lo hi text n d → IsFractionText lo hi text m e → (n ≡ m) × (d ≡ e) }
 {}

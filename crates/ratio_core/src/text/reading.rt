@@ -1,7 +1,7 @@
 //! Reading a fraction from a text.
 ghost use Rattle.std.specs.Prelude.{◌≡◌, ◌≤◌};
 ghost use Rattle.std.specs.Str.Parse.{starts_with_minus};
-ghost use Rattle.ratio_core.specs.Reading.{AnswersPair, AnswersText, IsFractionText, ReadsNumber, SidesReadAs};
+ghost use Rattle.ratio_core.specs.Reading.{AnswersFraction, AnswersPair, AnswersText, IsFractionText, IsSlashedText, ReadsNumber, SidesReadAs};
 
 use crate::checked_new::checked_new;
 use crate::parse_error::{ParseRatioError, RatioErrorKind};
@@ -20,10 +20,31 @@ pub fn from_str<T: Primitive>(text: &str) -> Result<(T, T), ParseRatioError>
 {
     match pair::<T>(text) {
         Err(refusal) => Err(refusal),
-        Ok(read) => match checked_new(read.0, read.1) {
-            Some(low) => Ok(low),
-            None => Err(ParseRatioError::new(RatioErrorKind::ParseError)),
-        },
+        Ok(read) => in_lowest_terms(read.0, read.1),
+    }
+}
+
+/// The same of a text in the radix, which is `N/D` alone: a text without a slash is a parse error.
+/// The digits above 9 are the letters, in either case; no prefix such as `0x` is a part of a number.
+pub fn from_str_radix<T: Primitive>(text: &str, radix: u32) -> Result<(T, T), ParseRatioError>
+    requires low { 2 ≤ radix }
+    requires high { radix ≤ 36 }
+    ensures { AnswersText (λ r. T.value r.0) (λ r. T.value r.1) T.lo T.hi
+        (IsSlashedText T.lo T.hi radix text.now) result }
+{
+    match slashed_pair::<T>(text, radix) {
+        Err(refusal) => Err(refusal),
+        Ok(read) => in_lowest_terms(read.0, read.1),
+    }
+}
+
+// The lowest terms of a text's two numbers.
+fn in_lowest_terms<T: Primitive>(numer: T, denom: T) -> Result<(T, T), ParseRatioError>
+    ensures { AnswersFraction T.value T.lo T.hi (T.value numer) (T.value denom) result }
+{
+    match checked_new(numer, denom) {
+        Some(low) => Ok(low),
+        None => Err(ParseRatioError::new(RatioErrorKind::ParseError)),
     }
 }
 
@@ -83,6 +104,18 @@ fn sides<T: Primitive>(front: &str, back: &str, radix: u32) -> Result<(T, T), Pa
                 Ok((numer, denom))
             },
         },
+    }
+}
+
+// The two numbers of a text in the radix that has a slash, as they stand.
+fn slashed_pair<T: Primitive>(text: &str, radix: u32) -> Result<(T, T), ParseRatioError>
+    requires low { 2 ≤ radix }
+    requires high { radix ≤ 36 }
+    ensures { AnswersPair T.value (IsSlashedText T.lo T.hi radix text.now) result }
+{
+    match text.split_once('/') {
+        Some((front, back)) => sides(front, back, radix),
+        None => Err(ParseRatioError::new(RatioErrorKind::ParseError)),
     }
 }
 

@@ -1,5 +1,6 @@
 use Rattle.ratio_core.specs.Reading.{IsFractionText}
-use Rattle.ratio_core.proofs.RefusalLemmas.{none_fits, refused}
+use Rattle.ratio_core.proofs.CutLemmas.{only_fraction}
+use Rattle.ratio_core.proofs.RefusalLemmas.{answered, refused}
 use Rattle.ratio_core.proofs.text.reading.from_str.Goals as goal
 
 pub returns-in-Err : goal.returns-in-Err
@@ -7,7 +8,10 @@ returns-in-Err g c =
     let t = g.T.Integer in
     refused t.value t.lo t.hi (IsFractionText t.lo t.hi c.args.text.now) c.in-Err.refusal c.in-Err.ensures
 
-pub returns-in-None : goal.returns-in-None
-returns-in-None g c =
+pub returns-in-Ok : goal.returns-in-Ok
+returns-in-Ok g c =
     let t = g.T.Integer in
-    rw c.new.ensures (none_fits t.lo t.hi c.args.text.now (t.value c.in-Ok.read.0) (t.value c.in-Ok.read.1) c.in-Ok.ensures.0 c.in-Ok.ensures.1 c.in-None.ensures)
+    let n = t.value c.in-Ok.read.0 in
+    let d = t.value c.in-Ok.read.1 in
+    answered t.value t.lo t.hi (IsFractionText t.lo t.hi c.args.text.now) n d c.in-Ok.ensures.0 c.in-Ok.ensures.1
+    (λ m e other. only_fraction t.lo t.hi c.args.text.now m e n d other c.in-Ok.ensures.0) c.in_lowest_terms.result c.in_lowest_terms.ensures

@@ -1,3 +1,4 @@
 pub mod FoldLemmas
+pub mod JsonLemmas
 pub mod PaddingLemmas
 pub mod RatioLemmas

@@ -1,6 +1,7 @@
 pub mod Comparison
 pub mod Folds
 pub mod Hashing
+pub mod Json
 pub mod Negation
 pub mod Operators
 pub mod Padding

@@ -5,6 +5,8 @@ mod convert;
 mod fold;
 mod hash;
 mod nearest;
+mod json;
+pub mod laws;
 mod operand;
 mod ops;
 mod order;
@@ -17,8 +19,9 @@ mod sign;
 mod tests;
 mod text;
 
+pub use json::{JsonInteger, JsonRatioError};
 pub use operand::Operand;
 pub use ratio::{Constants, Ratio, Rational, Rational32, Rational64};
 pub use ratio_core::{
-    CodeList, Exponent, Form, ParseRatioError, RatioErrorKind, RatioText, Steps, Taken,
+    CodeList, DecimalText, Exponent, Form, ParseRatioError, RatioErrorKind, RatioText, Steps, Taken,
 };

@@ -5,6 +5,7 @@ mod comparing;
 mod every_call;
 mod folds;
 mod forms;
+mod json;
 mod keys;
 mod operators;
 mod powers;

@@ -1,12 +1,12 @@
 //! Fractions of texts, and texts of fractions.
-ghost use Rattle.std.specs.Prelude.{◌≡◌, ◌≤◌, ◌<ℤ◌, pos};
+ghost use Rattle.std.specs.Prelude.{◌≡◌, ◌≢◌, ◌≤◌, ◌≤ℤ◌, ◌<ℤ◌, false, pos};
 ghost use Rattle.num_rational.specs.Ratio.{ReadsRatio, denominator, numerator};
-ghost use Rattle.ratio_core.specs.Printing.{ReadsBack, text_of};
-ghost use Rattle.ratio_core.specs.Reading.{AnswersText, IsSlashedText};
+ghost use Rattle.ratio_core.specs.Printing.{ReadsBack, base_of, text_of};
+ghost use Rattle.ratio_core.specs.Reading.{AnswersText, IsFractionText, IsSlashedText};
 ghost use Rattle.ratio_core.specs.declared.text.form.Form.TheVariants.{Decimal};
 
 use crate::ratio::Ratio;
-use ratio_core::{Form, ParseRatioError, RatioText, text};
+use ratio_core::{DecimalText, Form, ParseRatioError, RatioText, text};
 use ratio_integer::Primitive;
 use std::str::FromStr;
 
@@ -41,14 +41,34 @@ impl<T: Primitive> Ratio<T> {
     }
 
     /// The text of the fields as they stand: the numerator, and, unless the denominator is 1, a slash
-    /// and the denominator. With `alternate` a prefix that names the base stands before each number;
-    /// decimal has none. Reading the decimal text of a positive denominator gives the lowest terms.
+    /// and the denominator. With `alternate` the prefix that names the base stands before each number;
+    /// decimal has none. Reading the decimal text of a positive denominator gives the lowest terms, and
+    /// so does reading another text without prefixes in its base, where no number is below 0 and there
+    /// is a slash.
     pub fn text(&self, form: Form, alternate: bool) -> RatioText
-        ensures bytes { result ≡ text_of form (numerator self.now) (denominator self.now) }
+        ensures bytes { result
+            ≡ text_of T.BITS form alternate (numerator self.now) (denominator self.now) }
         ensures reads_back { form ≡ Decimal → pos 0 <ℤ denominator self.now
-            → ReadsBack T.lo T.hi result (numerator self.now) (denominator self.now) }
+            → ReadsBack T.lo T.hi (IsFractionText T.lo T.hi result)
+            (numerator self.now) (denominator self.now) }
+        ensures reads_back_in_base { alternate ≡ false
+            → pos 0 ≤ℤ numerator self.now → pos 0 <ℤ denominator self.now
+            → denominator self.now ≢ pos 1
+            → ReadsBack T.lo T.hi (IsSlashedText T.lo T.hi (base_of form) result)
+            (numerator self.now) (denominator self.now) }
     {
         text::text(*self.numer(), *self.denom(), form, alternate)
+    }
+
+    /// The same in decimal, in a smaller array, which takes less time to make.
+    pub fn decimal_text(&self) -> DecimalText
+        ensures bytes { result
+            ≡ text_of T.BITS Decimal false (numerator self.now) (denominator self.now) }
+        ensures reads_back { pos 0 <ℤ denominator self.now
+            → ReadsBack T.lo T.hi (IsFractionText T.lo T.hi result)
+            (numerator self.now) (denominator self.now) }
+    {
+        text::decimal_text(*self.numer(), *self.denom())
     }
 }
 

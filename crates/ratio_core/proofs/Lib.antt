@@ -18,6 +18,7 @@ pub mod NearestMoves
 pub mod NearestPreference
 pub mod Neighbours
 pub mod NumberLemmas
+pub mod Numerals
 pub mod NumbersExist
 pub mod OrderLaws
 pub mod PowerLawLemmas
@@ -44,4 +45,5 @@ pub mod SumLemmas
 pub mod Ticks
 pub mod TestLemmas
 pub mod TwoNearest
+pub mod TwosComplement
 pub mod WidthLemmas

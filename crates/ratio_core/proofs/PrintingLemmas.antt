@@ -1,5 +1,5 @@
 -- The bytes of a fraction's text, and how they are written from the end on.
-use Rattle.std.proofs.Common.{◌≡◌, ◌≢◌, ◌⊎◌, refl, sym, ◌∙◌, ap, inl, inr, arith, rules, ℕ, suc, ◌+◌, ◌-◌, ◌^◌, ◌<◌, ◌≤◌, Bool, true, false, cond, List, [], ◌∷◌, ◌++◌, length, drop, slice_set, ℤ, pos, negsuc, ◌+ℤ◌, ◌-ℤ◌, ◌≤ℤ◌, neg_ℤ, unsigned_abs, Option, Some, None, Result, Ok, Err, append-nil, lit<}
+use Rattle.std.proofs.Common.{◌≡◌, ◌≢◌, ◌⊎◌, refl, sym, ◌∙◌, ap, inl, inr, arith, rules, ℕ, suc, ◌+◌, ◌-◌, ◌^◌, ◌<◌, ◌≤◌, Bool, true, false, cond, List, [], ◌∷◌, ◌++◌, length, drop, slice_set, ℤ, pos, negsuc, ◌+ℤ◌, ◌-ℤ◌, ◌≤ℤ◌, neg_ℤ, unsigned_abs, Option, Some, None, Result, Ok, Err, append-nil, length-set, lit<, lit≤}
 use Rattle.std.specs.Prelude.{IsAscii, IsSome, IsOk, MatchResult}
 use Rattle.std.specs.Fmt.{signed_decimal}
 use Rattle.std.specs.Ordering.{int_eq}
@@ -13,9 +13,10 @@ use Rattle.std.proofs.lemmas.Str.Ascii.{IsAscii-cons, IsAscii-nil}
 use Rattle.ratio_integer.specs.Range.{Checks, IsHeld, IsRange}
 use Rattle.ratio_integer.proofs.DivisionLemmas.{low_below}
 use Rattle.ratio_core.specs.declared.text.form.Form.{Form}
-use Rattle.ratio_core.specs.declared.text.form.Form.TheVariants.{Decimal}
-use Rattle.ratio_core.specs.Printing.{number_text, text_of}
+use Rattle.ratio_core.specs.declared.text.form.Form.TheVariants.{Binary, Decimal, LowerHex, Octal, UpperHex}
+use Rattle.ratio_core.specs.Printing.{number_text, shown_prefix, text_of, twos_complement}
 use Rattle.ratio_core.specs.Reading.{slash}
+use Rattle.ratio_core.proofs.Numerals.{numeral_ascii}
 
 -- ---- the magnitude of a number of at most 128 bits
 
@@ -56,16 +57,33 @@ signed_ascii : (z : ℤ) → unsigned_abs z < 2 ^ 128 → IsAscii (signed_decima
 signed_ascii (pos n) small = IsAscii-decimal_wide n (omega (arith, small))
 signed_ascii (negsuc n) small = IsAscii-cons 45 _ (lit< tt) (IsAscii-decimal_wide (suc n) (omega (arith, small)))
 
-number_ascii : (form : Form) (z : ℤ) → unsigned_abs z < 2 ^ 128 → IsAscii (number_text form z)
-number_ascii Decimal z small = signed_ascii z small
+number_ascii : (bits : ℕ) (form : Form) (z : ℤ) → unsigned_abs z < 2 ^ 128 → IsAscii (number_text bits form z)
+number_ascii bits Decimal z small = signed_ascii z small
+number_ascii bits Binary z small = numeral_ascii 2 false (twos_complement bits z) (lit≤ tt) (lit≤ tt)
+number_ascii bits Octal z small = numeral_ascii 8 false (twos_complement bits z) (lit≤ tt) (lit≤ tt)
+number_ascii bits LowerHex z small = numeral_ascii 16 false (twos_complement bits z) (lit≤ tt) (lit≤ tt)
+number_ascii bits UpperHex z small = numeral_ascii 16 true (twos_complement bits z) (lit≤ tt) (lit≤ tt)
+
+two_ascii : (x y : ℕ) → x < 128 → y < 128 → IsAscii (x ∷ y ∷ [])
+two_ascii x y x_small y_small = IsAscii-cons x (y ∷ []) x_small (IsAscii-cons y [] y_small IsAscii-nil)
+
+prefix_ascii : (form : Form) (alternate : Bool) → IsAscii (shown_prefix form alternate)
+prefix_ascii form false = IsAscii-nil
+prefix_ascii Decimal true = IsAscii-nil
+prefix_ascii Binary true = two_ascii 48 98 (lit< tt) (lit< tt)
+prefix_ascii Octal true = two_ascii 48 111 (lit< tt) (lit< tt)
+prefix_ascii LowerHex true = two_ascii 48 120 (lit< tt) (lit< tt)
+prefix_ascii UpperHex true = two_ascii 48 120 (lit< tt) (lit< tt)
 
 rest_ascii : (whole : Bool) (xs : List ℕ) → IsAscii xs → IsAscii (cond whole [] (slash ∷ xs))
 rest_ascii true xs h = IsAscii-nil
 rest_ascii false xs h = IsAscii-cons slash xs (lit< tt) h
 
-pub text_ascii : (form : Form) (n d : ℤ) → unsigned_abs n < 2 ^ 128 → unsigned_abs d < 2 ^ 128 → IsAscii (text_of form n d)
-text_ascii form n d n_small d_small =
-    IsAscii-append _ _ (number_ascii form n n_small) (rest_ascii (int_eq d (pos 1)) _ (number_ascii form d d_small))
+pub text_ascii : (bits : ℕ) (form : Form) (alternate : Bool) (n d : ℤ) → unsigned_abs n < 2 ^ 128 → unsigned_abs d < 2 ^ 128 → IsAscii (text_of bits form alternate n d)
+text_ascii bits form alternate n d n_small d_small =
+    let prefix = prefix_ascii form alternate in
+    IsAscii-append _ _ prefix (IsAscii-append _ _ (number_ascii bits form n n_small)
+    (rest_ascii (int_eq d (pos 1)) _ (IsAscii-append _ _ prefix (number_ascii bits form d d_small))))
 
 -- a call that says why it fails succeeds where that cannot be
 pub ok_from : {A E : Type 0} (r : Result A E) (P : A → Type 0) (Q : Type 0) (R : E → Type 0) → MatchResult r P (λ e. ¬ Q × R e) → Q → IsOk r
@@ -74,21 +92,40 @@ ok_from (Err e) P Q R h q = absurd (h.0 q)
 
 -- ---- a text that is written from its end on
 
-pub whole_text : (form : Form) (n d : ℤ) (buf written : List ℕ) → d ≡ pos 1 → length buf ≡ 81 → written ≡ number_text form n ++ drop 81 buf → written ≡ text_of form n d
-whole_text form n d buf written one long is =
-    let none : drop 81 buf ≡ [] = drop_all 81 buf (omega (arith, long)) in
-    is ∙ ap (λ xs. number_text form n ++ xs) (none ∙ ap (λ b. cond b [] (slash ∷ number_text form d)) (sym ((Decides-int_eq d (pos 1)).1 one)))
+module _ (bits : ℕ) (form : Form) (alternate : Bool) (n d : ℤ) where
+  -- the denominator after the slash
+  abbrev back_text : List ℕ
+  back_text = slash ∷ (shown_prefix form alternate ++ number_text bits form d)
 
-not_one : (d : ℤ) (b : Bool) → int_eq d (pos 1) ≡ b → d ≢ pos 1 → b ≡ false
-not_one d true e other = absurd (other ((Decides-int_eq d (pos 1)).0 e))
-not_one d false e other = refl
+  -- what is written of a numerator before some text
+  abbrev before : List ℕ → List ℕ
+  before xs = shown_prefix form alternate ++ (number_text bits form n ++ xs)
 
-pub slashed_text : (form : Form) (n d : ℤ) (at : ℕ) (buf back written : List ℕ) → d ≢ pos 1 → length buf ≡ 81 → length back ≡ length buf → 1 ≤ at → at ≤ 81
-    → drop at back ≡ number_text form d ++ drop 81 buf → written ≡ number_text form n ++ drop (at - 1) (slice_set back (at - 1) slash) → written ≡ text_of form n d
-slashed_text form n d at buf back written other long same low high denom numer =
-    let back_at : at - 1 + 1 ≡ at = omega (arith, low) in
-    let none : drop 81 buf ≡ [] = drop_all 81 buf (omega (arith, long)) in
-    let denom_only : drop at back ≡ number_text form d = denom ∙ ap (λ xs. number_text form d ++ xs) none ∙ append-nil (number_text form d) in
-    let slash_put : drop (at - 1) (slice_set back (at - 1) slash) ≡ slash ∷ drop (at - 1 + 1) back = drop-set back (at - 1) slash (omega (arith, long, same, low, high)) in
-    numer ∙ ap (λ xs. number_text form n ++ xs) (slash_put ∙ ap (λ k. slash ∷ drop k back) back_at ∙ ap (λ xs. slash ∷ xs) denom_only
-    ∙ ap (λ b. cond b [] (slash ∷ number_text form d)) (sym (not_one d (int_eq d (pos 1)) refl other)))
+  pub whole_text : (end : ℕ) (buf written : List ℕ) → d ≡ pos 1 → length buf ≡ end → written ≡ before (drop end buf) → written ≡ text_of bits form alternate n d
+  whole_text end buf written one long is =
+      let none : drop end buf ≡ [] = drop_all end buf (omega (arith, long)) in
+      is ∙ ap before (none ∙ ap (λ b. cond b [] back_text) (sym ((Decides-int_eq d (pos 1)).1 one)))
+
+  not_one : (b : Bool) → int_eq d (pos 1) ≡ b → d ≢ pos 1 → b ≡ false
+  not_one true e other = absurd (other ((Decides-int_eq d (pos 1)).0 e))
+  not_one false e other = refl
+
+  pub slashed_text : (end at : ℕ) (buf back written : List ℕ) → d ≢ pos 1 → length buf ≡ end → length back ≡ length buf → 1 ≤ at → at ≤ end
+      → drop at back ≡ shown_prefix form alternate ++ (number_text bits form d ++ drop end buf) → written ≡ before (drop (at - 1) (slice_set back (at - 1) slash)) → written ≡ text_of bits form alternate n d
+  slashed_text end at buf back written other long same low high denom numer =
+      let back_at : at - 1 + 1 ≡ at = omega (arith, low) in
+      let none : drop end buf ≡ [] = drop_all end buf (omega (arith, long)) in
+      let denom_only : drop at back ≡ shown_prefix form alternate ++ number_text bits form d =
+      denom ∙ ap (λ xs. shown_prefix form alternate ++ (number_text bits form d ++ xs)) none ∙ ap (λ xs. shown_prefix form alternate ++ xs) (append-nil (number_text bits form d)) in
+      let slash_put : drop (at - 1) (slice_set back (at - 1) slash) ≡ slash ∷ drop (at - 1 + 1) back = drop-set back (at - 1) slash (omega (arith, long, same, low, high)) in
+      numer ∙ ap before (slash_put ∙ ap (λ k. slash ∷ drop k back) back_at ∙ ap (λ xs. slash ∷ xs) denom_only
+      ∙ ap (λ b. cond b [] back_text) (sym (not_one (int_eq d (pos 1)) refl other)))
+
+-- a prefix of two bytes that is written before what stands at `end`
+pub two_written : (x y end : ℕ) (buf : List ℕ) → 2 ≤ end → end ≤ length buf → drop (end - 2) (slice_set (slice_set buf (end - 1) y) (end - 2) x) ≡ x ∷ y ∷ drop end buf
+two_written x y end buf low inside =
+    let second : end - 2 + 1 ≡ end - 1 = omega (arith, low) in
+    let third : end - 1 + 1 ≡ end = omega (arith, low) in
+    let kept = length-set buf (end - 1) y in
+    drop-set (slice_set buf (end - 1) y) (end - 2) x (omega (arith, low, inside, kept)) ∙ ap (λ k. x ∷ drop k (slice_set buf (end - 1) y)) second
+    ∙ ap (λ xs. x ∷ xs) (drop-set buf (end - 1) y (omega (arith, low, inside)) ∙ ap (λ k. y ∷ drop k buf) third)

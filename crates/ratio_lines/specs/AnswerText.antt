@@ -1,5 +1,5 @@
 -- The bytes of an answer.
-use Rattle.std.specs.Prelude.{ℕ, List}
+use Rattle.std.specs.Prelude.{ℕ, List, false}
 use Rattle.std.specs.Borrow.{Bor}
 use Rattle.either.specs.declared.Either.{Either}
 use Rattle.either.specs.declared.Either.TheVariants.{Left, Right}
@@ -11,4 +11,4 @@ use Rattle.ratio_core.specs.declared.text.form.Form.TheVariants.{Decimal}
 -- a text that is known beforehand, or the decimal text of a number
 abbrev pub bytes_of : {T : _} {i : _} {o : _} {e : _} {p : _} {h : _} → Either (Bor (List ℕ)) (Ratio T i o e p h) → List ℕ
 bytes_of (Left text) = text.now
-bytes_of (Right number) = text_of Decimal (numerator number) (denominator number)
+bytes_of (Right number) = text_of 64 Decimal false (numerator number) (denominator number)

@@ -1,5 +1,5 @@
 -- What the calculator answers to an input, as a whole.
-use Rattle.std.specs.Prelude.{◌≡◌, ℕ, ℤ, pos, List, [], ◌∷◌, ◌++◌, length, Bool, ◌||◌, ◌==◌, nat_lt, Option, Some, None, Result, Ok, Err, if◌then◌else◌, codes, MatchBool, MatchOption}
+use Rattle.std.specs.Prelude.{◌≡◌, ℕ, ℤ, pos, List, [], ◌∷◌, ◌++◌, length, Bool, false, ◌||◌, ◌==◌, nat_lt, Option, Some, None, Result, Ok, Err, if◌then◌else◌, codes, MatchBool, MatchOption}
 use Rattle.std.specs.List.{slice_split}
 use Rattle.std.specs.Ordering.{int_eq}
 use Rattle.std.specs.Str.{is_utf8}
@@ -24,7 +24,7 @@ is_space byte = byte == 32
 
 -- a result is said by its decimal text, and that there is none by a refusal
 abbrev pub result_text : Option (ℤ × ℤ) → List ℕ
-result_text (Some x) = text_of Decimal x.0 x.1
+result_text (Some x) = text_of 64 Decimal false x.0 x.1
 result_text None = codes "error: out of range"
 
 -- the sign of an order

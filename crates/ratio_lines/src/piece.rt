@@ -12,7 +12,6 @@ use crate::fault::CalcFault;
 use crate::gathered::Gathered;
 use crate::line::Line;
 use either::Either;
-use num_rational::Form;
 
 /// Gathers an answer without its line end.
 fn put_text<W: CalcWrite>(
@@ -26,7 +25,7 @@ fn put_text<W: CalcWrite>(
     match answer {
         Either::Left(text) => gathered.put(writer, text.as_bytes()),
         Either::Right(number) => {
-            let text = number.text(Form::Decimal, false);
+            let text = number.decimal_text();
             gathered.put(writer, text.as_str().as_bytes())
         }
     }

@@ -4,7 +4,6 @@ ghost use Rattle.ratio_lines.specs.AnswerText.{bytes_of};
 ghost use Rattle.ratio_page.specs.Page.{IsAnswerPut, IsPut};
 
 use either::Either;
-use num_rational::Form;
 use ratio_lines::answer::answer;
 use ratio_lines::answer_text::AnswerText;
 
@@ -26,7 +25,7 @@ fn put_text(answer: &AnswerText, room: &mut [u8], at: usize) -> Option<usize>
     match answer {
         Either::Left(text) => put(text.as_bytes(), room, at),
         Either::Right(number) => {
-            let text = number.text(Form::Decimal, false);
+            let text = number.decimal_text();
             put(text.as_str().as_bytes(), room, at)
         }
     }

@@ -1,58 +1,149 @@
 //! Printing a fraction as a text, from its end on.
-ghost use Rattle.std.specs.Prelude.{◌≡◌, ◌+◌, ◌≤◌, ◌<ℤ◌, ◌++◌, drop, length, pos, decimal, unsigned_abs};
+ghost use Rattle.std.specs.Prelude.{◌≡◌, ◌≢◌, ◌+◌, ◌≤◌, ◌≤ℤ◌, ◌<ℤ◌, ◌++◌, drop, false, length, pos, decimal, unsigned_abs};
 ghost use Rattle.std.specs.Fmt.{signed_decimal};
 ghost use Rattle.ratio_core.specs.declared.text.form.Form.TheVariants.{Decimal};
-ghost use Rattle.ratio_core.specs.Printing.{ReadsBack, number_text, text_of};
+ghost use Rattle.ratio_core.specs.Printing.{ReadsBack, base_of, number_text, prefix_of, shown_prefix, text_of};
+ghost use Rattle.ratio_core.specs.Reading.{IsFractionText, IsSlashedText};
 
+use crate::text::decimal::DecimalText;
 use crate::text::form::Form;
+use crate::text::numeral::{put_numeral, twos_complement};
 use crate::text::ratio_text::RatioText;
 use itoa::write_digits;
 use ratio_integer::Primitive;
 
 /// The text of a fraction's two numbers as they stand: the numerator, and, unless the denominator
-/// is 1, a slash and the denominator. With `alternate` a prefix that names the base stands before
+/// is 1, a slash and the denominator. With `alternate` the prefix that names the base stands before
 /// each number; decimal has none. Reading the decimal text of a positive denominator gives the
-/// lowest terms.
+/// lowest terms, and so does reading another text without prefixes in its base, where no number is
+/// below 0 and there is a slash.
 pub fn text<T: Primitive>(numer: T, denom: T, form: Form, alternate: bool) -> RatioText
-    ensures bytes { result ≡ text_of form (T.value numer) (T.value denom) }
+    ensures bytes { result ≡ text_of T.BITS form alternate (T.value numer) (T.value denom) }
     ensures reads_back { form ≡ Decimal → pos 0 <ℤ T.value denom
-        → ReadsBack T.lo T.hi result (T.value numer) (T.value denom) }
+        → ReadsBack T.lo T.hi (IsFractionText T.lo T.hi result) (T.value numer) (T.value denom) }
+    ensures reads_back_in_base { alternate ≡ false
+        → pos 0 ≤ℤ T.value numer → pos 0 <ℤ T.value denom → T.value denom ≢ pos 1
+        → ReadsBack T.lo T.hi (IsSlashedText T.lo T.hi (base_of form) result)
+        (T.value numer) (T.value denom) }
 {
     let _ = numer.held();
     let _ = denom.held();
     let mut text = RatioText::empty();
-    text.start = put_fraction(numer, denom, form, &mut text.bytes);
+    text.start = put_fraction(numer, denom, form, alternate, &mut text.bytes);
+    text
+}
+
+/// The same in decimal, in an array of 81 bytes, which takes less time to make.
+pub fn decimal_text<T: Primitive>(numer: T, denom: T) -> DecimalText
+    ensures bytes { result ≡ text_of T.BITS Decimal false (T.value numer) (T.value denom) }
+    ensures reads_back { pos 0 <ℤ T.value denom
+        → ReadsBack T.lo T.hi (IsFractionText T.lo T.hi result) (T.value numer) (T.value denom) }
+{
+    let _ = numer.held();
+    let _ = denom.held();
+    let mut text = DecimalText::empty();
+    text.start = put_decimal_fraction(numer, denom, &mut text.bytes);
     text
 }
 
 // Writes the fraction so that it ends where the buffer does, and returns where it starts.
-fn put_fraction<T: Primitive>(numer: T, denom: T, form: Form, buf: &mut [u8]) -> usize
-    requires { length buf.old ≡ 81 }
-    ensures written { drop result buf.new ≡ text_of form (T.value numer) (T.value denom) }
-    ensures inside { result ≤ 81 }
+fn put_fraction<T: Primitive>(
+    numer: T,
+    denom: T,
+    form: Form,
+    alternate: bool,
+    buf: &mut [u8],
+) -> usize
+    requires { length buf.old ≡ 261 }
+    ensures written { drop result buf.new
+        ≡ text_of T.BITS form alternate (T.value numer) (T.value denom) }
+    ensures inside { result ≤ 261 }
 {
     if denom.is_one() {
-        return put_number(numer, form, buf, 81);
+        return put_prefixed(numer, form, alternate, buf, 261);
     }
-    let slash = put_number(denom, form, buf, 81) - 1;
+    let slash = put_prefixed(denom, form, alternate, buf, 261) - 1;
     buf[slash] = b'/';
-    put_number(numer, form, buf, slash)
+    put_prefixed(numer, form, alternate, buf, slash)
 }
 
-// Writes the number so that it ends at `end`, and returns where it starts.
-fn put_number<T: Primitive>(t: T, form: Form, buf: &mut [u8], end: usize) -> usize
-    requires room { 40 ≤ end }
+// Writes the number, after its prefix where that is asked for, so that it ends at `end`, and returns
+// where it starts.
+fn put_prefixed<T: Primitive>(
+    t: T,
+    form: Form,
+    alternate: bool,
+    buf: &mut [u8],
+    end: usize,
+) -> usize
+    requires room { 130 ≤ end }
     requires inside { end ≤ length buf.old }
-    ensures written { drop result buf.new ≡ number_text form (T.value t) ++ drop end buf.old }
-    ensures start { end ≤ result + 40 }
+    ensures written { drop result buf.new
+        ≡ shown_prefix form alternate ++ (number_text T.BITS form (T.value t) ++ drop end buf.old) }
+    ensures start { end ≤ result + 130 }
+    ensures before { result ≤ end }
+{
+    let start = put_number(t, form, buf, end);
+    if alternate {
+        put_prefix(form, buf, start)
+    } else {
+        start
+    }
+}
+
+// The same of the prefix alone.
+fn put_prefix(form: Form, buf: &mut [u8], end: usize) -> usize
+    requires room { 2 ≤ end }
+    requires inside { end ≤ length buf.old }
+    ensures written { drop result buf.new ≡ prefix_of form ++ drop end buf.old }
+    ensures start { end ≤ result + 2 }
+    ensures before { result ≤ end }
+{
+    let letter = match form {
+        Form::Decimal => return end,
+        Form::Binary => b'b',
+        Form::Octal => b'o',
+        Form::LowerHex => b'x',
+        Form::UpperHex => b'x',
+    };
+    buf[end - 1] = letter;
+    buf[end - 2] = b'0';
+    end - 2
+}
+
+// The same of the number alone.
+fn put_number<T: Primitive>(t: T, form: Form, buf: &mut [u8], end: usize) -> usize
+    requires room { 128 ≤ end }
+    requires inside { end ≤ length buf.old }
+    ensures written { drop result buf.new ≡ number_text T.BITS form (T.value t) ++ drop end buf.old }
+    ensures start { end ≤ result + 128 }
     ensures before { result ≤ end }
 {
     match form {
         Form::Decimal => put_decimal(t, buf, end),
+        Form::Binary => put_numeral(twos_complement(t), 2, false, buf, end),
+        Form::Octal => put_numeral(twos_complement(t), 8, false, buf, end),
+        Form::LowerHex => put_numeral(twos_complement(t), 16, false, buf, end),
+        Form::UpperHex => put_numeral(twos_complement(t), 16, true, buf, end),
     }
 }
 
-// The same in decimal.
+// Writes the fraction in decimal so that it ends where the buffer does, and returns where it starts.
+fn put_decimal_fraction<T: Primitive>(numer: T, denom: T, buf: &mut [u8]) -> usize
+    requires { length buf.old ≡ 81 }
+    ensures written { drop result buf.new
+        ≡ text_of T.BITS Decimal false (T.value numer) (T.value denom) }
+    ensures inside { result ≤ 81 }
+{
+    if denom.is_one() {
+        return put_decimal(numer, buf, 81);
+    }
+    let slash = put_decimal(denom, buf, 81) - 1;
+    buf[slash] = b'/';
+    put_decimal(numer, buf, slash)
+}
+
+// Writes the number in decimal so that it ends at `end`, and returns where it starts.
 fn put_decimal<T: Primitive>(t: T, buf: &mut [u8], end: usize) -> usize
     requires room { 40 ≤ end }
     requires inside { end ≤ length buf.old }

@@ -3,12 +3,12 @@ ghost use Rattle.std.specs.Prelude.{◌≡◌, ◌≤◌, ℕ, List, drop, IsAsc
 
 use std::marker::Model;
 
-/// The text of a fraction, of at most 81 bytes: two numbers of 39 digits, each after a minus, and a
-/// slash. A contract sees it as its bytes.
+/// The text of a fraction, of at most 261 bytes: two numbers of 128 digits, each after a prefix, and
+/// a slash. A contract sees it as its bytes.
 #[derive(Drop)]
 pub struct RatioText {
     // The text ends where the array does.
-    pub(crate) bytes: [u8; 81],
+    pub(crate) bytes: [u8; 261],
     pub(crate) start: usize,
 }
 
@@ -17,7 +17,7 @@ impl Model for RatioText {
 
     ghost view = { λ t. drop t.start t.bytes };
 
-    ghost invariant = { λ t. (t.start ≤ 81) × IsAscii (drop t.start t.bytes) };
+    ghost invariant = { λ t. (t.start ≤ 261) × IsAscii (drop t.start t.bytes) };
 }
 
 impl RatioText {
@@ -25,8 +25,8 @@ impl RatioText {
     #[inline(always)]
     pub(crate) fn empty() -> RatioText {
         RatioText {
-            bytes: [0; 81],
-            start: 81,
+            bytes: [0; 261],
+            start: 261,
         }
     }
 

@@ -5,4 +5,4 @@ use Rattle.ratio_core.proofs.text.ratio_text.RatioText.as_str.Goals as goal
 pub from_utf8_unchecked-requires : goal.from_utf8_unchecked-requires
 from_utf8_unchecked-requires c =
     let fields = c.self.inside in
-    IsUtf8-from_ascii _ (IsAscii-take (drop fields.start fields.bytes) (81 - fields.start) c.self.invariant.1)
+    IsUtf8-from_ascii _ (IsAscii-take (drop fields.start fields.bytes) (261 - fields.start) c.self.invariant.1)

@@ -1,0 +1,12 @@
+//! What the words for fractions mean together: each function's contract is the law, and it does nothing.
+ghost use Rattle.std.specs.Prelude.{◌≡◌, ◌≢◌, ℤ, pos, Result, Ok};
+ghost use Rattle.ratio_integer.specs.Range.{IsHeld};
+ghost use Rattle.num_rational.specs.Json.{AnswersJson, json_pair};
+ghost use Rattle.num_rational.specs.declared.json.JsonRatioError.{JsonRatioError};
+
+/// To the JSON list of a fraction's two fields one answer alone can be given: these fields.
+pub fn json_pairs()
+    ensures { (lo hi n d : ℤ) (answer : Result (ℤ × ℤ) JsonRatioError)
+        → IsHeld lo hi n → IsHeld lo hi d → d ≢ pos 0
+        → AnswersJson (λ x. x.0) (λ x. x.1) lo hi (json_pair n d) answer → answer ≡ Ok (n, d) }
+{}

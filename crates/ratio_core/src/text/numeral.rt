@@ -1,0 +1,58 @@
+//! Printing a number in base 2, 8 or 16, from its end on.
+ghost use Rattle.std.specs.Prelude.{◌≡◌, ◌+◌, ◌<◌, ◌≤◌, ◌++◌, drop, length};
+ghost use Rattle.std.specs.Fmt.{digit_glyph};
+ghost use Rattle.ratio_core.specs.Printing.{numeral, twos_complement};
+
+use ratio_integer::Primitive;
+
+// Writes the digits so that they end at `end`, and returns where they start. The base is known where
+// this is called, so that no division is left.
+#[inline(always)]
+pub(crate) fn put_numeral(n: u128, base: u128, upper: bool, buf: &mut [u8], end: usize) -> usize
+    requires low { 2 ≤ base }
+    requires high { base ≤ 16 }
+    requires room { 128 ≤ end }
+    requires inside { end ≤ length buf.old }
+    ensures written { drop result buf.new ≡ numeral base upper n ++ drop end buf.old }
+    ensures start { end ≤ result + 128 }
+    ensures before { result ≤ end }
+{
+    if n == 0 {
+        buf[end - 1] = b'0';
+        return end - 1;
+    }
+    let mut left = n;
+    let mut at = end;
+    'digits: while left > 0 {
+        at -= 1;
+        buf[at] = glyph((left % base) as u8, upper);
+        left /= base;
+    }
+    at
+}
+
+// The digit.
+#[inline(always)]
+fn glyph(digit: u8, upper: bool) -> u8
+    requires { digit < 16 }
+    ensures { result ≡ digit_glyph upper digit }
+{
+    if digit < 10 {
+        b'0' + digit
+    } else if upper {
+        b'A' - 10 + digit
+    } else {
+        b'a' - 10 + digit
+    }
+}
+
+// The number, and, where it is below 0, what counts to it from 2 to the width of the type on.
+pub(crate) fn twos_complement<T: Primitive>(t: T) -> u128
+    ensures { result ≡ twos_complement T.BITS (T.value t) }
+{
+    let _ = t.held();
+    match t.to_u128() {
+        Some(n) => n,
+        None => t.minus(T::MIN).to_u128().unwrap() + T::MAX.to_u128().unwrap() + 1,
+    }
+}

@@ -4,9 +4,9 @@
 mod convert;
 mod fold;
 mod hash;
-mod nearest;
 mod json;
 pub mod laws;
+mod nearest;
 mod operand;
 mod ops;
 mod order;

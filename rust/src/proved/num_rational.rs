@@ -3,6 +3,8 @@
 mod convert;
 mod fold;
 mod hash;
+
+pub mod laws;
 mod nearest;
 mod operand;
 mod ops;
@@ -19,5 +21,5 @@ mod text;
 pub use operand::Operand;
 pub use ratio::{Constants, Ratio, Rational, Rational32, Rational64};
 pub use crate::proved::ratio_core::{
-    CodeList, Exponent, Form, ParseRatioError, RatioErrorKind, RatioText, Steps, Taken,
+    CodeList, DecimalText, Exponent, Form, ParseRatioError, RatioErrorKind, RatioText, Steps, Taken,
 };

@@ -28,4 +28,4 @@ pub use order::{cmp_counted, compare};
 pub use parse_error::{ParseRatioError, RatioErrorKind};
 pub use steps::Steps;
 pub use taken::Taken;
-pub use text::{Form, RatioText};
+pub use text::{DecimalText, Form, RatioText};

@@ -5,7 +5,7 @@ use crate::proved::num_rational::ratio::Ratio;
 use crate::proved::ratio_core::Form;
 use crate::proved::ratio_integer::Primitive;
 use core::fmt;
-use core::fmt::{Display, Formatter, Write};
+use core::fmt::{Binary, Display, Formatter, LowerHex, Octal, UpperHex, Write};
 
 // Writes a decimal text, whose minus counts as its sign.
 #[inline]
@@ -16,9 +16,63 @@ fn write_decimal(text: &str, f: &mut Formatter<'_>) -> fmt::Result {
     }
 }
 
+// Writes a fraction in a form with a prefix.
+#[inline]
+fn write_in_base<T: Primitive>(
+    x: &Ratio<T>,
+    form: Form,
+    prefix: &str,
+    f: &mut Formatter<'_>,
+) -> fmt::Result {
+    let alternate = f.alternate();
+    let text = x.text(form, alternate);
+    let text = text.as_str();
+    f.pad_integral(true, prefix, after_prefix(text, prefix, alternate))
+}
+
+// The text from the end of its prefix on, where it has one.
+#[inline]
+fn after_prefix<'a>(text: &'a str, prefix: &str, is_there: bool) -> &'a str {
+    if !is_there {
+        return text;
+    }
+    match text.strip_prefix(prefix) {
+        Some(body) => body,
+        None => text,
+    }
+}
+
 impl<T: Primitive> Display for Ratio<T> {
     #[inline]
     fn fmt(&self, f: &mut Formatter<'_>) -> fmt::Result {
-        write_decimal(self.text(Form::Decimal, false).as_str(), f)
+        write_decimal(self.decimal_text().as_str(), f)
+    }
+}
+
+impl<T: Primitive> Binary for Ratio<T> {
+    #[inline]
+    fn fmt(&self, f: &mut Formatter<'_>) -> fmt::Result {
+        write_in_base(self, Form::Binary, "0b", f)
+    }
+}
+
+impl<T: Primitive> Octal for Ratio<T> {
+    #[inline]
+    fn fmt(&self, f: &mut Formatter<'_>) -> fmt::Result {
+        write_in_base(self, Form::Octal, "0o", f)
+    }
+}
+
+impl<T: Primitive> LowerHex for Ratio<T> {
+    #[inline]
+    fn fmt(&self, f: &mut Formatter<'_>) -> fmt::Result {
+        write_in_base(self, Form::LowerHex, "0x", f)
+    }
+}
+
+impl<T: Primitive> UpperHex for Ratio<T> {
+    #[inline]
+    fn fmt(&self, f: &mut Formatter<'_>) -> fmt::Result {
+        write_in_base(self, Form::UpperHex, "0x", f)
     }
 }

@@ -6,6 +6,7 @@ mod comparing;
 mod every_call;
 mod folds;
 mod forms;
+
 mod keys;
 mod operators;
 mod powers;
@@ -13,4 +14,5 @@ mod recorder;
 mod rounding;
 mod rows;
 mod signs;
+mod texts;
 mod twelve_types;

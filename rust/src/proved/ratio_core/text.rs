@@ -1,13 +1,16 @@
 // Erased from crates/ratio_core/src/text.rt by rust/erase: not to be edited.
 //! Fractions as texts.
+mod decimal;
 mod form;
 pub mod laws;
+mod numeral;
 mod printing;
 mod ratio_text;
 mod reading;
 mod short_digits;
 
+pub use decimal::DecimalText;
 pub use form::Form;
-pub use printing::text;
+pub use printing::{decimal_text, text};
 pub use ratio_text::RatioText;
-pub use reading::from_str;
+pub use reading::{from_str, from_str_radix};

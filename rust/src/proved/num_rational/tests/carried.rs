@@ -4,9 +4,11 @@
 use super::asserting::{holds, is};
 use super::forms::{self, fraction};
 use super::recorder::Written;
-use crate::proved::num_rational::{Constants, Ratio, Rational32, Rational64};
+use super::texts::{Shown, shown_as};
+use crate::proved::num_rational::{Constants, Form, Ratio, Rational32, Rational64};
 use crate::proved::ratio_integer::Integer;
 use core::cmp::Ordering;
+use crate::test_support::InlineText;
 use core::hash::Hash;
 
 // The lowest terms by `new`, where `checked_new` answers.
@@ -209,5 +211,68 @@ fn test_const() {
         is(x.reduced(), 41, 152);
     } else {
         holds("reduced", false);
+    }
+}
+
+// A fraction over i64, printed in a form.
+#[inline]
+fn printed(numer: i64, denom: i64, form: Form) -> Shown<i64> {
+    shown_as(numer, denom, form)
+}
+
+#[test]
+fn test_show() {
+    let two = printed(2, 1, Form::Decimal);
+    let half = printed(1, 2, Form::Decimal);
+    let minus_half = printed(-1, 2, Form::Decimal);
+    let zero = printed(0, 1, Form::Decimal);
+    let minus_two = printed(-2, 1, Form::Decimal);
+    let row = InlineText::<40>::of(format_args!("{two} {half} {minus_half} {zero} {minus_two}"));
+    assert_eq!(row.as_str(), "2 1/2 -1/2 0 -2");
+    for (base, form, padded, prefixed) in [
+        (2, Form::Binary, "0000001/10", "0b001/0b10"),
+        (8, Form::Octal, "0000001/10", "0o001/0o10"),
+        (16, Form::LowerHex, "0000001/10", "0x001/0x10"),
+        (16, Form::UpperHex, "0000001/10", "0x001/0x10"),
+    ] {
+        let whole = printed(base, 1, form);
+        let part = printed(1, base, form);
+        let row = InlineText::<40>::of(format_args!("{whole} {part}"));
+        assert_eq!(row.as_str(), "10 1/10");
+        assert_eq!(
+            InlineText::<40>::of(format_args!("{part:010}")).as_str(),
+            padded
+        );
+        assert_eq!(
+            InlineText::<40>::of(format_args!("{part:#010}")).as_str(),
+            prefixed
+        );
+    }
+    let fifteen = printed(15, 1, Form::LowerHex);
+    let none = printed(0, 1, Form::LowerHex);
+    let row = InlineText::<40>::of(format_args!("{fifteen} {none}"));
+    assert_eq!(row.as_str(), "f 0");
+}
+
+#[test]
+fn test_to_from_str() {
+    for (numer, denom, text) in [
+        (1, 1, "1"),
+        (0, 1, "0"),
+        (1, 2, "1/2"),
+        (3, 2, "3/2"),
+        (2, 1, "2"),
+        (-1, 2, "-1/2"),
+    ] {
+        let fraction = new(numer, denom);
+        assert_eq!(fraction.text(Form::Decimal, false).as_str(), text);
+        assert!(Rational64::from_str(text) == Ok(fraction), "{text}");
+    }
+}
+
+#[test]
+fn test_from_str_fail() {
+    for text in ["0 /1", "abc", "", "1/", "--1/2", "3/2/1", "1/0"] {
+        assert!(Rational64::from_str(text).is_err(), "{text}");
     }
 }

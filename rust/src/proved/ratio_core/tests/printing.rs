@@ -2,6 +2,7 @@
 //! Rows of printed fields, from outside.
 use crate::proved::ratio_core::Form;
 use crate::proved::ratio_core::text::text;
+use crate::proved::ratio_integer::Primitive;
 
 #[test]
 fn fields_of_64_bits() {
@@ -46,4 +47,32 @@ fn fields_of_other_widths() {
         text(i128::MIN, i128::MIN, Form::Decimal, false).as_str(),
         "-170141183460469231731687303715884105728/-170141183460469231731687303715884105728"
     );
+}
+
+// Whether the fields are printed so.
+#[inline]
+fn prints<T: Primitive>(numer: T, denom: T, form: Form, alternate: bool, want: &str) -> bool {
+    text(numer, denom, form, alternate).as_str() == want
+}
+
+#[test]
+fn fields_in_other_bases() {
+    assert!(prints(-128i8, -1, Form::UpperHex, true, "0x80/0xFF"));
+    assert!(prints(-1i16, 1, Form::Octal, false, "177777"));
+    assert!(prints(1i8, -2, Form::Binary, false, "1/11111110"));
+    assert!(prints(-1i8, 2, Form::Binary, true, "0b11111111/0b10"));
+    assert!(prints(-1i8, 2, Form::Octal, true, "0o377/0o2"));
+    assert!(prints(1i64, 15, Form::UpperHex, false, "1/F"));
+    assert!(prints(0u8, 16, Form::LowerHex, true, "0x0/0x10"));
+    assert!(
+        prints(
+            i128::MIN,
+            1,
+            Form::LowerHex,
+            false,
+            "80000000000000000000000000000000"
+        )
+    );
+    let longest = text(u128::MAX, u128::MAX, Form::Binary, true);
+    assert_eq!(longest.as_str().len(), 261);
 }

@@ -6,4 +6,12 @@
 pub enum Form {
     /// Decimal digits, after a minus for a number below 0.
     Decimal,
+    /// Digits in base 2 of the two's complement, in the width of the type. Its prefix is `0b`.
+    Binary,
+    /// The same in base 8, with the prefix `0o`.
+    Octal,
+    /// The same in base 16, with the digits `a` to `f` and the prefix `0x`.
+    LowerHex,
+    /// The same with the digits `A` to `F`.
+    UpperHex,
 }

@@ -1,11 +1,11 @@
 // Erased from crates/ratio_core/src/text/ratio_text.rt by rust/erase: not to be edited.
 //! The text of a fraction, in a fixed array.
 
-/// The text of a fraction, of at most 81 bytes: two numbers of 39 digits, each after a minus, and a
-/// slash. A contract sees it as its bytes.
+/// The text of a fraction, of at most 261 bytes: two numbers of 128 digits, each after a prefix, and
+/// a slash. A contract sees it as its bytes.
 pub struct RatioText {
     // The text ends where the array does.
-    pub(crate) bytes: [u8; 81],
+    pub(crate) bytes: [u8; 261],
     pub(crate) start: usize,
 }
 
@@ -14,15 +14,15 @@ impl RatioText {
     #[inline(always)]
     pub(crate) fn empty() -> RatioText {
         RatioText {
-            bytes: [0; 81],
-            start: 81,
+            bytes: [0; 261],
+            start: 261,
         }
     }
 
     /// The text.
     #[inline]
     pub fn as_str(&self) -> &str {
-        // SAFETY: proved of the source: what `str::from_utf8_unchecked` asks holds in `as_str` with the invariant `λ t. (t.start ≤ 81) × IsAscii (drop t.start t.bytes)`.
+        // SAFETY: proved of the source: what `str::from_utf8_unchecked` asks holds in `as_str` with the invariant `λ t. (t.start ≤ 261) × IsAscii (drop t.start t.bytes)`.
         unsafe { core::str::from_utf8_unchecked(&self.bytes[self.start..]) }
     }
 }

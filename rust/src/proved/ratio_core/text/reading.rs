@@ -16,10 +16,33 @@ use crate::proved::ratio_integer::Primitive;
 pub fn from_str<T: Primitive>(text: &str) -> Result<(T, T), ParseRatioError> {
     match pair::<T>(text) {
         Err(refusal) => Err(refusal),
-        Ok(read) => match checked_new(read.0, read.1) {
-            Some(low) => Ok(low),
-            None => Err(ParseRatioError::new(RatioErrorKind::ParseError)),
-        },
+        Ok(read) => in_lowest_terms(read.0, read.1),
+    }
+}
+
+/// The same of a text in the radix, which is `N/D` alone: a text without a slash is a parse error.
+/// The digits above 9 are the letters, in either case; no prefix such as `0x` is a part of a number.
+///
+/// # Conditions
+///
+/// What is proved asks of the caller:
+///
+/// - `low`: `2 ≤ radix`
+/// - `high`: `radix ≤ 36`
+#[inline]
+pub fn from_str_radix<T: Primitive>(text: &str, radix: u32) -> Result<(T, T), ParseRatioError> {
+    match slashed_pair::<T>(text, radix) {
+        Err(refusal) => Err(refusal),
+        Ok(read) => in_lowest_terms(read.0, read.1),
+    }
+}
+
+// The lowest terms of a text's two numbers.
+#[inline]
+fn in_lowest_terms<T: Primitive>(numer: T, denom: T) -> Result<(T, T), ParseRatioError> {
+    match checked_new(numer, denom) {
+        Some(low) => Ok(low),
+        None => Err(ParseRatioError::new(RatioErrorKind::ParseError)),
     }
 }
 
@@ -76,6 +99,15 @@ fn sides<T: Primitive>(front: &str, back: &str, radix: u32) -> Result<(T, T), Pa
                 Ok((numer, denom))
             },
         },
+    }
+}
+
+// The two numbers of a text in the radix that has a slash, as they stand.
+#[inline]
+fn slashed_pair<T: Primitive>(text: &str, radix: u32) -> Result<(T, T), ParseRatioError> {
+    match text.split_once('/') {
+        Some((front, back)) => sides(front, back, radix),
+        None => Err(ParseRatioError::new(RatioErrorKind::ParseError)),
     }
 }
 

@@ -4,7 +4,7 @@
 #![allow(clippy::eq_op)]
 
 use bakhsney::Ratio;
-use num_traits::ToPrimitive;
+use num_traits::{Num, Signed, ToPrimitive};
 use std::collections::hash_map::DefaultHasher;
 use std::hash::{Hash, Hasher};
 use std::panic::{catch_unwind, UnwindSafe};
@@ -41,6 +41,8 @@ fn conditions_are_tested() {
     assert_eq!(refusal(move || none.pow(-1)), "division by zero");
     assert_eq!(refusal(move || least.recip()), "attempt to negate with overflow");
     assert_eq!(refusal(move || greatest.pow(2)), "attempt to multiply with overflow");
+    assert_eq!(refusal(move || least.abs()), "attempt to negate with overflow");
+    assert!(refusal(|| Ratio::<i8>::from_str_radix("1/2", 37)).contains("must lie in the range"));
     assert_eq!(refusal(move || -least), "attempt to negate with overflow");
     assert_eq!(refusal(|| Ratio::new_raw(1i8, -128).floor()), "attempt to negate with overflow");
     assert_eq!(refusal(|| Ratio::new_raw(1, 0)), "");
@@ -50,7 +52,7 @@ fn conditions_are_tested() {
 fn a_denominator_of_0_ends_each_call() {
     let broken = Ratio::new_raw(1i32, 0);
     let sound = Ratio::new(1, 2);
-    let calls: [(&str, Call); 28] = [
+    let calls: [(&str, Call); 36] = [
         ("add", |x, y| done(x + y)),
         ("sub", |x, y| done(x - y)),
         ("mul", |x, y| done(x * y)),
@@ -68,6 +70,14 @@ fn a_denominator_of_0_ends_each_call() {
         ("hash", |x, _| x.hash(&mut DefaultHasher::new())),
         ("text", |x, _| done(x.to_string())),
         ("reduced", |x, _| done(x.reduced())),
+        ("abs", |x, _| done(x.abs())),
+        ("abs_sub", |x, y| done(x.abs_sub(&y))),
+        ("signum", |x, _| done(x.signum())),
+        ("is_positive", |x, _| done(x.is_positive())),
+        ("is_negative", |x, _| done(x.is_negative())),
+        ("binary", |x, _| done(format!("{x:b}"))),
+        ("octal", |x, _| done(format!("{x:o}"))),
+        ("hex", |x, _| done(format!("{x:x}{x:X}"))),
         ("recip", |x, _| done(x.recip())),
         ("pow", |x, _| done(x.pow(2))),
         ("pow of 0", |x, _| done(x.pow(0))),

@@ -4,7 +4,7 @@
 #![allow(clippy::op_ref, clippy::modulo_one, clippy::needless_borrows_for_generic_args)]
 
 use bakhsney::{Integer, ParseRatioError, Ratio, Rational64};
-use num_traits::{CheckedAdd, CheckedDiv, CheckedMul, CheckedRem, CheckedSub, FromPrimitive, Inv, One, ToPrimitive, Zero};
+use num_traits::{CheckedAdd, CheckedDiv, CheckedMul, CheckedRem, CheckedSub, FromPrimitive, Inv, Num, One, Signed, ToPrimitive, Zero};
 use std::cmp::Ordering;
 use std::collections::{BTreeSet, HashMap};
 
@@ -184,6 +184,36 @@ fn powers() {
     assert_eq!([pow(x, 2u8), pow(x, -2i128).recip(), pow(&x, &2usize), pow(&x, 2i16)], [x * x; 4]);
     assert_eq!([x.recip(), Inv::inv(x), Inv::inv(&x)], [Ratio::new(2, 3); 3]);
     assert_eq!(Ratio::new(-2, 3).recip().into_raw(), (-3, 2));
+}
+
+#[test]
+fn forms_and_radix() {
+    let x = Ratio::new(-1i8, 2);
+    assert_eq!(format!("{:#010b}", half()), "0b001/0b10");
+    assert_eq!(format!("{x:x}|{x:+x}|{x:#X}|{x:#o}"), "ff/2|+ff/2|0xFF/0x2|0o377/0o2");
+    assert_eq!(format!("{:05}|{:*^7}", Ratio::from_integer(-1i8), half()), "-0001|**1/2**");
+    assert_eq!(Ratio::from_str_radix("f/2", 16), Ok(Ratio::new(15i64, 2)));
+    assert_eq!(Ratio::from_str_radix("z/Z", 36), Ok(Ratio::from_integer(1u8)));
+    assert!(Ratio::<i64>::from_str_radix("5", 10).is_err());
+}
+
+#[test]
+fn signs() {
+    let x = Ratio::new_raw(1i64, -2);
+    assert_eq!((x.signum(), x.abs(), x.is_negative()), (-Ratio::<i64>::one(), Ratio::new(1, 2), true));
+    assert_eq!(Ratio::new(3i64, 2).abs_sub(&Ratio::new(1, 2)), Ratio::one());
+    assert_eq!(Ratio::new(1i64, 2).abs_sub(&Ratio::new(3, 2)), Ratio::zero());
+    assert!(Ratio::new_raw(i8::MIN, -1).is_positive());
+    assert_eq!(Ratio::new_raw(i8::MIN, -1).signum(), Ratio::one());
+}
+
+fn distance<T: Integer + Signed>(x: Ratio<T>, y: Ratio<T>) -> Ratio<T> {
+    (x - y).abs()
+}
+
+#[test]
+fn generic_signs() {
+    assert_eq!(distance(Ratio::new(1, 3), half()), Ratio::new(1, 6));
 }
 
 #[test]

@@ -4,6 +4,7 @@ use super::ratio::{Proved, Ratio};
 use crate::proved::num_rational::ParseRatioError;
 use core::fmt;
 use core::str::FromStr;
+use num_traits::Num;
 
 impl<T: Integer> FromStr for Ratio<T> {
     type Err = ParseRatioError;
@@ -14,9 +15,31 @@ impl<T: Integer> FromStr for Ratio<T> {
     }
 }
 
-impl<T: Integer> fmt::Display for Ratio<T> {
+impl<T: Integer> Num for Ratio<T> {
+    type FromStrRadixErr = ParseRatioError;
+
+    /// The lowest terms of a text `N/D` in the radix, which panics for a radix that is not from 2 to 36.
     #[inline]
-    fn fmt(&self, f: &mut fmt::Formatter<'_>) -> fmt::Result {
-        self.proved().fmt(f)
+    #[track_caller]
+    fn from_str_radix(text: &str, radix: u32) -> Result<Ratio<T>, ParseRatioError> {
+        assert!(
+            (2..=36).contains(&radix),
+            "from_str_radix_int: must lie in the range `[2, 36]` - found {}",
+            radix
+        );
+        Proved::<T>::from_str_radix(text, radix).map(Ratio::from_proved)
     }
 }
+
+macro_rules! forms {
+    ($($Form:ident)*) => {$(
+        impl<T: Integer> fmt::$Form for Ratio<T> {
+            #[inline]
+            fn fmt(&self, f: &mut fmt::Formatter<'_>) -> fmt::Result {
+                fmt::$Form::fmt(&self.proved(), f)
+            }
+        }
+    )*};
+}
+
+forms! { Display Binary Octal LowerHex UpperHex }

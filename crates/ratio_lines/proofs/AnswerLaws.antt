@@ -1,11 +1,12 @@
 -- An input has one list of answers at most, so the relation says exactly what is written.
-use Rattle.std.proofs.Common.{◌≡◌, ℕ, ℤ, pos, List, [], ◌∷◌, ◌++◌, length, Bool, true, false, ◌||◌, ◌==◌, nat_lt, Option, None, Some, Result, Ok, Err, refl, ap, ◌∙◌, sym}
+use Rattle.std.proofs.Common.{◌≡◌, ℕ, ℤ, pos, List, [], ◌∷◌, ◌++◌, length, Bool, true, false, nat_lt, Option, None, Some, Result, Ok, Err, refl, ap, ◌∙◌, sym, inl, inr}
 use Rattle.std.specs.Bool.{MatchBool}
-use Rattle.std.specs.List.{slice_split}
-use Rattle.std.specs.Option.{MatchOption}
+use Rattle.std.specs.List.{list_any, slice_split}
 use Rattle.std.specs.Ordering.{int_eq}
 use Rattle.std.specs.Prelude.{codes}
 use Rattle.std.specs.Str.{is_utf8}
+use Rattle.either.specs.Either.{MatchEither}
+use Rattle.either.specs.declared.Either.TheVariants.{Left, Right}
 use Rattle.ratio_core.specs.Reading.{IsFractionText, Refuses, ReadsLowest}
 use Rattle.ratio_core.specs.declared.parse_error.RatioErrorKind.{RatioErrorKind}
 use Rattle.ratio_core.specs.declared.parse_error.RatioErrorKind.TheVariants.{ParseError, ZeroDenominator}
@@ -13,10 +14,9 @@ use Rattle.ratio_core.proofs.CutLemmas.{only_fraction}
 use Rattle.ratio_integer.proofs.LowestTerms.{lowest_unique}
 use Rattle.ratio_integer.specs.Arithmetic.{difference_of, product_of, quotient_of, remainder_of, sum_of}
 use Rattle.ratio_integer.specs.Fraction.{IsHeldLowest}
-use Rattle.ratio_core.specs.Order.{cross_cmp}
-use Rattle.ratio_lines.specs.Answers.{AreAnswers, AreAnswersOf, IsAnswer, IsDivisionAnswer, IsLowestResult, IsNumberAnswer, IsOperandsAnswer, IsOperatorAnswer, IsPartsAnswer, IsRemainderResult, IsTextsAnswer, IsThreeAnswer, is_space, result_text, order_text, want_three, without_return}
-use Rattle.ratio_lines.specs.Lines.{lines_of}
-use Rattle.ratio_lines.specs.Operands.{IsOperand, greatest, least, operator_of}
+use Rattle.ratio_lines.specs.Answers.{AreAnswers, AreAnswersOf, AreRead, IsAnswer, IsApplied, IsChainAnswer, IsDivisionOutcome, IsLowestResult, IsOperandsAnswer, IsOutcome, IsPartsAnswer, IsRemainderResult, IsResultOutcome, IsTextsAnswer, Outcome, is_chain, is_cmp, is_space, operator_parts, operators_of, outcome_of_result, right_parts, want_three, without_return}
+use Rattle.ratio_lines.specs.Lines.{front_of, lines_of}
+use Rattle.ratio_lines.specs.Operands.{IsOperand, greatest, least}
 use Rattle.ratio_lines.specs.declared.operator.Operator.{Operator}
 use Rattle.ratio_lines.specs.declared.operator.Operator.TheVariants.{Add, Sub, Mul, Div, Rem, Cmp}
 use Rattle.ratio_lines.specs.declared.limits.TheConstants.{LONGEST_LINE}
@@ -72,51 +72,78 @@ one_remainder a b None (Some y) h k = absurd (h k.0)
 one_remainder a b (Some x) None h k = absurd (k h.0)
 one_remainder a b (Some x) (Some y) h k = ap Some (one_pair (remainder_of a.0 a.1 b.0 b.1).0 (remainder_of a.0 a.1 b.0 b.1).1 x y h.1 k.1)
 
-one_number : (Is : Option (ℤ × ℤ) → Type 0) (a b : List ℕ) → ((x y : Option (ℤ × ℤ)) → Is x → Is y → x ≡ y) → IsNumberAnswer Is a → IsNumberAnswer Is b → a ≡ b
-one_number Is a b one h k = h.text ∙ ap result_text (one h.number k.number h.is_number k.is_number) ∙ sym k.text
+one_result_outcome : (Is : Option (ℤ × ℤ) → Type 0) (a b : Outcome) → ((x y : Option (ℤ × ℤ)) → Is x → Is y → x ≡ y) → IsResultOutcome Is a → IsResultOutcome Is b → a ≡ b
+one_result_outcome Is a b one h k = h.is_outcome ∙ ap outcome_of_result (one h.number k.number h.is_number k.is_number) ∙ sym k.is_outcome
 
-one_division : (divisor : ℤ × ℤ) (Is : Option (ℤ × ℤ) → Type 0) (a b : List ℕ) → ((x y : Option (ℤ × ℤ)) → Is x → Is y → x ≡ y)
-    → IsDivisionAnswer divisor Is a → IsDivisionAnswer divisor Is b → a ≡ b
-one_division divisor Is a b one =
-    one_of_two (int_eq divisor.0 (pos 0)) (λ x. x ≡ codes "error: division by zero") (IsNumberAnswer Is) a b
-    (one_text (codes "error: division by zero") a b) (one_number Is a b one)
+one_division : (divisor : ℤ × ℤ) (Is : Option (ℤ × ℤ) → Type 0) (a b : Outcome) → ((x y : Option (ℤ × ℤ)) → Is x → Is y → x ≡ y)
+    → IsDivisionOutcome divisor Is a → IsDivisionOutcome divisor Is b → a ≡ b
+one_division divisor Is a b one h k =
+    elim (int_eq divisor.0 (pos 0))
+    as (λ t. MatchBool t (a ≡ Left (codes "error: division by zero")) (IsResultOutcome Is a) → MatchBool t (b ≡ Left (codes "error: division by zero")) (IsResultOutcome Is b) → a ≡ b)
+    [ true ↦ λ p q. p ∙ sym q | false ↦ λ p q. one_result_outcome Is a b one p q ] h k
 
-one_operator : (operator : Operator) (x y : ℤ × ℤ) (a b : List ℕ) → IsOperatorAnswer operator x y a → IsOperatorAnswer operator x y b → a ≡ b
-one_operator Add x y a b = one_number (IsLowestResult (sum_of x.0 x.1 y.0 y.1)) a b (one_result (sum_of x.0 x.1 y.0 y.1))
-one_operator Sub x y a b = one_number (IsLowestResult (difference_of x.0 x.1 y.0 y.1)) a b (one_result (difference_of x.0 x.1 y.0 y.1))
-one_operator Mul x y a b = one_number (IsLowestResult (product_of x.0 x.1 y.0 y.1)) a b (one_result (product_of x.0 x.1 y.0 y.1))
-one_operator Div x y a b = one_division y (IsLowestResult (quotient_of x.0 x.1 y.0 y.1)) a b (one_result (quotient_of x.0 x.1 y.0 y.1))
-one_operator Rem x y a b = one_division y (IsRemainderResult x y) a b (one_remainder x y)
-one_operator Cmp x y a b = one_text (order_text (cross_cmp x.0 x.1 y.0 y.1)) a b
+-- an operator has one outcome at most
+one_outcome : (operator : Operator) (x y : ℤ × ℤ) (a b : Outcome) → IsOutcome operator x y a → IsOutcome operator x y b → a ≡ b
+one_outcome Add x y a b = one_result_outcome (IsLowestResult (sum_of x.0 x.1 y.0 y.1)) a b (one_result (sum_of x.0 x.1 y.0 y.1))
+one_outcome Sub x y a b = one_result_outcome (IsLowestResult (difference_of x.0 x.1 y.0 y.1)) a b (one_result (difference_of x.0 x.1 y.0 y.1))
+one_outcome Mul x y a b = one_result_outcome (IsLowestResult (product_of x.0 x.1 y.0 y.1)) a b (one_result (product_of x.0 x.1 y.0 y.1))
+one_outcome Div x y a b = one_division y (IsLowestResult (quotient_of x.0 x.1 y.0 y.1)) a b (one_result (quotient_of x.0 x.1 y.0 y.1))
+one_outcome Rem x y a b = one_division y (IsRemainderResult x y) a b (one_remainder x y)
+one_outcome Cmp x y a b = λ h k. h ∙ sym k
 
-one_operands : (operator : Operator) (x y : Result (ℤ × ℤ) RatioErrorKind) (a b : List ℕ) → IsOperandsAnswer operator x y a → IsOperandsAnswer operator x y b → a ≡ b
-one_operands operator (Err kind) y a b h k = h ∙ sym k
-one_operands operator (Ok x) (Err kind) a b h k = h ∙ sym k
-one_operands operator (Ok x) (Ok y) a b h k = one_operator operator x y a b h k
+one_after : (outcome : Outcome) (Next : ℤ × ℤ → List ℕ → Type 0) (a b : List ℕ) → ((z : ℤ × ℤ) → Next z a → Next z b → a ≡ b)
+    → MatchEither outcome (λ text. a ≡ text) (λ z. Next z a) → MatchEither outcome (λ text. b ≡ text) (λ z. Next z b) → a ≡ b
+one_after (Left text) Next a b one h k = h ∙ sym k
+one_after (Right z) Next a b one h k = one z h k
 
-one_texts : (operator : Operator) (left right a b : List ℕ) → IsTextsAnswer operator left right a → IsTextsAnswer operator left right b → a ≡ b
-one_texts operator left right a b h k =
+one_applied : (operators : List Operator) (ys : List (ℤ × ℤ)) (x : ℤ × ℤ) (a b : List ℕ) → IsApplied operators x ys a → IsApplied operators x ys b → a ≡ b
+one_applied [] ys x a b h k = h ∙ sym k
+one_applied (operator ∷ operators) [] x a b h k = h ∙ sym k
+one_applied (operator ∷ operators) (y ∷ ys) x a b h k =
+    one_after k.0 (λ z. IsApplied operators z ys) a b (λ z. one_applied operators ys z a b) (rw (one_outcome operator x y h.0 k.0 h.1 k.1) at h.2) k.2
+
+-- texts read as one list of fractions at most, or are refused in one way
+one_read : (texts : List (List ℕ)) (p q : Result (List (ℤ × ℤ)) RatioErrorKind) → AreRead texts p → AreRead texts q → p ≡ q
+one_read [] p q h k = h ∙ sym k
+one_read (text ∷ texts) (Ok []) q h k = absurd h
+one_read (text ∷ texts) (Ok (x ∷ xs)) (Ok []) h k = absurd k
+one_read (text ∷ texts) (Ok (x ∷ xs)) (Ok (y ∷ ys)) h k =
+    let first : x ≡ y = let same = one_operand text (Ok x) (Ok y) h.0 k.0 in cc in
+    let others : xs ≡ ys = let same = one_read texts (Ok xs) (Ok ys) h.1 k.1 in cc in
+    cc
+one_read (text ∷ texts) (Ok (x ∷ xs)) (Err kind) h (inl refused) = absurd (let no = one_operand text (Ok x) (Err kind) h.0 refused in cc)
+one_read (text ∷ texts) (Ok (x ∷ xs)) (Err kind) h (inr later) = absurd (let no = one_read texts (Ok xs) (Err kind) h.1 later.2 in cc)
+one_read (text ∷ texts) (Err kind) (Ok []) h k = absurd k
+one_read (text ∷ texts) (Err kind) (Ok (y ∷ ys)) (inl refused) k = absurd (let no = one_operand text (Ok y) (Err kind) k.0 refused in cc)
+one_read (text ∷ texts) (Err kind) (Ok (y ∷ ys)) (inr later) k = absurd (let no = one_read texts (Ok ys) (Err kind) k.1 later.2 in cc)
+one_read (text ∷ texts) (Err kind) (Err other) (inl p) (inl q) = let same = one_operand text (Err kind) (Err other) p q in cc
+one_read (text ∷ texts) (Err kind) (Err other) (inl p) (inr q) = absurd (let no = one_operand text (Ok q.0) (Err kind) q.1 p in cc)
+one_read (text ∷ texts) (Err kind) (Err other) (inr p) (inl q) = absurd (let no = one_operand text (Ok p.0) (Err other) p.1 q in cc)
+one_read (text ∷ texts) (Err kind) (Err other) (inr p) (inr q) = let same = one_read texts (Err kind) (Err other) p.2 q.2 in cc
+
+one_operands : (operators : List Operator) (x : Result (ℤ × ℤ) RatioErrorKind) (ys : Result (List (ℤ × ℤ)) RatioErrorKind) (a b : List ℕ) → IsOperandsAnswer operators x ys a
+    → IsOperandsAnswer operators x ys b → a ≡ b
+one_operands operators (Err kind) ys a b h k = h ∙ sym k
+one_operands operators (Ok x) (Err kind) a b h k = h ∙ sym k
+one_operands operators (Ok x) (Ok ys) a b h k = one_applied operators ys x a b h k
+
+one_texts : (operators : List Operator) (left : List ℕ) (rights : List (List ℕ)) (a b : List ℕ) → IsTextsAnswer operators left rights a → IsTextsAnswer operators left rights b → a ≡ b
+one_texts operators left rights a b h k =
     let left_same = one_operand left h.left_operand k.left_operand h.left_reads k.left_reads in
-    let right_same = one_operand right h.right_operand k.right_operand h.right_reads k.right_reads in
-    one_operands operator k.left_operand k.right_operand a b (rw (← left_same, ← right_same) h.is_answer) k.is_answer
+    let rights_same = one_read rights h.right_operands k.right_operands h.rights_read k.rights_read in
+    one_operands operators k.left_operand k.right_operands a b (rw (← left_same, ← rights_same) h.is_answer) k.is_answer
 
-one_known : (known : Option Operator) (left right a b : List ℕ) → MatchOption known (a ≡ codes "error: unknown operator") (λ operator. IsTextsAnswer operator left right a)
-    → MatchOption known (b ≡ codes "error: unknown operator") (λ operator. IsTextsAnswer operator left right b) → a ≡ b
-one_known None left right a b h k = h ∙ sym k
-one_known (Some operator) left right a b h k = one_texts operator left right a b h k
-
-one_three : (left operator right a b : List ℕ) → IsThreeAnswer left operator right a → IsThreeAnswer left operator right b → a ≡ b
-one_three left operator right a b =
-    one_of_two ((length left == 0) || ((length operator == 0) || (length right == 0))) (λ x. x ≡ want_three)
-    (λ x. MatchOption (operator_of operator) (x ≡ codes "error: unknown operator") (λ known. IsTextsAnswer known left right x)) a b
-    (one_text want_three a b) (one_known (operator_of operator) left right a b)
+one_chain : (operators : Option (List Operator)) (left : List ℕ) (rights : List (List ℕ)) (a b : List ℕ) → IsChainAnswer operators left rights a → IsChainAnswer operators left rights b → a ≡ b
+one_chain None left rights a b = one_text (codes "error: unknown operator") a b
+one_chain (Some operators) left rights a b =
+    one_of_two (list_any is_cmp (front_of operators)) (λ x. x ≡ codes "error: cmp must be last") (IsTextsAnswer operators left rights) a b
+    (one_text (codes "error: cmp must be last") a b) (one_texts operators left rights a b)
 
 one_parts : (parts : List (List ℕ)) (a b : List ℕ) → IsPartsAnswer parts a → IsPartsAnswer parts b → a ≡ b
-one_parts [] a b h k = h ∙ sym k
-one_parts (left ∷ []) a b h k = h ∙ sym k
-one_parts (left ∷ operator ∷ []) a b h k = h ∙ sym k
-one_parts (left ∷ operator ∷ right ∷ []) a b h k = one_three left operator right a b h k
-one_parts (left ∷ operator ∷ right ∷ fourth ∷ others) a b h k = h ∙ sym k
+one_parts [] a b = one_text want_three a b
+one_parts (left ∷ parts) a b =
+    one_of_two (is_chain (left ∷ parts)) (IsChainAnswer (operators_of (operator_parts parts)) left (right_parts parts)) (λ x. x ≡ want_three) a b
+    (one_chain (operators_of (operator_parts parts)) left (right_parts parts) a b) (one_text want_three a b)
 
 pub one_answer : (line a b : List ℕ) → IsAnswer line a → IsAnswer line b → a ≡ b
 one_answer line a b =

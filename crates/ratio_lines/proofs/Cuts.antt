@@ -3,8 +3,7 @@ use Rattle.std.proofs.Common.{◌≡◌, ℕ, zero, suc, ◌<◌, ◌≤◌, ◌
 use Rattle.std.specs.List.{slice_split, onto_first, list_any}
 use Rattle.std.proofs.Math.Seq.{take-length}
 use Rattle.std.proofs.lemmas.List.{drop_more, take-append-drop, take_rest}
-use Rattle.std.proofs.lemmas.List.Splits.{length-slice_split}
-use Rattle.ratio_lines.specs.Answers.{IsPartsAnswer, IsThreeAnswer, is_space, want_three}
+use Rattle.ratio_lines.specs.Answers.{is_space}
 use Rattle.ratio_lines.specs.Cuts.{HasNone}
 use Rattle.ratio_lines.proofs.Bytes.{equal_itself, same_byte}
 
@@ -42,13 +41,13 @@ first_none c byte bytes none =
     elim (byte == c) as (λ t. (t || list_any (λ b. b == c) bytes) ≡ false → (t ≡ false) × HasNone c bytes)
     [ true ↦ λ n. absurd (let no : true ≡ false = n in cc) | false ↦ λ n. (refl, n) ] none
 
-pub split_uncut : (c : ℕ) (text : List ℕ) → HasNone c text → slice_split (λ b. b == c) text ≡ text ∷ []
+split_uncut : (c : ℕ) (text : List ℕ) → HasNone c text → slice_split (λ b. b == c) text ≡ text ∷ []
 split_uncut c [] none = refl
 split_uncut c (byte ∷ text) none =
     let first = first_none c byte text none in
     ap (λ t. cond t ([] ∷ slice_split (λ b. b == c) text) (onto_first byte (slice_split (λ b. b == c) text))) first.0 ∙ ap (onto_first byte) (split_uncut c text first.1)
 
-pub split_cut : (c : ℕ) (before after : List ℕ) → HasNone c before → slice_split (λ b. b == c) (before ++ c ∷ after) ≡ before ∷ slice_split (λ b. b == c) after
+split_cut : (c : ℕ) (before after : List ℕ) → HasNone c before → slice_split (λ b. b == c) (before ++ c ∷ after) ≡ before ∷ slice_split (λ b. b == c) after
 split_cut c [] after none = ap (λ t. cond t ([] ∷ slice_split (λ b. b == c) after) (onto_first c (slice_split (λ b. b == c) after))) (equal_itself c)
 split_cut c (byte ∷ before) after none =
     let first = first_none c byte before none in
@@ -57,23 +56,10 @@ split_cut c (byte ∷ before) after none =
 
 -- ---- the parts of a line
 
-pub one_part : (text : List ℕ) → HasNone 32 text → IsPartsAnswer (slice_split is_space text) want_three
-one_part text none = rw (split_uncut 32 text none) refl
+-- a text without a space is one part
+pub one_part : (text : List ℕ) → HasNone 32 text → slice_split is_space text ≡ text ∷ []
+one_part text none = split_uncut 32 text none
 
-pub two_parts : (text left rest : List ℕ) → text ≡ left ++ 32 ∷ rest → HasNone 32 left → HasNone 32 rest → IsPartsAnswer (slice_split is_space text) want_three
-two_parts text left rest first one none = rw (first, split_cut 32 left rest one, split_uncut 32 rest none) refl
-
-pub three_parts : (text left rest operator right answer : List ℕ) → text ≡ left ++ 32 ∷ rest → rest ≡ operator ++ 32 ∷ right → HasNone 32 left → HasNone 32 operator → HasNone 32 right
-    → IsThreeAnswer left operator right answer → IsPartsAnswer (slice_split is_space text) answer
-three_parts text left rest operator right answer first second one two none three =
-    rw (first, split_cut 32 left rest one, second, split_cut 32 operator right two, split_uncut 32 right none) three
-
-too_many : (left operator right : List ℕ) (others : List (List ℕ)) → 0 < length others → IsPartsAnswer (left ∷ operator ∷ right ∷ others) want_three
-too_many left operator right [] h = absurd (omega arith)
-too_many left operator right (fourth ∷ others) h = refl
-
-pub more_parts : (text left rest operator right fourth others : List ℕ) → text ≡ left ++ 32 ∷ rest → rest ≡ operator ++ 32 ∷ right → right ≡ fourth ++ 32 ∷ others
-    → HasNone 32 left → HasNone 32 operator → HasNone 32 fourth → IsPartsAnswer (slice_split is_space text) want_three
-more_parts text left rest operator right fourth others first second third one two three =
-    rw (first, split_cut 32 left rest one, second, split_cut 32 operator right two, third, split_cut 32 fourth others three)
-    (too_many left operator fourth (slice_split is_space others) (omega (arith, length-slice_split is_space others)))
+-- what stands before the first space is the first part
+pub first_of_parts : (text part rest : List ℕ) → text ≡ part ++ 32 ∷ rest → HasNone 32 part → slice_split is_space text ≡ part ∷ slice_split is_space rest
+first_of_parts text part rest cut none = ap (slice_split is_space) cut ∙ split_cut 32 part rest none

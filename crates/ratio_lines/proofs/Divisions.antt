@@ -1,22 +1,23 @@
--- The answer to a division by a number that is not 0.
-use Rattle.std.proofs.Common.{◌≡◌, ℕ, ℤ, pos, List, true, false, Option, None, Some, refl}
+-- The outcome of a division by a number that is not 0.
+use Rattle.std.proofs.Common.{◌≡◌, ℤ, pos, true, false, Option, None, Some, refl}
 use Rattle.std.specs.Bool.{IsTrue, MatchBool}
 use Rattle.std.specs.Ordering.{int_eq}
 use Rattle.std.specs.Prelude.{codes}
 use Rattle.std.proofs.lemmas.Bool.Decides.{Decides-int_eq}
 use Rattle.ratio_integer.specs.Fraction.{AnswersLowest, ChecksLowest}
+use Rattle.either.specs.declared.Either.TheVariants.{Left}
 use Rattle.num_rational.specs.Ratio.{numerator, denominator}
 use Rattle.num_rational.specs.declared.ratio.Ratio.{Ratio}
-use Rattle.ratio_lines.specs.Answers.{IsDivisionAnswer, IsNumberAnswer, result_text}
+use Rattle.ratio_lines.specs.Answers.{IsDivisionOutcome, IsResultOutcome, Outcome, outcome_of_result}
 use Rattle.ratio_lines.specs.Operands.{number_of}
 
-pub divides : (divisor : ℤ × ℤ) (Is : Option (ℤ × ℤ) → Type 0) (number : Option (ℤ × ℤ)) (answer : List ℕ) → (divisor.0 ≡ pos 0 → IsTrue false) → Is number → answer ≡ result_text number
-    → IsDivisionAnswer divisor Is answer
-divides divisor Is number answer nonzero is text =
+pub divides : (divisor : ℤ × ℤ) (Is : Option (ℤ × ℤ) → Type 0) (number : Option (ℤ × ℤ)) (outcome : Outcome) → (divisor.0 ≡ pos 0 → IsTrue false) → Is number
+    → outcome ≡ outcome_of_result number → IsDivisionOutcome divisor Is outcome
+divides divisor Is number outcome nonzero is e =
     elim (int_eq divisor.0 (pos 0))
-    as (λ t. int_eq divisor.0 (pos 0) ≡ t → MatchBool t (answer ≡ codes "error: division by zero") (IsNumberAnswer Is answer)) [
+    as (λ t. int_eq divisor.0 (pos 0) ≡ t → MatchBool t (outcome ≡ Left (codes "error: division by zero")) (IsResultOutcome Is outcome)) [
       | true ↦ λ t. absurd (let never : false ≡ true = nonzero ((Decides-int_eq divisor.0 (pos 0)).0 t) in cc)
-      | false ↦ λ t. record { number = number; is_number = is; text = text }
+      | false ↦ λ t. record { number = number; is_number = is; is_outcome = e }
     ] refl
 
 -- the numbers of an answer are in lowest terms where it is

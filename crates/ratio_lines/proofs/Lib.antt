@@ -1,6 +1,9 @@
 pub mod Bytes
 pub mod Cuts
 pub mod Divisions
+pub mod OperatorsSoFar
+pub mod Outcomes
+pub mod Applying
 pub mod Returns
 pub mod AnswerLaws
 pub mod AnswersExist

@@ -1,6 +1,9 @@
 -- What the calculator answers to an input, as a whole.
-use Rattle.std.specs.Prelude.{◌≡◌, ℕ, ℤ, pos, List, [], ◌∷◌, ◌++◌, length, Bool, false, ◌||◌, ◌==◌, nat_lt, Option, Some, None, Result, Ok, Err, if◌then◌else◌, codes, MatchBool, MatchOption}
-use Rattle.std.specs.List.{slice_split}
+use Rattle.std.specs.Prelude.{◌≡◌, ℕ, ℤ, pos, List, [], ◌∷◌, ◌++◌, length, Bool, true, false, not, ◌&&◌, ◌==◌, ◌%◌, ◌⊎◌, nat_lt, Option, Some, None, Result, Ok, Err, if◌then◌else◌, codes, option_and_then, option_map, MatchBool}
+use Rattle.std.specs.List.{list_all, list_any, slice_split}
+use Rattle.either.specs.Either.{MatchEither}
+use Rattle.either.specs.declared.Either.{Either}
+use Rattle.either.specs.declared.Either.TheVariants.{Left, Right}
 use Rattle.std.specs.Ordering.{int_eq}
 use Rattle.std.specs.Str.{is_utf8}
 use Rattle.std.specs.declared.cmp.Ordering.{Ordering}
@@ -12,7 +15,7 @@ use Rattle.ratio_core.specs.Printing.{text_of}
 use Rattle.ratio_core.specs.Refusal.{refusal_text}
 use Rattle.ratio_core.specs.declared.parse_error.RatioErrorKind.{RatioErrorKind}
 use Rattle.ratio_core.specs.declared.text.form.Form.TheVariants.{Decimal}
-use Rattle.ratio_lines.specs.Lines.{lines_of, whole_lines}
+use Rattle.ratio_lines.specs.Lines.{front_of, lines_of, whole_lines}
 use Rattle.ratio_lines.specs.Operands.{IsOperand, greatest, least, operator_of}
 use Rattle.ratio_lines.specs.declared.limits.TheConstants.{LONGEST_LINE}
 use Rattle.ratio_lines.specs.declared.operator.Operator.{Operator}
@@ -22,22 +25,26 @@ use Rattle.ratio_lines.specs.declared.operator.Operator.TheVariants.{Add, Sub, M
 abbrev pub is_space : ℕ → Bool
 is_space byte = byte == 32
 
--- a result is said by its decimal text, and that there is none by a refusal
-abbrev pub result_text : Option (ℤ × ℤ) → List ℕ
-result_text (Some x) = text_of 64 Decimal false x.0 x.1
-result_text None = codes "error: out of range"
-
 -- the sign of an order
 abbrev pub order_text : Ordering → List ℕ
 order_text Less = codes "<"
 order_text Equal = codes "="
 order_text Greater = codes ">"
 
--- the answer is the decimal text of the lowest terms that this says, or that there are none
-pub record IsNumberAnswer (Is : Option (ℤ × ℤ) → Type 0) (answer : List ℕ) : Type 0 where
+-- what one operator gives: on the left a text that answers the line, on the right a number for the next operator
+abbrev pub Outcome : Type 0
+Outcome = Either (List ℕ) (ℤ × ℤ)
+
+-- a result is a number to go on with, and that there is none answers the line
+abbrev pub outcome_of_result : Option (ℤ × ℤ) → Outcome
+outcome_of_result (Some x) = Right x
+outcome_of_result None = Left (codes "error: out of range")
+
+-- the outcome is that of the result of which `Is` holds
+pub record IsResultOutcome (Is : Option (ℤ × ℤ) → Type 0) (outcome : Outcome) : Type 0 where
   pub number : Option (ℤ × ℤ)
   pub is_number : Is number
-  pub text : answer ≡ result_text number
+  pub is_outcome : outcome ≡ outcome_of_result number
 
 -- the result is the lowest terms of a pair where they fit in 64 bits, and there is none where they do not
 abbrev pub IsLowestResult : ℤ × ℤ → Option (ℤ × ℤ) → Type 0
@@ -48,46 +55,93 @@ abbrev pub IsRemainderResult : ℤ × ℤ → ℤ × ℤ → Option (ℤ × ℤ)
 IsRemainderResult x y number =
     AnswersLowest (λ z. z.0) (λ z. z.1) least greatest (RemainderHeld least greatest x.0 x.1 y.0 y.1) (remainder_of x.0 x.1 y.0 y.1) number
 
--- the answer to a division, where no number is divided by 0
-abbrev pub IsDivisionAnswer : ℤ × ℤ → (Option (ℤ × ℤ) → Type 0) → List ℕ → Type 0
-IsDivisionAnswer divisor Is answer = MatchBool (int_eq divisor.0 (pos 0)) (answer ≡ codes "error: division by zero") (IsNumberAnswer Is answer)
+-- a division by 0 answers the line, and another has the outcome of its result
+abbrev pub IsDivisionOutcome : ℤ × ℤ → (Option (ℤ × ℤ) → Type 0) → Outcome → Type 0
+IsDivisionOutcome divisor Is outcome = MatchBool (int_eq divisor.0 (pos 0)) (outcome ≡ Left (codes "error: division by zero")) (IsResultOutcome Is outcome)
 
--- the answer to an operator between two fractions
-abbrev pub IsOperatorAnswer : Operator → ℤ × ℤ → ℤ × ℤ → List ℕ → Type 0
-IsOperatorAnswer Add x y answer = IsNumberAnswer (IsLowestResult (sum_of x.0 x.1 y.0 y.1)) answer
-IsOperatorAnswer Sub x y answer = IsNumberAnswer (IsLowestResult (difference_of x.0 x.1 y.0 y.1)) answer
-IsOperatorAnswer Mul x y answer = IsNumberAnswer (IsLowestResult (product_of x.0 x.1 y.0 y.1)) answer
-IsOperatorAnswer Div x y answer = IsDivisionAnswer y (IsLowestResult (quotient_of x.0 x.1 y.0 y.1)) answer
-IsOperatorAnswer Rem x y answer = IsDivisionAnswer y (IsRemainderResult x y) answer
-IsOperatorAnswer Cmp x y answer = answer ≡ order_text (cross_cmp x.0 x.1 y.0 y.1)
+-- the outcome of an operator between two fractions is that of its result, or the sign of their order
+abbrev pub IsOutcome : Operator → ℤ × ℤ → ℤ × ℤ → Outcome → Type 0
+IsOutcome Add x y outcome = IsResultOutcome (IsLowestResult (sum_of x.0 x.1 y.0 y.1)) outcome
+IsOutcome Sub x y outcome = IsResultOutcome (IsLowestResult (difference_of x.0 x.1 y.0 y.1)) outcome
+IsOutcome Mul x y outcome = IsResultOutcome (IsLowestResult (product_of x.0 x.1 y.0 y.1)) outcome
+IsOutcome Div x y outcome = IsDivisionOutcome y (IsLowestResult (quotient_of x.0 x.1 y.0 y.1)) outcome
+IsOutcome Rem x y outcome = IsDivisionOutcome y (IsRemainderResult x y) outcome
+IsOutcome Cmp x y outcome = outcome ≡ Left (order_text (cross_cmp x.0 x.1 y.0 y.1))
 
--- the answer to an operator between two operands: a refusal of the left one, else a refusal of the right one, else the operator's
-abbrev pub IsOperandsAnswer : Operator → Result (ℤ × ℤ) RatioErrorKind → Result (ℤ × ℤ) RatioErrorKind → List ℕ → Type 0
-IsOperandsAnswer operator (Err kind) _ answer = answer ≡ codes "error: left: " ++ refusal_text kind
-IsOperandsAnswer operator (Ok x) (Err kind) answer = answer ≡ codes "error: right: " ++ refusal_text kind
-IsOperandsAnswer operator (Ok x) (Ok y) answer = IsOperatorAnswer operator x y answer
+-- operators are applied from left to right, each to what the one before gave and to the next operand, until one answers the line
+-- or none is left
+abbrev pub IsApplied : List Operator → ℤ × ℤ → List (ℤ × ℤ) → List ℕ → Type 0
+IsApplied [] x ys answer = answer ≡ text_of 64 Decimal false x.0 x.1
+IsApplied (operator ∷ operators) x [] answer = answer ≡ text_of 64 Decimal false x.0 x.1
+IsApplied (operator ∷ operators) x (y ∷ ys) answer =
+    (outcome : Outcome) × IsOutcome operator x y outcome × MatchEither outcome (λ text. answer ≡ text) (λ z. IsApplied operators z ys answer)
 
--- the answer to an operator between two texts
-pub record IsTextsAnswer (operator : Operator) (left right answer : List ℕ) : Type 0 where
+-- texts are read as their fractions, or refused as the first of them that is refused
+abbrev pub AreRead : List (List ℕ) → Result (List (ℤ × ℤ)) RatioErrorKind → Type 0
+AreRead [] read = read ≡ Ok []
+AreRead (text ∷ texts) (Ok []) = ⊥
+AreRead (text ∷ texts) (Ok (x ∷ xs)) = IsOperand text (Ok x) × AreRead texts (Ok xs)
+AreRead (text ∷ texts) (Err kind) = IsOperand text (Err kind) ⊎ ((x : ℤ × ℤ) × IsOperand text (Ok x) × AreRead texts (Err kind))
+
+-- the answer is a refusal of the left operand, else the first refusal of one on the right, else what the operators give
+abbrev pub IsOperandsAnswer : List Operator → Result (ℤ × ℤ) RatioErrorKind → Result (List (ℤ × ℤ)) RatioErrorKind → List ℕ → Type 0
+IsOperandsAnswer operators (Err kind) _ answer = answer ≡ codes "error: left: " ++ refusal_text kind
+IsOperandsAnswer operators (Ok x) (Err kind) answer = answer ≡ codes "error: right: " ++ refusal_text kind
+IsOperandsAnswer operators (Ok x) (Ok ys) answer = IsApplied operators x ys answer
+
+-- the answer to operators between a text and others: every operand is read before any operator is applied
+pub record IsTextsAnswer (operators : List Operator) (left : List ℕ) (rights : List (List ℕ)) (answer : List ℕ) : Type 0 where
   pub left_operand : Result (ℤ × ℤ) RatioErrorKind
-  pub right_operand : Result (ℤ × ℤ) RatioErrorKind
+  pub right_operands : Result (List (ℤ × ℤ)) RatioErrorKind
   pub left_reads : IsOperand left left_operand
-  pub right_reads : IsOperand right right_operand
-  pub is_answer : IsOperandsAnswer operator left_operand right_operand answer
+  pub rights_read : AreRead rights right_operands
+  pub is_answer : IsOperandsAnswer operators left_operand right_operands answer
 
+-- the parts after a first operand stand by turns for an operator and for the operand on its right: these stand for operators
+abbrev pub operator_parts : List (List ℕ) → List (List ℕ)
+operator_parts [] = []
+operator_parts (operator ∷ []) = operator ∷ []
+operator_parts (operator ∷ right ∷ parts) = operator ∷ operator_parts parts
+
+-- and these for operands
+abbrev pub right_parts : List (List ℕ) → List (List ℕ)
+right_parts [] = []
+right_parts (operator ∷ []) = []
+right_parts (operator ∷ right ∷ parts) = right ∷ right_parts parts
+
+-- the operators that some parts name, if each of them names one
+abbrev pub operators_of : List (List ℕ) → Option (List Operator)
+operators_of [] = Some []
+operators_of (part ∷ parts) = option_and_then (λ operator. option_map (λ operators. operator ∷ operators) (operators_of parts)) (operator_of part)
+
+-- the operator is cmp
+abbrev pub is_cmp : Operator → Bool
+is_cmp Cmp = true
+is_cmp _ = false
+
+-- a line that is no chain is answered so
 abbrev pub want_three : List ℕ
 want_three = codes "error: want LEFT OP RIGHT"
 
--- the answer to three parts, none of which may be empty
-abbrev pub IsThreeAnswer : List ℕ → List ℕ → List ℕ → List ℕ → Type 0
-IsThreeAnswer left operator right answer =
-    MatchBool ((length left == 0) || ((length operator == 0) || (length right == 0))) (answer ≡ want_three)
-    (MatchOption (operator_of operator) (answer ≡ codes "error: unknown operator") (λ known. IsTextsAnswer known left right answer))
+-- a part has a byte
+abbrev pub has_byte : List ℕ → Bool
+has_byte part = not (length part == 0)
 
--- the answer to the parts of a line
+-- a chain has an odd number of parts, at least three, and none is empty
+abbrev pub is_chain : List (List ℕ) → Bool
+is_chain parts = (length parts % 2 == 1) && (nat_lt 2 (length parts) && list_all has_byte parts)
+
+-- operators are refused where a part names none of the six, and where cmp stands before another one; else the operands are answered
+abbrev pub IsChainAnswer : Option (List Operator) → List ℕ → List (List ℕ) → List ℕ → Type 0
+IsChainAnswer None left rights answer = answer ≡ codes "error: unknown operator"
+IsChainAnswer (Some operators) left rights answer =
+    MatchBool (list_any is_cmp (front_of operators)) (answer ≡ codes "error: cmp must be last") (IsTextsAnswer operators left rights answer)
+
+-- the parts of a line are refused where they are no chain; else their operators are answered, all of them at once
 abbrev pub IsPartsAnswer : List (List ℕ) → List ℕ → Type 0
-IsPartsAnswer (left ∷ operator ∷ right ∷ []) answer = IsThreeAnswer left operator right answer
-IsPartsAnswer _ answer = answer ≡ want_three
+IsPartsAnswer [] answer = answer ≡ want_three
+IsPartsAnswer (left ∷ parts) answer =
+    MatchBool (is_chain (left ∷ parts)) (IsChainAnswer (operators_of (operator_parts parts)) left (right_parts parts) answer) (answer ≡ want_three)
 
 -- the bytes without one trailing carriage return
 abbrev pub without_return : List ℕ → List ℕ

@@ -2,6 +2,7 @@ pub mod Operands
 pub mod Lines
 pub mod Answers
 pub mod AnswerText
+pub mod Parts
 pub mod KeptLine
 pub mod Devices
 pub mod Cuts

@@ -6,13 +6,13 @@ use Rattle.std.specs.List.{slice_split}
 abbrev pub is_line_end : ℕ → Bool
 is_line_end byte = byte == 10
 
--- all that an input is cut into but the last
-abbrev pub front_of : List (List ℕ) → List (List ℕ)
+-- all items but the last
+abbrev pub front_of : {T : Type 0} → List T → List T
 front_of [] = []
-front_of (line ∷ []) = []
-front_of (line ∷ next ∷ lines) = line ∷ front_of (next ∷ lines)
+front_of (item ∷ []) = []
+front_of (item ∷ next ∷ items) = item ∷ front_of (next ∷ items)
 
--- the last that an input is cut into
+-- the last that an input is cut into, which is a line that is begun
 abbrev pub last_of : List (List ℕ) → List ℕ
 last_of [] = []
 last_of (line ∷ []) = line

@@ -1,18 +1,21 @@
 //! The answer to one line.
-ghost use Rattle.std.specs.Prelude.{◌≡◌, ◌≤◌, ◌<ℤ◌, pos, length};
+ghost use Rattle.std.specs.Prelude.{◌≡◌, ◌++◌, ◌∷◌, [], ◌≤◌, ◌<ℤ◌, ℕ, List, MatchOption, codes, length, pos, unwrap_or, ⊤};
 ghost use Rattle.std.specs.List.{slice_split};
-ghost use Rattle.std.specs.Result.{ForOk};
+ghost use Rattle.either.specs.Either.{MatchEither};
+ghost use Rattle.either.specs.declared.Either.TheVariants.{Left};
 ghost use Rattle.num_rational.specs.Ratio.{numerator, denominator};
-ghost use Rattle.ratio_lines.specs.Answers.{IsAnswer, IsOperandsAnswer, IsOperatorAnswer, IsPartsAnswer, IsTextsAnswer, IsThreeAnswer, is_space, result_text, order_text};
-ghost use Rattle.ratio_lines.specs.AnswerText.{bytes_of};
-ghost use Rattle.ratio_lines.specs.Operands.{number_of, numbers_of};
+ghost use Rattle.ratio_core.specs.Refusal.{refusal_text};
+ghost use Rattle.ratio_lines.specs.Answers.{IsAnswer, IsChainAnswer, IsOutcome, IsPartsAnswer, IsTextsAnswer, is_chain, is_space, operator_parts, operators_of, order_text, outcome_of_result, right_parts};
+ghost use Rattle.ratio_lines.specs.AnswerText.{bytes_of, outcome_of};
+ghost use Rattle.ratio_lines.specs.Operands.{number_of};
+ghost use Rattle.ratio_lines.specs.Parts.{AreChained, parts_of, with_first};
 
 use crate::answer_text::AnswerText;
-use crate::cut::cut_text;
 use crate::limits::LONGEST_LINE;
 use crate::operator::{Operator, operator_named};
+use crate::parts::{come_in_pairs, first_part};
 use either::Either;
-use num_rational::{ParseRatioError, RatioErrorKind, Rational64};
+use num_rational::{RatioErrorKind, Rational64};
 use std::cmp::Ordering;
 
 const WANT_THREE: &str = "error: want LEFT OP RIGHT";
@@ -22,9 +25,11 @@ pub const TOO_LONG: &str = "error: line too long";
 
 const DIVISION_BY_ZERO: &str = "error: division by zero";
 
-/// The text of a result, or the refusal where there is none.
-fn result_answer(checked: Option<Rational64>) -> AnswerText
-    ensures { bytes_of result ≡ result_text (number_of checked) }
+const UNKNOWN_OPERATOR: &str = "error: unknown operator";
+
+/// What a result gives: a number to go on with, or the refusal where there is none.
+fn result_outcome(checked: Option<Rational64>) -> AnswerText
+    ensures { outcome_of result ≡ outcome_of_result (number_of checked) }
 {
     match checked {
         Some(number) => Either::Right(number),
@@ -33,78 +38,149 @@ fn result_answer(checked: Option<Rational64>) -> AnswerText
 }
 
 /// The sign of an order.
-fn order_answer(order: Ordering) -> AnswerText
-    ensures { bytes_of result ≡ order_text order }
+fn order_sign(order: Ordering) -> &'static str
+    ensures { result.now ≡ order_text order }
 {
-    Either::Left(match order {
+    match order {
         Ordering::Less => "<",
         Ordering::Equal => "=",
         Ordering::Greater => ">",
+    }
+}
+
+/// What an operator between two fractions gives.
+fn apply_operator(operator: Operator, left: Rational64, right: Rational64) -> AnswerText
+    requires left_positive { pos 0 <ℤ denominator left }
+    requires right_positive { pos 0 <ℤ denominator right }
+    ensures { IsOutcome operator (numerator left, denominator left) (numerator right, denominator right) (outcome_of result) }
+{
+    match operator {
+        Operator::Add => result_outcome(left.checked_add(&right)),
+        Operator::Sub => result_outcome(left.checked_sub(&right)),
+        Operator::Mul => result_outcome(left.checked_mul(&right)),
+        Operator::Div if right.is_zero() => Either::Left(DIVISION_BY_ZERO),
+        Operator::Div => result_outcome(left.checked_div(&right)),
+        Operator::Rem if right.is_zero() => Either::Left(DIVISION_BY_ZERO),
+        Operator::Rem => result_outcome(left.checked_rem(&right)),
+        Operator::Cmp => Either::Left(order_sign(left.cmp(&right))),
+    }
+}
+
+/// What an operator gives after others, which may have answered the line.
+fn go_on(so_far: AnswerText, operator: Operator, right: Rational64) -> AnswerText
+    requires left_positive { MatchEither so_far (λ _. ⊤) (λ left. pos 0 <ℤ denominator left) }
+    requires right_positive { pos 0 <ℤ denominator right }
+    ensures { MatchEither (outcome_of so_far.entry) (λ text. outcome_of result ≡ Left text) (λ left. IsOutcome operator left (numerator right, denominator right) (outcome_of result)) }
+{
+    match so_far {
+        Either::Left(text) => Either::Left(text),
+        Either::Right(left) => apply_operator(operator, left, right),
+    }
+}
+
+/// The refusal of a first operand.
+fn left_refusal(kind: RatioErrorKind) -> AnswerText
+    ensures { bytes_of result ≡ codes "error: left: " ++ refusal_text kind }
+{
+    Either::Left(match kind {
+        RatioErrorKind::ParseError => "error: left: failed to parse integer",
+        RatioErrorKind::ZeroDenominator => "error: left: zero value denominator",
     })
 }
 
-/// The answer to an operator between two fractions.
-fn answer_operator(operator: Operator, left: Rational64, right: Rational64) -> AnswerText
-    requires left_positive { pos 0 <ℤ denominator left }
-    requires right_positive { pos 0 <ℤ denominator right }
-    ensures { IsOperatorAnswer operator (numerator left, denominator left) (numerator right, denominator right) (bytes_of result) }
+/// The refusal of a later operand.
+fn right_refusal(kind: RatioErrorKind) -> AnswerText
+    ensures { bytes_of result ≡ codes "error: right: " ++ refusal_text kind }
 {
-    match operator {
-        Operator::Add => result_answer(left.checked_add(&right)),
-        Operator::Sub => result_answer(left.checked_sub(&right)),
-        Operator::Mul => result_answer(left.checked_mul(&right)),
-        Operator::Div if right.is_zero() => Either::Left(DIVISION_BY_ZERO),
-        Operator::Div => result_answer(left.checked_div(&right)),
-        Operator::Rem if right.is_zero() => Either::Left(DIVISION_BY_ZERO),
-        Operator::Rem => result_answer(left.checked_rem(&right)),
-        Operator::Cmp => order_answer(left.cmp(&right)),
+    Either::Left(match kind {
+        RatioErrorKind::ParseError => "error: right: failed to parse integer",
+        RatioErrorKind::ZeroDenominator => "error: right: zero value denominator",
+    })
+}
+
+/// The answer to operators between operands, which are applied from left to right. Each operand is
+/// read once; those after an operator that has answered the line are read too, since their refusal
+/// comes first.
+fn answer_texts(left: &str, operator: Operator, right: &str, parts: Option<&str>) -> AnswerText
+    requires { AreChained operator (operator_parts (parts_of parts)) }
+    ensures { IsTextsAnswer (operator ∷ unwrap_or (operators_of (operator_parts (parts_of parts.entry))) []) left.now (right.now ∷ right_parts (parts_of parts.entry)) (bytes_of result) }
+{
+    let first = match Rational64::from_str(left) {
+        Ok(first) => first,
+        Err(refusal) => return left_refusal(refusal.kind()),
+    };
+    let second = match Rational64::from_str(right) {
+        Ok(second) => second,
+        Err(refusal) => return right_refusal(refusal.kind()),
+    };
+    let mut outcome = apply_operator(operator, first, second);
+    let mut rest = parts;
+    while let Some(text) = rest {
+        let (part, after) = first_part(text);
+        let Some(after) = after else {
+            return outcome;
+        };
+        let Some(next_operator) = operator_named(part) else {
+            unreachable!()
+        };
+        let (operand, after) = first_part(after);
+        let next = match Rational64::from_str(operand) {
+            Ok(next) => next,
+            Err(refusal) => return right_refusal(refusal.kind()),
+        };
+        outcome = go_on(outcome, next_operator, next);
+        rest = after;
+    }
+    outcome
+}
+
+/// The refusal of operators, if they are refused: one that is unknown, else `cmp` before another one.
+fn operators_refusal(first: Operator, parts: Option<&str>) -> Option<&'static str>
+    ensures { MatchOption result (AreChained first (operator_parts (parts_of parts.entry)))
+        (λ text. (left : List ℕ) (rights : List (List ℕ)) → IsChainAnswer (with_first first (operators_of (operator_parts (parts_of parts.entry)))) left rights text.now) }
+{
+    let mut last = first;
+    let mut is_cmp_last = true;
+    let mut rest = parts;
+    while let Some(text) = rest {
+        let (part, after) = first_part(text);
+        let Some(operator) = operator_named(part) else {
+            return Some(UNKNOWN_OPERATOR);
+        };
+        is_cmp_last &= !last.is_cmp();
+        last = operator;
+        rest = match after {
+            Some(after) => first_part(after).1,
+            None => None,
+        };
+    }
+    if is_cmp_last {
+        None
+    } else {
+        Some("error: cmp must be last")
     }
 }
 
-/// The answer to an operator between two operands, which may have been refused.
-fn answer_operands(
-    operator: Operator,
-    left: Result<Rational64, ParseRatioError>,
-    right: Result<Rational64, ParseRatioError>,
-) -> AnswerText
-    requires left_positive { ForOk left (λ r. pos 0 <ℤ denominator r) }
-    requires right_positive { ForOk right (λ r. pos 0 <ℤ denominator r) }
-    ensures { IsOperandsAnswer operator (numbers_of left) (numbers_of right) (bytes_of result) }
+/// Whether some parts are a chain: the first three have a byte each, and the others come in pairs.
+fn is_chain(left: &str, operator: &str, right: &str, parts: Option<&str>) -> bool
+    ensures { result ≡ is_chain (left.now ∷ operator.now ∷ right.now ∷ parts_of parts.entry) }
 {
-    match (left, right) {
-        (Ok(left), Ok(right)) => answer_operator(operator, left, right),
-        (Err(refusal), _) => Either::Left(match refusal.kind() {
-            RatioErrorKind::ParseError => "error: left: failed to parse integer",
-            RatioErrorKind::ZeroDenominator => "error: left: zero value denominator",
-        }),
-        (Ok(_), Err(refusal)) => Either::Left(match refusal.kind() {
-            RatioErrorKind::ParseError => "error: right: failed to parse integer",
-            RatioErrorKind::ZeroDenominator => "error: right: zero value denominator",
-        }),
-    }
+    !left.is_empty() && !operator.is_empty() && !right.is_empty() && come_in_pairs(parts)
 }
 
-/// The answer to an operator between two texts.
-fn answer_texts(operator: Operator, left: &str, right: &str) -> AnswerText
-    ensures { IsTextsAnswer operator left.now right.now (bytes_of result) }
+/// The answer to at least three parts.
+fn answer_chain(left: &str, operator: &str, right: &str, parts: Option<&str>) -> AnswerText
+    ensures { IsPartsAnswer (left.now ∷ operator.now ∷ right.now ∷ parts_of parts.entry) (bytes_of result) }
 {
-    answer_operands(
-        operator,
-        Rational64::from_str(left),
-        Rational64::from_str(right),
-    )
-}
-
-/// The answer to three parts.
-fn answer_three(left: &str, middle: &str, right: &str) -> AnswerText
-    ensures { IsThreeAnswer left.now middle.now right.now (bytes_of result) }
-{
-    if left.is_empty() || middle.is_empty() || right.is_empty() {
+    if !is_chain(left, operator, right, parts) {
         return Either::Left(WANT_THREE);
     }
-    match operator_named(middle) {
-        Some(operator) => answer_texts(operator, left, right),
-        None => Either::Left("error: unknown operator"),
+    let Some(first) = operator_named(operator) else {
+        return Either::Left(UNKNOWN_OPERATOR);
+    };
+    match operators_refusal(first, parts) {
+        Some(refusal) => Either::Left(refusal),
+        None => answer_texts(left, first, right, parts),
     }
 }
 
@@ -112,16 +188,14 @@ fn answer_three(left: &str, middle: &str, right: &str) -> AnswerText
 fn answer_parts(text: &str) -> AnswerText
     ensures { IsPartsAnswer (slice_split is_space text.now) (bytes_of result) }
 {
-    let Some((left, rest)) = cut_text(text, b' ') else {
+    let (left, Some(rest)) = first_part(text) else {
         return Either::Left(WANT_THREE);
     };
-    let Some((middle, right)) = cut_text(rest, b' ') else {
+    let (operator, Some(rest)) = first_part(rest) else {
         return Either::Left(WANT_THREE);
     };
-    match cut_text(right, b' ') {
-        Some(_) => Either::Left(WANT_THREE),
-        None => answer_three(left, middle, right),
-    }
+    let (right, parts) = first_part(rest);
+    answer_chain(left, operator, right, parts)
 }
 
 /// The answer to a line without its line end. One carriage return at its end is left out of account.

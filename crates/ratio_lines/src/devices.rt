@@ -10,10 +10,38 @@ use std::io::{ErrorKind, Read, Write};
 /// them were given.
 #[derive(Drop)]
 pub struct Feed<'a> {
-    pub bytes: &'a [u8],
-    pub step: usize,
-    pub left: Option<usize>,
+    bytes: &'a [u8],
+    step: usize,
+    left: Option<usize>,
+    kind: ErrorKind,
     ghost gives: { 0 < step },
+}
+
+impl<'a> Feed<'a> {
+    /// A reader that gives all its bytes.
+    pub fn new(bytes: &'a [u8], step: usize) -> Feed<'a>
+        requires { 0 < step }
+        ensures { result.bytes ≡ bytes }
+    {
+        Feed {
+            bytes,
+            step,
+            left: None,
+            kind: ErrorKind::Other,
+        }
+    }
+
+    /// A reader that fails once it gave `left` bytes.
+    pub fn failing(bytes: &'a [u8], step: usize, left: usize, kind: ErrorKind) -> Feed<'a>
+        requires { 0 < step }
+    {
+        Feed {
+            bytes,
+            step,
+            left: Some(left),
+            kind,
+        }
+    }
 }
 
 impl Read for Feed<'_> {
@@ -23,7 +51,7 @@ impl Read for Feed<'_> {
         let mut count = buf.len().min(self.bytes.len()).min(self.step);
         if let Some(left) = self.left {
             if left == 0 {
-                return Err(io::Error::from(ErrorKind::Other));
+                return Err(io::Error::from(self.kind));
             }
             count = count.min(left);
             self.left = Some(left - count);
@@ -36,9 +64,9 @@ impl Read for Feed<'_> {
 }
 
 /// What a writer does once it takes no more.
-#[derive(Clone, Copy, PartialEq, Debug)]
+#[derive(Clone, Copy)]
 pub enum Refusal {
-    Fails,
+    Fails(ErrorKind),
     TakesNone,
 }
 
@@ -47,10 +75,10 @@ pub enum Refusal {
 #[derive(Drop)]
 pub struct Sink {
     pub bytes: Vec<u8>,
-    pub step: usize,
-    pub left: Option<usize>,
-    pub refusal: Refusal,
-    pub flush_fails: bool,
+    step: usize,
+    left: Option<usize>,
+    refusal: Refusal,
+    flush_fails: Option<ErrorKind>,
 }
 
 impl Sink {
@@ -62,8 +90,30 @@ impl Sink {
             bytes: Vec::new(alloc),
             step: usize::MAX,
             left: None,
-            refusal: Refusal::Fails,
-            flush_fails: false,
+            refusal: Refusal::TakesNone,
+            flush_fails: None,
+        }
+    }
+
+    /// A writer that takes no more than `left` bytes.
+    pub fn refusing(alloc: Global, step: usize, left: usize, refusal: Refusal) -> Sink {
+        Sink {
+            bytes: Vec::new(alloc),
+            step,
+            left: Some(left),
+            refusal,
+            flush_fails: None,
+        }
+    }
+
+    /// A writer whose flush fails.
+    pub fn unflushed(alloc: Global, kind: ErrorKind) -> Sink {
+        Sink {
+            bytes: Vec::new(alloc),
+            step: usize::MAX,
+            left: None,
+            refusal: Refusal::TakesNone,
+            flush_fails: Some(kind),
         }
     }
 }
@@ -74,8 +124,11 @@ impl Write for Sink {
     fn write(&mut self, buf: &[u8]) -> io::Result<usize> {
         let mut count = buf.len().min(self.step);
         if let Some(left) = self.left {
-            if left == 0 && self.refusal == Refusal::Fails {
-                return Err(io::Error::from(ErrorKind::Other));
+            if left == 0 {
+                return match self.refusal {
+                    Refusal::Fails(kind) => Err(io::Error::from(kind)),
+                    Refusal::TakesNone => Ok(0),
+                };
             }
             count = count.min(left);
             self.left = Some(left - count);
@@ -85,10 +138,9 @@ impl Write for Sink {
     }
 
     fn flush(&mut self) -> io::Result<()> {
-        if self.flush_fails {
-            Err(io::Error::from(ErrorKind::Other))
-        } else {
-            Ok(())
+        match self.flush_fails {
+            Some(kind) => Err(io::Error::from(kind)),
+            None => Ok(()),
         }
     }
 }

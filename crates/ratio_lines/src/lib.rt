@@ -14,6 +14,7 @@ pub mod gathered;
 pub mod limits;
 pub mod line;
 pub mod operator;
+pub mod parts;
 pub mod piece;
 #[cfg(test)]
 mod tests;

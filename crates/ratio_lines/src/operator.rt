@@ -13,6 +13,17 @@ pub enum Operator {
     Cmp,
 }
 
+impl Operator {
+    ghost use Rattle.ratio_lines.specs.Answers.{is_cmp};
+
+    /// Whether it compares, and so gives no number to go on with.
+    pub fn is_cmp(self) -> bool
+        ensures { result ≡ is_cmp self }
+    {
+        matches!(self, Operator::Cmp)
+    }
+}
+
 /// The operator that a part of a line names.
 pub fn operator_named(part: &str) -> Option<Operator>
     ensures { result ≡ operator_of part.now }

@@ -1,0 +1,43 @@
+use Rattle.std.proofs.Common.{◌≡◌, ◌∷◌, ap, sym, ◌∙◌, refl}
+use Rattle.ratio_lines.specs.Answers.{operator_parts, right_parts}
+use Rattle.ratio_lines.specs.Parts.{parts_of}
+use Rattle.ratio_lines.proofs.Applying.{applied_all, applied_first, applied_named, applied_next, applied_refused, left_refused, positive_so_far, second_refused}
+use Rattle.ratio_lines.proofs.OperatorsSoFar.{first_operator, parts_one, parts_two}
+use Rattle.ratio_lines.proofs.answer.answer_texts.Goals as goal
+
+pub returns-in-Err : goal.returns-in-Err
+returns-in-Err c = left_refused _ _ _ _ c.in-Err.refusal _ c.in-Err.ensures c.kind.ensures c.left_refusal.ensures
+
+pub returns-in-Err-from_str : goal.returns-in-Err-from_str
+returns-in-Err-from_str c =
+    second_refused _ _ _ _ _ _ c.in-Err-from_str.refusal _ c.in-Ok.ensures c.in-Err-from_str.ensures c.kind-in-Err-from_str.ensures c.right_refusal.ensures
+
+pub loop-rest-init : goal.loop-rest-init
+loop-rest-init c = applied_first _ c.requires.others _ _ _ _ _ _ c.requires.named c.in-Ok.ensures c.in-Ok-from_str.ensures c.apply_operator-outcome.ensures
+
+pub returns-in_default-after : goal.returns-in_default-after
+returns-in_default-after c =
+    let parts = parts_one c.loop-rest.rest c.in-Some.text _ c.first_part.result.1 c.in-Some.is c.first_part.ensures c.in_default-after.is in
+    applied_all c.loop-rest.outcome _ _ _ _ c.loop-rest.invariant (ap right_parts parts)
+
+pub unreachable-requires : goal.unreachable-requires
+unreachable-requires c =
+    let here = first_operator c.loop-rest.rest c.in-Some.text _ c.first_part.result.1 c.in-Some.is c.first_part.ensures in
+    applied_named _ _ here.0 _ _ _ _ c.loop-rest.invariant here.1 (sym c.operator_named.ensures ∙ c.in_default-operator_named.is)
+
+pub returns-in-Err-from_str-2 : goal.returns-in-Err-from_str-2
+returns-in-Err-from_str-2 c =
+    let parts = parts_two c.loop-rest.rest c.in-Some.text _ _ _ c.first_part.result.1 _ c.in-Some.is c.first_part.ensures c.in-Some-after.is c.first_part-in-Some.ensures in
+    applied_refused _ _ _ _ _ _ _ _ _ c.in-Err-from_str-2.refusal _ c.loop-rest.invariant parts c.in-Err-from_str-2.ensures c.kind-in-Err-from_str-2.ensures
+    c.right_refusal-in-Err-from_str-2.ensures
+
+pub go_on-outcome-requires-clause-left_positive : goal.go_on-outcome-requires-clause-left_positive
+go_on-outcome-requires-clause-left_positive c = positive_so_far c.loop-rest.outcome c.loop-rest.invariant.positive
+
+pub loop-rest-preserved : goal.loop-rest-preserved
+loop-rest-preserved c =
+    let parts = parts_two c.loop-rest.rest c.in-Some.text _ _ _ c.first_part.result.1 _ c.in-Some.is c.first_part.ensures c.in-Some-after.is c.first_part-in-Some.ensures in
+    applied_next _ _ _ _ _ _ _ _ _ _ _ c.loop-rest.invariant parts (sym c.operator_named.ensures ∙ c.in-Some-operator_named.is) c.in-Ok-from_str-2.ensures c.go_on-outcome.ensures
+
+pub returns : goal.returns
+returns c = applied_all c.loop-rest.outcome _ _ _ _ c.loop-rest.invariant (ap (λ rest. right_parts (parts_of rest)) c.in_default.is)

@@ -1,0 +1,14 @@
+use Rattle.num_rational.specs.Ratio.{denominator, numerator}
+use Rattle.ratio_lines.specs.Operands.{greatest, least}
+use Rattle.ratio_lines.proofs.Divisions.{answered_number, divides, lowest_number}
+use Rattle.ratio_lines.proofs.answer.apply_operator.Goals as goal
+
+pub returns-in-Div-2 : goal.returns-in-Div-2
+returns-in-Div-2 c =
+    rw c.in-Div-2.is
+    (divides (numerator c.args.right, denominator c.args.right) _ _ _ c.if-is_zero.ensures.1 (lowest_number least greatest _ _ c.checked_div.ensures) c.result_outcome-in-Div-2.ensures)
+
+pub returns-in-Rem-2 : goal.returns-in-Rem-2
+returns-in-Rem-2 c =
+    rw c.in-Rem-2.is
+    (divides (numerator c.args.right, denominator c.args.right) _ _ _ c.if-is_zero-2.ensures.1 (answered_number least greatest _ _ _ c.checked_rem.ensures) c.result_outcome-in-Rem-2.ensures)

@@ -1,0 +1,140 @@
+//! Runs on devices that fail, and on inputs that end early.
+use super::{answered, repeated};
+use crate::calculator::run;
+use crate::counted::Counted;
+use crate::devices::{Feed, Refusal, Sink};
+use crate::fault::CalcFault;
+use std::alloc::Global;
+use std::io::ErrorKind;
+use std::process::Abort;
+use std::test::Fail;
+
+/// Two lines of 18 bytes.
+const INPUT: &[u8] = b"1/2 + 1/3\n1 cmp 2\n";
+
+/// The answers to them, of 6 bytes.
+const ANSWERS: &[u8] = b"5/6\n<\n";
+
+/// The first bytes, as many as there are.
+fn beginning(bytes: &[u8], count: usize) -> &[u8] {
+    &bytes[..count.min(bytes.len())]
+}
+
+/// How many bytes of answers stand before a read fails: a table says from which number of bytes on.
+fn written_before(table: &[(usize, usize)], read: usize) -> usize {
+    let mut written = 0;
+    for (from, count) in table {
+        if read >= *from {
+            written = *count;
+        }
+    }
+    written
+}
+
+/// A run on these devices ends with this fault, and these bytes were written.
+fn assert_fault(rt: &impl Abort, reader: Feed, writer: Sink, fault: CalcFault, written: &[u8]) {
+    let mut reader = Counted::new(reader);
+    let mut writer = Counted::new(writer);
+    let result = run(&mut reader, &mut writer);
+    assert_eq!(rt; result, Err(fault));
+    assert_eq!(rt; writer.into_inner().bytes.as_slice(), written);
+}
+
+/// The reader fails after each number of bytes, with errors of two kinds, and gives 1, 7 or 512 a call.
+fn assert_read_faults(
+    rt: &impl Abort,
+    alloc: Global,
+    input: &[u8],
+    answers: &[u8],
+    table: &[(usize, usize)],
+) {
+    for left in 0..input.len() {
+        let written = beginning(answers, written_before(table, left));
+        for kind in [ErrorKind::Other, ErrorKind::Interrupted] {
+            for step in [1, 7, 512] {
+                let reader = Feed::failing(input, step, left, kind);
+                assert_fault(rt, reader, Sink::new(alloc), CalcFault::Read, written);
+            }
+        }
+    }
+}
+
+/// The writer is refused after each number of bytes, in three ways, and takes 1 byte or all a call.
+fn assert_write_faults(rt: &impl Abort, alloc: Global, input: &[u8], answers: &[u8]) {
+    for left in 0..answers.len() {
+        for refusal in [
+            Refusal::Fails(ErrorKind::Other),
+            Refusal::Fails(ErrorKind::Interrupted),
+            Refusal::TakesNone,
+        ] {
+            for read_step in [1, 7, 512] {
+                for write_step in [1, usize::MAX] {
+                    let writer = Sink::refusing(alloc, write_step, left, refusal);
+                    assert_fault(
+                        rt,
+                        Feed::new(input, read_step),
+                        writer,
+                        CalcFault::Write,
+                        beginning(answers, left),
+                    );
+                }
+            }
+        }
+    }
+}
+
+#[test]
+fn stops_where_a_device_fails(rt: HostRuntime) {
+    assert_read_faults(&rt, rt.alloc(), INPUT, ANSWERS, &[(10, 4), (18, 6)]);
+    assert_write_faults(&rt, rt.alloc(), INPUT, ANSWERS);
+}
+
+#[test]
+fn stops_where_a_device_fails_in_long_lines(rt: HostRuntime) -> Result<(), Fail> {
+    let mut input = repeated(rt.alloc(), b"a", 600)?;
+    input.extend_from_slice(b"\n")?;
+    input.extend_from_slice(repeated(rt.alloc(), b"b", 1001)?.as_slice())?;
+    input.extend_from_slice(b"\n1 + 2\n")?;
+    let answers = b"error: want LEFT OP RIGHT\nerror: line too long\n3\n";
+    let table = [(601, 26), (1603, 47), (1609, 49)];
+    assert_read_faults(&rt, rt.alloc(), input.as_slice(), answers, &table);
+    assert_write_faults(&rt, rt.alloc(), input.as_slice(), answers);
+    Ok(())
+}
+
+#[test]
+fn stops_after_the_last_byte(rt: HostRuntime) {
+    for kind in [ErrorKind::Other, ErrorKind::Interrupted] {
+        let reader = Feed::failing(INPUT, 1, INPUT.len(), kind);
+        assert_fault(&rt, reader, Sink::new(rt.alloc()), CalcFault::Read, ANSWERS);
+        let writer = Sink::unflushed(rt.alloc(), kind);
+        assert_fault(&rt, Feed::new(INPUT, 1), writer, CalcFault::Write, ANSWERS);
+    }
+}
+
+#[test]
+fn answers_inputs_that_end_early(rt: HostRuntime) -> Result<(), Fail> {
+    let want: &[u8] = b"error: want LEFT OP RIGHT\n";
+    let answers: [&[u8]; 11] = [
+        b"",
+        want,
+        want,
+        want,
+        want,
+        want,
+        want,
+        b"3/2\n",
+        b"error: right: failed to parse integer\n",
+        b"5/6\n",
+        b"5/6\n",
+    ];
+    for (count, answer) in answers.iter().enumerate() {
+        for step in [1, 7, 512] {
+            assert_eq!(rt;
+                answered(rt.alloc(), beginning(INPUT, count), step)?.as_slice(),
+                *answer
+            );
+        }
+    }
+    Ok(())
+}

@@ -1,5 +1,5 @@
 -- Operators applied one by one, while each operand is read.
-use Rattle.std.proofs.Common.{◌≡◌, ℕ, ℤ, pos, ◌<ℤ◌, List, [], ◌∷◌, ◌++◌, true, false, Option, None, Some, Result, Ok, Err, refl, ap, ◌∙◌, sym, inl, inr, Bor}
+use Rattle.std.proofs.Common.{◌≡◌, ℕ, ℤ, pos, ◌<ℤ◌, List, [], ◌∷◌, ◌++◌, Option, None, Some, Result, Ok, Err, refl, ap, ◌∙◌, sym, inl, inr, Bor}
 use Rattle.std.specs.Prelude.{codes, ⊤, option_and_then, option_map, unwrap_or}
 use Rattle.either.specs.Either.{MatchEither}
 use Rattle.either.specs.declared.Either.{Either}

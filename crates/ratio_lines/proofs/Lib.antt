@@ -13,3 +13,4 @@ pub mod Pieces
 pub mod PieceSoFar
 pub mod DeviceCalls
 pub mod RunSoFar
+pub mod JoinedAnswers

@@ -1,10 +1,9 @@
 -- The operators of a chain, taken one by one.
 use Rattle.std.proofs.Common.{◌≡◌, ℕ, ◌%◌, Bor, List, [], ◌∷◌, ◌++◌, length, Bool, true, false, ◌&&◌, ◌||◌, ◌==◌, not, nat_lt, Option, None, Some, refl, ap, ◌∙◌, sym, arith, suc, append_assoc}
-use Rattle.std.specs.Bool.{MatchBool}
 use Rattle.std.specs.List.{list_any, list_all}
 use Rattle.std.specs.Prelude.{codes, option_map, option_and_then}
 use Rattle.std.proofs.lemmas.Bool.Decides.{nat_tests}
-use Rattle.ratio_lines.specs.Answers.{IsChainAnswer, IsTextsAnswer, has_byte, is_chain, is_cmp, operators_of, operator_parts}
+use Rattle.ratio_lines.specs.Answers.{IsChainAnswer, has_byte, is_chain, is_cmp, operators_of, operator_parts}
 use Rattle.ratio_lines.specs.Lines.{front_of}
 use Rattle.ratio_lines.specs.Operands.{operator_of}
 use Rattle.ratio_lines.specs.Parts.{AreChained, are_pairs, parts_of, with_first}

@@ -7,3 +7,4 @@ pub mod KeptLine
 pub mod Devices
 pub mod Cuts
 pub mod Run
+pub mod SideBySide

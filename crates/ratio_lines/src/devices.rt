@@ -21,7 +21,7 @@ impl<'a> Feed<'a> {
     /// A reader that gives all its bytes.
     pub fn new(bytes: &'a [u8], step: usize) -> Feed<'a>
         requires { 0 < step }
-        ensures { result.bytes ≡ bytes }
+        ensures { result.bytes.now ≡ bytes.now }
     {
         Feed {
             bytes,

@@ -11,6 +11,7 @@ pub mod cut;
 mod devices;
 pub mod fault;
 pub mod gathered;
+pub mod laws;
 pub mod limits;
 pub mod line;
 pub mod operator;

@@ -4,6 +4,7 @@ use crate::calculator::run;
 use crate::counted::Counted;
 use crate::devices::{Feed, Sink, Watch, WatchedFeed, WatchedSink};
 use crate::fault::{CalcFault, fault_line};
+use crate::laws;
 use std::io::{Read, Write};
 use std::test::Fail;
 
@@ -61,4 +62,10 @@ fn counted_devices_read_write_and_flush(rt: HostRuntime) -> Result<(), Fail> {
     writer.flush()?;
     assert_eq!(rt; writer.into_inner().bytes.as_slice(), b"3\n".as_slice());
     Ok(())
+}
+
+#[test]
+fn states_laws() {
+    laws::side_by_side();
+    laws::answers();
 }

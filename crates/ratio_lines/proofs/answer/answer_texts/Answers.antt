@@ -1,5 +1,5 @@
-use Rattle.std.proofs.Common.{◌≡◌, ◌∷◌, ap, sym, ◌∙◌, refl}
-use Rattle.ratio_lines.specs.Answers.{operator_parts, right_parts}
+use Rattle.std.proofs.Common.{ap, sym, ◌∙◌}
+use Rattle.ratio_lines.specs.Answers.{right_parts}
 use Rattle.ratio_lines.specs.Parts.{parts_of}
 use Rattle.ratio_lines.proofs.Applying.{applied_all, applied_first, applied_named, applied_next, applied_refused, left_refused, positive_so_far, second_refused}
 use Rattle.ratio_lines.proofs.OperatorsSoFar.{first_operator, parts_one, parts_two}

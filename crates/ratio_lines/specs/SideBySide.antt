@@ -1,0 +1,23 @@
+-- What holds of the answers to an input that is cut after a line end.
+use Rattle.std.specs.Prelude.{◌≡◌, ℕ, List, [], ◌∷◌, ◌++◌, ◌⊎◌}
+use Rattle.ratio_lines.specs.Answers.{AreAnswersOf}
+
+-- the input is empty, or its last byte is a line end
+abbrev pub EndsLine : List ℕ → Type 0
+EndsLine input = (input ≡ []) ⊎ ((front : List ℕ) × (input ≡ front ++ 10 ∷ []))
+
+-- where an input is cut after a line end, the answers to what stands before and then those to what stands after answer the whole
+abbrev pub AnswersJoin : Type 0
+AnswersJoin = (before after xs ys : List ℕ) → EndsLine before → AreAnswersOf before xs → AreAnswersOf after ys → AreAnswersOf (before ++ after) (xs ++ ys)
+
+-- and nothing else answers it
+abbrev pub AnswersPart : Type 0
+AnswersPart =
+    (before after all : List ℕ)
+    → EndsLine before
+    → AreAnswersOf (before ++ after) all
+    → (xs : List ℕ) × (ys : List ℕ) × AreAnswersOf before xs × AreAnswersOf after ys × (all ≡ xs ++ ys)
+
+-- each input has answers, and has no others
+abbrev pub EachIsAnswered : Type 0
+EachIsAnswered = (input : List ℕ) → (xs : List ℕ) × AreAnswersOf input xs × ((ys : List ℕ) → AreAnswersOf input ys → ys ≡ xs)

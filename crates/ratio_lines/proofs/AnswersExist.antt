@@ -89,8 +89,8 @@ ArePositive (y ∷ ys) = (pos 0 <ℤ y.1) × ArePositive ys
 
 -- operators between fractions with positive denominators are answered
 applied_exists : (operators : List Operator) (ys : List (ℤ × ℤ)) (x : ℤ × ℤ) → pos 0 <ℤ x.1 → ArePositive ys → Exists (IsApplied operators x ys)
-applied_exists [] ys x left rights = text_exists (text_of Decimal x.0 x.1)
-applied_exists (operator ∷ operators) [] x left rights = text_exists (text_of Decimal x.0 x.1)
+applied_exists [] ys x left rights = text_exists (text_of 64 Decimal false x.0 x.1)
+applied_exists (operator ∷ operators) [] x left rights = text_exists (text_of 64 Decimal false x.0 x.1)
 applied_exists (operator ∷ operators) (y ∷ ys) x left rights =
     let first = outcome_exists operator x y left rights.0 in
     let next = outcome_answers first.0 (λ z. IsApplied operators z ys) (λ z positive. applied_exists operators ys z positive rights.1) (outcome_positive operator x y first.0 first.1) in

@@ -1,5 +1,5 @@
 -- Operators applied one by one, while each operand is read.
-use Rattle.std.proofs.Common.{◌≡◌, ℕ, ℤ, pos, ◌<ℤ◌, List, [], ◌∷◌, ◌++◌, Option, None, Some, Result, Ok, Err, refl, ap, ◌∙◌, sym, inl, inr, Bor}
+use Rattle.std.proofs.Common.{◌≡◌, ℕ, ℤ, pos, ◌<ℤ◌, List, [], ◌∷◌, ◌++◌, Option, None, Some, Result, Ok, Err, refl, ap, ◌∙◌, sym, inl, inr, Bor, false}
 use Rattle.std.specs.Prelude.{codes, ⊤, option_and_then, option_map, unwrap_or}
 use Rattle.either.specs.Either.{MatchEither}
 use Rattle.either.specs.declared.Either.{Either}
@@ -145,7 +145,7 @@ pub positive_so_far : {T : _} {i : _} {o : _} {e : _} {p : _} {h : _} (outcome :
 positive_so_far (Left text) h = tt
 positive_so_far (Right number) h = h
 
-no_operand : (operators : List Operator) (z : ℤ × ℤ) → IsApplied operators z [] (text_of Decimal z.0 z.1)
+no_operand : (operators : List Operator) (z : ℤ × ℤ) → IsApplied operators z [] (text_of 64 Decimal false z.0 z.1)
 no_operand [] z = refl
 no_operand (operator ∷ operators) z = refl
 

@@ -41,13 +41,13 @@ first_none c byte bytes none =
     elim (byte == c) as (λ t. (t || list_any (λ b. b == c) bytes) ≡ false → (t ≡ false) × HasNone c bytes)
     [ true ↦ λ n. absurd (let no : true ≡ false = n in cc) | false ↦ λ n. (refl, n) ] none
 
-split_uncut : (c : ℕ) (text : List ℕ) → HasNone c text → slice_split (λ b. b == c) text ≡ text ∷ []
+pub split_uncut : (c : ℕ) (text : List ℕ) → HasNone c text → slice_split (λ b. b == c) text ≡ text ∷ []
 split_uncut c [] none = refl
 split_uncut c (byte ∷ text) none =
     let first = first_none c byte text none in
     ap (λ t. cond t ([] ∷ slice_split (λ b. b == c) text) (onto_first byte (slice_split (λ b. b == c) text))) first.0 ∙ ap (onto_first byte) (split_uncut c text first.1)
 
-split_cut : (c : ℕ) (before after : List ℕ) → HasNone c before → slice_split (λ b. b == c) (before ++ c ∷ after) ≡ before ∷ slice_split (λ b. b == c) after
+pub split_cut : (c : ℕ) (before after : List ℕ) → HasNone c before → slice_split (λ b. b == c) (before ++ c ∷ after) ≡ before ∷ slice_split (λ b. b == c) after
 split_cut c [] after none = ap (λ t. cond t ([] ∷ slice_split (λ b. b == c) after) (onto_first c (slice_split (λ b. b == c) after))) (equal_itself c)
 split_cut c (byte ∷ before) after none =
     let first = first_none c byte before none in

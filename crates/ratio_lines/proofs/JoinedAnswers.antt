@@ -1,9 +1,9 @@
 -- The lines of an input that is cut after a line end.
-use Rattle.std.proofs.Common.{◌≡◌, ℕ, ◌<◌, List, [], ◌∷◌, ◌++◌, length, Bool, true, false, cond, refl, ap, ◌∙◌, sym, arith, inl, inr, append_assoc, subst}
+use Rattle.std.proofs.Common.{◌≡◌, ℕ, ◌<◌, List, [], ◌∷◌, ◌++◌, length, true, false, cond, refl, ap, ◌∙◌, sym, arith, inl, inr, append_assoc, subst}
 use Rattle.std.specs.List.{slice_split, onto_first}
 use Rattle.std.proofs.lemmas.List.{append-nil}
 use Rattle.std.proofs.lemmas.List.Splits.{length-slice_split}
-use Rattle.ratio_lines.specs.Answers.{AreAnswers, AreAnswersOf}
+use Rattle.ratio_lines.specs.Answers.{AreAnswers}
 use Rattle.ratio_lines.specs.Lines.{front_of, if_begun, is_line_end, last_of, lines_of}
 use Rattle.ratio_lines.specs.SideBySide.{AnswersJoin, AnswersPart, EachIsAnswered, EndsLine}
 use Rattle.ratio_lines.proofs.AnswerLaws.{one_list_of}

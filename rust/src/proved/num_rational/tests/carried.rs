@@ -254,20 +254,25 @@ fn test_show() {
     assert_eq!(row.as_str(), "f 0");
 }
 
+// Whether the fraction is printed so, and the text reads as the fraction.
+#[inline]
+fn is_text_of(text: &str, fraction: Rational64) -> bool {
+    let is_printed = fraction.text(Form::Decimal, false).as_str() == text;
+    let is_read = match Rational64::from_str(text) {
+        Ok(read) => read == fraction,
+        Err(_) => false,
+    };
+    is_printed && is_read
+}
+
 #[test]
 fn test_to_from_str() {
-    for (numer, denom, text) in [
-        (1, 1, "1"),
-        (0, 1, "0"),
-        (1, 2, "1/2"),
-        (3, 2, "3/2"),
-        (2, 1, "2"),
-        (-1, 2, "-1/2"),
-    ] {
-        let fraction = new(numer, denom);
-        assert_eq!(fraction.text(Form::Decimal, false).as_str(), text);
-        assert!(Rational64::from_str(text) == Ok(fraction), "{text}");
-    }
+    assert!(is_text_of("1", new(1, 1)));
+    assert!(is_text_of("0", new(0, 1)));
+    assert!(is_text_of("1/2", new(1, 2)));
+    assert!(is_text_of("3/2", new(3, 2)));
+    assert!(is_text_of("2", new(2, 1)));
+    assert!(is_text_of("-1/2", new(-1, 2)));
 }
 
 #[test]

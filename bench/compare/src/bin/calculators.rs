@@ -36,15 +36,26 @@ fn operand(random: &mut Random) -> String {
     }
 }
 
+fn operator(random: &mut Random) -> &'static str {
+    ["+", "-", "*", "/", "%", "cmp"][random.below(6) as usize]
+}
+
+/// A line of up to six operators.
+fn long_line(random: &mut Random) -> String {
+    let others = (0..=random.below(6)).map(|_| format!(" {} {}", operator(random), operand(random))).collect::<String>();
+    format!("{}{}", operand(random), others)
+}
+
 fn line(random: &mut Random) -> Vec<u8> {
-    let operator = ["+", "-", "*", "/", "%", "cmp"][random.below(6) as usize];
+    let operator = operator(random);
     let (left, right) = (operand(random), operand(random));
     let text = match random.below(100) {
         0 => format!("{}  {} {}", left, operator, right),
         1 => format!("{} ^ {}", left, right),
         2 => format!("{} {}", left, operator),
-        3 => format!("{} {} {}{}", left, operator, "0".repeat(110), right),
+        3 => format!("{} {} {}{}", left, operator, "0".repeat(990), right),
         4 => format!("{} {} {}\r", left, operator, right),
+        5 => long_line(random),
         _ => format!("{} {} {}", left, operator, right),
     };
     let mut bytes = text.into_bytes();

@@ -11,7 +11,8 @@ use std::io::{self, BufRead, BufReader, BufWriter, Write};
 type Fraction = Ratio<i64>;
 type Refusal = &'static str;
 
-const MOST_BYTES: usize = 120;
+const MOST_BYTES: usize = 1000;
+const OPERATORS: [&str; 6] = ["+", "-", "*", "/", "%", "cmp"];
 
 /// A fraction of wider numbers, where both of its own fit.
 fn narrow(wide: Ratio<i128>) -> Option<Fraction> {
@@ -61,34 +62,51 @@ fn result(operator: &str, x: &Fraction, y: &Fraction) -> Option<Fraction> {
     }
 }
 
-fn answer_three(left: &str, operator: &str, right: &str, out: &mut impl Write) -> io::Result<()> {
-    if left.is_empty() || operator.is_empty() || right.is_empty() {
+/// Every operand is read before an operator is applied.
+fn operands(parts: &[&str]) -> Result<Vec<Fraction>, (&'static str, Refusal)> {
+    let mut read = Vec::with_capacity(parts.len() / 2 + 1);
+    for (index, part) in parts.iter().step_by(2).enumerate() {
+        let side = if index == 0 { "left" } else { "right" };
+        read.push(fraction(part).map_err(|refusal| (side, refusal))?);
+    }
+    Ok(read)
+}
+
+fn apply(parts: &[&str], read: &[Fraction], out: &mut impl Write) -> io::Result<()> {
+    let mut x = read[0];
+    for (operator, y) in parts.iter().skip(1).step_by(2).zip(&read[1..]) {
+        if *operator == "cmp" {
+            return out.write_all(match x.cmp(y) {
+                Ordering::Less => b"<\n",
+                Ordering::Equal => b"=\n",
+                Ordering::Greater => b">\n",
+            });
+        }
+        if (*operator == "/" || *operator == "%") && y.is_zero() {
+            return out.write_all(b"error: division by zero\n");
+        }
+        x = match result(operator, &x, y) {
+            Some(z) => z,
+            None => return out.write_all(b"error: out of range\n"),
+        };
+    }
+    writeln!(out, "{}", x)
+}
+
+fn answer_parts(parts: &[&str], out: &mut impl Write) -> io::Result<()> {
+    if parts.len() < 3 || parts.len() % 2 == 0 || parts.iter().any(|part| part.is_empty()) {
         return out.write_all(b"error: want LEFT OP RIGHT\n");
     }
-    if !["+", "-", "*", "/", "%", "cmp"].contains(&operator) {
+    let mut operators = parts.iter().skip(1).step_by(2);
+    if operators.any(|operator| !OPERATORS.contains(operator)) {
         return out.write_all(b"error: unknown operator\n");
     }
-    let x = match fraction(left) {
-        Ok(x) => x,
-        Err(refusal) => return writeln!(out, "error: left: {}", refusal),
-    };
-    let y = match fraction(right) {
-        Ok(y) => y,
-        Err(refusal) => return writeln!(out, "error: right: {}", refusal),
-    };
-    if operator == "cmp" {
-        return out.write_all(match x.cmp(&y) {
-            Ordering::Less => b"<\n",
-            Ordering::Equal => b"=\n",
-            Ordering::Greater => b">\n",
-        });
+    if parts[..parts.len() - 2].iter().skip(1).step_by(2).any(|operator| *operator == "cmp") {
+        return out.write_all(b"error: cmp must be last\n");
     }
-    if (operator == "/" || operator == "%") && y.is_zero() {
-        return out.write_all(b"error: division by zero\n");
-    }
-    match result(operator, &x, &y) {
-        Some(z) => writeln!(out, "{}", z),
-        None => out.write_all(b"error: out of range\n"),
+    match operands(parts) {
+        Ok(read) => apply(parts, &read, out),
+        Err((side, refusal)) => writeln!(out, "error: {}: {}", side, refusal),
     }
 }
 
@@ -100,11 +118,7 @@ fn answer(line: &[u8], out: &mut impl Write) -> io::Result<()> {
         Ok(text) => text.strip_suffix('\r').unwrap_or(text),
         Err(_) => return out.write_all(b"error: not UTF-8\n"),
     };
-    let mut pieces = text.split(' ');
-    match (pieces.next(), pieces.next(), pieces.next(), pieces.next()) {
-        (Some(left), Some(operator), Some(right), None) => answer_three(left, operator, right, out),
-        _ => out.write_all(b"error: want LEFT OP RIGHT\n"),
-    }
+    answer_parts(&text.split(' ').collect::<Vec<&str>>(), out)
 }
 
 fn main() -> io::Result<()> {

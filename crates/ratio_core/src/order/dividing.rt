@@ -2,7 +2,7 @@
 ghost use Rattle.std.specs.Prelude.{◌≡◌, ◌≢◌, ◌↔◌, ◌≤ℤ◌, ◌+◌, pos, IsTrue};
 ghost use Rattle.ratio_integer.specs.Division.{IsAboveMax, IsFloored};
 
-use crate::order::signs::is_negative;
+use crate::sign::is_below_zero;
 use crate::steps::Steps;
 use ratio_integer::Integer;
 
@@ -42,5 +42,5 @@ pub(crate) fn is_above_max<T: Integer>(n: T, d: T) -> bool
 {
     let _ = n.held();
     let _ = d.held();
-    is_negative(d) && is_negative(n) && d.plus(T::ONE).is_zero() && is_negative(n.plus(T::MAX))
+    is_below_zero(d) && is_below_zero(n) && d.plus(T::ONE).is_zero() && is_below_zero(n.plus(T::MAX))
 }

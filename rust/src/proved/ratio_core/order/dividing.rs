@@ -1,7 +1,7 @@
 // Erased from crates/ratio_core/src/order/dividing.rt by rust/erase: not to be edited.
 //! The two floored divisions of the order and of the codes, each of which is a step of its side.
 
-use crate::proved::ratio_core::order::signs::is_negative;
+use crate::proved::ratio_core::sign::is_below_zero;
 use crate::proved::ratio_core::steps::Steps;
 use crate::proved::ratio_integer::Integer;
 
@@ -42,5 +42,5 @@ pub(crate) fn divide_right<T: Integer>(n: T, d: T, steps: &mut Steps) -> (T, T) 
 pub(crate) fn is_above_max<T: Integer>(n: T, d: T) -> bool {
     let _ = n.held();
     let _ = d.held();
-    is_negative(d) && is_negative(n) && d.plus(T::ONE).is_zero() && is_negative(n.plus(T::MAX))
+    is_below_zero(d) && is_below_zero(n) && d.plus(T::ONE).is_zero() && is_below_zero(n.plus(T::MAX))
 }

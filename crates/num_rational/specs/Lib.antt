@@ -7,6 +7,7 @@ pub mod Operators
 pub mod Padding
 pub mod Powers
 pub mod Ratio
+pub mod Reduced
 pub use Rattle.ratio_core.specs.Conditions
 pub use Rattle.ratio_core.specs.ContinuedFraction
 pub use Rattle.ratio_core.specs.Laws

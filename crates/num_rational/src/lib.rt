@@ -13,6 +13,7 @@ mod order;
 mod pow;
 mod printing;
 mod ratio;
+mod reduced;
 mod rounding;
 mod sign;
 #[cfg(test)]
@@ -25,3 +26,4 @@ pub use ratio::{Constants, Ratio, Rational, Rational32, Rational64};
 pub use ratio_core::{
     CodeList, DecimalText, Exponent, Form, ParseRatioError, RatioErrorKind, RatioText, Steps, Taken,
 };
+pub use reduced::{Reduced, Reduced32, Reduced64};

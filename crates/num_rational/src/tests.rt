@@ -7,6 +7,7 @@ mod folds;
 mod forms;
 mod json;
 mod keys;
+mod lowest;
 mod operators;
 mod powers;
 mod recorder;

@@ -5,11 +5,13 @@ pub mod CrossOrder
 pub mod CutLemmas
 pub mod DigitGroups
 pub mod EqualityLaws
+pub mod FieldLemmas
 pub mod Floored
 pub mod Following
 pub mod HashLaws
 pub mod Hashing
 pub mod HeldAround
+pub mod KeptLowest
 pub mod LawLemmas
 pub mod NearestChoice
 pub mod NearestCounting

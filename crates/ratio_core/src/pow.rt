@@ -96,8 +96,8 @@ fn try_power<T: Integer>(base: T, exponent: u128) -> Option<T>
     power.try_times(square)
 }
 
-// The reciprocal, or `None` where there is none or its sign cannot be moved.
-fn checked_recip<T: Integer>(n: T, d: T) -> Option<(T, T)>
+/// The reciprocal, its sign above and not reduced, or `None` where there is none or its sign cannot be moved.
+pub fn checked_recip<T: Integer>(n: T, d: T) -> Option<(T, T)>
     requires { pos 0 <ℤ T.value d }
     ensures { ChecksReciprocal (λ r. T.value r.0) (λ r. T.value r.1) T.lo T.hi (T.value n) (T.value d) result }
 {

@@ -3,12 +3,15 @@
 //! Where both products of the fields are held, one greatest common divisor finishes them. Where one
 //! is not, the operands are brought to lowest terms and cancelled across, and a sign is moved before
 //! anything is multiplied: then the products are the lowest terms, and only these must be held.
-ghost use Rattle.std.specs.Prelude.{◌<ℤ◌, ◌*ℤ◌, pos};
+pub mod lowest;
+
+ghost use Rattle.std.specs.Prelude.{◌<ℤ◌, pos};
 ghost use Rattle.ratio_integer.specs.Arithmetic.{product_of, quotient_of};
-ghost use Rattle.ratio_integer.specs.Fraction.{ChecksLowest, IsLowestTerms};
+ghost use Rattle.ratio_integer.specs.Fraction.{ChecksLowest};
 ghost use Rattle.ratio_core.specs.Conditions.{IsHeldLowestOf, ProductCondition, QuotientCondition};
 
 use crate::checked_new::checked_new;
+use crate::products::lowest::{crossed_product, crossed_quotient};
 use ratio_integer::{Integer, lowest_terms};
 
 /// The lowest terms of `a/b * c/d`, or `None` where the type does not hold them. The fractions need
@@ -80,13 +83,10 @@ fn cancelled_product<T: Integer>(a: T, b: T, c: T, d: T) -> Option<(T, T)>
 {
     let (a, b) = lowest_terms(a, b);
     let (c, d) = lowest_terms(c, d);
-    let (p, t) = lowest_terms(a, d);
-    let (s, q) = lowest_terms(c, b);
-    multiplied(p, q, s, t)
+    crossed_product(a, b, c, d)
 }
 
-// The same quotient: the numerators over one another, which moves the divisor's sign, times the
-// denominators over one another.
+// The same quotient, cancelled before it is multiplied.
 fn cancelled_quotient<T: Integer>(a: T, b: T, c: T, d: T) -> Option<(T, T)>
     requires left_positive { pos 0 <ℤ T.value b }
     requires right_positive { pos 0 <ℤ T.value d }
@@ -95,16 +95,5 @@ fn cancelled_quotient<T: Integer>(a: T, b: T, c: T, d: T) -> Option<(T, T)>
 {
     let (a, b) = lowest_terms(a, b);
     let (c, d) = lowest_terms(c, d);
-    let (s, t) = lowest_terms(d, b);
-    let (p, q) = checked_new(a, c)?;
-    multiplied(p, q, s, t)
-}
-
-// `p/q * s/t` where its products are in lowest terms as they stand.
-fn multiplied<T: Integer>(p: T, q: T, s: T, t: T) -> Option<(T, T)>
-    requires { IsLowestTerms (T.value p *ℤ T.value s) (T.value q *ℤ T.value t) }
-    ensures { ChecksLowest (λ r. T.value r.0) (λ r. T.value r.1) T.lo T.hi
-        (product_of (T.value p) (T.value q) (T.value s) (T.value t)) result }
-{
-    Some((p.try_times(s)?, q.try_times(t)?))
+    crossed_quotient(a, b, c, d)
 }

@@ -12,6 +12,7 @@ mod order;
 mod pow;
 mod printing;
 mod ratio;
+mod reduced;
 mod rounding;
 mod sign;
 #[cfg(test)]
@@ -23,3 +24,4 @@ pub use ratio::{Constants, Ratio, Rational, Rational32, Rational64};
 pub use crate::proved::ratio_core::{
     CodeList, DecimalText, Exponent, Form, ParseRatioError, RatioErrorKind, RatioText, Steps, Taken,
 };
+pub use reduced::{Reduced, Reduced32, Reduced64};

@@ -8,6 +8,7 @@ mod folds;
 mod forms;
 
 mod keys;
+mod lowest;
 mod operators;
 mod powers;
 mod recorder;

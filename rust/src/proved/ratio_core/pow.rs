@@ -112,9 +112,15 @@ fn try_power<T: Integer>(base: T, exponent: u128) -> Option<T> {
     power.try_times(square)
 }
 
-// The reciprocal, or `None` where there is none or its sign cannot be moved.
+/// The reciprocal, its sign above and not reduced, or `None` where there is none or its sign cannot be moved.
+///
+/// # Conditions
+///
+/// What is proved asks of the caller:
+///
+/// - `pos 0 <ℤ T.value d`
 #[inline]
-fn checked_recip<T: Integer>(n: T, d: T) -> Option<(T, T)> {
+pub fn checked_recip<T: Integer>(n: T, d: T) -> Option<(T, T)> {
     if n.is_zero() {
         return None;
     }

@@ -4,8 +4,10 @@
 //! Where both products of the fields are held, one greatest common divisor finishes them. Where one
 //! is not, the operands are brought to lowest terms and cancelled across, and a sign is moved before
 //! anything is multiplied: then the products are the lowest terms, and only these must be held.
+pub mod lowest;
 
 use crate::proved::ratio_core::checked_new::checked_new;
+use crate::proved::ratio_core::products::lowest::{crossed_product, crossed_quotient};
 use crate::proved::ratio_integer::{Integer, lowest_terms};
 
 /// The lowest terms of `a/b * c/d`, or `None` where the type does not hold them. The fractions need
@@ -85,24 +87,13 @@ pub fn div<T: Integer>(a: T, b: T, c: T, d: T) -> (T, T) {
 fn cancelled_product<T: Integer>(a: T, b: T, c: T, d: T) -> Option<(T, T)> {
     let (a, b) = lowest_terms(a, b);
     let (c, d) = lowest_terms(c, d);
-    let (p, t) = lowest_terms(a, d);
-    let (s, q) = lowest_terms(c, b);
-    multiplied(p, q, s, t)
+    crossed_product(a, b, c, d)
 }
 
-// The same quotient: the numerators over one another, which moves the divisor's sign, times the
-// denominators over one another.
+// The same quotient, cancelled before it is multiplied.
 #[inline]
 fn cancelled_quotient<T: Integer>(a: T, b: T, c: T, d: T) -> Option<(T, T)> {
     let (a, b) = lowest_terms(a, b);
     let (c, d) = lowest_terms(c, d);
-    let (s, t) = lowest_terms(d, b);
-    let (p, q) = checked_new(a, c)?;
-    multiplied(p, q, s, t)
-}
-
-// `p/q * s/t` where its products are in lowest terms as they stand.
-#[inline]
-fn multiplied<T: Integer>(p: T, q: T, s: T, t: T) -> Option<(T, T)> {
-    Some((p.try_times(s)?, q.try_times(t)?))
+    crossed_quotient(a, b, c, d)
 }

@@ -1,0 +1,24 @@
+-- A fraction that is always in lowest terms, seen as the `Ratio` of its fields.
+use Rattle.std.specs.Prelude.{◌++◌, ℕ, List, Option, None, Some, Result}
+use Rattle.ratio_core.specs.declared.parse_error.RatioErrorKind.{RatioErrorKind}
+use Rattle.ratio_core.specs.Reading.{AnswersText, IsFractionText}
+use Rattle.num_rational.specs.declared.ratio.Ratio.{Ratio}
+use Rattle.num_rational.specs.declared.reduced.Reduced.{Reduced}
+use Rattle.num_rational.specs.Ratio.{denominator, numerator}
+
+-- the same fraction as a `Ratio`
+abbrev pub ratio_of : {T : _} {i : _} {o : _} {e : _} {p : _} {h : _} → Reduced T i o e p h → Ratio T i o e p h
+ratio_of x = x.ratio
+
+-- the answer's fraction as a `Ratio`, where there is one
+abbrev pub ratio_in : {T : _} {i : _} {o : _} {e : _} {p : _} {h : _} → Option (Reduced T i o e p h) → Option (Ratio T i o e p h)
+ratio_in None = None
+ratio_in (Some x) = Some x.ratio
+
+-- what the two fields feed a hasher, each by the element's own hash
+abbrev pub writes_of_fields : {T : _} {i : _} {o : _} {e : _} {p : _} {h : _} → Reduced T i o e p h → List (List ℕ)
+writes_of_fields {i = i} x = i.number_hash_input (numerator x.ratio) ++ i.number_hash_input (denominator x.ratio)
+
+-- the answer is the fraction of a decimal text, or the first refusal that applies
+abbrev pub ReadsReduced : {T : _} {i : _} {o : _} {e : _} {p : _} {h : _} → List ℕ → Result (Reduced T i o e p h) RatioErrorKind → Type 0
+ReadsReduced {i = i} text result = AnswersText (λ x. numerator (ratio_of x)) (λ x. denominator (ratio_of x)) i.lo i.hi (IsFractionText i.lo i.hi text) result

@@ -1,0 +1,83 @@
+// Erased from crates/ratio_core/src/products/lowest.rt by rust/erase: not to be edited.
+//! Products and quotients of fractions in lowest terms, which are not reduced again.
+//!
+//! Where both products of the fields are held, one greatest common divisor finishes them. Where one is
+//! not, the fractions are cancelled across, which takes two.
+
+use crate::proved::ratio_core::checked_new::checked_new;
+use crate::proved::ratio_integer::{Integer, lowest_terms};
+
+/// The lowest terms of `a/b * c/d` where both are in lowest terms, or `None` where the type does not
+/// hold them.
+///
+/// # Conditions
+///
+/// What is proved asks of the caller:
+///
+/// - `left`: `IsLowestTerms (T.value a) (T.value b)`
+/// - `right`: `IsLowestTerms (T.value c) (T.value d)`
+#[inline]
+pub fn checked_mul<T: Integer>(a: T, b: T, c: T, d: T) -> Option<(T, T)> {
+    if let Some(numer) = a.try_times(c) {
+        if let Some(denom) = b.try_times(d) {
+            return Some(lowest_terms(numer, denom));
+        }
+    }
+    crossed_product(a, b, c, d)
+}
+
+/// The lowest terms of `a/b` divided by `c/d` where both are in lowest terms, or `None` where `c` is 0
+/// or the type does not hold them.
+///
+/// # Conditions
+///
+/// What is proved asks of the caller:
+///
+/// - `left`: `IsLowestTerms (T.value a) (T.value b)`
+/// - `right`: `IsLowestTerms (T.value c) (T.value d)`
+#[inline]
+pub fn checked_div<T: Integer>(a: T, b: T, c: T, d: T) -> Option<(T, T)> {
+    if let Some(numer) = a.try_times(d) {
+        if let Some(denom) = b.try_times(c) {
+            return checked_new(numer, denom);
+        }
+    }
+    crossed_quotient(a, b, c, d)
+}
+
+/// The same product, cancelled across before it is multiplied.
+///
+/// # Conditions
+///
+/// What is proved asks of the caller:
+///
+/// - `left`: `IsLowestTerms (T.value a) (T.value b)`
+/// - `right`: `IsLowestTerms (T.value c) (T.value d)`
+#[inline]
+pub(crate) fn crossed_product<T: Integer>(a: T, b: T, c: T, d: T) -> Option<(T, T)> {
+    let (p, t) = lowest_terms(a, d);
+    let (s, q) = lowest_terms(c, b);
+    multiplied(p, q, s, t)
+}
+
+/// The same quotient: the numerators over one another, which moves the divisor's sign, times the
+/// denominators over one another.
+///
+/// # Conditions
+///
+/// What is proved asks of the caller:
+///
+/// - `left`: `IsLowestTerms (T.value a) (T.value b)`
+/// - `right`: `IsLowestTerms (T.value c) (T.value d)`
+#[inline]
+pub(crate) fn crossed_quotient<T: Integer>(a: T, b: T, c: T, d: T) -> Option<(T, T)> {
+    let (s, t) = lowest_terms(d, b);
+    let (p, q) = checked_new(a, c)?;
+    multiplied(p, q, s, t)
+}
+
+// `p/q * s/t` where its products are in lowest terms as they stand.
+#[inline]
+fn multiplied<T: Integer>(p: T, q: T, s: T, t: T) -> Option<(T, T)> {
+    Some((p.try_times(s)?, q.try_times(t)?))
+}

@@ -13,6 +13,7 @@ pub mod Hashing
 pub mod HeldAround
 pub mod KeptLowest
 pub mod LawLemmas
+pub mod LeadingDigits
 pub mod NearestChoice
 pub mod NearestCounting
 pub mod NearestLawLemmas
@@ -20,8 +21,8 @@ pub mod NearestMoves
 pub mod NearestPreference
 pub mod Neighbours
 pub mod NumberLemmas
-pub mod Numerals
 pub mod NumbersExist
+pub mod Numerals
 pub mod OrderLaws
 pub mod PowerLawLemmas
 pub mod PowerLemmas
@@ -41,11 +42,10 @@ pub mod Rounds
 pub mod SameValues
 pub mod ScalingLemmas
 pub mod Shares
-pub mod ShortDigits
 pub mod SignLemmas
 pub mod SumLemmas
-pub mod Ticks
 pub mod TestLemmas
+pub mod Ticks
 pub mod TwoNearest
 pub mod TwosComplement
 pub mod WidthLemmas

@@ -1,12 +1,11 @@
 //! Reading a fraction from a text.
 ghost use Rattle.std.specs.Prelude.{◌≡◌, ◌≤◌};
-ghost use Rattle.std.specs.Str.Parse.{starts_with_minus};
 ghost use Rattle.ratio_core.specs.Reading.{AnswersFraction, AnswersPair, AnswersText, IsFractionText, IsSlashedText, ReadsNumber, SidesReadAs};
 
 use crate::checked_new::checked_new;
 use crate::parse_error::{ParseRatioError, RatioErrorKind};
-use crate::text::short_digits::short_digits;
-use ratio_integer::Primitive;
+use crate::text::short_pair::short_pair;
+use ratio_integer::{Integer, Primitive};
 
 /// The fraction of a decimal text in lowest terms: `N/D` for two number texts, or `N` for `N/1`. A
 /// number text is one digit or more after an optional `+`, or `-` for a type with numbers below 0;
@@ -48,35 +47,8 @@ fn in_lowest_terms<T: Primitive>(numer: T, denom: T) -> Result<(T, T), ParseRati
     }
 }
 
-/// The number of the text in the radix, or `None` where it is no number text or the type does not
-/// hold its number. A few decimal digits are read in 64 bits.
+// The number of the text in the radix, read in 128 bits, or `None` where it is no number text or the type does not hold its number.
 fn number<T: Primitive>(text: &str, radix: u32) -> Option<T>
-    requires low { 2 ≤ radix }
-    requires high { radix ≤ 36 }
-    ensures { ReadsNumber T.value T.lo T.hi radix text.now result }
-{
-    if radix == 10 {
-        let bytes = text.as_bytes();
-        if T::MIN < T::ZERO && begins_with_minus(bytes) {
-            if let Some(n) = short_digits(bytes, 1) {
-                return T::from_i128(-(n as i128));
-            }
-        } else if let Some(n) = short_digits(bytes, 0) {
-            return T::from_u128(n as u128);
-        }
-    }
-    wide_number(text, radix)
-}
-
-// Whether the first byte is a minus.
-fn begins_with_minus(bytes: &[u8]) -> bool
-    ensures { result ≡ starts_with_minus bytes.now }
-{
-    !bytes.is_empty() && bytes[0] == b'-'
-}
-
-// The same number, read in 128 bits.
-fn wide_number<T: Primitive>(text: &str, radix: u32) -> Option<T>
     requires low { 2 ≤ radix }
     requires high { radix ≤ 36 }
     ensures { ReadsNumber T.value T.lo T.hi radix text.now result }
@@ -98,11 +70,7 @@ fn sides<T: Primitive>(front: &str, back: &str, radix: u32) -> Result<(T, T), Pa
         None => Err(ParseRatioError::new(RatioErrorKind::ParseError)),
         Some(numer) => match number::<T>(back, radix) {
             None => Err(ParseRatioError::new(RatioErrorKind::ParseError)),
-            Some(denom) => if denom.is_zero() {
-                Err(ParseRatioError::new(RatioErrorKind::ZeroDenominator))
-            } else {
-                Ok((numer, denom))
-            },
+            Some(denom) => nonzero(numer, denom),
         },
     }
 }
@@ -119,8 +87,29 @@ fn slashed_pair<T: Primitive>(text: &str, radix: u32) -> Result<(T, T), ParseRat
     }
 }
 
-// The two numbers of a decimal text, as they stand.
+// The two numbers of a decimal text, as they stand. Most texts are short.
 fn pair<T: Primitive>(text: &str) -> Result<(T, T), ParseRatioError>
+    ensures { AnswersPair T.value (IsFractionText T.lo T.hi text.now) result }
+{
+    match short_pair::<T>(text.as_bytes()) {
+        Some(read) => nonzero(read.0, read.1),
+        None => long_pair(text),
+    }
+}
+
+// The two numbers, where the second is not 0.
+fn nonzero<T: Integer>(numer: T, denom: T) -> Result<(T, T), ParseRatioError>
+    ensures { AnswersPair T.value (λ n d. (T.value numer ≡ n) × (T.value denom ≡ d)) result }
+{
+    if denom.is_zero() {
+        Err(ParseRatioError::new(RatioErrorKind::ZeroDenominator))
+    } else {
+        Ok((numer, denom))
+    }
+}
+
+// The same of a text of any length.
+fn long_pair<T: Primitive>(text: &str) -> Result<(T, T), ParseRatioError>
     ensures { AnswersPair T.value (IsFractionText T.lo T.hi text.now) result }
 {
     match text.split_once('/') {

@@ -3,8 +3,8 @@
 
 use crate::proved::ratio_core::checked_new::checked_new;
 use crate::proved::ratio_core::parse_error::{ParseRatioError, RatioErrorKind};
-use crate::proved::ratio_core::text::short_digits::short_digits;
-use crate::proved::ratio_integer::Primitive;
+use crate::proved::ratio_core::text::short_pair::short_pair;
+use crate::proved::ratio_integer::{Integer, Primitive};
 
 /// The fraction of a decimal text in lowest terms: `N/D` for two number texts, or `N` for `N/1`. A
 /// number text is one digit or more after an optional `+`, or `-` for a type with numbers below 0;
@@ -46,39 +46,9 @@ fn in_lowest_terms<T: Primitive>(numer: T, denom: T) -> Result<(T, T), ParseRati
     }
 }
 
-/// The number of the text in the radix, or `None` where it is no number text or the type does not
-/// hold its number. A few decimal digits are read in 64 bits.
-///
-/// # Conditions
-///
-/// What is proved asks of the caller:
-///
-/// - `low`: `2 ≤ radix`
-/// - `high`: `radix ≤ 36`
+// The number of the text in the radix, read in 128 bits, or `None` where it is no number text or the type does not hold its number.
 #[inline]
 fn number<T: Primitive>(text: &str, radix: u32) -> Option<T> {
-    if radix == 10 {
-        let bytes = text.as_bytes();
-        if T::MIN < T::ZERO && begins_with_minus(bytes) {
-            if let Some(n) = short_digits(bytes, 1) {
-                return T::from_i128(-(n as i128));
-            }
-        } else if let Some(n) = short_digits(bytes, 0) {
-            return T::from_u128(n as u128);
-        }
-    }
-    wide_number(text, radix)
-}
-
-// Whether the first byte is a minus.
-#[inline]
-fn begins_with_minus(bytes: &[u8]) -> bool {
-    !bytes.is_empty() && bytes[0] == b'-'
-}
-
-// The same number, read in 128 bits.
-#[inline]
-fn wide_number<T: Primitive>(text: &str, radix: u32) -> Option<T> {
     if T::MIN < T::ZERO {
         T::from_i128(i128::from_str_radix(text, radix).ok()?)
     } else {
@@ -93,11 +63,7 @@ fn sides<T: Primitive>(front: &str, back: &str, radix: u32) -> Result<(T, T), Pa
         None => Err(ParseRatioError::new(RatioErrorKind::ParseError)),
         Some(numer) => match number::<T>(back, radix) {
             None => Err(ParseRatioError::new(RatioErrorKind::ParseError)),
-            Some(denom) => if denom.is_zero() {
-                Err(ParseRatioError::new(RatioErrorKind::ZeroDenominator))
-            } else {
-                Ok((numer, denom))
-            },
+            Some(denom) => nonzero(numer, denom),
         },
     }
 }
@@ -111,9 +77,28 @@ fn slashed_pair<T: Primitive>(text: &str, radix: u32) -> Result<(T, T), ParseRat
     }
 }
 
-// The two numbers of a decimal text, as they stand.
+// The two numbers of a decimal text, as they stand. Most texts are short.
 #[inline]
 fn pair<T: Primitive>(text: &str) -> Result<(T, T), ParseRatioError> {
+    match short_pair::<T>(text.as_bytes()) {
+        Some(read) => nonzero(read.0, read.1),
+        None => long_pair(text),
+    }
+}
+
+// The two numbers, where the second is not 0.
+#[inline]
+fn nonzero<T: Integer>(numer: T, denom: T) -> Result<(T, T), ParseRatioError> {
+    if denom.is_zero() {
+        Err(ParseRatioError::new(RatioErrorKind::ZeroDenominator))
+    } else {
+        Ok((numer, denom))
+    }
+}
+
+// The same of a text of any length.
+#[inline]
+fn long_pair<T: Primitive>(text: &str) -> Result<(T, T), ParseRatioError> {
     match text.split_once('/') {
         Some((front, back)) => sides(front, back, 10),
         None => match number(text, 10) {

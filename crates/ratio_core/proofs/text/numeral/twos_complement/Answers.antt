@@ -1,6 +1,6 @@
 use Rattle.std.proofs.Common.{arith}
 use Rattle.std.proofs.lemmas.Int.{ints}
-use Rattle.ratio_core.proofs.TwosComplement.{below_zero, complement_sum, natural_is, some_natural}
+use Rattle.ratio_core.proofs.TwosComplement.{below_zero, natural_is, some_natural}
 use Rattle.ratio_core.proofs.text.numeral.twos_complement.Goals as goal
 
 pub minus-requires : goal.minus-requires

@@ -1,0 +1,71 @@
+//! Reading a decimal fraction in one pass, where its numbers have few enough digits that a `u64` holds them.
+ghost use Rattle.std.specs.Prelude.{◌≡◌, ◌≤◌, length, take, IfSome};
+ghost use Rattle.std.specs.Str.Parse.{AllDigits, digits_value, starts_with_minus};
+ghost use Rattle.ratio_core.specs.Reading.{IsFractionText, ReadsAs};
+
+use ratio_integer::Primitive;
+
+/// The two numbers of a decimal text that both have 1 to 19 digits and no plus sign, as they stand.
+/// A `None` says nothing of the text.
+pub(crate) fn short_pair<T: Primitive>(bytes: &[u8]) -> Option<(T, T)>
+    ensures { IfSome result (λ r. IsFractionText T.lo T.hi bytes.now (T.value r.0) (T.value r.1)) }
+{
+    let (numer, at) = leading_number::<T>(bytes)?;
+    if at == bytes.len() {
+        return Some((numer, T::ONE));
+    }
+    if bytes[at] != b'/' {
+        return None;
+    }
+    let back = &bytes[at + 1..];
+    let (denom, end) = leading_number::<T>(back)?;
+    if end == back.len() {
+        Some((numer, denom))
+    } else {
+        None
+    }
+}
+
+// The number that the bytes begin with, and how many of them are its text.
+fn leading_number<T: Primitive>(bytes: &[u8]) -> Option<(T, usize)>
+    ensures inside { IfSome result (λ r. r.1 ≤ length bytes.now) }
+    ensures number { IfSome result (λ r. ReadsAs T.lo T.hi 10 (take r.1 bytes.now) (T.value r.0)) }
+{
+    if T::MIN < T::ZERO && begins_with_minus(bytes) {
+        let (n, count) = leading_digits(&bytes[1..]);
+        if count == 0 {
+            return None;
+        }
+        Some((T::from_i128(-(n as i128))?, count + 1))
+    } else {
+        let (n, count) = leading_digits(bytes);
+        if count == 0 {
+            return None;
+        }
+        Some((T::from_u128(n as u128)?, count))
+    }
+}
+
+// Whether the first byte is a minus.
+fn begins_with_minus(bytes: &[u8]) -> bool
+    ensures { result ≡ starts_with_minus bytes.now }
+{
+    !bytes.is_empty() && bytes[0] == b'-'
+}
+
+// The number of the digits that the bytes begin with, at most 19 of them, and how many these are. A `u64` holds each
+// such number, so no step tests for it.
+fn leading_digits(bytes: &[u8]) -> (u64, usize)
+    ensures inside { result.1 ≤ length bytes.now }
+    ensures digits { AllDigits 10 (take result.1 bytes.now) }
+    ensures value { result.0 ≡ digits_value 10 (take result.1 bytes.now) }
+    ensures few { result.1 ≤ 19 }
+{
+    let mut n = 0u64;
+    let mut at = 0;
+    'digits: while at < bytes.len() && at < 19 && bytes[at] >= b'0' && bytes[at] <= b'9' {
+        n = n * 10 + (bytes[at] - b'0') as u64;
+        at += 1;
+    }
+    (n, at)
+}

@@ -1,0 +1,61 @@
+// Erased from crates/ratio_core/src/text/short_pair.rt by rust/erase: not to be edited.
+//! Reading a decimal fraction in one pass, where its numbers have few enough digits that a `u64` holds them.
+
+use crate::proved::ratio_integer::Primitive;
+
+/// The two numbers of a decimal text that both have 1 to 19 digits and no plus sign, as they stand.
+/// A `None` says nothing of the text.
+#[inline]
+pub(crate) fn short_pair<T: Primitive>(bytes: &[u8]) -> Option<(T, T)> {
+    let (numer, at) = leading_number::<T>(bytes)?;
+    if at == bytes.len() {
+        return Some((numer, T::ONE));
+    }
+    if bytes[at] != b'/' {
+        return None;
+    }
+    let back = &bytes[at + 1..];
+    let (denom, end) = leading_number::<T>(back)?;
+    if end == back.len() {
+        Some((numer, denom))
+    } else {
+        None
+    }
+}
+
+// The number that the bytes begin with, and how many of them are its text.
+#[inline]
+fn leading_number<T: Primitive>(bytes: &[u8]) -> Option<(T, usize)> {
+    if T::MIN < T::ZERO && begins_with_minus(bytes) {
+        let (n, count) = leading_digits(&bytes[1..]);
+        if count == 0 {
+            return None;
+        }
+        Some((T::from_i128(-(n as i128))?, count + 1))
+    } else {
+        let (n, count) = leading_digits(bytes);
+        if count == 0 {
+            return None;
+        }
+        Some((T::from_u128(n as u128)?, count))
+    }
+}
+
+// Whether the first byte is a minus.
+#[inline]
+fn begins_with_minus(bytes: &[u8]) -> bool {
+    !bytes.is_empty() && bytes[0] == b'-'
+}
+
+// The number of the digits that the bytes begin with, at most 19 of them, and how many these are. A `u64` holds each
+// such number, so no step tests for it.
+#[inline]
+fn leading_digits(bytes: &[u8]) -> (u64, usize) {
+    let mut n = 0u64;
+    let mut at = 0;
+    while at < bytes.len() && at < 19 && bytes[at] >= b'0' && bytes[at] <= b'9' {
+        n = n * 10 + (bytes[at] - b'0') as u64;
+        at += 1;
+    }
+    (n, at)
+}

@@ -44,3 +44,13 @@ pub use proved::num_rational::ParseRatioError;
 /// ```
 #[doc(inline)]
 pub use proved::num_rational::RatioErrorKind;
+/// What `decimal_text` of a fraction answers.
+///
+/// ```
+/// use bakhsney::{DecimalText, Ratio};
+///
+/// let text: DecimalText = Ratio::new(1, 2).decimal_text();
+/// assert_eq!(text.as_str(), "1/2");
+/// ```
+#[doc(inline)]
+pub use proved::ratio_core::DecimalText;

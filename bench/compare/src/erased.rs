@@ -82,8 +82,24 @@ pub fn from_str<T: Number + Integer>(texts: &[u8], ends: &[usize], out: &mut [An
     }
 }
 
+/// The texts of the first fractions, a line each, by `decimal_text` as the library's row has them.
 #[inline(never)]
 pub fn text<T: Number + Integer>(pairs: &[Pair<T>], out: &mut [u8]) -> usize {
+    let mut at = 0;
+    for pair in pairs {
+        let text = pair.0.decimal_text();
+        let bytes = text.as_str().as_bytes();
+        out[at..at + bytes.len()].copy_from_slice(bytes);
+        at += bytes.len();
+        out[at] = b'\n';
+        at += 1;
+    }
+    at
+}
+
+/// The same by std's formatter.
+#[inline(never)]
+pub fn printed<T: Number + Integer>(pairs: &[Pair<T>], out: &mut [u8]) -> usize {
     let room = out.len();
     let mut rest = out;
     for pair in pairs {

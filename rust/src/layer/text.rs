@@ -2,6 +2,7 @@
 use super::integer::Integer;
 use super::ratio::{Proved, Ratio};
 use crate::proved::num_rational::ParseRatioError;
+use crate::proved::ratio_core::DecimalText;
 use core::fmt;
 use core::str::FromStr;
 use num_traits::Num;
@@ -12,6 +13,20 @@ impl<T: Integer> FromStr for Ratio<T> {
     #[inline]
     fn from_str(text: &str) -> Result<Ratio<T>, ParseRatioError> {
         Proved::<T>::from_str(text).map(Ratio::from_proved)
+    }
+}
+
+impl<T: Integer> Ratio<T> {
+    /// The text that `{}` writes, without a formatter, which takes less time; num-rational has no such call.
+    ///
+    /// ```
+    /// use bakhsney::Ratio;
+    ///
+    /// assert_eq!(Ratio::new(-6, 8).decimal_text().as_str(), "-3/4");
+    /// ```
+    #[inline]
+    pub fn decimal_text(&self) -> DecimalText {
+        self.proved().decimal_text()
     }
 }
 

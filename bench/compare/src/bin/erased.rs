@@ -62,6 +62,8 @@ type Erased<T> = fn(&[erased::Pair<T>], &mut [Answer<T>]);
 
 type Theirs<T> = fn(&[theirs::Pair<T>], &mut [Answer<T>]);
 
+type Print<T> = fn(&[erased::Pair<T>], &mut [u8]) -> usize;
+
 struct Bench<'a, C: Crossing> {
     exports: &'a Exports<C>,
     compared: usize,
@@ -140,9 +142,11 @@ where
         let len = inputs.fields.len();
         let (mut a, mut b) = (vec![0u8; 84 * len], vec![1u8; 84 * len]);
         let a_len = unsafe { (self.exports.text)(inputs.library.as_ptr(), len, a.as_mut_ptr(), 84 * len) };
-        let b_len = erased::text(&inputs.erased, &mut b);
-        if a[..a_len] != b[..b_len] {
-            self.differs("text", &inputs.fields[0], &"from here on", &"other texts");
+        for print in [erased::text, erased::printed] {
+            let b_len = print(&inputs.erased, &mut b);
+            if a[..a_len] != b[..b_len] {
+                self.differs("text", &inputs.fields[0], &"from here on", &"other texts");
+            }
         }
         let (bytes, ends) = joined(&inputs.fields);
         let mut a = vec![Place::<C>::empty(); len];
@@ -178,13 +182,15 @@ where
             &mut || theirs::from_str(&bytes, &ends, &mut b),
         );
         let (mut a, mut b) = (vec![0u8; 84 * len], vec![0u8; 84 * len]);
-        let mut erased = || {
-            erased::text(&low.erased, &mut a);
-        };
-        let mut theirs = || {
-            theirs::text(&low.theirs, &mut b);
-        };
-        row::<C>("text", kind, len, &mut erased, &mut theirs);
+        for (call, print) in [("text", erased::text as Print<C::Number>), ("`{}`", erased::printed)] {
+            let mut erased = || {
+                print(&low.erased, &mut a);
+            };
+            let mut theirs = || {
+                theirs::text(&low.theirs, &mut b);
+            };
+            row::<C>(call, kind, len, &mut erased, &mut theirs);
+        }
     }
 }
 

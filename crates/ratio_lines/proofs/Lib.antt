@@ -10,6 +10,7 @@ pub mod AnswersExist
 pub mod LineLaws
 pub mod LinesSoFar
 pub mod Pieces
+pub mod PlainLines
 pub mod PieceSoFar
 pub mod DeviceCalls
 pub mod RunSoFar

@@ -6,5 +6,6 @@ pub mod Parts
 pub mod KeptLine
 pub mod Devices
 pub mod Cuts
+pub mod PlainLine
 pub mod Run
 pub mod SideBySide

@@ -169,7 +169,7 @@ fn is_chain(left: &str, operator: &str, right: &str, parts: Option<&str>) -> boo
 }
 
 /// The answer to at least three parts.
-fn answer_chain(left: &str, operator: &str, right: &str, parts: Option<&str>) -> AnswerText
+pub fn answer_chain(left: &str, operator: &str, right: &str, parts: Option<&str>) -> AnswerText
     ensures { IsPartsAnswer (left.now ∷ operator.now ∷ right.now ∷ parts_of parts.entry) (bytes_of result) }
 {
     if !is_chain(left, operator, right, parts) {

@@ -17,5 +17,6 @@ pub mod line;
 pub mod operator;
 pub mod parts;
 pub mod piece;
+pub mod plain_line;
 #[cfg(test)]
 mod tests;

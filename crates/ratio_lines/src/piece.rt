@@ -1,16 +1,18 @@
 //! The answers to the lines that end in one piece of the input.
-ghost use Rattle.std.specs.Prelude.{◌≡◌, ◌++◌, ◌∷◌, [], Some, OnOk};
+ghost use Rattle.std.specs.Prelude.{◌≡◌, ◌++◌, ◌∷◌, [], Some, OnOk, if◌then◌else◌, is_some};
 ghost use Rattle.ratio_lines.specs.AnswerText.{bytes_of};
 ghost use Rattle.ratio_lines.specs.Devices.{Gathers, GathersFor, change_of};
-ghost use Rattle.ratio_lines.specs.KeptLine.{ArePieceAnswers, IsKeptAnswer, extended, line_after};
+ghost use Rattle.ratio_lines.specs.KeptLine.{ArePieceAnswers, line_after};
+ghost use Rattle.ratio_lines.specs.PlainLine.{IsNextAnswer};
 
-use crate::answer::answer;
+use crate::answer::{answer, answer_chain};
 use crate::answer_text::AnswerText;
 use crate::counted::CalcWrite;
 use crate::cut::cut;
 use crate::fault::CalcFault;
 use crate::gathered::Gathered;
 use crate::line::Line;
+use crate::plain_line::plain_line;
 use either::Either;
 
 /// Gathers an answer without its line end.
@@ -44,19 +46,31 @@ pub fn put_answer<W: CalcWrite>(
     gathered.put(writer, b"\n")
 }
 
-/// The answer to the line that ends after these bytes. A line that begins with them is answered where
-/// they stand.
-fn answer_ended_line(line: &mut Line, bytes: &[u8]) -> AnswerText
-    ensures answered { IsKeptAnswer (extended line.old bytes.now) (bytes_of result) }
-    ensures line { line.new ≡ Some [] }
+/// The answer to the line that the bytes begin with, and what stands after its line end.
+fn first_answer(bytes: &[u8]) -> Option<(AnswerText, &[u8])>
+    ensures { IsNextAnswer (Some []) bytes.now result }
+{
+    if let Some(line) = plain_line(bytes) {
+        return Some((answer_chain(line.left, line.operator, line.right, None), line.after));
+    }
+    let (line, after) = cut(bytes, b'\n')?;
+    Some((answer(line), after))
+}
+
+/// The answer to the line that ends first in the bytes, and what stands after its line end. A line that
+/// begins in them is answered where it stands.
+fn next_answer<'a>(line: &mut Line, bytes: &'a [u8]) -> Option<(AnswerText, &'a [u8])>
+    ensures answered { IsNextAnswer line.old bytes.now result }
+    ensures line { line.new ≡ (if is_some result then Some [] else line.old) }
 {
     if line.is_empty() {
-        return answer(bytes);
+        return first_answer(bytes);
     }
-    line.extend(bytes);
+    let (ended, after) = cut(bytes, b'\n')?;
+    line.extend(ended);
     let answer = line.answer();
     line.clear();
-    answer
+    Some((answer, after))
 }
 
 /// Answers each line that ends in the piece, and keeps what stands after the last line end.
@@ -71,8 +85,8 @@ pub fn answer_piece<W: CalcWrite>(
         gathered.old gathered.new result }
 {
     let mut rest = piece;
-    while let Some((bytes, after)) = cut(rest, b'\n') {
-        put_answer(gathered, writer, &answer_ended_line(line, bytes))?;
+    while let Some((answer, after)) = next_answer(line, rest) {
+        put_answer(gathered, writer, &answer)?;
         rest = after;
     }
     line.extend(rest);

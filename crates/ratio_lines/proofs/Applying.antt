@@ -13,6 +13,7 @@ use Rattle.ratio_core.specs.declared.text.form.Form.TheVariants.{Decimal}
 use Rattle.ratio_lines.specs.AnswerText.{bytes_of, outcome_of}
 use Rattle.ratio_lines.specs.Answers.{AreRead, IsApplied, IsOperandsAnswer, IsOutcome, IsTextsAnswer, Outcome, operator_parts, operators_of, right_parts}
 use Rattle.ratio_lines.specs.Operands.{IsOperand, operator_of}
+use Rattle.ratio_lines.specs.Parts.{OperatesOn, RefusesFirst}
 use Rattle.ratio_lines.specs.declared.operator.Operator.{Operator}
 use Rattle.ratio_lines.proofs.AnswersExist.{rights_exist}
 use Rattle.ratio_lines.proofs.Outcomes.{IsPositive, outcome_positive}
@@ -131,6 +132,11 @@ second_refused operators left right rights answer x kind said reads refused same
   is_answer = is ∙ ap (λ k. codes "error: right: " ++ refusal_text k) same;
 }
 
+-- and so does the first of the two that is refused
+pub first_refused : (operators : List Operator) (left right : List ℕ) (rights : List (List ℕ)) (answer : List ℕ) → RefusesFirst left right answer → IsTextsAnswer operators left (right ∷ rights) answer
+first_refused operators left right rights answer (inl h) = left_refused operators left (right ∷ rights) answer h.0 h.0 h.1 refl h.2
+first_refused operators left right rights answer (inr h) = second_refused operators left right rights answer h.0 h.1 h.1 h.2 h.3 refl h.4
+
 -- a later operand that is refused answers the line
 pub applied_refused : (outcome : Outcome) (rest more : List (List ℕ)) (operators : List Operator) (left : List ℕ) (rights : List (List ℕ)) (part right answer : List ℕ) (kind said : RatioErrorKind)
     → AppliedSoFar outcome rest operators left rights → rest ≡ part ∷ right ∷ more → IsOperand right (Err kind) → said ≡ kind → answer ≡ codes "error: right: " ++ refusal_text said
@@ -167,3 +173,10 @@ applied_named outcome rest more operators left rights part p cut none =
     let here : operators_of (operator_parts rest) ≡ None =
     ap operators_of cut ∙ ap (option_and_then (λ operator. option_map (λ others. operator ∷ others) (operators_of more))) none in
     let known : operators_of (operator_parts rest) ≡ Some p.others = p.named in cc
+
+-- one operator between two operands
+pub two_answered : {T : _} {i : _} {o : _} {e : _} {p : _} {h : _} (outcome : Either (Bor (List ℕ)) (Ratio T i o e p h)) (left : List ℕ) (operator : Operator) (right : List ℕ)
+    → OperatesOn left operator right (outcome_of outcome) → IsTextsAnswer (operator ∷ []) left (right ∷ []) (bytes_of outcome)
+two_answered outcome left operator right p =
+    applied_all outcome [] (operator ∷ []) left (right ∷ [])
+    (applied_first operator [] left right [] p.first p.second (outcome_of outcome) refl p.left_reads p.right_reads p.is_outcome) refl

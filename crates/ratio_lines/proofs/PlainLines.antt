@@ -1,21 +1,29 @@
 -- A line of graphic characters with two spaces among them.
-use Rattle.std.proofs.Common.{◌≡◌, get_or, take, ℕ, ◌<◌, ◌≤◌, ◌+◌, List, [], ◌∷◌, ◌++◌, length, Bool, true, false, ◌==◌, ◌&&◌, ◌||◌, refl, ap, ◌∙◌, sym, arith, append_assoc, length-append, cond, Option, Some}
+use Rattle.std.proofs.Common.{◌≡◌, ◌-◌, get_or, take, drop, not, suc, None, length-drop, ℕ, ◌<◌, ◌≤◌, ◌+◌, List, [], ◌∷◌, ◌++◌, length, Bool, true, false, ◌==◌, ◌&&◌, ◌||◌, refl, ap, ◌∙◌, sym, arith, append_assoc, length-append, cond, Option, Some}
+use Rattle.std.specs.Prelude.{option_and_then, option_map}
 use Rattle.std.specs.Char.{is_ascii_graphic}
 use Rattle.std.specs.List.{list_all, list_any, slice_split, All}
 use Rattle.std.specs.Str.{IsUtf8}
 use Rattle.std.proofs.lemmas.Bool.Decides.{nat_tests}
 use Rattle.std.proofs.lemmas.List.Folds.{list_all-append, list_all_more}
 use Rattle.std.proofs.lemmas.List.Sums.{AllPass-from_list_all}
+use Rattle.std.proofs.lemmas.List.{drop-drop, drop_more, get_or-drop, take-append-drop}
 use Rattle.std.proofs.lemmas.Str.{IsUtf8-from_ascii}
 use Rattle.std.proofs.lemmas.Str.Ascii.{IsAscii-from_all}
-use Rattle.ratio_lines.specs.Answers.{IsAnswer, IsPartsAnswer, is_space, without_return}
+use Rattle.ratio_lines.specs.Answers.{IsAnswer, IsPartsAnswer, IsTextsAnswer, has_byte, is_chain, is_space, operators_of, without_return}
 use Rattle.ratio_lines.specs.Cuts.{HasNone}
-use Rattle.ratio_lines.specs.PlainLine.{BeginsPlain, EndsLine, IsGraphic}
+use Rattle.ratio_lines.specs.PlainLine.{BeginsPlain, IsFirstAnswer, EndsPart, IsGraphic}
+use Rattle.ratio_lines.specs.Operands.{operator_of}
+use Rattle.ratio_lines.specs.declared.operator.Operator.{Operator}
 use Rattle.ratio_lines.specs.declared.limits.TheConstants.{LONGEST_LINE}
 use Rattle.ratio_lines.proofs.Bytes.{same_byte}
 use Rattle.ratio_lines.proofs.Cuts.{first_none, first_of_parts, one_part}
+use Rattle.ratio_lines.proofs.OperatorsSoFar.{chain_of}
 use Rattle.ratio_lines.proofs.Pieces.{answer_kept}
 use Rattle.ratio_lines.proofs.Returns.{is_text}
+
+some_byte : (n : ℕ) → not (suc n == 0) ≡ true
+some_byte n = grind (arith, nat_tests)
 
 -- the bytes of a plain line before its line end
 abbrev is_plain : ℕ → Bool
@@ -58,10 +66,21 @@ all_below p each text h = λ k d within. each (get_or text k d) (AllPass-from_li
 pub graphic_text : (text : List ℕ) → IsGraphic text → IsUtf8 text
 graphic_text text h = IsUtf8-from_ascii text (IsAscii-from_all text (all_below is_ascii_graphic small text h))
 
+-- no graphic byte yet
+pub graphic_start : (bytes : List ℕ) (from : ℕ) → IsGraphic (take (from - from) (drop from bytes))
+graphic_start bytes from = let none : from - from ≡ 0 = omega arith in rw none refl
+
 -- one more graphic byte
-pub graphic_more : (bytes : List ℕ) (end : ℕ) → end < length bytes → IsGraphic (take end bytes) → is_ascii_graphic (get_or bytes end 0) ≡ true → IsGraphic (take (end + 1) bytes)
-graphic_more bytes end within h next =
-    list_all_more is_ascii_graphic bytes end 0 within ∙ ap (λ t. t && is_ascii_graphic (get_or bytes end 0)) h ∙ next
+pub graphic_more : (bytes : List ℕ) (from end : ℕ) → from ≤ end → end < length bytes → IsGraphic (take (end - from) (drop from bytes)) → is_ascii_graphic (get_or bytes end 0) ≡ true
+    → IsGraphic (take (end + 1 - from) (drop from bytes))
+graphic_more bytes from end after within h next =
+    let here : from + (end - from) ≡ end = omega arith in
+    let room : end - from < length (drop from bytes) = omega (arith, length-drop from bytes) in
+    let one : end + 1 - from ≡ end - from + 1 = omega arith in
+    let byte : get_or (drop from bytes) (end - from) 0 ≡ get_or bytes end 0 = get_or-drop from bytes (end - from) 0 ∙ ap (λ n. get_or bytes n 0) here in
+    rw one
+    (list_all_more is_ascii_graphic (drop from bytes) (end - from) 0 room ∙ ap (λ t. t && is_ascii_graphic (get_or (drop from bytes) (end - from) 0)) h
+    ∙ ap is_ascii_graphic byte ∙ next)
 
 -- text without a carriage return
 pub no_return : (text : List ℕ) → HasNone 13 text → without_return text ≡ text
@@ -90,26 +109,60 @@ plain_split : (left operator right after : List ℕ) → left ++ 32 ∷ (operato
 plain_split left operator right after =
     ap (λ xs. left ++ 32 ∷ xs) (sym (append_assoc operator (32 ∷ right) (10 ∷ after))) ∙ sym (append_assoc left (32 ∷ (operator ++ 32 ∷ right)) (10 ∷ after))
 
--- the answer to the parts of a plain line answers the line
-pub plain_answered : (bytes left operator right after answer : List ℕ) → BeginsPlain bytes left operator right after → IsPartsAnswer (left ∷ operator ∷ right ∷ []) answer
-    → EndsLine (Some []) bytes after answer
+named_some : (name : List ℕ) (operator : Operator) → operator_of name ≡ Some operator → has_byte name ≡ true
+named_some [] operator named = absurd (let no : operator_of [] ≡ None = refl in cc)
+named_some (byte ∷ name) operator named = some_byte (length name)
+
+-- three parts are a chain of one operator
+chained : (left name right answer : List ℕ) (operator : Operator) → operator_of name ≡ Some operator → has_byte left ≡ true → has_byte right ≡ true
+    → IsTextsAnswer (operator ∷ []) left (right ∷ []) answer → IsPartsAnswer (left ∷ name ∷ right ∷ []) answer
+chained left name right answer operator named left_some right_some h =
+    let is : is_chain (left ∷ name ∷ right ∷ []) ≡ true =
+    chain_of left name right [] ∙ ap (λ t. t && (has_byte name && (has_byte right && true))) left_some
+    ∙ ap (λ t. t && (has_byte right && true)) (named_some name operator named) ∙ ap (λ t. t && true) right_some in
+    let operators : operators_of (name ∷ []) ≡ Some (operator ∷ []) = ap (option_and_then (λ first. option_map (λ others. first ∷ others) (Some []))) named in
+    rw (is, operators) h
+
+-- the answer to the operator and the operands of a plain line answers the line
+pub plain_answered : (bytes left : List ℕ) (operator : Operator) (right after answer : List ℕ) → BeginsPlain bytes left operator right after
+    → IsTextsAnswer (operator ∷ []) left (right ∷ []) answer → IsFirstAnswer (Some []) bytes after answer
 plain_answered bytes left operator right after answer p h =
-    let line = left ++ 32 ∷ (operator ++ 32 ∷ right) in
-    let plain = plain_bytes left operator right p.left_graphic p.operator_graphic p.right_graphic in
+    let line = left ++ 32 ∷ (p.name ++ 32 ∷ right) in
+    let plain = plain_bytes left p.name right p.left_graphic p.name_graphic p.right_graphic in
     let text : IsUtf8 line = IsUtf8-from_ascii line (IsAscii-from_all line (all_below is_plain plain_small line plain)) in
-    let same : slice_split is_space (without_return line) ≡ left ∷ operator ∷ right ∷ [] =
+    let same : slice_split is_space (without_return line) ≡ left ∷ p.name ∷ right ∷ [] =
     ap (slice_split is_space) (no_return line (none_passes is_plain 13 refl line plain))
-    ∙ parts_of_plain left operator right p.left_graphic p.operator_graphic p.right_graphic in
-    let short : length line ≤ LONGEST_LINE = omega (arith, p.short, plain_length left operator right) in
+    ∙ parts_of_plain left p.name right p.left_graphic p.name_graphic p.right_graphic in
+    let short : length line ≤ LONGEST_LINE = omega (arith, p.short, plain_length left p.name right) in
     record {
       ended = line;
       none = none_passes is_plain 10 refl line plain;
-      split = p.split ∙ plain_split left operator right after;
-      answers = answer_kept line answer (is_text line answer short text (rw same h));
+      split = p.split ∙ plain_split left p.name right after;
+      answers = answer_kept line answer (is_text line answer short text (rw same (chained left p.name right answer operator p.named p.left_some p.right_some h)));
     }
 
+-- ---- where the parts of a plain line end
+
+part_split : (bytes : List ℕ) (from byte end : ℕ) → from ≤ end → end < length bytes → get_or bytes end 0 ≡ byte
+    → drop from bytes ≡ take (end - from) (drop from bytes) ++ byte ∷ drop (end + 1) bytes
+part_split bytes from byte end after within is =
+    let same : from + (end - from) ≡ end = omega arith in
+    let back : drop (end - from) (drop from bytes) ≡ byte ∷ drop (end + 1) bytes =
+    drop-drop (end - from) from bytes ∙ ap (λ n. drop n bytes) same ∙ drop_more bytes end 0 within ∙ ap (λ b. b ∷ drop (end + 1) bytes) is in
+    sym (take-append-drop (end - from) (drop from bytes)) ∙ ap (λ xs. take (end - from) (drop from bytes) ++ xs) back
+
+-- a part that ends at a byte
+pub part_ends : (bytes : List ℕ) (from byte end : ℕ) → from ≤ end → end < length bytes → IsGraphic (take (end - from) (drop from bytes)) → get_or bytes end 0 ≡ byte
+    → EndsPart bytes from byte end
+part_ends bytes from byte end after within graphic is = record {
+  after = after;
+  within = within;
+  graphic = graphic;
+  split = part_split bytes from byte end after within is;
+}
+
 -- the answer to the line before the first line end
-pub line_answered : (bytes line after answer : List ℕ) → HasNone 10 line → bytes ≡ line ++ 10 ∷ after → IsAnswer line answer → EndsLine (Some []) bytes after answer
+pub line_answered : (bytes line after answer : List ℕ) → HasNone 10 line → bytes ≡ line ++ 10 ∷ after → IsAnswer line answer → IsFirstAnswer (Some []) bytes after answer
 line_answered bytes line after answer none split h = record { ended = line; none = none; split = split; answers = answer_kept line answer h }
 
 -- a line that is empty is as it was, whether it ended or not

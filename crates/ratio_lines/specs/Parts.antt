@@ -1,9 +1,12 @@
 -- What is left of a line while its parts are taken one by one.
-use Rattle.std.specs.Prelude.{◌≡◌, ℕ, List, [], ◌∷◌, Bool, false, ◌&&◌, ◌==◌, ◌%◌, length, Option, None, Some, option_map}
+use Rattle.std.specs.Prelude.{◌≡◌, ◌⊎◌, ℕ, ℤ, List, [], ◌∷◌, ◌++◌, Bool, false, ◌&&◌, ◌==◌, ◌%◌, length, Option, None, Some, Ok, Err, option_map, codes}
 use Rattle.std.specs.Borrow.{Bor}
 use Rattle.std.specs.List.{list_all, list_any, slice_split}
-use Rattle.ratio_lines.specs.Answers.{has_byte, is_cmp, is_space, operators_of}
+use Rattle.ratio_core.specs.Refusal.{refusal_text}
+use Rattle.ratio_core.specs.declared.parse_error.RatioErrorKind.{RatioErrorKind}
+use Rattle.ratio_lines.specs.Answers.{IsOutcome, Outcome, has_byte, is_cmp, is_space, operators_of}
 use Rattle.ratio_lines.specs.Lines.{front_of}
+use Rattle.ratio_lines.specs.Operands.{IsOperand}
 use Rattle.ratio_lines.specs.declared.operator.Operator.{Operator}
 
 -- these parts are left: none, or those of a text
@@ -24,3 +27,17 @@ pub record AreChained (first : Operator) (parts : List (List ℕ)) : Type 0 wher
   pub others : List Operator
   pub named : operators_of parts ≡ Some others
   pub cmp_last : list_any is_cmp (front_of (first ∷ others)) ≡ false
+
+-- an operator between what two texts read as gives this
+pub record OperatesOn (left : List ℕ) (operator : Operator) (right : List ℕ) (outcome : Outcome) : Type 0 where
+  pub first : ℤ × ℤ
+  pub second : ℤ × ℤ
+  pub left_reads : IsOperand left (Ok first)
+  pub right_reads : IsOperand right (Ok second)
+  pub is_outcome : IsOutcome operator first second outcome
+
+-- the first of two texts is refused, or the second one alone, and this says so
+abbrev pub RefusesFirst : List ℕ → List ℕ → List ℕ → Type 0
+RefusesFirst left right answer =
+    ((kind : RatioErrorKind) × IsOperand left (Err kind) × (answer ≡ codes "error: left: " ++ refusal_text kind))
+    ⊎ ((first : ℤ × ℤ) × (kind : RatioErrorKind) × IsOperand left (Ok first) × IsOperand right (Err kind) × (answer ≡ codes "error: right: " ++ refusal_text kind))

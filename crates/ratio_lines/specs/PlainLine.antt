@@ -1,29 +1,43 @@
 -- The line that ends first, and one that is cut into its parts as its end is looked for.
-use Rattle.std.specs.Prelude.{◌≡◌, ℕ, ◌+◌, ◌≤◌, List, [], ◌∷◌, ◌++◌, length, true, Option, None, Some}
+use Rattle.std.specs.Prelude.{◌≡◌, ℕ, ◌+◌, ◌-◌, ◌<◌, ◌≤◌, List, ◌∷◌, ◌++◌, length, take, drop, true, Option, None, Some}
 use Rattle.std.specs.Borrow.{Bor}
 use Rattle.std.specs.Char.{is_ascii_graphic}
 use Rattle.std.specs.List.{list_all}
 use Rattle.either.specs.declared.Either.{Either}
 use Rattle.num_rational.specs.declared.ratio.Ratio.{Ratio}
 use Rattle.ratio_lines.specs.AnswerText.{bytes_of}
+use Rattle.ratio_lines.specs.Answers.{has_byte}
 use Rattle.ratio_lines.specs.Cuts.{HasNone}
 use Rattle.ratio_lines.specs.KeptLine.{IsKeptAnswer, extended}
+use Rattle.ratio_lines.specs.Operands.{operator_of}
+use Rattle.ratio_lines.specs.declared.operator.Operator.{Operator}
 use Rattle.ratio_lines.specs.declared.limits.TheConstants.{LONGEST_LINE}
 
 -- each byte is a character from `!` to `~`
 abbrev pub IsGraphic : List ℕ → Type 0
 IsGraphic text = list_all is_ascii_graphic text ≡ true
 
--- the bytes begin with a line of three parts of such characters, which is not too long, and after its line end stand these
-pub record BeginsPlain (bytes left operator right after : List ℕ) : Type 0 where
-  pub split : bytes ≡ left ++ 32 ∷ (operator ++ 32 ∷ (right ++ 10 ∷ after))
+-- such characters stand from a place to another one, and this byte after them
+pub record EndsPart (bytes : List ℕ) (from byte end : ℕ) : Type 0 where
+  pub after : from ≤ end
+  pub within : end < length bytes
+  pub graphic : IsGraphic (take (end - from) (drop from bytes))
+  pub split : drop from bytes ≡ take (end - from) (drop from bytes) ++ byte ∷ drop (end + 1) bytes
+
+-- the bytes begin with a line of two operands of such characters and an operator between them, which is not too long, and these stand after its line end
+pub record BeginsPlain (bytes left : List ℕ) (operator : Operator) (right after : List ℕ) : Type 0 where
+  pub name : List ℕ
+  pub split : bytes ≡ left ++ 32 ∷ (name ++ 32 ∷ (right ++ 10 ∷ after))
+  pub named : operator_of name ≡ Some operator
   pub left_graphic : IsGraphic left
-  pub operator_graphic : IsGraphic operator
+  pub name_graphic : IsGraphic name
   pub right_graphic : IsGraphic right
-  pub short : length left + length operator + length right + 2 ≤ LONGEST_LINE
+  pub left_some : has_byte left ≡ true
+  pub right_some : has_byte right ≡ true
+  pub short : length left + length name + length right + 2 ≤ LONGEST_LINE
 
 -- the bytes are what a begun line goes on with, a line end and what stands after it, and this answers that line
-pub record EndsLine (line : Option (List ℕ)) (bytes after answer : List ℕ) : Type 0 where
+pub record IsFirstAnswer (line : Option (List ℕ)) (bytes after answer : List ℕ) : Type 0 where
   pub ended : List ℕ
   pub none : HasNone 10 ended
   pub split : bytes ≡ ended ++ 10 ∷ after
@@ -32,4 +46,4 @@ pub record EndsLine (line : Option (List ℕ)) (bytes after answer : List ℕ) :
 -- what the first line end in some bytes answers, and what stands after it; or there is none
 abbrev pub IsNextAnswer : {T : _} {i : _} {o : _} {e : _} {p : _} {h : _} → Option (List ℕ) → List ℕ → Option (Either (Bor (List ℕ)) (Ratio T i o e p h) × Bor (List ℕ)) → Type 0
 IsNextAnswer line bytes None = HasNone 10 bytes
-IsNextAnswer line bytes (Some next) = EndsLine line bytes next.1.now (bytes_of next.0)
+IsNextAnswer line bytes (Some next) = IsFirstAnswer line bytes next.1.now (bytes_of next.0)

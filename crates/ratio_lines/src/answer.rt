@@ -1,5 +1,5 @@
 //! The answer to one line.
-ghost use Rattle.std.specs.Prelude.{◌≡◌, ◌++◌, ◌∷◌, [], ◌≤◌, ◌<ℤ◌, ℕ, List, MatchOption, codes, length, pos, unwrap_or, ⊤};
+ghost use Rattle.std.specs.Prelude.{◌≡◌, ◌++◌, ◌∷◌, [], ◌≤◌, ◌<ℤ◌, ℕ, List, MatchOption, codes, length, pos, unwrap_or, MatchResult, ⊤};
 ghost use Rattle.std.specs.List.{slice_split};
 ghost use Rattle.either.specs.Either.{MatchEither};
 ghost use Rattle.either.specs.declared.Either.TheVariants.{Left};
@@ -8,7 +8,7 @@ ghost use Rattle.ratio_core.specs.Refusal.{refusal_text};
 ghost use Rattle.ratio_lines.specs.Answers.{IsAnswer, IsChainAnswer, IsOutcome, IsPartsAnswer, IsTextsAnswer, is_chain, is_space, operator_parts, operators_of, order_text, outcome_of_result, right_parts};
 ghost use Rattle.ratio_lines.specs.AnswerText.{bytes_of, outcome_of};
 ghost use Rattle.ratio_lines.specs.Operands.{number_of};
-ghost use Rattle.ratio_lines.specs.Parts.{AreChained, parts_of, with_first};
+ghost use Rattle.ratio_lines.specs.Parts.{AreChained, OperatesOn, RefusesFirst, parts_of, with_first};
 
 use crate::answer_text::AnswerText;
 use crate::limits::LONGEST_LINE;
@@ -98,6 +98,33 @@ fn right_refusal(kind: RatioErrorKind) -> AnswerText
     })
 }
 
+/// What an operator between two operands gives, or the refusal of the first operand that is refused.
+#[inline(always)]
+fn first_outcome(left: &str, operator: Operator, right: &str) -> Result<AnswerText, AnswerText>
+    ensures { MatchResult result
+        (λ outcome. OperatesOn left.now operator right.now (outcome_of outcome))
+        (λ refusal. RefusesFirst left.now right.now (bytes_of refusal)) }
+{
+    let first = match Rational64::from_str(left) {
+        Ok(first) => first,
+        Err(refusal) => return Err(left_refusal(refusal.kind())),
+    };
+    match Rational64::from_str(right) {
+        Ok(second) => Ok(apply_operator(operator, first, second)),
+        Err(refusal) => Err(right_refusal(refusal.kind())),
+    }
+}
+
+/// The answer to one operator between two operands.
+pub fn answer_two(left: &str, operator: Operator, right: &str) -> AnswerText
+    ensures { IsTextsAnswer (operator ∷ []) left.now (right.now ∷ []) (bytes_of result) }
+{
+    match first_outcome(left, operator, right) {
+        Ok(outcome) => outcome,
+        Err(refusal) => refusal,
+    }
+}
+
 /// The answer to operators between operands, which are applied from left to right. Each operand is
 /// read once; those after an operator that has answered the line are read too, since their refusal
 /// comes first.
@@ -105,15 +132,10 @@ fn answer_texts(left: &str, operator: Operator, right: &str, parts: Option<&str>
     requires { AreChained operator (operator_parts (parts_of parts)) }
     ensures { IsTextsAnswer (operator ∷ unwrap_or (operators_of (operator_parts (parts_of parts.entry))) []) left.now (right.now ∷ right_parts (parts_of parts.entry)) (bytes_of result) }
 {
-    let first = match Rational64::from_str(left) {
-        Ok(first) => first,
-        Err(refusal) => return left_refusal(refusal.kind()),
+    let mut outcome = match first_outcome(left, operator, right) {
+        Ok(outcome) => outcome,
+        Err(refusal) => return refusal,
     };
-    let second = match Rational64::from_str(right) {
-        Ok(second) => second,
-        Err(refusal) => return right_refusal(refusal.kind()),
-    };
-    let mut outcome = apply_operator(operator, first, second);
     let mut rest = parts;
     while let Some(text) = rest {
         let (part, after) = first_part(text);
@@ -169,7 +191,7 @@ fn is_chain(left: &str, operator: &str, right: &str, parts: Option<&str>) -> boo
 }
 
 /// The answer to at least three parts.
-pub fn answer_chain(left: &str, operator: &str, right: &str, parts: Option<&str>) -> AnswerText
+fn answer_chain(left: &str, operator: &str, right: &str, parts: Option<&str>) -> AnswerText
     ensures { IsPartsAnswer (left.now ∷ operator.now ∷ right.now ∷ parts_of parts.entry) (bytes_of result) }
 {
     if !is_chain(left, operator, right, parts) {

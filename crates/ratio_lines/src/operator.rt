@@ -1,5 +1,5 @@
 //! The operators of the calculator.
-ghost use Rattle.std.specs.Prelude.{◌≡◌};
+ghost use Rattle.std.specs.Prelude.{◌≡◌, ◌∷◌, []};
 ghost use Rattle.ratio_lines.specs.Operands.{operator_of};
 
 /// What a line asks of its two operands.
@@ -28,19 +28,24 @@ impl Operator {
 pub fn operator_named(part: &str) -> Option<Operator>
     ensures { result ≡ operator_of part.now }
 {
-    if part == "+" {
-        Some(Operator::Add)
-    } else if part == "-" {
-        Some(Operator::Sub)
-    } else if part == "*" {
-        Some(Operator::Mul)
-    } else if part == "/" {
-        Some(Operator::Div)
-    } else if part == "%" {
-        Some(Operator::Rem)
-    } else if part == "cmp" {
-        Some(Operator::Cmp)
-    } else {
-        None
+    match part.as_bytes() {
+        [byte] => operator_of_byte(*byte),
+        [b'c', b'm', b'p'] => Some(Operator::Cmp),
+        _ => None,
+    }
+}
+
+// The operator that one byte names.
+#[inline(always)]
+fn operator_of_byte(byte: u8) -> Option<Operator>
+    ensures { result ≡ operator_of (byte ∷ []) }
+{
+    match byte {
+        b'+' => Some(Operator::Add),
+        b'-' => Some(Operator::Sub),
+        b'*' => Some(Operator::Mul),
+        b'/' => Some(Operator::Div),
+        b'%' => Some(Operator::Rem),
+        _ => None,
     }
 }

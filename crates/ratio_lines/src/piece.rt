@@ -5,7 +5,7 @@ ghost use Rattle.ratio_lines.specs.Devices.{Gathers, GathersFor, change_of};
 ghost use Rattle.ratio_lines.specs.KeptLine.{ArePieceAnswers, line_after};
 ghost use Rattle.ratio_lines.specs.PlainLine.{IsNextAnswer};
 
-use crate::answer::{answer, answer_chain};
+use crate::answer::{answer, answer_two};
 use crate::answer_text::AnswerText;
 use crate::counted::CalcWrite;
 use crate::cut::cut;
@@ -51,7 +51,7 @@ fn first_answer(bytes: &[u8]) -> Option<(AnswerText, &[u8])>
     ensures { IsNextAnswer (Some []) bytes.now result }
 {
     if let Some(line) = plain_line(bytes) {
-        return Some((answer_chain(line.left, line.operator, line.right, None), line.after));
+        return Some((answer_two(line.left, line.operator, line.right), line.after));
     }
     let (line, after) = cut(bytes, b'\n')?;
     Some((answer(line), after))

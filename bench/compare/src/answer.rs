@@ -3,7 +3,7 @@
 use num_integer::Integer;
 use num_rational::Ratio;
 use num_traits::{CheckedAdd, CheckedDiv, CheckedMul, CheckedSub};
-use std::fmt::{Debug, Display};
+use std::fmt::{Debug, Display, LowerHex};
 use std::hash::Hash;
 use std::str::FromStr;
 
@@ -45,6 +45,7 @@ pub trait Number:
     + CheckedDiv
     + Hash
     + Display
+    + LowerHex
     + Debug
     + FromStr
 {

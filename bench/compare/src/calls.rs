@@ -3,7 +3,7 @@
 use crate::answer::{Answer, Number};
 use crate::goals::{goal, MOST};
 use crate::kinds::{self, Fields, KINDS};
-use crate::ours::{Crossing, Exports, Pair, Place};
+use crate::ours::{Answering, Crossing, Exports, Pair, Place, Printing, Reading};
 use crate::random::Random;
 use crate::theirs;
 use crate::timing::{times, Times};
@@ -48,6 +48,10 @@ impl<C: Crossing> Inputs<C> {
 
 type Theirs<T> = fn(&[theirs::Pair<T>], &mut [Answer<T>]);
 
+type Read<T> = fn(&[u8], &[usize], &mut [Answer<T>]);
+
+type Print<T> = fn(&[theirs::Pair<T>], &mut [u8]) -> usize;
+
 /// The bench of one element type.
 pub struct Bench<'a, C: Crossing> {
     exports: &'a Exports<C>,
@@ -90,8 +94,10 @@ impl<'a, C: Crossing> Bench<'a, C> {
                 self.answers("recip", kind, &low, e.recip, theirs::recip);
                 self.powers(kind, &low);
             }
-            self.from_str(kind, &raw);
-            self.text(kind, &low);
+            self.reading("from_str", kind, &decimal(&raw.fields), e.from_str, theirs::from_str);
+            self.reading("from_str_radix", kind, &hexadecimal(&raw.fields), e.from_str_radix, theirs::from_str_radix);
+            self.printing("text", kind, &low, e.text, theirs::text);
+            self.printing("hex", kind, &low, e.hex, theirs::hex);
         }
         self.differing
     }
@@ -178,7 +184,7 @@ impl<'a, C: Crossing> Bench<'a, C> {
         call: &str,
         kind: &str,
         inputs: &Inputs<C>,
-        run: unsafe extern "C" fn(*const Pair<C>, usize, *mut Place<C>, usize),
+        run: Answering<C>,
         theirs: Theirs<C::Number>,
     ) {
         if !self.passes(call, kind) {
@@ -240,48 +246,54 @@ impl<'a, C: Crossing> Bench<'a, C> {
         self.row("pow", kind, times, Counts { both: len, ..Counts::default() });
     }
 
-    fn from_str(&mut self, kind: &str, inputs: &Inputs<C>) {
-        if !self.passes("from_str", kind) {
+    fn reading(&mut self, call: &str, kind: &str, texts: &[String], run: Reading<C>, theirs: Read<C::Number>) {
+        if !self.passes(call, kind) {
             return;
         }
-        let texts: Vec<String> = inputs.fields.iter().map(|f| format!("{}/{}", f[0], f[1])).collect();
-        let (bytes, ends) = joined(&texts);
-        let run = self.exports.from_str;
+        let (bytes, ends) = joined(texts);
         let len = texts.len();
         let mut a = vec![Place::<C>::empty(); len];
         let mut b = vec![Answer::none(8); len];
         let (places, at, to) = (a.as_mut_ptr(), bytes.as_ptr(), ends.as_ptr());
         let mut ours = || unsafe { run(at, bytes.len(), to, len, places, len) };
-        let mut theirs = || theirs::from_str(&bytes, &ends, &mut b);
+        let mut theirs = || theirs(&bytes, &ends, &mut b);
         let times = times(len, &mut ours, &mut theirs);
         for i in 0..len {
             if a[i].answer() != b[i] {
-                self.differs("from_str", &texts[i], &a[i].answer(), &b[i]);
+                self.differs(call, &texts[i], &a[i].answer(), &b[i]);
             }
         }
-        self.row("from_str", kind, times, Counts { both: len, ..Counts::default() });
+        self.row(call, kind, times, Counts { both: len, ..Counts::default() });
     }
 
-    fn text(&mut self, kind: &str, inputs: &Inputs<C>) {
-        if !self.passes("text", kind) {
+    fn printing(&mut self, call: &str, kind: &str, inputs: &Inputs<C>, run: Printing<C>, theirs: Print<C::Number>) {
+        if !self.passes(call, kind) {
             return;
         }
-        let run = self.exports.text;
         let len = inputs.ours.len();
         let room = 84 * len;
         let (mut a, mut b) = (vec![0u8; room], vec![1u8; room]);
         let (mut a_len, mut b_len) = (0, 0);
         let mut ours = || a_len = unsafe { run(inputs.ours.as_ptr(), len, a.as_mut_ptr(), room) };
-        let mut theirs = || b_len = theirs::text(&inputs.theirs, &mut b);
+        let mut theirs = || b_len = theirs(&inputs.theirs, &mut b);
         let times = times(len, &mut ours, &mut theirs);
         let (a, b) = (lines(&a[..a_len]), lines(&b[..b_len]));
         for (i, fields) in inputs.fields.iter().enumerate() {
             if a.get(i) != b.get(i) {
-                self.differs("text", fields, &a.get(i), &b.get(i));
+                self.differs(call, fields, &a.get(i), &b.get(i));
             }
         }
-        self.row("text", kind, times, Counts { both: len, ..Counts::default() });
+        self.row(call, kind, times, Counts { both: len, ..Counts::default() });
     }
+}
+
+fn decimal(fields: &[Fields]) -> Vec<String> {
+    fields.iter().map(|f| format!("{}/{}", f[0], f[1])).collect()
+}
+
+fn hexadecimal(fields: &[Fields]) -> Vec<String> {
+    let minus = |n: i128| if n < 0 { "-" } else { "" };
+    fields.iter().map(|f| format!("{}{:x}/{:x}", minus(f[0]), f[0].unsigned_abs(), f[1])).collect()
 }
 
 /// The texts one after another, and where each ends.

@@ -15,7 +15,7 @@ pub fn goal(call: &str, kind: &str) -> f64 {
         "floor" | "round" => 0.8,
         "to_integer" | "recip" | "pow" => 1.0,
         "hash" => 0.9,
-        "from_str" => 0.6,
+        "from_str" | "from_str_radix" | "hex" => 0.6,
         "text" => 0.4,
         _ => MOST,
     }

@@ -101,7 +101,11 @@ impl<C: Crossing> Place<C> {
     }
 }
 
-type Answering<C> = unsafe extern "C" fn(*const Pair<C>, usize, *mut Place<C>, usize);
+pub type Answering<C> = unsafe extern "C" fn(*const Pair<C>, usize, *mut Place<C>, usize);
+
+pub type Reading<C> = unsafe extern "C" fn(*const u8, usize, *const usize, usize, *mut Place<C>, usize);
+
+pub type Printing<C> = unsafe extern "C" fn(*const Pair<C>, usize, *mut u8, usize) -> usize;
 
 /// The exports of one element type.
 pub struct Exports<C> {
@@ -119,14 +123,16 @@ pub struct Exports<C> {
     pub to_integer: Answering<C>,
     pub recip: Answering<C>,
     pub pow: unsafe extern "C" fn(*const Pair<C>, usize, *const i32, usize, *mut Place<C>, usize),
-    pub from_str: unsafe extern "C" fn(*const u8, usize, *const usize, usize, *mut Place<C>, usize),
-    pub text: unsafe extern "C" fn(*const Pair<C>, usize, *mut u8, usize) -> usize,
+    pub from_str: Reading<C>,
+    pub from_str_radix: Reading<C>,
+    pub text: Printing<C>,
+    pub hex: Printing<C>,
 }
 
 macro_rules! exports {
     ($list:ident, $c:ty, $compare:ident, $hash:ident, $add:ident, $sub:ident, $mul:ident,
      $div:ident, $rem:ident, $reduced:ident, $gcd:ident, $floor:ident, $round:ident, $to_integer:ident,
-     $recip:ident, $pow:ident, $from_str:ident, $text:ident) => {
+     $recip:ident, $pow:ident, $from_str:ident, $from_str_radix:ident, $text:ident, $hex:ident) => {
         extern "C" {
             fn $compare(pairs: *const Pair<$c>, len: usize, out: *mut i8, room: usize);
             fn $hash(pairs: *const Pair<$c>, len: usize, out: *mut u64, room: usize);
@@ -157,7 +163,16 @@ macro_rules! exports {
                 out: *mut Place<$c>,
                 room: usize,
             );
+            fn $from_str_radix(
+                texts: *const u8,
+                len: usize,
+                ends: *const usize,
+                count: usize,
+                out: *mut Place<$c>,
+                room: usize,
+            );
             fn $text(pairs: *const Pair<$c>, len: usize, out: *mut u8, room: usize) -> usize;
+            fn $hex(pairs: *const Pair<$c>, len: usize, out: *mut u8, room: usize) -> usize;
         }
 
         pub const $list: Exports<$c> = Exports {
@@ -176,7 +191,9 @@ macro_rules! exports {
             recip: $recip,
             pow: $pow,
             from_str: $from_str,
+            from_str_radix: $from_str_radix,
             text: $text,
+            hex: $hex,
         };
     };
 }
@@ -187,7 +204,8 @@ exports!(
     fraction_calls_checked_div_32, fraction_calls_checked_rem_32, fraction_calls_reduced_32,
     fraction_calls_gcd_32, fraction_calls_floor_32, fraction_calls_round_32,
     fraction_calls_to_integer_32, fraction_calls_recip_32, fraction_calls_pow_32,
-    fraction_calls_from_str_32, fraction_calls_text_32
+    fraction_calls_from_str_32, fraction_calls_from_str_radix_32, fraction_calls_text_32,
+    fraction_calls_hex_32
 );
 exports!(
     EXPORTS_64, i64, fraction_calls_compare_64, fraction_calls_hash_64,
@@ -195,7 +213,8 @@ exports!(
     fraction_calls_checked_div_64, fraction_calls_checked_rem_64, fraction_calls_reduced_64,
     fraction_calls_gcd_64, fraction_calls_floor_64, fraction_calls_round_64,
     fraction_calls_to_integer_64, fraction_calls_recip_64, fraction_calls_pow_64,
-    fraction_calls_from_str_64, fraction_calls_text_64
+    fraction_calls_from_str_64, fraction_calls_from_str_radix_64, fraction_calls_text_64,
+    fraction_calls_hex_64
 );
 exports!(
     EXPORTS_128, Wide, fraction_calls_compare_128, fraction_calls_hash_128,
@@ -203,5 +222,6 @@ exports!(
     fraction_calls_checked_div_128, fraction_calls_checked_rem_128, fraction_calls_reduced_128,
     fraction_calls_gcd_128, fraction_calls_floor_128, fraction_calls_round_128,
     fraction_calls_to_integer_128, fraction_calls_recip_128, fraction_calls_pow_128,
-    fraction_calls_from_str_128, fraction_calls_text_128
+    fraction_calls_from_str_128, fraction_calls_from_str_radix_128, fraction_calls_text_128,
+    fraction_calls_hex_128
 );

@@ -3,7 +3,7 @@
 use crate::answer::{Answer, Number};
 use crate::mixing::Mixing;
 use num_rational::Ratio;
-use num_traits::{CheckedAdd, CheckedDiv, CheckedMul, CheckedSub};
+use num_traits::{CheckedAdd, CheckedDiv, CheckedMul, CheckedSub, Num};
 use std::cmp::Ordering;
 use std::hash::Hash;
 use std::io::Write;
@@ -126,28 +126,38 @@ pub fn pow<T: Number>(pairs: &[Pair<T>], exponents: &[i32], out: &mut [Answer<T>
     }
 }
 
-fn read<T: Number>(text: &str) -> Answer<T> {
-    match text.parse::<Ratio<T>>() {
-        Ok(x) => Answer::some(*x.numer(), *x.denom()),
-        Err(_) => Answer::none(2),
-    }
-}
-
 /// The fractions of texts that stand one after another. They end where `ends` says.
-#[inline(never)]
-pub fn from_str<T: Number>(texts: &[u8], ends: &[usize], out: &mut [Answer<T>]) {
+#[inline(always)]
+fn read<T: Number, E>(
+    texts: &[u8],
+    ends: &[usize],
+    out: &mut [Answer<T>],
+    reading: impl Fn(&str) -> Result<Ratio<T>, E>,
+) {
     let texts = match std::str::from_utf8(texts) {
         Ok(texts) => texts,
         Err(_) => return,
     };
     let mut start = 0;
     for (end, place) in ends.iter().zip(out) {
-        *place = match texts.get(start..*end) {
-            Some(text) => read(text),
+        *place = match texts.get(start..*end).map(&reading) {
+            Some(Ok(x)) => Answer::some(*x.numer(), *x.denom()),
+            Some(Err(_)) => Answer::none(2),
             None => Answer::none(4),
         };
         start = *end;
     }
+}
+
+#[inline(never)]
+pub fn from_str<T: Number>(texts: &[u8], ends: &[usize], out: &mut [Answer<T>]) {
+    read(texts, ends, out, |text| text.parse::<Ratio<T>>());
+}
+
+/// In base 16.
+#[inline(never)]
+pub fn from_str_radix<T: Number>(texts: &[u8], ends: &[usize], out: &mut [Answer<T>]) {
+    read(texts, ends, out, |text| Ratio::<T>::from_str_radix(text, 16));
 }
 
 #[inline(never)]
@@ -156,6 +166,16 @@ pub fn text<T: Number>(pairs: &[Pair<T>], out: &mut [u8]) -> usize {
     let mut rest = out;
     for pair in pairs {
         writeln!(rest, "{}", pair.0).expect("the buffer has room");
+    }
+    room - rest.len()
+}
+
+#[inline(never)]
+pub fn hex<T: Number>(pairs: &[Pair<T>], out: &mut [u8]) -> usize {
+    let room = out.len();
+    let mut rest = out;
+    for pair in pairs {
+        writeln!(rest, "{:x}", pair.0).expect("the buffer has room");
     }
     room - rest.len()
 }

@@ -30,13 +30,6 @@ pub int_pow-zero : (z : ℤ) → int_pow z 0 ≡ pos 1
 int_pow-zero (pos a) = ap pos (pow-zero a)
 int_pow-zero (negsuc a) = ap pos (pow-zero (suc a))
 
-pub int_pow-one : (z : ℤ) → int_pow z 1 ≡ z
-int_pow-one z = int_pow-suc z 0 ∙ ap (λ (t : ℤ). t *ℤ z) (int_pow-zero z) ∙ one-times z
-  where
-    one-times : (t : ℤ) → pos 1 *ℤ t ≡ t
-    one-times (pos n) = ap pos (omega arith)
-    one-times (negsuc n) = omega (arith, ints)
-
 -- twice the exponent is the power of the square
 pub int_pow-double : (z : ℤ) (k : ℕ) → int_pow (z *ℤ z) k ≡ int_pow z (2 * k)
 int_pow-double z zero = int_pow-zero (z *ℤ z) ∙ sym (int_pow-zero z)

@@ -37,3 +37,8 @@ PowerCondition lo hi n d (negsuc k) = PowersHeld lo hi n d (suc k) × Reciprocal
 abbrev pub ChecksPower : {R : Type 0} → (R → ℤ) → (R → ℤ) → ℤ → ℤ → ℤ → ℤ → ℤ → Option R → Type 0
 ChecksPower numer denom lo hi n d e None = ¬ (PowerCondition lo hi n d e)
 ChecksPower numer denom lo hi n d e (Some r) = PowerCondition lo hi n d e × IsPower n d e (numer r) (denom r)
+
+-- the answer is both numbers where both are held, and `None` where they are not
+abbrev pub ChecksBoth : {R : Type 0} → (R → ℤ) → (R → ℤ) → ℤ → ℤ → ℤ → ℤ → Option R → Type 0
+ChecksBoth first second lo hi a b None = ¬ (IsHeld lo hi a × IsHeld lo hi b)
+ChecksBoth first second lo hi a b (Some r) = (IsHeld lo hi a × IsHeld lo hi b) × ((first r ≡ a) × (second r ≡ b))

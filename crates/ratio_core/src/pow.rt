@@ -1,12 +1,11 @@
 //! Reciprocals and powers.
 //!
-//! A power is formed by squaring, one turn for each binary digit of the exponent. A square that no factor is left for is
-//! not formed, so that a power is answered where the type holds it, though it may not hold the next square. 0, 1 and -1
-//! have a power with each exponent.
-ghost use Rattle.std.specs.Prelude.{◌≡◌, ◌≢◌, ◌<ℤ◌, pos, neg_ℤ};
-ghost use Rattle.std.specs.Int.{int_pow};
-ghost use Rattle.ratio_integer.specs.Range.{Checks, IsHeld};
-ghost use Rattle.ratio_core.specs.Power.{ChecksPower, ChecksReciprocal, IsPower, IsReciprocal, PowerCondition};
+//! A power is formed by squaring, one turn for each binary digit of the exponent, and each turn serves both numbers. A
+//! square that no factor is left for is not formed, so that a power is answered where the type holds it, though it may
+//! not hold the next square. 0, 1 and -1 have a power with each exponent.
+ghost use Rattle.std.specs.Prelude.{◌≡◌, ◌≢◌, ◌<ℤ◌, ◌*ℤ◌, pos, neg_ℤ};
+ghost use Rattle.ratio_integer.specs.Range.{IsHeld};
+ghost use Rattle.ratio_core.specs.Power.{ChecksBoth, ChecksPower, ChecksReciprocal, IsPower, IsReciprocal, PowerCondition};
 
 use crate::exponent::Exponent;
 use crate::sign::is_below_zero;
@@ -53,14 +52,10 @@ pub fn checked_pow_with<T: Integer, E: Exponent>(n: T, d: T, e: E) -> Option<(T,
     requires { pos 0 <ℤ T.value d }
     ensures { ChecksPower (λ r. T.value r.0) (λ r. T.value r.1) T.lo T.hi (T.value n) (T.value d) (E.number e) result }
 {
-    let size = e.magnitude();
-    let numer = try_power(n, size)?;
-    let denom = try_power(d, size)?;
-    if e.is_below_zero() {
-        checked_recip(numer, denom)
-    } else {
-        Some((numer, denom))
-    }
+    // n/d is d/n turned over, so one way serves exponents of both signs.
+    let (upper, lower) = if e.is_below_zero() { (n, d) } else { (d, n) };
+    let (upper, lower) = try_powers(upper, lower, e.magnitude())?;
+    checked_recip(upper, lower)
 }
 
 /// `n/d` to the `e`. The test is `checked_pow_with`.
@@ -75,30 +70,44 @@ pub fn pow_with<T: Integer, E: Exponent>(n: T, d: T, e: E) -> (T, T)
     }
 }
 
-// One number to the `exponent`, or `None` where the type does not hold it.
-fn try_power<T: Integer>(base: T, exponent: u128) -> Option<T>
-    ensures { Checks T.value T.lo T.hi (int_pow (T.value base) exponent) result }
+// Both numbers to the `exponent`, or `None` where the type does not hold both.
+fn try_powers<T: Integer>(n: T, d: T, exponent: u128) -> Option<(T, T)>
+    ensures { ChecksPower (λ r. T.value r.0) (λ r. T.value r.1) T.lo T.hi (T.value n) (T.value d) (pos exponent) result }
 {
     if exponent == 0 {
-        return Some(T::ONE);
+        return Some((T::ONE, T::ONE));
     }
-    let mut power = T::ONE;
-    let mut square = base;
+    let mut square = (n, d);
     let mut left = exponent;
-    'bits: while left > 1 {
-        if left % 2 == 1 {
-            power = power.try_times(square)?;
-        }
-        // At least one factor is left, so this square is part of it.
-        square = square.try_times(square)?;
+    'twos: while left % 2 == 0 {
+        square = both_times(square, square)?;
         left /= 2;
     }
-    power.try_times(square)
+    let mut power = square;
+    left /= 2;
+    'bits: while left > 0 {
+        // At least one factor is left, so this square is part of it.
+        square = both_times(square, square)?;
+        if left % 2 == 1 {
+            power = both_times(power, square)?;
+        }
+        left /= 2;
+    }
+    let _ = power.0.held();
+    let _ = power.1.held();
+    Some(power)
+}
+
+// The products of the first numbers and of the second ones, or `None` where the type does not hold both.
+fn both_times<T: Integer>(x: (T, T), y: (T, T)) -> Option<(T, T)>
+    ensures { ChecksBoth (λ r. T.value r.0) (λ r. T.value r.1) T.lo T.hi (T.value x.0 *ℤ T.value y.0) (T.value x.1 *ℤ T.value y.1) result }
+{
+    Some((x.0.try_times(y.0)?, x.1.try_times(y.1)?))
 }
 
 /// The reciprocal, its sign above and not reduced, or `None` where there is none or its sign cannot be moved.
 pub fn checked_recip<T: Integer>(n: T, d: T) -> Option<(T, T)>
-    requires { pos 0 <ℤ T.value d }
+    requires { T.value n <ℤ pos 0 → pos 0 <ℤ T.value d }
     ensures { ChecksReciprocal (λ r. T.value r.0) (λ r. T.value r.1) T.lo T.hi (T.value n) (T.value d) result }
 {
     if n.is_zero() {

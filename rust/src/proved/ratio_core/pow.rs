@@ -1,9 +1,9 @@
 // Erased from crates/ratio_core/src/pow.rt by rust/erase: not to be edited.
 //! Reciprocals and powers.
 //!
-//! A power is formed by squaring, one turn for each binary digit of the exponent. A square that no factor is left for is
-//! not formed, so that a power is answered where the type holds it, though it may not hold the next square. 0, 1 and -1
-//! have a power with each exponent.
+//! A power is formed by squaring, one turn for each binary digit of the exponent, and each turn serves both numbers. A
+//! square that no factor is left for is not formed, so that a power is answered where the type holds it, though it may
+//! not hold the next square. 0, 1 and -1 have a power with each exponent.
 
 use crate::proved::ratio_core::exponent::Exponent;
 use crate::proved::ratio_core::sign::is_below_zero;
@@ -66,14 +66,10 @@ pub fn pow<T: Integer>(n: T, d: T, e: i32) -> (T, T) {
 /// - `pos 0 <ℤ T.value d`
 #[inline]
 pub fn checked_pow_with<T: Integer, E: Exponent>(n: T, d: T, e: E) -> Option<(T, T)> {
-    let size = e.magnitude();
-    let numer = try_power(n, size)?;
-    let denom = try_power(d, size)?;
-    if e.is_below_zero() {
-        checked_recip(numer, denom)
-    } else {
-        Some((numer, denom))
-    }
+    // n/d is d/n turned over, so one way serves exponents of both signs.
+    let (upper, lower) = if e.is_below_zero() { (n, d) } else { (d, n) };
+    let (upper, lower) = try_powers(upper, lower, e.magnitude())?;
+    checked_recip(upper, lower)
 }
 
 /// `n/d` to the `e`. The test is `checked_pow_with`.
@@ -92,24 +88,37 @@ pub fn pow_with<T: Integer, E: Exponent>(n: T, d: T, e: E) -> (T, T) {
     }
 }
 
-// One number to the `exponent`, or `None` where the type does not hold it.
+// Both numbers to the `exponent`, or `None` where the type does not hold both.
 #[inline]
-fn try_power<T: Integer>(base: T, exponent: u128) -> Option<T> {
+fn try_powers<T: Integer>(n: T, d: T, exponent: u128) -> Option<(T, T)> {
     if exponent == 0 {
-        return Some(T::ONE);
+        return Some((T::ONE, T::ONE));
     }
-    let mut power = T::ONE;
-    let mut square = base;
+    let mut square = (n, d);
     let mut left = exponent;
-    while left > 1 {
-        if left % 2 == 1 {
-            power = power.try_times(square)?;
-        }
-        // At least one factor is left, so this square is part of it.
-        square = square.try_times(square)?;
+    while left % 2 == 0 {
+        square = both_times(square, square)?;
         left /= 2;
     }
-    power.try_times(square)
+    let mut power = square;
+    left /= 2;
+    while left > 0 {
+        // At least one factor is left, so this square is part of it.
+        square = both_times(square, square)?;
+        if left % 2 == 1 {
+            power = both_times(power, square)?;
+        }
+        left /= 2;
+    }
+    let _ = power.0.held();
+    let _ = power.1.held();
+    Some(power)
+}
+
+// The products of the first numbers and of the second ones, or `None` where the type does not hold both.
+#[inline]
+fn both_times<T: Integer>(x: (T, T), y: (T, T)) -> Option<(T, T)> {
+    Some((x.0.try_times(y.0)?, x.1.try_times(y.1)?))
 }
 
 /// The reciprocal, its sign above and not reduced, or `None` where there is none or its sign cannot be moved.
@@ -118,7 +127,7 @@ fn try_power<T: Integer>(base: T, exponent: u128) -> Option<T> {
 ///
 /// What is proved asks of the caller:
 ///
-/// - `pos 0 <ℤ T.value d`
+/// - `T.value n <ℤ pos 0 → pos 0 <ℤ T.value d`
 #[inline]
 pub fn checked_recip<T: Integer>(n: T, d: T) -> Option<(T, T)> {
     if n.is_zero() {

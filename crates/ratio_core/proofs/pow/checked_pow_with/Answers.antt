@@ -1,11 +1,25 @@
-use Rattle.std.proofs.Common.{refl}
-use Rattle.ratio_core.proofs.PowerLemmas.{pow_above}
-use Rattle.ratio_core.proofs.ReciprocalLemmas.{power_turned}
+use Rattle.std.specs.Prelude.{◌≡◌, true, false}
+use Rattle.std.proofs.Common.{refl, inl, inr}
+use Rattle.ratio_core.proofs.ReciprocalLemmas.{IsWay, way_asked, way_back}
 use Rattle.ratio_core.proofs.pow.checked_pow_with.Goals as goal
+use Rattle.ratio_core.proofs.pow.checked_pow_with.Goals.{then-is_below_zero, else-is_below_zero}
 
 pub checked_recip-requires : goal.checked_recip-requires
-checked_recip-requires g c = rw c.in_ok-denom.ensures.1 (pow_above (g.T.Integer.value c.args.d) c.magnitude-size.result c.requires)
+checked_recip-requires g c =
+    let v = g.T.Integer.value in
+    let way : IsWay (v c.args.n) (v c.args.d) (g.E.Exponent.number c.args.e) (v c.if-is_below_zero.upper.0) (v c.if-is_below_zero.upper.1) =
+    elim c.if-is_below_zero.branch [
+      | then-is_below_zero w ↦ rw w.upper-is (inl (w.if-is_below_zero.ensures.0 refl, refl, refl))
+      | else-is_below_zero w ↦ rw w.upper-is (inr ((λ h. absurd (let no : false ≡ true = w.if-is_below_zero.ensures.1 h in cc)), refl, refl))
+    ] in
+    way_asked _ _ _ _ _ _ _ _ _ _ c.requires way c.in_ok-upper.ensures
 
-pub returns-then-is_below_zero : goal.returns-then-is_below_zero
-returns-then-is_below_zero g c =
-    power_turned _ _ _ _ _ _ _ _ _ c.magnitude-size.result c.checked_recip.result (c.if-is_below_zero.ensures.0 refl) c.magnitude-size.ensures c.in_ok-numer.ensures c.in_ok-denom.ensures c.checked_recip.ensures
+pub returns : goal.returns
+returns g c =
+    let v = g.T.Integer.value in
+    let way : IsWay (v c.args.n) (v c.args.d) (g.E.Exponent.number c.args.e) (v c.if-is_below_zero.upper.0) (v c.if-is_below_zero.upper.1) =
+    elim c.if-is_below_zero.branch [
+      | then-is_below_zero w ↦ rw w.upper-is (inl (w.if-is_below_zero.ensures.0 refl, refl, refl))
+      | else-is_below_zero w ↦ rw w.upper-is (inr ((λ h. absurd (let no : false ≡ true = w.if-is_below_zero.ensures.1 h in cc)), refl, refl))
+    ] in
+    way_back _ _ _ _ _ _ _ _ _ _ _ _ _ c.requires c.magnitude.ensures way c.in_ok-upper.ensures c.checked_recip.ensures

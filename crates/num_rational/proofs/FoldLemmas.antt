@@ -1,8 +1,9 @@
 -- Folds over an iterator's items: where every step is answered the next one is, and what the steps so far gave.
-use Rattle.std.proofs.Common.{◌≡◌, ◌∙◌, ℤ, pos, List, [], ◌∷◌, ◌++◌, Option, Some, subst, sym, refl, map, take, drop, length, take-append-drop}
+use Rattle.std.proofs.Common.{◌≡◌, ◌∙◌, ℕ, ◌+◌, ◌<◌, ℤ, pos, List, [], ◌∷◌, ◌++◌, Option, Some, ap, subst, sym, refl, map, take, drop, length, get_or, take-append-drop}
 use Rattle.std.proofs.lemmas.Fn.{FoldsTo-push}
 use Rattle.std.proofs.lemmas.Iterator.{YieldsList, items_from_drains}
 use Rattle.std.proofs.lemmas.Iterator.Consumers.{YieldsList-so_far}
+use Rattle.std.proofs.lemmas.List.{take_more}
 use Rattle.std.proofs.lemmas.List.Elements.{All-cons, All-head, All-nil, All-tail, All-take}
 use Rattle.std.specs.Iterator.{DrainsIf, HoldsAlong, Yields}
 use Rattle.std.specs.List.{FoldsTo}
@@ -97,6 +98,25 @@ module _ {A : Type 0} (view : A → ℤ × ℤ) (Can : ℤ × ℤ → ℤ × ℤ
       total = FoldsTo-push _ _ xs q x r before.total (subst (λ w. Gives q w r) seen gives);
       positive = positive;
     }
+
+-- ---- a list that is read an item at a time
+
+module _ {A : Type 0} (view : A → ℤ × ℤ) (Can : ℤ × ℤ → ℤ × ℤ → Type 0) (Gives : ℤ × ℤ → ℤ × ℤ → ℤ × ℤ → Type 0) (start : ℤ × ℤ) (all : List A) (i : ℕ) (x : A) (below : i < length all) (is : x ≡ get_or all i x) where
+  one_further : take (i + 1) all ≡ take i all ++ x ∷ []
+  one_further = take_more all i x below ∙ ap (λ y. take i all ++ y ∷ []) (sym is)
+
+  beginning : (xs more : List A) (p : ℤ × ℤ) → AnswersFrom view Can Gives p (xs ++ more) → AnswersFrom view Can Gives p xs
+  beginning [] more p answered = tt
+  beginning (y ∷ ys) more p answered = (answered.0, λ q gives. beginning ys more q (answered.1 q gives))
+
+  -- where the step over the next item is refused, not every step over the list is answered
+  pub list_refused : (q : ℤ × ℤ) {pair : ℤ × ℤ} → pair ≡ view x → FoldsTo (λ p x q. Gives p (view x) q) start (take i all) q → ¬ (Can q pair) → ¬ (AnswersFrom view Can Gives start all)
+  list_refused q seen total cannot answered =
+      let whole : AnswersFrom view Can Gives start (take (i + 1) all ++ drop (i + 1) all) = subst (AnswersFrom view Can Gives start) (sym (take-append-drop (i + 1) all)) answered in
+      step_refused view Can Gives start (take i all) x q seen total cannot (subst (AnswersFrom view Can Gives start) one_further (beginning (take (i + 1) all) (drop (i + 1) all) start whole))
+
+  pub list_more : ((p x q r : ℤ × ℤ) → Gives p x q → Gives p x r → q ≡ r) → (q r : ℤ × ℤ) {pair : ℤ × ℤ} → pair ≡ view x → StepsSoFar view Can Gives start (take i all) q → Can q pair → Gives q pair r → pos 0 <ℤ r.1 → StepsSoFar view Can Gives start (take (i + 1) all) r
+  list_more one q r seen before can gives positive = subst (λ xs. StepsSoFar view Can Gives start xs r) (sym one_further) (step_more view Can Gives one start (take i all) x q r seen before can gives positive)
 
 -- ---- an iterator that gives a list
 

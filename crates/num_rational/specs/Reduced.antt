@@ -1,6 +1,7 @@
 -- A fraction that is always in lowest terms, seen as the `Ratio` of its fields.
-use Rattle.std.specs.Prelude.{◌++◌, ℕ, List, Option, None, Some, Result}
+use Rattle.std.specs.Prelude.{◌≤ℤ◌, ◌++◌, ℕ, ℤ, pos, List, Option, None, Some, Result}
 use Rattle.ratio_core.specs.declared.parse_error.RatioErrorKind.{RatioErrorKind}
+use Rattle.ratio_core.specs.Nearest.{IsNearest}
 use Rattle.ratio_core.specs.Reading.{AnswersText, IsFractionText}
 use Rattle.num_rational.specs.declared.ratio.Ratio.{Ratio}
 use Rattle.num_rational.specs.declared.reduced.Reduced.{Reduced}
@@ -22,3 +23,9 @@ writes_of_fields {i = i} x = i.number_hash_input (numerator x.ratio) ++ i.number
 -- the answer is the fraction of a decimal text, or the first refusal that applies
 abbrev pub ReadsReduced : {T : _} {i : _} {o : _} {e : _} {p : _} {h : _} → List ℕ → Result (Reduced T i o e p h) RatioErrorKind → Type 0
 ReadsReduced {i = i} text result = AnswersText (λ x. numerator (ratio_of x)) (λ x. denominator (ratio_of x)) i.lo i.hi (IsFractionText i.lo i.hi text) result
+
+-- the answer is the nearest fraction to x whose denominator is at most `most`, and `None` where there is none, since most is
+-- below 1
+abbrev pub ChecksNearest : {T : _} {i : _} {o : _} {e : _} {p : _} {h : _} → Reduced T i o e p h → ℤ → Option (Reduced T i o e p h) → Type 0
+ChecksNearest x most None = most ≤ℤ pos 0
+ChecksNearest x most (Some r) = IsNearest (numerator x.ratio) (denominator x.ratio) most (numerator r.ratio) (denominator r.ratio)

@@ -34,7 +34,7 @@ impl Model for ParseRatioError {
 
 impl ParseRatioError {
     /// The refusal of this kind.
-    pub(crate) fn new(kind: RatioErrorKind) -> ParseRatioError
+    pub fn new(kind: RatioErrorKind) -> ParseRatioError
         ensures { result ≡ kind }
     {
         ParseRatioError { kind }

@@ -24,4 +24,4 @@ pub use ratio::{Constants, Ratio, Rational, Rational32, Rational64};
 pub use crate::proved::ratio_core::{
     CodeList, DecimalText, Exponent, Form, ParseRatioError, RatioErrorKind, RatioText, Steps, Taken,
 };
-pub use reduced::{Reduced, Reduced32, Reduced64};
+pub use reduced::{Reduced, Reduced32, Reduced64, ReducedOperand};

@@ -1,14 +1,15 @@
 //! Fractions in lowest terms of texts, and their texts.
-ghost use Rattle.std.specs.Prelude.{◌≡◌};
+ghost use Rattle.std.specs.Prelude.{◌≡◌, ◌≢◌, ◌⊎◌, ◌≤◌, ◌<◌, ◌≤ℤ◌, false, pos, Err};
 ghost use Rattle.num_rational.specs.Ratio.{denominator, numerator};
 ghost use Rattle.num_rational.specs.Reduced.{ReadsReduced, ratio_of};
-ghost use Rattle.ratio_core.specs.Printing.{ReadsBack, text_of};
-ghost use Rattle.ratio_core.specs.Reading.{IsFractionText};
+ghost use Rattle.ratio_core.specs.Printing.{ReadsBack, base_of, text_of};
+ghost use Rattle.ratio_core.specs.Reading.{AnswersText, IsFractionText, IsSlashedText};
+ghost use Rattle.ratio_core.specs.declared.parse_error.RatioErrorKind.TheVariants.{ParseError};
 ghost use Rattle.ratio_core.specs.declared.text.form.Form.TheVariants.{Decimal};
 
 use super::Reduced;
 use crate::ratio::Ratio;
-use ratio_core::{Form, ParseRatioError, RatioText};
+use ratio_core::{Form, ParseRatioError, RatioErrorKind, RatioText};
 use ratio_integer::Primitive;
 use std::str::FromStr;
 
@@ -23,11 +24,31 @@ impl<T: Primitive> Reduced<T> {
         }
     }
 
+    /// The fraction of a text `N/D` in the radix, read and refused as by `from_str_radix` of `Ratio`. A
+    /// radix outside 2 to 36 is a parse error.
+    pub fn from_str_radix(text: &str, radix: u32) -> Result<Reduced<T>, ParseRatioError>
+        ensures read { 2 ≤ radix → radix ≤ 36 → AnswersText (λ x. numerator (ratio_of x))
+            (λ x. denominator (ratio_of x)) T.lo T.hi (IsSlashedText T.lo T.hi radix text.now) result }
+        ensures no_radix { (radix < 2) ⊎ (36 < radix) → result ≡ Err ParseError }
+    {
+        if radix < 2 || 36 < radix {
+            return Err(ParseRatioError::new(RatioErrorKind::ParseError));
+        }
+        match Ratio::<T>::from_str_radix(text, radix) {
+            Ok(ratio) => Ok(Reduced { ratio }),
+            Err(refusal) => Err(refusal),
+        }
+    }
+
     /// The text of the fields, as by `text` of `Ratio`. Reading the decimal text gives the fraction back.
     pub fn text(&self, form: Form, alternate: bool) -> RatioText
         ensures bytes { result
             ≡ text_of T.BITS form alternate (numerator (ratio_of self.now)) (denominator (ratio_of self.now)) }
         ensures reads_back { form ≡ Decimal → ReadsBack T.lo T.hi (IsFractionText T.lo T.hi result)
+            (numerator (ratio_of self.now)) (denominator (ratio_of self.now)) }
+        ensures reads_back_in_base { alternate ≡ false
+            → pos 0 ≤ℤ numerator (ratio_of self.now) → denominator (ratio_of self.now) ≢ pos 1
+            → ReadsBack T.lo T.hi (IsSlashedText T.lo T.hi (base_of form) result)
             (numerator (ratio_of self.now)) (denominator (ratio_of self.now)) }
     {
         self.ratio.text(form, alternate)

@@ -4,7 +4,7 @@ ghost use Rattle.std.specs.Prelude.{◌<ℤ◌, pos};
 ghost use Rattle.num_rational.specs.Ratio.{denominator};
 
 use super::forms::{self, fraction};
-use crate::{Operand, Ratio};
+use crate::{Operand, Ratio, Reduced, ReducedOperand};
 use ratio_integer::{Integer, Primitive};
 use std::fmt::Debug;
 use std::process::Abort;
@@ -22,6 +22,47 @@ fn answer<T: Integer, O: Operand<T> + Copy>(x: Ratio<T>, symbol: char, o: O) -> 
     }
 }
 
+// The same of a fraction in lowest terms.
+fn lowest_answer<T: Integer, O: ReducedOperand<T>>(
+    x: Reduced<T>,
+    symbol: char,
+    o: O,
+) -> Option<Reduced<T>> {
+    match symbol {
+        '+' => x.checked_add(o),
+        '-' => x.checked_sub(o),
+        '*' => x.checked_mul(o),
+        '/' => x.checked_div(o),
+        _ => x.checked_rem(o),
+    }
+}
+
+// Whether it is so from the lowest terms of the left side.
+fn lowest_holds<T: Integer, O: ReducedOperand<T> + Copy>(
+    left: (T, T),
+    symbol: char,
+    o: O,
+    want: Option<(T, T)>,
+) -> bool {
+    match Reduced::checked_new(left.0, left.1) {
+        Some(x) => lowest_answer(x, symbol, o).map(|y| y.into_raw()) == want,
+        None => false,
+    }
+}
+
+// And from those of the right side.
+fn both_lowest_hold<T: Integer>(
+    left: (T, T),
+    symbol: char,
+    right: (T, T),
+    want: Option<(T, T)>,
+) -> bool {
+    match Reduced::checked_new(right.0, right.1) {
+        Some(y) => lowest_holds(left, symbol, y, want) && lowest_holds(left, symbol, &y, want),
+        None => false,
+    }
+}
+
 // A row: the right operand stands by value and behind a reference.
 fn holds<T: Integer + Debug>(
     rt: &impl Abort,
@@ -32,7 +73,9 @@ fn holds<T: Integer + Debug>(
 ) {
     let (x, y) = (fraction(left), fraction(right));
     assert!(rt;
-        answer(x, symbol, y) == want && answer(x, symbol, &y) == want,
+        answer(x, symbol, y) == want
+            && answer(x, symbol, &y) == want
+            && both_lowest_hold(left, symbol, right, want),
         "{left:?} {symbol} {right:?}"
     );
 }
@@ -47,7 +90,10 @@ fn holds_with<T: Integer + Debug>(
 ) {
     let x = fraction(left);
     assert!(rt;
-        answer(x, symbol, c) == want && answer(x, symbol, &c) == want,
+        answer(x, symbol, c) == want
+            && answer(x, symbol, &c) == want
+            && lowest_holds(left, symbol, c, want)
+            && lowest_holds(left, symbol, &c, want),
         "{left:?} {symbol} {c:?}"
     );
 }

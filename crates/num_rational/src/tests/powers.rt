@@ -1,5 +1,5 @@
 //! Rows of reciprocals and powers, from outside.
-use crate::{Exponent, Ratio};
+use crate::{Exponent, Ratio, Reduced};
 use num_traits::Inv;
 use ratio_integer::Integer;
 use std::process::Abort;
@@ -30,13 +30,26 @@ fn small_power<T: Integer>(n: T, d: T, e: i32) -> Option<(T, T)> {
     }
 }
 
+// Whether the lowest terms of n/d to the e are those of this fraction, or there are none.
+fn lowest_power<T: Integer>(n: T, d: T, e: i32, want: Option<(T, T)>) -> bool {
+    let answer = match Reduced::checked_new(n, d) {
+        Some(x) => x.checked_pow(e),
+        None => None,
+    };
+    match (answer, want) {
+        (Some(power), Some((a, b))) => Reduced::checked_new(a, b) == Some(power),
+        (None, None) => true,
+        _ => false,
+    }
+}
+
 // A row: n, d, e and the fields of n/d to the e.
 type Row<T> = (T, T, i32, Option<(T, T)>);
 
 fn rows_hold<T: Integer>(rt: &impl Abort, rows: &[Row<T>]) {
     for (i, &(n, d, e, want)) in rows.iter().enumerate() {
         assert!(rt;
-            small_power(n, d, e) == want && power(n, d, &e) == want,
+            small_power(n, d, e) == want && power(n, d, &e) == want && lowest_power(n, d, e, want),
             "row {i}"
         );
     }

@@ -1,5 +1,5 @@
 //! Rows of the rounding calls and of the numbers as machine integers, from outside.
-use crate::Ratio;
+use crate::{Ratio, Reduced};
 use ratio_integer::Integer;
 use std::process::Abort;
 
@@ -21,9 +21,23 @@ fn near<T: Integer>(n: T, d: T) -> Option<(T, T, T, T)> {
     }
 }
 
+// The same four of the fraction that is always in lowest terms.
+fn near_lowest<T: Integer>(n: T, d: T) -> Option<(T, T, T, T)> {
+    let x = Reduced::checked_new(n, d)?;
+    Some((
+        *x.ceil().numer(),
+        *x.floor().numer(),
+        *x.round().numer(),
+        *x.trunc().numer(),
+    ))
+}
+
 fn rows_hold<T: Integer>(rt: &impl Abort, rows: &[Row<T>]) {
     for (i, &(n, d, want)) in rows.iter().enumerate() {
-        assert!(rt; near(n, d) == Some(want), "row {i}");
+        assert!(rt;
+            near(n, d) == Some(want) && near_lowest(n, d) == Some(want),
+            "row {i}"
+        );
     }
 }
 
@@ -87,9 +101,23 @@ fn parts<T: Integer>(n: T, d: T) -> Option<((T, T), T)> {
     }
 }
 
+// Whether the lowest terms of n/d have these two parts.
+fn lowest_parts_hold<T: Integer>(n: T, d: T, want: ((T, T), T)) -> bool {
+    let (part, whole) = want;
+    match Reduced::checked_new(n, d) {
+        Some(x) => {
+            Reduced::checked_new(part.0, part.1) == Some(x.fract()) && x.to_integer() == whole
+        }
+        None => false,
+    }
+}
+
 fn parts_hold<T: Integer>(rt: &impl Abort, rows: &[(T, T, ((T, T), T))]) {
     for (i, &(n, d, want)) in rows.iter().enumerate() {
-        assert!(rt; parts(n, d) == Some(want), "row {i}");
+        assert!(rt;
+            parts(n, d) == Some(want) && lowest_parts_hold(n, d, want),
+            "row {i}"
+        );
     }
 }
 
@@ -136,8 +164,13 @@ fn machine<T: Integer>(n: T, d: T) -> Machine {
     }
 }
 
+fn lowest_machine<T: Integer>(n: T, d: T) -> Option<Machine> {
+    let x = Reduced::checked_new(n, d)?;
+    Some((x.to_i64(), x.to_i128(), x.to_u64(), x.to_u128()))
+}
+
 fn machine_holds<T: Integer>(rt: &impl Abort, n: T, d: T, want: Machine) {
-    assert!(rt; machine(n, d) == want);
+    assert!(rt; machine(n, d) == want && lowest_machine(n, d) == Some(want));
 }
 
 #[test]

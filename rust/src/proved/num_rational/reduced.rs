@@ -3,11 +3,20 @@
 //!
 //! A contract sees such a fraction as the `Ratio` of its fields, by `ratio_of`. No named call asks anything of its caller.
 
+mod checked;
+mod convert;
+mod fold;
 mod hash;
+mod operand;
 mod order;
+mod pow;
+mod printing;
+mod rounding;
+mod sign;
 mod text;
 
 use crate::proved::num_rational::ratio::Ratio;
+pub use operand::ReducedOperand;
 use crate::proved::ratio_integer::Integer;
 
 /// A fraction of two numbers of the type `T` that is always in lowest terms: the denominator is

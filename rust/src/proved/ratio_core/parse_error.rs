@@ -23,7 +23,7 @@ pub struct ParseRatioError {
 impl ParseRatioError {
     /// The refusal of this kind.
     #[inline]
-    pub(crate) fn new(kind: RatioErrorKind) -> ParseRatioError {
+    pub fn new(kind: RatioErrorKind) -> ParseRatioError {
         ParseRatioError { kind }
     }
 

@@ -3,7 +3,7 @@
 
 use super::Reduced;
 use crate::proved::num_rational::ratio::Ratio;
-use crate::proved::ratio_core::{Form, ParseRatioError, RatioText};
+use crate::proved::ratio_core::{Form, ParseRatioError, RatioErrorKind, RatioText};
 use crate::proved::ratio_integer::Primitive;
 use core::str::FromStr;
 
@@ -12,6 +12,19 @@ impl<T: Primitive> Reduced<T> {
     #[inline]
     pub fn from_str(text: &str) -> Result<Reduced<T>, ParseRatioError> {
         match Ratio::<T>::from_str(text) {
+            Ok(ratio) => Ok(Reduced { ratio }),
+            Err(refusal) => Err(refusal),
+        }
+    }
+
+    /// The fraction of a text `N/D` in the radix, read and refused as by `from_str_radix` of `Ratio`. A
+    /// radix outside 2 to 36 is a parse error.
+    #[inline]
+    pub fn from_str_radix(text: &str, radix: u32) -> Result<Reduced<T>, ParseRatioError> {
+        if radix < 2 || 36 < radix {
+            return Err(ParseRatioError::new(RatioErrorKind::ParseError));
+        }
+        match Ratio::<T>::from_str_radix(text, radix) {
             Ok(ratio) => Ok(Reduced { ratio }),
             Err(refusal) => Err(refusal),
         }

@@ -6,7 +6,16 @@ use crate::proved::ratio_integer::Integer;
 use core::cmp::Ordering;
 use std::collections::BTreeMap;
 use std::collections::HashMap;
+use core::fmt;
+use core::fmt::Binary;
 use core::fmt::Debug;
+use core::fmt::Display;
+use core::fmt::Formatter;
+use crate::test_support::InlineText;
+use core::fmt::LowerHex;
+use core::fmt::Octal;
+use core::fmt::UpperHex;
+use core::fmt::Write;
 
 use crate::test_support::Fail;
 
@@ -64,6 +73,73 @@ fn reads_texts() {
     reads(half.text(Form::Decimal, false).as_str(), "1/2");
 }
 
+// The same in a radix.
+#[inline]
+fn read_in(text: &str, radix: u32) -> Result<(i64, i64), u8> {
+    match Reduced64::from_str_radix(text, radix) {
+        Ok(x) => Ok(x.into_raw()),
+        Err(refusal) => Err(refusal.kind() as u8),
+    }
+}
+
+#[test]
+fn reads_texts_in_a_radix() {
+    holds("16", read_in("f/2", 16) == Ok((15, 2)));
+    holds("1", read_in("f/2", 1) == Err(1));
+    holds("37", read_in("f/2", 37) == Err(1));
+}
+
+// How each of the other traits prints the fraction.
+struct Shown {
+    fraction: Reduced64,
+    form: Form,
+}
+
+impl Display for Shown {
+    #[inline]
+    fn fmt(&self, f: &mut Formatter<'_>) -> fmt::Result {
+        match self.form {
+            Form::Decimal => Display::fmt(&self.fraction, f),
+            Form::Binary => Binary::fmt(&self.fraction, f),
+            Form::Octal => Octal::fmt(&self.fraction, f),
+            Form::LowerHex => LowerHex::fmt(&self.fraction, f),
+            Form::UpperHex => UpperHex::fmt(&self.fraction, f),
+        }
+    }
+}
+
+#[inline]
+fn eleven_tenths(form: Form) -> Shown {
+    let fraction = Reduced64::checked_new(22, 20).unwrap_or(Reduced::zero());
+    Shown { fraction, form }
+}
+
+#[test]
+fn prints() {
+    let (binary, octal) = (eleven_tenths(Form::Binary), eleven_tenths(Form::Octal));
+    let (lower, upper) = (eleven_tenths(Form::LowerHex), eleven_tenths(Form::UpperHex));
+    let decimal = eleven_tenths(Form::Decimal);
+    let row = InlineText::<80>::of(format_args!("{decimal:>6} {binary} {octal:#} {lower} {upper}"));
+    reads(row.as_str(), " 11/10 1011/1010 0o13/0o12 b/a B/A");
+}
+
+#[test]
+fn takes_whole_numbers() {
+    let wide = i64::MAX as i128;
+    gives(Reduced64::from_i64(-3), Some((-3, 1)));
+    gives(Reduced64::from_i128(wide + 1), None);
+    gives(Reduced64::from_u64(u64::MAX), None);
+    gives(Reduced64::from_u128(7), Some((7, 1)));
+}
+
+#[test]
+fn finds_the_nearest() {
+    let x = Reduced64::checked_new(355, 113).unwrap_or(Reduced::zero());
+    gives(x.nearest(100), Some((311, 99)));
+    gives(x.nearest(0), None);
+    is(x.signum().to_ratio(), 1, 1);
+}
+
 #[test]
 fn compares() {
     let (zero, one) = (Reduced64::zero(), Reduced64::one());
@@ -72,4 +148,43 @@ fn compares() {
         "equal",
         one == Reduced64::from_integer(1) && zero != one,
     );
+}
+
+#[test]
+fn computes_where_8_bits_end() {
+    let (least, most) = (
+        Reduced::<i8>::from_integer(-128),
+        Reduced::<i8>::from_integer(127),
+    );
+    gives(least.checked_div(-1), None);
+    gives(most.checked_add(1), None);
+    gives(least.checked_neg(), None);
+    gives(least.checked_abs(), None);
+    gives(least.checked_recip(), None);
+    gives(most.checked_neg(), Some((-127, 1)));
+    gives(most.checked_recip(), Some((1, 127)));
+    gives(Reduced::<i8>::zero().checked_recip(), None);
+    gives(most.checked_pow_with(-1i64), Some((1, 127)));
+}
+
+#[test]
+fn tells_signs() {
+    let x = Reduced64::checked_new(3, -4).unwrap_or(Reduced::zero());
+    gives(x.checked_abs(), Some((3, 4)));
+    gives(x.checked_recip(), Some((-4, 3)));
+    holds("below 0", x.is_negative() && !x.is_positive());
+}
+
+#[test]
+fn folds_lists() {
+    let half = Reduced64::checked_new(1, 2).unwrap_or(Reduced::zero());
+    let third = Reduced64::checked_new(1, 3).unwrap_or(Reduced::zero());
+    gives(Reduced64::checked_sum(&[half, third]), Some((5, 6)));
+    gives(
+        Reduced64::checked_product(&[&half, &third]),
+        Some((1, 6)),
+    );
+    gives(Reduced::<i8>::checked_sum(&[127i8, 1, -1]), None);
+    let none: [Reduced64; 0] = [];
+    gives(Reduced64::checked_product(&none), Some((1, 1)));
 }

@@ -3,7 +3,7 @@
 //! the names that they have there, and where a range ends.
 
 use super::forms::{self, fraction};
-use crate::proved::num_rational::{Operand, Ratio};
+use crate::proved::num_rational::{Operand, Ratio, Reduced, ReducedOperand};
 use crate::proved::ratio_integer::{Integer, Primitive};
 use core::fmt::Debug;
 
@@ -18,6 +18,50 @@ fn answer<T: Integer, O: Operand<T> + Copy>(x: Ratio<T>, symbol: char, o: O) -> 
     }
 }
 
+// The same of a fraction in lowest terms.
+#[inline]
+fn lowest_answer<T: Integer, O: ReducedOperand<T>>(
+    x: Reduced<T>,
+    symbol: char,
+    o: O,
+) -> Option<Reduced<T>> {
+    match symbol {
+        '+' => x.checked_add(o),
+        '-' => x.checked_sub(o),
+        '*' => x.checked_mul(o),
+        '/' => x.checked_div(o),
+        _ => x.checked_rem(o),
+    }
+}
+
+// Whether it is so from the lowest terms of the left side.
+#[inline]
+fn lowest_holds<T: Integer, O: ReducedOperand<T> + Copy>(
+    left: (T, T),
+    symbol: char,
+    o: O,
+    want: Option<(T, T)>,
+) -> bool {
+    match Reduced::checked_new(left.0, left.1) {
+        Some(x) => lowest_answer(x, symbol, o).map(|y| y.into_raw()) == want,
+        None => false,
+    }
+}
+
+// And from those of the right side.
+#[inline]
+fn both_lowest_hold<T: Integer>(
+    left: (T, T),
+    symbol: char,
+    right: (T, T),
+    want: Option<(T, T)>,
+) -> bool {
+    match Reduced::checked_new(right.0, right.1) {
+        Some(y) => lowest_holds(left, symbol, y, want) && lowest_holds(left, symbol, &y, want),
+        None => false,
+    }
+}
+
 // A row: the right operand stands by value and behind a reference.
 #[inline]
 fn holds<T: Integer + Debug>(
@@ -28,7 +72,9 @@ fn holds<T: Integer + Debug>(
 ) {
     let (x, y) = (fraction(left), fraction(right));
     assert!(
-        answer(x, symbol, y) == want && answer(x, symbol, &y) == want,
+        answer(x, symbol, y) == want
+            && answer(x, symbol, &y) == want
+            && both_lowest_hold(left, symbol, right, want),
         "{left:?} {symbol} {right:?}"
     );
 }
@@ -43,7 +89,10 @@ fn holds_with<T: Integer + Debug>(
 ) {
     let x = fraction(left);
     assert!(
-        answer(x, symbol, c) == want && answer(x, symbol, &c) == want,
+        answer(x, symbol, c) == want
+            && answer(x, symbol, &c) == want
+            && lowest_holds(left, symbol, c, want)
+            && lowest_holds(left, symbol, &c, want),
         "{left:?} {symbol} {c:?}"
     );
 }

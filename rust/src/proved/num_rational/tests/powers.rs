@@ -1,6 +1,6 @@
 // Erased from crates/num_rational/src/tests/powers.rt by rust/erase: not to be edited.
 //! Rows of reciprocals and powers, from outside.
-use crate::proved::num_rational::{Exponent, Ratio};
+use crate::proved::num_rational::{Exponent, Ratio, Reduced};
 use num_traits::Inv;
 use crate::proved::ratio_integer::Integer;
 
@@ -32,6 +32,20 @@ fn small_power<T: Integer>(n: T, d: T, e: i32) -> Option<(T, T)> {
     }
 }
 
+// Whether the lowest terms of n/d to the e are those of this fraction, or there are none.
+#[inline]
+fn lowest_power<T: Integer>(n: T, d: T, e: i32, want: Option<(T, T)>) -> bool {
+    let answer = match Reduced::checked_new(n, d) {
+        Some(x) => x.checked_pow(e),
+        None => None,
+    };
+    match (answer, want) {
+        (Some(power), Some((a, b))) => Reduced::checked_new(a, b) == Some(power),
+        (None, None) => true,
+        _ => false,
+    }
+}
+
 // A row: n, d, e and the fields of n/d to the e.
 type Row<T> = (T, T, i32, Option<(T, T)>);
 
@@ -39,7 +53,7 @@ type Row<T> = (T, T, i32, Option<(T, T)>);
 fn rows_hold<T: Integer>(rows: &[Row<T>]) {
     for (i, &(n, d, e, want)) in rows.iter().enumerate() {
         assert!(
-            small_power(n, d, e) == want && power(n, d, &e) == want,
+            small_power(n, d, e) == want && power(n, d, &e) == want && lowest_power(n, d, e, want),
             "row {i}"
         );
     }

@@ -1,6 +1,6 @@
 // Erased from crates/num_rational/src/tests/rounding.rt by rust/erase: not to be edited.
 //! Rows of the rounding calls and of the numbers as machine integers, from outside.
-use crate::proved::num_rational::Ratio;
+use crate::proved::num_rational::{Ratio, Reduced};
 use crate::proved::ratio_integer::Integer;
 
 // A row: n, d and the ceiling, the floor, the rounded value and the truncation of n/d.
@@ -22,10 +22,25 @@ fn near<T: Integer>(n: T, d: T) -> Option<(T, T, T, T)> {
     }
 }
 
+// The same four of the fraction that is always in lowest terms.
+#[inline]
+fn near_lowest<T: Integer>(n: T, d: T) -> Option<(T, T, T, T)> {
+    let x = Reduced::checked_new(n, d)?;
+    Some((
+        *x.ceil().numer(),
+        *x.floor().numer(),
+        *x.round().numer(),
+        *x.trunc().numer(),
+    ))
+}
+
 #[inline]
 fn rows_hold<T: Integer>(rows: &[Row<T>]) {
     for (i, &(n, d, want)) in rows.iter().enumerate() {
-        assert!(near(n, d) == Some(want), "row {i}");
+        assert!(
+            near(n, d) == Some(want) && near_lowest(n, d) == Some(want),
+            "row {i}"
+        );
     }
 }
 
@@ -86,10 +101,25 @@ fn parts<T: Integer>(n: T, d: T) -> Option<((T, T), T)> {
     }
 }
 
+// Whether the lowest terms of n/d have these two parts.
+#[inline]
+fn lowest_parts_hold<T: Integer>(n: T, d: T, want: ((T, T), T)) -> bool {
+    let (part, whole) = want;
+    match Reduced::checked_new(n, d) {
+        Some(x) => {
+            Reduced::checked_new(part.0, part.1) == Some(x.fract()) && x.to_integer() == whole
+        }
+        None => false,
+    }
+}
+
 #[inline]
 fn parts_hold<T: Integer>(rows: &[(T, T, ((T, T), T))]) {
     for (i, &(n, d, want)) in rows.iter().enumerate() {
-        assert!(parts(n, d) == Some(want), "row {i}");
+        assert!(
+            parts(n, d) == Some(want) && lowest_parts_hold(n, d, want),
+            "row {i}"
+        );
     }
 }
 
@@ -136,8 +166,14 @@ fn machine<T: Integer>(n: T, d: T) -> Machine {
 }
 
 #[inline]
+fn lowest_machine<T: Integer>(n: T, d: T) -> Option<Machine> {
+    let x = Reduced::checked_new(n, d)?;
+    Some((x.to_i64(), x.to_i128(), x.to_u64(), x.to_u128()))
+}
+
+#[inline]
 fn machine_holds<T: Integer>(n: T, d: T, want: Machine) {
-    assert!(machine(n, d) == want);
+    assert!(machine(n, d) == want && lowest_machine(n, d) == Some(want));
 }
 
 #[test]

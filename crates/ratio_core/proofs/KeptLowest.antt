@@ -1,11 +1,11 @@
 -- Fractions that are in lowest terms where another one is: negatives, reciprocals, powers, and what a whole number leaves.
-use Rattle.std.specs.Prelude.{◌≡◌, ◌≢◌, ◌+◌, ◌*◌, ◌^◌, ◌<ℤ◌, ◌+ℤ◌, ◌*ℤ◌, ℕ, ℤ, zero, suc, pos, negsuc, neg_ℤ, unsigned_abs}
-use Rattle.std.specs.Int.{◌∣◌, int_pow}
+use Rattle.std.specs.Prelude.{◌≡◌, ◌≢◌, ◌^◌, ◌+ℤ◌, ◌*ℤ◌, ℕ, ℤ, zero, suc, pos, negsuc, neg_ℤ, unsigned_abs}
+use Rattle.std.specs.Int.{int_pow}
 use Rattle.std.proofs.Common.{sym, ap, arith, ◌∙◌, pow-suc}
 use Rattle.std.proofs.lemmas.Int.{ints}
 use Rattle.std.proofs.Math.Nat.{eq-one_of_dvd-one, pow-zero}
 use Rattle.ratio_integer.specs.Division.{IsMultiple}
-use Rattle.ratio_integer.specs.Fraction.{Fits, IsHeldLowest, IsLowestTerms}
+use Rattle.ratio_integer.specs.Fraction.{IsHeldLowest, IsLowestTerms}
 use Rattle.ratio_integer.specs.Range.{IsHeld}
 use Rattle.ratio_integer.proofs.CommonDivisors.{IsCoprime, coprime_product, coprime_turned, divides_multiple, multiple_divides}
 use Rattle.ratio_integer.proofs.LowestTerms.{lowest_own}

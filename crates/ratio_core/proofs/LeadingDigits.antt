@@ -6,16 +6,16 @@ use Rattle.std.proofs.lemmas.List.{length-take-le}
 use Rattle.std.proofs.lemmas.Str.{digit_value_digit}
 use Rattle.std.proofs.lemmas.Bool.{eqb-true}
 use Rattle.std.proofs.Math.Nat.{pow-le-pow_right}
-use Rattle.std.proofs.Math.Seq.{split_at, take-length}
+use Rattle.std.proofs.Math.Seq.{split_at, take-add, take-length}
 use Rattle.std.specs.Char.{digit_value}
 use Rattle.std.specs.Int.{IsInRange, w128}
-use Rattle.std.specs.Str.Parse.{AllDigits, digits_value, starts_with_minus}
+use Rattle.std.specs.Str.Parse.{AllDigits, digits_value, digits_value_after, starts_with_minus}
 use mir.Val.{to_z, of_z}
 use Rattle.ratio_integer.specs.Range.{Checks, IsHeld}
 use Rattle.ratio_core.specs.declared.parse_error.RatioErrorKind.{RatioErrorKind}
 use Rattle.ratio_core.specs.declared.parse_error.RatioErrorKind.TheVariants.{ParseError, ZeroDenominator}
-use Rattle.ratio_core.specs.Reading.{AnswersPair, IsFractionText, ReadsAs, minus, slash}
-use Rattle.ratio_core.proofs.NumberLemmas.{digits_value_sum}
+use Rattle.ratio_core.specs.Reading.{digits_sum, AnswersPair, IsFractionText, ReadsAs, minus, slash}
+use Rattle.ratio_core.proofs.NumberLemmas.{digits_after, digits_value_sum}
 
 -- ---- the loop
 
@@ -48,6 +48,41 @@ step bytes at n s more few digit =
       value = omega (arith, s.value, worth, digits_value_more 10 bytes at more);
     }
 
+-- ---- one group after another
+
+append_digits : (xs ys : List ℕ) → AllDigits 10 xs → AllDigits 10 ys → AllDigits 10 (xs ++ ys)
+append_digits [] ys h k = k
+append_digits (x ∷ xs) ys h k = (h.0, append_digits xs ys h.1 k)
+
+after_append : (n : ℕ) (xs ys : List ℕ) → digits_value_after 10 n (xs ++ ys) ≡ digits_value_after 10 (digits_value_after 10 n xs) ys
+after_append n [] ys = refl
+after_append n (x ∷ xs) ys = after_append (n * 10 + digit_value x) xs ys
+
+-- the first `at` bytes are digits, and n is their number
+pub record AreGroupsTo (bytes : List ℕ) (at n : ℕ) : Type 0 where
+  pub inside : at ≤ length bytes
+  pub digits : AllDigits 10 (take at bytes)
+  pub value : n ≡ digits_value 10 (take at bytes)
+
+pub group_more : (bytes : List ℕ) (at n more group : ℕ) → AreGroupsTo bytes at n → more ≤ length (drop at bytes) → AllDigits 10 (take more (drop at bytes))
+    → group ≡ digits_value 10 (take more (drop at bytes)) → AreGroupsTo bytes (at + more) (n * 10 ^ more + group)
+group_more bytes at n more group s inside digits is =
+    let first = take at bytes in
+    let next = take more (drop at bytes) in
+    let joined : take (at + more) bytes ≡ first ++ next = take-add at more bytes in
+    let scaled : digits_value 10 (first ++ next) ≡ digits_value 10 first * 10 ^ length next + digits_sum 10 next = after_append 0 first next ∙ digits_after 10 (digits_value 10 first) next in
+    let count : 10 ^ length next ≡ 10 ^ more = ap (λ k. 10 ^ k) (length-take-le more (drop at bytes) inside) in
+    record {
+      inside = omega (arith, inside, length-drop at bytes, s.inside);
+      digits = subst (AllDigits 10) (sym joined) (append_digits first next s.digits digits);
+      value = ap (λ x. x * 10 ^ more + group) s.value ∙ ap (λ x. digits_value 10 first * 10 ^ more + x) (is ∙ digits_value_sum 10 next)
+          ∙ ap (λ x. digits_value 10 first * x + digits_sum 10 next) (sym count) ∙ sym scaled ∙ ap (digits_value 10) (sym joined);
+    }
+
+-- at most 19 digits have a power of ten in 64 bits
+pub power_fits : (k : ℕ) → k ≤ 19 → 10 ^ k < 2 ^ 64
+power_fits k few = omega (arith, pow-le-pow_right {n = 10} (omega arith) {i = k} {j = 19} few)
+
 -- ---- the number text
 
 -- the bytes from a place on
@@ -59,12 +94,12 @@ minus_first : (text : List ℕ) → starts_with_minus text ≡ true → text ≡
 minus_first [] e = absurd (let no : false ≡ true = e in cc)
 minus_first (c ∷ cs) e = ap (λ x. x ∷ cs) (eqb-true c 45 e)
 
-fits : (n : ℕ) → n < 10 ^ 19 → FitsSigned w128 (neg_ℤ (pos n))
+fits : (n : ℕ) → n < 2 ^ 127 → FitsSigned w128 (neg_ℤ (pos n))
 fits zero h = record { sfits = omega (arith, ints) }
 fits (suc n) h = record { sfits = omega (arith, ints, h) }
 
 -- the number after a minus, in an `i128`
-negated : (n : ℕ) → n < 10 ^ 19 → to_z w128 (of_z w128 (pos 0 -ℤ to_z w128 n)) ≡ neg_ℤ (pos n)
+negated : (n : ℕ) → n < 2 ^ 127 → to_z w128 (of_z w128 (pos 0 -ℤ to_z w128 n)) ≡ neg_ℤ (pos n)
 negated n h =
     let same : to_z w128 n ≡ pos n = to_z_pos w128 n (omega (arith, h)) in
     let minus_n : pos 0 -ℤ to_z w128 n ≡ neg_ℤ (pos n) = omega (arith, ints, same) in
@@ -82,14 +117,14 @@ module _ {T : Type 0} (value : T → ℤ) (lo hi : ℤ) where
 
   -- and so they are after a minus
   pub of_minus : (text : List ℕ) (count n : ℕ) (y : T) → lo <ℤ pos 0 → starts_with_minus text ≡ true → count ≤ length (drop 1 text) → count ≢ 0 → AllDigits 10 (take count (drop 1 text))
-      → n ≡ digits_value 10 (take count (drop 1 text)) → count ≤ 19
+      → n ≡ digits_value 10 (take count (drop 1 text)) → n < 2 ^ 127
       → Checks value lo hi (to_z w128 (of_z w128 (pos 0 -ℤ to_z w128 n))) (Some y) → ReadsAs lo hi 10 (take (count + 1) text) (value y)
   of_minus text count n y under first inside some digits is few k =
       let rest = drop 1 text in
       let next : count + 1 ≡ suc count = omega arith in
       let cut : take (count + 1) text ≡ minus ∷ take count rest = ap (λ j. take j text) next ∙ ap (take (suc count)) (minus_first text first) in
       record {
-        number = inr (inr (take count rest, under, cut, (omega (arith, some, length-take-le count rest inside), digits), k.1 ∙ negated n (small rest count n 19 inside few digits is) ∙ ap (λ x. neg_ℤ (pos x)) (is ∙ digits_value_sum 10 (take count rest))));
+        number = inr (inr (take count rest, under, cut, (omega (arith, some, length-take-le count rest inside), digits), k.1 ∙ negated n few ∙ ap (λ x. neg_ℤ (pos x)) (is ∙ digits_value_sum 10 (take count rest))));
         held = subst (IsHeld lo hi) (sym k.1) k.0;
       }
 

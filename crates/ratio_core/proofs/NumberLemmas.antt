@@ -12,7 +12,7 @@ scaled : (a d p q r : ℕ) → q ≡ p * r → (a * r + d) * p ≡ a * q + d * p
 scaled a d p q r e = rw (e, add-mul (a * r) d p, mul_comm p r, mul_assoc a r p)
 
 -- std's number of the digits is the sum of their values times powers
-digits_after : (radix n : ℕ) (ds : List ℕ) → digits_value_after radix n ds ≡ n * radix ^ length ds + digits_sum radix ds
+pub digits_after : (radix n : ℕ) (ds : List ℕ) → digits_value_after radix n ds ≡ n * radix ^ length ds + digits_sum radix ds
 digits_after radix n [] = rw (pow-zero radix) (omega arith)
 digits_after radix n (c ∷ cs) = omega (arith, digits_after radix (n * radix + digit_value c) cs, scaled n (digit_value c) (radix ^ length cs) (radix ^ suc (length cs)) radix (pow-suc radix (length cs)))
 

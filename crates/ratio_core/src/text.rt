@@ -6,7 +6,7 @@ mod numeral;
 mod printing;
 mod ratio_text;
 mod reading;
-mod short_pair;
+mod quick_pair;
 
 pub use decimal::DecimalText;
 pub use form::Form;

@@ -4,7 +4,7 @@ ghost use Rattle.ratio_core.specs.Reading.{AnswersFraction, AnswersPair, Answers
 
 use crate::checked_new::checked_new;
 use crate::parse_error::{ParseRatioError, RatioErrorKind};
-use crate::text::short_pair::short_pair;
+use crate::text::quick_pair::quick_pair;
 use ratio_integer::{Integer, Primitive};
 
 /// The fraction of a decimal text in lowest terms: `N/D` for two number texts, or `N` for `N/1`. A
@@ -91,7 +91,7 @@ fn slashed_pair<T: Primitive>(text: &str, radix: u32) -> Result<(T, T), ParseRat
 fn pair<T: Primitive>(text: &str) -> Result<(T, T), ParseRatioError>
     ensures { AnswersPair T.value (IsFractionText T.lo T.hi text.now) result }
 {
-    match short_pair::<T>(text.as_bytes()) {
+    match quick_pair::<T>(text.as_bytes()) {
         Some(read) => nonzero(read.0, read.1),
         None => long_pair(text),
     }

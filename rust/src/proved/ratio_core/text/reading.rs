@@ -3,7 +3,7 @@
 
 use crate::proved::ratio_core::checked_new::checked_new;
 use crate::proved::ratio_core::parse_error::{ParseRatioError, RatioErrorKind};
-use crate::proved::ratio_core::text::short_pair::short_pair;
+use crate::proved::ratio_core::text::quick_pair::quick_pair;
 use crate::proved::ratio_integer::{Integer, Primitive};
 
 /// The fraction of a decimal text in lowest terms: `N/D` for two number texts, or `N` for `N/1`. A
@@ -80,7 +80,7 @@ fn slashed_pair<T: Primitive>(text: &str, radix: u32) -> Result<(T, T), ParseRat
 // The two numbers of a decimal text, as they stand. Most texts are short.
 #[inline]
 fn pair<T: Primitive>(text: &str) -> Result<(T, T), ParseRatioError> {
-    match short_pair::<T>(text.as_bytes()) {
+    match quick_pair::<T>(text.as_bytes()) {
         Some(read) => nonzero(read.0, read.1),
         None => long_pair(text),
     }

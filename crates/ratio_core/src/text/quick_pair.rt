@@ -1,13 +1,12 @@
-//! Reading a decimal fraction in one pass, where its numbers have few enough digits that a `u64` holds them.
+//! Reading a decimal fraction in one pass over its bytes, 19 digits at a time.
 ghost use Rattle.std.specs.Prelude.{◌≡◌, ◌≤◌, length, take, IfSome};
 ghost use Rattle.std.specs.Str.Parse.{AllDigits, digits_value, starts_with_minus};
 ghost use Rattle.ratio_core.specs.Reading.{IsFractionText, ReadsAs};
 
 use ratio_integer::Primitive;
 
-/// The two numbers of a decimal text that both have 1 to 19 digits and no plus sign, as they stand.
-/// A `None` says nothing of the text.
-pub(crate) fn short_pair<T: Primitive>(bytes: &[u8]) -> Option<(T, T)>
+/// The two numbers of a decimal text without a plus sign, as they stand. A `None` says nothing of the text.
+pub(crate) fn quick_pair<T: Primitive>(bytes: &[u8]) -> Option<(T, T)>
     ensures { IfSome result (λ r. IsFractionText T.lo T.hi bytes.now (T.value r.0) (T.value r.1)) }
 {
     let (numer, at) = leading_number::<T>(bytes)?;
@@ -32,17 +31,17 @@ fn leading_number<T: Primitive>(bytes: &[u8]) -> Option<(T, usize)>
     ensures number { IfSome result (λ r. ReadsAs T.lo T.hi 10 (take r.1 bytes.now) (T.value r.0)) }
 {
     if T::MIN < T::ZERO && begins_with_minus(bytes) {
-        let (n, count) = leading_digits(&bytes[1..]);
-        if count == 0 {
+        let (n, count) = digits::<T>(&bytes[1..])?;
+        if count == 0 || n > i128::MAX as u128 {
             return None;
         }
         Some((T::from_i128(-(n as i128))?, count + 1))
     } else {
-        let (n, count) = leading_digits(bytes);
+        let (n, count) = digits::<T>(bytes)?;
         if count == 0 {
             return None;
         }
-        Some((T::from_u128(n as u128)?, count))
+        Some((T::from_u128(n)?, count))
     }
 }
 
@@ -51,6 +50,38 @@ fn begins_with_minus(bytes: &[u8]) -> bool
     ensures { result ≡ starts_with_minus bytes.now }
 {
     !bytes.is_empty() && bytes[0] == b'-'
+}
+
+// The number of the digits that the bytes begin with, and how many of them were read. Of a type of 64 bits or less these
+// are at most 19.
+fn digits<T: Primitive>(bytes: &[u8]) -> Option<(u128, usize)>
+    ensures inside { IfSome result (λ r. r.1 ≤ length bytes.now) }
+    ensures digits { IfSome result (λ r. AllDigits 10 (take r.1 bytes.now)) }
+    ensures value { IfSome result (λ r. r.0 ≡ digits_value 10 (take r.1 bytes.now)) }
+{
+    if T::BITS > 64 {
+        return grouped_digits(bytes);
+    }
+    let (n, count) = leading_digits(bytes);
+    Some((n as u128, count))
+}
+
+// The number of the digits that the bytes begin with, and how many these are, or `None` where a `u128` does not hold it.
+fn grouped_digits(bytes: &[u8]) -> Option<(u128, usize)>
+    ensures inside { IfSome result (λ r. r.1 ≤ length bytes.now) }
+    ensures digits { IfSome result (λ r. AllDigits 10 (take r.1 bytes.now)) }
+    ensures value { IfSome result (λ r. r.0 ≡ digits_value 10 (take r.1 bytes.now)) }
+{
+    let (first, mut count) = leading_digits(bytes);
+    let mut n = first as u128;
+    let mut at = count;
+    'groups: while count == 19 {
+        let (group, more) = leading_digits(&bytes[at..]);
+        n = n.checked_mul(10u64.pow(more as u32) as u128)?.checked_add(group as u128)?;
+        at += more;
+        count = more;
+    }
+    Some((n, at))
 }
 
 // The number of the digits that the bytes begin with, at most 19 of them, and how many these are. A `u64` holds each

@@ -1,7 +1,7 @@
 use Rattle.std.proofs.Common.{◌∙◌, ◌+◌, ap, subst, arith, length, take}
 use Rattle.ratio_core.specs.Reading.{ReadsAs}
 use Rattle.ratio_core.proofs.LeadingDigits.{alone, from, slashed}
-use Rattle.ratio_core.proofs.text.short_pair.short_pair.Goals as goal
+use Rattle.ratio_core.proofs.text.quick_pair.quick_pair.Goals as goal
 
 pub returns-then-at-bytes : goal.returns-then-at-bytes
 returns-then-at-bytes g c =

@@ -91,6 +91,7 @@ impl<'a, C: Crossing> Bench<'a, C> {
                 self.answers("floor", kind, &low, e.floor, theirs::floor);
                 self.answers("round", kind, &low, e.round, theirs::round);
                 self.answers("to_integer", kind, &low, e.to_integer, theirs::to_integer);
+                self.answers("copied", kind, &low, e.copied, theirs::copied);
                 self.answers("recip", kind, &low, e.recip, theirs::recip);
                 self.powers(kind, &low);
             }
@@ -117,7 +118,9 @@ impl<'a, C: Crossing> Bench<'a, C> {
     fn row(&self, call: &str, kind: &str, times: Times, counts: Counts) {
         let goal = goal(call, kind);
         let all_none = counts.both + counts.ours == 0;
-        let met = if times.ratio <= goal {
+        let met = if goal.is_infinite() {
+            ""
+        } else if times.ratio <= goal {
             "met"
         } else if all_none {
             "no answers"
@@ -127,14 +130,14 @@ impl<'a, C: Crossing> Bench<'a, C> {
             "**missed**"
         };
         println!(
-            "| i{} | {} | {} | {:.1} | {:.1} | {:.2} | {:.1} | {} | {}, {}, {} |",
+            "| i{} | {} | {} | {:.1} | {:.1} | {:.2} | {} | {} | {}, {}, {} |",
             C::Number::BITS,
             call,
             kind,
             times.ours,
             times.theirs,
             times.ratio,
-            goal,
+            if goal.is_infinite() { "none".into() } else { format!("{goal:.1}") },
             met,
             counts.both,
             counts.ours,

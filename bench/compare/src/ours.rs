@@ -121,6 +121,7 @@ pub struct Exports<C> {
     pub floor: Answering<C>,
     pub round: Answering<C>,
     pub to_integer: Answering<C>,
+    pub copied: Answering<C>,
     pub recip: Answering<C>,
     pub pow: unsafe extern "C" fn(*const Pair<C>, usize, *const i32, usize, *mut Place<C>, usize),
     pub from_str: Reading<C>,
@@ -132,7 +133,7 @@ pub struct Exports<C> {
 macro_rules! exports {
     ($list:ident, $c:ty, $compare:ident, $hash:ident, $add:ident, $sub:ident, $mul:ident,
      $div:ident, $rem:ident, $reduced:ident, $gcd:ident, $floor:ident, $round:ident, $to_integer:ident,
-     $recip:ident, $pow:ident, $from_str:ident, $from_str_radix:ident, $text:ident, $hex:ident) => {
+     $copied:ident, $recip:ident, $pow:ident, $from_str:ident, $from_str_radix:ident, $text:ident, $hex:ident) => {
         extern "C" {
             fn $compare(pairs: *const Pair<$c>, len: usize, out: *mut i8, room: usize);
             fn $hash(pairs: *const Pair<$c>, len: usize, out: *mut u64, room: usize);
@@ -146,6 +147,7 @@ macro_rules! exports {
             fn $floor(pairs: *const Pair<$c>, len: usize, out: *mut Place<$c>, room: usize);
             fn $round(pairs: *const Pair<$c>, len: usize, out: *mut Place<$c>, room: usize);
             fn $to_integer(pairs: *const Pair<$c>, len: usize, out: *mut Place<$c>, room: usize);
+            fn $copied(pairs: *const Pair<$c>, len: usize, out: *mut Place<$c>, room: usize);
             fn $recip(pairs: *const Pair<$c>, len: usize, out: *mut Place<$c>, room: usize);
             fn $pow(
                 pairs: *const Pair<$c>,
@@ -188,6 +190,7 @@ macro_rules! exports {
             floor: $floor,
             round: $round,
             to_integer: $to_integer,
+            copied: $copied,
             recip: $recip,
             pow: $pow,
             from_str: $from_str,
@@ -203,7 +206,7 @@ exports!(
     fraction_calls_checked_add_32, fraction_calls_checked_sub_32, fraction_calls_checked_mul_32,
     fraction_calls_checked_div_32, fraction_calls_checked_rem_32, fraction_calls_reduced_32,
     fraction_calls_gcd_32, fraction_calls_floor_32, fraction_calls_round_32,
-    fraction_calls_to_integer_32, fraction_calls_recip_32, fraction_calls_pow_32,
+    fraction_calls_to_integer_32, fraction_calls_copied_32, fraction_calls_recip_32, fraction_calls_pow_32,
     fraction_calls_from_str_32, fraction_calls_from_str_radix_32, fraction_calls_text_32,
     fraction_calls_hex_32
 );
@@ -212,7 +215,7 @@ exports!(
     fraction_calls_checked_add_64, fraction_calls_checked_sub_64, fraction_calls_checked_mul_64,
     fraction_calls_checked_div_64, fraction_calls_checked_rem_64, fraction_calls_reduced_64,
     fraction_calls_gcd_64, fraction_calls_floor_64, fraction_calls_round_64,
-    fraction_calls_to_integer_64, fraction_calls_recip_64, fraction_calls_pow_64,
+    fraction_calls_to_integer_64, fraction_calls_copied_64, fraction_calls_recip_64, fraction_calls_pow_64,
     fraction_calls_from_str_64, fraction_calls_from_str_radix_64, fraction_calls_text_64,
     fraction_calls_hex_64
 );
@@ -221,7 +224,7 @@ exports!(
     fraction_calls_checked_add_128, fraction_calls_checked_sub_128, fraction_calls_checked_mul_128,
     fraction_calls_checked_div_128, fraction_calls_checked_rem_128, fraction_calls_reduced_128,
     fraction_calls_gcd_128, fraction_calls_floor_128, fraction_calls_round_128,
-    fraction_calls_to_integer_128, fraction_calls_recip_128, fraction_calls_pow_128,
+    fraction_calls_to_integer_128, fraction_calls_copied_128, fraction_calls_recip_128, fraction_calls_pow_128,
     fraction_calls_from_str_128, fraction_calls_from_str_radix_128, fraction_calls_text_128,
     fraction_calls_hex_128
 );

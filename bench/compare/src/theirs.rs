@@ -109,6 +109,14 @@ pub fn to_integer<T: Number>(pairs: &[Pair<T>], out: &mut [Answer<T>]) {
     }
 }
 
+/// Each first fraction as it is.
+#[inline(never)]
+pub fn copied<T: Number>(pairs: &[Pair<T>], out: &mut [Answer<T>]) {
+    for (pair, place) in pairs.iter().zip(out) {
+        *place = answered(Some(pair.0));
+    }
+}
+
 /// The reciprocal of each first fraction that is above 0; any other as it is.
 #[inline(never)]
 pub fn recip<T: Number>(pairs: &[Pair<T>], out: &mut [Answer<T>]) {

@@ -1,18 +1,21 @@
 -- The digits of a number in a base from 2 to 16: how they are written from the end on, and that they read back.
-use Rattle.std.proofs.Common.{◌≡◌, refl, sym, ◌∙◌, ap, subst, arith, ℕ, suc, ◌+◌, ◌/◌, ◌%◌, ◌^◌, ◌<◌, ◌≤◌, ◌==◌, Bool, true, false, cond, List, [], ◌∷◌, ◌++◌, length, drop, slice_set, nat_lt, lit<}
+use Rattle.std.proofs.Common.{◌≡◌, T, refl, sym, ◌∙◌, ap, subst, inl, inr, arith, ℕ, zero, suc, ◌+◌, ◌-◌, ◌&&◌, eqb, eqb→eq, eq-zero-or-pos, get_or, ◌/◌, ◌%◌, ◌^◌, ◌<◌, ◌≤◌, ◌==◌, Bool, true, false, cond, List, [], ◌∷◌, ◌++◌, length, drop, slice_set, nat_lt, lit<}
 use Rattle.std.specs.Prelude.{IsAscii, map}
 use Rattle.std.specs.Char.{digit_value}
 use Rattle.std.specs.Fmt.{digit_glyph}
 use Rattle.std.specs.Int.Digits.{AllBelowBase, digits_of, number_from_digits}
 use Rattle.std.specs.Str.Parse.{AllDigits, IsNumeral}
-use Rattle.std.proofs.Math.Nat.{pow-le-pow_left}
+use Rattle.std.proofs.Math.Nat.{div-eq_of_lt, div-le_self, div-lt_self, mod-eq_of_lt, pow-le-pow_left}
 use Rattle.std.proofs.lemmas.Bool.{eqb-true, ne_eqb}
 use Rattle.std.proofs.lemmas.Grind.{common_steps}
 use Rattle.std.proofs.lemmas.Int.Digits.{all_below_base_digits_of, digits_of_step, digits_value_is, length-digits_of-le, length-digits_of_step, number_digits_of}
-use Rattle.std.proofs.lemmas.List.{drop-set}
+use Rattle.std.proofs.lemmas.List.{drop-set, length-set}
+use Rattle.std.proofs.lemmas.Nat.{le-div}
 use Rattle.std.proofs.lemmas.Str.Ascii.{IsAscii-cons, IsAscii-nil}
+use lib.Ieee.Fits.{and_l, and_r}
 use Rattle.ratio_core.specs.Printing.{numeral}
 use Rattle.ratio_core.specs.Reading.{digits_sum}
+use Rattle.ratio_core.specs.declared.text.numeral.TheConstants.{LOWER, UPPER}
 use Rattle.ratio_core.proofs.NumberLemmas.{digits_value_sum}
 
 -- ---- how many digits there are
@@ -36,6 +39,53 @@ pub one_written : (b left at : ℕ) (upper : Bool) (buf : List ℕ) → 2 ≤ b 
     → map (digit_glyph upper) (digits_of b (left / b)) ++ drop at (slice_set buf at (digit_glyph upper (left % b))) ≡ map (digit_glyph upper) (digits_of b left) ++ drop (at + 1) buf
 one_written b left at upper buf two some inside =
     rw (digits_of_step b left two some, map_push (digit_glyph upper) (digits_of b (left / b)) (left % b) (drop (at + 1) buf), drop-set buf at (digit_glyph upper (left % b)) inside)
+
+pub quotient_some : (b left : ℕ) → 2 ≤ b → b ≤ left → 0 < left / b
+quotient_some b left two more = le-div 1 left b (omega (arith, two)) (omega (arith, more))
+
+pub length_two_more : (b left : ℕ) → 2 ≤ b → b ≤ left → length (digits_of b left) ≡ length (digits_of b (left / b / b)) + 2
+length_two_more b left two more = omega (arith, length-digits_of_step b left two (omega (arith, two, more)), length-digits_of_step b (left / b) two (quotient_some b left two more))
+
+-- two digits fewer are a smaller number
+pub two_fewer : (b left : ℕ) → 2 ≤ b → b ≤ left → left / b / b < left
+two_fewer b left two more = omega (arith, div-lt_self {n = left} {k = b} (omega (arith, two, more)) (omega (arith, two)), div-le_self (left / b) b)
+
+-- two digits more are written
+pub two_written : (b left at : ℕ) (upper : Bool) (buf : List ℕ) → 2 ≤ b → b ≤ left → at + 1 < length buf
+    → map (digit_glyph upper) (digits_of b (left / b / b)) ++ drop at (slice_set (slice_set buf (at + 1) (digit_glyph upper (left % b))) at (digit_glyph upper (left / b % b)))
+    ≡ map (digit_glyph upper) (digits_of b left) ++ drop (at + 2) buf
+two_written b left at upper buf two more inside =
+    let last = slice_set buf (at + 1) (digit_glyph upper (left % b)) in
+    let next : at + 1 + 1 ≡ at + 2 = omega arith in
+    one_written b (left / b) at upper last two (quotient_some b left two more) (omega (arith, inside, length-set buf (at + 1) (digit_glyph upper (left % b))))
+    ∙ one_written b left (at + 1) upper buf two (omega (arith, two, more)) inside
+    ∙ ap (λ k. map (digit_glyph upper) (digits_of b left) ++ drop k buf) next
+
+-- and so is the last one
+pub last_written : (b left at : ℕ) (upper : Bool) (buf : List ℕ) → 2 ≤ b → 0 < left → left < b → at < length buf
+    → drop at (slice_set buf at (digit_glyph upper left)) ≡ map (digit_glyph upper) (digits_of b left) ++ drop (at + 1) buf
+last_written b left at upper buf two some small inside =
+    let all : left % b ≡ left = mod-eq_of_lt small in
+    let none : left / b ≡ 0 = div-eq_of_lt small in
+    ap (λ d. drop at (slice_set buf at (digit_glyph upper d))) (sym all)
+    ∙ ap (λ k. map (digit_glyph upper) (digits_of b k) ++ drop at (slice_set buf at (digit_glyph upper (left % b)))) (sym none)
+    ∙ one_written b left at upper buf two some inside
+
+-- each digit has its byte
+abbrev are_glyphs : ℕ → Bool
+are_glyphs zero = true
+are_glyphs (suc d) = (eqb (get_or LOWER d 0) (digit_glyph false d) && eqb (get_or UPPER d 0) (digit_glyph true d)) && are_glyphs d
+
+glyphs_below : (n d : ℕ) → T (are_glyphs n) → d < n → (get_or LOWER d 0 ≡ digit_glyph false d) × (get_or UPPER d 0 ≡ digit_glyph true d)
+glyphs_below zero d t h = absurd (omega arith)
+glyphs_below (suc n) d t h =
+    elim (eq-zero-or-pos (n - d)) [
+      | inl z ↦ let e : d ≡ n = omega arith in let both = and_l _ (are_glyphs n) t in rw e (eqb→eq _ _ (and_l _ _ both), eqb→eq _ _ (and_r _ _ both))
+      | inr g ↦ glyphs_below n d (and_r _ (are_glyphs n) t) (omega arith)
+    ]
+
+pub glyphs : (d : ℕ) → d < 16 → (get_or LOWER d 0 ≡ digit_glyph false d) × (get_or UPPER d 0 ≡ digit_glyph true d)
+glyphs d h = glyphs_below 16 d tt h
 
 pub numeral_zero : (b n : ℕ) (upper : Bool) → n ≡ 0 → numeral b upper n ≡ 48 ∷ []
 numeral_zero b n upper none = rw none refl

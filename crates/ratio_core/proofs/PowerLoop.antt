@@ -201,14 +201,14 @@ held_in lo hi a total out held = go (held_decided lo hi a)
 
 pub squares_out : (lo hi n d : ℤ) (e : ℕ) (p q s t : ℤ) (left : ℕ) → IsRange lo hi → PowersSoFar n d e p q (s *ℤ s) (t *ℤ t) left → 1 ≤ left → ¬ (IsHeld lo hi (s *ℤ s) × IsHeld lo hi (t *ℤ t)) → ¬ (PowersHeld lo hi n d e)
 squares_out lo hi n d e p q s t left range g some out held = out (
-    held_in lo hi (s *ℤ s) _ (square_out lo hi _ p s left range g.numer some) held.numer,
-    held_in lo hi (t *ℤ t) _ (square_out lo hi _ q t left range g.denom some) held.denom,
+  held_in lo hi (s *ℤ s) _ (square_out lo hi _ p s left range g.numer some) held.numer,
+  held_in lo hi (t *ℤ t) _ (square_out lo hi _ q t left range g.denom some) held.denom,
 )
 
 pub factors_out : (lo hi n d : ℤ) (e : ℕ) (p q s t : ℤ) (left : ℕ) → IsRange lo hi → PowersSoFar n d e p q s t left → left % 2 ≡ 1 → ¬ (IsHeld lo hi (p *ℤ s) × IsHeld lo hi (q *ℤ t)) → ¬ (PowersHeld lo hi n d e)
 factors_out lo hi n d e p q s t left range g h out held = out (
-    held_in lo hi (p *ℤ s) _ (factor_out lo hi _ p s left range g.numer h) held.numer,
-    held_in lo hi (q *ℤ t) _ (factor_out lo hi _ q t left range g.denom h) held.denom,
+  held_in lo hi (p *ℤ s) _ (factor_out lo hi _ p s left range g.numer h) held.numer,
+  held_in lo hi (q *ℤ t) _ (factor_out lo hi _ q t left range g.denom h) held.denom,
 )
 
 pub both_last : (lo hi n d : ℤ) (e : ℕ) (p q s t : ℤ) (left : ℕ) → PowersSoFar n d e p q s t left → left ≤ 0 → IsHeld lo hi p → IsHeld lo hi q → PowersHeld lo hi n d e × ((p ≡ int_pow n e) × (q ≡ int_pow d e))

@@ -64,23 +64,23 @@ reciprocal_same n d a b same = *ℤ_comm d a ∙ sym same ∙ *ℤ_comm n b
 pub quotient_by_lowest : {R : Type 0} (numer denom : R → ℤ) (lo hi a b c d p q s t : ℤ) (r : Option R) → IsLowestTermsOf a b p q → IsLowestTermsOf c d s t → ChecksLowest numer denom lo hi (p *ℤ t, q *ℤ s) r → ChecksLowest numer denom lo hi (a *ℤ d, b *ℤ c) r
 quotient_by_lowest numer denom lo hi a b c d p q s t (Some r) left right is =
     held_lowest_moved lo hi (p *ℤ t) (q *ℤ s) (a *ℤ d) (b *ℤ c) _ _
-        (mul_nonzero b c left.fraction (numer_nonzero c d s t right (right_nonzero q s is.terms.fraction)))
-        (same_value_products a b d c p q t s left.same (reciprocal_same c d s t right.same)) is
+    (mul_nonzero b c left.fraction (numer_nonzero c d s t right (right_nonzero q s is.terms.fraction)))
+    (same_value_products a b d c p q t s left.same (reciprocal_same c d s t right.same)) is
 quotient_by_lowest numer denom lo hi a b c d p q s t None left right out = λ fits. out (record {
-      numer = fits.numer;
-      denom = fits.denom;
-      low = held_lowest_moved lo hi (a *ℤ d) (b *ℤ c) (p *ℤ t) (q *ℤ s) _ _
-          (mul_nonzero q s (positive_nonzero q left.lowest.positive) (lowest_nonzero c d s t right (right_nonzero b c fits.low.terms.fraction)))
-          (same_value_turned (a *ℤ d) (b *ℤ c) (p *ℤ t) (q *ℤ s) (same_value_products a b d c p q t s left.same (reciprocal_same c d s t right.same))) fits.low;
-    })
+  numer = fits.numer;
+  denom = fits.denom;
+  low = held_lowest_moved lo hi (a *ℤ d) (b *ℤ c) (p *ℤ t) (q *ℤ s) _ _
+      (mul_nonzero q s (positive_nonzero q left.lowest.positive) (lowest_nonzero c d s t right (right_nonzero b c fits.low.terms.fraction)))
+      (same_value_turned (a *ℤ d) (b *ℤ c) (p *ℤ t) (q *ℤ s) (same_value_products a b d c p q t s left.same (reciprocal_same c d s t right.same))) fits.low;
+})
 
 -- and so it is for the product
 pub product_by_lowest : {R : Type 0} (numer denom : R → ℤ) (lo hi a b c d p q s t : ℤ) (r : Option R) → IsLowestTermsOf a b p q → IsLowestTermsOf c d s t → ChecksLowest numer denom lo hi (p *ℤ s, q *ℤ t) r → ChecksLowest numer denom lo hi (a *ℤ c, b *ℤ d) r
 product_by_lowest numer denom lo hi a b c d p q s t r left right answer =
     checks_lowest_moved numer denom lo hi (p *ℤ s) (q *ℤ t) (a *ℤ c) (b *ℤ d) r
-        (mul_nonzero q t (positive_nonzero q left.lowest.positive) (positive_nonzero t right.lowest.positive))
-        (mul_nonzero b d left.fraction right.fraction)
-        (same_value_products a b c d p q s t left.same right.same) answer
+    (mul_nonzero q t (positive_nonzero q left.lowest.positive) (positive_nonzero t right.lowest.positive))
+    (mul_nonzero b d left.fraction right.fraction)
+    (same_value_products a b c d p q s t left.same right.same) answer
 
 -- the lowest terms of m/e are a/b and those of n/f are c/d, and those of d/b are s/t
 module _ (m e n f a b c d s t : ℤ) (left : IsLowestTermsOf m e a b) (right : IsLowestTermsOf n f c d) (denoms : IsLowestTermsOf d b s t) where

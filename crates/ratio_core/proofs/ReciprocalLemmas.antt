@@ -52,8 +52,7 @@ way_back numer denom lo hi n d (pos k) u l a b m None above em (inr w) p c =
 way_back numer denom lo hi n d (pos k) u l a b m (Some x) above em (inr w) p c =
     let t : pos 0 <ℤ a = rw (p.1.0, w.1) (pow_above d m above) in
     let turned = c.1.positive t in
-    let held : PowersHeld lo hi l u m = record { numer = p.0.denom; denom = p.0.numer } in
-    (
+    let held : PowersHeld lo hi l u m = record { numer = p.0.denom; denom = p.0.numer } in (
       rw (w.1, w.2, em) at held,
       (rw (p.1.1, w.2, em) at turned.0, rw (p.1.0, w.1, em) at turned.1),
     )

@@ -5,8 +5,8 @@ ghost use Rattle.ratio_core.specs.Printing.{numeral, twos_complement};
 
 use ratio_integer::Primitive;
 
-// Writes the digits so that they end at `end`, and returns where they start. The base is known where
-// this is called, so that no division is left.
+// Writes the digits, two a turn, so that they end at `end`, and returns where they start. The base is
+// known where this is called, so that no division is left.
 #[inline(always)]
 pub(crate) fn put_numeral(n: u128, base: u128, upper: bool, buf: &mut [u8], end: usize) -> usize
     requires low { 2 ≤ base }
@@ -23,13 +23,23 @@ pub(crate) fn put_numeral(n: u128, base: u128, upper: bool, buf: &mut [u8], end:
     }
     let mut left = n;
     let mut at = end;
-    'digits: while left > 0 {
+    'pairs: while left >= base {
+        let next = left / base;
+        at -= 2;
+        buf[at + 1] = glyph((left % base) as u8, upper);
+        buf[at] = glyph((next % base) as u8, upper);
+        left = next / base;
+    }
+    if left > 0 {
         at -= 1;
-        buf[at] = glyph((left % base) as u8, upper);
-        left /= base;
+        buf[at] = glyph(left as u8, upper);
     }
     at
 }
+
+static LOWER: [u8; 16] = *b"0123456789abcdef";
+
+static UPPER: [u8; 16] = *b"0123456789ABCDEF";
 
 // The digit.
 #[inline(always)]
@@ -37,12 +47,10 @@ fn glyph(digit: u8, upper: bool) -> u8
     requires { digit < 16 }
     ensures { result ≡ digit_glyph upper digit }
 {
-    if digit < 10 {
-        b'0' + digit
-    } else if upper {
-        b'A' - 10 + digit
+    if upper {
+        UPPER[digit as usize]
     } else {
-        b'a' - 10 + digit
+        LOWER[digit as usize]
     }
 }
 

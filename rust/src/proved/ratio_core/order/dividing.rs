@@ -42,5 +42,8 @@ pub(crate) fn divide_right<T: Integer>(n: T, d: T, steps: &mut Steps) -> (T, T) 
 pub(crate) fn is_above_max<T: Integer>(n: T, d: T) -> bool {
     let _ = n.held();
     let _ = d.held();
-    is_below_zero(d) && is_below_zero(n) && d.plus(T::ONE).is_zero() && is_below_zero(n.plus(T::MAX))
+    is_below_zero(d)
+        && is_below_zero(n)
+        && d.plus(T::ONE).is_zero()
+        && is_below_zero(n.plus(T::MAX))
 }

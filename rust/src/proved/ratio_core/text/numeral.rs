@@ -3,8 +3,8 @@
 
 use crate::proved::ratio_integer::Primitive;
 
-// Writes the digits so that they end at `end`, and returns where they start. The base is known where
-// this is called, so that no division is left.
+// Writes the digits, two a turn, so that they end at `end`, and returns where they start. The base is
+// known where this is called, so that no division is left.
 /// # Conditions
 ///
 /// What is proved asks of the caller:
@@ -21,23 +21,31 @@ pub(crate) fn put_numeral(n: u128, base: u128, upper: bool, buf: &mut [u8], end:
     }
     let mut left = n;
     let mut at = end;
-    while left > 0 {
+    while left >= base {
+        let next = left / base;
+        at -= 2;
+        buf[at + 1] = glyph((left % base) as u8, upper);
+        buf[at] = glyph((next % base) as u8, upper);
+        left = next / base;
+    }
+    if left > 0 {
         at -= 1;
-        buf[at] = glyph((left % base) as u8, upper);
-        left /= base;
+        buf[at] = glyph(left as u8, upper);
     }
     at
 }
 
+static LOWER: [u8; 16] = *b"0123456789abcdef";
+
+static UPPER: [u8; 16] = *b"0123456789ABCDEF";
+
 // The digit.
 #[inline(always)]
 fn glyph(digit: u8, upper: bool) -> u8 {
-    if digit < 10 {
-        b'0' + digit
-    } else if upper {
-        b'A' - 10 + digit
+    if upper {
+        UPPER[digit as usize]
     } else {
-        b'a' - 10 + digit
+        LOWER[digit as usize]
     }
 }
 

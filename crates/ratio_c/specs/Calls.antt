@@ -1,0 +1,94 @@
+-- What the calls answer to fractions as pairs of whole numbers, and what a call over slices does.
+use Rattle.std.specs.Prelude.{◌≡◌, ◌≢◌, ◌==◌, ◌<ℤ◌, ℕ, ℤ, pos, Bool, List, length, Option, MatchBool, fold}
+use Rattle.std.specs.List.{AllZip}
+use Rattle.ratio_integer.specs.Arithmetic.{RemainderHeld, difference_of, product_of, quotient_of, remainder_of, sum_of}
+use Rattle.ratio_integer.specs.Fraction.{AnswersLowest, ChecksLowest}
+use Rattle.ratio_core.specs.Conditions.{DifferenceCondition, SumCondition}
+use Rattle.ratio_core.specs.ContinuedFraction.{IsCodesOf}
+use Rattle.ratio_core.specs.Order.{cross_cmp}
+use Rattle.ratio_core.specs.Power.{ChecksPower}
+use Rattle.ratio_core.specs.Rounding.{IsFloor, IsRounded}
+use Rattle.ratio_c.specs.Crossing.{Said, Says, mixed, order_number, refused}
+use Rattle.ratio_c.specs.declared.code.TheConstants.{ANSWERED, DENOMINATOR_NOT_POSITIVE, DIVISION_BY_ZERO, ZERO_DENOMINATOR}
+use Rattle.ratio_c.specs.declared.each.TheConstants.{BAD_LENGTH, DONE}
+
+-- each answer is one to what was asked at its place; or the slices have unlike lengths, and nothing is written
+abbrev pub AnswersEach : {A B : Type 0} → (A → B → Type 0) → List A → List B → List B → ℕ → Type 0
+AnswersEach Gives asked old new result =
+    MatchBool (length asked == length old) ((result ≡ DONE) × AllZip Gives asked new) ((result ≡ BAD_LENGTH) × (new ≡ old))
+
+-- one thing holds where P does, and another where it does not
+pub record Tested (P Then Else : Type 0) : Type 0 where
+  pub yes : P → Then
+  pub no : ¬ P → Else
+
+-- the denominators are positive
+abbrev pub BothPositive : ℤ × ℤ → ℤ × ℤ → Type 0
+BothPositive x y = (pos 0 <ℤ x.1) × (pos 0 <ℤ y.1)
+
+-- the answer to two fractions is the one that `Is` says where their denominators are positive, and says so where one is not
+abbrev pub OfPositive : ℤ × ℤ → ℤ × ℤ → Said → Type 0 → Type 0
+OfPositive x y answer Is = Tested (BothPositive x y) Is (answer ≡ refused DENOMINATOR_NOT_POSITIVE)
+
+-- x + y, x - y and x * y in lowest terms where the library's calls answer them
+abbrev pub IsSumAnswer : Bool → ℤ → ℤ → ℤ × ℤ → ℤ × ℤ → Said → Type 0
+IsSumAnswer exact lo hi x y answer =
+    OfPositive x y answer (Says (AnswersLowest (λ z. z.0) (λ z. z.1) lo hi (SumCondition exact lo hi x.0 x.1 y.0 y.1) (sum_of x.0 x.1 y.0 y.1)) answer)
+
+abbrev pub IsDifferenceAnswer : Bool → ℤ → ℤ → ℤ × ℤ → ℤ × ℤ → Said → Type 0
+IsDifferenceAnswer exact lo hi x y answer =
+    OfPositive x y answer (Says (AnswersLowest (λ z. z.0) (λ z. z.1) lo hi (DifferenceCondition exact lo hi x.0 x.1 y.0 y.1) (difference_of x.0 x.1 y.0 y.1)) answer)
+
+abbrev pub IsProductAnswer : ℤ → ℤ → ℤ × ℤ → ℤ × ℤ → Said → Type 0
+IsProductAnswer lo hi x y answer = OfPositive x y answer (Says (ChecksLowest (λ z. z.0) (λ z. z.1) lo hi (product_of x.0 x.1 y.0 y.1)) answer)
+
+-- a division by 0 is answered by its code, and else x / y and x % y in lowest terms where the library's calls answer them
+abbrev pub OfDivisor : ℤ × ℤ → Said → (Option (ℤ × ℤ) → Type 0) → Type 0
+OfDivisor y answer Is = Tested (y.0 ≡ pos 0) (answer ≡ refused DIVISION_BY_ZERO) (Says Is answer)
+
+abbrev pub IsQuotientAnswer : ℤ → ℤ → ℤ × ℤ → ℤ × ℤ → Said → Type 0
+IsQuotientAnswer lo hi x y answer = OfPositive x y answer (OfDivisor y answer (ChecksLowest (λ z. z.0) (λ z. z.1) lo hi (quotient_of x.0 x.1 y.0 y.1)))
+
+abbrev pub IsRemainderAnswer : ℤ → ℤ → ℤ × ℤ → ℤ × ℤ → Said → Type 0
+IsRemainderAnswer lo hi x y answer =
+    OfPositive x y answer
+    (OfDivisor y answer (AnswersLowest (λ z. z.0) (λ z. z.1) lo hi (RemainderHeld lo hi x.0 x.1 y.0 y.1) (remainder_of x.0 x.1 y.0 y.1)))
+
+-- fractions are ordered where no denominator is 0; the code says which it was
+abbrev pub IsOrderAnswer : ℤ × ℤ → ℤ × ℤ → ℕ → ℤ → Type 0
+IsOrderAnswer x y code order =
+    Tested ((x.1 ≢ pos 0) × (y.1 ≢ pos 0)) ((code ≡ ANSWERED) × (order ≡ order_number (cross_cmp x.0 x.1 y.0 y.1))) ((code ≡ ZERO_DENOMINATOR) × (order ≡ pos 0))
+
+-- a fraction is brought to lowest terms where its denominator is not 0 and they are held
+abbrev pub IsLowestAnswer : ℤ → ℤ → ℤ × ℤ → Said → Type 0
+IsLowestAnswer lo hi x answer = Tested (x.1 ≡ pos 0) (answer ≡ refused ZERO_DENOMINATOR) (Says (ChecksLowest (λ z. z.0) (λ z. z.1) lo hi x) answer)
+
+-- the answer to one fraction is the one that `Is` says where its denominator is positive, and says so where it is not
+abbrev pub OfOne : ℤ × ℤ → Said → Type 0 → Type 0
+OfOne x answer Is = Tested (pos 0 <ℤ x.1) Is (answer ≡ refused DENOMINATOR_NOT_POSITIVE)
+
+-- the answer is a whole number over 1, of which `Is` holds
+pub record SaysWhole (Is : ℤ → Type 0) (answer : Said) : Type 0 where
+  pub number : ℤ
+  pub is_number : Is number
+  pub is_said : answer ≡ (ANSWERED, (number, pos 1))
+
+-- the floor, and the whole number that is nearest, a half away from zero
+abbrev pub IsFloorAnswer : ℤ × ℤ → Said → Type 0
+IsFloorAnswer x answer = OfOne x answer (SaysWhole (IsFloor x.0 x.1) answer)
+
+abbrev pub IsRoundAnswer : ℤ × ℤ → Said → Type 0
+IsRoundAnswer x answer = OfOne x answer (SaysWhole (IsRounded x.0 x.1) answer)
+
+-- a power, not reduced, where its numbers are held
+abbrev pub IsPowerAnswer : ℤ → ℤ → ℤ × ℤ → ℤ → Said → Type 0
+IsPowerAnswer lo hi x exponent answer = OfOne x answer (Says (ChecksPower (λ z. z.0) (λ z. z.1) lo hi x.0 x.1 exponent) answer)
+
+-- a fraction is hashed by the codes of its continued fraction, the same for all fractions of its value, where its denominator is not 0
+pub record IsHashOf (lo hi : ℤ) (x : ℤ × ℤ) (hash : ℕ) : Type 0 where
+  pub codes : List ℤ
+  pub are_codes : IsCodesOf lo hi x.0 x.1 codes
+  pub is_hash : hash ≡ fold mixed 0 codes
+
+abbrev pub IsHashAnswer : ℤ → ℤ → ℤ × ℤ → ℕ → ℕ → Type 0
+IsHashAnswer lo hi x code hash = Tested (x.1 ≡ pos 0) ((code ≡ ZERO_DENOMINATOR) × (hash ≡ 0)) ((code ≡ ANSWERED) × IsHashOf lo hi x hash)

@@ -1,0 +1,45 @@
+-- Fractions and answers as they cross from a caller and back.
+use Rattle.std.specs.Prelude.{◌≡◌, ◌+◌, ◌*◌, ◌%◌, ◌+ℤ◌, ◌*ℤ◌, ◌^◌, unsigned_abs, ℕ, ℤ, pos, negsuc, Option, Some, None}
+use Rattle.std.specs.Int.{int_rem_euclid}
+use Rattle.std.specs.declared.cmp.Ordering.{Ordering}
+use Rattle.std.specs.declared.cmp.Ordering.TheVariants.{Less, Equal, Greater}
+use Rattle.ratio_c.specs.declared.wide.Wide.{Wide}
+use Rattle.ratio_c.specs.declared.code.TheConstants.{ANSWERED, NOT_HELD}
+use Rattle.ratio_c.specs.declared.hash.TheConstants.{MULTIPLIER}
+
+-- what an answer says: its code, and its two numbers
+abbrev pub Said : Type 0
+Said = ℕ × (ℤ × ℤ)
+
+-- an answer without numbers has 0 twice
+abbrev pub refused : ℕ → Said
+refused code = (code, (pos 0, pos 0))
+
+-- a result is answered, and that there is none is said by its code
+abbrev pub said_of : Option (ℤ × ℤ) → Said
+said_of (Some x) = (ANSWERED, x)
+said_of None = refused NOT_HELD
+
+-- an answer says the result of which `Is` holds
+pub record Says (Is : Option (ℤ × ℤ) → Type 0) (answer : Said) : Type 0 where
+  pub result : Option (ℤ × ℤ)
+  pub is_result : Is result
+  pub is_said : answer ≡ said_of result
+
+-- an order as a number: -1, 0 or 1
+abbrev pub order_number : Ordering → ℤ
+order_number Less = negsuc 0
+order_number Equal = pos 0
+order_number Greater = pos 1
+
+-- the number of two halves, the lower of which counts units and the upper 2^64s
+abbrev pub wide_number : Wide → ℤ
+wide_number n = n.high *ℤ pos (2 ^ 64) +ℤ pos n.low
+
+-- what is left of a number by 2^64
+abbrev pub residue : ℤ → ℕ
+residue z = unsigned_abs (int_rem_euclid z (pos (2 ^ 64)))
+
+-- a hash that takes a code: the hash times the multiplier, and what is left of the code, each by 2^64
+abbrev pub mixed : ℕ → ℤ → ℕ
+mixed hash code = ((hash * MULTIPLIER) % 2 ^ 64 + residue code) % 2 ^ 64

@@ -1,0 +1,5 @@
+pub mod Crossing
+pub mod Calls
+pub mod Numbers32
+pub mod Numbers64
+pub mod Numbers128

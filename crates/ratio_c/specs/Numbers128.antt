@@ -1,0 +1,20 @@
+-- Fractions of 128 bits as they cross.
+use Rattle.std.specs.Prelude.{◌-◌, ◌^◌, ℤ, pos, negsuc}
+use Rattle.ratio_c.specs.Crossing.{Said, wide_number}
+use Rattle.ratio_c.specs.declared.numbers128.Fraction128.{Fraction128}
+use Rattle.ratio_c.specs.declared.numbers128.Answer128.{Answer128}
+
+-- the least and the greatest number
+abbrev pub least128 : ℤ
+least128 = negsuc (2 ^ 127 - 1)
+
+abbrev pub greatest128 : ℤ
+greatest128 = pos (2 ^ 127 - 1)
+
+-- the two numbers of a fraction
+abbrev pub fraction128 : Fraction128 → ℤ × ℤ
+fraction128 x = (wide_number x.numer, wide_number x.denom)
+
+-- what an answer says
+abbrev pub said128 : Answer128 → Said
+said128 answer = (answer.code, fraction128 answer.value)

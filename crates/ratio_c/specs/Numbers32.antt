@@ -1,0 +1,20 @@
+-- Fractions of 32 bits as they cross.
+use Rattle.std.specs.Prelude.{◌-◌, ◌^◌, ℤ, pos, negsuc}
+use Rattle.ratio_c.specs.Crossing.{Said}
+use Rattle.ratio_c.specs.declared.numbers32.Fraction32.{Fraction32}
+use Rattle.ratio_c.specs.declared.numbers32.Answer32.{Answer32}
+
+-- the least and the greatest number
+abbrev pub least32 : ℤ
+least32 = negsuc (2 ^ 31 - 1)
+
+abbrev pub greatest32 : ℤ
+greatest32 = pos (2 ^ 31 - 1)
+
+-- the two numbers of a fraction
+abbrev pub fraction32 : Fraction32 → ℤ × ℤ
+fraction32 x = (x.numer, x.denom)
+
+-- what an answer says
+abbrev pub said32 : Answer32 → Said
+said32 answer = (answer.code, fraction32 answer.value)

@@ -1,0 +1,20 @@
+-- Fractions of 64 bits as they cross.
+use Rattle.std.specs.Prelude.{◌-◌, ◌^◌, ℤ, pos, negsuc}
+use Rattle.ratio_c.specs.Crossing.{Said}
+use Rattle.ratio_c.specs.declared.numbers64.Fraction64.{Fraction64}
+use Rattle.ratio_c.specs.declared.numbers64.Answer64.{Answer64}
+
+-- the least and the greatest number
+abbrev pub least64 : ℤ
+least64 = negsuc (2 ^ 63 - 1)
+
+abbrev pub greatest64 : ℤ
+greatest64 = pos (2 ^ 63 - 1)
+
+-- the two numbers of a fraction
+abbrev pub fraction64 : Fraction64 → ℤ × ℤ
+fraction64 x = (x.numer, x.denom)
+
+-- what an answer says
+abbrev pub said64 : Answer64 → Said
+said64 answer = (answer.code, fraction64 answer.value)

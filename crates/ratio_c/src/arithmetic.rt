@@ -1,0 +1,105 @@
+//! The five checked calls on a pair.
+ghost use Rattle.std.specs.Prelude.{◌≡◌, MatchOption};
+ghost use Rattle.num_rational.specs.Operators.{numbers};
+ghost use Rattle.ratio_c.specs.Calls.{BothPositive, IsDifferenceAnswer, IsProductAnswer, IsQuotientAnswer, IsRemainderAnswer, IsSumAnswer};
+
+use crate::code::{DENOMINATOR_NOT_POSITIVE, DIVISION_BY_ZERO};
+use crate::crossing::{Reply, Two, checked, refused};
+use crate::each::Call;
+use num_rational::Ratio;
+use ratio_integer::Integer;
+
+/// The two fractions of a pair, where their denominators are positive.
+#[inline(always)]
+fn both<P: Two>(pair: &P) -> Option<(Ratio<P::Inside>, Ratio<P::Inside>)>
+    ensures { MatchOption result
+        (¬ (BothPositive (P.left pair.now) (P.right pair.now)))
+        (λ x. BothPositive (numbers x.0) (numbers x.1)
+        × (numbers x.0 ≡ P.left pair.now)
+        × (numbers x.1 ≡ P.right pair.now)) }
+{
+    let (n, d) = pair.left();
+    let (m, e) = pair.right();
+    if P::Inside::ZERO < d && P::Inside::ZERO < e {
+        Some((Ratio::new_raw(n, d), Ratio::new_raw(m, e)))
+    } else {
+        None
+    }
+}
+
+/// The sum of two fractions.
+pub struct Sum;
+
+impl<P: Two, A: Reply<P::Inside>> Call<P, A> for Sum {
+    ghost gives = { λ pair answer. IsSumAnswer P.Inside.EXACT_SUMS P.Inside.lo P.Inside.hi (P.left pair) (P.right pair) (A.said answer) };
+
+    #[inline(always)]
+    fn answer(pair: &P) -> A {
+        match both(pair) {
+            Some((left, right)) => checked(left.checked_add(&right)),
+            None => refused(DENOMINATOR_NOT_POSITIVE),
+        }
+    }
+}
+
+/// The difference of two fractions.
+pub struct Difference;
+
+impl<P: Two, A: Reply<P::Inside>> Call<P, A> for Difference {
+    ghost gives = { λ pair answer. IsDifferenceAnswer P.Inside.EXACT_SUMS P.Inside.lo P.Inside.hi (P.left pair) (P.right pair) (A.said answer) };
+
+    #[inline(always)]
+    fn answer(pair: &P) -> A {
+        match both(pair) {
+            Some((left, right)) => checked(left.checked_sub(&right)),
+            None => refused(DENOMINATOR_NOT_POSITIVE),
+        }
+    }
+}
+
+/// The product of two fractions.
+pub struct Product;
+
+impl<P: Two, A: Reply<P::Inside>> Call<P, A> for Product {
+    ghost gives = { λ pair answer. IsProductAnswer P.Inside.lo P.Inside.hi (P.left pair) (P.right pair) (A.said answer) };
+
+    #[inline(always)]
+    fn answer(pair: &P) -> A {
+        match both(pair) {
+            Some((left, right)) => checked(left.checked_mul(&right)),
+            None => refused(DENOMINATOR_NOT_POSITIVE),
+        }
+    }
+}
+
+/// The quotient of two fractions.
+pub struct Quotient;
+
+impl<P: Two, A: Reply<P::Inside>> Call<P, A> for Quotient {
+    ghost gives = { λ pair answer. IsQuotientAnswer P.Inside.lo P.Inside.hi (P.left pair) (P.right pair) (A.said answer) };
+
+    #[inline(always)]
+    fn answer(pair: &P) -> A {
+        match both(pair) {
+            Some((_, right)) if right.is_zero() => refused(DIVISION_BY_ZERO),
+            Some((left, right)) => checked(left.checked_div(&right)),
+            None => refused(DENOMINATOR_NOT_POSITIVE),
+        }
+    }
+}
+
+/// What is left of a fraction by another one.
+pub struct Remainder;
+
+impl<P: Two, A: Reply<P::Inside>> Call<P, A> for Remainder {
+    ghost gives = { λ pair answer. IsRemainderAnswer P.Inside.lo P.Inside.hi (P.left pair) (P.right pair) (A.said answer) };
+
+    #[inline(always)]
+    fn answer(pair: &P) -> A {
+        match both(pair) {
+            Some((_, right)) if right.is_zero() => refused(DIVISION_BY_ZERO),
+            Some((left, right)) => checked(left.checked_rem(&right)),
+            None => refused(DENOMINATOR_NOT_POSITIVE),
+        }
+    }
+}

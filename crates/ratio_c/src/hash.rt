@@ -1,0 +1,77 @@
+//! The hash of a fraction, by its value.
+ghost use Rattle.std.specs.Prelude.{◌≢◌, refl, [], ◌∷◌, ◌++◌, pos};
+ghost use Rattle.ratio_c.specs.Calls.{IsHashAnswer, IsHashOf};
+ghost use Rattle.ratio_c.specs.Crossing.{mixed};
+
+use crate::code::{ANSWERED, ZERO_DENOMINATOR};
+use crate::crossing::{Digest, One};
+use crate::each::Call;
+use ratio_core::{CodeList, Steps, Taken, hash_counted};
+use ratio_integer::Integer;
+
+/// By what a hash is multiplied before it takes the next code.
+pub const MULTIPLIER: u64 = 0x9e37_79b9_7f4a_7c15;
+
+/// A hash, or the code why there is none, and then 0.
+#[repr(C)]
+#[derive(Drop)]
+pub struct Hash {
+    pub code: u32,
+    pub hash: u64,
+}
+
+/// The hash of the codes so far.
+#[derive(Drop)]
+pub struct Mixed {
+    pub hash: u64,
+    pub taken: Taken,
+}
+
+impl<T: Digest> CodeList<T> for Mixed {
+    ghost taken = { λ list. list.taken.codes };
+
+    ghost after = { λ list z. record { hash = mixed list.hash z; taken = record { codes = list.taken.codes ++ z ∷ [] } } };
+
+    fn take(&mut self, t: T) {
+        self.hash = self.hash.wrapping_mul(MULTIPLIER).wrapping_add(t.residue());
+        self.taken.note(&t);
+    }
+
+    ghost end_law = { λ list z. refl };
+}
+
+/// The hash of a fraction's codes.
+fn hash_of<T: Digest>(n: T, d: T) -> u64
+    requires { T.value d ≢ pos 0 }
+    ensures { IsHashOf T.lo T.hi (T.value n, T.value d) result }
+{
+    let mut list = Mixed {
+        hash: 0,
+        taken: Taken::none(),
+    };
+    hash_counted(n, d, &mut list, &mut Steps::new());
+    list.hash
+}
+
+/// The hash of a fraction.
+pub struct Hashing;
+
+impl<F: One> Call<F, Hash> for Hashing {
+    ghost gives = { λ x answer. IsHashAnswer F.Inside.lo F.Inside.hi (F.fraction x) answer.code answer.hash };
+
+    #[inline(always)]
+    fn answer(x: &F) -> Hash {
+        let (n, d) = x.fraction();
+        if d.is_zero() {
+            Hash {
+                code: ZERO_DENOMINATOR,
+                hash: 0,
+            }
+        } else {
+            Hash {
+                code: ANSWERED,
+                hash: hash_of(n, d),
+            }
+        }
+    }
+}

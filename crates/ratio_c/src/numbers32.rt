@@ -1,0 +1,190 @@
+//! Fractions of `i32` and the exports over them.
+ghost use Rattle.std.specs.Prelude.{true};
+ghost use Rattle.ratio_c.specs.Calls.{AnswersEach, IsDifferenceAnswer, IsFloorAnswer, IsHashAnswer, IsLowestAnswer, IsOrderAnswer, IsPowerAnswer, IsProductAnswer, IsQuotientAnswer, IsRemainderAnswer, IsRoundAnswer, IsSumAnswer};
+ghost use Rattle.ratio_c.specs.Numbers32.{fraction32, greatest32, least32, said32};
+
+use crate::arithmetic::{Difference, Product, Quotient, Remainder, Sum};
+use crate::compare::{Comparison, Order};
+use crate::crossing::{One, Raised, Reply, Two};
+use crate::each::each;
+use crate::hash::{Hash, Hashing};
+use crate::one::{Floor, LowestTerms, Raising, Rounding};
+
+/// A fraction as its two numbers.
+#[repr(C)]
+#[derive(Drop)]
+pub struct Fraction32 {
+    pub numer: i32,
+    pub denom: i32,
+}
+
+/// Two fractions.
+#[repr(C)]
+#[derive(Drop)]
+pub struct Pair32 {
+    pub left: Fraction32,
+    pub right: Fraction32,
+}
+
+/// A fraction and the exponent of its power.
+#[repr(C)]
+#[derive(Drop)]
+pub struct Power32 {
+    pub base: Fraction32,
+    pub exponent: i32,
+}
+
+/// A fraction, or the code why there is none, and then 0 over 0.
+#[repr(C)]
+#[derive(Drop)]
+pub struct Answer32 {
+    pub code: u32,
+    pub value: Fraction32,
+}
+
+impl One for Fraction32 {
+    type Inside = i32;
+
+    ghost fraction = { fraction32 };
+
+    #[inline(always)]
+    fn fraction(&self) -> (i32, i32) {
+        (self.numer, self.denom)
+    }
+}
+
+impl One for Power32 {
+    type Inside = i32;
+
+    ghost fraction = { λ x. fraction32 x.base };
+
+    #[inline(always)]
+    fn fraction(&self) -> (i32, i32) {
+        (self.base.numer, self.base.denom)
+    }
+}
+
+impl Raised for Power32 {
+    ghost exponent = { λ x. x.exponent };
+
+    #[inline(always)]
+    fn exponent(&self) -> i32 {
+        self.exponent
+    }
+}
+
+impl Two for Pair32 {
+    type Inside = i32;
+
+    ghost left = { λ x. fraction32 x.left };
+
+    ghost right = { λ x. fraction32 x.right };
+
+    #[inline(always)]
+    fn left(&self) -> (i32, i32) {
+        (self.left.numer, self.left.denom)
+    }
+
+    #[inline(always)]
+    fn right(&self) -> (i32, i32) {
+        (self.right.numer, self.right.denom)
+    }
+}
+
+impl Reply<i32> for Answer32 {
+    ghost said = { said32 };
+
+    #[inline(always)]
+    fn reply(code: u32, numer: i32, denom: i32) -> Answer32 {
+        let value = Fraction32 { numer, denom };
+        Answer32 { code, value }
+    }
+}
+
+/// How the fractions of each pair stand to one another.
+#[unsafe(no_mangle)]
+pub extern "C" fn ratio_compare_i32(asked: &[Pair32], answers: &mut [Order]) -> u32
+    ensures { AnswersEach (λ x answer. IsOrderAnswer (fraction32 x.left) (fraction32 x.right) answer.code answer.order) asked.now answers.old answers.new result }
+{
+    each::<Comparison, Pair32, Order>(asked, answers)
+}
+
+/// The hash of each fraction.
+#[unsafe(no_mangle)]
+pub extern "C" fn ratio_hash_i32(asked: &[Fraction32], answers: &mut [Hash]) -> u32
+    ensures { AnswersEach (λ x answer. IsHashAnswer least32 greatest32 (fraction32 x) answer.code answer.hash) asked.now answers.old answers.new result }
+{
+    each::<Hashing, Fraction32, Hash>(asked, answers)
+}
+
+/// The sum of each pair.
+#[unsafe(no_mangle)]
+pub extern "C" fn ratio_add_i32(asked: &[Pair32], answers: &mut [Answer32]) -> u32
+    ensures { AnswersEach (λ x answer. IsSumAnswer true least32 greatest32 (fraction32 x.left) (fraction32 x.right) (said32 answer)) asked.now answers.old answers.new result }
+{
+    each::<Sum, Pair32, Answer32>(asked, answers)
+}
+
+/// The difference of each pair.
+#[unsafe(no_mangle)]
+pub extern "C" fn ratio_sub_i32(asked: &[Pair32], answers: &mut [Answer32]) -> u32
+    ensures { AnswersEach (λ x answer. IsDifferenceAnswer true least32 greatest32 (fraction32 x.left) (fraction32 x.right) (said32 answer)) asked.now answers.old answers.new result }
+{
+    each::<Difference, Pair32, Answer32>(asked, answers)
+}
+
+/// The product of each pair.
+#[unsafe(no_mangle)]
+pub extern "C" fn ratio_mul_i32(asked: &[Pair32], answers: &mut [Answer32]) -> u32
+    ensures { AnswersEach (λ x answer. IsProductAnswer least32 greatest32 (fraction32 x.left) (fraction32 x.right) (said32 answer)) asked.now answers.old answers.new result }
+{
+    each::<Product, Pair32, Answer32>(asked, answers)
+}
+
+/// The quotient of each pair.
+#[unsafe(no_mangle)]
+pub extern "C" fn ratio_div_i32(asked: &[Pair32], answers: &mut [Answer32]) -> u32
+    ensures { AnswersEach (λ x answer. IsQuotientAnswer least32 greatest32 (fraction32 x.left) (fraction32 x.right) (said32 answer)) asked.now answers.old answers.new result }
+{
+    each::<Quotient, Pair32, Answer32>(asked, answers)
+}
+
+/// The remainder of each pair.
+#[unsafe(no_mangle)]
+pub extern "C" fn ratio_rem_i32(asked: &[Pair32], answers: &mut [Answer32]) -> u32
+    ensures { AnswersEach (λ x answer. IsRemainderAnswer least32 greatest32 (fraction32 x.left) (fraction32 x.right) (said32 answer)) asked.now answers.old answers.new result }
+{
+    each::<Remainder, Pair32, Answer32>(asked, answers)
+}
+
+/// The lowest terms of each fraction.
+#[unsafe(no_mangle)]
+pub extern "C" fn ratio_reduce_i32(asked: &[Fraction32], answers: &mut [Answer32]) -> u32
+    ensures { AnswersEach (λ x answer. IsLowestAnswer least32 greatest32 (fraction32 x) (said32 answer)) asked.now answers.old answers.new result }
+{
+    each::<LowestTerms, Fraction32, Answer32>(asked, answers)
+}
+
+/// The floor of each fraction.
+#[unsafe(no_mangle)]
+pub extern "C" fn ratio_floor_i32(asked: &[Fraction32], answers: &mut [Answer32]) -> u32
+    ensures { AnswersEach (λ x answer. IsFloorAnswer (fraction32 x) (said32 answer)) asked.now answers.old answers.new result }
+{
+    each::<Floor, Fraction32, Answer32>(asked, answers)
+}
+
+/// Each fraction rounded.
+#[unsafe(no_mangle)]
+pub extern "C" fn ratio_round_i32(asked: &[Fraction32], answers: &mut [Answer32]) -> u32
+    ensures { AnswersEach (λ x answer. IsRoundAnswer (fraction32 x) (said32 answer)) asked.now answers.old answers.new result }
+{
+    each::<Rounding, Fraction32, Answer32>(asked, answers)
+}
+
+/// Each fraction to its exponent.
+#[unsafe(no_mangle)]
+pub extern "C" fn ratio_pow_i32(asked: &[Power32], answers: &mut [Answer32]) -> u32
+    ensures { AnswersEach (λ x answer. IsPowerAnswer least32 greatest32 (fraction32 x.base) x.exponent (said32 answer)) asked.now answers.old answers.new result }
+{
+    each::<Raising, Power32, Answer32>(asked, answers)
+}

@@ -1,0 +1,87 @@
+//! The calls on one fraction.
+ghost use Rattle.std.specs.Prelude.{◌≡◌, ◌<ℤ◌, pos, MatchOption};
+ghost use Rattle.num_rational.specs.Operators.{numbers};
+ghost use Rattle.ratio_c.specs.Calls.{IsFloorAnswer, IsLowestAnswer, IsPowerAnswer, IsRoundAnswer};
+
+use crate::code::{DENOMINATOR_NOT_POSITIVE, ZERO_DENOMINATOR};
+use crate::crossing::{One, Raised, Reply, checked, refused};
+use crate::each::Call;
+use num_rational::Ratio;
+use ratio_integer::Integer;
+
+/// The fraction, where its denominator is positive.
+#[inline(always)]
+fn positive<F: One>(x: &F) -> Option<Ratio<F::Inside>>
+    ensures { MatchOption result
+        (¬ (pos 0 <ℤ (F.fraction x.now).1))
+        (λ r. (pos 0 <ℤ (numbers r).1) × (numbers r ≡ F.fraction x.now)) }
+{
+    let (n, d) = x.fraction();
+    if F::Inside::ZERO < d {
+        Some(Ratio::new_raw(n, d))
+    } else {
+        None
+    }
+}
+
+/// The lowest terms of a fraction.
+pub struct LowestTerms;
+
+impl<F: One, A: Reply<F::Inside>> Call<F, A> for LowestTerms {
+    ghost gives = { λ x answer. IsLowestAnswer F.Inside.lo F.Inside.hi (F.fraction x) (A.said answer) };
+
+    #[inline(always)]
+    fn answer(x: &F) -> A {
+        let (n, d) = x.fraction();
+        if d.is_zero() {
+            refused(ZERO_DENOMINATOR)
+        } else {
+            checked(Ratio::checked_new(n, d))
+        }
+    }
+}
+
+/// The floor of a fraction, over 1.
+pub struct Floor;
+
+impl<F: One, A: Reply<F::Inside>> Call<F, A> for Floor {
+    ghost gives = { λ x answer. IsFloorAnswer (F.fraction x) (A.said answer) };
+
+    #[inline(always)]
+    fn answer(x: &F) -> A {
+        match positive(x) {
+            Some(r) => checked(Some(r.floor())),
+            None => refused(DENOMINATOR_NOT_POSITIVE),
+        }
+    }
+}
+
+/// A fraction rounded, over 1.
+pub struct Rounding;
+
+impl<F: One, A: Reply<F::Inside>> Call<F, A> for Rounding {
+    ghost gives = { λ x answer. IsRoundAnswer (F.fraction x) (A.said answer) };
+
+    #[inline(always)]
+    fn answer(x: &F) -> A {
+        match positive(x) {
+            Some(r) => checked(Some(r.round())),
+            None => refused(DENOMINATOR_NOT_POSITIVE),
+        }
+    }
+}
+
+/// A fraction to an exponent.
+pub struct Raising;
+
+impl<F: Raised, A: Reply<F::Inside>> Call<F, A> for Raising {
+    ghost gives = { λ x answer. IsPowerAnswer F.Inside.lo F.Inside.hi (F.fraction x) (F.exponent x) (A.said answer) };
+
+    #[inline(always)]
+    fn answer(x: &F) -> A {
+        match positive(x) {
+            Some(r) => checked(r.checked_pow(x.exponent())),
+            None => refused(DENOMINATOR_NOT_POSITIVE),
+        }
+    }
+}

@@ -1,0 +1,71 @@
+/* Exact fractions of machine integers: calls over slices of fractions, proved.
+ *
+ * Each call takes what is asked and a place for each answer, and how many of each there are. It
+ * returns RATIO_DONE, and each answer has a code; or the two numbers are unlike, and then it returns
+ * RATIO_BAD_LENGTH and writes nothing. No call overflows, stops the program or takes memory, whatever
+ * numbers it is given. The two slices may not overlap, and a pointer may not be null.
+ *
+ * Link with libratio_c.a.
+ */
+#ifndef RATIO_H
+#define RATIO_H
+
+#include <stddef.h>
+#include <stdint.h>
+
+/* What a call returns. */
+enum { RATIO_DONE = 0, RATIO_BAD_LENGTH = 1 };
+
+/* The code of an answer. Where it is another than RATIO_ANSWERED, the numbers are 0. */
+enum {
+    RATIO_ANSWERED = 0,
+    RATIO_NOT_HELD = 1,                 /* the answer does not fit in the type */
+    RATIO_DIVISION_BY_ZERO = 2,         /* of div and rem */
+    RATIO_DENOMINATOR_NOT_POSITIVE = 3, /* of all others */
+    RATIO_ZERO_DENOMINATOR = 4          /* of compare, hash and reduce, which take negative ones */
+};
+
+/* A number of 128 bits: high times 2^64, and low. */
+typedef struct { uint64_t low; int64_t high; } ratio_wide;
+
+/* An order, which is -1, 0 or 1. */
+typedef struct { uint32_t code; int32_t order; } ratio_order;
+
+/* A hash, which is the same for fractions of one value. */
+typedef struct { uint32_t code; uint64_t hash; } ratio_hash;
+
+/* Declares the types and the calls over a type of numbers.
+ *
+ *   ratio_compare_i32    how the left fraction stands to the right one, as their values do, reduced or not
+ *   ratio_hash_i32       a hash of each fraction, by its value: 1/2, 2/4 and -1/-2 have one. It keeps no secret.
+ *   ratio_add_i32 ..     the sum, difference, product, quotient and remainder of each pair, in lowest terms;
+ *                        the remainder is left - right * t, where t is the quotient cut towards zero
+ *   ratio_reduce_i32     the lowest terms, the sign above
+ *   ratio_floor_i32      the greatest whole number that is not above each fraction, over 1
+ *   ratio_round_i32      the nearest whole number, a half away from zero, over 1
+ *   ratio_pow_i32        each fraction to its exponent, not reduced; 0 to a negative one is RATIO_NOT_HELD
+ */
+#define RATIO_CALLS(suffix, number)                                                                    \
+    typedef struct { number numer, denom; } ratio_##suffix;                                            \
+    typedef struct { ratio_##suffix left, right; } ratio_pair_##suffix;                                \
+    typedef struct { ratio_##suffix base; int32_t exponent; } ratio_power_##suffix;                    \
+    typedef struct { uint32_t code; ratio_##suffix value; } ratio_answer_##suffix;                     \
+    uint32_t ratio_compare_##suffix(const ratio_pair_##suffix *, size_t, ratio_order *, size_t);       \
+    uint32_t ratio_hash_##suffix(const ratio_##suffix *, size_t, ratio_hash *, size_t);                \
+    uint32_t ratio_add_##suffix(const ratio_pair_##suffix *, size_t, ratio_answer_##suffix *, size_t); \
+    uint32_t ratio_sub_##suffix(const ratio_pair_##suffix *, size_t, ratio_answer_##suffix *, size_t); \
+    uint32_t ratio_mul_##suffix(const ratio_pair_##suffix *, size_t, ratio_answer_##suffix *, size_t); \
+    uint32_t ratio_div_##suffix(const ratio_pair_##suffix *, size_t, ratio_answer_##suffix *, size_t); \
+    uint32_t ratio_rem_##suffix(const ratio_pair_##suffix *, size_t, ratio_answer_##suffix *, size_t); \
+    uint32_t ratio_reduce_##suffix(const ratio_##suffix *, size_t, ratio_answer_##suffix *, size_t);   \
+    uint32_t ratio_floor_##suffix(const ratio_##suffix *, size_t, ratio_answer_##suffix *, size_t);    \
+    uint32_t ratio_round_##suffix(const ratio_##suffix *, size_t, ratio_answer_##suffix *, size_t);    \
+    uint32_t ratio_pow_##suffix(const ratio_power_##suffix *, size_t, ratio_answer_##suffix *, size_t);
+
+RATIO_CALLS(i32, int32_t)
+RATIO_CALLS(i64, int64_t)
+RATIO_CALLS(i128, ratio_wide)
+
+#undef RATIO_CALLS
+
+#endif

@@ -1,7 +1,8 @@
-//! Reading a decimal fraction in one pass over its bytes, 19 digits at a time.
-ghost use Rattle.std.specs.Prelude.{◌≡◌, ◌≤◌, length, take, IfSome};
+//! Reading a fraction in one pass over its bytes, as many digits at a time as a `u64` holds.
+ghost use Rattle.std.specs.Prelude.{◌≡◌, ◌+◌, ◌^◌, ◌<◌, ◌≤◌, drop, get_or, length, take, IfSome};
+ghost use Rattle.std.specs.Char.{digit_value};
 ghost use Rattle.std.specs.Str.Parse.{AllDigits, digits_value, starts_with_minus};
-ghost use Rattle.ratio_core.specs.Reading.{IsFractionText, ReadsAs};
+ghost use Rattle.ratio_core.specs.Reading.{IsFractionText, IsSlashedText, ReadsAs, slash};
 
 use ratio_integer::Primitive;
 
@@ -9,35 +10,58 @@ use ratio_integer::Primitive;
 pub(crate) fn quick_pair<T: Primitive>(bytes: &[u8]) -> Option<(T, T)>
     ensures { IfSome result (λ r. IsFractionText T.lo T.hi bytes.now (T.value r.0) (T.value r.1)) }
 {
-    let (numer, at) = leading_number::<T>(bytes)?;
+    let (numer, at) = leading_number::<T>(bytes, 10)?;
     if at == bytes.len() {
         return Some((numer, T::ONE));
     }
-    if bytes[at] != b'/' {
+    let denom = number_after_slash::<T>(bytes, at, 10)?;
+    Some((numer, denom))
+}
+
+/// The same of a text in the radix that has a slash.
+pub(crate) fn quick_slashed_pair<T: Primitive>(bytes: &[u8], radix: u32) -> Option<(T, T)>
+    requires low { 2 ≤ radix }
+    requires high { radix ≤ 36 }
+    ensures { IfSome result (λ r. IsSlashedText T.lo T.hi radix bytes.now (T.value r.0) (T.value r.1)) }
+{
+    let (numer, at) = leading_number::<T>(bytes, radix)?;
+    let denom = number_after_slash::<T>(bytes, at, radix)?;
+    Some((numer, denom))
+}
+
+// The number whose text is all that stands after a slash at `at`.
+#[inline(always)]
+fn number_after_slash<T: Primitive>(bytes: &[u8], at: usize, radix: u32) -> Option<T>
+    requires low { 2 ≤ radix }
+    requires high { radix ≤ 36 }
+    ensures inside { IfSome result (λ d. at < length bytes.now) }
+    ensures slash { IfSome result (λ d. get_or bytes.now at 0 ≡ slash) }
+    ensures number { IfSome result (λ d. ReadsAs T.lo T.hi radix (drop (at + 1) bytes.now) (T.value d)) }
+{
+    if at >= bytes.len() || bytes[at] != b'/' {
         return None;
     }
     let back = &bytes[at + 1..];
-    let (denom, end) = leading_number::<T>(back)?;
-    if end == back.len() {
-        Some((numer, denom))
-    } else {
-        None
-    }
+    let (denom, end) = leading_number::<T>(back, radix)?;
+    if end == back.len() { Some(denom) } else { None }
 }
 
 // The number that the bytes begin with, and how many of them are its text.
-fn leading_number<T: Primitive>(bytes: &[u8]) -> Option<(T, usize)>
+#[inline(always)]
+fn leading_number<T: Primitive>(bytes: &[u8], radix: u32) -> Option<(T, usize)>
+    requires low { 2 ≤ radix }
+    requires high { radix ≤ 36 }
     ensures inside { IfSome result (λ r. r.1 ≤ length bytes.now) }
-    ensures number { IfSome result (λ r. ReadsAs T.lo T.hi 10 (take r.1 bytes.now) (T.value r.0)) }
+    ensures number { IfSome result (λ r. ReadsAs T.lo T.hi radix (take r.1 bytes.now) (T.value r.0)) }
 {
     if T::MIN < T::ZERO && begins_with_minus(bytes) {
-        let (n, count) = digits::<T>(&bytes[1..])?;
+        let (n, count) = digits::<T>(&bytes[1..], radix)?;
         if count == 0 || n > i128::MAX as u128 {
             return None;
         }
         Some((T::from_i128(-(n as i128))?, count + 1))
     } else {
-        let (n, count) = digits::<T>(bytes)?;
+        let (n, count) = digits::<T>(bytes, radix)?;
         if count == 0 {
             return None;
         }
@@ -53,50 +77,103 @@ fn begins_with_minus(bytes: &[u8]) -> bool
 }
 
 // The number of the digits that the bytes begin with, and how many of them were read. Of a type of 64 bits or less these
-// are at most 19.
-fn digits<T: Primitive>(bytes: &[u8]) -> Option<(u128, usize)>
+// are at most 19 in decimal, which are enough; in radix 16 they may be 16.
+#[inline(always)]
+fn digits<T: Primitive>(bytes: &[u8], radix: u32) -> Option<(u128, usize)>
+    requires low { 2 ≤ radix }
+    requires high { radix ≤ 36 }
     ensures inside { IfSome result (λ r. r.1 ≤ length bytes.now) }
-    ensures digits { IfSome result (λ r. AllDigits 10 (take r.1 bytes.now)) }
-    ensures value { IfSome result (λ r. r.0 ≡ digits_value 10 (take r.1 bytes.now)) }
+    ensures digits { IfSome result (λ r. AllDigits radix (take r.1 bytes.now)) }
+    ensures value { IfSome result (λ r. r.0 ≡ digits_value radix (take r.1 bytes.now)) }
 {
-    if T::BITS > 64 {
-        return grouped_digits(bytes);
+    if T::BITS > 64 || radix > 10 {
+        return grouped_digits(bytes, radix);
     }
-    let (n, count) = leading_digits(bytes);
+    let (n, count) = leading_digits(bytes, radix);
     Some((n as u128, count))
 }
 
 // The number of the digits that the bytes begin with, and how many these are, or `None` where a `u128` does not hold it.
-fn grouped_digits(bytes: &[u8]) -> Option<(u128, usize)>
+#[inline(always)]
+fn grouped_digits(bytes: &[u8], radix: u32) -> Option<(u128, usize)>
+    requires low { 2 ≤ radix }
+    requires high { radix ≤ 36 }
     ensures inside { IfSome result (λ r. r.1 ≤ length bytes.now) }
-    ensures digits { IfSome result (λ r. AllDigits 10 (take r.1 bytes.now)) }
-    ensures value { IfSome result (λ r. r.0 ≡ digits_value 10 (take r.1 bytes.now)) }
+    ensures digits { IfSome result (λ r. AllDigits radix (take r.1 bytes.now)) }
+    ensures value { IfSome result (λ r. r.0 ≡ digits_value radix (take r.1 bytes.now)) }
 {
-    let (first, mut count) = leading_digits(bytes);
+    let most = most_digits(radix);
+    let (first, mut count) = leading_digits(bytes, radix);
     let mut n = first as u128;
     let mut at = count;
-    'groups: while count == 19 {
-        let (group, more) = leading_digits(&bytes[at..]);
-        n = n.checked_mul(10u64.pow(more as u32) as u128)?.checked_add(group as u128)?;
+    'groups: while count == most {
+        let (group, more) = leading_digits(&bytes[at..], radix);
+        n = n
+            .checked_mul((radix as u64).pow(more as u32) as u128)?
+            .checked_add(group as u128)?;
         at += more;
         count = more;
     }
     Some((n, at))
 }
 
-// The number of the digits that the bytes begin with, at most 19 of them, and how many these are. A `u64` holds each
-// such number, so no step tests for it.
-fn leading_digits(bytes: &[u8]) -> (u64, usize)
+// The number of the digits that the bytes begin with, and how many these are: so few at most that a `u64` holds each
+// number of as many, and no step tests for it.
+#[inline(always)]
+fn leading_digits(bytes: &[u8], radix: u32) -> (u64, usize)
+    requires low { 2 ≤ radix }
+    requires high { radix ≤ 36 }
     ensures inside { result.1 ≤ length bytes.now }
-    ensures digits { AllDigits 10 (take result.1 bytes.now) }
-    ensures value { result.0 ≡ digits_value 10 (take result.1 bytes.now) }
-    ensures few { result.1 ≤ 19 }
+    ensures digits { AllDigits radix (take result.1 bytes.now) }
+    ensures value { result.0 ≡ digits_value radix (take result.1 bytes.now) }
+    ensures few { radix ^ result.1 < 2 ^ 64 }
+    ensures short { result.1 ≤ 19 }
 {
+    let most = most_digits(radix);
     let mut n = 0u64;
     let mut at = 0;
-    'digits: while at < bytes.len() && at < 19 && bytes[at] >= b'0' && bytes[at] <= b'9' {
-        n = n * 10 + (bytes[at] - b'0') as u64;
+    'digits: while at < bytes.len() && at < most && digit(bytes[at]) < radix as u64 {
+        n = n * radix as u64 + digit(bytes[at]);
         at += 1;
     }
     (n, at)
+}
+
+// A count of digits, of which a `u64` holds each number, and the power of the radix beside.
+#[inline(always)]
+fn most_digits(radix: u32) -> usize
+    requires { radix ≤ 36 }
+    ensures some { 1 ≤ result }
+    ensures short { result ≤ 19 }
+    ensures few { radix ^ result < 2 ^ 64 }
+{
+    if radix <= 10 {
+        19
+    } else if radix <= 16 {
+        15
+    } else {
+        12
+    }
+}
+
+// What the bytes from `0` to `z` are worth as digits, and 36 for those that are none.
+static DIGITS: [u8; 75] = [
+    0, 1, 2, 3, 4, 5, 6, 7, 8, 9, 36, 36, 36, 36, 36, 36, 36, 10, 11, 12, 13, 14, 15, 16, 17, 18,
+    19, 20, 21, 22, 23, 24, 25, 26, 27, 28, 29, 30, 31, 32, 33, 34, 35, 36, 36, 36, 36, 36, 36, 10,
+    11, 12, 13, 14, 15, 16, 17, 18, 19, 20, 21, 22, 23, 24, 25, 26, 27, 28, 29, 30, 31, 32, 33, 34,
+    35,
+];
+
+// What the byte is worth as a digit, and 36 where it is none.
+#[inline(always)]
+fn digit(byte: u8) -> u64
+    ensures { result ≡ digit_value byte }
+{
+    if byte < b'0' {
+        return 36;
+    }
+    if byte > b'z' {
+        return 36;
+    }
+    DIGITS[(byte - b'0') as usize] as u64
 }

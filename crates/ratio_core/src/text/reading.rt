@@ -4,7 +4,7 @@ ghost use Rattle.ratio_core.specs.Reading.{AnswersFraction, AnswersPair, Answers
 
 use crate::checked_new::checked_new;
 use crate::parse_error::{ParseRatioError, RatioErrorKind};
-use crate::text::quick_pair::quick_pair;
+use crate::text::quick_pair::{quick_pair, quick_slashed_pair};
 use ratio_integer::{Integer, Primitive};
 
 /// The fraction of a decimal text in lowest terms: `N/D` for two number texts, or `N` for `N/1`. A
@@ -75,12 +75,15 @@ fn sides<T: Primitive>(front: &str, back: &str, radix: u32) -> Result<(T, T), Pa
     }
 }
 
-// The two numbers of a text in the radix that has a slash, as they stand.
+// The two numbers of a text in the radix that has a slash, as they stand. Most texts are read at once.
 fn slashed_pair<T: Primitive>(text: &str, radix: u32) -> Result<(T, T), ParseRatioError>
     requires low { 2 ≤ radix }
     requires high { radix ≤ 36 }
     ensures { AnswersPair T.value (IsSlashedText T.lo T.hi radix text.now) result }
 {
+    if let Some(read) = quick_slashed_pair::<T>(text.as_bytes(), radix) {
+        return nonzero(read.0, read.1);
+    }
     match text.split_once('/') {
         Some((front, back)) => sides(front, back, radix),
         None => Err(ParseRatioError::new(RatioErrorKind::ParseError)),

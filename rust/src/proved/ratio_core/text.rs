@@ -5,9 +5,9 @@ mod form;
 pub mod laws;
 mod numeral;
 mod printing;
+mod quick_pair;
 mod ratio_text;
 mod reading;
-mod quick_pair;
 
 pub use decimal::DecimalText;
 pub use form::Form;

@@ -3,7 +3,7 @@
 
 use crate::proved::ratio_core::checked_new::checked_new;
 use crate::proved::ratio_core::parse_error::{ParseRatioError, RatioErrorKind};
-use crate::proved::ratio_core::text::quick_pair::quick_pair;
+use crate::proved::ratio_core::text::quick_pair::{quick_pair, quick_slashed_pair};
 use crate::proved::ratio_integer::{Integer, Primitive};
 
 /// The fraction of a decimal text in lowest terms: `N/D` for two number texts, or `N` for `N/1`. A
@@ -68,9 +68,12 @@ fn sides<T: Primitive>(front: &str, back: &str, radix: u32) -> Result<(T, T), Pa
     }
 }
 
-// The two numbers of a text in the radix that has a slash, as they stand.
+// The two numbers of a text in the radix that has a slash, as they stand. Most texts are read at once.
 #[inline]
 fn slashed_pair<T: Primitive>(text: &str, radix: u32) -> Result<(T, T), ParseRatioError> {
+    if let Some(read) = quick_slashed_pair::<T>(text.as_bytes(), radix) {
+        return nonzero(read.0, read.1);
+    }
     match text.split_once('/') {
         Some((front, back)) => sides(front, back, radix),
         None => Err(ParseRatioError::new(RatioErrorKind::ParseError)),

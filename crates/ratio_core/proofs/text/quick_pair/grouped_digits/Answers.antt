@@ -12,9 +12,8 @@ groups-preserved c =
     let group = c.leading_digits-group.result.0 in
     let more = c.leading_digits-group.result.1 in
     let same = from at bytes in
-    let sum : n * 10 ^ more + group ≡ c.in_ok-n.n = ap (λ x. n * x + group) (sym c.pow.ensures) ∙ ap (λ x. x + group) (sym c.in_ok-checked_mul.ensures.1) ∙ sym c.in_ok-n.ensures.1 in
-    (
-      subst (AreGroupsTo bytes (at + more)) sum
-      (group_more bytes at n more group c.groups.invariant.0 (subst (λ xs. more ≤ length xs) same read.inside) (subst (λ xs. AllDigits 10 (take more xs)) same read.digits) (subst (λ xs. group ≡ digits_value 10 (take more xs)) same read.value)),
+    let sum : n * c.args.radix ^ more + group ≡ c.in_ok-n.n = ap (λ x. n * x + group) (sym c.pow.ensures) ∙ ap (λ x. x + group) (sym c.in_ok-checked_mul.ensures.1) ∙ sym c.in_ok-n.ensures.1 in (
+      subst (AreGroupsTo c.args.radix bytes (at + more)) sum
+          (group_more c.args.radix bytes at n more group c.groups.invariant.0 (subst (λ xs. more ≤ length xs) same read.inside) (subst (λ xs. AllDigits c.args.radix (take more xs)) same read.digits) (subst (λ xs. group ≡ digits_value c.args.radix (take more xs)) same read.value)),
       omega arith,
     )

@@ -47,6 +47,7 @@ impl<T: Primitive> Display for Shown<T> {
     }
 }
 
+/// `numer/denom` in this form, and 0/1 where the denominator is 0.
 pub fn shown_as<T: Primitive>(numer: T, denom: T, form: Form) -> Shown<T> {
     let fraction = if denom.is_zero() {
         Ratio::zero()

@@ -1,6 +1,7 @@
 -- By what a fraction is hashed.
-use Rattle.std.specs.Prelude.{ℕ, ℤ, List}
+use Rattle.std.specs.Prelude.{◌≡◌, ℕ, ℤ, List, length}
 use Rattle.std.specs.List.{flat_map}
+use Rattle.ratio_integer.specs.Range.{IsHeld}
 use Rattle.ratio_core.proofs.HashLaws.{codes_of}
 use Rattle.num_rational.specs.declared.ratio.Ratio.{Ratio}
 use Rattle.num_rational.specs.Ratio.{denominator, numerator}
@@ -12,3 +13,9 @@ codes_of_ratio {i = i} x = codes_of i.lo i.hi (numerator x) (denominator x) x.no
 -- what the codes feed a hasher, each by the element's own hash
 abbrev pub writes_of : {T : _} {i : _} {o : _} {e : _} {p : _} {h : _} → Ratio T i o e p h → List (List ℕ)
 writes_of {i = i} x = flat_map i.number_hash_input (codes_of_ratio x)
+
+-- each number from lo to hi feeds a hasher a list of this length, and no two feed it the same
+pub record AreToldApart (lo hi : ℤ) (write : ℤ → List (List ℕ)) : Type 0 where
+  pub size : ℕ
+  pub long : (z : ℤ) → IsHeld lo hi z → length (write z) ≡ size
+  pub apart : (y z : ℤ) → IsHeld lo hi y → IsHeld lo hi z → write y ≡ write z → y ≡ z

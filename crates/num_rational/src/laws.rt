@@ -1,4 +1,6 @@
 //! What the words for fractions mean together: each function's contract is the law, and it does nothing.
+pub mod lowest;
+
 ghost use Rattle.std.specs.Prelude.{◌≡◌, ◌≢◌, ℤ, pos, Result, Ok};
 ghost use Rattle.ratio_integer.specs.Range.{IsHeld};
 ghost use Rattle.num_rational.specs.Json.{AnswersJson, json_pair};

@@ -1,5 +1,6 @@
 //! Fractions that are always in lowest terms: rows from outside, and each call once at a concrete type.
 use super::asserting::{answers, holds, is, reads};
+use crate::laws::lowest;
 use crate::{Form, Ratio, Reduced, Reduced32, Reduced64};
 use ratio_integer::Integer;
 use std::cmp::Ordering;
@@ -188,4 +189,14 @@ fn folds_lists(rt: HostRuntime) {
     gives(&rt, Reduced::<i8>::checked_sum(&[127i8, 1, -1]), None);
     let none: [Reduced64; 0] = [];
     gives(&rt, Reduced64::checked_product(&none), Some((1, 1)));
+}
+
+#[test]
+fn meets_its_laws(rt: HostRuntime) {
+    let x = Reduced64::checked_new(-7, 2).unwrap_or(Reduced::zero());
+    let y = Reduced64::checked_new(i64::MAX, 3).unwrap_or(Reduced::zero());
+    holds(&rt, "sums", lowest::sums_commute(&x, &y));
+    holds(&rt, "products", lowest::products_commute(&x, &y));
+    holds(&rt, "parts", lowest::parts_add_up(&x));
+    lowest::hashes_tell_apart(&x, &y);
 }

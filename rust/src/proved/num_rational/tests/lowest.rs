@@ -1,6 +1,7 @@
 // Erased from crates/num_rational/src/tests/lowest.rt by rust/erase: not to be edited.
 //! Fractions that are always in lowest terms: rows from outside, and each call once at a concrete type.
 use super::asserting::{answers, holds, is, reads};
+use crate::proved::num_rational::laws::lowest;
 use crate::proved::num_rational::{Form, Ratio, Reduced, Reduced32, Reduced64};
 use crate::proved::ratio_integer::Integer;
 use core::cmp::Ordering;
@@ -187,4 +188,14 @@ fn folds_lists() {
     gives(Reduced::<i8>::checked_sum(&[127i8, 1, -1]), None);
     let none: [Reduced64; 0] = [];
     gives(Reduced64::checked_product(&none), Some((1, 1)));
+}
+
+#[test]
+fn meets_its_laws() {
+    let x = Reduced64::checked_new(-7, 2).unwrap_or(Reduced::zero());
+    let y = Reduced64::checked_new(i64::MAX, 3).unwrap_or(Reduced::zero());
+    holds("sums", lowest::sums_commute(&x, &y));
+    holds("products", lowest::products_commute(&x, &y));
+    holds("parts", lowest::parts_add_up(&x));
+    lowest::hashes_tell_apart(&x, &y);
 }

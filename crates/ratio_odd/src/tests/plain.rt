@@ -18,15 +18,15 @@ pub struct Range {
 /// The least common denominator of two fractions, and their numerators over it.
 #[derive(Clone, Copy)]
 struct Scaled {
-    denom: i16,
-    left: i16,
-    right: i16,
+    denom: i128,
+    left: i128,
+    right: i128,
 }
 
 /// How the two stand to each other: by their cross products, turned for denominators of unlike signs.
 pub fn order(x: Plain, y: Plain) -> Ordering {
-    let left = x.n as i128 * y.d as i128;
-    let right = y.n as i128 * x.d as i128;
+    let left = times(x.n as i128, y.d as i128);
+    let right = times(y.n as i128, x.d as i128);
     if (x.d < 0) == (y.d < 0) {
         left.cmp(&right)
     } else {
@@ -34,9 +34,14 @@ pub fn order(x: Plain, y: Plain) -> Ordering {
     }
 }
 
-/// The product of the two.
-pub fn times(z: i8, d: i8) -> i16 {
-    z as i16 * d as i16
+/// The product of the two, which are small.
+pub fn times(a: i128, b: i128) -> i128 {
+    a.wrapping_mul(b)
+}
+
+/// The difference of the two, which are small.
+pub fn minus(a: i128, b: i128) -> i128 {
+    a.wrapping_sub(b)
 }
 
 /// The sign of a fraction: -1, 0 or 1.
@@ -51,13 +56,13 @@ pub fn sign(x: Plain) -> i8 {
 }
 
 /// The first `k` times over and the second `j` times over, if that makes their denominators equal.
-fn over_common(x: Plain, k: i8, y: Plain, j: i8) -> Option<Scaled> {
-    let denom = times(x.d, k);
-    if denom == times(y.d, j) {
+fn over_common(x: Plain, k: i128, y: Plain, j: i128) -> Option<Scaled> {
+    let denom = times(x.d as i128, k);
+    if denom == times(y.d as i128, j) {
         Some(Scaled {
             denom,
-            left: times(x.n, k),
-            right: times(y.n, j),
+            left: times(x.n as i128, k),
+            right: times(y.n as i128, j),
         })
     } else {
         None
@@ -71,13 +76,13 @@ impl Range {
     }
 
     /// The pair of held numbers with the value `n/d` and the least positive denominator, if one has it.
-    pub fn lowest(self, n: i32, d: i32) -> Option<Plain> {
+    pub fn lowest(self, n: i128, d: i128) -> Option<Plain> {
         if d == 0 {
             return None;
         }
         for denom in 1..=self.hi {
             for numer in self.lo..=self.hi {
-                if numer as i128 * d as i128 == n as i128 * denom as i128 {
+                if times(numer as i128, d) == times(n, denom as i128) {
                     return Some(Plain { n: numer, d: denom });
                 }
             }
@@ -89,7 +94,7 @@ impl Range {
     fn scaled(self, x: Plain, y: Plain) -> Option<Scaled> {
         for k in 1..=self.hi {
             for j in 1..=self.hi {
-                if let Some(scaled) = over_common(x, k, y, j) {
+                if let Some(scaled) = over_common(x, k as i128, y, j as i128) {
                     return if self.holds_all(scaled) {
                         Some(scaled)
                     } else {
@@ -102,55 +107,57 @@ impl Range {
     }
 
     fn holds_all(self, scaled: Scaled) -> bool {
-        self.holds(scaled.denom as i128)
-            && self.holds(scaled.left as i128)
-            && self.holds(scaled.right as i128)
+        self.holds(scaled.denom) && self.holds(scaled.left) && self.holds(scaled.right)
+    }
+
+    /// The lowest terms of a held number over another.
+    fn lowest_held(self, numer: i128, denom: i128) -> Option<Plain> {
+        if self.holds(numer) {
+            self.lowest(numer, denom)
+        } else {
+            None
+        }
     }
 
     /// The sum, if its parts are held.
     pub fn sum(self, x: Plain, y: Plain) -> Option<Plain> {
         let scaled = self.scaled(x, y)?;
-        let numer = scaled.left as i32 + scaled.right as i32;
-        if self.holds(numer as i128) {
-            self.lowest(numer, scaled.denom as i32)
-        } else {
-            None
-        }
+        self.lowest_held(scaled.left.wrapping_add(scaled.right), scaled.denom)
     }
 
     /// The difference, if its parts are held.
     pub fn difference(self, x: Plain, y: Plain) -> Option<Plain> {
         let scaled = self.scaled(x, y)?;
-        let numer = scaled.left as i32 - scaled.right as i32;
-        if self.holds(numer as i128) {
-            self.lowest(numer, scaled.denom as i32)
-        } else {
-            None
-        }
+        self.lowest_held(minus(scaled.left, scaled.right), scaled.denom)
     }
 
     /// The remainder, if `y` is not 0 and the parts are held.
     pub fn remainder(self, x: Plain, y: Plain) -> Option<Plain> {
         let scaled = self.scaled(x, y)?;
-        let numer = (scaled.left as i32).checked_rem(scaled.right as i32)?;
-        self.lowest(numer, scaled.denom as i32)
+        self.lowest(scaled.left.checked_rem(scaled.right)?, scaled.denom)
     }
 
     /// The product, if its lowest terms are held.
     pub fn product(self, x: Plain, y: Plain) -> Option<Plain> {
-        self.lowest(x.n as i32 * y.n as i32, x.d as i32 * y.d as i32)
+        self.lowest(
+            times(x.n as i128, y.n as i128),
+            times(x.d as i128, y.d as i128),
+        )
     }
 
     /// The quotient, if `y` is not 0 and its lowest terms are held.
     pub fn quotient(self, x: Plain, y: Plain) -> Option<Plain> {
-        self.lowest(x.n as i32 * y.d as i32, x.d as i32 * y.n as i32)
+        self.lowest(
+            times(x.n as i128, y.d as i128),
+            times(x.d as i128, y.n as i128),
+        )
     }
 
     /// The greatest whole number of the range that is not above `x`, whose denominator is positive.
     pub fn floor(self, x: Plain) -> Option<i8> {
         for z in self.lo..=self.hi {
-            let from = times(z, x.d) as i128;
-            if from <= x.n as i128 && (x.n as i128) < from + x.d as i128 {
+            let rest = rest(x, z);
+            if 0 <= rest && rest < x.d as i128 {
                 return Some(z);
             }
         }
@@ -160,8 +167,8 @@ impl Range {
     /// The least whole number of the range that is not below it.
     pub fn ceiling(self, x: Plain) -> Option<i8> {
         for z in self.lo..=self.hi {
-            let to = times(z, x.d) as i128;
-            if to - (x.d as i128) < x.n as i128 && x.n as i128 <= to {
+            let rest = rest(x, z);
+            if minus(0, x.d as i128) < rest && rest <= 0 {
                 return Some(z);
             }
         }
@@ -171,13 +178,8 @@ impl Range {
     /// The nearest whole number of the range, and of two as near the one further from 0.
     pub fn rounded(self, x: Plain) -> Option<i8> {
         for z in self.lo..=self.hi {
-            let twice_off = 2 * (x.n as i128 - times(z, x.d) as i128);
-            let is_nearest = if x.n < 0 {
-                -(x.d as i128) < twice_off && twice_off <= x.d as i128
-            } else {
-                -(x.d as i128) <= twice_off && twice_off < x.d as i128
-            };
-            if is_nearest {
+            let twice_off = times(2, rest(x, z));
+            if is_nearest(twice_off, x.d as i128, x.n < 0) {
                 return Some(z);
             }
         }
@@ -194,6 +196,20 @@ impl Range {
     }
 }
 
+/// What is left of the numerator without `z` times the denominator.
+pub fn rest(x: Plain, z: i8) -> i128 {
+    minus(x.n as i128, times(z as i128, x.d as i128))
+}
+
+/// Whether a whole number is the nearest one, where twice what is left without it is `twice_off`.
+fn is_nearest(twice_off: i128, d: i128, is_negative: bool) -> bool {
+    if is_negative {
+        minus(0, d) < twice_off && twice_off <= d
+    } else {
+        minus(0, d) <= twice_off && twice_off < d
+    }
+}
+
 /// Euclid's algorithm on a fraction, one quotient a call.
 #[derive(Clone, Copy)]
 pub struct Euclid {
@@ -204,16 +220,10 @@ pub struct Euclid {
 impl Euclid {
     /// The fraction, with the sign of its denominator moved.
     pub fn of(x: Plain) -> Euclid {
-        if x.d < 0 {
-            Euclid {
-                n: -(x.n as i128),
-                d: -(x.d as i128),
-            }
-        } else {
-            Euclid {
-                n: x.n as i128,
-                d: x.d as i128,
-            }
+        let sign = if x.d < 0 { -1 } else { 1 };
+        Euclid {
+            n: times(x.n as i128, sign),
+            d: times(x.d as i128, sign),
         }
     }
 

@@ -18,10 +18,7 @@ fn is_whole<T: Integer>(x: Ratio<T>, wanted: Option<i8>) -> bool {
 /// Whether `part` is what is left of `x` without the whole number, over its own denominator.
 fn is_rest<T: Integer>(part: Ratio<T>, x: Plain, whole: Option<i8>) -> bool {
     match whole {
-        Some(z) => {
-            let rest = x.n as i128 - plain::times(z, x.d) as i128;
-            has(part, rest, x.d as i128)
-        }
+        Some(z) => has(part, plain::rest(x, z), x.d as i128),
         None => false,
     }
 }
@@ -47,7 +44,7 @@ fn rounded_well<T: Integer>(x: Plain, range: Range) -> Option<bool> {
 fn negated_well<T: SignedInteger>(x: Plain) -> Option<bool> {
     let value = fraction::<T>(x)?;
     let _ = value.numer().try_negate()?;
-    Some(has(value.neg(), -(x.n as i128), x.d as i128))
+    Some(has(value.neg(), plain::minus(0, x.n as i128), x.d as i128))
 }
 
 /// Whether the absolute value is the model's, over the same denominator, if `T` has both.
@@ -55,7 +52,7 @@ fn absolute_well<T: SignedInteger>(x: Plain) -> Option<bool> {
     let value = fraction::<T>(x)?;
     if plain::sign(x) < 0 {
         let _ = value.numer().try_negate()?;
-        Some(has(value.abs(), -(x.n as i128), x.d as i128))
+        Some(has(value.abs(), plain::minus(0, x.n as i128), x.d as i128))
     } else if value.is_negative() {
         Some(false)
     } else {

@@ -92,7 +92,7 @@ fn stands_well<T: Integer>(x: Plain, range: Range) -> Option<bool> {
     let lowest = Ratio::checked_new(*fraction.numer(), *fraction.denom());
     Some(
         are_codes(codes.as_slice(), x, range)
-            && answers(lowest, range.lowest(x.n as i32, x.d as i32)),
+            && answers(lowest, range.lowest(x.n as i128, x.d as i128)),
     )
 }
 

@@ -50,8 +50,8 @@ fn hashes_within(x: Plain, most: u8) -> Option<bool> {
 /// How many divisions both sides may make together: none where both cross products are held, else one
 /// a side for each pair of quotients up to the first that differ, or that the type does not hold.
 fn divisions_of_order(x: Plain, y: Plain) -> u8 {
-    if i8::from_i128(plain::times(x.n, y.d) as i128).is_some()
-        && i8::from_i128(plain::times(y.n, x.d) as i128).is_some()
+    if i8::from_i128(plain::times(x.n as i128, y.d as i128)).is_some()
+        && i8::from_i128(plain::times(y.n as i128, x.d as i128)).is_some()
     {
         return 0;
     }

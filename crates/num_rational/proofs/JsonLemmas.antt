@@ -1,9 +1,9 @@
 -- JSON lists of two values, and what they are answered.
-use Rattle.std.proofs.Common.{◌≡◌, ◌≢◌, ◌⊎◌, refl, sym, ◌∙◌, ap, subst, arith, ℕ, List, [], ◌∷◌, length, get_or, ℤ, pos, negsuc, Option, Some, None, Result, Ok, Err, inl, inr}
+use Rattle.std.proofs.Common.{◌≡◌, ◌≢◌, refl, sym, ◌∙◌, ap, subst, arith, List, [], ◌∷◌, length, get_or, ℤ, pos, negsuc, Option, Some, None, Result, Ok, Err, inl, inr}
 use Rattle.std.specs.Prelude.{option_and_then}
 use Rattle.serde_json.specs.Data.{Data, array, boolean, item, Items, no_items, null, number, object, string}
 use Rattle.serde_json.specs.Find.{as_array, as_integer, as_number, of_integer}
-use Rattle.serde_json.specs.View.{items_of, items_view, view}
+use Rattle.serde_json.specs.View.{items_view, view}
 use Rattle.serde_json.specs.declared.value.Value.{Value}
 use Rattle.ratio_integer.specs.Range.{Checks, IsHeld}
 use Rattle.num_rational.specs.Json.{AnswersJson, AnswersJsonInteger, IsJsonInteger, json_pair, list_of_two}

@@ -1,4 +1,4 @@
-use Rattle.std.proofs.Common.{◌≡◌, rules, subst, length, true, false}
+use Rattle.std.proofs.Common.{◌≡◌, rules, subst, true, false}
 use Rattle.serde_json.specs.View.{view}
 use Rattle.num_rational.specs.Json.{IsJsonInteger}
 use Rattle.num_rational.proofs.JsonLemmas.{has_two, two_list}

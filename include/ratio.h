@@ -22,7 +22,9 @@ enum {
     RATIO_NOT_HELD = 1,                 /* the answer does not fit in the type */
     RATIO_DIVISION_BY_ZERO = 2,         /* of div and rem */
     RATIO_DENOMINATOR_NOT_POSITIVE = 3, /* of all others */
-    RATIO_ZERO_DENOMINATOR = 4          /* of compare, hash and reduce, which take negative ones */
+    RATIO_ZERO_DENOMINATOR = 4,         /* of compare, hash and reduce, which take negative ones, and of read */
+    RATIO_PARSE_ERROR = 5,              /* of read: no fraction, or its numbers or lowest terms do not fit */
+    RATIO_NO_TEXT = 6                   /* of read: the span does not lie in the texts */
 };
 
 /* A number of 128 bits: high times 2^64, and low. */
@@ -34,6 +36,9 @@ typedef struct { uint32_t code; int32_t order; } ratio_order;
 /* A hash, which is the same for fractions of one value. */
 typedef struct { uint32_t code; uint64_t hash; } ratio_hash;
 
+/* The bytes of a text: from start on, and before end. */
+typedef struct { size_t start, end; } ratio_span;
+
 /* Declares the types and the calls over a type of numbers.
  *
  *   ratio_compare_i32    how the left fraction stands to the right one, as their values do, reduced or not
@@ -43,6 +48,7 @@ typedef struct { uint32_t code; uint64_t hash; } ratio_hash;
  *   ratio_reduce_i32     the lowest terms, the sign above
  *   ratio_floor_i32      the greatest whole number that is not above each fraction, over 1
  *   ratio_round_i32      the nearest whole number, a half away from zero, over 1
+ *   ratio_read_i32       the fraction of each text of the bytes that a span names: N/D or N in decimal, in lowest terms
  *   ratio_pow_i32        each fraction to its exponent, not reduced; 0 to a negative one is RATIO_NOT_HELD
  */
 #define RATIO_CALLS(suffix, number)                                                                    \
@@ -60,7 +66,9 @@ typedef struct { uint32_t code; uint64_t hash; } ratio_hash;
     uint32_t ratio_reduce_##suffix(const ratio_##suffix *, size_t, ratio_answer_##suffix *, size_t);   \
     uint32_t ratio_floor_##suffix(const ratio_##suffix *, size_t, ratio_answer_##suffix *, size_t);    \
     uint32_t ratio_round_##suffix(const ratio_##suffix *, size_t, ratio_answer_##suffix *, size_t);    \
-    uint32_t ratio_pow_##suffix(const ratio_power_##suffix *, size_t, ratio_answer_##suffix *, size_t);
+    uint32_t ratio_pow_##suffix(const ratio_power_##suffix *, size_t, ratio_answer_##suffix *, size_t);\
+    uint32_t ratio_read_##suffix(const uint8_t *, size_t, const ratio_span *, size_t,                  \
+                                 ratio_answer_##suffix *, size_t);
 
 RATIO_CALLS(i32, int32_t)
 RATIO_CALLS(i64, int64_t)

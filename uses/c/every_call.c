@@ -6,6 +6,10 @@
 
 static int wrong;
 
+/* 2/4, x and 3/0, and a span that goes on behind them. */
+static const uint8_t texts[8] = {'2', '/', '4', 'x', '3', '/', '0', '1'};
+static const ratio_span spans[4] = {{0, 3}, {3, 4}, {4, 7}, {7, 9}};
+
 static void expect(int holds, const char *what) {
     if (!holds) {
         printf("wrong: %s\n", what);
@@ -17,53 +21,56 @@ static void expect(int holds, const char *what) {
 #define WIDE(n) {(uint64_t) (int64_t) (n), (n) < 0 ? -1 : 0}
 
 /* 3/2 and -1/4 under each call, and fractions that are refused. */
-#define EVERY_CALL(suffix, N)                                                                     \
-    static void every_call_##suffix(void) {                                                      \
-        static const ratio_pair_##suffix pair = {{N(3), N(2)}, {N(-1), N(4)}};                   \
-        static const ratio_pair_##suffix by_zero = {{N(3), N(2)}, {N(0), N(4)}};                 \
-        static const ratio_pair_##suffix none = {{N(3), N(0)}, {N(-1), N(-4)}};                  \
-        static const ratio_##suffix loose[2] = {{N(6), N(-4)}, {N(-3), N(2)}};                   \
-        static const ratio_power_##suffix power = {{N(-3), N(2)}, -3};                           \
-        static const ratio_answer_##suffix sum = {0, {N(5), N(4)}}, difference = {0, {N(7), N(4)}}, \
-            product = {0, {N(-3), N(8)}}, quotient = {0, {N(-6), N(1)}}, rest = {0, {N(0), N(1)}}, \
-            low = {0, {N(-3), N(2)}}, floor = {0, {N(-2), N(1)}}, raised = {0, {N(-8), N(27)}};  \
-        ratio_answer_##suffix answer[2];                                                         \
-        ratio_order order = {9, 9};                                                              \
-        ratio_hash hash[2];                                                                      \
-        expect(ratio_compare_##suffix(&pair, 1, &order, 1) == RATIO_DONE, "compare " #suffix);   \
-        expect(order.code == RATIO_ANSWERED && order.order == 1, "order " #suffix);              \
-        expect(ratio_compare_##suffix(&none, 1, &order, 1) == RATIO_DONE, "compare " #suffix);   \
-        expect(order.code == RATIO_ZERO_DENOMINATOR && order.order == 0, "no order " #suffix);   \
-        expect(ratio_hash_##suffix(loose, 2, hash, 2) == RATIO_DONE, "hash " #suffix);           \
-        expect(hash[0].code == RATIO_ANSWERED && hash[0].hash == hash[1].hash, "hashes " #suffix); \
-        GIVES(suffix, add, pair, sum)                                                            \
-        GIVES(suffix, sub, pair, difference)                                                     \
-        GIVES(suffix, mul, pair, product)                                                        \
-        GIVES(suffix, div, pair, quotient)                                                       \
-        GIVES(suffix, rem, pair, rest)                                                           \
-        REFUSES(suffix, add, none, RATIO_DENOMINATOR_NOT_POSITIVE)                               \
-        REFUSES(suffix, div, by_zero, RATIO_DIVISION_BY_ZERO)                                    \
-        REFUSES(suffix, rem, by_zero, RATIO_DIVISION_BY_ZERO)                                    \
-        GIVES(suffix, reduce, loose[0], low)                                                     \
-        REFUSES(suffix, reduce, none.left, RATIO_ZERO_DENOMINATOR)                               \
-        GIVES(suffix, floor, loose[1], floor)                                                    \
-        GIVES(suffix, round, loose[1], floor)                                                    \
-        REFUSES(suffix, floor, loose[0], RATIO_DENOMINATOR_NOT_POSITIVE)                         \
-        GIVES(suffix, pow, power, raised)                                                        \
-        expect(ratio_add_##suffix(&pair, 1, answer, 2) == RATIO_BAD_LENGTH, "length " #suffix);  \
+#define EVERY_CALL(suffix, N)                                                                        \
+    static void every_call_##suffix(void) {                                                          \
+        static const ratio_pair_##suffix pair = {{N(3), N(2)}, {N(-1), N(4)}};                       \
+        static const ratio_pair_##suffix by_zero = {{N(3), N(2)}, {N(0), N(4)}};                     \
+        static const ratio_pair_##suffix none = {{N(3), N(0)}, {N(-1), N(-4)}};                      \
+        static const ratio_##suffix loose[2] = {{N(6), N(-4)}, {N(-3), N(2)}};                       \
+        static const ratio_power_##suffix power = {{N(-3), N(2)}, -3};                               \
+        static const ratio_answer_##suffix sum = {0, {N(5), N(4)}}, difference = {0, {N(7), N(4)}},  \
+            product = {0, {N(-3), N(8)}}, quotient = {0, {N(-6), N(1)}}, rest = {0, {N(0), N(1)}},   \
+            low = {0, {N(-3), N(2)}}, half = {0, {N(1), N(2)}}, floor = {0, {N(-2), N(1)}}, raised = {0, {N(-8), N(27)}};\
+        ratio_answer_##suffix answer[2], read[4];                                                    \
+        ratio_order order = {9, 9};                                                                  \
+        ratio_hash hash[2];                                                                          \
+        expect(ratio_compare_##suffix(&pair, 1, &order, 1) == RATIO_DONE, "compare " #suffix);       \
+        expect(order.code == RATIO_ANSWERED && order.order == 1, "order " #suffix);                  \
+        expect(ratio_compare_##suffix(&none, 1, &order, 1) == RATIO_DONE, "compare " #suffix);       \
+        expect(order.code == RATIO_ZERO_DENOMINATOR && order.order == 0, "no order " #suffix);       \
+        expect(ratio_hash_##suffix(loose, 2, hash, 2) == RATIO_DONE, "hash " #suffix);               \
+        expect(hash[0].code == RATIO_ANSWERED && hash[0].hash == hash[1].hash, "hashes " #suffix);   \
+        GIVES(suffix, add, pair, sum)                                                                \
+        GIVES(suffix, sub, pair, difference)                                                         \
+        GIVES(suffix, mul, pair, product)                                                            \
+        GIVES(suffix, div, pair, quotient)                                                           \
+        GIVES(suffix, rem, pair, rest)                                                               \
+        REFUSES(suffix, add, none, RATIO_DENOMINATOR_NOT_POSITIVE)                                   \
+        REFUSES(suffix, div, by_zero, RATIO_DIVISION_BY_ZERO)                                        \
+        REFUSES(suffix, rem, by_zero, RATIO_DIVISION_BY_ZERO)                                        \
+        GIVES(suffix, reduce, loose[0], low)                                                         \
+        REFUSES(suffix, reduce, none.left, RATIO_ZERO_DENOMINATOR)                                   \
+        GIVES(suffix, floor, loose[1], floor)                                                        \
+        GIVES(suffix, round, loose[1], floor)                                                        \
+        REFUSES(suffix, floor, loose[0], RATIO_DENOMINATOR_NOT_POSITIVE)                             \
+        expect(ratio_read_##suffix(texts, 8, spans, 4, read, 4) == RATIO_DONE, "read " #suffix);     \
+        expect(SAME(read[0], half) && read[1].code == RATIO_PARSE_ERROR, "text " #suffix);           \
+        expect(read[2].code == RATIO_ZERO_DENOMINATOR && read[3].code == RATIO_NO_TEXT, "texts " #suffix);\
+        GIVES(suffix, pow, power, raised)                                                            \
+        expect(ratio_add_##suffix(&pair, 1, answer, 2) == RATIO_BAD_LENGTH, "length " #suffix);      \
     }
 
 /* Structs are compared by their fields, since there may be room between these. */
-#define SAME(a, b)                                                                               \
+#define SAME(a, b)                                                                                   \
     ((a).code == (b).code && memcmp(&(a).value.numer, &(b).value.numer, sizeof (a).value.numer) == 0 \
      && memcmp(&(a).value.denom, &(b).value.denom, sizeof (a).value.denom) == 0)
 
-#define GIVES(suffix, name, asked, wanted)                                                       \
-    expect(ratio_##name##_##suffix(&asked, 1, answer, 1) == RATIO_DONE, #name " " #suffix);      \
+#define GIVES(suffix, name, asked, wanted)                                                           \
+    expect(ratio_##name##_##suffix(&asked, 1, answer, 1) == RATIO_DONE, #name " " #suffix);          \
     expect(SAME(answer[0], wanted), #name " answer " #suffix);
 
-#define REFUSES(suffix, name, asked, wanted)                                                     \
-    expect(ratio_##name##_##suffix(&asked, 1, answer, 1) == RATIO_DONE, #name " " #suffix);      \
+#define REFUSES(suffix, name, asked, wanted)                                                         \
+    expect(ratio_##name##_##suffix(&asked, 1, answer, 1) == RATIO_DONE, #name " " #suffix);          \
     expect(answer[0].code == wanted, #name " code " #suffix);
 
 EVERY_CALL(i32, PLAIN)

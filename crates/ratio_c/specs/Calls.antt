@@ -1,6 +1,9 @@
 -- What the calls answer to fractions as pairs of whole numbers, and what a call over slices does.
-use Rattle.std.specs.Prelude.{◌≡◌, ◌≢◌, ◌==◌, ◌<ℤ◌, ℕ, ℤ, pos, Bool, List, length, Option, MatchBool, fold}
+use Rattle.std.specs.Prelude.{◌≡◌, ◌≢◌, ◌==◌, ◌<ℤ◌, ◌≤◌, ℕ, ℤ, pos, Bool, List, length, Option, MatchBool, Result, fold, slice_range}
 use Rattle.std.specs.List.{AllZip}
+use Rattle.std.specs.Str.{IsUtf8}
+use Rattle.ratio_core.specs.Reading.{AnswersText, IsFractionText}
+use Rattle.ratio_core.specs.declared.parse_error.RatioErrorKind.{RatioErrorKind}
 use Rattle.ratio_integer.specs.Arithmetic.{RemainderHeld, difference_of, product_of, quotient_of, remainder_of, sum_of}
 use Rattle.ratio_integer.specs.Fraction.{AnswersLowest, ChecksLowest}
 use Rattle.ratio_core.specs.Conditions.{DifferenceCondition, SumCondition}
@@ -8,8 +11,8 @@ use Rattle.ratio_core.specs.ContinuedFraction.{IsCodesOf}
 use Rattle.ratio_core.specs.Order.{cross_cmp}
 use Rattle.ratio_core.specs.Power.{ChecksPower}
 use Rattle.ratio_core.specs.Rounding.{IsFloor, IsRounded}
-use Rattle.ratio_c.specs.Crossing.{Said, Says, mixed, order_number, refused}
-use Rattle.ratio_c.specs.declared.code.TheConstants.{ANSWERED, DENOMINATOR_NOT_POSITIVE, DIVISION_BY_ZERO, ZERO_DENOMINATOR}
+use Rattle.ratio_c.specs.Crossing.{Said, Says, mixed, order_number, refused, said_of_text}
+use Rattle.ratio_c.specs.declared.code.TheConstants.{ANSWERED, DENOMINATOR_NOT_POSITIVE, DIVISION_BY_ZERO, NO_TEXT, PARSE_ERROR, ZERO_DENOMINATOR}
 use Rattle.ratio_c.specs.declared.each.TheConstants.{BAD_LENGTH, DONE}
 
 -- each answer is one to what was asked at its place; or the slices have unlike lengths, and nothing is written
@@ -92,3 +95,15 @@ pub record IsHashOf (lo hi : ℤ) (x : ℤ × ℤ) (hash : ℕ) : Type 0 where
 
 abbrev pub IsHashAnswer : ℤ → ℤ → ℤ × ℤ → ℕ → ℕ → Type 0
 IsHashAnswer lo hi x code hash = Tested (x.1 ≡ pos 0) ((code ≡ ZERO_DENOMINATOR) × (hash ≡ 0)) ((code ≡ ANSWERED) × IsHashOf lo hi x hash)
+
+-- the answer is what a text is answered as a fraction
+pub record SaysText (lo hi : ℤ) (text : List ℕ) (answer : Said) : Type 0 where
+  pub read : Result (ℤ × ℤ) RatioErrorKind
+  pub is_read : AnswersText (λ z. z.0) (λ z. z.1) lo hi (IsFractionText lo hi text) read
+  pub is_said : answer ≡ said_of_text read
+
+-- the text from a place to another one is read where it lies in the texts; one that is not UTF-8 is a parse error
+abbrev pub IsReadAnswer : ℤ → ℤ → List ℕ → ℕ → ℕ → Said → Type 0
+IsReadAnswer lo hi texts start end answer =
+    let text = slice_range texts start end in
+    Tested ((start ≤ end) × (end ≤ length texts)) (Tested (IsUtf8 text) (SaysText lo hi text answer) (answer ≡ refused PARSE_ERROR)) (answer ≡ refused NO_TEXT)

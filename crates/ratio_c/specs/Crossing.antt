@@ -1,10 +1,12 @@
 -- Fractions and answers as they cross from a caller and back.
-use Rattle.std.specs.Prelude.{◌≡◌, ◌+◌, ◌*◌, ◌%◌, ◌+ℤ◌, ◌*ℤ◌, ◌^◌, unsigned_abs, ℕ, ℤ, pos, negsuc, Option, Some, None}
+use Rattle.std.specs.Prelude.{◌≡◌, ◌+◌, ◌*◌, ◌%◌, ◌+ℤ◌, ◌*ℤ◌, ◌^◌, unsigned_abs, ℕ, ℤ, pos, negsuc, Option, Some, None, Result, Ok, Err}
 use Rattle.std.specs.Int.{int_rem_euclid}
 use Rattle.std.specs.declared.cmp.Ordering.{Ordering}
 use Rattle.std.specs.declared.cmp.Ordering.TheVariants.{Less, Equal, Greater}
+use Rattle.ratio_core.specs.declared.parse_error.RatioErrorKind.{RatioErrorKind}
+use Rattle.ratio_core.specs.declared.parse_error.RatioErrorKind.TheVariants.{ParseError, ZeroDenominator}
 use Rattle.ratio_c.specs.declared.wide.Wide.{Wide}
-use Rattle.ratio_c.specs.declared.code.TheConstants.{ANSWERED, NOT_HELD}
+use Rattle.ratio_c.specs.declared.code.TheConstants.{ANSWERED, NOT_HELD, PARSE_ERROR, ZERO_DENOMINATOR}
 use Rattle.ratio_c.specs.declared.hash.TheConstants.{MULTIPLIER}
 
 -- what an answer says: its code, and its two numbers
@@ -43,3 +45,9 @@ residue z = unsigned_abs (int_rem_euclid z (pos (2 ^ 64)))
 -- a hash that takes a code: the hash times the multiplier, and what is left of the code, each by 2^64
 abbrev pub mixed : ℕ → ℤ → ℕ
 mixed hash code = ((hash * MULTIPLIER) % 2 ^ 64 + residue code) % 2 ^ 64
+
+-- a text's fraction is answered, and its refusal is said by its code
+abbrev pub said_of_text : Result (ℤ × ℤ) RatioErrorKind → Said
+said_of_text (Ok x) = (ANSWERED, x)
+said_of_text (Err ParseError) = refused PARSE_ERROR
+said_of_text (Err ZeroDenominator) = refused ZERO_DENOMINATOR

@@ -28,13 +28,14 @@ fn both<P: Two>(pair: &P) -> Option<(Ratio<P::Inside>, Ratio<P::Inside>)>
 }
 
 /// The sum of two fractions.
+#[derive(Clone, Copy)]
 pub struct Sum;
 
 impl<P: Two, A: Reply<P::Inside>> Call<P, A> for Sum {
-    ghost gives = { λ pair answer. IsSumAnswer P.Inside.EXACT_SUMS P.Inside.lo P.Inside.hi (P.left pair) (P.right pair) (A.said answer) };
+    ghost gives = { λ _ pair answer. IsSumAnswer P.Inside.EXACT_SUMS P.Inside.lo P.Inside.hi (P.left pair) (P.right pair) (A.said answer) };
 
     #[inline(always)]
-    fn answer(pair: &P) -> A {
+    fn answer(&self, pair: &P) -> A {
         match both(pair) {
             Some((left, right)) => checked(left.checked_add(&right)),
             None => refused(DENOMINATOR_NOT_POSITIVE),
@@ -43,13 +44,14 @@ impl<P: Two, A: Reply<P::Inside>> Call<P, A> for Sum {
 }
 
 /// The difference of two fractions.
+#[derive(Clone, Copy)]
 pub struct Difference;
 
 impl<P: Two, A: Reply<P::Inside>> Call<P, A> for Difference {
-    ghost gives = { λ pair answer. IsDifferenceAnswer P.Inside.EXACT_SUMS P.Inside.lo P.Inside.hi (P.left pair) (P.right pair) (A.said answer) };
+    ghost gives = { λ _ pair answer. IsDifferenceAnswer P.Inside.EXACT_SUMS P.Inside.lo P.Inside.hi (P.left pair) (P.right pair) (A.said answer) };
 
     #[inline(always)]
-    fn answer(pair: &P) -> A {
+    fn answer(&self, pair: &P) -> A {
         match both(pair) {
             Some((left, right)) => checked(left.checked_sub(&right)),
             None => refused(DENOMINATOR_NOT_POSITIVE),
@@ -58,13 +60,14 @@ impl<P: Two, A: Reply<P::Inside>> Call<P, A> for Difference {
 }
 
 /// The product of two fractions.
+#[derive(Clone, Copy)]
 pub struct Product;
 
 impl<P: Two, A: Reply<P::Inside>> Call<P, A> for Product {
-    ghost gives = { λ pair answer. IsProductAnswer P.Inside.lo P.Inside.hi (P.left pair) (P.right pair) (A.said answer) };
+    ghost gives = { λ _ pair answer. IsProductAnswer P.Inside.lo P.Inside.hi (P.left pair) (P.right pair) (A.said answer) };
 
     #[inline(always)]
-    fn answer(pair: &P) -> A {
+    fn answer(&self, pair: &P) -> A {
         match both(pair) {
             Some((left, right)) => checked(left.checked_mul(&right)),
             None => refused(DENOMINATOR_NOT_POSITIVE),
@@ -73,13 +76,14 @@ impl<P: Two, A: Reply<P::Inside>> Call<P, A> for Product {
 }
 
 /// The quotient of two fractions.
+#[derive(Clone, Copy)]
 pub struct Quotient;
 
 impl<P: Two, A: Reply<P::Inside>> Call<P, A> for Quotient {
-    ghost gives = { λ pair answer. IsQuotientAnswer P.Inside.lo P.Inside.hi (P.left pair) (P.right pair) (A.said answer) };
+    ghost gives = { λ _ pair answer. IsQuotientAnswer P.Inside.lo P.Inside.hi (P.left pair) (P.right pair) (A.said answer) };
 
     #[inline(always)]
-    fn answer(pair: &P) -> A {
+    fn answer(&self, pair: &P) -> A {
         match both(pair) {
             Some((_, right)) if right.is_zero() => refused(DIVISION_BY_ZERO),
             Some((left, right)) => checked(left.checked_div(&right)),
@@ -89,13 +93,14 @@ impl<P: Two, A: Reply<P::Inside>> Call<P, A> for Quotient {
 }
 
 /// What is left of a fraction by another one.
+#[derive(Clone, Copy)]
 pub struct Remainder;
 
 impl<P: Two, A: Reply<P::Inside>> Call<P, A> for Remainder {
-    ghost gives = { λ pair answer. IsRemainderAnswer P.Inside.lo P.Inside.hi (P.left pair) (P.right pair) (A.said answer) };
+    ghost gives = { λ _ pair answer. IsRemainderAnswer P.Inside.lo P.Inside.hi (P.left pair) (P.right pair) (A.said answer) };
 
     #[inline(always)]
-    fn answer(pair: &P) -> A {
+    fn answer(&self, pair: &P) -> A {
         match both(pair) {
             Some((_, right)) if right.is_zero() => refused(DIVISION_BY_ZERO),
             Some((left, right)) => checked(left.checked_rem(&right)),

@@ -14,3 +14,9 @@ pub const DENOMINATOR_NOT_POSITIVE: u32 = 3;
 
 /// A denominator is 0.
 pub const ZERO_DENOMINATOR: u32 = 4;
+
+/// A text is no fraction, or the type does not hold its numbers or its lowest terms.
+pub const PARSE_ERROR: u32 = 5;
+
+/// A span does not lie in the texts.
+pub const NO_TEXT: u32 = 6;

@@ -19,13 +19,14 @@ pub struct Order {
 }
 
 /// How the first fraction stands to the second one.
+#[derive(Clone, Copy)]
 pub struct Comparison;
 
 impl<P: Two> Call<P, Order> for Comparison {
-    ghost gives = { λ pair answer. IsOrderAnswer (P.left pair) (P.right pair) answer.code answer.order };
+    ghost gives = { λ _ pair answer. IsOrderAnswer (P.left pair) (P.right pair) answer.code answer.order };
 
     #[inline(always)]
-    fn answer(pair: &P) -> Order {
+    fn answer(&self, pair: &P) -> Order {
         let (n, d) = pair.left();
         let (m, e) = pair.right();
         if d.is_zero() || e.is_zero() {

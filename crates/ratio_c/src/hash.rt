@@ -54,13 +54,14 @@ fn hash_of<T: Digest>(n: T, d: T) -> u64
 }
 
 /// The hash of a fraction.
+#[derive(Clone, Copy)]
 pub struct Hashing;
 
 impl<F: One> Call<F, Hash> for Hashing {
-    ghost gives = { λ x answer. IsHashAnswer F.Inside.lo F.Inside.hi (F.fraction x) answer.code answer.hash };
+    ghost gives = { λ _ x answer. IsHashAnswer F.Inside.lo F.Inside.hi (F.fraction x) answer.code answer.hash };
 
     #[inline(always)]
-    fn answer(x: &F) -> Hash {
+    fn answer(&self, x: &F) -> Hash {
         let (n, d) = x.fraction();
         if d.is_zero() {
             Hash {

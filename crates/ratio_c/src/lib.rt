@@ -11,4 +11,5 @@ pub mod numbers128;
 pub mod numbers32;
 pub mod numbers64;
 pub mod one;
+pub mod reading;
 pub mod wide;

@@ -1,6 +1,6 @@
 //! Fractions of `i128` and the exports over them.
 ghost use Rattle.std.specs.Prelude.{false};
-ghost use Rattle.ratio_c.specs.Calls.{AnswersEach, IsDifferenceAnswer, IsFloorAnswer, IsHashAnswer, IsLowestAnswer, IsOrderAnswer, IsPowerAnswer, IsProductAnswer, IsQuotientAnswer, IsRemainderAnswer, IsRoundAnswer, IsSumAnswer};
+ghost use Rattle.ratio_c.specs.Calls.{AnswersEach, IsDifferenceAnswer, IsFloorAnswer, IsHashAnswer, IsLowestAnswer, IsOrderAnswer, IsPowerAnswer, IsProductAnswer, IsQuotientAnswer, IsReadAnswer, IsRemainderAnswer, IsRoundAnswer, IsSumAnswer};
 ghost use Rattle.ratio_c.specs.Numbers128.{fraction128, greatest128, least128, said128};
 
 use crate::arithmetic::{Difference, Product, Quotient, Remainder, Sum};
@@ -9,6 +9,7 @@ use crate::crossing::{One, Raised, Reply, Two};
 use crate::each::each;
 use crate::hash::{Hash, Hashing};
 use crate::one::{Floor, LowestTerms, Raising, Rounding};
+use crate::reading::{Reading, Span};
 use crate::wide::Wide;
 
 /// A fraction as its two numbers.
@@ -110,7 +111,7 @@ impl Reply<i128> for Answer128 {
 pub extern "C" fn ratio_compare_i128(asked: &[Pair128], answers: &mut [Order]) -> u32
     ensures { AnswersEach (λ x answer. IsOrderAnswer (fraction128 x.left) (fraction128 x.right) answer.code answer.order) asked.now answers.old answers.new result }
 {
-    each::<Comparison, Pair128, Order>(asked, answers)
+    each(&Comparison, asked, answers)
 }
 
 /// The hash of each fraction.
@@ -118,7 +119,7 @@ pub extern "C" fn ratio_compare_i128(asked: &[Pair128], answers: &mut [Order]) -
 pub extern "C" fn ratio_hash_i128(asked: &[Fraction128], answers: &mut [Hash]) -> u32
     ensures { AnswersEach (λ x answer. IsHashAnswer least128 greatest128 (fraction128 x) answer.code answer.hash) asked.now answers.old answers.new result }
 {
-    each::<Hashing, Fraction128, Hash>(asked, answers)
+    each(&Hashing, asked, answers)
 }
 
 /// The sum of each pair.
@@ -126,7 +127,7 @@ pub extern "C" fn ratio_hash_i128(asked: &[Fraction128], answers: &mut [Hash]) -
 pub extern "C" fn ratio_add_i128(asked: &[Pair128], answers: &mut [Answer128]) -> u32
     ensures { AnswersEach (λ x answer. IsSumAnswer false least128 greatest128 (fraction128 x.left) (fraction128 x.right) (said128 answer)) asked.now answers.old answers.new result }
 {
-    each::<Sum, Pair128, Answer128>(asked, answers)
+    each(&Sum, asked, answers)
 }
 
 /// The difference of each pair.
@@ -134,7 +135,7 @@ pub extern "C" fn ratio_add_i128(asked: &[Pair128], answers: &mut [Answer128]) -
 pub extern "C" fn ratio_sub_i128(asked: &[Pair128], answers: &mut [Answer128]) -> u32
     ensures { AnswersEach (λ x answer. IsDifferenceAnswer false least128 greatest128 (fraction128 x.left) (fraction128 x.right) (said128 answer)) asked.now answers.old answers.new result }
 {
-    each::<Difference, Pair128, Answer128>(asked, answers)
+    each(&Difference, asked, answers)
 }
 
 /// The product of each pair.
@@ -142,7 +143,7 @@ pub extern "C" fn ratio_sub_i128(asked: &[Pair128], answers: &mut [Answer128]) -
 pub extern "C" fn ratio_mul_i128(asked: &[Pair128], answers: &mut [Answer128]) -> u32
     ensures { AnswersEach (λ x answer. IsProductAnswer least128 greatest128 (fraction128 x.left) (fraction128 x.right) (said128 answer)) asked.now answers.old answers.new result }
 {
-    each::<Product, Pair128, Answer128>(asked, answers)
+    each(&Product, asked, answers)
 }
 
 /// The quotient of each pair.
@@ -150,7 +151,7 @@ pub extern "C" fn ratio_mul_i128(asked: &[Pair128], answers: &mut [Answer128]) -
 pub extern "C" fn ratio_div_i128(asked: &[Pair128], answers: &mut [Answer128]) -> u32
     ensures { AnswersEach (λ x answer. IsQuotientAnswer least128 greatest128 (fraction128 x.left) (fraction128 x.right) (said128 answer)) asked.now answers.old answers.new result }
 {
-    each::<Quotient, Pair128, Answer128>(asked, answers)
+    each(&Quotient, asked, answers)
 }
 
 /// The remainder of each pair.
@@ -158,7 +159,7 @@ pub extern "C" fn ratio_div_i128(asked: &[Pair128], answers: &mut [Answer128]) -
 pub extern "C" fn ratio_rem_i128(asked: &[Pair128], answers: &mut [Answer128]) -> u32
     ensures { AnswersEach (λ x answer. IsRemainderAnswer least128 greatest128 (fraction128 x.left) (fraction128 x.right) (said128 answer)) asked.now answers.old answers.new result }
 {
-    each::<Remainder, Pair128, Answer128>(asked, answers)
+    each(&Remainder, asked, answers)
 }
 
 /// The lowest terms of each fraction.
@@ -166,7 +167,7 @@ pub extern "C" fn ratio_rem_i128(asked: &[Pair128], answers: &mut [Answer128]) -
 pub extern "C" fn ratio_reduce_i128(asked: &[Fraction128], answers: &mut [Answer128]) -> u32
     ensures { AnswersEach (λ x answer. IsLowestAnswer least128 greatest128 (fraction128 x) (said128 answer)) asked.now answers.old answers.new result }
 {
-    each::<LowestTerms, Fraction128, Answer128>(asked, answers)
+    each(&LowestTerms, asked, answers)
 }
 
 /// The floor of each fraction.
@@ -174,7 +175,7 @@ pub extern "C" fn ratio_reduce_i128(asked: &[Fraction128], answers: &mut [Answer
 pub extern "C" fn ratio_floor_i128(asked: &[Fraction128], answers: &mut [Answer128]) -> u32
     ensures { AnswersEach (λ x answer. IsFloorAnswer (fraction128 x) (said128 answer)) asked.now answers.old answers.new result }
 {
-    each::<Floor, Fraction128, Answer128>(asked, answers)
+    each(&Floor, asked, answers)
 }
 
 /// Each fraction rounded.
@@ -182,7 +183,7 @@ pub extern "C" fn ratio_floor_i128(asked: &[Fraction128], answers: &mut [Answer1
 pub extern "C" fn ratio_round_i128(asked: &[Fraction128], answers: &mut [Answer128]) -> u32
     ensures { AnswersEach (λ x answer. IsRoundAnswer (fraction128 x) (said128 answer)) asked.now answers.old answers.new result }
 {
-    each::<Rounding, Fraction128, Answer128>(asked, answers)
+    each(&Rounding, asked, answers)
 }
 
 /// Each fraction to its exponent.
@@ -190,5 +191,13 @@ pub extern "C" fn ratio_round_i128(asked: &[Fraction128], answers: &mut [Answer1
 pub extern "C" fn ratio_pow_i128(asked: &[Power128], answers: &mut [Answer128]) -> u32
     ensures { AnswersEach (λ x answer. IsPowerAnswer least128 greatest128 (fraction128 x.base) x.exponent (said128 answer)) asked.now answers.old answers.new result }
 {
-    each::<Raising, Power128, Answer128>(asked, answers)
+    each(&Raising, asked, answers)
+}
+
+/// The fraction of each text of `texts` that the spans name.
+#[unsafe(no_mangle)]
+pub extern "C" fn ratio_read_i128(texts: &[u8], spans: &[Span], answers: &mut [Answer128]) -> u32
+    ensures { AnswersEach (λ span answer. IsReadAnswer least128 greatest128 texts.now span.start span.end (said128 answer)) spans.now answers.old answers.new result }
+{
+    each(&Reading::<i128>::of(texts), spans, answers)
 }

@@ -1,6 +1,6 @@
 //! Fractions of `i32` and the exports over them.
 ghost use Rattle.std.specs.Prelude.{true};
-ghost use Rattle.ratio_c.specs.Calls.{AnswersEach, IsDifferenceAnswer, IsFloorAnswer, IsHashAnswer, IsLowestAnswer, IsOrderAnswer, IsPowerAnswer, IsProductAnswer, IsQuotientAnswer, IsRemainderAnswer, IsRoundAnswer, IsSumAnswer};
+ghost use Rattle.ratio_c.specs.Calls.{AnswersEach, IsDifferenceAnswer, IsFloorAnswer, IsHashAnswer, IsLowestAnswer, IsOrderAnswer, IsPowerAnswer, IsProductAnswer, IsQuotientAnswer, IsReadAnswer, IsRemainderAnswer, IsRoundAnswer, IsSumAnswer};
 ghost use Rattle.ratio_c.specs.Numbers32.{fraction32, greatest32, least32, said32};
 
 use crate::arithmetic::{Difference, Product, Quotient, Remainder, Sum};
@@ -9,6 +9,7 @@ use crate::crossing::{One, Raised, Reply, Two};
 use crate::each::each;
 use crate::hash::{Hash, Hashing};
 use crate::one::{Floor, LowestTerms, Raising, Rounding};
+use crate::reading::{Reading, Span};
 
 /// A fraction as its two numbers.
 #[repr(C)]
@@ -106,7 +107,7 @@ impl Reply<i32> for Answer32 {
 pub extern "C" fn ratio_compare_i32(asked: &[Pair32], answers: &mut [Order]) -> u32
     ensures { AnswersEach (λ x answer. IsOrderAnswer (fraction32 x.left) (fraction32 x.right) answer.code answer.order) asked.now answers.old answers.new result }
 {
-    each::<Comparison, Pair32, Order>(asked, answers)
+    each(&Comparison, asked, answers)
 }
 
 /// The hash of each fraction.
@@ -114,7 +115,7 @@ pub extern "C" fn ratio_compare_i32(asked: &[Pair32], answers: &mut [Order]) -> 
 pub extern "C" fn ratio_hash_i32(asked: &[Fraction32], answers: &mut [Hash]) -> u32
     ensures { AnswersEach (λ x answer. IsHashAnswer least32 greatest32 (fraction32 x) answer.code answer.hash) asked.now answers.old answers.new result }
 {
-    each::<Hashing, Fraction32, Hash>(asked, answers)
+    each(&Hashing, asked, answers)
 }
 
 /// The sum of each pair.
@@ -122,7 +123,7 @@ pub extern "C" fn ratio_hash_i32(asked: &[Fraction32], answers: &mut [Hash]) -> 
 pub extern "C" fn ratio_add_i32(asked: &[Pair32], answers: &mut [Answer32]) -> u32
     ensures { AnswersEach (λ x answer. IsSumAnswer true least32 greatest32 (fraction32 x.left) (fraction32 x.right) (said32 answer)) asked.now answers.old answers.new result }
 {
-    each::<Sum, Pair32, Answer32>(asked, answers)
+    each(&Sum, asked, answers)
 }
 
 /// The difference of each pair.
@@ -130,7 +131,7 @@ pub extern "C" fn ratio_add_i32(asked: &[Pair32], answers: &mut [Answer32]) -> u
 pub extern "C" fn ratio_sub_i32(asked: &[Pair32], answers: &mut [Answer32]) -> u32
     ensures { AnswersEach (λ x answer. IsDifferenceAnswer true least32 greatest32 (fraction32 x.left) (fraction32 x.right) (said32 answer)) asked.now answers.old answers.new result }
 {
-    each::<Difference, Pair32, Answer32>(asked, answers)
+    each(&Difference, asked, answers)
 }
 
 /// The product of each pair.
@@ -138,7 +139,7 @@ pub extern "C" fn ratio_sub_i32(asked: &[Pair32], answers: &mut [Answer32]) -> u
 pub extern "C" fn ratio_mul_i32(asked: &[Pair32], answers: &mut [Answer32]) -> u32
     ensures { AnswersEach (λ x answer. IsProductAnswer least32 greatest32 (fraction32 x.left) (fraction32 x.right) (said32 answer)) asked.now answers.old answers.new result }
 {
-    each::<Product, Pair32, Answer32>(asked, answers)
+    each(&Product, asked, answers)
 }
 
 /// The quotient of each pair.
@@ -146,7 +147,7 @@ pub extern "C" fn ratio_mul_i32(asked: &[Pair32], answers: &mut [Answer32]) -> u
 pub extern "C" fn ratio_div_i32(asked: &[Pair32], answers: &mut [Answer32]) -> u32
     ensures { AnswersEach (λ x answer. IsQuotientAnswer least32 greatest32 (fraction32 x.left) (fraction32 x.right) (said32 answer)) asked.now answers.old answers.new result }
 {
-    each::<Quotient, Pair32, Answer32>(asked, answers)
+    each(&Quotient, asked, answers)
 }
 
 /// The remainder of each pair.
@@ -154,7 +155,7 @@ pub extern "C" fn ratio_div_i32(asked: &[Pair32], answers: &mut [Answer32]) -> u
 pub extern "C" fn ratio_rem_i32(asked: &[Pair32], answers: &mut [Answer32]) -> u32
     ensures { AnswersEach (λ x answer. IsRemainderAnswer least32 greatest32 (fraction32 x.left) (fraction32 x.right) (said32 answer)) asked.now answers.old answers.new result }
 {
-    each::<Remainder, Pair32, Answer32>(asked, answers)
+    each(&Remainder, asked, answers)
 }
 
 /// The lowest terms of each fraction.
@@ -162,7 +163,7 @@ pub extern "C" fn ratio_rem_i32(asked: &[Pair32], answers: &mut [Answer32]) -> u
 pub extern "C" fn ratio_reduce_i32(asked: &[Fraction32], answers: &mut [Answer32]) -> u32
     ensures { AnswersEach (λ x answer. IsLowestAnswer least32 greatest32 (fraction32 x) (said32 answer)) asked.now answers.old answers.new result }
 {
-    each::<LowestTerms, Fraction32, Answer32>(asked, answers)
+    each(&LowestTerms, asked, answers)
 }
 
 /// The floor of each fraction.
@@ -170,7 +171,7 @@ pub extern "C" fn ratio_reduce_i32(asked: &[Fraction32], answers: &mut [Answer32
 pub extern "C" fn ratio_floor_i32(asked: &[Fraction32], answers: &mut [Answer32]) -> u32
     ensures { AnswersEach (λ x answer. IsFloorAnswer (fraction32 x) (said32 answer)) asked.now answers.old answers.new result }
 {
-    each::<Floor, Fraction32, Answer32>(asked, answers)
+    each(&Floor, asked, answers)
 }
 
 /// Each fraction rounded.
@@ -178,7 +179,7 @@ pub extern "C" fn ratio_floor_i32(asked: &[Fraction32], answers: &mut [Answer32]
 pub extern "C" fn ratio_round_i32(asked: &[Fraction32], answers: &mut [Answer32]) -> u32
     ensures { AnswersEach (λ x answer. IsRoundAnswer (fraction32 x) (said32 answer)) asked.now answers.old answers.new result }
 {
-    each::<Rounding, Fraction32, Answer32>(asked, answers)
+    each(&Rounding, asked, answers)
 }
 
 /// Each fraction to its exponent.
@@ -186,5 +187,13 @@ pub extern "C" fn ratio_round_i32(asked: &[Fraction32], answers: &mut [Answer32]
 pub extern "C" fn ratio_pow_i32(asked: &[Power32], answers: &mut [Answer32]) -> u32
     ensures { AnswersEach (λ x answer. IsPowerAnswer least32 greatest32 (fraction32 x.base) x.exponent (said32 answer)) asked.now answers.old answers.new result }
 {
-    each::<Raising, Power32, Answer32>(asked, answers)
+    each(&Raising, asked, answers)
+}
+
+/// The fraction of each text of `texts` that the spans name.
+#[unsafe(no_mangle)]
+pub extern "C" fn ratio_read_i32(texts: &[u8], spans: &[Span], answers: &mut [Answer32]) -> u32
+    ensures { AnswersEach (λ span answer. IsReadAnswer least32 greatest32 texts.now span.start span.end (said32 answer)) spans.now answers.old answers.new result }
+{
+    each(&Reading::<i32>::of(texts), spans, answers)
 }

@@ -1,6 +1,6 @@
 //! Fractions of `i64` and the exports over them.
 ghost use Rattle.std.specs.Prelude.{true};
-ghost use Rattle.ratio_c.specs.Calls.{AnswersEach, IsDifferenceAnswer, IsFloorAnswer, IsHashAnswer, IsLowestAnswer, IsOrderAnswer, IsPowerAnswer, IsProductAnswer, IsQuotientAnswer, IsRemainderAnswer, IsRoundAnswer, IsSumAnswer};
+ghost use Rattle.ratio_c.specs.Calls.{AnswersEach, IsDifferenceAnswer, IsFloorAnswer, IsHashAnswer, IsLowestAnswer, IsOrderAnswer, IsPowerAnswer, IsProductAnswer, IsQuotientAnswer, IsReadAnswer, IsRemainderAnswer, IsRoundAnswer, IsSumAnswer};
 ghost use Rattle.ratio_c.specs.Numbers64.{fraction64, greatest64, least64, said64};
 
 use crate::arithmetic::{Difference, Product, Quotient, Remainder, Sum};
@@ -9,6 +9,7 @@ use crate::crossing::{One, Raised, Reply, Two};
 use crate::each::each;
 use crate::hash::{Hash, Hashing};
 use crate::one::{Floor, LowestTerms, Raising, Rounding};
+use crate::reading::{Reading, Span};
 
 /// A fraction as its two numbers.
 #[repr(C)]
@@ -106,7 +107,7 @@ impl Reply<i64> for Answer64 {
 pub extern "C" fn ratio_compare_i64(asked: &[Pair64], answers: &mut [Order]) -> u32
     ensures { AnswersEach (λ x answer. IsOrderAnswer (fraction64 x.left) (fraction64 x.right) answer.code answer.order) asked.now answers.old answers.new result }
 {
-    each::<Comparison, Pair64, Order>(asked, answers)
+    each(&Comparison, asked, answers)
 }
 
 /// The hash of each fraction.
@@ -114,7 +115,7 @@ pub extern "C" fn ratio_compare_i64(asked: &[Pair64], answers: &mut [Order]) -> 
 pub extern "C" fn ratio_hash_i64(asked: &[Fraction64], answers: &mut [Hash]) -> u32
     ensures { AnswersEach (λ x answer. IsHashAnswer least64 greatest64 (fraction64 x) answer.code answer.hash) asked.now answers.old answers.new result }
 {
-    each::<Hashing, Fraction64, Hash>(asked, answers)
+    each(&Hashing, asked, answers)
 }
 
 /// The sum of each pair.
@@ -122,7 +123,7 @@ pub extern "C" fn ratio_hash_i64(asked: &[Fraction64], answers: &mut [Hash]) -> 
 pub extern "C" fn ratio_add_i64(asked: &[Pair64], answers: &mut [Answer64]) -> u32
     ensures { AnswersEach (λ x answer. IsSumAnswer true least64 greatest64 (fraction64 x.left) (fraction64 x.right) (said64 answer)) asked.now answers.old answers.new result }
 {
-    each::<Sum, Pair64, Answer64>(asked, answers)
+    each(&Sum, asked, answers)
 }
 
 /// The difference of each pair.
@@ -130,7 +131,7 @@ pub extern "C" fn ratio_add_i64(asked: &[Pair64], answers: &mut [Answer64]) -> u
 pub extern "C" fn ratio_sub_i64(asked: &[Pair64], answers: &mut [Answer64]) -> u32
     ensures { AnswersEach (λ x answer. IsDifferenceAnswer true least64 greatest64 (fraction64 x.left) (fraction64 x.right) (said64 answer)) asked.now answers.old answers.new result }
 {
-    each::<Difference, Pair64, Answer64>(asked, answers)
+    each(&Difference, asked, answers)
 }
 
 /// The product of each pair.
@@ -138,7 +139,7 @@ pub extern "C" fn ratio_sub_i64(asked: &[Pair64], answers: &mut [Answer64]) -> u
 pub extern "C" fn ratio_mul_i64(asked: &[Pair64], answers: &mut [Answer64]) -> u32
     ensures { AnswersEach (λ x answer. IsProductAnswer least64 greatest64 (fraction64 x.left) (fraction64 x.right) (said64 answer)) asked.now answers.old answers.new result }
 {
-    each::<Product, Pair64, Answer64>(asked, answers)
+    each(&Product, asked, answers)
 }
 
 /// The quotient of each pair.
@@ -146,7 +147,7 @@ pub extern "C" fn ratio_mul_i64(asked: &[Pair64], answers: &mut [Answer64]) -> u
 pub extern "C" fn ratio_div_i64(asked: &[Pair64], answers: &mut [Answer64]) -> u32
     ensures { AnswersEach (λ x answer. IsQuotientAnswer least64 greatest64 (fraction64 x.left) (fraction64 x.right) (said64 answer)) asked.now answers.old answers.new result }
 {
-    each::<Quotient, Pair64, Answer64>(asked, answers)
+    each(&Quotient, asked, answers)
 }
 
 /// The remainder of each pair.
@@ -154,7 +155,7 @@ pub extern "C" fn ratio_div_i64(asked: &[Pair64], answers: &mut [Answer64]) -> u
 pub extern "C" fn ratio_rem_i64(asked: &[Pair64], answers: &mut [Answer64]) -> u32
     ensures { AnswersEach (λ x answer. IsRemainderAnswer least64 greatest64 (fraction64 x.left) (fraction64 x.right) (said64 answer)) asked.now answers.old answers.new result }
 {
-    each::<Remainder, Pair64, Answer64>(asked, answers)
+    each(&Remainder, asked, answers)
 }
 
 /// The lowest terms of each fraction.
@@ -162,7 +163,7 @@ pub extern "C" fn ratio_rem_i64(asked: &[Pair64], answers: &mut [Answer64]) -> u
 pub extern "C" fn ratio_reduce_i64(asked: &[Fraction64], answers: &mut [Answer64]) -> u32
     ensures { AnswersEach (λ x answer. IsLowestAnswer least64 greatest64 (fraction64 x) (said64 answer)) asked.now answers.old answers.new result }
 {
-    each::<LowestTerms, Fraction64, Answer64>(asked, answers)
+    each(&LowestTerms, asked, answers)
 }
 
 /// The floor of each fraction.
@@ -170,7 +171,7 @@ pub extern "C" fn ratio_reduce_i64(asked: &[Fraction64], answers: &mut [Answer64
 pub extern "C" fn ratio_floor_i64(asked: &[Fraction64], answers: &mut [Answer64]) -> u32
     ensures { AnswersEach (λ x answer. IsFloorAnswer (fraction64 x) (said64 answer)) asked.now answers.old answers.new result }
 {
-    each::<Floor, Fraction64, Answer64>(asked, answers)
+    each(&Floor, asked, answers)
 }
 
 /// Each fraction rounded.
@@ -178,7 +179,7 @@ pub extern "C" fn ratio_floor_i64(asked: &[Fraction64], answers: &mut [Answer64]
 pub extern "C" fn ratio_round_i64(asked: &[Fraction64], answers: &mut [Answer64]) -> u32
     ensures { AnswersEach (λ x answer. IsRoundAnswer (fraction64 x) (said64 answer)) asked.now answers.old answers.new result }
 {
-    each::<Rounding, Fraction64, Answer64>(asked, answers)
+    each(&Rounding, asked, answers)
 }
 
 /// Each fraction to its exponent.
@@ -186,5 +187,13 @@ pub extern "C" fn ratio_round_i64(asked: &[Fraction64], answers: &mut [Answer64]
 pub extern "C" fn ratio_pow_i64(asked: &[Power64], answers: &mut [Answer64]) -> u32
     ensures { AnswersEach (λ x answer. IsPowerAnswer least64 greatest64 (fraction64 x.base) x.exponent (said64 answer)) asked.now answers.old answers.new result }
 {
-    each::<Raising, Power64, Answer64>(asked, answers)
+    each(&Raising, asked, answers)
+}
+
+/// The fraction of each text of `texts` that the spans name.
+#[unsafe(no_mangle)]
+pub extern "C" fn ratio_read_i64(texts: &[u8], spans: &[Span], answers: &mut [Answer64]) -> u32
+    ensures { AnswersEach (λ span answer. IsReadAnswer least64 greatest64 texts.now span.start span.end (said64 answer)) spans.now answers.old answers.new result }
+{
+    each(&Reading::<i64>::of(texts), spans, answers)
 }

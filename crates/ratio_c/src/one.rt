@@ -25,13 +25,14 @@ fn positive<F: One>(x: &F) -> Option<Ratio<F::Inside>>
 }
 
 /// The lowest terms of a fraction.
+#[derive(Clone, Copy)]
 pub struct LowestTerms;
 
 impl<F: One, A: Reply<F::Inside>> Call<F, A> for LowestTerms {
-    ghost gives = { λ x answer. IsLowestAnswer F.Inside.lo F.Inside.hi (F.fraction x) (A.said answer) };
+    ghost gives = { λ _ x answer. IsLowestAnswer F.Inside.lo F.Inside.hi (F.fraction x) (A.said answer) };
 
     #[inline(always)]
-    fn answer(x: &F) -> A {
+    fn answer(&self, x: &F) -> A {
         let (n, d) = x.fraction();
         if d.is_zero() {
             refused(ZERO_DENOMINATOR)
@@ -42,13 +43,14 @@ impl<F: One, A: Reply<F::Inside>> Call<F, A> for LowestTerms {
 }
 
 /// The floor of a fraction, over 1.
+#[derive(Clone, Copy)]
 pub struct Floor;
 
 impl<F: One, A: Reply<F::Inside>> Call<F, A> for Floor {
-    ghost gives = { λ x answer. IsFloorAnswer (F.fraction x) (A.said answer) };
+    ghost gives = { λ _ x answer. IsFloorAnswer (F.fraction x) (A.said answer) };
 
     #[inline(always)]
-    fn answer(x: &F) -> A {
+    fn answer(&self, x: &F) -> A {
         match positive(x) {
             Some(r) => checked(Some(r.floor())),
             None => refused(DENOMINATOR_NOT_POSITIVE),
@@ -57,13 +59,14 @@ impl<F: One, A: Reply<F::Inside>> Call<F, A> for Floor {
 }
 
 /// A fraction rounded, over 1.
+#[derive(Clone, Copy)]
 pub struct Rounding;
 
 impl<F: One, A: Reply<F::Inside>> Call<F, A> for Rounding {
-    ghost gives = { λ x answer. IsRoundAnswer (F.fraction x) (A.said answer) };
+    ghost gives = { λ _ x answer. IsRoundAnswer (F.fraction x) (A.said answer) };
 
     #[inline(always)]
-    fn answer(x: &F) -> A {
+    fn answer(&self, x: &F) -> A {
         match positive(x) {
             Some(r) => checked(Some(r.round())),
             None => refused(DENOMINATOR_NOT_POSITIVE),
@@ -72,13 +75,14 @@ impl<F: One, A: Reply<F::Inside>> Call<F, A> for Rounding {
 }
 
 /// A fraction to an exponent.
+#[derive(Clone, Copy)]
 pub struct Raising;
 
 impl<F: Raised, A: Reply<F::Inside>> Call<F, A> for Raising {
-    ghost gives = { λ x answer. IsPowerAnswer F.Inside.lo F.Inside.hi (F.fraction x) (F.exponent x) (A.said answer) };
+    ghost gives = { λ _ x answer. IsPowerAnswer F.Inside.lo F.Inside.hi (F.fraction x) (F.exponent x) (A.said answer) };
 
     #[inline(always)]
-    fn answer(x: &F) -> A {
+    fn answer(&self, x: &F) -> A {
         match positive(x) {
             Some(r) => checked(r.checked_pow(x.exponent())),
             None => refused(DENOMINATOR_NOT_POSITIVE),

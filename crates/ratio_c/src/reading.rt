@@ -1,0 +1,65 @@
+//! Reading fractions from texts.
+ghost use Rattle.std.specs.Prelude.{◌≡◌};
+ghost use Rattle.ratio_c.specs.Calls.{IsReadAnswer, SaysText};
+
+use crate::code::{ANSWERED, NO_TEXT, PARSE_ERROR, ZERO_DENOMINATOR};
+use crate::crossing::{Digest, Reply, refused};
+use crate::each::Call;
+use num_rational::{Ratio, RatioErrorKind};
+use std::marker::PhantomData;
+
+/// Where a text begins and where it ends.
+#[repr(C)]
+#[derive(Drop)]
+pub struct Span {
+    pub start: usize,
+    pub end: usize,
+}
+
+/// The fraction of a text among others.
+#[derive(Drop)]
+pub struct Reading<'a, T> {
+    pub texts: &'a [u8],
+    marker: PhantomData<T>,
+}
+
+impl<'a, T> Reading<'a, T> {
+    /// The one over these texts.
+    #[inline(always)]
+    pub fn of(texts: &'a [u8]) -> Reading<'a, T>
+        ensures { result.texts.now ≡ texts.now }
+    {
+        Reading {
+            texts,
+            marker: PhantomData,
+        }
+    }
+}
+
+impl<'a, T: Digest, A: Reply<T>> Call<Span, A> for Reading<'a, T> {
+    ghost gives = { λ reading span answer. IsReadAnswer T.lo T.hi reading.texts.now span.start span.end (A.said answer) };
+
+    #[inline(always)]
+    fn answer(&self, span: &Span) -> A {
+        if span.end < span.start || self.texts.len() < span.end {
+            return refused(NO_TEXT);
+        }
+        match str::from_utf8(&self.texts[span.start..span.end]) {
+            Ok(text) => read(text),
+            Err(_) => refused(PARSE_ERROR),
+        }
+    }
+}
+
+/// The fraction of a text.
+fn read<T: Digest, A: Reply<T>>(text: &str) -> A
+    ensures { SaysText T.lo T.hi text.now (A.said result) }
+{
+    match Ratio::<T>::from_str(text) {
+        Ok(x) => A::reply(ANSWERED, *x.numer(), *x.denom()),
+        Err(refusal) => refused(match refusal.kind() {
+            RatioErrorKind::ParseError => PARSE_ERROR,
+            RatioErrorKind::ZeroDenominator => ZERO_DENOMINATOR,
+        }),
+    }
+}

@@ -1,0 +1,367 @@
+-- Rounded running sums: neighbours differ by less than 1 more or less than the exact share, and the last is the amount.
+use Rattle.std.specs.Prelude.{◌≡◌, ◌≢◌, ◌⊎◌, ◌↔◌, ◌+◌, ◌-◌, ◌^◌, ◌<◌, ◌≤◌, ◌≤ℤ◌, ◌<ℤ◌, ◌+ℤ◌, ◌-ℤ◌, ◌*ℤ◌, ℕ, ℤ, zero, suc, pos, negsuc, neg_ℤ, unsigned_abs, List, [], ◌∷◌, ◌++◌, fold, length, slice_index_or, take, IsSome, None, Option, Some}
+use Rattle.std.proofs.Common.{refl, sym, ap, subst, ◌∙◌, arith, inl, inr, add-one, get_or}
+use Rattle.std.proofs.Math.Seq.{take-length, take-suc, take-suc-set}
+use Rattle.std.proofs.Math.ListN.{set}
+use Rattle.std.proofs.lemmas.Int.{ints}
+use Rattle.std.proofs.lemmas.List.{get_or_default, get_or-set_other, get_or-set_same}
+use Rattle.std.proofs.lemmas.List.Sums.{fold-append}
+use borrow.Author.Count.{below_more}
+use mir.Syntax.{w64}
+use mir.Val.{SFits}
+use lib.IntN.{one, *ℤ_comm, *ℤ-one, *ℤ-zero, zero-*ℤ}
+use Rattle.ratio_integer.specs.Arithmetic.{sum_of}
+use Rattle.ratio_integer.specs.Fraction.{IsHeldLowest, IsLowestTermsOf, SameValue}
+use Rattle.ratio_integer.proofs.LowestTerms.{held_lowest_moved, lowest_moved, lowest_own, over_one}
+use Rattle.ratio_integer.proofs.Whole.{add-mul, mul-add, mul_assoc, mul_cancel, mul_positive, mul-swap_last, positive_nonzero, sub-mul}
+use Rattle.ratio_core.specs.Rounding.{IsRounded, IsWithinHalf}
+use Rattle.ratio_core.proofs.LawLemmas.{same_value_sums}
+use Rattle.ratio_core.proofs.ProductOrder.{less-times, more-times, times_le}
+use Rattle.ratio_core.proofs.RoundingLawLemmas.{same_rounded}
+use Rattle.ratio_core.proofs.SumLemmas.{fits_by}
+use Rattle.num_rational.specs.declared.reduced.Reduced.{Reduced}
+use Rattle.ratio_uses.specs.Held.{FitsIn64}
+use Rattle.ratio_uses.specs.Ledger.{AddUpToOne, ChecksMark, IsMark, IsNearShare, IsSplit, amount_times, total_of}
+
+times-one : (a : ℤ) → a *ℤ pos 1 ≡ a
+unfolding one
+times-one a = *ℤ-one a
+
+less_or_not : (x y : ℤ) → (x <ℤ y) ⊎ (y ≤ℤ x)
+less_or_not x y = grind (arith, ints)
+
+cancel_less : (x y d : ℤ) → pos 0 <ℤ d → (x *ℤ d) <ℤ (y *ℤ d) → x <ℤ y
+cancel_less x y d up less = cases (less_or_not x y)
+  where
+    cases : (x <ℤ y) ⊎ (y ≤ℤ x) → x <ℤ y
+    cases (inl h) = h
+    cases (inr h) = let sign : pos 0 ≤ℤ d = omega (arith, ints) in absurd (let k = times_le y x d h sign in omega (arith, ints))
+
+-- ---- what rounding leaves, where a half goes up and where it goes down
+
+module _ (n d r : ℤ) (up : pos 0 <ℤ d) (is : IsRounded n d r) where
+  -- of a number that is not below 0, a half goes up
+  pub rest_below : pos 0 ≤ℤ n → (pos 2 *ℤ n -ℤ pos 2 *ℤ (r *ℤ d)) <ℤ d
+  rest_below sign = cases (less_or_not (pos 2 *ℤ n -ℤ pos 2 *ℤ (r *ℤ d)) d)
+    where
+      cases : ((pos 2 *ℤ n -ℤ pos 2 *ℤ (r *ℤ d)) <ℤ d) ⊎ (d ≤ℤ (pos 2 *ℤ n -ℤ pos 2 *ℤ (r *ℤ d))) → (pos 2 *ℤ n -ℤ pos 2 *ℤ (r *ℤ d)) <ℤ d
+      cases (inl h) = h
+      cases (inr h) =
+          let below = is.near.below in
+          let more = more-times r d in
+          let next : IsWithinHalf n d (r +ℤ pos 1) = record { above = omega (arith, ints); below = omega (arith, ints) } in
+          let size : unsigned_abs (r +ℤ pos 1) ≤ unsigned_abs r = is.furthest (r +ℤ pos 1) next in
+          let negative : (r +ℤ pos 1) ≤ℤ pos 0 = omega (arith, ints) in
+          let nonneg : pos 0 ≤ℤ d = omega (arith, ints) in
+          let times = times_le (r +ℤ pos 1) (pos 0) d negative nonneg in
+          absurd (omega (arith, ints))
+
+  -- of a number that is not above 0, a half goes down
+  pub rest_above : n ≤ℤ pos 0 → neg_ℤ d <ℤ (pos 2 *ℤ n -ℤ pos 2 *ℤ (r *ℤ d))
+  rest_above sign = cases (less_or_not (neg_ℤ d) (pos 2 *ℤ n -ℤ pos 2 *ℤ (r *ℤ d)))
+    where
+      cases : (neg_ℤ d <ℤ (pos 2 *ℤ n -ℤ pos 2 *ℤ (r *ℤ d))) ⊎ ((pos 2 *ℤ n -ℤ pos 2 *ℤ (r *ℤ d)) ≤ℤ neg_ℤ d) → neg_ℤ d <ℤ (pos 2 *ℤ n -ℤ pos 2 *ℤ (r *ℤ d))
+      cases (inl h) = h
+      cases (inr h) =
+          let above = is.near.above in
+          let less = less-times r d in
+          let next : IsWithinHalf n d (r -ℤ pos 1) = record { above = omega (arith, ints); below = omega (arith, ints) } in
+          let size : unsigned_abs (r -ℤ pos 1) ≤ unsigned_abs r = is.furthest (r -ℤ pos 1) next in
+          let positive : pos 0 ≤ℤ (r -ℤ pos 1) = omega (arith, ints) in
+          let nonneg : pos 0 ≤ℤ d = omega (arith, ints) in
+          let times = times_le (pos 0) (r -ℤ pos 1) d positive nonneg in
+          absurd (omega (arith, ints))
+
+both_up : (x y : ℤ) → pos 0 ≤ℤ x → pos 0 ≤ℤ y → pos 0 ≤ℤ (x +ℤ y)
+both_up x y h k = omega (arith, ints)
+
+not_below : (x : ℤ) → pos 0 <ℤ x → pos 0 ≤ℤ x
+not_below x h = omega (arith, ints)
+
+-- ---- neighbours
+
+-- a number times a factor above 0, rounded over that factor more
+module _ (x d t r : ℤ) (d_up : pos 0 <ℤ d) (t_up : pos 0 <ℤ t) where
+  widened : IsRounded x d r → IsRounded (x *ℤ t) (d *ℤ t) r
+  widened is = same_rounded x d (x *ℤ t) (d *ℤ t) r d_up (mul_positive d t d_up t_up) (sym (mul-swap_last x t d)) is
+
+-- the amount times the sum of two fractions
+spread : (a n d s t : ℤ) → a *ℤ (n *ℤ t +ℤ s *ℤ d) ≡ (a *ℤ n) *ℤ t +ℤ (a *ℤ s) *ℤ d
+spread a n d s t =
+    mul-add a (n *ℤ t) (s *ℤ d) ∙ ap (λ (z : ℤ). z +ℤ a *ℤ (s *ℤ d)) (sym (mul_assoc a n t)) ∙ ap (λ (z : ℤ). (a *ℤ n) *ℤ t +ℤ z) (sym (mul_assoc a s d))
+
+module _ (x y w u v : ℤ) where
+  between_up : neg_ℤ w ≤ℤ (pos 2 *ℤ x -ℤ pos 2 *ℤ u) → (pos 2 *ℤ x -ℤ pos 2 *ℤ u) <ℤ w → neg_ℤ w ≤ℤ (pos 2 *ℤ (x +ℤ y) -ℤ pos 2 *ℤ v) → (pos 2 *ℤ (x +ℤ y) -ℤ pos 2 *ℤ v) <ℤ w → ((y -ℤ w) <ℤ (v -ℤ u)) × ((v -ℤ u) <ℤ (y +ℤ w))
+  between_up a b c d = (omega (arith, ints), omega (arith, ints))
+
+  between_down : neg_ℤ w <ℤ (pos 2 *ℤ x -ℤ pos 2 *ℤ u) → (pos 2 *ℤ x -ℤ pos 2 *ℤ u) ≤ℤ w → neg_ℤ w <ℤ (pos 2 *ℤ (x +ℤ y) -ℤ pos 2 *ℤ v) → (pos 2 *ℤ (x +ℤ y) -ℤ pos 2 *ℤ v) ≤ℤ w → ((y -ℤ w) <ℤ (v -ℤ u)) × ((v -ℤ u) <ℤ (y +ℤ w))
+  between_down a b c d = (omega (arith, ints), omega (arith, ints))
+
+sign_up : (a n : ℤ) → pos 0 ≤ℤ a → pos 0 ≤ℤ n → pos 0 ≤ℤ (a *ℤ n)
+sign_up a n a_up n_up = let times = times_le (pos 0) a n a_up n_up in omega (arith, ints)
+
+sign_down : (a n : ℤ) → a ≤ℤ pos 0 → pos 0 ≤ℤ n → (a *ℤ n) ≤ℤ pos 0
+sign_down a n a_down n_up = let times = times_le a (pos 0) n a_down n_up in omega (arith, ints)
+
+-- r is the amount a times n/d rounded, and q is a times n/d + s/t rounded
+module _ (a n d s t r q : ℤ) (d_up : pos 0 <ℤ d) (t_up : pos 0 <ℤ t) (n_up : pos 0 ≤ℤ n) (s_up : pos 0 ≤ℤ s) (first : IsRounded (a *ℤ n) d r) (second : IsRounded (a *ℤ (n *ℤ t +ℤ s *ℤ d)) (d *ℤ t) q) where
+  w_up : pos 0 <ℤ (d *ℤ t)
+  w_up = mul_positive d t d_up t_up
+
+  before : IsRounded ((a *ℤ n) *ℤ t) (d *ℤ t) r
+  before = widened (a *ℤ n) d t r d_up t_up first
+
+  after : IsRounded ((a *ℤ n) *ℤ t +ℤ (a *ℤ s) *ℤ d) (d *ℤ t) q
+  after = subst (λ z. IsRounded z (d *ℤ t) q) (spread a n d s t) second
+
+  abbrev apart : Type 0
+  apart = (((a *ℤ s) *ℤ d -ℤ d *ℤ t) <ℤ (q *ℤ (d *ℤ t) -ℤ r *ℤ (d *ℤ t))) × ((q *ℤ (d *ℤ t) -ℤ r *ℤ (d *ℤ t)) <ℤ ((a *ℤ s) *ℤ d +ℤ d *ℤ t))
+
+  times_up : pos 0 ≤ℤ a → pos 0 ≤ℤ ((a *ℤ n) *ℤ t)
+  times_up a_up = sign_up (a *ℤ n) t (sign_up a n a_up n_up) (let z : pos 0 ≤ℤ t = omega (arith, ints) in z)
+
+  times_down : a ≤ℤ pos 0 → ((a *ℤ n) *ℤ t) ≤ℤ pos 0
+  times_down a_down = sign_down (a *ℤ n) t (sign_down a n a_down n_up) (let z : pos 0 ≤ℤ t = omega (arith, ints) in z)
+
+  share_up : pos 0 ≤ℤ a → pos 0 ≤ℤ ((a *ℤ s) *ℤ d)
+  share_up a_up = sign_up (a *ℤ s) d (sign_up a s a_up s_up) (let z : pos 0 ≤ℤ d = omega (arith, ints) in z)
+
+  share_down : a ≤ℤ pos 0 → ((a *ℤ s) *ℤ d) ≤ℤ pos 0
+  share_down a_down = sign_down (a *ℤ s) d (sign_down a s a_down s_up) (let z : pos 0 ≤ℤ d = omega (arith, ints) in z)
+
+  sum_down : (x y : ℤ) → x ≤ℤ pos 0 → y ≤ℤ pos 0 → (x +ℤ y) ≤ℤ pos 0
+  sum_down x y h k = omega (arith, ints)
+
+  either_sign : (a : ℤ) → (pos 0 ≤ℤ a) ⊎ (a ≤ℤ pos 0)
+  either_sign a = grind (arith, ints)
+
+  far : (pos 0 ≤ℤ a) ⊎ (a ≤ℤ pos 0) → apart
+  far (inl a_up) = between_up ((a *ℤ n) *ℤ t) ((a *ℤ s) *ℤ d) (d *ℤ t) (r *ℤ (d *ℤ t)) (q *ℤ (d *ℤ t))
+      before.near.above (rest_below _ _ r w_up before (times_up a_up))
+      after.near.above (rest_below _ _ q w_up after (both_up _ _ (times_up a_up) (share_up a_up)))
+  far (inr a_down) = between_down ((a *ℤ n) *ℤ t) ((a *ℤ s) *ℤ d) (d *ℤ t) (r *ℤ (d *ℤ t)) (q *ℤ (d *ℤ t))
+      (rest_above _ _ r w_up before (times_down a_down)) before.near.below
+      (rest_above _ _ q w_up after (sum_down _ _ (times_down a_down) (share_down a_down))) after.near.below
+
+  part_wide : ((q -ℤ r) *ℤ t) *ℤ d ≡ q *ℤ (d *ℤ t) -ℤ r *ℤ (d *ℤ t)
+  part_wide = mul-swap_last (q -ℤ r) t d ∙ sub-mul q r (d *ℤ t)
+
+  pub near_share : IsNearShare a (s, t) (q -ℤ r)
+  near_share =
+      let apart = far (either_sign a) in
+      record {
+        above = cancel_less (a *ℤ s -ℤ t) ((q -ℤ r) *ℤ t) d d_up (rw (part_wide, sub-mul (a *ℤ s) t d, *ℤ_comm t d) apart.0);
+        below = cancel_less ((q -ℤ r) *ℤ t) (a *ℤ s +ℤ t) d d_up (rw (part_wide, add-mul (a *ℤ s) t d, *ℤ_comm t d) apart.1);
+      }
+
+  above_zero : (x y d : ℤ) → pos 0 <ℤ d → y ≡ x *ℤ d → pos 0 <ℤ (y +ℤ d) → pos 0 ≤ℤ x
+  above_zero x y d up is more =
+      let zero : pos 0 *ℤ d ≡ pos 0 = zero-*ℤ d in
+      let next : pos 0 <ℤ (x +ℤ pos 1) = cancel_less (pos 0) (x +ℤ pos 1) d up (rw (zero, more-times x d) (omega (arith, ints))) in
+      omega (arith, ints)
+
+  below_zero : (x y d : ℤ) → pos 0 <ℤ d → y ≡ x *ℤ d → (y -ℤ d) <ℤ pos 0 → x ≤ℤ pos 0
+  below_zero x y d up is less =
+      let zero : pos 0 *ℤ d ≡ pos 0 = zero-*ℤ d in
+      let next : (x -ℤ pos 1) <ℤ pos 0 = cancel_less (x -ℤ pos 1) (pos 0) d up (rw (zero, less-times x d) (omega (arith, ints))) in
+      omega (arith, ints)
+
+  -- the part lies between 0 and the rounded sum
+  pub part_between : ((pos 0 ≤ℤ (q -ℤ r)) × ((q -ℤ r) ≤ℤ q)) ⊎ ((q ≤ℤ (q -ℤ r)) × ((q -ℤ r) ≤ℤ pos 0))
+  part_between = by (either_sign a)
+    where
+      part_up : pos 0 ≤ℤ a → pos 0 ≤ℤ (q -ℤ r)
+      part_up a_up = let near = near_share.above in let sign = sign_up a s a_up s_up in above_zero (q -ℤ r) ((q -ℤ r) *ℤ t) t t_up refl (omega (arith, ints))
+
+      mark_up : pos 0 ≤ℤ a → pos 0 ≤ℤ r
+      mark_up a_up = let near = rest_below (a *ℤ n) d r d_up first (sign_up a n a_up n_up) in let sign = sign_up a n a_up n_up in above_zero r (r *ℤ d) d d_up refl (omega (arith, ints))
+
+      part_down : a ≤ℤ pos 0 → (q -ℤ r) ≤ℤ pos 0
+      part_down a_down = let near = near_share.below in let sign = sign_down a s a_down s_up in below_zero (q -ℤ r) ((q -ℤ r) *ℤ t) t t_up refl (omega (arith, ints))
+
+      mark_down : a ≤ℤ pos 0 → r ≤ℤ pos 0
+      mark_down a_down = let near = rest_above (a *ℤ n) d r d_up first (sign_down a n a_down n_up) in let sign = sign_down a n a_down n_up in below_zero r (r *ℤ d) d d_up refl (omega (arith, ints))
+
+      by : (pos 0 ≤ℤ a) ⊎ (a ≤ℤ pos 0) → ((pos 0 ≤ℤ (q -ℤ r)) × ((q -ℤ r) ≤ℤ q)) ⊎ ((q ≤ℤ (q -ℤ r)) × ((q -ℤ r) ≤ℤ pos 0))
+      by (inl a_up) = let part = part_up a_up in let mark = mark_up a_up in inl (part, omega (arith, ints))
+      by (inr a_down) = let part = part_down a_down in let mark = mark_down a_down in inr (omega (arith, ints), part)
+
+-- ---- the first and the last
+
+pub first_mark : (a : ℤ) → IsRounded (a *ℤ pos 0) (pos 1) (pos 0)
+first_mark a = rw (*ℤ-zero a) (record { near = record { above = omega (arith, ints); below = omega (arith, ints) }; furthest = λ s near. no_more s near })
+  where
+    no_more : (s : ℤ) → IsWithinHalf (pos 0) (pos 1) s → unsigned_abs s ≤ unsigned_abs (pos 0)
+    no_more s near = let above = near.above in let below = near.below in let same = times-one s in omega (arith, ints)
+
+pub last_mark : (a d r : ℤ) → pos 0 <ℤ d → IsRounded (a *ℤ d) d r → r ≡ a
+last_mark a d r up is = same (less_or_not a r) (less_or_not r a)
+  where
+    same : (a <ℤ r) ⊎ (r ≤ℤ a) → (r <ℤ a) ⊎ (a ≤ℤ r) → r ≡ a
+    same (inr h) (inr k) = omega (arith, ints)
+    same (inl h) u = absurd (
+        let next : (a +ℤ pos 1) ≤ℤ r = omega (arith, ints) in
+        let sign : pos 0 ≤ℤ d = omega (arith, ints) in
+        let times = times_le (a +ℤ pos 1) r d next sign in
+        let more = more-times a d in
+        let near = is.near.above in
+        omega (arith, ints))
+    same (inr h) (inl k) = absurd (
+        let next : (r +ℤ pos 1) ≤ℤ a = omega (arith, ints) in
+        let sign : pos 0 ≤ℤ d = omega (arith, ints) in
+        let times = times_le (r +ℤ pos 1) a d next sign in
+        let more = more-times r d in
+        let near = is.near.below in
+        omega (arith, ints))
+
+-- ---- a mark depends on the value of the sum alone
+
+fits_moved : (x y : ℤ × ℤ) → y.1 ≢ pos 0 → SameValue y.0 y.1 x.0 x.1 → FitsIn64 x → FitsIn64 y
+fits_moved x y fraction same fits = record { numer = fits.numer; denom = fits.denom; low = held_lowest_moved _ _ x.0 x.1 y.0 y.1 fits.numer fits.denom fraction same fits.low }
+
+times_same : (a : ℤ) (x y : ℤ × ℤ) → SameValue y.0 y.1 x.0 x.1 → SameValue (a *ℤ y.0) y.1 (a *ℤ x.0) x.1
+times_same a x y same = mul_assoc a y.0 x.1 ∙ ap (λ (z : ℤ). a *ℤ z) same ∙ sym (mul_assoc a x.0 y.1)
+
+module _ (a : ℤ) (x y : ℤ × ℤ) (x_up : pos 0 <ℤ x.1) (y_up : pos 0 <ℤ y.1) (same : SameValue y.0 y.1 x.0 x.1) where
+  pub mark_moved : (sum : ℤ × ℤ) (mark : ℤ) → IsMark a x sum mark → IsMark a y sum mark
+  mark_moved sum mark is = record {
+    value = lowest_moved x.0 x.1 y.0 y.1 sum.0 sum.1 (positive_nonzero y.1 y_up) same is.value;
+    fits = fits_moved x y (positive_nonzero y.1 y_up) same is.fits;
+    times_fits = fits_moved (amount_times a x) (amount_times a y) (positive_nonzero y.1 y_up) (times_same a x y same) is.times_fits;
+    rounded = same_rounded (a *ℤ x.0) x.1 (a *ℤ y.0) y.1 mark x_up y_up (sym (times_same a x y same)) is.rounded;
+  }
+
+  pub both_fit : FitsIn64 y × FitsIn64 (amount_times a y) → FitsIn64 x × FitsIn64 (amount_times a x)
+  both_fit both = (
+    fits_moved y x (positive_nonzero x.1 x_up) (sym same) both.0,
+    fits_moved (amount_times a y) (amount_times a x) (positive_nonzero x.1 x_up) (sym (times_same a x y same)) both.1,
+  )
+
+-- the amount times a sum in lowest terms, as it is computed
+module _ (a : ℤ) (x s : ℤ × ℤ) (x_up : pos 0 <ℤ x.1) (low : IsLowestTermsOf x.0 x.1 s.0 s.1) where
+  computed_same : SameValue (s.0 *ℤ a) (s.1 *ℤ pos 1) (a *ℤ x.0) x.1
+  computed_same =
+      ap (λ (z : ℤ). z *ℤ x.1) (*ℤ_comm s.0 a) ∙ mul_assoc a s.0 x.1 ∙ ap (λ (z : ℤ). a *ℤ z) (sym low.same) ∙ sym (mul_assoc a x.0 s.1)
+      ∙ ap (λ (z : ℤ). (a *ℤ x.0) *ℤ z) (sym (times-one s.1))
+
+  denom_up : pos 0 <ℤ (s.1 *ℤ pos 1)
+  denom_up = rw (times-one s.1) low.lowest.positive
+
+  pub product_not_held : ¬ (FitsIn64 (s.0 *ℤ a, s.1 *ℤ pos 1)) → ¬ (FitsIn64 x × FitsIn64 (amount_times a x))
+  product_not_held out both = out (fits_moved (amount_times a x) (s.0 *ℤ a, s.1 *ℤ pos 1) (positive_nonzero (s.1 *ℤ pos 1) denom_up) computed_same both.1)
+
+  pub mark_is : (p : ℤ × ℤ) (mark : ℤ) → FitsIn64 x → IsHeldLowest (negsuc (2 ^ 63 - 1)) (pos (2 ^ 63 - 1)) (s.0 *ℤ a) (s.1 *ℤ pos 1) p.0 p.1 → IsRounded p.0 p.1 mark → IsMark a x s mark
+  mark_is p mark fits product rounded =
+      let held = held_lowest_moved _ _ (s.0 *ℤ a) (s.1 *ℤ pos 1) (a *ℤ x.0) x.1 p.0 p.1 (positive_nonzero x.1 x_up) (sym computed_same) product in
+      record {
+        value = low;
+        fits = fits;
+        times_fits = fits_by _ _ _ _ p.0 p.1 held;
+        rounded = same_rounded p.0 p.1 (a *ℤ x.0) x.1 mark product.terms.lowest.positive x_up (sym held.terms.same) rounded;
+      }
+
+-- ---- the sums of a list of shares
+
+pub total_next : {A : Type 0} (view : A → ℤ × ℤ) (xs : List A) (k : ℕ) (x : A) → k < length xs → x ≡ get_or xs k x → total_of view (take (k + 1) xs) ≡ sum_of (total_of view (take k xs)).0 (total_of view (take k xs)).1 (view x).0 (view x).1
+total_next view xs k x below is =
+    ap (λ n. total_of view (take n xs)) (add-one k)
+    ∙ ap (total_of view) (take-suc xs k x below ∙ ap (λ y. take k xs ++ y ∷ []) (sym is))
+    ∙ fold-append _ (pos 0, pos 1) (take k xs) (x ∷ [])
+
+-- the same value with one share more
+pub next_same : (t s y : ℤ × ℤ) → IsLowestTermsOf t.0 t.1 s.0 s.1 → SameValue (sum_of t.0 t.1 y.0 y.1).0 (sum_of t.0 t.1 y.0 y.1).1 (sum_of s.0 s.1 y.0 y.1).0 (sum_of s.0 s.1 y.0 y.1).1
+next_same t s y low = same_value_sums t.0 t.1 y.0 y.1 s.0 s.1 y.0 y.1 low.same refl
+
+-- a sum is 1 where its lowest terms are, and only there
+pub one_told : (x s : ℤ × ℤ) → IsLowestTermsOf x.0 x.1 s.0 s.1 → (x.0 ≡ x.1) ↔ (s.0 ≡ s.1)
+one_told x s low = (
+  λ e. mul_cancel s.0 s.1 x.1 low.fraction (sym low.same ∙ ap (λ (z : ℤ). z *ℤ s.1) e ∙ *ℤ_comm x.1 s.1),
+  λ e. mul_cancel x.0 x.1 s.1 (positive_nonzero s.1 low.lowest.positive) (low.same ∙ ap (λ (z : ℤ). z *ℤ x.1) e ∙ *ℤ_comm s.1 x.1),
+)
+
+-- the parts of the first k shares are written; their sum is the mark, the amount times the sum of these shares, rounded
+pub record IsSplitSoFar {A : Type 0} (view : A → ℤ × ℤ) (amount : ℤ) (shares : List A) (parts : List ℤ) (k : ℕ) (sum : ℤ × ℤ) (mark : ℤ) : Type 0 where
+  pub value : IsLowestTermsOf (total_of view (take k shares)).0 (total_of view (take k shares)).1 sum.0 sum.1
+  pub above : pos 0 ≤ℤ (total_of view (take k shares)).0
+  pub up : pos 0 <ℤ (total_of view (take k shares)).1
+  pub rounded : IsRounded (amount *ℤ (total_of view (take k shares)).0) (total_of view (take k shares)).1 mark
+  pub total : fold (λ sum part. sum +ℤ part) (pos 0) (take k parts) ≡ mark
+  pub near : (j : ℕ) → j < k → (share : A) (part : ℤ) → IsNearShare amount (view (slice_index_or shares j share)) (slice_index_or parts j part)
+
+-- what fits is answered
+pub mark_answered : {T : _} {i : _} {o : _} {e : _} {p : _} {h : _} (a : ℤ) (x : ℤ × ℤ) (r : Option (Reduced T i o e p h × ℤ)) → FitsIn64 x × FitsIn64 (amount_times a x) → ChecksMark a x r → IsSome r
+mark_answered a x None fits out = absurd (out fits)
+mark_answered a x (Some r) fits is = refl
+
+-- a part is held where the mark is
+pub part_held : (p q : ℤ) → ((pos 0 ≤ℤ p) × (p ≤ℤ q)) ⊎ ((q ≤ℤ p) × (p ≤ℤ pos 0)) → SFits w64 q → SFits w64 p
+part_held p q (inl h) fits = up p q h.0 h.1 fits
+  where
+    up : (p q : ℤ) → pos 0 ≤ℤ p → p ≤ℤ q → SFits w64 q → SFits w64 p
+    up (pos p) (pos q) low high fits = let small = fits.sfits in record { sfits = omega (arith, ints) }
+    up (pos p) (negsuc q) low high fits = absurd (omega (arith, ints))
+    up (negsuc p) q low high fits = absurd (omega (arith, ints))
+part_held p q (inr h) fits = down p q h.0 h.1 fits
+  where
+    down : (p q : ℤ) → q ≤ℤ p → p ≤ℤ pos 0 → SFits w64 q → SFits w64 p
+    down (pos zero) q low high fits = record { sfits = omega arith }
+    down (pos (suc p)) q low high fits = absurd (omega (arith, ints))
+    down (negsuc p) (negsuc q) low high fits = let small = fits.sfits in record { sfits = omega (arith, ints) }
+    down (negsuc p) (pos q) low high fits = absurd (omega (arith, ints))
+
+module _ {A : Type 0} (view : A → ℤ × ℤ) (amount : ℤ) (shares : List A) where
+  pub split_none : (parts : List ℤ) (sum : ℤ × ℤ) → sum.0 ≡ pos 0 → sum.1 ≡ pos 1 → IsSplitSoFar view amount shares parts 0 sum (pos 0)
+  split_none parts sum numer denom = record {
+    value = rw (numer, denom) (lowest_own (pos 0) (pos 1) (over_one (pos 0) (pos 1) refl));
+    above = omega (arith, ints);
+    up = omega (arith, ints);
+    rounded = first_mark amount;
+    total = refl;
+    near = λ j below. absurd (omega arith);
+  }
+
+  module _ (parts : List ℤ) (k : ℕ) (sum : ℤ × ℤ) (mark : ℤ) (share : A) (after : ℤ × ℤ) (next_mark : ℤ) (below : k < length shares) (room : k < length parts) (is : share ≡ get_or shares k share) (so_far : IsSplitSoFar view amount shares parts k sum mark) (share_up : pos 0 <ℤ (view share).1) (share_above : pos 0 ≤ℤ (view share).0) (marked : IsMark amount (sum_of (total_of view (take k shares)).0 (total_of view (take k shares)).1 (view share).0 (view share).1) after next_mark) where
+    next : total_of view (take (k + 1) shares) ≡ sum_of (total_of view (take k shares)).0 (total_of view (take k shares)).1 (view share).0 (view share).1
+    next = total_next view shares k share below is
+
+    pub next_near : IsNearShare amount (view share) (next_mark -ℤ mark)
+    next_near = near_share amount _ _ (view share).0 (view share).1 mark next_mark so_far.up share_up so_far.above share_above so_far.rounded marked.rounded
+
+    pub next_between : ((pos 0 ≤ℤ (next_mark -ℤ mark)) × ((next_mark -ℤ mark) ≤ℤ next_mark)) ⊎ ((next_mark ≤ℤ (next_mark -ℤ mark)) × ((next_mark -ℤ mark) ≤ℤ pos 0))
+    next_between = part_between amount _ _ (view share).0 (view share).1 mark next_mark so_far.up share_up so_far.above share_above so_far.rounded marked.rounded
+
+    total : fold (λ sum part. sum +ℤ part) (pos 0) (take (k + 1) (set parts k (next_mark -ℤ mark))) ≡ next_mark
+    total =
+        ap (λ n. fold (λ sum part. sum +ℤ part) (pos 0) (take n (set parts k (next_mark -ℤ mark)))) (add-one k)
+        ∙ ap (fold (λ sum part. sum +ℤ part) (pos 0)) (take-suc-set parts k (next_mark -ℤ mark) room)
+        ∙ fold-append _ (pos 0) (take k parts) ((next_mark -ℤ mark) ∷ [])
+        ∙ ap (λ (z : ℤ). z +ℤ (next_mark -ℤ mark)) so_far.total
+        ∙ omega (arith, ints)
+
+    kept : (j : ℕ) → j < k → (other : A) (part : ℤ) → IsNearShare amount (view (slice_index_or shares j other)) (slice_index_or (set parts k (next_mark -ℤ mark)) j part)
+    kept j less other part = let apart : j ≢ k = omega arith in rw get_or-set_other (so_far.near j less other part)
+
+    here : (other : A) (part : ℤ) → IsNearShare amount (view (slice_index_or shares k other)) (slice_index_or (set parts k (next_mark -ℤ mark)) k part)
+    here other part = rw get_or-set_same (subst (λ x. IsNearShare amount (view x) (next_mark -ℤ mark)) (is ∙ get_or_default shares k share other below) next_near)
+
+    pub split_more : IsSplitSoFar view amount shares (set parts k (next_mark -ℤ mark)) (k + 1) after next_mark
+    split_more = record {
+      value = subst (λ x. IsLowestTermsOf x.0 x.1 after.0 after.1) (sym next) marked.value;
+      above = subst (λ x. pos 0 ≤ℤ x.0) (sym next) (both_up _ _ (sign_up _ _ so_far.above (not_below _ share_up)) (sign_up _ _ share_above (not_below _ so_far.up)));
+      up = subst (λ x. pos 0 <ℤ x.1) (sym next) (mul_positive _ _ so_far.up share_up);
+      rounded = subst (λ x. IsRounded (amount *ℤ x.0) x.1 next_mark) (sym next) marked.rounded;
+      total = total;
+      near = below_more _ _ kept here;
+    }
+
+  pub split_whole : (parts : List ℤ) (k : ℕ) (sum : ℤ × ℤ) (mark : ℤ) → k ≡ length shares → length parts ≡ length shares → AddUpToOne view shares → IsSplitSoFar view amount shares parts k sum mark → IsSplit view amount shares parts
+  split_whole parts k sum mark whole alike one so_far =
+      let all : take k shares ≡ shares = ap (λ n. take n shares) whole ∙ take-length shares in
+      let every : take k parts ≡ parts = ap (λ n. take n parts) (whole ∙ sym alike) ∙ take-length parts in
+      let up = subst (λ xs. pos 0 <ℤ (total_of view xs).1) all so_far.up in
+      let rounded = subst (λ xs. IsRounded (amount *ℤ (total_of view xs).0) (total_of view xs).1 mark) all so_far.rounded in
+      let last : mark ≡ amount = last_mark amount (total_of view shares).1 mark up (subst (λ z. IsRounded (amount *ℤ z) (total_of view shares).1 mark) one rounded) in
+      record {
+        total = ap (fold (λ sum part. sum +ℤ part) (pos 0)) (sym every) ∙ so_far.total ∙ last;
+        near = λ j less. so_far.near j (omega arith);
+      }

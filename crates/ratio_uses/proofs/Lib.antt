@@ -1,0 +1,4 @@
+pub mod ChainOrder
+pub mod ConversionLemmas
+pub mod LedgerLemmas
+pub mod OctaveLemmas

@@ -1,0 +1,4 @@
+pub mod Held
+pub mod Gears
+pub mod Ledger
+pub mod Units

@@ -1,0 +1,67 @@
+-- Amounts converted by a chain of rates, and intervals brought into one octave.
+use Rattle.std.specs.Prelude.{◌≡◌, ◌⊎◌, ◌+◌, ◌<◌, ◌^◌, ◌≤ℤ◌, ◌<ℤ◌, ◌*ℤ◌, ℕ, ℤ, pos, List, [], ◌∷◌, length, take, Option, Some, None, IsPermutation}
+use Rattle.ratio_integer.specs.Fraction.{IsLowestTermsOf, SameValue}
+use Rattle.num_rational.specs.declared.reduced.Reduced.{Reduced}
+use Rattle.ratio_uses.specs.Held.{FitsIn64, HasValue, pair_of}
+
+-- the product of a whole number of each item
+abbrev pub product_by : {A : Type 0} → (A → ℤ) → List A → ℤ
+product_by f [] = pos 1
+product_by f (x ∷ xs) = f x *ℤ product_by f xs
+
+-- an amount times all rates: a product of numerators over one of denominators
+abbrev pub converted : {A : Type 0} → (A → ℤ × ℤ) → ℤ × ℤ → List A → ℤ × ℤ
+converted view amount rates = (amount.0 *ℤ product_by (λ rate. (view rate).0) rates, amount.1 *ℤ product_by (λ rate. (view rate).1) rates)
+
+-- the amount times the first rate, times the first two, and so on to all of them, fits in 64 bits each time
+abbrev pub EachStepFits : {A : Type 0} → (A → ℤ × ℤ) → ℤ × ℤ → List A → Type 0
+EachStepFits view amount rates = (k : ℕ) → k < length rates → FitsIn64 (converted view amount (take (k + 1) rates))
+
+-- the answer is the amount times all rates where each step fits, and `None` where one does not
+abbrev pub ChecksConversion : {A : Type 0} {T : _} {i : _} {o : _} {e : _} {p : _} {h : _} → (A → ℤ × ℤ) → ℤ × ℤ → List A → Option (Reduced T i o e p h) → Type 0
+ChecksConversion view amount rates None = ¬ (EachStepFits view amount rates)
+ChecksConversion view amount rates (Some r) = EachStepFits view amount rates × HasValue (converted view amount rates) r
+
+-- the same rates in another order convert an amount to the same one
+abbrev pub OrderIsFree : Type 0
+OrderIsFree =
+    (amount : ℤ × ℤ) (rates others : List (ℤ × ℤ)) (x y : ℤ × ℤ)
+    → IsPermutation rates others
+    → IsLowestTermsOf (converted (λ rate. rate) amount rates).0 (converted (λ rate. rate) amount rates).1 x.0 x.1
+    → IsLowestTermsOf (converted (λ rate. rate) amount others).0 (converted (λ rate. rate) amount others).1 y.0 y.1
+    → x ≡ y
+
+-- y is x doubled or halved some times, at least 1 and below 2
+pub record IsInOctave (x y : ℤ × ℤ) : Type 0 where
+  pub doublings : ℕ
+  pub halvings : ℕ
+  pub same : SameValue (x.0 *ℤ pos (2 ^ doublings)) (x.1 *ℤ pos (2 ^ halvings)) y.0 y.1
+  pub at_least_one : y.1 ≤ℤ y.0
+  pub below_two : y.0 <ℤ (pos 2 *ℤ y.1)
+
+-- the interval doubled some times is still below 1, and doubled once more it does not fit
+pub record DoublingFails (x : ℤ × ℤ) : Type 0 where
+  pub doublings : ℕ
+  pub below_one : (x.0 *ℤ pos (2 ^ doublings)) <ℤ x.1
+  pub out : ¬ (FitsIn64 (x.0 *ℤ pos (2 ^ (doublings + 1)), x.1))
+
+-- the answer is the interval in the octave from 1 to 2; it is `None` only where the interval is not above 0, or a doubling fails
+abbrev pub ChecksOctave : {T : _} {i : _} {o : _} {e : _} {p : _} {h : _} → ℤ × ℤ → Option (Reduced T i o e p h) → Type 0
+ChecksOctave x None = (x.0 ≤ℤ pos 0) ⊎ DoublingFails x
+ChecksOctave x (Some r) = IsInOctave x (pair_of r)
+
+-- y is x doubled some times: an inner step
+pub record IsDoubled (x y : ℤ × ℤ) : Type 0 where
+  pub doublings : ℕ
+  pub value : IsLowestTermsOf (x.0 *ℤ pos (2 ^ doublings)) x.1 y.0 y.1
+
+-- the answer is x doubled some times and at least 1, and `None` only where a doubling fails: an inner step
+abbrev pub ChecksDoubled : {T : _} {i : _} {o : _} {e : _} {p : _} {h : _} → ℤ × ℤ → Option (Reduced T i o e p h) → Type 0
+ChecksDoubled x None = DoublingFails x
+ChecksDoubled x (Some r) = IsDoubled x (pair_of r) × ((pair_of r).1 ≤ℤ (pair_of r).0)
+
+-- y is x halved some times, and at least 1: an inner step
+pub record IsHalved (x y : ℤ × ℤ) : Type 0 where
+  pub halvings : ℕ
+  pub value : IsLowestTermsOf x.0 (x.1 *ℤ pos (2 ^ halvings)) y.0 y.1
+  pub at_least_one : y.1 ≤ℤ y.0

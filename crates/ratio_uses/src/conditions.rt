@@ -1,0 +1,25 @@
+//! Callers of `Ratio`, which show what its calls ask.
+ghost use Rattle.num_rational.specs.Folds.{ArePositive};
+ghost use Rattle.num_rational.specs.Operators.{numbers};
+
+use num_rational::Rational64;
+
+/// The sum of two shares, where its lowest terms fit.
+pub fn together(left: &Rational64, right: &Rational64) -> Option<Rational64> {
+    if *left.denom() > 0 && *right.denom() > 0 {
+        left.checked_add(right)
+    } else {
+        None
+    }
+}
+
+/// The product of the rates, where each product on the way fits.
+pub fn chained(rates: &[Rational64]) -> Option<Rational64>
+    requires { ArePositive numbers rates.now }
+{
+    let mut product = Rational64::one();
+    for rate in rates {
+        product = product.checked_mul(rate)?;
+    }
+    Some(product)
+}

@@ -1,0 +1,87 @@
+//! An amount split by shares, so that no cent is lost.
+ghost use Rattle.std.specs.Prelude.{◌≡◌, ◌↔◌, length, IfErr, IsTrue, MatchResult, OnErr, OnOk};
+ghost use Rattle.ratio_integer.specs.Arithmetic.{sum_of};
+ghost use Rattle.ratio_uses.specs.Held.{pair_of};
+ghost use Rattle.ratio_uses.specs.Ledger.{AddUpToOne, CanSplit, ChecksMark, IsSplit, NoneIsBelowZero, RefusesSplit, SumsFit, SumsRefuse};
+
+use num_rational::Reduced64;
+
+/// Why an amount is not split: the first of these that applies.
+#[derive(Clone, Copy, Debug, PartialEq, Eq)]
+pub enum Refusal {
+    /// There are not as many parts as shares.
+    Length,
+    /// A share is below 0.
+    BelowZero,
+    /// A sum of the first shares, or the amount times such a sum, does not fit in 64 bits.
+    NotHeld,
+    /// The shares do not add up to 1.
+    NotOne,
+}
+
+/// Splits the amount by the shares into the parts: these add up to the amount exactly, and each is less than 1 away
+/// from the amount times its share. At a refusal no part has changed. The sums of the first shares, times the
+/// amount, are rounded with a half away from 0; a part is the difference of two neighbours.
+pub fn split(amount: i64, shares: &[Reduced64], parts: &mut [i64]) -> Result<(), Refusal>
+    ensures ok { OnOk result (CanSplit pair_of amount shares.now (length parts.old) × IsSplit pair_of amount shares.now parts.new) }
+    ensures refused { IfErr result (λ why. RefusesSplit pair_of amount shares.now (length parts.old) why) }
+    ensures unchanged { OnErr result (parts.new ≡ parts.old) }
+{
+    if parts.len() != shares.len() {
+        return Err(Refusal::Length);
+    }
+    if !none_is_below_zero(shares) {
+        return Err(Refusal::BelowZero);
+    }
+    check_sums(amount, shares)?;
+    write_parts(amount, shares, parts);
+    Ok(())
+}
+
+fn none_is_below_zero(shares: &[Reduced64]) -> bool
+    ensures { IsTrue result ↔ NoneIsBelowZero pair_of shares.now }
+{
+    shares.iter().all(|share| *share.numer() >= 0)
+}
+
+// The sum with one share more, and the amount times it, rounded.
+fn next_mark(amount: i64, sum: &Reduced64, share: &Reduced64) -> Option<(Reduced64, i64)>
+    ensures { ChecksMark amount (sum_of (pair_of sum.now).0 (pair_of sum.now).1 (pair_of share.now).0 (pair_of share.now).1) result }
+{
+    let sum = sum.checked_add(share)?;
+    let rounded = sum.checked_mul(amount)?.round();
+    Some((sum, *rounded.numer()))
+}
+
+// Whether each sum of the first shares, and the amount times it, fits, and the last is 1.
+fn check_sums(amount: i64, shares: &[Reduced64]) -> Result<(), Refusal>
+    ensures { MatchResult result (λ _. SumsFit pair_of amount shares.now × AddUpToOne pair_of shares.now) (λ why. SumsRefuse pair_of amount shares.now why) }
+{
+    let mut sum = Reduced64::zero();
+    for share in shares {
+        match next_mark(amount, &sum, share) {
+            Some((next, _)) => sum = next,
+            None => return Err(Refusal::NotHeld),
+        }
+    }
+    if *sum.numer() == *sum.denom() {
+        Ok(())
+    } else {
+        Err(Refusal::NotOne)
+    }
+}
+
+// The parts, where no refusal applies.
+fn write_parts(amount: i64, shares: &[Reduced64], parts: &mut [i64])
+    requires { CanSplit pair_of amount shares.now (length parts.old) }
+    ensures { IsSplit pair_of amount shares.now parts.new }
+{
+    let mut sum = Reduced64::zero();
+    let mut mark = 0;
+    for (i, share) in shares.iter().enumerate() {
+        let (next, next_mark) = next_mark(amount, &sum, share).unwrap();
+        parts[i] = next_mark - mark;
+        sum = next;
+        mark = next_mark;
+    }
+}

@@ -1,0 +1,12 @@
+//! Small programs over fractions, each with one theorem in its user's words: wheels whose ratio of teeth is near a wanted
+//! one, an amount split by shares, and chains of rates; and the functions that the README and `CALLING.md` show.
+#![tactic(auto)]
+
+pub mod callers;
+pub mod conditions;
+pub mod gears;
+pub mod ledger;
+pub mod readme;
+#[cfg(test)]
+mod tests;
+pub mod units;

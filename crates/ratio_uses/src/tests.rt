@@ -1,0 +1,184 @@
+//! Rows from outside, through the public calls.
+use crate::callers::{greatest, mean};
+use crate::conditions::{chained, together};
+use crate::gears::nearest_pair;
+use crate::ledger::{Refusal, split};
+use crate::readme::{faster, third_of, total};
+use crate::units::{convert, in_octave};
+use num_rational::{Rational64, Reduced64};
+use std::cmp::Ordering;
+use std::process::Abort;
+
+// The fraction of these two numbers.
+fn frac(rt: &impl Abort, numer: i64, denom: i64) -> Reduced64 {
+    Reduced64::checked_new(numer, denom).expect(rt, "the row is a fraction")
+}
+
+// The answer has these fields, or there is none.
+fn answers(rt: &impl Abort, answer: Option<Reduced64>, want: Option<(i64, i64)>) {
+    let fields = answer.map(|x| x.into_raw());
+    assert!(rt; fields == want, "{fields:?}, not {want:?}");
+}
+
+fn holds(rt: &impl Abort, what: &str, fact: bool) {
+    assert!(rt; fact, "{what}");
+}
+
+// The teeth of both wheels, or none.
+fn teeth(wanted: &Reduced64, most: i64) -> Option<(i64, i64)> {
+    let gears = nearest_pair(wanted, most)?;
+    Some((gears.first, gears.second))
+}
+
+#[test]
+fn test_gears(rt: HostRuntime) {
+    let golden = frac(&rt, 1618033988, 1000000000);
+    holds(&rt, "golden", teeth(&golden, 100) == Some((144, 89)));
+    let off = nearest_pair(&golden, 100).and_then(|gears| gears.off);
+    answers(&rt, off, Some((1256233, 22250000000)));
+    holds(&rt, "own", teeth(&frac(&rt, 52, 14), 7) == Some((26, 7)));
+    holds(&rt, "no tooth", teeth(&frac(&rt, 1, 21), 10) == None);
+    holds(&rt, "below 0", teeth(&frac(&rt, -3, 2), 10) == None);
+    holds(&rt, "no wheel", teeth(&golden, 0) == None);
+}
+
+// What is answered, and the parts that are then there.
+fn splits(
+    rt: &impl Abort,
+    amount: i64,
+    shares: &[Reduced64],
+    parts: &mut [i64],
+    want: Result<(), Refusal>,
+    want_parts: &[i64],
+) {
+    let answer = split(amount, shares, parts);
+    assert!(rt;
+        answer == want && *parts == *want_parts,
+        "{answer:?}, {parts:?}"
+    );
+}
+
+#[test]
+fn test_ledger(rt: HostRuntime) {
+    let third = frac(&rt, 1, 3);
+    let half = frac(&rt, 1, 2);
+    let seventh = frac(&rt, 1, 7);
+    splits(&rt, 100, &[third; 3], &mut [0; 3], Ok(()), &[33, 34, 33]);
+    splits(
+        &rt,
+        1,
+        &[seventh; 7],
+        &mut [9; 7],
+        Ok(()),
+        &[0, 0, 0, 1, 0, 0, 0],
+    );
+    splits(&rt, -100, &[half; 2], &mut [0; 2], Ok(()), &[-50, -50]);
+    let halves = [4611686018427387904, 4611686018427387903];
+    splits(&rt, i64::MAX, &[half; 2], &mut [0; 2], Ok(()), &halves);
+    splits(
+        &rt,
+        100,
+        &[third; 2],
+        &mut [7, 8],
+        Err(Refusal::NotOne),
+        &[7, 8],
+    );
+    splits(&rt, 100, &[third; 2], &mut [7], Err(Refusal::Length), &[7]);
+    let owed = frac(&rt, -1, 2);
+    let shares = [half, half, owed, half];
+    splits(
+        &rt,
+        1,
+        &shares,
+        &mut [1, 2, 3, 4],
+        Err(Refusal::BelowZero),
+        &[1, 2, 3, 4],
+    );
+    let fine = frac(&rt, 2, 5);
+    let rest = frac(&rt, 3, 5);
+    splits(
+        &rt,
+        i64::MAX,
+        &[fine, rest],
+        &mut [1, 2],
+        Err(Refusal::NotHeld),
+        &[1, 2],
+    );
+    splits(&rt, 0, &[], &mut [], Err(Refusal::NotOne), &[]);
+}
+
+#[test]
+fn test_units(rt: HostRuntime) {
+    let mile = frac(&rt, 1, 1);
+    let feet = frac(&rt, 5280, 1);
+    let inches = frac(&rt, 12, 1);
+    answers(&rt, convert(&mile, &[feet, inches]), Some((63360, 1)));
+    answers(
+        &rt,
+        convert(&frac(&rt, 100, 1), &[frac(&rt, 1, 12)]),
+        Some((25, 3)),
+    );
+    answers(
+        &rt,
+        convert(&frac(&rt, i64::MAX, 1), &[inches, frac(&rt, 1, 12)]),
+        None,
+    );
+    answers(&rt, convert(&feet, &[]), Some((5280, 1)));
+}
+
+#[test]
+fn test_octaves(rt: HostRuntime) {
+    let fifth = frac(&rt, 3, 2);
+    answers(&rt, in_octave(&fifth), Some((3, 2)));
+    answers(
+        &rt,
+        convert(&fifth, &[fifth; 1]).and_then(|x| in_octave(&x)),
+        Some((9, 8)),
+    );
+    answers(
+        &rt,
+        convert(&fifth, &[fifth; 2]).and_then(|x| in_octave(&x)),
+        Some((27, 16)),
+    );
+    answers(
+        &rt,
+        convert(&fifth, &[fifth; 3]).and_then(|x| in_octave(&x)),
+        Some((81, 64)),
+    );
+    answers(
+        &rt,
+        convert(&fifth, &[fifth; 4]).and_then(|x| in_octave(&x)),
+        Some((243, 128)),
+    );
+    answers(
+        &rt,
+        convert(&fifth, &[fifth; 5]).and_then(|x| in_octave(&x)),
+        Some((729, 512)),
+    );
+    answers(&rt, in_octave(&frac(&rt, 1, 3)), Some((4, 3)));
+    answers(&rt, in_octave(&frac(&rt, 2, 1)), Some((1, 1)));
+    answers(&rt, in_octave(&Reduced64::zero()), None);
+}
+
+#[test]
+fn test_callers(rt: HostRuntime) {
+    let third = frac(&rt, 1, 3);
+    let half = frac(&rt, 1, 2);
+    answers(&rt, total(&[third, half, third]), Some((7, 6)));
+    answers(&rt, greatest(&[third, half, third]), Some((1, 2)));
+    answers(&rt, mean(&third, &half), Some((5, 12)));
+    let text = third_of("2/2");
+    holds(&rt, "third", text == Ok(Some(third)));
+    holds(&rt, "faster", faster(&third, &half) == Ordering::Less);
+    let (two, three) = (Rational64::from_integer(2), Rational64::from_integer(3));
+    holds(
+        &rt,
+        "together",
+        together(&two, &three) == Some(Rational64::from_integer(5)),
+    );
+    holds(
+        &rt,
+        "chained",
+        chained(&[two, three]) == Some(Rational64::from_integer(6)),
+    );
+}

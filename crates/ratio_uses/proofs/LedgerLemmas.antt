@@ -30,7 +30,7 @@ times-one a = *ℤ-one a
 less_or_not : (x y : ℤ) → (x <ℤ y) ⊎ (y ≤ℤ x)
 less_or_not x y = grind (arith, ints)
 
-cancel_less : (x y d : ℤ) → pos 0 <ℤ d → (x *ℤ d) <ℤ (y *ℤ d) → x <ℤ y
+pub cancel_less : (x y d : ℤ) → pos 0 <ℤ d → (x *ℤ d) <ℤ (y *ℤ d) → x <ℤ y
 cancel_less x y d up less = cases (less_or_not x y)
   where
     cases : (x <ℤ y) ⊎ (y ≤ℤ x) → x <ℤ y

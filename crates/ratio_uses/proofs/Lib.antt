@@ -1,3 +1,4 @@
+pub mod BeatLemmas
 pub mod ChainOrder
 pub mod ConversionLemmas
 pub mod LedgerLemmas

@@ -23,7 +23,7 @@ use Rattle.ratio_uses.proofs.ConversionLemmas.{product_out}
 
 -- ---- fractions of one value stand alike to 1
 
-less_times : (a b d : ℤ) → a <ℤ b → pos 0 <ℤ d → (a *ℤ d) <ℤ (b *ℤ d)
+pub less_times : (a b d : ℤ) → a <ℤ b → pos 0 <ℤ d → (a *ℤ d) <ℤ (b *ℤ d)
 less_times a b d less up =
     let next : (a +ℤ pos 1) ≤ℤ b = omega (arith, ints) in
     let sign : pos 0 ≤ℤ d = omega (arith, ints) in

@@ -1,4 +1,6 @@
 pub mod Held
 pub mod Gears
+pub mod Beats
+pub mod Walk
 pub mod Ledger
 pub mod Units

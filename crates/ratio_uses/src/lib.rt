@@ -1,7 +1,9 @@
 //! Small programs over fractions, each with one theorem in its user's words: wheels whose ratio of teeth is near a wanted
-//! one, an amount split by shares, and chains of rates; and the functions that the README and `CALLING.md` show.
+//! one, an amount split by shares, the beats of two voices, and chains of rates; and the functions that the README and
+//! `CALLING.md` show.
 #![tactic(auto)]
 
+pub mod beats;
 pub mod callers;
 pub mod conditions;
 pub mod gears;

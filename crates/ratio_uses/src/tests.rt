@@ -1,4 +1,5 @@
 //! Rows from outside, through the public calls.
+use crate::beats::{Beats, Voice};
 use crate::callers::{greatest, mean};
 use crate::conditions::{chained, together};
 use crate::gears::nearest_pair;
@@ -180,5 +181,42 @@ fn test_callers(rt: HostRuntime) {
         &rt,
         "chained",
         chained(&[two, three]) == Some(Rational64::from_integer(6)),
+    );
+}
+
+// The next beat is at this time and of this voice.
+fn beats(rt: &impl Abort, beats: &mut Beats, want: (i64, i64), want_voice: Voice) {
+    let beat = beats.next().expect(rt, "a beat follows");
+    let (fields, voice) = (beat.time.into_raw(), beat.voice);
+    assert!(rt;
+        fields == want && voice == want_voice,
+        "{fields:?}, {voice:?}"
+    );
+}
+
+#[test]
+fn test_beats(rt: HostRuntime) {
+    let (third, quarter) = (frac(&rt, 1, 3), frac(&rt, 1, 4));
+    let mut voices = Beats::new(third, quarter).expect(&rt, "both periods are above 0");
+    beats(&rt, &mut voices, (1, 4), Voice::Second);
+    beats(&rt, &mut voices, (1, 3), Voice::First);
+    beats(&rt, &mut voices, (1, 2), Voice::Second);
+    beats(&rt, &mut voices, (2, 3), Voice::First);
+    beats(&rt, &mut voices, (3, 4), Voice::Second);
+    beats(&rt, &mut voices, (1, 1), Voice::Both);
+    holds(
+        &rt,
+        "counts",
+        voices.first_count == 3 && voices.second_count == 4,
+    );
+    let never = Reduced64::zero();
+    holds(&rt, "no period", Beats::new(third, never).is_none());
+    let late = Reduced64::from_integer(i64::MAX);
+    let mut voices = Beats::new(late, late).expect(&rt, "both periods are above 0");
+    beats(&rt, &mut voices, (i64::MAX, 1), Voice::Both);
+    holds(
+        &rt,
+        "held",
+        voices.next().is_none() && voices.first_count == 1,
     );
 }

@@ -1,19 +1,30 @@
 //! The calculator on standard input and standard output.
 #![tactic(auto)]
 
+ghost use Rattle.std.specs.Prelude.{◌≡◌, MatchResult};
+ghost use Rattle.std.specs.Process.{exit_status};
+
 use ratio_lines::calculator::run;
 use ratio_lines::counted::Counted;
-use ratio_lines::fault::fault_line;
+use ratio_lines::fault::{CalcFault, fault_line};
 use std::process::ExitCode;
 
 fn main(rt: HostRuntime) -> ExitCode {
     let mut reader = Counted::new(rt.stdin());
     let mut writer = Counted::new(rt.stdout());
-    match run(&mut reader, &mut writer) {
+    let outcome = run(&mut reader, &mut writer);
+    if let Err(fault) = outcome {
+        let _ = rt.eprintln(fault_line(fault));
+    }
+    status_of(outcome)
+}
+
+// The program's status: 0 where all lines were answered, 1 at a fault.
+fn status_of(outcome: Result<(), CalcFault>) -> ExitCode
+    ensures { MatchResult outcome (λ _. exit_status result ≡ 0) (λ _. exit_status result ≡ 1) }
+{
+    match outcome {
         Ok(()) => ExitCode::SUCCESS,
-        Err(fault) => {
-            let _ = rt.eprintln(fault_line(fault));
-            ExitCode::FAILURE
-        }
+        Err(_) => ExitCode::FAILURE,
     }
 }

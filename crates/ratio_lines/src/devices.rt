@@ -34,6 +34,7 @@ impl<'a> Feed<'a> {
     /// A reader that fails once it gave `left` bytes.
     pub fn failing(bytes: &'a [u8], step: usize, left: usize, kind: ErrorKind) -> Feed<'a>
         requires { 0 < step }
+        ensures { (result.bytes.now ≡ bytes.now) × (result.left ≡ Some left) }
     {
         Feed {
             bytes,
@@ -96,7 +97,9 @@ impl Sink {
     }
 
     /// A writer that takes no more than `left` bytes.
-    pub fn refusing(alloc: Global, step: usize, left: usize, refusal: Refusal) -> Sink {
+    pub fn refusing(alloc: Global, step: usize, left: usize, refusal: Refusal) -> Sink
+        ensures { (result.bytes.items ≡ []) × (result.left ≡ Some left) }
+    {
         Sink {
             bytes: Vec::new(alloc),
             step,
@@ -107,7 +110,9 @@ impl Sink {
     }
 
     /// A writer whose flush fails.
-    pub fn unflushed(alloc: Global, kind: ErrorKind) -> Sink {
+    pub fn unflushed(alloc: Global, kind: ErrorKind) -> Sink
+        ensures { result.bytes.items ≡ [] }
+    {
         Sink {
             bytes: Vec::new(alloc),
             step: usize::MAX,

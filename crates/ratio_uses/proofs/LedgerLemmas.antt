@@ -1,10 +1,10 @@
 -- Rounded running sums: neighbours differ by less than 1 more or less than the exact share, and the last is the amount.
 use Rattle.std.specs.Prelude.{◌≡◌, ◌≢◌, ◌⊎◌, ◌↔◌, ◌+◌, ◌-◌, ◌^◌, ◌<◌, ◌≤◌, ◌≤ℤ◌, ◌<ℤ◌, ◌+ℤ◌, ◌-ℤ◌, ◌*ℤ◌, ℕ, ℤ, zero, suc, pos, negsuc, neg_ℤ, unsigned_abs, List, [], ◌∷◌, ◌++◌, fold, length, slice_index_or, take, IsSome, None, Option, Some}
 use Rattle.std.proofs.Common.{refl, sym, ap, subst, ◌∙◌, arith, inl, inr, add-one, get_or}
-use Rattle.std.proofs.Math.Seq.{take-length, take-suc, take-suc-set}
+use Rattle.std.proofs.Math.Seq.{take-length, take-suc}
 use Rattle.std.proofs.Math.ListN.{set}
 use Rattle.std.proofs.lemmas.Int.{ints}
-use Rattle.std.proofs.lemmas.List.{get_or_default, get_or-set_other, get_or-set_same}
+use Rattle.std.proofs.lemmas.List.{get_or_default, get_or-set_other, get_or-set_same, take-set-le, take_more_set}
 use Rattle.std.proofs.lemmas.List.Sums.{fold-append}
 use borrow.Author.Count.{below_more}
 use mir.Syntax.{w64}
@@ -21,7 +21,7 @@ use Rattle.ratio_core.proofs.RoundingLawLemmas.{same_rounded}
 use Rattle.ratio_core.proofs.SumLemmas.{fits_by}
 use Rattle.num_rational.specs.declared.reduced.Reduced.{Reduced}
 use Rattle.ratio_uses.specs.Held.{FitsIn64}
-use Rattle.ratio_uses.specs.Ledger.{AddUpToOne, ChecksMark, IsMark, IsNearShare, IsSplit, amount_times, total_of}
+use Rattle.ratio_uses.specs.Ledger.{AddUpToOne, ChecksMark, IsMark, IsMarkOf, IsNearShare, IsSplit, added, amount_times, total_of}
 
 times-one : (a : ℤ) → a *ℤ pos 1 ≡ a
 unfolding one
@@ -284,8 +284,9 @@ pub record IsSplitSoFar {A : Type 0} (view : A → ℤ × ℤ) (amount : ℤ) (s
   pub value : IsLowestTermsOf (total_of view (take k shares)).0 (total_of view (take k shares)).1 sum.0 sum.1
   pub above : pos 0 ≤ℤ (total_of view (take k shares)).0
   pub up : pos 0 <ℤ (total_of view (take k shares)).1
-  pub rounded : IsRounded (amount *ℤ (total_of view (take k shares)).0) (total_of view (take k shares)).1 mark
-  pub total : fold (λ sum part. sum +ℤ part) (pos 0) (take k parts) ≡ mark
+  pub rounded : IsMarkOf amount (total_of view (take k shares)) mark
+  pub total : added (take k parts) ≡ mark
+  pub marks : (j : ℕ) → j < k → IsMarkOf amount (total_of view (take (j + 1) shares)) (added (take (j + 1) parts))
   pub near : (j : ℕ) → j < k → (share : A) (part : ℤ) → IsNearShare amount (view (slice_index_or shares j share)) (slice_index_or parts j part)
 
 -- what fits is answered
@@ -317,6 +318,7 @@ module _ {A : Type 0} (view : A → ℤ × ℤ) (amount : ℤ) (shares : List A)
     up = omega (arith, ints);
     rounded = first_mark amount;
     total = refl;
+    marks = λ j below. absurd (omega arith);
     near = λ j below. absurd (omega arith);
   }
 
@@ -330,10 +332,9 @@ module _ {A : Type 0} (view : A → ℤ × ℤ) (amount : ℤ) (shares : List A)
     pub next_between : ((pos 0 ≤ℤ (next_mark -ℤ mark)) × ((next_mark -ℤ mark) ≤ℤ next_mark)) ⊎ ((next_mark ≤ℤ (next_mark -ℤ mark)) × ((next_mark -ℤ mark) ≤ℤ pos 0))
     next_between = part_between amount _ _ (view share).0 (view share).1 mark next_mark so_far.up share_up so_far.above share_above so_far.rounded marked.rounded
 
-    total : fold (λ sum part. sum +ℤ part) (pos 0) (take (k + 1) (set parts k (next_mark -ℤ mark))) ≡ next_mark
+    total : added (take (k + 1) (set parts k (next_mark -ℤ mark))) ≡ next_mark
     total =
-        ap (λ n. fold (λ sum part. sum +ℤ part) (pos 0) (take n (set parts k (next_mark -ℤ mark)))) (add-one k)
-        ∙ ap (fold (λ sum part. sum +ℤ part) (pos 0)) (take-suc-set parts k (next_mark -ℤ mark) room)
+        ap added (take_more_set parts k (next_mark -ℤ mark) room)
         ∙ fold-append _ (pos 0) (take k parts) ((next_mark -ℤ mark) ∷ [])
         ∙ ap (λ (z : ℤ). z +ℤ (next_mark -ℤ mark)) so_far.total
         ∙ omega (arith, ints)
@@ -344,13 +345,23 @@ module _ {A : Type 0} (view : A → ℤ × ℤ) (amount : ℤ) (shares : List A)
     here : (other : A) (part : ℤ) → IsNearShare amount (view (slice_index_or shares k other)) (slice_index_or (set parts k (next_mark -ℤ mark)) k part)
     here other part = rw get_or-set_same (subst (λ x. IsNearShare amount (view x) (next_mark -ℤ mark)) (is ∙ get_or_default shares k share other below) next_near)
 
+    next_rounded : IsMarkOf amount (total_of view (take (k + 1) shares)) next_mark
+    next_rounded = subst (λ x. IsMarkOf amount x next_mark) (sym next) marked.rounded
+
+    mark_kept : (j : ℕ) → j < k → IsMarkOf amount (total_of view (take (j + 1) shares)) (added (take (j + 1) (set parts k (next_mark -ℤ mark))))
+    mark_kept j less = subst (λ ps. IsMarkOf amount (total_of view (take (j + 1) shares)) (added ps)) (sym (take-set-le (j + 1) parts k (next_mark -ℤ mark) (omega arith))) (so_far.marks j less)
+
+    mark_here : IsMarkOf amount (total_of view (take (k + 1) shares)) (added (take (k + 1) (set parts k (next_mark -ℤ mark))))
+    mark_here = subst (IsMarkOf amount (total_of view (take (k + 1) shares))) (sym total) next_rounded
+
     pub split_more : IsSplitSoFar view amount shares (set parts k (next_mark -ℤ mark)) (k + 1) after next_mark
     split_more = record {
       value = subst (λ x. IsLowestTermsOf x.0 x.1 after.0 after.1) (sym next) marked.value;
       above = subst (λ x. pos 0 ≤ℤ x.0) (sym next) (both_up _ _ (sign_up _ _ so_far.above (not_below _ share_up)) (sign_up _ _ share_above (not_below _ so_far.up)));
       up = subst (λ x. pos 0 <ℤ x.1) (sym next) (mul_positive _ _ so_far.up share_up);
-      rounded = subst (λ x. IsRounded (amount *ℤ x.0) x.1 next_mark) (sym next) marked.rounded;
+      rounded = next_rounded;
       total = total;
+      marks = below_more _ _ mark_kept mark_here;
       near = below_more _ _ kept here;
     }
 
@@ -363,5 +374,6 @@ module _ {A : Type 0} (view : A → ℤ × ℤ) (amount : ℤ) (shares : List A)
       let last : mark ≡ amount = last_mark amount (total_of view shares).1 mark up (subst (λ z. IsRounded (amount *ℤ z) (total_of view shares).1 mark) one rounded) in
       record {
         total = ap (fold (λ sum part. sum +ℤ part) (pos 0)) (sym every) ∙ so_far.total ∙ last;
+        rounded = λ j less. so_far.marks j (omega arith);
         near = λ j less. so_far.near j (omega arith);
       }

@@ -3,7 +3,7 @@ use Rattle.std.specs.Prelude.{◌≡◌, ◌-◌, ◌^◌, ◌≤ℤ◌, ◌<ℤ
 use Rattle.ratio_integer.specs.Fraction.{IsLowestTermsOf}
 use Rattle.ratio_integer.specs.Range.{IsHeld}
 use Rattle.num_rational.specs.declared.reduced.Reduced.{Reduced}
-use Rattle.ratio_uses.specs.Held.{FitsIn64, HasValue, pair_of}
+use Rattle.ratio_uses.specs.Held.{FitsIn64, HasValue}
 use Rattle.ratio_uses.specs.declared.beats.Voice.{Voice}
 use Rattle.ratio_uses.specs.declared.beats.Voice.TheVariants.{Both, First, Second}
 

@@ -48,9 +48,19 @@ pub record IsNearShare (amount : ℤ) (share : ℤ × ℤ) (part : ℤ) : Type 0
   pub above : (amount *ℤ share.0 -ℤ share.1) <ℤ (part *ℤ share.1)
   pub below : (part *ℤ share.1) <ℤ (amount *ℤ share.0 +ℤ share.1)
 
--- the parts add up to the amount, and each is less than 1 away from the amount times its share
+-- the mark is the amount times a fraction, rounded to the nearest whole number, a half away from 0
+abbrev pub IsMarkOf : ℤ → ℤ × ℤ → ℤ → Type 0
+IsMarkOf amount x mark = IsRounded (amount *ℤ x.0) x.1 mark
+
+-- what the parts add up to
+abbrev pub added : List ℤ → ℤ
+added parts = fold (λ sum part. sum +ℤ part) (pos 0) parts
+
+-- the parts add up to the amount; the first k of them add up to the amount times the first k shares, rounded; and each is less than 1 away from the
+-- amount times its share
 pub record IsSplit {A : Type 0} (view : A → ℤ × ℤ) (amount : ℤ) (shares : List A) (parts : List ℤ) : Type 0 where
-  pub total : fold (λ sum part. sum +ℤ part) (pos 0) parts ≡ amount
+  pub total : added parts ≡ amount
+  pub rounded : (k : ℕ) → k < length shares → IsMarkOf amount (total_of view (take (k + 1) shares)) (added (take (k + 1) parts))
   pub near : (k : ℕ) → k < length shares → (share : A) (part : ℤ) → IsNearShare amount (view (slice_index_or shares k share)) (slice_index_or parts k part)
 
 -- x is the sum of the shares so far and one more; it fits, and so does the amount times it, which is rounded: an inner step
@@ -58,7 +68,7 @@ pub record IsMark (amount : ℤ) (x sum : ℤ × ℤ) (mark : ℤ) : Type 0 wher
   pub value : IsLowestTermsOf x.0 x.1 sum.0 sum.1
   pub fits : FitsIn64 x
   pub times_fits : FitsIn64 (amount_times amount x)
-  pub rounded : IsRounded (amount *ℤ x.0) x.1 mark
+  pub rounded : IsMarkOf amount x mark
 
 -- the answer is these where both fit, and `None` where one does not: an inner step
 abbrev pub ChecksMark : {T : _} {i : _} {o : _} {e : _} {p : _} {h : _} → ℤ → ℤ × ℤ → Option (Reduced T i o e p h × ℤ) → Type 0

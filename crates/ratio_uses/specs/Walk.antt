@@ -11,11 +11,15 @@ StartsBeats first second None = ¬ ((pos 0 <ℤ first.0) × (pos 0 <ℤ second.0
 StartsBeats first second (Some beats) =
     (pair_of beats.first ≡ first) × (pair_of beats.second ≡ second) × (beats.first_count ≡ pos 0) × (beats.second_count ≡ pos 0)
 
--- the answer is the next beat, by which the counts have risen; it is `None` where the next beat of a voice is not held, and then nothing has changed
+-- the next beat of each voice is held
+abbrev pub BothAreHeld : Beats → Type 0
+BothAreHeld beats = BeatIsHeld (pair_of beats.first) beats.first_count × BeatIsHeld (pair_of beats.second) beats.second_count
+
+-- the answer is the next beat, by which the counts have risen; it is `None` exactly where the next beat of a voice is not held, and then nothing has changed
 abbrev pub ChecksNext : Beats → Beats → Option Beat → Type 0
 ChecksNext old new None =
     (new.first ≡ old.first) × (new.second ≡ old.second) × (new.first_count ≡ old.first_count) × (new.second_count ≡ old.second_count)
-    × ¬ (BeatIsHeld (pair_of old.first) old.first_count × BeatIsHeld (pair_of old.second) old.second_count)
+    × ¬ (BothAreHeld old)
 ChecksNext old new (Some beat) =
-    (new.first ≡ old.first) × (new.second ≡ old.second)
+    (new.first ≡ old.first) × (new.second ≡ old.second) × BothAreHeld old
     × IsNextBeat beat.voice (pair_of old.first) (pair_of old.second) old.first_count old.second_count new.first_count new.second_count (pair_of beat.time)

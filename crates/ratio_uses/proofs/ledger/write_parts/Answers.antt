@@ -1,5 +1,5 @@
-use Rattle.std.proofs.Common.{arith, length, pos, rules, subst, sym, take, ◌≡◌}
-use Rattle.std.proofs.lemmas.Int.{ints, to_z-of_z}
+use Rattle.std.proofs.Common.{arith, pos, rules, subst, sym, take}
+use Rattle.std.proofs.lemmas.Int.{to_z-of_z}
 use Rattle.std.specs.Prelude.{◌≤ℤ◌}
 use mir.Syntax.{w64}
 use mir.Val.{SFits}

@@ -1,4 +1,4 @@
-use Rattle.std.proofs.Common.{◌∙◌, refl, rules}
+use Rattle.std.proofs.Common.{refl, rules}
 use Rattle.std.proofs.lemmas.Int.{to_z-of_z}
 use mir.Syntax.{w64}
 use mir.Val.{SFits}
@@ -40,7 +40,7 @@ returns-in-Less c =
     let s = pair_of c.in_ok-first_count.first in
     let t = pair_of c.in_ok-second_count.second in
     let told = told_less s t first.2.lowest.positive second.2.lowest.positive c.in-Less.ensures in
-    simp to_z-of_z (rw first.0 (refl, refl, first_next (pair_of c.args.self.now.first) (pair_of c.args.self.now.second) c.args.self.now.first_count c.args.self.now.second_count s t c.args.self.now.first.lowest.positive c.args.self.now.second.lowest.positive c.args.self.now.in_step first.2 second.2 told))
+    simp to_z-of_z (rw first.0 (refl, refl, (first.1, second.1), first_next (pair_of c.args.self.now.first) (pair_of c.args.self.now.second) c.args.self.now.first_count c.args.self.now.second_count s t c.args.self.now.first.lowest.positive c.args.self.now.second.lowest.positive c.args.self.now.in_step first.2 second.2 told))
 
 pub invariant_of-self-in-Greater : goal.invariant_of-self-in-Greater
 invariant_of-self-in-Greater c =
@@ -66,7 +66,7 @@ returns-in-Greater c =
     let s = pair_of c.in_ok-first_count.first in
     let t = pair_of c.in_ok-second_count.second in
     let told = told_greater s t first.2.lowest.positive second.2.lowest.positive c.in-Greater.ensures in
-    simp to_z-of_z (rw second.0 (refl, refl, second_next (pair_of c.args.self.now.first) (pair_of c.args.self.now.second) c.args.self.now.first_count c.args.self.now.second_count s t c.args.self.now.first.lowest.positive c.args.self.now.second.lowest.positive c.args.self.now.in_step first.2 second.2 told))
+    simp to_z-of_z (rw second.0 (refl, refl, (first.1, second.1), second_next (pair_of c.args.self.now.first) (pair_of c.args.self.now.second) c.args.self.now.first_count c.args.self.now.second_count s t c.args.self.now.first.lowest.positive c.args.self.now.second.lowest.positive c.args.self.now.in_step first.2 second.2 told))
 
 pub invariant_of-self-in-Equal : goal.invariant_of-self-in-Equal
 invariant_of-self-in-Equal c =
@@ -92,4 +92,4 @@ returns-in-Equal c =
     let s = pair_of c.in_ok-first_count.first in
     let t = pair_of c.in_ok-second_count.second in
     let told = told_equal s t first.2.lowest.positive second.2.lowest.positive c.in-Equal.ensures in
-    simp to_z-of_z (rw (first.0, second.0) (refl, refl, both_next (pair_of c.args.self.now.first) (pair_of c.args.self.now.second) c.args.self.now.first_count c.args.self.now.second_count s t c.args.self.now.first.lowest.positive c.args.self.now.second.lowest.positive c.args.self.now.in_step first.2 second.2 told))
+    simp to_z-of_z (rw (first.0, second.0) (refl, refl, (first.1, second.1), both_next (pair_of c.args.self.now.first) (pair_of c.args.self.now.second) c.args.self.now.first_count c.args.self.now.second_count s t c.args.self.now.first.lowest.positive c.args.self.now.second.lowest.positive c.args.self.now.in_step first.2 second.2 told))

@@ -6,6 +6,7 @@
 mod arithmetic;
 mod conversions;
 mod integer;
+mod lowest;
 mod order;
 mod powers;
 mod ratio;
@@ -16,4 +17,5 @@ mod sign;
 mod text;
 
 pub use integer::Integer;
+pub use lowest::{Reduced, Reduced32, Reduced64};
 pub use ratio::{Ratio, Rational, Rational32, Rational64};

@@ -23,7 +23,7 @@ mod proved;
 #[cfg(test)]
 mod test_support;
 
-pub use layer::{Integer, Ratio, Rational, Rational32, Rational64};
+pub use layer::{Integer, Ratio, Rational, Rational32, Rational64, Reduced, Reduced32, Reduced64};
 /// What `parse` answers where a text is no fraction, or none that the type holds.
 ///
 /// ```

@@ -1,5 +1,5 @@
 //! The element types: the twelve primitive integer types.
-use crate::proved::num_rational::Ratio;
+use crate::proved::num_rational::{Ratio, Reduced};
 use crate::proved::ratio_integer::{Integer as ProvedInteger, Primitive, SignedInteger};
 use core::fmt::{Binary, Debug, Display, LowerHex, Octal, UpperHex};
 use core::hash::Hash;
@@ -47,6 +47,8 @@ pub trait Element: Copy {
     fn into_proved(self) -> Self::Proved;
 
     fn from_proved(number: Self::Proved) -> Self;
+
+    fn of(number: &Self::Proved) -> &Self;
 }
 
 macro_rules! elements {
@@ -69,6 +71,11 @@ macro_rules! elements {
             fn from_proved(number: $type) -> $type {
                 number
             }
+
+            #[inline]
+            fn of(number: &$type) -> &$type {
+                number
+            }
         }
 
         impl Integer for $type {}
@@ -89,6 +96,12 @@ pub trait Signs<P: Primitive> {
     fn is_positive(x: Ratio<P>) -> bool;
 
     fn is_negative(x: Ratio<P>) -> bool;
+
+    fn checked_neg_lowest(x: Reduced<P>) -> Option<Reduced<P>>;
+
+    fn checked_abs_lowest(x: Reduced<P>) -> Option<Reduced<P>>;
+
+    fn signum_lowest(x: Reduced<P>) -> Reduced<P>;
 }
 
 /// Says that a type has numbers below 0.
@@ -123,6 +136,21 @@ impl<P: Primitive + SignedInteger> Signs<P> for Below0 {
     fn is_negative(x: Ratio<P>) -> bool {
         x.is_negative()
     }
+
+    #[inline]
+    fn checked_neg_lowest(x: Reduced<P>) -> Option<Reduced<P>> {
+        x.checked_neg()
+    }
+
+    #[inline]
+    fn checked_abs_lowest(x: Reduced<P>) -> Option<Reduced<P>> {
+        x.checked_abs()
+    }
+
+    #[inline]
+    fn signum_lowest(x: Reduced<P>) -> Reduced<P> {
+        x.signum()
+    }
 }
 
 /// Says that a type has none. Its calls are not reached: `Neg` and `Signed` ask for these of the element type,
@@ -147,6 +175,18 @@ impl<P: Primitive> Signs<P> for From0 {
     }
 
     fn is_negative(_: Ratio<P>) -> bool {
+        unreachable!()
+    }
+
+    fn checked_neg_lowest(_: Reduced<P>) -> Option<Reduced<P>> {
+        unreachable!()
+    }
+
+    fn checked_abs_lowest(_: Reduced<P>) -> Option<Reduced<P>> {
+        unreachable!()
+    }
+
+    fn signum_lowest(_: Reduced<P>) -> Reduced<P> {
         unreachable!()
     }
 }

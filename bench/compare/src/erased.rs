@@ -58,6 +58,15 @@ pub fn reduced<T: Number + Integer>(pairs: &[Pair<T>], out: &mut [Answer<T>]) {
     }
 }
 
+/// The reciprocal of each first fraction above 0, and each other as it is.
+#[inline(never)]
+pub fn recip<T: Number + Integer>(pairs: &[Pair<T>], out: &mut [Answer<T>]) {
+    for (pair, place) in pairs.iter().zip(out) {
+        let x = pair.0;
+        *place = answered(Some(if T::zero() < *x.numer() { x.recip() } else { x }));
+    }
+}
+
 fn read<T: Number + Integer>(text: &str) -> Answer<T> {
     match text.parse::<Ratio<T>>() {
         Ok(x) => Answer::some(*x.numer(), *x.denom()),

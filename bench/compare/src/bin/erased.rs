@@ -34,6 +34,9 @@ const COUNT: usize = 4096;
 /// How many pairs a type and kind are compared with the library: a million a type.
 const COMPARED: usize = 200_704;
 
+/// By how much the erased crate's part of the Rust crate's time may be above the proved library's.
+const MOST: f64 = 0.05;
+
 /// The pairs of one kind, as the three sides take them.
 struct Inputs<C: Crossing> {
     fields: Vec<Fields>,
@@ -161,35 +164,69 @@ where
         }
     }
 
-    fn time_all(&mut self, kind: &str, raw: &Inputs<C>, low: &Inputs<C>) {
+    fn time_all(&self, kind: &str, raw: &Inputs<C>, low: &Inputs<C>) {
+        let e = self.exports;
         let len = low.fields.len();
-        let (mut a, mut b) = (vec![0i8; len], vec![0i8; len]);
-        row::<C>("cmp", kind, len, &mut || erased::compare(&low.erased, &mut a), &mut || theirs::compare(&low.theirs, &mut b));
-        let (mut a, mut b) = (vec![0u64; len], vec![0u64; len]);
-        row::<C>("hash", kind, len, &mut || erased::hash(&low.erased, &mut a), &mut || theirs::hash(&low.theirs, &mut b));
-        time::<C>("checked_add", kind, low, erased::checked_add, theirs::checked_add);
-        time::<C>("checked_sub", kind, low, erased::checked_sub, theirs::checked_sub);
-        time::<C>("checked_mul", kind, low, erased::checked_mul, theirs::checked_mul);
-        time::<C>("checked_div", kind, low, erased::checked_div, theirs::checked_div);
-        time::<C>("reduced", kind, raw, erased::reduced, theirs::reduced);
+        let (mut a, mut b, mut c) = (vec![0i8; len], vec![0i8; len], vec![0i8; len]);
+        row::<C>(
+            "cmp",
+            kind,
+            len,
+            &mut || erased::compare(&low.erased, &mut a),
+            &mut || unsafe { (e.compare)(low.library.as_ptr(), len, b.as_mut_ptr(), len) },
+            &mut || theirs::compare(&low.theirs, &mut c),
+        );
+        let (mut a, mut b, mut c) = (vec![0u64; len], vec![0u64; len], vec![0u64; len]);
+        row::<C>(
+            "hash",
+            kind,
+            len,
+            &mut || erased::hash(&low.erased, &mut a),
+            &mut || unsafe { (e.hash)(low.library.as_ptr(), len, b.as_mut_ptr(), len) },
+            &mut || theirs::hash(&low.theirs, &mut c),
+        );
+        time::<C>("checked_add", kind, low, erased::checked_add, e.checked_add, theirs::checked_add);
+        time::<C>("checked_sub", kind, low, erased::checked_sub, e.checked_sub, theirs::checked_sub);
+        time::<C>("checked_mul", kind, low, erased::checked_mul, e.checked_mul, theirs::checked_mul);
+        time::<C>("checked_div", kind, low, erased::checked_div, e.checked_div, theirs::checked_div);
+        time::<C>("reduced", kind, raw, erased::reduced, e.reduced, theirs::reduced);
+        if kind == "small" || kind == "half" {
+            let above = Inputs::new(low.fields.iter().filter(|f| f[0] > 0).copied().collect());
+            time::<C>("recip", kind, &above, erased::recip, e.recip, theirs::recip);
+        }
+        self.time_texts(kind, raw, low);
+    }
+
+    fn time_texts(&self, kind: &str, raw: &Inputs<C>, low: &Inputs<C>) {
+        let e = self.exports;
+        let len = low.fields.len();
         let (bytes, ends) = joined(&raw.fields);
+        let mut places = vec![Place::<C>::empty(); len];
         let (mut a, mut b) = (vec![Answer::<C::Number>::none(8); len], vec![Answer::<C::Number>::none(8); len]);
         row::<C>(
             "from_str",
             kind,
             len,
             &mut || erased::from_str(&bytes, &ends, &mut a),
+            &mut || unsafe { (e.from_str)(bytes.as_ptr(), bytes.len(), ends.as_ptr(), len, places.as_mut_ptr(), len) },
             &mut || theirs::from_str(&bytes, &ends, &mut b),
         );
-        let (mut a, mut b) = (vec![0u8; 84 * len], vec![0u8; 84 * len]);
+        let (mut a, mut b, mut c) = (vec![0u8; 84 * len], vec![0u8; 84 * len], vec![0u8; 84 * len]);
         for (call, print) in [("text", erased::text as Print<C::Number>), ("`{}`", erased::printed)] {
-            let mut erased = || {
-                print(&low.erased, &mut a);
-            };
-            let mut theirs = || {
-                theirs::text(&low.theirs, &mut b);
-            };
-            row::<C>(call, kind, len, &mut erased, &mut theirs);
+            row::<C>(
+                call,
+                kind,
+                len,
+                &mut || {
+                    print(&low.erased, &mut a);
+                },
+                &mut || unsafe {
+                    (e.text)(low.library.as_ptr(), len, b.as_mut_ptr(), 84 * len);
+                },
+                &mut || {
+                    theirs::text(&low.theirs, &mut c);
+                },
+            );
         }
     }
 }
@@ -199,17 +236,43 @@ fn time<C: Crossing>(
     kind: &str,
     inputs: &Inputs<C>,
     erased: Erased<C::Number>,
+    library: Exported<C>,
     theirs: Theirs<C::Number>,
 ) {
     let len = inputs.fields.len();
+    let mut places = vec![Place::<C>::empty(); len];
     let (mut a, mut b) = (vec![Answer::none(8); len], vec![Answer::none(8); len]);
-    row::<C>(call, kind, len, &mut || erased(&inputs.erased, &mut a), &mut || theirs(&inputs.theirs, &mut b));
+    row::<C>(
+        call,
+        kind,
+        len,
+        &mut || erased(&inputs.erased, &mut a),
+        &mut || unsafe { library(inputs.library.as_ptr(), len, places.as_mut_ptr(), len) },
+        &mut || theirs(&inputs.theirs, &mut b),
+    );
 }
 
-fn row<C: Crossing>(call: &str, kind: &str, len: usize, erased: &mut dyn FnMut(), theirs: &mut dyn FnMut()) {
-    let times = times(len, erased, theirs);
+/// The times of the erased crate and of the proved library, each in turn with the Rust crate's.
+fn row<C: Crossing>(
+    call: &str,
+    kind: &str,
+    len: usize,
+    erased: &mut dyn FnMut(),
+    library: &mut dyn FnMut(),
+    theirs: &mut dyn FnMut(),
+) {
+    let (a, b) = (times(len, erased, theirs), times(len, library, theirs));
     let bits = C::Number::BITS;
-    println!("| i{bits} | {call} | {kind} | {:.1} | {:.1} | {:.2} |", times.ours, times.theirs, times.ratio);
+    let above = a.ratio - b.ratio;
+    println!(
+        "| i{bits} | {call} | {kind} | {:.1} | {:.1} | {:.1} | {:.2} | {:.2} | {above:+.2} | {} |",
+        a.ours,
+        b.ours,
+        a.theirs,
+        a.ratio,
+        b.ratio,
+        if above <= MOST { "met" } else { "**missed**" }
+    );
 }
 
 /// The texts of the first fractions one after another, and where each ends.
@@ -243,8 +306,8 @@ where
 }
 
 fn main() {
-    println!("| Type | Call | Input | Erased, ns | Crate, ns | Ratio |");
-    println!("|---|---|---|---|---|---|");
+    println!("| Type | Call | Input | Erased, ns | Proved, ns | Crate, ns | Erased | Proved | Above | |");
+    println!("|---|---|---|---|---|---|---|---|---|---|");
     let counts = [bench(&ours::EXPORTS_32), bench(&ours::EXPORTS_64), bench(&ours::EXPORTS_128)];
     println!("\nErased beside proved, each call: {:?} pairs over i32, i64 and i128, with {:?} differences.", counts.map(|c| c.0), counts.map(|c| c.1));
     std::process::exit(i32::from(counts.iter().any(|c| c.1 > 0)));

@@ -132,8 +132,8 @@ fn leading_digits(bytes: &[u8], radix: u32) -> (u64, usize)
     let most = most_digits(radix);
     let mut n = 0u64;
     let mut at = 0;
-    'digits: while at < bytes.len() && at < most && digit(bytes[at]) < radix as u64 {
-        n = n * radix as u64 + digit(bytes[at]);
+    'digits: while at < bytes.len() && at < most && digit(bytes[at], radix) < radix as u64 {
+        n = n * radix as u64 + digit(bytes[at], radix);
         at += 1;
     }
     (n, at)
@@ -164,13 +164,16 @@ static DIGITS: [u8; 75] = [
     35,
 ];
 
-// What the byte is worth as a digit, and 36 where it is none.
+// What the byte is worth as a digit, and 36 where it is none. Where no letter is a digit of the radix, no table is needed.
 #[inline(always)]
-fn digit(byte: u8) -> u64
+fn digit(byte: u8, radix: u32) -> u64
     ensures { result ≡ digit_value byte }
 {
     if byte < b'0' {
         return 36;
+    }
+    if radix <= 10 && byte <= b'9' {
+        return (byte - b'0') as u64;
     }
     if byte > b'z' {
         return 36;

@@ -100,8 +100,8 @@ fn leading_digits(bytes: &[u8], radix: u32) -> (u64, usize) {
     let most = most_digits(radix);
     let mut n = 0u64;
     let mut at = 0;
-    while at < bytes.len() && at < most && digit(bytes[at]) < radix as u64 {
-        n = n * radix as u64 + digit(bytes[at]);
+    while at < bytes.len() && at < most && digit(bytes[at], radix) < radix as u64 {
+        n = n * radix as u64 + digit(bytes[at], radix);
         at += 1;
     }
     (n, at)
@@ -127,11 +127,14 @@ static DIGITS: [u8; 75] = [
     35,
 ];
 
-// What the byte is worth as a digit, and 36 where it is none.
+// What the byte is worth as a digit, and 36 where it is none. Where no letter is a digit of the radix, no table is needed.
 #[inline(always)]
-fn digit(byte: u8) -> u64 {
+fn digit(byte: u8, radix: u32) -> u64 {
     if byte < b'0' {
         return 36;
+    }
+    if radix <= 10 && byte <= b'9' {
+        return (byte - b'0') as u64;
     }
     if byte > b'z' {
         return 36;

@@ -19,7 +19,7 @@ write_digits-requires c =
     let long = length_after_one _ _ l.left l.at _ _ (omega (arith, c.groups-test.true)) l.auto.left-fits.fits l.invariant in
     let enough = room _ _ l.left l.at _ _ (omega (arith, c.groups-test.true)) l.auto.left-fits.fits l.invariant c.requires.room c.ranges.n.fits in
     let kept = length-set l.buf (l.at - 1) (48 + (l.left - l.left / 10 ^ 19 * 10 ^ 19) % 10) in
-    (omega (arith, long, enough), omega (arith, l.invariant.before, l.auto.buf, c.requires.inside, kept))
+    rw c.groups-high.ensures (omega (arith, long, enough), omega (arith, l.invariant.before, l.auto.buf, c.requires.inside, kept))
 
 pub overflow_sub-at-in-groups : goal.overflow_sub-at-in-groups
 overflow_sub-at-in-groups c =
@@ -31,9 +31,11 @@ groups-preserved c =
     let l = c.groups in
     let w = c.write_digits in
     let enough = room _ _ l.left l.at _ _ (omega (arith, c.groups-test.true)) l.auto.left-fits.fits l.invariant c.requires.room c.ranges.n.fits in
-    let kept = length-set l.buf (l.at - 1) (48 + (l.left - l.left / 10 ^ 19 * 10 ^ 19) % 10) in
-    next _ _ l.left l.at _ _ (omega (arith, c.groups-test.true)) l.auto.left-fits.fits l.invariant w.result w.new.buf w.ensures.start w.ensures.written
-    enough (omega (arith, l.invariant.before, l.auto.buf, c.requires.inside)) (omega (arith, w.auto.buf, kept))
+    let kept = length-set l.buf (l.at - 1) (48 + (l.left - c.groups-high.result * 10 ^ 19) % 10) in
+    let quotient = c.groups-high.ensures in
+    rw quotient
+    (next _ _ l.left l.at _ _ (omega (arith, c.groups-test.true)) l.auto.left-fits.fits l.invariant w.result w.new.buf (rw quotient at w.ensures.start) (rw quotient at w.ensures.written)
+    enough (omega (arith, l.invariant.before, l.auto.buf, c.requires.inside)) (omega (arith, w.auto.buf, kept)))
 
 pub write_digits-requires-2 : goal.write_digits-requires-2
 write_digits-requires-2 c =

@@ -49,7 +49,7 @@ pub trait Number:
     + Debug
     + FromStr
 {
-    const BITS: u32;
+    const WIDTH: u32;
 
     fn narrow(n: i128) -> Self;
 
@@ -60,7 +60,7 @@ pub trait Number:
 macro_rules! number {
     ($($t:ty),*) => {$(
         impl Number for $t {
-            const BITS: u32 = <$t>::BITS;
+            const WIDTH: u32 = <$t>::BITS;
 
             fn narrow(n: i128) -> $t {
                 n as $t

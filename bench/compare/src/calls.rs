@@ -1,187 +1,210 @@
-//! Each call on each kind of input: both answers, then both times.
+//! Each call on each kind of input: the answers of all three, then their times.
 
 use crate::answer::{Answer, Number};
-use crate::goals::{goal, MOST};
+use crate::inputs::{Inputs, Texts};
 use crate::kinds::{self, Fields, KINDS};
-use crate::ours::{Answering, Crossing, Exports, Pair, Place, Printing, Reading};
+use crate::proved::{each, Crossing, Each, Exports, Hash, Order, Pair, Place, Span, Text};
 use crate::random::Random;
-use crate::theirs;
-use crate::timing::{times, Times};
+use crate::row::{Counts, Row};
+use crate::{erased, theirs};
+use bakhsney::proved::ratio_integer::Primitive;
 use num_rational::Ratio;
 use std::fmt::Debug;
 
-/// How many pairs of each kind.
+/// How many pairs are timed.
 const COUNT: usize = 4096;
 
-/// How many differing pairs of one row are printed.
+/// How many pairs a type the erased crate and the proved library answer beside: about a million.
+pub const COMPARED: usize = KINDS.len() * 49 * COUNT;
+
+/// How many differing pairs of one type are printed.
 const SHOWN: usize = 5;
 
-/// Where both have no answer, ours has one alone, and both have one.
-#[derive(Default)]
-struct Counts {
-    both: usize,
-    ours: usize,
-    neither: usize,
-}
+/// The room for a text.
+const ROOM: usize = 84;
 
-/// The inputs of one kind, as each side takes them.
-struct Inputs<C: Crossing> {
-    fields: Vec<Fields>,
-    ours: Vec<Pair<C>>,
-    theirs: Vec<theirs::Pair<C::Number>>,
-}
+type Run<'a, C> = &'a dyn Fn(&mut [Place<C>]);
 
-impl<C: Crossing> Inputs<C> {
-    fn new(fields: Vec<Fields>) -> Inputs<C> {
-        let number = C::Number::narrow;
-        let pair = |f: &Fields| {
-            let left = Ratio::new_raw(number(f[0]), number(f[1]));
-            (left, Ratio::new_raw(number(f[2]), number(f[3])))
-        };
-        Inputs {
-            ours: fields.iter().map(Pair::of).collect(),
-            theirs: fields.iter().map(pair).collect(),
-            fields,
-        }
-    }
-}
+type Erased<T> = fn(&[erased::Pair<T>], &mut [Answer<T>]);
 
 type Theirs<T> = fn(&[theirs::Pair<T>], &mut [Answer<T>]);
 
-type Read<T> = fn(&[u8], &[usize], &mut [Answer<T>]);
+type Reading<T> = fn(&[u8], &[Span], &mut [Answer<T>]);
 
-type Print<T> = fn(&[theirs::Pair<T>], &mut [u8]) -> usize;
+type ErasedPrinting<T> = fn(&[erased::Pair<T>], &mut [u8], &mut [usize]);
+
+type TheirPrinting<T> = fn(&[theirs::Pair<T>], &mut [u8], &mut [usize]);
 
 /// The bench of one element type.
 pub struct Bench<'a, C: Crossing> {
     exports: &'a Exports<C>,
     random: Random,
     filter: &'a str,
+    is_timed: bool,
     differing: usize,
 }
 
-impl<'a, C: Crossing> Bench<'a, C> {
-    pub fn new(exports: &'a Exports<C>, random: Random, filter: &'a str) -> Bench<'a, C> {
-        Bench {
-            exports,
-            random,
-            filter,
-            differing: 0,
-        }
+impl<'a, C: Crossing> Bench<'a, C>
+where
+    C::Number: bakhsney::Integer + Primitive,
+{
+    pub fn new(exports: &'a Exports<C>, filter: &'a str) -> Bench<'a, C> {
+        Bench { exports, random: Random::new(20_240_229), filter, is_timed: false, differing: 0 }
     }
 
-    /// Prints the rows, and returns how many answers differ.
-    pub fn run(mut self) -> usize {
-        let e = self.exports;
-        for kind in KINDS {
-            let raw = kinds::pairs(kind, C::Number::BITS, COUNT, &mut self.random);
-            let low = Inputs::new(raw.iter().map(|f| lowest(kind, f)).collect());
-            let raw = Inputs::new(raw);
-            self.compare(kind, &low);
-            self.hash(kind, &low);
-            self.answers("checked_add", kind, &low, e.checked_add, theirs::checked_add);
-            self.answers("checked_sub", kind, &low, e.checked_sub, theirs::checked_sub);
-            self.answers("checked_mul", kind, &low, e.checked_mul, theirs::checked_mul);
-            self.answers("checked_div", kind, &low, e.checked_div, theirs::checked_div);
-            self.remainders(kind, &low);
-            self.answers("reduced", kind, &raw, e.reduced, theirs::reduced);
-            self.answers("gcd", kind, &raw, e.gcd, theirs::gcd);
-            // Of wider fields the crate rounds some wrongly, and no type holds most powers.
-            if kind == "small" || kind == "half" {
-                self.answers("floor", kind, &low, e.floor, theirs::floor);
-                self.answers("round", kind, &low, e.round, theirs::round);
-                self.answers("to_integer", kind, &low, e.to_integer, theirs::to_integer);
-                self.answers("copied", kind, &low, e.copied, theirs::copied);
-                // A sign that no one guesses would cost more than the call.
-                let above = low.fields.iter().filter(|f| f[0] > 0).copied().collect();
-                self.answers("recip", kind, &Inputs::new(above), e.recip, theirs::recip);
-                self.powers(kind, &low);
-            }
-            self.reading("from_str", kind, &decimal(&raw.fields), e.from_str, theirs::from_str);
-            self.reading("from_str_radix", kind, &hexadecimal(&raw.fields), e.from_str_radix, theirs::from_str_radix);
-            self.printing("text", kind, &low, e.text, theirs::text);
-            self.printing("hex", kind, &low, e.hex, theirs::hex);
-        }
+    pub fn differing(&self) -> usize {
         self.differing
     }
 
-    fn passes(&self, call: &str, kind: &str) -> bool {
-        format!("i{}/{}/{}", C::Number::BITS, call, kind).contains(self.filter)
+    /// Compares the proved library and the erased crate on many pairs, and then times all three on some.
+    pub fn run(&mut self) {
+        for kind in KINDS {
+            if self.filter.is_empty() {
+                self.is_timed = false;
+                for _ in 0..COMPARED / KINDS.len() / COUNT {
+                    let raw = self.raw(kind);
+                    self.calls(kind, &raw, &raw);
+                }
+            }
+            self.is_timed = true;
+            let raw = self.raw(kind);
+            self.calls(kind, &raw, &Inputs::new(raw.fields.iter().map(|f| lowest(kind, f)).collect()));
+        }
     }
 
-    fn differs(&mut self, call: &str, input: &dyn Debug, ours: &dyn Debug, theirs: &dyn Debug) {
+    fn raw(&mut self, kind: &str) -> Inputs<C> {
+        Inputs::new(kinds::pairs(kind, C::Number::WIDTH, COUNT, &mut self.random))
+    }
+
+    fn calls(&mut self, kind: &str, raw: &Inputs<C>, low: &Inputs<C>) {
+        let e = self.exports;
+        self.cmp(kind, low);
+        self.hash(kind, low);
+        self.pairs("checked_add", kind, low, e.add, erased::checked_add, theirs::checked_add);
+        self.pairs("checked_sub", kind, low, e.sub, erased::checked_sub, theirs::checked_sub);
+        self.pairs("checked_mul", kind, low, e.mul, erased::checked_mul, theirs::checked_mul);
+        self.pairs("checked_div", kind, low, e.div, erased::checked_div, theirs::checked_div);
+        self.remainders(kind, low);
+        let reduce = |out: &mut [_]| each(e.reduce, &raw.first, out);
+        self.answers("reduced", kind, raw, Some(&reduce), erased::reduced, theirs::reduced);
+        self.answers("gcd", kind, raw, None, erased::gcd, theirs::gcd);
+        // Of wider fields the crate rounds some wrongly, and no type holds most powers.
+        if kind == "small" || kind == "half" {
+            self.roundings(kind, low);
+            // A sign that no one guesses would cost more than the call.
+            self.answers("recip", kind, &low.only(|f| f[0] > 0), None, erased::recip, theirs::recip);
+            self.powers(kind, &low.only(|f| f[0] != 0));
+        }
+        self.texts(kind, raw, low);
+    }
+
+    fn roundings(&mut self, kind: &str, low: &Inputs<C>) {
+        let e = self.exports;
+        let floor = |out: &mut [_]| each(e.floor, &low.first, out);
+        let round = |out: &mut [_]| each(e.round, &low.first, out);
+        self.answers("floor", kind, low, Some(&floor), erased::floor, theirs::floor);
+        self.answers("round", kind, low, Some(&round), erased::round, theirs::round);
+        self.answers("to_integer", kind, low, None, erased::to_integer, theirs::to_integer);
+    }
+
+    fn texts(&mut self, kind: &str, raw: &Inputs<C>, low: &Inputs<C>) {
+        let e = self.exports;
+        let (decimal, hexadecimal) = (Texts::decimal(&raw.fields), Texts::hexadecimal(&raw.fields));
+        let read = |out: &mut [_]| e.read(&decimal.bytes, &decimal.spans, out);
+        self.reading("from_str", kind, &decimal, Some(&read), erased::from_str, theirs::from_str);
+        self.reading("from_str_radix", kind, &hexadecimal, None, erased::from_str_radix, theirs::from_str_radix);
+        self.printing("text", kind, low, true, erased::text, theirs::printed);
+        self.printing("hex", kind, low, false, erased::hex_text, theirs::hex);
+        self.printing("`{}`", kind, low, false, erased::printed, theirs::printed);
+        self.printing("`{:x}`", kind, low, false, erased::hex, theirs::hex);
+    }
+
+    fn passes(&self, call: &str, kind: &str) -> bool {
+        format!("i{}/{}/{}", C::Number::WIDTH, call, kind).contains(self.filter)
+    }
+
+    fn row(&self, len: usize, proved: Option<&mut dyn FnMut()>, erased: &mut dyn FnMut(), theirs: &mut dyn FnMut()) -> Option<Row> {
+        if self.is_timed {
+            return Some(Row::timed(len, proved, erased, theirs));
+        }
+        if let Some(run) = proved {
+            run();
+        }
+        erased();
+        None
+    }
+
+    fn differs(&mut self, call: &str, input: &dyn Debug, answers: &dyn Debug) {
         self.differing += 1;
         if self.differing <= SHOWN {
-            let bits = C::Number::BITS;
-            eprintln!("i{bits} {call} of {input:?}: {ours:?}, and the crate {theirs:?}");
+            eprintln!("i{} {call} of {input:?}: {answers:?}", C::Number::WIDTH);
         }
     }
 
-    fn row(&self, call: &str, kind: &str, times: Times, counts: Counts) {
-        let goal = goal(call, kind);
-        let all_none = counts.both + counts.ours == 0;
-        let met = if goal.is_infinite() {
-            ""
-        } else if times.ratio <= goal {
-            "met"
-        } else if all_none {
-            "no answers"
-        } else if times.ratio > MOST {
-            "**above 1.2**"
-        } else {
-            "**missed**"
-        };
-        println!(
-            "| i{} | {} | {} | {:.1} | {:.1} | {:.2} | {} | {} | {}, {}, {} |",
-            C::Number::BITS,
-            call,
-            kind,
-            times.ours,
-            times.theirs,
-            times.ratio,
-            if goal.is_infinite() { "none".into() } else { format!("{goal:.1}") },
-            met,
-            counts.both,
-            counts.ours,
-            counts.neither
-        );
-    }
-
-    fn compare(&mut self, kind: &str, inputs: &Inputs<C>) {
-        if !self.passes("compare", kind) {
-            return;
-        }
-        let run = self.exports.compare;
-        let len = inputs.ours.len();
-        let (mut a, mut b) = (vec![9i8; len], vec![9i8; len]);
-        let mut ours = || unsafe { run(inputs.ours.as_ptr(), len, a.as_mut_ptr(), len) };
-        let mut theirs = || theirs::compare(&inputs.theirs, &mut b);
-        let times = times(len, &mut ours, &mut theirs);
-        for i in 0..len {
-            // Each side writes the numbers that cost it nothing.
-            if a[i] - 1 != b[i] {
-                self.differs("compare", &inputs.fields[i], &(a[i] - 1), &b[i]);
+    /// Prints the row, after what each side gave was compared. Of what is not timed the crate was not asked.
+    fn ended<A: PartialEq + Debug, I: Debug>(&mut self, call: &str, kind: &str, row: Option<Row>, all: &[(I, Option<A>, A, A)], is_none: fn(&A) -> bool) {
+        let mut counts = Counts::default();
+        for (input, proved, erased, theirs) in all {
+            if proved.as_ref().map_or(false, |answer| answer != erased) {
+                self.differs(call, input, &("proved and erased", proved, erased));
+            } else if row.is_some() {
+                match (is_none(erased), is_none(theirs)) {
+                    (false, true) => counts.ours += 1,
+                    (true, true) => counts.neither += 1,
+                    _ if erased == theirs => counts.both += 1,
+                    _ => self.differs(call, input, &("erased, and the crate", erased, theirs)),
+                }
             }
         }
-        self.row("compare", kind, times, Counts { both: len, ..Counts::default() });
+        if let Some(row) = row {
+            row.print(C::Number::WIDTH, call, kind, counts);
+        }
+    }
+
+    fn cmp(&mut self, kind: &str, inputs: &Inputs<C>) {
+        if !self.passes("cmp", kind) {
+            return;
+        }
+        let len = inputs.len();
+        let (mut a, mut b, mut c) = (vec![Order::default(); len], vec![9; len], vec![9; len]);
+        let run = self.exports.compare;
+        let row = self.row(
+            len,
+            Some(&mut || each(run, &inputs.proved, &mut a)),
+            &mut || erased::cmp(&inputs.erased, &mut b),
+            &mut || theirs::cmp(&inputs.theirs, &mut c),
+        );
+        let all: Vec<_> = (0..len).map(|i| (inputs.fields[i], Some(a[i].order), b[i], c[i])).collect();
+        self.ended("cmp", kind, row, &all, |_| false);
     }
 
     fn hash(&mut self, kind: &str, inputs: &Inputs<C>) {
         if !self.passes("hash", kind) {
             return;
         }
+        let len = inputs.len();
+        let (mut a, mut b, mut c) = (vec![Hash::default(); len], vec![0; len], vec![0; len]);
         let run = self.exports.hash;
-        let len = inputs.ours.len();
-        let (mut a, mut b) = (vec![0u64; len], vec![1u64; len]);
-        let mut ours = || unsafe { run(inputs.ours.as_ptr(), len, a.as_mut_ptr(), len) };
-        let mut theirs = || theirs::hash(&inputs.theirs, &mut b);
-        let times = times(len, &mut ours, &mut theirs);
-        for i in 0..len {
-            if a[i] != b[i] {
-                self.differs("hash", &inputs.fields[i], &a[i], &b[i]);
-            }
-        }
-        self.row("hash", kind, times, Counts { both: len, ..Counts::default() });
+        let row = self.row(
+            len,
+            Some(&mut || each(run, &inputs.first, &mut a)),
+            &mut || erased::hash(&inputs.erased, &mut b),
+            &mut || theirs::hash(&inputs.theirs, &mut c),
+        );
+        let all: Vec<_> = (0..len).map(|i| (inputs.fields[i], Some(a[i].hash), b[i], c[i])).collect();
+        self.ended("hash", kind, row, &all, |_| false);
+    }
+
+    fn pairs(
+        &mut self,
+        call: &str,
+        kind: &str,
+        inputs: &Inputs<C>,
+        run: Each<Pair<C>, Place<C>>,
+        erased: Erased<C::Number>,
+        theirs: Theirs<C::Number>,
+    ) {
+        self.answers(call, kind, inputs, Some(&|out: &mut [_]| each(run, &inputs.proved, out)), erased, theirs);
     }
 
     fn answers(
@@ -189,131 +212,107 @@ impl<'a, C: Crossing> Bench<'a, C> {
         call: &str,
         kind: &str,
         inputs: &Inputs<C>,
-        run: Answering<C>,
+        proved: Option<Run<C>>,
+        erased: Erased<C::Number>,
         theirs: Theirs<C::Number>,
+    ) {
+        let erased = |out: &mut [_]| erased(&inputs.erased, out);
+        let theirs = |out: &mut [_]| theirs(&inputs.theirs, out);
+        self.all_three(call, kind, &inputs.fields, proved, &erased, &theirs);
+    }
+
+    fn all_three<I: Debug + Copy>(
+        &mut self,
+        call: &str,
+        kind: &str,
+        inputs: &[I],
+        proved: Option<Run<C>>,
+        erased: &dyn Fn(&mut [Answer<C::Number>]),
+        theirs: &dyn Fn(&mut [Answer<C::Number>]),
     ) {
         if !self.passes(call, kind) {
             return;
         }
-        let len = inputs.ours.len();
+        let len = inputs.len();
         let mut a = vec![Place::<C>::empty(); len];
-        let mut b = vec![Answer::none(8); len];
-        let mut ours = || unsafe { run(inputs.ours.as_ptr(), len, a.as_mut_ptr(), len) };
-        let mut theirs = || theirs(&inputs.theirs, &mut b);
-        let times = times(len, &mut ours, &mut theirs);
-        let mut counts = Counts::default();
-        for i in 0..len {
-            let a = a[i].answer();
-            match (a.code, b[i].code) {
-                (1, 0) => counts.ours += 1,
-                (0, 0) => counts.neither += 1,
-                _ if a == b[i] => counts.both += 1,
-                _ => self.differs(call, &inputs.fields[i], &a, &b[i]),
-            }
-        }
-        self.row(call, kind, times, counts);
+        let (mut b, mut c) = (vec![Answer::none(8); len], vec![Answer::none(8); len]);
+        let mut run = || proved.iter().for_each(|run| run(&mut a));
+        let proved_run: Option<&mut dyn FnMut()> = if proved.is_some() { Some(&mut run) } else { None };
+        let row = self.row(len, proved_run, &mut || erased(&mut b), &mut || theirs(&mut c));
+        let all: Vec<_> = (0..len).map(|i| (inputs[i], proved.map(|_| a[i].answer()), b[i], c[i])).collect();
+        self.ended(call, kind, row, &all, |answer| answer.code == 0);
     }
 
-    /// Only where the crate's `%` is defined are the two timed and compared.
+    /// Only where the crate's `%` is defined are the calls timed and compared with it.
     fn remainders(&mut self, kind: &str, inputs: &Inputs<C>) {
-        let is_defined = |f: &&Fields| remainder_held(C::Number::BITS, f);
-        let defined: Vec<Fields> = inputs.fields.iter().filter(is_defined).copied().collect();
-        if defined.len() < 64 {
-            return;
+        let is_timed = self.is_timed;
+        let defined = inputs.only(|f| !is_timed || remainder_held(C::Number::WIDTH, f));
+        if defined.len() >= 64 {
+            self.pairs("checked_rem", kind, &defined, self.exports.rem, erased::checked_rem, theirs::checked_rem);
         }
-        let run = self.exports.checked_rem;
-        self.answers("checked_rem", kind, &Inputs::new(defined), run, theirs::checked_rem);
     }
 
-    /// Powers of each first fraction that is not 0, with small exponents of both signs: each is held.
+    /// Powers with small exponents of both signs: of fractions that are not 0, each is held.
     fn powers(&mut self, kind: &str, inputs: &Inputs<C>) {
-        if !self.passes("pow", kind) {
-            return;
-        }
-        let fields: Vec<Fields> = inputs.fields.iter().filter(|f| f[0] != 0).copied().collect();
-        let inputs = Inputs::<C>::new(fields);
         let most = if kind == "small" { 3 } else { 2 };
         let exponent = |f: &Fields| f[2].rem_euclid(2 * most + 1) as i32 - most as i32;
         let exponents: Vec<i32> = inputs.fields.iter().map(exponent).collect();
+        let asked: Vec<_> = inputs.proved.iter().zip(&exponents).map(|(pair, exponent)| pair.left_to(*exponent)).collect();
         let run = self.exports.pow;
-        let len = inputs.ours.len();
-        let mut a = vec![Place::<C>::empty(); len];
-        let mut b = vec![Answer::none(8); len];
-        let (pairs, places) = (inputs.ours.as_ptr(), a.as_mut_ptr());
-        let mut ours = || unsafe { run(pairs, len, exponents.as_ptr(), len, places, len) };
-        let mut theirs = || theirs::pow(&inputs.theirs, &exponents, &mut b);
-        let times = times(len, &mut ours, &mut theirs);
-        for i in 0..len {
-            if a[i].answer() != b[i] {
-                self.differs("pow", &(&inputs.fields[i], exponents[i]), &a[i].answer(), &b[i]);
-            }
-        }
-        self.row("pow", kind, times, Counts { both: len, ..Counts::default() });
+        let erased = |out: &mut [_]| erased::pow(&inputs.erased, &exponents, out);
+        let theirs = |out: &mut [_]| theirs::pow(&inputs.theirs, &exponents, out);
+        self.all_three("pow", kind, &inputs.fields, Some(&|out: &mut [_]| each(run, &asked, out)), &erased, &theirs);
     }
 
-    fn reading(&mut self, call: &str, kind: &str, texts: &[String], run: Reading<C>, theirs: Read<C::Number>) {
+    fn reading(
+        &mut self,
+        call: &str,
+        kind: &str,
+        texts: &Texts,
+        proved: Option<Run<C>>,
+        erased: Reading<C::Number>,
+        theirs: Reading<C::Number>,
+    ) {
+        let erased = |out: &mut [_]| erased(&texts.bytes, &texts.spans, out);
+        let theirs = |out: &mut [_]| theirs(&texts.bytes, &texts.spans, out);
+        self.all_three(call, kind, &texts.spans, proved, &erased, &theirs);
+    }
+
+    fn printing(
+        &mut self,
+        call: &str,
+        kind: &str,
+        inputs: &Inputs<C>,
+        is_proved: bool,
+        erased: ErasedPrinting<C::Number>,
+        theirs: TheirPrinting<C::Number>,
+    ) {
         if !self.passes(call, kind) {
             return;
         }
-        let (bytes, ends) = joined(texts);
-        let len = texts.len();
-        let mut a = vec![Place::<C>::empty(); len];
-        let mut b = vec![Answer::none(8); len];
-        let (places, at, to) = (a.as_mut_ptr(), bytes.as_ptr(), ends.as_ptr());
-        let mut ours = || unsafe { run(at, bytes.len(), to, len, places, len) };
-        let mut theirs = || theirs(&bytes, &ends, &mut b);
-        let times = times(len, &mut ours, &mut theirs);
-        for i in 0..len {
-            if a[i].answer() != b[i] {
-                self.differs(call, &texts[i], &a[i].answer(), &b[i]);
-            }
-        }
-        self.row(call, kind, times, Counts { both: len, ..Counts::default() });
+        let len = inputs.len();
+        let buffer = || (vec![0u8; ROOM * len], vec![0usize; len]);
+        let (mut a, mut spans) = (vec![0u8; ROOM * len], vec![Text::default(); len]);
+        let ((mut b, mut b_ends), (mut c, mut c_ends)) = (buffer(), buffer());
+        let exports = self.exports;
+        let mut run = || exports.print(&inputs.first, &mut a, &mut spans);
+        let proved: Option<&mut dyn FnMut()> = if is_proved { Some(&mut run) } else { None };
+        let row = self.row(
+            len,
+            proved,
+            &mut || erased(&inputs.erased, &mut b, &mut b_ends),
+            &mut || theirs(&inputs.theirs, &mut c, &mut c_ends),
+        );
+        let text = |bytes: &[u8], ends: &[usize], i: usize| {
+            let start = if i == 0 { 0 } else { ends[i - 1] };
+            bytes[start..ends[i]].to_vec()
+        };
+        let proved = |i: usize| a[spans[i].span.start..spans[i].span.end].to_vec();
+        let all: Vec<_> = (0..len)
+            .map(|i| (inputs.fields[i], Some(i).filter(|_| is_proved).map(proved), text(&b, &b_ends, i), text(&c, &c_ends, i)))
+            .collect();
+        self.ended(call, kind, row, &all, |_| false);
     }
-
-    fn printing(&mut self, call: &str, kind: &str, inputs: &Inputs<C>, run: Printing<C>, theirs: Print<C::Number>) {
-        if !self.passes(call, kind) {
-            return;
-        }
-        let len = inputs.ours.len();
-        let room = 84 * len;
-        let (mut a, mut b) = (vec![0u8; room], vec![1u8; room]);
-        let (mut a_len, mut b_len) = (0, 0);
-        let mut ours = || a_len = unsafe { run(inputs.ours.as_ptr(), len, a.as_mut_ptr(), room) };
-        let mut theirs = || b_len = theirs(&inputs.theirs, &mut b);
-        let times = times(len, &mut ours, &mut theirs);
-        let (a, b) = (lines(&a[..a_len]), lines(&b[..b_len]));
-        for (i, fields) in inputs.fields.iter().enumerate() {
-            if a.get(i) != b.get(i) {
-                self.differs(call, fields, &a.get(i), &b.get(i));
-            }
-        }
-        self.row(call, kind, times, Counts { both: len, ..Counts::default() });
-    }
-}
-
-fn decimal(fields: &[Fields]) -> Vec<String> {
-    fields.iter().map(|f| format!("{}/{}", f[0], f[1])).collect()
-}
-
-fn hexadecimal(fields: &[Fields]) -> Vec<String> {
-    let minus = |n: i128| if n < 0 { "-" } else { "" };
-    fields.iter().map(|f| format!("{}{:x}/{:x}", minus(f[0]), f[0].unsigned_abs(), f[1])).collect()
-}
-
-/// The texts one after another, and where each ends.
-fn joined(texts: &[String]) -> (Vec<u8>, Vec<usize>) {
-    let mut bytes = Vec::new();
-    let mut ends = Vec::new();
-    for text in texts {
-        bytes.extend_from_slice(text.as_bytes());
-        ends.push(bytes.len());
-    }
-    (bytes, ends)
-}
-
-fn lines(bytes: &[u8]) -> Vec<&str> {
-    std::str::from_utf8(bytes).expect("text").lines().collect()
 }
 
 /// The fractions in lowest terms, but for equal denominators, which stay equal.

@@ -6,14 +6,13 @@ pub const MOST: f64 = 1.2;
 pub fn goal(call: &str, kind: &str) -> f64 {
     let simple = kind == "small" || kind == "half";
     match call {
-        "compare" if simple => 0.2,
-        "compare" if kind == "equal denominators" => MOST,
-        "compare" => 0.8,
+        "cmp" if simple => 0.2,
+        "cmp" if kind == "equal denominators" => MOST,
+        "cmp" => 0.8,
         "gcd" | "reduced" => 0.7,
         "checked_add" | "checked_sub" if simple => 0.5,
         "checked_mul" | "checked_div" if simple => 0.3,
         "floor" | "round" => 0.8,
-        "copied" => f64::INFINITY,
         "to_integer" | "recip" | "pow" => 1.0,
         "hash" => 0.9,
         "from_str" | "from_str_radix" | "hex" => 0.6,

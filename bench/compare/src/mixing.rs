@@ -1,7 +1,9 @@
-//! A hasher that costs next to nothing, so that what a hash hands to it is what is timed.
+//! A hasher that costs next to nothing, so that what a hash hands to it is what is timed: the one of `include/ratio.h`.
 
-use std::convert::TryInto;
 use std::hash::Hasher;
+
+/// By what the hash is multiplied before it takes the next number.
+const MULTIPLIER: u64 = 0x9e37_79b9_7f4a_7c15;
 
 pub struct Mixing {
     state: u64,
@@ -12,13 +14,9 @@ impl Mixing {
         Mixing { state: 0 }
     }
 
-    pub fn digest(&self) -> u64 {
-        self.state
-    }
-
     #[inline]
-    fn mix(&mut self, word: u64) {
-        self.state = (self.state.rotate_left(5) ^ word).wrapping_mul(0x517c_c1b7_2722_0a95);
+    fn take(&mut self, residue: u64) {
+        self.state = self.state.wrapping_mul(MULTIPLIER).wrapping_add(residue);
     }
 }
 
@@ -27,18 +25,23 @@ impl Hasher for Mixing {
         self.state
     }
 
-    /// Mixes the first and the last eight bytes, or the first four where there are fewer.
+    /// The numbers of other types are not hashed here.
+    fn write(&mut self, _: &[u8]) {
+        unreachable!()
+    }
+
     #[inline]
-    fn write(&mut self, bytes: &[u8]) {
-        let len = bytes.len();
-        if len >= 8 {
-            self.mix(u64::from_le_bytes(bytes[..8].try_into().unwrap()));
-            if len > 8 {
-                self.mix(u64::from_le_bytes(bytes[len - 8..].try_into().unwrap()));
-            }
-        } else if len >= 4 {
-            let word = u32::from_le_bytes(bytes[..4].try_into().unwrap());
-            self.mix(u64::from(word));
-        }
+    fn write_i32(&mut self, number: i32) {
+        self.take(number as u64);
+    }
+
+    #[inline]
+    fn write_i64(&mut self, number: i64) {
+        self.take(number as u64);
+    }
+
+    #[inline]
+    fn write_i128(&mut self, number: i128) {
+        self.take(number as u64);
     }
 }

@@ -16,7 +16,7 @@ use kinds::KINDS;
 use mixing::Mixing;
 use num_traits::{CheckedAdd, CheckedDiv, CheckedMul, CheckedSub};
 use random::Random;
-use std::hash::Hash;
+use std::hash::{Hash, Hasher};
 use std::hint::black_box;
 use timing::times;
 
@@ -38,7 +38,7 @@ fn goal(call: &str, kind: &str) -> Option<f64> {
 fn hashed(x: &impl Hash) -> u64 {
     let mut mixing = Mixing::new();
     x.hash(&mut mixing);
-    mixing.digest()
+    mixing.finish()
 }
 
 /// Each pair by each of the three, timed.

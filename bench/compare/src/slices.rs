@@ -1,0 +1,161 @@
+//! A call on each fraction of a slice, for a fraction type with the names of num-rational.
+
+/// Two fractions of each place, and a place for each answer.
+macro_rules! slices {
+    ($($Bound:path),+) => {
+        pub type Pair<T> = (Ratio<T>, Ratio<T>);
+
+        fn answered<T: Number>(checked: Option<Ratio<T>>) -> Answer<T>
+        where
+            $(T: $Bound),+
+        {
+            match checked {
+                Some(x) => Answer::some(*x.numer(), *x.denom()),
+                None => Answer::none(0),
+            }
+        }
+
+        #[inline(always)]
+        fn each<T: Number>(pairs: &[Pair<T>], out: &mut [Answer<T>], call: impl Fn(&Pair<T>) -> Answer<T>) {
+            for (pair, place) in pairs.iter().zip(out) {
+                *place = call(pair);
+            }
+        }
+
+        slices! { @checked $($Bound),+; checked_add checked_sub checked_mul checked_div }
+        slices! { @single $($Bound),+; reduced floor round }
+
+        #[inline(never)]
+        pub fn cmp<T: Number>(pairs: &[Pair<T>], out: &mut [i32])
+        where
+            $(T: $Bound),+
+        {
+            for (pair, place) in pairs.iter().zip(out) {
+                *place = pair.0.cmp(&pair.1) as i32;
+            }
+        }
+
+        #[inline(never)]
+        pub fn hash<T: Number>(pairs: &[Pair<T>], out: &mut [u64])
+        where
+            $(T: $Bound),+
+        {
+            for (pair, place) in pairs.iter().zip(out) {
+                let mut mixing = Mixing::new();
+                pair.0.hash(&mut mixing);
+                *place = mixing.finish();
+            }
+        }
+
+        #[inline(never)]
+        pub fn to_integer<T: Number>(pairs: &[Pair<T>], out: &mut [Answer<T>])
+        where
+            $(T: $Bound),+
+        {
+            each(pairs, out, |pair| Answer::some(pair.0.to_integer(), T::one()));
+        }
+
+        /// The reciprocal of each first fraction that is above 0; any other as it is.
+        #[inline(never)]
+        pub fn recip<T: Number>(pairs: &[Pair<T>], out: &mut [Answer<T>])
+        where
+            $(T: $Bound),+
+        {
+            each(pairs, out, |pair| {
+                let x = pair.0;
+                answered(Some(if T::zero() < *x.numer() { x.recip() } else { x }))
+            });
+        }
+
+        #[inline(always)]
+        fn read<T: Number, E>(
+            texts: &[u8],
+            spans: &[Span],
+            out: &mut [Answer<T>],
+            reading: impl Fn(&str) -> Result<Ratio<T>, E>,
+        )
+        where
+            $(T: $Bound),+
+        {
+            let texts = std::str::from_utf8(texts).expect("the texts are ASCII");
+            for (span, place) in spans.iter().zip(out) {
+                *place = match texts.get(span.start..span.end).map(&reading) {
+                    Some(Ok(x)) => Answer::some(*x.numer(), *x.denom()),
+                    _ => Answer::none(5),
+                };
+            }
+        }
+
+        #[inline(never)]
+        pub fn from_str<T: Number>(texts: &[u8], spans: &[Span], out: &mut [Answer<T>])
+        where
+            $(T: $Bound),+
+        {
+            read(texts, spans, out, |text| text.parse::<Ratio<T>>());
+        }
+
+        /// In base 16.
+        #[inline(never)]
+        pub fn from_str_radix<T: Number>(texts: &[u8], spans: &[Span], out: &mut [Answer<T>])
+        where
+            $(T: $Bound),+
+        {
+            read(texts, spans, out, |text| Ratio::<T>::from_str_radix(text, 16));
+        }
+
+        #[inline(always)]
+        fn print<T: Number>(
+            pairs: &[Pair<T>],
+            out: &mut [u8],
+            ends: &mut [usize],
+            write: impl Fn(&mut &mut [u8], &Ratio<T>) -> std::io::Result<()>,
+        ) {
+            let room = out.len();
+            let mut rest = out;
+            for (pair, end) in pairs.iter().zip(ends) {
+                write(&mut rest, &pair.0).expect("the buffer has room");
+                *end = room - rest.len();
+            }
+        }
+
+        #[inline(never)]
+        pub fn printed<T: Number>(pairs: &[Pair<T>], out: &mut [u8], ends: &mut [usize])
+        where
+            $(T: $Bound),+
+        {
+            print(pairs, out, ends, |rest, x| write!(rest, "{}", x));
+        }
+
+        #[inline(never)]
+        pub fn hex<T: Number>(pairs: &[Pair<T>], out: &mut [u8], ends: &mut [usize])
+        where
+            $(T: $Bound),+
+        {
+            print(pairs, out, ends, |rest, x| write!(rest, "{:x}", x));
+        }
+    };
+    (@checked $($Bound:path),+; $call:ident $($more:ident)*) => {
+        #[inline(never)]
+        pub fn $call<T: Number>(pairs: &[Pair<T>], out: &mut [Answer<T>])
+        where
+            $(T: $Bound),+
+        {
+            each(pairs, out, |pair| answered(pair.0.$call(&pair.1)));
+        }
+
+        slices! { @checked $($Bound),+; $($more)* }
+    };
+    (@single $($Bound:path),+; $call:ident $($more:ident)*) => {
+        #[inline(never)]
+        pub fn $call<T: Number>(pairs: &[Pair<T>], out: &mut [Answer<T>])
+        where
+            $(T: $Bound),+
+        {
+            each(pairs, out, |pair| answered(Some(pair.0.$call())));
+        }
+
+        slices! { @single $($Bound),+; $($more)* }
+    };
+    (@checked $($Bound:path),+;) => {};
+    (@single $($Bound:path),+;) => {};
+}

@@ -1,11 +1,8 @@
-//! Types that meet the laws of `Integer` and are no primitive ones, and every fraction of the smallest
-//! of them walked.
+//! Types that meet the laws of `Integer` and are no primitive ones.
 #![tactic(auto)]
 
 mod nat2;
 mod sym5;
-#[cfg(test)]
-mod tests;
 mod two3;
 mod watch8;
 

@@ -1,36 +1,12 @@
 //! Rows of the checked calls over the three types, from outside.
-use super::fractions::{answers, fraction};
-use super::plain::Plain;
-use super::written::Written;
-use crate::{Nat2, Sym5, Two3};
+use crate::calls::{Call, called};
+use crate::fractions::{answers, fraction};
+use crate::plain::Plain;
+use crate::written::Written;
 use num_rational::Ratio;
 use ratio_integer::{Integer, SignedInteger};
+use ratio_odd::{Nat2, Sym5, Two3};
 use std::cmp::Ordering;
-
-/// A checked call.
-#[derive(Clone, Copy)]
-enum Call {
-    Add,
-    Sub,
-    Mul,
-    Div,
-}
-
-/// What the call answers, if `T` has both fractions and their denominators are positive.
-fn called<T: Integer>(x: Plain, call: Call, y: Plain) -> Option<Option<Ratio<T>>> {
-    let left = fraction::<T>(x)?;
-    let right = fraction::<T>(y)?;
-    if T::ZERO < *left.denom() && T::ZERO < *right.denom() {
-        Some(match call {
-            Call::Add => left.checked_add(&right),
-            Call::Sub => left.checked_sub(&right),
-            Call::Mul => left.checked_mul(&right),
-            Call::Div => left.checked_div(&right),
-        })
-    } else {
-        None
-    }
-}
 
 /// A row: a fraction, a call, another fraction and the answer's fields.
 type Row = (i8, i8, Call, i8, i8, Option<(i8, i8)>);

@@ -1,9 +1,9 @@
 //! Rounding and signs of every fraction of the three smallest types, beside a plain model.
-use super::fractions::{fraction, has, looked_at};
-use super::plain::{self, Plain, Range};
-use crate::{Nat2, Sym5, Two3};
+use crate::fractions::{fraction, has, looked_at};
+use crate::plain::{self, Plain, Range};
 use num_rational::Ratio;
 use ratio_integer::{Integer, SignedInteger};
+use ratio_odd::{Nat2, Sym5, Two3};
 use std::process::Abort;
 use std::test::Fail;
 

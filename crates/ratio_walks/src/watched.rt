@@ -1,10 +1,10 @@
 //! The divisions of the order and of the codes, counted where they are made.
-use super::fractions::looked_at;
-use super::plain::{self, Euclid, Plain};
-use super::written::Written;
-use crate::Watch8;
+use crate::fractions::{looked_at, raw};
+use crate::plain::{self, Euclid, Plain};
+use crate::written::Written;
 use num_rational::Ratio;
 use ratio_integer::Integer;
+use ratio_odd::Watch8;
 use std::cell::Cell;
 use std::process::Abort;
 use std::test::Fail;
@@ -14,12 +14,12 @@ const ABOVE_MAX: i128 = 128;
 
 /// The watched fraction.
 fn watched<'a>(x: Plain, divs: &'a Cell<u32>, sums: &'a Cell<u32>) -> Option<Ratio<Watch8<'a>>> {
-    let denom = Watch8::new(x.d, divs, sums);
-    if denom.is_zero() {
-        None
-    } else {
-        Some(Ratio::new_raw(Watch8::new(x.n, divs, sums), denom))
-    }
+    raw(Watch8::new(x.n, divs, sums), Watch8::new(x.d, divs, sums))
+}
+
+/// What a fraction over any type feeds a hasher.
+fn written<T: Integer>(x: Ratio<T>) -> Written {
+    Written::of(&x)
 }
 
 /// Whether the counts are at most so many divisions, and eight times one more sums and differences.
@@ -43,7 +43,7 @@ fn hashes_within(x: Plain, most: u8) -> Option<bool> {
     let divs = Cell::new(0);
     let sums = Cell::new(0);
     let fraction = watched(x, &divs, &sums)?;
-    let _ = Written::of(&fraction);
+    let _ = written(fraction);
     Some(are_within(&divs, &sums, most))
 }
 

@@ -1,10 +1,11 @@
 //! Every fraction of the three smallest types, of either sign, beside a plain model.
-use super::fractions::{answers, fraction, looked_at};
-use super::plain::{self, Euclid, Plain, Range};
-use super::written::Written;
-use crate::{Nat2, Sym5, Two3};
+use crate::calls::{CALLS, called, modelled};
+use crate::fractions::{answers, fraction, looked_at};
+use crate::plain::{self, Euclid, Plain, Range};
+use crate::written::Written;
 use num_rational::Ratio;
 use ratio_integer::Integer;
+use ratio_odd::{Nat2, Sym5, Two3};
 use std::process::Abort;
 use std::test::Fail;
 
@@ -69,19 +70,12 @@ fn coded_well<T: Integer>(x: Plain, y: Plain) -> Option<bool> {
 /// Whether the five checked calls answer what the model does, if `T` has both fractions and their
 /// denominators are positive.
 fn computed_well<T: Integer>(x: Plain, y: Plain, range: Range) -> Option<bool> {
-    let left = fraction::<T>(x)?;
-    let right = fraction::<T>(y)?;
-    if T::ZERO < *left.denom() && T::ZERO < *right.denom() {
-        Some(
-            answers(left.checked_add(&right), range.sum(x, y))
-                && answers(left.checked_sub(&right), range.difference(x, y))
-                && answers(left.checked_mul(&right), range.product(x, y))
-                && answers(left.checked_div(&right), range.quotient(x, y))
-                && answers(left.checked_rem(&right), range.remainder(x, y)),
-        )
-    } else {
-        None
+    for call in CALLS {
+        if !answers(called::<T>(x, call, y)?, modelled(x, call, y, range)) {
+            return Some(false);
+        }
     }
+    Some(true)
 }
 
 /// Whether the codes of the fraction at this place, and its lowest terms, are those of the model, if

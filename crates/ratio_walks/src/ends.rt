@@ -1,5 +1,6 @@
 //! Rows at the ends of the signed primitive types.
-use super::written::Written;
+use crate::fractions::raw;
+use crate::written::Written;
 use num_rational::Ratio;
 use ratio_integer::SignedInteger;
 use std::cmp::Ordering;
@@ -7,19 +8,22 @@ use std::hash::Hash;
 
 /// Whether `n/d` stands so to `m/e`.
 fn stands<T: SignedInteger>(n: T, d: T, m: T, e: T, order: Ordering) -> bool {
-    !d.is_zero() && !e.is_zero() && Ratio::new_raw(n, d).cmp(&Ratio::new_raw(m, e)) == order
+    match (raw(n, d), raw(m, e)) {
+        (Some(x), Some(y)) => x.cmp(&y) == order,
+        _ => false,
+    }
 }
 
 /// Whether a hasher is fed with these codes of `n/d`, and with no others.
 fn has_codes<T: SignedInteger>(n: T, d: T, codes: &[T]) -> bool {
-    if d.is_zero() {
-        return false;
-    }
     let mut wanted = Written::new();
     for code in codes {
         code.hash(&mut wanted);
     }
-    Written::of(&Ratio::new_raw(n, d)).as_slice() == wanted.as_slice()
+    match raw(n, d) {
+        Some(x) => Written::of(&x).as_slice() == wanted.as_slice(),
+        None => false,
+    }
 }
 
 /// Whether the greatest and the least fraction are ordered and hashed by their values.

@@ -1,8 +1,8 @@
 //! Powers of every fraction of the three smallest types, beside a plain model.
-use super::fractions::{fraction, has, looked_at};
-use super::plain::{Plain, Range};
-use crate::{Nat2, Sym5, Two3};
+use crate::fractions::{fraction, has, looked_at};
+use crate::plain::{self, Plain, Range};
 use ratio_integer::Integer;
+use ratio_odd::{Nat2, Sym5, Two3};
 use std::process::Abort;
 use std::test::Fail;
 
@@ -15,13 +15,19 @@ fn power(x: Plain, exponent: i32, range: Range) -> Option<(i128, i128)> {
         return None;
     }
     if exponent >= 0 {
-        return Some((numer, denom));
+        Some((numer, denom))
+    } else {
+        turned_over(numer, denom, range)
     }
-    let turned = numer.checked_neg()?;
+}
+
+/// The denominator over the numerator, with the sign above, if the type holds both.
+fn turned_over(numer: i128, denom: i128, range: Range) -> Option<(i128, i128)> {
+    let below = plain::minus(0, numer);
     if numer > 0 {
         Some((denom, numer))
-    } else if numer < 0 && range.holds(turned) {
-        Some((denom.checked_neg()?, turned))
+    } else if numer < 0 && range.holds(below) {
+        Some((plain::minus(0, denom), below))
     } else {
         None
     }
@@ -67,6 +73,6 @@ fn every_power(rt: HostRuntime) -> Result<(), Fail> {
     let nat2 = raised::<Nat2>(&rt, Range { lo: 0, hi: 2 });
     let two3 = raised::<Two3>(&rt, Range { lo: -3, hi: 2 });
     println!(rt; "raised: {sym5}, {nat2}, {two3}")?;
-    assert!(rt; sym5 == 9 * 55 && nat2 == 9 * 6 && two3 == 9 * 12);
+    assert!(rt; sym5 == 495 && nat2 == 54 && two3 == 108);
     Ok(())
 }

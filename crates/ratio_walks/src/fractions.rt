@@ -1,18 +1,21 @@
 //! Fractions over any type, from and to plain numbers.
-use super::plain::Plain;
+use crate::plain::Plain;
 use num_rational::Ratio;
 use ratio_integer::Integer;
 use std::process::Abort;
 
-/// The fraction with these fields, if `T` has both.
-pub fn fraction<T: Integer>(x: Plain) -> Option<Ratio<T>> {
-    let numer = T::from_i128(x.n as i128)?;
-    let denom = T::from_i128(x.d as i128)?;
+/// The fraction with these fields, if the denominator is not 0.
+pub fn raw<T: Integer>(numer: T, denom: T) -> Option<Ratio<T>> {
     if denom.is_zero() {
         None
     } else {
         Some(Ratio::new_raw(numer, denom))
     }
+}
+
+/// The fraction with these fields, if `T` has both.
+pub fn fraction<T: Integer>(x: Plain) -> Option<Ratio<T>> {
+    raw(T::from_i128(x.n as i128)?, T::from_i128(x.d as i128)?)
 }
 
 /// Whether the fraction has these fields.

@@ -5,9 +5,14 @@ use mathlib.Core.HLevel.{is_prop→PathP}
 use Rattle.ratio_integer.specs.Fraction.{Fits, IsHeldLowest, IsLowestTermsOf}
 use Rattle.ratio_integer.proofs.LowestTerms.{lowest_own, lowest_unique}
 use Rattle.num_rational.specs.declared.ratio.Ratio.{Ratio}
+use Rattle.num_rational.specs.declared.reduced.Reduced.{Reduced}
+use Rattle.num_rational.specs.Comparison.{IsInLowestTerms}
 
 pub same_ratio : {T : _} {i : _} {o : _} {e : _} {p : _} {h : _} (x y : Ratio T i o e p h) → x.numer ≡ y.numer → x.denom ≡ y.denom → x ≡ y
 same_ratio {i = i} x y a b = λ k. record { numer = a k; denom = b k; nonzero = is_prop→PathP (λ j. i.value (b j) ≡ pos 0 → ⊥) (λ j. Prim.hlevel props) x.nonzero y.nonzero k }
+
+pub same_reduced : {T : _} {i : _} {o : _} {e : _} {p : _} {h : _} (x y : Reduced T i o e p h) → x.ratio ≡ y.ratio → x ≡ y
+same_reduced x y same = λ k. record { ratio = same k; lowest = is_prop→PathP (λ j. IsInLowestTerms (same j)) (λ j. Prim.hlevel props) x.lowest y.lowest k }
 
 -- lowest terms that are held fit
 pub fits_itself : (lo hi n d a b : ℤ) → IsHeldLowest lo hi n d a b → Fits lo hi a b

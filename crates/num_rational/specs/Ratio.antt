@@ -2,6 +2,8 @@
 use Rattle.std.specs.Prelude.{◌≡◌, ℕ, ℤ, pos, List, Option, None, Some, Result}
 use Rattle.ratio_integer.specs.Fraction.{ChecksLowest, Fits, IsHeldLowest, IsLowestTermsOf}
 use Rattle.ratio_integer.specs.Range.{IsHeld}
+use Rattle.ratio_integer.proofs.LowestTerms.{over_one}
+use Rattle.ratio_integer.proofs.Whole.{positive_nonzero}
 use Rattle.ratio_core.specs.declared.parse_error.RatioErrorKind.{RatioErrorKind}
 use Rattle.ratio_core.specs.Reading.{AnswersText, IsFractionText}
 use Rattle.num_rational.specs.declared.ratio.Ratio.{Ratio}
@@ -12,7 +14,7 @@ fields r = (r.numer, r.denom)
 
 -- the fraction c over 1, with its fields
 abbrev pub from_integer : {T : Type 0} {i : _} {o : _} {e : _} {p : _} {h : _} → T → Ratio T i o e p h
-from_integer {i = i} c = record { numer = c; denom = i.ONE; nonzero = i.one_nonzero }
+from_integer {i = i} c = record { numer = c; denom = i.ONE; nonzero = positive_nonzero (i.value i.ONE) (over_one (i.value c) (i.value i.ONE) i.one_number).positive }
 
 -- the numerator, as a whole number
 abbrev pub numerator : {T : _} {i : _} {o : _} {e : _} {p : _} {h : _} → Ratio T i o e p h → ℤ

@@ -1,11 +1,12 @@
 -- A fraction that is always in lowest terms, seen as the `Ratio` of its fields.
 use Rattle.std.specs.Prelude.{◌≤ℤ◌, ◌++◌, ℕ, ℤ, pos, List, Option, None, Some, Result}
+use Rattle.ratio_integer.proofs.LowestTerms.{over_one}
 use Rattle.ratio_core.specs.declared.parse_error.RatioErrorKind.{RatioErrorKind}
 use Rattle.ratio_core.specs.Nearest.{IsNearest}
 use Rattle.ratio_core.specs.Reading.{AnswersText, IsFractionText}
 use Rattle.num_rational.specs.declared.ratio.Ratio.{Ratio}
 use Rattle.num_rational.specs.declared.reduced.Reduced.{Reduced}
-use Rattle.num_rational.specs.Ratio.{denominator, numerator}
+use Rattle.num_rational.specs.Ratio.{denominator, from_integer, numerator}
 
 -- the same fraction as a `Ratio`
 abbrev pub ratio_of : {T : _} {i : _} {o : _} {e : _} {p : _} {h : _} → Reduced T i o e p h → Ratio T i o e p h
@@ -15,6 +16,10 @@ ratio_of x = x.ratio
 abbrev pub ratio_in : {T : _} {i : _} {o : _} {e : _} {p : _} {h : _} → Option (Reduced T i o e p h) → Option (Ratio T i o e p h)
 ratio_in None = None
 ratio_in (Some x) = Some x.ratio
+
+-- the number c over 1
+abbrev pub reduced_from_integer : {T : Type 0} {i : _} {o : _} {e : _} {p : _} {h : _} → T → Reduced T i o e p h
+reduced_from_integer {i = i} c = record { ratio = from_integer c; lowest = over_one (i.value c) (i.value i.ONE) i.one_number }
 
 -- what the two fields feed a hasher, each by the element's own hash
 abbrev pub writes_of_fields : {T : _} {i : _} {o : _} {e : _} {p : _} {h : _} → Reduced T i o e p h → List (List ℕ)

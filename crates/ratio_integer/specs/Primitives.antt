@@ -1,5 +1,5 @@
 -- How the primitive types of a number of bits meet the laws, once for the signed and once for the unsigned ones.
-use Rattle.std.specs.Prelude.{◌≡◌, ◌≢◌, ◌≤◌, ℕ, ℤ, pos, negsuc, unsigned_abs, nat_eq, List, Some}
+use Rattle.std.specs.Prelude.{◌≡◌, ◌≤◌, ℕ, ℤ, pos, negsuc, unsigned_abs, nat_eq, List, Some}
 use Rattle.std.specs.Ordering.{int_cmp, int_eq, nat_cmp}
 use Rattle.std.proofs.Common.{refl, ap, arith, inl, inr}
 use Rattle.std.proofs.lemmas.Int.{ints}
@@ -7,9 +7,6 @@ use Rattle.std.proofs.lemmas.Bool.Decides.{Decides-int_eq}
 use Rattle.num_traits.specs.Ints.{unsigned-eq}
 use Rattle.ratio_integer.specs.Laws.{IsLawful}
 use Rattle.ratio_integer.specs.Range.{IsHeld}
-
-pub one_not_zero : pos 1 ≢ pos 0
-one_not_zero e = omega (arith, ints)
 
 -- the whole numbers from -h-1 to h, seen as themselves
 pub signed_laws : (h : ℕ) (hash : ℤ → List (List ℕ)) → 2 ≤ h → IsLawful ℤ (negsuc h) (pos h) (λ x. x) (pos 0) (pos 1) (negsuc h) (pos h) int_eq int_cmp (λ a b. Some (int_cmp a b)) hash hash

@@ -36,7 +36,7 @@ pub trait Integer: Copy + Ord + Hash {
     ghost EXACT_SUMS: { Bool };
 
     // A fact that a constant fraction over the type may name.
-    ghost one_nonzero: { value ONE ≢ pos 0 };
+    ghost one_number: { value ONE ≡ pos 1 };
 
     /// The number 0.
     const ZERO: Self;

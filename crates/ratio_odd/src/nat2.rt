@@ -2,7 +2,6 @@
 ghost use Rattle.std.specs.Prelude.{◌≡◌, ℤ, pos, false};
 ghost use Rattle.std.specs.Hash as hash;
 ghost use Rattle.std.proofs.Common.{inl, refl};
-ghost use Rattle.ratio_integer.specs.Primitives.{one_not_zero};
 ghost use Rattle.ratio_integer.specs.Range.{IsHeld};
 ghost use Rattle.ratio_odd.specs.Numbers.{laws_of_numbers};
 
@@ -44,7 +43,7 @@ impl Integer for Nat2 {
 
     ghost EXACT_SUMS = { false };
 
-    ghost one_nonzero = { one_not_zero };
+    ghost one_number = { refl };
 
     const ZERO: Nat2 = Nat2 { n: 0 };
 

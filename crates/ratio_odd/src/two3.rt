@@ -2,7 +2,6 @@
 ghost use Rattle.std.specs.Prelude.{◌≡◌, ℤ, pos, negsuc, false};
 ghost use Rattle.std.specs.Hash as hash;
 ghost use Rattle.std.proofs.Common.{inl, inr, refl};
-ghost use Rattle.ratio_integer.specs.Primitives.{one_not_zero};
 ghost use Rattle.ratio_integer.specs.Range.{IsHeld};
 ghost use Rattle.ratio_odd.specs.Numbers.{laws_of_numbers};
 
@@ -45,7 +44,7 @@ impl Integer for Two3 {
 
     ghost EXACT_SUMS = { false };
 
-    ghost one_nonzero = { one_not_zero };
+    ghost one_number = { refl };
 
     const ZERO: Two3 = Two3 { n: 0 };
 

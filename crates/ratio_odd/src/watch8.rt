@@ -5,7 +5,6 @@ ghost use Rattle.std.specs.Cmp.{partial_order_from_own_ties};
 ghost use Rattle.std.specs.Cmp.Rules.{comparing, hashing};
 ghost use Rattle.std.specs.Ordering.{as_partial_cmp, int_cmp, int_eq, on};
 ghost use Rattle.std.proofs.Common.{inl, inr, lit≤, refl, rules};
-ghost use Rattle.ratio_integer.specs.Primitives.{one_not_zero};
 ghost use Rattle.ratio_odd.specs.Numbers.{laws_of_numbers};
 ghost use Rattle.ratio_odd.specs.Watched.{unwatched, watched_number};
 
@@ -148,7 +147,7 @@ impl<C: Counter> Integer for Watched<C> {
 
     ghost EXACT_SUMS = { false };
 
-    ghost one_nonzero = { one_not_zero };
+    ghost one_number = { refl };
 
     const ZERO: Watched<C> = Watched {
         n: 0,

@@ -2,7 +2,7 @@
 ghost use Rattle.std.specs.Prelude.{◌-◌, ◌^◌, pos, negsuc, false};
 ghost use Rattle.std.specs.Hash as hash;
 ghost use Rattle.std.proofs.Common.{lit≤, refl};
-ghost use Rattle.ratio_integer.specs.Primitives.{one_not_zero, signed_laws};
+ghost use Rattle.ratio_integer.specs.Primitives.{signed_laws};
 
 use crate::binary_gcd::binary_gcd;
 use crate::integer::Integer;
@@ -29,7 +29,7 @@ impl Integer for i16 {
 
     ghost EXACT_SUMS = { false };
 
-    ghost one_nonzero = { one_not_zero };
+    ghost one_number = { refl };
 
     const ZERO: i16 = 0;
 

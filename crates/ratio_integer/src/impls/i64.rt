@@ -2,7 +2,7 @@
 ghost use Rattle.std.specs.Prelude.{◌-◌, ◌^◌, pos, negsuc, true};
 ghost use Rattle.std.specs.Hash as hash;
 ghost use Rattle.std.proofs.Common.{lit≤, refl};
-ghost use Rattle.ratio_integer.specs.Primitives.{one_not_zero, signed_laws};
+ghost use Rattle.ratio_integer.specs.Primitives.{signed_laws};
 
 use crate::binary_gcd::binary_gcd;
 use crate::exact_sum;
@@ -30,7 +30,7 @@ impl Integer for i64 {
 
     ghost EXACT_SUMS = { true };
 
-    ghost one_nonzero = { one_not_zero };
+    ghost one_number = { refl };
 
     const ZERO: i64 = 0;
 

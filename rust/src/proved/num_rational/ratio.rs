@@ -160,8 +160,8 @@ impl<T: Copy + Integer> Ratio<T> {
     }
 }
 
-/// The constants of `Ratio`. They stand in a trait, since `ZERO` and `zero` of one type would differ
-/// in case alone.
+/// The constants of `Ratio` and of `Reduced`. They stand in a trait, since `ZERO` and `zero` of one type
+/// would differ in case alone.
 pub trait Constants: Sized {
     /// The fraction 0/1.
     const ZERO: Self;

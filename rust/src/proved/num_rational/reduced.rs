@@ -15,7 +15,7 @@ mod rounding;
 mod sign;
 mod text;
 
-use crate::proved::num_rational::ratio::Ratio;
+use crate::proved::num_rational::ratio::{Constants, Ratio};
 pub use operand::ReducedOperand;
 use crate::proved::ratio_integer::Integer;
 
@@ -111,6 +111,16 @@ impl<T: Copy + Integer> Reduced<T> {
     pub fn is_integer(&self) -> bool {
         self.ratio.is_integer()
     }
+}
+
+impl<T: Copy + Integer> Constants for Reduced<T> {
+    const ZERO: Reduced<T> = Reduced {
+        ratio: Ratio::<T>::ZERO,
+    };
+
+    const ONE: Reduced<T> = Reduced {
+        ratio: Ratio::<T>::ONE,
+    };
 }
 
 impl<T: Copy + Integer> Default for Reduced<T> {

@@ -2,3 +2,4 @@ pub mod FoldLemmas
 pub mod JsonLemmas
 pub mod PaddingLemmas
 pub mod RatioLemmas
+pub mod ReducedLemmas

@@ -8,6 +8,7 @@ pub mod Padding
 pub mod Powers
 pub mod Ratio
 pub mod Reduced
+pub mod ReducedLaws
 pub use Rattle.ratio_core.specs.Conditions
 pub use Rattle.ratio_core.specs.ContinuedFraction
 pub use Rattle.ratio_core.specs.Laws

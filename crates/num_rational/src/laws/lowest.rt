@@ -1,53 +1,49 @@
-//! The laws of fractions that are always in lowest terms. Each function tries the law on the fractions that it is given, and
-//! its contract says that the law holds of all.
-ghost use Rattle.std.specs.Prelude.{◌≡◌, IsTrue};
-ghost use Rattle.num_rational.specs.Comparison.{HaveSameFields};
+//! The laws of fractions that are always in lowest terms: each function's contract is the law, of the fractions that it is given,
+//! and it changes nothing. A premise says what a call answered, and nothing else.
+ghost use Rattle.std.specs.Prelude.{◌≡◌, ◌↔◌};
+ghost use Rattle.std.specs.declared.cmp.Ordering.TheVariants.{Equal};
+ghost use Rattle.num_rational.specs.Comparison.{HaveSameFields, order_of};
 ghost use Rattle.num_rational.specs.Hashing.{AreToldApart};
 ghost use Rattle.num_rational.specs.Reduced.{ratio_of, writes_of_fields};
+ghost use Rattle.num_rational.specs.ReducedLaws.{AddsExponents, AssociatesInProduct, AssociatesInSum, CommutesInProduct, CommutesInSum, DistributesOverSum, IsInvertedByReciprocal, IsSumOfParts};
 
 use crate::reduced::Reduced;
 use ratio_integer::Integer;
 
-/// Where `x + y` is answered, so is `y + x`, by the same fraction.
-pub fn sums_commute<T: Copy + Integer>(x: &Reduced<T>, y: &Reduced<T>) -> bool
-    ensures { IsTrue result }
-{
-    match x.checked_add(y) {
-        Some(left) => match y.checked_add(x) {
-            Some(right) => left == right,
-            None => false,
-        },
-        None => true,
-    }
-}
+/// Sums.
+pub fn sums<T: Copy + Integer>(x: &Reduced<T>, y: &Reduced<T>, z: &Reduced<T>)
+    ensures commute { CommutesInSum x.now y.now }
+    ensures associate { AssociatesInSum x.now y.now z.now }
+{}
 
-/// Where `x * y` is answered, so is `y * x`, by the same fraction.
-pub fn products_commute<T: Copy + Integer>(x: &Reduced<T>, y: &Reduced<T>) -> bool
-    ensures { IsTrue result }
-{
-    match x.checked_mul(y) {
-        Some(left) => match y.checked_mul(x) {
-            Some(right) => left == right,
-            None => false,
-        },
-        None => true,
-    }
-}
+/// Products, over sums too.
+pub fn products<T: Copy + Integer>(x: &Reduced<T>, y: &Reduced<T>, z: &Reduced<T>)
+    ensures commute { CommutesInProduct x.now y.now }
+    ensures associate { AssociatesInProduct x.now y.now z.now }
+    ensures distribute { DistributesOverSum x.now y.now z.now }
+{}
 
-/// What `trunc` gives and what it leaves add up to the fraction.
-pub fn parts_add_up<T: Copy + Integer>(x: &Reduced<T>) -> bool
-    ensures { IsTrue result }
+/// Powers and the reciprocal.
+pub fn powers<T: Copy + Integer>(x: &Reduced<T>)
+    ensures add { AddsExponents x.now }
+    ensures invert { IsInvertedByReciprocal x.now }
+{}
+
+/// The two parts, which `trunc` and `fract` give.
+pub fn parts<T: Copy + Integer>(x: &Reduced<T>)
+    ensures { IsSumOfParts x.now }
 {
     let _ = x.numer().held();
     let _ = x.denom().held();
-    match x.trunc().checked_add(x.fract()) {
-        Some(sum) => sum == *x,
-        None => false,
-    }
 }
 
+/// The order answers `Equal` exactly where the fields are equal, as `==` is true there.
+pub fn orders<T: Copy + Integer>(x: &Reduced<T>, y: &Reduced<T>)
+    ensures { (order_of (ratio_of x.now) (ratio_of y.now) ≡ Equal) ↔ HaveSameFields (ratio_of x.now) (ratio_of y.now) }
+{}
+
 /// Fractions that feed a hasher the same are the same, where the numbers of the type are told apart.
-pub fn hashes_tell_apart<T: Copy + Integer>(x: &Reduced<T>, y: &Reduced<T>)
+pub fn hashes<T: Copy + Integer>(x: &Reduced<T>, y: &Reduced<T>)
     ensures { AreToldApart T.lo T.hi T.number_hash_input → writes_of_fields x.now ≡ writes_of_fields y.now → HaveSameFields (ratio_of x.now) (ratio_of y.now) }
 {
     let _ = x.numer().held();

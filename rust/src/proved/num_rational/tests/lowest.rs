@@ -2,7 +2,7 @@
 //! Fractions that are always in lowest terms: rows from outside, and each call once at a concrete type.
 use super::asserting::{answers, holds, is, reads};
 use crate::proved::num_rational::laws::lowest;
-use crate::proved::num_rational::{Form, Ratio, Reduced, Reduced32, Reduced64};
+use crate::proved::num_rational::{Constants, Form, Ratio, Reduced, Reduced32, Reduced64};
 use crate::proved::ratio_integer::Integer;
 use core::cmp::Ordering;
 use std::collections::BTreeMap;
@@ -36,6 +36,8 @@ fn makes_lowest_terms() -> Result<(), Fail> {
     is(whole.clone().into(), 7, 1);
     is(Reduced64::default().to_ratio(), 0, 1);
     is(Reduced64::one().to_ratio(), 1, 1);
+    is(Reduced64::ZERO.to_ratio(), 0, 1);
+    is(Reduced64::ONE.to_ratio(), 1, 1);
     holds("fields", *whole.numer() == 7 && *whole.denom() == 1);
     holds("raw", whole.into_raw() == (7, 1));
     holds("whole", whole.is_integer() && !whole.is_zero());
@@ -157,6 +159,10 @@ fn computes_where_8_bits_end() {
         Reduced::<i8>::from_integer(-128),
         Reduced::<i8>::from_integer(127),
     );
+    let (many, few) = (Reduced::checked_new(127i8, 2), Reduced::checked_new(2i8, 127));
+    gives(many.unwrap_or(least).checked_mul(few.unwrap_or(least)), Some((1, 1)));
+    let half = Reduced::checked_new(-1i8, 2).unwrap_or(least);
+    gives(Reduced::<i8>::from_integer(64).checked_div(half), Some((-128, 1)));
     gives(least.checked_div(-1), None);
     gives(most.checked_add(1), None);
     gives(least.checked_neg(), None);
@@ -191,11 +197,14 @@ fn folds_lists() {
 }
 
 #[test]
-fn meets_its_laws() {
+fn has_laws() {
     let x = Reduced64::checked_new(-7, 2).unwrap_or(Reduced::zero());
     let y = Reduced64::checked_new(i64::MAX, 3).unwrap_or(Reduced::zero());
-    holds("sums", lowest::sums_commute(&x, &y));
-    holds("products", lowest::products_commute(&x, &y));
-    holds("parts", lowest::parts_add_up(&x));
-    lowest::hashes_tell_apart(&x, &y);
+    let z = Reduced64::one();
+    lowest::sums(&x, &y, &z);
+    lowest::products(&x, &y, &z);
+    lowest::powers(&x);
+    lowest::parts(&x);
+    lowest::orders(&x, &y);
+    lowest::hashes(&x, &y);
 }

@@ -3,7 +3,7 @@
  * Each call takes what is asked and a place for each answer, and how many of each there are. It
  * returns RATIO_DONE, and each answer has a code; or the two numbers are unlike, and then it returns
  * RATIO_BAD_LENGTH and writes nothing. No call overflows, stops the program or takes memory, whatever
- * numbers it is given. The two slices may not overlap, and a pointer may not be null.
+ * numbers it is given. What is written may overlap nothing else, and a pointer may not be null.
  *
  * Link with libratio_c.a.
  */
@@ -22,7 +22,7 @@ enum {
     RATIO_NOT_HELD = 1,                 /* the answer does not fit in the type */
     RATIO_DIVISION_BY_ZERO = 2,         /* of div and rem */
     RATIO_DENOMINATOR_NOT_POSITIVE = 3, /* of all others */
-    RATIO_ZERO_DENOMINATOR = 4,         /* of compare, hash and reduce, which take negative ones, and of read */
+    RATIO_ZERO_DENOMINATOR = 4,         /* of compare, hash, reduce and print, which take negative ones, and of read */
     RATIO_PARSE_ERROR = 5,              /* of read: no fraction, or its numbers or lowest terms do not fit */
     RATIO_NO_TEXT = 6                   /* of read: the span does not lie in the texts */
 };
@@ -39,6 +39,12 @@ typedef struct { uint32_t code; uint64_t hash; } ratio_hash;
 /* The bytes of a text: from start on, and before end. */
 typedef struct { size_t start, end; } ratio_span;
 
+/* Where the text of a fraction stands; the span is empty where the code is another than RATIO_ANSWERED. */
+typedef struct { uint32_t code; ratio_span span; } ratio_text;
+
+/* How many bytes print wants for each fraction of a type. */
+enum { RATIO_ROOM_I32 = 23, RATIO_ROOM_I64 = 41, RATIO_ROOM_I128 = 81 };
+
 /* Declares the types and the calls over a type of numbers.
  *
  *   ratio_compare_i32    how the left fraction stands to the right one, as their values do, reduced or not
@@ -49,6 +55,8 @@ typedef struct { size_t start, end; } ratio_span;
  *   ratio_floor_i32      the greatest whole number that is not above each fraction, over 1
  *   ratio_round_i32      the nearest whole number, a half away from zero, over 1
  *   ratio_read_i32       the fraction of each text of the bytes that a span names: N/D or N in decimal, in lowest terms
+ *   ratio_print_i32      each fraction as it stands, N/D or N where D is 1, one after another in the bytes; these are at least
+ *                        RATIO_ROOM_I32 for each fraction, or it returns RATIO_BAD_LENGTH, and nothing is written behind the last text
  *   ratio_pow_i32        each fraction to its exponent, not reduced; 0 to a negative one is RATIO_NOT_HELD
  */
 #define RATIO_CALLS(suffix, number)                                                                    \
@@ -68,7 +76,8 @@ typedef struct { size_t start, end; } ratio_span;
     uint32_t ratio_round_##suffix(const ratio_##suffix *, size_t, ratio_answer_##suffix *, size_t);    \
     uint32_t ratio_pow_##suffix(const ratio_power_##suffix *, size_t, ratio_answer_##suffix *, size_t);\
     uint32_t ratio_read_##suffix(const uint8_t *, size_t, const ratio_span *, size_t,                  \
-                                 ratio_answer_##suffix *, size_t);
+                                 ratio_answer_##suffix *, size_t);                                     \
+    uint32_t ratio_print_##suffix(const ratio_##suffix *, size_t, uint8_t *, size_t, ratio_text *, size_t);
 
 RATIO_CALLS(i32, int32_t)
 RATIO_CALLS(i64, int64_t)

@@ -21,7 +21,7 @@ static void expect(int holds, const char *what) {
 #define WIDE(n) {(uint64_t) (int64_t) (n), (n) < 0 ? -1 : 0}
 
 /* 3/2 and -1/4 under each call, and fractions that are refused. */
-#define EVERY_CALL(suffix, N)                                                                        \
+#define EVERY_CALL(suffix, N, room)                                                                   \
     static void every_call_##suffix(void) {                                                          \
         static const ratio_pair_##suffix pair = {{N(3), N(2)}, {N(-1), N(4)}};                       \
         static const ratio_pair_##suffix by_zero = {{N(3), N(2)}, {N(0), N(4)}};                     \
@@ -32,6 +32,9 @@ static void expect(int holds, const char *what) {
             product = {0, {N(-3), N(8)}}, quotient = {0, {N(-6), N(1)}}, rest = {0, {N(0), N(1)}},   \
             low = {0, {N(-3), N(2)}}, half = {0, {N(1), N(2)}}, floor = {0, {N(-2), N(1)}}, raised = {0, {N(-8), N(27)}};\
         ratio_answer_##suffix answer[2], read[4];                                                    \
+        static const ratio_##suffix shown[3] = {{N(6), N(-4)}, {N(3), N(0)}, {N(-5), N(1)}};         \
+        uint8_t bytes[3 * 81];                                                                       \
+        ratio_text text[3];                                                                          \
         ratio_order order = {9, 9};                                                                  \
         ratio_hash hash[2];                                                                          \
         expect(ratio_compare_##suffix(&pair, 1, &order, 1) == RATIO_DONE, "compare " #suffix);       \
@@ -56,6 +59,15 @@ static void expect(int holds, const char *what) {
         expect(ratio_read_##suffix(texts, 8, spans, 4, read, 4) == RATIO_DONE, "read " #suffix);     \
         expect(SAME(read[0], half) && read[1].code == RATIO_PARSE_ERROR, "text " #suffix);           \
         expect(read[2].code == RATIO_ZERO_DENOMINATOR && read[3].code == RATIO_NO_TEXT, "texts " #suffix);\
+        memset(bytes, 'x', sizeof bytes);                                                            \
+        expect(ratio_print_##suffix(shown, 3, bytes, 3 * room - 1, text, 3) == RATIO_BAD_LENGTH, "room " #suffix);\
+        expect(ratio_print_##suffix(shown, 3, bytes, 3 * room, text, 2) == RATIO_BAD_LENGTH, "places " #suffix);\
+        expect(bytes[0] == 'x', "no text " #suffix);                                                 \
+        expect(ratio_print_##suffix(shown, 3, bytes, 3 * room, text, 3) == RATIO_DONE, "print " #suffix);\
+        expect(memcmp(bytes, "6/-4-5xx", 8) == 0, "printed " #suffix);                               \
+        expect(text[0].code == RATIO_ANSWERED && text[0].span.start == 0 && text[0].span.end == 4, "first " #suffix);\
+        expect(text[1].code == RATIO_ZERO_DENOMINATOR && text[1].span.start == text[1].span.end, "second " #suffix);\
+        expect(text[2].code == RATIO_ANSWERED && text[2].span.start == 4 && text[2].span.end == 6, "third " #suffix);\
         GIVES(suffix, pow, power, raised)                                                            \
         expect(ratio_add_##suffix(&pair, 1, answer, 2) == RATIO_BAD_LENGTH, "length " #suffix);      \
     }
@@ -73,9 +85,9 @@ static void expect(int holds, const char *what) {
     expect(ratio_##name##_##suffix(&asked, 1, answer, 1) == RATIO_DONE, #name " " #suffix);          \
     expect(answer[0].code == wanted, #name " code " #suffix);
 
-EVERY_CALL(i32, PLAIN)
-EVERY_CALL(i64, PLAIN)
-EVERY_CALL(i128, WIDE)
+EVERY_CALL(i32, PLAIN, RATIO_ROOM_I32)
+EVERY_CALL(i64, PLAIN, RATIO_ROOM_I64)
+EVERY_CALL(i128, WIDE, RATIO_ROOM_I128)
 
 int main(void) {
     every_call_i32();

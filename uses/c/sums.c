@@ -1,7 +1,6 @@
 /* Prints a page of sums: two fractions, how they stand, and what the calls answer. */
 #include "ratio.h"
 
-#include <inttypes.h>
 #include <stdio.h>
 
 enum { PAIRS = 5, CALLS = 5 };
@@ -31,7 +30,11 @@ static const char *reason(uint32_t code) {
 }
 
 static void print(ratio_i64 x) {
-    printf("%" PRId64 "/%" PRId64, x.numer, x.denom);
+    uint8_t bytes[RATIO_ROOM_I64];
+    ratio_text text;
+    if (ratio_print_i64(&x, 1, bytes, sizeof bytes, &text, 1) == RATIO_DONE) {
+        fwrite(bytes, 1, text.span.end, stdout);
+    }
 }
 
 int main(void) {

@@ -1,7 +1,7 @@
 //! Fractions of texts, and texts of fractions.
-ghost use Rattle.std.specs.Prelude.{◌≡◌, ◌≢◌, ◌≤◌, ◌≤ℤ◌, ◌<ℤ◌, false, pos};
+ghost use Rattle.std.specs.Prelude.{◌≡◌, ◌≢◌, ◌≤◌, ◌≤ℤ◌, ◌<ℤ◌, false, length, pos};
 ghost use Rattle.num_rational.specs.Ratio.{ReadsRatio, denominator, numerator};
-ghost use Rattle.ratio_core.specs.Printing.{ReadsBack, base_of, text_of};
+ghost use Rattle.ratio_core.specs.Printing.{ReadsBack, base_of, decimal_room, text_of};
 ghost use Rattle.ratio_core.specs.Reading.{AnswersText, IsFractionText, IsSlashedText};
 ghost use Rattle.ratio_core.specs.declared.text.form.Form.TheVariants.{Decimal};
 
@@ -64,6 +64,7 @@ impl<T: Primitive> Ratio<T> {
     pub fn decimal_text(&self) -> DecimalText
         ensures bytes { result
             ≡ text_of T.BITS Decimal false (numerator self.now) (denominator self.now) }
+        ensures short { length result ≤ decimal_room T.lo T.hi }
         ensures reads_back { pos 0 <ℤ denominator self.now
             → ReadsBack T.lo T.hi (IsFractionText T.lo T.hi result)
             (numerator self.now) (denominator self.now) }

@@ -12,7 +12,7 @@ pub none_before : {A B : Type 0} (R : A → B → Type 0) (xs : List A) (ys : Li
 none_before R xs ys = record { each = λ k d e within. absurd (omega arith) }
 
 -- R holds at all places where it does before the last
-all_zip : {A B : Type 0} (R : A → B → Type 0) (xs : List A) (ys : List B) → length xs ≡ length ys → ((k : ℕ) (d : A) (e : B) → k < length xs → R (get_or xs k d) (get_or ys k e)) → AllZip R xs ys
+pub all_zip : {A B : Type 0} (R : A → B → Type 0) (xs : List A) (ys : List B) → length xs ≡ length ys → ((k : ℕ) (d : A) (e : B) → k < length xs → R (get_or xs k d) (get_or ys k e)) → AllZip R xs ys
 all_zip R [] [] same each = tt
 all_zip R [] (y ∷ ys) same each = absurd (omega arith)
 all_zip R (x ∷ xs) [] same each = absurd (omega arith)

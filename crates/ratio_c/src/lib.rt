@@ -11,5 +11,6 @@ pub mod numbers128;
 pub mod numbers32;
 pub mod numbers64;
 pub mod one;
+pub mod printing;
 pub mod reading;
 pub mod wide;

@@ -2,6 +2,8 @@
 ghost use Rattle.std.specs.Prelude.{false};
 ghost use Rattle.ratio_c.specs.Calls.{AnswersEach, IsDifferenceAnswer, IsFloorAnswer, IsHashAnswer, IsLowestAnswer, IsOrderAnswer, IsPowerAnswer, IsProductAnswer, IsQuotientAnswer, IsReadAnswer, IsRemainderAnswer, IsRoundAnswer, IsSumAnswer};
 ghost use Rattle.ratio_c.specs.Numbers128.{fraction128, greatest128, least128, said128};
+ghost use Rattle.ratio_c.specs.Texts.{Prints};
+ghost use Rattle.ratio_c.specs.declared.numbers128.TheConstants.{ROOM};
 
 use crate::arithmetic::{Difference, Product, Quotient, Remainder, Sum};
 use crate::compare::{Comparison, Order};
@@ -9,8 +11,12 @@ use crate::crossing::{One, Raised, Reply, Two};
 use crate::each::each;
 use crate::hash::{Hash, Hashing};
 use crate::one::{Floor, LowestTerms, Raising, Rounding};
+use crate::printing::{Text, print};
 use crate::reading::{Reading, Span};
 use crate::wide::Wide;
+
+/// The room for a text: a slash, and two numbers of at most 40 bytes.
+pub const ROOM: usize = 81;
 
 /// A fraction as its two numbers.
 #[repr(C)]
@@ -200,4 +206,16 @@ pub extern "C" fn ratio_read_i128(texts: &[u8], spans: &[Span], answers: &mut [A
     ensures { AnswersEach (λ span answer. IsReadAnswer least128 greatest128 texts.now span.start span.end (said128 answer)) spans.now answers.old answers.new result }
 {
     each(&Reading::<i128>::of(texts), spans, answers)
+}
+
+/// The text of each fraction as it stands, one after another in `texts`, which has `ROOM` bytes for each.
+#[unsafe(no_mangle)]
+pub extern "C" fn ratio_print_i128(
+    asked: &[Fraction128],
+    texts: &mut [u8],
+    answers: &mut [Text],
+) -> u32
+    ensures { Prints 128 ROOM fraction128 asked.now texts.old texts.new answers.old answers.new result }
+{
+    print(asked, ROOM, texts, answers)
 }

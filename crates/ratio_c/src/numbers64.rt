@@ -2,6 +2,8 @@
 ghost use Rattle.std.specs.Prelude.{true};
 ghost use Rattle.ratio_c.specs.Calls.{AnswersEach, IsDifferenceAnswer, IsFloorAnswer, IsHashAnswer, IsLowestAnswer, IsOrderAnswer, IsPowerAnswer, IsProductAnswer, IsQuotientAnswer, IsReadAnswer, IsRemainderAnswer, IsRoundAnswer, IsSumAnswer};
 ghost use Rattle.ratio_c.specs.Numbers64.{fraction64, greatest64, least64, said64};
+ghost use Rattle.ratio_c.specs.Texts.{Prints};
+ghost use Rattle.ratio_c.specs.declared.numbers64.TheConstants.{ROOM};
 
 use crate::arithmetic::{Difference, Product, Quotient, Remainder, Sum};
 use crate::compare::{Comparison, Order};
@@ -9,7 +11,11 @@ use crate::crossing::{One, Raised, Reply, Two};
 use crate::each::each;
 use crate::hash::{Hash, Hashing};
 use crate::one::{Floor, LowestTerms, Raising, Rounding};
+use crate::printing::{Text, print};
 use crate::reading::{Reading, Span};
+
+/// The room for a text: a slash, and two numbers of at most 20 bytes.
+pub const ROOM: usize = 41;
 
 /// A fraction as its two numbers.
 #[repr(C)]
@@ -196,4 +202,16 @@ pub extern "C" fn ratio_read_i64(texts: &[u8], spans: &[Span], answers: &mut [An
     ensures { AnswersEach (λ span answer. IsReadAnswer least64 greatest64 texts.now span.start span.end (said64 answer)) spans.now answers.old answers.new result }
 {
     each(&Reading::<i64>::of(texts), spans, answers)
+}
+
+/// The text of each fraction as it stands, one after another in `texts`, which has `ROOM` bytes for each.
+#[unsafe(no_mangle)]
+pub extern "C" fn ratio_print_i64(
+    asked: &[Fraction64],
+    texts: &mut [u8],
+    answers: &mut [Text],
+) -> u32
+    ensures { Prints 64 ROOM fraction64 asked.now texts.old texts.new answers.old answers.new result }
+{
+    print(asked, ROOM, texts, answers)
 }

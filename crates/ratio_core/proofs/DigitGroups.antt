@@ -37,7 +37,7 @@ grouped (suc k) q r some small wide =
     ∙ ap (λ xs. xs ++ (48 + r % 10) ∷ []) (grouped k q (r / 10) some (omega (arith, small, power)) (omega (arith, wide, product)))
     ∙ append_assoc (decimal q) (group k (r / 10)) ((48 + r % 10) ∷ [])
 
-some_digit : (n : ℕ) → n < 2 ^ 128 → 1 ≤ length (decimal n)
+pub some_digit : (n : ℕ) → n < 2 ^ 128 → 1 ≤ length (decimal n)
 some_digit n small =
     elim (eq-zero-or-pos (n - 9)) [
       | inl h ↦ omega (arith, ap length (decimal_digit n (omega (arith, h))))

@@ -45,6 +45,7 @@ pub mod Shares
 pub mod SignLemmas
 pub mod SumLemmas
 pub mod TestLemmas
+pub mod TextLengths
 pub mod Ticks
 pub mod TwoNearest
 pub mod TwosComplement

@@ -1,5 +1,5 @@
 -- The text of a fraction, and what it is answered where it is read.
-use Rattle.std.specs.Prelude.{◌-◌, ◌^◌, ◌==◌, ℕ, suc, ℤ, pos, negsuc, Bool, true, false, List, [], ◌∷◌, ◌++◌, map, codes, if◌then◌else◌}
+use Rattle.std.specs.Prelude.{◌+◌, ◌-◌, ◌*◌, ◌^◌, ◌==◌, length, max, ℕ, suc, ℤ, pos, negsuc, Bool, true, false, List, [], ◌∷◌, ◌++◌, map, codes, if◌then◌else◌}
 use Rattle.std.specs.Fmt.{digit_glyph, signed_decimal}
 use Rattle.std.specs.Int.Digits.{digits_of}
 use Rattle.std.specs.Ordering.{int_eq}
@@ -55,6 +55,10 @@ body_of bits form alternate n d =
 -- the text of n/d is its body after the prefix of n
 abbrev pub text_of : ℕ → Form → Bool → ℤ → ℤ → List ℕ
 text_of bits form alternate n d = shown_prefix form alternate ++ body_of bits form alternate n d
+
+-- the room for the decimal text of a fraction whose numbers lie from lo to hi: a slash and two numbers, each as long as the longer one of these two
+abbrev pub decimal_room : ℤ → ℤ → ℕ
+decimal_room lo hi = 2 * max (length (signed_decimal lo)) (length (signed_decimal hi)) + 1
 
 -- whatever is answered to a text that reads so, it is the lowest terms of n/d, and not a refusal
 pub record ReadsBack (lo hi : ℤ) (Reads : ℤ → ℤ → Type 0) (n d : ℤ) : Type 0 where

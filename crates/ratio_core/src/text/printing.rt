@@ -2,7 +2,7 @@
 ghost use Rattle.std.specs.Prelude.{◌≡◌, ◌≢◌, ◌+◌, ◌/◌, ◌^◌, ◌≤◌, ◌≤ℤ◌, ◌<ℤ◌, ◌++◌, drop, false, length, pos, decimal, unsigned_abs};
 ghost use Rattle.std.specs.Fmt.{signed_decimal};
 ghost use Rattle.ratio_core.specs.declared.text.form.Form.TheVariants.{Decimal};
-ghost use Rattle.ratio_core.specs.Printing.{ReadsBack, base_of, number_text, prefix_of, shown_prefix, text_of};
+ghost use Rattle.ratio_core.specs.Printing.{ReadsBack, base_of, decimal_room, number_text, prefix_of, shown_prefix, text_of};
 ghost use Rattle.ratio_core.specs.Reading.{IsFractionText, IsSlashedText};
 
 use crate::text::decimal::DecimalText;
@@ -36,6 +36,7 @@ pub fn text<T: Primitive>(numer: T, denom: T, form: Form, alternate: bool) -> Ra
 /// The same in decimal, in an array of 81 bytes, which takes less time to make.
 pub fn decimal_text<T: Primitive>(numer: T, denom: T) -> DecimalText
     ensures bytes { result ≡ text_of T.BITS Decimal false (T.value numer) (T.value denom) }
+    ensures short { length result ≤ decimal_room T.lo T.hi }
     ensures reads_back { pos 0 <ℤ T.value denom
         → ReadsBack T.lo T.hi (IsFractionText T.lo T.hi result) (T.value numer) (T.value denom) }
 {

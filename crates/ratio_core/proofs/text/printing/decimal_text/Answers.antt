@@ -5,6 +5,7 @@ use Rattle.ratio_core.specs.Printing.{ReadsBack}
 use Rattle.ratio_core.specs.Reading.{IsFractionText}
 use Rattle.ratio_core.proofs.PrintingLemmas.{small_magnitude, text_ascii}
 use Rattle.ratio_core.proofs.ReadingBack.{decimal_back}
+use Rattle.ratio_core.proofs.TextLengths.{text_short}
 use Rattle.ratio_core.proofs.text.printing.decimal_text.Goals as goal
 
 pub invariant_of-text : goal.invariant_of-text
@@ -30,3 +31,10 @@ returns-clause-reads_back g c = λ positive.
     (decimal_back bits false t.lo t.hi n d m.range_law c.held.ensures.range c.held-2.ensures.range
     (small_magnitude t.lo t.hi bits n m.range_law width c.held.ensures.range)
     (small_magnitude t.lo t.hi bits d m.range_law width c.held-2.ensures.range) positive)
+
+pub returns-clause-short : goal.returns-clause-short
+returns-clause-short g c =
+    let t = g.T.Integer in
+    let m = g.met.T.Integer in
+    rw c.put_decimal_fraction.ensures.written
+    (text_short g.T.Primitive.BITS t.lo t.hi (t.value c.args.numer) (t.value c.args.denom) m.range_law g.met.T.Primitive.width_law c.held.ensures.range c.held-2.ensures.range)

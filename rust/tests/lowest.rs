@@ -63,7 +63,7 @@ fn order_equality_and_hash() {
     assert_eq!(counts.get(&half), Some(&2));
     assert_eq!([half, less, same].into_iter().collect::<BTreeSet<_>>().len(), 2);
     assert_eq!(Ratio::from(half), Ratio::new(1, 2));
-    assert_eq!(Reduced64::default(), Reduced64::zero());
+    assert_eq!(Reduced64::default(), Reduced64::ZERO);
 }
 
 #[test]

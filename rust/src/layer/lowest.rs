@@ -4,7 +4,7 @@
 use super::integer::{Element, Integer, Signs};
 use super::ratio::Ratio;
 use crate::proved::num_rational as proved;
-use crate::proved::num_rational::ParseRatioError;
+use crate::proved::num_rational::{Constants, ParseRatioError};
 use core::cmp::Ordering;
 use core::fmt;
 use core::hash::{Hash, Hasher};
@@ -19,7 +19,7 @@ use num_traits::Signed;
 /// use bakhsney::{ParseRatioError, Reduced64};
 ///
 /// fn total(shares: &[Reduced64]) -> Option<Reduced64> {
-///     let mut sum = Reduced64::zero();
+///     let mut sum = Reduced64::ZERO;
 ///     for share in shares {
 ///         sum = sum.checked_add(share)?;
 ///     }
@@ -27,8 +27,8 @@ use num_traits::Signed;
 /// }
 ///
 /// let shares = ["1/2", "1/3", "1/6"].map(|text| text.parse().unwrap());
-/// assert_eq!(total(&shares), Some(Reduced64::one()));
-/// assert_eq!(total(&[Reduced64::from(i64::MAX), Reduced64::one()]), None);
+/// assert_eq!(total(&shares), Some(Reduced64::ONE));
+/// assert_eq!(total(&[Reduced64::from(i64::MAX), Reduced64::ONE]), None);
 /// ```
 #[derive(Clone, Copy)]
 pub struct Reduced<T: Integer> {
@@ -55,22 +55,16 @@ impl<T: Integer> Reduced<T> {
     /// The fraction 0/1.
     ///
     /// ```
-    /// assert_eq!(bakhsney::Reduced32::zero().into_raw(), (0, 1));
+    /// assert_eq!(bakhsney::Reduced32::ZERO.into_raw(), (0, 1));
     /// ```
-    #[inline]
-    pub fn zero() -> Reduced<T> {
-        Reduced::new(Proved::<T>::zero())
-    }
+    pub const ZERO: Reduced<T> = Reduced { fraction: Proved::<T>::ZERO };
 
     /// The fraction 1/1.
     ///
     /// ```
-    /// assert_eq!(bakhsney::Reduced32::one().into_raw(), (1, 1));
+    /// assert_eq!(bakhsney::Reduced32::ONE.into_raw(), (1, 1));
     /// ```
-    #[inline]
-    pub fn one() -> Reduced<T> {
-        Reduced::new(Proved::<T>::one())
-    }
+    pub const ONE: Reduced<T> = Reduced { fraction: Proved::<T>::ONE };
 
     /// The lowest terms of `numer/denom`, or `None` where the denominator is 0 or the type does not hold them.
     ///
@@ -168,7 +162,7 @@ impl<T: Integer> Reduced<T> {
     /// Whether the fraction is 0.
     ///
     /// ```
-    /// assert!(bakhsney::Reduced32::zero().is_zero());
+    /// assert!(bakhsney::Reduced32::ZERO.is_zero());
     /// ```
     #[inline]
     pub fn is_zero(&self) -> bool {
@@ -238,7 +232,7 @@ impl<T: Integer> Reduced<T> {
     /// ```
     #[inline]
     pub fn checked_sum<O: Into<Reduced<T>>, I: IntoIterator<Item = O>>(items: I) -> Option<Reduced<T>> {
-        items.into_iter().try_fold(Reduced::zero(), |total, item| total.checked_add(item))
+        items.into_iter().try_fold(Reduced::ZERO, |total, item| total.checked_add(item))
     }
 
     /// The product of the items, or `None` where a step is refused.
@@ -250,7 +244,7 @@ impl<T: Integer> Reduced<T> {
     /// ```
     #[inline]
     pub fn checked_product<O: Into<Reduced<T>>, I: IntoIterator<Item = O>>(items: I) -> Option<Reduced<T>> {
-        items.into_iter().try_fold(Reduced::one(), |total, item| total.checked_mul(item))
+        items.into_iter().try_fold(Reduced::ONE, |total, item| total.checked_mul(item))
     }
 
     /// The reciprocal, or `None` where the fraction is 0 or the type does not hold it.
@@ -259,7 +253,7 @@ impl<T: Integer> Reduced<T> {
     /// use bakhsney::Reduced32;
     ///
     /// assert_eq!(Reduced32::from(-2).checked_recip(), Reduced32::checked_new(-1, 2));
-    /// assert_eq!(Reduced32::zero().checked_recip(), None);
+    /// assert_eq!(Reduced32::ZERO.checked_recip(), None);
     /// ```
     #[inline]
     pub fn checked_recip(&self) -> Option<Reduced<T>> {
@@ -370,7 +364,7 @@ impl<T: Integer + Signed> Reduced<T> {
     /// Whether the fraction is above 0.
     ///
     /// ```
-    /// assert!(bakhsney::Reduced32::one().is_positive());
+    /// assert!(bakhsney::Reduced32::ONE.is_positive());
     /// ```
     #[inline]
     pub fn is_positive(&self) -> bool {
@@ -421,7 +415,7 @@ impl<T: Integer> Hash for Reduced<T> {
 impl<T: Integer> Default for Reduced<T> {
     #[inline]
     fn default() -> Reduced<T> {
-        Reduced::zero()
+        Reduced::ZERO
     }
 }
 

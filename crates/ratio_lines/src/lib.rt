@@ -7,8 +7,6 @@ pub mod calculator;
 pub mod calls;
 pub mod counted;
 pub mod cut;
-#[cfg(test)]
-mod devices;
 pub mod fault;
 pub mod gathered;
 pub mod laws;
@@ -18,5 +16,3 @@ pub mod operator;
 pub mod parts;
 pub mod piece;
 pub mod plain_line;
-#[cfg(test)]
-mod tests;

@@ -9,6 +9,4 @@ pub mod conditions;
 pub mod gears;
 pub mod ledger;
 pub mod readme;
-#[cfg(test)]
-mod tests;
 pub mod units;

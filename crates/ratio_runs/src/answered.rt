@@ -2,21 +2,17 @@
 ghost use Rattle.std.specs.Prelude.{◌<◌, IfOk};
 ghost use Rattle.ratio_lines.specs.Answers.{AreAnswersOf};
 
-mod faces;
-mod faults;
-mod lines;
-
-use crate::calculator::run;
-use crate::counted::Counted;
 use crate::devices::{Feed, Sink};
-use crate::fault::CalcFault;
+use ratio_lines::calculator::run;
+use ratio_lines::counted::Counted;
+use ratio_lines::fault::CalcFault;
 use std::alloc::Global;
 use std::process::Abort;
 use std::test::Fail;
 
 /// What is written for an input of which each read gives at most so many bytes: the theorem on `run`, at
 /// devices in memory.
-fn answered(alloc: Global, input: &[u8], step: usize) -> Result<Vec<u8>, CalcFault>
+pub fn answered(alloc: Global, input: &[u8], step: usize) -> Result<Vec<u8>, CalcFault>
     requires { 0 < step }
     ensures { IfOk result (λ bytes. AreAnswersOf input.now bytes.items) }
 {
@@ -29,7 +25,7 @@ fn answered(alloc: Global, input: &[u8], step: usize) -> Result<Vec<u8>, CalcFau
 }
 
 /// These are the answers to the input, whether a read gives 1, 7 or 512 bytes.
-fn assert_answers(
+pub fn assert_answers(
     rt: &impl Abort,
     alloc: Global,
     input: &[u8],
@@ -42,7 +38,7 @@ fn assert_answers(
 }
 
 /// So many times the same bytes.
-fn repeated(alloc: Global, bytes: &[u8], count: usize) -> Result<Vec<u8>, Fail> {
+pub fn repeated(alloc: Global, bytes: &[u8], count: usize) -> Result<Vec<u8>, Fail> {
     let mut all = Vec::new(alloc);
     for _ in 0..count {
         all.extend_from_slice(bytes)?;

@@ -1,5 +1,5 @@
 //! The worked rows: lines and their answers.
-use super::{answered, assert_answers, repeated};
+use crate::answered::{answered, assert_answers, repeated};
 use std::alloc::Global;
 use std::test::Fail;
 

@@ -1,12 +1,12 @@
-//! Rows from outside, through the public calls.
-use crate::beats::{Beats, Voice};
-use crate::callers::{greatest, mean};
-use crate::conditions::{chained, together};
-use crate::gears::nearest_pair;
-use crate::ledger::{Refusal, split};
-use crate::readme::{faster, third_of, total};
-use crate::units::{convert, in_octave};
+//! Rows of the small programs of `ratio_uses`.
 use num_rational::{Rational64, Reduced64};
+use ratio_uses::beats::{Beats, Voice};
+use ratio_uses::callers::{greatest, mean};
+use ratio_uses::conditions::{chained, together};
+use ratio_uses::gears::nearest_pair;
+use ratio_uses::ledger::{Refusal, split};
+use ratio_uses::readme::{faster, third_of, total};
+use ratio_uses::units::{convert, in_octave};
 use std::cmp::Ordering;
 use std::process::Abort;
 

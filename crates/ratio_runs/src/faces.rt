@@ -1,10 +1,10 @@
 //! What a run asks of its devices, and each public call that no line shows.
-use super::repeated;
-use crate::calculator::run;
-use crate::counted::Counted;
+use crate::answered::repeated;
 use crate::devices::{Feed, Sink, Watch, WatchedFeed, WatchedSink};
-use crate::fault::{CalcFault, fault_line};
-use crate::laws;
+use ratio_lines::calculator::run;
+use ratio_lines::counted::Counted;
+use ratio_lines::fault::{CalcFault, fault_line};
+use ratio_lines::laws;
 use std::io::{Read, Write};
 use std::test::Fail;
 

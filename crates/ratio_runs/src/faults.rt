@@ -1,9 +1,9 @@
 //! Runs on devices that fail, and on inputs that end early.
-use super::{answered, repeated};
-use crate::calculator::run;
-use crate::counted::Counted;
+use crate::answered::{answered, repeated};
 use crate::devices::{Feed, Refusal, Sink};
-use crate::fault::CalcFault;
+use ratio_lines::calculator::run;
+use ratio_lines::counted::Counted;
+use ratio_lines::fault::CalcFault;
 use std::alloc::Global;
 use std::io::ErrorKind;
 use std::process::Abort;

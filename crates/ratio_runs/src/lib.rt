@@ -1,0 +1,16 @@
+//! What no clause says of the programs, with answers from outside: the calculator over devices in memory, and the small
+//! programs.
+#![tactic(auto)]
+
+#[cfg(test)]
+mod answered;
+#[cfg(test)]
+mod devices;
+#[cfg(test)]
+mod faces;
+#[cfg(test)]
+mod faults;
+#[cfg(test)]
+mod lines;
+#[cfg(test)]
+mod small_programs;

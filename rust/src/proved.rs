@@ -10,3 +10,5 @@ pub mod itoa;
 pub mod num_rational;
 pub mod ratio_core;
 pub mod ratio_integer;
+#[cfg(test)]
+mod ratio_rows;

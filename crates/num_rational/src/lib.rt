@@ -16,8 +16,6 @@ mod ratio;
 mod reduced;
 mod rounding;
 mod sign;
-#[cfg(test)]
-mod tests;
 mod text;
 
 pub use json::{JsonInteger, JsonRatioError};

@@ -18,8 +18,6 @@ pub mod sign;
 mod steps;
 pub mod sums;
 mod taken;
-#[cfg(test)]
-mod tests;
 pub mod text;
 
 pub use code_list::CodeList;

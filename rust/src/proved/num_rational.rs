@@ -15,8 +15,6 @@ mod ratio;
 mod reduced;
 mod rounding;
 mod sign;
-#[cfg(test)]
-mod tests;
 mod text;
 
 pub use operand::Operand;

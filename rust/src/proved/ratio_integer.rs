@@ -21,6 +21,3 @@ pub use integer::Integer;
 pub use primitive::Primitive;
 pub use reducing::{cancelled, lowest_terms};
 pub use signed::SignedInteger;
-
-#[cfg(test)]
-mod tests;

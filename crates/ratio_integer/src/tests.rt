@@ -1,3 +1,0 @@
-//! What no clause says: rows from outside, and each call once at each type.
-mod every_call;
-mod rows;

@@ -1,0 +1,3 @@
+//! The calls of integer types, of `ratio_integer`.
+mod every_call;
+mod rows;

@@ -1,0 +1,9 @@
+//! What no clause says of integers and fractions: rows from outside, and each call once at a concrete type.
+#![tactic(auto)]
+
+#[cfg(test)]
+mod fields;
+#[cfg(test)]
+mod integers;
+#[cfg(test)]
+mod ratios;

@@ -1,0 +1,18 @@
+//! The types of fractions, of `num_rational`.
+mod asserting;
+mod carried;
+mod comparing;
+mod every_call;
+mod folds;
+mod forms;
+mod json;
+mod keys;
+mod lowest;
+mod operators;
+mod powers;
+mod recorder;
+mod rounding;
+mod rows;
+mod signs;
+mod texts;
+mod twelve_types;

@@ -1,0 +1,283 @@
+//! The values of the Rust crate's own tests, under the names that they have there: construction, access
+//! and comparison.
+use crate::ratios::asserting::{holds, is};
+use crate::ratios::forms::{self, fraction};
+use crate::ratios::recorder::Written;
+use crate::ratios::texts::{Shown, shown_as};
+use num_rational::{Constants, Form, Ratio, Rational32, Rational64};
+use ratio_integer::Integer;
+use std::cmp::Ordering;
+use std::fmt::InlineText;
+use std::hash::Hash;
+
+// The lowest terms by `new`, where `checked_new` answers.
+fn new<T: Integer>(n: T, d: T) -> Ratio<T> {
+    match Ratio::checked_new(n, d) {
+        Some(_) => Ratio::new(n, d),
+        None => Ratio::zero(),
+    }
+}
+
+// A fraction and its fields.
+#[derive(Drop)]
+struct Made {
+    x: Rational64,
+    numer: i64,
+    denom: i64,
+}
+
+fn entry(x: Rational64, numer: i64, denom: i64) -> Made {
+    Made { x, numer, denom }
+}
+
+// 0, 1, 2, 1/2, 3/2 and -1/2, each made by a call of its own.
+fn six() -> [Made; 6] {
+    [
+        entry(Rational64::zero(), 0, 1),
+        entry(Rational64::one(), 1, 1),
+        entry(Rational64::from_integer(2), 2, 1),
+        entry(new(1, 2), 1, 2),
+        entry(new(3, 2), 3, 2),
+        entry(new(-1, 2), -1, 2),
+    ]
+}
+
+#[test]
+fn test_numer(rt: HostRuntime) {
+    let rows = six();
+    for row in &rows {
+        assert!(rt; *row.x.numer() == row.numer);
+    }
+}
+
+#[test]
+fn test_denom(rt: HostRuntime) {
+    let rows = six();
+    for row in &rows {
+        assert!(rt; *row.x.denom() == row.denom);
+    }
+}
+
+#[test]
+fn test_is_integer(rt: HostRuntime) {
+    let rows = six();
+    for row in &rows {
+        assert!(rt; row.x.is_integer() == (row.denom == 1));
+    }
+}
+
+#[test]
+fn test_test_constants(rt: HostRuntime) {
+    let [zero, one, two, half, three_halves, minus_half] = six();
+    holds(
+        &rt,
+        "0",
+        zero.x == Ratio::ZERO && zero.x == Ratio::from(0) && zero.x == new(0, 1),
+    );
+    holds(
+        &rt,
+        "1",
+        one.x == Ratio::ONE && one.x == Ratio::from(1) && one.x == new(1, 1),
+    );
+    holds(&rt, "2", two.x == Ratio::from(2) && two.x == new(2, 1));
+    holds(&rt, "1/2", half.x == Ratio::new_raw(2, 4));
+    holds(&rt, "3/2", three_halves.x == Ratio::new_raw(6, 4));
+    holds(&rt, "-1/2", minus_half.x == Ratio::new_raw(1, -2));
+}
+
+#[test]
+fn test_new_reduce(rt: HostRuntime) {
+    is(&rt, new(2i32, 2), 1, 1);
+    is(&rt, new(0, i32::MIN), 0, 1);
+    is(&rt, new(i32::MIN, i32::MIN), 1, 1);
+}
+
+#[test]
+fn test_cmp(rt: HostRuntime) {
+    let zero = Rational64::zero();
+    let one = Rational64::one();
+    holds(
+        &rt,
+        "==",
+        zero == zero && one == one && Rational64::new_raw(0, 2) == zero,
+    );
+    holds(&rt, "!=", zero != one && one != zero);
+    holds(&rt, "<", zero < one && !(one < zero));
+    holds(&rt, ">", one > zero && !(zero > one));
+    holds(
+        &rt,
+        "<=",
+        zero <= one && zero <= zero && one <= one && !(one <= zero),
+    );
+    holds(
+        &rt,
+        ">=",
+        one >= zero && zero >= zero && one >= one && !(zero >= one),
+    );
+    holds(&rt, "below", zero.cmp(&one) == Ordering::Less);
+    holds(&rt, "above", one.cmp(&zero) == Ordering::Greater);
+}
+
+// The pair that a fraction with these fields gives.
+fn pair_of(numer: i64, denom: i64) -> (i64, i64) {
+    if denom == 0 {
+        return (numer, denom);
+    }
+    Ratio::new_raw(numer, denom).into()
+}
+
+#[test]
+fn test_into_pair(rt: HostRuntime) {
+    holds(&rt, "0/1", pair_of(0, 1) == (0, 1));
+    holds(&rt, "-2/1", pair_of(-2, 1) == (-2, 1));
+    holds(&rt, "1/-2", pair_of(1, -2) == (1, -2));
+}
+
+// The fraction of a pair, where `checked_new` answers.
+fn from_pair(pair: (i64, i64)) -> Rational64 {
+    match Ratio::checked_new(pair.0, pair.1) {
+        Some(_) => Ratio::from_pair(pair),
+        None => Ratio::zero(),
+    }
+}
+
+#[test]
+fn test_from_pair(rt: HostRuntime) {
+    is(&rt, from_pair((0, 1)), 0, 1);
+    is(&rt, from_pair((1, 1)), 1, 1);
+    is(&rt, from_pair((-2, 1)), -2, 1);
+    is(&rt, from_pair((1, -2)), -1, 2);
+}
+
+#[test]
+fn test_num_zero(rt: HostRuntime) {
+    holds(&rt, "0", Rational64::zero().is_zero());
+    let mut x = fraction((123, 456));
+    holds(&rt, "not 0", !x.is_zero());
+    let sum = forms::sum(x, Rational64::zero());
+    holds(
+        &rt,
+        "+ 0",
+        sum == Some((41, 152)) && x == Ratio::new_raw(41, 152),
+    );
+    x.set_zero();
+    holds(&rt, "becomes 0", x.is_zero());
+}
+
+#[test]
+fn test_num_one(rt: HostRuntime) {
+    holds(&rt, "1", Rational64::one().is_one());
+    let mut x = fraction((123, 456));
+    holds(&rt, "not 1", !x.is_one());
+    let product = forms::product(x, Rational64::one());
+    holds(
+        &rt,
+        "* 1",
+        product == Some((41, 152)) && x == Ratio::new_raw(41, 152),
+    );
+    x.set_one();
+    holds(&rt, "becomes 1", x.is_one());
+}
+
+// Whether a hasher receives the same of both.
+fn write_alike(x: &Rational64, y: &Rational64) -> bool {
+    let mut first = Written::new();
+    x.hash(&mut first);
+    let mut second = Written::new();
+    y.hash(&mut second);
+    first.as_slice() == second.as_slice()
+}
+
+#[test]
+fn test_hash(rt: HostRuntime) {
+    let zero = Rational64::zero();
+    holds(&rt, "0 and 1", !write_alike(&zero, &Ratio::one()));
+    holds(&rt, "0 and 3/2", !write_alike(&zero, &new(3, 2)));
+    holds(
+        &rt,
+        "4/2 and 6/3",
+        write_alike(&Ratio::new_raw(4, 2), &Ratio::new_raw(6, 3)),
+    );
+    let (x, y) = (
+        Ratio::new_raw(123456789, 1000),
+        Ratio::new_raw(617283945, 5000),
+    );
+    holds(&rt, "thousandths", write_alike(&x, &y));
+}
+
+#[test]
+fn test_const(rt: HostRuntime) {
+    let x = Rational32::new_raw(123, 456);
+    holds(&rt, "fields", *x.numer() == 123 && *x.denom() == 456);
+    if Ratio::checked_new(123i32, 456).is_some() {
+        is(&rt, x.reduced(), 41, 152);
+    } else {
+        holds(&rt, "reduced", false);
+    }
+}
+
+// A fraction over i64, printed in a form.
+fn printed(numer: i64, denom: i64, form: Form) -> Shown<i64> {
+    shown_as(numer, denom, form)
+}
+
+#[test]
+fn test_show(rt: HostRuntime) {
+    let two = printed(2, 1, Form::Decimal);
+    let half = printed(1, 2, Form::Decimal);
+    let minus_half = printed(-1, 2, Form::Decimal);
+    let zero = printed(0, 1, Form::Decimal);
+    let minus_two = printed(-2, 1, Form::Decimal);
+    let row = InlineText::<40>::of(format_args!("{two} {half} {minus_half} {zero} {minus_two}"));
+    assert_eq!(rt; row.as_str(), "2 1/2 -1/2 0 -2");
+    for (base, form, padded, prefixed) in [
+        (2, Form::Binary, "0000001/10", "0b001/0b10"),
+        (8, Form::Octal, "0000001/10", "0o001/0o10"),
+        (16, Form::LowerHex, "0000001/10", "0x001/0x10"),
+        (16, Form::UpperHex, "0000001/10", "0x001/0x10"),
+    ] {
+        let whole = printed(base, 1, form);
+        let part = printed(1, base, form);
+        let row = InlineText::<40>::of(format_args!("{whole} {part}"));
+        assert_eq!(rt; row.as_str(), "10 1/10");
+        assert_eq!(rt;
+            InlineText::<40>::of(format_args!("{part:010}")).as_str(),
+            padded
+        );
+        assert_eq!(rt;
+            InlineText::<40>::of(format_args!("{part:#010}")).as_str(),
+            prefixed
+        );
+    }
+    let fifteen = printed(15, 1, Form::LowerHex);
+    let none = printed(0, 1, Form::LowerHex);
+    let row = InlineText::<40>::of(format_args!("{fifteen} {none}"));
+    assert_eq!(rt; row.as_str(), "f 0");
+}
+
+// Whether the fraction is printed so, and the text reads as the fraction.
+fn is_text_of(text: &str, fraction: Rational64) -> bool {
+    let is_printed = fraction.text(Form::Decimal, false).as_str() == text;
+    let is_read = match Rational64::from_str(text) {
+        Ok(read) => read == fraction,
+        Err(_) => false,
+    };
+    is_printed && is_read
+}
+
+#[test]
+fn test_to_from_str(rt: HostRuntime) {
+    assert!(rt; is_text_of("1", new(1, 1)));
+    assert!(rt; is_text_of("0", new(0, 1)));
+    assert!(rt; is_text_of("1/2", new(1, 2)));
+    assert!(rt; is_text_of("3/2", new(3, 2)));
+    assert!(rt; is_text_of("2", new(2, 1)));
+    assert!(rt; is_text_of("-1/2", new(-1, 2)));
+}
+
+#[test]
+fn test_from_str_fail(rt: HostRuntime) {
+    for text in ["0 /1", "abc", "", "1/", "--1/2", "3/2/1", "1/0"] {
+        assert!(rt; Rational64::from_str(text).is_err(), "{text}");
+    }
+}

@@ -1,0 +1,70 @@
+//! Rows of JSON values, from outside.
+use num_rational::{JsonInteger, JsonRatioError, Ratio, Rational32, Rational64};
+use serde_json::Value;
+use std::alloc::Global;
+use std::fmt::InlineText;
+use std::test::Fail;
+
+// Whether the JSON text is answered by these fields, or by the refusal of this number.
+fn reads<T: JsonInteger>(
+    text: &str,
+    alloc: Global,
+    want: Result<(T, T), u8>,
+) -> Result<bool, Fail> {
+    let value = Value::from_str(alloc, text)?;
+    Ok(match (Ratio::<T>::from_json(&value), want) {
+        (Ok(x), Ok((numer, denom))) => *x.numer() == numer && *x.denom() == denom,
+        (Err(refusal), Err(number)) => refusal as u8 == number,
+        _ => false,
+    })
+}
+
+#[test]
+fn values_are_read(rt: HostRuntime) -> Result<(), Fail> {
+    let alloc = rt.alloc();
+    for text in ["[1]", "null", "{}", "[]", "[1,2,3]"] {
+        assert!(rt; reads::<i32>(text, alloc, Err(1))?, "{text}");
+    }
+    for text in [
+        "[1.5,2]",
+        "[2147483648,1]",
+        "[1.5,0]",
+        "[\"1\",2]",
+        "[true,1]",
+        "[1,null]",
+        "[1.0,2]",
+        "[2147483648,0]",
+    ] {
+        assert!(rt; reads::<i32>(text, alloc, Err(2))?, "{text}");
+    }
+    assert!(rt; reads::<i32>("[1,0]", alloc, Err(3))?);
+    assert!(rt; reads::<i32>("[1,-2]", alloc, Ok((1, -2)))?);
+    assert!(rt; reads::<i32>("[-2147483648,-2147483648]", alloc, Ok((i32::MIN, i32::MIN)))?);
+    assert!(rt; reads::<i64>("[9223372036854775808,1]", alloc, Err(2))?);
+    assert!(rt; reads::<i64>("[-9223372036854775808,-1]", alloc, Ok((i64::MIN, -1)))?);
+    Ok(())
+}
+
+#[test]
+fn fractions_are_written(rt: HostRuntime) -> Result<(), Fail> {
+    let alloc = rt.alloc();
+    let short = Rational32::new_raw(3, 4).to_json(alloc)?;
+    assert_eq!(rt; short.to_string(alloc)?.as_str(), "[3,4]");
+    let long = Rational64::new_raw(3, 4).to_json(alloc)?;
+    assert_eq!(rt; long.to_string(alloc)?.as_str(), "[3,4]");
+    Ok(())
+}
+
+#[test]
+fn refusals_of_json_are_printed(rt: HostRuntime) {
+    let row = InlineText::<120>::of(format_args!(
+        "{}, {}, {}",
+        JsonRatioError::NotAPair,
+        JsonRatioError::NotAnInteger,
+        JsonRatioError::ZeroDenominator
+    ));
+    assert_eq!(rt;
+        row.as_str(),
+        "not a list of two, not a whole number of the type, zero value denominator"
+    );
+}

@@ -1,0 +1,8 @@
+// Erased from crates/ratio_rows/src/fields.rt by rust/erase: not to be edited.
+//! The calls on two numbers, of `ratio_core`.
+mod arithmetic;
+mod comparing;
+mod laws;
+mod nearest;
+mod printing;
+mod recorder;

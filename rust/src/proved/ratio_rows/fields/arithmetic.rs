@@ -1,0 +1,211 @@
+// Erased from crates/ratio_rows/src/fields/arithmetic.rt by rust/erase: not to be edited.
+//! Worked rows of sums, differences, products, quotients and remainders, over five types.
+
+use crate::proved::ratio_core::products::{checked_div, checked_mul, div, mul};
+use crate::proved::ratio_core::remainder::{checked_rem, rem};
+use crate::proved::ratio_core::sums::{add, checked_add, checked_sub, sub};
+use crate::proved::ratio_integer::Integer;
+
+#[inline]
+fn is_positive<T: Integer>(d: T) -> bool {
+    T::ZERO < d
+}
+
+// A row: a, b, c and d, and the wanted answer for a/b and c/d.
+type Row<T> = (T, T, T, T, Option<(T, T)>);
+
+#[inline]
+fn sums<T: Integer>(rows: &[Row<T>]) {
+    for (i, &(a, b, c, d, want)) in rows.iter().enumerate() {
+        assert!(is_positive(b));
+        assert!(is_positive(d));
+        assert!(checked_add(a, b, c, d) == want, "row {i}");
+    }
+}
+
+#[inline]
+fn differences<T: Integer>(rows: &[Row<T>]) {
+    for (i, &(a, b, c, d, want)) in rows.iter().enumerate() {
+        assert!(is_positive(b));
+        assert!(is_positive(d));
+        assert!(checked_sub(a, b, c, d) == want, "row {i}");
+    }
+}
+
+#[inline]
+fn products<T: Integer>(rows: &[Row<T>]) {
+    for (i, &(a, b, c, d, want)) in rows.iter().enumerate() {
+        assert!(is_positive(b));
+        assert!(is_positive(d));
+        assert!(checked_mul(a, b, c, d) == want, "row {i}");
+    }
+}
+
+#[inline]
+fn quotients<T: Integer>(rows: &[Row<T>]) {
+    for (i, &(a, b, c, d, want)) in rows.iter().enumerate() {
+        assert!(is_positive(b));
+        assert!(is_positive(d));
+        assert!(checked_div(a, b, c, d) == want, "row {i}");
+    }
+}
+
+#[inline]
+fn rests<T: Integer>(rows: &[Row<T>]) {
+    for (i, &(a, b, c, d, want)) in rows.iter().enumerate() {
+        assert!(is_positive(b));
+        assert!(is_positive(d));
+        assert!(checked_rem(a, b, c, d) == want, "row {i}");
+    }
+}
+
+// The five calls that ask what the checked ones test, on 1/2 and 1/3.
+#[inline]
+fn answered<T: Integer>(two: T, three: T) {
+    let one = T::ONE;
+    assert!(is_positive(two));
+    assert!(is_positive(three));
+    if let Some(sum) = checked_add(one, two, one, three) {
+        assert!(add(one, two, one, three) == sum);
+    }
+    if let Some(difference) = checked_sub(one, two, one, three) {
+        assert!(sub(one, two, one, three) == difference);
+    }
+    if let Some(product) = checked_mul(one, two, one, three) {
+        assert!(mul(one, two, one, three) == product);
+    }
+    if let Some(quotient) = checked_div(one, two, one, three) {
+        assert!(div(one, two, one, three) == quotient);
+    }
+    if let Some(rest) = checked_rem(one, two, one, three) {
+        assert!(rem(one, two, one, three) == rest);
+    }
+}
+
+#[test]
+fn rows_of_i8() {
+    sums(
+        &[
+            (1i8, 2, 1, 3, Some((5, 6))),
+            (1, 4, 1, 6, Some((5, 12))),
+            (2, 4, 2, 4, Some((1, 1))),
+            (127, 2, 127, 2, None),
+            (1, 127, 1, 126, None),
+            (0, 127, 0, 126, None),
+            (-128, 1, 127, 1, Some((-1, 1))),
+        ],
+    );
+    differences(
+        &[
+            (1i8, 2, 1, 3, Some((1, 6))),
+            (127, 2, 127, 2, Some((0, 1))),
+            (1, 3, 1, 2, Some((-1, 6))),
+            (-128, 1, 127, 1, None),
+        ],
+    );
+    products(
+        &[
+            (1i8, 2, -2, 3, Some((-1, 3))),
+            (100, 100, 7, 7, Some((1, 1))),
+            (127, 2, 2, 127, Some((1, 1))),
+            (127, 2, 127, 1, None),
+            (-128, 3, 3, 1, Some((-128, 1))),
+            (-128, 1, -1, 1, None),
+            (-128, 1, 64, 127, None),
+            (0, 127, -128, 127, Some((0, 1))),
+        ],
+    );
+    quotients(
+        &[
+            (64i8, 1, -1, 2, Some((-128, 1))),
+            (-128, 1, -128, 1, Some((1, 1))),
+            (0, 1, -128, 3, Some((0, 1))),
+            (-128, 1, -1, 1, None),
+            (1, 1, -128, 127, None),
+            (-128, 127, -128, 127, Some((1, 1))),
+            (2, 127, 127, 64, None),
+            (1, 2, 0, 3, None),
+            (127, 2, 0, 127, None),
+        ],
+    );
+    rests(
+        &[
+            (-128i8, 1, -1, 1, Some((0, 1))),
+            (-127, 2, 1, 1, Some((-1, 2))),
+            (1, 1, 0, 3, None),
+        ],
+    );
+    answered(2i8, 3);
+}
+
+#[test]
+fn rows_of_u8() {
+    sums(&[(255u8, 2, 255, 2, None), (1, 2, 1, 6, Some((2, 3)))]);
+    differences(&[(1u8, 2, 1, 1, None), (1, 1, 1, 2, Some((1, 2)))]);
+    products(
+        &[(255u8, 128, 128, 255, Some((1, 1))), (255, 1, 2, 1, None)],
+    );
+    quotients(&[(0u8, 1, 255, 1, Some((0, 1))), (1, 2, 0, 1, None)]);
+    rests(&[(1u8, 1, 0, 3, None), (255, 1, 2, 1, Some((1, 1)))]);
+    answered(2u8, 3);
+}
+
+// Over `i32` and `i64` sums and differences are exact.
+#[test]
+fn rows_of_i32() {
+    sums(
+        &[
+            (2147483647i32, 2, 2147483647, 2, Some((2147483647, 1))),
+            (1, 11862016, 1, 11993088, Some((91, 542687232))),
+            (1, 2147483647, 1, 2147483646, None),
+        ],
+    );
+    differences(&[(1i32, 11862016, 1, 11993088, Some((1, 1085374464)))]);
+    rests(&[(i32::MIN, 1, i32::MIN, 3, None)]);
+    answered(2i32, 3);
+}
+
+#[test]
+fn rows_of_u32() {
+    sums(
+        &[
+            (4294967295u32, 2, 4294967295, 2, None),
+            (u32::MAX, 1, 0, u32::MAX, None),
+        ],
+    );
+    products(&[(u32::MAX, 2, 2, u32::MAX, Some((1, 1)))]);
+    rests(&[(u32::MAX, 1, 2, 1, Some((1, 1)))]);
+    answered(2u32, 3);
+}
+
+#[test]
+fn rows_of_i64() {
+    let (min, max) = (i64::MIN, i64::MAX);
+    sums(
+        &[
+            (min, 1, max, 1, Some((-1, 1))),
+            (min, max, min, max, None),
+            (max, 2, max, 2, Some((max, 1))),
+            (max, 1, 1, 1, None),
+        ],
+    );
+    differences(&[(0, 1, min, 1, None)]);
+    quotients(
+        &[
+            (1, 1, min, 1, None),
+            (min, 1, max, 1, Some((min, max))),
+            (max, 1, min, 1, None),
+        ],
+    );
+    rests(
+        &[
+            (5i64, 2, 3, 2, Some((1, 1))),
+            (2, 1, -1, 2, Some((0, 1))),
+            (1, 2, 2, 1, Some((1, 2))),
+            (-7, 2, 1, 1, Some((-1, 2))),
+            (min, 1, -1, 1, Some((0, 1))),
+            (1, max, 1, 2, None),
+        ],
+    );
+    answered(2i64, 3);
+}

@@ -1,0 +1,19 @@
+// Erased from crates/ratio_rows/src/ratios.rt by rust/erase: not to be edited.
+//! The types of fractions, of `num_rational`.
+mod asserting;
+mod carried;
+mod comparing;
+mod every_call;
+mod folds;
+mod forms;
+
+mod keys;
+mod lowest;
+mod operators;
+mod powers;
+mod recorder;
+mod rounding;
+mod rows;
+mod signs;
+mod texts;
+mod twelve_types;

@@ -1,0 +1,167 @@
+// Erased from crates/ratio_rows/src/ratios/forms.rt by rust/erase: not to be edited.
+//! Every form of an operator: the checked call, the named call, the symbol and its assigning form. The
+//! right operand is of any form that an operator takes.
+
+use crate::proved::num_rational::{Operand, Ratio};
+use crate::proved::ratio_integer::Integer;
+
+/// The fraction of a row, or 0 where its denominator is not positive.
+#[inline]
+pub fn fraction<T: Integer>(fields: (T, T)) -> Ratio<T> {
+    if fields.1 > T::ZERO {
+        Ratio::new_raw(fields.0, fields.1)
+    } else {
+        Ratio::zero()
+    }
+}
+
+/// Whether the fraction has these fields.
+#[inline]
+pub fn has<T: Integer>(x: Ratio<T>, fields: (T, T)) -> bool {
+    x.into_raw() == fields
+}
+
+/// The fields of the sum, where the checked call answers it and every other form gives the same.
+///
+/// # Conditions
+///
+/// What is proved asks of the caller:
+///
+/// - `left`: `pos 0 <ℤ denominator x`
+/// - `right`: `pos 0 <ℤ (O.pair o).1`
+#[inline]
+pub fn sum<T: Integer, O: Operand<T> + Copy>(x: Ratio<T>, o: O) -> Option<(T, T)> {
+    let y = o.ratio();
+    let fields = x.checked_add(&y)?.into_raw();
+    if every_sum(x, o, fields) {
+        Some(fields)
+    } else {
+        None
+    }
+}
+
+#[inline]
+fn every_sum<T: Integer, O: Operand<T> + Copy>(x: Ratio<T>, o: O, fields: (T, T)) -> bool {
+    let mut assigned = x;
+    assigned += o;
+    has(x.add(o.ratio()), fields)
+        && has(x + o, fields)
+        && has(&x + o, fields)
+        && has(assigned, fields)
+}
+
+/// The same of the difference.
+///
+/// # Conditions
+///
+/// What is proved asks of the caller:
+///
+/// - `left`: `pos 0 <ℤ denominator x`
+/// - `right`: `pos 0 <ℤ (O.pair o).1`
+#[inline]
+pub fn difference<T: Integer, O: Operand<T> + Copy>(x: Ratio<T>, o: O) -> Option<(T, T)> {
+    let y = o.ratio();
+    let fields = x.checked_sub(&y)?.into_raw();
+    if every_difference(x, o, fields) {
+        Some(fields)
+    } else {
+        None
+    }
+}
+
+#[inline]
+fn every_difference<T: Integer, O: Operand<T> + Copy>(x: Ratio<T>, o: O, fields: (T, T)) -> bool {
+    let mut assigned = x;
+    assigned -= o;
+    has(x.sub(o.ratio()), fields)
+        && has(x - o, fields)
+        && has(&x - o, fields)
+        && has(assigned, fields)
+}
+
+/// The same of the product.
+///
+/// # Conditions
+///
+/// What is proved asks of the caller:
+///
+/// - `left`: `pos 0 <ℤ denominator x`
+/// - `right`: `pos 0 <ℤ (O.pair o).1`
+#[inline]
+pub fn product<T: Integer, O: Operand<T> + Copy>(x: Ratio<T>, o: O) -> Option<(T, T)> {
+    let y = o.ratio();
+    let fields = x.checked_mul(&y)?.into_raw();
+    if every_product(x, o, fields) {
+        Some(fields)
+    } else {
+        None
+    }
+}
+
+#[inline]
+fn every_product<T: Integer, O: Operand<T> + Copy>(x: Ratio<T>, o: O, fields: (T, T)) -> bool {
+    let mut assigned = x;
+    assigned *= o;
+    has(x.mul(o.ratio()), fields)
+        && has(x * o, fields)
+        && has(&x * o, fields)
+        && has(assigned, fields)
+}
+
+/// The same of the quotient.
+///
+/// # Conditions
+///
+/// What is proved asks of the caller:
+///
+/// - `left`: `pos 0 <ℤ denominator x`
+/// - `right`: `pos 0 <ℤ (O.pair o).1`
+#[inline]
+pub fn quotient<T: Integer, O: Operand<T> + Copy>(x: Ratio<T>, o: O) -> Option<(T, T)> {
+    let y = o.ratio();
+    let fields = x.checked_div(&y)?.into_raw();
+    if every_quotient(x, o, fields) {
+        Some(fields)
+    } else {
+        None
+    }
+}
+
+#[inline]
+fn every_quotient<T: Integer, O: Operand<T> + Copy>(x: Ratio<T>, o: O, fields: (T, T)) -> bool {
+    let mut assigned = x;
+    assigned /= o;
+    has(x.div(o.ratio()), fields)
+        && has(x / o, fields)
+        && has(&x / o, fields)
+        && has(assigned, fields)
+}
+
+/// The same of the remainder.
+///
+/// # Conditions
+///
+/// What is proved asks of the caller:
+///
+/// - `left`: `pos 0 <ℤ denominator x`
+/// - `right`: `pos 0 <ℤ (O.pair o).1`
+#[inline]
+pub fn remainder<T: Integer, O: Operand<T> + Copy>(x: Ratio<T>, o: O) -> Option<(T, T)> {
+    let y = o.ratio();
+    let fields = x.checked_rem(&y)?.into_raw();
+    if every_remainder(x, o, fields) {
+        Some(fields)
+    } else {
+        None
+    }
+}
+
+#[inline]
+fn every_remainder<T: Integer, O: Operand<T> + Copy>(x: Ratio<T>, o: O, fields: (T, T)) -> bool {
+    let mut assigned = x;
+    assigned %= o;
+    has(x.rem(o.ratio()), fields)
+        && has(x % o, fields)
+        && has(&x % o, fields)
+        && has(assigned, fields)
+}

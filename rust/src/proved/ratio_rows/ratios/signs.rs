@@ -1,0 +1,188 @@
+// Erased from crates/ratio_rows/src/ratios/signs.rt by rust/erase: not to be edited.
+//! Rows of the signs, and of the ends of a type in the order and in the checked calls, from outside.
+use crate::proved::num_rational::{Ratio, Rational64};
+use crate::proved::ratio_integer::{Integer, SignedInteger};
+use core::cmp::Ordering;
+
+// The fields of the negative of n/d by each form, and of its absolute value and sign, and whether it is above and below 0.
+type Signs = ((i8, i8), (i8, i8), i8, bool, bool);
+
+#[inline]
+fn signs(n: i8, d: i8) -> Option<Signs> {
+    if d != 0 && n != i8::MIN {
+        let x = Ratio::new_raw(n, d);
+        let negated = x.neg().into_raw();
+        if (-x).into_raw() != negated || (-&x).into_raw() != negated {
+            return None;
+        }
+        let sign = *x.signum().numer();
+        return Some((
+            negated,
+            x.abs().into_raw(),
+            sign,
+            x.is_positive(),
+            x.is_negative(),
+        ));
+    }
+    None
+}
+
+#[inline]
+fn signs_hold(rows: &[(i8, i8, Signs)]) {
+    for (i, &(n, d, want)) in rows.iter().enumerate() {
+        assert!(signs(n, d) == Some(want), "row {i}");
+    }
+}
+
+#[test]
+fn test_neg() {
+    signs_hold(
+        &[
+            (0, 1, ((0, 1), (0, 1), 0, false, false)),
+            (1, 2, ((-1, 2), (1, 2), 1, true, false)),
+            (-1, 1, ((1, 1), (1, 1), -1, false, true)),
+        ],
+    );
+}
+
+#[test]
+fn test_signed() {
+    signs_hold(
+        &[
+            (-1, 2, ((1, 2), (1, 2), -1, false, true)),
+            (1, -2, ((-1, -2), (-1, -2), -1, false, true)),
+            (-1, -2, ((1, -2), (-1, -2), 1, true, false)),
+            (0, -2, ((0, -2), (0, -2), 0, false, false)),
+        ],
+    );
+    let least = Ratio::new_raw(-128i8, -1);
+    assert!(least.signum().into_raw() == (1, 1) && least.abs().into_raw() == (-128, -1));
+    for ((a, b), (c, d), want) in [
+        ((3, 2), (1, 2), Some((1, 1))),
+        ((1, 2), (3, 2), Some((0, 1))),
+        ((1, 2), (2, 4), Some((0, 1))),
+        ((i64::MIN, 1), (i64::MAX, 1), Some((0, 1))),
+        ((i64::MAX, 1), (i64::MIN, 1), None),
+    ] {
+        assert!(positive_difference((a, b), (c, d)) == want);
+    }
+}
+
+// The difference that is not below 0, where the checked one answers or the first is not above.
+#[inline]
+fn positive_difference(left: (i64, i64), right: (i64, i64)) -> Option<(i64, i64)> {
+    if 0 < left.1 && 0 < right.1 {
+        let x = Ratio::new_raw(left.0, left.1);
+        let y = Ratio::new_raw(right.0, right.1);
+        if x.cmp(&y) != Ordering::Greater || x.checked_sub(&y).is_some() {
+            return Some(x.abs_sub(&y).into_raw());
+        }
+    }
+    None
+}
+
+#[inline]
+fn negated(x: Ratio<i8>) -> Option<Ratio<i8>> {
+    if i8::MIN < *x.numer() {
+        Some(x.neg())
+    } else {
+        None
+    }
+}
+
+#[inline]
+fn reciprocal(x: Ratio<i8>) -> Option<Ratio<i8>> {
+    if 0 < *x.denom() && 0 < *x.numer() {
+        Some(x.recip())
+    } else {
+        None
+    }
+}
+
+// How the two stand, as their reciprocals, their negatives and the negatives of their reciprocals say too.
+#[inline]
+fn order(a: (i8, i8), b: (i8, i8)) -> Option<Ordering> {
+    let (x, y) = (Ratio::checked_new(a.0, a.1)?, Ratio::checked_new(b.0, b.1)?);
+    let (x_turned, y_turned) = (reciprocal(x)?, reciprocal(y)?);
+    let order = x.cmp(&y);
+    let same = y_turned.cmp(&x_turned) == order
+        && negated(y)?.cmp(&negated(x)?) == order
+        && negated(x_turned)?.cmp(&negated(y_turned)?) == order
+        && negated(x)? < x;
+    if same { Some(order) } else { None }
+}
+
+#[test]
+fn test_cmp_overflow() {
+    let large = Ratio::from_integer(128u8);
+    assert!(large.recip() < large);
+    let ascending = [
+        (125i8, 127i8),
+        (63, 64),
+        (124, 125),
+        (125, 126),
+        (126, 127),
+        (127, 126),
+    ];
+    for (i, &a) in ascending.iter().enumerate() {
+        for (k, &b) in ascending.iter().enumerate() {
+            assert!(order(a, b) == Some(i.cmp(&k)));
+        }
+    }
+}
+
+// Sum, difference, product and quotient of two whole numbers, by the checked calls.
+type Four = (
+    Option<(i64, i64)>,
+    Option<(i64, i64)>,
+    Option<(i64, i64)>,
+    Option<(i64, i64)>,
+);
+
+#[inline]
+fn four(a: i64, b: i64) -> Four {
+    let (x, y) = (Rational64::from_integer(a), Rational64::from_integer(b));
+    (
+        x.checked_add(&y).map(|r| r.into_raw()),
+        x.checked_sub(&y).map(|r| r.into_raw()),
+        x.checked_mul(&y).map(|r| r.into_raw()),
+        x.checked_div(&y).map(|r| r.into_raw()),
+    )
+}
+
+#[inline]
+fn four_hold(rows: &[(i64, i64, Four)]) {
+    for (i, &(a, b, want)) in rows.iter().enumerate() {
+        assert!(four(a, b) == want, "row {i}");
+    }
+}
+
+#[inline]
+fn whole(c: i64) -> Option<(i64, i64)> {
+    Some((c, 1))
+}
+
+#[test]
+fn test_checked_max() {
+    let max = i64::MAX;
+    four_hold(
+        &[
+            (max, max, (None, whole(0), None, whole(1))),
+            (0, max, (whole(max), whole(-max), whole(0), whole(0))),
+            (1, max, (None, whole(1 - max), whole(max), Some((1, max)))),
+            (max, 0, (whole(max), whole(max), whole(0), None)),
+            (max, 1, (None, whole(max - 1), whole(max), whole(max))),
+        ],
+    );
+}
+
+#[test]
+fn test_checked_min_max() {
+    let (min, max) = (i64::MIN, i64::MAX);
+    four_hold(
+        &[
+            (min, max, (whole(-1), None, None, Some((min, max)))),
+            (max, min, (whole(-1), None, None, None)),
+        ],
+    );
+}

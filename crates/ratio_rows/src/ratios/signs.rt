@@ -1,5 +1,5 @@
-//! Rows of the signs, and of the ends of a type in the order and in the checked calls, from outside.
-use num_rational::{Ratio, Rational64};
+//! Rows of the signs, and of the ends of a type in the order, from outside.
+use num_rational::Ratio;
 use ratio_integer::{Integer, SignedInteger};
 use std::cmp::Ordering;
 use std::process::Abort;
@@ -125,59 +125,4 @@ fn test_cmp_overflow(rt: HostRuntime) {
             assert!(rt; order(a, b) == Some(i.cmp(&k)));
         }
     }
-}
-
-// Sum, difference, product and quotient of two whole numbers, by the checked calls.
-type Four = (
-    Option<(i64, i64)>,
-    Option<(i64, i64)>,
-    Option<(i64, i64)>,
-    Option<(i64, i64)>,
-);
-
-fn four(a: i64, b: i64) -> Four {
-    let (x, y) = (Rational64::from_integer(a), Rational64::from_integer(b));
-    (
-        x.checked_add(&y).map(|r| r.into_raw()),
-        x.checked_sub(&y).map(|r| r.into_raw()),
-        x.checked_mul(&y).map(|r| r.into_raw()),
-        x.checked_div(&y).map(|r| r.into_raw()),
-    )
-}
-
-fn four_hold(rt: &impl Abort, rows: &[(i64, i64, Four)]) {
-    for (i, &(a, b, want)) in rows.iter().enumerate() {
-        assert!(rt; four(a, b) == want, "row {i}");
-    }
-}
-
-fn whole(c: i64) -> Option<(i64, i64)> {
-    Some((c, 1))
-}
-
-#[test]
-fn test_checked_max(rt: HostRuntime) {
-    let max = i64::MAX;
-    four_hold(
-        &rt,
-        &[
-            (max, max, (None, whole(0), None, whole(1))),
-            (0, max, (whole(max), whole(-max), whole(0), whole(0))),
-            (1, max, (None, whole(1 - max), whole(max), Some((1, max)))),
-            (max, 0, (whole(max), whole(max), whole(0), None)),
-            (max, 1, (None, whole(max - 1), whole(max), whole(max))),
-        ],
-    );
-}
-
-#[test]
-fn test_checked_min_max(rt: HostRuntime) {
-    let (min, max) = (i64::MIN, i64::MAX);
-    four_hold(
-        &rt,
-        &[
-            (min, max, (whole(-1), None, None, Some((min, max)))),
-            (max, min, (whole(-1), None, None, None)),
-        ],
-    );
 }

@@ -1,6 +1,6 @@
 // Erased from crates/ratio_rows/src/ratios/signs.rt by rust/erase: not to be edited.
-//! Rows of the signs, and of the ends of a type in the order and in the checked calls, from outside.
-use crate::proved::num_rational::{Ratio, Rational64};
+//! Rows of the signs, and of the ends of a type in the order, from outside.
+use crate::proved::num_rational::Ratio;
 use crate::proved::ratio_integer::{Integer, SignedInteger};
 use core::cmp::Ordering;
 
@@ -129,60 +129,4 @@ fn test_cmp_overflow() {
             assert!(order(a, b) == Some(i.cmp(&k)));
         }
     }
-}
-
-// Sum, difference, product and quotient of two whole numbers, by the checked calls.
-type Four = (
-    Option<(i64, i64)>,
-    Option<(i64, i64)>,
-    Option<(i64, i64)>,
-    Option<(i64, i64)>,
-);
-
-#[inline]
-fn four(a: i64, b: i64) -> Four {
-    let (x, y) = (Rational64::from_integer(a), Rational64::from_integer(b));
-    (
-        x.checked_add(&y).map(|r| r.into_raw()),
-        x.checked_sub(&y).map(|r| r.into_raw()),
-        x.checked_mul(&y).map(|r| r.into_raw()),
-        x.checked_div(&y).map(|r| r.into_raw()),
-    )
-}
-
-#[inline]
-fn four_hold(rows: &[(i64, i64, Four)]) {
-    for (i, &(a, b, want)) in rows.iter().enumerate() {
-        assert!(four(a, b) == want, "row {i}");
-    }
-}
-
-#[inline]
-fn whole(c: i64) -> Option<(i64, i64)> {
-    Some((c, 1))
-}
-
-#[test]
-fn test_checked_max() {
-    let max = i64::MAX;
-    four_hold(
-        &[
-            (max, max, (None, whole(0), None, whole(1))),
-            (0, max, (whole(max), whole(-max), whole(0), whole(0))),
-            (1, max, (None, whole(1 - max), whole(max), Some((1, max)))),
-            (max, 0, (whole(max), whole(max), whole(0), None)),
-            (max, 1, (None, whole(max - 1), whole(max), whole(max))),
-        ],
-    );
-}
-
-#[test]
-fn test_checked_min_max() {
-    let (min, max) = (i64::MIN, i64::MAX);
-    four_hold(
-        &[
-            (min, max, (whole(-1), None, None, Some((min, max)))),
-            (max, min, (whole(-1), None, None, None)),
-        ],
-    );
 }

@@ -13,4 +13,6 @@ pub mod numbers64;
 pub mod one;
 pub mod printing;
 pub mod reading;
+#[cfg(test)]
+mod tests;
 pub mod wide;

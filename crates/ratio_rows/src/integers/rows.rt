@@ -17,7 +17,28 @@ fn divisors(rt: HostRuntime) {
     assert_eq!(rt; 0i8.gcd(0), 0);
     assert_eq!(rt; 0i8.gcd(-5), 5);
     assert_eq!(rt; i128::MIN.gcd(1), 1);
+}
+
+#[test]
+fn divisors_of_64_bits(rt: HostRuntime) {
+    assert_eq!(rt; 0u64.gcd(0), 0);
+    assert_eq!(rt; 0u64.gcd(5), 5);
+    assert_eq!(rt; 5u64.gcd(0), 5);
+    assert_eq!(rt; 128u64.gcd(96), 32);
+    assert_eq!(rt; (1u64 << 63).gcd(1 << 62), 1 << 62);
+    // 641 divides 2^32 + 1, and so 2^64 - 1.
+    assert_eq!(rt; u64::MAX.gcd(1282), 641);
+}
+
+#[test]
+fn divisors_of_128_bits(rt: HostRuntime) {
+    assert_eq!(rt; 0u128.gcd(0), 0);
+    assert_eq!(rt; 0u128.gcd(5), 5);
+    assert_eq!(rt; (1u128 << 127).gcd(1), 1);
     assert_eq!(rt; (1u128 << 127).gcd(1 << 126), 1 << 126);
+    assert_eq!(rt; (3u128 << 64).gcd(5 << 64), 1 << 64);
+    // 2^64 - 1 divides 2^128 - 1.
+    assert_eq!(rt; u128::MAX.gcd(u64::MAX as u128), u64::MAX as u128);
 }
 
 #[test]

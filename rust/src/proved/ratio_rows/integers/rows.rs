@@ -18,7 +18,28 @@ fn divisors() {
     assert_eq!(0i8.gcd(0), 0);
     assert_eq!(0i8.gcd(-5), 5);
     assert_eq!(i128::MIN.gcd(1), 1);
+}
+
+#[test]
+fn divisors_of_64_bits() {
+    assert_eq!(0u64.gcd(0), 0);
+    assert_eq!(0u64.gcd(5), 5);
+    assert_eq!(5u64.gcd(0), 5);
+    assert_eq!(128u64.gcd(96), 32);
+    assert_eq!((1u64 << 63).gcd(1 << 62), 1 << 62);
+    // 641 divides 2^32 + 1, and so 2^64 - 1.
+    assert_eq!(u64::MAX.gcd(1282), 641);
+}
+
+#[test]
+fn divisors_of_128_bits() {
+    assert_eq!(0u128.gcd(0), 0);
+    assert_eq!(0u128.gcd(5), 5);
+    assert_eq!((1u128 << 127).gcd(1), 1);
     assert_eq!((1u128 << 127).gcd(1 << 126), 1 << 126);
+    assert_eq!((3u128 << 64).gcd(5 << 64), 1 << 64);
+    // 2^64 - 1 divides 2^128 - 1.
+    assert_eq!(u128::MAX.gcd(u64::MAX as u128), u64::MAX as u128);
 }
 
 #[test]

@@ -92,7 +92,9 @@ where
         if kind == "small" || kind == "half" {
             self.roundings(kind, low);
             // A sign that no one guesses would cost more than the call.
-            self.answers("recip", kind, &low.only(|f| f[0] > 0), None, erased::recip, theirs::recip);
+            let above = low.only(|f| f[0] > 0);
+            self.answers("recip", kind, &above, None, erased::recip, theirs::recip);
+            self.answers("bare recip", kind, &above, None, erased::bare_recip, theirs::recip);
             self.powers(kind, &low.only(|f| f[0] != 0));
         }
         self.texts(kind, raw, low);

@@ -31,29 +31,45 @@ pub fn pow<T: Number + Integer>(pairs: &[Pair<T>], exponents: &[i32], out: &mut 
 }
 
 #[inline(always)]
-fn put<T: Number>(pairs: &[Pair<T>], out: &mut [u8], ends: &mut [usize], text: impl Fn(&Ratio<T>, &mut dyn FnMut(&str))) {
+fn put<T: Number>(pairs: &[Pair<T>], out: &mut [u8], ends: &mut [usize], text: impl Fn(&Ratio<T>, &mut [u8]) -> usize) {
     let mut at = 0;
     for (pair, end) in pairs.iter().zip(ends) {
-        text(&pair.0, &mut |text| {
-            let bytes = text.as_bytes();
-            out[at..at + bytes.len()].copy_from_slice(bytes);
-            at += bytes.len();
-        });
+        at += text(&pair.0, &mut out[at..]);
         *end = at;
     }
+}
+
+#[inline(always)]
+fn copied(text: &str, out: &mut [u8]) -> usize {
+    out[..text.len()].copy_from_slice(text.as_bytes());
+    text.len()
 }
 
 /// In decimal, without std's formatter.
 #[inline(never)]
 pub fn text<T: Number + Integer>(pairs: &[Pair<T>], out: &mut [u8], ends: &mut [usize]) {
-    put(pairs, out, ends, |x, put| put(x.decimal_text().as_str()));
+    put(pairs, out, ends, |x, out| copied(x.decimal_text().as_str(), out));
 }
 
-/// In base 16, without std's formatter.
+/// In base 16, without std's formatter and the layer.
 #[inline(never)]
 pub fn hex_text<T: Number + Integer + Primitive>(pairs: &[Pair<T>], out: &mut [u8], ends: &mut [usize]) {
-    put(pairs, out, ends, |x, put| {
+    put(pairs, out, ends, |x, out| {
         let fraction = proved::Ratio::new_raw(*x.numer(), *x.denom());
-        put(fraction.text(Form::LowerHex, false).as_str());
+        copied(fraction.text(Form::LowerHex, false).as_str(), out)
+    });
+}
+
+/// The reciprocal of each first fraction that is above 0, without the tests of the layer; any other as it is.
+#[inline(never)]
+pub fn bare_recip<T: Number + Integer + Primitive>(pairs: &[Pair<T>], out: &mut [Answer<T>]) {
+    each(pairs, out, |pair| {
+        let (numer, denom) = pair.0.into_raw();
+        if T::ZERO < numer {
+            let (numer, denom) = proved::Ratio::new_raw(numer, denom).recip().into_raw();
+            Answer::some(numer, denom)
+        } else {
+            Answer::some(numer, denom)
+        }
     });
 }

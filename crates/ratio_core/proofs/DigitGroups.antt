@@ -15,7 +15,7 @@ length_group zero n = refl
 length_group (suc k) n = omega (arith, length-append (group k (n / 10)) ((48 + n % 10) ∷ []), length_group k (n / 10))
 
 -- a product with a number above 0 is at least the other factor
-at_least : (q p : ℕ) → 1 ≤ q → p ≤ q * p
+pub at_least : (q p : ℕ) → 1 ≤ q → p ≤ q * p
 at_least zero p some = absurd (omega (arith, some))
 at_least (suc q) p some = omega arith
 

@@ -1,21 +1,24 @@
 -- The digits of a number in a base from 2 to 16: how they are written from the end on, and that they read back.
-use Rattle.std.proofs.Common.{◌≡◌, T, refl, sym, ◌∙◌, ap, subst, inl, inr, arith, ℕ, zero, suc, ◌+◌, ◌-◌, ◌&&◌, eqb, eqb→eq, eq-zero-or-pos, get_or, ◌/◌, ◌%◌, ◌^◌, ◌<◌, ◌≤◌, ◌==◌, Bool, true, false, cond, List, [], ◌∷◌, ◌++◌, length, drop, slice_set, nat_lt, lit<}
+use Rattle.std.proofs.Common.{◌≡◌, T, refl, sym, ◌∙◌, ap, subst, inl, inr, arith, ℕ, zero, suc, ◌+◌, ◌-◌, ◌*◌, ◌&&◌, eqb, eqb→eq, eq-zero-or-pos, get_or, ◌/◌, ◌%◌, ◌^◌, ◌<◌, ◌≤◌, ◌==◌, Bool, true, false, cond, List, [], ◌∷◌, ◌++◌, append_assoc, length, length-append, drop, take, slice_set, nat_lt, lit<}
 use Rattle.std.specs.Prelude.{IsAscii, map}
 use Rattle.std.specs.Char.{digit_value}
 use Rattle.std.specs.Fmt.{digit_glyph}
 use Rattle.std.specs.Int.Digits.{AllBelowBase, digits_of, number_from_digits}
 use Rattle.std.specs.Str.Parse.{AllDigits, IsNumeral}
-use Rattle.std.proofs.Math.Nat.{div-eq_of_lt, div-le_self, div-lt_self, mod-eq_of_lt, pow-le-pow_left}
+use Rattle.std.proofs.Math.Nat.{add-mul-div_right, add-mul-mod_self_right, div-lt_iff_lt-mul, div-lt_self, mod-lt, mul_assoc, pow-le-pow_left, pow-le-pow_right, pow-suc, pow-zero}
 use Rattle.std.proofs.lemmas.Bool.{eqb-true, ne_eqb}
 use Rattle.std.proofs.lemmas.Grind.{common_steps}
 use Rattle.std.proofs.lemmas.Int.Digits.{all_below_base_digits_of, digits_of_step, digits_value_is, length-digits_of-le, length-digits_of_step, number_digits_of}
-use Rattle.std.proofs.lemmas.List.{drop-set, length-set}
-use Rattle.std.proofs.lemmas.Nat.{le-div}
+use Rattle.std.proofs.lemmas.List.{drop-set}
+use Rattle.std.proofs.lemmas.Nat.{div-add-mod', le-div}
 use Rattle.std.proofs.lemmas.Str.Ascii.{IsAscii-cons, IsAscii-nil}
 use lib.Ieee.Fits.{and_l, and_r}
+use lib.Seq.{drop_at, drop-drop, length-take-le}
+use borrow.Rule.Slice.PartMut.{put_mid}
 use Rattle.ratio_core.specs.Printing.{numeral}
 use Rattle.ratio_core.specs.Reading.{digits_sum}
 use Rattle.ratio_core.specs.declared.text.numeral.TheConstants.{LOWER, UPPER}
+use Rattle.ratio_core.proofs.DigitGroups.{at_least}
 use Rattle.ratio_core.proofs.NumberLemmas.{digits_value_sum}
 
 -- ---- how many digits there are
@@ -30,6 +33,10 @@ some_digits b n two some = omega (arith, length-digits_of_step b n two some)
 
 -- ---- writing
 
+length_map : (f : ℕ → ℕ) (xs : List ℕ) → length (map f xs) ≡ length xs
+length_map f [] = refl
+length_map f (x ∷ xs) = ap suc (length_map f xs)
+
 map_push : (f : ℕ → ℕ) (xs : List ℕ) (x : ℕ) (ys : List ℕ) → map f (xs ++ x ∷ []) ++ ys ≡ map f xs ++ f x ∷ ys
 map_push f [] x ys = refl
 map_push f (y ∷ xs) x ys = ap (λ zs. f y ∷ zs) (map_push f xs x ys)
@@ -40,36 +47,103 @@ pub one_written : (b left at : ℕ) (upper : Bool) (buf : List ℕ) → 2 ≤ b 
 one_written b left at upper buf two some inside =
     rw (digits_of_step b left two some, map_push (digit_glyph upper) (digits_of b (left / b)) (left % b) (drop (at + 1) buf), drop-set buf at (digit_glyph upper (left % b)) inside)
 
-pub quotient_some : (b left : ℕ) → 2 ≤ b → b ≤ left → 0 < left / b
-quotient_some b left two more = le-div 1 left b (omega (arith, two)) (omega (arith, more))
+-- what is left of n is to be written so that it ends at `at`, before what stands there
+pub record IsLeft (b : ℕ) (upper : Bool) (n end left at : ℕ) (buf written : List ℕ) : Type 0 where
+  pub whole : map (digit_glyph upper) (digits_of b left) ++ drop at written ≡ map (digit_glyph upper) (digits_of b n) ++ drop end buf
+  pub room : end + length (digits_of b left) ≤ at + 128
+  pub before : at ≤ end
 
-pub length_two_more : (b left : ℕ) → 2 ≤ b → b ≤ left → length (digits_of b left) ≡ length (digits_of b (left / b / b)) + 2
-length_two_more b left two more = omega (arith, length-digits_of_step b left two (omega (arith, two, more)), length-digits_of_step b (left / b) two (quotient_some b left two more))
+pub next_digit : (b n end left at : ℕ) (upper : Bool) (buf written : List ℕ) → 2 ≤ b → 0 < left → 128 ≤ end → at ≤ length written
+    → IsLeft b upper n end left at buf written → IsLeft b upper n end (left / b) (at - 1) buf (slice_set written (at - 1) (digit_glyph upper (left % b)))
+next_digit b n end left at upper buf written two some enough inside l =
+    let more = length-digits_of_step b left two some in
+    let back : at - 1 + 1 ≡ at = omega (arith, l.room, enough, more) in
+    record {
+      whole = one_written b left (at - 1) upper written two some (omega (arith, back, inside)) ∙ ap (λ k. map (digit_glyph upper) (digits_of b left) ++ drop k written) back ∙ l.whole;
+      room = omega (arith, l.room, back, more);
+      before = omega (arith, l.before);
+    }
 
--- two digits fewer are a smaller number
-pub two_fewer : (b left : ℕ) → 2 ≤ b → b ≤ left → left / b / b < left
-two_fewer b left two more = omega (arith, div-lt_self {n = left} {k = b} (omega (arith, two, more)) (omega (arith, two)), div-le_self (left / b) b)
+-- ---- in groups of 16 digits
 
--- two digits more are written
-pub two_written : (b left at : ℕ) (upper : Bool) (buf : List ℕ) → 2 ≤ b → b ≤ left → at + 1 < length buf
-    → map (digit_glyph upper) (digits_of b (left / b / b)) ++ drop at (slice_set (slice_set buf (at + 1) (digit_glyph upper (left % b))) at (digit_glyph upper (left / b % b)))
-    ≡ map (digit_glyph upper) (digits_of b left) ++ drop (at + 2) buf
-two_written b left at upper buf two more inside =
-    let last = slice_set buf (at + 1) (digit_glyph upper (left % b)) in
-    let next : at + 1 + 1 ≡ at + 2 = omega arith in
-    one_written b (left / b) at upper last two (quotient_some b left two more) (omega (arith, inside, length-set buf (at + 1) (digit_glyph upper (left % b))))
-    ∙ one_written b left (at + 1) upper buf two (omega (arith, two, more)) inside
-    ∙ ap (λ k. map (digit_glyph upper) (digits_of b left) ++ drop k buf) next
+pub power_some : (b k : ℕ) → 2 ≤ b → 0 < b ^ k
+power_some b k two = omega (arith, pow-le-pow_right {n = b} (omega (arith, two)) {i = 0} {j = k} (omega arith), pow-zero b)
 
--- and so is the last one
-pub last_written : (b left at : ℕ) (upper : Bool) (buf : List ℕ) → 2 ≤ b → 0 < left → left < b → at < length buf
-    → drop at (slice_set buf at (digit_glyph upper left)) ≡ map (digit_glyph upper) (digits_of b left) ++ drop (at + 1) buf
-last_written b left at upper buf two some small inside =
-    let all : left % b ≡ left = mod-eq_of_lt small in
-    let none : left / b ≡ 0 = div-eq_of_lt small in
-    ap (λ d. drop at (slice_set buf at (digit_glyph upper d))) (sym all)
-    ∙ ap (λ k. map (digit_glyph upper) (digits_of b k) ++ drop at (slice_set buf at (digit_glyph upper (left % b)))) (sym none)
-    ∙ one_written b left at upper buf two some inside
+pub group_fits : (b : ℕ) → b ≤ 16 → b ^ 16 ≤ 2 ^ 64
+group_fits b high = pow-le-pow_left high 16
+
+pub in_group : (b n : ℕ) → 2 ≤ b → n % b ^ 16 < b ^ 16
+in_group b n two = mod-lt n (power_some b 16 two)
+
+-- a number from b^k on has k digits at least
+many_digits : (b k n : ℕ) → 2 ≤ b → b ^ k ≤ n → k ≤ length (digits_of b n)
+many_digits b zero n two long = omega arith
+many_digits b (suc k) n two long =
+    let power = pow-suc b k in
+    let some : 0 < n = omega (arith, long, power_some b (suc k) two) in
+    omega (arith, many_digits b k (n / b) two (le-div (b ^ k) n b (omega (arith, two)) (omega (arith, power, long))), length-digits_of_step b n two some)
+
+pub digits_of_group : (b left : ℕ) → 2 ≤ b → b ≤ 16 → 2 ^ 64 ≤ left → 16 ≤ length (digits_of b left)
+digits_of_group b left two high wide = many_digits b 16 left two (omega (arith, group_fits b high, wide))
+
+pub group_fewer : (b left : ℕ) → 2 ≤ b → 0 < left → left / b ^ 16 < left
+group_fewer b left two some = div-lt_self {n = left} {k = b ^ 16} some (omega (arith, pow-le-pow_left two 16))
+
+-- one digit more of a group is written
+more_in_group : (b q left at : ℕ) (upper : Bool) (buf : List ℕ) → 2 ≤ b → 0 < q → at < length buf
+    → map (digit_glyph upper) (digits_of b (q * b ^ at + left / b)) ++ drop at (slice_set buf at (digit_glyph upper (left % b))) ≡ map (digit_glyph upper) (digits_of b (q * b ^ suc at + left)) ++ drop (suc at) buf
+more_in_group b q left at upper buf two some inside =
+    let all = q * b ^ suc at + left in
+    let base : 0 < b = omega (arith, two) in
+    let split : left + q * b ^ at * b ≡ all = omega (arith, mul_assoc q (b ^ at) b, ap (λ p. q * p) (pow-suc b at)) in
+    let quotient : q * b ^ at + left / b ≡ all / b = omega (arith, add-mul-div_right left (q * b ^ at) base, ap (λ n. n / b) split) in
+    let last : left % b ≡ all % b = sym (add-mul-mod_self_right left (q * b ^ at) b) ∙ ap (λ n. n % b) split in
+    let positive : 0 < all = omega (arith, at_least q (b ^ suc at) some, power_some b (suc at) two) in
+    let next : at + 1 ≡ suc at = omega arith in
+    ap (λ n. map (digit_glyph upper) (digits_of b n) ++ drop at (slice_set buf at (digit_glyph upper (left % b)))) quotient
+    ∙ ap (λ d. map (digit_glyph upper) (digits_of b (all / b)) ++ drop at (slice_set buf at (digit_glyph upper d))) last
+    ∙ one_written b all at upper buf two positive inside
+    ∙ ap (λ k. map (digit_glyph upper) (digits_of b all) ++ drop k buf) next
+
+pub next_in_group : (b q left at : ℕ) (upper : Bool) (buf : List ℕ) → 2 ≤ b → 0 < q → 0 < at → at ≤ length buf
+    → map (digit_glyph upper) (digits_of b (q * b ^ (at - 1) + left / b)) ++ drop (at - 1) (slice_set buf (at - 1) (digit_glyph upper (left % b))) ≡ map (digit_glyph upper) (digits_of b (q * b ^ at + left)) ++ drop at buf
+next_in_group b q left at upper buf two some before inside =
+    let back : suc (at - 1) ≡ at = omega (arith, before) in
+    more_in_group b q left (at - 1) upper buf two some (omega (arith, before, inside)) ∙ ap (λ k. map (digit_glyph upper) (digits_of b (q * b ^ k + left)) ++ drop k buf) back
+
+-- where none of the group is left, it is written whole
+pub whole_group : (b q left at : ℕ) (upper : Bool) (buf : List ℕ) → at ≡ 0 → left < b ^ at
+    → map (digit_glyph upper) (digits_of b (q * b ^ at + left)) ++ drop at buf ≡ map (digit_glyph upper) (digits_of b q) ++ buf
+whole_group b q left at upper buf none small =
+    let done : left < b ^ 0 = subst (λ k. left < b ^ k) none small in
+    let rest : q * b ^ 0 + left ≡ q = ap (λ p. q * p + left) (pow-zero b) ∙ omega (arith, done, pow-zero b) in
+    ap (λ k. map (digit_glyph upper) (digits_of b (q * b ^ k + left)) ++ drop k buf) none ∙ ap (λ n. map (digit_glyph upper) (digits_of b n) ++ buf) rest
+
+pub less_left : (b k left : ℕ) → 2 ≤ b → left < b ^ suc k → left / b < b ^ k
+less_left b k left two small = (div-lt_iff_lt-mul {k = b} {x = left} {y = b ^ k} (omega (arith, two))).1 (omega (arith, small, pow-suc b k))
+
+from_group : (at : ℕ) (xs group : List ℕ) → 16 ≤ at → at ≤ length xs → drop (at - 16) (put_mid (at - 16) (at - 16 + 16 - (at - 16)) xs group) ≡ group ++ drop at xs
+from_group at xs group enough inside =
+    let start = at - 16 in
+    let width = start + 16 - start in
+    let back : start + width ≡ at = omega (arith, enough) in
+    drop_at (take start xs) _ start (length-take-le start xs (omega (arith, inside))) ∙ ap (λ ys. group ++ ys) (drop-drop width start xs ∙ ap (λ k. drop k xs) back)
+
+-- a group of a number is written
+pub next_group : (b n end left at : ℕ) (upper : Bool) (buf written group : List ℕ) → 2 ≤ b → b ≤ 16 → 2 ^ 64 ≤ left → 16 ≤ at → at ≤ length written → length group ≡ 16
+    → ((q : ℕ) → 0 < q → map (digit_glyph upper) (digits_of b (q * b ^ 16 + left % b ^ 16)) ≡ map (digit_glyph upper) (digits_of b q) ++ group)
+    → IsLeft b upper n end left at buf written → IsLeft b upper n end (left / b ^ 16) (at - 16) buf (put_mid (at - 16) (at - 16 + 16 - (at - 16)) written group)
+next_group b n end left at upper buf written group two high wide enough inside long is l =
+    let glyphs = map (digit_glyph upper) in
+    let front = left / b ^ 16 in
+    let some : 0 < front = le-div 1 left (b ^ 16) (power_some b 16 two) (omega (arith, group_fits b high, wide)) in
+    let split : glyphs (digits_of b left) ≡ glyphs (digits_of b front) ++ group = ap (λ k. glyphs (digits_of b k)) (sym (div-add-mod' left (b ^ 16))) ∙ is front some in
+    record {
+      whole = ap (λ xs. glyphs (digits_of b front) ++ xs) (from_group at written group enough inside)
+          ∙ sym (append_assoc (glyphs (digits_of b front)) group (drop at written)) ∙ ap (λ xs. xs ++ drop at written) (sym split) ∙ l.whole;
+      room = omega (arith, l.room, enough, long, ap length split, length-append (glyphs (digits_of b front)) group, length_map (digit_glyph upper) (digits_of b left), length_map (digit_glyph upper) (digits_of b front));
+      before = omega (arith, l.before);
+    }
 
 -- each digit has its byte
 abbrev are_glyphs : ℕ → Bool
@@ -138,10 +212,6 @@ glyphs_back b upper (d ∷ ds) high all =
     let same = glyph_value upper d (omega (arith, all.0)) in
     let rest = glyphs_back b upper ds high all.1 in
     ((subst (λ v. v < b) (sym same) all.0, rest.0), ap (λ v. v ∷ map digit_value (map (digit_glyph upper) ds)) same ∙ ap (λ vs. d ∷ vs) rest.1)
-
-length_map : (f : ℕ → ℕ) (xs : List ℕ) → length (map f xs) ≡ length xs
-length_map f [] = refl
-length_map f (x ∷ xs) = ap suc (length_map f xs)
 
 -- the digits of n are a numeral of n
 pub numeral_back : (b : ℕ) (upper : Bool) (n : ℕ) → 2 ≤ b → b ≤ 16 → IsNumeral b (numeral b upper n) × (digits_sum b (numeral b upper n) ≡ n)

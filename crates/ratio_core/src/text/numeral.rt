@@ -1,12 +1,13 @@
 //! Printing a number in base 2, 8 or 16, from its end on.
-ghost use Rattle.std.specs.Prelude.{◌≡◌, ◌+◌, ◌<◌, ◌≤◌, ◌++◌, drop, length};
+ghost use Rattle.std.specs.Prelude.{◌≡◌, ◌+◌, ◌*◌, ◌^◌, ◌<◌, ◌≤◌, ◌++◌, drop, length, map, ℕ};
 ghost use Rattle.std.specs.Fmt.{digit_glyph};
+ghost use Rattle.std.specs.Int.Digits.{digits_of};
 ghost use Rattle.ratio_core.specs.Printing.{numeral, twos_complement};
 
 use ratio_integer::Primitive;
 
-// Writes the digits, two a turn, so that they end at `end`, and returns where they start. The base is
-// known where this is called, so that no division is left.
+// Writes the digits so that they end at `end`, and returns where they start. Past 64 bits they go in
+// groups of 16. The base is known where this is called, so that no division is left.
 #[inline(always)]
 pub(crate) fn put_numeral(n: u128, base: u128, upper: bool, buf: &mut [u8], end: usize) -> usize
     requires low { 2 ≤ base }
@@ -21,20 +22,45 @@ pub(crate) fn put_numeral(n: u128, base: u128, upper: bool, buf: &mut [u8], end:
         buf[end - 1] = b'0';
         return end - 1;
     }
-    let mut left = n;
+    let unit = base.pow(16);
+    let mut high = n;
     let mut at = end;
-    'pairs: while left >= base {
-        let next = left / base;
-        at -= 2;
-        buf[at + 1] = glyph((left % base) as u8, upper);
-        buf[at] = glyph((next % base) as u8, upper);
-        left = next / base;
+    'groups: while high > u64::MAX as u128 {
+        at -= 16;
+        put_group(
+            (high % unit) as u64,
+            base as u64,
+            upper,
+            &mut buf[at..at + 16],
+        );
+        high /= unit;
     }
-    if left > 0 {
+    let mut left = high as u64;
+    'digits: while left > 0 {
         at -= 1;
-        buf[at] = glyph(left as u8, upper);
+        buf[at] = glyph((left % base as u64) as u8, upper);
+        left /= base as u64;
     }
     at
+}
+
+// Writes a group, its leading zeros too: the digits of a longer number that ends so.
+#[inline(always)]
+fn put_group(n: u64, base: u64, upper: bool, buf: &mut [u8])
+    requires low { 2 ≤ base }
+    requires high { base ≤ 16 }
+    requires small { n < base ^ 16 }
+    requires room { length buf.old ≡ 16 }
+    ensures written { (high : ℕ) → 0 < high → map (digit_glyph upper) (digits_of base (high * base ^ 16 + n))
+        ≡ map (digit_glyph upper) (digits_of base high) ++ buf.new }
+{
+    let mut left = n;
+    let mut at = 16;
+    'digits: while at > 0 {
+        at -= 1;
+        buf[at] = glyph((left % base) as u8, upper);
+        left /= base;
+    }
 }
 
 static LOWER: [u8; 16] = *b"0123456789abcdef";

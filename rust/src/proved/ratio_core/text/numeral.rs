@@ -3,8 +3,8 @@
 
 use crate::proved::ratio_integer::Primitive;
 
-// Writes the digits, two a turn, so that they end at `end`, and returns where they start. The base is
-// known where this is called, so that no division is left.
+// Writes the digits so that they end at `end`, and returns where they start. Past 64 bits they go in
+// groups of 16. The base is known where this is called, so that no division is left.
 /// # Conditions
 ///
 /// What is proved asks of the caller:
@@ -19,20 +19,38 @@ pub(crate) fn put_numeral(n: u128, base: u128, upper: bool, buf: &mut [u8], end:
         buf[end - 1] = b'0';
         return end - 1;
     }
-    let mut left = n;
+    let unit = base.pow(16);
+    let mut high = n;
     let mut at = end;
-    while left >= base {
-        let next = left / base;
-        at -= 2;
-        buf[at + 1] = glyph((left % base) as u8, upper);
-        buf[at] = glyph((next % base) as u8, upper);
-        left = next / base;
+    while high > u64::MAX as u128 {
+        at -= 16;
+        put_group(
+            (high % unit) as u64,
+            base as u64,
+            upper,
+            &mut buf[at..at + 16],
+        );
+        high /= unit;
     }
-    if left > 0 {
+    let mut left = high as u64;
+    while left > 0 {
         at -= 1;
-        buf[at] = glyph(left as u8, upper);
+        buf[at] = glyph((left % base as u64) as u8, upper);
+        left /= base as u64;
     }
     at
+}
+
+// Writes a group, its leading zeros too: the digits of a longer number that ends so.
+#[inline(always)]
+fn put_group(n: u64, base: u64, upper: bool, buf: &mut [u8]) {
+    let mut left = n;
+    let mut at = 16;
+    while at > 0 {
+        at -= 1;
+        buf[at] = glyph((left % base) as u8, upper);
+        left /= base;
+    }
 }
 
 static LOWER: [u8; 16] = *b"0123456789abcdef";

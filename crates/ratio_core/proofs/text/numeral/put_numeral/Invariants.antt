@@ -1,16 +1,14 @@
-use Rattle.std.proofs.Common.{◌≡◌, ◌+◌, ◌≤◌, ◌++◌, length, drop}
-use Rattle.std.specs.Prelude.{map}
-use Rattle.std.specs.Fmt.{digit_glyph}
-use Rattle.std.specs.Int.Digits.{digits_of}
+use Rattle.ratio_core.proofs.Numerals.{IsLeft}
 use Rattle.ratio_core.proofs.text.numeral.put_numeral.Given as goal
 
--- the digits that are left, and what is written, are the digits of the number
-abbrev pub invariant-pairs : goal.invariant-pairs
-invariant-pairs l = record {
-  whole : map (digit_glyph l.upper) (digits_of l.base l.left) ++ drop l.at l.buf ≡ map (digit_glyph l.upper) (digits_of l.base l.n) ++ drop l.end l.initial.buf;
-  room : l.end + length (digits_of l.base l.left) ≤ l.at + 128;
-  before : l.at ≤ l.end;
-}
+abbrev pub invariant-groups : goal.invariant-groups
+invariant-groups l = IsLeft l.base l.upper l.n l.end l.high l.at l.fn.buf l.buf
 
-abbrev pub decreases-pairs : goal.decreases-pairs
-decreases-pairs l = l.left
+abbrev pub decreases-groups : goal.decreases-groups
+decreases-groups l = l.high
+
+abbrev pub invariant-digits : goal.invariant-digits
+invariant-digits l = IsLeft l.base l.upper l.n l.end l.left l.at l.fn.buf l.buf
+
+abbrev pub decreases-digits : goal.decreases-digits
+decreases-digits l = l.left

@@ -71,7 +71,7 @@ pub commutes_in_product : {T : _} {i : _} {o : _} {e : _} {p : _} {h : _} (x y :
 commutes_in_product x y None None first second = tt
 commutes_in_product x y (Some a) right first second =
     one_answer_turned right (Some a) (one_answer _ _ a right (product_nonzero y x)
-        (λ w terms. sym (products_commute (numbers x.ratio) (numbers y.ratio) (numbers a.ratio) w first.terms terms)) first.numer_held first.denom_held second)
+    (λ w terms. sym (products_commute (numbers x.ratio) (numbers y.ratio) (numbers a.ratio) w first.terms terms)) first.numer_held first.denom_held second)
 commutes_in_product x y None (Some b) first second =
     one_answer _ _ b None (product_nonzero x y)
     (λ w terms. products_commute (numbers x.ratio) (numbers y.ratio) w (numbers b.ratio) terms second.terms) second.numer_held second.denom_held first
@@ -80,8 +80,8 @@ pub associates_in_product : {T : _} {i : _} {o : _} {e : _} {p : _} {h : _} (x y
 associates_in_product x y z xy yz None None first second third fourth = tt
 associates_in_product x y z xy yz (Some a) right first second third fourth =
     one_answer_turned right (Some a) (one_answer _ _ a right (product_nonzero x yz)
-        (λ w terms. sym (products_associate (numbers x.ratio) (numbers y.ratio) (numbers z.ratio) (numbers xy.ratio) (numbers yz.ratio) (numbers a.ratio) w first.terms third.terms second.terms terms))
-        third.numer_held third.denom_held fourth)
+    (λ w terms. sym (products_associate (numbers x.ratio) (numbers y.ratio) (numbers z.ratio) (numbers xy.ratio) (numbers yz.ratio) (numbers a.ratio) w first.terms third.terms second.terms terms))
+    third.numer_held third.denom_held fourth)
 associates_in_product x y z xy yz None (Some b) first second third fourth =
     one_answer _ _ b None (product_nonzero xy z)
     (λ w terms. products_associate (numbers x.ratio) (numbers y.ratio) (numbers z.ratio) (numbers xy.ratio) (numbers yz.ratio) w (numbers b.ratio) first.terms terms second.terms fourth.terms)

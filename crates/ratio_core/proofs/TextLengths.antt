@@ -22,13 +22,13 @@ digits_grow (suc k) m n under few small =
     elim (eq-zero-or-pos (m - 9)) [
       | inl h ↦ omega (arith, ap length (decimal_digit m (omega (arith, h))), some_digit n small)
       | inr h ↦ omega (
-          arith,
-          ap length (decimal_step_wide m (omega (arith, h)) (omega (arith, under, small))),
-          ap length (decimal_step_wide n (omega (arith, h, under)) (omega (arith, small))),
-          length-append (decimal (m / 10)) ((48 + m % 10) ∷ []),
-          length-append (decimal (n / 10)) ((48 + n % 10) ∷ []),
-          digits_grow k (m / 10) (n / 10) (omega (arith, under)) (omega (arith, few, pow-suc 10 k)) (omega (arith, small)),
-        )
+        arith,
+        ap length (decimal_step_wide m (omega (arith, h)) (omega (arith, under, small))),
+        ap length (decimal_step_wide n (omega (arith, h, under)) (omega (arith, small))),
+        length-append (decimal (m / 10)) ((48 + m % 10) ∷ []),
+        length-append (decimal (n / 10)) ((48 + n % 10) ∷ []),
+        digits_grow k (m / 10) (n / 10) (omega (arith, under)) (omega (arith, few, pow-suc 10 k)) (omega (arith, small)),
+      )
     ]
 
 more_digits : (m n : ℕ) → m ≤ n → n < 2 ^ 128 → length (decimal m) ≤ length (decimal n)

@@ -159,10 +159,21 @@ fn computes_where_8_bits_end(rt: HostRuntime) {
         Reduced::<i8>::from_integer(-128),
         Reduced::<i8>::from_integer(127),
     );
-    let (many, few) = (Reduced::checked_new(127i8, 2), Reduced::checked_new(2i8, 127));
-    gives(&rt, many.unwrap_or(least).checked_mul(few.unwrap_or(least)), Some((1, 1)));
+    let (many, few) = (
+        Reduced::checked_new(127i8, 2),
+        Reduced::checked_new(2i8, 127),
+    );
+    gives(
+        &rt,
+        many.unwrap_or(least).checked_mul(few.unwrap_or(least)),
+        Some((1, 1)),
+    );
     let half = Reduced::checked_new(-1i8, 2).unwrap_or(least);
-    gives(&rt, Reduced::<i8>::from_integer(64).checked_div(half), Some((-128, 1)));
+    gives(
+        &rt,
+        Reduced::<i8>::from_integer(64).checked_div(half),
+        Some((-128, 1)),
+    );
     gives(&rt, least.checked_div(-1), None);
     gives(&rt, most.checked_add(1), None);
     gives(&rt, least.checked_neg(), None);

@@ -50,6 +50,7 @@ fn texts() {
     for radix in [0, 1, 37] {
         assert_eq!(Reduced64::from_str_radix("f/2", radix).unwrap_err().kind(), RatioErrorKind::ParseError);
     }
+    assert!(Reduced64::from_str_radix("f", 16).is_err());
     let x = i8_of(-1, 10);
     assert_eq!(format!("{} {:b} {:o} {:x} {:#X} {:?}", x, x, x, x, x, x), "-1/10 11111111/1010 377/12 ff/a 0xFF/0xA Reduced { numer: -1, denom: 10 }");
 }

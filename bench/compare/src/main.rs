@@ -37,7 +37,7 @@ fn main() {
     row::head();
     let differing = rows(&proved::EXPORTS_32, &filter) + rows(&proved::EXPORTS_64, &filter) + rows(&proved::EXPORTS_128, &filter);
     if filter.is_empty() {
-        println!("\nErased beside proved: each call on {} more pairs a type, with {differing} differences in all.", calls::COMPARED);
+        println!("\nErased beside proved: each call that both have on up to {} more pairs a type, with {differing} differences, those with the crate counted too.", calls::COMPARED);
     }
     std::process::exit(i32::from(differing > 0));
 }

@@ -1,4 +1,4 @@
-//! A hasher that costs next to nothing, so that what a hash hands to it is what is timed: the one of `include/ratio.h`.
+//! A hasher that costs next to nothing, so that what a hash hands to it is what is timed: the one of `ratio_hash_i32` and its kin.
 
 use std::hash::Hasher;
 

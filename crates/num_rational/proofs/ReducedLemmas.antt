@@ -8,6 +8,7 @@ use Rattle.ratio_integer.specs.Range.{IsHeld, IsRange}
 use Rattle.ratio_integer.proofs.LowestTerms.{lowest_exist, lowest_same, lowest_unique, same_value_turned}
 use Rattle.ratio_integer.proofs.Whole.{mul_nonzero, positive_nonzero}
 use Rattle.ratio_core.specs.Power.{IsPower, PowerCondition}
+use Rattle.ratio_core.proofs.CancellingLemmas.{one_held}
 use Rattle.ratio_core.proofs.LawLemmas.{products_associate, products_commute, products_distribute, sum_conditions_commute, sums_associate, sums_commute}
 use Rattle.ratio_core.proofs.PowerLawLemmas.{parts_add_up, parts_are_answered, powers_add, reciprocals_invert}
 use Rattle.ratio_core.proofs.PowerLemmas.{pow_above}
@@ -118,13 +119,12 @@ adds_exponents {i = i} x range first second left right whole product by_first by
     one_answer _ _ whole product (product_nonzero left right)
     (λ w other. one_pair w (numbers whole.ratio) (lowest_unique _ _ w.0 w.1 (numerator whole.ratio) (denominator whole.ratio) other terms)) held.0 held.1 told
 
-pub is_inverted_by_reciprocal : {T : _} {i : _} {o : _} {e : _} {p : _} {h : _} (x : Reduced T i o e p h) → IsInvertedByReciprocal x
-is_inverted_by_reciprocal x r None turned told = λ held.
-    told (record { numer = pos 1; denom = pos 1; low = record { terms = reciprocals_invert (numerator x.ratio) (denominator x.ratio) (numerator r.ratio) (denominator r.ratio) x.lowest.positive turned.0.nonzero turned.1; numer_held = held; denom_held = held } })
-is_inverted_by_reciprocal {i = i} x r (Some p) turned told =
+pub is_inverted_by_reciprocal : {T : _} {i : _} {o : _} {e : _} {p : _} {h : _} (x : Reduced T i o e p h) → IsRange i.lo i.hi → IsInvertedByReciprocal x
+is_inverted_by_reciprocal {i = i} x range one r product whole turned told =
     let terms = reciprocals_invert (numerator x.ratio) (denominator x.ratio) (numerator r.ratio) (denominator r.ratio) x.lowest.positive turned.0.nonzero turned.1 in
-    let one = lowest_unique _ _ (numerator p.ratio) (denominator p.ratio) (pos 1) (pos 1) told.terms terms in
-    (subst (λ z. IsHeld i.lo i.hi z) one.0 told.numer_held, one)
+    one_answer _ _ one product (product_nonzero x r)
+    (λ w other. let same = lowest_unique _ _ w.0 w.1 (pos 1) (pos 1) other terms in one_pair w (numbers one.ratio) (same.0 ∙ sym whole.0, same.1 ∙ sym whole.1))
+    (one_held i.lo i.hi (numerator one.ratio) range whole.0) (one_held i.lo i.hi (denominator one.ratio) range whole.1) told
 
 -- ---- the two parts
 

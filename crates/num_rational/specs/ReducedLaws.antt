@@ -6,7 +6,7 @@ use Rattle.num_rational.specs.declared.reduced.Reduced.{Reduced}
 use Rattle.num_rational.specs.Comparison.{HaveSameFields}
 use Rattle.num_rational.specs.Operators.{ChecksProduct, ChecksSum, numbers}
 use Rattle.num_rational.specs.Powers.{ChecksRatioPower}
-use Rattle.num_rational.specs.Ratio.{ChecksWhole, denominator, numerator}
+use Rattle.num_rational.specs.Ratio.{IsWhole, denominator, numerator}
 use Rattle.num_rational.specs.Reduced.{ratio_in, ratio_of}
 
 -- x + y answers r
@@ -83,13 +83,14 @@ AddsExponents {T} {i} {o} {e} {p} {h} x =
     → AnswersProduct left right product
     → AreOneAnswer product (Some whole)
 
--- x times its reciprocal, where it has one, answers 1/1
+-- x times its reciprocal, where it has one, is answered by 1/1
 abbrev pub IsInvertedByReciprocal : {T : _} {i : _} {o : _} {e : _} {p : _} {h : _} → Reduced T i o e p h → Type 0
 IsInvertedByReciprocal {T} {i} {o} {e} {p} {h} x =
-    (r : Reduced T i o e p h) (product : Option (Reduced T i o e p h))
+    (one r : Reduced T i o e p h) (product : Option (Reduced T i o e p h))
+    → IsWhole (pos 1) (ratio_of one)
     → AnswersReciprocal x (Some r)
     → AnswersProduct x r product
-    → ChecksWhole (pos 1) (ratio_in product)
+    → AreOneAnswer product (Some one)
 
 -- what `trunc` gives of x and what it leaves add up to x, and this sum is always answered
 abbrev pub IsSumOfParts : {T : _} {i : _} {o : _} {e : _} {p : _} {h : _} → Reduced T i o e p h → Type 0

@@ -13,7 +13,7 @@ use Rattle.ratio_core.specs.Cancelling.{IsCancelled}
 
 -- ---- 0 and 1
 
-one_held : (lo hi z : ℤ) → IsRange lo hi → z ≡ pos 1 → IsHeld lo hi z
+pub one_held : (lo hi z : ℤ) → IsRange lo hi → z ≡ pos 1 → IsHeld lo hi z
 one_held lo hi z range one = let low = low_below lo hi range in let high = range.high in record { above = omega (arith, ints); below = omega (arith, ints) }
 
 -- 0/1 is 0/d

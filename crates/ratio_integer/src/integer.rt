@@ -35,7 +35,7 @@ pub trait Integer: Copy + Ord + Hash {
 
     ghost EXACT_SUMS: { Bool };
 
-    // A fact that a constant fraction over the type may name.
+    // The number of `ONE`, as a fact that a constant fraction over the type may name.
     ghost one_number: { value ONE ≡ pos 1 };
 
     /// The number 0.

@@ -1,4 +1,4 @@
-//! What no clause says of integers and fractions: rows from outside, and each call once at a concrete type.
+//! Tests of integers and fractions: rows from outside, and each call once at a concrete type.
 #![tactic(auto)]
 
 #[cfg(test)]

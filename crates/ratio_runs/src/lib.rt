@@ -1,4 +1,4 @@
-//! What no clause says of the programs, with answers from outside: the calculator over devices in memory, and the small
+//! Tests of the programs, with answers from outside: the calculator over devices in memory, and the small
 //! programs.
 #![tactic(auto)]
 

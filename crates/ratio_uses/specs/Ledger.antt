@@ -56,7 +56,7 @@ IsMarkOf amount x mark = IsRounded (amount *ℤ x.0) x.1 mark
 abbrev pub added : List ℤ → ℤ
 added parts = fold (λ sum part. sum +ℤ part) (pos 0) parts
 
--- the parts add up to the amount; the first k of them add up to the amount times the first k shares, rounded; and each is less than 1 away from the
+-- the parts add up to the amount; the first k of them add up to the amount times the sum of these shares, rounded; and each is less than 1 away from the
 -- amount times its share
 pub record IsSplit {A : Type 0} (view : A → ℤ × ℤ) (amount : ℤ) (shares : List A) (parts : List ℤ) : Type 0 where
   pub total : added parts ≡ amount

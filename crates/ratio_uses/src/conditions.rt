@@ -15,7 +15,7 @@ pub fn together(left: &Rational64, right: &Rational64) -> Option<Rational64> {
     }
 }
 
-/// The product of the rates, where each product on the way fits.
+/// The product of the rates, where each product on the way fits. The clause says what a next call asks of it.
 pub fn chained(rates: &[Rational64]) -> Option<Rational64>
     requires { ArePositive numbers rates.now }
     ensures { IfSome result (λ product. pos 0 <ℤ denominator product) }

@@ -1,4 +1,4 @@
-//! What no clause says of the laws: every fraction of the smallest types walked, the counted divisions, and rows
+//! Tests of the odd types: every fraction of the smallest types walked, the counted divisions, and rows
 //! from outside.
 #![tactic(auto)]
 

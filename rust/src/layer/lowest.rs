@@ -12,8 +12,7 @@ use core::str::FromStr;
 use num_traits::Signed;
 
 /// A fraction of two integers that is always in lowest terms: the denominator is positive, and no number above 1
-/// divides both. A call answers `None` where the type does not hold the lowest terms of the answer, and none panics.
-/// num-rational has no such type.
+/// divides both. A checked call answers `None` where it is refused, and none panics. num-rational has no such type.
 ///
 /// ```
 /// use bakhsney::{ParseRatioError, Reduced64};
@@ -114,8 +113,8 @@ impl<T: Integer> Reduced<T> {
         Ratio::from_proved(self.fraction.to_ratio())
     }
 
-    /// The lowest terms of a text `N` or `N/D` in the radix. A radix that is not from 2 to 36 is an error as a
-    /// wrong text is.
+    /// The lowest terms of a text `N/D` in the radix. A text without a slash is refused, and so is each text where the
+    /// radix is not from 2 to 36.
     ///
     /// ```
     /// use bakhsney::Reduced;

@@ -1,5 +1,5 @@
 // Erased from crates/ratio_rows/src/lib.rt by rust/erase: not to be edited.
-//! What no clause says of integers and fractions: rows from outside, and each call once at a concrete type.
+//! Tests of integers and fractions: rows from outside, and each call once at a concrete type.
 #[cfg(test)]
 mod fields;
 #[cfg(test)]

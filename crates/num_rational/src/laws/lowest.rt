@@ -1,5 +1,5 @@
 //! The laws of fractions that are always in lowest terms: each function's contract is the law, of the fractions that it is given,
-//! and it changes nothing. A premise says what a call answered, and nothing else.
+//! and it changes nothing. A premise says what a call answered, and nothing else; `hashes` has one on the type.
 ghost use Rattle.std.specs.Prelude.{◌≡◌, ◌↔◌};
 ghost use Rattle.std.specs.declared.cmp.Ordering.TheVariants.{Equal};
 ghost use Rattle.num_rational.specs.Comparison.{HaveSameFields, order_of};
@@ -10,26 +10,26 @@ ghost use Rattle.num_rational.specs.ReducedLaws.{AddsExponents, AssociatesInProd
 use crate::reduced::Reduced;
 use ratio_integer::Integer;
 
-/// Sums.
+/// Sums commute and associate.
 pub fn sums<T: Copy + Integer>(x: &Reduced<T>, y: &Reduced<T>, z: &Reduced<T>)
     ensures commute { CommutesInSum x.now y.now }
     ensures associate { AssociatesInSum x.now y.now z.now }
 {}
 
-/// Products, over sums too.
+/// Products commute and associate, and distribute over sums.
 pub fn products<T: Copy + Integer>(x: &Reduced<T>, y: &Reduced<T>, z: &Reduced<T>)
     ensures commute { CommutesInProduct x.now y.now }
     ensures associate { AssociatesInProduct x.now y.now z.now }
     ensures distribute { DistributesOverSum x.now y.now z.now }
 {}
 
-/// Powers and the reciprocal.
+/// Exponents add, and a fraction times its reciprocal is 1/1.
 pub fn powers<T: Copy + Integer>(x: &Reduced<T>)
     ensures add { AddsExponents x.now }
     ensures invert { IsInvertedByReciprocal x.now }
 {}
 
-/// The two parts, which `trunc` and `fract` give.
+/// What `trunc` and `fract` give add up to the fraction.
 pub fn parts<T: Copy + Integer>(x: &Reduced<T>)
     ensures { IsSumOfParts x.now }
 {

@@ -1,23 +1,23 @@
 // Erased from crates/num_rational/src/laws/lowest.rt by rust/erase: not to be edited.
 //! The laws of fractions that are always in lowest terms: each function's contract is the law, of the fractions that it is given,
-//! and it changes nothing. A premise says what a call answered, and nothing else.
+//! and it changes nothing. A premise says what a call answered, and nothing else; `hashes` has one on the type.
 
 use crate::proved::num_rational::reduced::Reduced;
 use crate::proved::ratio_integer::Integer;
 
-/// Sums.
+/// Sums commute and associate.
 #[inline]
 pub fn sums<T: Copy + Integer>(x: &Reduced<T>, y: &Reduced<T>, z: &Reduced<T>) {}
 
-/// Products, over sums too.
+/// Products commute and associate, and distribute over sums.
 #[inline]
 pub fn products<T: Copy + Integer>(x: &Reduced<T>, y: &Reduced<T>, z: &Reduced<T>) {}
 
-/// Powers and the reciprocal.
+/// Exponents add, and a fraction times its reciprocal is 1/1.
 #[inline]
 pub fn powers<T: Copy + Integer>(x: &Reduced<T>) {}
 
-/// The two parts, which `trunc` and `fract` give.
+/// What `trunc` and `fract` give add up to the fraction.
 #[inline]
 pub fn parts<T: Copy + Integer>(x: &Reduced<T>) {
     let _ = x.numer().held();

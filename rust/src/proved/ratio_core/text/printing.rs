@@ -143,7 +143,7 @@ fn put_digits(n: u128, buf: &mut [u8], end: usize) -> usize {
 }
 
 // The quotient by 10^19, without a division in 128 bits: the upper half gives less than that by 4 at
-// most, and what is left then by 8 fits 64 bits.
+// most, and an eighth of what is then left fits 64 bits.
 #[inline(always)]
 fn groups(n: u128) -> u128 {
     let guess = n / (1 << 64) * RECIPROCAL / (1 << 63);

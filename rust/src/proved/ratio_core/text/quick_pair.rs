@@ -127,7 +127,7 @@ static DIGITS: [u8; 75] = [
     35,
 ];
 
-// What the byte is worth as a digit, and 36 where it is none. Where no letter is a digit of the radix, no table is needed.
+// What the byte is worth as a digit, and 36 where it is none. The digits of a radix up to 10 take no table.
 #[inline(always)]
 fn digit(byte: u8, radix: u32) -> u64 {
     if byte < b'0' {

@@ -5,4 +5,4 @@ pub returns-clause-add : goal.returns-clause-add
 returns-clause-add g c = adds_exponents c.args.x.now g.met.T.Integer.range_law
 
 pub returns-clause-invert : goal.returns-clause-invert
-returns-clause-invert g c = is_inverted_by_reciprocal c.args.x.now
+returns-clause-invert g c = is_inverted_by_reciprocal c.args.x.now g.met.T.Integer.range_law

@@ -1,9 +1,10 @@
 /* Exact fractions of machine integers: calls over slices of fractions, proved.
  *
  * Each call takes what is asked and a place for each answer, and how many of each there are. It
- * returns RATIO_DONE, and each answer has a code; or the two numbers are unlike, and then it returns
- * RATIO_BAD_LENGTH and writes nothing. No call overflows, stops the program or takes memory, whatever
- * numbers it is given. What is written may overlap nothing else, and a pointer may not be null.
+ * returns RATIO_DONE, and each answer has a code; or the two numbers are unlike, or there is too little
+ * room for texts, and then it returns RATIO_BAD_LENGTH and writes nothing. No call overflows, stops the
+ * program or takes memory, whatever numbers it is given. What is written may overlap nothing else, and a
+ * pointer may not be null.
  *
  * Link with libratio_c.a.
  */
@@ -16,7 +17,7 @@
 /* What a call returns. */
 enum { RATIO_DONE = 0, RATIO_BAD_LENGTH = 1 };
 
-/* The code of an answer. Where it is another than RATIO_ANSWERED, the numbers are 0. */
+/* The code of an answer. Where it is another than RATIO_ANSWERED, the numbers are 0, and the span of a text is empty. */
 enum {
     RATIO_ANSWERED = 0,
     RATIO_NOT_HELD = 1,                 /* the answer does not fit in the type */

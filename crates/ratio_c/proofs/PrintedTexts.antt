@@ -1,8 +1,7 @@
 -- The texts that are written so far, and where they stand.
 use Rattle.std.proofs.Common.{◌≡◌, refl, sym, ◌∙◌, ap, inl, inr, arith, ℕ, suc, ◌+◌, ◌-◌, ◌*◌, ◌<◌, ◌≤◌, List, [], ◌∷◌, ◌++◌, append-nil, append_assoc, length, length-append, take, drop, get_or, set, ℤ, pos, negsuc, ◌^◌, eq-zero-or-pos}
-use Rattle.std.specs.Prelude.{slice_range}
 use Rattle.std.specs.List.{flat_map}
-use Rattle.std.proofs.lemmas.List.{drop-append-le, drop_at, get_or_default, get_or-set_other, get_or-set_same, length-drop, take_at, take_more, take-append-le}
+use Rattle.std.proofs.lemmas.List.{drop_at, get_or_default, get_or-set_other, get_or-set_same, take_at, take_more}
 use Rattle.std.proofs.lemmas.List.{drop-drop}
 use Rattle.std.proofs.lemmas.Grind.{flat_map-append}
 use Rattle.std.proofs.Math.Nat.{max-le, suc-mul}
@@ -12,28 +11,6 @@ use Rattle.std.proofs.lemmas.Fmt.{length-decimal-le_wide}
 use Rattle.ratio_core.specs.Printing.{decimal_room}
 use Rattle.ratio_c.specs.Texts.{ArePrinted, IsTextAnswer, all_shown, shown, shown_code}
 use Rattle.ratio_c.specs.declared.printing.Text.{Text}
-use Rattle.ratio_c.proofs.Places.{Before, all_zip}
-
--- ---- one text among others
-
-slice_front : (xs ys : List ℕ) (start end : ℕ) → start ≤ end → end ≤ length xs → slice_range (xs ++ ys) start end ≡ slice_range xs start end
-slice_front xs ys start end forward inside =
-    ap (take (end - start)) (drop-append-le start xs ys (omega (arith, forward, inside)))
-    ∙ take-append-le (end - start) (drop start xs) ys (omega (arith, length-drop start xs, forward, inside))
-
-slice_back : (xs ys : List ℕ) (start end : ℕ) → start ≡ length xs → end ≡ start + length ys → slice_range (xs ++ ys) start end ≡ ys
-slice_back xs ys start end starts ends =
-    let long : end - start ≡ length ys = omega (arith, ends) in
-    ap (take (end - start)) (drop_at xs ys start (sym starts)) ∙ ap (λ n. take n ys) long ∙ take-length ys
-
--- a text stands where it did after others are written behind
-stays : (bits : ℕ) (xs ys : List ℕ) (x : ℤ × ℤ) (answer : Text) → IsTextAnswer bits xs x answer → IsTextAnswer bits (xs ++ ys) x answer
-stays bits xs ys x answer is = record {
-  code = is.code;
-  forward = is.forward;
-  inside = omega (arith, is.inside, length-append xs ys);
-  text = slice_front xs ys answer.span.start answer.span.end is.forward is.inside ∙ is.text;
-}
 
 -- ---- the texts of the first n fractions
 
@@ -45,10 +22,10 @@ module _ {A : Type 0} (bits : ℕ) (fraction : A → ℤ × ℤ) (room : ℕ) (a
     pub counted : at ≡ length (first n)
     pub roomy : at ≤ n * room
     pub texts : new ≡ first n ++ drop at old
-    pub each : Before (λ x answer. IsTextAnswer bits (first n) (fraction x) answer) asked answers n
+    pub each : (k : ℕ) → k < n → (d : A) (e : Text) → IsTextAnswer bits (length (first k)) (fraction (get_or asked k d)) (get_or answers k e)
 
   pub none_printed : (answers : List Text) → ArePrintedTo old answers 0 0
-  none_printed answers = record { counted = refl; roomy = omega arith; texts = refl; each = record { each = λ k d e within. absurd (omega arith) } }
+  none_printed answers = record { counted = refl; roomy = omega arith; texts = refl; each = λ k within d e. absurd (omega arith) }
 
   one_more : (n : ℕ) (d : A) → n < length asked → first (n + 1) ≡ first n ++ shown bits (fraction (get_or asked n d))
   one_more n d inside =
@@ -72,22 +49,13 @@ module _ {A : Type 0} (bits : ℕ) (fraction : A → ℤ × ℤ) (room : ℕ) (a
         roomy = omega (arith, so_far.roomy, short, suc-mul n room, ap (λ k. k * room) next);
         texts = written ∙ ap (λ xs. xs ++ (bytes ++ drop text.span.end mid)) front ∙ ap (λ xs. first n ++ (bytes ++ xs)) back
             ∙ sym (append_assoc (first n) bytes (drop text.span.end old)) ∙ ap (λ xs. xs ++ drop text.span.end old) (sym more);
-        each = record {
-          each = λ k d e within.
-              rw more
-              (elim (eq-zero-or-pos (n - k)) [
-                | inl last ↦ let same : k ≡ n = omega (arith, last, within) in
-                    rw (same, get_or_default asked n d x inside ∙ sym here, get_or-set_same answers n text e place)
-                    (record {
-                      code = code;
-                      forward = omega (arith, start, end);
-                      inside = omega (arith, end, so_far.counted, length-append (first n) bytes);
-                      text = slice_back (first n) bytes text.span.start text.span.end (start ∙ so_far.counted) (end ∙ ap (λ m. m + length bytes) (sym start));
-                    })
-                | inr before ↦ rw (get_or-set_other answers n k text e (λ same. omega (arith, before, same)))
-                    (stays bits (first n) bytes (fraction (get_or asked k d)) (get_or answers k e) (so_far.each.each k d e (omega (arith, before))))
-              ]);
-        };
+        each = λ k within d e.
+            elim (eq-zero-or-pos (n - k)) [
+              | inl last ↦ let same : k ≡ n = omega (arith, last, within) in
+                  rw (same, get_or_default asked n d x inside ∙ sym here, get_or-set_same answers n text e place)
+                  (record { code = code; start = start ∙ so_far.counted; end = end ∙ ap (λ m. m + length bytes) so_far.counted })
+              | inr before ↦ rw (get_or-set_other answers n k text e (λ same. omega (arith, before, same))) (so_far.each k (omega (arith, before)) d e)
+            ];
       }
 
   pub all_printed : (new : List ℕ) (answers : List Text) (n at : ℕ) → ArePrintedTo new answers n at → n ≡ length asked → length asked ≡ length answers → ArePrinted bits fraction asked old new answers
@@ -95,8 +63,8 @@ module _ {A : Type 0} (bits : ℕ) (fraction : A → ℤ × ℤ) (room : ℕ) (a
       let whole : first n ≡ all_shown bits fraction asked = ap (λ xs. all_shown bits fraction xs) (ap (λ k. take k asked) all ∙ take-length asked) in
       record {
         texts = done.texts ∙ ap (λ xs. xs ++ drop at old) whole ∙ ap (λ k. all_shown bits fraction asked ++ drop k old) (done.counted ∙ ap length whole);
-        each = all_zip (λ x answer. IsTextAnswer bits new (fraction x) answer) asked answers same
-            (λ k d e within. rw done.texts (stays bits (first n) (drop at old) (fraction (get_or asked k d)) (get_or answers k e) (done.each.each k d e (omega (arith, all, within)))));
+        as_many = same;
+        each = λ k within. done.each k (omega (arith, all, within));
       }
 
 -- ---- how much room the texts of a type take

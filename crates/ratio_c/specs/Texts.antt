@@ -1,6 +1,6 @@
 -- What the calls that print write.
-use Rattle.std.specs.Prelude.{◌≡◌, ◌*◌, ◌≤◌, ℕ, ℤ, pos, List, [], ◌++◌, length, drop, slice_range, if◌then◌else◌, false}
-use Rattle.std.specs.List.{AllZip, flat_map}
+use Rattle.std.specs.Prelude.{◌≡◌, ◌+◌, ◌*◌, ◌<◌, ◌≤◌, ℕ, ℤ, pos, List, [], ◌++◌, length, take, drop, slice_index_or, if◌then◌else◌, false}
+use Rattle.std.specs.List.{flat_map}
 use Rattle.std.specs.Ordering.{int_eq}
 use Rattle.ratio_core.specs.declared.text.form.Form.TheVariants.{Decimal}
 use Rattle.ratio_core.specs.Printing.{text_of}
@@ -13,25 +13,25 @@ use Rattle.ratio_c.specs.declared.printing.Text.{Text}
 abbrev pub shown : ℕ → ℤ × ℤ → List ℕ
 shown bits x = if int_eq x.1 (pos 0) then [] else text_of bits Decimal false x.0 x.1
 
--- the code says where that is
+-- the code says whether the denominator is 0
 abbrev pub shown_code : ℤ × ℤ → ℕ
 shown_code x = if int_eq x.1 (pos 0) then ZERO_DENOMINATOR else ANSWERED
 
--- an answer says where the text of a fraction stands among others
-pub record IsTextAnswer (bits : ℕ) (texts : List ℕ) (x : ℤ × ℤ) (answer : Text) : Type 0 where
+-- an answer says that the text of a fraction starts at a place, and ends as many bytes behind it as the text has
+pub record IsTextAnswer (bits at : ℕ) (x : ℤ × ℤ) (answer : Text) : Type 0 where
   pub code : answer.code ≡ shown_code x
-  pub forward : answer.span.start ≤ answer.span.end
-  pub inside : answer.span.end ≤ length texts
-  pub text : slice_range texts answer.span.start answer.span.end ≡ shown bits x
+  pub start : answer.span.start ≡ at
+  pub end : answer.span.end ≡ at + length (shown bits x)
 
 -- the texts of all fractions, one after another
 abbrev pub all_shown : {A : Type 0} → ℕ → (A → ℤ × ℤ) → List A → List ℕ
 all_shown bits fraction asked = flat_map (λ x. shown bits (fraction x)) asked
 
--- all texts are written from the first byte on, each where its answer says, and behind them nothing has changed
+-- all texts are written from the first byte on, and behind them nothing has changed; each answer's span starts behind the texts of all fractions before its own, so the bytes in it are its fraction's text
 pub record ArePrinted {A : Type 0} (bits : ℕ) (fraction : A → ℤ × ℤ) (asked : List A) (old new : List ℕ) (answers : List Text) : Type 0 where
   pub texts : new ≡ all_shown bits fraction asked ++ drop (length (all_shown bits fraction asked)) old
-  pub each : AllZip (λ x answer. IsTextAnswer bits new (fraction x) answer) asked answers
+  pub as_many : length asked ≡ length answers
+  pub each : (k : ℕ) → k < length asked → (x : A) (answer : Text) → IsTextAnswer bits (length (all_shown bits fraction (take k asked))) (fraction (slice_index_or asked k x)) (slice_index_or answers k answer)
 
 -- fractions are printed where each has an answer and so much room, and else nothing is written
 abbrev pub Prints : {A : Type 0} → ℕ → ℕ → (A → ℤ × ℤ) → List A → List ℕ → List ℕ → List Text → List Text → ℕ → Type 0

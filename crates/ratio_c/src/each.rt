@@ -13,7 +13,7 @@ pub trait Call<A, B> {
 /// The return of a call that wrote its answers.
 pub const DONE: u32 = 0;
 
-/// The return of a call that was given slices of unlike lengths, and wrote nothing.
+/// The return of a call that was given slices of unlike lengths, or too little room for texts, and wrote nothing.
 pub const BAD_LENGTH: u32 = 1;
 
 /// Writes the answer to each element, where there is a place for each and no other.

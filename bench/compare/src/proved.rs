@@ -77,29 +77,25 @@ pub trait Crossing: Copy {
     fn number(self) -> Self::Number;
 }
 
-impl Crossing for i32 {
-    type Number = i32;
+macro_rules! crosses_as_itself {
+    ($($t:ty)*) => {
+        $(
+            impl Crossing for $t {
+                type Number = $t;
 
-    fn of(n: i128) -> i32 {
-        n as i32
-    }
+                fn of(n: i128) -> $t {
+                    n as $t
+                }
 
-    fn number(self) -> i32 {
-        self
-    }
+                fn number(self) -> $t {
+                    self
+                }
+            }
+        )*
+    };
 }
 
-impl Crossing for i64 {
-    type Number = i64;
-
-    fn of(n: i128) -> i64 {
-        n as i64
-    }
-
-    fn number(self) -> i64 {
-        self
-    }
-}
+crosses_as_itself! { i32 i64 }
 
 impl Crossing for Wide {
     type Number = i128;

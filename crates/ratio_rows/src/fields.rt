@@ -4,4 +4,3 @@ mod comparing;
 mod laws;
 mod nearest;
 mod printing;
-mod recorder;

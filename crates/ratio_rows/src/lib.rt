@@ -7,3 +7,5 @@ mod fields;
 mod integers;
 #[cfg(test)]
 mod ratios;
+#[cfg(test)]
+mod recorder;

@@ -10,7 +10,6 @@ mod keys;
 mod lowest;
 mod operators;
 mod powers;
-mod recorder;
 mod rounding;
 mod rows;
 mod signs;

@@ -6,3 +6,5 @@ mod fields;
 mod integers;
 #[cfg(test)]
 mod ratios;
+#[cfg(test)]
+mod recorder;

@@ -1,7 +1,7 @@
 //! Worked rows of the order and of the codes, with their expected values from outside.
 ghost use Rattle.std.specs.Prelude.{◌≢◌, pos};
 
-use crate::fields::recorder::Recorder;
+use crate::recorder::Codes;
 use ratio_core::{Steps, cmp_counted, compare, hash_counted};
 use ratio_integer::Integer;
 use std::cmp::Ordering;
@@ -83,7 +83,7 @@ fn codes_over_i8(rt: HostRuntime) -> Result<(), Fail> {
     ];
     for (n, d, expected) in rows {
         assert!(rt; d != 0);
-        let mut list = Recorder::<i8>::new();
+        let mut list = Codes::<i8>::new();
         hash_counted(n, d, &mut list, &mut Steps::new());
         assert_eq!(rt; list.as_slice(), expected, "{n}/{d}");
     }
@@ -101,7 +101,7 @@ fn codes_over_i64(rt: HostRuntime) -> Result<(), Fail> {
     ];
     for (n, d, expected) in rows {
         assert!(rt; d != 0);
-        let mut list = Recorder::<i64>::new();
+        let mut list = Codes::<i64>::new();
         hash_counted(n, d, &mut list, &mut Steps::new());
         assert_eq!(rt; list.as_slice(), expected, "{n}/{d}");
     }

@@ -2,7 +2,7 @@
 //! and comparison.
 use crate::ratios::asserting::{holds, is};
 use crate::ratios::forms::{self, fraction};
-use crate::ratios::recorder::Written;
+use crate::recorder::Written;
 use crate::ratios::texts::{Shown, shown_as};
 use num_rational::{Constants, Form, Ratio, Rational32, Rational64};
 use ratio_integer::Integer;

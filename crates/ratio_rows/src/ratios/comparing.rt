@@ -1,5 +1,5 @@
 //! Rows of the order and of the hash of fractions, from outside.
-use crate::ratios::recorder::{Codes, Written};
+use crate::recorder::{Codes, Written};
 use num_rational::{Ratio, Steps};
 use ratio_integer::{Integer, SignedInteger};
 use std::cmp::Ordering;

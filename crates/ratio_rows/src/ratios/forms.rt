@@ -24,7 +24,7 @@ pub fn has<T: Integer>(x: Ratio<T>, fields: (T, T)) -> bool {
 }
 
 /// The fields of the sum, where the checked call answers it and every other form gives the same.
-pub fn sum<T: Integer, O: Operand<T> + Copy>(x: Ratio<T>, o: O) -> Option<(T, T)>
+pub(crate) fn sum<T: Integer, O: Operand<T> + Copy>(x: Ratio<T>, o: O) -> Option<(T, T)>
     requires left { pos 0 <ℤ denominator x }
     requires right { pos 0 <ℤ (O.pair o).1 }
 {
@@ -49,7 +49,7 @@ fn every_sum<T: Integer, O: Operand<T> + Copy>(x: Ratio<T>, o: O, fields: (T, T)
 }
 
 /// The same of the difference.
-pub fn difference<T: Integer, O: Operand<T> + Copy>(x: Ratio<T>, o: O) -> Option<(T, T)>
+pub(crate) fn difference<T: Integer, O: Operand<T> + Copy>(x: Ratio<T>, o: O) -> Option<(T, T)>
     requires left { pos 0 <ℤ denominator x }
     requires right { pos 0 <ℤ (O.pair o).1 }
 {
@@ -74,7 +74,7 @@ fn every_difference<T: Integer, O: Operand<T> + Copy>(x: Ratio<T>, o: O, fields:
 }
 
 /// The same of the product.
-pub fn product<T: Integer, O: Operand<T> + Copy>(x: Ratio<T>, o: O) -> Option<(T, T)>
+pub(crate) fn product<T: Integer, O: Operand<T> + Copy>(x: Ratio<T>, o: O) -> Option<(T, T)>
     requires left { pos 0 <ℤ denominator x }
     requires right { pos 0 <ℤ (O.pair o).1 }
 {
@@ -99,7 +99,7 @@ fn every_product<T: Integer, O: Operand<T> + Copy>(x: Ratio<T>, o: O, fields: (T
 }
 
 /// The same of the quotient.
-pub fn quotient<T: Integer, O: Operand<T> + Copy>(x: Ratio<T>, o: O) -> Option<(T, T)>
+pub(crate) fn quotient<T: Integer, O: Operand<T> + Copy>(x: Ratio<T>, o: O) -> Option<(T, T)>
     requires left { pos 0 <ℤ denominator x }
     requires right { pos 0 <ℤ (O.pair o).1 }
 {
@@ -124,7 +124,7 @@ fn every_quotient<T: Integer, O: Operand<T> + Copy>(x: Ratio<T>, o: O, fields: (
 }
 
 /// The same of the remainder.
-pub fn remainder<T: Integer, O: Operand<T> + Copy>(x: Ratio<T>, o: O) -> Option<(T, T)>
+pub(crate) fn remainder<T: Integer, O: Operand<T> + Copy>(x: Ratio<T>, o: O) -> Option<(T, T)>
     requires left { pos 0 <ℤ denominator x }
     requires right { pos 0 <ℤ (O.pair o).1 }
 {

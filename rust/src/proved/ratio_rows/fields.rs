@@ -5,4 +5,3 @@ mod comparing;
 mod laws;
 mod nearest;
 mod printing;
-mod recorder;

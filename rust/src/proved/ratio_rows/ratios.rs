@@ -11,7 +11,6 @@ mod keys;
 mod lowest;
 mod operators;
 mod powers;
-mod recorder;
 mod rounding;
 mod rows;
 mod signs;

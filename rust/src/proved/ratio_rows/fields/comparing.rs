@@ -1,7 +1,7 @@
 // Erased from crates/ratio_rows/src/fields/comparing.rt by rust/erase: not to be edited.
 //! Worked rows of the order and of the codes, with their expected values from outside.
 
-use crate::proved::ratio_rows::fields::recorder::Recorder;
+use crate::proved::ratio_rows::recorder::Codes;
 use crate::proved::ratio_core::{Steps, cmp_counted, compare, hash_counted};
 use crate::proved::ratio_integer::Integer;
 use core::cmp::Ordering;
@@ -82,7 +82,7 @@ fn codes_over_i8() -> Result<(), Fail> {
     ];
     for (n, d, expected) in rows {
         assert!(d != 0);
-        let mut list = Recorder::<i8>::new();
+        let mut list = Codes::<i8>::new();
         hash_counted(n, d, &mut list, &mut Steps::new());
         assert_eq!(list.as_slice(), expected, "{n}/{d}");
     }
@@ -100,7 +100,7 @@ fn codes_over_i64() -> Result<(), Fail> {
     ];
     for (n, d, expected) in rows {
         assert!(d != 0);
-        let mut list = Recorder::<i64>::new();
+        let mut list = Codes::<i64>::new();
         hash_counted(n, d, &mut list, &mut Steps::new());
         assert_eq!(list.as_slice(), expected, "{n}/{d}");
     }

@@ -1,6 +1,6 @@
 // Erased from crates/ratio_rows/src/ratios/comparing.rt by rust/erase: not to be edited.
 //! Rows of the order and of the hash of fractions, from outside.
-use crate::proved::ratio_rows::ratios::recorder::{Codes, Written};
+use crate::proved::ratio_rows::recorder::{Codes, Written};
 use crate::proved::num_rational::{Ratio, Steps};
 use crate::proved::ratio_integer::{Integer, SignedInteger};
 use core::cmp::Ordering;

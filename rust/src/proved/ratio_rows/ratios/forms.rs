@@ -30,7 +30,7 @@ pub fn has<T: Integer>(x: Ratio<T>, fields: (T, T)) -> bool {
 /// - `left`: `pos 0 <ℤ denominator x`
 /// - `right`: `pos 0 <ℤ (O.pair o).1`
 #[inline]
-pub fn sum<T: Integer, O: Operand<T> + Copy>(x: Ratio<T>, o: O) -> Option<(T, T)> {
+pub(crate) fn sum<T: Integer, O: Operand<T> + Copy>(x: Ratio<T>, o: O) -> Option<(T, T)> {
     let y = o.ratio();
     let fields = x.checked_add(&y)?.into_raw();
     if every_sum(x, o, fields) {
@@ -59,7 +59,7 @@ fn every_sum<T: Integer, O: Operand<T> + Copy>(x: Ratio<T>, o: O, fields: (T, T)
 /// - `left`: `pos 0 <ℤ denominator x`
 /// - `right`: `pos 0 <ℤ (O.pair o).1`
 #[inline]
-pub fn difference<T: Integer, O: Operand<T> + Copy>(x: Ratio<T>, o: O) -> Option<(T, T)> {
+pub(crate) fn difference<T: Integer, O: Operand<T> + Copy>(x: Ratio<T>, o: O) -> Option<(T, T)> {
     let y = o.ratio();
     let fields = x.checked_sub(&y)?.into_raw();
     if every_difference(x, o, fields) {
@@ -88,7 +88,7 @@ fn every_difference<T: Integer, O: Operand<T> + Copy>(x: Ratio<T>, o: O, fields:
 /// - `left`: `pos 0 <ℤ denominator x`
 /// - `right`: `pos 0 <ℤ (O.pair o).1`
 #[inline]
-pub fn product<T: Integer, O: Operand<T> + Copy>(x: Ratio<T>, o: O) -> Option<(T, T)> {
+pub(crate) fn product<T: Integer, O: Operand<T> + Copy>(x: Ratio<T>, o: O) -> Option<(T, T)> {
     let y = o.ratio();
     let fields = x.checked_mul(&y)?.into_raw();
     if every_product(x, o, fields) {
@@ -117,7 +117,7 @@ fn every_product<T: Integer, O: Operand<T> + Copy>(x: Ratio<T>, o: O, fields: (T
 /// - `left`: `pos 0 <ℤ denominator x`
 /// - `right`: `pos 0 <ℤ (O.pair o).1`
 #[inline]
-pub fn quotient<T: Integer, O: Operand<T> + Copy>(x: Ratio<T>, o: O) -> Option<(T, T)> {
+pub(crate) fn quotient<T: Integer, O: Operand<T> + Copy>(x: Ratio<T>, o: O) -> Option<(T, T)> {
     let y = o.ratio();
     let fields = x.checked_div(&y)?.into_raw();
     if every_quotient(x, o, fields) {
@@ -146,7 +146,7 @@ fn every_quotient<T: Integer, O: Operand<T> + Copy>(x: Ratio<T>, o: O, fields: (
 /// - `left`: `pos 0 <ℤ denominator x`
 /// - `right`: `pos 0 <ℤ (O.pair o).1`
 #[inline]
-pub fn remainder<T: Integer, O: Operand<T> + Copy>(x: Ratio<T>, o: O) -> Option<(T, T)> {
+pub(crate) fn remainder<T: Integer, O: Operand<T> + Copy>(x: Ratio<T>, o: O) -> Option<(T, T)> {
     let y = o.ratio();
     let fields = x.checked_rem(&y)?.into_raw();
     if every_remainder(x, o, fields) {

@@ -38,7 +38,7 @@ fn texts_in_a_radix() {
 }
 
 // A fraction that is printed in a form, under the options of the hole that it stands in.
-pub struct Shown<T: Primitive> {
+pub(crate) struct Shown<T: Primitive> {
     fraction: Ratio<T>,
     form: Form,
 }
@@ -58,7 +58,7 @@ impl<T: Primitive> Display for Shown<T> {
 
 /// `numer/denom` in this form, and 0/1 where the denominator is 0.
 #[inline]
-pub fn shown_as<T: Primitive>(numer: T, denom: T, form: Form) -> Shown<T> {
+pub(crate) fn shown_as<T: Primitive>(numer: T, denom: T, form: Form) -> Shown<T> {
     let fraction = if denom.is_zero() {
         Ratio::zero()
     } else {

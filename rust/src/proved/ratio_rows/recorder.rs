@@ -1,4 +1,4 @@
-// Erased from crates/ratio_rows/src/ratios/recorder.rt by rust/erase: not to be edited.
+// Erased from crates/ratio_rows/src/recorder.rt by rust/erase: not to be edited.
 //! What a list of codes and a hasher receive, kept in fixed arrays.
 
 use crate::proved::num_rational::{CodeList, Taken};

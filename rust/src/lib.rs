@@ -44,7 +44,7 @@ pub use proved::num_rational::ParseRatioError;
 /// ```
 #[doc(inline)]
 pub use proved::num_rational::RatioErrorKind;
-/// What `decimal_text` of a fraction answers.
+/// What `decimal_text` of a fraction answers, and `put_decimal_text` writes.
 ///
 /// ```
 /// use bakhsney::{DecimalText, Ratio};

@@ -6,7 +6,7 @@ use crate::proved::Span;
 use bakhsney::proved::num_rational as proved;
 use bakhsney::proved::ratio_core::Form;
 use bakhsney::proved::ratio_integer::{Integer as Proved, Primitive};
-use bakhsney::{Integer, Ratio};
+use bakhsney::{DecimalText, Integer, Ratio};
 use num_traits::{CheckedAdd, CheckedDiv, CheckedMul, CheckedRem, CheckedSub, Num};
 use std::hash::{Hash, Hasher};
 use std::io::Write;
@@ -31,7 +31,7 @@ pub fn pow<T: Number + Integer>(pairs: &[Pair<T>], exponents: &[i32], out: &mut 
 }
 
 #[inline(always)]
-fn put<T: Number>(pairs: &[Pair<T>], out: &mut [u8], ends: &mut [usize], text: impl Fn(&Ratio<T>, &mut [u8]) -> usize) {
+fn put<T: Number>(pairs: &[Pair<T>], out: &mut [u8], ends: &mut [usize], mut text: impl FnMut(&Ratio<T>, &mut [u8]) -> usize) {
     let mut at = 0;
     for (pair, end) in pairs.iter().zip(ends) {
         at += text(&pair.0, &mut out[at..]);
@@ -45,10 +45,14 @@ fn copied(text: &str, out: &mut [u8]) -> usize {
     text.len()
 }
 
-/// In decimal, without std's formatter.
+/// In decimal, without std's formatter: each text in the place of the one before.
 #[inline(never)]
 pub fn text<T: Number + Integer>(pairs: &[Pair<T>], out: &mut [u8], ends: &mut [usize]) {
-    put(pairs, out, ends, |x, out| copied(x.decimal_text().as_str(), out));
+    let mut text = DecimalText::empty();
+    put(pairs, out, ends, |x, out| {
+        x.put_decimal_text(&mut text);
+        copied(text.as_str(), out)
+    });
 }
 
 /// In base 16, without std's formatter and the layer.

@@ -7,7 +7,7 @@ ghost use Rattle.ratio_core.specs.Printing.{prefix_of, text_of};
 ghost use Rattle.ratio_core.specs.declared.text.form.Form.TheVariants.{Decimal};
 
 use crate::ratio::Ratio;
-use ratio_core::Form;
+use ratio_core::{DecimalText, Form, RatioText};
 use ratio_integer::Primitive;
 use std::fmt;
 use std::fmt::{Binary, Display, Formatter, LowerHex, Octal, UpperHex, Write};
@@ -39,7 +39,8 @@ fn write_in_base<T: Primitive, W: Write>(
         T.BITS form (numerator x.now) (denominator x.now)) f.new }
 {
     let alternate = f.alternate();
-    let text = x.text(form, alternate);
+    let mut text = RatioText::empty();
+    x.put_text(form, alternate, &mut text);
     let text = text.as_str();
     f.pad_integral(true, prefix, after_prefix(text, prefix, alternate))
 }
@@ -65,7 +66,9 @@ impl<T: Primitive> Display for Ratio<T> {
         (text_of T.BITS Decimal false (numerator x) (denominator x))) };
 
     fn fmt<W: Write>(&self, f: &mut Formatter<W>) -> fmt::Result {
-        write_decimal(self.decimal_text().as_str(), f)
+        let mut text = DecimalText::empty();
+        self.put_decimal_text(&mut text);
+        write_decimal(text.as_str(), f)
     }
 }
 

@@ -60,6 +60,14 @@ impl<T: Primitive> Ratio<T> {
         text::text(*self.numer(), *self.denom(), form, alternate)
     }
 
+    /// Puts that text in the place of what `text` was, so that no array is moved.
+    pub fn put_text(&self, form: Form, alternate: bool, text: &mut RatioText)
+        ensures { text.new
+            ≡ text_of T.BITS form alternate (numerator self.now) (denominator self.now) }
+    {
+        text::put_text(*self.numer(), *self.denom(), form, alternate, text);
+    }
+
     /// The same in decimal, in a smaller array, which takes less time to make.
     pub fn decimal_text(&self) -> DecimalText
         ensures bytes { result
@@ -70,6 +78,14 @@ impl<T: Primitive> Ratio<T> {
             (numerator self.now) (denominator self.now) }
     {
         text::decimal_text(*self.numer(), *self.denom())
+    }
+
+    /// Puts the decimal text in the place of what `text` was.
+    pub fn put_decimal_text(&self, text: &mut DecimalText)
+        ensures { text.new
+            ≡ text_of T.BITS Decimal false (numerator self.now) (denominator self.now) }
+    {
+        text::put_decimal_text(*self.numer(), *self.denom(), text);
     }
 }
 

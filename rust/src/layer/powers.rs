@@ -3,7 +3,7 @@
 //! A negative denominator is first brought to lowest terms, where the type holds these; else the call panics, or
 //! answers `None` where it can.
 use super::integer::Integer;
-use super::ratio::Ratio;
+use super::ratio::{Proved, Ratio};
 use crate::proved::num_rational::Exponent;
 use crate::proved::ratio_integer::Integer as _;
 use num_traits::{Inv, Pow};
@@ -21,6 +21,17 @@ impl<T: Integer> Ratio<T> {
     #[inline]
     #[track_caller]
     pub fn recip(&self) -> Ratio<T> {
+        let (numer, denom) = (self.numer().into_proved(), self.denom().into_proved());
+        // One branch for fractions above 0, of which nothing else is to be tested.
+        if (T::Proved::ZERO < numer) & (T::Proved::ZERO < denom) {
+            return Ratio::from_proved(Proved::<T>::new_raw(numer, denom).recip());
+        }
+        self.recip_of_any()
+    }
+
+    #[inline(never)]
+    #[track_caller]
+    fn recip_of_any(&self) -> Ratio<T> {
         let fraction = self.expect_positive();
         let numer = *fraction.numer();
         if numer.is_zero() || (numer < T::Proved::ZERO && T::Proved::ZERO.try_minus(numer).is_none()) {

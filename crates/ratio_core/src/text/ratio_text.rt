@@ -1,5 +1,5 @@
 //! The text of a fraction, in a fixed array.
-ghost use Rattle.std.specs.Prelude.{◌≡◌, ◌≤◌, ℕ, List, drop, IsAscii};
+ghost use Rattle.std.specs.Prelude.{◌≡◌, ◌≤◌, ℕ, List, [], drop, IsAscii};
 
 use std::marker::Model;
 
@@ -21,9 +21,11 @@ impl Model for RatioText {
 }
 
 impl RatioText {
-    // No text yet.
+    /// The text without a byte.
     #[inline(always)]
-    pub(crate) fn empty() -> RatioText {
+    pub fn empty() -> RatioText
+        ensures { result ≡ [] }
+    {
         RatioText {
             bytes: [0; 261],
             start: 261,

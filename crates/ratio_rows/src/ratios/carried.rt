@@ -2,8 +2,8 @@
 //! and comparison.
 use crate::ratios::asserting::{holds, is};
 use crate::ratios::forms::{self, fraction};
-use crate::recorder::Written;
 use crate::ratios::texts::{Shown, shown_as};
+use crate::recorder::Written;
 use num_rational::{Constants, Form, Ratio, Rational32, Rational64};
 use ratio_integer::Integer;
 use std::cmp::Ordering;

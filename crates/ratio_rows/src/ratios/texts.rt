@@ -1,5 +1,5 @@
 //! Rows of texts, read and printed, from outside.
-use num_rational::{Form, Ratio};
+use num_rational::{DecimalText, Form, Ratio, RatioText};
 use ratio_integer::Primitive;
 use std::fmt;
 use std::fmt::{Binary, Display, Formatter, InlineText, LowerHex, Octal, UpperHex, Write};
@@ -94,4 +94,18 @@ fn widths(rt: HostRuntime) {
         .fraction
         .text(Form::Binary, true);
     assert_eq!(rt; long.as_str().len(), 261);
+}
+
+#[test]
+fn texts_in_place(rt: HostRuntime) {
+    let half = Ratio::new_raw(-2i64, 4);
+    assert!(rt; half.decimal_text().as_str() == "-2/4");
+    let mut decimal = DecimalText::empty();
+    half.put_decimal_text(&mut decimal);
+    assert!(rt; decimal.as_str() == "-2/4");
+    Ratio::from_integer(7i64).put_decimal_text(&mut decimal);
+    assert!(rt; decimal.as_str() == "7");
+    let mut text = RatioText::empty();
+    half.put_text(Form::LowerHex, true, &mut text);
+    assert!(rt; text.as_str() == "0xfffffffffffffffe/0x4");
 }

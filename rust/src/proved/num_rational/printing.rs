@@ -2,7 +2,7 @@
 //! Printing fractions by the traits of std.
 
 use crate::proved::num_rational::ratio::Ratio;
-use crate::proved::ratio_core::Form;
+use crate::proved::ratio_core::{DecimalText, Form, RatioText};
 use crate::proved::ratio_integer::Primitive;
 use core::fmt;
 use core::fmt::{Binary, Display, Formatter, LowerHex, Octal, UpperHex, Write};
@@ -25,7 +25,8 @@ fn write_in_base<T: Primitive>(
     f: &mut Formatter<'_>,
 ) -> fmt::Result {
     let alternate = f.alternate();
-    let text = x.text(form, alternate);
+    let mut text = RatioText::empty();
+    x.put_text(form, alternate, &mut text);
     let text = text.as_str();
     f.pad_integral(true, prefix, after_prefix(text, prefix, alternate))
 }
@@ -45,7 +46,9 @@ fn after_prefix<'a>(text: &'a str, prefix: &str, is_there: bool) -> &'a str {
 impl<T: Primitive> Display for Ratio<T> {
     #[inline]
     fn fmt(&self, f: &mut Formatter<'_>) -> fmt::Result {
-        write_decimal(self.decimal_text().as_str(), f)
+        let mut text = DecimalText::empty();
+        self.put_decimal_text(&mut text);
+        write_decimal(text.as_str(), f)
     }
 }
 

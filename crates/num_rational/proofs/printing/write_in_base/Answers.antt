@@ -11,6 +11,6 @@ returns-clause-plain g c =
     let d = g.T.Integer.value c.args.x.now.denom in
     let alternate = c.alternate-alternate.result in
     let body = body_of bits form alternate n d in
-    let cut = c.after_prefix.ensures body (c.as_str-text.ensures ∙ c.text-text.ensures.bytes ∙ ap (λ prefix. cond alternate prefix [] ++ body) (sym c.requires)) in
+    let cut = c.after_prefix.ensures body (c.as_str-text.ensures ∙ c.put_text.ensures ∙ ap (λ prefix. cond alternate prefix [] ++ body) (sym c.requires)) in
     writes_plain g.W.Write.write_str_gives c.args.f.now c.pad_integral.new.self c.pad_integral.result false c.args.prefix.now c.after_prefix.result.now (text_of bits form false n d)
     (λ bare. cut ∙ bare_body alternate bits form n d (c.alternate-alternate.ensures.value ∙ bare.alternate)) c.pad_integral.ensures.styled

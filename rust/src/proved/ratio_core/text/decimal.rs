@@ -10,9 +10,9 @@ pub struct DecimalText {
 }
 
 impl DecimalText {
-    // No text yet.
+    /// The text without a byte.
     #[inline(always)]
-    pub(crate) fn empty() -> DecimalText {
+    pub fn empty() -> DecimalText {
         DecimalText {
             bytes: [0; 81],
             start: 81,

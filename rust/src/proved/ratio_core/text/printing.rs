@@ -18,8 +18,16 @@ pub fn text<T: Primitive>(numer: T, denom: T, form: Form, alternate: bool) -> Ra
     let _ = numer.held();
     let _ = denom.held();
     let mut text = RatioText::empty();
-    text.start = put_fraction(numer, denom, form, alternate, &mut text.bytes);
+    put_text(numer, denom, form, alternate, &mut text);
     text
+}
+
+/// Puts that text in the place of what `text` was, so that no array is moved.
+#[inline]
+pub fn put_text<T: Primitive>(numer: T, denom: T, form: Form, alternate: bool, text: &mut RatioText) {
+    let _ = numer.held();
+    let _ = denom.held();
+    text.start = put_fraction(numer, denom, form, alternate, &mut text.bytes);
 }
 
 /// The same in decimal, in an array of 81 bytes, which takes less time to make.
@@ -28,8 +36,16 @@ pub fn decimal_text<T: Primitive>(numer: T, denom: T) -> DecimalText {
     let _ = numer.held();
     let _ = denom.held();
     let mut text = DecimalText::empty();
-    text.start = put_decimal_fraction(numer, denom, &mut text.bytes);
+    put_decimal_text(numer, denom, &mut text);
     text
+}
+
+/// Puts the decimal text in the place of what `text` was.
+#[inline]
+pub fn put_decimal_text<T: Primitive>(numer: T, denom: T, text: &mut DecimalText) {
+    let _ = numer.held();
+    let _ = denom.held();
+    text.start = put_decimal_fraction(numer, denom, &mut text.bytes);
 }
 
 // Writes the fraction so that it ends where the buffer does, and returns where it starts.

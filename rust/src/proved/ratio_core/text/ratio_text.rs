@@ -10,9 +10,9 @@ pub struct RatioText {
 }
 
 impl RatioText {
-    // No text yet.
+    /// The text without a byte.
     #[inline(always)]
-    pub(crate) fn empty() -> RatioText {
+    pub fn empty() -> RatioText {
         RatioText {
             bytes: [0; 261],
             start: 261,

@@ -3,8 +3,8 @@
 //! and comparison.
 use crate::proved::ratio_rows::ratios::asserting::{holds, is};
 use crate::proved::ratio_rows::ratios::forms::{self, fraction};
-use crate::proved::ratio_rows::recorder::Written;
 use crate::proved::ratio_rows::ratios::texts::{Shown, shown_as};
+use crate::proved::ratio_rows::recorder::Written;
 use crate::proved::num_rational::{Constants, Form, Ratio, Rational32, Rational64};
 use crate::proved::ratio_integer::Integer;
 use core::cmp::Ordering;

@@ -1,6 +1,6 @@
 // Erased from crates/ratio_rows/src/ratios/texts.rt by rust/erase: not to be edited.
 //! Rows of texts, read and printed, from outside.
-use crate::proved::num_rational::{Form, Ratio};
+use crate::proved::num_rational::{DecimalText, Form, Ratio, RatioText};
 use crate::proved::ratio_integer::Primitive;
 use core::fmt;
 use core::fmt::Binary;
@@ -104,4 +104,18 @@ fn widths() {
         .fraction
         .text(Form::Binary, true);
     assert_eq!(long.as_str().len(), 261);
+}
+
+#[test]
+fn texts_in_place() {
+    let half = Ratio::new_raw(-2i64, 4);
+    assert!(half.decimal_text().as_str() == "-2/4");
+    let mut decimal = DecimalText::empty();
+    half.put_decimal_text(&mut decimal);
+    assert!(decimal.as_str() == "-2/4");
+    Ratio::from_integer(7i64).put_decimal_text(&mut decimal);
+    assert!(decimal.as_str() == "7");
+    let mut text = RatioText::empty();
+    half.put_text(Form::LowerHex, true, &mut text);
+    assert!(text.as_str() == "0xfffffffffffffffe/0x4");
 }

@@ -1,23 +1,10 @@
 use Rattle.std.proofs.Common.{false, sym, subst}
-use Rattle.std.specs.Prelude.{IsAscii}
-use Rattle.ratio_core.specs.declared.text.form.Form.TheVariants.{Decimal}
 use Rattle.ratio_core.specs.Printing.{ReadsBack}
 use Rattle.ratio_core.specs.Reading.{IsFractionText}
-use Rattle.ratio_core.proofs.PrintingLemmas.{small_magnitude, text_ascii}
+use Rattle.ratio_core.proofs.PrintingLemmas.{small_magnitude}
 use Rattle.ratio_core.proofs.ReadingBack.{decimal_back}
 use Rattle.ratio_core.proofs.TextLengths.{text_short}
 use Rattle.ratio_core.proofs.text.printing.decimal_text.Goals as goal
-
-pub invariant_of-text : goal.invariant_of-text
-invariant_of-text g c =
-    let t = g.T.Integer in
-    let m = g.met.T.Integer in
-    let width = g.met.T.Primitive.width_law in (
-      c.put_decimal_fraction.ensures.inside,
-      subst IsAscii (sym c.put_decimal_fraction.ensures.written) (text_ascii g.T.Primitive.BITS Decimal false (t.value c.args.numer) (t.value c.args.denom)
-          (small_magnitude t.lo t.hi g.T.Primitive.BITS (t.value c.args.numer) m.range_law width c.held.ensures.range)
-          (small_magnitude t.lo t.hi g.T.Primitive.BITS (t.value c.args.denom) m.range_law width c.held-2.ensures.range)),
-    )
 
 pub returns-clause-reads_back : goal.returns-clause-reads_back
 returns-clause-reads_back g c = λ positive.
@@ -27,7 +14,7 @@ returns-clause-reads_back g c = λ positive.
     let bits = g.T.Primitive.BITS in
     let n = t.value c.args.numer in
     let d = t.value c.args.denom in
-    subst (λ bytes. ReadsBack t.lo t.hi (IsFractionText t.lo t.hi bytes) n d) (sym c.put_decimal_fraction.ensures.written)
+    subst (λ bytes. ReadsBack t.lo t.hi (IsFractionText t.lo t.hi bytes) n d) (sym c.put_decimal_text.ensures)
     (decimal_back bits false t.lo t.hi n d m.range_law c.held.ensures.range c.held-2.ensures.range
     (small_magnitude t.lo t.hi bits n m.range_law width c.held.ensures.range)
     (small_magnitude t.lo t.hi bits d m.range_law width c.held-2.ensures.range) positive)
@@ -36,5 +23,5 @@ pub returns-clause-short : goal.returns-clause-short
 returns-clause-short g c =
     let t = g.T.Integer in
     let m = g.met.T.Integer in
-    rw c.put_decimal_fraction.ensures.written
+    rw c.put_decimal_text.ensures
     (text_short g.T.Primitive.BITS t.lo t.hi (t.value c.args.numer) (t.value c.args.denom) m.range_law g.met.T.Primitive.width_law c.held.ensures.range c.held-2.ensures.range)

@@ -1,21 +1,9 @@
 use Rattle.std.proofs.Common.{◌∙◌, ap, sym, subst}
-use Rattle.std.specs.Prelude.{IsAscii}
 use Rattle.ratio_core.specs.Printing.{ReadsBack, base_of, text_of}
 use Rattle.ratio_core.specs.Reading.{IsFractionText, IsSlashedText}
-use Rattle.ratio_core.proofs.PrintingLemmas.{small_magnitude, text_ascii}
+use Rattle.ratio_core.proofs.PrintingLemmas.{small_magnitude}
 use Rattle.ratio_core.proofs.ReadingBack.{base_back, decimal_back}
 use Rattle.ratio_core.proofs.text.printing.text.Goals as goal
-
-pub invariant_of-text : goal.invariant_of-text
-invariant_of-text g c =
-    let t = g.T.Integer in
-    let m = g.met.T.Integer in
-    let width = g.met.T.Primitive.width_law in (
-      c.put_fraction.ensures.inside,
-      subst IsAscii (sym c.put_fraction.ensures.written) (text_ascii g.T.Primitive.BITS c.args.form c.args.alternate (t.value c.args.numer) (t.value c.args.denom)
-          (small_magnitude t.lo t.hi g.T.Primitive.BITS (t.value c.args.numer) m.range_law width c.held.ensures.range)
-          (small_magnitude t.lo t.hi g.T.Primitive.BITS (t.value c.args.denom) m.range_law width c.held-2.ensures.range)),
-    )
 
 pub returns-clause-reads_back : goal.returns-clause-reads_back
 returns-clause-reads_back g c = λ decimal positive.
@@ -25,7 +13,7 @@ returns-clause-reads_back g c = λ decimal positive.
     let bits = g.T.Primitive.BITS in
     let n = t.value c.args.numer in
     let d = t.value c.args.denom in
-    subst (λ bytes. ReadsBack t.lo t.hi (IsFractionText t.lo t.hi bytes) n d) (sym (c.put_fraction.ensures.written ∙ ap (λ form. text_of bits form c.args.alternate n d) decimal))
+    subst (λ bytes. ReadsBack t.lo t.hi (IsFractionText t.lo t.hi bytes) n d) (sym (c.put_text.ensures ∙ ap (λ form. text_of bits form c.args.alternate n d) decimal))
     (decimal_back bits c.args.alternate t.lo t.hi n d m.range_law c.held.ensures.range c.held-2.ensures.range
     (small_magnitude t.lo t.hi bits n m.range_law width c.held.ensures.range)
     (small_magnitude t.lo t.hi bits d m.range_law width c.held-2.ensures.range) positive)
@@ -38,7 +26,7 @@ returns-clause-reads_back_in_base g c = λ bare above positive other.
     let bits = g.T.Primitive.BITS in
     let n = t.value c.args.numer in
     let d = t.value c.args.denom in
-    subst (λ bytes. ReadsBack t.lo t.hi (IsSlashedText t.lo t.hi (base_of c.args.form) bytes) n d) (sym (c.put_fraction.ensures.written ∙ ap (λ alternate. text_of bits c.args.form alternate n d) bare))
+    subst (λ bytes. ReadsBack t.lo t.hi (IsSlashedText t.lo t.hi (base_of c.args.form) bytes) n d) (sym (c.put_text.ensures ∙ ap (λ alternate. text_of bits c.args.form alternate n d) bare))
     (base_back bits c.args.form t.lo t.hi n d m.range_law c.held.ensures.range c.held-2.ensures.range
     (small_magnitude t.lo t.hi bits n m.range_law width c.held.ensures.range)
     (small_magnitude t.lo t.hi bits d m.range_law width c.held-2.ensures.range) above positive other)

@@ -1,6 +1,10 @@
 -- The decimal text of a number by groups of digits, each with its leading zeros.
-use Rattle.std.proofs.Common.{◌≡◌, refl, sym, ◌∙◌, ap, arith, ℕ, zero, suc, ◌+◌, ◌-◌, ◌*◌, ◌/◌, ◌%◌, ◌^◌, ◌<◌, ◌≤◌, List, [], ◌∷◌, ◌++◌, length, length-append, drop, get_or, slice_set, append-nil, append_assoc, eq-zero-or-pos, inl, inr}
+use Rattle.std.proofs.Common.{◌≡◌, refl, sym, ◌∙◌, ap, arith, T, Bool, true, ◌&&◌, eqb, eqb→eq, take, ℕ, zero, suc, ◌+◌, ◌-◌, ◌*◌, ◌/◌, ◌%◌, ◌^◌, ◌<◌, ◌≤◌, List, [], ◌∷◌, ◌++◌, length, length-append, drop, get_or, slice_set, append-nil, append_assoc, eq-zero-or-pos, inl, inr}
 use Rattle.std.specs.Fmt.{decimal}
+use lib.Ieee.Fits.{and_l, and_r}
+use lib.Seq.{drop_at, drop-drop, length-take-le}
+use borrow.Rule.Slice.PartMut.{put_mid}
+use Rattle.ratio_core.specs.declared.text.digits.TheConstants.{PAIRS}
 use Rattle.std.proofs.lemmas.Fmt.{decimal_digit, decimal_step_wide, length-decimal-le_wide}
 use Rattle.std.proofs.lemmas.List.{drop_more, drop-set}
 use Rattle.std.proofs.Math.Nat.{pow-suc, mul_assoc, pow-le-pow_right}
@@ -99,3 +103,62 @@ module _ (n end left at : ℕ) (buf written : List ℕ) (wide : 2 ^ 64 ≤ left)
         text_is = ap (λ k. decimal (front left) ++ drop k new) from ∙ ap (λ xs. decimal (front left) ++ xs) tail
             ∙ sym (append_assoc (decimal (front left)) (group 19 (low left)) (drop at written)) ∙ ap (λ xs. xs ++ drop at written) (sym split) ∙ l.text_is;
       }
+
+-- ---- four digits at a time
+
+abbrev are_pairs : ℕ → Bool
+are_pairs zero = true
+are_pairs (suc n) = (eqb (get_or PAIRS (n * 2) 0) (48 + n / 10) && eqb (get_or PAIRS (n * 2 + 1) 0) (48 + n % 10)) && are_pairs n
+
+pairs_below : (m n : ℕ) → T (are_pairs m) → n < m → (get_or PAIRS (n * 2) 0 ≡ 48 + n / 10) × (get_or PAIRS (n * 2 + 1) 0 ≡ 48 + n % 10)
+pairs_below zero n t h = absurd (omega arith)
+pairs_below (suc m) n t h =
+    elim (eq-zero-or-pos (m - n)) [
+      | inl z ↦ let e : n ≡ m = omega arith in let both = and_l _ (are_pairs m) t in rw e (eqb→eq _ _ (and_l _ _ both), eqb→eq _ _ (and_r _ _ both))
+      | inr g ↦ pairs_below m n (and_r _ (are_pairs m) t) (omega arith)
+    ]
+
+-- the table has the two digits of each number below 100
+pub pair_at : (n : ℕ) → n < 100 → (get_or PAIRS (n * 2) 0 ≡ 48 + n / 10) × (get_or PAIRS (n * 2 + 1) 0 ≡ 48 + n % 10)
+pair_at n = pairs_below 100 n tt
+
+-- the four digits of a number below 10000
+four : (n : ℕ) → n < 10000 → group 4 n ≡ (48 + n / 1000) ∷ (48 + n / 100 % 10) ∷ (48 + n / 10 % 10) ∷ (48 + n % 10) ∷ []
+four n small =
+    let a : n / 10 / 10 / 10 % 10 ≡ n / 1000 = omega (arith, small) in
+    let b : n / 10 / 10 % 10 ≡ n / 100 % 10 = omega arith in
+    rw (a, b) refl
+
+four_more : (left : ℕ) → 10000 ≤ left → left < 2 ^ 64 → decimal left ≡ decimal (left / 10000) ++ group 4 (left % 10000)
+four_more left more small =
+    let all : left / 10000 * 10 ^ 4 + left % 10000 ≡ left = omega arith in
+    sym (ap decimal all) ∙ grouped 4 (left / 10000) (left % 10000) (omega (arith, more)) (omega arith) (omega (arith, all, small))
+
+-- where four digits are left, they have room
+pub four_fit : (n end left at : ℕ) (buf written : List ℕ) → 10000 ≤ left → left < 2 ^ 64 → length (decimal n) ≤ end → IsLeft n end left at buf written → 4 ≤ at
+four_fit n end left at buf written more small room l =
+    omega (arith, l.length_is, room, ap length (four_more left more small), length-append (decimal (left / 10000)) (group 4 (left % 10000)), length_group 4 (left % 10000))
+
+-- a piece of k is written before `at`
+pub from_group : (k at : ℕ) (xs group : List ℕ) → k ≤ at → at ≤ length xs → drop (at - k) (put_mid (at - k) (at - k + k - (at - k)) xs group) ≡ group ++ drop at xs
+from_group k at xs group enough inside =
+    let start = at - k in
+    let width = start + k - start in
+    let back : start + width ≡ at = omega (arith, enough) in
+    drop_at (take start xs) _ start (length-take-le start xs (omega (arith, inside))) ∙ ap (λ ys. group ++ ys) (drop-drop width start xs ∙ ap (λ k. drop k xs) back)
+
+-- four digits of what is left are written
+pub next_four : (n end left at : ℕ) (buf written place : List ℕ) → 10000 ≤ left → left < 2 ^ 64 → length (decimal n) ≤ end → at ≤ length written
+    → place ≡ (48 + left % 10000 / 1000) ∷ (48 + left % 10000 / 100 % 10) ∷ (48 + left % 10000 / 10 % 10) ∷ (48 + left % 10000 % 10) ∷ []
+    → IsLeft n end left at buf written → IsLeft n end (left / 10000) (at - 4) buf (put_mid (at - 4) (at - 4 + 4 - (at - 4)) written place)
+next_four n end left at buf written place more small room inside is l =
+    let front = left / 10000 in
+    let low = left % 10000 in
+    let split : decimal left ≡ decimal front ++ group 4 low = four_more left more small in
+    let enough = four_fit n end left at buf written more small room l in
+    record {
+      before = omega (arith, l.before);
+      length_is = omega (arith, l.length_is, enough, ap length split, length-append (decimal front) (group 4 low), length_group 4 low);
+      text_is = ap (λ xs. decimal front ++ xs) (from_group 4 at written place enough inside ∙ ap (λ xs. xs ++ drop at written) (is ∙ sym (four low (omega arith))))
+          ∙ sym (append_assoc (decimal front) (group 4 low) (drop at written)) ∙ ap (λ xs. xs ++ drop at written) (sym split) ∙ l.text_is;
+    }

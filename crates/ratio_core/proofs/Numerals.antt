@@ -1,5 +1,5 @@
 -- The digits of a number in a base from 2 to 16: how they are written from the end on, and that they read back.
-use Rattle.std.proofs.Common.{◌≡◌, T, refl, sym, ◌∙◌, ap, subst, inl, inr, arith, ℕ, zero, suc, ◌+◌, ◌-◌, ◌*◌, ◌&&◌, eqb, eqb→eq, eq-zero-or-pos, get_or, ◌/◌, ◌%◌, ◌^◌, ◌<◌, ◌≤◌, ◌==◌, Bool, true, false, cond, List, [], ◌∷◌, ◌++◌, append_assoc, length, length-append, drop, take, slice_set, nat_lt, lit<}
+use Rattle.std.proofs.Common.{◌≡◌, T, refl, sym, ◌∙◌, ap, subst, inl, inr, arith, ℕ, zero, suc, ◌+◌, ◌-◌, ◌*◌, ◌&&◌, eqb, eqb→eq, eq-zero-or-pos, get_or, ◌/◌, ◌%◌, ◌^◌, ◌<◌, ◌≤◌, ◌==◌, Bool, true, false, cond, List, [], ◌∷◌, ◌++◌, append_assoc, length, length-append, drop, slice_set, nat_lt, lit<}
 use Rattle.std.specs.Prelude.{IsAscii, map}
 use Rattle.std.specs.Char.{digit_value}
 use Rattle.std.specs.Fmt.{digit_glyph}
@@ -13,12 +13,11 @@ use Rattle.std.proofs.lemmas.List.{drop-set}
 use Rattle.std.proofs.lemmas.Nat.{div-add-mod', le-div}
 use Rattle.std.proofs.lemmas.Str.Ascii.{IsAscii-cons, IsAscii-nil}
 use lib.Ieee.Fits.{and_l, and_r}
-use lib.Seq.{drop_at, drop-drop, length-take-le}
 use borrow.Rule.Slice.PartMut.{put_mid}
 use Rattle.ratio_core.specs.Printing.{numeral}
 use Rattle.ratio_core.specs.Reading.{digits_sum}
 use Rattle.ratio_core.specs.declared.text.numeral.TheConstants.{LOWER, UPPER}
-use Rattle.ratio_core.proofs.DigitGroups.{at_least}
+use Rattle.ratio_core.proofs.DigitGroups.{at_least, from_group}
 use Rattle.ratio_core.proofs.NumberLemmas.{digits_value_sum}
 
 -- ---- how many digits there are
@@ -122,13 +121,6 @@ whole_group b q left at upper buf none small =
 pub less_left : (b k left : ℕ) → 2 ≤ b → left < b ^ suc k → left / b < b ^ k
 less_left b k left two small = (div-lt_iff_lt-mul {k = b} {x = left} {y = b ^ k} (omega (arith, two))).1 (omega (arith, small, pow-suc b k))
 
-from_group : (at : ℕ) (xs group : List ℕ) → 16 ≤ at → at ≤ length xs → drop (at - 16) (put_mid (at - 16) (at - 16 + 16 - (at - 16)) xs group) ≡ group ++ drop at xs
-from_group at xs group enough inside =
-    let start = at - 16 in
-    let width = start + 16 - start in
-    let back : start + width ≡ at = omega (arith, enough) in
-    drop_at (take start xs) _ start (length-take-le start xs (omega (arith, inside))) ∙ ap (λ ys. group ++ ys) (drop-drop width start xs ∙ ap (λ k. drop k xs) back)
-
 -- a group of a number is written
 pub next_group : (b n end left at : ℕ) (upper : Bool) (buf written group : List ℕ) → 2 ≤ b → b ≤ 16 → 2 ^ 64 ≤ left → 16 ≤ at → at ≤ length written → length group ≡ 16
     → ((q : ℕ) → 0 < q → map (digit_glyph upper) (digits_of b (q * b ^ 16 + left % b ^ 16)) ≡ map (digit_glyph upper) (digits_of b q) ++ group)
@@ -139,7 +131,7 @@ next_group b n end left at upper buf written group two high wide enough inside l
     let some : 0 < front = le-div 1 left (b ^ 16) (power_some b 16 two) (omega (arith, group_fits b high, wide)) in
     let split : glyphs (digits_of b left) ≡ glyphs (digits_of b front) ++ group = ap (λ k. glyphs (digits_of b k)) (sym (div-add-mod' left (b ^ 16))) ∙ is front some in
     record {
-      whole = ap (λ xs. glyphs (digits_of b front) ++ xs) (from_group at written group enough inside)
+      whole = ap (λ xs. glyphs (digits_of b front) ++ xs) (from_group 16 at written group enough inside)
           ∙ sym (append_assoc (glyphs (digits_of b front)) group (drop at written)) ∙ ap (λ xs. xs ++ drop at written) (sym split) ∙ l.whole;
       room = omega (arith, l.room, enough, long, ap length split, length-append (glyphs (digits_of b front)) group, length_map (digit_glyph upper) (digits_of b left), length_map (digit_glyph upper) (digits_of b front));
       before = omega (arith, l.before);

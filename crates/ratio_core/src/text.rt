@@ -1,5 +1,6 @@
 //! Fractions as texts.
 mod decimal;
+mod digits;
 mod form;
 pub mod laws;
 mod numeral;

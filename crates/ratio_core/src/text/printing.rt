@@ -1,15 +1,15 @@
 //! Printing a fraction as a text, from its end on.
-ghost use Rattle.std.specs.Prelude.{◌≡◌, ◌≢◌, ◌+◌, ◌/◌, ◌^◌, ◌≤◌, ◌≤ℤ◌, ◌<ℤ◌, ◌++◌, drop, false, length, pos, decimal, unsigned_abs};
+ghost use Rattle.std.specs.Prelude.{◌≡◌, ◌≢◌, ◌+◌, ◌≤◌, ◌≤ℤ◌, ◌<ℤ◌, ◌++◌, drop, false, length, pos, unsigned_abs};
 ghost use Rattle.std.specs.Fmt.{signed_decimal};
 ghost use Rattle.ratio_core.specs.declared.text.form.Form.TheVariants.{Decimal};
 ghost use Rattle.ratio_core.specs.Printing.{ReadsBack, base_of, decimal_room, number_text, prefix_of, shown_prefix, text_of};
 ghost use Rattle.ratio_core.specs.Reading.{IsFractionText, IsSlashedText};
 
 use crate::text::decimal::DecimalText;
+use crate::text::digits::put_digits;
 use crate::text::form::Form;
 use crate::text::numeral::{put_numeral, twos_complement};
 use crate::text::ratio_text::RatioText;
-use itoa::write_digits;
 use ratio_integer::Primitive;
 
 /// The text of a fraction's two numbers as they stand: the numerator, and, unless the denominator
@@ -176,48 +176,6 @@ fn put_decimal<T: Primitive>(t: T, buf: &mut [u8], end: usize) -> usize
         return start - 1;
     }
     start
-}
-
-// What 19 digits, and 18, count up to.
-const GROUP: u64 = 10_000_000_000_000_000_000;
-
-const ONE_BEFORE: u64 = 1_000_000_000_000_000_000;
-
-// The quotient of 2^127 by 10^19.
-const RECIPROCAL: u128 = 17_014_118_346_046_923_173;
-
-// Writes the decimal digits so that they end at `end`, and returns where they start. Past 64 bits
-// they go in groups of 19: the last digit, and the 18 before it after a 1, which keeps their leading
-// zeros. The digits before the group then stand in the place of the 1.
-fn put_digits(n: u128, buf: &mut [u8], end: usize) -> usize
-    requires room { 39 ≤ end }
-    requires inside { end ≤ length buf.old }
-    ensures written { drop result buf.new ≡ decimal n ++ drop end buf.old }
-    ensures start { end ≤ result + 39 }
-    ensures before { result ≤ end }
-{
-    let mut left = n;
-    let mut at = end;
-    'groups: while left > u64::MAX as u128 {
-        let high = groups(left);
-        let low = (left - high * GROUP as u128) as u64;
-        buf[at - 1] = b'0' + (low % 10) as u8;
-        let _ = write_digits(ONE_BEFORE + low / 10, buf, at - 1);
-        left = high;
-        at -= 19;
-    }
-    write_digits(left as u64, buf, at)
-}
-
-// The quotient by 10^19, without a division in 128 bits: the upper half gives less than that by 4 at
-// most, and an eighth of what is then left fits 64 bits.
-#[inline(always)]
-fn groups(n: u128) -> u128
-    ensures { result ≡ n / 10 ^ 19 }
-{
-    let guess = n / (1 << 64) * RECIPROCAL / (1 << 63);
-    let left = n - guess * GROUP as u128;
-    guess + ((left / 8) as u64 / (GROUP / 8)) as u128
 }
 
 // The distance of the number from 0.

@@ -1,6 +1,7 @@
 // Erased from crates/ratio_core/src/text.rt by rust/erase: not to be edited.
 //! Fractions as texts.
 mod decimal;
+mod digits;
 mod form;
 pub mod laws;
 mod numeral;

@@ -2,10 +2,10 @@
 //! Printing a fraction as a text, from its end on.
 
 use crate::proved::ratio_core::text::decimal::DecimalText;
+use crate::proved::ratio_core::text::digits::put_digits;
 use crate::proved::ratio_core::text::form::Form;
 use crate::proved::ratio_core::text::numeral::{put_numeral, twos_complement};
 use crate::proved::ratio_core::text::ratio_text::RatioText;
-use crate::proved::itoa::write_digits;
 use crate::proved::ratio_integer::Primitive;
 
 /// The text of a fraction's two numbers as they stand: the numerator, and, unless the denominator
@@ -130,41 +130,6 @@ fn put_decimal<T: Primitive>(t: T, buf: &mut [u8], end: usize) -> usize {
         return start - 1;
     }
     start
-}
-
-// What 19 digits, and 18, count up to.
-const GROUP: u64 = 10_000_000_000_000_000_000;
-
-const ONE_BEFORE: u64 = 1_000_000_000_000_000_000;
-
-// The quotient of 2^127 by 10^19.
-const RECIPROCAL: u128 = 17_014_118_346_046_923_173;
-
-// Writes the decimal digits so that they end at `end`, and returns where they start. Past 64 bits
-// they go in groups of 19: the last digit, and the 18 before it after a 1, which keeps their leading
-// zeros. The digits before the group then stand in the place of the 1.
-#[inline]
-fn put_digits(n: u128, buf: &mut [u8], end: usize) -> usize {
-    let mut left = n;
-    let mut at = end;
-    while left > u64::MAX as u128 {
-        let high = groups(left);
-        let low = (left - high * GROUP as u128) as u64;
-        buf[at - 1] = b'0' + (low % 10) as u8;
-        let _ = write_digits(ONE_BEFORE + low / 10, buf, at - 1);
-        left = high;
-        at -= 19;
-    }
-    write_digits(left as u64, buf, at)
-}
-
-// The quotient by 10^19, without a division in 128 bits: the upper half gives less than that by 4 at
-// most, and an eighth of what is then left fits 64 bits.
-#[inline(always)]
-fn groups(n: u128) -> u128 {
-    let guess = n / (1 << 64) * RECIPROCAL / (1 << 63);
-    let left = n - guess * GROUP as u128;
-    guess + ((left / 8) as u64 / (GROUP / 8)) as u128
 }
 
 // The distance of the number from 0.

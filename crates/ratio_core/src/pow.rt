@@ -99,6 +99,7 @@ fn try_powers<T: Integer>(n: T, d: T, exponent: u128) -> Option<(T, T)>
 }
 
 // The products of the first numbers and of the second ones, or `None` where the type does not hold both.
+#[inline(always)]
 fn both_times<T: Integer>(x: (T, T), y: (T, T)) -> Option<(T, T)>
     ensures { ChecksBoth (λ r. T.value r.0) (λ r. T.value r.1) T.lo T.hi (T.value x.0 *ℤ T.value y.0) (T.value x.1 *ℤ T.value y.1) result }
 {

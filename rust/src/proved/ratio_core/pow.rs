@@ -116,7 +116,7 @@ fn try_powers<T: Integer>(n: T, d: T, exponent: u128) -> Option<(T, T)> {
 }
 
 // The products of the first numbers and of the second ones, or `None` where the type does not hold both.
-#[inline]
+#[inline(always)]
 fn both_times<T: Integer>(x: (T, T), y: (T, T)) -> Option<(T, T)> {
     Some((x.0.try_times(y.0)?, x.1.try_times(y.1)?))
 }

@@ -254,8 +254,13 @@ where
         }
     }
 
-    /// Powers with small exponents of both signs: of fractions that are not 0, each is held.
+    /// Powers with small exponents of both signs: of fractions that are not 0, each is held. Where it is timed there are
+    /// so many pairs that no processor knows by heart which exponent comes next.
     fn powers(&mut self, kind: &str, inputs: &Inputs<C>) {
+        let count = if self.is_timed { 16 * COUNT } else { 0 };
+        let more = kinds::pairs(kind, C::Number::WIDTH, count, &mut self.random);
+        let more = more.iter().map(|f| lowest(kind, f)).filter(|f| f[0] != 0);
+        let inputs = Inputs::new(inputs.fields.iter().copied().chain(more).collect());
         let most = if kind == "small" { 3 } else { 2 };
         let exponent = |f: &Fields| f[2].rem_euclid(2 * most + 1) as i32 - most as i32;
         let exponents: Vec<i32> = inputs.fields.iter().map(exponent).collect();

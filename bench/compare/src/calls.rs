@@ -90,14 +90,22 @@ where
         self.answers("gcd", kind, raw, None, erased::gcd, theirs::gcd);
         // Of wider fields the crate rounds some wrongly, and no type holds most powers.
         if kind == "small" || kind == "half" {
-            self.roundings(kind, low);
+            let many = self.many(kind, low);
+            self.roundings(kind, &many);
             // A sign that no one guesses would cost more than the call.
-            let above = low.only(|f| f[0] > 0);
+            let above = many.only(|f| f[0] > 0);
             self.answers("recip", kind, &above, None, erased::recip, theirs::recip);
             self.answers("bare recip", kind, &above, None, erased::bare_recip, theirs::recip);
-            self.powers(kind, &low.only(|f| f[0] != 0));
+            self.powers(kind, &many.only(|f| f[0] != 0));
         }
         self.texts(kind, raw, low);
+    }
+
+    /// Where calls of a few nanoseconds are timed, they get so many pairs that no processor knows by heart which way each goes.
+    fn many(&mut self, kind: &str, low: &Inputs<C>) -> Inputs<C> {
+        let count = if self.is_timed { 16 * COUNT } else { 0 };
+        let more = kinds::pairs(kind, C::Number::WIDTH, count, &mut self.random);
+        Inputs::new(low.fields.iter().copied().chain(more.iter().map(|f| lowest(kind, f))).collect())
     }
 
     fn roundings(&mut self, kind: &str, low: &Inputs<C>) {
@@ -254,13 +262,8 @@ where
         }
     }
 
-    /// Powers with small exponents of both signs: of fractions that are not 0, each is held. Where it is timed there are
-    /// so many pairs that no processor knows by heart which exponent comes next.
+    /// Powers with small exponents of both signs: of fractions that are not 0, each is held.
     fn powers(&mut self, kind: &str, inputs: &Inputs<C>) {
-        let count = if self.is_timed { 16 * COUNT } else { 0 };
-        let more = kinds::pairs(kind, C::Number::WIDTH, count, &mut self.random);
-        let more = more.iter().map(|f| lowest(kind, f)).filter(|f| f[0] != 0);
-        let inputs = Inputs::new(inputs.fields.iter().copied().chain(more).collect());
         let most = if kind == "small" { 3 } else { 2 };
         let exponent = |f: &Fields| f[2].rem_euclid(2 * most + 1) as i32 - most as i32;
         let exponents: Vec<i32> = inputs.fields.iter().map(exponent).collect();

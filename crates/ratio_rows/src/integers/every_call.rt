@@ -17,6 +17,22 @@ fn answer<T: Integer>(t: Option<T>) -> i128 {
     }
 }
 
+/// The last two digits of a number, or -1 where `u128` does not hold it.
+fn last_two_digits<T: Integer>(t: T) -> i128 {
+    match t.to_u128() {
+        Some(n) => (n % 100) as i128,
+        None => -1,
+    }
+}
+
+/// The numbers of an exact sum.
+fn pair<T: Integer>(sum: Option<(T, T)>) -> Option<(i128, i128)> {
+    match sum {
+        Some((numer, denom)) => Some((number(numer), number(denom))),
+        None => None,
+    }
+}
+
 /// What the required calls answer, in the order of the trait.
 fn required<T: Integer>(a: T, b: T) -> [i128; 12]
     requires sum { IsHeld T.lo T.hi (T.value a +ℤ T.value b) }
@@ -37,7 +53,7 @@ fn required<T: Integer>(a: T, b: T) -> [i128; 12]
         number(quotient),
         number(rest),
         a.to_i128().unwrap_or(-1),
-        a.to_u128().map_or(-1, |n| (n % 100) as i128),
+        last_two_digits(a),
         answer(T::from_i128(6)),
         answer(T::from_u128(6)),
     ]
@@ -82,8 +98,8 @@ fn answers_all<T: Integer>(a: T, b: T) -> bool
     requires product { IsHeld T.lo T.hi (T.value a *ℤ T.value b) }
     requires positive { pos 0 <ℤ T.value b }
 {
-    let sum = T::exact_sum(a, b, b, b).map(|r| (number(r.0), number(r.1)));
-    let difference = T::exact_diff(a, b, b, b).map(|r| (number(r.0), number(r.1)));
+    let sum = pair(T::exact_sum(a, b, b, b));
+    let difference = pair(T::exact_diff(a, b, b, b));
     let sums = if T::EXACT_SUMS {
         sum == Some((5, 2)) && difference == Some((1, 2))
     } else {

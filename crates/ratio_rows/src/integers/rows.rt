@@ -3,69 +3,68 @@ use ratio_integer::{Integer, SignedInteger};
 
 #[test]
 fn division(rt: HostRuntime) {
-    assert_eq!(rt; (-128i8).div_rem(3), (-42, -2));
-    assert_eq!(rt; (-7i8).div_mod_floor(2), (-4, 1));
-    assert_eq!(rt; 7i8.div_mod_floor(-2), (-4, -1));
-    assert_eq!(rt; 127i8.div_mod_floor(-128), (-1, -1));
-    assert_eq!(rt; (-128i8).div_mod_floor(127), (-2, 126));
+    assert!(rt; (-128i8).div_rem(3) == (-42, -2));
+    assert!(rt; (-7i8).div_mod_floor(2) == (-4, 1));
+    assert!(rt; 7i8.div_mod_floor(-2) == (-4, -1));
+    assert!(rt; 127i8.div_mod_floor(-128) == (-1, -1));
+    assert!(rt; (-128i8).div_mod_floor(127) == (-2, 126));
 }
 
 #[test]
 fn divisors(rt: HostRuntime) {
-    assert_eq!(rt; (-128i8).gcd(96), 32);
-    assert_eq!(rt; (-128i8).gcd(-1), 1);
-    assert_eq!(rt; 0i8.gcd(0), 0);
-    assert_eq!(rt; 0i8.gcd(-5), 5);
-    assert_eq!(rt; i128::MIN.gcd(1), 1);
+    assert!(rt; (-128i8).gcd(96) == 32);
+    assert!(rt; (-128i8).gcd(-1) == 1);
+    assert!(rt; 0i8.gcd(0) == 0);
+    assert!(rt; 0i8.gcd(-5) == 5);
+    assert!(rt; i128::MIN.gcd(1) == 1);
 }
 
 #[test]
 fn divisors_of_64_bits(rt: HostRuntime) {
-    assert_eq!(rt; 0u64.gcd(0), 0);
-    assert_eq!(rt; 0u64.gcd(5), 5);
-    assert_eq!(rt; 5u64.gcd(0), 5);
-    assert_eq!(rt; 128u64.gcd(96), 32);
-    assert_eq!(rt; (1u64 << 63).gcd(1 << 62), 1 << 62);
+    assert!(rt; 0u64.gcd(0) == 0);
+    assert!(rt; 0u64.gcd(5) == 5);
+    assert!(rt; 5u64.gcd(0) == 5);
+    assert!(rt; 128u64.gcd(96) == 32);
+    assert!(rt; (1u64 << 63).gcd(1 << 62) == 1 << 62);
     // 641 divides 2^32 + 1, and so 2^64 - 1.
-    assert_eq!(rt; u64::MAX.gcd(1282), 641);
+    assert!(rt; u64::MAX.gcd(1282) == 641);
 }
 
 #[test]
 fn divisors_of_128_bits(rt: HostRuntime) {
-    assert_eq!(rt; 0u128.gcd(0), 0);
-    assert_eq!(rt; 0u128.gcd(5), 5);
-    assert_eq!(rt; (1u128 << 127).gcd(1), 1);
-    assert_eq!(rt; (1u128 << 127).gcd(1 << 126), 1 << 126);
-    assert_eq!(rt; (3u128 << 64).gcd(5 << 64), 1 << 64);
+    assert!(rt; 0u128.gcd(0) == 0);
+    assert!(rt; 0u128.gcd(5) == 5);
+    assert!(rt; (1u128 << 127).gcd(1) == 1);
+    assert!(rt; (1u128 << 127).gcd(1 << 126) == 1 << 126);
+    assert!(rt; (3u128 << 64).gcd(5 << 64) == 1 << 64);
     // 2^64 - 1 divides 2^128 - 1.
-    assert_eq!(rt; u128::MAX.gcd(u64::MAX as u128), u64::MAX as u128);
+    assert!(rt; u128::MAX.gcd(u64::MAX as u128) == u64::MAX as u128);
+}
+
+// The least common multiple, by the call that asks for the checked one's answer.
+fn multiple(a: i8, b: i8) -> Option<i8> {
+    match a.try_lcm(b) {
+        Some(_) => Some(a.lcm(b)),
+        None => None,
+    }
+}
+
+// Whether the least common multiple is this by both calls, or by neither.
+fn is_multiple(a: i8, b: i8, want: Option<i8>) -> bool {
+    a.try_lcm(b) == want && multiple(a, b) == want
 }
 
 #[test]
 fn multiples(rt: HostRuntime) {
-    let table: [(i8, i8, Option<i8>); 5] = [
-        (12, -18, Some(36)),
-        (0, 5, Some(0)),
-        (0, 0, Some(0)),
-        (-128, 1, None),
-        (-128, -128, None),
-    ];
-    for (a, b, want) in table {
-        let answer = a.try_lcm(b);
-        assert_eq!(rt; answer, want, "of {a} and {b}");
-        if answer.is_some() {
-            assert_eq!(rt; Some(a.lcm(b)), want, "of {a} and {b}");
-        }
-    }
-    let table: [(i8, i8, bool); 4] = [
-        (-128, -1, true),
-        (0, 0, true),
-        (5, 0, false),
-        (-6, 4, false),
-    ];
-    for (a, b, want) in table {
-        assert_eq!(rt; a.is_multiple_of(b), want, "{a} of {b}");
-    }
+    assert!(rt; is_multiple(12, -18, Some(36)));
+    assert!(rt; is_multiple(0, 5, Some(0)));
+    assert!(rt; is_multiple(0, 0, Some(0)));
+    assert!(rt; is_multiple(-128, 1, None));
+    assert!(rt; is_multiple(-128, -128, None));
+    assert!(rt; (-128i8).is_multiple_of(-1));
+    assert!(rt; 0i8.is_multiple_of(0));
+    assert!(rt; !5i8.is_multiple_of(0));
+    assert!(rt; !(-6i8).is_multiple_of(4));
 }
 
 #[test]
@@ -88,24 +87,12 @@ fn parity(rt: HostRuntime) {
 #[test]
 fn exact_sums(rt: HostRuntime) {
     let most = i32::MAX;
-    assert_eq!(rt; i32::exact_sum(most, 2, most, 2), Some((most, 1)));
-    assert_eq!(rt;
-        i32::exact_sum(1, 11_862_016, 1, 11_993_088),
-        Some((91, 542_687_232))
-    );
-    assert_eq!(rt;
-        i32::exact_diff(1, 11_862_016, 1, 11_993_088),
-        Some((1, 1_085_374_464))
-    );
-    assert_eq!(rt; i32::exact_sum(1, most, 1, 2_147_483_646), None);
-    assert_eq!(rt;
-        i64::exact_sum(i64::MIN, i64::MAX, i64::MIN, i64::MAX),
-        None
-    );
-    assert_eq!(rt;
-        i32::exact_sum(1, 805_306_368, 1, 1_342_177_280),
-        Some((1, 503_316_480))
-    );
-    assert_eq!(rt; i64::exact_sum(1, 1 << 62, 1, 1 << 62), Some((1, 1 << 61)));
-    assert_eq!(rt; u32::exact_sum(u32::MAX, 2, u32::MAX, 2), None);
+    assert!(rt; i32::exact_sum(most, 2, most, 2) == Some((most, 1)));
+    assert!(rt; i32::exact_sum(1, 11_862_016, 1, 11_993_088) == Some((91, 542_687_232)));
+    assert!(rt; i32::exact_diff(1, 11_862_016, 1, 11_993_088) == Some((1, 1_085_374_464)));
+    assert!(rt; i32::exact_sum(1, most, 1, 2_147_483_646).is_none());
+    assert!(rt; i64::exact_sum(i64::MIN, i64::MAX, i64::MIN, i64::MAX).is_none());
+    assert!(rt; i32::exact_sum(1, 805_306_368, 1, 1_342_177_280) == Some((1, 503_316_480)));
+    assert!(rt; i64::exact_sum(1, 1 << 62, 1, 1 << 62) == Some((1, 1 << 61)));
+    assert!(rt; u32::exact_sum(u32::MAX, 2, u32::MAX, 2).is_none());
 }

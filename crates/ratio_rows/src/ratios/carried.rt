@@ -1,9 +1,10 @@
 //! The values of the Rust crate's own tests, under the names that they have there: construction, access
 //! and comparison.
-use crate::ratios::asserting::{holds, is};
-use crate::ratios::forms::{self, fraction};
+use crate::asserting::{holds, is};
+use crate::ratios::forms::{self, fraction, raw};
+use crate::ratios::rows::reduced;
+use crate::ratios::texts::shown_as;
 use crate::recorder::Written;
-use crate::ratios::texts::{Shown, shown_as};
 use num_rational::{Constants, Form, Ratio, Rational32, Rational64};
 use ratio_integer::Integer;
 use std::cmp::Ordering;
@@ -19,7 +20,7 @@ fn new<T: Integer>(n: T, d: T) -> Ratio<T> {
 }
 
 // A fraction and its fields.
-#[derive(Drop)]
+#[derive(Clone, Copy)]
 struct Made {
     x: Rational64,
     numer: i64,
@@ -66,23 +67,25 @@ fn test_is_integer(rt: HostRuntime) {
     }
 }
 
+// Whether the fraction equals each of these.
+fn equals(x: Rational64, others: &[Rational64]) -> bool {
+    for other in others {
+        if x != *other {
+            return false;
+        }
+    }
+    true
+}
+
 #[test]
 fn test_test_constants(rt: HostRuntime) {
     let [zero, one, two, half, three_halves, minus_half] = six();
-    holds(
-        &rt,
-        "0",
-        zero.x == Ratio::ZERO && zero.x == Ratio::from(0) && zero.x == new(0, 1),
-    );
-    holds(
-        &rt,
-        "1",
-        one.x == Ratio::ONE && one.x == Ratio::from(1) && one.x == new(1, 1),
-    );
-    holds(&rt, "2", two.x == Ratio::from(2) && two.x == new(2, 1));
-    holds(&rt, "1/2", half.x == Ratio::new_raw(2, 4));
-    holds(&rt, "3/2", three_halves.x == Ratio::new_raw(6, 4));
-    holds(&rt, "-1/2", minus_half.x == Ratio::new_raw(1, -2));
+    assert!(rt; equals(zero.x, &[Ratio::ZERO, Ratio::from(0), new(0, 1)]));
+    assert!(rt; equals(one.x, &[Ratio::ONE, Ratio::from(1), new(1, 1)]));
+    assert!(rt; equals(two.x, &[Ratio::from(2), new(2, 1)]));
+    assert!(rt; equals(half.x, &[Ratio::new_raw(2, 4)]));
+    assert!(rt; equals(three_halves.x, &[Ratio::new_raw(6, 4)]));
+    assert!(rt; equals(minus_half.x, &[Ratio::new_raw(1, -2)]));
 }
 
 #[test]
@@ -92,38 +95,39 @@ fn test_new_reduce(rt: HostRuntime) {
     is(&rt, new(i32::MIN, i32::MIN), 1, 1);
 }
 
+// Whether the second is above the first, by the operators that tell two fractions apart.
+fn is_below(low: Rational64, high: Rational64) -> bool {
+    low != high && high != low && low < high && !(high < low) && high > low && !(low > high)
+}
+
+// The same by the operators that hold of equal fractions too.
+fn is_at_most(low: Rational64, high: Rational64) -> bool {
+    low <= high && !(high <= low) && high >= low && !(low >= high)
+}
+
+// Whether the fraction is itself by each of those.
+fn is_itself(x: Rational64) -> bool {
+    x == x && x <= x && x >= x
+}
+
 #[test]
 fn test_cmp(rt: HostRuntime) {
     let zero = Rational64::zero();
     let one = Rational64::one();
-    holds(
-        &rt,
-        "==",
-        zero == zero && one == one && Rational64::new_raw(0, 2) == zero,
-    );
-    holds(&rt, "!=", zero != one && one != zero);
-    holds(&rt, "<", zero < one && !(one < zero));
-    holds(&rt, ">", one > zero && !(zero > one));
-    holds(
-        &rt,
-        "<=",
-        zero <= one && zero <= zero && one <= one && !(one <= zero),
-    );
-    holds(
-        &rt,
-        ">=",
-        one >= zero && zero >= zero && one >= one && !(zero >= one),
-    );
-    holds(&rt, "below", zero.cmp(&one) == Ordering::Less);
-    holds(&rt, "above", one.cmp(&zero) == Ordering::Greater);
+    assert!(rt; is_itself(zero) && is_itself(one));
+    assert!(rt; Rational64::new_raw(0, 2) == zero);
+    assert!(rt; is_below(zero, one));
+    assert!(rt; is_at_most(zero, one));
+    assert!(rt; zero.cmp(&one) == Ordering::Less);
+    assert!(rt; one.cmp(&zero) == Ordering::Greater);
 }
 
 // The pair that a fraction with these fields gives.
 fn pair_of(numer: i64, denom: i64) -> (i64, i64) {
-    if denom == 0 {
-        return (numer, denom);
+    match raw(numer, denom) {
+        Some(x) => x.into(),
+        None => (numer, denom),
     }
-    Ratio::new_raw(numer, denom).into()
 }
 
 #[test]
@@ -209,50 +213,35 @@ fn test_hash(rt: HostRuntime) {
 fn test_const(rt: HostRuntime) {
     let x = Rational32::new_raw(123, 456);
     holds(&rt, "fields", *x.numer() == 123 && *x.denom() == 456);
-    if Ratio::checked_new(123i32, 456).is_some() {
-        is(&rt, x.reduced(), 41, 152);
-    } else {
-        holds(&rt, "reduced", false);
-    }
+    assert!(rt; reduced(*x.numer(), *x.denom()) == Some((41, 152)));
 }
 
-// A fraction over i64, printed in a form.
-fn printed(numer: i64, denom: i64, form: Form) -> Shown<i64> {
-    shown_as(numer, denom, form)
+// Whether the base, and 1 over it, are printed so in the form of that base.
+fn shows_base(base: i64, form: Form, padded: &str, prefixed: &str) -> bool {
+    let whole = shown_as(base, 1, form);
+    let part = shown_as(1, base, form);
+    InlineText::<40>::of(format_args!("{whole} {part}")).as_str() == "10 1/10"
+        && InlineText::<40>::of(format_args!("{part:010}")).as_str() == padded
+        && InlineText::<40>::of(format_args!("{part:#010}")).as_str() == prefixed
 }
 
 #[test]
 fn test_show(rt: HostRuntime) {
-    let two = printed(2, 1, Form::Decimal);
-    let half = printed(1, 2, Form::Decimal);
-    let minus_half = printed(-1, 2, Form::Decimal);
-    let zero = printed(0, 1, Form::Decimal);
-    let minus_two = printed(-2, 1, Form::Decimal);
+    let two = shown_as(2i64, 1, Form::Decimal);
+    let half = shown_as(1i64, 2, Form::Decimal);
+    let minus_half = shown_as(-1i64, 2, Form::Decimal);
+    let zero = shown_as(0i64, 1, Form::Decimal);
+    let minus_two = shown_as(-2i64, 1, Form::Decimal);
     let row = InlineText::<40>::of(format_args!("{two} {half} {minus_half} {zero} {minus_two}"));
-    assert_eq!(rt; row.as_str(), "2 1/2 -1/2 0 -2");
-    for (base, form, padded, prefixed) in [
-        (2, Form::Binary, "0000001/10", "0b001/0b10"),
-        (8, Form::Octal, "0000001/10", "0o001/0o10"),
-        (16, Form::LowerHex, "0000001/10", "0x001/0x10"),
-        (16, Form::UpperHex, "0000001/10", "0x001/0x10"),
-    ] {
-        let whole = printed(base, 1, form);
-        let part = printed(1, base, form);
-        let row = InlineText::<40>::of(format_args!("{whole} {part}"));
-        assert_eq!(rt; row.as_str(), "10 1/10");
-        assert_eq!(rt;
-            InlineText::<40>::of(format_args!("{part:010}")).as_str(),
-            padded
-        );
-        assert_eq!(rt;
-            InlineText::<40>::of(format_args!("{part:#010}")).as_str(),
-            prefixed
-        );
-    }
-    let fifteen = printed(15, 1, Form::LowerHex);
-    let none = printed(0, 1, Form::LowerHex);
+    assert!(rt; row.as_str() == "2 1/2 -1/2 0 -2");
+    assert!(rt; shows_base(2, Form::Binary, "0000001/10", "0b001/0b10"));
+    assert!(rt; shows_base(8, Form::Octal, "0000001/10", "0o001/0o10"));
+    assert!(rt; shows_base(16, Form::LowerHex, "0000001/10", "0x001/0x10"));
+    assert!(rt; shows_base(16, Form::UpperHex, "0000001/10", "0x001/0x10"));
+    let fifteen = shown_as(15i64, 1, Form::LowerHex);
+    let none = shown_as(0i64, 1, Form::LowerHex);
     let row = InlineText::<40>::of(format_args!("{fifteen} {none}"));
-    assert_eq!(rt; row.as_str(), "f 0");
+    assert!(rt; row.as_str() == "f 0");
 }
 
 // Whether the fraction is printed so, and the text reads as the fraction.
@@ -275,9 +264,12 @@ fn test_to_from_str(rt: HostRuntime) {
     assert!(rt; is_text_of("-1/2", new(-1, 2)));
 }
 
+fn refuses(text: &str) -> bool {
+    Rational64::from_str(text).is_err()
+}
+
 #[test]
 fn test_from_str_fail(rt: HostRuntime) {
-    for text in ["0 /1", "abc", "", "1/", "--1/2", "3/2/1", "1/0"] {
-        assert!(rt; Rational64::from_str(text).is_err(), "{text}");
-    }
+    assert!(rt; refuses("0 /1") && refuses("abc") && refuses("") && refuses("1/"));
+    assert!(rt; refuses("--1/2") && refuses("3/2/1") && refuses("1/0"));
 }

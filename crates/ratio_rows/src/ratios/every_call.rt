@@ -1,5 +1,5 @@
 //! Each call once, at a concrete type.
-use crate::ratios::asserting::{answers, holds, is, reads};
+use crate::asserting::{answers, holds, is, reads};
 use num_rational::{Constants, Form, Ratio, RatioErrorKind, Rational, Rational32, Rational64};
 use std::fmt::InlineText;
 use std::test::Fail;

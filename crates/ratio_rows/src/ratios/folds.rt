@@ -3,7 +3,7 @@ ghost use Rattle.std.specs.Prelude.{IsTrue};
 ghost use Rattle.num_rational.specs.Folds.{ArePositive, CanProduct, CanSum};
 ghost use Rattle.num_rational.specs.Operators.{numbers};
 
-use crate::ratios::asserting::holds;
+use crate::asserting::holds;
 use crate::ratios::forms::{self, fraction, has};
 use num_rational::{Ratio, Rational32};
 use ratio_integer::Integer;

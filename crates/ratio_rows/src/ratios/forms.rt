@@ -1,6 +1,6 @@
 //! Every form of an operator: the checked call, the named call, the symbol and its assigning form. The
 //! right operand is of any form that an operator takes.
-ghost use Rattle.std.specs.Prelude.{◌<ℤ◌, pos};
+ghost use Rattle.std.specs.Prelude.{◌<ℤ◌, pos, IfSome};
 ghost use Rattle.num_rational.specs.Operators.{CanAdd, CanDivide, CanMultiply, CanSubtract, CanTakeRemainder, numbers};
 ghost use Rattle.num_rational.specs.Ratio.{denominator};
 
@@ -15,6 +15,26 @@ pub fn fraction<T: Integer>(fields: (T, T)) -> Ratio<T>
         Ratio::new_raw(fields.0, fields.1)
     } else {
         Ratio::zero()
+    }
+}
+
+/// The fraction with these fields, where its denominator is positive.
+pub fn positive<T: Integer>(numer: T, denom: T) -> Option<Ratio<T>>
+    ensures { IfSome result (λ x. pos 0 <ℤ denominator x) }
+{
+    if T::ZERO < denom {
+        Some(Ratio::new_raw(numer, denom))
+    } else {
+        None
+    }
+}
+
+/// The fraction with these fields, where its denominator is not 0.
+pub fn raw<T: Integer>(numer: T, denom: T) -> Option<Ratio<T>> {
+    if denom.is_zero() {
+        None
+    } else {
+        Some(Ratio::new_raw(numer, denom))
     }
 }
 

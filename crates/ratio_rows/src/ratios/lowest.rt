@@ -1,18 +1,23 @@
 //! Fractions that are always in lowest terms: rows from outside, and each call once at a concrete type.
-use crate::ratios::asserting::{answers, holds, is, reads};
+use crate::asserting::{answers, holds, is, reads};
+use crate::ratios::forms::raw;
+use crate::ratios::texts::Shown;
 use num_rational::laws::lowest;
-use num_rational::{Constants, Form, Ratio, Reduced, Reduced32, Reduced64};
+use num_rational::{Constants, Form, Reduced, Reduced32, Reduced64};
 use ratio_integer::Integer;
 use std::cmp::Ordering;
 use std::collections::{BTreeMap, HashMap};
-use std::fmt;
-use std::fmt::{Binary, Debug, Display, Formatter, InlineText, LowerHex, Octal, UpperHex, Write};
+use std::fmt::{Debug, InlineText};
 use std::process::Abort;
 use std::test::Fail;
 
 // The answer has these fields, or there is none.
 fn gives<T: Integer + Debug>(rt: &impl Abort, answer: Option<Reduced<T>>, want: Option<(T, T)>) {
-    answers(rt, answer.map(|x| x.to_ratio()), want);
+    let ratio = match answer {
+        Some(x) => Some(x.to_ratio()),
+        None => None,
+    };
+    answers(rt, ratio, want);
 }
 
 #[test]
@@ -33,17 +38,16 @@ fn makes_lowest_terms(rt: HostRuntime) -> Result<(), Fail> {
     Ok(())
 }
 
-fn taken(rt: &impl Abort, numer: i8, denom: i8, want: Option<(i8, i8)>) {
-    assert!(rt; denom != 0);
-    let ratio = Ratio::<i8>::new_raw(numer, denom);
-    gives(rt, Reduced::from_ratio(&ratio), want);
+// What the fraction with these fields gives.
+fn taken(numer: i8, denom: i8) -> Option<Reduced<i8>> {
+    Reduced::from_ratio(&raw(numer, denom)?)
 }
 
 #[test]
 fn takes_fractions(rt: HostRuntime) {
-    taken(&rt, -128, -1, None);
-    taken(&rt, 4, -2, Some((-2, 1)));
-    taken(&rt, 0, -5, Some((0, 1)));
+    gives(&rt, taken(-128, -1), None);
+    gives(&rt, taken(4, -2), Some((-2, 1)));
+    gives(&rt, taken(0, -5), Some((0, 1)));
 }
 
 // The fields of a text, or the number of the refusal's kind.
@@ -78,26 +82,7 @@ fn reads_texts_in_a_radix(rt: HostRuntime) {
     holds(&rt, "37", read_in("f/2", 37) == Err(1));
 }
 
-// How each of the other traits prints the fraction.
-#[derive(Drop)]
-struct Shown {
-    fraction: Reduced64,
-    form: Form,
-}
-
-impl Display for Shown {
-    fn fmt<W: Write>(&self, f: &mut Formatter<W>) -> fmt::Result {
-        match self.form {
-            Form::Decimal => Display::fmt(&self.fraction, f),
-            Form::Binary => Binary::fmt(&self.fraction, f),
-            Form::Octal => Octal::fmt(&self.fraction, f),
-            Form::LowerHex => LowerHex::fmt(&self.fraction, f),
-            Form::UpperHex => UpperHex::fmt(&self.fraction, f),
-        }
-    }
-}
-
-fn eleven_tenths(form: Form) -> Shown {
+fn eleven_tenths(form: Form) -> Shown<Reduced64> {
     let fraction = Reduced64::checked_new(22, 20).unwrap_or(Reduced::zero());
     Shown { fraction, form }
 }

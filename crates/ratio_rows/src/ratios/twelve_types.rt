@@ -1,5 +1,5 @@
 //! Reading, printing and reducing at the ends of each of the twelve types.
-use crate::ratios::asserting::{answers, holds, reads};
+use crate::asserting::{answers, holds, reads};
 use num_rational::{Form, ParseRatioError, Ratio, RatioErrorKind};
 use ratio_integer::{Integer, Primitive};
 use std::fmt::Debug;

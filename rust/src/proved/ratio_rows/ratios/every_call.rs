@@ -1,6 +1,6 @@
 // Erased from crates/ratio_rows/src/ratios/every_call.rt by rust/erase: not to be edited.
 //! Each call once, at a concrete type.
-use crate::proved::ratio_rows::ratios::asserting::{answers, holds, is, reads};
+use crate::proved::ratio_rows::asserting::{answers, holds, is, reads};
 use crate::proved::num_rational::{Constants, Form, Ratio, RatioErrorKind, Rational, Rational32, Rational64};
 use crate::test_support::InlineText;
 use crate::test_support::Fail;

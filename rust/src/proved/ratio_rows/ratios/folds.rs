@@ -1,7 +1,7 @@
 // Erased from crates/ratio_rows/src/ratios/folds.rt by rust/erase: not to be edited.
 //! Sums and products of lists, by every call.
 
-use crate::proved::ratio_rows::ratios::asserting::holds;
+use crate::proved::ratio_rows::asserting::holds;
 use crate::proved::ratio_rows::ratios::forms::{self, fraction, has};
 use crate::proved::num_rational::{Ratio, Rational32};
 use crate::proved::ratio_integer::Integer;

@@ -15,6 +15,26 @@ pub fn fraction<T: Integer>(fields: (T, T)) -> Ratio<T> {
     }
 }
 
+/// The fraction with these fields, where its denominator is positive.
+#[inline]
+pub fn positive<T: Integer>(numer: T, denom: T) -> Option<Ratio<T>> {
+    if T::ZERO < denom {
+        Some(Ratio::new_raw(numer, denom))
+    } else {
+        None
+    }
+}
+
+/// The fraction with these fields, where its denominator is not 0.
+#[inline]
+pub fn raw<T: Integer>(numer: T, denom: T) -> Option<Ratio<T>> {
+    if denom.is_zero() {
+        None
+    } else {
+        Some(Ratio::new_raw(numer, denom))
+    }
+}
+
 /// Whether the fraction has these fields.
 #[inline]
 pub fn has<T: Integer>(x: Ratio<T>, fields: (T, T)) -> bool {

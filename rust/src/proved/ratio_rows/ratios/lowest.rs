@@ -1,29 +1,27 @@
 // Erased from crates/ratio_rows/src/ratios/lowest.rt by rust/erase: not to be edited.
 //! Fractions that are always in lowest terms: rows from outside, and each call once at a concrete type.
-use crate::proved::ratio_rows::ratios::asserting::{answers, holds, is, reads};
+use crate::proved::ratio_rows::asserting::{answers, holds, is, reads};
+use crate::proved::ratio_rows::ratios::forms::raw;
+use crate::proved::ratio_rows::ratios::texts::Shown;
 use crate::proved::num_rational::laws::lowest;
-use crate::proved::num_rational::{Constants, Form, Ratio, Reduced, Reduced32, Reduced64};
+use crate::proved::num_rational::{Constants, Form, Reduced, Reduced32, Reduced64};
 use crate::proved::ratio_integer::Integer;
 use core::cmp::Ordering;
 use std::collections::BTreeMap;
 use std::collections::HashMap;
-use core::fmt;
-use core::fmt::Binary;
 use core::fmt::Debug;
-use core::fmt::Display;
-use core::fmt::Formatter;
 use crate::test_support::InlineText;
-use core::fmt::LowerHex;
-use core::fmt::Octal;
-use core::fmt::UpperHex;
-use core::fmt::Write;
 
 use crate::test_support::Fail;
 
 // The answer has these fields, or there is none.
 #[inline]
 fn gives<T: Integer + Debug>(answer: Option<Reduced<T>>, want: Option<(T, T)>) {
-    answers(answer.map(|x| x.to_ratio()), want);
+    let ratio = match answer {
+        Some(x) => Some(x.to_ratio()),
+        None => None,
+    };
+    answers(ratio, want);
 }
 
 #[test]
@@ -44,18 +42,17 @@ fn makes_lowest_terms() -> Result<(), Fail> {
     Ok(())
 }
 
+// What the fraction with these fields gives.
 #[inline]
-fn taken(numer: i8, denom: i8, want: Option<(i8, i8)>) {
-    assert!(denom != 0);
-    let ratio = Ratio::<i8>::new_raw(numer, denom);
-    gives(Reduced::from_ratio(&ratio), want);
+fn taken(numer: i8, denom: i8) -> Option<Reduced<i8>> {
+    Reduced::from_ratio(&raw(numer, denom)?)
 }
 
 #[test]
 fn takes_fractions() {
-    taken(-128, -1, None);
-    taken(4, -2, Some((-2, 1)));
-    taken(0, -5, Some((0, 1)));
+    gives(taken(-128, -1), None);
+    gives(taken(4, -2), Some((-2, 1)));
+    gives(taken(0, -5), Some((0, 1)));
 }
 
 // The fields of a text, or the number of the refusal's kind.
@@ -92,27 +89,8 @@ fn reads_texts_in_a_radix() {
     holds("37", read_in("f/2", 37) == Err(1));
 }
 
-// How each of the other traits prints the fraction.
-struct Shown {
-    fraction: Reduced64,
-    form: Form,
-}
-
-impl Display for Shown {
-    #[inline]
-    fn fmt(&self, f: &mut Formatter<'_>) -> fmt::Result {
-        match self.form {
-            Form::Decimal => Display::fmt(&self.fraction, f),
-            Form::Binary => Binary::fmt(&self.fraction, f),
-            Form::Octal => Octal::fmt(&self.fraction, f),
-            Form::LowerHex => LowerHex::fmt(&self.fraction, f),
-            Form::UpperHex => UpperHex::fmt(&self.fraction, f),
-        }
-    }
-}
-
 #[inline]
-fn eleven_tenths(form: Form) -> Shown {
+fn eleven_tenths(form: Form) -> Shown<Reduced64> {
     let fraction = Reduced64::checked_new(22, 20).unwrap_or(Reduced::zero());
     Shown { fraction, form }
 }

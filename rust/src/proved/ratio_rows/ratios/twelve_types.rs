@@ -1,6 +1,6 @@
 // Erased from crates/ratio_rows/src/ratios/twelve_types.rt by rust/erase: not to be edited.
 //! Reading, printing and reducing at the ends of each of the twelve types.
-use crate::proved::ratio_rows::ratios::asserting::{answers, holds, reads};
+use crate::proved::ratio_rows::asserting::{answers, holds, reads};
 use crate::proved::num_rational::{Form, ParseRatioError, Ratio, RatioErrorKind};
 use crate::proved::ratio_integer::{Integer, Primitive};
 use core::fmt::Debug;

@@ -1,4 +1,4 @@
-// Erased from crates/ratio_rows/src/ratios/asserting.rt by rust/erase: not to be edited.
+// Erased from crates/ratio_rows/src/asserting.rt by rust/erase: not to be edited.
 //! What the tests assert: each function holds one assertion, and says what it was given where that fails.
 use crate::proved::num_rational::Ratio;
 use crate::proved::ratio_integer::Integer;
@@ -14,13 +14,22 @@ pub fn is<T: Integer + Debug>(x: Ratio<T>, numer: T, denom: T) {
     );
 }
 
+/// The fields of an answer.
+#[inline]
+pub fn fields<T: Integer>(answer: Option<Ratio<T>>) -> Option<(T, T)> {
+    match answer {
+        Some(x) => Some(x.into_raw()),
+        None => None,
+    }
+}
+
 /// The answer has these fields, or there is none.
 #[inline]
 pub fn answers<T: Integer + Debug>(
     answer: Option<Ratio<T>>,
     want: Option<(T, T)>,
 ) {
-    let fields = answer.map(|x| x.into_raw());
+    let fields = fields(answer);
     assert!(fields == want, "{fields:?}, not {want:?}");
 }
 
@@ -34,4 +43,10 @@ pub fn reads(text: &str, want: &str) {
 #[inline]
 pub fn holds(what: &str, fact: bool) {
     assert!(fact, "{what}");
+}
+
+/// Every row holds: there is no first one that does not.
+#[inline]
+pub fn all_hold(what: &str, first_wrong: Option<usize>) {
+    assert!(first_wrong.is_none(), "{what}: row {first_wrong:?}");
 }

@@ -13,13 +13,21 @@ pub fn is<T: Integer + Debug>(rt: &impl Abort, x: Ratio<T>, numer: T, denom: T) 
     );
 }
 
+/// The fields of an answer.
+pub fn fields<T: Integer>(answer: Option<Ratio<T>>) -> Option<(T, T)> {
+    match answer {
+        Some(x) => Some(x.into_raw()),
+        None => None,
+    }
+}
+
 /// The answer has these fields, or there is none.
 pub fn answers<T: Integer + Debug>(
     rt: &impl Abort,
     answer: Option<Ratio<T>>,
     want: Option<(T, T)>,
 ) {
-    let fields = answer.map(|x| x.into_raw());
+    let fields = fields(answer);
     assert!(rt; fields == want, "{fields:?}, not {want:?}");
 }
 
@@ -31,4 +39,9 @@ pub fn reads(rt: &impl Abort, text: &str, want: &str) {
 /// This holds.
 pub fn holds(rt: &impl Abort, what: &str, fact: bool) {
     assert!(rt; fact, "{what}");
+}
+
+/// Every row holds: there is no first one that does not.
+pub fn all_hold(rt: &impl Abort, what: &str, first_wrong: Option<usize>) {
+    assert!(rt; first_wrong.is_none(), "{what}: row {first_wrong:?}");
 }

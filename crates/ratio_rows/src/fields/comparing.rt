@@ -1,5 +1,5 @@
 //! Worked rows of the order and of the codes, with their expected values from outside.
-use crate::asserting::all_hold;
+use crate::asserting::{all_hold, each_holds};
 use crate::recorder::Codes;
 use ratio_core::{Steps, cmp_counted, compare, hash_counted};
 use ratio_integer::Integer;
@@ -94,14 +94,17 @@ fn codes_are(n: i8, d: i8, expected: &[i8]) -> bool {
 
 #[test]
 fn codes_over_i8(rt: HostRuntime) {
-    assert!(rt; codes_are(-128, -1, &[-128, -128, 0]));
-    assert!(rt; codes_are(127, -128, &[-1, -128, -128, 0]));
-    assert!(rt; codes_are(1, -128, &[-1, 1, 127, 0]));
-    assert!(rt; codes_are(-1, -128, &[0, -128, -128, 0]));
-    assert!(rt; codes_are(-7, 3, &[-3, 1, 2, 0]));
-    assert!(rt; codes_are(7, -3, &[-3, 1, 2, 0]));
-    assert!(rt; codes_are(0, -5, &[0, 0]));
-    assert!(rt; codes_are(-128, -128, &[1, 0]));
+    let facts = [
+        codes_are(-128, -1, &[-128, -128, 0]),
+        codes_are(127, -128, &[-1, -128, -128, 0]),
+        codes_are(1, -128, &[-1, 1, 127, 0]),
+        codes_are(-1, -128, &[0, -128, -128, 0]),
+        codes_are(-7, 3, &[-3, 1, 2, 0]),
+        codes_are(7, -3, &[-3, 1, 2, 0]),
+        codes_are(0, -5, &[0, 0]),
+        codes_are(-128, -128, &[1, 0]),
+    ];
+    each_holds(&rt, &facts);
 }
 
 fn long_codes_are(n: i64, d: i64, expected: &[i64]) -> bool {
@@ -110,9 +113,12 @@ fn long_codes_are(n: i64, d: i64, expected: &[i64]) -> bool {
 
 #[test]
 fn codes_over_i64(rt: HostRuntime) {
-    assert!(rt; long_codes_are(4, 2, &[2, 0]));
-    assert!(rt; long_codes_are(6, 3, &[2, 0]));
-    assert!(rt; long_codes_are(-4, -2, &[2, 0]));
-    assert!(rt; long_codes_are(89, 55, &[1, 1, 1, 1, 1, 1, 1, 1, 2, 0]));
-    assert!(rt; long_codes_are(i64::MIN, -1, &[i64::MIN, i64::MIN, 0]));
+    let facts = [
+        long_codes_are(4, 2, &[2, 0]),
+        long_codes_are(6, 3, &[2, 0]),
+        long_codes_are(-4, -2, &[2, 0]),
+        long_codes_are(89, 55, &[1, 1, 1, 1, 1, 1, 1, 1, 2, 0]),
+        long_codes_are(i64::MIN, -1, &[i64::MIN, i64::MIN, 0]),
+    ];
+    each_holds(&rt, &facts);
 }

@@ -2,6 +2,7 @@
 ghost use Rattle.std.specs.Prelude.{◌+ℤ◌, ◌-ℤ◌, ◌*ℤ◌, ◌<ℤ◌, pos, neg_ℤ};
 ghost use Rattle.ratio_integer.specs.Range.{IsHeld};
 
+use crate::asserting::each_holds;
 use ratio_integer::{Integer, Primitive, SignedInteger};
 
 /// The number, or -1 where `i128` does not hold it.
@@ -124,24 +125,34 @@ fn bits<T: Primitive>(_: T) -> u32 {
 
 #[test]
 fn integers(rt: HostRuntime) {
-    assert!(rt; answers_all(6i8, 4));
-    assert!(rt; answers_all(6i16, 4));
-    assert!(rt; answers_all(6i32, 4));
-    assert!(rt; answers_all(6i64, 4));
-    assert!(rt; answers_all(6i128, 4));
-    assert!(rt; answers_all(6isize, 4));
-    assert!(rt; answers_all(6u8, 4));
-    assert!(rt; answers_all(6u16, 4));
-    assert!(rt; answers_all(6u32, 4));
-    assert!(rt; answers_all(6u64, 4));
-    assert!(rt; answers_all(6u128, 4));
-    assert!(rt; answers_all(6usize, 4));
+    let facts = [
+        answers_all(6i8, 4),
+        answers_all(6i16, 4),
+        answers_all(6i32, 4),
+        answers_all(6i64, 4),
+        answers_all(6i128, 4),
+        answers_all(6isize, 4),
+        answers_all(6u8, 4),
+        answers_all(6u16, 4),
+        answers_all(6u32, 4),
+        answers_all(6u64, 4),
+        answers_all(6u128, 4),
+        answers_all(6usize, 4),
+    ];
+    each_holds(&rt, &facts);
 }
 
 #[test]
 fn signed_integers(rt: HostRuntime) {
-    assert!(rt; answers_signed(6i8) && answers_signed(6i16) && answers_signed(6i32));
-    assert!(rt; answers_signed(6i64) && answers_signed(6i128) && answers_signed(6isize));
+    let facts = [
+        answers_signed(6i8),
+        answers_signed(6i16),
+        answers_signed(6i32),
+        answers_signed(6i64),
+        answers_signed(6i128),
+        answers_signed(6isize),
+    ];
+    each_holds(&rt, &facts);
 }
 
 #[test]
@@ -162,5 +173,8 @@ fn widths(rt: HostRuntime) {
         bits(0u128),
         bits(0usize),
     ];
-    assert!(rt; signed == [8, 16, 32, 64, 128, 64] && unsigned == signed);
+    each_holds(
+        &rt,
+        &[signed == [8, 16, 32, 64, 128, 64], unsigned == signed],
+    );
 }

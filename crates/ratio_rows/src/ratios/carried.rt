@@ -1,7 +1,7 @@
 //! The values of the Rust crate's own tests, under the names that they have there: construction, access
 //! and comparison.
-use crate::asserting::{holds, is};
-use crate::ratios::forms::{self, fraction, raw};
+use crate::asserting::each_holds;
+use crate::ratios::forms::{self, fraction, has, raw};
 use crate::ratios::rows::reduced;
 use crate::ratios::texts::shown_as;
 use crate::recorder::Written;
@@ -80,19 +80,25 @@ fn equals(x: Rational64, others: &[Rational64]) -> bool {
 #[test]
 fn test_test_constants(rt: HostRuntime) {
     let [zero, one, two, half, three_halves, minus_half] = six();
-    assert!(rt; equals(zero.x, &[Ratio::ZERO, Ratio::from(0), new(0, 1)]));
-    assert!(rt; equals(one.x, &[Ratio::ONE, Ratio::from(1), new(1, 1)]));
-    assert!(rt; equals(two.x, &[Ratio::from(2), new(2, 1)]));
-    assert!(rt; equals(half.x, &[Ratio::new_raw(2, 4)]));
-    assert!(rt; equals(three_halves.x, &[Ratio::new_raw(6, 4)]));
-    assert!(rt; equals(minus_half.x, &[Ratio::new_raw(1, -2)]));
+    let facts = [
+        equals(zero.x, &[Ratio::ZERO, Ratio::from(0), new(0, 1)]),
+        equals(one.x, &[Ratio::ONE, Ratio::from(1), new(1, 1)]),
+        equals(two.x, &[Ratio::from(2), new(2, 1)]),
+        equals(half.x, &[Ratio::new_raw(2, 4)]),
+        equals(three_halves.x, &[Ratio::new_raw(6, 4)]),
+        equals(minus_half.x, &[Ratio::new_raw(1, -2)]),
+    ];
+    each_holds(&rt, &facts);
 }
 
 #[test]
 fn test_new_reduce(rt: HostRuntime) {
-    is(&rt, new(2i32, 2), 1, 1);
-    is(&rt, new(0, i32::MIN), 0, 1);
-    is(&rt, new(i32::MIN, i32::MIN), 1, 1);
+    let facts = [
+        has(new(2i32, 2), (1, 1)),
+        has(new(0, i32::MIN), (0, 1)),
+        has(new(i32::MIN, i32::MIN), (1, 1)),
+    ];
+    each_holds(&rt, &facts);
 }
 
 // Whether the second is above the first, by the operators that tell two fractions apart.
@@ -114,12 +120,16 @@ fn is_itself(x: Rational64) -> bool {
 fn test_cmp(rt: HostRuntime) {
     let zero = Rational64::zero();
     let one = Rational64::one();
-    assert!(rt; is_itself(zero) && is_itself(one));
-    assert!(rt; Rational64::new_raw(0, 2) == zero);
-    assert!(rt; is_below(zero, one));
-    assert!(rt; is_at_most(zero, one));
-    assert!(rt; zero.cmp(&one) == Ordering::Less);
-    assert!(rt; one.cmp(&zero) == Ordering::Greater);
+    let facts = [
+        is_itself(zero),
+        is_itself(one),
+        Rational64::new_raw(0, 2) == zero,
+        is_below(zero, one),
+        is_at_most(zero, one),
+        zero.cmp(&one) == Ordering::Less,
+        one.cmp(&zero) == Ordering::Greater,
+    ];
+    each_holds(&rt, &facts);
 }
 
 // The pair that a fraction with these fields gives.
@@ -132,9 +142,12 @@ fn pair_of(numer: i64, denom: i64) -> (i64, i64) {
 
 #[test]
 fn test_into_pair(rt: HostRuntime) {
-    holds(&rt, "0/1", pair_of(0, 1) == (0, 1));
-    holds(&rt, "-2/1", pair_of(-2, 1) == (-2, 1));
-    holds(&rt, "1/-2", pair_of(1, -2) == (1, -2));
+    let facts = [
+        pair_of(0, 1) == (0, 1),
+        pair_of(-2, 1) == (-2, 1),
+        pair_of(1, -2) == (1, -2),
+    ];
+    each_holds(&rt, &facts);
 }
 
 // The fraction of a pair, where `checked_new` answers.
@@ -147,40 +160,38 @@ fn from_pair(pair: (i64, i64)) -> Rational64 {
 
 #[test]
 fn test_from_pair(rt: HostRuntime) {
-    is(&rt, from_pair((0, 1)), 0, 1);
-    is(&rt, from_pair((1, 1)), 1, 1);
-    is(&rt, from_pair((-2, 1)), -2, 1);
-    is(&rt, from_pair((1, -2)), -1, 2);
+    let facts = [
+        has(from_pair((0, 1)), (0, 1)),
+        has(from_pair((1, 1)), (1, 1)),
+        has(from_pair((-2, 1)), (-2, 1)),
+        has(from_pair((1, -2)), (-1, 2)),
+    ];
+    each_holds(&rt, &facts);
 }
 
 #[test]
 fn test_num_zero(rt: HostRuntime) {
-    holds(&rt, "0", Rational64::zero().is_zero());
+    assert!(rt; Rational64::zero().is_zero());
     let mut x = fraction((123, 456));
-    holds(&rt, "not 0", !x.is_zero());
+    assert!(rt; !x.is_zero());
     let sum = forms::sum(x, Rational64::zero());
-    holds(
-        &rt,
-        "+ 0",
-        sum == Some((41, 152)) && x == Ratio::new_raw(41, 152),
-    );
+    each_holds(&rt, &[sum == Some((41, 152)), x == Ratio::new_raw(41, 152)]);
     x.set_zero();
-    holds(&rt, "becomes 0", x.is_zero());
+    assert!(rt; x.is_zero());
 }
 
 #[test]
 fn test_num_one(rt: HostRuntime) {
-    holds(&rt, "1", Rational64::one().is_one());
+    assert!(rt; Rational64::one().is_one());
     let mut x = fraction((123, 456));
-    holds(&rt, "not 1", !x.is_one());
+    assert!(rt; !x.is_one());
     let product = forms::product(x, Rational64::one());
-    holds(
+    each_holds(
         &rt,
-        "* 1",
-        product == Some((41, 152)) && x == Ratio::new_raw(41, 152),
+        &[product == Some((41, 152)), x == Ratio::new_raw(41, 152)],
     );
     x.set_one();
-    holds(&rt, "becomes 1", x.is_one());
+    assert!(rt; x.is_one());
 }
 
 // Whether a hasher receives the same of both.
@@ -195,25 +206,28 @@ fn write_alike(x: &Rational64, y: &Rational64) -> bool {
 #[test]
 fn test_hash(rt: HostRuntime) {
     let zero = Rational64::zero();
-    holds(&rt, "0 and 1", !write_alike(&zero, &Ratio::one()));
-    holds(&rt, "0 and 3/2", !write_alike(&zero, &new(3, 2)));
-    holds(
-        &rt,
-        "4/2 and 6/3",
+    let facts = [
+        !write_alike(&zero, &Ratio::one()),
+        !write_alike(&zero, &new(3, 2)),
         write_alike(&Ratio::new_raw(4, 2), &Ratio::new_raw(6, 3)),
-    );
+    ];
+    each_holds(&rt, &facts);
     let (x, y) = (
         Ratio::new_raw(123456789, 1000),
         Ratio::new_raw(617283945, 5000),
     );
-    holds(&rt, "thousandths", write_alike(&x, &y));
+    assert!(rt; write_alike(&x, &y));
 }
 
 #[test]
 fn test_const(rt: HostRuntime) {
     let x = Rational32::new_raw(123, 456);
-    holds(&rt, "fields", *x.numer() == 123 && *x.denom() == 456);
-    assert!(rt; reduced(*x.numer(), *x.denom()) == Some((41, 152)));
+    let facts = [
+        *x.numer() == 123,
+        *x.denom() == 456,
+        reduced(*x.numer(), *x.denom()) == Some((41, 152)),
+    ];
+    each_holds(&rt, &facts);
 }
 
 // Whether the base, and 1 over it, are printed so in the form of that base.
@@ -233,11 +247,14 @@ fn test_show(rt: HostRuntime) {
     let zero = shown_as(0i64, 1, Form::Decimal);
     let minus_two = shown_as(-2i64, 1, Form::Decimal);
     let row = InlineText::<40>::of(format_args!("{two} {half} {minus_half} {zero} {minus_two}"));
-    assert!(rt; row.as_str() == "2 1/2 -1/2 0 -2");
-    assert!(rt; shows_base(2, Form::Binary, "0000001/10", "0b001/0b10"));
-    assert!(rt; shows_base(8, Form::Octal, "0000001/10", "0o001/0o10"));
-    assert!(rt; shows_base(16, Form::LowerHex, "0000001/10", "0x001/0x10"));
-    assert!(rt; shows_base(16, Form::UpperHex, "0000001/10", "0x001/0x10"));
+    let facts = [
+        row.as_str() == "2 1/2 -1/2 0 -2",
+        shows_base(2, Form::Binary, "0000001/10", "0b001/0b10"),
+        shows_base(8, Form::Octal, "0000001/10", "0o001/0o10"),
+        shows_base(16, Form::LowerHex, "0000001/10", "0x001/0x10"),
+        shows_base(16, Form::UpperHex, "0000001/10", "0x001/0x10"),
+    ];
+    each_holds(&rt, &facts);
     let fifteen = shown_as(15i64, 1, Form::LowerHex);
     let none = shown_as(0i64, 1, Form::LowerHex);
     let row = InlineText::<40>::of(format_args!("{fifteen} {none}"));
@@ -256,12 +273,15 @@ fn is_text_of(text: &str, fraction: Rational64) -> bool {
 
 #[test]
 fn test_to_from_str(rt: HostRuntime) {
-    assert!(rt; is_text_of("1", new(1, 1)));
-    assert!(rt; is_text_of("0", new(0, 1)));
-    assert!(rt; is_text_of("1/2", new(1, 2)));
-    assert!(rt; is_text_of("3/2", new(3, 2)));
-    assert!(rt; is_text_of("2", new(2, 1)));
-    assert!(rt; is_text_of("-1/2", new(-1, 2)));
+    let facts = [
+        is_text_of("1", new(1, 1)),
+        is_text_of("0", new(0, 1)),
+        is_text_of("1/2", new(1, 2)),
+        is_text_of("3/2", new(3, 2)),
+        is_text_of("2", new(2, 1)),
+        is_text_of("-1/2", new(-1, 2)),
+    ];
+    each_holds(&rt, &facts);
 }
 
 fn refuses(text: &str) -> bool {
@@ -270,6 +290,14 @@ fn refuses(text: &str) -> bool {
 
 #[test]
 fn test_from_str_fail(rt: HostRuntime) {
-    assert!(rt; refuses("0 /1") && refuses("abc") && refuses("") && refuses("1/"));
-    assert!(rt; refuses("--1/2") && refuses("3/2/1") && refuses("1/0"));
+    let facts = [
+        refuses("0 /1"),
+        refuses("abc"),
+        refuses(""),
+        refuses("1/"),
+        refuses("--1/2"),
+        refuses("3/2/1"),
+        refuses("1/0"),
+    ];
+    each_holds(&rt, &facts);
 }

@@ -43,6 +43,14 @@ pub fn has<T: Integer>(x: Ratio<T>, fields: (T, T)) -> bool {
     x.into_raw() == fields
 }
 
+/// Whether the answer has these fields, or there is none.
+pub fn answers<T: Integer>(answer: Option<Ratio<T>>, want: Option<(T, T)>) -> bool {
+    match answer {
+        Some(x) => want == Some(x.into_raw()),
+        None => want.is_none(),
+    }
+}
+
 /// The fields of the sum, where the checked call answers it and every other form gives the same.
 pub(crate) fn sum<T: Integer, O: Operand<T> + Copy>(x: Ratio<T>, o: O) -> Option<(T, T)>
     requires left { pos 0 <ℤ denominator x }
@@ -62,10 +70,10 @@ fn every_sum<T: Integer, O: Operand<T> + Copy>(x: Ratio<T>, o: O, fields: (T, T)
 {
     let mut assigned = x;
     assigned += o;
-    has(x.add(o.ratio()), fields)
-        && has(x + o, fields)
-        && has(&x + o, fields)
-        && has(assigned, fields)
+    let named = has(x.add(o.ratio()), fields);
+    let by_value = has(x + o, fields);
+    let by_reference = has(&x + o, fields);
+    [named, by_value, by_reference, has(assigned, fields)] == [true; 4]
 }
 
 /// The same of the difference.
@@ -87,10 +95,10 @@ fn every_difference<T: Integer, O: Operand<T> + Copy>(x: Ratio<T>, o: O, fields:
 {
     let mut assigned = x;
     assigned -= o;
-    has(x.sub(o.ratio()), fields)
-        && has(x - o, fields)
-        && has(&x - o, fields)
-        && has(assigned, fields)
+    let named = has(x.sub(o.ratio()), fields);
+    let by_value = has(x - o, fields);
+    let by_reference = has(&x - o, fields);
+    [named, by_value, by_reference, has(assigned, fields)] == [true; 4]
 }
 
 /// The same of the product.
@@ -112,10 +120,10 @@ fn every_product<T: Integer, O: Operand<T> + Copy>(x: Ratio<T>, o: O, fields: (T
 {
     let mut assigned = x;
     assigned *= o;
-    has(x.mul(o.ratio()), fields)
-        && has(x * o, fields)
-        && has(&x * o, fields)
-        && has(assigned, fields)
+    let named = has(x.mul(o.ratio()), fields);
+    let by_value = has(x * o, fields);
+    let by_reference = has(&x * o, fields);
+    [named, by_value, by_reference, has(assigned, fields)] == [true; 4]
 }
 
 /// The same of the quotient.
@@ -137,10 +145,10 @@ fn every_quotient<T: Integer, O: Operand<T> + Copy>(x: Ratio<T>, o: O, fields: (
 {
     let mut assigned = x;
     assigned /= o;
-    has(x.div(o.ratio()), fields)
-        && has(x / o, fields)
-        && has(&x / o, fields)
-        && has(assigned, fields)
+    let named = has(x.div(o.ratio()), fields);
+    let by_value = has(x / o, fields);
+    let by_reference = has(&x / o, fields);
+    [named, by_value, by_reference, has(assigned, fields)] == [true; 4]
 }
 
 /// The same of the remainder.
@@ -162,8 +170,8 @@ fn every_remainder<T: Integer, O: Operand<T> + Copy>(x: Ratio<T>, o: O, fields: 
 {
     let mut assigned = x;
     assigned %= o;
-    has(x.rem(o.ratio()), fields)
-        && has(x % o, fields)
-        && has(&x % o, fields)
-        && has(assigned, fields)
+    let named = has(x.rem(o.ratio()), fields);
+    let by_value = has(x % o, fields);
+    let by_reference = has(&x % o, fields);
+    [named, by_value, by_reference, has(assigned, fields)] == [true; 4]
 }

@@ -3,7 +3,7 @@
 ghost use Rattle.std.specs.Prelude.{◌<ℤ◌, pos};
 ghost use Rattle.num_rational.specs.Ratio.{denominator};
 
-use crate::asserting::all_hold;
+use crate::asserting::{all_hold, each_holds};
 use crate::ratios::forms::{self, fraction};
 use num_rational::{Operand, Ratio, Reduced, ReducedOperand};
 use ratio_integer::{Integer, Primitive};
@@ -223,9 +223,9 @@ fn near_the_greatest<T: Primitive>(symbol: u8) -> bool {
     }
 }
 
-// The first of the twelve types at which they do not.
-fn first_wrong_type(symbol: u8) -> Option<usize> {
-    let types = [
+// Whether they hold at each of the twelve types.
+fn at_each_type(symbol: u8) -> [bool; 12] {
+    [
         near_the_greatest::<i8>(symbol),
         near_the_greatest::<u8>(symbol),
         near_the_greatest::<i16>(symbol),
@@ -238,38 +238,32 @@ fn first_wrong_type(symbol: u8) -> Option<usize> {
         near_the_greatest::<usize>(symbol),
         near_the_greatest::<i128>(symbol),
         near_the_greatest::<u128>(symbol),
-    ];
-    for (i, &is_right) in types.iter().enumerate() {
-        if !is_right {
-            return Some(i);
-        }
-    }
-    None
+    ]
 }
 
 #[test]
 fn test_add_overflow(rt: HostRuntime) {
-    all_hold(&rt, "types", first_wrong_type(b'+'));
+    each_holds(&rt, &at_each_type(b'+'));
 }
 
 #[test]
 fn test_sub_overflow(rt: HostRuntime) {
-    all_hold(&rt, "types", first_wrong_type(b'-'));
+    each_holds(&rt, &at_each_type(b'-'));
 }
 
 #[test]
 fn test_mul_overflow(rt: HostRuntime) {
-    all_hold(&rt, "types", first_wrong_type(b'*'));
+    each_holds(&rt, &at_each_type(b'*'));
 }
 
 #[test]
 fn test_div_overflow(rt: HostRuntime) {
-    all_hold(&rt, "types", first_wrong_type(b'/'));
+    each_holds(&rt, &at_each_type(b'/'));
 }
 
 #[test]
 fn test_rem_overflow(rt: HostRuntime) {
-    all_hold(&rt, "types", first_wrong_type(b'%'));
+    each_holds(&rt, &at_each_type(b'%'));
 }
 
 #[test]
@@ -400,6 +394,9 @@ fn where_32_bits_end(rt: HostRuntime) {
 #[test]
 fn where_64_bits_end(rt: HostRuntime) {
     let (least, most) = (i64::MIN, i64::MAX);
-    assert!(rt; holds((least, most), b'+', (least, most), None));
-    assert!(rt; holds((1, 1), b'/', (least, 1), None));
+    let facts = [
+        holds((least, most), b'+', (least, most), None),
+        holds((1, 1), b'/', (least, 1), None),
+    ];
+    each_holds(&rt, &facts);
 }

@@ -1,5 +1,5 @@
 //! Rows of reciprocals and powers, from outside.
-use crate::asserting::all_hold;
+use crate::asserting::{all_hold, each_holds};
 use crate::ratios::forms::positive;
 use num_rational::{Exponent, Ratio, Reduced};
 use num_traits::Inv;
@@ -102,31 +102,37 @@ fn power_holds<E: Exponent>(x: (i64, i64), e: E, want: Option<(i64, i64)>) -> bo
 
 #[test]
 fn every_exponent(rt: HostRuntime) {
-    assert!(rt; power_holds((1, 1), u128::MAX, Some((1, 1))));
-    assert!(rt; power_holds((-1, 1), i128::MIN, Some((1, 1))));
-    assert!(rt; power_holds((-1, 1), u128::MAX, Some((-1, 1))));
-    assert!(rt; power_holds((0, 1), u128::MAX, Some((0, 1))));
-    assert!(rt; power_holds((2, 1), u128::MAX, None));
-    assert!(rt; power_holds((3, 2), &3u8, Some((27, 8))));
-    assert!(rt; power_holds((3, 2), -3i8, Some((8, 27))));
-    assert!(rt; power_holds((3, 2), 3u16, Some((27, 8))));
-    assert!(rt; power_holds((3, 2), &-3i16, Some((8, 27))));
-    assert!(rt; power_holds((3, 2), 3u32, Some((27, 8))));
-    assert!(rt; power_holds((3, 2), 3u64, Some((27, 8))));
-    assert!(rt; power_holds((3, 2), -3i64, Some((8, 27))));
-    assert!(rt; power_holds((3, 2), 3usize, Some((27, 8))));
-    assert!(rt; power_holds((3, 2), -3isize, Some((8, 27))));
+    let facts = [
+        power_holds((1, 1), u128::MAX, Some((1, 1))),
+        power_holds((-1, 1), i128::MIN, Some((1, 1))),
+        power_holds((-1, 1), u128::MAX, Some((-1, 1))),
+        power_holds((0, 1), u128::MAX, Some((0, 1))),
+        power_holds((2, 1), u128::MAX, None),
+        power_holds((3, 2), &3u8, Some((27, 8))),
+        power_holds((3, 2), -3i8, Some((8, 27))),
+        power_holds((3, 2), 3u16, Some((27, 8))),
+        power_holds((3, 2), &-3i16, Some((8, 27))),
+        power_holds((3, 2), 3u32, Some((27, 8))),
+        power_holds((3, 2), 3u64, Some((27, 8))),
+        power_holds((3, 2), -3i64, Some((8, 27))),
+        power_holds((3, 2), 3usize, Some((27, 8))),
+        power_holds((3, 2), -3isize, Some((8, 27))),
+    ];
+    each_holds(&rt, &facts);
 }
 
 // The magnitudes of the least values, and whether these are below 0.
 #[test]
 fn magnitudes(rt: HostRuntime) {
-    assert!(rt; i32::MIN.magnitude() == 2147483648 && i32::MIN.is_below_zero());
+    each_holds(
+        &rt,
+        &[i32::MIN.magnitude() == 2147483648, i32::MIN.is_below_zero()],
+    );
     assert!(rt;
         i8::MIN.magnitude() == 128
             && i128::MIN.magnitude() == 170141183460469231731687303715884105728
     );
-    assert!(rt; !0u8.is_below_zero() && !(&7i64).is_below_zero());
+    each_holds(&rt, &[!0u8.is_below_zero(), !(&7i64).is_below_zero()]);
 }
 
 // The reciprocal of n/d by each call, and what n/d times it is.
@@ -155,10 +161,13 @@ fn has_reciprocal(n: i64, d: i64, want: (i64, i64)) -> bool {
 
 #[test]
 fn test_recip(rt: HostRuntime) {
-    assert!(rt; has_reciprocal(1, 1, (1, 1)));
-    assert!(rt; has_reciprocal(2, 1, (1, 2)));
-    assert!(rt; has_reciprocal(1, 2, (2, 1)));
-    assert!(rt; has_reciprocal(3, 2, (2, 3)));
-    assert!(rt; has_reciprocal(-1, 2, (-2, 1)));
-    assert!(rt; has_reciprocal(-2, 3, (-3, 2)));
+    let facts = [
+        has_reciprocal(1, 1, (1, 1)),
+        has_reciprocal(2, 1, (1, 2)),
+        has_reciprocal(1, 2, (2, 1)),
+        has_reciprocal(3, 2, (2, 3)),
+        has_reciprocal(-1, 2, (-2, 1)),
+        has_reciprocal(-2, 3, (-3, 2)),
+    ];
+    each_holds(&rt, &facts);
 }

@@ -1,5 +1,5 @@
 //! Rows of the rounding calls and of the numbers as machine integers, from outside.
-use crate::asserting::all_hold;
+use crate::asserting::{all_hold, each_holds};
 use crate::ratios::forms::positive;
 use num_rational::{Ratio, Reduced};
 use ratio_integer::Integer;
@@ -176,9 +176,12 @@ fn machine_holds<T: Integer>(n: T, d: T, want: Machine) -> bool {
 
 #[test]
 fn test_ratio_to_i64(rt: HostRuntime) {
-    assert!(rt; machine_holds(-31i64, 8, (Some(-3), Some(-3), None, None)));
-    assert!(rt; machine_holds(70i64, 14, (Some(5), Some(5), Some(5), Some(5))));
-    assert!(rt; machine_holds(-1i64, 2, (Some(0), Some(0), Some(0), Some(0))));
+    let facts = [
+        machine_holds(-31i64, 8, (Some(-3), Some(-3), None, None)),
+        machine_holds(70i64, 14, (Some(5), Some(5), Some(5), Some(5))),
+        machine_holds(-1i64, 2, (Some(0), Some(0), Some(0), Some(0))),
+    ];
+    each_holds(&rt, &facts);
     let most = 18446744073709551615u128;
     assert!(rt;
         machine_holds(

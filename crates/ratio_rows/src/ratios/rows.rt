@@ -1,9 +1,8 @@
 //! Rows of fields, from outside.
-use crate::asserting::{all_hold, holds, reads};
+use crate::asserting::{all_hold, each_holds};
 use num_rational::Ratio;
 use ratio_integer::Integer;
 use std::fmt::InlineText;
-use std::process::Abort;
 
 // The lowest terms by `new`, where `checked_new` answers.
 fn made<T: Integer>(n: T, d: T) -> Option<(T, T)> {
@@ -108,27 +107,32 @@ fn texts(rt: HostRuntime) {
 #[test]
 fn fields_alone_are_tested(rt: HostRuntime) {
     let x = Ratio::new_raw(4i8, 2);
-    holds(&rt, "4/2", !x.is_integer() && !x.is_one() && !x.is_zero());
+    each_holds(&rt, &[!x.is_integer(), !x.is_one(), !x.is_zero()]);
     let x = Ratio::new_raw(2i8, 2);
-    holds(&rt, "2/2", x.is_one() && !x.is_integer());
+    each_holds(&rt, &[x.is_one(), !x.is_integer()]);
     let x = Ratio::new_raw(0i8, -3);
-    holds(&rt, "0/-3", x.is_zero() && !x.is_one() && !x.is_integer());
-    holds(&rt, "kept", x.into_raw() == (0, -3));
+    let facts = [
+        x.is_zero(),
+        !x.is_one(),
+        !x.is_integer(),
+        x.into_raw() == (0, -3),
+    ];
+    each_holds(&rt, &facts);
 }
 
-fn refusal_reads(rt: &impl Abort, text: &str, want: &str) {
+// Whether the text is refused, and the refusal printed so.
+fn refusal_reads(text: &str, want: &str) -> bool {
     match Ratio::<i8>::from_str(text) {
-        Ok(_) => holds(rt, text, false),
-        Err(refusal) => reads(
-            rt,
-            InlineText::<40>::of(format_args!("{refusal}")).as_str(),
-            want,
-        ),
+        Ok(_) => false,
+        Err(refusal) => InlineText::<40>::of(format_args!("{refusal}")).as_str() == want,
     }
 }
 
 #[test]
 fn refusals_are_printed(rt: HostRuntime) {
-    refusal_reads(&rt, "1/x", "failed to parse integer");
-    refusal_reads(&rt, "1/0", "zero value denominator");
+    let facts = [
+        refusal_reads("1/x", "failed to parse integer"),
+        refusal_reads("1/0", "zero value denominator"),
+    ];
+    each_holds(&rt, &facts);
 }

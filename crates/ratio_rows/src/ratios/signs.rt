@@ -1,5 +1,5 @@
 //! Rows of the signs, and of the ends of a type in the order, from outside.
-use crate::asserting::all_hold;
+use crate::asserting::{all_hold, each_holds};
 use crate::ratios::forms::positive;
 use num_rational::Ratio;
 use ratio_integer::{Integer, SignedInteger};
@@ -66,12 +66,16 @@ fn test_signed(rt: HostRuntime) {
         ],
     );
     let least = Ratio::new_raw(-128i8, -1);
-    assert!(rt; least.signum().into_raw() == (1, 1) && least.abs().into_raw() == (-128, -1));
-    assert!(rt; positive_difference((3, 2), (1, 2)) == Some((1, 1)));
-    assert!(rt; positive_difference((1, 2), (3, 2)) == Some((0, 1)));
-    assert!(rt; positive_difference((1, 2), (2, 4)) == Some((0, 1)));
-    assert!(rt; positive_difference((i64::MIN, 1), (i64::MAX, 1)) == Some((0, 1)));
-    assert!(rt; positive_difference((i64::MAX, 1), (i64::MIN, 1)).is_none());
+    let facts = [
+        least.signum().into_raw() == (1, 1),
+        least.abs().into_raw() == (-128, -1),
+        positive_difference((3, 2), (1, 2)) == Some((1, 1)),
+        positive_difference((1, 2), (3, 2)) == Some((0, 1)),
+        positive_difference((1, 2), (2, 4)) == Some((0, 1)),
+        positive_difference((i64::MIN, 1), (i64::MAX, 1)) == Some((0, 1)),
+        positive_difference((i64::MAX, 1), (i64::MIN, 1)).is_none(),
+    ];
+    each_holds(&rt, &facts);
 }
 
 // The difference that is not below 0, where the checked one answers or the first is not above.

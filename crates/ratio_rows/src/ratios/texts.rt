@@ -1,5 +1,5 @@
 //! Rows of texts, read and printed, from outside.
-use crate::asserting::reads as reads_as;
+use crate::asserting::{each_holds, reads as reads_as};
 use crate::ratios::forms::raw;
 use num_rational::{Form, Ratio};
 use ratio_integer::Primitive;
@@ -21,14 +21,17 @@ fn reads<T: Primitive>(text: &str, radix: u32, want: Result<(T, T), u8>) -> bool
 
 #[test]
 fn texts_in_a_radix(rt: HostRuntime) {
-    assert!(rt; reads::<u8>("-0/1", 10, Err(1)));
-    assert!(rt; reads::<u8>("100000000/1", 2, Err(1)));
-    assert!(rt; reads::<i8>("+10/0x2", 16, Err(1)));
-    assert!(rt; reads::<i8>("z/0", 10, Err(1)));
-    assert!(rt; reads::<i8>("z/0", 36, Err(2)));
-    assert!(rt; reads::<i32>("5", 10, Err(1)));
-    assert!(rt; reads::<i32>("fF/-2", 16, Ok((-255, 2))));
-    assert!(rt; reads::<i32>("z/Z", 36, Ok((1, 1))));
+    let facts = [
+        reads::<u8>("-0/1", 10, Err(1)),
+        reads::<u8>("100000000/1", 2, Err(1)),
+        reads::<i8>("+10/0x2", 16, Err(1)),
+        reads::<i8>("z/0", 10, Err(1)),
+        reads::<i8>("z/0", 36, Err(2)),
+        reads::<i32>("5", 10, Err(1)),
+        reads::<i32>("fF/-2", 16, Ok((-255, 2))),
+        reads::<i32>("z/Z", 36, Ok((1, 1))),
+    ];
+    each_holds(&rt, &facts);
 }
 
 /// A fraction that is printed in a form, under the options of the hole that it stands in.

@@ -1,6 +1,6 @@
 // Erased from crates/ratio_rows/src/fields/printing.rt by rust/erase: not to be edited.
 //! Rows of printed fields, from outside.
-use crate::proved::ratio_rows::asserting::all_hold;
+use crate::proved::ratio_rows::asserting::{all_hold, each_holds};
 use crate::proved::ratio_core::Form;
 use crate::proved::ratio_core::text::text;
 use crate::proved::ratio_integer::Primitive;
@@ -50,8 +50,11 @@ fn is_decimal<T: Primitive>(numer: T, denom: T, want: &str) -> bool {
 
 #[test]
 fn fields_of_other_widths() {
-    assert!(is_decimal(1i8, -2, "1/-2"));
-    assert!(is_decimal(u64::MAX, 1, "18446744073709551615"));
+    let facts = [
+        is_decimal(1i8, -2, "1/-2"),
+        is_decimal(u64::MAX, 1, "18446744073709551615"),
+    ];
+    each_holds(&facts);
     let above = u64::MAX as u128 + 1;
     assert!(is_decimal(above, 1, "18446744073709551616"));
     let twice = "340282366920938463463374607431768211455/340282366920938463463374607431768211455";
@@ -62,13 +65,16 @@ fn fields_of_other_widths() {
 
 #[test]
 fn fields_in_other_bases() {
-    assert!(prints(-128i8, -1, Form::UpperHex, true, "0x80/0xFF"));
-    assert!(prints(-1i16, 1, Form::Octal, false, "177777"));
-    assert!(prints(1i8, -2, Form::Binary, false, "1/11111110"));
-    assert!(prints(-1i8, 2, Form::Binary, true, "0b11111111/0b10"));
-    assert!(prints(-1i8, 2, Form::Octal, true, "0o377/0o2"));
-    assert!(prints(1i64, 15, Form::UpperHex, false, "1/F"));
-    assert!(prints(0u8, 16, Form::LowerHex, true, "0x0/0x10"));
+    let facts = [
+        prints(-128i8, -1, Form::UpperHex, true, "0x80/0xFF"),
+        prints(-1i16, 1, Form::Octal, false, "177777"),
+        prints(1i8, -2, Form::Binary, false, "1/11111110"),
+        prints(-1i8, 2, Form::Binary, true, "0b11111111/0b10"),
+        prints(-1i8, 2, Form::Octal, true, "0o377/0o2"),
+        prints(1i64, 15, Form::UpperHex, false, "1/F"),
+        prints(0u8, 16, Form::LowerHex, true, "0x0/0x10"),
+    ];
+    each_holds(&facts);
     let least = "80000000000000000000000000000000";
     assert!(prints(i128::MIN, 1, Form::LowerHex, false, least));
     let longest = text(u128::MAX, u128::MAX, Form::Binary, true);

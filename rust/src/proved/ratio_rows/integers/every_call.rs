@@ -1,6 +1,7 @@
 // Erased from crates/ratio_rows/src/integers/every_call.rt by rust/erase: not to be edited.
 //! Each call once at each of the twelve types, through the bound: 6 and 4 have the same answers in all.
 
+use crate::proved::ratio_rows::asserting::each_holds;
 use crate::proved::ratio_integer::{Integer, Primitive, SignedInteger};
 
 /// The number, or -1 where `i128` does not hold it.
@@ -148,24 +149,34 @@ fn bits<T: Primitive>(_: T) -> u32 {
 
 #[test]
 fn integers() {
-    assert!(answers_all(6i8, 4));
-    assert!(answers_all(6i16, 4));
-    assert!(answers_all(6i32, 4));
-    assert!(answers_all(6i64, 4));
-    assert!(answers_all(6i128, 4));
-    assert!(answers_all(6isize, 4));
-    assert!(answers_all(6u8, 4));
-    assert!(answers_all(6u16, 4));
-    assert!(answers_all(6u32, 4));
-    assert!(answers_all(6u64, 4));
-    assert!(answers_all(6u128, 4));
-    assert!(answers_all(6usize, 4));
+    let facts = [
+        answers_all(6i8, 4),
+        answers_all(6i16, 4),
+        answers_all(6i32, 4),
+        answers_all(6i64, 4),
+        answers_all(6i128, 4),
+        answers_all(6isize, 4),
+        answers_all(6u8, 4),
+        answers_all(6u16, 4),
+        answers_all(6u32, 4),
+        answers_all(6u64, 4),
+        answers_all(6u128, 4),
+        answers_all(6usize, 4),
+    ];
+    each_holds(&facts);
 }
 
 #[test]
 fn signed_integers() {
-    assert!(answers_signed(6i8) && answers_signed(6i16) && answers_signed(6i32));
-    assert!(answers_signed(6i64) && answers_signed(6i128) && answers_signed(6isize));
+    let facts = [
+        answers_signed(6i8),
+        answers_signed(6i16),
+        answers_signed(6i32),
+        answers_signed(6i64),
+        answers_signed(6i128),
+        answers_signed(6isize),
+    ];
+    each_holds(&facts);
 }
 
 #[test]
@@ -186,5 +197,7 @@ fn widths() {
         bits(0u128),
         bits(0usize),
     ];
-    assert!(signed == [8, 16, 32, 64, 128, 64] && unsigned == signed);
+    each_holds(
+        &[signed == [8, 16, 32, 64, 128, 64], unsigned == signed],
+    );
 }

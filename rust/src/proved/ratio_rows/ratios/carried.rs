@@ -1,8 +1,8 @@
 // Erased from crates/ratio_rows/src/ratios/carried.rt by rust/erase: not to be edited.
 //! The values of the Rust crate's own tests, under the names that they have there: construction, access
 //! and comparison.
-use crate::proved::ratio_rows::asserting::{holds, is};
-use crate::proved::ratio_rows::ratios::forms::{self, fraction, raw};
+use crate::proved::ratio_rows::asserting::each_holds;
+use crate::proved::ratio_rows::ratios::forms::{self, fraction, has, raw};
 use crate::proved::ratio_rows::ratios::rows::reduced;
 use crate::proved::ratio_rows::ratios::texts::shown_as;
 use crate::proved::ratio_rows::recorder::Written;
@@ -85,19 +85,25 @@ fn equals(x: Rational64, others: &[Rational64]) -> bool {
 #[test]
 fn test_test_constants() {
     let [zero, one, two, half, three_halves, minus_half] = six();
-    assert!(equals(zero.x, &[Ratio::ZERO, Ratio::from(0), new(0, 1)]));
-    assert!(equals(one.x, &[Ratio::ONE, Ratio::from(1), new(1, 1)]));
-    assert!(equals(two.x, &[Ratio::from(2), new(2, 1)]));
-    assert!(equals(half.x, &[Ratio::new_raw(2, 4)]));
-    assert!(equals(three_halves.x, &[Ratio::new_raw(6, 4)]));
-    assert!(equals(minus_half.x, &[Ratio::new_raw(1, -2)]));
+    let facts = [
+        equals(zero.x, &[Ratio::ZERO, Ratio::from(0), new(0, 1)]),
+        equals(one.x, &[Ratio::ONE, Ratio::from(1), new(1, 1)]),
+        equals(two.x, &[Ratio::from(2), new(2, 1)]),
+        equals(half.x, &[Ratio::new_raw(2, 4)]),
+        equals(three_halves.x, &[Ratio::new_raw(6, 4)]),
+        equals(minus_half.x, &[Ratio::new_raw(1, -2)]),
+    ];
+    each_holds(&facts);
 }
 
 #[test]
 fn test_new_reduce() {
-    is(new(2i32, 2), 1, 1);
-    is(new(0, i32::MIN), 0, 1);
-    is(new(i32::MIN, i32::MIN), 1, 1);
+    let facts = [
+        has(new(2i32, 2), (1, 1)),
+        has(new(0, i32::MIN), (0, 1)),
+        has(new(i32::MIN, i32::MIN), (1, 1)),
+    ];
+    each_holds(&facts);
 }
 
 // Whether the second is above the first, by the operators that tell two fractions apart.
@@ -122,12 +128,16 @@ fn is_itself(x: Rational64) -> bool {
 fn test_cmp() {
     let zero = Rational64::zero();
     let one = Rational64::one();
-    assert!(is_itself(zero) && is_itself(one));
-    assert!(Rational64::new_raw(0, 2) == zero);
-    assert!(is_below(zero, one));
-    assert!(is_at_most(zero, one));
-    assert!(zero.cmp(&one) == Ordering::Less);
-    assert!(one.cmp(&zero) == Ordering::Greater);
+    let facts = [
+        is_itself(zero),
+        is_itself(one),
+        Rational64::new_raw(0, 2) == zero,
+        is_below(zero, one),
+        is_at_most(zero, one),
+        zero.cmp(&one) == Ordering::Less,
+        one.cmp(&zero) == Ordering::Greater,
+    ];
+    each_holds(&facts);
 }
 
 // The pair that a fraction with these fields gives.
@@ -141,9 +151,12 @@ fn pair_of(numer: i64, denom: i64) -> (i64, i64) {
 
 #[test]
 fn test_into_pair() {
-    holds("0/1", pair_of(0, 1) == (0, 1));
-    holds("-2/1", pair_of(-2, 1) == (-2, 1));
-    holds("1/-2", pair_of(1, -2) == (1, -2));
+    let facts = [
+        pair_of(0, 1) == (0, 1),
+        pair_of(-2, 1) == (-2, 1),
+        pair_of(1, -2) == (1, -2),
+    ];
+    each_holds(&facts);
 }
 
 // The fraction of a pair, where `checked_new` answers.
@@ -157,38 +170,37 @@ fn from_pair(pair: (i64, i64)) -> Rational64 {
 
 #[test]
 fn test_from_pair() {
-    is(from_pair((0, 1)), 0, 1);
-    is(from_pair((1, 1)), 1, 1);
-    is(from_pair((-2, 1)), -2, 1);
-    is(from_pair((1, -2)), -1, 2);
+    let facts = [
+        has(from_pair((0, 1)), (0, 1)),
+        has(from_pair((1, 1)), (1, 1)),
+        has(from_pair((-2, 1)), (-2, 1)),
+        has(from_pair((1, -2)), (-1, 2)),
+    ];
+    each_holds(&facts);
 }
 
 #[test]
 fn test_num_zero() {
-    holds("0", Rational64::zero().is_zero());
+    assert!(Rational64::zero().is_zero());
     let mut x = fraction((123, 456));
-    holds("not 0", !x.is_zero());
+    assert!(!x.is_zero());
     let sum = forms::sum(x, Rational64::zero());
-    holds(
-        "+ 0",
-        sum == Some((41, 152)) && x == Ratio::new_raw(41, 152),
-    );
+    each_holds(&[sum == Some((41, 152)), x == Ratio::new_raw(41, 152)]);
     x.set_zero();
-    holds("becomes 0", x.is_zero());
+    assert!(x.is_zero());
 }
 
 #[test]
 fn test_num_one() {
-    holds("1", Rational64::one().is_one());
+    assert!(Rational64::one().is_one());
     let mut x = fraction((123, 456));
-    holds("not 1", !x.is_one());
+    assert!(!x.is_one());
     let product = forms::product(x, Rational64::one());
-    holds(
-        "* 1",
-        product == Some((41, 152)) && x == Ratio::new_raw(41, 152),
+    each_holds(
+        &[product == Some((41, 152)), x == Ratio::new_raw(41, 152)],
     );
     x.set_one();
-    holds("becomes 1", x.is_one());
+    assert!(x.is_one());
 }
 
 // Whether a hasher receives the same of both.
@@ -204,24 +216,28 @@ fn write_alike(x: &Rational64, y: &Rational64) -> bool {
 #[test]
 fn test_hash() {
     let zero = Rational64::zero();
-    holds("0 and 1", !write_alike(&zero, &Ratio::one()));
-    holds("0 and 3/2", !write_alike(&zero, &new(3, 2)));
-    holds(
-        "4/2 and 6/3",
+    let facts = [
+        !write_alike(&zero, &Ratio::one()),
+        !write_alike(&zero, &new(3, 2)),
         write_alike(&Ratio::new_raw(4, 2), &Ratio::new_raw(6, 3)),
-    );
+    ];
+    each_holds(&facts);
     let (x, y) = (
         Ratio::new_raw(123456789, 1000),
         Ratio::new_raw(617283945, 5000),
     );
-    holds("thousandths", write_alike(&x, &y));
+    assert!(write_alike(&x, &y));
 }
 
 #[test]
 fn test_const() {
     let x = Rational32::new_raw(123, 456);
-    holds("fields", *x.numer() == 123 && *x.denom() == 456);
-    assert!(reduced(*x.numer(), *x.denom()) == Some((41, 152)));
+    let facts = [
+        *x.numer() == 123,
+        *x.denom() == 456,
+        reduced(*x.numer(), *x.denom()) == Some((41, 152)),
+    ];
+    each_holds(&facts);
 }
 
 // Whether the base, and 1 over it, are printed so in the form of that base.
@@ -242,11 +258,14 @@ fn test_show() {
     let zero = shown_as(0i64, 1, Form::Decimal);
     let minus_two = shown_as(-2i64, 1, Form::Decimal);
     let row = InlineText::<40>::of(format_args!("{two} {half} {minus_half} {zero} {minus_two}"));
-    assert!(row.as_str() == "2 1/2 -1/2 0 -2");
-    assert!(shows_base(2, Form::Binary, "0000001/10", "0b001/0b10"));
-    assert!(shows_base(8, Form::Octal, "0000001/10", "0o001/0o10"));
-    assert!(shows_base(16, Form::LowerHex, "0000001/10", "0x001/0x10"));
-    assert!(shows_base(16, Form::UpperHex, "0000001/10", "0x001/0x10"));
+    let facts = [
+        row.as_str() == "2 1/2 -1/2 0 -2",
+        shows_base(2, Form::Binary, "0000001/10", "0b001/0b10"),
+        shows_base(8, Form::Octal, "0000001/10", "0o001/0o10"),
+        shows_base(16, Form::LowerHex, "0000001/10", "0x001/0x10"),
+        shows_base(16, Form::UpperHex, "0000001/10", "0x001/0x10"),
+    ];
+    each_holds(&facts);
     let fifteen = shown_as(15i64, 1, Form::LowerHex);
     let none = shown_as(0i64, 1, Form::LowerHex);
     let row = InlineText::<40>::of(format_args!("{fifteen} {none}"));
@@ -266,12 +285,15 @@ fn is_text_of(text: &str, fraction: Rational64) -> bool {
 
 #[test]
 fn test_to_from_str() {
-    assert!(is_text_of("1", new(1, 1)));
-    assert!(is_text_of("0", new(0, 1)));
-    assert!(is_text_of("1/2", new(1, 2)));
-    assert!(is_text_of("3/2", new(3, 2)));
-    assert!(is_text_of("2", new(2, 1)));
-    assert!(is_text_of("-1/2", new(-1, 2)));
+    let facts = [
+        is_text_of("1", new(1, 1)),
+        is_text_of("0", new(0, 1)),
+        is_text_of("1/2", new(1, 2)),
+        is_text_of("3/2", new(3, 2)),
+        is_text_of("2", new(2, 1)),
+        is_text_of("-1/2", new(-1, 2)),
+    ];
+    each_holds(&facts);
 }
 
 #[inline]
@@ -281,6 +303,14 @@ fn refuses(text: &str) -> bool {
 
 #[test]
 fn test_from_str_fail() {
-    assert!(refuses("0 /1") && refuses("abc") && refuses("") && refuses("1/"));
-    assert!(refuses("--1/2") && refuses("3/2/1") && refuses("1/0"));
+    let facts = [
+        refuses("0 /1"),
+        refuses("abc"),
+        refuses(""),
+        refuses("1/"),
+        refuses("--1/2"),
+        refuses("3/2/1"),
+        refuses("1/0"),
+    ];
+    each_holds(&facts);
 }

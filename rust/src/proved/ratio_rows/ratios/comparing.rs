@@ -1,5 +1,6 @@
 // Erased from crates/ratio_rows/src/ratios/comparing.rt by rust/erase: not to be edited.
 //! Rows of the order and of the hash of fractions, from outside.
+use crate::proved::ratio_rows::asserting::each_holds;
 use crate::proved::ratio_rows::ratios::forms::raw;
 use crate::proved::ratio_rows::recorder::{Codes, Written};
 use crate::proved::num_rational::{Ratio, Steps};
@@ -10,17 +11,21 @@ use core::hash::Hash;
 // Whether each call that compares says that x stands so to y.
 #[inline]
 fn stand<T: Integer>(x: Ratio<T>, y: Ratio<T>, order: Ordering) -> bool {
-    x.cmp(&y) == order
-        && y.cmp(&x) == order.reverse()
-        && x.cmp_counted(&y, &mut Steps::new()) == order
-        && x.partial_cmp(&y) == Some(order)
-        && (x == y) == order.is_eq()
-        && (x != y) == order.is_ne()
-        && (x < y) == order.is_lt()
-        && (x <= y) == order.is_le()
-        && (x > y) == order.is_gt()
-        && (x >= y) == order.is_ge()
-        && x == x
+    let orders = [
+        x.cmp(&y) == order,
+        y.cmp(&x) == order.reverse(),
+        x.cmp_counted(&y, &mut Steps::new()) == order,
+        x.partial_cmp(&y) == Some(order),
+    ];
+    orders == [true; 4] && operators_say(x, y, order) && x == x
+}
+
+// The same of the operators.
+#[inline]
+fn operators_say<T: Integer>(x: Ratio<T>, y: Ratio<T>, order: Ordering) -> bool {
+    let said = [x == y, x != y, x < y, x <= y, x > y, x >= y];
+    let (eq, ne, lt) = (order.is_eq(), order.is_ne(), order.is_lt());
+    said == [eq, ne, lt, order.is_le(), order.is_gt(), order.is_ge()]
 }
 
 #[inline]
@@ -33,15 +38,18 @@ fn stands<T: Integer>(left: (T, T), right: (T, T), order: Ordering) -> bool {
 
 #[test]
 fn order_over_i8() {
-    assert!(stands((125i8, 127), (124, 125), Ordering::Less));
-    assert!(stands((1i8, -2), (1, 2), Ordering::Less));
-    assert!(stands((-128i8, -1), (127, 1), Ordering::Greater));
-    assert!(stands((-128i8, -1), (-128, -1), Ordering::Equal));
-    assert!(stands((-1i8, -128), (1, 127), Ordering::Less));
-    assert!(stands((127i8, -128), (-127, 127), Ordering::Greater));
-    assert!(stands((3i8, 7), (2, 7), Ordering::Greater));
-    assert!(stands((3i8, -7), (2, -7), Ordering::Less));
-    assert!(stands((0i8, 2), (0, -5), Ordering::Equal));
+    let facts = [
+        stands((125i8, 127), (124, 125), Ordering::Less),
+        stands((1i8, -2), (1, 2), Ordering::Less),
+        stands((-128i8, -1), (127, 1), Ordering::Greater),
+        stands((-128i8, -1), (-128, -1), Ordering::Equal),
+        stands((-1i8, -128), (1, 127), Ordering::Less),
+        stands((127i8, -128), (-127, 127), Ordering::Greater),
+        stands((3i8, 7), (2, 7), Ordering::Greater),
+        stands((3i8, -7), (2, -7), Ordering::Less),
+        stands((0i8, 2), (0, -5), Ordering::Equal),
+    ];
+    each_holds(&facts);
 }
 
 // Whether the rows at the ends of a signed type hold.
@@ -56,12 +64,15 @@ fn hold_at_the_ends<T: SignedInteger>(minus_one: T) -> bool {
 
 #[test]
 fn order_at_the_ends() {
-    assert!(hold_at_the_ends(-1i8));
-    assert!(hold_at_the_ends(-1i16));
-    assert!(hold_at_the_ends(-1i32));
-    assert!(hold_at_the_ends(-1i64));
-    assert!(hold_at_the_ends(-1i128));
-    assert!(hold_at_the_ends(-1isize));
+    let facts = [
+        hold_at_the_ends(-1i8),
+        hold_at_the_ends(-1i16),
+        hold_at_the_ends(-1i32),
+        hold_at_the_ends(-1i64),
+        hold_at_the_ends(-1i128),
+        hold_at_the_ends(-1isize),
+    ];
+    each_holds(&facts);
 }
 
 // Whether an empty list and a hasher receive these codes of x, and no other.
@@ -95,16 +106,19 @@ fn codes_of_64_bits(numer: i64, denom: i64, expected: &[i64]) -> bool {
 
 #[test]
 fn codes() {
-    assert!(codes_of_8_bits(-128, -1, &[-128, -128, 0]));
-    assert!(codes_of_8_bits(127, -128, &[-1, -128, -128, 0]));
-    assert!(codes_of_8_bits(1, -128, &[-1, 1, 127, 0]));
-    assert!(codes_of_8_bits(-1, -128, &[0, -128, -128, 0]));
-    assert!(codes_of_8_bits(-7, 3, &[-3, 1, 2, 0]));
-    assert!(codes_of_8_bits(7, -3, &[-3, 1, 2, 0]));
-    assert!(codes_of_8_bits(0, -5, &[0, 0]));
-    assert!(codes_of_8_bits(-128, -128, &[1, 0]));
-    assert!(codes_of_64_bits(4, 2, &[2, 0]));
-    assert!(codes_of_64_bits(6, 3, &[2, 0]));
-    assert!(codes_of_64_bits(-4, -2, &[2, 0]));
-    assert!(codes_of_64_bits(89, 55, &[1, 1, 1, 1, 1, 1, 1, 1, 2, 0]));
+    let facts = [
+        codes_of_8_bits(-128, -1, &[-128, -128, 0]),
+        codes_of_8_bits(127, -128, &[-1, -128, -128, 0]),
+        codes_of_8_bits(1, -128, &[-1, 1, 127, 0]),
+        codes_of_8_bits(-1, -128, &[0, -128, -128, 0]),
+        codes_of_8_bits(-7, 3, &[-3, 1, 2, 0]),
+        codes_of_8_bits(7, -3, &[-3, 1, 2, 0]),
+        codes_of_8_bits(0, -5, &[0, 0]),
+        codes_of_8_bits(-128, -128, &[1, 0]),
+        codes_of_64_bits(4, 2, &[2, 0]),
+        codes_of_64_bits(6, 3, &[2, 0]),
+        codes_of_64_bits(-4, -2, &[2, 0]),
+        codes_of_64_bits(89, 55, &[1, 1, 1, 1, 1, 1, 1, 1, 2, 0]),
+    ];
+    each_holds(&facts);
 }

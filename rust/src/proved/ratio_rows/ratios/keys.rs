@@ -1,5 +1,6 @@
 // Erased from crates/ratio_rows/src/ratios/keys.rt by rust/erase: not to be edited.
 //! Fractions as keys of maps.
+use crate::proved::ratio_rows::asserting::each_holds;
 use crate::proved::num_rational::Rational64;
 use std::collections::BTreeMap;
 use std::collections::HashMap;

@@ -2,7 +2,7 @@
 //! Rows of the five operators, by every form of each: the values of the Rust crate's own tests, under
 //! the names that they have there, and where a range ends.
 
-use crate::proved::ratio_rows::asserting::all_hold;
+use crate::proved::ratio_rows::asserting::{all_hold, each_holds};
 use crate::proved::ratio_rows::ratios::forms::{self, fraction};
 use crate::proved::num_rational::{Operand, Ratio, Reduced, ReducedOperand};
 use crate::proved::ratio_integer::{Integer, Primitive};
@@ -228,10 +228,10 @@ fn near_the_greatest<T: Primitive>(symbol: u8) -> bool {
     }
 }
 
-// The first of the twelve types at which they do not.
+// Whether they hold at each of the twelve types.
 #[inline]
-fn first_wrong_type(symbol: u8) -> Option<usize> {
-    let types = [
+fn at_each_type(symbol: u8) -> [bool; 12] {
+    [
         near_the_greatest::<i8>(symbol),
         near_the_greatest::<u8>(symbol),
         near_the_greatest::<i16>(symbol),
@@ -244,38 +244,32 @@ fn first_wrong_type(symbol: u8) -> Option<usize> {
         near_the_greatest::<usize>(symbol),
         near_the_greatest::<i128>(symbol),
         near_the_greatest::<u128>(symbol),
-    ];
-    for (i, &is_right) in types.iter().enumerate() {
-        if !is_right {
-            return Some(i);
-        }
-    }
-    None
+    ]
 }
 
 #[test]
 fn test_add_overflow() {
-    all_hold("types", first_wrong_type(b'+'));
+    each_holds(&at_each_type(b'+'));
 }
 
 #[test]
 fn test_sub_overflow() {
-    all_hold("types", first_wrong_type(b'-'));
+    each_holds(&at_each_type(b'-'));
 }
 
 #[test]
 fn test_mul_overflow() {
-    all_hold("types", first_wrong_type(b'*'));
+    each_holds(&at_each_type(b'*'));
 }
 
 #[test]
 fn test_div_overflow() {
-    all_hold("types", first_wrong_type(b'/'));
+    each_holds(&at_each_type(b'/'));
 }
 
 #[test]
 fn test_rem_overflow() {
-    all_hold("types", first_wrong_type(b'%'));
+    each_holds(&at_each_type(b'%'));
 }
 
 #[test]
@@ -402,6 +396,9 @@ fn where_32_bits_end() {
 #[test]
 fn where_64_bits_end() {
     let (least, most) = (i64::MIN, i64::MAX);
-    assert!(holds((least, most), b'+', (least, most), None));
-    assert!(holds((1, 1), b'/', (least, 1), None));
+    let facts = [
+        holds((least, most), b'+', (least, most), None),
+        holds((1, 1), b'/', (least, 1), None),
+    ];
+    each_holds(&facts);
 }

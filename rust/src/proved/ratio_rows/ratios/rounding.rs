@@ -1,6 +1,6 @@
 // Erased from crates/ratio_rows/src/ratios/rounding.rt by rust/erase: not to be edited.
 //! Rows of the rounding calls and of the numbers as machine integers, from outside.
-use crate::proved::ratio_rows::asserting::all_hold;
+use crate::proved::ratio_rows::asserting::{all_hold, each_holds};
 use crate::proved::ratio_rows::ratios::forms::positive;
 use crate::proved::num_rational::{Ratio, Reduced};
 use crate::proved::ratio_integer::Integer;
@@ -181,9 +181,12 @@ fn machine_holds<T: Integer>(n: T, d: T, want: Machine) -> bool {
 
 #[test]
 fn test_ratio_to_i64() {
-    assert!(machine_holds(-31i64, 8, (Some(-3), Some(-3), None, None)));
-    assert!(machine_holds(70i64, 14, (Some(5), Some(5), Some(5), Some(5))));
-    assert!(machine_holds(-1i64, 2, (Some(0), Some(0), Some(0), Some(0))));
+    let facts = [
+        machine_holds(-31i64, 8, (Some(-3), Some(-3), None, None)),
+        machine_holds(70i64, 14, (Some(5), Some(5), Some(5), Some(5))),
+        machine_holds(-1i64, 2, (Some(0), Some(0), Some(0), Some(0))),
+    ];
+    each_holds(&facts);
     let most = 18446744073709551615u128;
     assert!(
         machine_holds(

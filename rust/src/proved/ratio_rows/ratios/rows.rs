@@ -1,6 +1,6 @@
 // Erased from crates/ratio_rows/src/ratios/rows.rt by rust/erase: not to be edited.
 //! Rows of fields, from outside.
-use crate::proved::ratio_rows::asserting::{all_hold, holds, reads};
+use crate::proved::ratio_rows::asserting::{all_hold, each_holds};
 use crate::proved::num_rational::Ratio;
 use crate::proved::ratio_integer::Integer;
 use crate::test_support::InlineText;
@@ -115,27 +115,33 @@ fn texts() {
 #[test]
 fn fields_alone_are_tested() {
     let x = Ratio::new_raw(4i8, 2);
-    holds("4/2", !x.is_integer() && !x.is_one() && !x.is_zero());
+    each_holds(&[!x.is_integer(), !x.is_one(), !x.is_zero()]);
     let x = Ratio::new_raw(2i8, 2);
-    holds("2/2", x.is_one() && !x.is_integer());
+    each_holds(&[x.is_one(), !x.is_integer()]);
     let x = Ratio::new_raw(0i8, -3);
-    holds("0/-3", x.is_zero() && !x.is_one() && !x.is_integer());
-    holds("kept", x.into_raw() == (0, -3));
+    let facts = [
+        x.is_zero(),
+        !x.is_one(),
+        !x.is_integer(),
+        x.into_raw() == (0, -3),
+    ];
+    each_holds(&facts);
 }
 
+// Whether the text is refused, and the refusal printed so.
 #[inline]
-fn refusal_reads(text: &str, want: &str) {
+fn refusal_reads(text: &str, want: &str) -> bool {
     match Ratio::<i8>::from_str(text) {
-        Ok(_) => holds(text, false),
-        Err(refusal) => reads(
-            InlineText::<40>::of(format_args!("{refusal}")).as_str(),
-            want,
-        ),
+        Ok(_) => false,
+        Err(refusal) => InlineText::<40>::of(format_args!("{refusal}")).as_str() == want,
     }
 }
 
 #[test]
 fn refusals_are_printed() {
-    refusal_reads("1/x", "failed to parse integer");
-    refusal_reads("1/0", "zero value denominator");
+    let facts = [
+        refusal_reads("1/x", "failed to parse integer"),
+        refusal_reads("1/0", "zero value denominator"),
+    ];
+    each_holds(&facts);
 }

@@ -1,6 +1,6 @@
 // Erased from crates/ratio_rows/src/ratios/signs.rt by rust/erase: not to be edited.
 //! Rows of the signs, and of the ends of a type in the order, from outside.
-use crate::proved::ratio_rows::asserting::all_hold;
+use crate::proved::ratio_rows::asserting::{all_hold, each_holds};
 use crate::proved::ratio_rows::ratios::forms::positive;
 use crate::proved::num_rational::Ratio;
 use crate::proved::ratio_integer::{Integer, SignedInteger};
@@ -67,12 +67,16 @@ fn test_signed() {
         ],
     );
     let least = Ratio::new_raw(-128i8, -1);
-    assert!(least.signum().into_raw() == (1, 1) && least.abs().into_raw() == (-128, -1));
-    assert!(positive_difference((3, 2), (1, 2)) == Some((1, 1)));
-    assert!(positive_difference((1, 2), (3, 2)) == Some((0, 1)));
-    assert!(positive_difference((1, 2), (2, 4)) == Some((0, 1)));
-    assert!(positive_difference((i64::MIN, 1), (i64::MAX, 1)) == Some((0, 1)));
-    assert!(positive_difference((i64::MAX, 1), (i64::MIN, 1)).is_none());
+    let facts = [
+        least.signum().into_raw() == (1, 1),
+        least.abs().into_raw() == (-128, -1),
+        positive_difference((3, 2), (1, 2)) == Some((1, 1)),
+        positive_difference((1, 2), (3, 2)) == Some((0, 1)),
+        positive_difference((1, 2), (2, 4)) == Some((0, 1)),
+        positive_difference((i64::MIN, 1), (i64::MAX, 1)) == Some((0, 1)),
+        positive_difference((i64::MAX, 1), (i64::MIN, 1)).is_none(),
+    ];
+    each_holds(&facts);
 }
 
 // The difference that is not below 0, where the checked one answers or the first is not above.

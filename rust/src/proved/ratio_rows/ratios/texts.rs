@@ -1,6 +1,6 @@
 // Erased from crates/ratio_rows/src/ratios/texts.rt by rust/erase: not to be edited.
 //! Rows of texts, read and printed, from outside.
-use crate::proved::ratio_rows::asserting::reads as reads_as;
+use crate::proved::ratio_rows::asserting::{each_holds, reads as reads_as};
 use crate::proved::ratio_rows::ratios::forms::raw;
 use crate::proved::num_rational::{Form, Ratio};
 use crate::proved::ratio_integer::Primitive;
@@ -29,14 +29,17 @@ fn reads<T: Primitive>(text: &str, radix: u32, want: Result<(T, T), u8>) -> bool
 
 #[test]
 fn texts_in_a_radix() {
-    assert!(reads::<u8>("-0/1", 10, Err(1)));
-    assert!(reads::<u8>("100000000/1", 2, Err(1)));
-    assert!(reads::<i8>("+10/0x2", 16, Err(1)));
-    assert!(reads::<i8>("z/0", 10, Err(1)));
-    assert!(reads::<i8>("z/0", 36, Err(2)));
-    assert!(reads::<i32>("5", 10, Err(1)));
-    assert!(reads::<i32>("fF/-2", 16, Ok((-255, 2))));
-    assert!(reads::<i32>("z/Z", 36, Ok((1, 1))));
+    let facts = [
+        reads::<u8>("-0/1", 10, Err(1)),
+        reads::<u8>("100000000/1", 2, Err(1)),
+        reads::<i8>("+10/0x2", 16, Err(1)),
+        reads::<i8>("z/0", 10, Err(1)),
+        reads::<i8>("z/0", 36, Err(2)),
+        reads::<i32>("5", 10, Err(1)),
+        reads::<i32>("fF/-2", 16, Ok((-255, 2))),
+        reads::<i32>("z/Z", 36, Ok((1, 1))),
+    ];
+    each_holds(&facts);
 }
 
 /// A fraction that is printed in a form, under the options of the hole that it stands in.

@@ -58,19 +58,25 @@ pub(crate) fn sum<T: Integer, O: Operand<T> + Copy>(x: Ratio<T>, o: O) -> Option
 {
     let y = o.ratio();
     let fields = x.checked_add(&y)?.into_raw();
-    if every_sum(x, o, fields) {
+    if every_sum(x, y, o, fields) {
         Some(fields)
     } else {
         None
     }
 }
 
-fn every_sum<T: Integer, O: Operand<T> + Copy>(x: Ratio<T>, o: O, fields: (T, T)) -> bool
-    requires { CanAdd T.EXACT_SUMS T.lo T.hi (numbers x) (O.pair o) }
+fn every_sum<T: Integer, O: Operand<T> + Copy>(
+    x: Ratio<T>,
+    y: Ratio<T>,
+    o: O,
+    fields: (T, T),
+) -> bool
+    requires named { CanAdd T.EXACT_SUMS T.lo T.hi (numbers x) (numbers y) }
+    requires operand { CanAdd T.EXACT_SUMS T.lo T.hi (numbers x) (O.pair o) }
 {
     let mut assigned = x;
     assigned += o;
-    let named = has(x.add(o.ratio()), fields);
+    let named = has(x.add(y), fields);
     let by_value = has(x + o, fields);
     let by_reference = has(&x + o, fields);
     [named, by_value, by_reference, has(assigned, fields)] == [true; 4]
@@ -83,19 +89,25 @@ pub(crate) fn difference<T: Integer, O: Operand<T> + Copy>(x: Ratio<T>, o: O) ->
 {
     let y = o.ratio();
     let fields = x.checked_sub(&y)?.into_raw();
-    if every_difference(x, o, fields) {
+    if every_difference(x, y, o, fields) {
         Some(fields)
     } else {
         None
     }
 }
 
-fn every_difference<T: Integer, O: Operand<T> + Copy>(x: Ratio<T>, o: O, fields: (T, T)) -> bool
-    requires { CanSubtract T.EXACT_SUMS T.lo T.hi (numbers x) (O.pair o) }
+fn every_difference<T: Integer, O: Operand<T> + Copy>(
+    x: Ratio<T>,
+    y: Ratio<T>,
+    o: O,
+    fields: (T, T),
+) -> bool
+    requires named { CanSubtract T.EXACT_SUMS T.lo T.hi (numbers x) (numbers y) }
+    requires operand { CanSubtract T.EXACT_SUMS T.lo T.hi (numbers x) (O.pair o) }
 {
     let mut assigned = x;
     assigned -= o;
-    let named = has(x.sub(o.ratio()), fields);
+    let named = has(x.sub(y), fields);
     let by_value = has(x - o, fields);
     let by_reference = has(&x - o, fields);
     [named, by_value, by_reference, has(assigned, fields)] == [true; 4]
@@ -108,19 +120,25 @@ pub(crate) fn product<T: Integer, O: Operand<T> + Copy>(x: Ratio<T>, o: O) -> Op
 {
     let y = o.ratio();
     let fields = x.checked_mul(&y)?.into_raw();
-    if every_product(x, o, fields) {
+    if every_product(x, y, o, fields) {
         Some(fields)
     } else {
         None
     }
 }
 
-fn every_product<T: Integer, O: Operand<T> + Copy>(x: Ratio<T>, o: O, fields: (T, T)) -> bool
-    requires { CanMultiply T.lo T.hi (numbers x) (O.pair o) }
+fn every_product<T: Integer, O: Operand<T> + Copy>(
+    x: Ratio<T>,
+    y: Ratio<T>,
+    o: O,
+    fields: (T, T),
+) -> bool
+    requires named { CanMultiply T.lo T.hi (numbers x) (numbers y) }
+    requires operand { CanMultiply T.lo T.hi (numbers x) (O.pair o) }
 {
     let mut assigned = x;
     assigned *= o;
-    let named = has(x.mul(o.ratio()), fields);
+    let named = has(x.mul(y), fields);
     let by_value = has(x * o, fields);
     let by_reference = has(&x * o, fields);
     [named, by_value, by_reference, has(assigned, fields)] == [true; 4]
@@ -133,19 +151,25 @@ pub(crate) fn quotient<T: Integer, O: Operand<T> + Copy>(x: Ratio<T>, o: O) -> O
 {
     let y = o.ratio();
     let fields = x.checked_div(&y)?.into_raw();
-    if every_quotient(x, o, fields) {
+    if every_quotient(x, y, o, fields) {
         Some(fields)
     } else {
         None
     }
 }
 
-fn every_quotient<T: Integer, O: Operand<T> + Copy>(x: Ratio<T>, o: O, fields: (T, T)) -> bool
-    requires { CanDivide T.lo T.hi (numbers x) (O.pair o) }
+fn every_quotient<T: Integer, O: Operand<T> + Copy>(
+    x: Ratio<T>,
+    y: Ratio<T>,
+    o: O,
+    fields: (T, T),
+) -> bool
+    requires named { CanDivide T.lo T.hi (numbers x) (numbers y) }
+    requires operand { CanDivide T.lo T.hi (numbers x) (O.pair o) }
 {
     let mut assigned = x;
     assigned /= o;
-    let named = has(x.div(o.ratio()), fields);
+    let named = has(x.div(y), fields);
     let by_value = has(x / o, fields);
     let by_reference = has(&x / o, fields);
     [named, by_value, by_reference, has(assigned, fields)] == [true; 4]
@@ -158,19 +182,25 @@ pub(crate) fn remainder<T: Integer, O: Operand<T> + Copy>(x: Ratio<T>, o: O) -> 
 {
     let y = o.ratio();
     let fields = x.checked_rem(&y)?.into_raw();
-    if every_remainder(x, o, fields) {
+    if every_remainder(x, y, o, fields) {
         Some(fields)
     } else {
         None
     }
 }
 
-fn every_remainder<T: Integer, O: Operand<T> + Copy>(x: Ratio<T>, o: O, fields: (T, T)) -> bool
-    requires { CanTakeRemainder T.lo T.hi (numbers x) (O.pair o) }
+fn every_remainder<T: Integer, O: Operand<T> + Copy>(
+    x: Ratio<T>,
+    y: Ratio<T>,
+    o: O,
+    fields: (T, T),
+) -> bool
+    requires named { CanTakeRemainder T.lo T.hi (numbers x) (numbers y) }
+    requires operand { CanTakeRemainder T.lo T.hi (numbers x) (O.pair o) }
 {
     let mut assigned = x;
     assigned %= o;
-    let named = has(x.rem(o.ratio()), fields);
+    let named = has(x.rem(y), fields);
     let by_value = has(x % o, fields);
     let by_reference = has(&x % o, fields);
     [named, by_value, by_reference, has(assigned, fields)] == [true; 4]

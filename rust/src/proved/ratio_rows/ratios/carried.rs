@@ -21,53 +21,37 @@ fn new<T: Integer>(n: T, d: T) -> Ratio<T> {
     }
 }
 
-// A fraction and its fields.
-#[derive(Clone, Copy)]
-struct Made {
-    x: Rational64,
-    numer: i64,
-    denom: i64,
-}
-
+// 0, 1, 2, 1/2, 3/2 and -1/2, each made by a call of its own, and their fields.
 #[inline]
-fn entry(x: Rational64, numer: i64, denom: i64) -> Made {
-    Made { x, numer, denom }
-}
-
-// 0, 1, 2, 1/2, 3/2 and -1/2, each made by a call of its own.
-#[inline]
-fn six() -> [Made; 6] {
+fn six() -> [(Rational64, i64, i64); 6] {
     [
-        entry(Rational64::zero(), 0, 1),
-        entry(Rational64::one(), 1, 1),
-        entry(Rational64::from_integer(2), 2, 1),
-        entry(new(1, 2), 1, 2),
-        entry(new(3, 2), 3, 2),
-        entry(new(-1, 2), -1, 2),
+        (Rational64::zero(), 0, 1),
+        (Rational64::one(), 1, 1),
+        (Rational64::from_integer(2), 2, 1),
+        (new(1, 2), 1, 2),
+        (new(3, 2), 3, 2),
+        (new(-1, 2), -1, 2),
     ]
 }
 
 #[test]
 fn test_numer() {
-    let rows = six();
-    for row in &rows {
-        assert!(*row.x.numer() == row.numer);
+    for (x, numer, _) in six() {
+        assert!(*x.numer() == numer);
     }
 }
 
 #[test]
 fn test_denom() {
-    let rows = six();
-    for row in &rows {
-        assert!(*row.x.denom() == row.denom);
+    for (x, _, denom) in six() {
+        assert!(*x.denom() == denom);
     }
 }
 
 #[test]
 fn test_is_integer() {
-    let rows = six();
-    for row in &rows {
-        assert!(row.x.is_integer() == (row.denom == 1));
+    for (x, _, denom) in six() {
+        assert!(x.is_integer() == (denom == 1));
     }
 }
 
@@ -86,12 +70,12 @@ fn equals(x: Rational64, others: &[Rational64]) -> bool {
 fn test_test_constants() {
     let [zero, one, two, half, three_halves, minus_half] = six();
     let facts = [
-        equals(zero.x, &[Ratio::ZERO, Ratio::from(0), new(0, 1)]),
-        equals(one.x, &[Ratio::ONE, Ratio::from(1), new(1, 1)]),
-        equals(two.x, &[Ratio::from(2), new(2, 1)]),
-        equals(half.x, &[Ratio::new_raw(2, 4)]),
-        equals(three_halves.x, &[Ratio::new_raw(6, 4)]),
-        equals(minus_half.x, &[Ratio::new_raw(1, -2)]),
+        equals(zero.0, &[Ratio::ZERO, Ratio::from(0), new(0, 1)]),
+        equals(one.0, &[Ratio::ONE, Ratio::from(1), new(1, 1)]),
+        equals(two.0, &[Ratio::from(2), new(2, 1)]),
+        equals(half.0, &[Ratio::new_raw(2, 4)]),
+        equals(three_halves.0, &[Ratio::new_raw(6, 4)]),
+        equals(minus_half.0, &[Ratio::new_raw(1, -2)]),
     ];
     each_holds(&facts);
 }

@@ -62,7 +62,7 @@ pub fn answers<T: Integer>(answer: Option<Ratio<T>>, want: Option<(T, T)>) -> bo
 pub(crate) fn sum<T: Integer, O: Operand<T> + Copy>(x: Ratio<T>, o: O) -> Option<(T, T)> {
     let y = o.ratio();
     let fields = x.checked_add(&y)?.into_raw();
-    if every_sum(x, o, fields) {
+    if every_sum(x, y, o, fields) {
         Some(fields)
     } else {
         None
@@ -70,10 +70,15 @@ pub(crate) fn sum<T: Integer, O: Operand<T> + Copy>(x: Ratio<T>, o: O) -> Option
 }
 
 #[inline]
-fn every_sum<T: Integer, O: Operand<T> + Copy>(x: Ratio<T>, o: O, fields: (T, T)) -> bool {
+fn every_sum<T: Integer, O: Operand<T> + Copy>(
+    x: Ratio<T>,
+    y: Ratio<T>,
+    o: O,
+    fields: (T, T),
+) -> bool {
     let mut assigned = x;
     assigned += o;
-    let named = has(x.add(o.ratio()), fields);
+    let named = has(x.add(y), fields);
     let by_value = has(x + o, fields);
     let by_reference = has(&x + o, fields);
     [named, by_value, by_reference, has(assigned, fields)] == [true; 4]
@@ -91,7 +96,7 @@ fn every_sum<T: Integer, O: Operand<T> + Copy>(x: Ratio<T>, o: O, fields: (T, T)
 pub(crate) fn difference<T: Integer, O: Operand<T> + Copy>(x: Ratio<T>, o: O) -> Option<(T, T)> {
     let y = o.ratio();
     let fields = x.checked_sub(&y)?.into_raw();
-    if every_difference(x, o, fields) {
+    if every_difference(x, y, o, fields) {
         Some(fields)
     } else {
         None
@@ -99,10 +104,15 @@ pub(crate) fn difference<T: Integer, O: Operand<T> + Copy>(x: Ratio<T>, o: O) ->
 }
 
 #[inline]
-fn every_difference<T: Integer, O: Operand<T> + Copy>(x: Ratio<T>, o: O, fields: (T, T)) -> bool {
+fn every_difference<T: Integer, O: Operand<T> + Copy>(
+    x: Ratio<T>,
+    y: Ratio<T>,
+    o: O,
+    fields: (T, T),
+) -> bool {
     let mut assigned = x;
     assigned -= o;
-    let named = has(x.sub(o.ratio()), fields);
+    let named = has(x.sub(y), fields);
     let by_value = has(x - o, fields);
     let by_reference = has(&x - o, fields);
     [named, by_value, by_reference, has(assigned, fields)] == [true; 4]
@@ -120,7 +130,7 @@ fn every_difference<T: Integer, O: Operand<T> + Copy>(x: Ratio<T>, o: O, fields:
 pub(crate) fn product<T: Integer, O: Operand<T> + Copy>(x: Ratio<T>, o: O) -> Option<(T, T)> {
     let y = o.ratio();
     let fields = x.checked_mul(&y)?.into_raw();
-    if every_product(x, o, fields) {
+    if every_product(x, y, o, fields) {
         Some(fields)
     } else {
         None
@@ -128,10 +138,15 @@ pub(crate) fn product<T: Integer, O: Operand<T> + Copy>(x: Ratio<T>, o: O) -> Op
 }
 
 #[inline]
-fn every_product<T: Integer, O: Operand<T> + Copy>(x: Ratio<T>, o: O, fields: (T, T)) -> bool {
+fn every_product<T: Integer, O: Operand<T> + Copy>(
+    x: Ratio<T>,
+    y: Ratio<T>,
+    o: O,
+    fields: (T, T),
+) -> bool {
     let mut assigned = x;
     assigned *= o;
-    let named = has(x.mul(o.ratio()), fields);
+    let named = has(x.mul(y), fields);
     let by_value = has(x * o, fields);
     let by_reference = has(&x * o, fields);
     [named, by_value, by_reference, has(assigned, fields)] == [true; 4]
@@ -149,7 +164,7 @@ fn every_product<T: Integer, O: Operand<T> + Copy>(x: Ratio<T>, o: O, fields: (T
 pub(crate) fn quotient<T: Integer, O: Operand<T> + Copy>(x: Ratio<T>, o: O) -> Option<(T, T)> {
     let y = o.ratio();
     let fields = x.checked_div(&y)?.into_raw();
-    if every_quotient(x, o, fields) {
+    if every_quotient(x, y, o, fields) {
         Some(fields)
     } else {
         None
@@ -157,10 +172,15 @@ pub(crate) fn quotient<T: Integer, O: Operand<T> + Copy>(x: Ratio<T>, o: O) -> O
 }
 
 #[inline]
-fn every_quotient<T: Integer, O: Operand<T> + Copy>(x: Ratio<T>, o: O, fields: (T, T)) -> bool {
+fn every_quotient<T: Integer, O: Operand<T> + Copy>(
+    x: Ratio<T>,
+    y: Ratio<T>,
+    o: O,
+    fields: (T, T),
+) -> bool {
     let mut assigned = x;
     assigned /= o;
-    let named = has(x.div(o.ratio()), fields);
+    let named = has(x.div(y), fields);
     let by_value = has(x / o, fields);
     let by_reference = has(&x / o, fields);
     [named, by_value, by_reference, has(assigned, fields)] == [true; 4]
@@ -178,7 +198,7 @@ fn every_quotient<T: Integer, O: Operand<T> + Copy>(x: Ratio<T>, o: O, fields: (
 pub(crate) fn remainder<T: Integer, O: Operand<T> + Copy>(x: Ratio<T>, o: O) -> Option<(T, T)> {
     let y = o.ratio();
     let fields = x.checked_rem(&y)?.into_raw();
-    if every_remainder(x, o, fields) {
+    if every_remainder(x, y, o, fields) {
         Some(fields)
     } else {
         None
@@ -186,10 +206,15 @@ pub(crate) fn remainder<T: Integer, O: Operand<T> + Copy>(x: Ratio<T>, o: O) -> 
 }
 
 #[inline]
-fn every_remainder<T: Integer, O: Operand<T> + Copy>(x: Ratio<T>, o: O, fields: (T, T)) -> bool {
+fn every_remainder<T: Integer, O: Operand<T> + Copy>(
+    x: Ratio<T>,
+    y: Ratio<T>,
+    o: O,
+    fields: (T, T),
+) -> bool {
     let mut assigned = x;
     assigned %= o;
-    let named = has(x.rem(o.ratio()), fields);
+    let named = has(x.rem(y), fields);
     let by_value = has(x % o, fields);
     let by_reference = has(&x % o, fields);
     [named, by_value, by_reference, has(assigned, fields)] == [true; 4]

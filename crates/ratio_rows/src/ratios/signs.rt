@@ -82,10 +82,12 @@ fn test_signed(rt: HostRuntime) {
 fn positive_difference(left: (i64, i64), right: (i64, i64)) -> Option<(i64, i64)> {
     let x = positive(left.0, left.1)?;
     let y = positive(right.0, right.1)?;
-    if x.cmp(&y) != Ordering::Greater || x.checked_sub(&y).is_some() {
-        Some(x.abs_sub(&y).into_raw())
-    } else {
-        None
+    if x.cmp(&y) != Ordering::Greater {
+        return Some(x.abs_sub(&y).into_raw());
+    }
+    match x.checked_sub(&y) {
+        Some(_) => Some(x.abs_sub(&y).into_raw()),
+        None => None,
     }
 }
 

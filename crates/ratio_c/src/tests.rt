@@ -36,23 +36,22 @@ fn sums(rt: HostRuntime) {
         },
     ];
     let mut answers = [no_answer(), no_answer()];
-    assert_eq!(rt; ratio_add_i64(&pairs, &mut answers), DONE);
-    assert_eq!(rt; answers[0].code, ANSWERED);
-    assert_eq!(rt; answers[0].value.numer, 5);
-    assert_eq!(rt; answers[0].value.denom, 6);
-    assert_eq!(rt; answers[1].code, NOT_HELD);
+    assert!(rt; ratio_add_i64(&pairs, &mut answers) == DONE);
+    let [first, second] = answers;
+    assert!(rt; [first.code, second.code] == [ANSWERED, NOT_HELD]);
+    assert!(rt; [first.value.numer, first.value.denom] == [5, 6]);
     let mut one = [no_answer()];
-    assert_eq!(rt; ratio_add_i64(&pairs, &mut one), BAD_LENGTH);
+    assert!(rt; ratio_add_i64(&pairs, &mut one) == BAD_LENGTH);
 }
 
 #[test]
 fn readings(rt: HostRuntime) {
     let spans = [Span { start: 0, end: 4 }, Span { start: 3, end: 5 }];
     let mut answers = [no_answer(), no_answer()];
-    assert_eq!(rt; ratio_read_i64(b"-2/4x", &spans, &mut answers), DONE);
-    assert_eq!(rt; answers[0].value.numer, -1);
-    assert_eq!(rt; answers[0].value.denom, 2);
-    assert_eq!(rt; answers[1].code, PARSE_ERROR);
+    assert!(rt; ratio_read_i64(b"-2/4x", &spans, &mut answers) == DONE);
+    let [first, second] = answers;
+    assert!(rt; [first.value.numer, first.value.denom] == [-1, 2]);
+    assert!(rt; second.code == PARSE_ERROR);
 }
 
 #[test]
@@ -60,20 +59,17 @@ fn texts(rt: HostRuntime) {
     let asked = [fraction(6, -4), fraction(3, 0), fraction(i64::MIN, 1)];
     let mut bytes = [b'x'; 3 * ROOM];
     let mut answers = [no_text(), no_text(), no_text()];
-    assert_eq!(rt;
-        ratio_print_i64(&asked, &mut bytes[1..], &mut answers),
-        BAD_LENGTH
-    );
-    assert_eq!(rt; bytes[1], b'x');
-    assert_eq!(rt; ratio_print_i64(&asked, &mut bytes, &mut answers), DONE);
-    let expected = b"6/-4-9223372036854775808xx";
-    for i in 0..26 {
-        assert_eq!(rt; bytes[i], expected[i]);
-    }
-    assert_eq!(rt; answers[0].span.end, 4);
-    assert_eq!(rt; answers[1].code, ZERO_DENOMINATOR);
-    assert_eq!(rt; answers[1].span.end, 4);
-    assert_eq!(rt; answers[2].code, ANSWERED);
-    assert_eq!(rt; answers[2].span.start, 4);
-    assert_eq!(rt; answers[2].span.end, 24);
+    assert!(rt; ratio_print_i64(&asked, &mut bytes[1..], &mut answers) == BAD_LENGTH);
+    assert!(rt; bytes[1] == b'x');
+    assert!(rt; ratio_print_i64(&asked, &mut bytes, &mut answers) == DONE);
+    assert!(rt; bytes.starts_with(b"6/-4-9223372036854775808xx"));
+    let [first, second, third] = answers;
+    assert!(rt; [second.code, third.code] == [ZERO_DENOMINATOR, ANSWERED]);
+    let places = [
+        first.span.end,
+        second.span.end,
+        third.span.start,
+        third.span.end,
+    ];
+    assert!(rt; places == [4, 4, 4, 24]);
 }

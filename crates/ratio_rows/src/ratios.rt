@@ -1,5 +1,4 @@
 //! The types of fractions, of `num_rational`.
-mod asserting;
 mod carried;
 mod comparing;
 mod every_call;

@@ -1,6 +1,8 @@
 // Erased from crates/ratio_rows/src/lib.rt by rust/erase: not to be edited.
 //! Tests of integers and fractions: rows from outside, and each call once at a concrete type.
 #[cfg(test)]
+mod asserting;
+#[cfg(test)]
 mod fields;
 #[cfg(test)]
 mod integers;

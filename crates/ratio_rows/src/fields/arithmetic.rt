@@ -16,44 +16,33 @@ fn is_positive<T: Integer>(d: T) -> bool
 // A row: a, b, c and d, and the wanted answer for a/b and c/d.
 type Row<T> = (T, T, T, T, Option<(T, T)>);
 
-fn sums<T: Integer>(rt: &impl Abort, rows: &[Row<T>]) {
-    for (i, &(a, b, c, d, want)) in rows.iter().enumerate() {
-        assert!(rt; is_positive(b));
-        assert!(rt; is_positive(d));
-        assert!(rt; checked_add(a, b, c, d) == want, "row {i}");
+// The answer of the checked call.
+fn answer<T: Integer>(a: T, b: T, symbol: char, c: T, d: T) -> Option<(T, T)>
+    requires left { pos 0 <ℤ T.value b }
+    requires right { pos 0 <ℤ T.value d }
+{
+    match symbol {
+        '+' => checked_add(a, b, c, d),
+        '-' => checked_sub(a, b, c, d),
+        '*' => checked_mul(a, b, c, d),
+        '/' => checked_div(a, b, c, d),
+        _ => checked_rem(a, b, c, d),
     }
 }
 
-fn differences<T: Integer>(rt: &impl Abort, rows: &[Row<T>]) {
+// The first row that has another answer, or a denominator that is not positive.
+fn first_wrong<T: Integer>(symbol: char, rows: &[Row<T>]) -> Option<usize> {
     for (i, &(a, b, c, d, want)) in rows.iter().enumerate() {
-        assert!(rt; is_positive(b));
-        assert!(rt; is_positive(d));
-        assert!(rt; checked_sub(a, b, c, d) == want, "row {i}");
+        if !is_positive(b) || !is_positive(d) || answer(a, b, symbol, c, d) != want {
+            return Some(i);
+        }
     }
+    None
 }
 
-fn products<T: Integer>(rt: &impl Abort, rows: &[Row<T>]) {
-    for (i, &(a, b, c, d, want)) in rows.iter().enumerate() {
-        assert!(rt; is_positive(b));
-        assert!(rt; is_positive(d));
-        assert!(rt; checked_mul(a, b, c, d) == want, "row {i}");
-    }
-}
-
-fn quotients<T: Integer>(rt: &impl Abort, rows: &[Row<T>]) {
-    for (i, &(a, b, c, d, want)) in rows.iter().enumerate() {
-        assert!(rt; is_positive(b));
-        assert!(rt; is_positive(d));
-        assert!(rt; checked_div(a, b, c, d) == want, "row {i}");
-    }
-}
-
-fn rests<T: Integer>(rt: &impl Abort, rows: &[Row<T>]) {
-    for (i, &(a, b, c, d, want)) in rows.iter().enumerate() {
-        assert!(rt; is_positive(b));
-        assert!(rt; is_positive(d));
-        assert!(rt; checked_rem(a, b, c, d) == want, "row {i}");
-    }
+fn rows_hold<T: Integer>(rt: &impl Abort, symbol: char, rows: &[Row<T>]) {
+    let first = first_wrong(symbol, rows);
+    assert!(rt; first.is_none(), "{symbol}: row {first:?}");
 }
 
 // The five calls that ask what the checked ones test, on 1/2 and 1/3.
@@ -81,8 +70,9 @@ fn answered<T: Integer>(rt: &impl Abort, two: T, three: T) {
 
 #[test]
 fn rows_of_i8(rt: HostRuntime) {
-    sums(
+    rows_hold(
         &rt,
+        '+',
         &[
             (1i8, 2, 1, 3, Some((5, 6))),
             (1, 4, 1, 6, Some((5, 12))),
@@ -93,8 +83,9 @@ fn rows_of_i8(rt: HostRuntime) {
             (-128, 1, 127, 1, Some((-1, 1))),
         ],
     );
-    differences(
+    rows_hold(
         &rt,
+        '-',
         &[
             (1i8, 2, 1, 3, Some((1, 6))),
             (127, 2, 127, 2, Some((0, 1))),
@@ -102,8 +93,9 @@ fn rows_of_i8(rt: HostRuntime) {
             (-128, 1, 127, 1, None),
         ],
     );
-    products(
+    rows_hold(
         &rt,
+        '*',
         &[
             (1i8, 2, -2, 3, Some((-1, 3))),
             (100, 100, 7, 7, Some((1, 1))),
@@ -115,8 +107,9 @@ fn rows_of_i8(rt: HostRuntime) {
             (0, 127, -128, 127, Some((0, 1))),
         ],
     );
-    quotients(
+    rows_hold(
         &rt,
+        '/',
         &[
             (64i8, 1, -1, 2, Some((-128, 1))),
             (-128, 1, -128, 1, Some((1, 1))),
@@ -129,8 +122,9 @@ fn rows_of_i8(rt: HostRuntime) {
             (127, 2, 0, 127, None),
         ],
     );
-    rests(
+    rows_hold(
         &rt,
+        '%',
         &[
             (-128i8, 1, -1, 1, Some((0, 1))),
             (-127, 2, 1, 1, Some((-1, 2))),
@@ -142,52 +136,76 @@ fn rows_of_i8(rt: HostRuntime) {
 
 #[test]
 fn rows_of_u8(rt: HostRuntime) {
-    sums(&rt, &[(255u8, 2, 255, 2, None), (1, 2, 1, 6, Some((2, 3)))]);
-    differences(&rt, &[(1u8, 2, 1, 1, None), (1, 1, 1, 2, Some((1, 2)))]);
-    products(
+    rows_hold(
         &rt,
+        '+',
+        &[(255u8, 2, 255, 2, None), (1, 2, 1, 6, Some((2, 3)))],
+    );
+    rows_hold(
+        &rt,
+        '-',
+        &[(1u8, 2, 1, 1, None), (1, 1, 1, 2, Some((1, 2)))],
+    );
+    rows_hold(
+        &rt,
+        '*',
         &[(255u8, 128, 128, 255, Some((1, 1))), (255, 1, 2, 1, None)],
     );
-    quotients(&rt, &[(0u8, 1, 255, 1, Some((0, 1))), (1, 2, 0, 1, None)]);
-    rests(&rt, &[(1u8, 1, 0, 3, None), (255, 1, 2, 1, Some((1, 1)))]);
+    rows_hold(
+        &rt,
+        '/',
+        &[(0u8, 1, 255, 1, Some((0, 1))), (1, 2, 0, 1, None)],
+    );
+    rows_hold(
+        &rt,
+        '%',
+        &[(1u8, 1, 0, 3, None), (255, 1, 2, 1, Some((1, 1)))],
+    );
     answered(&rt, 2u8, 3);
 }
 
 // Over `i32` and `i64` sums and differences are exact.
 #[test]
 fn rows_of_i32(rt: HostRuntime) {
-    sums(
+    rows_hold(
         &rt,
+        '+',
         &[
             (2147483647i32, 2, 2147483647, 2, Some((2147483647, 1))),
             (1, 11862016, 1, 11993088, Some((91, 542687232))),
             (1, 2147483647, 1, 2147483646, None),
         ],
     );
-    differences(&rt, &[(1i32, 11862016, 1, 11993088, Some((1, 1085374464)))]);
-    rests(&rt, &[(i32::MIN, 1, i32::MIN, 3, None)]);
+    rows_hold(
+        &rt,
+        '-',
+        &[(1i32, 11862016, 1, 11993088, Some((1, 1085374464)))],
+    );
+    rows_hold(&rt, '%', &[(i32::MIN, 1, i32::MIN, 3, None)]);
     answered(&rt, 2i32, 3);
 }
 
 #[test]
 fn rows_of_u32(rt: HostRuntime) {
-    sums(
+    rows_hold(
         &rt,
+        '+',
         &[
             (4294967295u32, 2, 4294967295, 2, None),
             (u32::MAX, 1, 0, u32::MAX, None),
         ],
     );
-    products(&rt, &[(u32::MAX, 2, 2, u32::MAX, Some((1, 1)))]);
-    rests(&rt, &[(u32::MAX, 1, 2, 1, Some((1, 1)))]);
+    rows_hold(&rt, '*', &[(u32::MAX, 2, 2, u32::MAX, Some((1, 1)))]);
+    rows_hold(&rt, '%', &[(u32::MAX, 1, 2, 1, Some((1, 1)))]);
     answered(&rt, 2u32, 3);
 }
 
 #[test]
 fn rows_of_i64(rt: HostRuntime) {
     let (min, max) = (i64::MIN, i64::MAX);
-    sums(
+    rows_hold(
         &rt,
+        '+',
         &[
             (min, 1, max, 1, Some((-1, 1))),
             (min, max, min, max, None),
@@ -195,17 +213,19 @@ fn rows_of_i64(rt: HostRuntime) {
             (max, 1, 1, 1, None),
         ],
     );
-    differences(&rt, &[(0, 1, min, 1, None)]);
-    quotients(
+    rows_hold(&rt, '-', &[(0, 1, min, 1, None)]);
+    rows_hold(
         &rt,
+        '/',
         &[
             (1, 1, min, 1, None),
             (min, 1, max, 1, Some((min, max))),
             (max, 1, min, 1, None),
         ],
     );
-    rests(
+    rows_hold(
         &rt,
+        '%',
         &[
             (5i64, 2, 3, 2, Some((1, 1))),
             (2, 1, -1, 2, Some((0, 1))),

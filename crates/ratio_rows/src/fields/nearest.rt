@@ -1,24 +1,32 @@
 //! Worked rows of the nearest fraction, with their expected values from outside.
+use crate::asserting::all_hold;
 use ratio_core::Steps;
 use ratio_core::nearest::{nearest, nearest_counted};
-use std::process::Abort;
 
 // A row: n, d and the bound, and the answer's two numbers.
 type Row<T> = (T, T, T, T, T);
 
-fn holds_over_i8(rt: &impl Abort, (n, d, most, numer, denom): Row<i8>) {
-    assert!(rt; d > 0 && most > 0);
-    assert!(rt; nearest(n, d, most) == (numer, denom));
+fn first_wrong_over_i8(rows: &[Row<i8>]) -> Option<usize> {
+    for (i, &(n, d, most, numer, denom)) in rows.iter().enumerate() {
+        if d <= 0 || most <= 0 || nearest(n, d, most) != (numer, denom) {
+            return Some(i);
+        }
+    }
+    None
 }
 
-fn holds_over_i64(rt: &impl Abort, (n, d, most, numer, denom): Row<i64>) {
-    assert!(rt; d > 0 && most > 0);
-    assert!(rt; nearest_counted(n, d, most, &mut Steps::new()) == (numer, denom));
+fn first_wrong_over_i64(rows: &[Row<i64>]) -> Option<usize> {
+    for (i, &(n, d, most, numer, denom)) in rows.iter().enumerate() {
+        if d <= 0 || most <= 0 || nearest_counted(n, d, most, &mut Steps::new()) != (numer, denom) {
+            return Some(i);
+        }
+    }
+    None
 }
 
 #[test]
 fn over_i8(rt: HostRuntime) {
-    for row in [
+    let rows = [
         (1, 2, 1, 0, 1),
         (-1, 2, 1, -1, 1),
         (127, 2, 1, 63, 1),
@@ -29,21 +37,19 @@ fn over_i8(rt: HostRuntime) {
         (50, 100, 127, 1, 2),
         (-89, 55, 20, -21, 13),
         (-128, 127, 100, -101, 100),
-    ] {
-        holds_over_i8(&rt, row);
-    }
+    ];
+    all_hold(&rt, "i8", first_wrong_over_i8(&rows));
 }
 
 #[test]
 fn over_i64(rt: HostRuntime) {
-    for row in [
+    let rows = [
         (355, 113, 100, 311, 99),
         (3141592653, 1000000000, 10, 22, 7),
         (3141592653, 1000000000, 100, 311, 99),
         (3141592653, 1000000000, 1000, 355, 113),
         (3141592653, 1000000000, 100000, 103993, 33102),
         (-3141592653, 1000000000, 10, -22, 7),
-    ] {
-        holds_over_i64(&rt, row);
-    }
+    ];
+    all_hold(&rt, "i64", first_wrong_over_i64(&rows));
 }

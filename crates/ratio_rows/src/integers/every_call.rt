@@ -2,6 +2,7 @@
 ghost use Rattle.std.specs.Prelude.{◌+ℤ◌, ◌-ℤ◌, ◌*ℤ◌, ◌<ℤ◌, pos, neg_ℤ};
 ghost use Rattle.ratio_integer.specs.Range.{IsHeld};
 
+use crate::asserting::each_holds;
 use ratio_integer::{Integer, Primitive, SignedInteger};
 
 /// The number, or -1 where `i128` does not hold it.
@@ -14,6 +15,22 @@ fn answer<T: Integer>(t: Option<T>) -> i128 {
     match t {
         Some(t) => number(t),
         None => -1,
+    }
+}
+
+/// The last two digits of a number, or -1 where `u128` does not hold it.
+fn last_two_digits<T: Integer>(t: T) -> i128 {
+    match t.to_u128() {
+        Some(n) => (n % 100) as i128,
+        None => -1,
+    }
+}
+
+/// The numbers of an exact sum.
+fn pair<T: Integer>(sum: Option<(T, T)>) -> Option<(i128, i128)> {
+    match sum {
+        Some((numer, denom)) => Some((number(numer), number(denom))),
+        None => None,
     }
 }
 
@@ -37,7 +54,7 @@ fn required<T: Integer>(a: T, b: T) -> [i128; 12]
         number(quotient),
         number(rest),
         a.to_i128().unwrap_or(-1),
-        a.to_u128().map_or(-1, |n| (n % 100) as i128),
+        last_two_digits(a),
         answer(T::from_i128(6)),
         answer(T::from_u128(6)),
     ]
@@ -82,8 +99,8 @@ fn answers_all<T: Integer>(a: T, b: T) -> bool
     requires product { IsHeld T.lo T.hi (T.value a *ℤ T.value b) }
     requires positive { pos 0 <ℤ T.value b }
 {
-    let sum = T::exact_sum(a, b, b, b).map(|r| (number(r.0), number(r.1)));
-    let difference = T::exact_diff(a, b, b, b).map(|r| (number(r.0), number(r.1)));
+    let sum = pair(T::exact_sum(a, b, b, b));
+    let difference = pair(T::exact_diff(a, b, b, b));
     let sums = if T::EXACT_SUMS {
         sum == Some((5, 2)) && difference == Some((1, 2))
     } else {
@@ -108,24 +125,34 @@ fn bits<T: Primitive>(_: T) -> u32 {
 
 #[test]
 fn integers(rt: HostRuntime) {
-    assert!(rt; answers_all(6i8, 4));
-    assert!(rt; answers_all(6i16, 4));
-    assert!(rt; answers_all(6i32, 4));
-    assert!(rt; answers_all(6i64, 4));
-    assert!(rt; answers_all(6i128, 4));
-    assert!(rt; answers_all(6isize, 4));
-    assert!(rt; answers_all(6u8, 4));
-    assert!(rt; answers_all(6u16, 4));
-    assert!(rt; answers_all(6u32, 4));
-    assert!(rt; answers_all(6u64, 4));
-    assert!(rt; answers_all(6u128, 4));
-    assert!(rt; answers_all(6usize, 4));
+    let facts = [
+        answers_all(6i8, 4),
+        answers_all(6i16, 4),
+        answers_all(6i32, 4),
+        answers_all(6i64, 4),
+        answers_all(6i128, 4),
+        answers_all(6isize, 4),
+        answers_all(6u8, 4),
+        answers_all(6u16, 4),
+        answers_all(6u32, 4),
+        answers_all(6u64, 4),
+        answers_all(6u128, 4),
+        answers_all(6usize, 4),
+    ];
+    each_holds(&rt, &facts);
 }
 
 #[test]
 fn signed_integers(rt: HostRuntime) {
-    assert!(rt; answers_signed(6i8) && answers_signed(6i16) && answers_signed(6i32));
-    assert!(rt; answers_signed(6i64) && answers_signed(6i128) && answers_signed(6isize));
+    let facts = [
+        answers_signed(6i8),
+        answers_signed(6i16),
+        answers_signed(6i32),
+        answers_signed(6i64),
+        answers_signed(6i128),
+        answers_signed(6isize),
+    ];
+    each_holds(&rt, &facts);
 }
 
 #[test]
@@ -146,5 +173,8 @@ fn widths(rt: HostRuntime) {
         bits(0u128),
         bits(0usize),
     ];
-    assert!(rt; signed == [8, 16, 32, 64, 128, 64] && unsigned == signed);
+    each_holds(
+        &rt,
+        &[signed == [8, 16, 32, 64, 128, 64], unsigned == signed],
+    );
 }

@@ -1,8 +1,9 @@
 //! The values of the Rust crate's own tests, under the names that they have there: construction, access
 //! and comparison.
-use crate::ratios::asserting::{holds, is};
-use crate::ratios::forms::{self, fraction};
-use crate::ratios::texts::{Shown, shown_as};
+use crate::asserting::each_holds;
+use crate::ratios::forms::{self, fraction, has, raw};
+use crate::ratios::rows::reduced;
+use crate::ratios::texts::shown_as;
 use crate::recorder::Written;
 use num_rational::{Constants, Form, Ratio, Rational32, Rational64};
 use ratio_integer::Integer;
@@ -18,119 +19,120 @@ fn new<T: Integer>(n: T, d: T) -> Ratio<T> {
     }
 }
 
-// A fraction and its fields.
-#[derive(Drop)]
-struct Made {
-    x: Rational64,
-    numer: i64,
-    denom: i64,
-}
-
-fn entry(x: Rational64, numer: i64, denom: i64) -> Made {
-    Made { x, numer, denom }
-}
-
-// 0, 1, 2, 1/2, 3/2 and -1/2, each made by a call of its own.
-fn six() -> [Made; 6] {
+// 0, 1, 2, 1/2, 3/2 and -1/2, each made by a call of its own, and their fields.
+fn six() -> [(Rational64, i64, i64); 6] {
     [
-        entry(Rational64::zero(), 0, 1),
-        entry(Rational64::one(), 1, 1),
-        entry(Rational64::from_integer(2), 2, 1),
-        entry(new(1, 2), 1, 2),
-        entry(new(3, 2), 3, 2),
-        entry(new(-1, 2), -1, 2),
+        (Rational64::zero(), 0, 1),
+        (Rational64::one(), 1, 1),
+        (Rational64::from_integer(2), 2, 1),
+        (new(1, 2), 1, 2),
+        (new(3, 2), 3, 2),
+        (new(-1, 2), -1, 2),
     ]
 }
 
 #[test]
 fn test_numer(rt: HostRuntime) {
-    let rows = six();
-    for row in &rows {
-        assert!(rt; *row.x.numer() == row.numer);
+    for (x, numer, _) in six() {
+        assert!(rt; *x.numer() == numer);
     }
 }
 
 #[test]
 fn test_denom(rt: HostRuntime) {
-    let rows = six();
-    for row in &rows {
-        assert!(rt; *row.x.denom() == row.denom);
+    for (x, _, denom) in six() {
+        assert!(rt; *x.denom() == denom);
     }
 }
 
 #[test]
 fn test_is_integer(rt: HostRuntime) {
-    let rows = six();
-    for row in &rows {
-        assert!(rt; row.x.is_integer() == (row.denom == 1));
+    for (x, _, denom) in six() {
+        assert!(rt; x.is_integer() == (denom == 1));
     }
+}
+
+// Whether the fraction equals each of these.
+fn equals(x: Rational64, others: &[Rational64]) -> bool {
+    for other in others {
+        if x != *other {
+            return false;
+        }
+    }
+    true
 }
 
 #[test]
 fn test_test_constants(rt: HostRuntime) {
     let [zero, one, two, half, three_halves, minus_half] = six();
-    holds(
-        &rt,
-        "0",
-        zero.x == Ratio::ZERO && zero.x == Ratio::from(0) && zero.x == new(0, 1),
-    );
-    holds(
-        &rt,
-        "1",
-        one.x == Ratio::ONE && one.x == Ratio::from(1) && one.x == new(1, 1),
-    );
-    holds(&rt, "2", two.x == Ratio::from(2) && two.x == new(2, 1));
-    holds(&rt, "1/2", half.x == Ratio::new_raw(2, 4));
-    holds(&rt, "3/2", three_halves.x == Ratio::new_raw(6, 4));
-    holds(&rt, "-1/2", minus_half.x == Ratio::new_raw(1, -2));
+    let facts = [
+        equals(zero.0, &[Ratio::ZERO, Ratio::from(0), new(0, 1)]),
+        equals(one.0, &[Ratio::ONE, Ratio::from(1), new(1, 1)]),
+        equals(two.0, &[Ratio::from(2), new(2, 1)]),
+        equals(half.0, &[Ratio::new_raw(2, 4)]),
+        equals(three_halves.0, &[Ratio::new_raw(6, 4)]),
+        equals(minus_half.0, &[Ratio::new_raw(1, -2)]),
+    ];
+    each_holds(&rt, &facts);
 }
 
 #[test]
 fn test_new_reduce(rt: HostRuntime) {
-    is(&rt, new(2i32, 2), 1, 1);
-    is(&rt, new(0, i32::MIN), 0, 1);
-    is(&rt, new(i32::MIN, i32::MIN), 1, 1);
+    let facts = [
+        has(new(2i32, 2), (1, 1)),
+        has(new(0, i32::MIN), (0, 1)),
+        has(new(i32::MIN, i32::MIN), (1, 1)),
+    ];
+    each_holds(&rt, &facts);
+}
+
+// Whether the second is above the first, by the operators that tell two fractions apart.
+fn is_below(low: Rational64, high: Rational64) -> bool {
+    low != high && high != low && low < high && !(high < low) && high > low && !(low > high)
+}
+
+// The same by the operators that hold of equal fractions too.
+fn is_at_most(low: Rational64, high: Rational64) -> bool {
+    low <= high && !(high <= low) && high >= low && !(low >= high)
+}
+
+// Whether the fraction is itself by each of those.
+fn is_itself(x: Rational64) -> bool {
+    x == x && x <= x && x >= x
 }
 
 #[test]
 fn test_cmp(rt: HostRuntime) {
     let zero = Rational64::zero();
     let one = Rational64::one();
-    holds(
-        &rt,
-        "==",
-        zero == zero && one == one && Rational64::new_raw(0, 2) == zero,
-    );
-    holds(&rt, "!=", zero != one && one != zero);
-    holds(&rt, "<", zero < one && !(one < zero));
-    holds(&rt, ">", one > zero && !(zero > one));
-    holds(
-        &rt,
-        "<=",
-        zero <= one && zero <= zero && one <= one && !(one <= zero),
-    );
-    holds(
-        &rt,
-        ">=",
-        one >= zero && zero >= zero && one >= one && !(zero >= one),
-    );
-    holds(&rt, "below", zero.cmp(&one) == Ordering::Less);
-    holds(&rt, "above", one.cmp(&zero) == Ordering::Greater);
+    let facts = [
+        is_itself(zero),
+        is_itself(one),
+        Rational64::new_raw(0, 2) == zero,
+        is_below(zero, one),
+        is_at_most(zero, one),
+        zero.cmp(&one) == Ordering::Less,
+        one.cmp(&zero) == Ordering::Greater,
+    ];
+    each_holds(&rt, &facts);
 }
 
 // The pair that a fraction with these fields gives.
 fn pair_of(numer: i64, denom: i64) -> (i64, i64) {
-    if denom == 0 {
-        return (numer, denom);
+    match raw(numer, denom) {
+        Some(x) => x.into(),
+        None => (numer, denom),
     }
-    Ratio::new_raw(numer, denom).into()
 }
 
 #[test]
 fn test_into_pair(rt: HostRuntime) {
-    holds(&rt, "0/1", pair_of(0, 1) == (0, 1));
-    holds(&rt, "-2/1", pair_of(-2, 1) == (-2, 1));
-    holds(&rt, "1/-2", pair_of(1, -2) == (1, -2));
+    let facts = [
+        pair_of(0, 1) == (0, 1),
+        pair_of(-2, 1) == (-2, 1),
+        pair_of(1, -2) == (1, -2),
+    ];
+    each_holds(&rt, &facts);
 }
 
 // The fraction of a pair, where `checked_new` answers.
@@ -143,40 +145,38 @@ fn from_pair(pair: (i64, i64)) -> Rational64 {
 
 #[test]
 fn test_from_pair(rt: HostRuntime) {
-    is(&rt, from_pair((0, 1)), 0, 1);
-    is(&rt, from_pair((1, 1)), 1, 1);
-    is(&rt, from_pair((-2, 1)), -2, 1);
-    is(&rt, from_pair((1, -2)), -1, 2);
+    let facts = [
+        has(from_pair((0, 1)), (0, 1)),
+        has(from_pair((1, 1)), (1, 1)),
+        has(from_pair((-2, 1)), (-2, 1)),
+        has(from_pair((1, -2)), (-1, 2)),
+    ];
+    each_holds(&rt, &facts);
 }
 
 #[test]
 fn test_num_zero(rt: HostRuntime) {
-    holds(&rt, "0", Rational64::zero().is_zero());
+    assert!(rt; Rational64::zero().is_zero());
     let mut x = fraction((123, 456));
-    holds(&rt, "not 0", !x.is_zero());
+    assert!(rt; !x.is_zero());
     let sum = forms::sum(x, Rational64::zero());
-    holds(
-        &rt,
-        "+ 0",
-        sum == Some((41, 152)) && x == Ratio::new_raw(41, 152),
-    );
+    each_holds(&rt, &[sum == Some((41, 152)), x == Ratio::new_raw(41, 152)]);
     x.set_zero();
-    holds(&rt, "becomes 0", x.is_zero());
+    assert!(rt; x.is_zero());
 }
 
 #[test]
 fn test_num_one(rt: HostRuntime) {
-    holds(&rt, "1", Rational64::one().is_one());
+    assert!(rt; Rational64::one().is_one());
     let mut x = fraction((123, 456));
-    holds(&rt, "not 1", !x.is_one());
+    assert!(rt; !x.is_one());
     let product = forms::product(x, Rational64::one());
-    holds(
+    each_holds(
         &rt,
-        "* 1",
-        product == Some((41, 152)) && x == Ratio::new_raw(41, 152),
+        &[product == Some((41, 152)), x == Ratio::new_raw(41, 152)],
     );
     x.set_one();
-    holds(&rt, "becomes 1", x.is_one());
+    assert!(rt; x.is_one());
 }
 
 // Whether a hasher receives the same of both.
@@ -191,68 +191,59 @@ fn write_alike(x: &Rational64, y: &Rational64) -> bool {
 #[test]
 fn test_hash(rt: HostRuntime) {
     let zero = Rational64::zero();
-    holds(&rt, "0 and 1", !write_alike(&zero, &Ratio::one()));
-    holds(&rt, "0 and 3/2", !write_alike(&zero, &new(3, 2)));
-    holds(
-        &rt,
-        "4/2 and 6/3",
+    let facts = [
+        !write_alike(&zero, &Ratio::one()),
+        !write_alike(&zero, &new(3, 2)),
         write_alike(&Ratio::new_raw(4, 2), &Ratio::new_raw(6, 3)),
-    );
+    ];
+    each_holds(&rt, &facts);
     let (x, y) = (
         Ratio::new_raw(123456789, 1000),
         Ratio::new_raw(617283945, 5000),
     );
-    holds(&rt, "thousandths", write_alike(&x, &y));
+    assert!(rt; write_alike(&x, &y));
 }
 
 #[test]
 fn test_const(rt: HostRuntime) {
     let x = Rational32::new_raw(123, 456);
-    holds(&rt, "fields", *x.numer() == 123 && *x.denom() == 456);
-    if Ratio::checked_new(123i32, 456).is_some() {
-        is(&rt, x.reduced(), 41, 152);
-    } else {
-        holds(&rt, "reduced", false);
-    }
+    let facts = [
+        *x.numer() == 123,
+        *x.denom() == 456,
+        reduced(*x.numer(), *x.denom()) == Some((41, 152)),
+    ];
+    each_holds(&rt, &facts);
 }
 
-// A fraction over i64, printed in a form.
-fn printed(numer: i64, denom: i64, form: Form) -> Shown<i64> {
-    shown_as(numer, denom, form)
+// Whether the base, and 1 over it, are printed so in the form of that base.
+fn shows_base(base: i64, form: Form, padded: &str, prefixed: &str) -> bool {
+    let whole = shown_as(base, 1, form);
+    let part = shown_as(1, base, form);
+    InlineText::<40>::of(format_args!("{whole} {part}")).as_str() == "10 1/10"
+        && InlineText::<40>::of(format_args!("{part:010}")).as_str() == padded
+        && InlineText::<40>::of(format_args!("{part:#010}")).as_str() == prefixed
 }
 
 #[test]
 fn test_show(rt: HostRuntime) {
-    let two = printed(2, 1, Form::Decimal);
-    let half = printed(1, 2, Form::Decimal);
-    let minus_half = printed(-1, 2, Form::Decimal);
-    let zero = printed(0, 1, Form::Decimal);
-    let minus_two = printed(-2, 1, Form::Decimal);
+    let two = shown_as(2i64, 1, Form::Decimal);
+    let half = shown_as(1i64, 2, Form::Decimal);
+    let minus_half = shown_as(-1i64, 2, Form::Decimal);
+    let zero = shown_as(0i64, 1, Form::Decimal);
+    let minus_two = shown_as(-2i64, 1, Form::Decimal);
     let row = InlineText::<40>::of(format_args!("{two} {half} {minus_half} {zero} {minus_two}"));
-    assert_eq!(rt; row.as_str(), "2 1/2 -1/2 0 -2");
-    for (base, form, padded, prefixed) in [
-        (2, Form::Binary, "0000001/10", "0b001/0b10"),
-        (8, Form::Octal, "0000001/10", "0o001/0o10"),
-        (16, Form::LowerHex, "0000001/10", "0x001/0x10"),
-        (16, Form::UpperHex, "0000001/10", "0x001/0x10"),
-    ] {
-        let whole = printed(base, 1, form);
-        let part = printed(1, base, form);
-        let row = InlineText::<40>::of(format_args!("{whole} {part}"));
-        assert_eq!(rt; row.as_str(), "10 1/10");
-        assert_eq!(rt;
-            InlineText::<40>::of(format_args!("{part:010}")).as_str(),
-            padded
-        );
-        assert_eq!(rt;
-            InlineText::<40>::of(format_args!("{part:#010}")).as_str(),
-            prefixed
-        );
-    }
-    let fifteen = printed(15, 1, Form::LowerHex);
-    let none = printed(0, 1, Form::LowerHex);
+    let facts = [
+        row.as_str() == "2 1/2 -1/2 0 -2",
+        shows_base(2, Form::Binary, "0000001/10", "0b001/0b10"),
+        shows_base(8, Form::Octal, "0000001/10", "0o001/0o10"),
+        shows_base(16, Form::LowerHex, "0000001/10", "0x001/0x10"),
+        shows_base(16, Form::UpperHex, "0000001/10", "0x001/0x10"),
+    ];
+    each_holds(&rt, &facts);
+    let fifteen = shown_as(15i64, 1, Form::LowerHex);
+    let none = shown_as(0i64, 1, Form::LowerHex);
     let row = InlineText::<40>::of(format_args!("{fifteen} {none}"));
-    assert_eq!(rt; row.as_str(), "f 0");
+    assert!(rt; row.as_str() == "f 0");
 }
 
 // Whether the fraction is printed so, and the text reads as the fraction.
@@ -267,17 +258,31 @@ fn is_text_of(text: &str, fraction: Rational64) -> bool {
 
 #[test]
 fn test_to_from_str(rt: HostRuntime) {
-    assert!(rt; is_text_of("1", new(1, 1)));
-    assert!(rt; is_text_of("0", new(0, 1)));
-    assert!(rt; is_text_of("1/2", new(1, 2)));
-    assert!(rt; is_text_of("3/2", new(3, 2)));
-    assert!(rt; is_text_of("2", new(2, 1)));
-    assert!(rt; is_text_of("-1/2", new(-1, 2)));
+    let facts = [
+        is_text_of("1", new(1, 1)),
+        is_text_of("0", new(0, 1)),
+        is_text_of("1/2", new(1, 2)),
+        is_text_of("3/2", new(3, 2)),
+        is_text_of("2", new(2, 1)),
+        is_text_of("-1/2", new(-1, 2)),
+    ];
+    each_holds(&rt, &facts);
+}
+
+fn refuses(text: &str) -> bool {
+    Rational64::from_str(text).is_err()
 }
 
 #[test]
 fn test_from_str_fail(rt: HostRuntime) {
-    for text in ["0 /1", "abc", "", "1/", "--1/2", "3/2/1", "1/0"] {
-        assert!(rt; Rational64::from_str(text).is_err(), "{text}");
-    }
+    let facts = [
+        refuses("0 /1"),
+        refuses("abc"),
+        refuses(""),
+        refuses("1/"),
+        refuses("--1/2"),
+        refuses("3/2/1"),
+        refuses("1/0"),
+    ];
+    each_holds(&rt, &facts);
 }

@@ -3,7 +3,7 @@ ghost use Rattle.std.specs.Prelude.{IsTrue};
 ghost use Rattle.num_rational.specs.Folds.{ArePositive, CanProduct, CanSum};
 ghost use Rattle.num_rational.specs.Operators.{numbers};
 
-use crate::ratios::asserting::holds;
+use crate::asserting::each_holds;
 use crate::ratios::forms::{self, fraction, has};
 use num_rational::{Ratio, Rational32};
 use ratio_integer::Integer;
@@ -105,19 +105,21 @@ fn five_hundredths() -> [Rational32; 1000] {
 
 #[test]
 fn ratio_iter_sum(rt: HostRuntime) {
-    holds(&rt, "999", is_sum(&five_hundredths(), Some((999, 1))));
+    assert!(rt; is_sum(&five_hundredths(), Some((999, 1))));
 }
 
 #[test]
 fn ratio_iter_product(rt: HostRuntime) {
-    holds(&rt, "0", is_product(&five_hundredths(), Some((0, 1))));
+    assert!(rt; is_product(&five_hundredths(), Some((0, 1))));
 }
 
 #[test]
 fn of_none(rt: HostRuntime) {
     let none: [Rational32; 0] = [];
-    holds(&rt, "0", is_sum(&none, Some((0, 1))));
-    holds(&rt, "1", is_product(&none, Some((1, 1))));
+    each_holds(
+        &rt,
+        &[is_sum(&none, Some((0, 1))), is_product(&none, Some((1, 1)))],
+    );
 }
 
 #[test]
@@ -127,6 +129,5 @@ fn refused(rt: HostRuntime) {
         Ratio::new_raw(100, 1),
         Ratio::new_raw(-100, 1),
     ];
-    holds(&rt, "200", is_sum(&items, None));
-    holds(&rt, "10000", is_product(&items, None));
+    each_holds(&rt, &[is_sum(&items, None), is_product(&items, None)]);
 }

@@ -1,6 +1,6 @@
 //! Every form of an operator: the checked call, the named call, the symbol and its assigning form. The
 //! right operand is of any form that an operator takes.
-ghost use Rattle.std.specs.Prelude.{◌<ℤ◌, pos};
+ghost use Rattle.std.specs.Prelude.{◌<ℤ◌, pos, IfSome};
 ghost use Rattle.num_rational.specs.Operators.{CanAdd, CanDivide, CanMultiply, CanSubtract, CanTakeRemainder, numbers};
 ghost use Rattle.num_rational.specs.Ratio.{denominator};
 
@@ -18,9 +18,37 @@ pub fn fraction<T: Integer>(fields: (T, T)) -> Ratio<T>
     }
 }
 
+/// The fraction with these fields, where its denominator is positive.
+pub fn positive<T: Integer>(numer: T, denom: T) -> Option<Ratio<T>>
+    ensures { IfSome result (λ x. pos 0 <ℤ denominator x) }
+{
+    if T::ZERO < denom {
+        Some(Ratio::new_raw(numer, denom))
+    } else {
+        None
+    }
+}
+
+/// The fraction with these fields, where its denominator is not 0.
+pub fn raw<T: Integer>(numer: T, denom: T) -> Option<Ratio<T>> {
+    if denom.is_zero() {
+        None
+    } else {
+        Some(Ratio::new_raw(numer, denom))
+    }
+}
+
 /// Whether the fraction has these fields.
 pub fn has<T: Integer>(x: Ratio<T>, fields: (T, T)) -> bool {
     x.into_raw() == fields
+}
+
+/// Whether the answer has these fields, or there is none.
+pub fn answers<T: Integer>(answer: Option<Ratio<T>>, want: Option<(T, T)>) -> bool {
+    match answer {
+        Some(x) => want == Some(x.into_raw()),
+        None => want.is_none(),
+    }
 }
 
 /// The fields of the sum, where the checked call answers it and every other form gives the same.
@@ -30,22 +58,28 @@ pub(crate) fn sum<T: Integer, O: Operand<T> + Copy>(x: Ratio<T>, o: O) -> Option
 {
     let y = o.ratio();
     let fields = x.checked_add(&y)?.into_raw();
-    if every_sum(x, o, fields) {
+    if every_sum(x, y, o, fields) {
         Some(fields)
     } else {
         None
     }
 }
 
-fn every_sum<T: Integer, O: Operand<T> + Copy>(x: Ratio<T>, o: O, fields: (T, T)) -> bool
-    requires { CanAdd T.EXACT_SUMS T.lo T.hi (numbers x) (O.pair o) }
+fn every_sum<T: Integer, O: Operand<T> + Copy>(
+    x: Ratio<T>,
+    y: Ratio<T>,
+    o: O,
+    fields: (T, T),
+) -> bool
+    requires named { CanAdd T.EXACT_SUMS T.lo T.hi (numbers x) (numbers y) }
+    requires operand { CanAdd T.EXACT_SUMS T.lo T.hi (numbers x) (O.pair o) }
 {
     let mut assigned = x;
     assigned += o;
-    has(x.add(o.ratio()), fields)
-        && has(x + o, fields)
-        && has(&x + o, fields)
-        && has(assigned, fields)
+    let named = has(x.add(y), fields);
+    let by_value = has(x + o, fields);
+    let by_reference = has(&x + o, fields);
+    [named, by_value, by_reference, has(assigned, fields)] == [true; 4]
 }
 
 /// The same of the difference.
@@ -55,22 +89,28 @@ pub(crate) fn difference<T: Integer, O: Operand<T> + Copy>(x: Ratio<T>, o: O) ->
 {
     let y = o.ratio();
     let fields = x.checked_sub(&y)?.into_raw();
-    if every_difference(x, o, fields) {
+    if every_difference(x, y, o, fields) {
         Some(fields)
     } else {
         None
     }
 }
 
-fn every_difference<T: Integer, O: Operand<T> + Copy>(x: Ratio<T>, o: O, fields: (T, T)) -> bool
-    requires { CanSubtract T.EXACT_SUMS T.lo T.hi (numbers x) (O.pair o) }
+fn every_difference<T: Integer, O: Operand<T> + Copy>(
+    x: Ratio<T>,
+    y: Ratio<T>,
+    o: O,
+    fields: (T, T),
+) -> bool
+    requires named { CanSubtract T.EXACT_SUMS T.lo T.hi (numbers x) (numbers y) }
+    requires operand { CanSubtract T.EXACT_SUMS T.lo T.hi (numbers x) (O.pair o) }
 {
     let mut assigned = x;
     assigned -= o;
-    has(x.sub(o.ratio()), fields)
-        && has(x - o, fields)
-        && has(&x - o, fields)
-        && has(assigned, fields)
+    let named = has(x.sub(y), fields);
+    let by_value = has(x - o, fields);
+    let by_reference = has(&x - o, fields);
+    [named, by_value, by_reference, has(assigned, fields)] == [true; 4]
 }
 
 /// The same of the product.
@@ -80,22 +120,28 @@ pub(crate) fn product<T: Integer, O: Operand<T> + Copy>(x: Ratio<T>, o: O) -> Op
 {
     let y = o.ratio();
     let fields = x.checked_mul(&y)?.into_raw();
-    if every_product(x, o, fields) {
+    if every_product(x, y, o, fields) {
         Some(fields)
     } else {
         None
     }
 }
 
-fn every_product<T: Integer, O: Operand<T> + Copy>(x: Ratio<T>, o: O, fields: (T, T)) -> bool
-    requires { CanMultiply T.lo T.hi (numbers x) (O.pair o) }
+fn every_product<T: Integer, O: Operand<T> + Copy>(
+    x: Ratio<T>,
+    y: Ratio<T>,
+    o: O,
+    fields: (T, T),
+) -> bool
+    requires named { CanMultiply T.lo T.hi (numbers x) (numbers y) }
+    requires operand { CanMultiply T.lo T.hi (numbers x) (O.pair o) }
 {
     let mut assigned = x;
     assigned *= o;
-    has(x.mul(o.ratio()), fields)
-        && has(x * o, fields)
-        && has(&x * o, fields)
-        && has(assigned, fields)
+    let named = has(x.mul(y), fields);
+    let by_value = has(x * o, fields);
+    let by_reference = has(&x * o, fields);
+    [named, by_value, by_reference, has(assigned, fields)] == [true; 4]
 }
 
 /// The same of the quotient.
@@ -105,22 +151,28 @@ pub(crate) fn quotient<T: Integer, O: Operand<T> + Copy>(x: Ratio<T>, o: O) -> O
 {
     let y = o.ratio();
     let fields = x.checked_div(&y)?.into_raw();
-    if every_quotient(x, o, fields) {
+    if every_quotient(x, y, o, fields) {
         Some(fields)
     } else {
         None
     }
 }
 
-fn every_quotient<T: Integer, O: Operand<T> + Copy>(x: Ratio<T>, o: O, fields: (T, T)) -> bool
-    requires { CanDivide T.lo T.hi (numbers x) (O.pair o) }
+fn every_quotient<T: Integer, O: Operand<T> + Copy>(
+    x: Ratio<T>,
+    y: Ratio<T>,
+    o: O,
+    fields: (T, T),
+) -> bool
+    requires named { CanDivide T.lo T.hi (numbers x) (numbers y) }
+    requires operand { CanDivide T.lo T.hi (numbers x) (O.pair o) }
 {
     let mut assigned = x;
     assigned /= o;
-    has(x.div(o.ratio()), fields)
-        && has(x / o, fields)
-        && has(&x / o, fields)
-        && has(assigned, fields)
+    let named = has(x.div(y), fields);
+    let by_value = has(x / o, fields);
+    let by_reference = has(&x / o, fields);
+    [named, by_value, by_reference, has(assigned, fields)] == [true; 4]
 }
 
 /// The same of the remainder.
@@ -130,20 +182,26 @@ pub(crate) fn remainder<T: Integer, O: Operand<T> + Copy>(x: Ratio<T>, o: O) -> 
 {
     let y = o.ratio();
     let fields = x.checked_rem(&y)?.into_raw();
-    if every_remainder(x, o, fields) {
+    if every_remainder(x, y, o, fields) {
         Some(fields)
     } else {
         None
     }
 }
 
-fn every_remainder<T: Integer, O: Operand<T> + Copy>(x: Ratio<T>, o: O, fields: (T, T)) -> bool
-    requires { CanTakeRemainder T.lo T.hi (numbers x) (O.pair o) }
+fn every_remainder<T: Integer, O: Operand<T> + Copy>(
+    x: Ratio<T>,
+    y: Ratio<T>,
+    o: O,
+    fields: (T, T),
+) -> bool
+    requires named { CanTakeRemainder T.lo T.hi (numbers x) (numbers y) }
+    requires operand { CanTakeRemainder T.lo T.hi (numbers x) (O.pair o) }
 {
     let mut assigned = x;
     assigned %= o;
-    has(x.rem(o.ratio()), fields)
-        && has(x % o, fields)
-        && has(&x % o, fields)
-        && has(assigned, fields)
+    let named = has(x.rem(y), fields);
+    let by_value = has(x % o, fields);
+    let by_reference = has(&x % o, fields);
+    [named, by_value, by_reference, has(assigned, fields)] == [true; 4]
 }

@@ -1,4 +1,5 @@
 //! Rows of JSON values, from outside.
+use crate::asserting::all_hold;
 use num_rational::{JsonInteger, JsonRatioError, Ratio, Rational32, Rational64};
 use serde_json::Value;
 use std::alloc::Global;
@@ -19,13 +20,21 @@ fn reads<T: JsonInteger>(
     })
 }
 
-#[test]
-fn values_are_read(rt: HostRuntime) -> Result<(), Fail> {
-    let alloc = rt.alloc();
-    for text in ["[1]", "null", "{}", "[]", "[1,2,3]"] {
-        assert!(rt; reads::<i32>(text, alloc, Err(1))?, "{text}");
+// The first text that is not refused with this number.
+fn first_taken(texts: &[&str], alloc: Global, number: u8) -> Result<Option<usize>, Fail> {
+    for (i, text) in texts.iter().enumerate() {
+        if !reads::<i32>(text, alloc, Err(number))? {
+            return Ok(Some(i));
+        }
     }
-    for text in [
+    Ok(None)
+}
+
+#[test]
+fn refused_values(rt: HostRuntime) -> Result<(), Fail> {
+    let texts = ["[1]", "null", "{}", "[]", "[1,2,3]"];
+    all_hold(&rt, "not a pair", first_taken(&texts, rt.alloc(), 1)?);
+    let texts = [
         "[1.5,2]",
         "[2147483648,1]",
         "[1.5,0]",
@@ -34,10 +43,15 @@ fn values_are_read(rt: HostRuntime) -> Result<(), Fail> {
         "[1,null]",
         "[1.0,2]",
         "[2147483648,0]",
-    ] {
-        assert!(rt; reads::<i32>(text, alloc, Err(2))?, "{text}");
-    }
-    assert!(rt; reads::<i32>("[1,0]", alloc, Err(3))?);
+    ];
+    all_hold(&rt, "not integers", first_taken(&texts, rt.alloc(), 2)?);
+    all_hold(&rt, "zero", first_taken(&["[1,0]"], rt.alloc(), 3)?);
+    Ok(())
+}
+
+#[test]
+fn values_are_read(rt: HostRuntime) -> Result<(), Fail> {
+    let alloc = rt.alloc();
     assert!(rt; reads::<i32>("[1,-2]", alloc, Ok((1, -2)))?);
     assert!(rt; reads::<i32>("[-2147483648,-2147483648]", alloc, Ok((i32::MIN, i32::MIN)))?);
     assert!(rt; reads::<i64>("[9223372036854775808,1]", alloc, Err(2))?);

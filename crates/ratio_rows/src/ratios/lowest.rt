@@ -1,49 +1,63 @@
 //! Fractions that are always in lowest terms: rows from outside, and each call once at a concrete type.
-use crate::ratios::asserting::{answers, holds, is, reads};
+use crate::asserting::{each_holds, reads};
+use crate::ratios::forms::{has, raw};
+use crate::ratios::texts::Shown;
 use num_rational::laws::lowest;
-use num_rational::{Constants, Form, Ratio, Reduced, Reduced32, Reduced64};
+use num_rational::{Constants, Form, Reduced, Reduced32, Reduced64};
 use ratio_integer::Integer;
 use std::cmp::Ordering;
 use std::collections::{BTreeMap, HashMap};
-use std::fmt;
-use std::fmt::{Binary, Debug, Display, Formatter, InlineText, LowerHex, Octal, UpperHex, Write};
+use std::fmt::{Debug, InlineText};
 use std::process::Abort;
 use std::test::Fail;
 
-// The answer has these fields, or there is none.
-fn gives<T: Integer + Debug>(rt: &impl Abort, answer: Option<Reduced<T>>, want: Option<(T, T)>) {
-    answers(rt, answer.map(|x| x.to_ratio()), want);
+// Whether the answer has these fields, or there is none.
+fn gives<T: Integer>(answer: Option<Reduced<T>>, want: Option<(T, T)>) -> bool {
+    match answer {
+        Some(x) => want == Some(x.to_ratio().into_raw()),
+        None => want.is_none(),
+    }
 }
 
 #[test]
 fn makes_lowest_terms(rt: HostRuntime) -> Result<(), Fail> {
-    gives(&rt, Reduced64::checked_new(6, -4), Some((-3, 2)));
-    gives(&rt, Reduced64::checked_new(1, 0), None);
-    gives(&rt, Reduced::<i8>::checked_new(1, -128), None);
-    gives(&rt, Reduced::<i8>::checked_new(2, -128), Some((-1, 64)));
+    let facts = [
+        gives(Reduced64::checked_new(6, -4), Some((-3, 2))),
+        gives(Reduced64::checked_new(1, 0), None),
+        gives(Reduced::<i8>::checked_new(1, -128), None),
+        gives(Reduced::<i8>::checked_new(2, -128), Some((-1, 64))),
+    ];
+    each_holds(&rt, &facts);
     let whole = Reduced32::from(7);
-    is(&rt, whole.clone()?.into(), 7, 1);
-    is(&rt, Reduced64::default().to_ratio(), 0, 1);
-    is(&rt, Reduced64::one().to_ratio(), 1, 1);
-    is(&rt, Reduced64::ZERO.to_ratio(), 0, 1);
-    is(&rt, Reduced64::ONE.to_ratio(), 1, 1);
-    holds(&rt, "fields", *whole.numer() == 7 && *whole.denom() == 1);
-    holds(&rt, "raw", whole.into_raw() == (7, 1));
-    holds(&rt, "whole", whole.is_integer() && !whole.is_zero());
+    assert!(rt; has(whole.clone()?.into(), (7, 1)));
+    let facts = [
+        has(Reduced64::default().to_ratio(), (0, 1)),
+        has(Reduced64::one().to_ratio(), (1, 1)),
+        has(Reduced64::ZERO.to_ratio(), (0, 1)),
+        has(Reduced64::ONE.to_ratio(), (1, 1)),
+        *whole.numer() == 7,
+        *whole.denom() == 1,
+        whole.into_raw() == (7, 1),
+        whole.is_integer(),
+        !whole.is_zero(),
+    ];
+    each_holds(&rt, &facts);
     Ok(())
 }
 
-fn taken(rt: &impl Abort, numer: i8, denom: i8, want: Option<(i8, i8)>) {
-    assert!(rt; denom != 0);
-    let ratio = Ratio::<i8>::new_raw(numer, denom);
-    gives(rt, Reduced::from_ratio(&ratio), want);
+// What the fraction with these fields gives.
+fn taken(numer: i8, denom: i8) -> Option<Reduced<i8>> {
+    Reduced::from_ratio(&raw(numer, denom)?)
 }
 
 #[test]
 fn takes_fractions(rt: HostRuntime) {
-    taken(&rt, -128, -1, None);
-    taken(&rt, 4, -2, Some((-2, 1)));
-    taken(&rt, 0, -5, Some((0, 1)));
+    let facts = [
+        gives(taken(-128, -1), None),
+        gives(taken(4, -2), Some((-2, 1))),
+        gives(taken(0, -5), Some((0, 1))),
+    ];
+    each_holds(&rt, &facts);
 }
 
 // The fields of a text, or the number of the refusal's kind.
@@ -56,9 +70,12 @@ fn read(text: &str) -> Result<(i64, i64), u8> {
 
 #[test]
 fn reads_texts(rt: HostRuntime) {
-    holds(&rt, "6/-4", read("6/-4") == Ok((-3, 2)));
-    holds(&rt, "x/0", read("x/0") == Err(1));
-    holds(&rt, "1/0", read("1/0") == Err(2));
+    let facts = [
+        read("6/-4") == Ok((-3, 2)),
+        read("x/0") == Err(1),
+        read("1/0") == Err(2),
+    ];
+    each_holds(&rt, &facts);
     let half = Reduced64::from_str("2/4").unwrap_or(Reduced::zero());
     reads(&rt, half.text(Form::Decimal, false).as_str(), "1/2");
 }
@@ -73,31 +90,15 @@ fn read_in(text: &str, radix: u32) -> Result<(i64, i64), u8> {
 
 #[test]
 fn reads_texts_in_a_radix(rt: HostRuntime) {
-    holds(&rt, "16", read_in("f/2", 16) == Ok((15, 2)));
-    holds(&rt, "1", read_in("f/2", 1) == Err(1));
-    holds(&rt, "37", read_in("f/2", 37) == Err(1));
+    let facts = [
+        read_in("f/2", 16) == Ok((15, 2)),
+        read_in("f/2", 1) == Err(1),
+        read_in("f/2", 37) == Err(1),
+    ];
+    each_holds(&rt, &facts);
 }
 
-// How each of the other traits prints the fraction.
-#[derive(Drop)]
-struct Shown {
-    fraction: Reduced64,
-    form: Form,
-}
-
-impl Display for Shown {
-    fn fmt<W: Write>(&self, f: &mut Formatter<W>) -> fmt::Result {
-        match self.form {
-            Form::Decimal => Display::fmt(&self.fraction, f),
-            Form::Binary => Binary::fmt(&self.fraction, f),
-            Form::Octal => Octal::fmt(&self.fraction, f),
-            Form::LowerHex => LowerHex::fmt(&self.fraction, f),
-            Form::UpperHex => UpperHex::fmt(&self.fraction, f),
-        }
-    }
-}
-
-fn eleven_tenths(form: Form) -> Shown {
+fn eleven_tenths(form: Form) -> Shown<Reduced64> {
     let fraction = Reduced64::checked_new(22, 20).unwrap_or(Reduced::zero());
     Shown { fraction, form }
 }
@@ -114,29 +115,36 @@ fn prints(rt: HostRuntime) {
 #[test]
 fn takes_whole_numbers(rt: HostRuntime) {
     let wide = i64::MAX as i128;
-    gives(&rt, Reduced64::from_i64(-3), Some((-3, 1)));
-    gives(&rt, Reduced64::from_i128(wide + 1), None);
-    gives(&rt, Reduced64::from_u64(u64::MAX), None);
-    gives(&rt, Reduced64::from_u128(7), Some((7, 1)));
+    let facts = [
+        gives(Reduced64::from_i64(-3), Some((-3, 1))),
+        gives(Reduced64::from_i128(wide + 1), None),
+        gives(Reduced64::from_u64(u64::MAX), None),
+        gives(Reduced64::from_u128(7), Some((7, 1))),
+    ];
+    each_holds(&rt, &facts);
 }
 
 #[test]
 fn finds_the_nearest(rt: HostRuntime) {
     let x = Reduced64::checked_new(355, 113).unwrap_or(Reduced::zero());
-    gives(&rt, x.nearest(100), Some((311, 99)));
-    gives(&rt, x.nearest(0), None);
-    is(&rt, x.signum().to_ratio(), 1, 1);
+    let facts = [
+        gives(x.nearest(100), Some((311, 99))),
+        gives(x.nearest(0), None),
+        has(x.signum().to_ratio(), (1, 1)),
+    ];
+    each_holds(&rt, &facts);
 }
 
 #[test]
 fn compares(rt: HostRuntime) {
     let (zero, one) = (Reduced64::zero(), Reduced64::one());
-    holds(&rt, "less", zero < one && zero.cmp(&one) == Ordering::Less);
-    holds(
-        &rt,
-        "equal",
-        one == Reduced64::from_integer(1) && zero != one,
-    );
+    let facts = [
+        zero < one,
+        zero.cmp(&one) == Ordering::Less,
+        one == Reduced64::from_integer(1),
+        zero != one,
+    ];
+    each_holds(&rt, &facts);
 }
 
 #[test]
@@ -149,7 +157,7 @@ fn keys_are_one_entry(rt: HostRuntime) -> Result<(), Fail> {
         ordered.insert(key, row.0)?;
         hashed.insert(key, row.0)?;
     }
-    holds(&rt, "entries", ordered.len() == 1 && hashed.len() == 1);
+    each_holds(&rt, &[ordered.len() == 1, hashed.len() == 1]);
     Ok(())
 }
 
@@ -163,49 +171,55 @@ fn computes_where_8_bits_end(rt: HostRuntime) {
         Reduced::checked_new(127i8, 2),
         Reduced::checked_new(2i8, 127),
     );
-    gives(
-        &rt,
-        many.unwrap_or(least).checked_mul(few.unwrap_or(least)),
-        Some((1, 1)),
+    assert!(rt;
+        gives(
+            many.unwrap_or(least).checked_mul(few.unwrap_or(least)),
+            Some((1, 1))
+        )
     );
     let half = Reduced::checked_new(-1i8, 2).unwrap_or(least);
-    gives(
-        &rt,
-        Reduced::<i8>::from_integer(64).checked_div(half),
-        Some((-128, 1)),
-    );
-    gives(&rt, least.checked_div(-1), None);
-    gives(&rt, most.checked_add(1), None);
-    gives(&rt, least.checked_neg(), None);
-    gives(&rt, least.checked_abs(), None);
-    gives(&rt, least.checked_recip(), None);
-    gives(&rt, most.checked_neg(), Some((-127, 1)));
-    gives(&rt, most.checked_recip(), Some((1, 127)));
-    gives(&rt, Reduced::<i8>::zero().checked_recip(), None);
-    gives(&rt, most.checked_pow_with(-1i64), Some((1, 127)));
+    let facts = [
+        gives(
+            Reduced::<i8>::from_integer(64).checked_div(half),
+            Some((-128, 1)),
+        ),
+        gives(least.checked_div(-1), None),
+        gives(most.checked_add(1), None),
+        gives(least.checked_neg(), None),
+        gives(least.checked_abs(), None),
+        gives(least.checked_recip(), None),
+        gives(most.checked_neg(), Some((-127, 1))),
+        gives(most.checked_recip(), Some((1, 127))),
+        gives(Reduced::<i8>::zero().checked_recip(), None),
+        gives(most.checked_pow_with(-1i64), Some((1, 127))),
+    ];
+    each_holds(&rt, &facts);
 }
 
 #[test]
 fn tells_signs(rt: HostRuntime) {
     let x = Reduced64::checked_new(3, -4).unwrap_or(Reduced::zero());
-    gives(&rt, x.checked_abs(), Some((3, 4)));
-    gives(&rt, x.checked_recip(), Some((-4, 3)));
-    holds(&rt, "below 0", x.is_negative() && !x.is_positive());
+    let facts = [
+        gives(x.checked_abs(), Some((3, 4))),
+        gives(x.checked_recip(), Some((-4, 3))),
+        x.is_negative(),
+        !x.is_positive(),
+    ];
+    each_holds(&rt, &facts);
 }
 
 #[test]
 fn folds_lists(rt: HostRuntime) {
     let half = Reduced64::checked_new(1, 2).unwrap_or(Reduced::zero());
     let third = Reduced64::checked_new(1, 3).unwrap_or(Reduced::zero());
-    gives(&rt, Reduced64::checked_sum(&[half, third]), Some((5, 6)));
-    gives(
-        &rt,
-        Reduced64::checked_product(&[&half, &third]),
-        Some((1, 6)),
-    );
-    gives(&rt, Reduced::<i8>::checked_sum(&[127i8, 1, -1]), None);
+    let facts = [
+        gives(Reduced64::checked_sum(&[half, third]), Some((5, 6))),
+        gives(Reduced64::checked_product(&[&half, &third]), Some((1, 6))),
+        gives(Reduced::<i8>::checked_sum(&[127i8, 1, -1]), None),
+    ];
+    each_holds(&rt, &facts);
     let none: [Reduced64; 0] = [];
-    gives(&rt, Reduced64::checked_product(&none), Some((1, 1)));
+    assert!(rt; gives(Reduced64::checked_product(&none), Some((1, 1))));
 }
 
 #[test]

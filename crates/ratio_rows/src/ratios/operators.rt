@@ -3,21 +3,21 @@
 ghost use Rattle.std.specs.Prelude.{◌<ℤ◌, pos};
 ghost use Rattle.num_rational.specs.Ratio.{denominator};
 
+use crate::asserting::{all_hold, each_holds};
 use crate::ratios::forms::{self, fraction};
 use num_rational::{Operand, Ratio, Reduced, ReducedOperand};
 use ratio_integer::{Integer, Primitive};
-use std::fmt::Debug;
 use std::process::Abort;
 
-fn answer<T: Integer, O: Operand<T> + Copy>(x: Ratio<T>, symbol: char, o: O) -> Option<(T, T)>
+fn answer<T: Integer, O: Operand<T> + Copy>(x: Ratio<T>, symbol: u8, o: O) -> Option<(T, T)>
     requires left { pos 0 <ℤ denominator x }
     requires right { pos 0 <ℤ (O.pair o).1 }
 {
     match symbol {
-        '+' => forms::sum(x, o),
-        '-' => forms::difference(x, o),
-        '*' => forms::product(x, o),
-        '/' => forms::quotient(x, o),
+        b'+' => forms::sum(x, o),
+        b'-' => forms::difference(x, o),
+        b'*' => forms::product(x, o),
+        b'/' => forms::quotient(x, o),
         _ => forms::remainder(x, o),
     }
 }
@@ -25,27 +25,35 @@ fn answer<T: Integer, O: Operand<T> + Copy>(x: Ratio<T>, symbol: char, o: O) -> 
 // The same of a fraction in lowest terms.
 fn lowest_answer<T: Integer, O: ReducedOperand<T>>(
     x: Reduced<T>,
-    symbol: char,
+    symbol: u8,
     o: O,
 ) -> Option<Reduced<T>> {
     match symbol {
-        '+' => x.checked_add(o),
-        '-' => x.checked_sub(o),
-        '*' => x.checked_mul(o),
-        '/' => x.checked_div(o),
+        b'+' => x.checked_add(o),
+        b'-' => x.checked_sub(o),
+        b'*' => x.checked_mul(o),
+        b'/' => x.checked_div(o),
         _ => x.checked_rem(o),
+    }
+}
+
+// Whether the answer has these fields, or there is none.
+fn is_lowest<T: Integer>(answer: Option<Reduced<T>>, want: Option<(T, T)>) -> bool {
+    match answer {
+        Some(y) => Some(y.into_raw()) == want,
+        None => want.is_none(),
     }
 }
 
 // Whether it is so from the lowest terms of the left side.
 fn lowest_holds<T: Integer, O: ReducedOperand<T> + Copy>(
     left: (T, T),
-    symbol: char,
+    symbol: u8,
     o: O,
     want: Option<(T, T)>,
 ) -> bool {
     match Reduced::checked_new(left.0, left.1) {
-        Some(x) => lowest_answer(x, symbol, o).map(|y| y.into_raw()) == want,
+        Some(x) => is_lowest(lowest_answer(x, symbol, o), want),
         None => false,
     }
 }
@@ -53,7 +61,7 @@ fn lowest_holds<T: Integer, O: ReducedOperand<T> + Copy>(
 // And from those of the right side.
 fn both_lowest_hold<T: Integer>(
     left: (T, T),
-    symbol: char,
+    symbol: u8,
     right: (T, T),
     want: Option<(T, T)>,
 ) -> bool {
@@ -63,57 +71,107 @@ fn both_lowest_hold<T: Integer>(
     }
 }
 
-// A row: the right operand stands by value and behind a reference.
-fn holds<T: Integer + Debug>(
-    rt: &impl Abort,
-    left: (T, T),
-    symbol: char,
-    right: (T, T),
-    want: Option<(T, T)>,
-) {
+// Whether it is so by every form: the right operand stands by value and behind a reference.
+fn holds<T: Integer>(left: (T, T), symbol: u8, right: (T, T), want: Option<(T, T)>) -> bool {
     let (x, y) = (fraction(left), fraction(right));
-    assert!(rt;
-        answer(x, symbol, y) == want
-            && answer(x, symbol, &y) == want
-            && both_lowest_hold(left, symbol, right, want),
-        "{left:?} {symbol} {right:?}"
-    );
+    answer(x, symbol, y) == want
+        && answer(x, symbol, &y) == want
+        && both_lowest_hold(left, symbol, right, want)
 }
 
-// The same of a row with a whole number.
-fn holds_with<T: Integer + Debug>(
-    rt: &impl Abort,
-    left: (T, T),
-    symbol: char,
-    c: T,
-    want: Option<(T, T)>,
-) {
+// The same of a whole number on the right.
+fn holds_with<T: Integer>(left: (T, T), symbol: u8, c: T, want: Option<(T, T)>) -> bool {
     let x = fraction(left);
-    assert!(rt;
-        answer(x, symbol, c) == want
-            && answer(x, symbol, &c) == want
-            && lowest_holds(left, symbol, c, want)
-            && lowest_holds(left, symbol, &c, want),
-        "{left:?} {symbol} {c:?}"
-    );
+    answer(x, symbol, c) == want
+        && answer(x, symbol, &c) == want
+        && lowest_holds(left, symbol, c, want)
+        && lowest_holds(left, symbol, &c, want)
 }
 
-// The same rows at each of the twelve types.
-macro_rules! at_each_type {
-    ($rows:ident, $rt:expr) => {
-        $rows::<i8>($rt);
-        $rows::<u8>($rt);
-        $rows::<i16>($rt);
-        $rows::<u16>($rt);
-        $rows::<i32>($rt);
-        $rows::<u32>($rt);
-        $rows::<i64>($rt);
-        $rows::<u64>($rt);
-        $rows::<isize>($rt);
-        $rows::<usize>($rt);
-        $rows::<i128>($rt);
-        $rows::<u128>($rt);
-    };
+// A row: a, b, a symbol, c, d, and the wanted answer for a/b and c/d.
+type Row<T> = (T, T, u8, T, T, Option<(T, T)>);
+
+// The first row that does not hold.
+fn first_wrong<T: Integer>(rows: &[Row<T>]) -> Option<usize> {
+    for (i, &(a, b, symbol, c, d, want)) in rows.iter().enumerate() {
+        if !holds((a, b), symbol, (c, d), want) {
+            return Some(i);
+        }
+    }
+    None
+}
+
+fn rows_hold<T: Integer>(rt: &impl Abort, rows: &[Row<T>]) {
+    all_hold(rt, "operators", first_wrong(rows));
+}
+
+#[test]
+fn test_add(rt: HostRuntime) {
+    rows_hold(
+        &rt,
+        &[
+            (1i64, 1, b'+', 1, 2, Some((3, 2))),
+            (1, 1, b'+', 1, 1, Some((2, 1))),
+            (1, 2, b'+', 3, 2, Some((2, 1))),
+            (1, 2, b'+', -1, 2, Some((0, 1))),
+        ],
+    );
+    assert!(rt; holds_with((1i64, 2), b'+', 1, Some((3, 2))));
+}
+
+#[test]
+fn test_sub(rt: HostRuntime) {
+    rows_hold(
+        &rt,
+        &[
+            (1i64, 1, b'-', 1, 2, Some((1, 2))),
+            (3, 2, b'-', 1, 2, Some((1, 1))),
+            (1, 1, b'-', -1, 2, Some((3, 2))),
+        ],
+    );
+    assert!(rt; holds_with((1i64, 2), b'-', 1, Some((-1, 2))));
+}
+
+#[test]
+fn test_mul(rt: HostRuntime) {
+    rows_hold(
+        &rt,
+        &[
+            (1i64, 1, b'*', 1, 2, Some((1, 2))),
+            (3, 2, b'*', 1, 2, Some((3, 4))),
+            (-1, 2, b'*', 1, 2, Some((-1, 4))),
+        ],
+    );
+    assert!(rt; holds_with((1i64, 2), b'*', 2, Some((1, 1))));
+}
+
+#[test]
+fn test_div(rt: HostRuntime) {
+    rows_hold(
+        &rt,
+        &[
+            (1i64, 1, b'/', 1, 2, Some((2, 1))),
+            (3, 2, b'/', 1, 2, Some((3, 1))),
+            (1, 1, b'/', -1, 2, Some((-2, 1))),
+        ],
+    );
+    assert!(rt; holds_with((1i64, 1), b'/', 2, Some((1, 2))));
+}
+
+#[test]
+fn test_rem(rt: HostRuntime) {
+    rows_hold(
+        &rt,
+        &[
+            (3i64, 2, b'%', 1, 1, Some((1, 2))),
+            (3, 2, b'%', 1, 2, Some((0, 1))),
+            (5, 2, b'%', 3, 2, Some((1, 1))),
+            (2, 1, b'%', -1, 2, Some((0, 1))),
+            (1, 2, b'%', 2, 1, Some((1, 2))),
+            (-7, 2, b'%', 1, 1, Some((-1, 2))),
+        ],
+    );
+    assert!(rt; holds_with((3i64, 2), b'%', 1, Some((1, 2))));
 }
 
 // The greatest number of a type.
@@ -124,71 +182,6 @@ fn most<T: Primitive>() -> u128 {
 // The number as one of a type that holds it.
 fn number<T: Primitive>(n: u128) -> T {
     T::from_u128(n).unwrap_or(T::ZERO)
-}
-
-#[test]
-fn test_add(rt: HostRuntime) {
-    holds(&rt, (1i64, 1), '+', (1, 2), Some((3, 2)));
-    holds(&rt, (1i64, 1), '+', (1, 1), Some((2, 1)));
-    holds(&rt, (1i64, 2), '+', (3, 2), Some((2, 1)));
-    holds(&rt, (1i64, 2), '+', (-1, 2), Some((0, 1)));
-    holds_with(&rt, (1i64, 2), '+', 1, Some((3, 2)));
-}
-
-#[test]
-fn test_sub(rt: HostRuntime) {
-    holds(&rt, (1i64, 1), '-', (1, 2), Some((1, 2)));
-    holds(&rt, (3i64, 2), '-', (1, 2), Some((1, 1)));
-    holds(&rt, (1i64, 1), '-', (-1, 2), Some((3, 2)));
-    holds_with(&rt, (1i64, 2), '-', 1, Some((-1, 2)));
-}
-
-#[test]
-fn test_mul(rt: HostRuntime) {
-    holds(&rt, (1i64, 1), '*', (1, 2), Some((1, 2)));
-    holds(&rt, (3i64, 2), '*', (1, 2), Some((3, 4)));
-    holds(&rt, (-1i64, 2), '*', (1, 2), Some((-1, 4)));
-    holds_with(&rt, (1i64, 2), '*', 2, Some((1, 1)));
-}
-
-#[test]
-fn test_div(rt: HostRuntime) {
-    holds(&rt, (1i64, 1), '/', (1, 2), Some((2, 1)));
-    holds(&rt, (3i64, 2), '/', (1, 2), Some((3, 1)));
-    holds(&rt, (1i64, 1), '/', (-1, 2), Some((-2, 1)));
-    holds_with(&rt, (1i64, 1), '/', 2, Some((1, 2)));
-}
-
-#[test]
-fn test_rem(rt: HostRuntime) {
-    holds(&rt, (3i64, 2), '%', (1, 1), Some((1, 2)));
-    holds(&rt, (3i64, 2), '%', (1, 2), Some((0, 1)));
-    holds(&rt, (5i64, 2), '%', (3, 2), Some((1, 1)));
-    holds(&rt, (2i64, 1), '%', (-1, 2), Some((0, 1)));
-    holds(&rt, (1i64, 2), '%', (2, 1), Some((1, 2)));
-    holds(&rt, (-7i64, 2), '%', (1, 1), Some((-1, 2)));
-    holds_with(&rt, (3i64, 2), '%', 1, Some((1, 2)));
-}
-
-// Near the greatest number M, where naive products of the fields are not held.
-fn sums_near_the_greatest<T: Primitive + Debug>(rt: &impl Abort) {
-    let x = (T::ONE, T::MAX);
-    holds(rt, x, '+', x, Some((number(2), T::MAX)));
-}
-
-#[test]
-fn test_add_overflow(rt: HostRuntime) {
-    at_each_type!(sums_near_the_greatest, &rt);
-}
-
-fn differences_near_the_greatest<T: Primitive + Debug>(rt: &impl Abort) {
-    let x = (T::ONE, T::MAX);
-    holds(rt, x, '-', x, Some((T::ZERO, T::ONE)));
-}
-
-#[test]
-fn test_sub_overflow(rt: HostRuntime) {
-    at_each_type!(differences_near_the_greatest, &rt);
 }
 
 // 1 over about half of M, and what it is times 2/3.
@@ -202,56 +195,103 @@ fn about_half<T: Primitive>() -> T {
     number(most::<T>() / 6 * 3 + 1)
 }
 
-fn products_near_the_greatest<T: Primitive + Debug>(rt: &impl Abort) {
+// Whether the rows of products and of quotients near M hold.
+fn multiples_hold<T: Primitive>(symbol: u8) -> bool {
     let (x, want) = halves::<T>();
-    let c = about_half::<T>();
-    holds(rt, x, '*', (number(2), number(3)), Some(want));
-    holds_with(rt, (c, number(3)), '*', number(3), Some((c, T::ONE)));
+    let (c, two, three) = (about_half::<T>(), number(2), number(3));
+    if symbol == b'*' {
+        holds(x, b'*', (two, three), Some(want))
+            && holds_with((c, three), b'*', three, Some((c, T::ONE)))
+    } else {
+        holds(x, b'/', (three, two), Some(want))
+            && holds_with((three, c), b'/', three, Some((T::ONE, c)))
+    }
+}
+
+// Whether the rows of an operator near the greatest number M hold, where naive products of the fields
+// are not held.
+fn near_the_greatest<T: Primitive>(symbol: u8) -> bool {
+    let x = (T::ONE, T::MAX);
+    match symbol {
+        b'+' => holds(x, b'+', x, Some((number(2), T::MAX))),
+        b'-' => holds(x, b'-', x, Some((T::ZERO, T::ONE))),
+        b'%' => {
+            let y = (T::ONE, number(most::<T>() / 2 * 2));
+            holds((T::ONE, number(2)), b'%', y, Some((T::ZERO, T::ONE)))
+        }
+        _ => multiples_hold::<T>(symbol),
+    }
+}
+
+// Whether they hold at each of the twelve types.
+fn at_each_type(symbol: u8) -> [bool; 12] {
+    [
+        near_the_greatest::<i8>(symbol),
+        near_the_greatest::<u8>(symbol),
+        near_the_greatest::<i16>(symbol),
+        near_the_greatest::<u16>(symbol),
+        near_the_greatest::<i32>(symbol),
+        near_the_greatest::<u32>(symbol),
+        near_the_greatest::<i64>(symbol),
+        near_the_greatest::<u64>(symbol),
+        near_the_greatest::<isize>(symbol),
+        near_the_greatest::<usize>(symbol),
+        near_the_greatest::<i128>(symbol),
+        near_the_greatest::<u128>(symbol),
+    ]
+}
+
+#[test]
+fn test_add_overflow(rt: HostRuntime) {
+    each_holds(&rt, &at_each_type(b'+'));
+}
+
+#[test]
+fn test_sub_overflow(rt: HostRuntime) {
+    each_holds(&rt, &at_each_type(b'-'));
 }
 
 #[test]
 fn test_mul_overflow(rt: HostRuntime) {
-    at_each_type!(products_near_the_greatest, &rt);
-}
-
-fn quotients_near_the_greatest<T: Primitive + Debug>(rt: &impl Abort) {
-    let (x, want) = halves::<T>();
-    let c = about_half::<T>();
-    holds(rt, x, '/', (number(3), number(2)), Some(want));
-    holds_with(rt, (number(3), c), '/', number(3), Some((T::ONE, c)));
+    each_holds(&rt, &at_each_type(b'*'));
 }
 
 #[test]
 fn test_div_overflow(rt: HostRuntime) {
-    at_each_type!(quotients_near_the_greatest, &rt);
-}
-
-fn remainders_near_the_greatest<T: Primitive + Debug>(rt: &impl Abort) {
-    let y = (T::ONE, number(most::<T>() / 2 * 2));
-    holds(rt, (T::ONE, number(2)), '%', y, Some((T::ZERO, T::ONE)));
+    each_holds(&rt, &at_each_type(b'/'));
 }
 
 #[test]
 fn test_rem_overflow(rt: HostRuntime) {
-    at_each_type!(remainders_near_the_greatest, &rt);
+    each_holds(&rt, &at_each_type(b'%'));
 }
 
 #[test]
 fn test_zero(rt: HostRuntime) {
-    holds(&rt, (0i64, 1), '+', (0, 1), Some((0, 1)));
-    holds(&rt, (0i64, 1), '*', (0, 1), Some((0, 1)));
-    holds(&rt, (0i64, 1), '*', (1, 1), Some((0, 1)));
-    holds(&rt, (0i64, 1), '/', (-1, 2), Some((0, 1)));
-    holds(&rt, (0i64, 1), '-', (0, 1), Some((0, 1)));
+    rows_hold(
+        &rt,
+        &[
+            (0i64, 1, b'+', 0, 1, Some((0, 1))),
+            (0, 1, b'*', 0, 1, Some((0, 1))),
+            (0, 1, b'*', 1, 1, Some((0, 1))),
+            (0, 1, b'/', -1, 2, Some((0, 1))),
+            (0, 1, b'-', 0, 1, Some((0, 1))),
+        ],
+    );
 }
 
 #[test]
 fn test_checked_failures(rt: HostRuntime) {
-    holds(&rt, (128u8, 1), '+', (128, 1), None);
-    holds(&rt, (1u8, 128), '-', (128, 1), None);
-    holds(&rt, (128u8, 1), '*', (128, 1), None);
-    holds(&rt, (1u8, 128), '/', (128, 1), None);
-    holds(&rt, (1i64, 1), '/', (0, 1), None);
+    rows_hold(
+        &rt,
+        &[
+            (128u8, 1, b'+', 128, 1, None),
+            (1, 128, b'-', 128, 1, None),
+            (128, 1, b'*', 128, 1, None),
+            (1, 128, b'/', 128, 1, None),
+        ],
+    );
+    assert!(rt; holds((1i64, 1), b'/', (0, 1), None));
 }
 
 fn whole(n: i64) -> Option<(i64, i64)> {
@@ -261,10 +301,15 @@ fn whole(n: i64) -> Option<(i64, i64)> {
 // The sum, the difference, the product and the quotient of two whole numbers.
 fn four_hold(rt: &impl Abort, a: i64, c: i64, want: [Option<(i64, i64)>; 4]) {
     let [sum, difference, product, quotient] = want;
-    holds(rt, (a, 1), '+', (c, 1), sum);
-    holds(rt, (a, 1), '-', (c, 1), difference);
-    holds(rt, (a, 1), '*', (c, 1), product);
-    holds(rt, (a, 1), '/', (c, 1), quotient);
+    rows_hold(
+        rt,
+        &[
+            (a, 1, b'+', c, 1, sum),
+            (a, 1, b'-', c, 1, difference),
+            (a, 1, b'*', c, 1, product),
+            (a, 1, b'/', c, 1, quotient),
+        ],
+    );
 }
 
 #[test]
@@ -304,37 +349,54 @@ fn test_checked_min_max(rt: HostRuntime) {
 
 #[test]
 fn where_8_bits_end(rt: HostRuntime) {
-    holds(&rt, (64i8, 1), '/', (-1, 2), Some((-128, 1)));
-    holds(&rt, (100i8, 100), '*', (7, 7), Some((1, 1)));
-    holds(&rt, (-128i8, 1), '/', (-128, 1), Some((1, 1)));
-    holds(&rt, (-128i8, 1), '%', (-1, 1), Some((0, 1)));
-    holds(&rt, (0i8, 1), '/', (-128, 3), Some((0, 1)));
-    holds(&rt, (127i8, 2), '*', (2, 127), Some((1, 1)));
-    holds(&rt, (127i8, 2), '*', (127, 1), None);
-    holds(&rt, (-128i8, 3), '*', (3, 1), Some((-128, 1)));
-    holds(&rt, (-128i8, 1), '/', (-1, 1), None);
-    holds(&rt, (1i8, 1), '/', (-128, 127), None);
-    holds(&rt, (-127i8, 2), '%', (1, 1), Some((-1, 2)));
-    holds(&rt, (255u8, 2), '+', (255, 2), None);
-    holds(&rt, (1u8, 2), '-', (1, 1), None);
-    holds(&rt, (1u8, 1), '%', (0, 3), None);
+    rows_hold(
+        &rt,
+        &[
+            (64i8, 1, b'/', -1, 2, Some((-128, 1))),
+            (100, 100, b'*', 7, 7, Some((1, 1))),
+            (-128, 1, b'/', -128, 1, Some((1, 1))),
+            (-128, 1, b'%', -1, 1, Some((0, 1))),
+            (0, 1, b'/', -128, 3, Some((0, 1))),
+            (127, 2, b'*', 2, 127, Some((1, 1))),
+            (127, 2, b'*', 127, 1, None),
+            (-128, 3, b'*', 3, 1, Some((-128, 1))),
+            (-128, 1, b'/', -1, 1, None),
+            (1, 1, b'/', -128, 127, None),
+            (-127, 2, b'%', 1, 1, Some((-1, 2))),
+        ],
+    );
+    rows_hold(
+        &rt,
+        &[
+            (255u8, 2, b'+', 255, 2, None),
+            (1, 2, b'-', 1, 1, None),
+            (1, 1, b'%', 0, 3, None),
+        ],
+    );
 }
 
 #[test]
 fn where_32_bits_end(rt: HostRuntime) {
     let half = (4294967295u32, 2);
-    holds(&rt, half, '+', half, None);
-    let half = (2147483647i32, 2);
-    holds(&rt, half, '+', half, Some((2147483647, 1)));
-    let (x, y) = ((1i32, 11862016), (1, 11993088));
-    holds(&rt, x, '+', y, Some((91, 542687232)));
-    holds(&rt, x, '-', y, Some((1, 1085374464)));
-    holds(&rt, (1i32, 2147483647), '+', (1, 2147483646), None);
+    assert!(rt; holds(half, b'+', half, None));
+    let (most, b, d) = (2147483647i32, 11862016, 11993088);
+    rows_hold(
+        &rt,
+        &[
+            (most, 2, b'+', most, 2, Some((most, 1))),
+            (1, b, b'+', 1, d, Some((91, 542687232))),
+            (1, b, b'-', 1, d, Some((1, 1085374464))),
+            (1, 2147483647, b'+', 1, 2147483646, None),
+        ],
+    );
 }
 
 #[test]
 fn where_64_bits_end(rt: HostRuntime) {
     let (least, most) = (i64::MIN, i64::MAX);
-    holds(&rt, (least, most), '+', (least, most), None);
-    holds(&rt, (1, 1), '/', (least, 1), None);
+    let facts = [
+        holds((least, most), b'+', (least, most), None),
+        holds((1, 1), b'/', (least, 1), None),
+    ];
+    each_holds(&rt, &facts);
 }

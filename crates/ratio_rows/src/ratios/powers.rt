@@ -1,4 +1,6 @@
 //! Rows of reciprocals and powers, from outside.
+use crate::asserting::{all_hold, each_holds};
+use crate::ratios::forms::positive;
 use num_rational::{Exponent, Ratio, Reduced};
 use num_traits::Inv;
 use ratio_integer::Integer;
@@ -6,27 +8,19 @@ use std::process::Abort;
 
 // n/d to the e, by the checked call and by the one that asks for its answer.
 fn power<T: Integer, E: Exponent>(n: T, d: T, e: E) -> Option<(T, T)> {
-    if T::ZERO < d {
-        let x = Ratio::new_raw(n, d);
-        match x.checked_pow_with(e) {
-            Some(_) => Some(x.pow_with(e).into_raw()),
-            None => None,
-        }
-    } else {
-        None
+    let x = positive(n, d)?;
+    match x.checked_pow_with(e) {
+        Some(_) => Some(x.pow_with(e).into_raw()),
+        None => None,
     }
 }
 
 // The same for an i32.
 fn small_power<T: Integer>(n: T, d: T, e: i32) -> Option<(T, T)> {
-    if T::ZERO < d {
-        let x = Ratio::new_raw(n, d);
-        match x.checked_pow(e) {
-            Some(_) => Some(x.pow(e).into_raw()),
-            None => None,
-        }
-    } else {
-        None
+    let x = positive(n, d)?;
+    match x.checked_pow(e) {
+        Some(_) => Some(x.pow(e).into_raw()),
+        None => None,
     }
 }
 
@@ -46,13 +40,23 @@ fn lowest_power<T: Integer>(n: T, d: T, e: i32, want: Option<(T, T)>) -> bool {
 // A row: n, d, e and the fields of n/d to the e.
 type Row<T> = (T, T, i32, Option<(T, T)>);
 
-fn rows_hold<T: Integer>(rt: &impl Abort, rows: &[Row<T>]) {
+// Whether every call answers so.
+fn holds<T: Integer>(n: T, d: T, e: i32, want: Option<(T, T)>) -> bool {
+    small_power(n, d, e) == want && power(n, d, &e) == want && lowest_power(n, d, e, want)
+}
+
+// The first row that does not hold.
+fn first_wrong<T: Integer>(rows: &[Row<T>]) -> Option<usize> {
     for (i, &(n, d, e, want)) in rows.iter().enumerate() {
-        assert!(rt;
-            small_power(n, d, e) == want && power(n, d, &e) == want && lowest_power(n, d, e, want),
-            "row {i}"
-        );
+        if !holds(n, d, e, want) {
+            return Some(i);
+        }
     }
+    None
+}
+
+fn rows_hold<T: Integer>(rt: &impl Abort, rows: &[Row<T>]) {
+    all_hold(rt, "powers", first_wrong(rows));
 }
 
 #[test]
@@ -92,37 +96,43 @@ fn test_pow(rt: HostRuntime) {
     );
 }
 
-fn power_holds<T: Integer, E: Exponent>(rt: &impl Abort, x: (T, T), e: E, want: Option<(T, T)>) {
-    assert!(rt; power(x.0, x.1, e) == want);
+fn power_holds<E: Exponent>(x: (i64, i64), e: E, want: Option<(i64, i64)>) -> bool {
+    power(x.0, x.1, e) == want
 }
 
 #[test]
 fn every_exponent(rt: HostRuntime) {
-    power_holds(&rt, (1i64, 1), u128::MAX, Some((1, 1)));
-    power_holds(&rt, (-1i64, 1), i128::MIN, Some((1, 1)));
-    power_holds(&rt, (-1i64, 1), u128::MAX, Some((-1, 1)));
-    power_holds(&rt, (0i64, 1), u128::MAX, Some((0, 1)));
-    power_holds(&rt, (2i64, 1), u128::MAX, None);
-    power_holds(&rt, (3i64, 2), &3u8, Some((27, 8)));
-    power_holds(&rt, (3i64, 2), -3i8, Some((8, 27)));
-    power_holds(&rt, (3i64, 2), 3u16, Some((27, 8)));
-    power_holds(&rt, (3i64, 2), &-3i16, Some((8, 27)));
-    power_holds(&rt, (3i64, 2), 3u32, Some((27, 8)));
-    power_holds(&rt, (3i64, 2), 3u64, Some((27, 8)));
-    power_holds(&rt, (3i64, 2), -3i64, Some((8, 27)));
-    power_holds(&rt, (3i64, 2), 3usize, Some((27, 8)));
-    power_holds(&rt, (3i64, 2), -3isize, Some((8, 27)));
+    let facts = [
+        power_holds((1, 1), u128::MAX, Some((1, 1))),
+        power_holds((-1, 1), i128::MIN, Some((1, 1))),
+        power_holds((-1, 1), u128::MAX, Some((-1, 1))),
+        power_holds((0, 1), u128::MAX, Some((0, 1))),
+        power_holds((2, 1), u128::MAX, None),
+        power_holds((3, 2), &3u8, Some((27, 8))),
+        power_holds((3, 2), -3i8, Some((8, 27))),
+        power_holds((3, 2), 3u16, Some((27, 8))),
+        power_holds((3, 2), &-3i16, Some((8, 27))),
+        power_holds((3, 2), 3u32, Some((27, 8))),
+        power_holds((3, 2), 3u64, Some((27, 8))),
+        power_holds((3, 2), -3i64, Some((8, 27))),
+        power_holds((3, 2), 3usize, Some((27, 8))),
+        power_holds((3, 2), -3isize, Some((8, 27))),
+    ];
+    each_holds(&rt, &facts);
 }
 
 // The magnitudes of the least values, and whether these are below 0.
 #[test]
 fn magnitudes(rt: HostRuntime) {
-    assert!(rt; i32::MIN.magnitude() == 2147483648 && i32::MIN.is_below_zero());
+    each_holds(
+        &rt,
+        &[i32::MIN.magnitude() == 2147483648, i32::MIN.is_below_zero()],
+    );
     assert!(rt;
         i8::MIN.magnitude() == 128
             && i128::MIN.magnitude() == 170141183460469231731687303715884105728
     );
-    assert!(rt; !0u8.is_below_zero() && !(&7i64).is_below_zero());
+    each_holds(&rt, &[!0u8.is_below_zero(), !(&7i64).is_below_zero()]);
 }
 
 // The reciprocal of n/d by each call, and what n/d times it is.
@@ -144,16 +154,20 @@ fn reciprocal(n: i64, d: i64) -> Option<((i64, i64), (i64, i64))> {
     None
 }
 
+// Whether the reciprocal of n/d is this, and n/d times it is 1.
+fn has_reciprocal(n: i64, d: i64, want: (i64, i64)) -> bool {
+    reciprocal(n, d) == Some((want, (1, 1)))
+}
+
 #[test]
 fn test_recip(rt: HostRuntime) {
-    for (n, d, want) in [
-        (1, 1, (1, 1)),
-        (2, 1, (1, 2)),
-        (1, 2, (2, 1)),
-        (3, 2, (2, 3)),
-        (-1, 2, (-2, 1)),
-        (-2, 3, (-3, 2)),
-    ] {
-        assert!(rt; reciprocal(n, d) == Some((want, (1, 1))));
-    }
+    let facts = [
+        has_reciprocal(1, 1, (1, 1)),
+        has_reciprocal(2, 1, (1, 2)),
+        has_reciprocal(1, 2, (2, 1)),
+        has_reciprocal(3, 2, (2, 3)),
+        has_reciprocal(-1, 2, (-2, 1)),
+        has_reciprocal(-2, 3, (-3, 2)),
+    ];
+    each_holds(&rt, &facts);
 }

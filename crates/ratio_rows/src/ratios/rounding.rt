@@ -1,4 +1,6 @@
 //! Rows of the rounding calls and of the numbers as machine integers, from outside.
+use crate::asserting::{all_hold, each_holds};
+use crate::ratios::forms::positive;
 use num_rational::{Ratio, Reduced};
 use ratio_integer::Integer;
 use std::process::Abort;
@@ -8,17 +10,14 @@ type Row<T> = (T, T, (T, T, T, T));
 
 // These four of the lowest terms of n/d, each over 1.
 fn near<T: Integer>(n: T, d: T) -> Option<(T, T, T, T)> {
-    let x = Ratio::checked_new(n, d)?;
-    if T::ZERO < *x.denom() {
-        Some((
-            *x.ceil().numer(),
-            *x.floor().numer(),
-            *x.round().numer(),
-            *x.trunc().numer(),
-        ))
-    } else {
-        None
-    }
+    let (n, d) = Ratio::checked_new(n, d)?.into_raw();
+    let x = positive(n, d)?;
+    Some((
+        *x.ceil().numer(),
+        *x.floor().numer(),
+        *x.round().numer(),
+        *x.trunc().numer(),
+    ))
 }
 
 // The same four of the fraction that is always in lowest terms.
@@ -32,13 +31,18 @@ fn near_lowest<T: Integer>(n: T, d: T) -> Option<(T, T, T, T)> {
     ))
 }
 
-fn rows_hold<T: Integer>(rt: &impl Abort, rows: &[Row<T>]) {
+// The first row that is rounded in another way.
+fn first_wrong<T: Integer>(rows: &[Row<T>]) -> Option<usize> {
     for (i, &(n, d, want)) in rows.iter().enumerate() {
-        assert!(rt;
-            near(n, d) == Some(want) && near_lowest(n, d) == Some(want),
-            "row {i}"
-        );
+        if near(n, d) != Some(want) || near_lowest(n, d) != Some(want) {
+            return Some(i);
+        }
     }
+    None
+}
+
+fn rows_hold<T: Integer>(rt: &impl Abort, rows: &[Row<T>]) {
+    all_hold(rt, "rounding", first_wrong(rows));
 }
 
 #[test]
@@ -93,12 +97,8 @@ fn rounding_at_the_ends(rt: HostRuntime) {
 
 // The fields of what truncation leaves of n/d as it stands, and the whole number.
 fn parts<T: Integer>(n: T, d: T) -> Option<((T, T), T)> {
-    if T::ZERO < d {
-        let x = Ratio::new_raw(n, d);
-        Some((x.fract().into_raw(), x.to_integer()))
-    } else {
-        None
-    }
+    let x = positive(n, d)?;
+    Some((x.fract().into_raw(), x.to_integer()))
 }
 
 // Whether the lowest terms of n/d have these two parts.
@@ -112,13 +112,18 @@ fn lowest_parts_hold<T: Integer>(n: T, d: T, want: ((T, T), T)) -> bool {
     }
 }
 
-fn parts_hold<T: Integer>(rt: &impl Abort, rows: &[(T, T, ((T, T), T))]) {
+// The first row that has other parts.
+fn first_other_parts<T: Integer>(rows: &[(T, T, ((T, T), T))]) -> Option<usize> {
     for (i, &(n, d, want)) in rows.iter().enumerate() {
-        assert!(rt;
-            parts(n, d) == Some(want) && lowest_parts_hold(n, d, want),
-            "row {i}"
-        );
+        if parts(n, d) != Some(want) || !lowest_parts_hold(n, d, want) {
+            return Some(i);
+        }
     }
+    None
+}
+
+fn parts_hold<T: Integer>(rt: &impl Abort, rows: &[(T, T, ((T, T), T))]) {
+    all_hold(rt, "parts", first_other_parts(rows));
 }
 
 #[test]
@@ -155,13 +160,9 @@ fn test_to_integer(rt: HostRuntime) {
 // The truncation of n/d as each of the four machine integers.
 type Machine = (Option<i64>, Option<i128>, Option<u64>, Option<u128>);
 
-fn machine<T: Integer>(n: T, d: T) -> Machine {
-    if T::ZERO < d {
-        let x = Ratio::new_raw(n, d);
-        (x.to_i64(), x.to_i128(), x.to_u64(), x.to_u128())
-    } else {
-        (None, None, None, None)
-    }
+fn machine<T: Integer>(n: T, d: T) -> Option<Machine> {
+    let x = positive(n, d)?;
+    Some((x.to_i64(), x.to_i128(), x.to_u64(), x.to_u128()))
 }
 
 fn lowest_machine<T: Integer>(n: T, d: T) -> Option<Machine> {
@@ -169,39 +170,36 @@ fn lowest_machine<T: Integer>(n: T, d: T) -> Option<Machine> {
     Some((x.to_i64(), x.to_i128(), x.to_u64(), x.to_u128()))
 }
 
-fn machine_holds<T: Integer>(rt: &impl Abort, n: T, d: T, want: Machine) {
-    assert!(rt; machine(n, d) == want && lowest_machine(n, d) == Some(want));
+fn machine_holds<T: Integer>(n: T, d: T, want: Machine) -> bool {
+    machine(n, d) == Some(want) && lowest_machine(n, d) == Some(want)
 }
 
 #[test]
 fn test_ratio_to_i64(rt: HostRuntime) {
-    machine_holds(&rt, -31i64, 8, (Some(-3), Some(-3), None, None));
-    machine_holds(&rt, 70i64, 14, (Some(5), Some(5), Some(5), Some(5)));
-    machine_holds(&rt, -1i64, 2, (Some(0), Some(0), Some(0), Some(0)));
-    machine_holds(
-        &rt,
-        u64::MAX,
-        1,
-        (
-            None,
-            Some(18446744073709551615),
-            Some(u64::MAX),
-            Some(18446744073709551615),
-        ),
+    let facts = [
+        machine_holds(-31i64, 8, (Some(-3), Some(-3), None, None)),
+        machine_holds(70i64, 14, (Some(5), Some(5), Some(5), Some(5))),
+        machine_holds(-1i64, 2, (Some(0), Some(0), Some(0), Some(0))),
+    ];
+    each_holds(&rt, &facts);
+    let most = 18446744073709551615u128;
+    assert!(rt;
+        machine_holds(
+            u64::MAX,
+            1,
+            (None, Some(most as i128), Some(u64::MAX), Some(most))
+        )
     );
 }
 
 #[test]
 fn test_ratio_to_i128(rt: HostRuntime) {
-    machine_holds(
-        &rt,
-        151115727451828646838272i128,
-        128,
-        (
-            None,
-            Some(1180591620717411303424),
-            None,
-            Some(1180591620717411303424),
-        ),
+    let (signed, unsigned) = (Some(1180591620717411303424), Some(1180591620717411303424));
+    assert!(rt;
+        machine_holds(
+            151115727451828646838272i128,
+            128,
+            (None, signed, None, unsigned)
+        )
     );
 }

@@ -1,9 +1,8 @@
 //! Rows of fields, from outside.
-use crate::ratios::asserting::{holds, reads};
+use crate::asserting::{all_hold, each_holds};
 use num_rational::Ratio;
 use ratio_integer::Integer;
-use std::fmt::{Debug, InlineText};
-use std::process::Abort;
+use std::fmt::InlineText;
 
 // The lowest terms by `new`, where `checked_new` answers.
 fn made<T: Integer>(n: T, d: T) -> Option<(T, T)> {
@@ -21,35 +20,48 @@ fn paired<T: Integer>(pair: (T, T)) -> Option<(T, T)> {
     }
 }
 
-// The lowest terms by `reduced`, where `checked_new` of the fields answers.
-fn reduced<T: Integer>(n: T, d: T) -> Option<(T, T)> {
+/// The lowest terms by `reduced`, where `checked_new` of the fields answers.
+pub fn reduced<T: Integer>(n: T, d: T) -> Option<(T, T)> {
     match Ratio::checked_new(n, d) {
         Some(_) => Some(Ratio::new_raw(n, d).reduced().into_raw()),
         None => None,
     }
 }
 
-// The lowest terms of n/d by each call that reduces.
-fn reduces<T: Integer + Debug>(rt: &impl Abort, n: T, d: T, want: Option<(T, T)>) {
-    assert!(rt;
-        made(n, d) == want && paired((n, d)) == want && reduced(n, d) == want,
-        "{n:?}/{d:?}"
-    );
+// Whether each call that reduces answers so.
+fn reduces<T: Integer>(n: T, d: T, want: Option<(T, T)>) -> bool {
+    made(n, d) == want && paired((n, d)) == want && reduced(n, d) == want
+}
+
+// The first row that has other lowest terms.
+fn first_wrong<T: Integer>(rows: &[(T, T, Option<(T, T)>)]) -> Option<usize> {
+    for (i, &(n, d, want)) in rows.iter().enumerate() {
+        if !reduces(n, d, want) {
+            return Some(i);
+        }
+    }
+    None
 }
 
 #[test]
 fn lowest_terms(rt: HostRuntime) {
-    reduces(&rt, 0i32, i32::MIN, Some((0, 1)));
-    reduces(&rt, i32::MIN, i32::MIN, Some((1, 1)));
-    reduces(&rt, 2i32, 2, Some((1, 1)));
-    reduces(&rt, 123i32, 456, Some((41, 152)));
-    reduces(&rt, -128i8, -1, None);
-    reduces(&rt, 1i8, -128, None);
-    reduces(&rt, 2i8, -128, Some((-1, 64)));
-    reduces(&rt, 5i8, 0, None);
-    reduces(&rt, -128i8, -128, Some((1, 1)));
-    reduces(&rt, -128i8, -2, Some((64, 1)));
-    reduces(&rt, 127i8, -127, Some((-1, 1)));
+    let rows = [
+        (0, i32::MIN, Some((0, 1))),
+        (i32::MIN, i32::MIN, Some((1, 1))),
+        (2, 2, Some((1, 1))),
+        (123, 456, Some((41, 152))),
+    ];
+    all_hold(&rt, "i32", first_wrong(&rows));
+    let rows = [
+        (-128i8, -1, None),
+        (1, -128, None),
+        (2, -128, Some((-1, 64))),
+        (5, 0, None),
+        (-128, -128, Some((1, 1))),
+        (-128, -2, Some((64, 1))),
+        (127, -127, Some((-1, 1))),
+    ];
+    all_hold(&rt, "i8", first_wrong(&rows));
 }
 
 // The fields, or the number of the refusal's kind.
@@ -60,53 +72,67 @@ fn read(text: &str) -> Result<(i8, i8), u8> {
     }
 }
 
-fn text_is(rt: &impl Abort, text: &str, want: Result<(i8, i8), u8>) {
-    assert!(rt; read(text) == want, "{text}");
+// The first text that is read in another way.
+fn first_misread(rows: &[(&str, Result<(i8, i8), u8>)]) -> Option<usize> {
+    for (i, &(text, want)) in rows.iter().enumerate() {
+        if read(text) != want {
+            return Some(i);
+        }
+    }
+    None
 }
 
 #[test]
 fn texts(rt: HostRuntime) {
-    text_is(&rt, "-128/-1", Err(1));
-    text_is(&rt, "x/0", Err(1));
-    text_is(&rt, "1/0", Err(2));
-    text_is(&rt, "+4/6", Ok((2, 3)));
-    text_is(&rt, "-128/-128", Ok((1, 1)));
-    text_is(&rt, "3/2/1", Err(1));
-    text_is(&rt, "", Err(1));
-    text_is(&rt, "0 /1", Err(1));
-    text_is(&rt, "1/", Err(1));
-    text_is(&rt, "--1/2", Err(1));
-    text_is(&rt, "abc", Err(1));
-    text_is(&rt, "128/0", Err(1));
-    text_is(&rt, "007/-0021", Ok((-1, 3)));
-    text_is(&rt, "0/-128", Ok((0, 1)));
-    text_is(&rt, "-5", Ok((-5, 1)));
+    let rows = [
+        ("-128/-1", Err(1)),
+        ("x/0", Err(1)),
+        ("1/0", Err(2)),
+        ("+4/6", Ok((2, 3))),
+        ("-128/-128", Ok((1, 1))),
+        ("3/2/1", Err(1)),
+        ("", Err(1)),
+        ("0 /1", Err(1)),
+        ("1/", Err(1)),
+        ("--1/2", Err(1)),
+        ("abc", Err(1)),
+        ("128/0", Err(1)),
+        ("007/-0021", Ok((-1, 3))),
+        ("0/-128", Ok((0, 1))),
+        ("-5", Ok((-5, 1))),
+    ];
+    all_hold(&rt, "texts", first_misread(&rows));
 }
 
 #[test]
 fn fields_alone_are_tested(rt: HostRuntime) {
     let x = Ratio::new_raw(4i8, 2);
-    holds(&rt, "4/2", !x.is_integer() && !x.is_one() && !x.is_zero());
+    each_holds(&rt, &[!x.is_integer(), !x.is_one(), !x.is_zero()]);
     let x = Ratio::new_raw(2i8, 2);
-    holds(&rt, "2/2", x.is_one() && !x.is_integer());
+    each_holds(&rt, &[x.is_one(), !x.is_integer()]);
     let x = Ratio::new_raw(0i8, -3);
-    holds(&rt, "0/-3", x.is_zero() && !x.is_one() && !x.is_integer());
-    holds(&rt, "kept", x.into_raw() == (0, -3));
+    let facts = [
+        x.is_zero(),
+        !x.is_one(),
+        !x.is_integer(),
+        x.into_raw() == (0, -3),
+    ];
+    each_holds(&rt, &facts);
 }
 
-fn refusal_reads(rt: &impl Abort, text: &str, want: &str) {
+// Whether the text is refused, and the refusal printed so.
+fn refusal_reads(text: &str, want: &str) -> bool {
     match Ratio::<i8>::from_str(text) {
-        Ok(_) => holds(rt, text, false),
-        Err(refusal) => reads(
-            rt,
-            InlineText::<40>::of(format_args!("{refusal}")).as_str(),
-            want,
-        ),
+        Ok(_) => false,
+        Err(refusal) => InlineText::<40>::of(format_args!("{refusal}")).as_str() == want,
     }
 }
 
 #[test]
 fn refusals_are_printed(rt: HostRuntime) {
-    refusal_reads(&rt, "1/x", "failed to parse integer");
-    refusal_reads(&rt, "1/0", "zero value denominator");
+    let facts = [
+        refusal_reads("1/x", "failed to parse integer"),
+        refusal_reads("1/0", "zero value denominator"),
+    ];
+    each_holds(&rt, &facts);
 }

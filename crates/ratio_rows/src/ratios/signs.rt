@@ -1,4 +1,6 @@
 //! Rows of the signs, and of the ends of a type in the order, from outside.
+use crate::asserting::{all_hold, each_holds};
+use crate::ratios::forms::positive;
 use num_rational::Ratio;
 use ratio_integer::{Integer, SignedInteger};
 use std::cmp::Ordering;
@@ -26,10 +28,18 @@ fn signs(n: i8, d: i8) -> Option<Signs> {
     None
 }
 
-fn signs_hold(rt: &impl Abort, rows: &[(i8, i8, Signs)]) {
+// The first row that has other signs.
+fn first_wrong(rows: &[(i8, i8, Signs)]) -> Option<usize> {
     for (i, &(n, d, want)) in rows.iter().enumerate() {
-        assert!(rt; signs(n, d) == Some(want), "row {i}");
+        if signs(n, d) != Some(want) {
+            return Some(i);
+        }
     }
+    None
+}
+
+fn signs_hold(rt: &impl Abort, rows: &[(i8, i8, Signs)]) {
+    all_hold(rt, "signs", first_wrong(rows));
 }
 
 #[test]
@@ -56,28 +66,29 @@ fn test_signed(rt: HostRuntime) {
         ],
     );
     let least = Ratio::new_raw(-128i8, -1);
-    assert!(rt; least.signum().into_raw() == (1, 1) && least.abs().into_raw() == (-128, -1));
-    for ((a, b), (c, d), want) in [
-        ((3, 2), (1, 2), Some((1, 1))),
-        ((1, 2), (3, 2), Some((0, 1))),
-        ((1, 2), (2, 4), Some((0, 1))),
-        ((i64::MIN, 1), (i64::MAX, 1), Some((0, 1))),
-        ((i64::MAX, 1), (i64::MIN, 1), None),
-    ] {
-        assert!(rt; positive_difference((a, b), (c, d)) == want);
-    }
+    let facts = [
+        least.signum().into_raw() == (1, 1),
+        least.abs().into_raw() == (-128, -1),
+        positive_difference((3, 2), (1, 2)) == Some((1, 1)),
+        positive_difference((1, 2), (3, 2)) == Some((0, 1)),
+        positive_difference((1, 2), (2, 4)) == Some((0, 1)),
+        positive_difference((i64::MIN, 1), (i64::MAX, 1)) == Some((0, 1)),
+        positive_difference((i64::MAX, 1), (i64::MIN, 1)).is_none(),
+    ];
+    each_holds(&rt, &facts);
 }
 
 // The difference that is not below 0, where the checked one answers or the first is not above.
 fn positive_difference(left: (i64, i64), right: (i64, i64)) -> Option<(i64, i64)> {
-    if 0 < left.1 && 0 < right.1 {
-        let x = Ratio::new_raw(left.0, left.1);
-        let y = Ratio::new_raw(right.0, right.1);
-        if x.cmp(&y) != Ordering::Greater || x.checked_sub(&y).is_some() {
-            return Some(x.abs_sub(&y).into_raw());
-        }
+    let x = positive(left.0, left.1)?;
+    let y = positive(right.0, right.1)?;
+    if x.cmp(&y) != Ordering::Greater {
+        return Some(x.abs_sub(&y).into_raw());
     }
-    None
+    match x.checked_sub(&y) {
+        Some(_) => Some(x.abs_sub(&y).into_raw()),
+        None => None,
+    }
 }
 
 fn negated(x: Ratio<i8>) -> Option<Ratio<i8>> {
@@ -108,6 +119,18 @@ fn order(a: (i8, i8), b: (i8, i8)) -> Option<Ordering> {
     if same { Some(order) } else { None }
 }
 
+// Whether each two of an ascending list stand so.
+fn is_ascending(rows: &[(i8, i8)]) -> bool {
+    for (i, &a) in rows.iter().enumerate() {
+        for (k, &b) in rows.iter().enumerate() {
+            if order(a, b) != Some(i.cmp(&k)) {
+                return false;
+            }
+        }
+    }
+    true
+}
+
 #[test]
 fn test_cmp_overflow(rt: HostRuntime) {
     let large = Ratio::from_integer(128u8);
@@ -120,9 +143,5 @@ fn test_cmp_overflow(rt: HostRuntime) {
         (126, 127),
         (127, 126),
     ];
-    for (i, &a) in ascending.iter().enumerate() {
-        for (k, &b) in ascending.iter().enumerate() {
-            assert!(rt; order(a, b) == Some(i.cmp(&k)));
-        }
-    }
+    assert!(rt; is_ascending(&ascending));
 }

@@ -1,6 +1,5 @@
 // Erased from crates/ratio_rows/src/ratios.rt by rust/erase: not to be edited.
 //! The types of fractions, of `num_rational`.
-mod asserting;
 mod carried;
 mod comparing;
 mod every_call;

@@ -14,49 +14,33 @@ fn is_positive<T: Integer>(d: T) -> bool {
 // A row: a, b, c and d, and the wanted answer for a/b and c/d.
 type Row<T> = (T, T, T, T, Option<(T, T)>);
 
+// The answer of the checked call.
 #[inline]
-fn sums<T: Integer>(rows: &[Row<T>]) {
-    for (i, &(a, b, c, d, want)) in rows.iter().enumerate() {
-        assert!(is_positive(b));
-        assert!(is_positive(d));
-        assert!(checked_add(a, b, c, d) == want, "row {i}");
+fn answer<T: Integer>(a: T, b: T, symbol: char, c: T, d: T) -> Option<(T, T)> {
+    match symbol {
+        '+' => checked_add(a, b, c, d),
+        '-' => checked_sub(a, b, c, d),
+        '*' => checked_mul(a, b, c, d),
+        '/' => checked_div(a, b, c, d),
+        _ => checked_rem(a, b, c, d),
     }
 }
 
+// The first row that has another answer, or a denominator that is not positive.
 #[inline]
-fn differences<T: Integer>(rows: &[Row<T>]) {
+fn first_wrong<T: Integer>(symbol: char, rows: &[Row<T>]) -> Option<usize> {
     for (i, &(a, b, c, d, want)) in rows.iter().enumerate() {
-        assert!(is_positive(b));
-        assert!(is_positive(d));
-        assert!(checked_sub(a, b, c, d) == want, "row {i}");
+        if !is_positive(b) || !is_positive(d) || answer(a, b, symbol, c, d) != want {
+            return Some(i);
+        }
     }
+    None
 }
 
 #[inline]
-fn products<T: Integer>(rows: &[Row<T>]) {
-    for (i, &(a, b, c, d, want)) in rows.iter().enumerate() {
-        assert!(is_positive(b));
-        assert!(is_positive(d));
-        assert!(checked_mul(a, b, c, d) == want, "row {i}");
-    }
-}
-
-#[inline]
-fn quotients<T: Integer>(rows: &[Row<T>]) {
-    for (i, &(a, b, c, d, want)) in rows.iter().enumerate() {
-        assert!(is_positive(b));
-        assert!(is_positive(d));
-        assert!(checked_div(a, b, c, d) == want, "row {i}");
-    }
-}
-
-#[inline]
-fn rests<T: Integer>(rows: &[Row<T>]) {
-    for (i, &(a, b, c, d, want)) in rows.iter().enumerate() {
-        assert!(is_positive(b));
-        assert!(is_positive(d));
-        assert!(checked_rem(a, b, c, d) == want, "row {i}");
-    }
+fn rows_hold<T: Integer>(symbol: char, rows: &[Row<T>]) {
+    let first = first_wrong(symbol, rows);
+    assert!(first.is_none(), "{symbol}: row {first:?}");
 }
 
 // The five calls that ask what the checked ones test, on 1/2 and 1/3.
@@ -84,7 +68,8 @@ fn answered<T: Integer>(two: T, three: T) {
 
 #[test]
 fn rows_of_i8() {
-    sums(
+    rows_hold(
+        '+',
         &[
             (1i8, 2, 1, 3, Some((5, 6))),
             (1, 4, 1, 6, Some((5, 12))),
@@ -95,7 +80,8 @@ fn rows_of_i8() {
             (-128, 1, 127, 1, Some((-1, 1))),
         ],
     );
-    differences(
+    rows_hold(
+        '-',
         &[
             (1i8, 2, 1, 3, Some((1, 6))),
             (127, 2, 127, 2, Some((0, 1))),
@@ -103,7 +89,8 @@ fn rows_of_i8() {
             (-128, 1, 127, 1, None),
         ],
     );
-    products(
+    rows_hold(
+        '*',
         &[
             (1i8, 2, -2, 3, Some((-1, 3))),
             (100, 100, 7, 7, Some((1, 1))),
@@ -115,7 +102,8 @@ fn rows_of_i8() {
             (0, 127, -128, 127, Some((0, 1))),
         ],
     );
-    quotients(
+    rows_hold(
+        '/',
         &[
             (64i8, 1, -1, 2, Some((-128, 1))),
             (-128, 1, -128, 1, Some((1, 1))),
@@ -128,7 +116,8 @@ fn rows_of_i8() {
             (127, 2, 0, 127, None),
         ],
     );
-    rests(
+    rows_hold(
+        '%',
         &[
             (-128i8, 1, -1, 1, Some((0, 1))),
             (-127, 2, 1, 1, Some((-1, 2))),
@@ -140,48 +129,67 @@ fn rows_of_i8() {
 
 #[test]
 fn rows_of_u8() {
-    sums(&[(255u8, 2, 255, 2, None), (1, 2, 1, 6, Some((2, 3)))]);
-    differences(&[(1u8, 2, 1, 1, None), (1, 1, 1, 2, Some((1, 2)))]);
-    products(
+    rows_hold(
+        '+',
+        &[(255u8, 2, 255, 2, None), (1, 2, 1, 6, Some((2, 3)))],
+    );
+    rows_hold(
+        '-',
+        &[(1u8, 2, 1, 1, None), (1, 1, 1, 2, Some((1, 2)))],
+    );
+    rows_hold(
+        '*',
         &[(255u8, 128, 128, 255, Some((1, 1))), (255, 1, 2, 1, None)],
     );
-    quotients(&[(0u8, 1, 255, 1, Some((0, 1))), (1, 2, 0, 1, None)]);
-    rests(&[(1u8, 1, 0, 3, None), (255, 1, 2, 1, Some((1, 1)))]);
+    rows_hold(
+        '/',
+        &[(0u8, 1, 255, 1, Some((0, 1))), (1, 2, 0, 1, None)],
+    );
+    rows_hold(
+        '%',
+        &[(1u8, 1, 0, 3, None), (255, 1, 2, 1, Some((1, 1)))],
+    );
     answered(2u8, 3);
 }
 
 // Over `i32` and `i64` sums and differences are exact.
 #[test]
 fn rows_of_i32() {
-    sums(
+    rows_hold(
+        '+',
         &[
             (2147483647i32, 2, 2147483647, 2, Some((2147483647, 1))),
             (1, 11862016, 1, 11993088, Some((91, 542687232))),
             (1, 2147483647, 1, 2147483646, None),
         ],
     );
-    differences(&[(1i32, 11862016, 1, 11993088, Some((1, 1085374464)))]);
-    rests(&[(i32::MIN, 1, i32::MIN, 3, None)]);
+    rows_hold(
+        '-',
+        &[(1i32, 11862016, 1, 11993088, Some((1, 1085374464)))],
+    );
+    rows_hold('%', &[(i32::MIN, 1, i32::MIN, 3, None)]);
     answered(2i32, 3);
 }
 
 #[test]
 fn rows_of_u32() {
-    sums(
+    rows_hold(
+        '+',
         &[
             (4294967295u32, 2, 4294967295, 2, None),
             (u32::MAX, 1, 0, u32::MAX, None),
         ],
     );
-    products(&[(u32::MAX, 2, 2, u32::MAX, Some((1, 1)))]);
-    rests(&[(u32::MAX, 1, 2, 1, Some((1, 1)))]);
+    rows_hold('*', &[(u32::MAX, 2, 2, u32::MAX, Some((1, 1)))]);
+    rows_hold('%', &[(u32::MAX, 1, 2, 1, Some((1, 1)))]);
     answered(2u32, 3);
 }
 
 #[test]
 fn rows_of_i64() {
     let (min, max) = (i64::MIN, i64::MAX);
-    sums(
+    rows_hold(
+        '+',
         &[
             (min, 1, max, 1, Some((-1, 1))),
             (min, max, min, max, None),
@@ -189,15 +197,17 @@ fn rows_of_i64() {
             (max, 1, 1, 1, None),
         ],
     );
-    differences(&[(0, 1, min, 1, None)]);
-    quotients(
+    rows_hold('-', &[(0, 1, min, 1, None)]);
+    rows_hold(
+        '/',
         &[
             (1, 1, min, 1, None),
             (min, 1, max, 1, Some((min, max))),
             (max, 1, min, 1, None),
         ],
     );
-    rests(
+    rows_hold(
+        '%',
         &[
             (5i64, 2, 3, 2, Some((1, 1))),
             (2, 1, -1, 2, Some((0, 1))),

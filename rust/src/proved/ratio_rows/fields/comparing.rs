@@ -1,25 +1,37 @@
 // Erased from crates/ratio_rows/src/fields/comparing.rt by rust/erase: not to be edited.
 //! Worked rows of the order and of the codes, with their expected values from outside.
-
+use crate::proved::ratio_rows::asserting::{all_hold, each_holds};
 use crate::proved::ratio_rows::recorder::Codes;
 use crate::proved::ratio_core::{Steps, cmp_counted, compare, hash_counted};
 use crate::proved::ratio_integer::Integer;
 use core::cmp::Ordering;
 
-use crate::test_support::Fail;
-
 // A row: n, d, m and e, and how n/d stands to m/e.
 type Row<T> = (T, T, T, T, Ordering);
 
-// Whether both comparisons answer each row so.
+// Whether both comparisons answer so.
+#[inline]
+fn stands<T: Integer>(n: T, d: T, m: T, e: T, order: Ordering) -> bool {
+    !d.is_zero()
+        && !e.is_zero()
+        && cmp_counted(n, d, m, e, &mut Steps::new()) == order
+        && compare(n, d, m, e, &mut Steps::new()) == order
+}
+
+// The first row that stands in another order.
+#[inline]
+fn first_wrong<T: Integer>(rows: &[Row<T>]) -> Option<usize> {
+    for (i, &(n, d, m, e, order)) in rows.iter().enumerate() {
+        if !stands(n, d, m, e, order) {
+            return Some(i);
+        }
+    }
+    None
+}
+
 #[inline]
 fn order_rows_hold<T: Integer>(rows: &[Row<T>]) {
-    for (i, &(n, d, m, e, expected)) in rows.iter().enumerate() {
-        assert!(!d.is_zero() && !e.is_zero());
-        let counted = cmp_counted(n, d, m, e, &mut Steps::new());
-        let sparing = compare(n, d, m, e, &mut Steps::new());
-        assert!(counted == expected && sparing == expected, "row {i}");
-    }
+    all_hold("order", first_wrong(rows));
 }
 
 #[test]
@@ -68,41 +80,49 @@ fn order_over_i64() {
     );
 }
 
-#[test]
-fn codes_over_i8() -> Result<(), Fail> {
-    let rows: [(i8, i8, &[i8]); 8] = [
-        (-128, -1, &[-128, -128, 0]),
-        (127, -128, &[-1, -128, -128, 0]),
-        (1, -128, &[-1, 1, 127, 0]),
-        (-1, -128, &[0, -128, -128, 0]),
-        (-7, 3, &[-3, 1, 2, 0]),
-        (7, -3, &[-3, 1, 2, 0]),
-        (0, -5, &[0, 0]),
-        (-128, -128, &[1, 0]),
-    ];
-    for (n, d, expected) in rows {
-        assert!(d != 0);
-        let mut list = Codes::<i8>::new();
-        hash_counted(n, d, &mut list, &mut Steps::new());
-        assert_eq!(list.as_slice(), expected, "{n}/{d}");
+// Whether an empty list receives these codes of n/d, and no other.
+#[inline]
+fn has_codes<T: Integer>(n: T, d: T, mut list: Codes<T>, expected: &[T]) -> bool {
+    if d.is_zero() {
+        return false;
     }
-    Ok(())
+    hash_counted(n, d, &mut list, &mut Steps::new());
+    list.as_slice() == expected
+}
+
+#[inline]
+fn codes_are(n: i8, d: i8, expected: &[i8]) -> bool {
+    has_codes(n, d, Codes::new(), expected)
 }
 
 #[test]
-fn codes_over_i64() -> Result<(), Fail> {
-    let rows: [(i64, i64, &[i64]); 5] = [
-        (4, 2, &[2, 0]),
-        (6, 3, &[2, 0]),
-        (-4, -2, &[2, 0]),
-        (89, 55, &[1, 1, 1, 1, 1, 1, 1, 1, 2, 0]),
-        (i64::MIN, -1, &[i64::MIN, i64::MIN, 0]),
+fn codes_over_i8() {
+    let facts = [
+        codes_are(-128, -1, &[-128, -128, 0]),
+        codes_are(127, -128, &[-1, -128, -128, 0]),
+        codes_are(1, -128, &[-1, 1, 127, 0]),
+        codes_are(-1, -128, &[0, -128, -128, 0]),
+        codes_are(-7, 3, &[-3, 1, 2, 0]),
+        codes_are(7, -3, &[-3, 1, 2, 0]),
+        codes_are(0, -5, &[0, 0]),
+        codes_are(-128, -128, &[1, 0]),
     ];
-    for (n, d, expected) in rows {
-        assert!(d != 0);
-        let mut list = Codes::<i64>::new();
-        hash_counted(n, d, &mut list, &mut Steps::new());
-        assert_eq!(list.as_slice(), expected, "{n}/{d}");
-    }
-    Ok(())
+    each_holds(&facts);
+}
+
+#[inline]
+fn long_codes_are(n: i64, d: i64, expected: &[i64]) -> bool {
+    has_codes(n, d, Codes::new(), expected)
+}
+
+#[test]
+fn codes_over_i64() {
+    let facts = [
+        long_codes_are(4, 2, &[2, 0]),
+        long_codes_are(6, 3, &[2, 0]),
+        long_codes_are(-4, -2, &[2, 0]),
+        long_codes_are(89, 55, &[1, 1, 1, 1, 1, 1, 1, 1, 2, 0]),
+        long_codes_are(i64::MIN, -1, &[i64::MIN, i64::MIN, 0]),
+    ];
+    each_holds(&facts);
 }

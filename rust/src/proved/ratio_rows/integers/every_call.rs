@@ -1,6 +1,7 @@
 // Erased from crates/ratio_rows/src/integers/every_call.rt by rust/erase: not to be edited.
 //! Each call once at each of the twelve types, through the bound: 6 and 4 have the same answers in all.
 
+use crate::proved::ratio_rows::asserting::each_holds;
 use crate::proved::ratio_integer::{Integer, Primitive, SignedInteger};
 
 /// The number, or -1 where `i128` does not hold it.
@@ -15,6 +16,24 @@ fn answer<T: Integer>(t: Option<T>) -> i128 {
     match t {
         Some(t) => number(t),
         None => -1,
+    }
+}
+
+/// The last two digits of a number, or -1 where `u128` does not hold it.
+#[inline]
+fn last_two_digits<T: Integer>(t: T) -> i128 {
+    match t.to_u128() {
+        Some(n) => (n % 100) as i128,
+        None => -1,
+    }
+}
+
+/// The numbers of an exact sum.
+#[inline]
+fn pair<T: Integer>(sum: Option<(T, T)>) -> Option<(i128, i128)> {
+    match sum {
+        Some((numer, denom)) => Some((number(numer), number(denom))),
+        None => None,
     }
 }
 
@@ -43,7 +62,7 @@ fn required<T: Integer>(a: T, b: T) -> [i128; 12] {
         number(quotient),
         number(rest),
         a.to_i128().unwrap_or(-1),
-        a.to_u128().map_or(-1, |n| (n % 100) as i128),
+        last_two_digits(a),
         answer(T::from_i128(6)),
         answer(T::from_u128(6)),
     ]
@@ -98,8 +117,8 @@ fn provided<T: Integer>(a: T, b: T) -> [i128; 16] {
 /// - `positive`: `pos 0 <ℤ T.value b`
 #[inline]
 fn answers_all<T: Integer>(a: T, b: T) -> bool {
-    let sum = T::exact_sum(a, b, b, b).map(|r| (number(r.0), number(r.1)));
-    let difference = T::exact_diff(a, b, b, b).map(|r| (number(r.0), number(r.1)));
+    let sum = pair(T::exact_sum(a, b, b, b));
+    let difference = pair(T::exact_diff(a, b, b, b));
     let sums = if T::EXACT_SUMS {
         sum == Some((5, 2)) && difference == Some((1, 2))
     } else {
@@ -130,24 +149,34 @@ fn bits<T: Primitive>(_: T) -> u32 {
 
 #[test]
 fn integers() {
-    assert!(answers_all(6i8, 4));
-    assert!(answers_all(6i16, 4));
-    assert!(answers_all(6i32, 4));
-    assert!(answers_all(6i64, 4));
-    assert!(answers_all(6i128, 4));
-    assert!(answers_all(6isize, 4));
-    assert!(answers_all(6u8, 4));
-    assert!(answers_all(6u16, 4));
-    assert!(answers_all(6u32, 4));
-    assert!(answers_all(6u64, 4));
-    assert!(answers_all(6u128, 4));
-    assert!(answers_all(6usize, 4));
+    let facts = [
+        answers_all(6i8, 4),
+        answers_all(6i16, 4),
+        answers_all(6i32, 4),
+        answers_all(6i64, 4),
+        answers_all(6i128, 4),
+        answers_all(6isize, 4),
+        answers_all(6u8, 4),
+        answers_all(6u16, 4),
+        answers_all(6u32, 4),
+        answers_all(6u64, 4),
+        answers_all(6u128, 4),
+        answers_all(6usize, 4),
+    ];
+    each_holds(&facts);
 }
 
 #[test]
 fn signed_integers() {
-    assert!(answers_signed(6i8) && answers_signed(6i16) && answers_signed(6i32));
-    assert!(answers_signed(6i64) && answers_signed(6i128) && answers_signed(6isize));
+    let facts = [
+        answers_signed(6i8),
+        answers_signed(6i16),
+        answers_signed(6i32),
+        answers_signed(6i64),
+        answers_signed(6i128),
+        answers_signed(6isize),
+    ];
+    each_holds(&facts);
 }
 
 #[test]
@@ -168,5 +197,7 @@ fn widths() {
         bits(0u128),
         bits(0usize),
     ];
-    assert!(signed == [8, 16, 32, 64, 128, 64] && unsigned == signed);
+    each_holds(
+        &[signed == [8, 16, 32, 64, 128, 64], unsigned == signed],
+    );
 }

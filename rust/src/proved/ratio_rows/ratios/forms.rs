@@ -15,10 +15,39 @@ pub fn fraction<T: Integer>(fields: (T, T)) -> Ratio<T> {
     }
 }
 
+/// The fraction with these fields, where its denominator is positive.
+#[inline]
+pub fn positive<T: Integer>(numer: T, denom: T) -> Option<Ratio<T>> {
+    if T::ZERO < denom {
+        Some(Ratio::new_raw(numer, denom))
+    } else {
+        None
+    }
+}
+
+/// The fraction with these fields, where its denominator is not 0.
+#[inline]
+pub fn raw<T: Integer>(numer: T, denom: T) -> Option<Ratio<T>> {
+    if denom.is_zero() {
+        None
+    } else {
+        Some(Ratio::new_raw(numer, denom))
+    }
+}
+
 /// Whether the fraction has these fields.
 #[inline]
 pub fn has<T: Integer>(x: Ratio<T>, fields: (T, T)) -> bool {
     x.into_raw() == fields
+}
+
+/// Whether the answer has these fields, or there is none.
+#[inline]
+pub fn answers<T: Integer>(answer: Option<Ratio<T>>, want: Option<(T, T)>) -> bool {
+    match answer {
+        Some(x) => want == Some(x.into_raw()),
+        None => want.is_none(),
+    }
 }
 
 /// The fields of the sum, where the checked call answers it and every other form gives the same.
@@ -33,7 +62,7 @@ pub fn has<T: Integer>(x: Ratio<T>, fields: (T, T)) -> bool {
 pub(crate) fn sum<T: Integer, O: Operand<T> + Copy>(x: Ratio<T>, o: O) -> Option<(T, T)> {
     let y = o.ratio();
     let fields = x.checked_add(&y)?.into_raw();
-    if every_sum(x, o, fields) {
+    if every_sum(x, y, o, fields) {
         Some(fields)
     } else {
         None
@@ -41,13 +70,18 @@ pub(crate) fn sum<T: Integer, O: Operand<T> + Copy>(x: Ratio<T>, o: O) -> Option
 }
 
 #[inline]
-fn every_sum<T: Integer, O: Operand<T> + Copy>(x: Ratio<T>, o: O, fields: (T, T)) -> bool {
+fn every_sum<T: Integer, O: Operand<T> + Copy>(
+    x: Ratio<T>,
+    y: Ratio<T>,
+    o: O,
+    fields: (T, T),
+) -> bool {
     let mut assigned = x;
     assigned += o;
-    has(x.add(o.ratio()), fields)
-        && has(x + o, fields)
-        && has(&x + o, fields)
-        && has(assigned, fields)
+    let named = has(x.add(y), fields);
+    let by_value = has(x + o, fields);
+    let by_reference = has(&x + o, fields);
+    [named, by_value, by_reference, has(assigned, fields)] == [true; 4]
 }
 
 /// The same of the difference.
@@ -62,7 +96,7 @@ fn every_sum<T: Integer, O: Operand<T> + Copy>(x: Ratio<T>, o: O, fields: (T, T)
 pub(crate) fn difference<T: Integer, O: Operand<T> + Copy>(x: Ratio<T>, o: O) -> Option<(T, T)> {
     let y = o.ratio();
     let fields = x.checked_sub(&y)?.into_raw();
-    if every_difference(x, o, fields) {
+    if every_difference(x, y, o, fields) {
         Some(fields)
     } else {
         None
@@ -70,13 +104,18 @@ pub(crate) fn difference<T: Integer, O: Operand<T> + Copy>(x: Ratio<T>, o: O) ->
 }
 
 #[inline]
-fn every_difference<T: Integer, O: Operand<T> + Copy>(x: Ratio<T>, o: O, fields: (T, T)) -> bool {
+fn every_difference<T: Integer, O: Operand<T> + Copy>(
+    x: Ratio<T>,
+    y: Ratio<T>,
+    o: O,
+    fields: (T, T),
+) -> bool {
     let mut assigned = x;
     assigned -= o;
-    has(x.sub(o.ratio()), fields)
-        && has(x - o, fields)
-        && has(&x - o, fields)
-        && has(assigned, fields)
+    let named = has(x.sub(y), fields);
+    let by_value = has(x - o, fields);
+    let by_reference = has(&x - o, fields);
+    [named, by_value, by_reference, has(assigned, fields)] == [true; 4]
 }
 
 /// The same of the product.
@@ -91,7 +130,7 @@ fn every_difference<T: Integer, O: Operand<T> + Copy>(x: Ratio<T>, o: O, fields:
 pub(crate) fn product<T: Integer, O: Operand<T> + Copy>(x: Ratio<T>, o: O) -> Option<(T, T)> {
     let y = o.ratio();
     let fields = x.checked_mul(&y)?.into_raw();
-    if every_product(x, o, fields) {
+    if every_product(x, y, o, fields) {
         Some(fields)
     } else {
         None
@@ -99,13 +138,18 @@ pub(crate) fn product<T: Integer, O: Operand<T> + Copy>(x: Ratio<T>, o: O) -> Op
 }
 
 #[inline]
-fn every_product<T: Integer, O: Operand<T> + Copy>(x: Ratio<T>, o: O, fields: (T, T)) -> bool {
+fn every_product<T: Integer, O: Operand<T> + Copy>(
+    x: Ratio<T>,
+    y: Ratio<T>,
+    o: O,
+    fields: (T, T),
+) -> bool {
     let mut assigned = x;
     assigned *= o;
-    has(x.mul(o.ratio()), fields)
-        && has(x * o, fields)
-        && has(&x * o, fields)
-        && has(assigned, fields)
+    let named = has(x.mul(y), fields);
+    let by_value = has(x * o, fields);
+    let by_reference = has(&x * o, fields);
+    [named, by_value, by_reference, has(assigned, fields)] == [true; 4]
 }
 
 /// The same of the quotient.
@@ -120,7 +164,7 @@ fn every_product<T: Integer, O: Operand<T> + Copy>(x: Ratio<T>, o: O, fields: (T
 pub(crate) fn quotient<T: Integer, O: Operand<T> + Copy>(x: Ratio<T>, o: O) -> Option<(T, T)> {
     let y = o.ratio();
     let fields = x.checked_div(&y)?.into_raw();
-    if every_quotient(x, o, fields) {
+    if every_quotient(x, y, o, fields) {
         Some(fields)
     } else {
         None
@@ -128,13 +172,18 @@ pub(crate) fn quotient<T: Integer, O: Operand<T> + Copy>(x: Ratio<T>, o: O) -> O
 }
 
 #[inline]
-fn every_quotient<T: Integer, O: Operand<T> + Copy>(x: Ratio<T>, o: O, fields: (T, T)) -> bool {
+fn every_quotient<T: Integer, O: Operand<T> + Copy>(
+    x: Ratio<T>,
+    y: Ratio<T>,
+    o: O,
+    fields: (T, T),
+) -> bool {
     let mut assigned = x;
     assigned /= o;
-    has(x.div(o.ratio()), fields)
-        && has(x / o, fields)
-        && has(&x / o, fields)
-        && has(assigned, fields)
+    let named = has(x.div(y), fields);
+    let by_value = has(x / o, fields);
+    let by_reference = has(&x / o, fields);
+    [named, by_value, by_reference, has(assigned, fields)] == [true; 4]
 }
 
 /// The same of the remainder.
@@ -149,7 +198,7 @@ fn every_quotient<T: Integer, O: Operand<T> + Copy>(x: Ratio<T>, o: O, fields: (
 pub(crate) fn remainder<T: Integer, O: Operand<T> + Copy>(x: Ratio<T>, o: O) -> Option<(T, T)> {
     let y = o.ratio();
     let fields = x.checked_rem(&y)?.into_raw();
-    if every_remainder(x, o, fields) {
+    if every_remainder(x, y, o, fields) {
         Some(fields)
     } else {
         None
@@ -157,11 +206,16 @@ pub(crate) fn remainder<T: Integer, O: Operand<T> + Copy>(x: Ratio<T>, o: O) -> 
 }
 
 #[inline]
-fn every_remainder<T: Integer, O: Operand<T> + Copy>(x: Ratio<T>, o: O, fields: (T, T)) -> bool {
+fn every_remainder<T: Integer, O: Operand<T> + Copy>(
+    x: Ratio<T>,
+    y: Ratio<T>,
+    o: O,
+    fields: (T, T),
+) -> bool {
     let mut assigned = x;
     assigned %= o;
-    has(x.rem(o.ratio()), fields)
-        && has(x % o, fields)
-        && has(&x % o, fields)
-        && has(assigned, fields)
+    let named = has(x.rem(y), fields);
+    let by_value = has(x % o, fields);
+    let by_reference = has(&x % o, fields);
+    [named, by_value, by_reference, has(assigned, fields)] == [true; 4]
 }

@@ -1,61 +1,68 @@
 // Erased from crates/ratio_rows/src/ratios/lowest.rt by rust/erase: not to be edited.
 //! Fractions that are always in lowest terms: rows from outside, and each call once at a concrete type.
-use crate::proved::ratio_rows::ratios::asserting::{answers, holds, is, reads};
+use crate::proved::ratio_rows::asserting::{each_holds, reads};
+use crate::proved::ratio_rows::ratios::forms::{has, raw};
+use crate::proved::ratio_rows::ratios::texts::Shown;
 use crate::proved::num_rational::laws::lowest;
-use crate::proved::num_rational::{Constants, Form, Ratio, Reduced, Reduced32, Reduced64};
+use crate::proved::num_rational::{Constants, Form, Reduced, Reduced32, Reduced64};
 use crate::proved::ratio_integer::Integer;
 use core::cmp::Ordering;
 use std::collections::BTreeMap;
 use std::collections::HashMap;
-use core::fmt;
-use core::fmt::Binary;
 use core::fmt::Debug;
-use core::fmt::Display;
-use core::fmt::Formatter;
 use crate::test_support::InlineText;
-use core::fmt::LowerHex;
-use core::fmt::Octal;
-use core::fmt::UpperHex;
-use core::fmt::Write;
 
 use crate::test_support::Fail;
 
-// The answer has these fields, or there is none.
+// Whether the answer has these fields, or there is none.
 #[inline]
-fn gives<T: Integer + Debug>(answer: Option<Reduced<T>>, want: Option<(T, T)>) {
-    answers(answer.map(|x| x.to_ratio()), want);
+fn gives<T: Integer>(answer: Option<Reduced<T>>, want: Option<(T, T)>) -> bool {
+    match answer {
+        Some(x) => want == Some(x.to_ratio().into_raw()),
+        None => want.is_none(),
+    }
 }
 
 #[test]
 fn makes_lowest_terms() -> Result<(), Fail> {
-    gives(Reduced64::checked_new(6, -4), Some((-3, 2)));
-    gives(Reduced64::checked_new(1, 0), None);
-    gives(Reduced::<i8>::checked_new(1, -128), None);
-    gives(Reduced::<i8>::checked_new(2, -128), Some((-1, 64)));
+    let facts = [
+        gives(Reduced64::checked_new(6, -4), Some((-3, 2))),
+        gives(Reduced64::checked_new(1, 0), None),
+        gives(Reduced::<i8>::checked_new(1, -128), None),
+        gives(Reduced::<i8>::checked_new(2, -128), Some((-1, 64))),
+    ];
+    each_holds(&facts);
     let whole = Reduced32::from(7);
-    is(whole.clone().into(), 7, 1);
-    is(Reduced64::default().to_ratio(), 0, 1);
-    is(Reduced64::one().to_ratio(), 1, 1);
-    is(Reduced64::ZERO.to_ratio(), 0, 1);
-    is(Reduced64::ONE.to_ratio(), 1, 1);
-    holds("fields", *whole.numer() == 7 && *whole.denom() == 1);
-    holds("raw", whole.into_raw() == (7, 1));
-    holds("whole", whole.is_integer() && !whole.is_zero());
+    assert!(has(whole.clone().into(), (7, 1)));
+    let facts = [
+        has(Reduced64::default().to_ratio(), (0, 1)),
+        has(Reduced64::one().to_ratio(), (1, 1)),
+        has(Reduced64::ZERO.to_ratio(), (0, 1)),
+        has(Reduced64::ONE.to_ratio(), (1, 1)),
+        *whole.numer() == 7,
+        *whole.denom() == 1,
+        whole.into_raw() == (7, 1),
+        whole.is_integer(),
+        !whole.is_zero(),
+    ];
+    each_holds(&facts);
     Ok(())
 }
 
+// What the fraction with these fields gives.
 #[inline]
-fn taken(numer: i8, denom: i8, want: Option<(i8, i8)>) {
-    assert!(denom != 0);
-    let ratio = Ratio::<i8>::new_raw(numer, denom);
-    gives(Reduced::from_ratio(&ratio), want);
+fn taken(numer: i8, denom: i8) -> Option<Reduced<i8>> {
+    Reduced::from_ratio(&raw(numer, denom)?)
 }
 
 #[test]
 fn takes_fractions() {
-    taken(-128, -1, None);
-    taken(4, -2, Some((-2, 1)));
-    taken(0, -5, Some((0, 1)));
+    let facts = [
+        gives(taken(-128, -1), None),
+        gives(taken(4, -2), Some((-2, 1))),
+        gives(taken(0, -5), Some((0, 1))),
+    ];
+    each_holds(&facts);
 }
 
 // The fields of a text, or the number of the refusal's kind.
@@ -69,9 +76,12 @@ fn read(text: &str) -> Result<(i64, i64), u8> {
 
 #[test]
 fn reads_texts() {
-    holds("6/-4", read("6/-4") == Ok((-3, 2)));
-    holds("x/0", read("x/0") == Err(1));
-    holds("1/0", read("1/0") == Err(2));
+    let facts = [
+        read("6/-4") == Ok((-3, 2)),
+        read("x/0") == Err(1),
+        read("1/0") == Err(2),
+    ];
+    each_holds(&facts);
     let half = Reduced64::from_str("2/4").unwrap_or(Reduced::zero());
     reads(half.text(Form::Decimal, false).as_str(), "1/2");
 }
@@ -87,32 +97,16 @@ fn read_in(text: &str, radix: u32) -> Result<(i64, i64), u8> {
 
 #[test]
 fn reads_texts_in_a_radix() {
-    holds("16", read_in("f/2", 16) == Ok((15, 2)));
-    holds("1", read_in("f/2", 1) == Err(1));
-    holds("37", read_in("f/2", 37) == Err(1));
-}
-
-// How each of the other traits prints the fraction.
-struct Shown {
-    fraction: Reduced64,
-    form: Form,
-}
-
-impl Display for Shown {
-    #[inline]
-    fn fmt(&self, f: &mut Formatter<'_>) -> fmt::Result {
-        match self.form {
-            Form::Decimal => Display::fmt(&self.fraction, f),
-            Form::Binary => Binary::fmt(&self.fraction, f),
-            Form::Octal => Octal::fmt(&self.fraction, f),
-            Form::LowerHex => LowerHex::fmt(&self.fraction, f),
-            Form::UpperHex => UpperHex::fmt(&self.fraction, f),
-        }
-    }
+    let facts = [
+        read_in("f/2", 16) == Ok((15, 2)),
+        read_in("f/2", 1) == Err(1),
+        read_in("f/2", 37) == Err(1),
+    ];
+    each_holds(&facts);
 }
 
 #[inline]
-fn eleven_tenths(form: Form) -> Shown {
+fn eleven_tenths(form: Form) -> Shown<Reduced64> {
     let fraction = Reduced64::checked_new(22, 20).unwrap_or(Reduced::zero());
     Shown { fraction, form }
 }
@@ -129,28 +123,36 @@ fn prints() {
 #[test]
 fn takes_whole_numbers() {
     let wide = i64::MAX as i128;
-    gives(Reduced64::from_i64(-3), Some((-3, 1)));
-    gives(Reduced64::from_i128(wide + 1), None);
-    gives(Reduced64::from_u64(u64::MAX), None);
-    gives(Reduced64::from_u128(7), Some((7, 1)));
+    let facts = [
+        gives(Reduced64::from_i64(-3), Some((-3, 1))),
+        gives(Reduced64::from_i128(wide + 1), None),
+        gives(Reduced64::from_u64(u64::MAX), None),
+        gives(Reduced64::from_u128(7), Some((7, 1))),
+    ];
+    each_holds(&facts);
 }
 
 #[test]
 fn finds_the_nearest() {
     let x = Reduced64::checked_new(355, 113).unwrap_or(Reduced::zero());
-    gives(x.nearest(100), Some((311, 99)));
-    gives(x.nearest(0), None);
-    is(x.signum().to_ratio(), 1, 1);
+    let facts = [
+        gives(x.nearest(100), Some((311, 99))),
+        gives(x.nearest(0), None),
+        has(x.signum().to_ratio(), (1, 1)),
+    ];
+    each_holds(&facts);
 }
 
 #[test]
 fn compares() {
     let (zero, one) = (Reduced64::zero(), Reduced64::one());
-    holds("less", zero < one && zero.cmp(&one) == Ordering::Less);
-    holds(
-        "equal",
-        one == Reduced64::from_integer(1) && zero != one,
-    );
+    let facts = [
+        zero < one,
+        zero.cmp(&one) == Ordering::Less,
+        one == Reduced64::from_integer(1),
+        zero != one,
+    ];
+    each_holds(&facts);
 }
 
 #[test]
@@ -163,46 +165,55 @@ fn computes_where_8_bits_end() {
         Reduced::checked_new(127i8, 2),
         Reduced::checked_new(2i8, 127),
     );
-    gives(
-        many.unwrap_or(least).checked_mul(few.unwrap_or(least)),
-        Some((1, 1)),
+    assert!(
+        gives(
+            many.unwrap_or(least).checked_mul(few.unwrap_or(least)),
+            Some((1, 1))
+        )
     );
     let half = Reduced::checked_new(-1i8, 2).unwrap_or(least);
-    gives(
-        Reduced::<i8>::from_integer(64).checked_div(half),
-        Some((-128, 1)),
-    );
-    gives(least.checked_div(-1), None);
-    gives(most.checked_add(1), None);
-    gives(least.checked_neg(), None);
-    gives(least.checked_abs(), None);
-    gives(least.checked_recip(), None);
-    gives(most.checked_neg(), Some((-127, 1)));
-    gives(most.checked_recip(), Some((1, 127)));
-    gives(Reduced::<i8>::zero().checked_recip(), None);
-    gives(most.checked_pow_with(-1i64), Some((1, 127)));
+    let facts = [
+        gives(
+            Reduced::<i8>::from_integer(64).checked_div(half),
+            Some((-128, 1)),
+        ),
+        gives(least.checked_div(-1), None),
+        gives(most.checked_add(1), None),
+        gives(least.checked_neg(), None),
+        gives(least.checked_abs(), None),
+        gives(least.checked_recip(), None),
+        gives(most.checked_neg(), Some((-127, 1))),
+        gives(most.checked_recip(), Some((1, 127))),
+        gives(Reduced::<i8>::zero().checked_recip(), None),
+        gives(most.checked_pow_with(-1i64), Some((1, 127))),
+    ];
+    each_holds(&facts);
 }
 
 #[test]
 fn tells_signs() {
     let x = Reduced64::checked_new(3, -4).unwrap_or(Reduced::zero());
-    gives(x.checked_abs(), Some((3, 4)));
-    gives(x.checked_recip(), Some((-4, 3)));
-    holds("below 0", x.is_negative() && !x.is_positive());
+    let facts = [
+        gives(x.checked_abs(), Some((3, 4))),
+        gives(x.checked_recip(), Some((-4, 3))),
+        x.is_negative(),
+        !x.is_positive(),
+    ];
+    each_holds(&facts);
 }
 
 #[test]
 fn folds_lists() {
     let half = Reduced64::checked_new(1, 2).unwrap_or(Reduced::zero());
     let third = Reduced64::checked_new(1, 3).unwrap_or(Reduced::zero());
-    gives(Reduced64::checked_sum(&[half, third]), Some((5, 6)));
-    gives(
-        Reduced64::checked_product(&[&half, &third]),
-        Some((1, 6)),
-    );
-    gives(Reduced::<i8>::checked_sum(&[127i8, 1, -1]), None);
+    let facts = [
+        gives(Reduced64::checked_sum(&[half, third]), Some((5, 6))),
+        gives(Reduced64::checked_product(&[&half, &third]), Some((1, 6))),
+        gives(Reduced::<i8>::checked_sum(&[127i8, 1, -1]), None),
+    ];
+    each_holds(&facts);
     let none: [Reduced64; 0] = [];
-    gives(Reduced64::checked_product(&none), Some((1, 1)));
+    assert!(gives(Reduced64::checked_product(&none), Some((1, 1))));
 }
 
 #[test]

@@ -2,18 +2,18 @@
 //! Rows of the five operators, by every form of each: the values of the Rust crate's own tests, under
 //! the names that they have there, and where a range ends.
 
+use crate::proved::ratio_rows::asserting::{all_hold, each_holds};
 use crate::proved::ratio_rows::ratios::forms::{self, fraction};
 use crate::proved::num_rational::{Operand, Ratio, Reduced, ReducedOperand};
 use crate::proved::ratio_integer::{Integer, Primitive};
-use core::fmt::Debug;
 
 #[inline]
-fn answer<T: Integer, O: Operand<T> + Copy>(x: Ratio<T>, symbol: char, o: O) -> Option<(T, T)> {
+fn answer<T: Integer, O: Operand<T> + Copy>(x: Ratio<T>, symbol: u8, o: O) -> Option<(T, T)> {
     match symbol {
-        '+' => forms::sum(x, o),
-        '-' => forms::difference(x, o),
-        '*' => forms::product(x, o),
-        '/' => forms::quotient(x, o),
+        b'+' => forms::sum(x, o),
+        b'-' => forms::difference(x, o),
+        b'*' => forms::product(x, o),
+        b'/' => forms::quotient(x, o),
         _ => forms::remainder(x, o),
     }
 }
@@ -22,15 +22,24 @@ fn answer<T: Integer, O: Operand<T> + Copy>(x: Ratio<T>, symbol: char, o: O) -> 
 #[inline]
 fn lowest_answer<T: Integer, O: ReducedOperand<T>>(
     x: Reduced<T>,
-    symbol: char,
+    symbol: u8,
     o: O,
 ) -> Option<Reduced<T>> {
     match symbol {
-        '+' => x.checked_add(o),
-        '-' => x.checked_sub(o),
-        '*' => x.checked_mul(o),
-        '/' => x.checked_div(o),
+        b'+' => x.checked_add(o),
+        b'-' => x.checked_sub(o),
+        b'*' => x.checked_mul(o),
+        b'/' => x.checked_div(o),
         _ => x.checked_rem(o),
+    }
+}
+
+// Whether the answer has these fields, or there is none.
+#[inline]
+fn is_lowest<T: Integer>(answer: Option<Reduced<T>>, want: Option<(T, T)>) -> bool {
+    match answer {
+        Some(y) => Some(y.into_raw()) == want,
+        None => want.is_none(),
     }
 }
 
@@ -38,12 +47,12 @@ fn lowest_answer<T: Integer, O: ReducedOperand<T>>(
 #[inline]
 fn lowest_holds<T: Integer, O: ReducedOperand<T> + Copy>(
     left: (T, T),
-    symbol: char,
+    symbol: u8,
     o: O,
     want: Option<(T, T)>,
 ) -> bool {
     match Reduced::checked_new(left.0, left.1) {
-        Some(x) => lowest_answer(x, symbol, o).map(|y| y.into_raw()) == want,
+        Some(x) => is_lowest(lowest_answer(x, symbol, o), want),
         None => false,
     }
 }
@@ -52,7 +61,7 @@ fn lowest_holds<T: Integer, O: ReducedOperand<T> + Copy>(
 #[inline]
 fn both_lowest_hold<T: Integer>(
     left: (T, T),
-    symbol: char,
+    symbol: u8,
     right: (T, T),
     want: Option<(T, T)>,
 ) -> bool {
@@ -62,57 +71,106 @@ fn both_lowest_hold<T: Integer>(
     }
 }
 
-// A row: the right operand stands by value and behind a reference.
+// Whether it is so by every form: the right operand stands by value and behind a reference.
 #[inline]
-fn holds<T: Integer + Debug>(
-    left: (T, T),
-    symbol: char,
-    right: (T, T),
-    want: Option<(T, T)>,
-) {
+fn holds<T: Integer>(left: (T, T), symbol: u8, right: (T, T), want: Option<(T, T)>) -> bool {
     let (x, y) = (fraction(left), fraction(right));
-    assert!(
-        answer(x, symbol, y) == want
-            && answer(x, symbol, &y) == want
-            && both_lowest_hold(left, symbol, right, want),
-        "{left:?} {symbol} {right:?}"
-    );
+    answer(x, symbol, y) == want
+        && answer(x, symbol, &y) == want
+        && both_lowest_hold(left, symbol, right, want)
 }
 
-// The same of a row with a whole number.
+// The same of a whole number on the right.
 #[inline]
-fn holds_with<T: Integer + Debug>(
-    left: (T, T),
-    symbol: char,
-    c: T,
-    want: Option<(T, T)>,
-) {
+fn holds_with<T: Integer>(left: (T, T), symbol: u8, c: T, want: Option<(T, T)>) -> bool {
     let x = fraction(left);
-    assert!(
-        answer(x, symbol, c) == want
-            && answer(x, symbol, &c) == want
-            && lowest_holds(left, symbol, c, want)
-            && lowest_holds(left, symbol, &c, want),
-        "{left:?} {symbol} {c:?}"
-    );
+    answer(x, symbol, c) == want
+        && answer(x, symbol, &c) == want
+        && lowest_holds(left, symbol, c, want)
+        && lowest_holds(left, symbol, &c, want)
 }
 
-// The same rows at each of the twelve types.
-macro_rules! at_each_type {
-    ($rows:ident) => {
-        $rows::<i8>();
-        $rows::<u8>();
-        $rows::<i16>();
-        $rows::<u16>();
-        $rows::<i32>();
-        $rows::<u32>();
-        $rows::<i64>();
-        $rows::<u64>();
-        $rows::<isize>();
-        $rows::<usize>();
-        $rows::<i128>();
-        $rows::<u128>();
-    };
+// A row: a, b, a symbol, c, d, and the wanted answer for a/b and c/d.
+type Row<T> = (T, T, u8, T, T, Option<(T, T)>);
+
+// The first row that does not hold.
+#[inline]
+fn first_wrong<T: Integer>(rows: &[Row<T>]) -> Option<usize> {
+    for (i, &(a, b, symbol, c, d, want)) in rows.iter().enumerate() {
+        if !holds((a, b), symbol, (c, d), want) {
+            return Some(i);
+        }
+    }
+    None
+}
+
+#[inline]
+fn rows_hold<T: Integer>(rows: &[Row<T>]) {
+    all_hold("operators", first_wrong(rows));
+}
+
+#[test]
+fn test_add() {
+    rows_hold(
+        &[
+            (1i64, 1, b'+', 1, 2, Some((3, 2))),
+            (1, 1, b'+', 1, 1, Some((2, 1))),
+            (1, 2, b'+', 3, 2, Some((2, 1))),
+            (1, 2, b'+', -1, 2, Some((0, 1))),
+        ],
+    );
+    assert!(holds_with((1i64, 2), b'+', 1, Some((3, 2))));
+}
+
+#[test]
+fn test_sub() {
+    rows_hold(
+        &[
+            (1i64, 1, b'-', 1, 2, Some((1, 2))),
+            (3, 2, b'-', 1, 2, Some((1, 1))),
+            (1, 1, b'-', -1, 2, Some((3, 2))),
+        ],
+    );
+    assert!(holds_with((1i64, 2), b'-', 1, Some((-1, 2))));
+}
+
+#[test]
+fn test_mul() {
+    rows_hold(
+        &[
+            (1i64, 1, b'*', 1, 2, Some((1, 2))),
+            (3, 2, b'*', 1, 2, Some((3, 4))),
+            (-1, 2, b'*', 1, 2, Some((-1, 4))),
+        ],
+    );
+    assert!(holds_with((1i64, 2), b'*', 2, Some((1, 1))));
+}
+
+#[test]
+fn test_div() {
+    rows_hold(
+        &[
+            (1i64, 1, b'/', 1, 2, Some((2, 1))),
+            (3, 2, b'/', 1, 2, Some((3, 1))),
+            (1, 1, b'/', -1, 2, Some((-2, 1))),
+        ],
+    );
+    assert!(holds_with((1i64, 1), b'/', 2, Some((1, 2))));
+}
+
+#[test]
+fn test_rem() {
+    rows_hold(
+        &[
+            (3i64, 2, b'%', 1, 1, Some((1, 2))),
+            (3, 2, b'%', 1, 2, Some((0, 1))),
+            (5, 2, b'%', 3, 2, Some((1, 1))),
+            (2, 1, b'%', -1, 2, Some((0, 1))),
+            (1, 2, b'%', 2, 1, Some((1, 2))),
+            (-7, 2, b'%', 1, 1, Some((-1, 2))),
+        ],
+    );
+    assert!(holds_with((3i64, 2), b'%', 1, Some((1, 2))));
 }
 
 // The greatest number of a type.
@@ -125,73 +183,6 @@ fn most<T: Primitive>() -> u128 {
 #[inline]
 fn number<T: Primitive>(n: u128) -> T {
     T::from_u128(n).unwrap_or(T::ZERO)
-}
-
-#[test]
-fn test_add() {
-    holds((1i64, 1), '+', (1, 2), Some((3, 2)));
-    holds((1i64, 1), '+', (1, 1), Some((2, 1)));
-    holds((1i64, 2), '+', (3, 2), Some((2, 1)));
-    holds((1i64, 2), '+', (-1, 2), Some((0, 1)));
-    holds_with((1i64, 2), '+', 1, Some((3, 2)));
-}
-
-#[test]
-fn test_sub() {
-    holds((1i64, 1), '-', (1, 2), Some((1, 2)));
-    holds((3i64, 2), '-', (1, 2), Some((1, 1)));
-    holds((1i64, 1), '-', (-1, 2), Some((3, 2)));
-    holds_with((1i64, 2), '-', 1, Some((-1, 2)));
-}
-
-#[test]
-fn test_mul() {
-    holds((1i64, 1), '*', (1, 2), Some((1, 2)));
-    holds((3i64, 2), '*', (1, 2), Some((3, 4)));
-    holds((-1i64, 2), '*', (1, 2), Some((-1, 4)));
-    holds_with((1i64, 2), '*', 2, Some((1, 1)));
-}
-
-#[test]
-fn test_div() {
-    holds((1i64, 1), '/', (1, 2), Some((2, 1)));
-    holds((3i64, 2), '/', (1, 2), Some((3, 1)));
-    holds((1i64, 1), '/', (-1, 2), Some((-2, 1)));
-    holds_with((1i64, 1), '/', 2, Some((1, 2)));
-}
-
-#[test]
-fn test_rem() {
-    holds((3i64, 2), '%', (1, 1), Some((1, 2)));
-    holds((3i64, 2), '%', (1, 2), Some((0, 1)));
-    holds((5i64, 2), '%', (3, 2), Some((1, 1)));
-    holds((2i64, 1), '%', (-1, 2), Some((0, 1)));
-    holds((1i64, 2), '%', (2, 1), Some((1, 2)));
-    holds((-7i64, 2), '%', (1, 1), Some((-1, 2)));
-    holds_with((3i64, 2), '%', 1, Some((1, 2)));
-}
-
-// Near the greatest number M, where naive products of the fields are not held.
-#[inline]
-fn sums_near_the_greatest<T: Primitive + Debug>() {
-    let x = (T::ONE, T::MAX);
-    holds(x, '+', x, Some((number(2), T::MAX)));
-}
-
-#[test]
-fn test_add_overflow() {
-    at_each_type!(sums_near_the_greatest);
-}
-
-#[inline]
-fn differences_near_the_greatest<T: Primitive + Debug>() {
-    let x = (T::ONE, T::MAX);
-    holds(x, '-', x, Some((T::ZERO, T::ONE)));
-}
-
-#[test]
-fn test_sub_overflow() {
-    at_each_type!(differences_near_the_greatest);
 }
 
 // 1 over about half of M, and what it is times 2/3.
@@ -207,59 +198,104 @@ fn about_half<T: Primitive>() -> T {
     number(most::<T>() / 6 * 3 + 1)
 }
 
+// Whether the rows of products and of quotients near M hold.
 #[inline]
-fn products_near_the_greatest<T: Primitive + Debug>() {
+fn multiples_hold<T: Primitive>(symbol: u8) -> bool {
     let (x, want) = halves::<T>();
-    let c = about_half::<T>();
-    holds(x, '*', (number(2), number(3)), Some(want));
-    holds_with((c, number(3)), '*', number(3), Some((c, T::ONE)));
+    let (c, two, three) = (about_half::<T>(), number(2), number(3));
+    if symbol == b'*' {
+        holds(x, b'*', (two, three), Some(want))
+            && holds_with((c, three), b'*', three, Some((c, T::ONE)))
+    } else {
+        holds(x, b'/', (three, two), Some(want))
+            && holds_with((three, c), b'/', three, Some((T::ONE, c)))
+    }
+}
+
+// Whether the rows of an operator near the greatest number M hold, where naive products of the fields
+// are not held.
+#[inline]
+fn near_the_greatest<T: Primitive>(symbol: u8) -> bool {
+    let x = (T::ONE, T::MAX);
+    match symbol {
+        b'+' => holds(x, b'+', x, Some((number(2), T::MAX))),
+        b'-' => holds(x, b'-', x, Some((T::ZERO, T::ONE))),
+        b'%' => {
+            let y = (T::ONE, number(most::<T>() / 2 * 2));
+            holds((T::ONE, number(2)), b'%', y, Some((T::ZERO, T::ONE)))
+        }
+        _ => multiples_hold::<T>(symbol),
+    }
+}
+
+// Whether they hold at each of the twelve types.
+#[inline]
+fn at_each_type(symbol: u8) -> [bool; 12] {
+    [
+        near_the_greatest::<i8>(symbol),
+        near_the_greatest::<u8>(symbol),
+        near_the_greatest::<i16>(symbol),
+        near_the_greatest::<u16>(symbol),
+        near_the_greatest::<i32>(symbol),
+        near_the_greatest::<u32>(symbol),
+        near_the_greatest::<i64>(symbol),
+        near_the_greatest::<u64>(symbol),
+        near_the_greatest::<isize>(symbol),
+        near_the_greatest::<usize>(symbol),
+        near_the_greatest::<i128>(symbol),
+        near_the_greatest::<u128>(symbol),
+    ]
+}
+
+#[test]
+fn test_add_overflow() {
+    each_holds(&at_each_type(b'+'));
+}
+
+#[test]
+fn test_sub_overflow() {
+    each_holds(&at_each_type(b'-'));
 }
 
 #[test]
 fn test_mul_overflow() {
-    at_each_type!(products_near_the_greatest);
-}
-
-#[inline]
-fn quotients_near_the_greatest<T: Primitive + Debug>() {
-    let (x, want) = halves::<T>();
-    let c = about_half::<T>();
-    holds(x, '/', (number(3), number(2)), Some(want));
-    holds_with((number(3), c), '/', number(3), Some((T::ONE, c)));
+    each_holds(&at_each_type(b'*'));
 }
 
 #[test]
 fn test_div_overflow() {
-    at_each_type!(quotients_near_the_greatest);
-}
-
-#[inline]
-fn remainders_near_the_greatest<T: Primitive + Debug>() {
-    let y = (T::ONE, number(most::<T>() / 2 * 2));
-    holds((T::ONE, number(2)), '%', y, Some((T::ZERO, T::ONE)));
+    each_holds(&at_each_type(b'/'));
 }
 
 #[test]
 fn test_rem_overflow() {
-    at_each_type!(remainders_near_the_greatest);
+    each_holds(&at_each_type(b'%'));
 }
 
 #[test]
 fn test_zero() {
-    holds((0i64, 1), '+', (0, 1), Some((0, 1)));
-    holds((0i64, 1), '*', (0, 1), Some((0, 1)));
-    holds((0i64, 1), '*', (1, 1), Some((0, 1)));
-    holds((0i64, 1), '/', (-1, 2), Some((0, 1)));
-    holds((0i64, 1), '-', (0, 1), Some((0, 1)));
+    rows_hold(
+        &[
+            (0i64, 1, b'+', 0, 1, Some((0, 1))),
+            (0, 1, b'*', 0, 1, Some((0, 1))),
+            (0, 1, b'*', 1, 1, Some((0, 1))),
+            (0, 1, b'/', -1, 2, Some((0, 1))),
+            (0, 1, b'-', 0, 1, Some((0, 1))),
+        ],
+    );
 }
 
 #[test]
 fn test_checked_failures() {
-    holds((128u8, 1), '+', (128, 1), None);
-    holds((1u8, 128), '-', (128, 1), None);
-    holds((128u8, 1), '*', (128, 1), None);
-    holds((1u8, 128), '/', (128, 1), None);
-    holds((1i64, 1), '/', (0, 1), None);
+    rows_hold(
+        &[
+            (128u8, 1, b'+', 128, 1, None),
+            (1, 128, b'-', 128, 1, None),
+            (128, 1, b'*', 128, 1, None),
+            (1, 128, b'/', 128, 1, None),
+        ],
+    );
+    assert!(holds((1i64, 1), b'/', (0, 1), None));
 }
 
 #[inline]
@@ -271,10 +307,14 @@ fn whole(n: i64) -> Option<(i64, i64)> {
 #[inline]
 fn four_hold(a: i64, c: i64, want: [Option<(i64, i64)>; 4]) {
     let [sum, difference, product, quotient] = want;
-    holds((a, 1), '+', (c, 1), sum);
-    holds((a, 1), '-', (c, 1), difference);
-    holds((a, 1), '*', (c, 1), product);
-    holds((a, 1), '/', (c, 1), quotient);
+    rows_hold(
+        &[
+            (a, 1, b'+', c, 1, sum),
+            (a, 1, b'-', c, 1, difference),
+            (a, 1, b'*', c, 1, product),
+            (a, 1, b'/', c, 1, quotient),
+        ],
+    );
 }
 
 #[test]
@@ -314,37 +354,51 @@ fn test_checked_min_max() {
 
 #[test]
 fn where_8_bits_end() {
-    holds((64i8, 1), '/', (-1, 2), Some((-128, 1)));
-    holds((100i8, 100), '*', (7, 7), Some((1, 1)));
-    holds((-128i8, 1), '/', (-128, 1), Some((1, 1)));
-    holds((-128i8, 1), '%', (-1, 1), Some((0, 1)));
-    holds((0i8, 1), '/', (-128, 3), Some((0, 1)));
-    holds((127i8, 2), '*', (2, 127), Some((1, 1)));
-    holds((127i8, 2), '*', (127, 1), None);
-    holds((-128i8, 3), '*', (3, 1), Some((-128, 1)));
-    holds((-128i8, 1), '/', (-1, 1), None);
-    holds((1i8, 1), '/', (-128, 127), None);
-    holds((-127i8, 2), '%', (1, 1), Some((-1, 2)));
-    holds((255u8, 2), '+', (255, 2), None);
-    holds((1u8, 2), '-', (1, 1), None);
-    holds((1u8, 1), '%', (0, 3), None);
+    rows_hold(
+        &[
+            (64i8, 1, b'/', -1, 2, Some((-128, 1))),
+            (100, 100, b'*', 7, 7, Some((1, 1))),
+            (-128, 1, b'/', -128, 1, Some((1, 1))),
+            (-128, 1, b'%', -1, 1, Some((0, 1))),
+            (0, 1, b'/', -128, 3, Some((0, 1))),
+            (127, 2, b'*', 2, 127, Some((1, 1))),
+            (127, 2, b'*', 127, 1, None),
+            (-128, 3, b'*', 3, 1, Some((-128, 1))),
+            (-128, 1, b'/', -1, 1, None),
+            (1, 1, b'/', -128, 127, None),
+            (-127, 2, b'%', 1, 1, Some((-1, 2))),
+        ],
+    );
+    rows_hold(
+        &[
+            (255u8, 2, b'+', 255, 2, None),
+            (1, 2, b'-', 1, 1, None),
+            (1, 1, b'%', 0, 3, None),
+        ],
+    );
 }
 
 #[test]
 fn where_32_bits_end() {
     let half = (4294967295u32, 2);
-    holds(half, '+', half, None);
-    let half = (2147483647i32, 2);
-    holds(half, '+', half, Some((2147483647, 1)));
-    let (x, y) = ((1i32, 11862016), (1, 11993088));
-    holds(x, '+', y, Some((91, 542687232)));
-    holds(x, '-', y, Some((1, 1085374464)));
-    holds((1i32, 2147483647), '+', (1, 2147483646), None);
+    assert!(holds(half, b'+', half, None));
+    let (most, b, d) = (2147483647i32, 11862016, 11993088);
+    rows_hold(
+        &[
+            (most, 2, b'+', most, 2, Some((most, 1))),
+            (1, b, b'+', 1, d, Some((91, 542687232))),
+            (1, b, b'-', 1, d, Some((1, 1085374464))),
+            (1, 2147483647, b'+', 1, 2147483646, None),
+        ],
+    );
 }
 
 #[test]
 fn where_64_bits_end() {
     let (least, most) = (i64::MIN, i64::MAX);
-    holds((least, most), '+', (least, most), None);
-    holds((1, 1), '/', (least, 1), None);
+    let facts = [
+        holds((least, most), b'+', (least, most), None),
+        holds((1, 1), b'/', (least, 1), None),
+    ];
+    each_holds(&facts);
 }

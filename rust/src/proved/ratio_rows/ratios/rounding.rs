@@ -1,5 +1,7 @@
 // Erased from crates/ratio_rows/src/ratios/rounding.rt by rust/erase: not to be edited.
 //! Rows of the rounding calls and of the numbers as machine integers, from outside.
+use crate::proved::ratio_rows::asserting::{all_hold, each_holds};
+use crate::proved::ratio_rows::ratios::forms::positive;
 use crate::proved::num_rational::{Ratio, Reduced};
 use crate::proved::ratio_integer::Integer;
 
@@ -9,17 +11,14 @@ type Row<T> = (T, T, (T, T, T, T));
 // These four of the lowest terms of n/d, each over 1.
 #[inline]
 fn near<T: Integer>(n: T, d: T) -> Option<(T, T, T, T)> {
-    let x = Ratio::checked_new(n, d)?;
-    if T::ZERO < *x.denom() {
-        Some((
-            *x.ceil().numer(),
-            *x.floor().numer(),
-            *x.round().numer(),
-            *x.trunc().numer(),
-        ))
-    } else {
-        None
-    }
+    let (n, d) = Ratio::checked_new(n, d)?.into_raw();
+    let x = positive(n, d)?;
+    Some((
+        *x.ceil().numer(),
+        *x.floor().numer(),
+        *x.round().numer(),
+        *x.trunc().numer(),
+    ))
 }
 
 // The same four of the fraction that is always in lowest terms.
@@ -34,14 +33,20 @@ fn near_lowest<T: Integer>(n: T, d: T) -> Option<(T, T, T, T)> {
     ))
 }
 
+// The first row that is rounded in another way.
+#[inline]
+fn first_wrong<T: Integer>(rows: &[Row<T>]) -> Option<usize> {
+    for (i, &(n, d, want)) in rows.iter().enumerate() {
+        if near(n, d) != Some(want) || near_lowest(n, d) != Some(want) {
+            return Some(i);
+        }
+    }
+    None
+}
+
 #[inline]
 fn rows_hold<T: Integer>(rows: &[Row<T>]) {
-    for (i, &(n, d, want)) in rows.iter().enumerate() {
-        assert!(
-            near(n, d) == Some(want) && near_lowest(n, d) == Some(want),
-            "row {i}"
-        );
-    }
+    all_hold("rounding", first_wrong(rows));
 }
 
 #[test]
@@ -93,12 +98,8 @@ fn rounding_at_the_ends() {
 // The fields of what truncation leaves of n/d as it stands, and the whole number.
 #[inline]
 fn parts<T: Integer>(n: T, d: T) -> Option<((T, T), T)> {
-    if T::ZERO < d {
-        let x = Ratio::new_raw(n, d);
-        Some((x.fract().into_raw(), x.to_integer()))
-    } else {
-        None
-    }
+    let x = positive(n, d)?;
+    Some((x.fract().into_raw(), x.to_integer()))
 }
 
 // Whether the lowest terms of n/d have these two parts.
@@ -113,14 +114,20 @@ fn lowest_parts_hold<T: Integer>(n: T, d: T, want: ((T, T), T)) -> bool {
     }
 }
 
+// The first row that has other parts.
+#[inline]
+fn first_other_parts<T: Integer>(rows: &[(T, T, ((T, T), T))]) -> Option<usize> {
+    for (i, &(n, d, want)) in rows.iter().enumerate() {
+        if parts(n, d) != Some(want) || !lowest_parts_hold(n, d, want) {
+            return Some(i);
+        }
+    }
+    None
+}
+
 #[inline]
 fn parts_hold<T: Integer>(rows: &[(T, T, ((T, T), T))]) {
-    for (i, &(n, d, want)) in rows.iter().enumerate() {
-        assert!(
-            parts(n, d) == Some(want) && lowest_parts_hold(n, d, want),
-            "row {i}"
-        );
-    }
+    all_hold("parts", first_other_parts(rows));
 }
 
 #[test]
@@ -156,13 +163,9 @@ fn test_to_integer() {
 type Machine = (Option<i64>, Option<i128>, Option<u64>, Option<u128>);
 
 #[inline]
-fn machine<T: Integer>(n: T, d: T) -> Machine {
-    if T::ZERO < d {
-        let x = Ratio::new_raw(n, d);
-        (x.to_i64(), x.to_i128(), x.to_u64(), x.to_u128())
-    } else {
-        (None, None, None, None)
-    }
+fn machine<T: Integer>(n: T, d: T) -> Option<Machine> {
+    let x = positive(n, d)?;
+    Some((x.to_i64(), x.to_i128(), x.to_u64(), x.to_u128()))
 }
 
 #[inline]
@@ -172,37 +175,36 @@ fn lowest_machine<T: Integer>(n: T, d: T) -> Option<Machine> {
 }
 
 #[inline]
-fn machine_holds<T: Integer>(n: T, d: T, want: Machine) {
-    assert!(machine(n, d) == want && lowest_machine(n, d) == Some(want));
+fn machine_holds<T: Integer>(n: T, d: T, want: Machine) -> bool {
+    machine(n, d) == Some(want) && lowest_machine(n, d) == Some(want)
 }
 
 #[test]
 fn test_ratio_to_i64() {
-    machine_holds(-31i64, 8, (Some(-3), Some(-3), None, None));
-    machine_holds(70i64, 14, (Some(5), Some(5), Some(5), Some(5)));
-    machine_holds(-1i64, 2, (Some(0), Some(0), Some(0), Some(0)));
-    machine_holds(
-        u64::MAX,
-        1,
-        (
-            None,
-            Some(18446744073709551615),
-            Some(u64::MAX),
-            Some(18446744073709551615),
-        ),
+    let facts = [
+        machine_holds(-31i64, 8, (Some(-3), Some(-3), None, None)),
+        machine_holds(70i64, 14, (Some(5), Some(5), Some(5), Some(5))),
+        machine_holds(-1i64, 2, (Some(0), Some(0), Some(0), Some(0))),
+    ];
+    each_holds(&facts);
+    let most = 18446744073709551615u128;
+    assert!(
+        machine_holds(
+            u64::MAX,
+            1,
+            (None, Some(most as i128), Some(u64::MAX), Some(most))
+        )
     );
 }
 
 #[test]
 fn test_ratio_to_i128() {
-    machine_holds(
-        151115727451828646838272i128,
-        128,
-        (
-            None,
-            Some(1180591620717411303424),
-            None,
-            Some(1180591620717411303424),
-        ),
+    let (signed, unsigned) = (Some(1180591620717411303424), Some(1180591620717411303424));
+    assert!(
+        machine_holds(
+            151115727451828646838272i128,
+            128,
+            (None, signed, None, unsigned)
+        )
     );
 }

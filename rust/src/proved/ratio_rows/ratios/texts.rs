@@ -1,5 +1,7 @@
 // Erased from crates/ratio_rows/src/ratios/texts.rt by rust/erase: not to be edited.
 //! Rows of texts, read and printed, from outside.
+use crate::proved::ratio_rows::asserting::{each_holds, reads as reads_as};
+use crate::proved::ratio_rows::ratios::forms::raw;
 use crate::proved::num_rational::{DecimalText, Form, Ratio, RatioText};
 use crate::proved::ratio_integer::Primitive;
 use core::fmt;
@@ -27,23 +29,26 @@ fn reads<T: Primitive>(text: &str, radix: u32, want: Result<(T, T), u8>) -> bool
 
 #[test]
 fn texts_in_a_radix() {
-    assert!(reads::<u8>("-0/1", 10, Err(1)));
-    assert!(reads::<u8>("100000000/1", 2, Err(1)));
-    assert!(reads::<i8>("+10/0x2", 16, Err(1)));
-    assert!(reads::<i8>("z/0", 10, Err(1)));
-    assert!(reads::<i8>("z/0", 36, Err(2)));
-    assert!(reads::<i32>("5", 10, Err(1)));
-    assert!(reads::<i32>("fF/-2", 16, Ok((-255, 2))));
-    assert!(reads::<i32>("z/Z", 36, Ok((1, 1))));
+    let facts = [
+        reads::<u8>("-0/1", 10, Err(1)),
+        reads::<u8>("100000000/1", 2, Err(1)),
+        reads::<i8>("+10/0x2", 16, Err(1)),
+        reads::<i8>("z/0", 10, Err(1)),
+        reads::<i8>("z/0", 36, Err(2)),
+        reads::<i32>("5", 10, Err(1)),
+        reads::<i32>("fF/-2", 16, Ok((-255, 2))),
+        reads::<i32>("z/Z", 36, Ok((1, 1))),
+    ];
+    each_holds(&facts);
 }
 
-// A fraction that is printed in a form, under the options of the hole that it stands in.
-pub(crate) struct Shown<T: Primitive> {
-    fraction: Ratio<T>,
-    form: Form,
+/// A fraction that is printed in a form, under the options of the hole that it stands in.
+pub(crate) struct Shown<X: Copy + Display + Binary + Octal + LowerHex + UpperHex> {
+    pub fraction: X,
+    pub form: Form,
 }
 
-impl<T: Primitive> Display for Shown<T> {
+impl<X: Copy + Display + Binary + Octal + LowerHex + UpperHex> Display for Shown<X> {
     #[inline]
     fn fmt(&self, f: &mut Formatter<'_>) -> fmt::Result {
         match self.form {
@@ -58,64 +63,87 @@ impl<T: Primitive> Display for Shown<T> {
 
 /// `numer/denom` in this form, and 0/1 where the denominator is 0.
 #[inline]
-pub(crate) fn shown_as<T: Primitive>(numer: T, denom: T, form: Form) -> Shown<T> {
-    let fraction = if denom.is_zero() {
-        Ratio::zero()
-    } else {
-        Ratio::new_raw(numer, denom)
-    };
+pub(crate) fn shown_as<T: Primitive>(numer: T, denom: T, form: Form) -> Shown<Ratio<T>> {
+    let fraction = raw(numer, denom).unwrap_or(Ratio::zero());
     Shown { fraction, form }
 }
 
 // A row of printed fractions.
 type Line = InlineText<120>;
 
-#[test]
-fn signs_and_prefixes() {
+#[inline]
+fn signs() {
     let two = shown_as(2i64, 1, Form::Decimal);
     let minus_two = shown_as(-2i64, 1, Form::Decimal);
     let half = shown_as(1i64, 2, Form::Binary);
-    let minus_half = shown_as(-1i8, 2, Form::Binary);
-    let row = Line::of(format_args!("{two:+} {minus_two:+} {half} {half:+} {minus_half:#}"));
-    assert_eq!(row.as_str(), "+2 -2 1/10 +1/10 0b11111111/0b10");
+    let row = Line::of(format_args!("{two:+} {minus_two:+} {half} {half:+}"));
+    reads_as(row.as_str(), "+2 -2 1/10 +1/10");
+}
+
+#[inline]
+fn prefixes() {
+    let binary = shown_as(-1i8, 2, Form::Binary);
     let octal = shown_as(-1i8, 2, Form::Octal);
     let upper = shown_as(-1i8, 2, Form::UpperHex);
+    let row = Line::of(format_args!("{binary:#} {octal:#} {upper:#}"));
+    reads_as(row.as_str(), "0b11111111/0b10 0o377/0o2 0xFF/0x2");
+}
+
+#[inline]
+fn letters() {
     let fifteenth = shown_as(1i64, 15, Form::UpperHex);
     let lower = shown_as(-1i8, 2, Form::LowerHex);
-    let row = Line::of(format_args!("{octal:#} {upper:#} {fifteenth} {lower} {lower:+}"));
-    assert_eq!(row.as_str(), "0o377/0o2 0xFF/0x2 1/F ff/2 +ff/2");
+    let row = Line::of(format_args!("{fifteenth} {lower} {lower:+}"));
+    reads_as(row.as_str(), "1/F ff/2 +ff/2");
+}
+
+#[test]
+fn signs_and_prefixes() {
+    signs();
+    prefixes();
+    letters();
     let decimal = shown_as(1i8, -2, Form::Decimal);
     let binary = shown_as(1i8, -2, Form::Binary);
     let row = Line::of(format_args!("{decimal} {binary}"));
-    assert_eq!(row.as_str(), "1/-2 1/11111110");
+    reads_as(row.as_str(), "1/-2 1/11111110");
+}
+
+#[inline]
+fn decimal_widths() {
+    let half = shown_as(1i64, 2, Form::Decimal);
+    let minus_one = shown_as(-1i8, 1, Form::Decimal);
+    let row = Line::of(format_args!("{half:<6}|{half:>8}|{half:*^7}|{minus_one:05}"));
+    reads_as(row.as_str(), "1/2   |     1/2|**1/2**|-0001");
+}
+
+#[inline]
+fn prefixed_widths() {
+    let half = shown_as(1i64, 2, Form::Binary);
+    let eighth = shown_as(1i64, 8, Form::Octal);
+    let row = Line::of(format_args!("{half:010} {half:#010} {eighth:#010}"));
+    reads_as(row.as_str(), "0000001/10 0b001/0b10 0o001/0o10");
 }
 
 #[test]
 fn widths() {
-    let half = shown_as(1i64, 2, Form::Decimal);
-    let minus_one = shown_as(-1i8, 1, Form::Decimal);
-    let row = Line::of(format_args!("{half:<6}|{half:>8}|{half:*^7}|{minus_one:05}"));
-    assert_eq!(row.as_str(), "1/2   |     1/2|**1/2**|-0001");
-    let binary = shown_as(1i64, 2, Form::Binary);
-    let eighth = shown_as(1i64, 8, Form::Octal);
-    let row = Line::of(format_args!("{binary:010} {binary:#010} {eighth:#010}"));
-    assert_eq!(row.as_str(), "0000001/10 0b001/0b10 0o001/0o10");
+    decimal_widths();
+    prefixed_widths();
     let long = shown_as(u128::MAX, u128::MAX, Form::Binary)
         .fraction
         .text(Form::Binary, true);
-    assert_eq!(long.as_str().len(), 261);
+    assert!(long.as_str().len() == 261);
 }
 
 #[test]
 fn texts_in_place() {
     let half = Ratio::new_raw(-2i64, 4);
-    assert!(half.decimal_text().as_str() == "-2/4");
+    reads_as(half.decimal_text().as_str(), "-2/4");
     let mut decimal = DecimalText::empty();
     half.put_decimal_text(&mut decimal);
-    assert!(decimal.as_str() == "-2/4");
+    reads_as(decimal.as_str(), "-2/4");
     Ratio::from_integer(7i64).put_decimal_text(&mut decimal);
-    assert!(decimal.as_str() == "7");
+    reads_as(decimal.as_str(), "7");
     let mut text = RatioText::empty();
     half.put_text(Form::LowerHex, true, &mut text);
-    assert!(text.as_str() == "0xfffffffffffffffe/0x4");
+    reads_as(text.as_str(), "0xfffffffffffffffe/0x4");
 }

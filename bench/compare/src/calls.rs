@@ -25,15 +25,11 @@ const ROOM: usize = 84;
 
 type Run<'a, C> = &'a dyn Fn(&mut [Place<C>]);
 
-type Erased<T> = fn(&[erased::Pair<T>], &mut [Answer<T>]);
-
-type Theirs<T> = fn(&[theirs::Pair<T>], &mut [Answer<T>]);
+type Answering<A, T> = fn(&[A], &mut [Answer<T>]);
 
 type Reading<T> = fn(&[u8], &[Span], &mut [Answer<T>]);
 
-type ErasedPrinting<T> = fn(&[erased::Pair<T>], &mut [u8], &mut [usize]);
-
-type TheirPrinting<T> = fn(&[theirs::Pair<T>], &mut [u8], &mut [usize]);
+type Printing<A> = fn(&[A], &mut [u8], &mut [usize]);
 
 /// The bench of one element type.
 pub struct Bench<'a, C: Crossing> {
@@ -198,8 +194,8 @@ where
         let row = self.row(
             len,
             Some(&mut || each(run, &inputs.first, &mut a)),
-            &mut || erased::hash(&inputs.erased, &mut b),
-            &mut || theirs::hash(&inputs.theirs, &mut c),
+            &mut || erased::hash(&inputs.first_erased, &mut b),
+            &mut || theirs::hash(&inputs.first_theirs, &mut c),
         );
         let all: Vec<_> = (0..len).map(|i| (inputs.fields[i], Some(a[i].hash), b[i], c[i])).collect();
         self.ended("hash", kind, row, &all, |_| false);
@@ -211,10 +207,13 @@ where
         kind: &str,
         inputs: &Inputs<C>,
         run: Each<Pair<C>, Place<C>>,
-        erased: Erased<C::Number>,
-        theirs: Theirs<C::Number>,
+        erased: Answering<erased::Pair<C::Number>, C::Number>,
+        theirs: Answering<theirs::Pair<C::Number>, C::Number>,
     ) {
-        self.answers(call, kind, inputs, Some(&|out: &mut [_]| each(run, &inputs.proved, out)), erased, theirs);
+        let run = |out: &mut [_]| each(run, &inputs.proved, out);
+        let erased = |out: &mut [_]| erased(&inputs.erased, out);
+        let theirs = |out: &mut [_]| theirs(&inputs.theirs, out);
+        self.all_three(call, kind, &inputs.fields, Some(&run), &erased, &theirs);
     }
 
     fn answers(
@@ -223,11 +222,11 @@ where
         kind: &str,
         inputs: &Inputs<C>,
         proved: Option<Run<C>>,
-        erased: Erased<C::Number>,
-        theirs: Theirs<C::Number>,
+        erased: Answering<bakhsney::Ratio<C::Number>, C::Number>,
+        theirs: Answering<Ratio<C::Number>, C::Number>,
     ) {
-        let erased = |out: &mut [_]| erased(&inputs.erased, out);
-        let theirs = |out: &mut [_]| theirs(&inputs.theirs, out);
+        let erased = |out: &mut [_]| erased(&inputs.first_erased, out);
+        let theirs = |out: &mut [_]| theirs(&inputs.first_theirs, out);
         self.all_three(call, kind, &inputs.fields, proved, &erased, &theirs);
     }
 
@@ -269,8 +268,8 @@ where
         let exponents: Vec<i32> = inputs.fields.iter().map(exponent).collect();
         let asked: Vec<_> = inputs.proved.iter().zip(&exponents).map(|(pair, exponent)| pair.left_to(*exponent)).collect();
         let run = self.exports.pow;
-        let erased = |out: &mut [_]| erased::pow(&inputs.erased, &exponents, out);
-        let theirs = |out: &mut [_]| theirs::pow(&inputs.theirs, &exponents, out);
+        let erased = |out: &mut [_]| erased::pow(&inputs.first_erased, &exponents, out);
+        let theirs = |out: &mut [_]| theirs::pow(&inputs.first_theirs, &exponents, out);
         self.all_three("pow", kind, &inputs.fields, Some(&|out: &mut [_]| each(run, &asked, out)), &erased, &theirs);
     }
 
@@ -294,8 +293,8 @@ where
         kind: &str,
         inputs: &Inputs<C>,
         is_proved: bool,
-        erased: ErasedPrinting<C::Number>,
-        theirs: TheirPrinting<C::Number>,
+        erased: Printing<bakhsney::Ratio<C::Number>>,
+        theirs: Printing<Ratio<C::Number>>,
     ) {
         if !self.passes(call, kind) {
             return;
@@ -310,8 +309,8 @@ where
         let row = self.row(
             len,
             proved,
-            &mut || erased(&inputs.erased, &mut b, &mut b_ends),
-            &mut || theirs(&inputs.theirs, &mut c, &mut c_ends),
+            &mut || erased(&inputs.first_erased, &mut b, &mut b_ends),
+            &mut || theirs(&inputs.first_theirs, &mut c, &mut c_ends),
         );
         let text = |bytes: &[u8], ends: &[usize], i: usize| {
             let start = if i == 0 { 0 } else { ends[i - 1] };

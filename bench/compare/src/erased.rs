@@ -19,22 +19,22 @@ pub fn checked_rem<T: Number + Integer>(pairs: &[Pair<T>], out: &mut [Answer<T>]
 }
 
 #[inline(never)]
-pub fn gcd<T: Number + Integer + Primitive>(pairs: &[Pair<T>], out: &mut [Answer<T>]) {
-    each(pairs, out, |pair| Answer::some(Proved::gcd(*pair.0.numer(), *pair.0.denom()), T::ONE));
+pub fn gcd<T: Number + Integer + Primitive>(fractions: &[Ratio<T>], out: &mut [Answer<T>]) {
+    each(fractions, out, |x| Answer::some(Proved::gcd(*x.numer(), *x.denom()), T::ONE));
 }
 
 #[inline(never)]
-pub fn pow<T: Number + Integer>(pairs: &[Pair<T>], exponents: &[i32], out: &mut [Answer<T>]) {
-    for ((pair, exponent), place) in pairs.iter().zip(exponents).zip(out) {
-        *place = answered(pair.0.checked_pow(*exponent));
+pub fn pow<T: Number + Integer>(fractions: &[Ratio<T>], exponents: &[i32], out: &mut [Answer<T>]) {
+    for ((x, exponent), place) in fractions.iter().zip(exponents).zip(out) {
+        *place = answered(x.checked_pow(*exponent));
     }
 }
 
 #[inline(always)]
-fn put<T: Number>(pairs: &[Pair<T>], out: &mut [u8], ends: &mut [usize], mut text: impl FnMut(&Ratio<T>, &mut [u8]) -> usize) {
+fn put<T: Number>(fractions: &[Ratio<T>], out: &mut [u8], ends: &mut [usize], mut text: impl FnMut(&Ratio<T>, &mut [u8]) -> usize) {
     let mut at = 0;
-    for (pair, end) in pairs.iter().zip(ends) {
-        at += text(&pair.0, &mut out[at..]);
+    for (x, end) in fractions.iter().zip(ends) {
+        at += text(x, &mut out[at..]);
         *end = at;
     }
 }
@@ -47,9 +47,9 @@ fn copied(text: &str, out: &mut [u8]) -> usize {
 
 /// In decimal, without std's formatter: each text in the place of the one before.
 #[inline(never)]
-pub fn text<T: Number + Integer>(pairs: &[Pair<T>], out: &mut [u8], ends: &mut [usize]) {
+pub fn text<T: Number + Integer>(fractions: &[Ratio<T>], out: &mut [u8], ends: &mut [usize]) {
     let mut text = DecimalText::empty();
-    put(pairs, out, ends, |x, out| {
+    put(fractions, out, ends, |x, out| {
         x.put_decimal_text(&mut text);
         copied(text.as_str(), out)
     });
@@ -57,18 +57,18 @@ pub fn text<T: Number + Integer>(pairs: &[Pair<T>], out: &mut [u8], ends: &mut [
 
 /// In base 16, without std's formatter and the layer.
 #[inline(never)]
-pub fn hex_text<T: Number + Integer + Primitive>(pairs: &[Pair<T>], out: &mut [u8], ends: &mut [usize]) {
-    put(pairs, out, ends, |x, out| {
+pub fn hex_text<T: Number + Integer + Primitive>(fractions: &[Ratio<T>], out: &mut [u8], ends: &mut [usize]) {
+    put(fractions, out, ends, |x, out| {
         let fraction = proved::Ratio::new_raw(*x.numer(), *x.denom());
         copied(fraction.text(Form::LowerHex, false).as_str(), out)
     });
 }
 
-/// The reciprocal of each first fraction that is above 0, without the tests of the layer; any other as it is.
+/// The reciprocal of each fraction that is above 0, without the tests of the layer; any other as it is.
 #[inline(never)]
-pub fn bare_recip<T: Number + Integer + Primitive>(pairs: &[Pair<T>], out: &mut [Answer<T>]) {
-    each(pairs, out, |pair| {
-        let (numer, denom) = pair.0.into_raw();
+pub fn bare_recip<T: Number + Integer + Primitive>(fractions: &[Ratio<T>], out: &mut [Answer<T>]) {
+    each(fractions, out, |x| {
+        let (numer, denom) = x.into_raw();
         if T::ZERO < numer {
             let (numer, denom) = proved::Ratio::new_raw(numer, denom).recip().into_raw();
             Answer::some(numer, denom)

@@ -11,7 +11,9 @@ pub struct Inputs<C: Crossing> {
     /// The first fraction of each pair.
     pub first: Vec<Fraction<C>>,
     pub erased: Vec<erased::Pair<C::Number>>,
+    pub first_erased: Vec<bakhsney::Ratio<C::Number>>,
     pub theirs: Vec<theirs::Pair<C::Number>>,
+    pub first_theirs: Vec<num_rational::Ratio<C::Number>>,
 }
 
 impl<C: Crossing> Inputs<C>
@@ -27,6 +29,8 @@ where
             first: proved.iter().map(Pair::left).collect(),
             proved,
             erased: fields.iter().map(|f| (erased(f[0], f[1]), erased(f[2], f[3]))).collect(),
+            first_erased: fields.iter().map(|f| erased(f[0], f[1])).collect(),
+            first_theirs: fields.iter().map(|f| theirs(f[0], f[1])).collect(),
             theirs: fields.iter().map(|f| (theirs(f[0], f[1]), theirs(f[2], f[3]))).collect(),
             fields,
         }

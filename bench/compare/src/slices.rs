@@ -1,6 +1,6 @@
-//! A call on each fraction of a slice, for a fraction type with the names of num-rational.
+//! A call on each fraction or pair of a slice, for a fraction type with the names of num-rational.
 
-/// Two fractions of each place, and a place for each answer.
+/// What each call is asked, and a place for each answer.
 macro_rules! slices {
     ($($Bound:path),+) => {
         pub type Pair<T> = (Ratio<T>, Ratio<T>);
@@ -16,9 +16,9 @@ macro_rules! slices {
         }
 
         #[inline(always)]
-        fn each<T: Number>(pairs: &[Pair<T>], out: &mut [Answer<T>], call: impl Fn(&Pair<T>) -> Answer<T>) {
-            for (pair, place) in pairs.iter().zip(out) {
-                *place = call(pair);
+        fn each<A, T: Number>(asked: &[A], out: &mut [Answer<T>], call: impl Fn(&A) -> Answer<T>) {
+            for (one, place) in asked.iter().zip(out) {
+                *place = call(one);
             }
         }
 
@@ -36,35 +36,32 @@ macro_rules! slices {
         }
 
         #[inline(never)]
-        pub fn hash<T: Number>(pairs: &[Pair<T>], out: &mut [u64])
+        pub fn hash<T: Number>(fractions: &[Ratio<T>], out: &mut [u64])
         where
             $(T: $Bound),+
         {
-            for (pair, place) in pairs.iter().zip(out) {
+            for (x, place) in fractions.iter().zip(out) {
                 let mut mixing = Mixing::new();
-                pair.0.hash(&mut mixing);
+                x.hash(&mut mixing);
                 *place = mixing.finish();
             }
         }
 
         #[inline(never)]
-        pub fn to_integer<T: Number>(pairs: &[Pair<T>], out: &mut [Answer<T>])
+        pub fn to_integer<T: Number>(fractions: &[Ratio<T>], out: &mut [Answer<T>])
         where
             $(T: $Bound),+
         {
-            each(pairs, out, |pair| Answer::some(pair.0.to_integer(), T::one()));
+            each(fractions, out, |x| Answer::some(x.to_integer(), T::one()));
         }
 
-        /// The reciprocal of each first fraction that is above 0; any other as it is.
+        /// The reciprocal of each fraction that is above 0; any other as it is.
         #[inline(never)]
-        pub fn recip<T: Number>(pairs: &[Pair<T>], out: &mut [Answer<T>])
+        pub fn recip<T: Number>(fractions: &[Ratio<T>], out: &mut [Answer<T>])
         where
             $(T: $Bound),+
         {
-            each(pairs, out, |pair| {
-                let x = pair.0;
-                answered(Some(if T::zero() < *x.numer() { x.recip() } else { x }))
-            });
+            each(fractions, out, |x| answered(Some(if T::zero() < *x.numer() { x.recip() } else { *x })));
         }
 
         #[inline(always)]
@@ -105,33 +102,33 @@ macro_rules! slices {
 
         #[inline(always)]
         fn print<T: Number>(
-            pairs: &[Pair<T>],
+            fractions: &[Ratio<T>],
             out: &mut [u8],
             ends: &mut [usize],
             write: impl Fn(&mut &mut [u8], &Ratio<T>) -> std::io::Result<()>,
         ) {
             let room = out.len();
             let mut rest = out;
-            for (pair, end) in pairs.iter().zip(ends) {
-                write(&mut rest, &pair.0).expect("the buffer has room");
+            for (x, end) in fractions.iter().zip(ends) {
+                write(&mut rest, x).expect("the buffer has room");
                 *end = room - rest.len();
             }
         }
 
         #[inline(never)]
-        pub fn printed<T: Number>(pairs: &[Pair<T>], out: &mut [u8], ends: &mut [usize])
+        pub fn printed<T: Number>(fractions: &[Ratio<T>], out: &mut [u8], ends: &mut [usize])
         where
             $(T: $Bound),+
         {
-            print(pairs, out, ends, |rest, x| write!(rest, "{}", x));
+            print(fractions, out, ends, |rest, x| write!(rest, "{}", x));
         }
 
         #[inline(never)]
-        pub fn hex<T: Number>(pairs: &[Pair<T>], out: &mut [u8], ends: &mut [usize])
+        pub fn hex<T: Number>(fractions: &[Ratio<T>], out: &mut [u8], ends: &mut [usize])
         where
             $(T: $Bound),+
         {
-            print(pairs, out, ends, |rest, x| write!(rest, "{:x}", x));
+            print(fractions, out, ends, |rest, x| write!(rest, "{:x}", x));
         }
     };
     (@checked $($Bound:path),+; $call:ident $($more:ident)*) => {
@@ -147,11 +144,11 @@ macro_rules! slices {
     };
     (@single $($Bound:path),+; $call:ident $($more:ident)*) => {
         #[inline(never)]
-        pub fn $call<T: Number>(pairs: &[Pair<T>], out: &mut [Answer<T>])
+        pub fn $call<T: Number>(fractions: &[Ratio<T>], out: &mut [Answer<T>])
         where
             $(T: $Bound),+
         {
-            each(pairs, out, |pair| answered(Some(pair.0.$call())));
+            each(fractions, out, |x| answered(Some(x.$call())));
         }
 
         slices! { @single $($Bound),+; $($more)* }

@@ -17,14 +17,14 @@ pub fn checked_rem<T: Number>(pairs: &[Pair<T>], out: &mut [Answer<T>]) {
 }
 
 #[inline(never)]
-pub fn gcd<T: Number>(pairs: &[Pair<T>], out: &mut [Answer<T>]) {
-    each(pairs, out, |pair| Answer::some(num_integer::Integer::gcd(pair.0.numer(), pair.0.denom()), T::one()));
+pub fn gcd<T: Number>(fractions: &[Ratio<T>], out: &mut [Answer<T>]) {
+    each(fractions, out, |x| Answer::some(num_integer::Integer::gcd(x.numer(), x.denom()), T::one()));
 }
 
 /// Only where the power is held may this be called.
 #[inline(never)]
-pub fn pow<T: Number>(pairs: &[Pair<T>], exponents: &[i32], out: &mut [Answer<T>]) {
-    for ((pair, exponent), place) in pairs.iter().zip(exponents).zip(out) {
-        *place = answered(Some(T::power(&pair.0, *exponent)));
+pub fn pow<T: Number>(fractions: &[Ratio<T>], exponents: &[i32], out: &mut [Answer<T>]) {
+    for ((x, exponent), place) in fractions.iter().zip(exponents).zip(out) {
+        *place = answered(Some(T::power(x, *exponent)));
     }
 }

@@ -13,9 +13,9 @@ pub fn goal(call: &str, kind: &str) -> f64 {
         "checked_add" | "checked_sub" if simple => 0.5,
         "checked_mul" | "checked_div" if simple => 0.3,
         "floor" | "round" => 0.8,
-        "to_integer" | "bare recip" | "pow" => 1.0,
+        "to_integer" | "recip" | "bare recip" | "pow" => 1.0,
         "hash" => 0.9,
-        "from_str" | "from_str_radix" | "hex" => 0.6,
+        "from_str" | "from_str_radix" | "hex" | "`{:x}`" => 0.6,
         "text" => 0.4,
         _ => MOST,
     }

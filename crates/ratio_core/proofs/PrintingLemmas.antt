@@ -79,11 +79,13 @@ rest_ascii : (whole : Bool) (xs : List ℕ) → IsAscii xs → IsAscii (cond who
 rest_ascii true xs h = IsAscii-nil
 rest_ascii false xs h = IsAscii-cons slash xs (lit< tt) h
 
-pub text_ascii : (bits : ℕ) (form : Form) (alternate : Bool) (n d : ℤ) → unsigned_abs n < 2 ^ 128 → unsigned_abs d < 2 ^ 128 → IsAscii (text_of bits form alternate n d)
-text_ascii bits form alternate n d n_small d_small =
+pub text_ascii : (lo hi : ℤ) (bits : ℕ) (form : Form) (alternate : Bool) (n d : ℤ) → IsRange lo hi → (bits ≤ 128) × (hi +ℤ pos 1 ≡ lo +ℤ pos (2 ^ bits))
+    → IsHeld lo hi n → IsHeld lo hi d → IsAscii (text_of bits form alternate n d)
+text_ascii lo hi bits form alternate n d range width n_held d_held =
     let prefix = prefix_ascii form alternate in
-    IsAscii-append _ _ prefix (IsAscii-append _ _ (number_ascii bits form n n_small)
-    (rest_ascii (int_eq d (pos 1)) _ (IsAscii-append _ _ prefix (number_ascii bits form d d_small))))
+    let number = λ (z : ℤ) (held : IsHeld lo hi z). number_ascii bits form z (small_magnitude lo hi bits z range width held) in
+    IsAscii-append _ _ prefix (IsAscii-append _ _ (number n n_held)
+    (rest_ascii (int_eq d (pos 1)) _ (IsAscii-append _ _ prefix (number d d_held))))
 
 -- a call that says why it fails succeeds where that cannot be
 pub ok_from : {A E : Type 0} (r : Result A E) (P : A → Type 0) (Q : Type 0) (R : E → Type 0) → MatchResult r P (λ e. ¬ Q × R e) → Q → IsOk r

@@ -2,7 +2,7 @@
 use std::process::Abort;
 
 /// Every row holds: there is no first one that does not.
-pub fn all_hold(rt: &impl Abort, what: &str, first_wrong: Option<usize>) {
+pub(crate) fn all_hold(rt: &impl Abort, what: &str, first_wrong: Option<usize>) {
     assert!(rt; first_wrong.is_none(), "{what}: row {first_wrong:?}");
 }
 
@@ -16,11 +16,11 @@ fn first_false(facts: &[bool]) -> Option<usize> {
 }
 
 /// Each of these holds.
-pub fn each_holds(rt: &impl Abort, facts: &[bool]) {
+pub(crate) fn each_holds(rt: &impl Abort, facts: &[bool]) {
     all_hold(rt, "facts", first_false(facts));
 }
 
 /// The two texts are one.
-pub fn reads(rt: &impl Abort, text: &str, want: &str) {
+pub(crate) fn reads(rt: &impl Abort, text: &str, want: &str) {
     assert!(rt; text == want, "{text}, not {want}");
 }

@@ -30,7 +30,7 @@ pub fn positive<T: Integer>(numer: T, denom: T) -> Option<Ratio<T>>
 }
 
 /// The fraction with these fields, where its denominator is not 0.
-pub fn raw<T: Integer>(numer: T, denom: T) -> Option<Ratio<T>> {
+pub(crate) fn raw<T: Integer>(numer: T, denom: T) -> Option<Ratio<T>> {
     if denom.is_zero() {
         None
     } else {
@@ -39,12 +39,12 @@ pub fn raw<T: Integer>(numer: T, denom: T) -> Option<Ratio<T>> {
 }
 
 /// Whether the fraction has these fields.
-pub fn has<T: Integer>(x: Ratio<T>, fields: (T, T)) -> bool {
+pub(crate) fn has<T: Integer>(x: Ratio<T>, fields: (T, T)) -> bool {
     x.into_raw() == fields
 }
 
 /// Whether the answer has these fields, or there is none.
-pub fn answers<T: Integer>(answer: Option<Ratio<T>>, want: Option<(T, T)>) -> bool {
+pub(crate) fn answers<T: Integer>(answer: Option<Ratio<T>>, want: Option<(T, T)>) -> bool {
     match answer {
         Some(x) => want == Some(x.into_raw()),
         None => want.is_none(),

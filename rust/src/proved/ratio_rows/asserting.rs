@@ -3,7 +3,7 @@
 
 /// Every row holds: there is no first one that does not.
 #[inline]
-pub fn all_hold(what: &str, first_wrong: Option<usize>) {
+pub(crate) fn all_hold(what: &str, first_wrong: Option<usize>) {
     assert!(first_wrong.is_none(), "{what}: row {first_wrong:?}");
 }
 
@@ -19,12 +19,12 @@ fn first_false(facts: &[bool]) -> Option<usize> {
 
 /// Each of these holds.
 #[inline]
-pub fn each_holds(facts: &[bool]) {
+pub(crate) fn each_holds(facts: &[bool]) {
     all_hold("facts", first_false(facts));
 }
 
 /// The two texts are one.
 #[inline]
-pub fn reads(text: &str, want: &str) {
+pub(crate) fn reads(text: &str, want: &str) {
     assert!(text == want, "{text}, not {want}");
 }

@@ -25,7 +25,7 @@ fn paired<T: Integer>(pair: (T, T)) -> Option<(T, T)> {
 
 /// The lowest terms by `reduced`, where `checked_new` of the fields answers.
 #[inline]
-pub fn reduced<T: Integer>(n: T, d: T) -> Option<(T, T)> {
+pub(crate) fn reduced<T: Integer>(n: T, d: T) -> Option<(T, T)> {
     match Ratio::checked_new(n, d) {
         Some(_) => Some(Ratio::new_raw(n, d).reduced().into_raw()),
         None => None,

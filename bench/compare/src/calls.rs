@@ -89,7 +89,7 @@ where
             let many = self.many(kind, low);
             self.roundings(kind, &many);
             // A sign that no one guesses would cost more than the call.
-            let above = many.only(|f| f[0] > 0);
+            let above = many.only(|f| f[0] != 0);
             self.answers("recip", kind, &above, None, erased::recip, theirs::recip);
             self.answers("bare recip", kind, &above, None, erased::bare_recip, theirs::recip);
             self.powers(kind, &many.only(|f| f[0] != 0));

@@ -64,16 +64,12 @@ pub fn hex_text<T: Number + Integer + Primitive>(fractions: &[Ratio<T>], out: &m
     });
 }
 
-/// The reciprocal of each fraction that is above 0, without the tests of the layer; any other as it is.
+/// The reciprocal without the tests of the layer.
 #[inline(never)]
 pub fn bare_recip<T: Number + Integer + Primitive>(fractions: &[Ratio<T>], out: &mut [Answer<T>]) {
     each(fractions, out, |x| {
         let (numer, denom) = x.into_raw();
-        if T::ZERO < numer {
-            let (numer, denom) = proved::Ratio::new_raw(numer, denom).recip().into_raw();
-            Answer::some(numer, denom)
-        } else {
-            Answer::some(numer, denom)
-        }
+        let (numer, denom) = proved::Ratio::new_raw(numer, denom).recip().into_raw();
+        Answer::some(numer, denom)
     });
 }

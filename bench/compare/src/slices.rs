@@ -55,13 +55,12 @@ macro_rules! slices {
             each(fractions, out, |x| Answer::some(x.to_integer(), T::one()));
         }
 
-        /// The reciprocal of each fraction that is above 0; any other as it is.
         #[inline(never)]
         pub fn recip<T: Number>(fractions: &[Ratio<T>], out: &mut [Answer<T>])
         where
             $(T: $Bound),+
         {
-            each(fractions, out, |x| answered(Some(if T::zero() < *x.numer() { x.recip() } else { *x })));
+            each(fractions, out, |x| answered(Some(x.recip())));
         }
 
         #[inline(always)]

@@ -21,10 +21,10 @@ impl<T: Integer> Ratio<T> {
     #[inline]
     #[track_caller]
     pub fn recip(&self) -> Ratio<T> {
-        let (numer, denom) = (self.numer().into_proved(), self.denom().into_proved());
-        // One branch for fractions above 0, of which nothing else is to be tested.
-        if (T::Proved::ZERO < numer) & (T::Proved::ZERO < denom) {
-            return Ratio::from_proved(Proved::<T>::new_raw(numer, denom).recip());
+        // One branch, and none on the sign, which no one guesses: only the least number has no negative.
+        let has_reciprocal = (*self.numer() != T::NUMBER_0) & (*self.numer() != T::min_value());
+        if has_reciprocal & (T::NUMBER_0 < *self.denom()) {
+            return Ratio::from_proved(self.proved().recip());
         }
         self.recip_of_any()
     }

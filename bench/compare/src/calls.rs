@@ -88,11 +88,10 @@ where
         if kind == "small" || kind == "half" {
             let many = self.many(kind, low);
             self.roundings(kind, &many);
-            // A sign that no one guesses would cost more than the call.
-            let above = many.only(|f| f[0] != 0);
-            self.answers("recip", kind, &above, None, erased::recip, theirs::recip);
-            self.answers("bare recip", kind, &above, None, erased::bare_recip, theirs::recip);
-            self.powers(kind, &many.only(|f| f[0] != 0));
+            let nonzero = many.only(|f| f[0] != 0);
+            self.answers("recip", kind, &nonzero, None, erased::recip, theirs::recip);
+            self.answers("bare recip", kind, &nonzero, None, erased::bare_recip, theirs::recip);
+            self.powers(kind, &nonzero);
         }
         self.texts(kind, raw, low);
     }

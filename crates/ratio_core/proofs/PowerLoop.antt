@@ -188,9 +188,9 @@ both_even n d e p q s t left g h = record { numer = even _ p s left g.numer h; d
 pub both_odd : (n d : ℤ) (e : ℕ) (p q s t v w : ℤ) (left : ℕ) → PowersSoFar n d e p q s t left → left % 2 ≡ 1 → v ≡ p *ℤ s → w ≡ q *ℤ t → PowersSoFar n d e v w (s *ℤ s) (t *ℤ t) (left / 2)
 both_odd n d e p q s t v w left g h ev ew = record { numer = odd _ p s v left g.numer h ev; denom = odd _ q t w left g.denom h ew }
 
--- the first factor that is left over
-pub both_begun : (n d : ℤ) (e : ℕ) (s t : ℤ) (left : ℕ) → PowersSoFar n d e (pos 1) (pos 1) s t left → left % 2 ≢ 0 → PowersSoFar n d e s t (s *ℤ s) (t *ℤ t) (left / 2)
-both_begun n d e s t left g h = both_odd n d e (pos 1) (pos 1) s t s t left g (omega arith) (sym (one-times s)) (sym (one-times t))
+-- the first factor, where one is left over
+pub both_begun : (n d : ℤ) (e : ℕ) → e % 2 ≡ 1 → PowersSoFar n d e n d (n *ℤ n) (d *ℤ d) (e / 2)
+both_begun n d e h = both_odd n d e (pos 1) (pos 1) n d n d e (both_start n d e) h (sym (one-times n)) (sym (one-times d))
 
 held_in : (lo hi a total : ℤ) → (¬ (IsHeld lo hi a) → ¬ (IsHeld lo hi total)) → IsHeld lo hi total → IsHeld lo hi a
 held_in lo hi a total out held = go (held_decided lo hi a)

@@ -1,14 +1,6 @@
-use Rattle.std.specs.Prelude.{◌≤◌, ◌*ℤ◌, pos}
+use Rattle.std.specs.Prelude.{◌*ℤ◌}
 use Rattle.ratio_core.proofs.PowerLoop.{PowersSoFar}
 use Rattle.ratio_core.proofs.pow.try_powers.Given as goal
-
-abbrev pub invariant-twos : goal.invariant-twos
-invariant-twos g l =
-    let v = g.T.Integer.value in
-    PowersSoFar (v l.fn.n) (v l.fn.d) l.fn.exponent (pos 1) (pos 1) (v l.square.0) (v l.square.1) l.left × (1 ≤ l.left)
-
-abbrev pub decreases-twos : goal.decreases-twos
-decreases-twos g l = l.left
 
 abbrev pub invariant-bits : goal.invariant-bits
 invariant-bits g l =

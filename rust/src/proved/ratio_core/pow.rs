@@ -102,25 +102,13 @@ fn try_powers<T: Integer>(n: T, d: T, exponent: u128) -> Option<(T, T)> {
         // At least one factor is left, so this square is part of it.
         square = both_times(square, square)?;
         if left % 2 == 1 {
-            power = with_factor(power, square)?;
+            power = both_times(power, square)?;
         }
         left /= 2;
     }
     let _ = power.0.held();
     let _ = power.1.held();
     Some(power)
-}
-
-// `power` times `factor`, which 1 takes as it is: of wide numbers a product takes longer than the test.
-#[inline(always)]
-fn with_factor<T: Integer>(power: (T, T), factor: (T, T)) -> Option<(T, T)> {
-    if power.0.is_one() && power.1.is_one() {
-        let _ = factor.0.held();
-        let _ = factor.1.held();
-        Some(factor)
-    } else {
-        both_times(power, factor)
-    }
 }
 
 // The products of the first numbers and of the second ones, or `None` where the type does not hold both.

@@ -3,7 +3,7 @@
 //! A negative denominator is first brought to lowest terms, where the type holds these; else the call panics, or
 //! answers `None` where it can.
 use super::integer::Integer;
-use super::ratio::{Proved, Ratio};
+use super::ratio::Ratio;
 use crate::proved::num_rational::Exponent;
 use crate::proved::ratio_integer::Integer as _;
 use num_traits::{Inv, Pow};
@@ -21,7 +21,7 @@ impl<T: Integer> Ratio<T> {
     #[inline]
     #[track_caller]
     pub fn recip(&self) -> Ratio<T> {
-        // One branch, and none on the sign, which no one guesses: only the least number has no negative.
+        // No branch asks for the sign, which no processor can guess where signs vary. Only the least number has no negative.
         let has_reciprocal = (*self.numer() != T::NUMBER_0) & (*self.numer() != T::min_value());
         if has_reciprocal & (T::NUMBER_0 < *self.denom()) {
             return Ratio::from_proved(self.proved().recip());

@@ -25,7 +25,7 @@ impl<T: Copy + Integer> Ratio<T> {
             × IsCodeCount T.hi (numerator self.now) (denominator self.now) k }
         ensures right { steps.new.right ≡ steps.old.right }
     {
-        ratio_core::hash_counted(*self.numer(), *self.denom(), list, steps);
+        ratio_core::hash_counted(self.numer, self.denom, list, steps);
     }
 }
 

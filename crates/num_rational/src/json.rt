@@ -61,7 +61,7 @@ impl<T: JsonInteger> Ratio<T> {
     pub fn to_json(&self, alloc: Global) -> Result<Value, AllocError>
         ensures { IfOk result (λ v. view v ≡ json_pair (numerator self.now) (denominator self.now)) }
     {
-        json!(in alloc; [self.numer().json_number(), self.denom().json_number()])
+        json!(in alloc; [self.numer.json_number(), self.denom.json_number()])
     }
 
     /// The fraction of these two fields as they stand, not reduced. The refusals come in this order:

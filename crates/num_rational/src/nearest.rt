@@ -18,7 +18,7 @@ impl<T: Copy + Integer> Ratio<T> {
         ensures nearest { IsNearest (numerator self.now) (denominator self.now) (T.value most) (numerator result) (denominator result) }
         ensures lowest { IsLowestTerms (numerator result) (denominator result) }
     {
-        let (numer, denom) = ratio_core::nearest::nearest(*self.numer(), *self.denom(), most);
+        let (numer, denom) = ratio_core::nearest::nearest(self.numer, self.denom, most);
         Ratio::new_raw(numer, denom)
     }
 }

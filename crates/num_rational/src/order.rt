@@ -25,13 +25,7 @@ impl<T: Copy + Integer> Ratio<T> {
             × (steps.new.right ≡ steps.old.right + k)
             × IsStepCount T.lo T.hi (numerator self.now) (denominator self.now) (numerator other.now) (denominator other.now) k }
     {
-        ratio_core::cmp_counted(
-            *self.numer(),
-            *self.denom(),
-            *other.numer(),
-            *other.denom(),
-            steps,
-        )
+        ratio_core::cmp_counted(self.numer, self.denom, other.numer, other.denom, steps)
     }
 }
 
@@ -76,8 +70,8 @@ impl<T: Copy + Integer> Ord for Ratio<T> {
     /// The order by `compare`, which settles what it can before it divides.
     #[inline]
     fn cmp(&self, other: &Ratio<T>) -> Ordering {
-        let (n, d) = (*self.numer(), *self.denom());
-        let (m, e) = (*other.numer(), *other.denom());
+        let (n, d) = (self.numer, self.denom);
+        let (m, e) = (other.numer, other.denom);
         compare(n, d, m, e, &mut Steps::new())
     }
 }

@@ -19,7 +19,7 @@ impl<T: Copy + Integer> Ratio<T> {
         requires held { numerator self.now <ℤ pos 0 → IsHeld T.lo T.hi (neg_ℤ (numerator self.now)) }
         ensures { GivesReciprocal self.now result }
     {
-        let (numer, denom) = pow::recip(*self.numer(), *self.denom());
+        let (numer, denom) = pow::recip(self.numer, self.denom);
         Ratio::new_raw(numer, denom)
     }
 
@@ -58,7 +58,7 @@ impl<T: Copy + Integer> Ratio<T> {
         requires { pos 0 <ℤ denominator self.now }
         ensures { ChecksRatioPower self.now (E.number exponent) result }
     {
-        match pow::checked_pow_with(*self.numer(), *self.denom(), exponent) {
+        match pow::checked_pow_with(self.numer, self.denom, exponent) {
             Some((numer, denom)) => Some(Ratio::new_raw(numer, denom)),
             None => None,
         }

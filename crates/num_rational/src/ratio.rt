@@ -11,8 +11,8 @@ use std::alloc::AllocError;
 /// takes any two numbers.
 #[derive(Copy, Debug)]
 pub struct Ratio<T: Copy + Integer> {
-    numer: T,
-    denom: T,
+    pub(crate) numer: T,
+    pub(crate) denom: T,
     ghost nonzero: { T.value denom ≢ pos 0 },
 }
 

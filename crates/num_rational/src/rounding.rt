@@ -17,7 +17,7 @@ impl<T: Copy + Integer> Ratio<T> {
         ensures floor { IsFloor (numerator self.now) (denominator self.now) (numerator result) }
         ensures whole { denominator result ≡ pos 1 }
     {
-        Ratio::from_integer(rounding::floor(*self.numer(), *self.denom()))
+        Ratio::from_integer(rounding::floor(self.numer, self.denom))
     }
 
     /// The least whole number that is not below this fraction, over 1.
@@ -26,7 +26,7 @@ impl<T: Copy + Integer> Ratio<T> {
         ensures ceiling { IsCeiling (numerator self.now) (denominator self.now) (numerator result) }
         ensures whole { denominator result ≡ pos 1 }
     {
-        Ratio::from_integer(rounding::ceil(*self.numer(), *self.denom()))
+        Ratio::from_integer(rounding::ceil(self.numer, self.denom))
     }
 
     /// The whole number nearest to this fraction, over 1; a half is rounded away from zero.
@@ -35,7 +35,7 @@ impl<T: Copy + Integer> Ratio<T> {
         ensures rounded { IsRounded (numerator self.now) (denominator self.now) (numerator result) }
         ensures whole { denominator result ≡ pos 1 }
     {
-        Ratio::from_integer(rounding::round(*self.numer(), *self.denom()))
+        Ratio::from_integer(rounding::round(self.numer, self.denom))
     }
 
     /// The whole number next to this fraction towards zero, over 1.
@@ -54,7 +54,7 @@ impl<T: Copy + Integer> Ratio<T> {
         ensures part { IsFractionalPart (numerator self.now) (denominator self.now) (numerator result) }
         ensures denom { denominator result ≡ denominator self.now }
     {
-        Ratio::new_raw(rounding::fract(*self.numer(), *self.denom()), *self.denom())
+        Ratio::new_raw(rounding::fract(self.numer, self.denom), self.denom)
     }
 
     /// The whole number next to this fraction towards zero.
@@ -62,7 +62,7 @@ impl<T: Copy + Integer> Ratio<T> {
         requires { pos 0 <ℤ denominator self.now }
         ensures { IsTruncation (numerator self.now) (denominator self.now) (T.value result) }
     {
-        rounding::to_integer(*self.numer(), *self.denom())
+        rounding::to_integer(self.numer, self.denom)
     }
 
     /// The whole number of `trunc` as an `i64`, or `None` where that type does not hold it.
@@ -70,7 +70,7 @@ impl<T: Copy + Integer> Ratio<T> {
         requires { pos 0 <ℤ denominator self.now }
         ensures { ChecksTruncation (λ y. y) (negsuc (2 ^ 63 - 1)) (pos (2 ^ 63 - 1)) (numerator self.now) (denominator self.now) result }
     {
-        rounding::to_i64(*self.numer(), *self.denom())
+        rounding::to_i64(self.numer, self.denom)
     }
 
     /// The whole number of `trunc` as an `i128`, or `None` where that type does not hold it.
@@ -78,7 +78,7 @@ impl<T: Copy + Integer> Ratio<T> {
         requires { pos 0 <ℤ denominator self.now }
         ensures { ChecksTruncation (λ y. y) (negsuc (2 ^ 127 - 1)) (pos (2 ^ 127 - 1)) (numerator self.now) (denominator self.now) result }
     {
-        rounding::to_i128(*self.numer(), *self.denom())
+        rounding::to_i128(self.numer, self.denom)
     }
 
     /// The whole number of `trunc` as a `u64`, or `None` where that type does not hold it. That of -1/2
@@ -87,7 +87,7 @@ impl<T: Copy + Integer> Ratio<T> {
         requires { pos 0 <ℤ denominator self.now }
         ensures { ChecksTruncation (λ y. pos y) (pos 0) (pos (2 ^ 64 - 1)) (numerator self.now) (denominator self.now) result }
     {
-        rounding::to_u64(*self.numer(), *self.denom())
+        rounding::to_u64(self.numer, self.denom)
     }
 
     /// The whole number of `trunc` as a `u128`, or `None` where that type does not hold it.
@@ -95,6 +95,6 @@ impl<T: Copy + Integer> Ratio<T> {
         requires { pos 0 <ℤ denominator self.now }
         ensures { ChecksTruncation (λ y. pos y) (pos 0) (pos (2 ^ 128 - 1)) (numerator self.now) (denominator self.now) result }
     {
-        rounding::to_u128(*self.numer(), *self.denom())
+        rounding::to_u128(self.numer, self.denom)
     }
 }

@@ -17,7 +17,7 @@ impl<T: Copy + SignedInteger> Ratio<T> {
         requires { IsHeld T.lo T.hi (neg_ℤ (numerator self)) }
         ensures { IsNegated self result }
     {
-        Ratio::new_raw(sign::neg(*self.numer()), *self.denom())
+        Ratio::new_raw(sign::neg(self.numer), self.denom)
     }
 
     /// The absolute value, over the same denominator: that of 1/-2 is -1/-2.
@@ -26,7 +26,7 @@ impl<T: Copy + SignedInteger> Ratio<T> {
         ensures numer { IsAbsolute (numerator self.now) (denominator self.now) (numerator result) }
         ensures denom { denominator result ≡ denominator self.now }
     {
-        Ratio::new_raw(sign::abs(*self.numer(), *self.denom()), *self.denom())
+        Ratio::new_raw(sign::abs(self.numer, self.denom), self.denom)
     }
 
     /// The difference in lowest terms where this fraction is above the other one, and 0/1 where it is
@@ -39,12 +39,7 @@ impl<T: Copy + SignedInteger> Ratio<T> {
         ensures { IsPositiveDifference T.lo T.hi (numerator self.now) (denominator self.now)
             (numerator other.now) (denominator other.now) (numerator result) (denominator result) }
     {
-        let (numer, denom) = sign::abs_sub(
-            *self.numer(),
-            *self.denom(),
-            *other.numer(),
-            *other.denom(),
-        );
+        let (numer, denom) = sign::abs_sub(self.numer, self.denom, other.numer, other.denom);
         Ratio::new_raw(numer, denom)
     }
 
@@ -53,21 +48,21 @@ impl<T: Copy + SignedInteger> Ratio<T> {
         ensures sign { IsSign (numerator self.now) (denominator self.now) (numerator result) }
         ensures whole { denominator result ≡ pos 1 }
     {
-        Ratio::from_integer(sign::signum(*self.numer(), *self.denom()))
+        Ratio::from_integer(sign::signum(self.numer, self.denom))
     }
 
     /// Whether the value is above 0.
     pub fn is_positive(&self) -> bool
         ensures { IsTrue result ↔ IsPositive (numerator self.now) (denominator self.now) }
     {
-        sign::is_positive(*self.numer(), *self.denom())
+        sign::is_positive(self.numer, self.denom)
     }
 
     /// Whether the value is below 0.
     pub fn is_negative(&self) -> bool
         ensures { IsTrue result ↔ IsNegative (numerator self.now) (denominator self.now) }
     {
-        sign::is_negative(*self.numer(), *self.denom())
+        sign::is_negative(self.numer, self.denom)
     }
 }
 

@@ -57,7 +57,7 @@ impl<T: Primitive> Ratio<T> {
             → ReadsBack T.lo T.hi (IsSlashedText T.lo T.hi (base_of form) result)
             (numerator self.now) (denominator self.now) }
     {
-        text::text(*self.numer(), *self.denom(), form, alternate)
+        text::text(self.numer, self.denom, form, alternate)
     }
 
     /// Puts that text in the place of what `text` was, so that no array is moved.
@@ -65,7 +65,7 @@ impl<T: Primitive> Ratio<T> {
         ensures { text.new
             ≡ text_of T.BITS form alternate (numerator self.now) (denominator self.now) }
     {
-        text::put_text(*self.numer(), *self.denom(), form, alternate, text);
+        text::put_text(self.numer, self.denom, form, alternate, text);
     }
 
     /// The same in decimal, in a smaller array, which takes less time to make.
@@ -77,7 +77,7 @@ impl<T: Primitive> Ratio<T> {
             → ReadsBack T.lo T.hi (IsFractionText T.lo T.hi result)
             (numerator self.now) (denominator self.now) }
     {
-        text::decimal_text(*self.numer(), *self.denom())
+        text::decimal_text(self.numer, self.denom)
     }
 
     /// Puts the decimal text in the place of what `text` was.
@@ -85,7 +85,7 @@ impl<T: Primitive> Ratio<T> {
         ensures { text.new
             ≡ text_of T.BITS Decimal false (numerator self.now) (denominator self.now) }
     {
-        text::put_decimal_text(*self.numer(), *self.denom(), text);
+        text::put_decimal_text(self.numer, self.denom, text);
     }
 }
 

@@ -18,7 +18,7 @@ impl<T: Copy + Integer> Ratio<T> {
         requires right_positive { pos 0 <ℤ denominator other.now }
         ensures { ChecksQuotient (numbers self.now) (numbers other.now) result }
     {
-        match products::checked_div(*self.numer(), *self.denom(), *other.numer(), *other.denom()) {
+        match products::checked_div(self.numer, self.denom, other.numer, other.denom) {
             Some((numer, denom)) => Some(Ratio::new_raw(numer, denom)),
             None => None,
         }
@@ -32,12 +32,7 @@ impl<T: Copy + Integer> Ratio<T> {
         requires answered { QuotientCondition T.lo T.hi (numerator self) (denominator self) (numerator other) (denominator other) }
         ensures { GivesQuotient (numbers self) (numbers other) result }
     {
-        let (numer, denom) = products::div(
-            *self.numer(),
-            *self.denom(),
-            *other.numer(),
-            *other.denom(),
-        );
+        let (numer, denom) = products::div(self.numer, self.denom, other.numer, other.denom);
         Ratio::new_raw(numer, denom)
     }
 }

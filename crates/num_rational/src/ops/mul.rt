@@ -18,7 +18,7 @@ impl<T: Copy + Integer> Ratio<T> {
         requires right_positive { pos 0 <ℤ denominator other.now }
         ensures { ChecksProduct (numbers self.now) (numbers other.now) result }
     {
-        match products::checked_mul(*self.numer(), *self.denom(), *other.numer(), *other.denom()) {
+        match products::checked_mul(self.numer, self.denom, other.numer, other.denom) {
             Some((numer, denom)) => Some(Ratio::new_raw(numer, denom)),
             None => None,
         }
@@ -31,12 +31,7 @@ impl<T: Copy + Integer> Ratio<T> {
         requires answered { ProductCondition T.lo T.hi (numerator self) (denominator self) (numerator other) (denominator other) }
         ensures { GivesProduct (numbers self) (numbers other) result }
     {
-        let (numer, denom) = products::mul(
-            *self.numer(),
-            *self.denom(),
-            *other.numer(),
-            *other.denom(),
-        );
+        let (numer, denom) = products::mul(self.numer, self.denom, other.numer, other.denom);
         Ratio::new_raw(numer, denom)
     }
 }

@@ -19,7 +19,7 @@ impl<T: Copy + Integer> Ratio<T> {
         requires right_positive { pos 0 <ℤ denominator other.now }
         ensures { ChecksRemainder (numbers self.now) (numbers other.now) result }
     {
-        match remainder::checked_rem(*self.numer(), *self.denom(), *other.numer(), *other.denom()) {
+        match remainder::checked_rem(self.numer, self.denom, other.numer, other.denom) {
             Some((numer, denom)) => Some(Ratio::new_raw(numer, denom)),
             None => None,
         }
@@ -32,12 +32,7 @@ impl<T: Copy + Integer> Ratio<T> {
         requires answered { RemainderHeld T.lo T.hi (numerator self) (denominator self) (numerator other) (denominator other) }
         ensures { GivesRemainder (numbers self) (numbers other) result }
     {
-        let (numer, denom) = remainder::rem(
-            *self.numer(),
-            *self.denom(),
-            *other.numer(),
-            *other.denom(),
-        );
+        let (numer, denom) = remainder::rem(self.numer, self.denom, other.numer, other.denom);
         Ratio::new_raw(numer, denom)
     }
 }

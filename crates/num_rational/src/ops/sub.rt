@@ -20,7 +20,7 @@ impl<T: Copy + Integer> Ratio<T> {
         requires right_positive { pos 0 <ℤ denominator other.now }
         ensures { ChecksDifference (numbers self.now) (numbers other.now) result }
     {
-        match sums::checked_sub(*self.numer(), *self.denom(), *other.numer(), *other.denom()) {
+        match sums::checked_sub(self.numer, self.denom, other.numer, other.denom) {
             Some((numer, denom)) => Some(Ratio::new_raw(numer, denom)),
             None => None,
         }
@@ -33,12 +33,7 @@ impl<T: Copy + Integer> Ratio<T> {
         requires answered { DifferenceCondition T.EXACT_SUMS T.lo T.hi (numerator self) (denominator self) (numerator other) (denominator other) }
         ensures { GivesDifference (numbers self) (numbers other) result }
     {
-        let (numer, denom) = sums::sub(
-            *self.numer(),
-            *self.denom(),
-            *other.numer(),
-            *other.denom(),
-        );
+        let (numer, denom) = sums::sub(self.numer, self.denom, other.numer, other.denom);
         Ratio::new_raw(numer, denom)
     }
 }

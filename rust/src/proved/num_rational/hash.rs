@@ -14,7 +14,7 @@ impl<T: Copy + Integer> Ratio<T> {
     /// of the denominator.
     #[inline]
     pub fn hash_counted<L: CodeList<T>>(&self, list: &mut L, steps: &mut Steps) {
-        crate::proved::ratio_core::hash_counted(*self.numer(), *self.denom(), list, steps);
+        crate::proved::ratio_core::hash_counted(self.numer, self.denom, list, steps);
     }
 }
 

@@ -14,13 +14,7 @@ impl<T: Copy + Integer> Ratio<T> {
     /// the smaller denominator.
     #[inline]
     pub fn cmp_counted(&self, other: &Self, steps: &mut Steps) -> Ordering {
-        crate::proved::ratio_core::cmp_counted(
-            *self.numer(),
-            *self.denom(),
-            *other.numer(),
-            *other.denom(),
-            steps,
-        )
+        crate::proved::ratio_core::cmp_counted(self.numer, self.denom, other.numer, other.denom, steps)
     }
 }
 
@@ -46,8 +40,8 @@ impl<T: Copy + Integer> Ord for Ratio<T> {
     /// The order by `compare`, which settles what it can before it divides.
     #[inline]
     fn cmp(&self, other: &Ratio<T>) -> Ordering {
-        let (n, d) = (*self.numer(), *self.denom());
-        let (m, e) = (*other.numer(), *other.denom());
+        let (n, d) = (self.numer, self.denom);
+        let (m, e) = (other.numer, other.denom);
         compare(n, d, m, e, &mut Steps::new())
     }
 }

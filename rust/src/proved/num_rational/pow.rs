@@ -19,7 +19,7 @@ impl<T: Copy + Integer> Ratio<T> {
     /// - `held`: `numerator self.now <ℤ pos 0 → IsHeld T.lo T.hi (neg_ℤ (numerator self.now))`
     #[inline]
     pub fn recip(&self) -> Ratio<T> {
-        let (numer, denom) = pow::recip(*self.numer(), *self.denom());
+        let (numer, denom) = pow::recip(self.numer, self.denom);
         Ratio::new_raw(numer, denom)
     }
 
@@ -74,7 +74,7 @@ impl<T: Copy + Integer> Ratio<T> {
     /// - `pos 0 <ℤ denominator self.now`
     #[inline]
     pub fn checked_pow_with<E: Exponent>(&self, exponent: E) -> Option<Ratio<T>> {
-        match pow::checked_pow_with(*self.numer(), *self.denom(), exponent) {
+        match pow::checked_pow_with(self.numer, self.denom, exponent) {
             Some((numer, denom)) => Some(Ratio::new_raw(numer, denom)),
             None => None,
         }

@@ -9,8 +9,8 @@ use crate::proved::ratio_integer::Integer;
 /// takes any two numbers.
 #[derive(Copy, Debug)]
 pub struct Ratio<T: Copy + Integer> {
-    numer: T,
-    denom: T,
+    pub(crate) numer: T,
+    pub(crate) denom: T,
 }
 
 /// A fraction of two `isize`.

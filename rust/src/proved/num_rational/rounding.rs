@@ -18,7 +18,7 @@ impl<T: Copy + Integer> Ratio<T> {
     /// - `pos 0 <ℤ denominator self.now`
     #[inline]
     pub fn floor(&self) -> Ratio<T> {
-        Ratio::from_integer(rounding::floor(*self.numer(), *self.denom()))
+        Ratio::from_integer(rounding::floor(self.numer, self.denom))
     }
 
     /// The least whole number that is not below this fraction, over 1.
@@ -30,7 +30,7 @@ impl<T: Copy + Integer> Ratio<T> {
     /// - `pos 0 <ℤ denominator self.now`
     #[inline]
     pub fn ceil(&self) -> Ratio<T> {
-        Ratio::from_integer(rounding::ceil(*self.numer(), *self.denom()))
+        Ratio::from_integer(rounding::ceil(self.numer, self.denom))
     }
 
     /// The whole number nearest to this fraction, over 1; a half is rounded away from zero.
@@ -42,7 +42,7 @@ impl<T: Copy + Integer> Ratio<T> {
     /// - `pos 0 <ℤ denominator self.now`
     #[inline]
     pub fn round(&self) -> Ratio<T> {
-        Ratio::from_integer(rounding::round(*self.numer(), *self.denom()))
+        Ratio::from_integer(rounding::round(self.numer, self.denom))
     }
 
     /// The whole number next to this fraction towards zero, over 1.
@@ -67,7 +67,7 @@ impl<T: Copy + Integer> Ratio<T> {
     /// - `pos 0 <ℤ denominator self.now`
     #[inline]
     pub fn fract(&self) -> Ratio<T> {
-        Ratio::new_raw(rounding::fract(*self.numer(), *self.denom()), *self.denom())
+        Ratio::new_raw(rounding::fract(self.numer, self.denom), self.denom)
     }
 
     /// The whole number next to this fraction towards zero.
@@ -79,7 +79,7 @@ impl<T: Copy + Integer> Ratio<T> {
     /// - `pos 0 <ℤ denominator self.now`
     #[inline]
     pub fn to_integer(&self) -> T {
-        rounding::to_integer(*self.numer(), *self.denom())
+        rounding::to_integer(self.numer, self.denom)
     }
 
     /// The whole number of `trunc` as an `i64`, or `None` where that type does not hold it.
@@ -91,7 +91,7 @@ impl<T: Copy + Integer> Ratio<T> {
     /// - `pos 0 <ℤ denominator self.now`
     #[inline]
     pub fn to_i64(&self) -> Option<i64> {
-        rounding::to_i64(*self.numer(), *self.denom())
+        rounding::to_i64(self.numer, self.denom)
     }
 
     /// The whole number of `trunc` as an `i128`, or `None` where that type does not hold it.
@@ -103,7 +103,7 @@ impl<T: Copy + Integer> Ratio<T> {
     /// - `pos 0 <ℤ denominator self.now`
     #[inline]
     pub fn to_i128(&self) -> Option<i128> {
-        rounding::to_i128(*self.numer(), *self.denom())
+        rounding::to_i128(self.numer, self.denom)
     }
 
     /// The whole number of `trunc` as a `u64`, or `None` where that type does not hold it. That of -1/2
@@ -116,7 +116,7 @@ impl<T: Copy + Integer> Ratio<T> {
     /// - `pos 0 <ℤ denominator self.now`
     #[inline]
     pub fn to_u64(&self) -> Option<u64> {
-        rounding::to_u64(*self.numer(), *self.denom())
+        rounding::to_u64(self.numer, self.denom)
     }
 
     /// The whole number of `trunc` as a `u128`, or `None` where that type does not hold it.
@@ -128,6 +128,6 @@ impl<T: Copy + Integer> Ratio<T> {
     /// - `pos 0 <ℤ denominator self.now`
     #[inline]
     pub fn to_u128(&self) -> Option<u128> {
-        rounding::to_u128(*self.numer(), *self.denom())
+        rounding::to_u128(self.numer, self.denom)
     }
 }

@@ -17,7 +17,7 @@ impl<T: Copy + SignedInteger> Ratio<T> {
     /// - `IsHeld T.lo T.hi (neg_ℤ (numerator self))`
     #[inline]
     pub fn neg(self) -> Ratio<T> {
-        Ratio::new_raw(sign::neg(*self.numer()), *self.denom())
+        Ratio::new_raw(sign::neg(self.numer), self.denom)
     }
 
     /// The absolute value, over the same denominator: that of 1/-2 is -1/-2.
@@ -29,7 +29,7 @@ impl<T: Copy + SignedInteger> Ratio<T> {
     /// - `IsNegative (numerator self.now) (denominator self.now) → IsHeld T.lo T.hi (neg_ℤ (numerator self.now))`
     #[inline]
     pub fn abs(&self) -> Ratio<T> {
-        Ratio::new_raw(sign::abs(*self.numer(), *self.denom()), *self.denom())
+        Ratio::new_raw(sign::abs(self.numer, self.denom), self.denom)
     }
 
     /// The difference in lowest terms where this fraction is above the other one, and 0/1 where it is
@@ -44,31 +44,26 @@ impl<T: Copy + SignedInteger> Ratio<T> {
     /// - `answered`: `PositiveDifferenceCondition T.EXACT_SUMS T.lo T.hi (numerator self.now) (denominator self.now) (numerator other.now) (denominator other.now)`
     #[inline]
     pub fn abs_sub(&self, other: &Ratio<T>) -> Ratio<T> {
-        let (numer, denom) = sign::abs_sub(
-            *self.numer(),
-            *self.denom(),
-            *other.numer(),
-            *other.denom(),
-        );
+        let (numer, denom) = sign::abs_sub(self.numer, self.denom, other.numer, other.denom);
         Ratio::new_raw(numer, denom)
     }
 
     /// The sign: -1/1, 0/1 or 1/1.
     #[inline]
     pub fn signum(&self) -> Ratio<T> {
-        Ratio::from_integer(sign::signum(*self.numer(), *self.denom()))
+        Ratio::from_integer(sign::signum(self.numer, self.denom))
     }
 
     /// Whether the value is above 0.
     #[inline]
     pub fn is_positive(&self) -> bool {
-        sign::is_positive(*self.numer(), *self.denom())
+        sign::is_positive(self.numer, self.denom)
     }
 
     /// Whether the value is below 0.
     #[inline]
     pub fn is_negative(&self) -> bool {
-        sign::is_negative(*self.numer(), *self.denom())
+        sign::is_negative(self.numer, self.denom)
     }
 }
 

@@ -45,25 +45,25 @@ impl<T: Primitive> Ratio<T> {
     /// is a slash.
     #[inline]
     pub fn text(&self, form: Form, alternate: bool) -> RatioText {
-        text::text(*self.numer(), *self.denom(), form, alternate)
+        text::text(self.numer, self.denom, form, alternate)
     }
 
     /// Puts that text in the place of what `text` was, so that no array is moved.
     #[inline]
     pub fn put_text(&self, form: Form, alternate: bool, text: &mut RatioText) {
-        text::put_text(*self.numer(), *self.denom(), form, alternate, text);
+        text::put_text(self.numer, self.denom, form, alternate, text);
     }
 
     /// The same in decimal, in a smaller array, which takes less time to make.
     #[inline]
     pub fn decimal_text(&self) -> DecimalText {
-        text::decimal_text(*self.numer(), *self.denom())
+        text::decimal_text(self.numer, self.denom)
     }
 
     /// Puts the decimal text in the place of what `text` was.
     #[inline]
     pub fn put_decimal_text(&self, text: &mut DecimalText) {
-        text::put_decimal_text(*self.numer(), *self.denom(), text);
+        text::put_decimal_text(self.numer, self.denom, text);
     }
 }
 

@@ -19,7 +19,7 @@ impl<T: Copy + Integer> Ratio<T> {
     /// - `right_positive`: `pos 0 <ℤ denominator other.now`
     #[inline]
     pub fn checked_div(&self, other: &Ratio<T>) -> Option<Ratio<T>> {
-        match products::checked_div(*self.numer(), *self.denom(), *other.numer(), *other.denom()) {
+        match products::checked_div(self.numer, self.denom, other.numer, other.denom) {
             Some((numer, denom)) => Some(Ratio::new_raw(numer, denom)),
             None => None,
         }
@@ -37,12 +37,7 @@ impl<T: Copy + Integer> Ratio<T> {
     /// - `answered`: `QuotientCondition T.lo T.hi (numerator self) (denominator self) (numerator other) (denominator other)`
     #[inline]
     pub fn div(self, other: Ratio<T>) -> Ratio<T> {
-        let (numer, denom) = products::div(
-            *self.numer(),
-            *self.denom(),
-            *other.numer(),
-            *other.denom(),
-        );
+        let (numer, denom) = products::div(self.numer, self.denom, other.numer, other.denom);
         Ratio::new_raw(numer, denom)
     }
 }

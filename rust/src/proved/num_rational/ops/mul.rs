@@ -19,7 +19,7 @@ impl<T: Copy + Integer> Ratio<T> {
     /// - `right_positive`: `pos 0 <ℤ denominator other.now`
     #[inline]
     pub fn checked_mul(&self, other: &Ratio<T>) -> Option<Ratio<T>> {
-        match products::checked_mul(*self.numer(), *self.denom(), *other.numer(), *other.denom()) {
+        match products::checked_mul(self.numer, self.denom, other.numer, other.denom) {
             Some((numer, denom)) => Some(Ratio::new_raw(numer, denom)),
             None => None,
         }
@@ -36,12 +36,7 @@ impl<T: Copy + Integer> Ratio<T> {
     /// - `answered`: `ProductCondition T.lo T.hi (numerator self) (denominator self) (numerator other) (denominator other)`
     #[inline]
     pub fn mul(self, other: Ratio<T>) -> Ratio<T> {
-        let (numer, denom) = products::mul(
-            *self.numer(),
-            *self.denom(),
-            *other.numer(),
-            *other.denom(),
-        );
+        let (numer, denom) = products::mul(self.numer, self.denom, other.numer, other.denom);
         Ratio::new_raw(numer, denom)
     }
 }

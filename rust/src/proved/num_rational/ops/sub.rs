@@ -21,7 +21,7 @@ impl<T: Copy + Integer> Ratio<T> {
     /// - `right_positive`: `pos 0 <ℤ denominator other.now`
     #[inline]
     pub fn checked_sub(&self, other: &Ratio<T>) -> Option<Ratio<T>> {
-        match sums::checked_sub(*self.numer(), *self.denom(), *other.numer(), *other.denom()) {
+        match sums::checked_sub(self.numer, self.denom, other.numer, other.denom) {
             Some((numer, denom)) => Some(Ratio::new_raw(numer, denom)),
             None => None,
         }
@@ -38,12 +38,7 @@ impl<T: Copy + Integer> Ratio<T> {
     /// - `answered`: `DifferenceCondition T.EXACT_SUMS T.lo T.hi (numerator self) (denominator self) (numerator other) (denominator other)`
     #[inline]
     pub fn sub(self, other: Ratio<T>) -> Ratio<T> {
-        let (numer, denom) = sums::sub(
-            *self.numer(),
-            *self.denom(),
-            *other.numer(),
-            *other.denom(),
-        );
+        let (numer, denom) = sums::sub(self.numer, self.denom, other.numer, other.denom);
         Ratio::new_raw(numer, denom)
     }
 }

@@ -60,25 +60,39 @@ enum { RATIO_ROOM_I32 = 23, RATIO_ROOM_I64 = 41, RATIO_ROOM_I128 = 81 };
  *                        RATIO_ROOM_I32 for each fraction, or it returns RATIO_BAD_LENGTH, and nothing is written behind the last text
  *   ratio_pow_i32        each fraction to its exponent, not reduced; 0 to a negative one is RATIO_NOT_HELD
  */
-#define RATIO_CALLS(suffix, number)                                                                    \
-    typedef struct { number numer, denom; } ratio_##suffix;                                            \
-    typedef struct { ratio_##suffix left, right; } ratio_pair_##suffix;                                \
-    typedef struct { ratio_##suffix base; int32_t exponent; } ratio_power_##suffix;                    \
-    typedef struct { uint32_t code; ratio_##suffix value; } ratio_answer_##suffix;                     \
-    uint32_t ratio_compare_##suffix(const ratio_pair_##suffix *, size_t, ratio_order *, size_t);       \
-    uint32_t ratio_hash_##suffix(const ratio_##suffix *, size_t, ratio_hash *, size_t);                \
-    uint32_t ratio_add_##suffix(const ratio_pair_##suffix *, size_t, ratio_answer_##suffix *, size_t); \
-    uint32_t ratio_sub_##suffix(const ratio_pair_##suffix *, size_t, ratio_answer_##suffix *, size_t); \
-    uint32_t ratio_mul_##suffix(const ratio_pair_##suffix *, size_t, ratio_answer_##suffix *, size_t); \
-    uint32_t ratio_div_##suffix(const ratio_pair_##suffix *, size_t, ratio_answer_##suffix *, size_t); \
-    uint32_t ratio_rem_##suffix(const ratio_pair_##suffix *, size_t, ratio_answer_##suffix *, size_t); \
-    uint32_t ratio_reduce_##suffix(const ratio_##suffix *, size_t, ratio_answer_##suffix *, size_t);   \
-    uint32_t ratio_floor_##suffix(const ratio_##suffix *, size_t, ratio_answer_##suffix *, size_t);    \
-    uint32_t ratio_round_##suffix(const ratio_##suffix *, size_t, ratio_answer_##suffix *, size_t);    \
-    uint32_t ratio_pow_##suffix(const ratio_power_##suffix *, size_t, ratio_answer_##suffix *, size_t);\
-    uint32_t ratio_read_##suffix(const uint8_t *, size_t, const ratio_span *, size_t,                  \
-                                 ratio_answer_##suffix *, size_t);                                     \
-    uint32_t ratio_print_##suffix(const ratio_##suffix *, size_t, uint8_t *, size_t, ratio_text *, size_t);
+#define RATIO_CALLS(suffix, number)                                                     \
+    typedef struct { number numer, denom; } ratio_##suffix;                             \
+    typedef struct { ratio_##suffix left, right; } ratio_pair_##suffix;                 \
+    typedef struct { ratio_##suffix base; int32_t exponent; } ratio_power_##suffix;     \
+    typedef struct { uint32_t code; ratio_##suffix value; } ratio_answer_##suffix;      \
+    uint32_t ratio_compare_##suffix(const ratio_pair_##suffix *asked, size_t asked_len, \
+                                    ratio_order *answers, size_t answers_len);          \
+    uint32_t ratio_hash_##suffix(const ratio_##suffix *asked, size_t asked_len,         \
+                                 ratio_hash *answers, size_t answers_len);              \
+    uint32_t ratio_add_##suffix(const ratio_pair_##suffix *asked, size_t asked_len,     \
+                                ratio_answer_##suffix *answers, size_t answers_len);    \
+    uint32_t ratio_sub_##suffix(const ratio_pair_##suffix *asked, size_t asked_len,     \
+                                ratio_answer_##suffix *answers, size_t answers_len);    \
+    uint32_t ratio_mul_##suffix(const ratio_pair_##suffix *asked, size_t asked_len,     \
+                                ratio_answer_##suffix *answers, size_t answers_len);    \
+    uint32_t ratio_div_##suffix(const ratio_pair_##suffix *asked, size_t asked_len,     \
+                                ratio_answer_##suffix *answers, size_t answers_len);    \
+    uint32_t ratio_rem_##suffix(const ratio_pair_##suffix *asked, size_t asked_len,     \
+                                ratio_answer_##suffix *answers, size_t answers_len);    \
+    uint32_t ratio_reduce_##suffix(const ratio_##suffix *asked, size_t asked_len,       \
+                                   ratio_answer_##suffix *answers, size_t answers_len); \
+    uint32_t ratio_floor_##suffix(const ratio_##suffix *asked, size_t asked_len,        \
+                                  ratio_answer_##suffix *answers, size_t answers_len);  \
+    uint32_t ratio_round_##suffix(const ratio_##suffix *asked, size_t asked_len,        \
+                                  ratio_answer_##suffix *answers, size_t answers_len);  \
+    uint32_t ratio_pow_##suffix(const ratio_power_##suffix *asked, size_t asked_len,    \
+                                ratio_answer_##suffix *answers, size_t answers_len);    \
+    uint32_t ratio_read_##suffix(const uint8_t *texts, size_t texts_len,                \
+                                 const ratio_span *spans, size_t spans_len,             \
+                                 ratio_answer_##suffix *answers, size_t answers_len);   \
+    uint32_t ratio_print_##suffix(const ratio_##suffix *asked, size_t asked_len,        \
+                                  uint8_t *texts, size_t texts_len,                     \
+                                  ratio_text *answers, size_t answers_len);
 
 RATIO_CALLS(i32, int32_t)
 RATIO_CALLS(i64, int64_t)

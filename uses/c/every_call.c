@@ -8,7 +8,9 @@ static int wrong;
 
 /* 2/4, x and 3/0, and a span that goes on behind them. */
 static const uint8_t texts[8] = {'2', '/', '4', 'x', '3', '/', '0', '1'};
-static const ratio_span spans[4] = {{0, 3}, {3, 4}, {4, 7}, {7, 9}};
+static const ratio_span spans[4] = {
+    {.start = 0, .end = 3}, {.start = 3, .end = 4}, {.start = 4, .end = 7}, {.start = 7, .end = 9},
+};
 
 static void expect(int holds, const char *what) {
     if (!holds) {
@@ -17,28 +19,39 @@ static void expect(int holds, const char *what) {
     }
 }
 
+/* A number of each type, and whether it is below 0. Where the header drops a sign, no number is. */
 #define PLAIN(n) n
-#define WIDE(n) {(uint64_t) (int64_t) (n), (n) < 0 ? -1 : 0}
+#define WIDE(n) {.low = (uint64_t) (int64_t) (n), .high = (n) < 0 ? -1 : 0}
+#define IS_PLAIN_BELOW_0(x) ((double) (x) < 0)
+#define IS_WIDE_BELOW_0(x) ((double) (x).high < 0)
+
+#define FRACTION(N, n, d) {.numer = N(n), .denom = N(d)}
+#define PAIR(N, n, d, m, e) {.left = FRACTION(N, n, d), .right = FRACTION(N, m, e)}
+#define ANSWER(N, n, d) {.code = RATIO_ANSWERED, .value = FRACTION(N, n, d)}
 
 /* 3/2 and -1/4 under each call, and fractions that are refused. */
-#define EVERY_CALL(suffix, N, room)                                                                   \
+#define EVERY_CALL(suffix, N, IS_BELOW_0, room)                                                      \
     static void every_call_##suffix(void) {                                                          \
-        static const ratio_pair_##suffix pair = {{N(3), N(2)}, {N(-1), N(4)}};                       \
-        static const ratio_pair_##suffix by_zero = {{N(3), N(2)}, {N(0), N(4)}};                     \
-        static const ratio_pair_##suffix none = {{N(3), N(0)}, {N(-1), N(-4)}};                      \
-        static const ratio_##suffix loose[2] = {{N(6), N(-4)}, {N(-3), N(2)}};                       \
-        static const ratio_power_##suffix power = {{N(-3), N(2)}, -3};                               \
-        static const ratio_answer_##suffix sum = {0, {N(5), N(4)}}, difference = {0, {N(7), N(4)}},  \
-            product = {0, {N(-3), N(8)}}, quotient = {0, {N(-6), N(1)}}, rest = {0, {N(0), N(1)}},   \
-            low = {0, {N(-3), N(2)}}, half = {0, {N(1), N(2)}}, floor = {0, {N(-2), N(1)}}, raised = {0, {N(-8), N(27)}};\
+        static const ratio_pair_##suffix pair = PAIR(N, 3, 2, -1, 4);                                \
+        static const ratio_pair_##suffix turned = PAIR(N, -1, 4, 3, 2);                              \
+        static const ratio_pair_##suffix by_zero = PAIR(N, 3, 2, 0, 4);                              \
+        static const ratio_pair_##suffix none = PAIR(N, 3, 0, -1, -4);                               \
+        static const ratio_##suffix loose[2] = {FRACTION(N, 6, -4), FRACTION(N, -3, 2)};             \
+        static const ratio_power_##suffix power = {.base = FRACTION(N, -3, 2), .exponent = -3};      \
+        static const ratio_answer_##suffix sum = ANSWER(N, 5, 4), difference = ANSWER(N, 7, 4),      \
+            product = ANSWER(N, -3, 8), quotient = ANSWER(N, -6, 1), rest = ANSWER(N, 0, 1),         \
+            low = ANSWER(N, -3, 2), half = ANSWER(N, 1, 2), floor = ANSWER(N, -2, 1),                \
+            raised = ANSWER(N, -8, 27);                                                              \
         ratio_answer_##suffix answer[2], read[4];                                                    \
-        static const ratio_##suffix shown[3] = {{N(6), N(-4)}, {N(3), N(0)}, {N(-5), N(1)}};         \
+        static const ratio_##suffix shown[3] = {FRACTION(N, 6, -4), FRACTION(N, 3, 0), FRACTION(N, -5, 1)};\
         uint8_t bytes[3 * 81];                                                                       \
         ratio_text text[3];                                                                          \
-        ratio_order order = {9, 9};                                                                  \
+        ratio_order order = {.code = 9, .order = 9};                                                 \
         ratio_hash hash[2];                                                                          \
         expect(ratio_compare_##suffix(&pair, 1, &order, 1) == RATIO_DONE, "compare " #suffix);       \
         expect(order.code == RATIO_ANSWERED && order.order == 1, "order " #suffix);                  \
+        expect(ratio_compare_##suffix(&turned, 1, &order, 1) == RATIO_DONE, "compare " #suffix);     \
+        expect(order.code == RATIO_ANSWERED && (int64_t) order.order == -1, "order below 0 " #suffix);\
         expect(ratio_compare_##suffix(&none, 1, &order, 1) == RATIO_DONE, "compare " #suffix);       \
         expect(order.code == RATIO_ZERO_DENOMINATOR && order.order == 0, "no order " #suffix);       \
         expect(ratio_hash_##suffix(loose, 2, hash, 2) == RATIO_DONE, "hash " #suffix);               \
@@ -46,6 +59,8 @@ static void expect(int holds, const char *what) {
         GIVES(suffix, add, pair, sum)                                                                \
         GIVES(suffix, sub, pair, difference)                                                         \
         GIVES(suffix, mul, pair, product)                                                            \
+        expect(IS_BELOW_0(answer[0].value.numer), "mul below 0 " #suffix);                           \
+        expect(!IS_BELOW_0(answer[0].value.denom), "mul above 0 " #suffix);                          \
         GIVES(suffix, div, pair, quotient)                                                           \
         GIVES(suffix, rem, pair, rest)                                                               \
         REFUSES(suffix, add, none, RATIO_DENOMINATOR_NOT_POSITIVE)                                   \
@@ -85,13 +100,29 @@ static void expect(int holds, const char *what) {
     expect(ratio_##name##_##suffix(&asked, 1, answer, 1) == RATIO_DONE, #name " " #suffix);          \
     expect(answer[0].code == wanted, #name " code " #suffix);
 
-EVERY_CALL(i32, PLAIN, RATIO_ROOM_I32)
-EVERY_CALL(i64, PLAIN, RATIO_ROOM_I64)
-EVERY_CALL(i128, WIDE, RATIO_ROOM_I128)
+EVERY_CALL(i32, PLAIN, IS_PLAIN_BELOW_0, RATIO_ROOM_I32)
+EVERY_CALL(i64, PLAIN, IS_PLAIN_BELOW_0, RATIO_ROOM_I64)
+EVERY_CALL(i128, WIDE, IS_WIDE_BELOW_0, RATIO_ROOM_I128)
+
+/* The numerator is -2^64-1: the upper half is -2, and the lower half 2^64-1. */
+static void wide_halves(void) {
+    static const char text[] = "-18446744073709551617/3";
+    const ratio_span all = {.start = 0, .end = sizeof text - 1};
+    ratio_answer_i128 read;
+    uint8_t bytes[RATIO_ROOM_I128];
+    ratio_text shown;
+    expect(ratio_read_i128((const uint8_t *) text, sizeof text - 1, &all, 1, &read, 1) == RATIO_DONE, "read halves");
+    expect(read.code == RATIO_ANSWERED && (double) read.value.numer.high == -2, "upper half below 0");
+    expect(read.value.numer.low == UINT64_MAX, "lower half");
+    expect(read.value.denom.high == 0 && read.value.denom.low == 3, "denominator");
+    expect(ratio_print_i128(&read.value, 1, bytes, sizeof bytes, &shown, 1) == RATIO_DONE, "print halves");
+    expect(shown.span.end == sizeof text - 1 && memcmp(bytes, text, sizeof text - 1) == 0, "printed halves");
+}
 
 int main(void) {
     every_call_i32();
     every_call_i64();
     every_call_i128();
+    wide_halves();
     return wrong;
 }

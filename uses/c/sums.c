@@ -12,11 +12,11 @@ static const struct { char sign; call *of; } calls[CALLS] = {
 };
 
 static const ratio_pair_i64 pairs[PAIRS] = {
-    {{1, 2}, {1, 3}},
-    {{-3, 4}, {6, 8}},
-    {{7, 2}, {0, 5}},
-    {{INT64_MAX, 1}, {1, 2}},
-    {{1, -2}, {1, 2}},
+    {.left = {.numer = 1, .denom = 2}, .right = {.numer = 1, .denom = 3}},
+    {.left = {.numer = -3, .denom = 4}, .right = {.numer = 6, .denom = 8}},
+    {.left = {.numer = 7, .denom = 2}, .right = {.numer = 0, .denom = 5}},
+    {.left = {.numer = INT64_MAX, .denom = 1}, .right = {.numer = 1, .denom = 2}},
+    {.left = {.numer = 1, .denom = -2}, .right = {.numer = 1, .denom = 2}},
 };
 
 static const char *reason(uint32_t code) {
@@ -43,7 +43,7 @@ int main(void) {
     if (ratio_compare_i64(pairs, PAIRS, orders, PAIRS) != RATIO_DONE) return 1;
     for (int i = 0; i < PAIRS; i++) {
         print(pairs[i].left);
-        printf(" %c ", "<=>"[orders[i].order + 1]);
+        printf(" %c ", orders[i].order < 0 ? '<' : orders[i].order == 0 ? '=' : '>');
         print(pairs[i].right);
         printf("\n");
     }

@@ -12,13 +12,12 @@ use Rattle.ratio_core.specs.Order.{cross_cmp}
 use Rattle.ratio_core.specs.Power.{ChecksPower}
 use Rattle.ratio_core.specs.Rounding.{IsFloor, IsRounded}
 use Rattle.ratio_c.specs.Crossing.{Said, Says, mixed, order_number, refused, said_of_text}
-use Rattle.ratio_c.specs.declared.code.TheConstants.{ANSWERED, DENOMINATOR_NOT_POSITIVE, DIVISION_BY_ZERO, NO_TEXT, PARSE_ERROR, ZERO_DENOMINATOR}
-use Rattle.ratio_c.specs.declared.each.TheConstants.{BAD_LENGTH, DONE}
+use Rattle.ratio_c.specs.Codes.{code_answered, code_denominator_not_positive, code_division_by_zero, code_no_text, code_parse_error, code_zero_denominator, return_bad_length, return_done}
 
 -- each answer is one to what was asked at its place; or the slices have unlike lengths, and nothing is written
 abbrev pub AnswersEach : {A B : Type 0} → (A → B → Type 0) → List A → List B → List B → ℕ → Type 0
 AnswersEach Gives asked old new result =
-    MatchBool (length asked == length old) ((result ≡ DONE) × AllZip Gives asked new) ((result ≡ BAD_LENGTH) × (new ≡ old))
+    MatchBool (length asked == length old) ((result ≡ return_done) × AllZip Gives asked new) ((result ≡ return_bad_length) × (new ≡ old))
 
 -- one thing holds where P does, and another where it does not
 pub record Tested (P Then Else : Type 0) : Type 0 where
@@ -31,7 +30,7 @@ BothPositive x y = (pos 0 <ℤ x.1) × (pos 0 <ℤ y.1)
 
 -- the answer to two fractions is the one that `Is` says where their denominators are positive, and says so where one is not
 abbrev pub OfPositive : ℤ × ℤ → ℤ × ℤ → Said → Type 0 → Type 0
-OfPositive x y answer Is = Tested (BothPositive x y) Is (answer ≡ refused DENOMINATOR_NOT_POSITIVE)
+OfPositive x y answer Is = Tested (BothPositive x y) Is (answer ≡ refused code_denominator_not_positive)
 
 -- x + y, x - y and x * y in lowest terms where the library's calls answer them
 abbrev pub IsSumAnswer : Bool → ℤ → ℤ → ℤ × ℤ → ℤ × ℤ → Said → Type 0
@@ -47,7 +46,7 @@ IsProductAnswer lo hi x y answer = OfPositive x y answer (Says (ChecksLowest (λ
 
 -- a division by 0 is answered by its code, and else x / y and x % y in lowest terms where the library's calls answer them
 abbrev pub OfDivisor : ℤ × ℤ → Said → (Option (ℤ × ℤ) → Type 0) → Type 0
-OfDivisor y answer Is = Tested (y.0 ≡ pos 0) (answer ≡ refused DIVISION_BY_ZERO) (Says Is answer)
+OfDivisor y answer Is = Tested (y.0 ≡ pos 0) (answer ≡ refused code_division_by_zero) (Says Is answer)
 
 abbrev pub IsQuotientAnswer : ℤ → ℤ → ℤ × ℤ → ℤ × ℤ → Said → Type 0
 IsQuotientAnswer lo hi x y answer = OfPositive x y answer (OfDivisor y answer (ChecksLowest (λ z. z.0) (λ z. z.1) lo hi (quotient_of x.0 x.1 y.0 y.1)))
@@ -60,21 +59,21 @@ IsRemainderAnswer lo hi x y answer =
 -- fractions are ordered where no denominator is 0; the code says which it was
 abbrev pub IsOrderAnswer : ℤ × ℤ → ℤ × ℤ → ℕ → ℤ → Type 0
 IsOrderAnswer x y code order =
-    Tested ((x.1 ≢ pos 0) × (y.1 ≢ pos 0)) ((code ≡ ANSWERED) × (order ≡ order_number (cross_cmp x.0 x.1 y.0 y.1))) ((code ≡ ZERO_DENOMINATOR) × (order ≡ pos 0))
+    Tested ((x.1 ≢ pos 0) × (y.1 ≢ pos 0)) ((code ≡ code_answered) × (order ≡ order_number (cross_cmp x.0 x.1 y.0 y.1))) ((code ≡ code_zero_denominator) × (order ≡ pos 0))
 
 -- a fraction is brought to lowest terms where its denominator is not 0 and they are held
 abbrev pub IsLowestAnswer : ℤ → ℤ → ℤ × ℤ → Said → Type 0
-IsLowestAnswer lo hi x answer = Tested (x.1 ≡ pos 0) (answer ≡ refused ZERO_DENOMINATOR) (Says (ChecksLowest (λ z. z.0) (λ z. z.1) lo hi x) answer)
+IsLowestAnswer lo hi x answer = Tested (x.1 ≡ pos 0) (answer ≡ refused code_zero_denominator) (Says (ChecksLowest (λ z. z.0) (λ z. z.1) lo hi x) answer)
 
 -- the answer to one fraction is the one that `Is` says where its denominator is positive, and says so where it is not
 abbrev pub OfOne : ℤ × ℤ → Said → Type 0 → Type 0
-OfOne x answer Is = Tested (pos 0 <ℤ x.1) Is (answer ≡ refused DENOMINATOR_NOT_POSITIVE)
+OfOne x answer Is = Tested (pos 0 <ℤ x.1) Is (answer ≡ refused code_denominator_not_positive)
 
 -- the answer is a whole number over 1, of which `Is` holds
 pub record SaysWhole (Is : ℤ → Type 0) (answer : Said) : Type 0 where
   pub number : ℤ
   pub is_number : Is number
-  pub is_said : answer ≡ (ANSWERED, (number, pos 1))
+  pub is_said : answer ≡ (code_answered, (number, pos 1))
 
 -- the floor, and the whole number that is nearest, a half away from zero
 abbrev pub IsFloorAnswer : ℤ × ℤ → Said → Type 0
@@ -94,7 +93,7 @@ pub record IsHashOf (lo hi : ℤ) (x : ℤ × ℤ) (hash : ℕ) : Type 0 where
   pub is_hash : hash ≡ fold mixed 0 codes
 
 abbrev pub IsHashAnswer : ℤ → ℤ → ℤ × ℤ → ℕ → ℕ → Type 0
-IsHashAnswer lo hi x code hash = Tested (x.1 ≡ pos 0) ((code ≡ ZERO_DENOMINATOR) × (hash ≡ 0)) ((code ≡ ANSWERED) × IsHashOf lo hi x hash)
+IsHashAnswer lo hi x code hash = Tested (x.1 ≡ pos 0) ((code ≡ code_zero_denominator) × (hash ≡ 0)) ((code ≡ code_answered) × IsHashOf lo hi x hash)
 
 -- the answer is what a text is answered as a fraction
 pub record SaysText (lo hi : ℤ) (text : List ℕ) (answer : Said) : Type 0 where
@@ -106,4 +105,4 @@ pub record SaysText (lo hi : ℤ) (text : List ℕ) (answer : Said) : Type 0 whe
 abbrev pub IsReadAnswer : ℤ → ℤ → List ℕ → ℕ → ℕ → Said → Type 0
 IsReadAnswer lo hi texts start end answer =
     let text = slice_range texts start end in
-    Tested ((start ≤ end) × (end ≤ length texts)) (Tested (IsUtf8 text) (SaysText lo hi text answer) (answer ≡ refused PARSE_ERROR)) (answer ≡ refused NO_TEXT)
+    Tested ((start ≤ end) × (end ≤ length texts)) (Tested (IsUtf8 text) (SaysText lo hi text answer) (answer ≡ refused code_parse_error)) (answer ≡ refused code_no_text)

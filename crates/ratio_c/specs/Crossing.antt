@@ -6,8 +6,7 @@ use Rattle.std.specs.declared.cmp.Ordering.TheVariants.{Less, Equal, Greater}
 use Rattle.ratio_core.specs.declared.parse_error.RatioErrorKind.{RatioErrorKind}
 use Rattle.ratio_core.specs.declared.parse_error.RatioErrorKind.TheVariants.{ParseError, ZeroDenominator}
 use Rattle.ratio_c.specs.declared.wide.Wide.{Wide}
-use Rattle.ratio_c.specs.declared.code.TheConstants.{ANSWERED, NOT_HELD, PARSE_ERROR, ZERO_DENOMINATOR}
-use Rattle.ratio_c.specs.declared.hash.TheConstants.{MULTIPLIER}
+use Rattle.ratio_c.specs.Codes.{code_answered, code_not_held, code_parse_error, code_zero_denominator, hash_multiplier}
 
 -- what an answer says: its code, and its two numbers
 abbrev pub Said : Type 0
@@ -19,8 +18,8 @@ refused code = (code, (pos 0, pos 0))
 
 -- a result is answered, and that there is none is said by its code
 abbrev pub said_of : Option (ℤ × ℤ) → Said
-said_of (Some x) = (ANSWERED, x)
-said_of None = refused NOT_HELD
+said_of (Some x) = (code_answered, x)
+said_of None = refused code_not_held
 
 -- an answer says the result of which `Is` holds
 pub record Says (Is : Option (ℤ × ℤ) → Type 0) (answer : Said) : Type 0 where
@@ -44,10 +43,10 @@ residue z = unsigned_abs (int_rem_euclid z (pos (2 ^ 64)))
 
 -- a hash that takes a code: the hash times the multiplier, and what is left of the code, each by 2^64
 abbrev pub mixed : ℕ → ℤ → ℕ
-mixed hash code = ((hash * MULTIPLIER) % 2 ^ 64 + residue code) % 2 ^ 64
+mixed hash code = ((hash * hash_multiplier) % 2 ^ 64 + residue code) % 2 ^ 64
 
 -- a text's fraction is answered, and its refusal is said by its code
 abbrev pub said_of_text : Result (ℤ × ℤ) RatioErrorKind → Said
-said_of_text (Ok x) = (ANSWERED, x)
-said_of_text (Err ParseError) = refused PARSE_ERROR
-said_of_text (Err ZeroDenominator) = refused ZERO_DENOMINATOR
+said_of_text (Ok x) = (code_answered, x)
+said_of_text (Err ParseError) = refused code_parse_error
+said_of_text (Err ZeroDenominator) = refused code_zero_denominator

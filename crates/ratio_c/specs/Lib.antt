@@ -1,3 +1,4 @@
+pub mod Codes
 pub mod Crossing
 pub mod Calls
 pub mod Texts

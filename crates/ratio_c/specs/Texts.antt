@@ -5,8 +5,7 @@ use Rattle.std.specs.Ordering.{int_eq}
 use Rattle.ratio_core.specs.declared.text.form.Form.TheVariants.{Decimal}
 use Rattle.ratio_core.specs.Printing.{text_of}
 use Rattle.ratio_c.specs.Calls.{Tested}
-use Rattle.ratio_c.specs.declared.code.TheConstants.{ANSWERED, ZERO_DENOMINATOR}
-use Rattle.ratio_c.specs.declared.each.TheConstants.{BAD_LENGTH, DONE}
+use Rattle.ratio_c.specs.Codes.{code_answered, code_zero_denominator, return_bad_length, return_done}
 use Rattle.ratio_c.specs.declared.printing.Text.{Text}
 
 -- what is printed of a fraction: its two numbers as they stand, and nothing where the denominator is 0
@@ -15,7 +14,7 @@ shown bits x = if int_eq x.1 (pos 0) then [] else text_of bits Decimal false x.0
 
 -- the code says whether the denominator is 0
 abbrev pub shown_code : ℤ × ℤ → ℕ
-shown_code x = if int_eq x.1 (pos 0) then ZERO_DENOMINATOR else ANSWERED
+shown_code x = if int_eq x.1 (pos 0) then code_zero_denominator else code_answered
 
 -- an answer says that the text of a fraction starts at a place, and ends as many bytes behind it as the text has
 pub record IsTextAnswer (bits at : ℕ) (x : ℤ × ℤ) (answer : Text) : Type 0 where
@@ -36,5 +35,5 @@ pub record ArePrinted {A : Type 0} (bits : ℕ) (fraction : A → ℤ × ℤ) (a
 -- fractions are printed where each has an answer and so much room, and else nothing is written
 abbrev pub Prints : {A : Type 0} → ℕ → ℕ → (A → ℤ × ℤ) → List A → List ℕ → List ℕ → List Text → List Text → ℕ → Type 0
 Prints bits room fraction asked old new places answers result =
-    Tested ((length asked ≡ length places) × (length asked * room ≤ length old)) ((result ≡ DONE) × ArePrinted bits fraction asked old new answers)
-    ((result ≡ BAD_LENGTH) × (new ≡ old) × (answers ≡ places))
+    Tested ((length asked ≡ length places) × (length asked * room ≤ length old)) ((result ≡ return_done) × ArePrinted bits fraction asked old new answers)
+    ((result ≡ return_bad_length) × (new ≡ old) × (answers ≡ places))

@@ -1,9 +1,9 @@
 //! Fractions of `i128` and the exports over them.
 ghost use Rattle.std.specs.Prelude.{false};
 ghost use Rattle.ratio_c.specs.Calls.{AnswersEach, IsDifferenceAnswer, IsFloorAnswer, IsHashAnswer, IsLowestAnswer, IsOrderAnswer, IsPowerAnswer, IsProductAnswer, IsQuotientAnswer, IsReadAnswer, IsRemainderAnswer, IsRoundAnswer, IsSumAnswer};
+ghost use Rattle.ratio_c.specs.Codes.{room128};
 ghost use Rattle.ratio_c.specs.Numbers128.{fraction128, greatest128, least128, said128};
 ghost use Rattle.ratio_c.specs.Texts.{Prints};
-ghost use Rattle.ratio_c.specs.declared.numbers128.TheConstants.{ROOM};
 
 use crate::arithmetic::{Difference, Product, Quotient, Remainder, Sum};
 use crate::compare::{Comparison, Order};
@@ -215,7 +215,7 @@ pub extern "C" fn ratio_print_i128(
     texts: &mut [u8],
     answers: &mut [Text],
 ) -> u32
-    ensures { Prints 128 ROOM fraction128 asked.now texts.old texts.new answers.old answers.new result }
+    ensures { Prints 128 room128 fraction128 asked.now texts.old texts.new answers.old answers.new result }
 {
     print(asked, ROOM, texts, answers)
 }

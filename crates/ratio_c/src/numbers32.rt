@@ -1,9 +1,9 @@
 //! Fractions of `i32` and the exports over them.
 ghost use Rattle.std.specs.Prelude.{true};
 ghost use Rattle.ratio_c.specs.Calls.{AnswersEach, IsDifferenceAnswer, IsFloorAnswer, IsHashAnswer, IsLowestAnswer, IsOrderAnswer, IsPowerAnswer, IsProductAnswer, IsQuotientAnswer, IsReadAnswer, IsRemainderAnswer, IsRoundAnswer, IsSumAnswer};
+ghost use Rattle.ratio_c.specs.Codes.{room32};
 ghost use Rattle.ratio_c.specs.Numbers32.{fraction32, greatest32, least32, said32};
 ghost use Rattle.ratio_c.specs.Texts.{Prints};
-ghost use Rattle.ratio_c.specs.declared.numbers32.TheConstants.{ROOM};
 
 use crate::arithmetic::{Difference, Product, Quotient, Remainder, Sum};
 use crate::compare::{Comparison, Order};
@@ -211,7 +211,7 @@ pub extern "C" fn ratio_print_i32(
     texts: &mut [u8],
     answers: &mut [Text],
 ) -> u32
-    ensures { Prints 32 ROOM fraction32 asked.now texts.old texts.new answers.old answers.new result }
+    ensures { Prints 32 room32 fraction32 asked.now texts.old texts.new answers.old answers.new result }
 {
     print(asked, ROOM, texts, answers)
 }

@@ -1,0 +1,45 @@
+-- The numbers that a C program sees in include/ratio.h, and the multiplier of the hash.
+use Rattle.std.specs.Prelude.{ℕ}
+
+-- what a call returns: it wrote its answers, or the lengths do not fit and it wrote nothing
+abbrev pub return_done : ℕ
+return_done = 0
+
+abbrev pub return_bad_length : ℕ
+return_bad_length = 1
+
+-- the code of an answer: it has its numbers, or why it has none
+abbrev pub code_answered : ℕ
+code_answered = 0
+
+abbrev pub code_not_held : ℕ
+code_not_held = 1
+
+abbrev pub code_division_by_zero : ℕ
+code_division_by_zero = 2
+
+abbrev pub code_denominator_not_positive : ℕ
+code_denominator_not_positive = 3
+
+abbrev pub code_zero_denominator : ℕ
+code_zero_denominator = 4
+
+abbrev pub code_parse_error : ℕ
+code_parse_error = 5
+
+abbrev pub code_no_text : ℕ
+code_no_text = 6
+
+-- how many bytes a call that prints requires for each fraction of 32, 64 and 128 bits
+abbrev pub room32 : ℕ
+room32 = 23
+
+abbrev pub room64 : ℕ
+room64 = 41
+
+abbrev pub room128 : ℕ
+room128 = 81
+
+-- by what a hash is multiplied before it takes the next code
+abbrev pub hash_multiplier : ℕ
+hash_multiplier = 0x9e37_79b9_7f4a_7c15

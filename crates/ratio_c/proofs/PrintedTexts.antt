@@ -69,9 +69,10 @@ module _ {A : Type 0} (bits : ℕ) (fraction : A → ℤ × ℤ) (room : ℕ) (a
 
 -- ---- how much room the texts of a type take
 
-pub room_within : (digits lower upper : ℕ) → 0 < digits → suc lower < 10 ^ digits → upper < 10 ^ digits → suc lower < 10 ^ 64 → upper < 10 ^ 64 → decimal_room (negsuc lower) (pos upper) ≤ 2 * digits + 3
-room_within digits lower upper some low high low_wide high_wide =
+pub room_within : {room : ℕ} (digits lower upper : ℕ) → 0 < digits → suc lower < 10 ^ digits → upper < 10 ^ digits → suc lower < 10 ^ 64 → upper < 10 ^ 64 → 2 * digits + 3 ≤ room → decimal_room (negsuc lower) (pos upper) ≤ room
+room_within digits lower upper some low high low_wide high_wide room =
     omega (
       arith,
+      room,
       max-le {a = suc (length (decimal (suc lower)))} {b = length (decimal upper)} {k = digits + 1} (omega (arith, length-decimal-le_wide digits (suc lower) some low low_wide)) (omega (arith, length-decimal-le_wide digits upper some high high_wide)),
     )

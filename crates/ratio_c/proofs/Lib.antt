@@ -1,3 +1,4 @@
 pub mod Places
 pub mod PrintedTexts
 pub mod Hashes
+pub mod Cases

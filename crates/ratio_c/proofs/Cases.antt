@@ -1,0 +1,5 @@
+-- What follows where a test holds.
+use Rattle.ratio_c.specs.Calls.{Tested}
+
+pub where_held : {P Then Else : Type 0} → P → Then → Tested P Then Else
+where_held held then = record { yes = λ again. then; no = λ other. absurd (other held) }

@@ -38,6 +38,7 @@ static void expect(int holds, const char *what) {
         static const ratio_pair_##suffix none = PAIR(N, 3, 0, -1, -4);                               \
         static const ratio_##suffix loose[2] = {FRACTION(N, 6, -4), FRACTION(N, -3, 2)};             \
         static const ratio_power_##suffix power = {.base = FRACTION(N, -3, 2), .exponent = -3};      \
+        static const ratio_power_##suffix zero = {.base = FRACTION(N, 0, 1), .exponent = -1};        \
         static const ratio_answer_##suffix sum = ANSWER(N, 5, 4), difference = ANSWER(N, 7, 4),      \
             product = ANSWER(N, -3, 8), quotient = ANSWER(N, -6, 1), rest = ANSWER(N, 0, 1),         \
             low = ANSWER(N, -3, 2), half = ANSWER(N, 1, 2), floor = ANSWER(N, -2, 1),                \
@@ -84,6 +85,7 @@ static void expect(int holds, const char *what) {
         expect(text[1].code == RATIO_ZERO_DENOMINATOR && text[1].span.start == text[1].span.end, "second " #suffix);\
         expect(text[2].code == RATIO_ANSWERED && text[2].span.start == 4 && text[2].span.end == 6, "third " #suffix);\
         GIVES(suffix, pow, power, raised)                                                            \
+        REFUSES(suffix, pow, zero, RATIO_NOT_HELD)                                                   \
         expect(ratio_add_##suffix(&pair, 1, answer, 2) == RATIO_BAD_LENGTH, "length " #suffix);      \
     }
 

@@ -88,7 +88,7 @@ at_least_one (pos zero) d r s e h k = absurd (omega (arith, ints))
 at_least_one (pos (suc p)) d r s e h k = omega (arith, ints)
 at_least_one (negsuc p) d r s e h k = absurd (omega (arith, ints))
 
-second_quotient : (n d q r p s : ℤ) → IsFloored n d q r → r ≢ pos 0 → IsFloored d r p s → pos 1 ≤ℤ p
+pub second_quotient : (n d q r p s : ℤ) → IsFloored n d q r → r ≢ pos 0 → IsFloored d r p s → pos 1 ≤ℤ p
 second_quotient n d q r p s f left g =
     let e : pos (unsigned_abs d) ≡ p *ℤ pos (unsigned_abs r) +ℤ pos (unsigned_abs s) = sym (sign-mul d) ∙ ap (λ x. x *ℤ d) (sym (floored_sign n d q r f left)) ∙ floored-sum d r p s g in
     at_least_one p (unsigned_abs d) (unsigned_abs r) (unsigned_abs s) e (floored_below n d q r f) (floored_below d r p s g)

@@ -1,6 +1,7 @@
 pub mod Around
 pub mod CancellingLemmas
 pub mod Codes
+pub mod Convergents
 pub mod CrossOrder
 pub mod CutLemmas
 pub mod DigitGroups

@@ -1,5 +1,5 @@
 -- How many rounds there are: each but the first at least halves the product of both gaps.
-use Rattle.std.specs.Prelude.{◌≡◌, ◌⊎◌, ◌+◌, ◌*◌, ◌^◌, ◌<◌, ◌≤◌, ◌≤ℤ◌, ◌<ℤ◌, ◌-ℤ◌, ◌*ℤ◌, ℕ, ℤ, zero, suc, pos, unsigned_abs}
+use Rattle.std.specs.Prelude.{◌≡◌, ◌≢◌, ◌⊎◌, ◌+◌, ◌*◌, ◌^◌, ◌<◌, ◌≤◌, ◌≤ℤ◌, ◌<ℤ◌, ◌+ℤ◌, ◌-ℤ◌, ◌*ℤ◌, ℕ, ℤ, zero, suc, pos, unsigned_abs}
 use Rattle.std.proofs.Common.{refl, ap, arith, inl, inr}
 use Rattle.std.proofs.Math.Nat.{mul-le-mul, mul-le-mul_left}
 use Rattle.std.proofs.Math.Pow.{pow-add}
@@ -7,7 +7,9 @@ use Rattle.std.proofs.lemmas.Nat.{mul-lt, pow_below}
 use Rattle.std.proofs.lemmas.Int.{ints}
 use Rattle.ratio_integer.specs.Division.{IsFloored}
 use Rattle.ratio_core.specs.ContinuedFraction.{IsWithinBits}
+use Rattle.ratio_core.specs.Convergents.{IsConvergentCount}
 use Rattle.ratio_core.proofs.Around.{made}
+use Rattle.ratio_core.proofs.Convergents.{HavePassed, passed_first, passed_last, passed_more, passed_none}
 use Rattle.ratio_core.proofs.Shares.{IsShare}
 
 -- k rounds have left the gaps g and h, of which h is the fixed one's
@@ -70,22 +72,25 @@ never d j less = omega arith
 
 -- ---- as the search counts them
 
--- since the counts `left` and `right` one division and then the rounds, of one division a side, have left the gaps g and h of n/d
-pub record HaveGone (d : ℤ) (left left' right right' : ℕ) (g h : ℤ) : Type 0 where
+-- since the counts `left` and `right` one division and then the rounds, of one division a side, have left the gaps g and h of n/d,
+-- whose two neighbours have the denominators p and e
+pub record HaveGone (n d most : ℤ) (left left' right right' : ℕ) (p g e h : ℤ) : Type 0 where
   pub rounds : ℕ
   pub left_rose : left' ≡ left + (rounds + 1)
   pub right_rose : right' ≡ right + rounds
   pub gaps : AreRounds (unsigned_abs d) rounds (unsigned_abs g) (unsigned_abs h)
+  pub passed : HavePassed n d most rounds p g e h
 
-pub gone_begun : (n d f r g : ℤ) (left left' right right' : ℕ) → left' ≡ left + 1 → right' ≡ right → pos 0 <ℤ d → IsFloored n d f r → g ≡ d -ℤ r → HaveGone d left left' right right' g r
-gone_begun n d f r g left left' right right' next same up is g-is =
+pub gone_begun : (n d most f r p g e : ℤ) (left left' right right' : ℕ) → left' ≡ left + 1 → right' ≡ right → pos 0 <ℤ d → IsFloored n d f r → r ≢ pos 0 → p ≡ pos 1 → g ≡ d -ℤ r → e ≡ pos 1 → HaveGone n d most left left' right right' p g e r
+gone_begun n d most f r p g e left left' right right' next same up is above p-is g-is e-is =
     let rest : (pos 0 ≤ℤ r) × (r <ℤ d) = (let rest = is.rest in grind (arith, ints)) in
-    record { rounds = 0; left_rose = omega arith; right_rose = omega arith; gaps = begun (omega (arith, ints)) (omega (arith, ints)) }
+    record { rounds = 0; left_rose = omega arith; right_rose = omega arith; gaps = begun (omega (arith, ints)) (omega (arith, ints)); passed = passed_first n d most f r p g e p-is e-is g-is is above }
 
-pub gone_more : (d g h w z : ℤ) (left left' left'' right right' right'' : ℕ) → left'' ≡ left' + 1 → right'' ≡ right' + 1 → pos 0 <ℤ h → pos 0 ≤ℤ z → IsShare g h w → z ≡ g -ℤ h *ℤ w → HaveGone d left left' right right' g h → HaveGone d left left'' right right'' h z
-gone_more d g h w z left left' left'' right right' right'' left_next right_next up z_up is z-is gone =
+-- w steps lead from the denominator p and the gap g to q and z
+pub gone_more : {n d most p g e h w q z : ℤ} {left left' left'' right right' right'' : ℕ} → left'' ≡ left' + 1 → right'' ≡ right' + 1 → pos 0 <ℤ h → pos 0 <ℤ z → e ≤ℤ most → pos 0 <ℤ e → IsShare g h w → q ≡ p +ℤ e *ℤ w → z ≡ g -ℤ h *ℤ w → HaveGone n d most left left' right right' p g e h → HaveGone n d most left left'' right right'' e h q z
+gone_more {n} {d} {most} {p} {g} {e} {h} {w} {q} {z} left_next right_next up z_up within e_up is q-is z-is gone =
     let rest : z <ℤ h = rw z-is is.rest in
-    let sum : unsigned_abs g ≡ unsigned_abs z + unsigned_abs w * unsigned_abs h = made z h w g z_up (omega (arith, ints)) is.up (omega (arith, ints)) in
+    let sum : unsigned_abs g ≡ unsigned_abs z + unsigned_abs w * unsigned_abs h = made z h w g (omega (arith, ints)) (omega (arith, ints)) is.up (omega (arith, ints)) in
     let left_rose = gone.left_rose in
     let right_rose = gone.right_rose in
     record {
@@ -93,17 +98,28 @@ gone_more d g h w z left left' left'' right right' right'' left_next right_next 
       left_rose = omega arith;
       right_rose = omega arith;
       gaps = more (unsigned_abs d) gone.rounds (unsigned_abs g) (unsigned_abs h) (unsigned_abs w) (unsigned_abs z) (omega (arith, ints)) sum (omega (arith, ints)) gone.gaps;
+      passed = passed_more n d most gone.rounds p g e h w q z within (omega (arith, ints)) is (omega (arith, ints)) q-is z-is (λ zero. omega (arith, ints)) gone.passed;
     }
 
-bound : (d g h : ℤ) (left left' right right' : ℕ) → pos 0 <ℤ h → (gone : HaveGone d left left' right right' g h) → IsWithinBits (unsigned_abs d) (gone.rounds + 2)
-bound d g h left left' right right' up gone = counted (unsigned_abs d) gone.rounds (unsigned_abs g) (unsigned_abs h) (omega (arith, ints)) gone.gaps
+module _ {n d most p g e h : ℤ} {left left' right right' : ℕ} (gone : HaveGone n d most left left' right right' p g e h) where
+  bound : pos 0 <ℤ h → IsWithinBits (unsigned_abs d) (gone.rounds + 2)
+  bound up = counted (unsigned_abs d) gone.rounds (unsigned_abs g) (unsigned_abs h) (omega (arith, ints)) gone.gaps
 
--- the last round, on the left side
-pub left_ended : (d g h : ℤ) (left left' right right' next : ℕ) → next ≡ left' + 1 → pos 0 <ℤ h → HaveGone d left left' right right' g h → (k : ℕ) × (next ≡ left + k) × IsWithinBits (unsigned_abs d) k
-left_ended d g h left left' right right' next one up gone =
-    (gone.rounds + 2, (let rose = gone.left_rose in omega arith), bound d g h left left' right right' up gone)
+  -- the last round, on the left side
+  pub left_ended : (next : ℕ) → next ≡ left' + 1 → pos 0 <ℤ h → (k : ℕ) × (next ≡ left + k) × IsWithinBits (unsigned_abs d) k
+  left_ended next one up = (gone.rounds + 2, (let rose = gone.left_rose in omega arith), bound up)
 
--- and on the right side
-pub right_ended : (d g h : ℤ) (left left' right right' next : ℕ) → next ≡ right' + 1 → pos 0 <ℤ h → HaveGone d left left' right right' g h → (k : ℕ) × (next ≡ right + k) × IsWithinBits (unsigned_abs d) k
-right_ended d g h left left' right right' next one up gone =
-    (gone.rounds + 1, (let rose = gone.right_rose in omega arith), λ j less. (let most : gone.rounds + 2 ≤ 2 * j = bound d g h left left' right right' up gone j less in omega arith))
+  -- and on the right side
+  pub right_ended : (next : ℕ) → next ≡ right' + 1 → pos 0 <ℤ h → (k : ℕ) × (next ≡ right + k) × IsWithinBits (unsigned_abs d) k
+  right_ended next one up =
+      (gone.rounds + 1, (let rose = gone.right_rose in omega arith), λ j less. (let most : gone.rounds + 2 ≤ 2 * j = bound up j less in omega arith))
+
+  -- and how many they are: w steps fit the gap, and they lead to n/d or beyond the bound
+  pub steps_ended : (left'' right'' : ℕ) (w : ℤ) → left'' ≡ left' + 1 → right'' ≡ right' + 1 → e ≤ℤ most → pos 0 <ℤ e → IsShare g h w → ((g -ℤ h *ℤ w) ≡ pos 0) ⊎ (most <ℤ (p +ℤ e *ℤ w)) → (k : ℕ) × (left'' ≡ left + (k + 1)) × (right'' ≡ right + k) × IsConvergentCount n d most k
+  steps_ended left'' right'' w left_next right_next within e_up is end =
+      (gone.rounds + 1, (let rose = gone.left_rose in omega arith), (let rose = gone.right_rose in omega arith),
+      passed_last n d most gone.rounds p g e h w (g -ℤ h *ℤ w) within (omega (arith, ints)) is refl end gone.passed)
+
+-- one division alone
+pub steps_none : (n d most f r : ℤ) (left left' right right' : ℕ) → left' ≡ left + 1 → right' ≡ right → IsFloored n d f r → r ≡ pos 0 → (k : ℕ) × (left' ≡ left + (k + 1)) × (right' ≡ right + k) × IsConvergentCount n d most k
+steps_none n d most f r left left' right right' one same floored exact = (0, omega arith, omega arith, passed_none n d most f r floored exact)

@@ -7,6 +7,7 @@ use Rattle.ratio_integer.specs.Range.{IsHeld, IsRange}
 use Rattle.ratio_core.specs.Moving.{CanCompare, CanMove}
 use Rattle.ratio_core.specs.Nearest.{ComesFirst, IsNearest}
 use Rattle.ratio_core.proofs.Around.{IsAlong, IsNeighbour, Surround, along_product, begin, surround_moved, up_product}
+use Rattle.ratio_core.proofs.Convergents.{next_multiple}
 use Rattle.ratio_core.proofs.HeldAround.{between_held, left_far_held, left_gap_held, left_numer_held, right_far_held, right_gap_held, right_numer_held}
 use Rattle.ratio_core.proofs.Shares.{IsShare, share, times_up}
 use Rattle.ratio_core.proofs.NearestChoice.{nearest_first}
@@ -133,6 +134,14 @@ module _ {most q g e h whole room : ℤ} (steps : AreSteps most q g e h whole ro
 
   pub room_used : most <ℤ ((q +ℤ e *ℤ room) +ℤ e)
   room_used = let rest = steps.of_room.rest in omega (arith, ints)
+
+  -- where the gap has more steps than there is room for, all of them lead beyond the bound
+  pub room_passed : pos 0 <ℤ e → room <ℤ whole → most <ℤ (q +ℤ e *ℤ whole)
+  room_passed up less =
+      let more = times_up e (room +ℤ pos 1) whole (omega (arith, ints)) (omega (arith, ints)) in
+      let next : e *ℤ (room +ℤ pos 1) ≡ e *ℤ room +ℤ e = next_multiple e room in
+      let rest = steps.of_room.rest in
+      omega (arith, ints)
 
   pub whole_within : pos 0 <ℤ e → whole ≤ℤ room → (q +ℤ e *ℤ whole) ≤ℤ most
   whole_within up less =

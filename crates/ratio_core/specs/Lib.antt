@@ -1,6 +1,7 @@
 pub mod Cancelling
 pub mod Conditions
 pub mod ContinuedFraction
+pub mod Convergents
 pub mod Laws
 pub mod Moving
 pub mod Nearest

@@ -4,6 +4,7 @@ mod neighbour;
 ghost use Rattle.std.specs.Prelude.{◌≡◌, ◌<ℤ◌, ◌+◌, ℕ, pos, unsigned_abs};
 ghost use Rattle.ratio_integer.specs.Fraction.{IsLowestTerms};
 ghost use Rattle.ratio_core.specs.ContinuedFraction.{IsWithinBits};
+ghost use Rattle.ratio_core.specs.Convergents.{IsConvergentCount};
 ghost use Rattle.ratio_core.specs.Nearest.{IsNearest};
 
 use crate::nearest::neighbour::{Neighbour, first_of, moved, steps_towards};
@@ -24,13 +25,17 @@ pub fn nearest<T: Integer>(n: T, d: T, most: T) -> (T, T)
 }
 
 /// The same, by Euclid's algorithm, with every division counted: the left side divides what is left
-/// of `n/d`, the right side the room below `most`. Each makes at most twice as many divisions as `d`
-/// has binary digits.
+/// of `n/d`, the right side the room below `most`. The right side divides once for each convergent of
+/// `n/d`, other than `n/d` itself, whose denominator is at most `most`, and the left side once more:
+/// 355/113 has the convergents 3/1 and 22/7, so it takes 3 and 2 divisions with `most` 50, and 2 and 1
+/// with `most` 6. Each side makes at most twice as many divisions as `d` has binary digits.
 pub fn nearest_counted<T: Integer>(n: T, d: T, most: T, steps: &mut Steps) -> (T, T)
     requires positive { pos 0 <ℤ T.value d }
     requires room { pos 0 <ℤ T.value most }
     ensures nearest { IsNearest (T.value n) (T.value d) (T.value most) (T.value result.0) (T.value result.1) }
     ensures lowest { IsLowestTerms (T.value result.0) (T.value result.1) }
+    ensures steps { (k : ℕ) × (steps.new.left ≡ steps.old.left + (k + 1)) × (steps.new.right ≡ steps.old.right + k)
+        × IsConvergentCount (T.value n) (T.value d) (T.value most) k }
     ensures left { (k : ℕ) × (steps.new.left ≡ steps.old.left + k) × IsWithinBits (unsigned_abs (T.value d)) k }
     ensures right { (k : ℕ) × (steps.new.right ≡ steps.old.right + k) × IsWithinBits (unsigned_abs (T.value d)) k }
 {

@@ -5,9 +5,9 @@ use Rattle.std.proofs.lemmas.Bool.{iff_false}
 use Rattle.ratio_integer.specs.Comparison.{no, yes}
 use Rattle.ratio_core.specs.Nearest.{IsNearest}
 use Rattle.ratio_core.proofs.NearestChoice.{nearest_exact}
-use Rattle.ratio_core.proofs.NearestCounting.{gone_begun, gone_more, left_ended, never, once, right_ended}
+use Rattle.ratio_core.proofs.NearestCounting.{gone_begun, gone_more, left_ended, never, once, right_ended, steps_ended, steps_none}
 use Rattle.ratio_core.proofs.NearestLawLemmas.{nearest_lowest}
-use Rattle.ratio_core.proofs.NearestMoves.{IsAsked, above_zero, after, begun, can_compare, can_move, not_above_max, fixed_is, last_nearest, moving_gap_held, moving_numer_held, room_fits, room_held, room_used, room_within, smaller, steps_are, turned, whole_within}
+use Rattle.ratio_core.proofs.NearestMoves.{IsAsked, above_zero, after, begun, can_compare, can_move, not_above_max, fixed_is, last_nearest, moving_gap_held, moving_numer_held, room_fits, room_held, room_passed, room_used, room_within, smaller, steps_are, turned, whole_within}
 use Rattle.ratio_core.proofs.nearest.nearest_counted.Goals as goal
 
 pub divide_left-requires-clause-held : goal.divide_left-requires-clause-held
@@ -20,7 +20,7 @@ returns-then-is_zero g c =
     let asked : IsAsked g.T.Integer.lo g.T.Integer.hi (v c.args.n) (v c.args.d) (v c.args.most) = record { range = m.range_law; n_held = c.held.ensures.range; d_held = c.held-2.ensures.range; most_held = c.held-3.ensures.range; positive = c.requires.positive; room = c.requires.room } in
     let one : v c.ONE.result ≡ pos 1 = ap v c.ONE.ensures ∙ m.one_law in
     let is = nearest_exact _ _ _ c.requires.positive _ _ _ _ _ _ (turned (begun asked _ _ _ _ _ _ one one refl refl c.divide_left.ensures.floored)) (c.is_zero.ensures.0 c.if-is_zero.true) in
-    record { nearest = is; lowest = nearest_lowest _ _ _ _ _ is; left = (1, c.divide_left.ensures.left, once _ (let up = c.requires.positive in omega (arith, ints))); right = (0, (let same = c.divide_left.ensures.right in omega arith), never _) }
+    record { nearest = is; lowest = nearest_lowest _ _ _ _ _ is; steps = steps_none _ _ _ _ _ _ _ _ _ c.divide_left.ensures.left c.divide_left.ensures.right c.divide_left.ensures.floored (c.is_zero.ensures.0 c.if-is_zero.true); left = (1, c.divide_left.ensures.left, once _ (let up = c.requires.positive in omega (arith, ints))); right = (0, (let same = c.divide_left.ensures.right in omega arith), never _) }
 
 pub plus-requires : goal.plus-requires
 plus-requires g c =
@@ -50,7 +50,7 @@ steps-init g c =
     record {
       asked = asked;
       around = around;
-      gone = gone_begun _ _ _ _ _ _ _ _ _ c.divide_left.ensures.left c.divide_left.ensures.right c.requires.positive c.divide_left.ensures.floored c.minus.ensures;
+      gone = gone_begun _ _ _ _ _ _ _ _ _ _ _ _ c.divide_left.ensures.left c.divide_left.ensures.right c.requires.positive c.divide_left.ensures.floored (iff_false c.is_zero.ensures c.if-is_zero.false) other c.minus.ensures one;
       left_over = (above_zero _ (fixed_is asked around).gap_up (iff_false c.is_zero.ensures c.if-is_zero.false));
     }
 
@@ -81,6 +81,7 @@ pub returns-then-lt : goal.returns-then-lt
 returns-then-lt g c =
     let v = g.T.Integer.value in
     let at = c.steps.invariant in
+    let fixed = fixed_is at.asked at.around in
     let m = g.met.T.Integer in
     let steps = steps_are at.asked at.around _ _ at.left_over c.steps_towards.ensures.whole c.steps_towards.ensures.room in
     let less = yes _ (m.lt_law c.steps_towards.result.1 c.steps_towards.result.0) (sym c.lt.ensures ∙ c.if-lt.true) in
@@ -92,7 +93,7 @@ returns-then-lt g c =
       | inl first ↦ rw first.0 (last_nearest at.asked (turned around) used first.1)
       | inr first ↦ rw first.0 (last_nearest at.asked around (omega (arith, ints, used)) first.1)
     ] in
-    record { nearest = is; lowest = nearest_lowest _ _ _ _ _ is; left = left_ended _ _ _ _ _ _ _ _ c.steps_towards.ensures.left at.left_over at.gone; right = right_ended _ _ _ _ _ _ _ _ c.steps_towards.ensures.right at.left_over at.gone }
+    record { nearest = is; lowest = nearest_lowest _ _ _ _ _ is; steps = steps_ended at.gone _ _ _ c.steps_towards.ensures.left c.steps_towards.ensures.right fixed.within fixed.positive steps.of_gap (inr (room_passed steps fixed.positive less)); left = left_ended at.gone _ c.steps_towards.ensures.left at.left_over; right = right_ended at.gone _ c.steps_towards.ensures.right at.left_over }
 
 pub moved-next-requires : goal.moved-next-requires
 moved-next-requires g c =
@@ -105,13 +106,14 @@ moved-next-requires g c =
 pub returns-then-is_zero-2 : goal.returns-then-is_zero-2
 returns-then-is_zero-2 g c =
     let at = c.steps.invariant in
+    let fixed = fixed_is at.asked at.around in
     let m = g.met.T.Integer in
     let steps = steps_are at.asked at.around _ _ at.left_over c.steps_towards.ensures.whole c.steps_towards.ensures.room in
     let less = no _ (m.lt_law c.steps_towards.result.1 c.steps_towards.result.0) (sym c.lt.ensures ∙ c.if-lt.false) in
     let next = c.moved-next.ensures in
     let around = after at.asked at.around _ steps.of_gap.up at.left_over steps.of_gap.fits (whole_within steps (fixed_is at.asked at.around).positive less) _ _ _ next.numer next.denom next.gap in
     let is = nearest_exact _ _ _ at.asked.positive _ _ _ _ _ _ (turned around) (c.is_zero-in-steps.ensures.0 c.if-is_zero-2.true) in
-    record { nearest = is; lowest = nearest_lowest _ _ _ _ _ is; left = left_ended _ _ _ _ _ _ _ _ c.steps_towards.ensures.left at.left_over at.gone; right = right_ended _ _ _ _ _ _ _ _ c.steps_towards.ensures.right at.left_over at.gone }
+    record { nearest = is; lowest = nearest_lowest _ _ _ _ _ is; steps = steps_ended at.gone _ _ _ c.steps_towards.ensures.left c.steps_towards.ensures.right fixed.within fixed.positive steps.of_gap (inl (rw (← next.gap) (c.is_zero-in-steps.ensures.0 c.if-is_zero-2.true))); left = left_ended at.gone _ c.steps_towards.ensures.left at.left_over; right = right_ended at.gone _ c.steps_towards.ensures.right at.left_over }
 
 pub steps-smaller : goal.steps-smaller
 steps-smaller g c =
@@ -134,9 +136,11 @@ steps-preserved g c =
     let less = no _ (m.lt_law c.steps_towards.result.1 c.steps_towards.result.0) (sym c.lt.ensures ∙ c.if-lt.false) in
     let next = c.moved-next.ensures in
     let around = after at.asked at.around _ steps.of_gap.up at.left_over steps.of_gap.fits (whole_within steps (fixed_is at.asked at.around).positive less) _ _ _ next.numer next.denom next.gap in
+    let fixed = fixed_is at.asked at.around in
+    let left_over = above_zero _ (fixed_is at.asked around).gap_up (iff_false c.is_zero-in-steps.ensures c.if-is_zero-2.false) in
     record {
       asked = at.asked;
       around = around;
-      gone = gone_more _ _ _ _ _ _ _ _ _ _ _ c.steps_towards.ensures.left c.steps_towards.ensures.right at.left_over (fixed_is at.asked around).gap_up steps.of_gap next.gap at.gone;
-      left_over = (above_zero _ (fixed_is at.asked around).gap_up (iff_false c.is_zero-in-steps.ensures c.if-is_zero-2.false));
+      gone = gone_more c.steps_towards.ensures.left c.steps_towards.ensures.right at.left_over left_over fixed.within fixed.positive steps.of_gap next.denom next.gap at.gone;
+      left_over = left_over;
     }

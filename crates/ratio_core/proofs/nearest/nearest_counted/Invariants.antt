@@ -10,7 +10,7 @@ invariant-steps g l =
     record {
       asked : IsAsked g.T.Integer.lo g.T.Integer.hi (v l.fn.n) (v l.fn.d) (v l.fn.most);
       around : Surround (v l.fn.n) (v l.fn.d) (v l.fn.most) (v l.moving.numer) (v l.moving.denom) (v l.moving.gap) (v l.fixed.numer) (v l.fixed.denom) (v l.fixed.gap);
-      gone : HaveGone (v l.fn.d) l.fn.steps.left l.steps.left l.fn.steps.right l.steps.right (v l.moving.gap) (v l.fixed.gap);
+      gone : HaveGone (v l.fn.n) (v l.fn.d) (v l.fn.most) l.fn.steps.left l.steps.left l.fn.steps.right l.steps.right (v l.moving.denom) (v l.moving.gap) (v l.fixed.denom) (v l.fixed.gap);
       left_over : pos 0 <ℤ v l.fixed.gap;
     }
 

@@ -15,11 +15,10 @@ use Rattle.ratio_integer.proofs.LowestTerms.{lowest_unique}
 use Rattle.ratio_integer.specs.Arithmetic.{difference_of, product_of, quotient_of, remainder_of, sum_of}
 use Rattle.ratio_integer.specs.Fraction.{IsHeldLowest}
 use Rattle.ratio_lines.specs.Answers.{AreAnswers, AreAnswersOf, AreRead, IsAnswer, IsApplied, IsChainAnswer, IsDivisionOutcome, IsLowestResult, IsOperandsAnswer, IsOutcome, IsPartsAnswer, IsRemainderResult, IsResultOutcome, IsTextsAnswer, Outcome, is_chain, is_cmp, is_space, operator_parts, operators_of, outcome_of_result, right_parts, want_three, without_return}
-use Rattle.ratio_lines.specs.Lines.{front_of, lines_of}
+use Rattle.ratio_lines.specs.Lines.{front_of, lines_of, longest_line}
 use Rattle.ratio_lines.specs.Operands.{IsOperand, greatest, least}
 use Rattle.ratio_lines.specs.declared.operator.Operator.{Operator}
 use Rattle.ratio_lines.specs.declared.operator.Operator.TheVariants.{Add, Sub, Mul, Div, Rem, Cmp}
-use Rattle.ratio_lines.specs.declared.limits.TheConstants.{LONGEST_LINE}
 
 abbrev Reads : List ℕ → ℤ → ℤ → Type 0
 Reads text = IsFractionText least greatest text
@@ -147,7 +146,7 @@ one_parts (left ∷ parts) a b =
 
 pub one_answer : (line a b : List ℕ) → IsAnswer line a → IsAnswer line b → a ≡ b
 one_answer line a b =
-    one_of_two (nat_lt LONGEST_LINE (length line)) (λ x. x ≡ codes "error: line too long")
+    one_of_two (nat_lt longest_line (length line)) (λ x. x ≡ codes "error: line too long")
     (λ x. MatchBool (is_utf8 line) (IsPartsAnswer (slice_split is_space (without_return line)) x) (x ≡ codes "error: not UTF-8")) a b
     (one_text (codes "error: line too long") a b)
     (one_of_two (is_utf8 line) (IsPartsAnswer (slice_split is_space (without_return line))) (λ x. x ≡ codes "error: not UTF-8") a b

@@ -18,12 +18,11 @@ use Rattle.ratio_core.specs.declared.parse_error.RatioErrorKind.{RatioErrorKind}
 use Rattle.ratio_core.proofs.NumbersExist.{lowest_checked, remainder_checked}
 use Rattle.ratio_core.proofs.ReadingExists.{text_answer_exists}
 use Rattle.ratio_lines.specs.Answers.{AreAnswers, AreAnswersOf, AreRead, IsAnswer, IsApplied, IsChainAnswer, IsDivisionOutcome, IsLowestResult, IsOperandsAnswer, IsOutcome, IsPartsAnswer, IsRemainderResult, IsResultOutcome, IsTextsAnswer, Outcome, is_chain, is_cmp, is_space, operator_parts, operators_of, order_text, outcome_of_result, right_parts, want_three, without_return}
-use Rattle.ratio_lines.specs.Lines.{front_of, lines_of}
+use Rattle.ratio_lines.specs.Lines.{front_of, lines_of, longest_line}
 use Rattle.ratio_lines.specs.Operands.{IsOperand, greatest, least}
 use Rattle.ratio_lines.specs.declared.operator.Operator.{Operator}
 use Rattle.ratio_lines.specs.declared.operator.Operator.TheVariants.{Add, Sub, Mul, Div, Rem, Cmp}
 use Rattle.ratio_lines.proofs.Outcomes.{IsPositive, outcome_positive}
-use Rattle.ratio_lines.specs.declared.limits.TheConstants.{LONGEST_LINE}
 
 -- some bytes answer
 abbrev Exists : (List ℕ → Type 0) → Type 0
@@ -152,7 +151,7 @@ parts_exist (left ∷ parts) =
 -- each line has an answer
 pub answer_exists : (line : List ℕ) → (answer : List ℕ) × IsAnswer line answer
 answer_exists line =
-    of_two (nat_lt LONGEST_LINE (length line)) (λ x. x ≡ codes "error: line too long")
+    of_two (nat_lt longest_line (length line)) (λ x. x ≡ codes "error: line too long")
     (λ x. MatchBool (is_utf8 line) (IsPartsAnswer (slice_split is_space (without_return line)) x) (x ≡ codes "error: not UTF-8"))
     (text_exists (codes "error: line too long"))
     (of_two (is_utf8 line) (IsPartsAnswer (slice_split is_space (without_return line))) (λ x. x ≡ codes "error: not UTF-8")

@@ -6,9 +6,8 @@ use Rattle.std.proofs.lemmas.Bool.Decides.{nat_tests}
 use Rattle.std.proofs.lemmas.List.{append-nil}
 use Rattle.std.proofs.lemmas.List.Splits.{length-slice_split}
 use Rattle.ratio_lines.specs.Answers.{AreAnswers, AreAnswersOf, AreWholeAnswers, IsAnswer}
-use Rattle.ratio_lines.specs.Lines.{begun_line, front_of, if_begun, is_line_end, last_of, whole_lines}
+use Rattle.ratio_lines.specs.Lines.{begun_line, front_of, if_begun, is_line_end, last_of, longest_line, whole_lines}
 use Rattle.ratio_lines.specs.KeptLine.{ArePieceAnswers, IsAnswerLine, IsByteAnswer, IsKeptAnswer, IsLastAnswer, is_empty, kept, line_after, next_line, pushed}
-use Rattle.ratio_lines.specs.declared.limits.TheConstants.{LONGEST_LINE}
 
 -- the parts with one more byte, which ends the last part if `ends`
 abbrev grown : Bool → ℕ → List (List ℕ) → List (List ℕ)
@@ -77,10 +76,10 @@ last_begun byte (part ∷ []) some = refl
 last_begun byte (part ∷ next ∷ parts) some =
     last_under part (grown false byte (next ∷ parts)) (some_grown false byte (next ∷ parts) (omega arith)) ∙ last_begun byte (next ∷ parts) (omega arith)
 
-longer : (n m : ℕ) → m ≡ n + 1 → nat_lt LONGEST_LINE n ≡ true → nat_lt LONGEST_LINE m ≡ true
+longer : (n m : ℕ) → m ≡ n + 1 → nat_lt longest_line n ≡ true → nat_lt longest_line m ≡ true
 longer n m e h = grind (arith, nat_tests)
 
-room : (n m : ℕ) → m ≡ n + 1 → nat_lt LONGEST_LINE n ≡ false → nat_lt n LONGEST_LINE ≡ not (nat_lt LONGEST_LINE m)
+room : (n m : ℕ) → m ≡ n + 1 → nat_lt longest_line n ≡ false → nat_lt n longest_line ≡ not (nat_lt longest_line m)
 room n m e h = grind (arith, nat_tests)
 
 cond_not : (t : Bool) (x y : Option (List ℕ)) → cond (not t) x y ≡ cond t y x
@@ -90,19 +89,19 @@ cond_not false x y = refl
 pushed_kept : (line : List ℕ) (byte : ℕ) → pushed (kept line) byte ≡ kept (line ++ byte ∷ [])
 pushed_kept line byte =
     let more : length (line ++ byte ∷ []) ≡ length line + 1 = length-append line (byte ∷ []) in
-    elim (nat_lt LONGEST_LINE (length line)) as (λ t. nat_lt LONGEST_LINE (length line) ≡ t → pushed (cond t None (Some line)) byte ≡ kept (line ++ byte ∷ [])) [
+    elim (nat_lt longest_line (length line)) as (λ t. nat_lt longest_line (length line) ≡ t → pushed (cond t None (Some line)) byte ≡ kept (line ++ byte ∷ [])) [
       | true ↦ λ t. sym (ap (λ s. cond s None (Some (line ++ byte ∷ []))) (longer (length line) (length (line ++ byte ∷ [])) more t))
       | false ↦ λ t. ap (λ s. cond s (Some (line ++ byte ∷ [])) None) (room (length line) (length (line ++ byte ∷ [])) more t)
-          ∙ cond_not (nat_lt LONGEST_LINE (length (line ++ byte ∷ []))) (Some (line ++ byte ∷ [])) None
+          ∙ cond_not (nat_lt longest_line (length (line ++ byte ∷ []))) (Some (line ++ byte ∷ [])) None
     ] refl
 
 kept_answer : (line answer : List ℕ) → IsKeptAnswer (kept line) answer → IsAnswer line answer
 kept_answer line answer h =
-    elim (nat_lt LONGEST_LINE (length line)) as (λ t. nat_lt LONGEST_LINE (length line) ≡ t → IsKeptAnswer (cond t None (Some line)) answer → IsAnswer line answer)
+    elim (nat_lt longest_line (length line)) as (λ t. nat_lt longest_line (length line) ≡ t → IsKeptAnswer (cond t None (Some line)) answer → IsAnswer line answer)
     [ true ↦ λ t k. rw t k | false ↦ λ t k. k ] refl h
 
 kept_not_empty : (byte : ℕ) (line : List ℕ) → is_empty (kept (byte ∷ line)) ≡ false
-kept_not_empty byte line = elim (nat_lt LONGEST_LINE (length (byte ∷ line))) as (λ t. is_empty (cond t None (Some (byte ∷ line))) ≡ false) [ true ↦ refl | false ↦ grind (arith, nat_tests) ]
+kept_not_empty byte line = elim (nat_lt longest_line (length (byte ∷ line))) as (λ t. is_empty (cond t None (Some (byte ∷ line))) ≡ false) [ true ↦ refl | false ↦ grind (arith, nat_tests) ]
 
 -- the answers to some lines and then to others
 pub answers_both : (lines more : List (List ℕ)) (xs ys : List ℕ) → AreAnswers lines xs → AreAnswers more ys → AreAnswers (lines ++ more) (xs ++ ys)

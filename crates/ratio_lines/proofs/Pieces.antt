@@ -6,19 +6,19 @@ use Rattle.ratio_lines.specs.Answers.{IsAnswer}
 use Rattle.ratio_lines.specs.KeptLine.{ArePieceAnswers, IsAnswerLine, IsKeptAnswer, extended, is_empty, line_after, pushed}
 use Rattle.ratio_lines.specs.Cuts.{HasNone}
 use Rattle.ratio_lines.proofs.Cuts.{first_none}
-use Rattle.ratio_lines.specs.declared.limits.TheConstants.{LONGEST_LINE}
+use Rattle.ratio_lines.specs.Lines.{longest_line}
 
-below : (n : ℕ) → nat_lt n LONGEST_LINE ≡ true → n < LONGEST_LINE
+below : (n : ℕ) → nat_lt n longest_line ≡ true → n < longest_line
 below n t = grind (arith, nat_tests)
 
-room : (n m k : ℕ) → m ≡ n + 1 → m + k ≤ LONGEST_LINE → nat_lt n LONGEST_LINE ≡ true
+room : (n m k : ℕ) → m ≡ n + 1 → m + k ≤ longest_line → nat_lt n longest_line ≡ true
 room n m k e within = grind (arith, nat_tests)
 
 -- what is kept of a line that is not too long with more bytes
-pub extended_within : (line more : List ℕ) → length line + length more ≤ LONGEST_LINE → extended (Some line) more ≡ Some (line ++ more)
+pub extended_within : (line more : List ℕ) → length line + length more ≤ longest_line → extended (Some line) more ≡ Some (line ++ more)
 extended_within line [] within = ap Some (sym (append-nil line))
 extended_within line (byte ∷ more) within =
-    let fits : nat_lt (length line) LONGEST_LINE ≡ true = room (length line) (length line + 1) (length more) refl (omega arith) in
+    let fits : nat_lt (length line) longest_line ≡ true = room (length line) (length line + 1) (length more) refl (omega arith) in
     ap (λ t. extended (cond t (Some (line ++ byte ∷ [])) None) more) fits
     ∙ extended_within (line ++ byte ∷ []) more (omega (arith, length-append line (byte ∷ [])))
     ∙ ap Some (append_assoc line (byte ∷ []) more)
@@ -28,32 +28,32 @@ pub extended_none : (more : List ℕ) → extended None more ≡ None
 extended_none [] = refl
 extended_none (byte ∷ more) = extended_none more
 
-pub extended_beyond : (line more : List ℕ) → length line ≤ LONGEST_LINE → LONGEST_LINE < length line + length more → extended (Some line) more ≡ None
+pub extended_beyond : (line more : List ℕ) → length line ≤ longest_line → longest_line < length line + length more → extended (Some line) more ≡ None
 extended_beyond line [] short beyond = absurd (omega arith)
 extended_beyond line (byte ∷ more) short beyond =
-    elim (nat_lt (length line) LONGEST_LINE) as (λ t. nat_lt (length line) LONGEST_LINE ≡ t → extended (cond t (Some (line ++ byte ∷ [])) None) more ≡ None) [
+    elim (nat_lt (length line) longest_line) as (λ t. nat_lt (length line) longest_line ≡ t → extended (cond t (Some (line ++ byte ∷ [])) None) more ≡ None) [
       | true ↦ λ t. extended_beyond (line ++ byte ∷ []) more (omega (arith, length-append line (byte ∷ []), below (length line) t)) (omega (arith, length-append line (byte ∷ [])))
       | false ↦ λ t. extended_none more
     ] refl
 
 -- what `extend` does where there is room
-pub extended_fits : (long : Bool) (line more new : List ℕ) → length line + length more ≤ LONGEST_LINE → new ≡ line ++ more
+pub extended_fits : (long : Bool) (line more new : List ℕ) → length line + length more ≤ longest_line → new ≡ line ++ more
     → cond long None (Some new) ≡ extended (cond long None (Some line)) more
 extended_fits true line more new within e = sym (extended_none more)
 extended_fits false line more new within e = ap Some e ∙ sym (extended_within line more within)
 
-within : (n : ℕ) → nat_lt LONGEST_LINE n ≡ false → n ≤ LONGEST_LINE
+within : (n : ℕ) → nat_lt longest_line n ≡ false → n ≤ longest_line
 within n t = grind (arith, nat_tests)
 
-above : (n : ℕ) → nat_lt LONGEST_LINE n ≡ true → LONGEST_LINE < n
+above : (n : ℕ) → nat_lt longest_line n ≡ true → longest_line < n
 above n t = grind (arith, nat_tests)
 
-beyond : (n : ℕ) → (n ≤ LONGEST_LINE → false ≡ true) → LONGEST_LINE < n
+beyond : (n : ℕ) → (n ≤ longest_line → false ≡ true) → longest_line < n
 beyond n never =
-    elim (nat_lt LONGEST_LINE n) as (λ t. nat_lt LONGEST_LINE n ≡ t → LONGEST_LINE < n) [ true ↦ λ t. above n t | false ↦ λ t. absurd (let no : false ≡ true = never (within n t) in cc) ] refl
+    elim (nat_lt longest_line n) as (λ t. nat_lt longest_line n ≡ t → longest_line < n) [ true ↦ λ t. above n t | false ↦ λ t. absurd (let no : false ≡ true = never (within n t) in cc) ] refl
 
 -- and where there is none
-pub extended_over : (long : Bool) (line more : List ℕ) → length line ≤ LONGEST_LINE → (length line + length more ≤ LONGEST_LINE → false ≡ true) → extended (cond long None (Some line)) more ≡ None
+pub extended_over : (long : Bool) (line more : List ℕ) → length line ≤ longest_line → (length line + length more ≤ longest_line → false ≡ true) → extended (cond long None (Some line)) more ≡ None
 extended_over true line more short over = extended_none more
 extended_over false line more short over = extended_beyond line more short (beyond (length line + length more) over)
 
@@ -69,7 +69,7 @@ empty_line (Some line) t = ap Some (is_nil line t)
 -- the answer to a whole line is that to what is kept of it
 pub answer_kept : (line answer : List ℕ) → IsAnswer line answer → IsKeptAnswer (extended (Some []) line) answer
 answer_kept line answer h =
-    elim (nat_lt LONGEST_LINE (length line)) as (λ t. nat_lt LONGEST_LINE (length line) ≡ t → IsAnswer line answer → IsKeptAnswer (extended (Some []) line) answer) [
+    elim (nat_lt longest_line (length line)) as (λ t. nat_lt longest_line (length line) ≡ t → IsAnswer line answer → IsKeptAnswer (extended (Some []) line) answer) [
       | true ↦ λ t k. rw (extended_beyond [] line (omega arith) (omega (arith, above (length line) t))) (rw t at k)
       | false ↦ λ t k. rw (extended_within [] line (omega (arith, within (length line) t))) k
     ] refl h

@@ -15,7 +15,7 @@ use Rattle.ratio_lines.specs.Cuts.{HasNone}
 use Rattle.ratio_lines.specs.PlainLine.{BeginsPlain, IsFirstAnswer, EndsPart, IsGraphic}
 use Rattle.ratio_lines.specs.Operands.{operator_of}
 use Rattle.ratio_lines.specs.declared.operator.Operator.{Operator}
-use Rattle.ratio_lines.specs.declared.limits.TheConstants.{LONGEST_LINE}
+use Rattle.ratio_lines.specs.Lines.{longest_line}
 use Rattle.ratio_lines.proofs.Bytes.{same_byte}
 use Rattle.ratio_lines.proofs.Cuts.{first_none, first_of_parts, one_part}
 use Rattle.ratio_lines.proofs.OperatorsSoFar.{chain_of}
@@ -133,7 +133,7 @@ plain_answered bytes left operator right after answer p h =
     let same : slice_split is_space (without_return line) ≡ left ∷ p.name ∷ right ∷ [] =
     ap (slice_split is_space) (no_return line (none_passes is_plain 13 refl line plain))
     ∙ parts_of_plain left p.name right p.left_graphic p.name_graphic p.right_graphic in
-    let short : length line ≤ LONGEST_LINE = omega (arith, p.short, plain_length left p.name right) in
+    let short : length line ≤ longest_line = omega (arith, p.short, plain_length left p.name right) in
     record {
       ended = line;
       none = none_passes is_plain 10 refl line plain;

@@ -8,7 +8,7 @@ use Rattle.std.specs.Option.{MatchOption}
 use Rattle.std.proofs.lemmas.Bool.Decides.{nat_tests}
 use Rattle.ratio_lines.proofs.Bytes.{same_byte}
 use Rattle.ratio_lines.specs.Answers.{IsAnswer, IsPartsAnswer, is_space, without_return}
-use Rattle.ratio_lines.specs.declared.limits.TheConstants.{LONGEST_LINE}
+use Rattle.ratio_lines.specs.Lines.{longest_line}
 
 dropped : (front : List ℕ) → without_return (front ++ 13 ∷ []) ≡ front
 dropped [] = refl
@@ -28,15 +28,15 @@ pub stripped : (text out : Bor (List ℕ)) (r : Option (Bor (List ℕ))) → Mat
 stripped text out None h e = kept text.now h ∙ ap (λ (x : Bor (List ℕ)). x.now) (sym e)
 stripped text out (Some x) h e = ap without_return h ∙ dropped x.now ∙ ap (λ (x : Bor (List ℕ)). x.now) (sym e)
 
-short : (n : ℕ) → n ≤ LONGEST_LINE → nat_lt LONGEST_LINE n ≡ false
+short : (n : ℕ) → n ≤ longest_line → nat_lt longest_line n ≡ false
 short n h = grind (arith, nat_tests)
 
-pub not_text : (line : List ℕ) → length line ≤ LONGEST_LINE → ¬ (IsUtf8 line) → IsAnswer line (codes "error: not UTF-8")
+pub not_text : (line : List ℕ) → length line ≤ longest_line → ¬ (IsUtf8 line) → IsAnswer line (codes "error: not UTF-8")
 not_text line small no_text =
     rw (short (length line) small)
     (elim (is_utf8 line)
     as (λ t. is_utf8 line ≡ t → MatchBool t (IsPartsAnswer (slice_split is_space (without_return line)) (codes "error: not UTF-8")) (codes "error: not UTF-8" ≡ codes "error: not UTF-8"))
     [ true ↦ λ t. absurd (no_text (IsUtf8-from_is_utf8 line t)) | false ↦ λ t. refl ] refl)
 
-pub is_text : (line answer : List ℕ) → length line ≤ LONGEST_LINE → IsUtf8 line → IsPartsAnswer (slice_split is_space (without_return line)) answer → IsAnswer line answer
+pub is_text : (line answer : List ℕ) → length line ≤ longest_line → IsUtf8 line → IsPartsAnswer (slice_split is_space (without_return line)) answer → IsAnswer line answer
 is_text line answer small text parts = rw (short (length line) small, is_utf8-from_IsUtf8 line text) parts

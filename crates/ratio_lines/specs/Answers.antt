@@ -15,9 +15,8 @@ use Rattle.ratio_core.specs.Printing.{text_of}
 use Rattle.ratio_core.specs.Refusal.{refusal_text}
 use Rattle.ratio_core.specs.declared.parse_error.RatioErrorKind.{RatioErrorKind}
 use Rattle.ratio_core.specs.declared.text.form.Form.TheVariants.{Decimal}
-use Rattle.ratio_lines.specs.Lines.{front_of, lines_of, whole_lines}
+use Rattle.ratio_lines.specs.Lines.{front_of, lines_of, longest_line, whole_lines}
 use Rattle.ratio_lines.specs.Operands.{IsOperand, greatest, least, operator_of}
-use Rattle.ratio_lines.specs.declared.limits.TheConstants.{LONGEST_LINE}
 use Rattle.ratio_lines.specs.declared.operator.Operator.{Operator}
 use Rattle.ratio_lines.specs.declared.operator.Operator.TheVariants.{Add, Sub, Mul, Div, Rem, Cmp}
 
@@ -152,7 +151,7 @@ without_return (byte ∷ next ∷ bytes) = byte ∷ without_return (next ∷ byt
 -- the answer to a line without its line end: the first of these that applies
 abbrev pub IsAnswer : List ℕ → List ℕ → Type 0
 IsAnswer line answer =
-    MatchBool (nat_lt LONGEST_LINE (length line)) (answer ≡ codes "error: line too long")
+    MatchBool (nat_lt longest_line (length line)) (answer ≡ codes "error: line too long")
     (MatchBool (is_utf8 line) (IsPartsAnswer (slice_split is_space (without_return line)) answer) (answer ≡ codes "error: not UTF-8"))
 
 -- the answers to some lines: those to each, in order, with a line end after each

@@ -1,17 +1,16 @@
 -- The line that is being read, as far as it is kept: `None` once it has more bytes than a line may have.
 use Rattle.std.specs.Prelude.{◌≡◌, ℕ, List, [], ◌∷◌, ◌++◌, length, Bool, false, ◌==◌, nat_lt, Option, None, Some, if◌then◌else◌, codes, MatchBool}
 use Rattle.ratio_lines.specs.Answers.{IsAnswer}
-use Rattle.ratio_lines.specs.Lines.{is_line_end}
-use Rattle.ratio_lines.specs.declared.limits.TheConstants.{LONGEST_LINE}
+use Rattle.ratio_lines.specs.Lines.{is_line_end, longest_line}
 
 -- what is kept of a line
 abbrev pub kept : List ℕ → Option (List ℕ)
-kept line = if nat_lt LONGEST_LINE (length line) then None else Some line
+kept line = if nat_lt longest_line (length line) then None else Some line
 
 -- what is kept with one more byte
 abbrev pub pushed : Option (List ℕ) → ℕ → Option (List ℕ)
 pushed None byte = None
-pushed (Some line) byte = if nat_lt (length line) LONGEST_LINE then Some (line ++ byte ∷ []) else None
+pushed (Some line) byte = if nat_lt (length line) longest_line then Some (line ++ byte ∷ []) else None
 
 -- what is kept with more bytes of the same line
 abbrev pub extended : Option (List ℕ) → List ℕ → Option (List ℕ)

@@ -2,6 +2,10 @@
 use Rattle.std.specs.Prelude.{ℕ, List, [], ◌∷◌, ◌++◌, Bool, ◌==◌}
 use Rattle.std.specs.List.{slice_split}
 
+-- the most bytes that a line may have, without its line end
+abbrev pub longest_line : ℕ
+longest_line = 1000
+
 -- a line ends at the byte 10
 abbrev pub is_line_end : ℕ → Bool
 is_line_end byte = byte == 10

@@ -11,7 +11,7 @@ use Rattle.ratio_lines.specs.Cuts.{HasNone}
 use Rattle.ratio_lines.specs.KeptLine.{IsKeptAnswer, extended}
 use Rattle.ratio_lines.specs.Operands.{operator_of}
 use Rattle.ratio_lines.specs.declared.operator.Operator.{Operator}
-use Rattle.ratio_lines.specs.declared.limits.TheConstants.{LONGEST_LINE}
+use Rattle.ratio_lines.specs.Lines.{longest_line}
 
 -- each byte is a character from `!` to `~`
 abbrev pub IsGraphic : List ℕ → Type 0
@@ -34,7 +34,7 @@ pub record BeginsPlain (bytes left : List ℕ) (operator : Operator) (right afte
   pub right_graphic : IsGraphic right
   pub left_some : has_byte left ≡ true
   pub right_some : has_byte right ≡ true
-  pub short : length left + length name + length right + 2 ≤ LONGEST_LINE
+  pub short : length left + length name + length right + 2 ≤ longest_line
 
 -- the bytes are what a begun line goes on with, a line end and what stands after it, and this answers that line
 pub record IsFirstAnswer (line : Option (List ℕ)) (bytes after answer : List ℕ) : Type 0 where

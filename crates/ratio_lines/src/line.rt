@@ -1,8 +1,8 @@
 //! The line that is being read.
 ghost use Rattle.std.specs.Prelude.{◌≡◌, ℕ, ◌≤◌, List, [], length, Option, Some, None, if◌then◌else◌};
 ghost use Rattle.ratio_lines.specs.AnswerText.{bytes_of};
-ghost use Rattle.ratio_lines.specs.declared.limits.TheConstants.{LONGEST_LINE};
 ghost use Rattle.ratio_lines.specs.KeptLine.{IsKeptAnswer, extended, is_empty};
+ghost use Rattle.ratio_lines.specs.Lines.{longest_line};
 
 use crate::answer::{TOO_LONG, answer};
 use crate::answer_text::AnswerText;
@@ -23,7 +23,7 @@ impl Model for Line {
 
     ghost view = { λ l. if l.is_too_long then None else Some l.bytes.items };
 
-    ghost invariant = { λ l. length l.bytes.items ≤ LONGEST_LINE };
+    ghost invariant = { λ l. length l.bytes.items ≤ longest_line };
 }
 
 impl Line {

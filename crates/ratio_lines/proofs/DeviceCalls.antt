@@ -1,5 +1,5 @@
 -- What several calls of a device do together.
-use Rattle.std.proofs.Common.{◌≡◌, ◌≢◌, ℕ, ◌+◌, ◌-◌, ◌≤◌, List, [], ◌++◌, length, take, drop, true, false, Option, None, Some, Result, Ok, Err, refl, ap, ◌∙◌, sym, arith, append_assoc, length-take, not, cond, ◌==◌, ◌&&◌}
+use Rattle.std.proofs.Common.{◌≡◌, ◌≢◌, ℕ, ◌+◌, ◌-◌, ◌<◌, ◌≤◌, List, [], ◌++◌, length, take, drop, true, false, Option, None, Some, Result, Ok, Err, refl, ap, ◌∙◌, sym, arith, append_assoc, length-append, length-take, nat_lt, not, cond, ◌==◌, ◌&&◌}
 use Rattle.std.specs.Io.KnownBytes.{Consumes, Appends, Keeps}
 use Rattle.std.proofs.Math.Seq.{take-add}
 use Rattle.std.proofs.lemmas.List.{append-nil, take-take, take-append-drop}
@@ -9,7 +9,7 @@ use Rattle.std.specs.Bool.{MatchBool}
 use Rattle.std.specs.Prelude.{IsErrAnd, OnOk}
 use Rattle.ratio_lines.specs.declared.fault.CalcFault.{CalcFault}
 use Rattle.ratio_lines.specs.declared.fault.CalcFault.TheVariants.{Write}
-use Rattle.ratio_lines.specs.Devices.{Change, Device, Ended, Failed, Gathers, Gave, GivesPiece, Took, TookSome, Writes, after_failing, after_moving}
+use Rattle.ratio_lines.specs.Devices.{Change, Device, Ended, Failed, Gathers, Gave, GivesPiece, Took, TookSome, Waits, Writes, after_failing, after_moving}
 
 -- a device before and after
 abbrev pub changing : Device → Device → Change
@@ -166,6 +166,56 @@ gathers_after a b c waited between waiting xs ys written (Ok x) took same h =
     (written ++ h.0, took_both a b c written h.0 took h.1, joined waited xs ys written between same ∙ ap (λ zs. written ++ zs) h.2 ∙ sym (append_assoc written h.0 waiting))
 gathers_after a b c waited between waiting xs ys written (Err e) took same h =
     (h.0, rw (joined waited xs ys written between same) (took_some_after a b c written (between ++ ys) took h.1))
+
+waits_beyond : {T : Type 0} (writer : Change) (waited waiting bytes : List ℕ) (r : Result T CalcFault) → 1024 < length waited + length bytes → Waits writer waited waiting bytes r
+waits_beyond writer waited waiting bytes (Ok x) more = λ fits. absurd (omega (arith, more, fits))
+waits_beyond writer waited waiting bytes (Err fault) more = more
+
+more_than : (n : ℕ) → (n ≤ 1024 → false ≡ true) → 1024 < n
+more_than n never =
+    elim (nat_lt 1024 n) as (λ t. nat_lt 1024 n ≡ t → 1024 < n) [
+      | true ↦ λ t. grind (arith, nat_tests)
+      | false ↦ λ t. let within : n ≤ 1024 = grind (arith, nat_tests) in absurd (let no : false ≡ true = never within in cc)
+    ] refl
+
+-- there was no room for the bytes
+pub waits_without_room : {T : Type 0} (writer : Change) (waited waiting bytes : List ℕ) (r : Result T CalcFault) → (length waited + length bytes ≤ 1024 → false ≡ true)
+    → Waits writer waited waiting bytes r
+waits_without_room writer waited waiting bytes r never = waits_beyond writer waited waiting bytes r (more_than (length waited + length bytes) never)
+
+-- a call failed before the last of these bytes came
+pub waits_stopped : {T : Type 0} (writer : Change) (waited waiting xs ys : List ℕ) (r : Result T CalcFault) → 1024 < length waited + length xs → Waits writer waited waiting (xs ++ ys) r
+waits_stopped writer waited waiting xs ys r more = waits_beyond writer waited waiting (xs ++ ys) r (omega (arith, more, length-append xs ys))
+
+-- where there is room these bytes wait, and the device is as it was
+abbrev pub WaitWhole : Device → Device → List ℕ → List ℕ → List ℕ → Type 0
+WaitWhole a b waited waiting bytes = length waited + length bytes ≤ 1024 → (b ≡ a) × (waiting ≡ waited ++ bytes)
+
+-- no call was made, and the bytes wait
+pub wait_uncalled : (a : Device) (waited waiting bytes : List ℕ) → waiting ≡ waited ++ bytes → WaitWhole a a waited waiting bytes
+wait_uncalled a waited waiting bytes e fits = (refl, e)
+
+pub wait_both : (a b c : Device) (waited between waiting xs ys : List ℕ) → WaitWhole a b waited between xs → WaitWhole b c between waiting ys → WaitWhole a c waited waiting (xs ++ ys)
+wait_both a b c waited between waiting xs ys first next fits =
+    let h = first (omega (arith, fits, length-append xs ys)) in
+    let k = next (omega (arith, fits, length-append xs ys, ap length h.1, length-append waited xs)) in
+    (k.0 ∙ h.0, k.1 ∙ ap (λ zs. zs ++ ys) h.1 ∙ append_assoc waited xs ys)
+
+-- there was room for the first of these bytes, if at all, and not for those after them
+pub beyond_both : (a b : Device) (waited between xs ys : List ℕ) → WaitWhole a b waited between xs → 1024 < length between + length ys → 1024 < length waited + length (xs ++ ys)
+beyond_both a b waited between xs ys first more =
+    elim (nat_lt 1024 (length waited + length xs)) as (λ t. nat_lt 1024 (length waited + length xs) ≡ t → 1024 < length waited + length (xs ++ ys)) [
+      | true ↦ λ t. let over : 1024 < length waited + length xs = grind (arith, nat_tests) in omega (arith, over, length-append xs ys)
+      | false ↦ λ t.
+          let within : length waited + length xs ≤ 1024 = grind (arith, nat_tests) in
+          omega (arith, more, length-append xs ys, ap length (first within).1, length-append waited xs)
+    ] refl
+
+-- some bytes came after others
+pub waits_after : {T : Type 0} (a b c : Device) (waited between waiting xs ys : List ℕ) (r : Result T CalcFault) → WaitWhole a b waited between xs
+    → Waits (changing b c) between waiting ys r → Waits (changing a c) waited waiting (xs ++ ys) r
+waits_after a b c waited between waiting xs ys (Ok x) first next = wait_both a b c waited between waiting xs ys first next
+waits_after a b c waited between waiting xs ys (Err e) first more = beyond_both a b waited between xs ys first more
 
 -- some of the first of these bytes
 pub gathers_part : (a b : Device) (waited xs ys : List ℕ) → TookSome a b (waited ++ xs) → TookSome a b (waited ++ (xs ++ ys))

@@ -1,5 +1,5 @@
 -- What calls of a reader and of a writer do.
-use Rattle.std.specs.Prelude.{◌≡◌, ℕ, ◌+◌, ◌≤◌, List, [], ◌++◌, ◌==◌, ◌&&◌, not, length, take, Option, Result, Ok, Err, if◌then◌else◌, MatchBool}
+use Rattle.std.specs.Prelude.{◌≡◌, ℕ, ◌+◌, ◌<◌, ◌≤◌, List, [], ◌++◌, ◌==◌, ◌&&◌, not, length, take, Option, Result, Ok, Err, if◌then◌else◌, MatchBool}
 use Rattle.std.specs.Io.KnownBytes.{Appends, Consumes, IsAtEnd, Keeps}
 use Rattle.ratio_lines.specs.declared.fault.CalcFault.{CalcFault}
 use Rattle.ratio_lines.specs.declared.fault.CalcFault.TheVariants.{Read, Write}
@@ -118,8 +118,19 @@ abbrev pub Gathers : {T : Type 0} → Change → List ℕ → List ℕ → List 
 Gathers writer waited waits bytes (Ok x) = (written : List ℕ) × Took writer.old writer.new written × (waited ++ bytes ≡ written ++ waits)
 Gathers writer waited waits bytes (Err fault) = (fault ≡ Write) × TookSome writer.old writer.new (waited ++ bytes)
 
+-- where those that waited and `bytes` are at most 1,024 together, nothing is written and they all wait; a call fails only where they are more
+abbrev pub Waits : {T : Type 0} → Change → List ℕ → List ℕ → List ℕ → Result T CalcFault → Type 0
+Waits writer waited waits bytes (Ok x) = length waited + length bytes ≤ 1024 → (writer.new ≡ writer.old) × (waits ≡ waited ++ bytes)
+Waits writer waited waits bytes (Err fault) = 1024 < length waited + length bytes
+
 -- some bytes of which `Is` holds were put behind those that waited, as `Gathers` says
 pub record GathersFor {T : Type 0} (Is : List ℕ → Type 0) (writer : Change) (waited waits : List ℕ) (result : Result T CalcFault) : Type 0 where
   pub bytes : List ℕ
   pub are : Is bytes
   pub gathers : Gathers writer waited waits bytes result
+
+-- some bytes of which `Is` holds wait behind those that waited, where `Waits` says so
+pub record WaitsFor {T : Type 0} (Is : List ℕ → Type 0) (writer : Change) (waited waits : List ℕ) (result : Result T CalcFault) : Type 0 where
+  pub bytes : List ℕ
+  pub are : Is bytes
+  pub wait : Waits writer waited waits bytes result

@@ -1,6 +1,6 @@
 //! Bytes that wait to be written, so that many answers are written by one call.
 ghost use Rattle.std.specs.Prelude.{◌≡◌, ℕ, List, [], OnOk};
-ghost use Rattle.ratio_lines.specs.Devices.{Gathers, Writes, change_of};
+ghost use Rattle.ratio_lines.specs.Devices.{Gathers, Waits, Writes, change_of};
 
 use crate::counted::CalcWrite;
 use crate::fault::CalcFault;
@@ -29,10 +29,11 @@ impl Gathered {
         }
     }
 
-    /// Adds bytes at the end. Where there is no room for them, those that wait are written first; what
-    /// is longer than all the room is then written at once.
+    /// Adds bytes at the end. Where there is room for them, nothing is written. Where there is none, those
+    /// that wait are written first; what is longer than all the room is then written at once.
     pub fn put<W: CalcWrite>(&mut self, writer: &mut W, bytes: &[u8]) -> Result<(), CalcFault>
-        ensures { Gathers (change_of W.contents W.calls writer.old writer.new) self.old self.new bytes.now result }
+        ensures gathered { Gathers (change_of W.contents W.calls writer.old writer.new) self.old self.new bytes.now result }
+        ensures waits { Waits (change_of W.contents W.calls writer.old writer.new) self.old self.new bytes.now result }
     {
         match self.bytes.try_extend_from_slice(bytes) {
             Ok(()) => Ok(()),
@@ -45,10 +46,10 @@ impl Gathered {
         ensures { Gathers (change_of W.contents W.calls writer.old writer.new) self.old self.new bytes.now result }
     {
         self.write_out(writer)?;
-        match self.bytes.try_extend_from_slice(bytes) {
-            Ok(()) => Ok(()),
-            Err(_) => write_bytes(writer, bytes),
+        if let Ok(()) = self.bytes.try_extend_from_slice(bytes) {
+            return Ok(());
         }
+        write_bytes(writer, bytes)
     }
 
     /// Writes the bytes that wait.

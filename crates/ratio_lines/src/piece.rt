@@ -1,7 +1,7 @@
 //! The answers to the lines that end in one piece of the input.
 ghost use Rattle.std.specs.Prelude.{◌≡◌, ◌++◌, ◌∷◌, [], Some, OnOk, if◌then◌else◌, is_some};
 ghost use Rattle.ratio_lines.specs.AnswerText.{bytes_of};
-ghost use Rattle.ratio_lines.specs.Devices.{Gathers, GathersFor, change_of};
+ghost use Rattle.ratio_lines.specs.Devices.{Gathers, GathersFor, Waits, WaitsFor, change_of};
 ghost use Rattle.ratio_lines.specs.KeptLine.{ArePieceAnswers, line_after};
 ghost use Rattle.ratio_lines.specs.PlainLine.{IsNextAnswer};
 
@@ -21,7 +21,9 @@ fn put_text<W: CalcWrite>(
     writer: &mut W,
     answer: &AnswerText,
 ) -> Result<(), CalcFault>
-    ensures { Gathers (change_of W.contents W.calls writer.old writer.new)
+    ensures gathered { Gathers (change_of W.contents W.calls writer.old writer.new)
+        gathered.old gathered.new (bytes_of answer.now) result }
+    ensures waits { Waits (change_of W.contents W.calls writer.old writer.new)
         gathered.old gathered.new (bytes_of answer.now) result }
 {
     match answer {
@@ -39,7 +41,9 @@ pub fn put_answer<W: CalcWrite>(
     writer: &mut W,
     answer: &AnswerText,
 ) -> Result<(), CalcFault>
-    ensures { Gathers (change_of W.contents W.calls writer.old writer.new)
+    ensures gathered { Gathers (change_of W.contents W.calls writer.old writer.new)
+        gathered.old gathered.new (bytes_of answer.now ++ 10 ∷ []) result }
+    ensures waits { Waits (change_of W.contents W.calls writer.old writer.new)
         gathered.old gathered.new (bytes_of answer.now ++ 10 ∷ []) result }
 {
     put_text(gathered, writer, answer)?;
@@ -82,6 +86,8 @@ pub fn answer_piece<W: CalcWrite>(
 ) -> Result<(), CalcFault>
     ensures line { OnOk result (line.new ≡ line_after line.old piece.now) }
     ensures answered { GathersFor (ArePieceAnswers line.old piece.now) (change_of W.contents W.calls writer.old writer.new)
+        gathered.old gathered.new result }
+    ensures waits { WaitsFor (ArePieceAnswers line.old piece.now) (change_of W.contents W.calls writer.old writer.new)
         gathered.old gathered.new result }
 {
     let mut rest = piece;

@@ -12,7 +12,7 @@ returns-then-is_empty g c =
 pub returns-in_err-put_answer : goal.returns-in_err-put_answer
 returns-in_err-put_answer g c =
     let begun : is_empty c.args.line.now ≡ false = sym c.is_empty.ensures ∙ c.if-is_empty.false in
-    let put = c.in_err-put_answer.ensures in
+    let put = c.in_err-put_answer.ensures.gathered in
     record {
       bytes = bytes_of c.answer.result ++ 10 ∷ [];
       are = rw begun (record { answer = bytes_of c.answer.result; is_answer = c.answer.ensures; text = refl });
@@ -22,7 +22,7 @@ returns-in_err-put_answer g c =
 pub returns : goal.returns
 returns g c =
     let begun : is_empty c.args.line.now ≡ false = sym c.is_empty.ensures ∙ c.if-is_empty.false in
-    let put = c.in_ok-put_answer.ensures in
+    let put = c.in_ok-put_answer.ensures.gathered in
     record {
       bytes = bytes_of c.answer.result ++ 10 ∷ [];
       are = rw begun (record { answer = bytes_of c.answer.result; is_answer = c.answer.ensures; text = refl });

@@ -4,7 +4,10 @@
 #![allow(clippy::needless_borrows_for_generic_args)]
 
 use bakhsney::{Ratio, RatioErrorKind, Reduced, Reduced64};
+use std::cmp::Ordering;
+use std::collections::hash_map::DefaultHasher;
 use std::collections::{BTreeSet, HashMap};
+use std::hash::{Hash, Hasher};
 
 type Fields<T> = Option<(T, T)>;
 
@@ -42,11 +45,51 @@ fn products_quotients_and_sums_at_the_edges() {
 }
 
 #[test]
+fn calls_with_each_kind_of_operand() {
+    let [x, y] = [(17i64, 4), (3, 5)].map(|(n, d)| Reduced64::checked_new(n, d).unwrap());
+    macro_rules! rows {
+        ($($checked:ident $by_fraction:expr, $by_number:expr;)*) => {$(
+            assert_eq!([x.$checked(y), x.$checked(&y)].map(fields), [Some($by_fraction); 2], stringify!($checked));
+            assert_eq!([x.$checked(2), x.$checked(&2)].map(fields), [Some($by_number); 2], stringify!($checked));
+        )*};
+    }
+    rows! {
+        checked_add (97, 20), (25, 4);
+        checked_sub (73, 20), (9, 4);
+        checked_mul (51, 20), (17, 2);
+        checked_div (85, 12), (17, 8);
+        checked_rem (1, 20), (1, 4);
+    }
+}
+
+#[test]
+fn rounding() {
+    let rows = [((7, 2), [3, 4, 4, 3], (1, 2)), ((-7, 2), [-4, -3, -4, -3], (-1, 2)), ((7, 3), [2, 3, 2, 2], (1, 3)), ((-7, 3), [-3, -2, -2, -2], (-1, 3))];
+    for ((numer, denom), whole, rest) in rows {
+        let x = i8_of(numer, denom);
+        assert_eq!([x.floor(), x.ceil(), x.round(), x.trunc()], whole.map(Reduced::from), "{x}");
+        assert_eq!((x.to_integer(), x.fract().into_raw()), (whole[3], rest), "{x}");
+    }
+}
+
+#[test]
+fn signs() {
+    for (numer, denom, sign) in [(0, 1, 0), (3, 4, 1), (-3, 4, -1), (2, 1, 1), (-2, 1, -1)] {
+        let x = i8_of(numer, denom);
+        assert_eq!((x.signum(), x.is_positive(), x.is_negative()), (sign.into(), sign == 1, sign == -1), "{x}");
+        assert_eq!((x.is_zero(), x.is_integer()), (sign == 0, denom == 1), "{x}");
+        assert_eq!([x.checked_neg(), x.checked_abs()].map(fields), [Some((-numer, denom)), Some((numer.abs(), denom))]);
+    }
+}
+
+#[test]
 fn texts() {
     assert_eq!("6/-4".parse::<Reduced64>().unwrap().to_string(), "-3/2");
     assert_eq!("x/0".parse::<Reduced64>().unwrap_err().kind(), RatioErrorKind::ParseError);
     assert_eq!("1/0".parse::<Reduced64>().unwrap_err().kind(), RatioErrorKind::ZeroDenominator);
-    assert_eq!(Reduced64::from_str_radix("f/2", 16).map(Reduced::into_raw), Ok((15, 2)));
+    for (text, radix, want) in [("101/11", 2, (5, 3)), ("-10/4", 10, (-5, 2)), ("f/2", 16, (15, 2)), ("z/10", 36, (35, 36))] {
+        assert_eq!(Reduced64::from_str_radix(text, radix).map(Reduced::into_raw), Ok(want));
+    }
     for radix in [0, 1, 37] {
         assert_eq!(Reduced64::from_str_radix("f/2", radix).unwrap_err().kind(), RatioErrorKind::ParseError);
     }
@@ -63,8 +106,19 @@ fn order_equality_and_hash() {
     let counts: HashMap<_, _> = [(half, 1), (same, 2)].into();
     assert_eq!(counts.get(&half), Some(&2));
     assert_eq!([half, less, same].into_iter().collect::<BTreeSet<_>>().len(), 2);
+    for (n, d, order) in [(1, 2, Ordering::Equal), (1, 3, Ordering::Greater), (3, 2, Ordering::Less), (2, 5, Ordering::Greater)] {
+        let x = Reduced64::checked_new(n, d).unwrap();
+        assert_eq!((half.cmp(&x), half.partial_cmp(&x)), (order, Some(order)), "{x}");
+        assert_eq!((half == x, hash_of(half) == hash_of(x)), (order == Ordering::Equal, order == Ordering::Equal), "{x}");
+    }
     assert_eq!(Ratio::from(half), Ratio::new(1, 2));
     assert_eq!(Reduced64::default(), Reduced64::ZERO);
+}
+
+fn hash_of(x: Reduced64) -> u64 {
+    let mut state = DefaultHasher::new();
+    x.hash(&mut state);
+    state.finish()
 }
 
 #[test]

@@ -4,7 +4,7 @@
 #![allow(clippy::eq_op)]
 
 use bakhsney::Ratio;
-use num_traits::{Num, Signed, ToPrimitive};
+use num_traits::{Num, Signed, ToPrimitive, Zero};
 use std::collections::hash_map::DefaultHasher;
 use std::hash::{Hash, Hasher};
 use std::panic::{catch_unwind, UnwindSafe};
@@ -36,6 +36,12 @@ fn conditions_are_tested() {
     assert_eq!(refusal(move || greatest / Ratio::new(1, 2)), "attempt to multiply with overflow");
     assert_eq!(refusal(move || greatest / none), "denominator == 0");
     assert_eq!(refusal(move || greatest % none), "attempt to calculate the remainder with a divisor of zero");
+    assert_eq!(refusal(|| Ratio::from_integer(255u8) % Ratio::new(2, 3)), "attempt to multiply with overflow");
+    // 1/-128 has no lowest terms over `i8`; the divisor of 0 is named by `/` and `%` alone.
+    let (without, zero) = (Ratio::new_raw(1i8, -128), Ratio::from_integer(0));
+    assert_eq!(refusal(move || without + zero), "attempt to add with overflow");
+    assert_eq!(refusal(move || without - zero), "attempt to subtract with overflow");
+    assert_eq!(refusal(move || without * zero), "attempt to multiply with overflow");
     assert_eq!(refusal(move || [greatest, greatest].iter().sum::<Ratio<i64>>()), "attempt to add with overflow");
     assert_eq!(refusal(move || none.recip()), "division by zero");
     assert_eq!(refusal(move || none.pow(-1)), "division by zero");
@@ -94,7 +100,7 @@ fn a_denominator_of_0_ends_each_call() {
         assert_eq!(refusal(move || call(broken, sound)), "denominator == 0", "{name}");
     }
     assert_eq!(broken.into_raw(), (1, 0));
-    assert!(!broken.is_integer());
+    assert!(!broken.is_integer() && !broken.is_zero());
     assert_eq!(hash_of(sound), hash_of(Ratio::new_raw(-2, -4)));
 }
 

@@ -45,13 +45,17 @@ fn std_calls_are_not_shadowed() {
     assert_eq!(half().add(1), Ratio::new(3, 2));
 }
 
+type Checked = fn(&Ratio<i8>, &Ratio<i8>) -> Option<Ratio<i8>>;
+
 #[test]
 fn either_sign_of_a_denominator() {
     assert!(Ratio::<i8>::new_raw(-128, -1) >= Ratio::from_integer(127));
     assert_eq!(Ratio::<i8>::new_raw(1, -2).cmp(&Ratio::new_raw(1, 2)), Ordering::Less);
     let product = Ratio::<i8>::new_raw(1, -2) * Ratio::new(1, 2);
     assert_eq!(product.into_raw(), (-1, 4));
-    assert_eq!(Ratio::new_raw(1, -128i8).checked_mul(&Ratio::from_integer(2)), None);
+    let (without, one) = (Ratio::new_raw(1i8, -128), Ratio::one());
+    let calls: [Checked; 5] = [CheckedAdd::checked_add, CheckedSub::checked_sub, CheckedMul::checked_mul, CheckedDiv::checked_div, CheckedRem::checked_rem];
+    assert_eq!(calls.map(|call| call(&without, &one).or(call(&one, &without))), [None; 5]);
     assert_eq!(Ratio::new_raw(2, -4).reduced().into_raw(), (-1, 2));
 }
 
@@ -84,7 +88,7 @@ fn conversions() {
     assert_eq!(Ratio::<u8>::from_i64(300), None);
     assert_eq!(Ratio::<u8>::from_u128(200), Some(Ratio::from_integer(200)));
     assert_eq!(Ratio::<u8>::from_f64(0.5), None);
-    assert_eq!(<(i32, i32)>::from(half()), (1, 2));
+    assert_eq!(<(i32, i32)>::from(Ratio::new_raw(2, 4)), (2, 4));
     assert_eq!(Ratio::from((2, 4)), half());
     assert_eq!(Ratio::from(3), Ratio::from_integer(3));
     assert_eq!(Ratio::<i64>::default(), Ratio::zero());

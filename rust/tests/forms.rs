@@ -51,7 +51,8 @@ fn powers_by_each_exponent_type() {
     }
     rows! { i8 i16 i32 i64 i128 isize u8 u16 u32 u64 u128 usize }
     assert_eq!([powers!(half, -3i8), powers!(half, -3i32), powers!(half, -3i128)], [[Ratio::from_integer(8); 4]; 3]);
-    assert_eq!((zero.pow(1 << 30), zero.checked_pow(1 << 30)), (zero, Some(zero)));
+    assert_eq!((Ratio::pow(&zero, 1 << 30), zero.checked_pow(1 << 30)), (zero, Some(zero)));
+    assert_eq!((half.checked_pow(-3), zero.checked_pow(-3)), (Some(Ratio::from_integer(8)), None));
     assert_eq!(Reduced64::ZERO.checked_pow(1 << 30), Some(Reduced64::ZERO));
     assert_eq!(Ratio::new_raw(1i8, -128).checked_pow(2), None);
 }
@@ -70,6 +71,14 @@ fn each_element_type() {
     rows! { i8 i16 i32 i64 i128 isize u8 u16 u32 u64 u128 usize }
     let _: (Rational, Rational32, Rational64) = (Ratio::<isize>::ONE, Ratio::<i32>::ONE, Ratio::<i64>::ONE);
     let _: (Reduced32, Reduced64) = (Reduced::<i32>::ONE, Reduced::<i64>::ONE);
+}
+
+#[test]
+fn reciprocals_of_negative_denominators() {
+    let rows = [((4, -6), (-3, 2)), ((-4, -6), (3, 2)), ((-128, -2), (1, 64))];
+    for ((numer, denom), want) in rows {
+        assert_eq!(Ratio::<i8>::new_raw(numer, denom).recip().into_raw(), want);
+    }
 }
 
 type Wholes = (Option<i64>, Option<u64>, Option<i128>, Option<u128>);

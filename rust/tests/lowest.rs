@@ -85,6 +85,7 @@ fn signs() {
 #[test]
 fn texts() {
     assert_eq!("6/-4".parse::<Reduced64>().unwrap().to_string(), "-3/2");
+    assert_eq!("-7".parse::<Reduced64>(), Ok((-7).into()));
     assert_eq!("x/0".parse::<Reduced64>().unwrap_err().kind(), RatioErrorKind::ParseError);
     assert_eq!("1/0".parse::<Reduced64>().unwrap_err().kind(), RatioErrorKind::ZeroDenominator);
     for (text, radix, want) in [("101/11", 2, (5, 3)), ("-10/4", 10, (-5, 2)), ("f/2", 16, (15, 2)), ("z/10", 36, (35, 36))] {
@@ -95,6 +96,7 @@ fn texts() {
     }
     assert!(Reduced64::from_str_radix("f", 16).is_err());
     let x = i8_of(-1, 10);
+    assert_eq!(format!("{x:>7}|{x:#b}|{x:#o}|{x:#x}|{x:#X}"), "  -1/10|0b11111111/0b1010|0o377/0o12|0xff/0xa|0xFF/0xA");
     assert_eq!(format!("{} {:b} {:o} {:x} {:#X} {:?}", x, x, x, x, x, x), "-1/10 11111111/1010 377/12 ff/a 0xFF/0xA Reduced { numer: -1, denom: 10 }");
 }
 

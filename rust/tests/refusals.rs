@@ -42,13 +42,17 @@ fn conditions_are_tested() {
     assert_eq!(refusal(move || without + zero), "attempt to add with overflow");
     assert_eq!(refusal(move || without - zero), "attempt to subtract with overflow");
     assert_eq!(refusal(move || without * zero), "attempt to multiply with overflow");
+    assert_eq!(refusal(move || without.recip()), "attempt to negate with overflow");
     assert_eq!(refusal(move || [greatest, greatest].iter().sum::<Ratio<i64>>()), "attempt to add with overflow");
     assert_eq!(refusal(move || none.recip()), "division by zero");
     assert_eq!(refusal(move || none.pow(-1)), "division by zero");
     assert_eq!(refusal(move || least.recip()), "attempt to negate with overflow");
     assert_eq!(refusal(move || greatest.pow(2)), "attempt to multiply with overflow");
     assert_eq!(refusal(move || least.abs()), "attempt to negate with overflow");
-    assert!(refusal(|| Ratio::<i8>::from_str_radix("1/2", 37)).contains("must lie in the range"));
+    for radix in [0, 1, 37] {
+        let text = format!("from_str_radix_int: must lie in the range `[2, 36]` - found {radix}");
+        assert_eq!(refusal(|| Ratio::<i8>::from_str_radix("1/1", radix)), text);
+    }
     assert_eq!(refusal(move || -least), "attempt to negate with overflow");
     assert_eq!(refusal(|| Ratio::new_raw(1i8, -128).floor()), "attempt to negate with overflow");
     assert_eq!(refusal(|| Ratio::new_raw(1, 0)), "");

@@ -3,10 +3,12 @@
 // The forms are what is tested.
 #![allow(clippy::op_ref, clippy::modulo_one, clippy::needless_borrows_for_generic_args)]
 
-use bakhsney::{Integer, ParseRatioError, Ratio, Rational64};
+use bakhsney::{DecimalText, Integer, ParseRatioError, Ratio, Rational64};
 use num_traits::{CheckedAdd, CheckedDiv, CheckedMul, CheckedRem, CheckedSub, FromPrimitive, Inv, Num, One, Signed, ToPrimitive, Zero};
 use std::cmp::Ordering;
+use std::collections::hash_map::DefaultHasher;
 use std::collections::{BTreeSet, HashMap};
+use std::hash::{Hash, Hasher};
 
 fn half() -> Ratio<i32> {
     Ratio::new(1, 2)
@@ -56,7 +58,7 @@ fn either_sign_of_a_denominator() {
     let (without, one) = (Ratio::new_raw(1i8, -128), Ratio::one());
     let calls: [Checked; 5] = [CheckedAdd::checked_add, CheckedSub::checked_sub, CheckedMul::checked_mul, CheckedDiv::checked_div, CheckedRem::checked_rem];
     assert_eq!(calls.map(|call| call(&without, &one).or(call(&one, &without))), [None; 5]);
-    assert_eq!(Ratio::new_raw(2, -4).reduced().into_raw(), (-1, 2));
+    assert_eq!([(2, -4), (-2, 4)].map(|(n, d)| Ratio::new_raw(n, d).reduced().into_raw()), [(-1, 2); 2]);
 }
 
 #[test]
@@ -133,6 +135,7 @@ fn keys_and_folds() {
     let mut hashed = HashMap::new();
     hashed.insert(Rational64::new_raw(4, -6), "found");
     assert_eq!(hashed.get(&Ratio::new(-2, 3)), Some(&"found"));
+    assert_eq!([(1, 2), (1, 3), (3, 2), (2, 3)].map(|pair| hash_of(Ratio::from(pair))).into_iter().collect::<BTreeSet<_>>().len(), 4);
     let ordered: BTreeSet<Ratio<u8>> = [(3, 4), (1, 2), (2, 4), (255, 254)].into_iter().map(Ratio::from).collect();
     assert_eq!(ordered.into_iter().map(Ratio::into_raw).collect::<Vec<_>>(), [(1, 2), (3, 4), (255, 254)]);
     let items = [Ratio::new(1i64, 2), Ratio::new(1, 3), Ratio::new(1, 6)];
@@ -140,6 +143,12 @@ fn keys_and_folds() {
     assert_eq!(items.into_iter().sum::<Ratio<i64>>(), Ratio::one());
     assert_eq!(items.iter().product::<Ratio<i64>>(), Ratio::new(1, 36));
     assert_eq!(items.into_iter().product::<Ratio<i64>>(), Ratio::new(1, 36));
+}
+
+fn hash_of(x: Rational64) -> u64 {
+    let mut state = DefaultHasher::new();
+    x.hash(&mut state);
+    state.finish()
 }
 
 fn mean<T: Integer>(items: &[Ratio<T>]) -> Ratio<T> {
@@ -169,7 +178,9 @@ fn serialized() {
     let text = serde_json::to_string(&x).unwrap();
     assert_eq!(text, "[2,-4]");
     assert_eq!(serde_json::from_str::<Ratio<i32>>(&text).unwrap().into_raw(), (2, -4));
-    assert!(serde_json::from_str::<Ratio<i32>>("[1,0]").is_err());
+    assert_eq!(serde_json::from_str::<Ratio<i32>>("[0,-5]").unwrap().into_raw(), (0, -5));
+    let refusal = serde_json::from_str::<Ratio<i32>>("[1,0]").unwrap_err().to_string();
+    assert!(refusal.contains("a denominator other than 0"), "{refusal}");
     assert!(serde_json::from_str::<Ratio<i8>>("[128,1]").is_err());
 }
 
@@ -196,6 +207,12 @@ fn forms_and_radix() {
     assert_eq!(format!("{:#010b}", half()), "0b001/0b10");
     assert_eq!(format!("{x:x}|{x:+x}|{x:#X}|{x:#o}"), "ff/2|+ff/2|0xFF/0x2|0o377/0o2");
     assert_eq!(format!("{:05}|{:*^7}", Ratio::from_integer(-1i8), half()), "-0001|**1/2**");
+    let raw = Ratio::new_raw(10i8, -20);
+    assert_eq!(format!("{raw} {raw:b} {raw:o} {raw:x} {raw:X}"), "10/-20 1010/11101100 12/354 a/ec A/EC");
+    let mut text = DecimalText::empty();
+    raw.put_decimal_text(&mut text);
+    assert_eq!([text.as_str(), raw.decimal_text().as_str()], ["10/-20"; 2]);
+    assert_eq!(Ratio::from_str_radix("101/11", 2), Ok(Ratio::new(5i64, 3)));
     assert_eq!(Ratio::from_str_radix("f/2", 16), Ok(Ratio::new(15i64, 2)));
     assert_eq!(Ratio::from_str_radix("z/Z", 36), Ok(Ratio::from_integer(1u8)));
     assert!(Ratio::<i64>::from_str_radix("5", 10).is_err());

@@ -37,12 +37,12 @@ fn conditions_are_tested() {
     assert_eq!(refusal(move || greatest / none), "denominator == 0");
     assert_eq!(refusal(move || greatest % none), "attempt to calculate the remainder with a divisor of zero");
     assert_eq!(refusal(|| Ratio::from_integer(255u8) % Ratio::new(2, 3)), "attempt to multiply with overflow");
-    // 1/-128 has no lowest terms over `i8`; the divisor of 0 is named by `/` and `%` alone.
-    let (without, zero) = (Ratio::new_raw(1i8, -128), Ratio::from_integer(0));
-    assert_eq!(refusal(move || without + zero), "attempt to add with overflow");
-    assert_eq!(refusal(move || without - zero), "attempt to subtract with overflow");
-    assert_eq!(refusal(move || without * zero), "attempt to multiply with overflow");
-    assert_eq!(refusal(move || without.recip()), "attempt to negate with overflow");
+    // Over `i8`, 1/-128 has no lowest terms. Only `/` and `%` name a divisor of 0.
+    let (refused, zero) = (Ratio::new_raw(1i8, -128), Ratio::from_integer(0));
+    assert_eq!(refusal(move || refused + zero), "attempt to add with overflow");
+    assert_eq!(refusal(move || refused - zero), "attempt to subtract with overflow");
+    assert_eq!(refusal(move || refused * zero), "attempt to multiply with overflow");
+    assert_eq!(refusal(move || refused.recip()), "attempt to negate with overflow");
     assert_eq!(refusal(move || [greatest, greatest].iter().sum::<Ratio<i64>>()), "attempt to add with overflow");
     assert_eq!(refusal(move || none.recip()), "division by zero");
     assert_eq!(refusal(move || none.pow(-1)), "division by zero");

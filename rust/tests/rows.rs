@@ -55,9 +55,9 @@ fn either_sign_of_a_denominator() {
     assert_eq!(Ratio::<i8>::new_raw(1, -2).cmp(&Ratio::new_raw(1, 2)), Ordering::Less);
     let product = Ratio::<i8>::new_raw(1, -2) * Ratio::new(1, 2);
     assert_eq!(product.into_raw(), (-1, 4));
-    let (without, one) = (Ratio::new_raw(1i8, -128), Ratio::one());
+    let (refused, one) = (Ratio::new_raw(1i8, -128), Ratio::one());
     let calls: [Checked; 5] = [CheckedAdd::checked_add, CheckedSub::checked_sub, CheckedMul::checked_mul, CheckedDiv::checked_div, CheckedRem::checked_rem];
-    assert_eq!(calls.map(|call| call(&without, &one).or(call(&one, &without))), [None; 5]);
+    assert_eq!(calls.map(|call| call(&refused, &one).or(call(&one, &refused))), [None; 5]);
     assert_eq!([(2, -4), (-2, 4)].map(|(n, d)| Ratio::new_raw(n, d).reduced().into_raw()), [(-1, 2); 2]);
 }
 

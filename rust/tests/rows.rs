@@ -76,6 +76,7 @@ fn checked_calls() {
 fn texts() {
     assert_eq!("1/2".parse::<Ratio<i8>>(), Ok(Ratio::new(1, 2)));
     assert_eq!("-6/8".parse::<Ratio<i8>>().map(Ratio::into_raw), Ok((-3, 4)));
+    assert_eq!("-7".parse::<Ratio<i8>>(), Ok(Ratio::from_integer(-7)));
     let refused: Vec<Result<Ratio<i8>, ParseRatioError>> = ["1/0", "128", "1/2/3", ""].map(str::parse).to_vec();
     assert!(refused.iter().all(Result::is_err));
     assert_eq!(half().to_string(), "1/2");

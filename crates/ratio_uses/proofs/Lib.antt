@@ -1,4 +1,5 @@
 pub mod BeatLemmas
+pub mod CallerLemmas
 pub mod ChainOrder
 pub mod ConversionLemmas
 pub mod LedgerLemmas

@@ -1,4 +1,5 @@
 pub mod Held
+pub mod Callers
 pub mod Gears
 pub mod Beats
 pub mod Walk

@@ -1,12 +1,26 @@
 //! Callers that have nothing to show, over fractions that are always in lowest terms.
+ghost use Rattle.std.specs.Prelude.{◌≡◌, ◌≢◌, ◌↔◌, [], All, IfSome};
+ghost use Rattle.std.specs.List.{Contains};
+ghost use Rattle.std.specs.declared.cmp.Ordering.TheVariants.{Greater};
+ghost use Rattle.num_rational.specs.Comparison.{order_of};
+ghost use Rattle.num_rational.specs.Reduced.{ratio_of};
+ghost use Rattle.ratio_uses.specs.Callers.{ChecksMean};
+ghost use Rattle.ratio_uses.specs.Held.{pair_of};
+
 use num_rational::Reduced64;
 
-/// The greatest amount, if there is one.
-pub fn greatest(amounts: &[Reduced64]) -> Option<Reduced64> {
+/// The greatest amount, or `None` exactly where there is no amount.
+pub fn greatest(amounts: &[Reduced64]) -> Option<Reduced64>
+    ensures none { (result ≡ None) ↔ (amounts.now ≡ []) }
+    ensures one_of_them { IfSome result (λ most. Contains amounts.now most) }
+    ensures none_above { IfSome result (λ most. All (λ amount. order_of (ratio_of amount) (ratio_of most) ≢ Greater) amounts.now) }
+{
     amounts.iter().copied().max()
 }
 
-/// The mean of two amounts, where their sum and its half fit in 64 bits.
-pub fn mean(left: &Reduced64, right: &Reduced64) -> Option<Reduced64> {
+/// The mean of two amounts, or `None` exactly where their sum or its half does not fit in 64 bits.
+pub fn mean(left: &Reduced64, right: &Reduced64) -> Option<Reduced64>
+    ensures { ChecksMean (pair_of left.now) (pair_of right.now) result }
+{
     left.checked_add(right)?.checked_div(2)
 }

@@ -1,13 +1,16 @@
 //! Callers of `Ratio`, which show what its calls ask.
-ghost use Rattle.std.specs.Prelude.{◌<ℤ◌, pos, IfSome};
-ghost use Rattle.num_rational.specs.Folds.{ArePositive};
-ghost use Rattle.num_rational.specs.Operators.{numbers};
+ghost use Rattle.std.specs.Prelude.{◌≡◌, ◌⊎◌, ◌≤ℤ◌, ◌<ℤ◌, pos, IfSome};
+ghost use Rattle.num_rational.specs.Folds.{ArePositive, ChecksProductOf};
+ghost use Rattle.num_rational.specs.Operators.{ChecksSum, numbers};
 ghost use Rattle.num_rational.specs.Ratio.{denominator};
 
 use num_rational::Rational64;
 
-/// The sum of two shares, where its lowest terms fit.
-pub fn together(left: &Rational64, right: &Rational64) -> Option<Rational64> {
+/// The sum of two shares, or `None` exactly where a denominator is not positive or the lowest terms of the sum do not fit.
+pub fn together(left: &Rational64, right: &Rational64) -> Option<Rational64>
+    ensures sum { pos 0 <ℤ denominator left.now → pos 0 <ℤ denominator right.now → ChecksSum (numbers left.now) (numbers right.now) result }
+    ensures none { (denominator left.now ≤ℤ pos 0) ⊎ (denominator right.now ≤ℤ pos 0) → result ≡ None }
+{
     if *left.denom() > 0 && *right.denom() > 0 {
         left.checked_add(right)
     } else {
@@ -15,10 +18,12 @@ pub fn together(left: &Rational64, right: &Rational64) -> Option<Rational64> {
     }
 }
 
-/// The product of the rates, where each product on the way fits. The clause says what a next call asks of it.
+/// The product of the rates, or `None` exactly where a product on the way does not fit. The second clause says what a next
+/// call requires of it.
 pub fn chained(rates: &[Rational64]) -> Option<Rational64>
     requires { ArePositive numbers rates.now }
-    ensures { IfSome result (λ product. pos 0 <ℤ denominator product) }
+    ensures product { ChecksProductOf numbers rates.now result }
+    ensures positive { IfSome result (λ product. pos 0 <ℤ denominator product) }
 {
     let mut product = Rational64::one();
     for rate in rates {

@@ -1,9 +1,18 @@
 //! The functions that the README shows, over fractions that are always in lowest terms.
+ghost use Rattle.std.specs.Prelude.{◌≡◌};
+ghost use Rattle.num_rational.specs.Comparison.{order_of};
+ghost use Rattle.num_rational.specs.Folds.{ChecksSumOf};
+ghost use Rattle.num_rational.specs.Reduced.{ratio_in, ratio_of};
+ghost use Rattle.ratio_uses.specs.Callers.{ReadsThird};
+ghost use Rattle.ratio_uses.specs.Held.{pair_of};
+
 use num_rational::{ParseRatioError, Reduced64};
 use std::cmp::Ordering;
 
-/// The total of the shares, if it fits.
-pub fn total(shares: &[Reduced64]) -> Option<Reduced64> {
+/// The total of the shares, or `None` exactly where a sum on the way does not fit.
+pub fn total(shares: &[Reduced64]) -> Option<Reduced64>
+    ensures { ChecksSumOf pair_of shares.now (ratio_in result) }
+{
     let mut sum = Reduced64::zero();
     for share in shares {
         sum = sum.checked_add(share)?;
@@ -12,12 +21,16 @@ pub fn total(shares: &[Reduced64]) -> Option<Reduced64> {
 }
 
 /// A third of the fraction that a text writes, if it fits.
-pub fn third_of(text: &str) -> Result<Option<Reduced64>, ParseRatioError> {
+pub fn third_of(text: &str) -> Result<Option<Reduced64>, ParseRatioError>
+    ensures { ReadsThird text.now result }
+{
     let whole = Reduced64::from_str(text)?;
     Ok(whole.checked_div(3))
 }
 
 /// Which of two rates is the greater one: no product overflows.
-pub fn faster(left: &Reduced64, right: &Reduced64) -> Ordering {
+pub fn faster(left: &Reduced64, right: &Reduced64) -> Ordering
+    ensures { result ≡ order_of (ratio_of left.now) (ratio_of right.now) }
+{
     left.cmp(right)
 }

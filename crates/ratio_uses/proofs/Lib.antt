@@ -2,5 +2,6 @@ pub mod BeatLemmas
 pub mod CallerLemmas
 pub mod ChainOrder
 pub mod ConversionLemmas
+pub mod GearLemmas
 pub mod LedgerLemmas
 pub mod OctaveLemmas

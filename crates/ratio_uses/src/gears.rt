@@ -1,5 +1,6 @@
 //! Two wheels whose ratio of teeth is near a wanted one.
-ghost use Rattle.ratio_uses.specs.Gears.{ChecksGears};
+ghost use Rattle.std.specs.Prelude.{◌<ℤ◌, pos};
+ghost use Rattle.ratio_uses.specs.Gears.{ChecksGears, ChecksWheels};
 ghost use Rattle.ratio_uses.specs.Held.{pair_of};
 
 use num_rational::Reduced64;
@@ -15,20 +16,35 @@ pub struct Gears {
     pub off: Option<Reduced64>,
 }
 
-/// The two wheels whose ratio of teeth, first to second, is nearest to the wanted one, where the second wheel has at
-/// most `most` teeth; of two pairs as near the one with the smaller second wheel. `None` where the nearest pair
-/// would have a wheel without a tooth: `most` is below 1, the wanted ratio is not above 0, or 0 is the nearest.
+/// Of all pairs of wheels whose second has at most `most` teeth, the pair whose ratio of teeth, first to second, is nearest
+/// to the wanted one. Each wheel has at least 1 tooth. Of two pairs as near it is the one with the smaller second wheel, and
+/// then the one with the smaller first wheel. `None` exactly where the wanted ratio is not above 0 or `most` is below 1.
+/// So 1/2 with at most 1 gives 1 and 1, and 1/10 with at most 3 gives 1 and 3.
 pub fn nearest_pair(wanted: &Reduced64, most: i64) -> Option<Gears>
     ensures { ChecksGears (pair_of wanted.now) most result }
 {
-    let pair = wanted.nearest(most)?;
-    let (first, second) = pair.into_raw();
-    if first < 1 {
+    if *wanted.numer() < 1 {
         return None;
     }
+    let wheels = nearest_wheels(wanted, most)?;
+    let (first, second) = wheels.into_raw();
     Some(Gears {
         first,
         second,
-        off: wanted.checked_sub(&pair),
+        off: wanted.checked_sub(&wheels),
     })
+}
+
+// The teeth of the nearest wheels, as a fraction. Where the nearest fraction is 0, no fraction above 0 is nearer than the
+// least one, which is 1 over `most`.
+fn nearest_wheels(wanted: &Reduced64, most: i64) -> Option<Reduced64>
+    requires { pos 0 <ℤ (pair_of wanted.now).0 }
+    ensures { ChecksWheels (pair_of wanted.now) most result }
+{
+    let nearest = wanted.nearest(most)?;
+    if *nearest.numer() > 0 {
+        Some(nearest)
+    } else {
+        Reduced64::checked_new(1, most)
+    }
 }

@@ -31,16 +31,59 @@ fn teeth(wanted: &Reduced64, most: i64) -> Option<(i64, i64)> {
     Some((gears.first, gears.second))
 }
 
+// The first row whose wheels are others: the two numbers of the wanted ratio, the most teeth of the second wheel, and the teeth of both.
+fn first_wrong_wheels(rows: &[(i64, i64, i64, i64, i64)]) -> Option<usize> {
+    for (i, &(numer, denom, most, first, second)) in rows.iter().enumerate() {
+        let wheels = Reduced64::checked_new(numer, denom).and_then(|wanted| teeth(&wanted, most));
+        if wheels != Some((first, second)) {
+            return Some(i);
+        }
+    }
+    None
+}
+
 #[test]
 fn test_gears(rt: HostRuntime) {
+    let rows = [
+        (1618033988, 1000000000, 100, 144, 89),
+        (52, 14, 7, 26, 7),
+        (7, 5, 3, 4, 3),
+        (7, 10, 2, 1, 2),
+        (3, 2, 1, 1, 1),
+        (5, 2, 1, 2, 1),
+        (i64::MAX, 2, 1, 4611686018427387903, 1),
+        (i64::MAX, 1, 5, i64::MAX, 1),
+    ];
+    let wrong = first_wrong_wheels(&rows);
+    assert!(rt; wrong.is_none(), "row {wrong:?}");
     let golden = frac(&rt, 1618033988, 1000000000);
-    holds(&rt, "golden", teeth(&golden, 100) == Some((144, 89)));
     let off = nearest_pair(&golden, 100).and_then(|gears| gears.off);
     answers(&rt, off, Some((1256233, 22250000000)));
-    holds(&rt, "own", teeth(&frac(&rt, 52, 14), 7) == Some((26, 7)));
-    holds(&rt, "no tooth", teeth(&frac(&rt, 1, 21), 10) == None);
+    holds(&rt, "0", teeth(&Reduced64::zero(), 10) == None);
     holds(&rt, "below 0", teeth(&frac(&rt, -3, 2), 10) == None);
     holds(&rt, "no wheel", teeth(&golden, 0) == None);
+    holds(&rt, "bound below 0", teeth(&golden, -1) == None);
+}
+
+// Of these ratios the nearest fraction is 0, so the first wheel has 1 tooth and the second as many as it may.
+#[test]
+fn test_gears_near_zero(rt: HostRuntime) {
+    let rows = [
+        (1, 2, 1, 1, 1),
+        (1, 10, 3, 1, 3),
+        (1, 4, 2, 1, 2),
+        (1, 21, 10, 1, 10),
+        (1, 20, 10, 1, 10),
+        (1, 19, 10, 1, 10),
+        (1, i64::MAX, 3, 1, 3),
+    ];
+    let wrong = first_wrong_wheels(&rows);
+    assert!(rt; wrong.is_none(), "row {wrong:?}");
+    let off = nearest_pair(&frac(&rt, 1, 10), 3).and_then(|gears| gears.off);
+    answers(&rt, off, Some((-7, 30)));
+    let least = frac(&rt, 1, i64::MAX);
+    let off = nearest_pair(&least, 3).and_then(|gears| gears.off);
+    answers(&rt, off, None);
 }
 
 // What is answered, and the parts that are then there.

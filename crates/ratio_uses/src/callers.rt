@@ -1,4 +1,4 @@
-//! Callers that have nothing to show, over fractions that are always in lowest terms.
+//! Two more callers over fractions that are always in lowest terms.
 ghost use Rattle.std.specs.Prelude.{◌≡◌, ◌≢◌, ◌↔◌, [], All, IfSome};
 ghost use Rattle.std.specs.List.{Contains};
 ghost use Rattle.std.specs.declared.cmp.Ordering.TheVariants.{Greater};

@@ -20,7 +20,8 @@ pub fn total(shares: &[Reduced64]) -> Option<Reduced64>
     Some(sum)
 }
 
-/// A third of the fraction that a text writes, if it fits.
+/// A third of the fraction that a text writes, or `None` exactly where that does not fit. An error exactly where `from_str`
+/// refuses the text.
 pub fn third_of(text: &str) -> Result<Option<Reduced64>, ParseRatioError>
     ensures { ReadsThird text.now result }
 {
@@ -28,7 +29,7 @@ pub fn third_of(text: &str) -> Result<Option<Reduced64>, ParseRatioError>
     Ok(whole.checked_div(3))
 }
 
-/// Which of two rates is the greater one: no product overflows.
+/// The order of two rates: `Less` where the left one is the slower. No product overflows.
 pub fn faster(left: &Reduced64, right: &Reduced64) -> Ordering
     ensures { result ≡ order_of (ratio_of left.now) (ratio_of right.now) }
 {

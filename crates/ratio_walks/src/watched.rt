@@ -1,8 +1,9 @@
-//! The divisions of the order and of the codes, counted where they are made.
+//! The divisions of the order, of the codes and of the search for the nearest fraction, counted where they are made.
 use crate::fractions::{looked_at, raw};
 use crate::plain::{self, Euclid, Plain};
 use crate::written::Written;
 use num_rational::Ratio;
+use ratio_core::nearest::nearest;
 use ratio_integer::Integer;
 use ratio_odd::Watch8;
 use std::cell::Cell;
@@ -47,6 +48,22 @@ fn hashes_within(x: Plain, most: u8) -> Option<bool> {
     Some(are_within(&divs, &sums, most))
 }
 
+/// Whether the search for the fraction nearest to `x` makes exactly so many divisions, if its denominator
+/// and the bound are positive.
+fn searches_in(x: Plain, most: i8, divisions: u32) -> Option<bool> {
+    if x.d <= 0 || most <= 0 {
+        return None;
+    }
+    let divs = Cell::new(0);
+    let sums = Cell::new(0);
+    let _ = nearest(
+        Watch8::new(x.n, &divs, &sums),
+        Watch8::new(x.d, &divs, &sums),
+        Watch8::new(most, &divs, &sums),
+    );
+    Some(divs.get() == divisions)
+}
+
 /// How many divisions both sides may make together: none where both cross products are held, else one
 /// a side for each pair of quotients up to the first that differ, or that the type does not hold.
 fn divisions_of_order(x: Plain, y: Plain) -> u8 {
@@ -85,6 +102,29 @@ fn divisions_of_codes(x: Plain) -> u8 {
     divisions
 }
 
+/// How many divisions both sides of a search make together: one, and two for each convergent but the
+/// last whose denominator is at most `most`.
+fn divisions_of_search(x: Plain, most: i8) -> u32 {
+    let mut euclid = Euclid::of(x);
+    let mut before = 1i128;
+    let mut denom = 0i128;
+    let mut divisions = 1u32;
+    for _ in 0..20 {
+        match euclid.quotient() {
+            Some(q) => {
+                if 0 < denom && denom <= most as i128 {
+                    divisions = divisions.wrapping_add(2);
+                }
+                let next = plain::times(q, denom).wrapping_add(before);
+                before = denom;
+                denom = next;
+            }
+            None => return divisions,
+        }
+    }
+    divisions
+}
+
 #[test]
 fn rows(rt: HostRuntime) {
     for (n, d, m, e, most) in [(125, 127, 124, 125, 6), (127, 2, 1, 3, 2)] {
@@ -93,6 +133,14 @@ fn rows(rt: HostRuntime) {
     for (n, d, most) in [(89, 55, 9), (127, 1, 1), (-128, -1, 0), (-1, -128, 1)] {
         assert!(rt; hashes_within(Plain { n, d }, most) == Some(true));
         assert!(rt; divisions_of_codes(Plain { n, d }) == most);
+    }
+    for (n, d, most, divisions) in [
+        (89, 55, 20, 15),
+        (-128, 127, 100, 5),
+        (1, 127, 126, 3),
+        (127, 1, 5, 1),
+    ] {
+        assert!(rt; searches_in(Plain { n, d }, most, divisions) == Some(true));
     }
 }
 
@@ -136,5 +184,31 @@ fn every_hash(rt: HostRuntime) -> Result<(), Fail> {
     let looked = hashed(&rt);
     println!(rt; "{looked} watched hashes")?;
     assert!(rt; looked == 65_280);
+    Ok(())
+}
+
+/// How many fractions are searched for with the divisions of the model.
+fn searched(rt: &impl Abort, most: i8) -> u32 {
+    let mut looked = 0;
+    for n in i8::MIN..=i8::MAX {
+        for d in i8::MIN..=i8::MAX {
+            let x = Plain { n, d };
+            looked = looked_at(
+                rt,
+                looked,
+                searches_in(x, most, divisions_of_search(x, most)),
+            );
+        }
+    }
+    looked
+}
+
+#[test]
+fn every_search(rt: HostRuntime) -> Result<(), Fail> {
+    for most in [1, 2, 5, 12, 50, 127] {
+        let looked = searched(&rt, most);
+        println!(rt; "{looked} watched searches with denominators up to {most}")?;
+        assert!(rt; looked == 32_512);
+    }
     Ok(())
 }

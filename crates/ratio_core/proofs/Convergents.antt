@@ -1,5 +1,5 @@
 -- Which convergents the search for the nearest fraction passes: those with a denominator within the bound.
-use Rattle.std.specs.Prelude.{◌≡◌, ◌≢◌, ◌⊎◌, ◌+◌, ◌≤ℤ◌, ◌<ℤ◌, ◌+ℤ◌, ◌-ℤ◌, ◌*ℤ◌, ℕ, ℤ, zero, suc, pos, negsuc, Bool, true, false, cond, int_le, List, [], ◌∷◌}
+use Rattle.std.specs.Prelude.{◌≡◌, ◌≢◌, ◌⊎◌, ◌+◌, ◌≤ℤ◌, ◌<ℤ◌, ◌+ℤ◌, ◌-ℤ◌, ◌*ℤ◌, ℕ, ℤ, zero, suc, pos, negsuc, true, false, cond, int_le, List, [], ◌∷◌}
 use Rattle.std.proofs.Common.{◌∙◌, refl, sym, ap, subst, arith, inl, inr}
 use Rattle.std.proofs.lemmas.Int.{ints}
 use Rattle.ratio_integer.specs.Division.{IsFloored}
@@ -111,10 +111,10 @@ passed_more n d most k p g e h w p' z within e_up is up p-is z-is left passed =
       before_up = e_up;
       divided = λ w' z' is' up' z-is'. (w', going_floored h z w' z' is' up' z-is', (let turned : p' *ℤ w' ≡ w' *ℤ p' = turned_product p' w' in omega (arith, ints)));
       carried = λ qs are.
-      let counted = passed.carried (next.0 ∷ qs) (z, next.1, inr (left, are)) in
-      let one = one_more most e (next.0 *ℤ e +ℤ passed.before) (denominators e (next.0 *ℤ e +ℤ passed.before) qs) within in
-      let moved : count_within most ((next.0 *ℤ e +ℤ passed.before) ∷ denominators e (next.0 *ℤ e +ℤ passed.before) qs) ≡ count_within most (p' ∷ denominators e p' qs) = ap (λ (x : ℤ). count_within most (x ∷ denominators e x qs)) (next.2 ∙ sym p-is) in
-      subst (IsConvergentCount n d most) (omega (arith, one, moved)) counted;
+          let counted = passed.carried (next.0 ∷ qs) (z, next.1, inr (left, are)) in
+          let one = one_more most e (next.0 *ℤ e +ℤ passed.before) (denominators e (next.0 *ℤ e +ℤ passed.before) qs) within in
+          let moved : count_within most ((next.0 *ℤ e +ℤ passed.before) ∷ denominators e (next.0 *ℤ e +ℤ passed.before) qs) ≡ count_within most (p' ∷ denominators e p' qs) = ap (λ (x : ℤ). count_within most (x ∷ denominators e x qs)) (next.2 ∙ sym p-is) in
+          subst (IsConvergentCount n d most) (omega (arith, one, moved)) counted;
     }
 
 zero_or : (z : ℤ) → (z ≡ pos 0) ⊎ (z ≢ pos 0)
@@ -134,7 +134,7 @@ passed_last n d most k p g e h w z within e_up is z-is end passed =
           let one : count_within most (e ∷ x ∷ []) ≡ 1 + 0 = one_more most e x [] within in
           subst (IsConvergentCount n d most) (omega (arith, one)) (passed.carried (next.0 ∷ []) (z, next.1, inl (exact, refl)))
       | inr left ↦
-          let beyond : most <ℤ x = rw x-is (elim end [ | inl exact ↦ absurd (left exact) | inr past ↦ past ]) in
+          let beyond : most <ℤ x = rw x-is (elim end [ inl exact ↦ absurd (left exact) | inr past ↦ past ]) in
           let rest = quotients_exist h z left in
           let none : count_within most (x ∷ denominators e x rest.list) ≡ 0 = none_beyond most e x passed.size h next.0 z rest.list next.1 left rest.are e_up (omega (arith, ints)) beyond in
           let one = one_more most e x (denominators e x rest.list) within in

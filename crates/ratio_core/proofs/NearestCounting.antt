@@ -116,9 +116,12 @@ module _ {n d most p g e h : ℤ} {left left' right right' : ℕ} (gone : HaveGo
 
   -- and how many they are: w steps fit the gap, and they lead to n/d or beyond the bound
   pub steps_ended : (left'' right'' : ℕ) (w : ℤ) → left'' ≡ left' + 1 → right'' ≡ right' + 1 → e ≤ℤ most → pos 0 <ℤ e → IsShare g h w → ((g -ℤ h *ℤ w) ≡ pos 0) ⊎ (most <ℤ (p +ℤ e *ℤ w)) → (k : ℕ) × (left'' ≡ left + (k + 1)) × (right'' ≡ right + k) × IsConvergentCount n d most k
-  steps_ended left'' right'' w left_next right_next within e_up is end =
-      (gone.rounds + 1, (let rose = gone.left_rose in omega arith), (let rose = gone.right_rose in omega arith),
-      passed_last n d most gone.rounds p g e h w (g -ℤ h *ℤ w) within (omega (arith, ints)) is refl end gone.passed)
+  steps_ended left'' right'' w left_next right_next within e_up is end = (
+    gone.rounds + 1,
+    (let rose = gone.left_rose in omega arith),
+    (let rose = gone.right_rose in omega arith),
+    passed_last n d most gone.rounds p g e h w (g -ℤ h *ℤ w) within (omega (arith, ints)) is refl end gone.passed,
+  )
 
 -- one division alone
 pub steps_none : (n d most f r : ℤ) (left left' right right' : ℕ) → left' ≡ left + 1 → right' ≡ right → IsFloored n d f r → r ≡ pos 0 → (k : ℕ) × (left' ≡ left + (k + 1)) × (right' ≡ right + k) × IsConvergentCount n d most k

@@ -24,9 +24,9 @@ pub fn nearest<T: Integer>(n: T, d: T, most: T) -> (T, T) {
 
 /// The same, by Euclid's algorithm, with every division counted: the left side divides what is left
 /// of `n/d`, the right side the room below `most`. The right side divides once for each convergent of
-/// `n/d`, other than `n/d` itself, whose denominator is at most `most`, and the left side once more:
-/// 355/113 has the convergents 3/1 and 22/7, so it takes 3 and 2 divisions with `most` 50, and 2 and 1
-/// with `most` 6. Each side makes at most twice as many divisions as `d` has binary digits.
+/// `n/d`, other than `n/d` itself, whose denominator is at most `most`, and the left side once more.
+/// The convergents before 355/113 are 3/1 and 22/7: where `most` is 50, the left side divides three
+/// times and the right side twice. Each divides at most twice as often as `d` has binary digits.
 ///
 /// # Conditions
 ///

@@ -1,13 +1,22 @@
 //! The laws are calls like any other.
+use num_rational::laws::json_pairs;
 use ratio_core::{laws, text};
+use ratio_integer::laws as integers;
 
 #[test]
 fn each_law_is_called(_rt: HostRuntime) {
+    integers::quotients();
+    integers::divisors();
     laws::sums();
     laws::products();
     laws::conditions();
+    laws::roundings();
+    laws::roundings_by_value();
+    laws::powers();
+    laws::parts();
     laws::nearest_fractions();
     text::laws::digits();
     text::laws::decimal_digits();
     text::laws::one_reading();
+    json_pairs();
 }

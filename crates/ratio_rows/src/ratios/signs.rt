@@ -7,38 +7,48 @@ use std::cmp::Ordering;
 use std::process::Abort;
 
 // The fields of the negative of n/d by each form, and of its absolute value and sign, and whether it is above and below 0.
-type Signs = ((i8, i8), (i8, i8), i8, bool, bool);
+type Signs<T> = ((T, T), (T, T), T, bool, bool);
 
-fn signs(n: i8, d: i8) -> Option<Signs> {
-    if d != 0 && n != i8::MIN {
-        let x = Ratio::new_raw(n, d);
-        let negated = x.neg().into_raw();
-        if (-x).into_raw() != negated || (-&x).into_raw() != negated {
-            return None;
-        }
-        let sign = *x.signum().numer();
-        return Some((
-            negated,
-            x.abs().into_raw(),
-            sign,
-            x.is_positive(),
-            x.is_negative(),
-        ));
+fn signs<T: SignedInteger>(n: T, d: T) -> Option<Signs<T>> {
+    if d.is_zero() {
+        return None;
     }
-    None
+    let _ = n.try_negate()?;
+    let x = Ratio::new_raw(n, d);
+    let negated = x.neg().into_raw();
+    if (-x).into_raw() != negated || (-&x).into_raw() != negated {
+        return None;
+    }
+    let (sign, _) = x.signum().into_raw();
+    Some((
+        negated,
+        x.abs().into_raw(),
+        sign,
+        x.is_positive(),
+        x.is_negative(),
+    ))
 }
 
-// The first row that has other signs.
-fn first_wrong(rows: &[(i8, i8, Signs)]) -> Option<usize> {
+// The same numbers of `i64`.
+fn long(fields: (i8, i8)) -> (i64, i64) {
+    (fields.0 as i64, fields.1 as i64)
+}
+
+fn long_signs(want: Signs<i8>) -> Signs<i64> {
+    (long(want.0), long(want.1), want.2 as i64, want.3, want.4)
+}
+
+// The first row that has other signs, over `i8` or over `i64`.
+fn first_wrong(rows: &[(i8, i8, Signs<i8>)]) -> Option<usize> {
     for (i, &(n, d, want)) in rows.iter().enumerate() {
-        if signs(n, d) != Some(want) {
+        if signs(n, d) != Some(want) || signs(n as i64, d as i64) != Some(long_signs(want)) {
             return Some(i);
         }
     }
     None
 }
 
-fn signs_hold(rt: &impl Abort, rows: &[(i8, i8, Signs)]) {
+fn signs_hold(rt: &impl Abort, rows: &[(i8, i8, Signs<i8>)]) {
     all_hold(rt, "signs", first_wrong(rows));
 }
 

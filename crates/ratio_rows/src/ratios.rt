@@ -6,6 +6,7 @@ mod folds;
 mod forms;
 mod json;
 mod keys;
+mod long_texts;
 mod lowest;
 mod operators;
 mod powers;

@@ -40,6 +40,24 @@ fn divisors_of_64_bits(rt: HostRuntime) {
     each_holds(&rt, &facts);
 }
 
+// The two numbers of each row differ by a multiple of 2^64, so their lower halves are equal.
+#[test]
+fn divisors_of_equal_lower_halves(rt: HostRuntime) {
+    let facts = [
+        ((5u128 << 64) + 15).gcd(15) == 5,
+        15u128.gcd((15 << 64) + 15) == 15,
+        ((7i128 << 64) + 3).gcd(-3) == 1,
+        ((6u128 << 64) + 21).gcd(21) == 3,
+        1_936_908_127_739_502_919_701u128.gcd(387_381_625_547_900_583_957) == 21,
+        387_381_625_547_900_583_957i128.gcd(-1_190_423_735_308_698_494_435_349) == 21,
+        // They differ by 21 times 2^65. A step that keeps one of the twos ends after 2^60 more.
+        27_913_787_911_483_234_105_743_199_361_688_403_989u128.gcd(
+            27_913_787_911_483_233_330_979_948_265_887_236_117,
+        ) == 21,
+    ];
+    each_holds(&rt, &facts);
+}
+
 #[test]
 fn divisors_of_128_bits(rt: HostRuntime) {
     let facts = [
@@ -116,4 +134,8 @@ fn exact_sums(rt: HostRuntime) {
         u32::exact_sum(u32::MAX, 2, u32::MAX, 2).is_none(),
     ];
     each_holds(&rt, &facts);
+    // The sum as formed is n/d, where n - d is a multiple of 2^64.
+    let (a, b) = (668_106_803_327_565_777i64, 8_253_290_000_810_904_887);
+    let (c, d) = (1_067_164_827_171_188_706i64, 669);
+    assert!(rt; i64::exact_sum(a, b, c, d).is_none());
 }

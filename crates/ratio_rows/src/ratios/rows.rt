@@ -64,6 +64,29 @@ fn lowest_terms(rt: HostRuntime) {
     all_hold(&rt, "i8", first_wrong(&rows));
 }
 
+// The two numbers of each row differ by a multiple of 2^64, so their lower halves are equal.
+#[test]
+fn lowest_terms_of_equal_lower_halves(rt: HostRuntime) {
+    let (less, more) = (387_381_625_547_900_583_957, 1_936_908_127_739_502_919_701);
+    let rows = [
+        ((5i128 << 64) + 15, 15, Some(((1 << 64) + 3, 3))),
+        (15, -(15 << 64) - 15, Some((-1, (1 << 64) + 1))),
+        ((7 << 64) + 3, 3, Some(((7 << 64) + 3, 3))),
+        (
+            more,
+            -less,
+            Some((-92_233_720_368_547_758_081, 18_446_744_073_709_551_617)),
+        ),
+    ];
+    all_hold(&rt, "i128", first_wrong(&rows));
+    let rows = [(
+        387_381_625_547_900_583_957u128,
+        1_190_423_735_308_698_494_435_349,
+        Some((18_446_744_073_709_551_617, 56_686_844_538_509_452_115_969)),
+    )];
+    all_hold(&rt, "u128", first_wrong(&rows));
+}
+
 // The fields, or the number of the refusal's kind.
 fn read(text: &str) -> Result<(i8, i8), u8> {
     match Ratio::<i8>::from_str(text) {
@@ -124,15 +147,16 @@ fn fields_alone_are_tested(rt: HostRuntime) {
 fn refusal_reads(text: &str, want: &str) -> bool {
     match Ratio::<i8>::from_str(text) {
         Ok(_) => false,
-        Err(refusal) => InlineText::<40>::of(format_args!("{refusal}")).as_str() == want,
+        Err(refusal) => InlineText::<60>::of(format_args!("{refusal}|{refusal:>25}")).as_str()
+            == want,
     }
 }
 
 #[test]
 fn refusals_are_printed(rt: HostRuntime) {
     let facts = [
-        refusal_reads("1/x", "failed to parse integer"),
-        refusal_reads("1/0", "zero value denominator"),
+        refusal_reads("1/x", "failed to parse integer|  failed to parse integer"),
+        refusal_reads("1/0", "zero value denominator|   zero value denominator"),
     ];
     each_holds(&rt, &facts);
 }

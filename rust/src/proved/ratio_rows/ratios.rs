@@ -7,6 +7,7 @@ mod folds;
 mod forms;
 
 mod keys;
+mod long_texts;
 mod lowest;
 mod operators;
 mod powers;

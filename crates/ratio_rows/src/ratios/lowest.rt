@@ -1,7 +1,7 @@
 //! Fractions that are always in lowest terms: rows from outside, and each call once at a concrete type.
-use crate::asserting::{each_holds, reads};
+use crate::asserting::{all_hold, each_holds, reads};
 use crate::ratios::forms::{has, raw};
-use crate::ratios::texts::Shown;
+use crate::ratios::texts::{Shown, first_misprinted};
 use num_rational::laws::lowest;
 use num_rational::{Constants, Form, Reduced, Reduced32, Reduced64};
 use ratio_integer::Integer;
@@ -110,6 +110,12 @@ fn prints(rt: HostRuntime) {
     let decimal = eleven_tenths(Form::Decimal);
     let row = InlineText::<80>::of(format_args!("{decimal:>6} {binary} {octal:#} {lower} {upper}"));
     reads(&rt, row.as_str(), " 11/10 1011/1010 0o13/0o12 b/a B/A");
+}
+
+#[test]
+fn each_form_is_printed(rt: HostRuntime) {
+    let x = Reduced::checked_new(-14i8, 24).unwrap_or(Reduced::zero());
+    all_hold(&rt, "forms", first_misprinted(x));
 }
 
 #[test]

@@ -1,5 +1,5 @@
 //! Rows of texts, read and printed, from outside.
-use crate::asserting::{each_holds, reads as reads_as};
+use crate::asserting::{all_hold, each_holds, reads as reads_as};
 use crate::ratios::forms::raw;
 use num_rational::{DecimalText, Form, Ratio, RatioText};
 use ratio_integer::Primitive;
@@ -61,6 +61,40 @@ pub(crate) fn shown_as<T: Primitive>(numer: T, denom: T, form: Form) -> Shown<Ra
 
 // A row of printed fractions.
 type Line = InlineText<120>;
+
+/// The first form in which -7/12 over `i8` is printed otherwise: plain, with a sign, with a prefix, in a width, and with
+/// zeros.
+pub(crate) fn first_misprinted<X>(fraction: X) -> Option<usize>
+where
+    X: Copy + Drop + Display + Binary + Octal + LowerHex + UpperHex,
+{
+    let rows = [
+        (Form::Decimal, "-7/12|-7/12|-7/12|    -7/12|-00000007/12"),
+        (
+            Form::Binary,
+            "11111001/1100|+11111001/1100|0b11111001/0b1100|11111001/1100|0b11111001/0b1100",
+        ),
+        (
+            Form::Octal,
+            "371/14|+371/14|0o371/0o14|   371/14|0o00371/0o14",
+        ),
+        (Form::LowerHex, "f9/c|+f9/c|0xf9/0xc|     f9/c|0x0000f9/0xc"),
+        (Form::UpperHex, "F9/C|+F9/C|0xF9/0xC|     F9/C|0x0000F9/0xC"),
+    ];
+    for (i, &(form, want)) in rows.iter().enumerate() {
+        let shown = Shown { fraction, form };
+        let line = Line::of(format_args!("{shown}|{shown:+}|{shown:#}|{shown:>9}|{shown:#012}"));
+        if line.as_str() != want {
+            return Some(i);
+        }
+    }
+    None
+}
+
+#[test]
+fn each_form_is_printed(rt: HostRuntime) {
+    all_hold(&rt, "forms", first_misprinted(Ratio::new_raw(-7i8, 12)));
+}
 
 fn signs(rt: &impl Abort) {
     let two = shown_as(2i64, 1, Form::Decimal);

@@ -1,8 +1,8 @@
 // Erased from crates/ratio_rows/src/ratios/lowest.rt by rust/erase: not to be edited.
 //! Fractions that are always in lowest terms: rows from outside, and each call once at a concrete type.
-use crate::proved::ratio_rows::asserting::{each_holds, reads};
+use crate::proved::ratio_rows::asserting::{all_hold, each_holds, reads};
 use crate::proved::ratio_rows::ratios::forms::{has, raw};
-use crate::proved::ratio_rows::ratios::texts::Shown;
+use crate::proved::ratio_rows::ratios::texts::{Shown, first_misprinted};
 use crate::proved::num_rational::laws::lowest;
 use crate::proved::num_rational::{Constants, Form, Reduced, Reduced32, Reduced64};
 use crate::proved::ratio_integer::Integer;
@@ -118,6 +118,12 @@ fn prints() {
     let decimal = eleven_tenths(Form::Decimal);
     let row = InlineText::<80>::of(format_args!("{decimal:>6} {binary} {octal:#} {lower} {upper}"));
     reads(row.as_str(), " 11/10 1011/1010 0o13/0o12 b/a B/A");
+}
+
+#[test]
+fn each_form_is_printed() {
+    let x = Reduced::checked_new(-14i8, 24).unwrap_or(Reduced::zero());
+    all_hold("forms", first_misprinted(x));
 }
 
 #[test]

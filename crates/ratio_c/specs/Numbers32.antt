@@ -1,3 +1,4 @@
+-- Written by templates/write from templates/numbers.antt.txt: change that file, and write this one anew.
 -- Fractions of 32 bits as they cross.
 use Rattle.std.specs.Prelude.{◌-◌, ◌^◌, ℤ, pos, negsuc}
 use Rattle.ratio_c.specs.Crossing.{Said}

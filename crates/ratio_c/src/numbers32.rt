@@ -1,3 +1,4 @@
+// Written by templates/write from templates/numbers.rt.txt: change that file, and write this one anew.
 //! Fractions of `i32` and the exports over them.
 ghost use Rattle.std.specs.Prelude.{true};
 ghost use Rattle.ratio_c.specs.Calls.{AnswersEach, IsDifferenceAnswer, IsFloorAnswer, IsHashAnswer, IsLowestAnswer, IsOrderAnswer, IsPowerAnswer, IsProductAnswer, IsQuotientAnswer, IsReadAnswer, IsRemainderAnswer, IsRoundAnswer, IsSumAnswer};

@@ -1,3 +1,4 @@
+// Written by templates/write from templates/odd.rt.txt: change that file, and write this one anew.
 //! A type whose least number is the negative of its greatest, as in no machine.
 ghost use Rattle.std.specs.Prelude.{◌≡◌, ℤ, pos, negsuc, false};
 ghost use Rattle.std.specs.Hash as hash;

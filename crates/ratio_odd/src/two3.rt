@@ -1,3 +1,4 @@
+// Written by templates/write from templates/odd.rt.txt: change that file, and write this one anew.
 //! The smallest type whose least number has no negative.
 ghost use Rattle.std.specs.Prelude.{◌≡◌, ℤ, pos, negsuc, false};
 ghost use Rattle.std.specs.Hash as hash;
@@ -8,8 +9,7 @@ ghost use Rattle.ratio_odd.specs.Numbers.{laws_of_numbers};
 use ratio_integer::{Integer, SignedInteger};
 use std::marker::Model;
 
-/// The whole numbers from -3 to 2, made by `from_i128`: the fewest with a least number whose negative
-/// is not among them.
+/// The whole numbers from -3 to 2, made by `from_i128`: the fewest with a least number whose negative is not among them.
 #[derive(Clone, Copy, PartialEq, Eq, PartialOrd, Ord, Hash)]
 pub struct Two3 {
     n: i8,

@@ -1,3 +1,4 @@
+// Written by templates/write from templates/operator.rt.txt: change that file, and write this one anew.
 //! Quotients: the checked call, the call that asks for an answer, and the symbols `/` and `/=`.
 ghost use Rattle.std.specs.Prelude.{◌<ℤ◌, pos};
 ghost use Rattle.ratio_core.specs.Conditions.{QuotientCondition};

@@ -1,3 +1,4 @@
+// Written by templates/write from templates/operator.rt.txt: change that file, and write this one anew.
 //! Remainders: the checked call, the call that asks for an answer, and the symbols `%` and `%=`.
 ghost use Rattle.std.specs.Prelude.{◌<ℤ◌, pos};
 ghost use Rattle.ratio_integer.specs.Arithmetic.{RemainderHeld};
@@ -12,8 +13,8 @@ use std::ops::{Rem, RemAssign};
 
 impl<T: Copy + Integer> Ratio<T> {
     /// The lowest terms of `x - t*y`, where `t` is the quotient `x/y` cut towards zero: 0, or of the
-    /// sign of `x` and nearer to 0 than `y`. `None` exactly where the divisor is 0, or the least common
-    /// denominator or a numerator over it is not held; the fields count as they stand.
+    /// sign of `x` and nearer to 0 than `y`. `None` exactly where the divisor is 0, or the least
+    /// common denominator or a numerator over it is not held; the fields count as they stand.
     pub fn checked_rem(&self, other: &Ratio<T>) -> Option<Ratio<T>>
         requires left_positive { pos 0 <ℤ denominator self.now }
         requires right_positive { pos 0 <ℤ denominator other.now }

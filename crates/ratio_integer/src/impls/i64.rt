@@ -1,3 +1,4 @@
+// Written by templates/write from templates/integer.rt.txt: change that file, and write this one anew.
 //! The type `i64`.
 ghost use Rattle.std.specs.Prelude.{◌-◌, ◌^◌, pos, negsuc, true};
 ghost use Rattle.std.specs.Hash as hash;

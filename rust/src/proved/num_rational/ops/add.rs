@@ -1,4 +1,5 @@
 // Erased from crates/num_rational/src/ops/add.rt by rust/erase: not to be edited.
+// Written by templates/write from templates/operator.rt.txt: change that file, and write this one anew.
 //! Sums: the checked call, the call that asks for an answer, and the symbols `+` and `+=`.
 
 use crate::proved::num_rational::operand::Operand;

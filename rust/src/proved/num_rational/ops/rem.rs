@@ -1,4 +1,5 @@
 // Erased from crates/num_rational/src/ops/rem.rt by rust/erase: not to be edited.
+// Written by templates/write from templates/operator.rt.txt: change that file, and write this one anew.
 //! Remainders: the checked call, the call that asks for an answer, and the symbols `%` and `%=`.
 
 use crate::proved::num_rational::operand::Operand;
@@ -9,8 +10,8 @@ use core::ops::{Rem, RemAssign};
 
 impl<T: Copy + Integer> Ratio<T> {
     /// The lowest terms of `x - t*y`, where `t` is the quotient `x/y` cut towards zero: 0, or of the
-    /// sign of `x` and nearer to 0 than `y`. `None` exactly where the divisor is 0, or the least common
-    /// denominator or a numerator over it is not held; the fields count as they stand.
+    /// sign of `x` and nearer to 0 than `y`. `None` exactly where the divisor is 0, or the least
+    /// common denominator or a numerator over it is not held; the fields count as they stand.
     ///
     /// # Conditions
     ///

@@ -11,4 +11,4 @@ pub mod num_rational;
 pub mod ratio_core;
 pub mod ratio_integer;
 #[cfg(test)]
-mod ratio_rows;
+mod tests_fractions;

@@ -1,9 +1,0 @@
-use Rattle.std.proofs.Common.{◌<ℤ◌, pos, subst, sym}
-use Rattle.num_rational.specs.Operators.{CanSubtract, numbers}
-use Rattle.ratio_rows.proofs.ratios.forms.difference.Goals as goal
-
-pub every_difference-requires : goal.every_difference-requires
-every_difference-requires g c =
-    let right = subst (λ p. pos 0 <ℤ p.1) (sym c.ratio-y.ensures) c.requires.right in
-    let can : CanSubtract g.T.Integer.EXACT_SUMS g.T.Integer.lo g.T.Integer.hi (numbers c.args.x) (numbers c.ratio-y.result) = record { left_positive = c.requires.left; right_positive = right; answered = c.in_ok-checked_sub.ensures.0 } in
-    record { named = can; operand = subst (CanSubtract g.T.Integer.EXACT_SUMS g.T.Integer.lo g.T.Integer.hi (numbers c.args.x)) c.ratio-y.ensures can }

@@ -1,7 +1,0 @@
-// Erased from crates/ratio_rows/src/fields.rt by rust/erase: not to be edited.
-//! The calls on two numbers, of `ratio_core`.
-mod arithmetic;
-mod comparing;
-mod laws;
-mod nearest;
-mod printing;

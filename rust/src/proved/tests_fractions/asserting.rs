@@ -1,0 +1,30 @@
+// Erased from crates/tests_fractions/src/asserting.rt by rust/erase: not to be edited.
+//! What the tests assert: each function holds one assertion, and says what it was given where that fails.
+
+/// Every row holds: there is no first one that does not.
+#[inline]
+pub(crate) fn all_hold(what: &str, first_wrong: Option<usize>) {
+    assert!(first_wrong.is_none(), "{what}: row {first_wrong:?}");
+}
+
+#[inline]
+fn first_false(facts: &[bool]) -> Option<usize> {
+    for (i, &fact) in facts.iter().enumerate() {
+        if !fact {
+            return Some(i);
+        }
+    }
+    None
+}
+
+/// Each of these holds.
+#[inline]
+pub(crate) fn each_holds(facts: &[bool]) {
+    all_hold("facts", first_false(facts));
+}
+
+/// The two texts are one.
+#[inline]
+pub(crate) fn reads(text: &str, want: &str) {
+    assert!(text == want, "{text}, not {want}");
+}

@@ -1,0 +1,23 @@
+// Erased from crates/tests_fractions/src/fields/laws.rt by rust/erase: not to be edited.
+//! The laws are calls like any other.
+use crate::proved::num_rational::laws::json_pairs;
+use crate::proved::ratio_core::{laws, text};
+use crate::proved::ratio_integer::laws as integers;
+
+#[test]
+fn each_law_is_called() {
+    integers::quotients();
+    integers::divisors();
+    laws::sums();
+    laws::products();
+    laws::conditions();
+    laws::roundings();
+    laws::roundings_by_value();
+    laws::powers();
+    laws::parts();
+    laws::nearest_fractions();
+    text::laws::digits();
+    text::laws::decimal_digits();
+    text::laws::one_reading();
+    json_pairs();
+}

@@ -1,0 +1,221 @@
+// Erased from crates/tests_fractions/src/ratios/forms.rt by rust/erase: not to be edited.
+//! Every form of an operator: the checked call, the named call, the symbol and its assigning form. The
+//! right operand is of any form that an operator takes.
+
+use crate::proved::num_rational::{Operand, Ratio};
+use crate::proved::ratio_integer::Integer;
+
+/// The fraction of a row, or 0 where its denominator is not positive.
+#[inline]
+pub fn fraction<T: Integer>(fields: (T, T)) -> Ratio<T> {
+    if fields.1 > T::ZERO {
+        Ratio::new_raw(fields.0, fields.1)
+    } else {
+        Ratio::zero()
+    }
+}
+
+/// The fraction with these fields, where its denominator is positive.
+#[inline]
+pub fn positive<T: Integer>(numer: T, denom: T) -> Option<Ratio<T>> {
+    if T::ZERO < denom {
+        Some(Ratio::new_raw(numer, denom))
+    } else {
+        None
+    }
+}
+
+/// The fraction with these fields, where its denominator is not 0.
+#[inline]
+pub(crate) fn raw<T: Integer>(numer: T, denom: T) -> Option<Ratio<T>> {
+    if denom.is_zero() {
+        None
+    } else {
+        Some(Ratio::new_raw(numer, denom))
+    }
+}
+
+/// Whether the fraction has these fields.
+#[inline]
+pub(crate) fn has<T: Integer>(x: Ratio<T>, fields: (T, T)) -> bool {
+    x.into_raw() == fields
+}
+
+/// Whether the answer has these fields, or there is none.
+#[inline]
+pub(crate) fn answers<T: Integer>(answer: Option<Ratio<T>>, want: Option<(T, T)>) -> bool {
+    match answer {
+        Some(x) => want == Some(x.into_raw()),
+        None => want.is_none(),
+    }
+}
+
+/// The fields of the sum, where the checked call answers it and every other form gives the same.
+///
+/// # Conditions
+///
+/// What is proved asks of the caller:
+///
+/// - `left`: `pos 0 <ℤ denominator x`
+/// - `right`: `pos 0 <ℤ (O.pair o).1`
+#[inline]
+pub(crate) fn sum<T: Integer, O: Operand<T> + Copy>(x: Ratio<T>, o: O) -> Option<(T, T)> {
+    let y = o.ratio();
+    let fields = x.checked_add(&y)?.into_raw();
+    if every_sum(x, y, o, fields) {
+        Some(fields)
+    } else {
+        None
+    }
+}
+
+#[inline]
+fn every_sum<T: Integer, O: Operand<T> + Copy>(
+    x: Ratio<T>,
+    y: Ratio<T>,
+    o: O,
+    fields: (T, T),
+) -> bool {
+    let mut assigned = x;
+    assigned += o;
+    let named = has(x.add(y), fields);
+    let by_value = has(x + o, fields);
+    let by_reference = has(&x + o, fields);
+    [named, by_value, by_reference, has(assigned, fields)] == [true; 4]
+}
+
+/// The same of the difference.
+///
+/// # Conditions
+///
+/// What is proved asks of the caller:
+///
+/// - `left`: `pos 0 <ℤ denominator x`
+/// - `right`: `pos 0 <ℤ (O.pair o).1`
+#[inline]
+pub(crate) fn difference<T: Integer, O: Operand<T> + Copy>(x: Ratio<T>, o: O) -> Option<(T, T)> {
+    let y = o.ratio();
+    let fields = x.checked_sub(&y)?.into_raw();
+    if every_difference(x, y, o, fields) {
+        Some(fields)
+    } else {
+        None
+    }
+}
+
+#[inline]
+fn every_difference<T: Integer, O: Operand<T> + Copy>(
+    x: Ratio<T>,
+    y: Ratio<T>,
+    o: O,
+    fields: (T, T),
+) -> bool {
+    let mut assigned = x;
+    assigned -= o;
+    let named = has(x.sub(y), fields);
+    let by_value = has(x - o, fields);
+    let by_reference = has(&x - o, fields);
+    [named, by_value, by_reference, has(assigned, fields)] == [true; 4]
+}
+
+/// The same of the product.
+///
+/// # Conditions
+///
+/// What is proved asks of the caller:
+///
+/// - `left`: `pos 0 <ℤ denominator x`
+/// - `right`: `pos 0 <ℤ (O.pair o).1`
+#[inline]
+pub(crate) fn product<T: Integer, O: Operand<T> + Copy>(x: Ratio<T>, o: O) -> Option<(T, T)> {
+    let y = o.ratio();
+    let fields = x.checked_mul(&y)?.into_raw();
+    if every_product(x, y, o, fields) {
+        Some(fields)
+    } else {
+        None
+    }
+}
+
+#[inline]
+fn every_product<T: Integer, O: Operand<T> + Copy>(
+    x: Ratio<T>,
+    y: Ratio<T>,
+    o: O,
+    fields: (T, T),
+) -> bool {
+    let mut assigned = x;
+    assigned *= o;
+    let named = has(x.mul(y), fields);
+    let by_value = has(x * o, fields);
+    let by_reference = has(&x * o, fields);
+    [named, by_value, by_reference, has(assigned, fields)] == [true; 4]
+}
+
+/// The same of the quotient.
+///
+/// # Conditions
+///
+/// What is proved asks of the caller:
+///
+/// - `left`: `pos 0 <ℤ denominator x`
+/// - `right`: `pos 0 <ℤ (O.pair o).1`
+#[inline]
+pub(crate) fn quotient<T: Integer, O: Operand<T> + Copy>(x: Ratio<T>, o: O) -> Option<(T, T)> {
+    let y = o.ratio();
+    let fields = x.checked_div(&y)?.into_raw();
+    if every_quotient(x, y, o, fields) {
+        Some(fields)
+    } else {
+        None
+    }
+}
+
+#[inline]
+fn every_quotient<T: Integer, O: Operand<T> + Copy>(
+    x: Ratio<T>,
+    y: Ratio<T>,
+    o: O,
+    fields: (T, T),
+) -> bool {
+    let mut assigned = x;
+    assigned /= o;
+    let named = has(x.div(y), fields);
+    let by_value = has(x / o, fields);
+    let by_reference = has(&x / o, fields);
+    [named, by_value, by_reference, has(assigned, fields)] == [true; 4]
+}
+
+/// The same of the remainder.
+///
+/// # Conditions
+///
+/// What is proved asks of the caller:
+///
+/// - `left`: `pos 0 <ℤ denominator x`
+/// - `right`: `pos 0 <ℤ (O.pair o).1`
+#[inline]
+pub(crate) fn remainder<T: Integer, O: Operand<T> + Copy>(x: Ratio<T>, o: O) -> Option<(T, T)> {
+    let y = o.ratio();
+    let fields = x.checked_rem(&y)?.into_raw();
+    if every_remainder(x, y, o, fields) {
+        Some(fields)
+    } else {
+        None
+    }
+}
+
+#[inline]
+fn every_remainder<T: Integer, O: Operand<T> + Copy>(
+    x: Ratio<T>,
+    y: Ratio<T>,
+    o: O,
+    fields: (T, T),
+) -> bool {
+    let mut assigned = x;
+    assigned %= o;
+    let named = has(x.rem(y), fields);
+    let by_value = has(x % o, fields);
+    let by_reference = has(&x % o, fields);
+    [named, by_value, by_reference, has(assigned, fields)] == [true; 4]
+}

@@ -1,0 +1,404 @@
+// Erased from crates/tests_fractions/src/ratios/operators.rt by rust/erase: not to be edited.
+//! Rows of the five operators, by every form of each: the values of the Rust crate's own tests, under
+//! the names that they have there, and where a range ends.
+
+use crate::proved::tests_fractions::asserting::{all_hold, each_holds};
+use crate::proved::tests_fractions::ratios::forms::{self, fraction};
+use crate::proved::num_rational::{Operand, Ratio, Reduced, ReducedOperand};
+use crate::proved::ratio_integer::{Integer, Primitive};
+
+#[inline]
+fn answer<T: Integer, O: Operand<T> + Copy>(x: Ratio<T>, symbol: u8, o: O) -> Option<(T, T)> {
+    match symbol {
+        b'+' => forms::sum(x, o),
+        b'-' => forms::difference(x, o),
+        b'*' => forms::product(x, o),
+        b'/' => forms::quotient(x, o),
+        _ => forms::remainder(x, o),
+    }
+}
+
+// The same of a fraction in lowest terms.
+#[inline]
+fn lowest_answer<T: Integer, O: ReducedOperand<T>>(
+    x: Reduced<T>,
+    symbol: u8,
+    o: O,
+) -> Option<Reduced<T>> {
+    match symbol {
+        b'+' => x.checked_add(o),
+        b'-' => x.checked_sub(o),
+        b'*' => x.checked_mul(o),
+        b'/' => x.checked_div(o),
+        _ => x.checked_rem(o),
+    }
+}
+
+// Whether the answer has these fields, or there is none.
+#[inline]
+fn is_lowest<T: Integer>(answer: Option<Reduced<T>>, want: Option<(T, T)>) -> bool {
+    match answer {
+        Some(y) => Some(y.into_raw()) == want,
+        None => want.is_none(),
+    }
+}
+
+// Whether it is so from the lowest terms of the left side.
+#[inline]
+fn lowest_holds<T: Integer, O: ReducedOperand<T> + Copy>(
+    left: (T, T),
+    symbol: u8,
+    o: O,
+    want: Option<(T, T)>,
+) -> bool {
+    match Reduced::checked_new(left.0, left.1) {
+        Some(x) => is_lowest(lowest_answer(x, symbol, o), want),
+        None => false,
+    }
+}
+
+// And from those of the right side.
+#[inline]
+fn both_lowest_hold<T: Integer>(
+    left: (T, T),
+    symbol: u8,
+    right: (T, T),
+    want: Option<(T, T)>,
+) -> bool {
+    match Reduced::checked_new(right.0, right.1) {
+        Some(y) => lowest_holds(left, symbol, y, want) && lowest_holds(left, symbol, &y, want),
+        None => false,
+    }
+}
+
+// Whether it is so by every form: the right operand stands by value and behind a reference.
+#[inline]
+fn holds<T: Integer>(left: (T, T), symbol: u8, right: (T, T), want: Option<(T, T)>) -> bool {
+    let (x, y) = (fraction(left), fraction(right));
+    answer(x, symbol, y) == want
+        && answer(x, symbol, &y) == want
+        && both_lowest_hold(left, symbol, right, want)
+}
+
+// The same of a whole number on the right.
+#[inline]
+fn holds_with<T: Integer>(left: (T, T), symbol: u8, c: T, want: Option<(T, T)>) -> bool {
+    let x = fraction(left);
+    answer(x, symbol, c) == want
+        && answer(x, symbol, &c) == want
+        && lowest_holds(left, symbol, c, want)
+        && lowest_holds(left, symbol, &c, want)
+}
+
+// A row: a, b, a symbol, c, d, and the wanted answer for a/b and c/d.
+type Row<T> = (T, T, u8, T, T, Option<(T, T)>);
+
+// The first row that does not hold.
+#[inline]
+fn first_wrong<T: Integer>(rows: &[Row<T>]) -> Option<usize> {
+    for (i, &(a, b, symbol, c, d, want)) in rows.iter().enumerate() {
+        if !holds((a, b), symbol, (c, d), want) {
+            return Some(i);
+        }
+    }
+    None
+}
+
+#[inline]
+fn rows_hold<T: Integer>(rows: &[Row<T>]) {
+    all_hold("operators", first_wrong(rows));
+}
+
+#[test]
+fn test_add() {
+    rows_hold(
+        &[
+            (1i64, 1, b'+', 1, 2, Some((3, 2))),
+            (1, 1, b'+', 1, 1, Some((2, 1))),
+            (1, 2, b'+', 3, 2, Some((2, 1))),
+            (1, 2, b'+', -1, 2, Some((0, 1))),
+        ],
+    );
+    assert!(holds_with((1i64, 2), b'+', 1, Some((3, 2))));
+}
+
+#[test]
+fn test_sub() {
+    rows_hold(
+        &[
+            (1i64, 1, b'-', 1, 2, Some((1, 2))),
+            (3, 2, b'-', 1, 2, Some((1, 1))),
+            (1, 1, b'-', -1, 2, Some((3, 2))),
+        ],
+    );
+    assert!(holds_with((1i64, 2), b'-', 1, Some((-1, 2))));
+}
+
+#[test]
+fn test_mul() {
+    rows_hold(
+        &[
+            (1i64, 1, b'*', 1, 2, Some((1, 2))),
+            (3, 2, b'*', 1, 2, Some((3, 4))),
+            (-1, 2, b'*', 1, 2, Some((-1, 4))),
+        ],
+    );
+    assert!(holds_with((1i64, 2), b'*', 2, Some((1, 1))));
+}
+
+#[test]
+fn test_div() {
+    rows_hold(
+        &[
+            (1i64, 1, b'/', 1, 2, Some((2, 1))),
+            (3, 2, b'/', 1, 2, Some((3, 1))),
+            (1, 1, b'/', -1, 2, Some((-2, 1))),
+        ],
+    );
+    assert!(holds_with((1i64, 1), b'/', 2, Some((1, 2))));
+}
+
+#[test]
+fn test_rem() {
+    rows_hold(
+        &[
+            (3i64, 2, b'%', 1, 1, Some((1, 2))),
+            (3, 2, b'%', 1, 2, Some((0, 1))),
+            (5, 2, b'%', 3, 2, Some((1, 1))),
+            (2, 1, b'%', -1, 2, Some((0, 1))),
+            (1, 2, b'%', 2, 1, Some((1, 2))),
+            (-7, 2, b'%', 1, 1, Some((-1, 2))),
+        ],
+    );
+    assert!(holds_with((3i64, 2), b'%', 1, Some((1, 2))));
+}
+
+// The greatest number of a type.
+#[inline]
+fn most<T: Primitive>() -> u128 {
+    T::MAX.to_u128().unwrap_or(0)
+}
+
+// The number as one of a type that holds it.
+#[inline]
+fn number<T: Primitive>(n: u128) -> T {
+    T::from_u128(n).unwrap_or(T::ZERO)
+}
+
+// 1 over about half of M, and what it is times 2/3.
+#[inline]
+fn halves<T: Primitive>() -> ((T, T), (T, T)) {
+    let half = most::<T>() / 4;
+    ((T::ONE, number(half * 2)), (T::ONE, number(half * 3)))
+}
+
+// The number after three times a sixth of M.
+#[inline]
+fn about_half<T: Primitive>() -> T {
+    number(most::<T>() / 6 * 3 + 1)
+}
+
+// Whether the rows of products and of quotients near M hold.
+#[inline]
+fn multiples_hold<T: Primitive>(symbol: u8) -> bool {
+    let (x, want) = halves::<T>();
+    let (c, two, three) = (about_half::<T>(), number(2), number(3));
+    if symbol == b'*' {
+        holds(x, b'*', (two, three), Some(want))
+            && holds_with((c, three), b'*', three, Some((c, T::ONE)))
+    } else {
+        holds(x, b'/', (three, two), Some(want))
+            && holds_with((three, c), b'/', three, Some((T::ONE, c)))
+    }
+}
+
+// Whether the rows of an operator near the greatest number M hold, where naive products of the fields
+// are not held.
+#[inline]
+fn near_the_greatest<T: Primitive>(symbol: u8) -> bool {
+    let x = (T::ONE, T::MAX);
+    match symbol {
+        b'+' => holds(x, b'+', x, Some((number(2), T::MAX))),
+        b'-' => holds(x, b'-', x, Some((T::ZERO, T::ONE))),
+        b'%' => {
+            let y = (T::ONE, number(most::<T>() / 2 * 2));
+            holds((T::ONE, number(2)), b'%', y, Some((T::ZERO, T::ONE)))
+        }
+        _ => multiples_hold::<T>(symbol),
+    }
+}
+
+// Whether they hold at each of the twelve types.
+#[inline]
+fn at_each_type(symbol: u8) -> [bool; 12] {
+    [
+        near_the_greatest::<i8>(symbol),
+        near_the_greatest::<u8>(symbol),
+        near_the_greatest::<i16>(symbol),
+        near_the_greatest::<u16>(symbol),
+        near_the_greatest::<i32>(symbol),
+        near_the_greatest::<u32>(symbol),
+        near_the_greatest::<i64>(symbol),
+        near_the_greatest::<u64>(symbol),
+        near_the_greatest::<isize>(symbol),
+        near_the_greatest::<usize>(symbol),
+        near_the_greatest::<i128>(symbol),
+        near_the_greatest::<u128>(symbol),
+    ]
+}
+
+#[test]
+fn test_add_overflow() {
+    each_holds(&at_each_type(b'+'));
+}
+
+#[test]
+fn test_sub_overflow() {
+    each_holds(&at_each_type(b'-'));
+}
+
+#[test]
+fn test_mul_overflow() {
+    each_holds(&at_each_type(b'*'));
+}
+
+#[test]
+fn test_div_overflow() {
+    each_holds(&at_each_type(b'/'));
+}
+
+#[test]
+fn test_rem_overflow() {
+    each_holds(&at_each_type(b'%'));
+}
+
+#[test]
+fn test_zero() {
+    rows_hold(
+        &[
+            (0i64, 1, b'+', 0, 1, Some((0, 1))),
+            (0, 1, b'*', 0, 1, Some((0, 1))),
+            (0, 1, b'*', 1, 1, Some((0, 1))),
+            (0, 1, b'/', -1, 2, Some((0, 1))),
+            (0, 1, b'-', 0, 1, Some((0, 1))),
+        ],
+    );
+}
+
+#[test]
+fn test_checked_failures() {
+    rows_hold(
+        &[
+            (128u8, 1, b'+', 128, 1, None),
+            (1, 128, b'-', 128, 1, None),
+            (128, 1, b'*', 128, 1, None),
+            (1, 128, b'/', 128, 1, None),
+        ],
+    );
+    assert!(holds((1i64, 1), b'/', (0, 1), None));
+}
+
+#[inline]
+fn whole(n: i64) -> Option<(i64, i64)> {
+    Some((n, 1))
+}
+
+// The sum, the difference, the product and the quotient of two whole numbers.
+#[inline]
+fn four_hold(a: i64, c: i64, want: [Option<(i64, i64)>; 4]) {
+    let [sum, difference, product, quotient] = want;
+    rows_hold(
+        &[
+            (a, 1, b'+', c, 1, sum),
+            (a, 1, b'-', c, 1, difference),
+            (a, 1, b'*', c, 1, product),
+            (a, 1, b'/', c, 1, quotient),
+        ],
+    );
+}
+
+#[test]
+fn test_checked_zeros() {
+    four_hold(0, 0, [whole(0), whole(0), whole(0), None]);
+}
+
+#[test]
+fn test_checked_min() {
+    let least = i64::MIN;
+    let (same, next) = (whole(least), whole(least + 1));
+    four_hold(least, least, [None, whole(0), None, whole(1)]);
+    four_hold(0, least, [same, None, whole(0), whole(0)]);
+    four_hold(1, least, [next, None, same, None]);
+    four_hold(least, 0, [same, same, whole(0), None]);
+    four_hold(least, 1, [next, None, same, same]);
+}
+
+#[test]
+fn test_checked_max() {
+    let most = i64::MAX;
+    let (same, turned) = (whole(most), Some((1, most)));
+    four_hold(most, most, [None, whole(0), None, whole(1)]);
+    four_hold(0, most, [same, whole(-most), whole(0), whole(0)]);
+    four_hold(1, most, [None, whole(1 - most), same, turned]);
+    four_hold(most, 0, [same, same, whole(0), None]);
+    four_hold(most, 1, [None, whole(most - 1), same, same]);
+}
+
+#[test]
+fn test_checked_min_max() {
+    let (least, most) = (i64::MIN, i64::MAX);
+    let quotient = Some((least, most));
+    four_hold(least, most, [whole(-1), None, None, quotient]);
+    four_hold(most, least, [whole(-1), None, None, None]);
+}
+
+#[test]
+fn where_8_bits_end() {
+    rows_hold(
+        &[
+            (64i8, 1, b'/', -1, 2, Some((-128, 1))),
+            (100, 100, b'*', 7, 7, Some((1, 1))),
+            (-128, 1, b'/', -128, 1, Some((1, 1))),
+            (-128, 1, b'%', -1, 1, Some((0, 1))),
+            (0, 1, b'/', -128, 3, Some((0, 1))),
+            (127, 2, b'*', 2, 127, Some((1, 1))),
+            (127, 2, b'*', 127, 1, None),
+            (-128, 3, b'*', 3, 1, Some((-128, 1))),
+            (-128, 1, b'/', -1, 1, None),
+            (1, 1, b'/', -128, 127, None),
+            (-127, 2, b'%', 1, 1, Some((-1, 2))),
+        ],
+    );
+    rows_hold(
+        &[
+            (255u8, 2, b'+', 255, 2, None),
+            (1, 2, b'-', 1, 1, None),
+            (1, 1, b'%', 0, 3, None),
+        ],
+    );
+}
+
+#[test]
+fn where_32_bits_end() {
+    let half = (4294967295u32, 2);
+    assert!(holds(half, b'+', half, None));
+    let (most, b, d) = (2147483647i32, 11862016, 11993088);
+    rows_hold(
+        &[
+            (most, 2, b'+', most, 2, Some((most, 1))),
+            (1, b, b'+', 1, d, Some((91, 542687232))),
+            (1, b, b'-', 1, d, Some((1, 1085374464))),
+            (1, 2147483647, b'+', 1, 2147483646, None),
+        ],
+    );
+}
+
+#[test]
+fn where_64_bits_end() {
+    let (least, most) = (i64::MIN, i64::MAX);
+    let facts = [
+        holds((least, most), b'+', (least, most), None),
+        holds((1, 1), b'/', (least, 1), None),
+    ];
+    each_holds(&facts);
+}

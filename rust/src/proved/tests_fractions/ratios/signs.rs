@@ -1,0 +1,165 @@
+// Erased from crates/tests_fractions/src/ratios/signs.rt by rust/erase: not to be edited.
+//! Rows of the signs, and of the ends of a type in the order, from outside.
+use crate::proved::tests_fractions::asserting::{all_hold, each_holds};
+use crate::proved::tests_fractions::ratios::forms::positive;
+use crate::proved::num_rational::Ratio;
+use crate::proved::ratio_integer::{Integer, SignedInteger};
+use core::cmp::Ordering;
+
+// The fields of the negative of n/d by each form, and of its absolute value and sign, and whether it is above and below 0.
+type Signs<T> = ((T, T), (T, T), T, bool, bool);
+
+#[inline]
+fn signs<T: SignedInteger>(n: T, d: T) -> Option<Signs<T>> {
+    if d.is_zero() {
+        return None;
+    }
+    let _ = n.try_negate()?;
+    let x = Ratio::new_raw(n, d);
+    let negated = x.neg().into_raw();
+    if (-x).into_raw() != negated || (-&x).into_raw() != negated {
+        return None;
+    }
+    let (sign, _) = x.signum().into_raw();
+    Some((
+        negated,
+        x.abs().into_raw(),
+        sign,
+        x.is_positive(),
+        x.is_negative(),
+    ))
+}
+
+// The same numbers of `i64`.
+#[inline]
+fn long(fields: (i8, i8)) -> (i64, i64) {
+    (fields.0 as i64, fields.1 as i64)
+}
+
+#[inline]
+fn long_signs(want: Signs<i8>) -> Signs<i64> {
+    (long(want.0), long(want.1), want.2 as i64, want.3, want.4)
+}
+
+// The first row that has other signs, over `i8` or over `i64`.
+#[inline]
+fn first_wrong(rows: &[(i8, i8, Signs<i8>)]) -> Option<usize> {
+    for (i, &(n, d, want)) in rows.iter().enumerate() {
+        if signs(n, d) != Some(want) || signs(n as i64, d as i64) != Some(long_signs(want)) {
+            return Some(i);
+        }
+    }
+    None
+}
+
+#[inline]
+fn signs_hold(rows: &[(i8, i8, Signs<i8>)]) {
+    all_hold("signs", first_wrong(rows));
+}
+
+#[test]
+fn test_neg() {
+    signs_hold(
+        &[
+            (0, 1, ((0, 1), (0, 1), 0, false, false)),
+            (1, 2, ((-1, 2), (1, 2), 1, true, false)),
+            (-1, 1, ((1, 1), (1, 1), -1, false, true)),
+        ],
+    );
+}
+
+#[test]
+fn test_signed() {
+    signs_hold(
+        &[
+            (-1, 2, ((1, 2), (1, 2), -1, false, true)),
+            (1, -2, ((-1, -2), (-1, -2), -1, false, true)),
+            (-1, -2, ((1, -2), (-1, -2), 1, true, false)),
+            (0, -2, ((0, -2), (0, -2), 0, false, false)),
+        ],
+    );
+    let least = Ratio::new_raw(-128i8, -1);
+    let facts = [
+        least.signum().into_raw() == (1, 1),
+        least.abs().into_raw() == (-128, -1),
+        positive_difference((3, 2), (1, 2)) == Some((1, 1)),
+        positive_difference((1, 2), (3, 2)) == Some((0, 1)),
+        positive_difference((1, 2), (2, 4)) == Some((0, 1)),
+        positive_difference((i64::MIN, 1), (i64::MAX, 1)) == Some((0, 1)),
+        positive_difference((i64::MAX, 1), (i64::MIN, 1)).is_none(),
+    ];
+    each_holds(&facts);
+}
+
+// The difference that is not below 0, where the checked one answers or the first is not above.
+#[inline]
+fn positive_difference(left: (i64, i64), right: (i64, i64)) -> Option<(i64, i64)> {
+    let x = positive(left.0, left.1)?;
+    let y = positive(right.0, right.1)?;
+    if x.cmp(&y) != Ordering::Greater {
+        return Some(x.abs_sub(&y).into_raw());
+    }
+    match x.checked_sub(&y) {
+        Some(_) => Some(x.abs_sub(&y).into_raw()),
+        None => None,
+    }
+}
+
+#[inline]
+fn negated(x: Ratio<i8>) -> Option<Ratio<i8>> {
+    if i8::MIN < *x.numer() {
+        Some(x.neg())
+    } else {
+        None
+    }
+}
+
+#[inline]
+fn reciprocal(x: Ratio<i8>) -> Option<Ratio<i8>> {
+    if 0 < *x.denom() && 0 < *x.numer() {
+        Some(x.recip())
+    } else {
+        None
+    }
+}
+
+// How the two stand, as their reciprocals, their negatives and the negatives of their reciprocals say too.
+#[inline]
+fn order(a: (i8, i8), b: (i8, i8)) -> Option<Ordering> {
+    let (x, y) = (Ratio::checked_new(a.0, a.1)?, Ratio::checked_new(b.0, b.1)?);
+    let (x_turned, y_turned) = (reciprocal(x)?, reciprocal(y)?);
+    let order = x.cmp(&y);
+    let same = y_turned.cmp(&x_turned) == order
+        && negated(y)?.cmp(&negated(x)?) == order
+        && negated(x_turned)?.cmp(&negated(y_turned)?) == order
+        && negated(x)? < x;
+    if same { Some(order) } else { None }
+}
+
+// Whether each two of an ascending list stand so.
+#[inline]
+fn is_ascending(rows: &[(i8, i8)]) -> bool {
+    for (i, &a) in rows.iter().enumerate() {
+        for (k, &b) in rows.iter().enumerate() {
+            if order(a, b) != Some(i.cmp(&k)) {
+                return false;
+            }
+        }
+    }
+    true
+}
+
+#[test]
+fn test_cmp_overflow() {
+    let large = Ratio::from_integer(128u8);
+    assert!(large.recip() < large);
+    let ascending = [
+        (125i8, 127i8),
+        (63, 64),
+        (124, 125),
+        (125, 126),
+        (126, 127),
+        (127, 126),
+    ];
+    assert!(is_ascending(&ascending));
+}

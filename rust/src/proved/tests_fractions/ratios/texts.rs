@@ -1,0 +1,184 @@
+// Erased from crates/tests_fractions/src/ratios/texts.rt by rust/erase: not to be edited.
+//! Rows of texts, read and printed, from outside.
+use crate::proved::tests_fractions::asserting::{all_hold, each_holds, reads as reads_as};
+use crate::proved::tests_fractions::ratios::forms::raw;
+use crate::proved::num_rational::{DecimalText, Form, Ratio, RatioText};
+use crate::proved::ratio_integer::Primitive;
+use core::fmt;
+use core::fmt::Binary;
+use core::fmt::Display;
+use core::fmt::Formatter;
+use crate::test_support::InlineText;
+use core::fmt::LowerHex;
+use core::fmt::Octal;
+use core::fmt::UpperHex;
+use core::fmt::Write;
+
+// Whether the text in the radix is answered by these fields, or by the refusal of this number.
+#[inline]
+fn reads<T: Primitive>(text: &str, radix: u32, want: Result<(T, T), u8>) -> bool {
+    if radix < 2 || radix > 36 {
+        return false;
+    }
+    match (Ratio::<T>::from_str_radix(text, radix), want) {
+        (Ok(x), Ok((numer, denom))) => *x.numer() == numer && *x.denom() == denom,
+        (Err(refusal), Err(number)) => refusal.kind() as u8 == number,
+        _ => false,
+    }
+}
+
+#[test]
+fn texts_in_a_radix() {
+    let facts = [
+        reads::<u8>("-0/1", 10, Err(1)),
+        reads::<u8>("100000000/1", 2, Err(1)),
+        reads::<i8>("+10/0x2", 16, Err(1)),
+        reads::<i8>("z/0", 10, Err(1)),
+        reads::<i8>("z/0", 36, Err(2)),
+        reads::<i32>("5", 10, Err(1)),
+        reads::<i32>("fF/-2", 16, Ok((-255, 2))),
+        reads::<i32>("z/Z", 36, Ok((1, 1))),
+    ];
+    each_holds(&facts);
+}
+
+/// A fraction that is printed in a form, under the options of the hole that it stands in.
+pub(crate) struct Shown<X: Copy + Display + Binary + Octal + LowerHex + UpperHex> {
+    pub fraction: X,
+    pub form: Form,
+}
+
+impl<X: Copy + Display + Binary + Octal + LowerHex + UpperHex> Display for Shown<X> {
+    #[inline]
+    fn fmt(&self, f: &mut Formatter<'_>) -> fmt::Result {
+        match self.form {
+            Form::Decimal => Display::fmt(&self.fraction, f),
+            Form::Binary => Binary::fmt(&self.fraction, f),
+            Form::Octal => Octal::fmt(&self.fraction, f),
+            Form::LowerHex => LowerHex::fmt(&self.fraction, f),
+            Form::UpperHex => UpperHex::fmt(&self.fraction, f),
+        }
+    }
+}
+
+/// `numer/denom` in this form, and 0/1 where the denominator is 0.
+#[inline]
+pub(crate) fn shown_as<T: Primitive>(numer: T, denom: T, form: Form) -> Shown<Ratio<T>> {
+    let fraction = raw(numer, denom).unwrap_or(Ratio::zero());
+    Shown { fraction, form }
+}
+
+// A row of printed fractions.
+type Line = InlineText<120>;
+
+/// The first form in which -7/12 over `i8` is printed otherwise: plain, with a sign, with a prefix, in a width, and with
+/// zeros.
+#[inline]
+pub(crate) fn first_misprinted<X>(fraction: X) -> Option<usize>
+where
+    X: Copy + Display + Binary + Octal + LowerHex + UpperHex,
+{
+    let rows = [
+        (Form::Decimal, "-7/12|-7/12|-7/12|    -7/12|-00000007/12"),
+        (
+            Form::Binary,
+            "11111001/1100|+11111001/1100|0b11111001/0b1100|11111001/1100|0b11111001/0b1100",
+        ),
+        (
+            Form::Octal,
+            "371/14|+371/14|0o371/0o14|   371/14|0o00371/0o14",
+        ),
+        (Form::LowerHex, "f9/c|+f9/c|0xf9/0xc|     f9/c|0x0000f9/0xc"),
+        (Form::UpperHex, "F9/C|+F9/C|0xF9/0xC|     F9/C|0x0000F9/0xC"),
+    ];
+    for (i, &(form, want)) in rows.iter().enumerate() {
+        let shown = Shown { fraction, form };
+        let line = Line::of(format_args!("{shown}|{shown:+}|{shown:#}|{shown:>9}|{shown:#012}"));
+        if line.as_str() != want {
+            return Some(i);
+        }
+    }
+    None
+}
+
+#[test]
+fn each_form_is_printed() {
+    all_hold("forms", first_misprinted(Ratio::new_raw(-7i8, 12)));
+}
+
+#[inline]
+fn signs() {
+    let two = shown_as(2i64, 1, Form::Decimal);
+    let minus_two = shown_as(-2i64, 1, Form::Decimal);
+    let half = shown_as(1i64, 2, Form::Binary);
+    let row = Line::of(format_args!("{two:+} {minus_two:+} {half} {half:+}"));
+    reads_as(row.as_str(), "+2 -2 1/10 +1/10");
+}
+
+#[inline]
+fn prefixes() {
+    let binary = shown_as(-1i8, 2, Form::Binary);
+    let octal = shown_as(-1i8, 2, Form::Octal);
+    let upper = shown_as(-1i8, 2, Form::UpperHex);
+    let row = Line::of(format_args!("{binary:#} {octal:#} {upper:#}"));
+    reads_as(row.as_str(), "0b11111111/0b10 0o377/0o2 0xFF/0x2");
+}
+
+#[inline]
+fn letters() {
+    let fifteenth = shown_as(1i64, 15, Form::UpperHex);
+    let lower = shown_as(-1i8, 2, Form::LowerHex);
+    let row = Line::of(format_args!("{fifteenth} {lower} {lower:+}"));
+    reads_as(row.as_str(), "1/F ff/2 +ff/2");
+}
+
+#[test]
+fn signs_and_prefixes() {
+    signs();
+    prefixes();
+    letters();
+    let decimal = shown_as(1i8, -2, Form::Decimal);
+    let binary = shown_as(1i8, -2, Form::Binary);
+    let row = Line::of(format_args!("{decimal} {binary}"));
+    reads_as(row.as_str(), "1/-2 1/11111110");
+}
+
+#[inline]
+fn decimal_widths() {
+    let half = shown_as(1i64, 2, Form::Decimal);
+    let minus_one = shown_as(-1i8, 1, Form::Decimal);
+    let row = Line::of(format_args!("{half:<6}|{half:>8}|{half:*^7}|{minus_one:05}"));
+    reads_as(row.as_str(), "1/2   |     1/2|**1/2**|-0001");
+}
+
+#[inline]
+fn prefixed_widths() {
+    let half = shown_as(1i64, 2, Form::Binary);
+    let eighth = shown_as(1i64, 8, Form::Octal);
+    let row = Line::of(format_args!("{half:010} {half:#010} {eighth:#010}"));
+    reads_as(row.as_str(), "0000001/10 0b001/0b10 0o001/0o10");
+}
+
+#[test]
+fn widths() {
+    decimal_widths();
+    prefixed_widths();
+    let long = shown_as(u128::MAX, u128::MAX, Form::Binary)
+        .fraction
+        .text(Form::Binary, true);
+    assert!(long.as_str().len() == 261);
+}
+
+#[test]
+fn texts_in_place() {
+    let half = Ratio::new_raw(-2i64, 4);
+    reads_as(half.decimal_text().as_str(), "-2/4");
+    let mut decimal = DecimalText::empty();
+    half.put_decimal_text(&mut decimal);
+    reads_as(decimal.as_str(), "-2/4");
+    Ratio::from_integer(7i64).put_decimal_text(&mut decimal);
+    reads_as(decimal.as_str(), "7");
+    let mut text = RatioText::empty();
+    half.put_text(Form::LowerHex, true, &mut text);
+    reads_as(text.as_str(), "0xfffffffffffffffe/0x4");
+}

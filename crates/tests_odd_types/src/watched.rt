@@ -7,6 +7,7 @@ use ratio_core::nearest::nearest;
 use ratio_integer::Integer;
 use ratio_odd::Watch8;
 use std::cell::Cell;
+use std::cmp::Ordering;
 use std::process::Abort;
 use std::test::Fail;
 
@@ -28,15 +29,47 @@ fn are_within(divs: &Cell<u32>, sums: &Cell<u32>, most: u8) -> bool {
     divs.get() <= most as u32 && sums.get() <= 8 * (most as u32 + 1)
 }
 
-/// Whether `cmp` of the two makes at most so many divisions and answers as the model does, if both
-/// are fractions.
-fn compares_within(x: Plain, y: Plain, most: u8) -> Option<bool> {
+/// A call that compares two fractions.
+#[derive(Clone, Copy)]
+enum Comparison {
+    Cmp,
+    PartialCmp,
+    Equal,
+    Below,
+}
+
+/// Whether the call says that `x` and `y` have this order.
+fn says<T: Integer>(x: Ratio<T>, call: Comparison, y: Ratio<T>, order: Ordering) -> bool {
+    match call {
+        Comparison::Cmp => x.cmp(&y) == order,
+        Comparison::PartialCmp => x.partial_cmp(&y) == Some(order),
+        Comparison::Equal => (x == y) == order.is_eq(),
+        Comparison::Below => (x < y) == order.is_lt(),
+    }
+}
+
+/// Whether the call makes at most so many divisions and says what the model does, if both are
+/// fractions.
+fn says_within(x: Plain, call: Comparison, y: Plain, most: u8) -> Option<bool> {
     let divs = Cell::new(0);
     let sums = Cell::new(0);
     let left = watched(x, &divs, &sums)?;
     let right = watched(y, &divs, &sums)?;
-    let order = left.cmp(&right);
-    Some(order == plain::order(x, y) && are_within(&divs, &sums, most))
+    Some(says(left, call, right, plain::order(x, y)) && are_within(&divs, &sums, most))
+}
+
+/// Whether `cmp`, `partial_cmp`, `==` and `<` do, each with counters of its own.
+fn compares_within(x: Plain, y: Plain, most: u8) -> Option<bool> {
+    let mut all = true;
+    for call in [
+        Comparison::Cmp,
+        Comparison::PartialCmp,
+        Comparison::Equal,
+        Comparison::Below,
+    ] {
+        all = all && says_within(x, call, y, most)?;
+    }
+    Some(all)
 }
 
 /// Whether `hash` makes at most so many divisions, if this is a fraction.

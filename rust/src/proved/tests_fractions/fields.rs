@@ -2,6 +2,7 @@
 //! The calls on two numbers, of `ratio_core`.
 mod arithmetic;
 mod comparing;
+mod every_call;
 mod laws;
 mod nearest;
 mod printing;

@@ -51,7 +51,7 @@ fn divisors_of_equal_lower_halves() {
         ((6u128 << 64) + 21).gcd(21) == 3,
         1_936_908_127_739_502_919_701u128.gcd(387_381_625_547_900_583_957) == 21,
         387_381_625_547_900_583_957i128.gcd(-1_190_423_735_308_698_494_435_349) == 21,
-        // They differ by 21 times 2^65. A step that keeps one of the twos ends after 2^60 more.
+        // They differ by 21 times 2^65. If a factor 2 stays in a difference, the loop takes 2^55 steps or more.
         27_913_787_911_483_234_105_743_199_361_688_403_989u128.gcd(
             27_913_787_911_483_233_330_979_948_265_887_236_117,
         ) == 21,

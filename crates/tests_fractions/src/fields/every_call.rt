@@ -1,0 +1,102 @@
+//! The calls on fields that fractions pass on to, each once at a concrete type.
+use crate::asserting::{each_holds, reads};
+use ratio_core::checked_new::checked_new;
+use ratio_core::pow::{checked_pow, checked_pow_with, checked_recip, pow, pow_with, recip};
+use ratio_core::rounding::{
+    ceil, floor, fract, round, to_i64, to_i128, to_integer, to_u64, to_u128, trunc,
+};
+use ratio_core::sign::{abs, abs_sub, is_negative, is_positive, neg, signum};
+use ratio_core::sums::checked_sub;
+use ratio_core::text::{decimal_text, from_str, from_str_radix, put_decimal_text, put_text};
+use ratio_core::{DecimalText, Form, RatioText};
+use ratio_integer::{cancelled, lowest_terms};
+
+#[test]
+fn reducing(rt: HostRuntime) {
+    let facts = [
+        checked_new(6i64, -4) == Some((-3, 2)),
+        lowest_terms(-6i64, 4) == (-3, 2),
+        cancelled(6i64, -4) == (3, -2),
+        recip(-2i64, 3) == (-3, 2),
+        checked_recip(-2i64, 3) == Some((-3, 2)),
+    ];
+    each_holds(&rt, &facts);
+}
+
+// The power by each call, where the checked one answers and the others give the same.
+fn power(n: i64, d: i64, e: i32) -> Option<(i64, i64)> {
+    if d <= 0 {
+        return None;
+    }
+    let answer = checked_pow(n, d, e)?;
+    if pow(n, d, e) == answer
+        && pow_with(n, d, e) == answer
+        && checked_pow_with(n, d, e) == Some(answer)
+    {
+        Some(answer)
+    } else {
+        None
+    }
+}
+
+#[test]
+fn powers(rt: HostRuntime) {
+    each_holds(&rt, &[power(-2, 3, -3) == Some((-27, 8))]);
+}
+
+#[test]
+fn rounding(rt: HostRuntime) {
+    let facts = [
+        floor(-7i64, 2) == -4,
+        ceil(-7i64, 2) == -3,
+        trunc(-7i64, 2) == -3,
+        round(-7i64, 2) == -4,
+        fract(-7i64, 2) == -1,
+        to_integer(-7i64, 2) == -3,
+        to_i64(-7i64, 2) == Some(-3),
+        to_i128(-7i64, 2) == Some(-3),
+        to_u64(7i64, 2) == Some(3),
+        to_u128(-7i64, 2).is_none(),
+    ];
+    each_holds(&rt, &facts);
+}
+
+// The difference that is not below 0, where the checked one answers.
+fn positive_difference(a: i64, b: i64, c: i64, d: i64) -> Option<(i64, i64)> {
+    if b <= 0 || d <= 0 {
+        return None;
+    }
+    match checked_sub(a, b, c, d) {
+        Some(_) => Some(abs_sub(a, b, c, d)),
+        None => None,
+    }
+}
+
+#[test]
+fn signs(rt: HostRuntime) {
+    let facts = [
+        neg(3i64) == -3,
+        abs(-7i64, 2) == 7,
+        signum(-7i64, 2) == -1,
+        is_positive(-7i64, -2),
+        is_negative(7i64, -2),
+        positive_difference(3, 2, 1, 2) == Some((1, 1)),
+    ];
+    each_holds(&rt, &facts);
+}
+
+#[test]
+fn texts(rt: HostRuntime) {
+    let facts = [
+        from_str::<i64>("6/-4").ok() == Some((-3, 2)),
+        from_str_radix::<i64>("f/A", 16).ok() == Some((3, 2)),
+    ];
+    each_holds(&rt, &facts);
+    reads(&rt, decimal_text(-2i64, 4).as_str(), "-2/4");
+    let mut decimal = DecimalText::empty();
+    put_decimal_text(-2i64, 4, &mut decimal);
+    reads(&rt, decimal.as_str(), "-2/4");
+    let mut text = RatioText::empty();
+    put_text(15i64, 2, Form::LowerHex, true, &mut text);
+    reads(&rt, text.as_str(), "0xf/0x2");
+}

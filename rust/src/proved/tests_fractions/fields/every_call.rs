@@ -1,6 +1,6 @@
-// Erased from crates/ratio_rows/src/fields/every_call.rt by rust/erase: not to be edited.
+// Erased from crates/tests_fractions/src/fields/every_call.rt by rust/erase: not to be edited.
 //! The calls on fields that fractions pass on to, each once at a concrete type.
-use crate::proved::ratio_rows::asserting::{each_holds, reads};
+use crate::proved::tests_fractions::asserting::{each_holds, reads};
 use crate::proved::ratio_core::checked_new::checked_new;
 use crate::proved::ratio_core::pow::{checked_pow, checked_pow_with, checked_recip, pow, pow_with, recip};
 use crate::proved::ratio_core::rounding::{

@@ -6,10 +6,10 @@
 mod arithmetic;
 mod conversions;
 mod integer;
-mod lowest;
 mod order;
 mod powers;
 mod ratio;
+mod reduced;
 mod rounding;
 #[cfg(feature = "serde")]
 mod serialized;
@@ -17,5 +17,5 @@ mod sign;
 mod text;
 
 pub use integer::Integer;
-pub use lowest::{Reduced, Reduced32, Reduced64};
 pub use ratio::{Ratio, Rational, Rational32, Rational64};
+pub use reduced::{Reduced, Reduced32, Reduced64};

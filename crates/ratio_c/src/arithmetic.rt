@@ -4,14 +4,14 @@ ghost use Rattle.num_rational.specs.Operators.{numbers};
 ghost use Rattle.ratio_c.specs.Calls.{BothPositive, IsDifferenceAnswer, IsProductAnswer, IsQuotientAnswer, IsRemainderAnswer, IsSumAnswer};
 
 use crate::code::{DENOMINATOR_NOT_POSITIVE, DIVISION_BY_ZERO};
-use crate::crossing::{Reply, Two, checked, refused};
+use crate::crossing::{Reply, TwoFractions, checked, refused};
 use crate::each::Call;
 use num_rational::Ratio;
 use ratio_integer::Integer;
 
 /// The two fractions of a pair, where their denominators are positive.
 #[inline(always)]
-fn both<P: Two>(pair: &P) -> Option<(Ratio<P::Inside>, Ratio<P::Inside>)>
+fn both<P: TwoFractions>(pair: &P) -> Option<(Ratio<P::Inside>, Ratio<P::Inside>)>
     ensures { MatchOption result
         (¬ (BothPositive (P.left pair.now) (P.right pair.now)))
         (λ x. BothPositive (numbers x.0) (numbers x.1)
@@ -31,7 +31,7 @@ fn both<P: Two>(pair: &P) -> Option<(Ratio<P::Inside>, Ratio<P::Inside>)>
 #[derive(Clone, Copy)]
 pub struct Sum;
 
-impl<P: Two, A: Reply<P::Inside>> Call<P, A> for Sum {
+impl<P: TwoFractions, A: Reply<P::Inside>> Call<P, A> for Sum {
     ghost gives = { λ _ pair answer. IsSumAnswer P.Inside.EXACT_SUMS P.Inside.lo P.Inside.hi (P.left pair) (P.right pair) (A.said answer) };
 
     #[inline(always)]
@@ -47,7 +47,7 @@ impl<P: Two, A: Reply<P::Inside>> Call<P, A> for Sum {
 #[derive(Clone, Copy)]
 pub struct Difference;
 
-impl<P: Two, A: Reply<P::Inside>> Call<P, A> for Difference {
+impl<P: TwoFractions, A: Reply<P::Inside>> Call<P, A> for Difference {
     ghost gives = { λ _ pair answer. IsDifferenceAnswer P.Inside.EXACT_SUMS P.Inside.lo P.Inside.hi (P.left pair) (P.right pair) (A.said answer) };
 
     #[inline(always)]
@@ -63,7 +63,7 @@ impl<P: Two, A: Reply<P::Inside>> Call<P, A> for Difference {
 #[derive(Clone, Copy)]
 pub struct Product;
 
-impl<P: Two, A: Reply<P::Inside>> Call<P, A> for Product {
+impl<P: TwoFractions, A: Reply<P::Inside>> Call<P, A> for Product {
     ghost gives = { λ _ pair answer. IsProductAnswer P.Inside.lo P.Inside.hi (P.left pair) (P.right pair) (A.said answer) };
 
     #[inline(always)]
@@ -79,7 +79,7 @@ impl<P: Two, A: Reply<P::Inside>> Call<P, A> for Product {
 #[derive(Clone, Copy)]
 pub struct Quotient;
 
-impl<P: Two, A: Reply<P::Inside>> Call<P, A> for Quotient {
+impl<P: TwoFractions, A: Reply<P::Inside>> Call<P, A> for Quotient {
     ghost gives = { λ _ pair answer. IsQuotientAnswer P.Inside.lo P.Inside.hi (P.left pair) (P.right pair) (A.said answer) };
 
     #[inline(always)]
@@ -96,7 +96,7 @@ impl<P: Two, A: Reply<P::Inside>> Call<P, A> for Quotient {
 #[derive(Clone, Copy)]
 pub struct Remainder;
 
-impl<P: Two, A: Reply<P::Inside>> Call<P, A> for Remainder {
+impl<P: TwoFractions, A: Reply<P::Inside>> Call<P, A> for Remainder {
     ghost gives = { λ _ pair answer. IsRemainderAnswer P.Inside.lo P.Inside.hi (P.left pair) (P.right pair) (A.said answer) };
 
     #[inline(always)]

@@ -4,7 +4,7 @@ ghost use Rattle.ratio_c.specs.Calls.{IsOrderAnswer};
 ghost use Rattle.ratio_c.specs.Crossing.{order_number};
 
 use crate::code::{ANSWERED, ZERO_DENOMINATOR};
-use crate::crossing::Two;
+use crate::crossing::TwoFractions;
 use crate::each::Call;
 use num_rational::Ratio;
 use ratio_integer::Integer;
@@ -22,7 +22,7 @@ pub struct Order {
 #[derive(Clone, Copy)]
 pub struct Comparison;
 
-impl<P: Two> Call<P, Order> for Comparison {
+impl<P: TwoFractions> Call<P, Order> for Comparison {
     ghost gives = { λ _ pair answer. IsOrderAnswer (P.left pair) (P.right pair) answer.code answer.order };
 
     #[inline(always)]

@@ -36,7 +36,7 @@ impl Digest for i128 {
 }
 
 /// A fraction.
-pub trait One {
+pub trait OneFraction {
     /// The type of its two numbers inside.
     type Inside: Digest;
 
@@ -49,7 +49,7 @@ pub trait One {
 }
 
 /// A fraction and the exponent of its power.
-pub trait Raised: One {
+pub trait Raised: OneFraction {
     ghost exponent: { Self → ℤ };
 
     /// The exponent.
@@ -58,7 +58,7 @@ pub trait Raised: One {
 }
 
 /// Two fractions.
-pub trait Two {
+pub trait TwoFractions {
     /// The type of their numbers inside.
     type Inside: Primitive;
 

@@ -4,7 +4,7 @@ ghost use Rattle.ratio_c.specs.Calls.{IsHashAnswer, IsHashOf};
 ghost use Rattle.ratio_c.specs.Crossing.{mixed};
 
 use crate::code::{ANSWERED, ZERO_DENOMINATOR};
-use crate::crossing::{Digest, One};
+use crate::crossing::{Digest, OneFraction};
 use crate::each::Call;
 use ratio_core::{CodeList, Steps, Taken, hash_counted};
 use ratio_integer::Integer;
@@ -57,7 +57,7 @@ fn hash_of<T: Digest>(n: T, d: T) -> u64
 #[derive(Clone, Copy)]
 pub struct Hashing;
 
-impl<F: One> Call<F, Hash> for Hashing {
+impl<F: OneFraction> Call<F, Hash> for Hashing {
     ghost gives = { λ _ x answer. IsHashAnswer F.Inside.lo F.Inside.hi (F.fraction x) answer.code answer.hash };
 
     #[inline(always)]

@@ -10,7 +10,7 @@ pub mod hash;
 pub mod numbers128;
 pub mod numbers32;
 pub mod numbers64;
-pub mod one;
+pub mod one_fraction;
 pub mod printing;
 pub mod reading;
 #[cfg(test)]

@@ -8,10 +8,10 @@ ghost use Rattle.ratio_c.specs.Texts.{Prints};
 
 use crate::arithmetic::{Difference, Product, Quotient, Remainder, Sum};
 use crate::compare::{Comparison, Order};
-use crate::crossing::{One, Raised, Reply, Two};
+use crate::crossing::{OneFraction, Raised, Reply, TwoFractions};
 use crate::each::each;
 use crate::hash::{Hash, Hashing};
-use crate::one::{Floor, LowestTerms, Raising, Rounding};
+use crate::one_fraction::{Floor, LowestTerms, Raising, Rounding};
 use crate::printing::{Text, print};
 use crate::reading::{Reading, Span};
 use crate::wide::Wide;
@@ -51,7 +51,7 @@ pub struct Answer128 {
     pub value: Fraction128,
 }
 
-impl One for Fraction128 {
+impl OneFraction for Fraction128 {
     type Inside = i128;
 
     ghost fraction = { fraction128 };
@@ -62,7 +62,7 @@ impl One for Fraction128 {
     }
 }
 
-impl One for Power128 {
+impl OneFraction for Power128 {
     type Inside = i128;
 
     ghost fraction = { λ x. fraction128 x.base };
@@ -82,7 +82,7 @@ impl Raised for Power128 {
     }
 }
 
-impl Two for Pair128 {
+impl TwoFractions for Pair128 {
     type Inside = i128;
 
     ghost left = { λ x. fraction128 x.left };

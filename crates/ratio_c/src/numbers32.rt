@@ -8,10 +8,10 @@ ghost use Rattle.ratio_c.specs.Texts.{Prints};
 
 use crate::arithmetic::{Difference, Product, Quotient, Remainder, Sum};
 use crate::compare::{Comparison, Order};
-use crate::crossing::{One, Raised, Reply, Two};
+use crate::crossing::{OneFraction, Raised, Reply, TwoFractions};
 use crate::each::each;
 use crate::hash::{Hash, Hashing};
-use crate::one::{Floor, LowestTerms, Raising, Rounding};
+use crate::one_fraction::{Floor, LowestTerms, Raising, Rounding};
 use crate::printing::{Text, print};
 use crate::reading::{Reading, Span};
 
@@ -50,7 +50,7 @@ pub struct Answer32 {
     pub value: Fraction32,
 }
 
-impl One for Fraction32 {
+impl OneFraction for Fraction32 {
     type Inside = i32;
 
     ghost fraction = { fraction32 };
@@ -61,7 +61,7 @@ impl One for Fraction32 {
     }
 }
 
-impl One for Power32 {
+impl OneFraction for Power32 {
     type Inside = i32;
 
     ghost fraction = { λ x. fraction32 x.base };
@@ -81,7 +81,7 @@ impl Raised for Power32 {
     }
 }
 
-impl Two for Pair32 {
+impl TwoFractions for Pair32 {
     type Inside = i32;
 
     ghost left = { λ x. fraction32 x.left };

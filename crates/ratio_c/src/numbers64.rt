@@ -8,10 +8,10 @@ ghost use Rattle.ratio_c.specs.Texts.{Prints};
 
 use crate::arithmetic::{Difference, Product, Quotient, Remainder, Sum};
 use crate::compare::{Comparison, Order};
-use crate::crossing::{One, Raised, Reply, Two};
+use crate::crossing::{OneFraction, Raised, Reply, TwoFractions};
 use crate::each::each;
 use crate::hash::{Hash, Hashing};
-use crate::one::{Floor, LowestTerms, Raising, Rounding};
+use crate::one_fraction::{Floor, LowestTerms, Raising, Rounding};
 use crate::printing::{Text, print};
 use crate::reading::{Reading, Span};
 
@@ -50,7 +50,7 @@ pub struct Answer64 {
     pub value: Fraction64,
 }
 
-impl One for Fraction64 {
+impl OneFraction for Fraction64 {
     type Inside = i64;
 
     ghost fraction = { fraction64 };
@@ -61,7 +61,7 @@ impl One for Fraction64 {
     }
 }
 
-impl One for Power64 {
+impl OneFraction for Power64 {
     type Inside = i64;
 
     ghost fraction = { λ x. fraction64 x.base };
@@ -81,7 +81,7 @@ impl Raised for Power64 {
     }
 }
 
-impl Two for Pair64 {
+impl TwoFractions for Pair64 {
     type Inside = i64;
 
     ghost left = { λ x. fraction64 x.left };

@@ -4,7 +4,7 @@ ghost use Rattle.ratio_core.specs.Printing.{decimal_room};
 ghost use Rattle.ratio_c.specs.Texts.{Prints, shown, shown_code};
 
 use crate::code::{ANSWERED, ZERO_DENOMINATOR};
-use crate::crossing::One;
+use crate::crossing::OneFraction;
 use crate::each::{BAD_LENGTH, DONE};
 use crate::reading::Span;
 use ratio_core::text::decimal_text;
@@ -21,7 +21,12 @@ pub struct Text {
 /// Writes the texts of fractions one after another, and where each stands. There is to be an answer for
 /// each fraction, and so much room for each text.
 #[inline(always)]
-pub fn print<F: One>(asked: &[F], room: usize, texts: &mut [u8], answers: &mut [Text]) -> u32
+pub fn print<F: OneFraction>(
+    asked: &[F],
+    room: usize,
+    texts: &mut [u8],
+    answers: &mut [Text],
+) -> u32
     requires { decimal_room F.Inside.lo F.Inside.hi ≤ room }
     ensures { Prints F.Inside.BITS room F.fraction asked.now texts.old texts.new answers.old answers.new result }
 {
@@ -48,7 +53,7 @@ fn has_room(count: usize, room: usize, len: usize) -> bool
 }
 
 /// Puts the text of a fraction at a place.
-fn put<F: One>(x: &F, texts: &mut [u8], at: usize) -> Text
+fn put<F: OneFraction>(x: &F, texts: &mut [u8], at: usize) -> Text
     requires { at + decimal_room F.Inside.lo F.Inside.hi ≤ length texts.old }
     ensures code { result.code ≡ shown_code (F.fraction x.now) }
     ensures start { result.span.start ≡ at }

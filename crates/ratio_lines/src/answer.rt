@@ -74,7 +74,7 @@ fn go_on(so_far: AnswerText, operator: Operator, right: Rational64) -> AnswerTex
 {
     match so_far {
         Either::Left(text) => Either::Left(text),
-        Either::Right(left) => apply_operator(operator, left, right),
+        Either::Right(so_far) => apply_operator(operator, so_far, right),
     }
 }
 

@@ -7,7 +7,7 @@ mod answered;
 #[cfg(test)]
 mod devices;
 #[cfg(test)]
-mod faces;
+mod every_call;
 #[cfg(test)]
 mod faults;
 #[cfg(test)]

@@ -4,14 +4,14 @@ ghost use Rattle.num_rational.specs.Operators.{numbers};
 ghost use Rattle.ratio_c.specs.Calls.{IsFloorAnswer, IsLowestAnswer, IsPowerAnswer, IsRoundAnswer};
 
 use crate::code::{DENOMINATOR_NOT_POSITIVE, ZERO_DENOMINATOR};
-use crate::crossing::{One, Raised, Reply, checked, refused};
+use crate::crossing::{OneFraction, Raised, Reply, checked, refused};
 use crate::each::Call;
 use num_rational::Ratio;
 use ratio_integer::Integer;
 
 /// The fraction, where its denominator is positive.
 #[inline(always)]
-fn positive<F: One>(x: &F) -> Option<Ratio<F::Inside>>
+fn positive<F: OneFraction>(x: &F) -> Option<Ratio<F::Inside>>
     ensures { MatchOption result
         (¬ (pos 0 <ℤ (F.fraction x.now).1))
         (λ r. (pos 0 <ℤ (numbers r).1) × (numbers r ≡ F.fraction x.now)) }
@@ -28,7 +28,7 @@ fn positive<F: One>(x: &F) -> Option<Ratio<F::Inside>>
 #[derive(Clone, Copy)]
 pub struct LowestTerms;
 
-impl<F: One, A: Reply<F::Inside>> Call<F, A> for LowestTerms {
+impl<F: OneFraction, A: Reply<F::Inside>> Call<F, A> for LowestTerms {
     ghost gives = { λ _ x answer. IsLowestAnswer F.Inside.lo F.Inside.hi (F.fraction x) (A.said answer) };
 
     #[inline(always)]
@@ -46,7 +46,7 @@ impl<F: One, A: Reply<F::Inside>> Call<F, A> for LowestTerms {
 #[derive(Clone, Copy)]
 pub struct Floor;
 
-impl<F: One, A: Reply<F::Inside>> Call<F, A> for Floor {
+impl<F: OneFraction, A: Reply<F::Inside>> Call<F, A> for Floor {
     ghost gives = { λ _ x answer. IsFloorAnswer (F.fraction x) (A.said answer) };
 
     #[inline(always)]
@@ -62,7 +62,7 @@ impl<F: One, A: Reply<F::Inside>> Call<F, A> for Floor {
 #[derive(Clone, Copy)]
 pub struct Rounding;
 
-impl<F: One, A: Reply<F::Inside>> Call<F, A> for Rounding {
+impl<F: OneFraction, A: Reply<F::Inside>> Call<F, A> for Rounding {
     ghost gives = { λ _ x answer. IsRoundAnswer (F.fraction x) (A.said answer) };
 
     #[inline(always)]

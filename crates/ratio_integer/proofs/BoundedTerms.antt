@@ -1,4 +1,4 @@
--- Lowest terms by a greatest common divisor of magnitudes in 128 bits, and where a bound on it refuses them.
+-- Lowest terms by a greatest common divisor of magnitudes in 128 bits, and how a bound on it shows that they do not fit.
 use Rattle.std.specs.Prelude.{◌≡◌, ◌≢◌, ◌+◌, ◌*◌, ◌-◌, ◌/◌, ◌^◌, ◌<◌, ◌≤◌, ◌≤ℤ◌, ◌<ℤ◌, ◌*ℤ◌, ℕ, ℤ, zero, suc, pos, negsuc, unsigned_abs, int_div}
 use Rattle.std.specs.Int.{IsGcd}
 use Rattle.std.proofs.Common.{refl, sym, ap, arith, inl, inr, ◌∙◌}
@@ -17,7 +17,7 @@ use Rattle.ratio_integer.proofs.LowestTerms.{cancelled_quotients, denom_out, low
 use Rattle.ratio_integer.proofs.Whole.{positive_nonzero}
 use Rattle.ratio_integer.proofs.Wide.{wide_of}
 
--- a factor of a number that 128 bits hold is held, where the other factor is positive
+-- if a * g fits 128 bits and g is positive, then a fits 128 bits
 factor_fits : (a g z : ℤ) → pos 0 ≤ℤ g → g ≢ pos 0 → a *ℤ g ≡ z → SFits w128 z → SFits w128 a
 factor_fits a g z sign nonzero e fits = by_divisor a g sign nonzero (rw (sym e) at fits)
   where
@@ -40,7 +40,7 @@ size_fits (pos m) positive fits = let small = fits.sfits in omega arith
 size_fits (negsuc m) positive fits = absurd (omega (arith, ints))
 
 module _ (n d : ℤ) (n_fits : SFits w128 n) (d_fits : SFits w128 d) (positive : pos 0 <ℤ d) where
-  -- the greatest common divisor of the magnitudes is held in 128 bits with a sign, and is that of the numbers
+  -- the greatest common divisor of the magnitudes fits the signed 128 bits, and is that of the numbers
   module _ (a b g : ℕ) (a-is : a ≡ unsigned_abs (wide_of n)) (b-is : b ≡ unsigned_abs (wide_of d)) (is : IsGcd a b g) where
     pub greatest_small : g < 2 ^ 127
     greatest_small =
@@ -53,7 +53,7 @@ module _ (n d : ℤ) (n_fits : SFits w128 n) (d_fits : SFits w128 d) (positive :
     pub greatest_is : IsGcdOf (wide_of n) (wide_of d) (pos g)
     greatest_is = record { sign = omega (arith, ints); divisor = rw (sym a-is, sym b-is) is }
 
-  -- where a bound that it is not above is the denominator over hi + 1, the lowest terms are not held
+  -- if the greatest common divisor is at most the denominator over hi + 1, the lowest terms are out of range
   pub bound_refuses : (lo hi : ℤ) (k a b : ℕ) → hi ≡ pos (2 ^ k - 1) → a ≡ unsigned_abs (wide_of n) → b ≡ unsigned_abs (wide_of d) → ((g : ℕ) → IsGcd a b g → g ≤ b / 2 ^ k) → ¬ (Fits lo hi n d)
   bound_refuses lo hi k a b top a-is b-is small =
       let found : (g : ℤ) × IsGcdOf n d g = gcd_exists n d in

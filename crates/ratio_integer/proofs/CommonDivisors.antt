@@ -1,4 +1,4 @@
--- Common divisors: numbers that have none above 1, and greatest ones of whole numbers.
+-- Coprime numbers, and greatest common divisors of whole numbers.
 use Rattle.std.specs.Prelude.{◌≡◌, ◌*◌, ◌%◌, ◌<◌, ◌*ℤ◌, ℕ, ℤ, zero, suc, pos, negsuc, unsigned_abs, int_div}
 use Rattle.std.specs.Int.{◌∣◌, IsGcd}
 use Rattle.std.proofs.Common.{sym, ap, arith, ◌∙◌, refl}
@@ -9,9 +9,9 @@ use Rattle.ratio_integer.specs.Division.{IsGcdOf, IsMultiple}
 use Rattle.ratio_integer.proofs.GcdLemmas.{coprime-dvd, gcd_scaled}
 use Rattle.ratio_integer.proofs.LcmLemmas.{exact_quotient}
 
--- ---- numbers with no common divisor above 1
+-- ---- coprime numbers
 
--- no whole number above 1 divides both a and b
+-- no number above 1 divides both a and b
 abbrev pub IsCoprime : ℕ → ℕ → Type 0
 IsCoprime a b = (k : ℕ) → k ∣ a → k ∣ b → k ≡ 1
 
@@ -24,11 +24,11 @@ coprime_gcd a b only = (one-dvd a, one-dvd b, λ k x y. rw (only k x y) (dvd_ref
 pub gcd_coprime : (a b g : ℕ) → IsGcd a b g → g ≡ 1 → IsCoprime a b
 gcd_coprime a b g is one k p q = let divides : k ∣ 1 = rw one at (is.2 k p q) in eq-one_of_dvd-one divides
 
--- divisors of such numbers are such numbers
+-- if a and b are coprime, x divides a and y divides b, then x and y are coprime
 pub coprime_divisors : (a b x y : ℕ) → IsCoprime a b → x ∣ a → y ∣ b → IsCoprime x y
 coprime_divisors a b x y only p q k m n = only k (dvd_trans k m p) (dvd_trans k n q)
 
--- and so is the product of two that each have nothing in common with a
+-- if b and c are coprime to a, so is b * c
 pub coprime_product : (a b c : ℕ) → IsCoprime a b → IsCoprime a c → IsCoprime a (b * c)
 coprime_product a b c left right k p q =
     let apart : IsCoprime k c = λ j m n. right j (dvd_trans j m p) n in
@@ -49,7 +49,7 @@ scaled zero a b g is = rw (none a, none b, none g) (dvd-zero 0, dvd-zero 0, λ d
     none n = omega arith
 scaled (suc m) a b g is = gcd_scaled b a b g (suc m) (omega arith) (omega arith) is
 
--- k times two numbers have |k| times their greatest common divisor
+-- if g is the gcd of a and b, then |k|*g is the gcd of k*a and k*b
 pub gcd_multiplied : (k a b g : ℤ) → IsGcdOf a b g → IsGcdOf (k *ℤ a) (k *ℤ b) (pos (unsigned_abs k) *ℤ g)
 gcd_multiplied k a b (pos g) is = record {
   sign = omega (arith, ints);
@@ -57,12 +57,12 @@ gcd_multiplied k a b (pos g) is = record {
 }
 gcd_multiplied k a b (negsuc g) is = absurd (let sign = is.sign in omega (arith, ints))
 
--- a divisor of c times b that has nothing in common with b divides c
+-- if a divides c*b and is coprime to b, then a divides c
 pub coprime_factor : (a b c : ℤ) → IsGcdOf a b (pos 1) → IsMultiple (c *ℤ b) a → IsMultiple c a
 coprime_factor a b c is multiple =
     divides_multiple c a (coprime-dvd (unsigned_abs a) (unsigned_abs b) (unsigned_abs c) is.divisor (rw unsigned_abs-mul at (multiple_divides (c *ℤ b) a multiple)))
 
--- two natural numbers have a greatest common divisor, by steps down from any bound n of the second one
+-- two natural numbers have a greatest common divisor, by induction on a bound n of the second one
 gcd_exists_below : (n a b : ℕ) → b < n → (g : ℕ) × IsGcd a b g
 gcd_exists_below zero a b bound = absurd (omega arith)
 gcd_exists_below (suc n) a zero bound = (a, IsGcd-from_zero a 0 refl)

@@ -1,4 +1,4 @@
--- Products of fractions in lowest terms: cancelled across first, they are in lowest terms without a further division.
+-- Products of fractions in lowest terms: if they are cancelled across first, they are already in lowest terms.
 use Rattle.std.specs.Prelude.{◌≡◌, ◌*◌, ◌<ℤ◌, ◌*ℤ◌, ℕ, ℤ, pos, unsigned_abs}
 use Rattle.std.specs.Int.{◌∣◌}
 use Rattle.std.proofs.Common.{sym, arith, ◌∙◌}
@@ -28,7 +28,7 @@ denom_divides n d a b low =
 
 -- ---- products
 
--- p*s over q*t is in lowest terms where each of p and s has nothing in common with each of q and t
+-- if p and s are both coprime to q and to t, then p*s over q*t is in lowest terms
 pub crossed_lowest : (p q s t : ℤ) → pos 0 <ℤ q → pos 0 <ℤ t → IsCoprime (unsigned_abs p) (unsigned_abs q) → IsCoprime (unsigned_abs p) (unsigned_abs t) → IsCoprime (unsigned_abs s) (unsigned_abs q) → IsCoprime (unsigned_abs s) (unsigned_abs t) → IsLowestTerms (p *ℤ s) (q *ℤ t)
 crossed_lowest p q s t q_positive t_positive pq pt sq st = record {
   positive = mul_positive q t q_positive t_positive;
@@ -38,7 +38,7 @@ crossed_lowest p q s t q_positive t_positive pq pt sq st = record {
       (coprime_turned _ _ (coprime_product _ _ _ sq st))));
 }
 
--- a/b and c/d are in lowest terms, those of a/d are p/t, and those of c/b are s/q
+-- a/b and c/d are in lowest terms, the lowest terms of a/d are p/t, and those of c/b are s/q
 module _ (a b c d p q s t : ℤ) (left : IsLowestTerms a b) (right : IsLowestTerms c d) (falling : IsLowestTermsOf a d p t) (rising : IsLowestTermsOf c b s q) where
   pub cancelled_lowest : IsLowestTerms (p *ℤ s) (q *ℤ t)
   cancelled_lowest = crossed_lowest p q s t rising.lowest.positive falling.lowest.positive
@@ -50,8 +50,7 @@ module _ (a b c d p q s t : ℤ) (left : IsLowestTerms a b) (right : IsLowestTer
   pub cancelled_same : SameValue (a *ℤ c) (b *ℤ d) (p *ℤ s) (q *ℤ t)
   cancelled_same = rw (*ℤ_comm b d, *ℤ_comm q t) (same_value_products a d c b p t s q falling.same rising.same)
 
--- so the product of any two fractions has the lowest terms that cancelling across its reduced operands gives: those of
--- m/e are a/b, and those of n/f are c/d
+-- so cancelling across gives the lowest terms of the product of m/e and n/f, if a/b are the lowest terms of m/e and c/d are those of n/f
 pub product_lowest : (m e n f a b c d p q s t : ℤ) → IsLowestTermsOf m e a b → IsLowestTermsOf n f c d → IsLowestTermsOf a d p t → IsLowestTermsOf c b s q → IsLowestTermsOf (m *ℤ n) (e *ℤ f) (p *ℤ s) (q *ℤ t)
 product_lowest m e n f a b c d p q s t left right falling rising = record {
   fraction = mul_nonzero e f left.fraction right.fraction;

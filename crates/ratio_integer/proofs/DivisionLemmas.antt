@@ -9,7 +9,7 @@ use Rattle.ratio_integer.specs.Division.{GcdHeld, IsAboveMax, IsFloored, IsMulti
 use Rattle.ratio_integer.specs.Comparison.{Tells}
 use Rattle.ratio_integer.specs.Range.{IsHeld, IsRange}
 
--- ---- sizes
+-- ---- magnitudes
 
 pub abs-neg : (n : ℕ) → unsigned_abs (neg_ℤ (pos n)) ≡ n
 abs-neg zero = refl
@@ -24,7 +24,7 @@ abs_pos (pos zero) h = absurd (h refl)
 abs_pos (pos (suc n)) h = omega arith
 abs_pos (negsuc n) h = omega arith
 
--- the size of a remainder
+-- the magnitude of a remainder
 pub abs-rem : (a d : ℤ) → unsigned_abs (int_rem a d) ≡ unsigned_abs a % unsigned_abs d
 abs-rem (pos a) d = refl
 abs-rem (negsuc a) d = abs-neg (suc a % unsigned_abs d)
@@ -39,11 +39,11 @@ multiple-rem a b = (
 
 -- ---- floored division
 
--- dividing by 2 or more at least halves
+-- dividing by 2 or more gives at most the half
 pub halved : (a b : ℕ) → 2 ≤ b → 2 * (a / b) ≤ a
 halved a b h = omega (arith, mul-le (a / b) 2 (a / b) b (omega arith) h, div-add-mod' a b)
 
--- the quotient of two held numbers is held, but for that of -hi-1 by -1
+-- the quotient of two numbers in range is in range, except for -hi-1 by -1
 pub quotient_held : (lo hi a b : ℤ) → IsRange lo hi → IsHeld lo hi a → IsHeld lo hi b → b ≢ pos 0 → ¬ (IsAboveMax hi a b) → IsHeld lo hi (int_div a b)
 quotient_held lo hi (pos n) (pos k) range ha hb nz out = grind (arith, ints, div-le_self n k)
 quotient_held lo hi (pos n) (negsuc k) range ha hb nz out = grind (arith, ints, div-le_self n (suc k))
@@ -57,7 +57,7 @@ pub remainder_held : (lo hi a b : ℤ) → IsRange lo hi → IsHeld lo hi a → 
 remainder_held lo hi (pos n) b range ha = grind (arith, ints, mod-le n (unsigned_abs b))
 remainder_held lo hi (negsuc n) b range ha = grind (arith, ints, mod-le (suc n) (unsigned_abs b))
 
--- where the remainder lies on the divisor's side of 0, the truncated quotient is the floored one
+-- if the remainder is on the divisor's side of 0, the truncated quotient is the floored one
 pub floored_same : (a b : ℤ) → b ≢ pos 0 → ((int_rem a b ≤ℤ pos 0) × (b <ℤ pos 0)) ⊎ ((pos 0 ≤ℤ int_rem a b) × (pos 0 ≤ℤ b)) → IsFloored a b (int_div a b) (int_rem a b)
 floored_same a b nz side =
     let below : unsigned_abs (int_rem a b) < unsigned_abs b = rem_below a b (abs_pos b nz) in
@@ -68,14 +68,14 @@ product-less q b r a e =
     let less : (q -ℤ pos 1) *ℤ b ≡ q *ℤ b -ℤ b = ap (λ (z : ℤ). z *ℤ b) (-ℤ_one q) ∙ pred_ℤ-*ℤ q b in
     omega (arith, ints)
 
--- where it lies on the other side, the floored quotient is one less
+-- if it is on the other side, the floored quotient is one less
 pub floored_less : (a b : ℤ) → ((int_rem a b <ℤ pos 0) × (pos 0 <ℤ b)) ⊎ ((pos 0 <ℤ int_rem a b) × (b <ℤ pos 0)) → IsFloored a b (int_div a b -ℤ pos 1) (int_rem a b +ℤ b)
 floored_less a b side =
     let nz : b ≢ pos 0 = grind (arith, ints) in
     let below : unsigned_abs (int_rem a b) < unsigned_abs b = rem_below a b (abs_pos b nz) in
     record { sum = product-less _ b _ a (quot-rem a b); rest = grind (arith, ints) }
 
--- what `div_mod_floor` asks of `div_rem`, and which of its two answers is right
+-- the two cases of `div_mod_floor`
 unfoldable pub Side : ℤ → ℤ → Type 0
 Side r b = ((r <ℤ pos 0) × (pos 0 <ℤ b)) ⊎ ((pos 0 <ℤ r) × (b <ℤ pos 0))
 
@@ -86,7 +86,7 @@ pub sides : (r b : ℤ) → b ≢ pos 0 → Side r b ⊎ Same r b
 unfolding Side Same
 sides r b nz = grind (arith, ints)
 
--- where the remainder is moved to the divisor's side
+-- the remainder is moved to the divisor's side
 pub moved : (a b q r one q' r' : ℤ) → q ≡ int_div a b → r ≡ int_rem a b → one ≡ pos 1 → Side r b → q' ≡ q -ℤ one → r' ≡ r +ℤ b → IsFloored a b q' r'
 unfolding Side
 moved a b q r one q' r' eq er eo s e f =
@@ -94,12 +94,12 @@ moved a b q r one q' r' eq er eo s e f =
     let r-is : r' ≡ int_rem a b +ℤ b = omega (arith, ints) in
     rw (q-is, r-is) (floored_less a b (rw er at s))
 
--- and where it is left
+-- the remainder stays
 pub left : (a b q r : ℤ) → b ≢ pos 0 → q ≡ int_div a b → r ≡ int_rem a b → Same r b → IsFloored a b q r
 unfolding Same
 left a b q r nz eq er s = rw (eq, er) (floored_same a b nz (rw er at s))
 
--- the remainder fits there
+-- the moved remainder is in range
 pub moved_held : (lo hi a b r : ℤ) → IsRange lo hi → IsHeld lo hi a → IsHeld lo hi b → r ≡ int_rem a b → Side r b → IsHeld lo hi (r +ℤ b)
 unfolding Side
 moved_held lo hi a b r range ha hb er s =
@@ -125,7 +125,7 @@ multiple_of_minus_one a b e =
 pub low_below : (lo hi : ℤ) → IsRange lo hi → lo ≤ℤ pos 0
 low_below lo hi range = grind (arith, ints)
 
--- ---- what `gcd` asks, by plain comparisons
+-- ---- what `gcd` requires, as plain comparisons
 
 pub gcd_bounded : (lo hi a b : ℤ) → lo ≤ℤ pos 0 → b ≢ pos 0 → pos (unsigned_abs b) ≤ℤ hi → GcdHeld lo hi a b
 gcd_bounded lo hi a b low nz h = record {

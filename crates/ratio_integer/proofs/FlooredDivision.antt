@@ -1,4 +1,4 @@
--- Floored division: there is one quotient and one remainder, and where the quotient of two held numbers is held.
+-- Floored division: there is only one quotient and one remainder, and when the quotient of two numbers in range is in range.
 use Rattle.std.specs.Prelude.{◌≡◌, ◌≢◌, ◌+◌, ◌*◌, ◌%◌, ◌<◌, ◌≤◌, ◌+ℤ◌, ◌-ℤ◌, ◌*ℤ◌, ℕ, ℤ, zero, suc, pos, negsuc, neg_ℤ, int_div, int_rem}
 use Rattle.std.proofs.Common.{refl, sym, ap, arith, ◌∙◌, ⊎_elim}
 use Rattle.std.proofs.Math.Nat.{div-one}
@@ -51,7 +51,7 @@ floored_unique a (negsuc d) q r p s x y =
     unique_turned (negsuc m) n e f = absurd (grind (arith, ints, x.rest))
     unique_turned m (negsuc n) e f = absurd (grind (arith, ints, y.rest))
 
--- ---- where the quotient is held
+-- ---- when the quotient is in range
 
 at_least_two : (m k : ℕ) → 0 < k → 0 < m % k → 2 ≤ k
 at_least_two m zero up left_over = absurd (omega arith)
@@ -65,7 +65,7 @@ less_held lo hi (pos n) (negsuc k) range ha hb side = grind (arith, ints, halved
 less_held lo hi (negsuc n) (pos k) range ha hb side = grind (arith, ints, halved (suc n) k (at_least_two (suc n) k (grind (arith, ints)) (grind (arith, ints))))
 less_held lo hi (negsuc n) (negsuc k) range ha hb side = absurd (grind (arith, ints))
 
--- it is held, but for that of -hi-1 by -1
+-- it is in range, except for -hi-1 by -1
 pub floored_held : (lo hi a b : ℤ) → IsRange lo hi → IsHeld lo hi a → IsHeld lo hi b → b ≢ pos 0 → ¬ (IsAboveMax hi a b) → FlooredHeld lo hi a b
 unfolding Side Same
 floored_held lo hi a b range ha hb nonzero out = record {
@@ -75,7 +75,7 @@ floored_held lo hi a b range ha hb nonzero out = record {
       (sides (int_rem a b) b nonzero);
 }
 
--- ---- where it is not
+-- ---- when it is not
 
 quotient_at_top : (h : ℕ) (n d : ℤ) → IsAboveMax (pos h) n d → int_div n d ≡ pos (suc h)
 quotient_at_top h n d is =

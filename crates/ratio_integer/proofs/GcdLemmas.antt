@@ -1,4 +1,4 @@
--- The greatest common divisor under products, and numbers with no common divisor.
+-- Greatest common divisors of products, and coprime numbers.
 use Rattle.std.specs.Prelude.{◌≡◌, ◌+◌, ◌*◌, ◌/◌, ◌%◌, ◌<◌, ◌≤◌, ℕ, zero, suc}
 use Rattle.std.specs.Int.{◌∣◌, IsGcd}
 use Rattle.std.proofs.Common.{refl, sym, ap, arith, ◌∙◌}
@@ -6,11 +6,10 @@ use Rattle.std.proofs.Math.Nat.{dvd-mul_left, dvd-zero, dvd-mod_iff, dvd_of_mul-
 use Rattle.std.proofs.lemmas.Nat.Gcd.{IsGcd-from_mod, IsGcd-from_zero, same_from_IsGcd}
 use Rattle.std.proofs.lemmas.Nat.{mod-mul-add, div-add-mod'}
 
--- the step of Euclid's algorithm, the other way
+-- if g is the gcd of a and b, it is the gcd of b and a % b
 pub gcd_step : (a b g : ℕ) → IsGcd a b g → IsGcd b (a % b) g
 gcd_step a b g (p, q, r) = (q, (dvd-mod_iff g q).1 p, λ d x y. r d ((dvd-mod_iff d x).0 y) x)
 
--- a remainder times m
 split : (m q b r : ℕ) → m * (q * b + r) ≡ q * (m * b) + m * r
 split m q b r = omega arith
 
@@ -22,11 +21,11 @@ scaled-mod m a b h k =
     ap (λ t. t % (m * b)) (ap (λ t. m * t) (sym (div-add-mod' a b)) ∙ split m (a / b) b (a % b))
     ∙ mod-mul-add (a / b) (m * b) (m * (a % b)) (below m (a % b) b h (mod-lt a k))
 
--- with one number 0 the other is the greatest common divisor
+-- the gcd of a and 0 is a
 zero-gcd : (a g : ℕ) → IsGcd a 0 g → g ≡ a
 zero-gcd a g is = same_from_IsGcd a 0 g a is (IsGcd-from_zero a 0 refl)
 
--- m times the greatest common divisor is that of m times the numbers
+-- if g is the gcd of a and b, and m is not 0, then m*g is the gcd of m*a and m*b
 pub gcd_scaled : (n a b g m : ℕ) → 0 < m → b ≤ n → IsGcd a b g → IsGcd (m * a) (m * b) (m * g)
 gcd_scaled n a zero g m up h is = rw (zero-gcd a g is) (IsGcd-from_zero (m * a) (m * 0) (omega arith))
 gcd_scaled zero a (suc b) g m up h is = absurd (omega arith)
@@ -35,7 +34,7 @@ gcd_scaled (suc n) a (suc b) g m up h is =
     let rest = gcd_scaled n (suc b) (a % suc b) g m up (omega arith) (gcd_step a (suc b) g is) in
     IsGcd-from_mod (m * a) (m * suc b) (m * g) (rw (scaled-mod m a (suc b) up (omega arith)) rest)
 
--- where no number above 1 divides a and b, what divides a product with b divides the other factor
+-- if a and b are coprime and a divides c*b, then a divides c
 pub coprime-dvd : (a b c : ℕ) → IsGcd a b 1 → a ∣ c * b → a ∣ c
 coprime-dvd a b zero is d = dvd-zero a
 coprime-dvd a b (suc c) is d =
@@ -45,7 +44,7 @@ coprime-dvd a b (suc c) is d =
     one-times : suc c * 1 ≡ suc c
     one-times = omega arith
 
--- what is left after a greatest common divisor has no common divisor above 1
+-- two numbers divided by their gcd are coprime
 pub parts-coprime : (x y g : ℕ) → 0 < g → IsGcd (g * x) (g * y) g → IsGcd x y 1
 parts-coprime x y g up is = (
   one-dvd x,
@@ -56,7 +55,7 @@ parts-coprime x y g up is = (
     times-one : (m : ℕ) → m * 1 ≡ m
     times-one m = omega arith
 
--- the least common multiple of g * x and g * y is x * (g * y)
+-- if g is the gcd of g*x and g*y, each common multiple of them is a multiple of g*y*x
 pub lcm_least : (x y g m : ℕ) → 0 < g → IsGcd (g * x) (g * y) g → g * x ∣ m → g * y ∣ m → (g * y) * x ∣ m
 lcm_least x y g m up is p q =
     let k = m / (g * y) in

@@ -60,7 +60,7 @@ halved_often (suc k) d m odd divides = halved_often k d m odd (halved d (m * 2 ^
     split : (m k : ℕ) → m * 2 ^ suc k ≡ m * 2 ^ k * 2
     split m k = ap (λ t. m * t) (pow-suc 2 k) ∙ (omega arith)
 
--- beside an odd number, factors of 2 of the other do not count
+-- factors of 2 of one number do not change its greatest common divisor with an odd number
 pub odd_beside : (a m k g : ℕ) → a % 2 ≡ 1 → IsGcd a m g → IsGcd a (m * 2 ^ k) g
 odd_beside a m k g odd (first, second, greatest) =
     (first, dvd-mul_right_of_dvd g second (2 ^ k), λ d x y. greatest d x (halved_often k d m (odd_divisor d a x odd) y))
@@ -101,7 +101,7 @@ split_multiple q n p below = let whole : q ≡ (q - n) + n = omega arith in ap (
     spread : (a b p : ℕ) → (a + b) * p ≡ a * p + b * p
     spread a b p = omega arith
 
--- n and a multiple of 2^w beside it, on either side, have the same factors of 2
+-- n, and n plus or minus a multiple of 2^w, have the same factors of 2
 pub odd_part_beside : (w d n q m t : ℕ) → t < w → IsOddPart n m t → (d ≡ n + q * 2 ^ w) ⊎ (d + n ≡ q * 2 ^ w) → IsOddPart d (d / 2 ^ t) t
 odd_part_beside w d n q m t below part either =
     let order : w ≡ suc (w - t - 1) + t = omega arith in
@@ -146,7 +146,7 @@ wrapped_more p x y x-fits y-fits more =
     let round : y + (p - x) ≡ (y - x) + p = omega arith in
     ap (λ k. k % p) round ∙ add-mod_right (y - x) p ∙ mod-eq_of_lt (omega arith)
 
--- how far two numbers are apart is the wrapped difference of their lower parts and a multiple of p, on either side
+-- the distance of two numbers is the wrapped difference of their lower parts, plus or minus a multiple of p
 pub lower_distance : (p x y : ℕ) → 0 < p → (q : ℕ) × ((abs_diff x y ≡ (y % p + (p - x % p)) % p + q * p) ⊎ (abs_diff x y + (y % p + (p - x % p)) % p ≡ q * p))
 lower_distance p x y positive =
     by_parts x y (x / p) (y / p) (x % p) (y % p) (sym (div-add-mod' x p)) (sym (div-add-mod' y p)) (mod-lt x positive) (mod-lt y positive)
@@ -179,7 +179,7 @@ lower_distance p x y positive =
           ]
     ]
 
--- what is left of a distance without the factors of 2 of the wrapped difference of the lower parts
+-- a distance without the factors of 2 of the wrapped difference of the lower parts
 pub lower_part : (w : Width) (x y d m n : ℕ) → d ≡ abs_diff x y → m ≡ x % 2 ^ bits w → n ≡ y % 2 ^ bits w → 0 < (n + (2 ^ bits w - m)) % 2 ^ bits w → (k : ℕ) × IsOddPart (abs_diff x y) (d / 2 ^ trailing_zeros w ((n + (2 ^ bits w - m)) % 2 ^ bits w)) k
 lower_part w x y d m n d-is m-is n-is above =
     let positive : 0 < 2 ^ bits w = pow_pos (bits w) in
@@ -189,7 +189,7 @@ lower_part w x y d m n d-is m-is n-is above =
     let t = trailing_zeros w wrapped in
     rw d-is (t, odd_part_beside (bits w) (abs_diff x y) wrapped stands.0 (wrapped / 2 ^ t) t (bit_at-trailing_zeros w wrapped above fits).0 (odd_part_is w wrapped above fits) stands.1)
 
--- and of the whole wrapped difference of two numbers that are not the same
+-- the same for the whole wrapped difference of two different numbers
 pub distance_part : (w : Width) (x y d : ℕ) → x < 2 ^ bits w → y < 2 ^ bits w → x ≢ y → d ≡ abs_diff x y → (k : ℕ) × IsOddPart (abs_diff x y) (d / 2 ^ trailing_zeros w ((y + (2 ^ bits w - x)) % 2 ^ bits w)) k
 distance_part w x y d x-fits y-fits apart d-is =
     lower_part w x y d x y d-is (sym (mod-eq_of_lt x-fits)) (sym (mod-eq_of_lt y-fits)) (elim (cases_lt y x) [
@@ -200,21 +200,21 @@ distance_part w x y d x-fits y-fits apart d-is =
 -- ---- a step of two odd numbers
 
 -- x and y are odd, and their greatest common divisor is that of a and b
-pub record IsOddPair (a b x y : ℕ) : Type 0 where
+pub record AreOdd (a b x y : ℕ) : Type 0 where
   pub left : x % 2 ≡ 1
   pub right : y % 2 ≡ 1
   pub same : (g : ℕ) → IsGcd x y g → IsGcd a b g
 
-pub pair_begun : (a b : ℕ) → a % 2 ≡ 1 → b % 2 ≡ 1 → IsOddPair a b a b
-pair_begun a b left right = record { left = left; right = right; same = λ g is. is }
+pub odd_begun : (a b : ℕ) → a % 2 ≡ 1 → b % 2 ≡ 1 → AreOdd a b a b
+odd_begun a b left right = record { left = left; right = right; same = λ g is. is }
 
--- the greater number gives way to the odd part of the difference
+-- the odd part of the difference replaces the greater number
 replaced : (x y m k g : ℕ) → x % 2 ≡ 1 → x ≤ y → IsOddPart (y - x) m k → IsGcd x m g → IsGcd x y g
 replaced x y m k g odd below part is =
     IsGcd-swap y x g (IsGcd-from_sub y x g below (IsGcd-swap x (y - x) g (rw part.whole (odd_beside x m k g odd is))))
 
-pub pair_step : (a b x y s d m k : ℕ) → IsOddPair a b x y → s ≡ min x y → d ≡ abs_diff x y → IsOddPart d m k → IsOddPair a b s m
-pair_step a b x y s d m k pair s-is d-is part = elim (cases_lt x y) [
+pub odd_step : (a b x y s d m k : ℕ) → AreOdd a b x y → s ≡ min x y → d ≡ abs_diff x y → IsOddPart d m k → AreOdd a b s m
+odd_step a b x y s d m k pair s-is d-is part = elim (cases_lt x y) [
   | inl less ↦
       let s-x : s ≡ x = s-is ∙ min-eq_left (omega arith) in
       let d-x : d ≡ y - x = d-is ∙ omega arith in
@@ -234,8 +234,8 @@ pair_step a b x y s d m k pair s-is d-is part = elim (cases_lt x y) [
 ]
 
 -- two equal numbers are their own greatest common divisor
-pub pair_ended : (a b x y : ℕ) → IsOddPair a b x y → x ≡ y → IsGcd a b x
-pair_ended a b x y pair e = pair.same x (dvd_refl x, rw e (dvd_refl y), λ d p q. p)
+pub odd_ended : (a b x y : ℕ) → AreOdd a b x y → x ≡ y → IsGcd a b x
+odd_ended a b x y pair e = pair.same x (dvd_refl x, rw e (dvd_refl y), λ d p q. p)
 
 -- ---- common factors of 2 come back at the end
 
@@ -273,20 +273,20 @@ shifted_back w a b m n i j g above fits first second is =
     let kept : g * 2 ^ min i j % 2 ^ w ≡ g * 2 ^ min i j = mod-eq_of_lt (omega arith) in
     rw kept whole
 
--- ---- where only a divisor above a bound is of use
+-- ---- divisors above a bound
 
 -- what bounds the greatest common divisor of x and y bounds that of a and b
-pub pair_bounded : (a b x y bound : ℕ) → IsOddPair a b x y → ((g : ℕ) → IsGcd x y g → g ≤ bound) → (g : ℕ) → IsGcd a b g → g ≤ bound
-pair_bounded a b x y bound pair small g is =
+pub odd_bounded : (a b x y bound : ℕ) → AreOdd a b x y → ((g : ℕ) → IsGcd x y g → g ≤ bound) → (g : ℕ) → IsGcd a b g → g ≤ bound
+odd_bounded a b x y bound pair small g is =
     let found : (k : ℤ) × IsGcdOf (pos x) (pos y) k = gcd_exists (pos x) (pos y) in
     rw (same_from_IsGcd a b g (unsigned_abs found.0) is (pair.same _ found.1.divisor)) (small _ found.1.divisor)
 
 -- it is at most x
-pub pair_at_most : (a b x y bound : ℕ) → IsOddPair a b x y → x ≤ bound → (g : ℕ) → IsGcd a b g → g ≤ bound
-pair_at_most a b x y bound pair below =
-    pair_bounded a b x y bound pair (λ g is. let odd = pair.left in let small = le_of_dvd (omega arith) is.0 in omega arith)
+pub odd_at_most : (a b x y bound : ℕ) → AreOdd a b x y → x ≤ bound → (g : ℕ) → IsGcd a b g → g ≤ bound
+odd_at_most a b x y bound pair below =
+    odd_bounded a b x y bound pair (λ g is. let odd = pair.left in let small = le_of_dvd (omega arith) is.0 in omega arith)
 
--- without the factors of 2 the bound has as many fewer
+-- the bound without as many factors of 2
 pub shifted_bounded : (a b m n i j bound : ℕ) → IsOddPart a m i → IsOddPart b n j → ((g : ℕ) → IsGcd m n g → g ≤ bound / 2 ^ min i j) → (g : ℕ) → IsGcd a b g → g ≤ bound
 shifted_bounded a b m n i j bound first second small g is =
     let found : (k : ℤ) × IsGcdOf (pos m) (pos n) k = gcd_exists (pos m) (pos n) in

@@ -1,4 +1,4 @@
--- The least common multiple of two numbers: by the greatest common divisor, and that there is one.
+-- The least common multiple of two numbers: computed from the gcd, and it exists.
 use Rattle.std.specs.Prelude.{◌≡◌, ◌≢◌, ◌⊎◌, ◌*◌, ◌≤◌, ◌≤ℤ◌, ◌<ℤ◌, ◌*ℤ◌, ◌-ℤ◌, ◌+ℤ◌, ℕ, ℤ, suc, pos, negsuc, neg_ℤ, unsigned_abs, int_div, int_rem, Option, Some, None}
 use Rattle.std.specs.Int.{◌∣◌}
 use Rattle.std.proofs.Common.{sym, ap, arith, ◌∙◌, inl, inr}
@@ -12,7 +12,7 @@ use Rattle.ratio_integer.specs.Range.{Checks, IsHeld, IsRange}
 use Rattle.ratio_integer.proofs.DivisionLemmas.{abs-rem, abs-zero, abs_pos, low_below}
 use Rattle.ratio_integer.proofs.GcdLemmas.{lcm_least}
 
--- ---- the greatest common divisor of two held numbers
+-- ---- the gcd of two numbers in range
 
 bounded : (lo hi n d m : ℤ) → IsRange lo hi → IsHeld lo hi n → IsHeld lo hi d → ¬ (IsGcdAboveMax hi n d) → pos 0 ≤ℤ m → (n ≢ pos 0 → unsigned_abs m ≤ unsigned_abs n) → (d ≢ pos 0 → unsigned_abs m ≤ unsigned_abs d) → (n ≡ pos 0 → d ≡ pos 0 → m ≡ pos 0) → IsHeld lo hi m
 bounded lo hi n d m range hn hd out up first second both =
@@ -21,7 +21,7 @@ bounded lo hi n d m range hn hd out up first second both =
     let not_left : n ≡ pos 0 → d ≡ neg_ℤ hi -ℤ pos 1 → ⊥ = λ e f. out (inr (e, f)) in
     grind (arith, ints)
 
--- it is held, but where one is -hi-1 and the other -hi-1 or 0
+-- it is in range, unless one number is -hi-1 and the other is -hi-1 or 0
 pub gcd_held : (lo hi n d : ℤ) → IsRange lo hi → IsHeld lo hi n → IsHeld lo hi d → ¬ (IsGcdAboveMax hi n d) → GcdHeld lo hi n d
 gcd_held lo hi n d range hn hd out = record {
   each = λ m is. bounded lo hi n d m range hn hd out is.sign
@@ -30,7 +30,7 @@ gcd_held lo hi n d range hn hd out = record {
       (λ e f. abs-zero m (eq-zero_of_zero-dvd (is.divisor.2 0 (rw (ap unsigned_abs e) (dvd-zero 0)) (rw (ap unsigned_abs f) (dvd-zero 0)))));
 }
 
--- there it is hi+1
+-- for those pairs it is hi+1
 gcd_at_top : (h : ℕ) (n d : ℤ) → IsGcdAboveMax (pos h) n d → IsGcdOf n d (pos (suc h))
 gcd_at_top h n d (inl (e, inl f)) =
     let left : unsigned_abs n ≡ suc h = omega (arith, ints) in
@@ -51,7 +51,7 @@ gcd_held_but_three lo (pos h) n d range n_held d_held = (
 )
 gcd_held_but_three lo (negsuc h) n d range n_held d_held = absurd (let high = range.high in omega (arith, ints))
 
--- it is not 0
+-- if one number is not 0, the gcd is not 0
 pub divisor_nonzero : (n d g : ℤ) → d ≢ pos 0 → IsGcdOf n d g → g ≢ pos 0
 divisor_nonzero n d g zd is e =
     let h : 0 ∣ unsigned_abs d = rw (ap unsigned_abs e) at is.divisor.1 in
@@ -59,15 +59,15 @@ divisor_nonzero n d g zd is e =
     let up = abs_pos d zd in
     omega arith
 
--- and a divisor divides without a remainder
+-- dividing by a divisor leaves no rest
 pub exact_quotient : (n g : ℤ) → unsigned_abs g ∣ unsigned_abs n → int_div n g *ℤ g ≡ n
 exact_quotient n g h =
     let none_left : int_rem n g ≡ pos 0 = abs-zero _ (abs-rem n g ∙ mod-eq-zero_of_dvd (unsigned_abs g) h) in
     sym (+ℤ_idr (int_div n g *ℤ g)) ∙ ap (λ (t : ℤ). int_div n g *ℤ g +ℤ t) (sym none_left) ∙ quot-rem n g
 
--- ---- what is a least common multiple
+-- ---- three ways to a least common multiple
 
--- with a number 0 it is 0
+-- if a or b is 0, it is 0
 pub lcm_of_zero : (a b l : ℤ) → (a ≡ pos 0) ⊎ (b ≡ pos 0) → l ≡ pos 0 → IsLcmOf a b l
 lcm_of_zero a b l z e = rw e (record {
   sign = omega (arith, ints);
@@ -80,7 +80,7 @@ lcm_of_zero a b l z e = rw e (record {
     by_zero (inl f) m p q = rw (ap unsigned_abs f) at p
     by_zero (inr f) m p q = rw (ap unsigned_abs f) at q
 
--- of a number and itself it is the number without its sign
+-- of a number and itself, it is the magnitude
 pub lcm_of_same : (a b : ℤ) → a ≡ b → IsLcmOf a b (pos (unsigned_abs a))
 lcm_of_same a b e = record {
   sign = omega (arith, ints);
@@ -89,7 +89,7 @@ lcm_of_same a b e = record {
   least = λ m p q. p;
 }
 
--- of others it is one divided by the greatest common divisor, times the other, without its sign
+-- else it is the magnitude of a/g * b, where g is the gcd
 pub lcm_by_gcd : (a b g u : ℤ) → b ≢ pos 0 → IsGcdOf a b g → u ≡ int_div a g → IsLcmOf a b (pos (unsigned_abs (u *ℤ b)))
 lcm_by_gcd a b g u zb is eu =
     let whole_a : u *ℤ g ≡ a = ap (λ (t : ℤ). t *ℤ g) eu ∙ exact_quotient a g is.divisor.0 in
@@ -108,7 +108,7 @@ lcm_by_gcd a b g u zb is eu =
     turn : (x y z : ℕ) → (x * y) * z ≡ y * (x * z)
     turn x y z = omega arith
 
--- there is one
+-- there is only one
 pub lcm_unique : (a b l m : ℤ) → IsLcmOf a b l → IsLcmOf a b m → l ≡ m
 lcm_unique a b l m p q =
     let same_size : unsigned_abs l ≡ unsigned_abs m = dvd_antisymm (p.least (unsigned_abs m) q.first q.second) (q.least (unsigned_abs l) p.first p.second) in
@@ -119,16 +119,15 @@ lcm_unique a b l m p q =
 pub lcm_held : (lo hi a b l : ℤ) → IsLcmOf a b l → IsHeld lo hi l → LcmHeld lo hi a b
 lcm_held lo hi a b l is h = record { each = λ m other. rw (lcm_unique a b m l other is) h }
 
--- ---- what `try_lcm` answers
+-- ---- what `try_lcm` returns
 
--- 0 is held
 pub zero_held : (lo hi z : ℤ) → IsRange lo hi → z ≡ pos 0 → IsHeld lo hi z
 zero_held lo hi z range e =
     let low : lo ≤ℤ pos 0 = low_below lo hi range in
     let high : pos 2 ≤ℤ hi = range.high in
     record { above = omega (arith, ints); below = omega (arith, ints) }
 
--- a product whose magnitude is held is held
+-- a product is in range if its magnitude is
 pub magnitude_held : (lo hi u b : ℤ) → IsRange lo hi → IsHeld lo hi u → IsHeld lo hi b → IsHeld lo hi (pos (unsigned_abs (u *ℤ b))) → IsHeld lo hi (u *ℤ b)
 magnitude_held lo hi (pos n) (pos m) range hu hb h = h
 magnitude_held lo hi (pos n) (negsuc m) range hu hb h = by_range lo hi (pos n *ℤ negsuc m) range (grind (arith, ints)) h
@@ -141,7 +140,7 @@ magnitude_held lo hi (negsuc n) (pos m) range hu hb h = by_range lo hi (negsuc n
     by_range lo hi z range low h = grind (arith, ints)
 magnitude_held lo hi (negsuc n) (negsuc m) range hu hb h = h
 
--- the answer for a number that has the size of the multiple: its negative where it is below 0, and else itself
+-- the result for a number with the magnitude of the multiple: its negative if it is below 0, and else the number
 checks_lcm : {T : Type 0} (value : T → ℤ) (lo hi a b l : ℤ) (r : Option T) → IsLcmOf a b l → Checks value lo hi l r → ChecksLcm value lo hi a b r
 checks_lcm value lo hi a b l None is h = λ held. h (held.each l is)
 checks_lcm value lo hi a b l (Some y) is h = (lcm_held lo hi a b l is h.0, rw h.1 is)

@@ -1,4 +1,4 @@
--- Lowest terms: each fraction has them, they are the only ones, and what dividing by the greatest common divisor gives.
+-- Lowest terms: each fraction has exactly one pair of them, and dividing by the gcd gives them.
 use Rattle.std.specs.Prelude.{◌≡◌, ◌≢◌, ◌*◌, ◌≤ℤ◌, ◌<ℤ◌, ◌*ℤ◌, ℕ, ℤ, zero, suc, pos, negsuc, neg_ℤ, unsigned_abs, int_div, Option, Some, None}
 use Rattle.std.specs.Int.{◌∣◌}
 use Rattle.std.proofs.Common.{refl, sym, ap, arith, ◌∙◌}
@@ -19,7 +19,7 @@ use Rattle.ratio_integer.proofs.Whole.{mul_assoc, mul_cancel, mul-swap_inner, mu
 pub same_value_turned : (a b c d : ℤ) → SameValue a b c d → SameValue c d a b
 same_value_turned a b c d same = sym same
 
--- having the same value is transitive where the fraction in the middle is one
+-- having the same value is transitive, if the fraction in the middle has a denominator that is not 0
 pub same_value_chained : (a b c d e f : ℤ) → d ≢ pos 0 → SameValue a b c d → SameValue c d e f → SameValue a b e f
 same_value_chained a b c d e f fraction first second =
     mul_cancel (a *ℤ f) (e *ℤ b) d fraction (
@@ -32,14 +32,14 @@ same_value_chained a b c d e f fraction first second =
     ∙ mul-swap_last e d b
     ∙ sym (mul_assoc e b d))
 
--- products of the same values have the same value
+-- products of equal values have equal values
 pub same_value_products : (a b c d p q s t : ℤ) → SameValue a b p q → SameValue c d s t → SameValue (a *ℤ c) (b *ℤ d) (p *ℤ s) (q *ℤ t)
 same_value_products a b c d p q s t left right =
     mul-swap_inner a c q t ∙ ap (λ (z : ℤ). z *ℤ (c *ℤ t)) left ∙ ap (λ (z : ℤ). (p *ℤ b) *ℤ z) right ∙ mul-swap_inner p b s d
 
--- ---- lowest terms are the only ones
+-- ---- there is only one pair of lowest terms
 
--- two pairs of magnitudes, each with no common divisor above 1, whose cross products are equal have equal second numbers
+-- if a and b are coprime, p and q are coprime, and a*q = p*b, then b = q
 denoms_same : (a b p q : ℕ) → ((k : ℕ) → k ∣ a → k ∣ b → k ≡ 1) → ((k : ℕ) → k ∣ p → k ∣ q → k ≡ 1) → a * q ≡ p * b → b ≡ q
 denoms_same a b p q first second crossed = dvd_antisymm
     (coprime-dvd b a q (coprime_gcd b a (coprime_turned a b first)) (rw (turn q a ∙ crossed) (dvd-mul_left b p)))
@@ -48,7 +48,7 @@ denoms_same a b p q first second crossed = dvd_antisymm
     turn : (x y : ℕ) → x * y ≡ y * x
     turn x y = omega arith
 
--- two pairs in lowest terms with the same value are one pair
+-- two pairs in lowest terms with the same value are equal
 pub lowest_same : (a b p q : ℤ) → IsLowestTerms a b → IsLowestTerms p q → SameValue a b p q → (a ≡ p) × (b ≡ q)
 lowest_same a b p q first second same =
     let size = denoms_same (unsigned_abs a) (unsigned_abs b) (unsigned_abs p) (unsigned_abs q) first.only_one second.only_one (unsigned_abs-products a q p b same) in
@@ -57,16 +57,16 @@ lowest_same a b p q first second same =
     let denom : b ≡ q = omega (arith, ints) in
     (mul_cancel a p q (positive_nonzero q q_positive) (same ∙ ap (λ (t : ℤ). p *ℤ t) denom), denom)
 
--- a fraction has one pair of lowest terms
+-- a fraction has at most one pair of lowest terms
 pub lowest_unique : (n d a b p q : ℤ) → IsLowestTermsOf n d a b → IsLowestTermsOf n d p q → (a ≡ p) × (b ≡ q)
 lowest_unique n d a b p q first second =
     lowest_same a b p q first.lowest second.lowest (same_value_chained a b n d p q first.fraction (sym first.same) second.same)
 
--- a pair in lowest terms is its own
+-- a pair in lowest terms is its own lowest terms
 pub lowest_own : (a b : ℤ) → IsLowestTerms a b → IsLowestTermsOf a b a b
 lowest_own a b lowest = record { fraction = positive_nonzero b lowest.positive; same = refl; lowest = lowest }
 
--- a whole number is in lowest terms over 1
+-- a number over 1 is in lowest terms
 pub over_one : (a b : ℤ) → b ≡ pos 1 → IsLowestTerms a b
 over_one a b one = record { positive = omega (arith, ints); only_one = λ k p q. let divides_one : k ∣ 1 = rw (ap unsigned_abs one) at q in eq-one_of_dvd-one divides_one }
 
@@ -89,21 +89,21 @@ held_lowest_moved lo hi n d m e a b fraction same low = record {
   denom_held = low.denom_held;
 }
 
--- an answer for one fraction is the answer for each of the same value
+-- fractions of the same value have the same result
 pub checks_lowest_moved : {R : Type 0} (numer denom : R → ℤ) (lo hi n d m e : ℤ) (r : Option R) → d ≢ pos 0 → e ≢ pos 0 → SameValue m e n d → ChecksLowest numer denom lo hi (n, d) r → ChecksLowest numer denom lo hi (m, e) r
 checks_lowest_moved numer denom lo hi n d m e None d_fraction e_fraction same out = λ fits. out (record { numer = fits.numer; denom = fits.denom; low = held_lowest_moved lo hi m e n d fits.numer fits.denom d_fraction (sym same) fits.low })
 checks_lowest_moved numer denom lo hi n d m e (Some r) d_fraction e_fraction same low = held_lowest_moved lo hi n d m e (numer r) (denom r) e_fraction same low
 
--- where a number of the lowest terms is not held, the fraction does not fit
+-- if a number of the lowest terms is out of range, the fraction does not fit
 pub numer_out : (lo hi n d a b : ℤ) → IsLowestTermsOf n d a b → ¬ (IsHeld lo hi a) → ¬ (Fits lo hi n d)
 numer_out lo hi n d a b low out fits = out (rw (lowest_unique n d fits.numer fits.denom a b fits.low.terms low).0 at fits.low.numer_held)
 
 pub denom_out : (lo hi n d a b : ℤ) → IsLowestTermsOf n d a b → ¬ (IsHeld lo hi b) → ¬ (Fits lo hi n d)
 denom_out lo hi n d a b low out fits = out (rw (lowest_unique n d fits.numer fits.denom a b fits.low.terms low).1 at fits.low.denom_held)
 
--- ---- dividing by the greatest common divisor
+-- ---- dividing by the gcd
 
--- what is left of both numbers has no common divisor above 1
+-- the two quotients are coprime
 pub cancelled_coprime : (n d a b : ℤ) → d ≢ pos 0 → IsCancelledOf n d a b → (k : ℕ) → k ∣ unsigned_abs a → k ∣ unsigned_abs b → k ≡ 1
 cancelled_coprime n d a b fraction is k p q =
     let g = is.divisor in
@@ -118,7 +118,7 @@ cancelled_coprime n d a b fraction is k p q =
     times-one : (m : ℕ) → m * 1 ≡ m
     times-one m = omega arith
 
--- it is a fraction of the same value
+-- they are a fraction of the same value
 pub cancelled_fraction : (n d a b : ℤ) → d ≢ pos 0 → IsCancelledOf n d a b → b ≢ pos 0
 cancelled_fraction n d a b fraction is none =
     fraction (sym is.denom ∙ ap (λ (t : ℤ). t *ℤ is.divisor) none ∙ zero-*ℤ is.divisor)
@@ -127,7 +127,7 @@ pub cancelled_same : (n d a b : ℤ) → IsCancelledOf n d a b → SameValue n d
 cancelled_same n d a b is =
     ap (λ (t : ℤ). t *ℤ b) (sym is.numer) ∙ mul-swap_last a is.divisor b ∙ ap (λ (t : ℤ). a *ℤ t) is.denom
 
--- and in lowest terms, for a positive denominator
+-- if the denominator is positive, they are in lowest terms
 pub lowest_cancelled : (n d a b : ℤ) → pos 0 <ℤ d → IsCancelledOf n d a b → IsLowestTermsOf n d a b
 lowest_cancelled n d a b positive is =
     let fraction = positive_nonzero d positive in
@@ -143,7 +143,7 @@ lowest_cancelled n d a b positive is =
     above_zero : (g : ℤ) → pos 0 ≤ℤ g → g ≢ pos 0 → pos 0 <ℤ g
     above_zero g sign nonzero = grind (arith, ints)
 
--- the quotients by the greatest common divisor are what is left, and the numbers themselves where it is 1
+-- the quotients by the gcd are the cancelled pair; if the gcd is 1, so are the numbers themselves
 pub cancelled_quotients : (n d g a b : ℤ) → IsGcdOf n d g → a ≡ int_div n g → b ≡ int_div d g → IsCancelledOf n d a b
 cancelled_quotients n d g a b is a-is b-is = record {
   divisor = g;
@@ -159,14 +159,14 @@ cancelled_by_one n d g is single = record { divisor = g; greatest = is; numer = 
 pub lowest_quotients : (n d g a b : ℤ) → pos 0 <ℤ d → IsGcdOf n d g → a ≡ int_div n g → b ≡ int_div d g → IsLowestTermsOf n d a b
 lowest_quotients n d g a b positive is a-is b-is = lowest_cancelled n d a b positive (cancelled_quotients n d g a b is a-is b-is)
 
--- ---- the same for held numbers
+-- ---- the same for numbers in range
 
--- the greatest common divisor with a positive number is held
+-- the gcd of a number and a positive number in range is in range
 pub gcd_held_positive : (lo hi n d : ℤ) → IsRange lo hi → IsHeld lo hi d → pos 0 <ℤ d → GcdHeld lo hi n d
 gcd_held_positive lo hi n d range d_held positive =
     gcd_bounded lo hi n d (low_below lo hi range) (positive_nonzero d positive) (let below = d_held.below in omega (arith, ints))
 
--- the quotient of a held number by a greatest common divisor is held
+-- the quotient of a number in range by a gcd in range is in range
 pub quotient_by_gcd_held : (lo hi n d g m : ℤ) → IsRange lo hi → IsHeld lo hi m → IsHeld lo hi g → d ≢ pos 0 → IsGcdOf n d g → IsHeld lo hi (int_div m g)
 quotient_by_gcd_held lo hi n d g m range m_held g_held fraction is =
     quotient_held lo hi m g range m_held g_held (divisor_nonzero n d g fraction is) (λ top. let sign = is.sign in let e = top.denom in omega (arith, ints))

@@ -1,4 +1,4 @@
--- How the greatest common divisor of magnitudes answers for the primitive types.
+-- The greatest common divisor of numbers of a primitive type, from their magnitudes.
 use Rattle.std.specs.Prelude.{◌≡◌, ◌-◌, ◌^◌, ◌<◌, ◌≤◌, ◌≤ℤ◌, ℕ, ℤ, pos, negsuc, unsigned_abs, FitsSigned, []}
 use Rattle.std.specs.Int.{IsGcd, Width, w8, w16, w32, w64, w128}
 use Rattle.std.proofs.Common.{arith, ap, sym, lit≤, ◌∙◌}
@@ -31,7 +31,7 @@ signed_held w (negsuc n) fits = let small = fits.sfits in record { above = omega
 unsigned_held : (w : Width) (a : ℕ) → Fits w a → IsHeld (pos 0) (pos (2 ^ bits w - 1)) (pos a)
 unsigned_held w a fits = let small = fits.fits in record { above = omega (arith, ints); below = omega (arith, ints) }
 
--- where it is held, a signed type has it
+-- the gcd fits a signed type, except for the pairs of `IsGcdAboveMax`
 pub signed_answer : (w : Width) {x y : ℤ} {a b : ℕ} (g : ℕ) → SFits w x → SFits w y → ¬ (IsGcdAboveMax (pos (2 ^ hbits w - 1)) x y) → a ≡ unsigned_abs (to_z w (of_z w x)) → b ≡ unsigned_abs (to_z w (of_z w y)) → IsGcd a b g → FitsSigned w (pos g) × IsGcdOf x y (to_z w g)
 signed_answer w {x} {y} g fits_x fits_y out a-is b-is is =
     let size_x = a-is ∙ ap unsigned_abs (to_z-of_z w x fits_x) in
@@ -44,7 +44,7 @@ signed_answer w {x} {y} g fits_x fits_y out a-is b-is is =
     let small : g < 2 ^ hbits w = omega (arith, ints) in
     (fits_signed_from_abs w (pos g) small, rw (to_z_pos w g small) answer)
 
--- and so has an unsigned one
+-- the same for an unsigned type
 pub unsigned_answer : (w : Width) {a b : ℕ} (g : ℕ) → Fits w a → Fits w b → ¬ (IsGcdAboveMax (pos (2 ^ bits w - 1)) (pos a) (pos b)) → IsGcd a b g → Fits w g
 unsigned_answer w {a} {b} g fits_a fits_b out is =
     let range = (unsigned_laws (2 ^ bits w - 1) (λ n. []) (unsigned_room w)).range in

@@ -1,4 +1,4 @@
--- Products of whole numbers. The tactics are linear over ℤ, so the laws of a ring are stated here once.
+-- Products of whole numbers. The tactics are linear over ℤ, so the laws of a ring are here, once.
 use Rattle.std.specs.Prelude.{◌≡◌, ◌≢◌, ◌+◌, ◌*◌, ◌<ℤ◌, ◌+ℤ◌, ◌-ℤ◌, ◌*ℤ◌, ℤ, zero, suc, pos, negsuc, neg_ℤ, unsigned_abs}
 use Rattle.std.proofs.Common.{refl, sym, ap, arith, ◌∙◌}
 use Rattle.std.proofs.Math.Nat.{eq_of_mul-eq-mul_right}
@@ -54,17 +54,17 @@ sub-mul x y z = add-mul x (neg_ℤ y) z ∙ ap (λ (t : ℤ). x *ℤ z +ℤ t) (
 pub mul-sub : (x y z : ℤ) → x *ℤ (y -ℤ z) ≡ x *ℤ y -ℤ x *ℤ z
 mul-sub x y z = rw (*ℤ_comm x (y -ℤ z), *ℤ_comm x y, *ℤ_comm x z) (sub-mul y z x)
 
--- the last two factors change places
+-- (a*b)*c = a*(c*b)
 pub mul-swap_last : (a b c : ℤ) → (a *ℤ b) *ℤ c ≡ a *ℤ (c *ℤ b)
 mul-swap_last a b c = mul_assoc a b c ∙ ap (λ (t : ℤ). a *ℤ t) (*ℤ_comm b c)
 
--- the inner two factors change places
+-- (a*b)*(c*d) = (a*c)*(b*d)
 pub mul-swap_inner : (a b c d : ℤ) → (a *ℤ b) *ℤ (c *ℤ d) ≡ (a *ℤ c) *ℤ (b *ℤ d)
 mul-swap_inner a b c d = mul_assoc a b (c *ℤ d) ∙ ap (λ (t : ℤ). a *ℤ t) (sym (mul_assoc b c d) ∙ ap (λ (t : ℤ). t *ℤ d) (*ℤ_comm b c) ∙ mul_assoc c b d) ∙ sym (mul_assoc a c (b *ℤ d))
 
 -- ---- a factor other than 0
 
--- such a factor is dropped from both sides of an equation
+-- if d is not 0 and a*d = b*d, then a = b
 pub mul_cancel : (a b d : ℤ) → d ≢ pos 0 → a *ℤ d ≡ b *ℤ d → a ≡ b
 mul_cancel a b (pos zero) nonzero e = absurd (nonzero refl)
 mul_cancel a b (pos (suc k)) nonzero e = same_in a b (omega (
@@ -93,7 +93,7 @@ mul_positive (pos (suc n)) (pos zero) h k = absurd (omega (arith, ints))
 mul_positive (pos (suc n)) (negsuc m) h k = absurd (omega (arith, ints))
 mul_positive (pos (suc n)) (pos (suc m)) h k = omega (arith, ints)
 
--- where a product and one factor are positive, so is the other factor
+-- if b and a*b are positive, so is a
 pub positive_factor : (a b : ℤ) → pos 0 <ℤ b → pos 0 <ℤ (a *ℤ b) → pos 0 <ℤ a
 positive_factor (pos zero) b h k = absurd (let none : pos 0 *ℤ b ≡ pos 0 = zero-*ℤ b in omega (arith, ints))
 positive_factor (pos (suc n)) b h k = omega (arith, ints)
@@ -108,6 +108,6 @@ unsigned_abs-neg (pos zero) = refl
 unsigned_abs-neg (pos (suc n)) = refl
 unsigned_abs-neg (negsuc n) = refl
 
--- equal products have equal products of magnitudes
+-- if x*y = z*w, then |x|*|y| = |z|*|w|
 pub unsigned_abs-products : (x y z w : ℤ) → x *ℤ y ≡ z *ℤ w → unsigned_abs x * unsigned_abs y ≡ unsigned_abs z * unsigned_abs w
 unsigned_abs-products x y z w e = sym (unsigned_abs-mul x y) ∙ ap unsigned_abs e ∙ unsigned_abs-mul z w

@@ -1,4 +1,4 @@
--- Numbers of 64 bits, computed in 128.
+-- Numbers of 64 bits, computed in 128 bits.
 use Rattle.std.specs.Prelude.{◌≡◌, ◌*◌, ◌-◌, ◌^◌, ◌≤◌, ◌<ℤ◌, ◌*ℤ◌, ◌+ℤ◌, ◌-ℤ◌, ℤ, pos, negsuc, unsigned_abs}
 use Rattle.std.proofs.Common.{arith, refl, ◌∙◌}
 use Rattle.std.proofs.lemmas.Int.{ints, to_z-of_z, unsigned_abs-mul}
@@ -9,21 +9,21 @@ use Rattle.ratio_integer.specs.Fraction.{Fits, IsHeldLowest}
 use Rattle.ratio_integer.specs.Range.{IsHeld}
 use Rattle.ratio_integer.proofs.LowestTerms.{denom_out, numer_out}
 
--- ---- how wide a number is
+-- ---- widths
 
--- z has at most 64 bits with a sign
+-- z fits 64 signed bits
 abbrev pub IsNarrow : ℤ → Type 0
 IsNarrow z = IsHeld (negsuc (2 ^ 63 - 1)) (pos (2 ^ 63 - 1)) z
 
--- z has at most 127, so that a sum of two such numbers has at most 128
+-- z fits 127 signed bits, so a sum of two such numbers fits 128
 abbrev pub HasRoom : ℤ → Type 0
 HasRoom z = IsHeld (negsuc (2 ^ 126 - 1)) (pos (2 ^ 126 - 1)) z
 
--- z has at most 128
+-- z fits 128 signed bits
 abbrev pub IsWide : ℤ → Type 0
 IsWide z = IsHeld (negsuc (2 ^ 127 - 1)) (pos (2 ^ 127 - 1)) z
 
--- the number of 128 bits that code reads from z's bits
+-- the number that code reads from the 128 bits of z
 abbrev pub wide_of : ℤ → ℤ
 wide_of z = to_z w128 (of_z w128 z)
 
@@ -47,7 +47,7 @@ room_wide p x p-is room =
     let below = room.below in
     wide_is p (record { above = omega (arith, ints); below = omega (arith, ints) }) ∙ p-is
 
--- ---- what `product` gives: a narrow number times a positive narrow one has room
+-- ---- `product`: a narrow number times a positive narrow one has room
 
 product_room : (x y : ℤ) → IsNarrow x → IsNarrow y → pos 0 <ℤ y → HasRoom (x *ℤ y)
 product_room x y x_narrow y_narrow positive = by_size (x *ℤ y) (
@@ -67,7 +67,7 @@ product_wide_room p q x y p-is q-is x_narrow y_narrow positive =
     let room = product_room x y x_narrow y_narrow positive in
     rw (narrow_wide p x p-is x_narrow, narrow_wide q y q-is y_narrow, room_wide (x *ℤ y) (x *ℤ y) refl room) room
 
--- ---- what the sum and the difference of two numbers with room give
+-- ---- the sum and the difference of two numbers with room
 
 pub sum_wide : (p q x y : ℤ) → p ≡ x → q ≡ y → HasRoom p → HasRoom q → wide_of (wide_of p +ℤ wide_of q) ≡ x +ℤ y
 sum_wide p q x y p-is q-is p_room q_room =
@@ -93,7 +93,7 @@ difference_wide p q x y p-is q-is p_room q_room =
         let second_below = second.below in
         record { above = omega (arith, ints); below = omega (arith, ints) }
 
--- ---- where a number of the lowest terms a/b of n/d, found in 128 bits, is not held from lo to hi, n/d does not fit there
+-- ---- if a number of the lowest terms a/b of n/d is out of range, n/d does not fit
 
 module _ (lo hi n d a b : ℤ) (n_fits : SFits w128 n) (d_fits : SFits w128 d) (low : IsHeldLowest (negsuc (2 ^ 127 - 1)) (pos (2 ^ 127 - 1)) (wide_of n) (wide_of d) a b) where
   pub numer_out_narrow : ¬ (IsHeld lo hi (wide_of a)) → ¬ (Fits lo hi n d)

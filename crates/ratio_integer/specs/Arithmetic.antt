@@ -1,4 +1,4 @@
--- The schoolbook results of two fractions a/b and c/d, as pairs, and when a sum, a difference and a remainder are formed.
+-- The results of two fractions a/b and c/d as pairs that are not reduced, and when a sum, a difference and a remainder can be computed.
 use Rattle.std.specs.Prelude.{◌≡◌, ◌≢◌, ◌≤ℤ◌, ◌<ℤ◌, ◌+ℤ◌, ◌-ℤ◌, ◌*ℤ◌, ℤ, pos, int_div}
 use Rattle.ratio_integer.specs.Division.{IsMultiple}
 use Rattle.ratio_integer.specs.Range.{IsHeld}
@@ -15,38 +15,38 @@ sum_of a b c d = (a *ℤ d +ℤ c *ℤ b, b *ℤ d)
 abbrev pub difference_of : ℤ → ℤ → ℤ → ℤ → ℤ × ℤ
 difference_of a b c d = (a *ℤ d -ℤ c *ℤ b, b *ℤ d)
 
--- a/b less t times c/d, where t is their quotient (a*d)/(b*c) cut towards zero
+-- a/b - t * c/d, where t is the quotient (a*d)/(b*c) cut towards zero: 2/8 for 3/4 and 1/2
 abbrev pub remainder_of : ℤ → ℤ → ℤ → ℤ → ℤ × ℤ
 remainder_of a b c d = (a *ℤ d -ℤ int_div (a *ℤ d) (b *ℤ c) *ℤ (c *ℤ b), b *ℤ d)
 
--- l is the least positive number that b and d both divide
+-- l is the least positive number that is a multiple of b and of d: 12 for 4 and 6
 pub record IsLeastCommon (b d l : ℤ) : Type 0 where
   pub positive : pos 0 <ℤ l
   pub first : IsMultiple l b
   pub second : IsMultiple l d
   pub least : (m : ℤ) → pos 0 <ℤ m → IsMultiple m b → IsMultiple m d → l ≤ℤ m
 
--- p/l and q/l have the values of a/b and c/d, and l is the least common denominator
+-- p/l and q/l have the values of a/b and c/d, and l is the least common denominator: 9/12 and 2/12 for 3/4 and 1/6
 pub record IsScaled (a b c d l p q : ℤ) : Type 0 where
   pub least : IsLeastCommon b d l
   pub left : p *ℤ b ≡ a *ℤ l
   pub right : q *ℤ d ≡ c *ℤ l
 
--- the same, and all three are held
+-- the same, and all three are in range
 pub record IsHeldScaled (lo hi a b c d l p q : ℤ) : Type 0 where
   pub scaled : IsScaled a b c d l p q
   pub common_held : IsHeld lo hi l
   pub left_held : IsHeld lo hi p
   pub right_held : IsHeld lo hi q
 
--- the least common denominator of a/b and c/d is held, and so are their numerators over it
+-- the least common denominator of a/b and c/d is in range, and so are the numerators over it
 pub record ScaledHeld (lo hi a b c d : ℤ) : Type 0 where
   pub common : ℤ
   pub left : ℤ
   pub right : ℤ
   pub held : IsHeldScaled lo hi a b c d common left right
 
--- the same, and the sum of these numerators is held
+-- the same, and the sum of the numerators is in range
 pub record SumHeld (lo hi a b c d : ℤ) : Type 0 where
   pub common : ℤ
   pub left : ℤ
@@ -54,7 +54,7 @@ pub record SumHeld (lo hi a b c d : ℤ) : Type 0 where
   pub held : IsHeldScaled lo hi a b c d common left right
   pub sum_held : IsHeld lo hi (left +ℤ right)
 
--- the same for their difference
+-- the same for the difference of the numerators
 pub record DifferenceHeld (lo hi a b c d : ℤ) : Type 0 where
   pub common : ℤ
   pub left : ℤ
@@ -62,7 +62,7 @@ pub record DifferenceHeld (lo hi a b c d : ℤ) : Type 0 where
   pub held : IsHeldScaled lo hi a b c d common left right
   pub difference_held : IsHeld lo hi (left -ℤ right)
 
--- c/d is not 0, and the least common denominator and the numerators over it are held
+-- c is not 0, and the least common denominator and the numerators over it are in range
 pub record RemainderHeld (lo hi a b c d : ℤ) : Type 0 where
   pub divisor : c ≢ pos 0
   pub held : ScaledHeld lo hi a b c d

@@ -1,4 +1,4 @@
--- What a comparison of two values tells of their numbers.
+-- What a comparison of two values tells about their numbers.
 use Rattle.std.specs.Prelude.{◌≡◌, ◌⊎◌, ◌≤ℤ◌, ◌<ℤ◌, ℤ, Bool, true, false, Option, Some}
 use Rattle.std.specs.Ordering.{int_cmp, is_lt, partial_lt, partial_le, partial_gt, partial_ge, is_le, is_gt, is_ge, MatchOrdering}
 use Rattle.std.specs.declared.cmp.Ordering.{Ordering}
@@ -7,7 +7,7 @@ use Rattle.std.proofs.Common.{refl, sym, inl, inr, arith, ◌∙◌}
 use Rattle.std.proofs.lemmas.Int.{ints}
 use Rattle.std.proofs.lemmas.Cmp.{int_ranked}
 
--- the test b is true where P holds, and false where Q does
+-- the test b is true and P holds, or it is false and Q holds
 abbrev pub Tells : Bool → Type 0 → Type 0 → Type 0
 Tells b P Q = ((b ≡ true) × P) ⊎ ((b ≡ false) × Q)
 
@@ -31,7 +31,7 @@ ge_rank x y Less m b e = inr (e, m)
 ge_rank x y Equal m b e = inl (e, omega (arith, ints))
 ge_rank x y Greater m b e = inl (e, omega (arith, ints))
 
--- the four operators, where R orders the values by their numbers
+-- the four operators, if R orders the values by their numbers
 module _ {A : Type 0} (R : A → A → Option Ordering) (v : A → ℤ) (law : (a b : A) → R a b ≡ Some (int_cmp (v a) (v b))) (a b : A) where
   pub lt_tells : Tells (partial_lt R a b) (v a <ℤ v b) (v b ≤ℤ v a)
   lt_tells = lt_rank (v a) (v b) (int_cmp (v a) (v b)) (int_ranked (v a) (v b) _ refl) (partial_lt R a b) (rw (law a b))
@@ -45,7 +45,7 @@ module _ {A : Type 0} (R : A → A → Option Ordering) (v : A → ℤ) (law : (
   pub ge_tells : Tells (partial_ge R a b) (v b ≤ℤ v a) (v a <ℤ v b)
   ge_tells = ge_rank (v a) (v b) (int_cmp (v a) (v b)) (int_ranked (v a) (v b) _ refl) (partial_ge R a b) (rw (law a b))
 
--- a test that came out true, or false
+-- the fact that holds if a test is true, and the fact that holds if it is false
 pub yes : {P Q : Type 0} (b : Bool) → Tells b P Q → b ≡ true → P
 yes b (inl t) e = t.1
 yes b (inr t) e = absurd (let h : true ≡ false = sym e ∙ t.0 in cc)

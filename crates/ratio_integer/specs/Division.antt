@@ -3,21 +3,22 @@ use Rattle.std.specs.Prelude.{◌≡◌, ◌⊎◌, ◌≤ℤ◌, ◌<ℤ◌, �
 use Rattle.std.specs.Int.{◌∣◌, IsGcd}
 use Rattle.ratio_integer.specs.Range.{IsHeld}
 
--- some whole number times b is a
+-- a is some whole number times b
 abbrev pub IsMultiple : ℤ → ℤ → Type 0
 IsMultiple a b = (k : ℤ) × (a ≡ k *ℤ b)
 
--- q is the floored quotient of a by b, and r what it leaves: r is 0 or has the sign of b, and is nearer to 0 than b
+-- q is the floored quotient of a by b, and r is the rest: it is 0 or has the sign of b, and it is
+-- nearer to 0 than b. For -7 by 2 they are -4 and 1
 pub record IsFloored (a b q r : ℤ) : Type 0 where
   pub sum : a ≡ q *ℤ b +ℤ r
   pub rest : ((pos 0 ≤ℤ r) × (r <ℤ b)) ⊎ ((b <ℤ r) × (r ≤ℤ pos 0))
 
--- n/d is -hi-1 over -1: its value is hi+1, and no other pair of a type up to hi has one above hi
+-- n/d is -hi-1 over -1. Its value is hi+1; no other pair of a type up to hi has a value above hi
 pub record IsAboveMax (hi n d : ℤ) : Type 0 where
   pub numer : n ≡ neg_ℤ hi -ℤ pos 1
   pub denom : d ≡ negsuc 0
 
--- the floored quotient of a by b is held
+-- each floored quotient of a by b is in range
 pub record FlooredHeld (lo hi a b : ℤ) : Type 0 where
   pub each : (q r : ℤ) → IsFloored a b q r → IsHeld lo hi q
 
@@ -31,36 +32,36 @@ pub record IsFlooredRemainder (a b r : ℤ) : Type 0 where
   pub quotient : ℤ
   pub floored : IsFloored a b quotient r
 
--- g is the greatest common divisor of a and b: it divides both, each number that divides both divides it, and it is never
--- negative; so that of 0 and 0 is 0
+-- g is the greatest common divisor of a and b: it divides both, each number that divides both
+-- divides it, and it is never negative. For 0 and 0 it is 0
 pub record IsGcdOf (a b g : ℤ) : Type 0 where
   pub sign : pos 0 ≤ℤ g
   pub divisor : IsGcd (unsigned_abs a) (unsigned_abs b) (unsigned_abs g)
 
--- one of a and b is -hi-1, and the other is -hi-1 or 0: their greatest common divisor is hi+1, and no other two numbers of a type
--- up to hi have one above hi
+-- one of a and b is -hi-1, and the other is -hi-1 or 0. Their greatest common divisor is hi+1; no other two numbers of a type up
+-- to hi have one above hi
 abbrev pub IsGcdAboveMax : ℤ → ℤ → ℤ → Type 0
 IsGcdAboveMax hi a b =
     ((a ≡ neg_ℤ hi -ℤ pos 1) × ((b ≡ neg_ℤ hi -ℤ pos 1) ⊎ (b ≡ pos 0)))
     ⊎ ((a ≡ pos 0) × (b ≡ neg_ℤ hi -ℤ pos 1))
 
--- the greatest common divisor of a and b is held
+-- the greatest common divisor of a and b is in range
 pub record GcdHeld (lo hi a b : ℤ) : Type 0 where
   pub each : (g : ℤ) → IsGcdOf a b g → IsHeld lo hi g
 
--- l is the least common multiple of a and b: both divide it, it divides each number that both divide, and it is never
--- negative; so it is 0 if either is 0
+-- l is the least common multiple of a and b: both divide it, it divides each number that both
+-- divide, and it is never negative. If a or b is 0, it is 0
 pub record IsLcmOf (a b l : ℤ) : Type 0 where
   pub sign : pos 0 ≤ℤ l
   pub first : unsigned_abs a ∣ unsigned_abs l
   pub second : unsigned_abs b ∣ unsigned_abs l
   pub least : (m : ℕ) → unsigned_abs a ∣ m → unsigned_abs b ∣ m → unsigned_abs l ∣ m
 
--- the least common multiple of a and b is held
+-- the least common multiple of a and b is in range
 pub record LcmHeld (lo hi a b : ℤ) : Type 0 where
   pub each : (l : ℤ) → IsLcmOf a b l → IsHeld lo hi l
 
--- the answer stands for the least common multiple of a and b where that is held, and is `None` where it is not
+-- the result is the least common multiple of a and b, where it is in range; elsewhere it is `None`
 abbrev pub ChecksLcm : {T : Type 0} → (T → ℤ) → ℤ → ℤ → ℤ → ℤ → Option T → Type 0
 ChecksLcm value lo hi a b None = ¬ (LcmHeld lo hi a b)
 ChecksLcm value lo hi a b (Some y) = LcmHeld lo hi a b × IsLcmOf a b (value y)

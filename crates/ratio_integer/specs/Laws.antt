@@ -1,11 +1,11 @@
--- What each type of integers proves of its range, its constants, its comparisons and its hash.
+-- What each type of integers proves about its range, its constants, its comparisons and its hash.
 use Rattle.std.specs.Prelude.{◌≡◌, ◌↔◌, ℕ, ℤ, pos, Bool, IsTrue, List, Option, Some}
 use Rattle.std.specs.Ordering.{int_cmp}
 use Rattle.std.specs.declared.cmp.Ordering.{Ordering}
 use Rattle.ratio_integer.specs.Range.{IsHeld, IsRange}
 
--- the values of T stand for the whole numbers from lo to hi, the four constants for 0, 1, lo and hi, and values are equal,
--- ordered and hashed by their numbers
+-- lo to hi is a range, and each number in range is the number of some value. The four constants are 0, 1, lo and hi. Values are
+-- equal, ordered and hashed by their numbers
 pub record IsLawful (T : Type 0) (lo hi : ℤ) (value : T → ℤ) (zero one min max : T) (eq : T → T → Bool) (cmp : T → T → Ordering) (partial_cmp : T → T → Option Ordering) (hash_input : T → List (List ℕ)) (number_hash_input : ℤ → List (List ℕ)) : Type 0 where
   pub range : IsRange lo hi
   pub every : (z : ℤ) → IsHeld lo hi z → (x : T) × (value x ≡ z)

@@ -1,15 +1,23 @@
 //! The greatest common divisor of magnitudes by halving and subtracting, without a division.
 //!
-//! This is Stein's algorithm (1967). It rests on three rules: a factor of 2 that both numbers have
-//! is a factor of the answer; one that only one of them has is not; and of two odd numbers the
-//! greater may give way to the difference, which is even, so each step takes off at least one bit.
+//! This is Stein's algorithm (1967). It uses three rules. A factor of 2 of both numbers is a factor of
+//! the result. A factor of 2 of only one number is not. Of two odd numbers, their difference may replace
+//! the greater one; it is even, so each step removes at least one bit. For 21 and 15: 6, so 3 and 15.
 //!
-//! Which of the two numbers is the smaller is as good as a coin toss, so a branch on it would be
-//! guessed wrong every other step. `min` and `abs_diff` choose without a branch, and a shift by
-//! `trailing_zeros` halves as often as it goes at once.
+//! A processor would guess a branch on the smaller number wrong every other step. `min` and `abs_diff`
+//! choose without a branch, and one shift by `trailing_zeros` halves as often as possible.
 ghost use Rattle.std.specs.Prelude.{◌≡◌, ◌≢◌, ◌≤◌, ◌%◌, ◌^◌, ℕ, MatchOption};
 ghost use Rattle.std.specs.Int.{IsGcd, abs_diff, trailing_zeros, w64, w128};
 ghost use Rattle.ratio_integer.specs.OddPart.{IsOddPart};
+
+mod above;
+mod above_wide;
+mod plain;
+mod wide;
+
+use above_wide::odd_gcd_above_wide;
+use plain::odd_gcd;
+use wide::odd_gcd_wide;
 
 /// The number without its factors of 2.
 #[inline(always)]
@@ -20,8 +28,8 @@ fn odd_part(n: u64) -> u64
     n >> n.trailing_zeros()
 }
 
-/// How far apart the two numbers are, without the factors of 2. The wrapped difference has as many, and
-/// a processor counts these while it takes the distance.
+/// The distance of two numbers without its factors of 2. The wrapped difference has as many of these, and
+/// a processor counts them while it computes the distance.
 #[inline(always)]
 fn odd_distance(x: u64, y: u64) -> u64
     requires { x ≢ y }
@@ -29,22 +37,6 @@ fn odd_distance(x: u64, y: u64) -> u64
 {
     let zeros = y.wrapping_sub(x).trailing_zeros();
     x.abs_diff(y) >> zeros
-}
-
-/// The greatest common divisor of two odd numbers.
-fn odd_gcd(a: u64, b: u64) -> u64
-    requires left { a % 2 ≡ 1 }
-    requires right { b % 2 ≡ 1 }
-    ensures { IsGcd a b result }
-{
-    let mut x = a;
-    let mut y = b;
-    'steps: while x != y {
-        let rest = odd_distance(x, y);
-        x = x.min(y);
-        y = rest;
-    }
-    x
 }
 
 /// The greatest common divisor of magnitudes of at most 64 bits, 0 for 0 and 0.
@@ -70,8 +62,8 @@ fn odd_part_wide(n: u128) -> u128
     n >> n.trailing_zeros()
 }
 
-/// How far apart the two numbers are, without the factors of 2: those of the lower halves' wrapped
-/// difference, where that is not 0.
+/// The distance of two numbers without its factors of 2. The wrapped difference of the lower halves has
+/// as many, if it is not 0.
 #[inline(always)]
 fn odd_distance_wide(x: u128, y: u128) -> u128
     requires { x ≢ y }
@@ -94,26 +86,6 @@ fn lower_half(n: u128) -> u64
     (n % (1 << 64)) as u64
 }
 
-/// The greatest common divisor of two odd numbers. A step in 128 bits costs several in 64, so the
-/// numbers go over to 64 bits once both fit.
-fn odd_gcd_wide(a: u128, b: u128) -> u128
-    requires left { a % 2 ≡ 1 }
-    requires right { b % 2 ≡ 1 }
-    ensures { IsGcd a b result }
-{
-    let mut x = a;
-    let mut y = b;
-    'steps: while x != y {
-        if x <= u64::MAX as u128 && y <= u64::MAX as u128 {
-            return odd_gcd(x as u64, y as u64) as u128;
-        }
-        let rest = odd_distance_wide(x, y);
-        x = x.min(y);
-        y = rest;
-    }
-    x
-}
-
 /// The greatest common divisor of magnitudes of at most 128 bits, 0 for 0 and 0.
 pub(crate) fn binary_gcd_wide(a: u128, b: u128) -> u128
     ensures { IsGcd a b result }
@@ -128,53 +100,8 @@ pub(crate) fn binary_gcd_wide(a: u128, b: u128) -> u128
     odd_gcd_wide(odd_part_wide(a), odd_part_wide(b)) << shift
 }
 
-/// The greatest common divisor of two odd numbers, or `None`, which is answered only where it is not
-/// above `bound`: it divides the smaller number on the way.
-fn odd_gcd_above(a: u64, b: u64, bound: u64) -> Option<u64>
-    requires left { a % 2 ≡ 1 }
-    requires right { b % 2 ≡ 1 }
-    ensures { MatchOption result ((g : ℕ) → IsGcd a b g → g ≤ bound) (λ g. IsGcd a b g) }
-{
-    let mut x = a;
-    let mut y = b;
-    'steps: while x != y {
-        if x <= bound {
-            return None;
-        }
-        let rest = odd_distance(x, y);
-        x = x.min(y);
-        y = rest;
-    }
-    Some(x)
-}
-
-/// The same for numbers of at most 128 bits.
-fn odd_gcd_above_wide(a: u128, b: u128, bound: u128) -> Option<u128>
-    requires left { a % 2 ≡ 1 }
-    requires right { b % 2 ≡ 1 }
-    ensures { MatchOption result ((g : ℕ) → IsGcd a b g → g ≤ bound) (λ g. IsGcd a b g) }
-{
-    let mut x = a;
-    let mut y = b;
-    'steps: while x != y {
-        if x <= bound {
-            return None;
-        }
-        if x <= u64::MAX as u128 && y <= u64::MAX as u128 {
-            return match odd_gcd_above(x as u64, y as u64, bound as u64) {
-                None => None,
-                Some(divisor) => Some(divisor as u128),
-            };
-        }
-        let rest = odd_distance_wide(x, y);
-        x = x.min(y);
-        y = rest;
-    }
-    Some(x)
-}
-
-/// The greatest common divisor of magnitudes of at most 128 bits, or `None`, which is answered only
-/// where it is not above `bound`.
+/// The greatest common divisor of magnitudes of at most 128 bits. It is `None` only if the divisor is at
+/// most `bound`.
 pub(crate) fn gcd_above(a: u128, b: u128, bound: u128) -> Option<u128>
     ensures { MatchOption result ((g : ℕ) → IsGcd a b g → g ≤ bound) (λ g. IsGcd a b g) }
 {

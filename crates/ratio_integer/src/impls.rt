@@ -1,4 +1,4 @@
-//! The primitive types, one a file, each with the same calls in the same order.
+//! The primitive types, one in each file, with the same calls in the same order.
 mod i128;
 mod i16;
 mod i32;

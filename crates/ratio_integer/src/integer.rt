@@ -11,15 +11,15 @@ ghost use Rattle.ratio_integer.specs.Range.{Checks, IsHeld, IsRange};
 
 use std::hash::Hash;
 
-/// A type of the whole numbers from `lo` to `hi`. Each value stands for one of them, and values are
-/// equal, ordered and hashed by their numbers. Values of equal number need not be identical.
+/// A type of the whole numbers from `lo` to `hi`. Each value has one of these numbers. Values are equal,
+/// ordered and hashed by their numbers. Values with the same number need not be identical.
 pub trait Integer: Copy + Ord + Hash {
     // The least and the greatest number.
     ghost lo: { ℤ };
 
     ghost hi: { ℤ };
 
-    // The number that a value stands for.
+    // The number of a value.
     ghost value: { Self → ℤ };
 
     // What a value of this number feeds a hasher.
@@ -35,7 +35,9 @@ pub trait Integer: Copy + Ord + Hash {
 
     ghost EXACT_SUMS: { Bool };
 
-    // The number of `ONE`, as a fact that a constant fraction over the type may name.
+    ghost EXACT_REMAINDERS: { Bool };
+
+    // The number of `ONE` is 1. A constant fraction over the type can name this fact.
     ghost one_number: { value ONE ≡ pos 1 };
 
     /// The number 0.
@@ -50,56 +52,59 @@ pub trait Integer: Copy + Ord + Hash {
     /// The greatest number.
     const MAX: Self;
 
-    /// Whether `exact_sum` and `exact_diff` compute, or always answer `None`.
+    /// Whether `exact_sum` and `exact_diff` compute a result. If not, they always return `None`.
     const EXACT_SUMS: bool;
 
-    /// The sum. The test is `try_plus`.
+    /// Whether the remainder of two fractions can be computed in `u128`: no number of the type is above 2^64-1.
+    const EXACT_REMAINDERS: bool;
+
+    /// The sum. It requires that `try_plus` returns `Some`.
     fn plus(self, o: Self) -> Self
         requires { IsHeld lo hi (value self +ℤ value o) }
         ensures { value result ≡ value self +ℤ value o };
 
-    /// The difference. The test is `try_minus`.
+    /// The difference. It requires that `try_minus` returns `Some`.
     fn minus(self, o: Self) -> Self
         requires { IsHeld lo hi (value self -ℤ value o) }
         ensures { value result ≡ value self -ℤ value o };
 
-    /// The product. The test is `try_times`.
+    /// The product. It requires that `try_times` returns `Some`.
     fn times(self, o: Self) -> Self
         requires { IsHeld lo hi (value self *ℤ value o) }
         ensures { value result ≡ value self *ℤ value o };
 
-    /// The product, or `None` where the type does not hold it.
+    /// The product, or `None` if it does not fit the type.
     fn try_times(self, o: Self) -> Option<Self>
         ensures { Checks value lo hi (value self *ℤ value o) result };
 
-    /// The quotient cut towards zero, and the remainder, which is 0 or has the sign of `self`. The
-    /// quotient of two held numbers is held, but for that of `-hi-1` by -1.
+    /// The quotient cut towards zero, and the remainder, which is 0 or has the sign of `self`: -3 and -1 for
+    /// -7 by 2. The quotient always fits the type, except for `-hi-1` by -1.
     fn div_rem(self, o: Self) -> (Self, Self)
         requires nonzero { value o ≢ pos 0 }
         requires held { ¬ (IsAboveMax hi (value self) (value o)) }
         ensures quotient { value result.0 ≡ int_div (value self) (value o) }
         ensures remainder { value result.1 ≡ int_rem (value self) (value o) };
 
-    /// The number as an `i128`, or `None` where that type does not hold it. A value in hand lies
-    /// from `lo` to `hi`.
+    /// The number as an `i128`, or `None` if it does not fit that type. The
+    /// contract also says that the number lies from `lo` to `hi`.
     fn to_i128(self) -> Option<i128>
         ensures number { Checks (λ n. n) (negsuc (2 ^ 127 - 1)) (pos (2 ^ 127 - 1)) (value self) result }
         ensures range { IsHeld lo hi (value self) };
 
-    /// The number as a `u128`, or `None` where that type does not hold it.
+    /// The number as a `u128`, or `None` if it does not fit that type.
     fn to_u128(self) -> Option<u128>
         ensures { Checks (λ n. pos n) (pos 0) (pos (2 ^ 128 - 1)) (value self) result };
 
-    /// The value that stands for `n`, or `None` where the type does not hold it.
+    /// The value with the number `n`, or `None` if `n` does not fit the type.
     fn from_i128(n: i128) -> Option<Self>
         ensures { Checks value lo hi n result };
 
-    /// The value that stands for `n`, or `None` where the type does not hold it.
+    /// The value with the number `n`, or `None` if `n` does not fit the type.
     fn from_u128(n: u128) -> Option<Self>
         ensures { Checks value lo hi (pos n) result };
 
-    /// The lowest terms of `a/b + c/d`, or `None` where these do not fit: so where `EXACT_SUMS` is
-    /// true. Where it is false, always `None`.
+    /// If `EXACT_SUMS` is true, the lowest terms of `a/b + c/d`, or `None` if they do not fit the type. If it is
+    /// false, always `None`.
     fn exact_sum(a: Self, b: Self, c: Self, d: Self) -> Option<(Self, Self)>
         requires left_positive { pos 0 <ℤ value b }
         requires right_positive { pos 0 <ℤ value d }
@@ -107,8 +112,8 @@ pub trait Integer: Copy + Ord + Hash {
             (sum_of (value a) (value b) (value c) (value d)) result) }
         ensures none { OnFalse EXACT_SUMS (IsNone result) };
 
-    /// The lowest terms of `a/b - c/d`, or `None` where these do not fit: so where `EXACT_SUMS` is
-    /// true. Where it is false, always `None`.
+    /// If `EXACT_SUMS` is true, the lowest terms of `a/b - c/d`, or `None` if they do not fit the type. If it is
+    /// false, always `None`.
     fn exact_diff(a: Self, b: Self, c: Self, d: Self) -> Option<(Self, Self)>
         requires left_positive { pos 0 <ℤ value b }
         requires right_positive { pos 0 <ℤ value d }
@@ -116,7 +121,7 @@ pub trait Integer: Copy + Ord + Hash {
             (difference_of (value a) (value b) (value c) (value d)) result) }
         ensures none { OnFalse EXACT_SUMS (IsNone result) };
 
-    /// True, and the contract tells that a value in hand lies from `lo` to `hi`.
+    /// Always true. The contract says that the number fits the type.
     fn held(self) -> bool
         ensures answer { IsTrue result }
         ensures range { IsHeld lo hi (value self) }
@@ -143,7 +148,6 @@ pub trait Integer: Copy + Ord + Hash {
     fn is_even(self) -> bool
         ensures { IsTrue result ↔ IsMultiple (value self) (pos 2) }
     {
-        let _ = self.held();
         let two = Self::ONE.plus(Self::ONE);
         let (_, left_over) = self.div_rem(two);
         left_over.is_zero()
@@ -156,7 +160,7 @@ pub trait Integer: Copy + Ord + Hash {
         !self.is_even()
     }
 
-    /// The sum, or `None` where the type does not hold it.
+    /// The sum, or `None` if it does not fit the type.
     fn try_plus(self, o: Self) -> Option<Self>
         ensures { Checks value lo hi (value self +ℤ value o) result }
     {
@@ -172,7 +176,7 @@ pub trait Integer: Copy + Ord + Hash {
         Some(self.plus(o))
     }
 
-    /// The difference, or `None` where the type does not hold it.
+    /// The difference, or `None` if it does not fit the type.
     fn try_minus(self, o: Self) -> Option<Self>
         ensures { Checks value lo hi (value self -ℤ value o) result }
     {
@@ -188,8 +192,8 @@ pub trait Integer: Copy + Ord + Hash {
         Some(self.minus(o))
     }
 
-    /// The least common multiple, never negative, or `None` where the type does not hold it; 0 if
-    /// either number is 0.
+    /// The least common multiple, or `None` if it does not fit the type. It is
+    /// never negative, and it is 0 if either number is 0.
     fn try_lcm(self, o: Self) -> Option<Self>
         ensures { ChecksLcm value lo hi (value self) (value o) result }
     {
@@ -198,7 +202,7 @@ pub trait Integer: Copy + Ord + Hash {
         }
         let _ = self.held();
         let _ = o.held();
-        // The greatest common divisor of the least number and itself may not be held.
+        // The gcd of the least number and itself may not fit the type.
         if self == o {
             return if self < Self::ZERO {
                 Self::ZERO.try_minus(self)
@@ -220,8 +224,8 @@ pub trait Integer: Copy + Ord + Hash {
         }
     }
 
-    /// The floored quotient, and the remainder, which is 0 or has the sign of `o`. The floored
-    /// quotient of two held numbers is held, but for that of `-hi-1` by -1.
+    /// The floored quotient, and the remainder, which is 0 or has the sign of `o`: -4 and 1 for -7 by 2. The
+    /// quotient always fits the type, except for `-hi-1` by -1.
     fn div_mod_floor(self, o: Self) -> (Self, Self)
         requires nonzero { value o ≢ pos 0 }
         requires held { ¬ (IsAboveMax hi (value self) (value o)) }
@@ -242,7 +246,7 @@ pub trait Integer: Copy + Ord + Hash {
         }
     }
 
-    /// The floored quotient, the greatest whole number that is not above the exact one.
+    /// The floored quotient, which is the greatest whole number that is not above the exact one: -4 for -7 by 2.
     fn div_floor(self, o: Self) -> Self
         requires nonzero { value o ≢ pos 0 }
         requires held { ¬ (IsAboveMax hi (value self) (value o)) }
@@ -251,7 +255,7 @@ pub trait Integer: Copy + Ord + Hash {
         self.div_mod_floor(o).0
     }
 
-    /// The remainder of floored division, which is 0 or has the sign of `o`.
+    /// The remainder of a floored division, which is 0 or has the sign of `o`: 1 for -7 by 2.
     fn mod_floor(self, o: Self) -> Self
         requires nonzero { value o ≢ pos 0 }
         requires held { ¬ (IsAboveMax hi (value self) (value o)) }
@@ -260,8 +264,8 @@ pub trait Integer: Copy + Ord + Hash {
         self.div_mod_floor(o).1
     }
 
-    /// The greatest common divisor, never negative; that of 0 and 0 is 0. It is held, but for the
-    /// one case that one number is `-hi-1` and the other is `-hi-1` or 0.
+    /// The greatest common divisor. It is never negative, and for 0 and 0 it is 0. It fits the type, unless
+    /// one number is `-hi-1` and the other is `-hi-1` or 0.
     fn gcd(self, o: Self) -> Self
         requires { ¬ (IsGcdAboveMax hi (value self) (value o)) }
         ensures { IsGcdOf (value self) (value o) (value result) }
@@ -271,7 +275,7 @@ pub trait Integer: Copy + Ord + Hash {
         let mut x = self;
         let mut y = o;
         'steps: while !y.is_zero() {
-            // The least number may not be divided by -1.
+            // Dividing the least number by -1 may overflow.
             if y < Self::ZERO && y.plus(Self::ONE).is_zero() {
                 return Self::ONE;
             }
@@ -286,7 +290,8 @@ pub trait Integer: Copy + Ord + Hash {
         }
     }
 
-    /// The least common multiple, never negative; 0 if either number is 0. The test is `try_lcm`.
+    /// The least common multiple. It is never negative, and it is 0 if either
+    /// number is 0. The call requires that `try_lcm` returns `Some`.
     fn lcm(self, o: Self) -> Self
         requires { LcmHeld lo hi (value self) (value o) }
         ensures { IsLcmOf (value self) (value o) (value result) }
@@ -297,16 +302,15 @@ pub trait Integer: Copy + Ord + Hash {
         }
     }
 
-    /// Whether some whole number times `o` is the number. For `o` 0, whether the number is 0.
+    /// Whether the number is a whole number times `o`. Of 0, only 0 is a multiple.
     fn is_multiple_of(self, o: Self) -> bool
         ensures { IsTrue result ↔ IsMultiple (value self) (value o) }
     {
-        let _ = self.held();
         let _ = o.held();
         if o.is_zero() {
             return self.is_zero();
         }
-        // The least number may not be divided by -1.
+        // Dividing the least number by -1 may overflow.
         if o < Self::ZERO && o.plus(Self::ONE).is_zero() {
             return true;
         }
@@ -314,13 +318,13 @@ pub trait Integer: Copy + Ord + Hash {
         rest.is_zero()
     }
 
-    // All laws at once, which an impl proves; the others follow from it.
+    // All laws at once. An impl proves this one, and the others follow from it.
     ghost laws: { IsLawful Self lo hi value ZERO ONE MIN MAX
         Self.eq Self.cmp Self.partial_cmp Self.hash_input number_hash_input };
 
     ghost range_law: { IsRange lo hi } = { laws.range };
 
-    // Each number of the range is the number of some value.
+    // Each number in range is the number of some value.
     ghost every_law: { (z : ℤ) → IsHeld lo hi z → (x : Self) × (value x ≡ z) } = { laws.every };
 
     ghost zero_law: { value ZERO ≡ pos 0 } = { laws.zero_number };
@@ -342,4 +346,7 @@ pub trait Integer: Copy + Ord + Hash {
     ghost lt_law: { (a b : Self) → Tells (partial_lt Self.partial_cmp a b) (value a <ℤ value b) (value b ≤ℤ value a) } = { lt_tells Self.partial_cmp value laws.partly_ordered };
 
     ghost hash_law: { (a : Self) → Self.hash_input a ≡ number_hash_input (value a) } = { laws.hashed };
+
+    // If remainders are exact, no number is above 2^64-1. So the product of two magnitudes fits 128 bits.
+    ghost exact_remainders_law: { OnTrue EXACT_REMAINDERS (hi ≤ℤ pos (2 ^ 64 - 1)) };
 }

@@ -1,13 +1,13 @@
-//! Where a quotient and a greatest common divisor are held: each function's contract is the law, and it does nothing.
+//! When a quotient and a greatest common divisor fit the type. Each function does nothing: its contract is the law.
 ghost use Rattle.ratio_integer.specs.HeldResults.{FlooredHeldButOne, GcdHeldButThree, QuotientHeldButOne};
 
-/// What a division asks of its two numbers is exactly what its result needs.
+/// What a division requires of its two numbers is exactly what its result needs to fit.
 pub fn quotients()
     ensures truncated { QuotientHeldButOne }
     ensures floored { FlooredHeldButOne }
 {}
 
-/// What a greatest common divisor asks of its two numbers is exactly what its result needs.
+/// What a greatest common divisor requires of its two numbers is exactly what it needs to fit.
 pub fn divisors()
     ensures { GcdHeldButThree }
 {}

@@ -1,14 +1,14 @@
-//! Types of at most 64 bits with a sign, by their way into `i128` and back.
+//! Signed types of at most 64 bits, converted to `i128` and back.
 ghost use Rattle.std.specs.Prelude.{◌≡◌, ◌≤◌, ◌-◌, ◌^◌, ℕ, ℤ, negsuc, pos};
 ghost use Rattle.std.proofs.Common.{lit≤, refl};
 ghost use Rattle.ratio_integer.specs.Range.{Checks, IsHeld};
 
 use num_traits::cast;
 
-/// A type of at most 64 bits with a sign, by its way into `i128` and back. It stands apart from
-/// `Integer` since the `exact_sum` of an `Integer` is computed by it.
+/// A signed type of at most 64 bits, converted to `i128` and back. It is apart from `Integer`, since the
+/// `exact_sum` of an `Integer` is computed with it.
 pub(crate) trait Narrow: Copy {
-    // The least and the greatest number, and the number that a value stands for.
+    // The least and the greatest number, and the number of a value.
     ghost lo: { ℤ };
 
     ghost hi: { ℤ };
@@ -17,7 +17,7 @@ pub(crate) trait Narrow: Copy {
 
     ghost ROOM: { ℕ };
 
-    /// The bits of the greatest number.
+    /// How many bits the greatest number has.
     const ROOM: u32;
 
     /// The number as an `i128`.
@@ -26,7 +26,7 @@ pub(crate) trait Narrow: Copy {
         ensures held { IsHeld (negsuc (2 ^ 63 - 1)) (pos (2 ^ 63 - 1)) (value self) }
         ensures range { IsHeld lo hi (value self) };
 
-    /// The value that stands for `n`, or `None` where the type does not hold it.
+    /// The value with the number `n`, or `None` if `n` does not fit the type.
     fn narrow(n: i128) -> Option<Self>
         ensures { Checks value lo hi n result };
 

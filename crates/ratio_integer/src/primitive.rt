@@ -3,7 +3,7 @@ ghost use Rattle.std.specs.Prelude.{◌≡◌, ◌≤◌, ◌+ℤ◌, ◌^◌, �
 
 use crate::integer::Integer;
 
-/// A type that has each whole number of `BITS` bits, with a sign or without one.
+/// A type that has every whole number of `BITS` bits, signed or unsigned.
 pub trait Primitive: Integer {
     // The width, at most 128.
     ghost BITS: { ℕ };

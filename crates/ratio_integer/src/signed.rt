@@ -4,9 +4,9 @@ ghost use Rattle.ratio_integer.specs.Range.{Checks, IsHeld};
 
 use crate::integer::Integer;
 
-/// A type that has the negative of each of its numbers, but perhaps of the least.
+/// A type that has the negative of each of its numbers, except perhaps of the least.
 pub trait SignedInteger: Integer {
-    /// The negative. The test is `try_negate`.
+    /// The negative. It requires that `try_negate` returns `Some`.
     fn negate(self) -> Self
         requires { IsHeld Self.lo Self.hi (neg_ℤ (Self.value self)) }
         ensures { Self.value result ≡ neg_ℤ (Self.value self) }
@@ -14,7 +14,7 @@ pub trait SignedInteger: Integer {
         Self::ZERO.minus(self)
     }
 
-    /// The negative, or `None` where the type does not hold it: at most for the least number.
+    /// The negative, or `None` if it does not fit the type. That can only be for the least number, such as -128 over `i8`.
     fn try_negate(self) -> Option<Self>
         ensures { Checks Self.value Self.lo Self.hi (neg_ℤ (Self.value self)) result }
     {

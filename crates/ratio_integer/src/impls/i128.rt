@@ -6,8 +6,8 @@ ghost use Rattle.std.proofs.Common.{lit≤, refl};
 ghost use Rattle.ratio_integer.specs.Primitives.{signed_laws};
 
 use crate::binary_gcd::binary_gcd_wide;
+use crate::half_width;
 use crate::integer::Integer;
-use crate::narrowed;
 use crate::primitive::Primitive;
 use crate::signed::SignedInteger;
 use num_traits::cast;
@@ -31,6 +31,8 @@ impl Integer for i128 {
 
     ghost EXACT_SUMS = { false };
 
+    ghost EXACT_REMAINDERS = { false };
+
     ghost one_number = { refl };
 
     const ZERO: i128 = 0;
@@ -42,6 +44,8 @@ impl Integer for i128 {
     const MAX: i128 = i128::MAX;
 
     const EXACT_SUMS: bool = false;
+
+    const EXACT_REMAINDERS: bool = false;
 
     fn plus(self, o: i128) -> i128 {
         self + o
@@ -56,11 +60,11 @@ impl Integer for i128 {
     }
 
     fn try_times(self, o: i128) -> Option<i128> {
-        narrowed::try_times(self, o)
+        half_width::try_times(self, o)
     }
 
     fn div_rem(self, o: i128) -> (i128, i128) {
-        narrowed::div_rem(self, o)
+        half_width::div_rem(self, o)
     }
 
     fn to_i128(self) -> Option<i128> {
@@ -108,6 +112,8 @@ impl Integer for i128 {
     }
 
     ghost laws = { signed_laws (2 ^ 127 - 1) hash.i128 (lit≤ tt) };
+
+    ghost exact_remainders_law = { tt };
 }
 
 impl SignedInteger for i128 {

@@ -31,6 +31,8 @@ impl Integer for i32 {
 
     ghost EXACT_SUMS = { true };
 
+    ghost EXACT_REMAINDERS = { true };
+
     ghost one_number = { refl };
 
     const ZERO: i32 = 0;
@@ -42,6 +44,8 @@ impl Integer for i32 {
     const MAX: i32 = i32::MAX;
 
     const EXACT_SUMS: bool = true;
+
+    const EXACT_REMAINDERS: bool = true;
 
     fn plus(self, o: i32) -> i32 {
         self + o
@@ -108,6 +112,8 @@ impl Integer for i32 {
     }
 
     ghost laws = { signed_laws (2 ^ 31 - 1) hash.i32 (lit≤ tt) };
+
+    ghost exact_remainders_law = { record { le = tt } };
 }
 
 impl SignedInteger for i32 {

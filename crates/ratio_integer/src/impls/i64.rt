@@ -31,6 +31,8 @@ impl Integer for i64 {
 
     ghost EXACT_SUMS = { true };
 
+    ghost EXACT_REMAINDERS = { true };
+
     ghost one_number = { refl };
 
     const ZERO: i64 = 0;
@@ -42,6 +44,8 @@ impl Integer for i64 {
     const MAX: i64 = i64::MAX;
 
     const EXACT_SUMS: bool = true;
+
+    const EXACT_REMAINDERS: bool = true;
 
     fn plus(self, o: i64) -> i64 {
         self + o
@@ -108,6 +112,8 @@ impl Integer for i64 {
     }
 
     ghost laws = { signed_laws (2 ^ 63 - 1) hash.i64 (lit≤ tt) };
+
+    ghost exact_remainders_law = { record { le = tt } };
 }
 
 impl SignedInteger for i64 {

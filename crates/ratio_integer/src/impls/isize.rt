@@ -1,6 +1,6 @@
 // Written by templates/write from templates/integer.rt.txt: change that file, and write this one anew.
 //! The type `isize`.
-ghost use Rattle.std.specs.Prelude.{◌-◌, ◌^◌, pos, negsuc, false};
+ghost use Rattle.std.specs.Prelude.{◌-◌, ◌^◌, pos, negsuc, false, true};
 ghost use Rattle.std.specs.Hash as hash;
 ghost use Rattle.std.proofs.Common.{lit≤, refl};
 ghost use Rattle.ratio_integer.specs.Primitives.{signed_laws};
@@ -30,6 +30,8 @@ impl Integer for isize {
 
     ghost EXACT_SUMS = { false };
 
+    ghost EXACT_REMAINDERS = { true };
+
     ghost one_number = { refl };
 
     const ZERO: isize = 0;
@@ -41,6 +43,8 @@ impl Integer for isize {
     const MAX: isize = isize::MAX;
 
     const EXACT_SUMS: bool = false;
+
+    const EXACT_REMAINDERS: bool = true;
 
     fn plus(self, o: isize) -> isize {
         self + o
@@ -107,6 +111,8 @@ impl Integer for isize {
     }
 
     ghost laws = { signed_laws (2 ^ 63 - 1) hash.isize (lit≤ tt) };
+
+    ghost exact_remainders_law = { record { le = tt } };
 }
 
 impl SignedInteger for isize {

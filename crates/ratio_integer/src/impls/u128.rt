@@ -6,8 +6,8 @@ ghost use Rattle.std.proofs.Common.{lit≤, refl};
 ghost use Rattle.ratio_integer.specs.Primitives.{unsigned_laws};
 
 use crate::binary_gcd::binary_gcd_wide;
+use crate::half_width;
 use crate::integer::Integer;
-use crate::narrowed;
 use crate::primitive::Primitive;
 use num_traits::cast;
 
@@ -30,6 +30,8 @@ impl Integer for u128 {
 
     ghost EXACT_SUMS = { false };
 
+    ghost EXACT_REMAINDERS = { false };
+
     ghost one_number = { refl };
 
     const ZERO: u128 = 0;
@@ -41,6 +43,8 @@ impl Integer for u128 {
     const MAX: u128 = u128::MAX;
 
     const EXACT_SUMS: bool = false;
+
+    const EXACT_REMAINDERS: bool = false;
 
     fn plus(self, o: u128) -> u128 {
         self + o
@@ -59,7 +63,7 @@ impl Integer for u128 {
     }
 
     fn div_rem(self, o: u128) -> (u128, u128) {
-        narrowed::div_rem_unsigned(self, o)
+        half_width::div_rem_unsigned(self, o)
     }
 
     fn to_i128(self) -> Option<i128> {
@@ -107,6 +111,8 @@ impl Integer for u128 {
     }
 
     ghost laws = { unsigned_laws (2 ^ 128 - 1) hash.u128 (lit≤ tt) };
+
+    ghost exact_remainders_law = { tt };
 }
 
 impl Primitive for u128 {

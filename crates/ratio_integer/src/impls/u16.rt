@@ -1,6 +1,6 @@
 // Written by templates/write from templates/integer.rt.txt: change that file, and write this one anew.
 //! The type `u16`.
-ghost use Rattle.std.specs.Prelude.{◌-◌, ◌^◌, pos, unsigned_abs, false};
+ghost use Rattle.std.specs.Prelude.{◌-◌, ◌^◌, pos, unsigned_abs, false, true};
 ghost use Rattle.std.specs.Hash as hash;
 ghost use Rattle.std.proofs.Common.{lit≤, refl};
 ghost use Rattle.ratio_integer.specs.Primitives.{unsigned_laws};
@@ -29,6 +29,8 @@ impl Integer for u16 {
 
     ghost EXACT_SUMS = { false };
 
+    ghost EXACT_REMAINDERS = { true };
+
     ghost one_number = { refl };
 
     const ZERO: u16 = 0;
@@ -40,6 +42,8 @@ impl Integer for u16 {
     const MAX: u16 = u16::MAX;
 
     const EXACT_SUMS: bool = false;
+
+    const EXACT_REMAINDERS: bool = true;
 
     fn plus(self, o: u16) -> u16 {
         self + o
@@ -106,6 +110,8 @@ impl Integer for u16 {
     }
 
     ghost laws = { unsigned_laws (2 ^ 16 - 1) hash.u16 (lit≤ tt) };
+
+    ghost exact_remainders_law = { record { le = tt } };
 }
 
 impl Primitive for u16 {

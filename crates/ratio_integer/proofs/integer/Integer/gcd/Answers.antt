@@ -12,7 +12,7 @@ use Rattle.ratio_integer.proofs.LcmLemmas.{gcd_held}
 use Rattle.ratio_integer.proofs.integer.Integer.gcd.Goals as goal
 use Rattle.ratio_integer.proofs.integer.Integer.gcd.Goals.{else-lt-via-then-lt+else-is_zero, else-lt-via-else-lt}
 
--- 1 and any number have the divisor 1 alone
+-- the gcd of 1 and any number is 1
 gcd_one : (a : ℕ) → IsGcd a 1 1
 gcd_one a = (one-dvd a, dvd_refl 1, λ d p q. q)
 
@@ -75,7 +75,7 @@ size_of_neg (negsuc n) = refl
 size-neg : (x : ℤ) → unsigned_abs (pos 0 -ℤ x) ≡ unsigned_abs x
 size-neg x = ap unsigned_abs (+ℤ_idl (neg_ℤ x)) ∙ size_of_neg x
 
--- what is left when the loop ends
+-- the result when the loop ends
 ends : (x y a b : ℤ) → ((k : ℕ) → IsGcd (unsigned_abs x) (unsigned_abs y) k → IsGcd (unsigned_abs a) (unsigned_abs b) k) → y ≡ pos 0 → (r : ℤ) → pos 0 ≤ℤ r → unsigned_abs r ≡ unsigned_abs x → IsGcdOf a b r
 ends x y a b same e r up size = record { sign = up; divisor = rw size (same _ (IsGcd-from_zero _ _ (ap unsigned_abs e))) }
 

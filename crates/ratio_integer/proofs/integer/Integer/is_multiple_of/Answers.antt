@@ -16,7 +16,7 @@ returns-then-is_zero g c =
 pub plus-requires : goal.plus-requires
 plus-requires g c =
     let m = g.met.Self.Integer in
-    grind (arith, ints, m.lt_law, m.zero_law, m.one_law, c.held-2.ensures.range, m.range_law)
+    grind (arith, ints, m.lt_law, m.zero_law, m.one_law, c.held.ensures.range, m.range_law)
 
 pub returns-then-is_zero-2 : goal.returns-then-is_zero-2
 returns-then-is_zero-2 g c =

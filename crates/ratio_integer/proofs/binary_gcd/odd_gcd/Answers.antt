@@ -1,9 +1,0 @@
-use Rattle.std.proofs.Common.{arith, refl}
-use Rattle.ratio_integer.proofs.Halving.{pair_ended, pair_step}
-use Rattle.ratio_integer.proofs.binary_gcd.odd_gcd.Goals as goal
-
-pub steps-preserved : goal.steps-preserved
-steps-preserved c = pair_step _ _ _ _ _ _ _ _ c.steps.invariant c.min-x.ensures refl c.odd_distance-rest.ensures.1
-
-pub returns : goal.returns
-returns c = pair_ended _ _ _ _ c.steps.invariant (omega arith)

@@ -1,0 +1,26 @@
+// Written by templates/write from templates/odd_gcd.rt.txt: change that file, and write this one anew.
+//! The greatest common divisor of two odd numbers.
+ghost use Rattle.std.specs.Prelude.{◌≡◌, ◌≤◌, ◌%◌, ℕ, MatchOption};
+ghost use Rattle.std.specs.Int.{IsGcd};
+
+use crate::binary_gcd::odd_distance;
+
+/// The greatest common divisor of two odd numbers.
+/// It is `None` only if the divisor is at most `bound`: the divisor divides the smaller number of each step.
+pub(crate) fn odd_gcd_above(a: u64, b: u64, bound: u64) -> Option<u64>
+    requires left { a % 2 ≡ 1 }
+    requires right { b % 2 ≡ 1 }
+    ensures { MatchOption result ((g : ℕ) → IsGcd a b g → g ≤ bound) (λ g. IsGcd a b g) }
+{
+    let mut x = a;
+    let mut y = b;
+    'steps: while x != y {
+        if x <= bound {
+            return None;
+        }
+        let rest = odd_distance(x, y);
+        x = x.min(y);
+        y = rest;
+    }
+    Some(x)
+}

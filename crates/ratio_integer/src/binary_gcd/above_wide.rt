@@ -1,0 +1,34 @@
+// Written by templates/write from templates/odd_gcd.rt.txt: change that file, and write this one anew.
+//! The greatest common divisor of two odd numbers.
+ghost use Rattle.std.specs.Prelude.{◌≡◌, ◌≤◌, ◌%◌, ℕ, MatchOption};
+ghost use Rattle.std.specs.Int.{IsGcd};
+
+use crate::binary_gcd::above::odd_gcd_above;
+use crate::binary_gcd::odd_distance_wide;
+
+/// The greatest common divisor of two odd numbers.
+/// It is `None` only if the divisor is at most `bound`: the divisor divides the smaller number of each step.
+/// A step in 128 bits costs several in 64, so the loop goes on in 64 bits once both numbers fit.
+pub(crate) fn odd_gcd_above_wide(a: u128, b: u128, bound: u128) -> Option<u128>
+    requires left { a % 2 ≡ 1 }
+    requires right { b % 2 ≡ 1 }
+    ensures { MatchOption result ((g : ℕ) → IsGcd a b g → g ≤ bound) (λ g. IsGcd a b g) }
+{
+    let mut x = a;
+    let mut y = b;
+    'steps: while x != y {
+        if x <= bound {
+            return None;
+        }
+        if x <= u64::MAX as u128 && y <= u64::MAX as u128 {
+            return match odd_gcd_above(x as u64, y as u64, bound as u64) {
+                None => None,
+                Some(divisor) => Some(divisor as u128),
+            };
+        }
+        let rest = odd_distance_wide(x, y);
+        x = x.min(y);
+        y = rest;
+    }
+    Some(x)
+}

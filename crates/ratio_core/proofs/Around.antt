@@ -1,4 +1,4 @@
--- Neighbours around n/d over whole numbers, as the numbers of a type are.
+-- Two neighbours around n/d, with whole numbers as the type has them.
 use Rattle.std.specs.Prelude.{◌≡◌, ◌⊎◌, ◌+◌, ◌*◌, ◌≤◌, ◌≤ℤ◌, ◌<ℤ◌, ◌+ℤ◌, ◌-ℤ◌, ◌*ℤ◌, ◌-◌, ℕ, ℤ, zero, suc, pos, negsuc, unsigned_abs}
 use Rattle.std.proofs.Common.{refl, sym, ap, arith, inl, inr, ◌∙◌}
 use Rattle.std.proofs.lemmas.Int.{ints}
@@ -6,24 +6,24 @@ use borrow.Author.Differences.{up, down}
 use Rattle.ratio_integer.specs.Division.{IsFloored}
 use Rattle.ratio_core.proofs.Neighbours.{AreAround, left_moved, raised, right_moved}
 
--- p is not on the other side of 0 than n
+-- p is 0 or on the same side of 0 as n
 abbrev pub IsAlong : ℤ → ℤ → Type 0
 IsAlong n p = ((pos 0 ≤ℤ n) × (pos 0 ≤ℤ p)) ⊎ ((n <ℤ pos 0) × (p ≤ℤ pos 0))
 
--- p/q may stand around n/d, with its gap g
+-- p/q can be a neighbour of n/d, with the gap g
 pub record IsNeighbour (n most p q g : ℤ) : Type 0 where
   pub along : IsAlong n p
   pub positive : pos 0 <ℤ q
   pub within : q ≤ℤ most
   pub gap_up : pos 0 ≤ℤ g
 
--- two of them stand around n/d, the first on the left
+-- two neighbours lie around n/d, the first on the left
 pub record StandAround (n d most lp lq lg rp rq rg : ℤ) : Type 0 where
   pub left : IsNeighbour n most lp lq lg
   pub right : IsNeighbour n most rp rq rg
   pub around : AreAround n (unsigned_abs d) lp (unsigned_abs lq) (unsigned_abs lg) rp (unsigned_abs rq) (unsigned_abs rg)
 
--- the same on either side
+-- the same, on either side
 abbrev pub Surround : ℤ → ℤ → ℤ → ℤ → ℤ → ℤ → ℤ → ℤ → ℤ → Type 0
 Surround n d most p q g m e h = StandAround n d most p q g m e h ⊎ StandAround n d most m e h p q g
 
@@ -55,7 +55,7 @@ along_product n a k (inr h) up = inr (h.0, down_product a k h.1 up)
 along_sum : (n a b : ℤ) → IsAlong n a → IsAlong n b → IsAlong n (a +ℤ b)
 along_sum n a b h l = grind (arith, ints)
 
--- ---- one step on either side
+-- ---- one step, on either side
 
 module _ (n d most p q g m e h k p' q' g' : ℤ) (up : pos 0 ≤ℤ k) (p-is : p' ≡ p +ℤ m *ℤ k) (q-is : q' ≡ q +ℤ e *ℤ k) (g-is : g' ≡ g -ℤ h *ℤ k) (g_up : pos 0 ≤ℤ g') (within : q' ≤ℤ most) where
   moved_neighbour : IsNeighbour n most p q g → IsNeighbour n most m e h → IsNeighbour n most p' q' g'
@@ -100,7 +100,7 @@ module _ (n d most p q g m e h k p' q' g' : ℤ) (up : pos 0 ≤ℤ k) (p-is : p
     around = rw (denom-moved stand.right stand.left) (right_moved n _ m _ _ p _ _ stand.around p' (unsigned_abs k) (unsigned_abs g') numer-moved (gap-moved stand.right stand.left));
   })
 
--- ---- where the search begins: the whole numbers below and above n/d
+-- ---- the start of the search: the whole numbers below and above n/d
 
 floor_along : (n d f r : ℤ) → pos 0 <ℤ d → n ≡ f *ℤ d +ℤ r → pos 0 ≤ℤ r → r <ℤ d → IsAlong n f × IsAlong n (f +ℤ pos 1)
 floor_along n (negsuc d) f r d_up sum up less = absurd (omega (arith, ints))

@@ -16,7 +16,7 @@ use Rattle.ratio_core.specs.Cancelling.{IsCancelled}
 pub one_held : (lo hi z : ℤ) → IsRange lo hi → z ≡ pos 1 → IsHeld lo hi z
 one_held lo hi z range one = let low = low_below lo hi range in let high = range.high in record { above = omega (arith, ints); below = omega (arith, ints) }
 
--- 0/1 is 0/d
+-- 0/d is 0/1
 pub lowest_of_zero : (lo hi n d a b : ℤ) → IsRange lo hi → d ≢ pos 0 → n ≡ pos 0 → a ≡ pos 0 → b ≡ pos 1 → IsHeldLowest lo hi n d a b
 lowest_of_zero lo hi n d a b range fraction zero a_zero b_one = record {
   terms = record {
@@ -28,7 +28,7 @@ lowest_of_zero lo hi n d a b range fraction zero a_zero b_one = record {
   denom_held = one_held lo hi b range b_one;
 }
 
--- 1/1 is d/d
+-- d/d is 1/1
 pub lowest_of_same : (lo hi n d a b : ℤ) → IsRange lo hi → d ≢ pos 0 → n ≡ d → a ≡ pos 1 → b ≡ pos 1 → IsHeldLowest lo hi n d a b
 lowest_of_same lo hi n d a b range fraction equal a_one b_one = record {
   terms = record {

@@ -1,4 +1,4 @@
--- The codes of a fraction over a type tell its quotients, and so its value.
+-- The codes of a fraction over a type determine its quotients, and so its value.
 use Rattle.std.specs.Prelude.{◌≡◌, ◌≢◌, ◌*◌, ◌<◌, ◌≤◌, ◌≤ℤ◌, ◌+ℤ◌, ◌*ℤ◌, ℕ, ℤ, zero, suc, pos, negsuc, unsigned_abs, Bool, true, false, cond, List, [], ◌∷◌}
 use Rattle.std.proofs.Common.{refl, sym, ap, arith, inl, inr, subst, ◌∙◌}
 use Rattle.std.proofs.Math.Nat.{mul-le-mul_left}
@@ -16,7 +16,7 @@ use Rattle.ratio_core.proofs.SameValues.{cross_equal, quotients_of_value, value_
 
 -- ---- lists of quotients with the same codes
 
--- the quotients after the first: at least 1, and `top` only at the end
+-- the quotients after the first: each is at least 1, and only the last may be `top`
 abbrev AreTail : ℤ → List ℤ → Type 0
 AreTail top [] = Unit {0}
 AreTail top (q ∷ qs) = (pos 1 ≤ℤ q) × (q ≡ top → qs ≡ []) × AreTail top qs
@@ -53,7 +53,7 @@ module _ (lo top : ℤ) (low : lo ≤ℤ pos 0) where
   no_mix_at q qs true h e = let a : lo ∷ codes_of_quotients lo top qs ≡ pos 0 ∷ [] = cc in never qs cc
   no_mix_at q qs false h e = let a : q ≡ lo = cc in omega (arith, ints)
 
-  -- `lo`, and then 0 alone, is no list of a tail
+  -- no such list has the codes `lo` and 0
   no_mix : (qs : List ℤ) → AreTail top qs → codes_of_quotients lo top qs ≡ (lo ∷ pos 0 ∷ []) → ⊥
   no_mix [] k e = cc
   no_mix (q ∷ qs) k e = no_mix_at q qs (int_eq q top) k.0 e
@@ -81,7 +81,7 @@ module _ (lo top : ℤ) (low : lo ≤ℤ pos 0) where
       → codes_of_quotients lo top (p ∷ ps) ≡ codes_of_quotients lo top (q ∷ qs) → p ∷ ps ≡ q ∷ qs
   lists_told p q ps qs pe qe h k e = head_at p q ps qs (int_eq p top) (int_eq q top) (Decides-int_eq p top).0 (Decides-int_eq q top).0 pe qe h k e
 
--- ---- the quotients of a fraction whose fields are at most h + 1 in magnitude
+-- ---- the quotients of a fraction whose fields have a magnitude of at most h + 1
 
 at_least_one : (p : ℤ) (d r s : ℕ) → pos d ≡ p *ℤ pos r +ℤ pos s → r < d → s < r → pos 1 ≤ℤ p
 at_least_one (pos zero) d r s e h k = absurd (omega (arith, ints))
@@ -99,7 +99,7 @@ signed_within (pos d) (negsuc n) h k = omega (arith, ints, one-mul (negsuc n))
 signed_within (negsuc d) (pos n) h k = omega (arith, ints, minus_one-mul (pos n))
 signed_within (negsuc d) (negsuc n) h k = omega (arith, ints, minus_one-mul (negsuc n))
 
--- where the quotient is h + 1, nothing is left over
+-- if the quotient is h + 1, the rest is 0
 whole_at_top : (h : ℕ) (n d q r : ℤ) → unsigned_abs n ≤ suc h → IsFloored n d q r → q ≡ pos (suc h) → r ≡ pos 0
 whole_at_top h n d q r b f t =
     let e : sign d *ℤ n ≡ pos (suc h * unsigned_abs d) +ℤ pos (unsigned_abs r) = floored-sum n d q r f ∙ ap (λ x. x *ℤ pos (unsigned_abs d) +ℤ pos (unsigned_abs r)) t in
@@ -134,7 +134,7 @@ both lo h n d m e (p ∷ ps) (q ∷ qs) low nb db mb eb f g k =
     (tail_after h d f.0 ps f.2 (λ left w. tail_of h n d p f.0 ps db f.1 left w))
     (tail_after h e g.0 qs g.2 (λ left w. tail_of h m e q g.0 qs eb g.1 left w)) k
 
--- ---- the codes of held fractions
+-- ---- the codes of fractions in range
 
 abs_within : (lo z : ℤ) (h : ℕ) → IsRange lo (pos h) → IsHeld lo (pos h) z → unsigned_abs z ≤ suc h
 abs_within lo (pos z) h range held = let below = held.below in omega (arith, ints)
@@ -148,7 +148,7 @@ codes_told lo (pos h) n d m e ps qs range nh dh mh eh f g k =
     both lo h n d m e ps qs (low_below lo (pos h) range) (abs_within lo n h range nh) (abs_within lo d h range dh) (abs_within lo m h range mh) (abs_within lo e h range eh) f g
     (ap (λ t. codes_of_quotients lo t ps) (sym one_more) ∙ k ∙ ap (λ t. codes_of_quotients lo t qs) one_more)
 
--- a list of codes is that of each fraction of the same value, and over a type of no other
+-- of all fractions over a type, exactly those of the same value have the same codes
 pub codes_tell_apart : (lo hi n d : ℤ) (list : List ℤ) → IsRange lo hi → IsHeld lo hi n → IsHeld lo hi d → d ≢ pos 0 → IsCodesOf lo hi n d list → TellsApart lo hi n d list
 codes_tell_apart lo hi n d list range nh dh dn is = record {
   each = λ m e mh eh en. (

@@ -1,4 +1,4 @@
--- Which convergents the search for the nearest fraction passes: those with a denominator within the bound.
+-- The search for the nearest fraction passes exactly the convergents with a denominator within the bound.
 use Rattle.std.specs.Prelude.{◌≡◌, ◌≢◌, ◌⊎◌, ◌+◌, ◌≤ℤ◌, ◌<ℤ◌, ◌+ℤ◌, ◌-ℤ◌, ◌*ℤ◌, ℕ, ℤ, zero, suc, pos, negsuc, true, false, cond, int_le, List, [], ◌∷◌}
 use Rattle.std.proofs.Common.{◌∙◌, refl, sym, ap, subst, arith, inl, inr}
 use Rattle.std.proofs.lemmas.Int.{ints}
@@ -50,7 +50,7 @@ grows b e p b_up e_up p_up =
     let same : e *ℤ p ≡ p *ℤ e = turned_product e p in
     omega (arith, ints)
 
--- beyond the bound none counts
+-- from a denominator beyond the bound on, none counts
 none_beyond : (most b e n d q r : ℤ) (qs : List ℤ) → IsFloored n d q r → r ≢ pos 0 → IsPartialQuotients d r qs → pos 0 ≤ℤ b → pos 0 ≤ℤ e → most <ℤ e → count_within most (e ∷ denominators b e qs) ≡ 0
 none_beyond most b e n d q r [] f left are b_up e_up beyond = absurd are
 none_beyond most b e n d q r (p ∷ ps) f left are b_up e_up beyond =
@@ -63,9 +63,8 @@ none_beyond most b e n d q r (p ∷ ps) f left are b_up e_up beyond =
 
 -- ---- as the search passes them
 
--- k convergents of n/d were passed, the last with the denominator e; size/h is what is left of n/d after it, and `before` the
--- denominator of the one before. The other neighbour has the denominator p and the gap g: it is the one before, or, at the
--- beginning, one step from it
+-- k convergents of n/d were passed. The last has the denominator e, and the one before it `before`; size/h is the rest of n/d.
+-- The other neighbour has the denominator p and the gap g. It is the convergent before or, at the beginning, one step from it
 pub record HavePassed (n d most : ℤ) (k : ℕ) (p g e h : ℤ) : Type 0 where
   pub before : ℤ
   pub size : ℤ
@@ -87,7 +86,7 @@ going_floored g h w z is up z-is =
 first_denominator : (f : ℤ) → f *ℤ pos 0 +ℤ pos 1 ≡ pos 1
 first_denominator f = omega (arith, ints)
 
--- the first quotient leaves r
+-- the first quotient leaves the rest r
 pub passed_first : (n d most f r p g e : ℤ) → p ≡ pos 1 → e ≡ pos 1 → g ≡ d -ℤ r → IsFloored n d f r → r ≢ pos 0 → HavePassed n d most 0 p g e r
 passed_first n d most f r p g e p-is e-is g-is floored left = rw (p-is, e-is) (record {
   before = pos 0;
@@ -101,7 +100,7 @@ passed_first n d most f r p g e p-is e-is g-is floored left = rw (p-is, e-is) (r
   };
 })
 
--- one more, which leaves z
+-- one more convergent, with the rest z
 pub passed_more : (n d most : ℤ) (k : ℕ) (p g e h w p' z : ℤ) → e ≤ℤ most → pos 0 ≤ℤ e → IsShare g h w → pos 0 ≤ℤ z → p' ≡ p +ℤ e *ℤ w → z ≡ g -ℤ h *ℤ w → z ≢ pos 0 → HavePassed n d most k p g e h → HavePassed n d most (k + 1) e h p' z
 passed_more n d most k p g e h w p' z within e_up is up p-is z-is left passed =
     let next = passed.divided w z is up z-is in
@@ -122,7 +121,7 @@ zero_or (pos zero) = inl refl
 zero_or (pos (suc z)) = inr (λ e. omega (arith, ints))
 zero_or (negsuc z) = inr (λ e. omega (arith, ints))
 
--- the last one: it is n/d, or its denominator is beyond the bound
+-- the last convergent: it is n/d, or its denominator is beyond the bound
 pub passed_last : (n d most : ℤ) (k : ℕ) (p g e h w z : ℤ) → e ≤ℤ most → pos 0 ≤ℤ e → IsShare g h w → z ≡ g -ℤ h *ℤ w → (z ≡ pos 0) ⊎ (most <ℤ (p +ℤ e *ℤ w)) → HavePassed n d most k p g e h → IsConvergentCount n d most (k + 1)
 passed_last n d most k p g e h w z within e_up is z-is end passed =
     let fits = is.fits in
@@ -141,6 +140,6 @@ passed_last n d most k p g e h w z within e_up is z-is end passed =
           subst (IsConvergentCount n d most) (omega (arith, one, none)) (passed.carried (next.0 ∷ rest.list) (z, next.1, inr (left, rest.are)))
     ]
 
--- none, where the first quotient leaves nothing
+-- no convergent is passed if the first quotient leaves no rest
 pub passed_none : (n d most f r : ℤ) → IsFloored n d f r → r ≡ pos 0 → IsConvergentCount n d most 0
 passed_none n d most f r floored exact = record { quotients = f ∷ []; are = (r, floored, inl (exact, refl)); count = refl }

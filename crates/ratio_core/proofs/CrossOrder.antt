@@ -1,4 +1,4 @@
--- How two fractions stand to one another once both are divided.
+-- The order of two fractions, from their quotients and rests.
 use Rattle.std.specs.Prelude.{◌≡◌, ◌≢◌, ◌*◌, ◌<◌, ◌≤◌, ◌≤ℤ◌, ◌<ℤ◌, ◌+ℤ◌, ◌-ℤ◌, ◌*ℤ◌, ℕ, ℤ, zero, suc, pos, negsuc, neg_ℤ, unsigned_abs}
 use Rattle.std.proofs.Common.{sym, ap, arith, inl, inr, ◌∙◌, refl}
 use Rattle.std.proofs.Math.Nat.{mul-le-mul, mul-le-mul_left, mul-le-mul_right}
@@ -150,7 +150,7 @@ module _ (n d q r m e p s : ℤ) (f : IsFloored n d q r) (g : IsFloored m e p s)
       let b : 0 < unsigned_abs r * unsigned_abs e = mul-le-mul (abs_pos r rn) (abs_pos e (floored_nonzero m e p s g)) in
       let l : pos (unsigned_abs s * unsigned_abs d) <ℤ pos (unsigned_abs r * unsigned_abs e) = omega (arith, ints) in tied h ∙ cmp-greater _ _ l
 
-  -- the reciprocals of what is left stand the other way round
+  -- the reciprocals of the rests have the reverse order
   pub tied-rest : q ≡ p → r ≢ pos 0 → s ≢ pos 0 → cross_cmp n d m e ≡ ordering_reverse (cross_cmp d r e s)
   tied-rest h rn sn =
       let x : sign r *ℤ d ≡ pos (unsigned_abs d) = ap (λ t. t *ℤ d) (floored_sign n d q r f rn) ∙ sign-mul d in
@@ -189,7 +189,7 @@ module _ (lo hi n d m e : ℤ) (range : IsRange lo hi) (n_held : IsHeld lo hi n)
       let de : d ≡ e = a.denom ∙ sym b.denom in
       upright n d m e dn en ∙ cmp-equal ((sign d *ℤ n) *ℤ pos (unsigned_abs e)) ((sign e *ℤ m) *ℤ pos (unsigned_abs d)) cc
 
--- ---- by the cross products as they stand
+-- ---- by the cross products, not reduced
 
 along : (x y : ℤ) → int_cmp (pos 1 *ℤ x) (pos 1 *ℤ y) ≡ int_cmp x y
 along x y = cmp-pairs (pos 1 *ℤ x) (pos 1 *ℤ y) x y (one-mul x) (one-mul y)
@@ -199,7 +199,7 @@ across s x y h =
     let e : (negsuc 0 *ℤ x) +ℤ x ≡ (negsuc 0 *ℤ y) +ℤ y = omega (arith, ints) in
     ap (λ z. int_cmp (z *ℤ x) (z *ℤ y)) h ∙ same_cmp (negsuc 0 *ℤ x) (negsuc 0 *ℤ y) y x e
 
--- where the denominators have one sign
+-- if the denominators have one sign
 pub cross-along : (n d m e : ℤ) → d ≢ pos 0 → e ≢ pos 0 → ¬ (HaveUnlikeSigns d e) → cross_cmp n d m e ≡ int_cmp (n *ℤ e) (m *ℤ d)
 unfolding cross_cmp
 cross-along n (pos d) m (pos e) dn en h = along (n *ℤ pos e) (m *ℤ pos d)
@@ -207,7 +207,7 @@ cross-along n (pos d) m (negsuc e) dn en h = absurd (h (inr (omega (arith, ints)
 cross-along n (negsuc d) m (pos e) dn en h = absurd (h (inl (omega (arith, ints), omega (arith, ints))))
 cross-along n (negsuc d) m (negsuc e) dn en h = along (n *ℤ negsuc e) (m *ℤ negsuc d)
 
--- and where they do not
+-- if they do not
 pub cross-across : (n d m e : ℤ) → d ≢ pos 0 → e ≢ pos 0 → HaveUnlikeSigns d e → cross_cmp n d m e ≡ int_cmp (m *ℤ d) (n *ℤ e)
 unfolding cross_cmp
 cross-across n (pos d) m (pos e) dn en h = absurd (grind (arith, ints))
@@ -215,7 +215,7 @@ cross-across n (pos d) m (negsuc e) dn en h = across (sign (pos d *ℤ negsuc e)
 cross-across n (negsuc d) m (pos e) dn en h = across (sign (negsuc d *ℤ pos e)) (n *ℤ pos e) (m *ℤ negsuc d) (negative-product_left d e (abs_pos (pos e) en))
 cross-across n (negsuc d) m (negsuc e) dn en h = absurd (grind (arith, ints))
 
--- ---- where 0 lies between the two
+-- ---- if 0 lies between the two
 
 below_zero : (a e : ℕ) → 0 < e → (negsuc a *ℤ pos e) <ℤ pos 0
 below_zero a e h = let k : 0 < suc a * e = omega (arith, mul-le-mul_left (suc a) h) in omega (arith, ints)

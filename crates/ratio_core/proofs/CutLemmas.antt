@@ -1,11 +1,11 @@
--- A number text has no slash, so a text is cut in one place, and has two numbers at most.
+-- A number text has no slash. So a text is cut in at most one place, and reads as at most one pair of numbers.
 use Rattle.std.proofs.Common.{◌≡◌, ◌≢◌, refl, sym, ◌∙◌, ap, subst, inl, inr, arith, ℕ, zero, suc, ◌<◌, ◌≤◌, List, [], ◌∷◌, ◌++◌, length, get_or, ℤ, pos, negsuc, None, Result, Ok, Err, lit≤}
 use Rattle.std.proofs.lemmas.Int.{ints}
 use Rattle.std.specs.Char.{digit_value}
 use Rattle.std.specs.Str.Parse.{AllDigits}
 use Rattle.ratio_core.specs.declared.parse_error.RatioErrorKind.{RatioErrorKind}
 use Rattle.ratio_core.specs.declared.parse_error.RatioErrorKind.TheVariants.{ParseError, ZeroDenominator}
-use Rattle.ratio_core.specs.Reading.{slash, AnswersPair, IsFractionText, IsNumberText, IsSlashedText, ReadsAs, ReadsNumber, SidesReadAs}
+use Rattle.ratio_core.specs.Reading.{slash, AnswersFields, IsFractionText, IsNumberText, IsSlashedText, ReadsAs, ReadsNumber, SidesReadAs}
 use Rattle.ratio_core.proofs.NumberLemmas.{to_signed, to_unsigned}
 
 -- no byte of the text is a slash
@@ -30,7 +30,7 @@ at_slash : (front back : List ℕ) → (length front < length (front ++ slash �
 at_slash [] back = (omega arith, refl)
 at_slash (c ∷ front) back = (omega (arith, (at_slash front back).0), (at_slash front back).1)
 
--- what is read of a text, from the two sides of its first slash, or where it has none
+-- what a text reads as, from the two sides of its first slash, or without a slash
 pub no_slashed : (lo hi : ℤ) (radix : ℕ) (text : List ℕ) → HasNoSlash text → (n d : ℤ) → ¬ (IsSlashedText lo hi radix text n d)
 no_slashed lo hi radix text free n d reads =
     let at = at_slash reads.front reads.back in
@@ -44,7 +44,7 @@ no_number lo hi radix text front back n small e reads =
 module _ {T : Type 0} (value : T → ℤ) (lo hi : ℤ) (radix : ℕ) (text : List ℕ) (small : radix ≤ 36) where
   pub with_slash : (front back : List ℕ) → text ≡ front ++ slash ∷ back
       → ((xs ys : List ℕ) → text ≡ xs ++ slash ∷ ys → HasNoSlash xs → (front ≡ xs) × (back ≡ ys))
-      → (r : Result (T × T) RatioErrorKind) → AnswersPair value (SidesReadAs lo hi radix front back) r → AnswersPair value (IsSlashedText lo hi radix text) r
+      → (r : Result (T × T) RatioErrorKind) → AnswersFields value (SidesReadAs lo hi radix front back) r → AnswersFields value (IsSlashedText lo hi radix text) r
   with_slash front back e first (Ok p) h = (record { front = front; back = back; cut = e; sides = h.0 }, h.1)
   with_slash front back e first (Err ZeroDenominator) h = (h.0, record { front = front; back = back; cut = e; sides = h.1 })
   with_slash front back e first (Err ParseError) h = λ n d reads.
@@ -55,13 +55,13 @@ module _ {T : Type 0} (value : T → ℤ) (lo hi : ℤ) (radix : ℕ) (text : Li
       })
 
 module _ {T : Type 0} (value : T → ℤ) (lo hi : ℤ) (text : List ℕ) where
-  pub fraction_with_slash : (front back : List ℕ) → text ≡ front ++ slash ∷ back → (r : Result (T × T) RatioErrorKind) → AnswersPair value (IsSlashedText lo hi 10 text) r → AnswersPair value (IsFractionText lo hi text) r
+  pub fraction_with_slash : (front back : List ℕ) → text ≡ front ++ slash ∷ back → (r : Result (T × T) RatioErrorKind) → AnswersFields value (IsSlashedText lo hi 10 text) r → AnswersFields value (IsFractionText lo hi text) r
   fraction_with_slash front back e (Ok p) h = (inl h.0, h.1)
   fraction_with_slash front back e (Err ZeroDenominator) h = (h.0, inl h.1)
   fraction_with_slash front back e (Err ParseError) h = λ n d reads.
       elim reads [ inl x ↦ h n d x | inr x ↦ no_number lo hi 10 text front back n (lit≤ tt) e x.0 ]
 
-  pub no_fraction : HasNoSlash text → ReadsNumber value lo hi 10 text None → AnswersPair value (IsFractionText lo hi text) (Err ParseError)
+  pub no_fraction : HasNoSlash text → ReadsNumber value lo hi 10 text None → AnswersFields value (IsFractionText lo hi text) (Err ParseError)
   no_fraction free h = λ n d reads.
       elim reads [ inl x ↦ no_slashed lo hi 10 text free n d x | inr x ↦ h n x.0 ]
 

@@ -1,5 +1,5 @@
--- Fractions in lowest terms have one value exactly where they have the same fields. A crate above proves by these the laws of
--- what is compared and hashed by its fields.
+-- Fractions in lowest terms have the same value exactly if they have the same fields. With this a
+-- crate above proves the laws of what is compared and hashed by its fields.
 use Rattle.std.specs.Prelude.{◌≡◌, ◌⊎◌, ◌↔◌, ◌*ℤ◌, ℕ, ℤ, Bool, true, false, IsTrue, List, ◌++◌}
 use Rattle.std.proofs.Common.{sym, ap, inl, inr, ◌∙◌}
 use Rattle.std.proofs.lemmas.Bool.{both_ways, cases_Bool}
@@ -19,11 +19,11 @@ answer_by n d m e answer told first second (inr isnt) (inl said) =
     absurd (both_ways (int_eq (n *ℤ e) (m *ℤ d)) isnt ((Decides-int_eq (n *ℤ e) (m *ℤ d)).1 (same_by_fields n d m e same.0 same.1)))
 answer_by n d m e answer told first second (inr isnt) (inr said) = said ∙ sym isnt
 
--- an answer to whether the fields are the same is the answer to whether the cross products are
+-- in lowest terms, a test for equal fields gives the same result as a test for equal cross products
 pub answer_by_fields : (n d m e : ℤ) (answer : Bool) → IsTrue answer ↔ ((n ≡ m) × (d ≡ e)) → IsLowestTerms n d → IsLowestTerms m e → answer ≡ int_eq (n *ℤ e) (m *ℤ d)
 answer_by_fields n d m e answer told first second = answer_by n d m e answer told first second (cases_Bool (int_eq (n *ℤ e) (m *ℤ d))) (cases_Bool answer)
 
--- values that have a numerator n and a denominator d in lowest terms, and are hashed by these two, write the same for one value
+-- if values in lowest terms are hashed by their two numbers, those of one value feed a hasher the same
 pub same_writes_by_fields : {K : Type 0} (n d : K → ℤ) → ((x : K) → IsLowestTerms (n x) (d x)) → (write : ℤ → List (List ℕ)) (x y : K)
     → int_eq (n x *ℤ d y) (n y *ℤ d x) ≡ true → write (n x) ++ write (d x) ≡ write (n y) ++ write (d y)
 same_writes_by_fields n d lowest write x y h =

@@ -1,4 +1,4 @@
--- Floored division: n/d is q + r/d with r/d from 0 to below 1.
+-- Floored division: n/d is q + r/d, with 0 ≤ r/d < 1.
 use Rattle.std.specs.Prelude.{◌≡◌, ◌≢◌, ◌⊎◌, ◌+◌, ◌*◌, ◌<◌, ◌≤◌, ◌≤ℤ◌, ◌<ℤ◌, ◌+ℤ◌, ◌-ℤ◌, ◌*ℤ◌, ℕ, ℤ, zero, suc, pos, negsuc, neg_ℤ, unsigned_abs, int_div, int_rem}
 use Rattle.std.proofs.Common.{refl, sym, ap, arith, inl, inr, ⊎_elim, ◌∙◌}
 use Rattle.std.proofs.Math.Nat.{mul-le-mul_right}
@@ -21,9 +21,9 @@ pub sign-mul : (d : ℤ) → sign d *ℤ d ≡ pos (unsigned_abs d)
 sign-mul (pos d) = omega (arith, ints)
 sign-mul (negsuc d) = omega (arith, ints)
 
--- ---- what is left over
+-- ---- the rest
 
--- r/d is from 0 to below 1, by the sign of d
+-- 0 ≤ r/d < 1, by the sign of d
 abbrev IsPart : ℤ → ℤ → Type 0
 IsPart (pos d) r = (pos 0 ≤ℤ r) × (r <ℤ pos d)
 IsPart (negsuc d) r = (negsuc d <ℤ r) × (r ≤ℤ pos 0)
@@ -69,13 +69,13 @@ module _ (n d q r : ℤ) (is : IsFloored n d q r) where
   pub floored_sign : r ≢ pos 0 → sign r ≡ sign d
   floored_sign = part_sign d r (part d r is.rest)
 
-  -- the division, with the sign moved from d to n
+  -- the same division, with the sign of d moved to n
   pub floored-sum : sign d *ℤ n ≡ q *ℤ pos (unsigned_abs d) +ℤ pos (unsigned_abs r)
   floored-sum = part-sum n d q r (part d r is.rest) is.sum
 
--- ---- the one quotient
+-- ---- there is only one quotient
 
--- a larger quotient leaves room for one divisor more
+-- if q < p, then q*k + k ≤ p*k
 pub room : (q p : ℤ) (k : ℕ) → q <ℤ p → (q *ℤ pos k +ℤ pos k) ≤ℤ (p *ℤ pos k)
 room q p k h =
     let h1 : suc (up q + down p) ≤ up p + down q = omega (arith, ints) in
@@ -106,7 +106,7 @@ rest_unique n d x r y s f g =
 pub floored_by_one : (n d : ℤ) → d ≡ pos 1 → IsFloored n d n (pos 0)
 floored_by_one n d one = record { sum = (let whole : n *ℤ d ≡ n *ℤ pos 1 = ap (λ (t : ℤ). n *ℤ t) one in omega (arith, ints)); rest = inl (omega (arith, ints), omega (arith, ints)) }
 
--- ---- there is one
+-- ---- a quotient exists
 
 pub record HasFloored (n d : ℤ) : Type 0 where
   pub quotient : ℤ
@@ -120,9 +120,9 @@ floored_exists n d nonzero = ⊎_elim
     (λ s. record { quotient = int_div n d; rest = int_rem n d; floored = floored_same n d nonzero s })
     (sides (int_rem n d) d nonzero)
 
--- ---- and it is held, but for -hi-1 over -1
+-- ---- and it is in range, except for -hi-1 over -1
 
--- the value of every other pair is below hi + 1
+-- the value of any other pair is below hi + 1
 pub below_above_max : (h : ℕ) (m e : ℤ) → m ≤ℤ pos h → (neg_ℤ (pos h) -ℤ pos 1) ≤ℤ m → e ≢ pos 0 → ¬ (IsAboveMax (pos h) m e) → (sign e *ℤ m) <ℤ pos (suc h * unsigned_abs e)
 below_above_max h m (pos zero) below above nonzero out = absurd (nonzero refl)
 below_above_max h m (pos (suc e)) below above nonzero out =

@@ -1,4 +1,4 @@
--- The floored quotient of n/d beside a number q, by the product q * d.
+-- Comparing a number q with the floored quotient of n/d, by the product q * d.
 use Rattle.std.specs.Prelude.{◌≢◌, ◌≤ℤ◌, ◌<ℤ◌, ◌+ℤ◌, ◌-ℤ◌, ◌*ℤ◌, ℕ, ℤ, pos, negsuc}
 use Rattle.std.proofs.Common.{◌≡◌, ap, arith, inl, refl, subst, sym}
 use Rattle.std.proofs.lemmas.Int.{by_lt_z, ints}
@@ -16,7 +16,7 @@ use Rattle.ratio_core.proofs.Floored.{floored_exists, room}
 below_if_not : (x y : ℤ) → (y ≤ℤ x → ⊥) → x <ℤ y
 below_if_not x y h = grind (arith, ints)
 
--- a lesser number times a natural number is no more
+-- if x ≤ y, then x*k ≤ y*k for a natural k
 no_more : (x y : ℤ) (k : ℕ) → x ≤ℤ y → (x *ℤ pos k) ≤ℤ (y *ℤ pos k)
 no_more x y k h = by_lt_z x y (λ less. let more = room x y k less in omega (arith, ints)) (λ above. let same : x ≡ y = omega (arith, ints) in let products : x *ℤ pos k ≡ y *ℤ pos k = ap (λ (t : ℤ). t *ℤ pos k) same in omega (arith, ints))
 
@@ -27,15 +27,15 @@ module _ (q n p s : ℤ) (k : ℕ) (is : IsFloored n (pos k) p s) where
   rest_below : s <ℤ pos k
   rest_below = let sides = is.rest in grind (arith, ints)
 
-  -- where n is below q * d, its quotient is below q
+  -- if n is below q * d, the quotient is below q
   quotient_below : n <ℤ (q *ℤ pos k) → p <ℤ q
   quotient_below less = below_if_not p q (λ h. let more = no_more q p k h in omega (arith, ints, is.sum, rest_above))
 
-  -- where n is above that by d or more, its quotient is above q
+  -- if n is at least q * d + d, the quotient is above q
   quotient_above : (q *ℤ pos k +ℤ pos k) ≤ℤ n → q <ℤ p
   quotient_above more = below_if_not q p (λ h. let less = no_more p q k h in omega (arith, ints, is.sum, rest_below))
 
--- ---- the quotient of a held fraction over a positive denominator
+-- ---- the quotient of a fraction in range, over a positive denominator
 
 module _ (lo hi q n : ℤ) (range : IsRange lo hi) (n_held : IsHeld lo hi n) where
   not_top : (k : ℕ) → ¬ (IsAboveMax hi n (pos k))
@@ -68,7 +68,7 @@ module _ (lo hi q n : ℤ) (range : IsRange lo hi) (n_held : IsHeld lo hi n) whe
   product_positive (pos k) positive q_positive = let more = room (pos 0) q k q_positive in omega (arith, ints)
   product_positive (negsuc k) positive q_positive = absurd (omega (arith, ints))
 
-  -- a product that is not held is above all numbers
+  -- if q is positive and the product is out of range, the product is above n
   pub unheld_greater : (d zero : ℤ) → IsHeld lo hi d → pos 0 <ℤ d → zero ≡ pos 0 → zero <ℤ q → ¬ (IsHeld lo hi (q *ℤ d)) → IsOrderOfQuotients hi q n d Greater
   unheld_greater d zero d_held positive is q_positive out =
       by_lt_z hi (q *ℤ d) (λ high. greater d d_held positive (let below = n_held.below in omega (arith, ints)))
@@ -83,7 +83,7 @@ module _ (lo hi q n : ℤ) (range : IsRange lo hi) (n_held : IsHeld lo hi n) whe
   pub product_less : (d product rest : ℤ) → IsHeld lo hi d → pos 0 <ℤ d → product ≡ q *ℤ d → rest ≡ n -ℤ product → d ≤ℤ rest → IsOrderOfQuotients hi q n d Less
   product_less d product rest d_held positive is rest_is above = less d d_held positive (omega (arith, ints))
 
-  -- a rest that is not held is above the denominator
+  -- if the rest is out of range, it is above the denominator
   pub unheld_less : (d product : ℤ) → IsHeld lo hi d → pos 0 <ℤ d → product ≡ q *ℤ d → product ≤ℤ n → ¬ (IsHeld lo hi (n -ℤ product)) → IsOrderOfQuotients hi q n d Less
   unheld_less d product d_held positive is above out =
       by_lt_z hi (n -ℤ product) (λ high. less d d_held positive (let below = d_held.below in omega (arith, ints)))
@@ -105,7 +105,7 @@ divided_apart {q = q} {p = p} {s} {o} is below order unlike = record {
   apart = apart_at q p o unlike (subst (λ x. MatchOrdering x (q <ℤ p) (q ≡ p) (p <ℤ q)) (sym order) (int_ranks q p));
 }
 
--- unlike quotients decide, whatever the rests are
+-- if the quotients differ, they decide, whatever the rests are
 pub parts_apart : (q r p s : ℤ) (o : Ordering) → MatchOrdering o (q <ℤ p) ⊥ (p <ℤ q) → IsOrderOfParts q r p s o
 parts_apart q r p s Less stands = inl stands
 parts_apart q r p s Equal stands = absurd stands

@@ -1,4 +1,4 @@
--- The codes of a fraction, put down one quotient at a time.
+-- The codes of a fraction, taken one quotient at a time.
 use Rattle.std.specs.Prelude.{◌≡◌, ◌≢◌, ◌+◌, ◌≤◌, ◌≤ℤ◌, ◌+ℤ◌, ℕ, ℤ, suc, pos, Bool, true, false, cond, fold, length, List, [], ◌∷◌, ◌++◌}
 use Rattle.std.proofs.Common.{refl, sym, ap, arith, inl, inr, subst, append_assoc, ◌∙◌}
 use Rattle.std.proofs.lemmas.Bool.{true≢false}
@@ -53,7 +53,7 @@ module _ (lo hi n d q r : ℤ) (f : IsFloored n d q r) (below : q ≤ℤ hi) whe
 
 -- ---- rounds in a loop
 
--- the codes that are put down so far, in front of those of a/b, are those of n/d
+-- the codes taken so far, and then those of a/b, are the codes of n/d
 pub record IsBegun {S : Type 0} (after : S → ℤ → S) (lo hi n d : ℤ) (start : S) (left : ℕ) (a b : ℤ) (now : S) (left' : ℕ) : Type 0 where
   pub front : List ℤ
   pub now_is : now ≡ fold after start front
@@ -89,7 +89,7 @@ module _ {S : Type 0} (after : S → ℤ → S) (lo hi n d : ℤ) (start : S) (l
       longer : length (h.front ++ q ∷ []) ≡ length h.front + 1
       longer = length_push h.front q
 
--- what a list is after it took two numbers, or three
+-- a list after it took two numbers, or three
 pub took_two : {S : Type 0} (after : S → ℤ → S) {s s' s'' : S} {a b x y : ℤ} → s' ≡ after s a → s'' ≡ after s' b → a ≡ x → b ≡ y → s'' ≡ fold after s (x ∷ y ∷ [])
 took_two after e f g h = cc
 

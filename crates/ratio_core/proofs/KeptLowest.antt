@@ -1,4 +1,4 @@
--- Fractions that are in lowest terms where another one is: negatives, reciprocals, powers, and what a whole number leaves.
+-- If a fraction is in lowest terms, so are its negative, its reciprocal, its powers, and its difference from a whole number.
 use Rattle.std.specs.Prelude.{◌≡◌, ◌≢◌, ◌^◌, ◌+ℤ◌, ◌*ℤ◌, ℕ, ℤ, zero, suc, pos, negsuc, neg_ℤ, unsigned_abs}
 use Rattle.std.specs.Int.{int_pow}
 use Rattle.std.proofs.Common.{sym, ap, arith, ◌∙◌, pow-suc}
@@ -10,11 +10,11 @@ use Rattle.ratio_integer.specs.Range.{IsHeld}
 use Rattle.ratio_integer.proofs.CommonDivisors.{IsCoprime, coprime_product, coprime_turned, divides_multiple, multiple_divides}
 use Rattle.ratio_integer.proofs.LowestTerms.{lowest_own}
 use Rattle.ratio_integer.proofs.Whole.{add-mul, mul_assoc, unsigned_abs-neg}
-use Rattle.ratio_core.specs.Power.{IsPower, IsReciprocal, PowerCondition}
+use Rattle.ratio_core.specs.Power.{IsReciprocal}
 use Rattle.ratio_core.specs.Rounding.{IsFractionalPart}
 use Rattle.ratio_core.proofs.PowerLemmas.{pow_above, size-pow}
 
--- a fraction in lowest terms, of held numbers, is its own
+-- a fraction in lowest terms whose numbers are in range is its own lowest terms
 pub own_held : (lo hi n d : ℤ) → IsLowestTerms n d → IsHeld lo hi n → IsHeld lo hi d → IsHeldLowest lo hi n d n d
 own_held lo hi n d lowest numer_held denom_held = record { terms = lowest_own n d lowest; numer_held = numer_held; denom_held = denom_held }
 
@@ -41,7 +41,7 @@ coprime_power : (x y m : ℕ) → IsCoprime y x → IsCoprime y (x ^ m)
 coprime_power x y zero apart = λ k p q. eq-one_of_dvd-one (rw (pow-zero x) at q)
 coprime_power x y (suc m) apart = rw (pow-suc x m) (coprime_product y (x ^ m) x (coprime_power x y m apart) apart)
 
-powers_lowest : (n d : ℤ) (m : ℕ) → IsLowestTerms n d → IsLowestTerms (int_pow n m) (int_pow d m)
+pub powers_lowest : (n d : ℤ) (m : ℕ) → IsLowestTerms n d → IsLowestTerms (int_pow n m) (int_pow d m)
 powers_lowest n d m lowest = record {
   positive = pow_above d m lowest.positive;
   only_one = rw (size-pow n m, size-pow d m) (
@@ -49,13 +49,9 @@ powers_lowest n d m lowest = record {
       coprime_turned _ _ (coprime_power (unsigned_abs n) (unsigned_abs d) m (coprime_turned _ _ lowest.only_one))));
 }
 
-pub power_lowest : (lo hi n d e a b : ℤ) → IsLowestTerms n d → PowerCondition lo hi n d e → IsPower n d e a b → IsLowestTerms a b
-power_lowest lo hi n d (pos m) a b lowest can is = rw (is.0, is.1) (powers_lowest n d m lowest)
-power_lowest lo hi n d (negsuc k) a b lowest can is = reciprocal_lowest _ _ a b (powers_lowest n d (suc k) lowest) can.1.nonzero is
+-- ---- the difference from a whole number
 
--- ---- what a whole number leaves
-
-multiple_sum : (w d f n k : ℤ) → IsMultiple d k → IsMultiple f k → n ≡ w *ℤ d +ℤ f → IsMultiple n k
+pub multiple_sum : (w d f n k : ℤ) → IsMultiple d k → IsMultiple f k → n ≡ w *ℤ d +ℤ f → IsMultiple n k
 multiple_sum w d f n k (p, pe) (q, qe) sum = (w *ℤ p +ℤ q, sum ∙ ap (λ t. w *ℤ t +ℤ f) pe ∙ ap (λ t. w *ℤ (p *ℤ k) +ℤ t) qe ∙ ap (λ t. t +ℤ q *ℤ k) (sym (mul_assoc w p k)) ∙ sym (add-mul (w *ℤ p) q k))
 
 pub part_lowest : (n d f : ℤ) → IsLowestTerms n d → IsFractionalPart n d f → IsLowestTerms f d

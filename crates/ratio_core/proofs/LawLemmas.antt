@@ -1,4 +1,4 @@
--- Sums and products of the same values are the same, and the laws that follow.
+-- Equal values have equal sums and products, and the laws that follow from this.
 use Rattle.std.specs.Prelude.{◌≡◌, ◌≢◌, ◌<ℤ◌, ◌*ℤ◌, ◌+ℤ◌, ◌-ℤ◌, ℤ, true, false, pos, int_div}
 use Rattle.std.proofs.Common.{refl, sym, ap, ◌∙◌}
 use lib.IntN.{*ℤ_comm, *ℤ-zero, +ℤ_assoc, +ℤ_comm, zero-*ℤ}
@@ -8,9 +8,9 @@ use Rattle.ratio_integer.specs.Fraction.{Fits, IsLowestTermsOf, SameValue}
 use Rattle.ratio_integer.specs.Range.{IsHeld, IsRange}
 use Rattle.ratio_integer.proofs.CommonDivisors.{gcd_exists}
 use Rattle.ratio_integer.proofs.LowestTerms.{gcd_held_positive, held_lowest_moved, held_lowest_quotients, lowest_equal, lowest_moved, same_value_products}
-use Rattle.ratio_integer.proofs.Whole.{add-mul, mul-add, mul_assoc, mul_nonzero, mul-swap_inner, mul-swap_last, positive_nonzero}
+use Rattle.ratio_integer.proofs.Whole.{add-mul, mul-add, mul_assoc, mul_nonzero, mul-swap_inner, mul-swap_last, positive_nonzero, sub-mul}
 use Rattle.ratio_core.specs.Laws.{FormedDifferencesFit, FormedSumsFit, IsProduct, IsSum, ProductsAssociate, ProductsCommute, ProductsDistribute, SumConditionsCommute, SumsAssociate, SumsCommute}
-use Rattle.ratio_core.proofs.SumLemmas.{difference_same, fits_by, sum_same}
+use Rattle.ratio_core.proofs.SumLemmas.{fits_by, formed_same}
 
 -- ---- the same values
 
@@ -26,11 +26,11 @@ same_value_sums a b c d p q s t left right =
     crossed : (a b d q t p : ℤ) → SameValue a b p q → (a *ℤ d) *ℤ (q *ℤ t) ≡ (p *ℤ t) *ℤ (b *ℤ d)
     crossed a b d q t p same = mul-swap_inner a d q t ∙ ap (λ (z : ℤ). z *ℤ (d *ℤ t)) same ∙ ap (λ (z : ℤ). (p *ℤ b) *ℤ z) (*ℤ_comm d t) ∙ mul-swap_inner p b t d
 
--- fractions of the same numbers have the same value
+-- fractions with the same numbers have the same value
 same_numbers : (n d m e : ℤ) → n ≡ m → d ≡ e → SameValue n d m e
 same_numbers n d m e first second = ap (λ (t : ℤ). n *ℤ t) (sym second) ∙ ap (λ (t : ℤ). t *ℤ d) first
 
--- a factor in both numbers changes no value
+-- multiplying both numbers by m does not change the value
 same_multiplied : (m n d : ℤ) → SameValue n d (m *ℤ n) (m *ℤ d)
 same_multiplied m n d = sym (mul_assoc n m d) ∙ ap (λ (t : ℤ). t *ℤ d) (*ℤ_comm n m)
 
@@ -40,15 +40,15 @@ left_nonzero b d nonzero e = nonzero (ap (λ (t : ℤ). t *ℤ d) e ∙ zero-*�
 right_nonzero : (b d : ℤ) → b *ℤ d ≢ pos 0 → d ≢ pos 0
 right_nonzero b d nonzero e = nonzero (ap (λ (t : ℤ). b *ℤ t) e ∙ *ℤ-zero b)
 
--- two pairs of the same numbers are one
+-- pairs with the same numbers are equal
 one_pair : (x y : ℤ × ℤ) → (x.0 ≡ y.0) × (x.1 ≡ y.1) → x ≡ y
 one_pair x y same = ap (λ (t : ℤ). (t, x.1)) same.0 ∙ ap (λ (t : ℤ). (y.0, t)) same.1
 
--- two fractions of the same value have one pair of lowest terms
+-- fractions of the same value have the same lowest terms
 one_lowest : (n d m e : ℤ) (x y : ℤ × ℤ) → SameValue n d m e → IsLowestTermsOf n d x.0 x.1 → IsLowestTermsOf m e y.0 y.1 → x ≡ y
 one_lowest n d m e x y same first second = one_pair x y (lowest_equal n d m e x.0 x.1 y.0 y.1 same first second)
 
--- ---- an operand may stand for its lowest terms
+-- ---- an operand may be replaced by its lowest terms
 
 -- x is the lowest terms of n/d
 module _ (n d : ℤ) (x y z : ℤ × ℤ) (low : IsLowestTermsOf n d x.0 x.1) where
@@ -104,7 +104,7 @@ products_associate x y z xy yz left right first second third fourth =
     (product_by_left _ _ xy z left first second)
     (product_by_right _ _ yz x right third fourth)
 
--- a/b * (c/d + e/f), with b in both numbers, and a/b * c/d + a/b * e/f
+-- the numerators of a/b * (c/d + e/f), expanded by b, and of a/b * c/d + a/b * e/f
 spread_numer : (a b c d e f : ℤ) → b *ℤ (a *ℤ (c *ℤ f +ℤ e *ℤ d)) ≡ (a *ℤ c) *ℤ (b *ℤ f) +ℤ (a *ℤ e) *ℤ (b *ℤ d)
 spread_numer a b c d e f =
     sym (mul_assoc b a (c *ℤ f +ℤ e *ℤ d))
@@ -152,7 +152,7 @@ sum_conditions_commute true lo hi a b c d is = record {
   low = rw (+ℤ_comm (c *ℤ b) (a *ℤ d), *ℤ_comm d b) is.low;
 }
 
--- the lowest terms of two held numbers are held where the second is positive
+-- if two numbers are in range and the second is positive, so are their lowest terms
 lowest_fits : (lo hi n d : ℤ) → IsRange lo hi → IsHeld lo hi n → IsHeld lo hi d → pos 0 <ℤ d → Fits lo hi n d
 lowest_fits lo hi n d range n_held d_held positive =
     let found : (g : ℤ) × IsGcdOf n d g = gcd_exists n d in
@@ -166,12 +166,12 @@ pub formed_sums_fit : FormedSumsFit
 formed_sums_fit lo hi a b c d range b_positive d_positive is =
     fits_moved lo hi (is.left +ℤ is.right) is.common _ _
     (mul_nonzero b d (positive_nonzero b b_positive) (positive_nonzero d d_positive))
-    (sum_same a b c d is.common is.left is.right is.held.scaled)
+    (formed_same (λ x y. x +ℤ y) add-mul a b c d is.common is.left is.right is.held.scaled)
     (lowest_fits lo hi _ is.common range is.sum_held is.held.common_held is.held.scaled.least.positive)
 
 pub formed_differences_fit : FormedDifferencesFit
 formed_differences_fit lo hi a b c d range b_positive d_positive is =
     fits_moved lo hi (is.left -ℤ is.right) is.common _ _
     (mul_nonzero b d (positive_nonzero b b_positive) (positive_nonzero d d_positive))
-    (difference_same a b c d is.common is.left is.right is.held.scaled)
+    (formed_same (λ x y. x -ℤ y) sub-mul a b c d is.common is.left is.right is.held.scaled)
     (lowest_fits lo hi _ is.common range is.difference_held is.held.common_held is.held.scaled.least.positive)

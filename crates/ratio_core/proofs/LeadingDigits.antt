@@ -1,4 +1,4 @@
--- How the digits that a text begins with are read, one after another, and the two number texts that they are part of.
+-- How the leading digits of a text are read one after another, and how the two number texts are made of them.
 use Rattle.std.proofs.Common.{◌≡◌, ◌≢◌, T, refl, sym, ◌∙◌, ap, subst, inl, inr, arith, ℕ, zero, suc, ◌+◌, ◌-◌, ◌*◌, ◌^◌, ◌<◌, ◌≤◌, ◌&&◌, Bool, eqb, eqb→eq, eq-zero-or-pos, pow-suc, true, false, List, [], ◌∷◌, ◌++◌, length, length-drop, drop, take, get_or, ℤ, pos, ◌<ℤ◌, neg_ℤ, ◌-ℤ◌, FitsSigned, Some, Result, Ok, Err}
 use Rattle.std.proofs.lemmas.Int.{ints, to_z-of_z, to_z_pos}
 use Rattle.std.proofs.lemmas.Int.Digits.{digits_more, digits_value-lt, digits_value_more}
@@ -15,8 +15,8 @@ use mir.Val.{to_z, of_z}
 use Rattle.ratio_integer.specs.Range.{Checks, IsHeld}
 use Rattle.ratio_core.specs.declared.parse_error.RatioErrorKind.{RatioErrorKind}
 use Rattle.ratio_core.specs.declared.parse_error.RatioErrorKind.TheVariants.{ParseError, ZeroDenominator}
-use Rattle.ratio_core.specs.Reading.{digits_sum, AnswersPair, IsFractionText, IsSlashedText, ReadsAs, minus, slash}
-use Rattle.ratio_core.specs.declared.text.quick_pair.TheConstants.{DIGITS}
+use Rattle.ratio_core.specs.Reading.{digits_sum, AnswersFields, IsFractionText, IsSlashedText, ReadsAs, minus, slash}
+use Rattle.ratio_core.specs.declared.text.quick_fields.TheConstants.{DIGITS}
 use Rattle.ratio_core.proofs.NumberLemmas.{digits_after, digits_value_sum}
 
 -- ---- the digits
@@ -33,7 +33,7 @@ worth_below (suc n) k t h =
       | inr g ↦ worth_below n k (and_r _ (are_worth n) t) (omega arith)
     ]
 
--- the table has what the bytes from 48 to 122 are worth
+-- the table has the values of the bytes from 48 to 122
 pub worth : (byte : ℕ) → 48 ≤ byte → byte ≤ 122 → get_or DIGITS (byte - 48) 0 ≡ digit_value byte
 worth byte low high =
     let same : 48 + (byte - 48) ≡ byte = omega arith in
@@ -52,18 +52,18 @@ few_36 radix h = omega (arith, pow-le-pow_left {n = radix} {m = 36} h 12)
 
 -- ---- the loop
 
--- the first `at` bytes are digits, `most` of them at most, and n is their number
+-- the first `at` bytes are digits, `at` is at most `most`, and n is their number
 pub record AreReadTo (radix most : ℕ) (bytes : List ℕ) (at n : ℕ) : Type 0 where
   pub inside : at ≤ length bytes
   pub few : at ≤ most
   pub digits : AllDigits radix (take at bytes)
   pub value : n ≡ digits_value radix (take at bytes)
 
--- the digits are as small as their count says
+-- a number of j digits is below radix ^ j
 small : (radix most : ℕ) (bytes : List ℕ) (at n : ℕ) → AreReadTo radix most bytes at n → n < radix ^ at
 small radix most bytes at n s = subst (λ j. n < radix ^ j) (length-take-le at bytes s.inside) (omega (arith, s.value, digits_value-lt radix (take at bytes) s.digits))
 
--- one digit more leaves the number below 2 ^ 64
+-- with one digit more, the number is still below 2 ^ 64
 pub room : (radix most : ℕ) (bytes : List ℕ) (at n d : ℕ) → 2 ≤ radix → radix ^ most < 2 ^ 64 → AreReadTo radix most bytes at n → at < most → d < radix → n * radix + d < 2 ^ 64
 room radix most bytes at n d low held s more digit =
     let next : n * radix + d < radix ^ suc at = rw (pow-suc radix at) (omega (arith, mul-le (suc n) radix (radix ^ at) radix (small radix most bytes at n s) (omega arith), digit)) in
@@ -79,7 +79,7 @@ step radix most bytes at n d s more few worth digit =
       value = ap (λ x. x * radix + d) s.value ∙ ap (λ x. digits_value radix (take at bytes) * radix + x) worth ∙ sym (digits_value_more radix bytes at more);
     }
 
--- what is read has a power below 2 ^ 64 too
+-- the radix to the count of the digits that were read is below 2 ^ 64, too
 pub power_fits : (radix most at : ℕ) → 2 ≤ radix → radix ^ most < 2 ^ 64 → at ≤ most → radix ^ at < 2 ^ 64
 power_fits radix most at low held few = omega (arith, held, pow-le-pow_right {n = radix} (omega arith) {i = at} {j = most} few)
 
@@ -129,7 +129,7 @@ fits : (n : ℕ) → n < 2 ^ 127 → FitsSigned w128 (neg_ℤ (pos n))
 fits zero h = record { sfits = omega (arith, ints) }
 fits (suc n) h = record { sfits = omega (arith, ints, h) }
 
--- the number after a minus, in an `i128`
+-- an `i128` has the negative of a number below 2^127
 negated : (n : ℕ) → n < 2 ^ 127 → to_z w128 (of_z w128 (pos 0 -ℤ to_z w128 n)) ≡ neg_ℤ (pos n)
 negated n h =
     let same : to_z w128 n ≡ pos n = to_z_pos w128 n (omega (arith, h)) in
@@ -137,7 +137,7 @@ negated n h =
     ap (λ z. to_z w128 (of_z w128 z)) minus_n ∙ to_z-of_z w128 (neg_ℤ (pos n)) (fits n h)
 
 module _ {T : Type 0} (value : T → ℤ) (lo hi : ℤ) where
-  -- some digits, as many as are read, are a number text
+  -- one or more digits are a number text
   pub of_digits : (radix : ℕ) (text : List ℕ) (count n : ℕ) (y : T) → count ≤ length text → count ≢ 0 → AllDigits radix (take count text) → n ≡ digits_value radix (take count text)
       → Checks value lo hi (pos n) (Some y) → ReadsAs lo hi radix (take count text) (value y)
   of_digits radix text count n y inside some digits is k =
@@ -146,7 +146,7 @@ module _ {T : Type 0} (value : T → ℤ) (lo hi : ℤ) where
         held = subst (IsHeld lo hi) (sym k.1) k.0;
       }
 
-  -- and so they are after a minus
+  -- and so are they after a minus
   pub of_minus : (radix : ℕ) (text : List ℕ) (count n : ℕ) (y : T) → lo <ℤ pos 0 → starts_with_minus text ≡ true → count ≤ length (drop 1 text) → count ≢ 0 → AllDigits radix (take count (drop 1 text))
       → n ≡ digits_value radix (take count (drop 1 text)) → n < 2 ^ 127
       → Checks value lo hi (to_z w128 (of_z w128 (pos 0 -ℤ to_z w128 n))) (Some y) → ReadsAs lo hi radix (take (count + 1) text) (value y)
@@ -177,9 +177,9 @@ module _ {T : Type 0} (value : T → ℤ) (lo hi : ℤ) where
         sides = record { numer = front; denom = back };
       }
 
-  -- an answer for two numbers is one for what reads as them
-  pub read_pair : (Reads : ℤ → ℤ → Type 0) (n d : T) → Reads (value n) (value d) → (r : Result (T × T) RatioErrorKind)
-      → AnswersPair value (λ m e. (value n ≡ m) × (value d ≡ e)) r → AnswersPair value Reads r
-  read_pair Reads n d reads (Ok p) h = (subst (λ e. Reads (value p.0) e) h.0.1 (subst (λ m. Reads m (value d)) h.0.0 reads), h.1)
-  read_pair Reads n d reads (Err ZeroDenominator) h = (value n, subst (λ e. Reads (value n) e) h.1.1 reads)
-  read_pair Reads n d reads (Err ParseError) h = absurd (h (value n) (value d) (refl, refl))
+  -- the right result for two numbers is the right result for what reads as them
+  pub read_fields : (Reads : ℤ → ℤ → Type 0) (n d : T) → Reads (value n) (value d) → (r : Result (T × T) RatioErrorKind)
+      → AnswersFields value (λ m e. (value n ≡ m) × (value d ≡ e)) r → AnswersFields value Reads r
+  read_fields Reads n d reads (Ok p) h = (subst (λ e. Reads (value p.0) e) h.0.1 (subst (λ m. Reads m (value d)) h.0.0 reads), h.1)
+  read_fields Reads n d reads (Err ZeroDenominator) h = (value n, subst (λ e. Reads (value n) e) h.1.1 reads)
+  read_fields Reads n d reads (Err ParseError) h = absurd (h (value n) (value d) (refl, refl))

@@ -25,7 +25,7 @@ right_gap_is n (negsuc d) most lp lq lg rp rq rg d_up stand = absurd (omega (ari
 right_gap_is n (pos d) most lp lq lg rp (negsuc rq) rg d_up stand = absurd (let a = stand.right.positive in omega (arith, ints))
 right_gap_is n (pos d) most lp lq lg rp (pos rq) rg d_up stand = gap_below n rp d rq (unsigned_abs rg) stand.around.right
 
--- ---- what comes before both comes before all
+-- ---- what comes before both neighbours comes before all fractions
 
 module _ (n : ℤ) (d : ℕ) (most lp : ℤ) (lq : ℕ) (lg rp : ℤ) (rq : ℕ) (rg : ℤ) (d_up : pos 0 <ℤ pos d) (stand : StandAround n (pos d) most lp (pos lq) lg rp (pos rq) rg) where
   lq_up : 0 < lq
@@ -67,7 +67,7 @@ stand_exact_right n (pos d) most lp (pos lq) lg rp (pos rq) rg d_up stand exact 
 -- ---- the nearest one
 
 module _ (n d most : ℤ) (d_up : pos 0 <ℤ d) (p q g m e h : ℤ) where
-  -- the one that comes first, where nothing more fits between the two
+  -- if nothing between the two is within the bound, the one that comes first is nearest
   pub nearest_first : Surround n d most p q g m e h → most <ℤ (q +ℤ e) → ComesFirst (unsigned_abs g) p q (unsigned_abs h) m e → IsNearest n d most p q
   nearest_first (inl stand) room first = record {
     positive = stand.left.positive;
@@ -80,7 +80,7 @@ module _ (n d most : ℤ) (d_up : pos 0 <ℤ d) (p q g m e h : ℤ) where
     first = rw (right_gap_is n d most m e h p q g d_up stand) (stand_before n d most m e h p q g d_up stand (omega (arith, ints)) (unsigned_abs g) p q stand.right.positive first (itself_first (unsigned_abs g) p q));
   }
 
-  -- one that is n/d itself
+  -- a neighbour that is n/d itself is nearest
   pub nearest_exact : Surround n d most p q g m e h → g ≡ pos 0 → IsNearest n d most p q
   nearest_exact (inl stand) exact = record {
     positive = stand.left.positive;
@@ -100,7 +100,7 @@ far (negsuc g) e g_up e_up = absurd (omega (arith, ints))
 far g (negsuc e) g_up e_up = absurd (omega (arith, ints))
 far (pos g) (pos e) g_up e_up = refl
 
--- the distances first, then the denominators, then the numerators
+-- by the distances, then the denominators, then the numerators
 by_orders : (u w : ℕ) (p q m e : ℤ) (a b c : Ordering) → MatchOrdering a (pos u <ℤ pos w) (pos u ≡ pos w) (pos w <ℤ pos u) → MatchOrdering b (q <ℤ e) (q ≡ e) (e <ℤ q) → MatchOrdering c (p <ℤ m) (p ≡ m) (m <ℤ p) → (t : Bool) → t ≡ is_le (ordering_then (ordering_then a b) c) → Tells t ((u < w) ⊎ ((u ≡ w) × ((q <ℤ e) ⊎ ((q ≡ e) × (p ≤ℤ m))))) ((w < u) ⊎ ((w ≡ u) × ((e <ℤ q) ⊎ ((e ≡ q) × (m ≤ℤ p)))))
 by_orders u w p q m e Less b c x y z t is = inl (is, inl (omega (arith, ints)))
 by_orders u w p q m e Greater b c x y z t is = inr (is, inl (omega (arith, ints)))

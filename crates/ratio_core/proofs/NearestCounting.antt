@@ -1,4 +1,4 @@
--- How many rounds there are: each but the first at least halves the product of both gaps.
+-- The number of rounds: each but the first at least halves the product of both gaps.
 use Rattle.std.specs.Prelude.{◌≡◌, ◌≢◌, ◌⊎◌, ◌+◌, ◌*◌, ◌^◌, ◌<◌, ◌≤◌, ◌≤ℤ◌, ◌<ℤ◌, ◌+ℤ◌, ◌-ℤ◌, ◌*ℤ◌, ℕ, ℤ, zero, suc, pos, unsigned_abs}
 use Rattle.std.proofs.Common.{refl, ap, arith, inl, inr}
 use Rattle.std.proofs.Math.Nat.{mul-le-mul, mul-le-mul_left}
@@ -12,12 +12,12 @@ use Rattle.ratio_core.proofs.Around.{made}
 use Rattle.ratio_core.proofs.Convergents.{HavePassed, passed_first, passed_last, passed_more, passed_none}
 use Rattle.ratio_core.proofs.Shares.{IsShare}
 
--- k rounds have left the gaps g and h, of which h is the fixed one's
+-- after k rounds the gaps are g and h; the fixed neighbour has h
 pub data AreRounds (d : ℕ) : ℕ → ℕ → ℕ → Type 0 where
   begun : {g h : ℕ} → 0 < g → g + h ≡ d → AreRounds d 0 g h
   going : {k g h : ℕ} → h < g → 2 ^ k * (2 * (g * h)) ≤ d * d → AreRounds d k g h
 
-either_way : (a b : ℕ) → (a ≤ b) ⊎ (b < a)
+pub either_way : (a b : ℕ) → (a ≤ b) ⊎ (b < a)
 either_way zero b = inl (omega arith)
 either_way (suc a) zero = inr (omega arith)
 either_way (suc a) (suc b) = elim (either_way a b) [
@@ -25,8 +25,8 @@ either_way (suc a) (suc b) = elim (either_way a b) [
   | inr h ↦ inr (omega arith)
 ]
 
--- four times a product is at most the square of the sum
-four_products : (g h : ℕ) → 4 * (g * h) ≤ (g + h) * (g + h)
+-- 4*g*h is at most the square of g + h
+pub four_products : (g h : ℕ) → 4 * (g * h) ≤ (g + h) * (g + h)
 four_products zero h = omega arith
 four_products (suc g) zero = omega arith
 four_products (suc g) (suc h) = omega (arith, four_products g h)
@@ -46,7 +46,7 @@ more d k g h (suc w) r up is less (going above bound) =
     let scaled : 2 ^ k * (h * (2 * r)) ≤ 2 ^ k * (h * g) = mul-le-mul_left (2 ^ k) half in
     going less (rw power (omega arith))
 
--- the last one, and the division before the first
+-- with the last round, and the division before the first
 pub counted : (d k g h : ℕ) → 0 < h → AreRounds d k g h → IsWithinBits d (k + 2)
 counted d zero g h h_up (begun g_up sum) zero less = absurd (omega arith)
 counted d zero g h h_up (begun g_up sum) (suc zero) less = absurd (omega arith)
@@ -62,7 +62,7 @@ counted d k g h h_up (going above bound) j less =
       | inr h ↦ absurd (let larger : 2 ^ (j + j) < 2 ^ (k + 2) = pow_below (j + j) (k + 2) (omega arith) in omega arith)
     ]
 
--- one division, and none
+-- one division alone
 pub once : (d : ℕ) → 0 < d → IsWithinBits d 1
 once d up zero less = absurd (omega arith)
 once d up (suc j) less = omega arith
@@ -72,8 +72,8 @@ never d j less = omega arith
 
 -- ---- as the search counts them
 
--- since the counts `left` and `right` one division and then the rounds, of one division a side, have left the gaps g and h of n/d,
--- whose two neighbours have the denominators p and e
+-- since the counts were `left` and `right`, there was one division on the left, and then a number of rounds with one division a
+-- side. Now the two neighbours have the gaps g and h and the denominators p and e
 pub record HaveGone (n d most : ℤ) (left left' right right' : ℕ) (p g e h : ℤ) : Type 0 where
   pub rounds : ℕ
   pub left_rose : left' ≡ left + (rounds + 1)
@@ -105,16 +105,16 @@ module _ {n d most p g e h : ℤ} {left left' right right' : ℕ} (gone : HaveGo
   bound : pos 0 <ℤ h → IsWithinBits (unsigned_abs d) (gone.rounds + 2)
   bound up = counted (unsigned_abs d) gone.rounds (unsigned_abs g) (unsigned_abs h) (omega (arith, ints)) gone.gaps
 
-  -- the last round, on the left side
+  -- the last round, counted on the left side
   pub left_ended : (next : ℕ) → next ≡ left' + 1 → pos 0 <ℤ h → (k : ℕ) × (next ≡ left + k) × IsWithinBits (unsigned_abs d) k
   left_ended next one up = (gone.rounds + 2, (let rose = gone.left_rose in omega arith), bound up)
 
-  -- and on the right side
+  -- the last round, counted on the right side
   pub right_ended : (next : ℕ) → next ≡ right' + 1 → pos 0 <ℤ h → (k : ℕ) × (next ≡ right + k) × IsWithinBits (unsigned_abs d) k
   right_ended next one up =
       (gone.rounds + 1, (let rose = gone.right_rose in omega arith), λ j less. (let most : gone.rounds + 2 ≤ 2 * j = bound up j less in omega arith))
 
-  -- and how many they are: w steps fit the gap, and they lead to n/d or beyond the bound
+  -- the exact count: w steps fit the gap, and they lead to n/d or beyond the bound
   pub steps_ended : (left'' right'' : ℕ) (w : ℤ) → left'' ≡ left' + 1 → right'' ≡ right' + 1 → e ≤ℤ most → pos 0 <ℤ e → IsShare g h w → ((g -ℤ h *ℤ w) ≡ pos 0) ⊎ (most <ℤ (p +ℤ e *ℤ w)) → (k : ℕ) × (left'' ≡ left + (k + 1)) × (right'' ≡ right + k) × IsConvergentCount n d most k
   steps_ended left'' right'' w left_next right_next within e_up is end = (
     gone.rounds + 1,
@@ -123,6 +123,6 @@ module _ {n d most p g e h : ℤ} {left left' right right' : ℕ} (gone : HaveGo
     passed_last n d most gone.rounds p g e h w (g -ℤ h *ℤ w) within (omega (arith, ints)) is refl end gone.passed,
   )
 
--- one division alone
+-- if the first division leaves no rest, it is the only one
 pub steps_none : (n d most f r : ℤ) (left left' right right' : ℕ) → left' ≡ left + 1 → right' ≡ right → IsFloored n d f r → r ≡ pos 0 → (k : ℕ) × (left' ≡ left + (k + 1)) × (right' ≡ right + k) × IsConvergentCount n d most k
 steps_none n d most f r left left' right right' one same floored exact = (0, omega arith, omega arith, passed_none n d most f r floored exact)

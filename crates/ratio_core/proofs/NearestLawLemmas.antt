@@ -13,7 +13,7 @@ use Rattle.ratio_integer.proofs.LowestTerms.{lowest_exist, same_value_chained}
 use Rattle.ratio_integer.proofs.Whole.{mul_assoc, mul_cancel, mul-swap_last, positive_nonzero, sub-mul, unsigned_abs-products}
 use Rattle.ratio_core.specs.Nearest.{ComesFirst, IsNearest, gap}
 
--- ---- one at most
+-- ---- there is at most one
 
 both_first : (g : ℕ) (p q : ℤ) (h : ℕ) (m e : ℤ) → ComesFirst g p q h m e → ComesFirst h m e g p q → (p ≡ m) × (q ≡ e)
 both_first g p q h m e (inl a) (inl b) = absurd (omega arith)
@@ -32,7 +32,7 @@ nearest_unique n d most p q m e x y = both_first (gap n d p q) p q (gap n d m e)
 
 -- ---- gaps of equal values
 
--- two fractions of one value have gaps as their denominators
+-- if p/q and a/b have one value, their gaps have the ratio of their denominators
 same_gaps : (n d p q a b : ℤ) → SameValue p q a b → gap n d p q * unsigned_abs b ≡ gap n d a b * unsigned_abs q
 same_gaps n d p q a b same = unsigned_abs-products (n *ℤ q -ℤ p *ℤ d) b (n *ℤ b -ℤ a *ℤ d) q (
     let first : (n *ℤ q) *ℤ b ≡ (n *ℤ b) *ℤ q = mul-swap_last n q b ∙ sym (mul_assoc n b q) in
@@ -41,7 +41,7 @@ same_gaps n d p q a b same = unsigned_abs-products (n *ℤ q -ℤ p *ℤ d) b (n
 
 -- ---- lowest terms
 
--- the denominator of lowest terms is the least one
+-- of all fractions of one value, the lowest terms have the least denominator
 least_denom : (p q a b : ℤ) → pos 0 <ℤ q → IsLowestTerms a b → SameValue p q a b → b ≤ℤ q
 least_denom p q a b q_up lowest same =
     let crossed : unsigned_abs p * unsigned_abs b ≡ unsigned_abs a * unsigned_abs q = unsigned_abs-products p b a q same in
@@ -65,7 +65,7 @@ nearest_lowest n d most p q is =
         let numer : p ≡ a = mul_cancel p a b (positive_nonzero b lowest.positive) (same ∙ ap (λ (t : ℤ). a *ℤ t) denom) in
         rw (numer, denom) lowest
 
--- ---- where the lowest terms are within the bound
+-- ---- if the lowest terms are within the bound
 
 no_gap : (n d a b : ℤ) → SameValue n d a b → gap n d a b ≡ 0
 no_gap n d a b same = ap unsigned_abs difference
@@ -106,14 +106,14 @@ lowest_nearest n d most a b low within = record {
 
 -- ---- equal values
 
--- the gaps of p/q from two fractions of one value are as their denominators
+-- if n/d and m/e have one value, the gaps of p/q from them have the ratio of d and e
 moved_gaps : (n d m e p q : ℤ) → SameValue n d m e → gap n d p q * unsigned_abs e ≡ gap m e p q * unsigned_abs d
 moved_gaps n d m e p q same = unsigned_abs-products (n *ℤ q -ℤ p *ℤ d) e (m *ℤ q -ℤ p *ℤ e) d (
     let first : (n *ℤ q) *ℤ e ≡ (m *ℤ q) *ℤ d = mul-swap_last n q e ∙ sym (mul_assoc n e q) ∙ ap (λ (t : ℤ). t *ℤ q) same ∙ mul-swap_last m d q ∙ sym (mul_assoc m q d) in
     let second : (p *ℤ d) *ℤ e ≡ (p *ℤ e) *ℤ d = mul-swap_last p d e ∙ sym (mul_assoc p e d) in
     sub-mul (n *ℤ q) (p *ℤ d) e ∙ ap (λ (t : ℤ). t -ℤ (p *ℤ d) *ℤ e) first ∙ ap (λ (t : ℤ). (m *ℤ q) *ℤ d -ℤ t) second ∙ sym (sub-mul (m *ℤ q) (p *ℤ e) d))
 
--- scaled gaps stand as the gaps
+-- scaling keeps the order of the gaps
 scaled_less : (d e g h i j q s : ℕ) → 0 < e → g * e ≡ i * d → h * e ≡ j * d → g * s < h * q → i * s < j * q
 scaled_less d e g h i j q s up first second less =
     let more : (g * s) * e < (h * q) * e = mul-lt-mul_of_pos_right less up in

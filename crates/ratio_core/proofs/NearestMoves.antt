@@ -1,4 +1,4 @@
--- What the search asks on its way, and what it knows.
+-- What each step of the search requires, and what it keeps.
 use Rattle.std.specs.Prelude.{◌≡◌, ◌≢◌, ◌≤ℤ◌, ◌<ℤ◌, ◌+ℤ◌, ◌-ℤ◌, ◌*ℤ◌, ◌<◌, ℤ, pos, unsigned_abs}
 use Rattle.std.proofs.Common.{refl, arith, inl, inr}
 use Rattle.std.proofs.lemmas.Int.{ints}
@@ -16,7 +16,7 @@ pub turned : {n d most p q g m e h : ℤ} → Surround n d most p q g m e h → 
 turned (inl stand) = inr stand
 turned (inr stand) = inl stand
 
--- what is asked, and held
+-- what the call requires, and that its numbers are in range
 pub record IsAsked (lo hi n d most : ℤ) : Type 0 where
   pub range : IsRange lo hi
   pub n_held : IsHeld lo hi n
@@ -31,14 +31,14 @@ above_zero z up nonzero = grind (arith, ints)
 pub smaller : (z h : ℤ) → pos 0 ≤ℤ z → z <ℤ h → unsigned_abs z < unsigned_abs h
 smaller z h up less = omega (arith, ints)
 
--- a part of a held number on one side of 0 is held
+-- if p + z is in range, and p and z are on one side of 0, then z is in range
 part_held : (lo hi n p z : ℤ) → IsRange lo hi → IsAlong n p → IsAlong n z → IsHeld lo hi (p +ℤ z) → IsHeld lo hi z
 part_held lo hi n p z range first second held = grind (arith, ints)
 
 pub natural_held : (lo hi a z : ℤ) → IsRange lo hi → IsHeld lo hi a → pos 0 ≤ℤ z → z ≤ℤ a → IsHeld lo hi z
 natural_held lo hi a z range held up less = between_held lo hi a z range held (inl (up, less))
 
--- a division by a number above 0 is not the one whose quotient is not held
+-- if d is above 0, n/d is not -hi-1 over -1
 pub not_above_max : (hi n d : ℤ) → pos 0 <ℤ d → ¬ (IsAboveMax hi n d)
 not_above_max hi n d up top = let minus_one = top.denom in omega (arith, ints)
 
@@ -90,7 +90,7 @@ module _ {lo hi n d most p q g m e h : ℤ} (asked : IsAsked lo hi n d most) (ar
       let first = moving.positive in
       natural_held lo hi most q asked.range asked.most_held (omega (arith, ints)) moving.within
 
-  -- k steps towards the other one
+  -- after k steps towards the other one
   module _ (k : ℤ) (k_up : pos 0 ≤ℤ k) (h_up : pos 0 <ℤ h) (fits : (h *ℤ k) ≤ℤ g) (room : (q +ℤ e *ℤ k) ≤ℤ most) where
     pub after : (p' q' g' : ℤ) → p' ≡ p +ℤ m *ℤ k → q' ≡ q +ℤ e *ℤ k → g' ≡ g -ℤ h *ℤ k → Surround n d most m e h p' q' g'
     after p' q' g' numer denom gap =
@@ -114,7 +114,7 @@ module _ {lo hi n d most p q g m e h : ℤ} (asked : IsAsked lo hi n d most) (ar
           gap = natural_held lo hi g (g -ℤ h *ℤ k) asked.range gap_held (omega (arith, ints)) (omega (arith, ints));
         }
 
--- ---- the two numbers of steps: those that the gap has, and those that the denominators leave room for
+-- ---- the two counts of steps: how many the gap has room for, and how many the bound
 
 pub record AreSteps (most q g e h whole room : ℤ) : Type 0 where
   pub gap_up : pos 0 <ℤ h
@@ -135,7 +135,7 @@ module _ {most q g e h whole room : ℤ} (steps : AreSteps most q g e h whole ro
   pub room_used : most <ℤ ((q +ℤ e *ℤ room) +ℤ e)
   room_used = let rest = steps.of_room.rest in omega (arith, ints)
 
-  -- where the gap has more steps than there is room for, all of them lead beyond the bound
+  -- if the gap has room for more steps than the bound, all of them lead beyond the bound
   pub room_passed : pos 0 <ℤ e → room <ℤ whole → most <ℤ (q +ℤ e *ℤ whole)
   room_passed up less =
       let more = times_up e (room +ℤ pos 1) whole (omega (arith, ints)) (omega (arith, ints)) in
@@ -167,6 +167,6 @@ begun {n = n} {d = d} {most = most} asked f r one other c g is also c-is g-is fl
 
 -- ---- the end
 
--- the one of two that comes first, once no more steps fit
+-- if no more steps fit, the one of the two that comes first is nearest
 pub last_nearest : {lo hi n d most p q g m e h : ℤ} (asked : IsAsked lo hi n d most) (around : Surround n d most p q g m e h) (used : most <ℤ (q +ℤ e)) → ComesFirst (unsigned_abs g) p q (unsigned_abs h) m e → IsNearest n d most p q
 last_nearest asked around used first = nearest_first _ _ _ asked.positive _ _ _ _ _ _ around used first

@@ -1,4 +1,4 @@
--- The texts that std's `from_str_radix` reads are the number texts.
+-- std's `from_str_radix` reads exactly the number texts.
 use Rattle.std.proofs.Common.{◌≡◌, refl, sym, ◌∙◌, ap, inl, inr, arith, ℕ, suc, ◌+◌, ◌*◌, ◌^◌, ◌<◌, ◌≤◌, Bool, true, false, List, [], ◌∷◌, length, drop, ℤ, pos, ◌≤ℤ◌, ◌<ℤ◌, neg_ℤ, ne_eqb}
 use Rattle.std.specs.Prelude.{◌==◌, cond}
 use Rattle.std.proofs.lemmas.Int.{ints}
@@ -19,7 +19,7 @@ digits_after radix n (c ∷ cs) = omega (arith, digits_after radix (n * radix + 
 pub digits_value_sum : (radix : ℕ) (ds : List ℕ) → digits_value radix ds ≡ digits_sum radix ds
 digits_value_sum radix ds = omega (arith, digits_after radix 0 ds)
 
--- the first of some digits is no sign
+-- the first of some digits is not a sign
 no_sign : (radix c s : ℕ) → radix ≤ 36 → digit_value c < radix → digit_value s ≡ 36 → (c == s) ≡ false
 no_sign radix c s small d e = ne_eqb c s (λ same. let h : digit_value c ≡ 36 = ap digit_value same ∙ e in omega (arith, h))
 
@@ -47,7 +47,7 @@ unsigned_case : (lo : ℤ) (radix c : ℕ) (cs : List ℕ) → (has_plus : Bool)
 unsigned_case lo radix c cs true f h = inr (inl (cs, ap (λ x. x ∷ cs) (eqb-true c 43 f), h, ap pos (digits_value_sum radix cs)))
 unsigned_case lo radix c cs false f h = inl (h, ap pos (digits_value_sum radix (c ∷ cs)))
 
--- a text is read in the way of std's signed types exactly if it is a number text, for a type with negative numbers
+-- if the type has numbers below 0, std's signed types read exactly the number texts
 pub from_signed : (lo : ℤ) (radix : ℕ) (text : List ℕ) → lo <ℤ pos 0 → IsNumeral radix (without_leading_sign text) → IsNumberText lo radix text (signed_digits_value radix text)
 from_signed lo radix [] below h = absurd (omega (arith, h.0))
 from_signed lo radix (c ∷ cs) below h = signed_case lo radix c cs below (c == 45) (c == 43) refl refl h

@@ -1,4 +1,4 @@
--- Each pair of numbers has an answer: it is decided whether a number is held, a pair fits, and two fractions are scaled.
+-- Each pair of numbers has a result: a number is in range or not, a pair fits or not, and two fractions can be scaled or not.
 use Rattle.std.specs.Prelude.{◌≡◌, ◌≢◌, ◌<ℤ◌, ℤ, zero, suc, pos, negsuc, int_rem, Option, Some, None}
 use Rattle.std.proofs.Common.{refl, arith}
 use Rattle.std.proofs.lemmas.Int.{by_lt_z, ints}
@@ -13,15 +13,13 @@ use Rattle.ratio_integer.proofs.Whole.{positive_nonzero}
 use Rattle.ratio_core.proofs.RemainderLemmas.{remainder_answer}
 use Rattle.ratio_core.proofs.ScalingLemmas.{common_out, left_out, right_out, scaled_is}
 
--- ---- what is decided of a number
+-- ---- cases of a number
 
--- a number is 0 or not
 pub zero_decided : (z : ℤ) → Dec (z ≡ pos 0)
 zero_decided (pos zero) = yes refl
 zero_decided (pos (suc n)) = no (λ e. omega (arith, ints))
 zero_decided (negsuc n) = no (λ e. omega (arith, ints))
 
--- a number is held or not
 pub held_decided : (lo hi z : ℤ) → Dec (IsHeld lo hi z)
 held_decided lo hi z =
     by_lt_z z lo (λ low. no (λ held. omega (arith, ints, held.above)))
@@ -29,14 +27,14 @@ held_decided lo hi z =
 
 -- ---- lowest terms
 
--- held numbers over a positive denominator fit
+-- if two numbers are in range and the second is positive, they fit
 pub positive_fits : (lo hi n d : ℤ) → IsRange lo hi → IsHeld lo hi n → IsHeld lo hi d → pos 0 <ℤ d → Fits lo hi n d
 positive_fits lo hi n d range n_held d_held positive =
     let found : (g : ℤ) × IsGcdOf n d g = gcd_exists n d in
     let divisor_held = (gcd_held_positive lo hi n d range d_held positive).each found.0 found.1 in
     record { numer = _; denom = _; low = held_lowest_quotients lo hi n d found.0 _ _ range n_held d_held divisor_held positive found.1 refl refl }
 
--- a pair whose lowest terms are known fits or not
+-- a pair with known lowest terms fits or not
 known_fits : (lo hi n d : ℤ) → HasLowest n d → Dec (Fits lo hi n d)
 known_fits lo hi n d low =
     elim (held_decided lo hi low.numer) [
@@ -47,19 +45,19 @@ known_fits lo hi n d low =
       ]
     ]
 
--- a pair fits or not: over 0 it has no lowest terms
+-- a pair fits or not; over 0 it has no lowest terms
 pub fits_decided : (lo hi n d : ℤ) → Dec (Fits lo hi n d)
 fits_decided lo hi n d =
     elim (zero_decided d) [ yes none ↦ no (λ fits. fits.low.terms.fraction none) | no fraction ↦ known_fits lo hi n d (lowest_exist n d fraction) ]
 
--- so the lowest terms of a pair are checked with one answer
+-- so each pair has a result of `ChecksLowest`
 pub lowest_checked : (lo hi : ℤ) (pair : ℤ × ℤ) → (r : Option (ℤ × ℤ)) × ChecksLowest (λ x. x.0) (λ x. x.1) lo hi pair r
 lowest_checked lo hi pair =
     elim (fits_decided lo hi pair.0 pair.1) [ yes fits ↦ (Some (fits.numer, fits.denom), fits.low) | no out ↦ (None, out) ]
 
 -- ---- the least common denominator
 
--- what is scaled is held or not
+-- known scaled numbers are in range or not
 known_scaled : (lo hi a b c d l p q : ℤ) → pos 0 <ℤ b → pos 0 <ℤ d → IsScaled a b c d l p q → Dec (ScaledHeld lo hi a b c d)
 known_scaled lo hi a b c d l p q b_positive d_positive is =
     elim (held_decided lo hi l) [
@@ -73,7 +71,7 @@ known_scaled lo hi a b c d l p q b_positive d_positive is =
       ]
     ]
 
--- over positive denominators two fractions are scaled with held numbers or not
+-- two fractions with positive denominators can be scaled in range or not
 pub scaled_decided : (lo hi a b c d : ℤ) → pos 0 <ℤ b → pos 0 <ℤ d → Dec (ScaledHeld lo hi a b c d)
 scaled_decided lo hi a b c d b_positive d_positive =
     let low = lowest_exist b d (positive_nonzero d d_positive) in
@@ -81,7 +79,7 @@ scaled_decided lo hi a b c d b_positive d_positive =
 
 -- ---- remainders
 
--- where two fractions are scaled, the second other than 0, their remainder is formed, and fits
+-- if two fractions can be scaled and the second is not 0, they have a remainder, and it fits
 remainder_formed : (lo hi a b c d : ℤ) → IsRange lo hi → pos 0 <ℤ b → pos 0 <ℤ d → c ≢ pos 0 → ScaledHeld lo hi a b c d
     → (r : Option (ℤ × ℤ)) × AnswersLowest (λ z. z.0) (λ z. z.1) lo hi (RemainderHeld lo hi a b c d) (remainder_of a b c d) r
 remainder_formed lo hi a b c d range b_positive d_positive nonzero scaled =
@@ -92,7 +90,7 @@ remainder_formed lo hi a b c d range b_positive d_positive nonzero scaled =
       remainder_answer lo hi a b c d scaled.common scaled.left scaled.right rest fits.numer fits.denom b_positive d_positive nonzero is refl fits.low,
     )
 
--- over positive denominators two fractions have one answer to their remainder
+-- two fractions with positive denominators have a result of their remainder
 pub remainder_checked : (lo hi a b c d : ℤ) → IsRange lo hi → pos 0 <ℤ b → pos 0 <ℤ d
     → (r : Option (ℤ × ℤ)) × AnswersLowest (λ z. z.0) (λ z. z.1) lo hi (RemainderHeld lo hi a b c d) (remainder_of a b c d) r
 remainder_checked lo hi a b c d range b_positive d_positive =

@@ -1,4 +1,4 @@
--- The digits of a number in a base from 2 to 16: how they are written from the end on, and that they read back.
+-- The digits of a number in a base from 2 to 16: writing them from the last to the first, and reading them back.
 use Rattle.std.proofs.Common.{◌≡◌, T, refl, sym, ◌∙◌, ap, subst, inl, inr, arith, ℕ, zero, suc, ◌+◌, ◌-◌, ◌*◌, ◌&&◌, eqb, eqb→eq, eq-zero-or-pos, get_or, ◌/◌, ◌%◌, ◌^◌, ◌<◌, ◌≤◌, ◌==◌, Bool, true, false, cond, List, [], ◌∷◌, ◌++◌, append_assoc, length, length-append, drop, slice_set, nat_lt, lit<}
 use Rattle.std.specs.Prelude.{IsAscii, map}
 use Rattle.std.specs.Char.{digit_value}
@@ -40,13 +40,13 @@ map_push : (f : ℕ → ℕ) (xs : List ℕ) (x : ℕ) (ys : List ℕ) → map f
 map_push f [] x ys = refl
 map_push f (y ∷ xs) x ys = ap (λ zs. f y ∷ zs) (map_push f xs x ys)
 
--- one digit more is written
+-- one more digit is written
 pub one_written : (b left at : ℕ) (upper : Bool) (buf : List ℕ) → 2 ≤ b → 0 < left → at < length buf
     → map (digit_glyph upper) (digits_of b (left / b)) ++ drop at (slice_set buf at (digit_glyph upper (left % b))) ≡ map (digit_glyph upper) (digits_of b left) ++ drop (at + 1) buf
 one_written b left at upper buf two some inside =
     rw (digits_of_step b left two some, map_push (digit_glyph upper) (digits_of b (left / b)) (left % b) (drop (at + 1) buf), drop-set buf at (digit_glyph upper (left % b)) inside)
 
--- what is left of n is to be written so that it ends at `at`, before what stands there
+-- the digits of `left` are still to be written, so that they end at `at`
 pub record IsLeft (b : ℕ) (upper : Bool) (n end left at : ℕ) (buf written : List ℕ) : Type 0 where
   pub whole : map (digit_glyph upper) (digits_of b left) ++ drop at written ≡ map (digit_glyph upper) (digits_of b n) ++ drop end buf
   pub room : end + length (digits_of b left) ≤ at + 128
@@ -74,7 +74,7 @@ group_fits b high = pow-le-pow_left high 16
 pub in_group : (b n : ℕ) → 2 ≤ b → n % b ^ 16 < b ^ 16
 in_group b n two = mod-lt n (power_some b 16 two)
 
--- a number from b^k on has k digits at least
+-- if n is at least b^k, it has at least k digits
 many_digits : (b k n : ℕ) → 2 ≤ b → b ^ k ≤ n → k ≤ length (digits_of b n)
 many_digits b zero n two long = omega arith
 many_digits b (suc k) n two long =
@@ -88,7 +88,7 @@ digits_of_group b left two high wide = many_digits b 16 left two (omega (arith, 
 pub group_fewer : (b left : ℕ) → 2 ≤ b → 0 < left → left / b ^ 16 < left
 group_fewer b left two some = div-lt_self {n = left} {k = b ^ 16} some (omega (arith, pow-le-pow_left two 16))
 
--- one digit more of a group is written
+-- one more digit of a group is written
 more_in_group : (b q left at : ℕ) (upper : Bool) (buf : List ℕ) → 2 ≤ b → 0 < q → at < length buf
     → map (digit_glyph upper) (digits_of b (q * b ^ at + left / b)) ++ drop at (slice_set buf at (digit_glyph upper (left % b))) ≡ map (digit_glyph upper) (digits_of b (q * b ^ suc at + left)) ++ drop (suc at) buf
 more_in_group b q left at upper buf two some inside =
@@ -110,7 +110,7 @@ next_in_group b q left at upper buf two some before inside =
     let back : suc (at - 1) ≡ at = omega (arith, before) in
     more_in_group b q left (at - 1) upper buf two some (omega (arith, before, inside)) ∙ ap (λ k. map (digit_glyph upper) (digits_of b (q * b ^ k + left)) ++ drop k buf) back
 
--- where none of the group is left, it is written whole
+-- if no digit of the group is left, the whole group is written
 pub whole_group : (b q left at : ℕ) (upper : Bool) (buf : List ℕ) → at ≡ 0 → left < b ^ at
     → map (digit_glyph upper) (digits_of b (q * b ^ at + left)) ++ drop at buf ≡ map (digit_glyph upper) (digits_of b q) ++ buf
 whole_group b q left at upper buf none small =
@@ -121,7 +121,7 @@ whole_group b q left at upper buf none small =
 pub less_left : (b k left : ℕ) → 2 ≤ b → left < b ^ suc k → left / b < b ^ k
 less_left b k left two small = (div-lt_iff_lt-mul {k = b} {x = left} {y = b ^ k} (omega (arith, two))).1 (omega (arith, small, pow-suc b k))
 
--- a group of a number is written
+-- one group of a number is written
 pub next_group : (b n end left at : ℕ) (upper : Bool) (buf written group : List ℕ) → 2 ≤ b → b ≤ 16 → 2 ^ 64 ≤ left → 16 ≤ at → at ≤ length written → length group ≡ 16
     → ((q : ℕ) → 0 < q → map (digit_glyph upper) (digits_of b (q * b ^ 16 + left % b ^ 16)) ≡ map (digit_glyph upper) (digits_of b q) ++ group)
     → IsLeft b upper n end left at buf written → IsLeft b upper n end (left / b ^ 16) (at - 16) buf (put_mid (at - 16) (at - 16 + 16 - (at - 16)) written group)
@@ -137,7 +137,7 @@ next_group b n end left at upper buf written group two high wide enough inside l
       before = omega (arith, l.before);
     }
 
--- each digit has its byte
+-- the tables have the byte of each digit
 abbrev are_glyphs : ℕ → Bool
 are_glyphs zero = true
 are_glyphs (suc d) = (eqb (get_or LOWER d 0) (digit_glyph false d) && eqb (get_or UPPER d 0) (digit_glyph true d)) && are_glyphs d
@@ -205,7 +205,7 @@ glyphs_back b upper (d ∷ ds) high all =
     let rest = glyphs_back b upper ds high all.1 in
     ((subst (λ v. v < b) (sym same) all.0, rest.0), ap (λ v. v ∷ map digit_value (map (digit_glyph upper) ds)) same ∙ ap (λ vs. d ∷ vs) rest.1)
 
--- the digits of n are a numeral of n
+-- the digits of n read back as n
 pub numeral_back : (b : ℕ) (upper : Bool) (n : ℕ) → 2 ≤ b → b ≤ 16 → IsNumeral b (numeral b upper n) × (digits_sum b (numeral b upper n) ≡ n)
 numeral_back b upper n low high = by (n == 0) refl
   where

@@ -1,4 +1,4 @@
--- The cross products order fractions totally. A crate above proves by this the laws of its comparisons.
+-- The order of fractions by their cross products is total. With this a crate above proves the laws of its comparisons.
 use Rattle.std.specs.Prelude.{◌≡◌, ◌≢◌, ◌↔◌, ◌+◌, ◌*◌, ◌<◌, ◌≤◌, ◌<ℤ◌, ◌*ℤ◌, ℕ, ℤ, suc, pos, unsigned_abs}
 use Rattle.std.proofs.Common.{refl, sym, ap, arith, ◌∙◌}
 use Rattle.std.proofs.Math.IntN.{*ℤ_comm}
@@ -17,7 +17,7 @@ use Rattle.ratio_core.specs.Order.{cross_cmp, sign}
 use Rattle.ratio_core.proofs.CrossOrder.{cmp-less, cross_turned, upright}
 use Rattle.ratio_core.proofs.SameValues.{cross_equal}
 
--- ---- a positive factor changes no order
+-- ---- a positive factor does not change the order
 
 larger : (x y : ℤ) (k : ℕ) → 0 < k → x <ℤ y → (x *ℤ pos k) <ℤ (y *ℤ pos k)
 larger x y k z h =
@@ -57,7 +57,7 @@ module _ (a b c : ℤ) (x y z : ℕ) (px : 0 < x) (py : 0 < y) (pz : 0 < z) wher
       let e1 : (a *ℤ pos z) *ℤ pos y ≡ (b *ℤ pos z) *ℤ pos x = turn_factors a z y ∙ ap (λ w. w *ℤ pos z) h0 ∙ turn_factors b x z in
       sym (scaled_cmp (a *ℤ pos z) (c *ℤ pos x) y py) ∙ ap (λ w. int_cmp w ((c *ℤ pos x) *ℤ pos y)) e1 ∙ ap (λ w. int_cmp ((b *ℤ pos z) *ℤ pos x) w) (turn_factors c x y) ∙ scaled_cmp (b *ℤ pos z) (c *ℤ pos y) x px
 
--- ---- values that have a numerator n and a denominator d, which is not 0
+-- ---- values with a numerator n and a denominator d that is not 0
 
 module _ {K : Type 0} (n d : K → ℤ) (nonzero : (x : K) → d x ≢ pos 0) where
   pub cross_total : IsTotalOrder (λ (x y : K). cross_cmp (n x) (d x) (n y) (d y))
@@ -78,12 +78,12 @@ module _ {K : Type 0} (n d : K → ℤ) (nonzero : (x : K) → d x ≢ pos 0) wh
   pub cross_partial : IsPartialOrder (eq_by_cmp (λ (x y : K). cross_cmp (n x) (d x) (n y) (d y))) (as_partial_cmp (λ (x y : K). cross_cmp (n x) (d x) (n y) (d y)))
   cross_partial = partial_order_from_agreeing_total (λ (x y : K). cross_cmp (n x) (d x) (n y) (d y)) cross_total (λ x y. refl) (λ x y. refl)
 
--- ---- what stands as equals
+-- ---- fractions that compare as equal
 
 pub cross_reflexive : (n d : ℤ) → d ≢ pos 0 → cross_cmp n d n d ≡ Equal
 cross_reflexive n d nonzero = (cross_equal n d n d nonzero nonzero).1 refl
 
--- two fractions in lowest terms stand as equals exactly where their fields are the same
+-- fractions in lowest terms compare as equal exactly if their fields are the same
 pub cross_lowest : (n d m e : ℤ) → IsLowestTerms n d → IsLowestTerms m e → (cross_cmp n d m e ≡ Equal) ↔ ((n ≡ m) × (d ≡ e))
 cross_lowest n d m e first second =
     let dn = positive_nonzero d first.positive in

@@ -7,12 +7,12 @@ use borrow.Author.Differences.{up, down, product_is, same_in}
 use Rattle.std.proofs.Math.Nat.{eq-one_of_dvd-one}
 use lib.IntN.{*ℤ_comm}
 use Rattle.ratio_integer.specs.Arithmetic.{IsLeastCommon, SumHeld}
-use Rattle.ratio_integer.specs.Fraction.{IsLowestTerms}
+use Rattle.ratio_integer.specs.Fraction.{IsLowestTerms, SameValue}
 use Rattle.ratio_integer.specs.Range.{IsHeld, IsRange}
 use Rattle.ratio_integer.proofs.DivisionLemmas.{low_below}
 use Rattle.ratio_integer.proofs.Whole.{mul_assoc, mul-swap_inner, mul_cancel, mul_nonzero, neg-mul, positive_factor, positive_nonzero}
 use Rattle.ratio_core.specs.Laws.{IsProduct}
-use Rattle.ratio_core.specs.Power.{IsPower, PowerCondition}
+use Rattle.ratio_core.specs.Power.{IsPower, PowerCondition, power_of}
 use Rattle.ratio_core.specs.PowerLaws.{PartsAddUp, PartsAreAnswered, PowersAdd, PowersAreProducts, ReciprocalsInvert}
 use Rattle.ratio_core.specs.Rounding.{IsFractionalPart, IsTruncation}
 use Rattle.ratio_core.proofs.LawLemmas.{formed_sums_fit}
@@ -64,23 +64,29 @@ neg-left a b c e h = omega (arith, ints, neg-times a b, times-neg c e)
     times-neg : (c e : ℤ) → c *ℤ neg_ℤ e ≡ neg_ℤ (c *ℤ e)
     times-neg c e = *ℤ_comm c (neg_ℤ e) ∙ neg-mul e c ∙ ap neg_ℤ (*ℤ_comm e c)
 
--- a power with the exponent p - q is n^p * d^q over d^p * n^q
-over : (n d e a b : ℤ) (p q : ℕ) → n ≢ pos 0 → e ≡ pos p -ℤ pos q → IsPower n d e a b → a *ℤ (int_pow d p *ℤ int_pow n q) ≡ (int_pow n p *ℤ int_pow d q) *ℤ b
-over n d (pos k) a b p q nz h is =
-    let size : p ≡ k + q = omega (arith, ints) in
-    rw (is.0, is.1, size, int_pow-add d k q, int_pow-add n k q) (swap_positive (int_pow n k) (int_pow d k) (int_pow d q) (int_pow n q))
-over n d (negsuc k) a b p q nz h is = go (sides (int_pow n (suc k)) (pow_nonzero n (suc k) nz))
-  where
-    size : q ≡ p + suc k
-    size = omega (arith, ints)
+-- the pair x has the value of n/d to the e: if e is p - q, that is n^p * d^q over d^p * n^q
+abbrev IsPowerValue : ℤ → ℤ → ℤ → ℤ × ℤ → Type 0
+IsPowerValue n d e x = (p q : ℕ) → e ≡ pos p -ℤ pos q → x.0 *ℤ (int_pow d p *ℤ int_pow n q) ≡ (int_pow n p *ℤ int_pow d q) *ℤ x.1
 
-    sides : (x : ℤ) → x ≢ pos 0 → (x <ℤ pos 0) ⊎ (pos 0 <ℤ x)
-    sides x z = grind (arith, ints)
+pair_value : (n d e : ℤ) → IsPowerValue n d e (power_of n d e)
+pair_value n d (pos k) p q h =
+    let size : p ≡ k + q = omega (arith, ints) in
+    rw (size, int_pow-add d k q, int_pow-add n k q) (swap_positive (int_pow n k) (int_pow d k) (int_pow d q) (int_pow n q))
+pair_value n d (negsuc k) p q h =
+    let size : q ≡ p + suc k = omega (arith, ints) in
+    rw (size, int_pow-add d p (suc k), int_pow-add n p (suc k)) (swap_negative (int_pow d (suc k)) (int_pow d p) (int_pow n p) (int_pow n (suc k)))
+
+power_value : (n d e : ℤ) (x : ℤ × ℤ) → n ≢ pos 0 → IsPower n d e x.0 x.1 → IsPowerValue n d e x
+power_value n d (pos k) x nz is p q h = rw (is.0, is.1) (pair_value n d (pos k) p q h)
+power_value n d (negsuc k) x nz is p q h = go (sides (int_pow n (suc k)) (pow_nonzero n (suc k) nz))
+  where
+    sides : (z : ℤ) → z ≢ pos 0 → (z <ℤ pos 0) ⊎ (pos 0 <ℤ z)
+    sides z nonzero = grind (arith, ints)
 
     plain : int_pow d (suc k) *ℤ (int_pow d p *ℤ int_pow n q) ≡ (int_pow n p *ℤ int_pow d q) *ℤ int_pow n (suc k)
-    plain = rw (size, int_pow-add d p (suc k), int_pow-add n p (suc k)) (swap_negative (int_pow d (suc k)) (int_pow d p) (int_pow n p) (int_pow n (suc k)))
+    plain = pair_value n d (negsuc k) p q h
 
-    go : (int_pow n (suc k) <ℤ pos 0) ⊎ (pos 0 <ℤ int_pow n (suc k)) → a *ℤ (int_pow d p *ℤ int_pow n q) ≡ (int_pow n p *ℤ int_pow d q) *ℤ b
+    go : (int_pow n (suc k) <ℤ pos 0) ⊎ (pos 0 <ℤ int_pow n (suc k)) → x.0 *ℤ (int_pow d p *ℤ int_pow n q) ≡ (int_pow n p *ℤ int_pow d q) *ℤ x.1
     go (inr s) = let t = is.positive s in rw (t.0, t.1) plain
     go (inl s) = let t = is.negative s in rw (t.0, t.1) (neg-left (int_pow d (suc k)) (int_pow d p *ℤ int_pow n q) (int_pow n p *ℤ int_pow d q) (int_pow n (suc k)) plain)
 
@@ -114,8 +120,8 @@ split : (e : ℤ) → (p : ℕ) × (q : ℕ) × (e ≡ pos p -ℤ pos q)
 split (pos k) = (k, 0, omega (arith, ints))
 split (negsuc k) = (0, suc k, omega (arith, ints))
 
--- for a numerator that is not 0
-added : (n d e f : ℤ) (x y z : ℤ × ℤ) → n ≢ pos 0 → d ≢ pos 0 → IsPower n d e x.0 x.1 → IsPower n d f y.0 y.1 → IsPower n d (e +ℤ f) z.0 z.1 → (x.0 *ℤ y.0) *ℤ z.1 ≡ z.0 *ℤ (x.1 *ℤ y.1)
+-- if the numerator is not 0
+added : (n d e f : ℤ) (x y z : ℤ × ℤ) → n ≢ pos 0 → d ≢ pos 0 → IsPowerValue n d e x → IsPowerValue n d f y → IsPowerValue n d (e +ℤ f) z → (x.0 *ℤ y.0) *ℤ z.1 ≡ z.0 *ℤ (x.1 *ℤ y.1)
 added n d e f x y z nz dz px py pz = go (split e) (split f)
   where
     exponents : (p q r s : ℕ) → e ≡ pos p -ℤ pos q → f ≡ pos r -ℤ pos s → e +ℤ f ≡ pos (p + r) -ℤ pos (q + s)
@@ -127,11 +133,11 @@ added n d e f x y z nz dz px py pz = go (split e) (split f)
     go : (p : ℕ) × (q : ℕ) × (e ≡ pos p -ℤ pos q) → (r : ℕ) × (s : ℕ) × (f ≡ pos r -ℤ pos s) → (x.0 *ℤ y.0) *ℤ z.1 ≡ z.0 *ℤ (x.1 *ℤ y.1)
     go (p, q, h) (r, s, k) = combine x.0 x.1 y.0 y.1 z.0 z.1 _ _ _ _
         (mul_nonzero _ _ (mul_nonzero _ _ (pow_nonzero d p dz) (pow_nonzero n q nz)) (mul_nonzero _ _ (pow_nonzero d r dz) (pow_nonzero n s nz)))
-        (over n d e x.0 x.1 p q nz h px)
-        (over n d f y.0 y.1 r s nz k py)
-        (ap (λ (t : ℤ). z.0 *ℤ t) (sym (factors d n p q r s)) ∙ over n d (e +ℤ f) z.0 z.1 (p + r) (q + s) nz (exponents p q r s h k) pz ∙ ap (λ (t : ℤ). t *ℤ z.1) (factors n d p q r s))
+        (px p q h)
+        (py r s k)
+        (ap (λ (t : ℤ). z.0 *ℤ t) (sym (factors d n p q r s)) ∙ pz (p + r) (q + s) (exponents p q r s h k) ∙ ap (λ (t : ℤ). t *ℤ z.1) (factors n d p q r s))
 
--- a power with a negative exponent is answered only where the numerator is not 0
+-- a power with a negative exponent is `Some` only if the numerator is not 0
 numer_nonzero : (lo hi n d : ℤ) (k : ℕ) → PowerCondition lo hi n d (negsuc k) → n ≢ pos 0
 numer_nonzero lo hi n d k held z = held.1.nonzero (zero_pow n k z)
 
@@ -140,8 +146,41 @@ powers_add lo hi n d (pos j) (pos k) x y z u he hf hg px py pz =
     let numer : z.0 ≡ int_pow n (j + k) = pz.0 in
     let denom : z.1 ≡ int_pow d (j + k) = pz.1 in
     rw (px.0, px.1, py.0, py.1, numer, denom, int_pow-add n j k, int_pow-add d j k) refl
-powers_add lo hi n d (pos j) (negsuc k) x y z u he hf hg px py pz = added n d (pos j) (negsuc k) x y z (numer_nonzero lo hi n d k hf) (positive_nonzero d u) px py pz
-powers_add lo hi n d (negsuc j) f x y z u he hf hg px py pz = added n d (negsuc j) f x y z (numer_nonzero lo hi n d j he) (positive_nonzero d u) px py pz
+powers_add lo hi n d (pos j) (negsuc k) x y z u he hf hg px py pz =
+    let nz = numer_nonzero lo hi n d k hf in
+    added n d (pos j) (negsuc k) x y z nz (positive_nonzero d u) (power_value n d (pos j) x nz px) (power_value n d (negsuc k) y nz py) (power_value n d (pos j +ℤ negsuc k) z nz pz)
+powers_add lo hi n d (negsuc j) f x y z u he hf hg px py pz =
+    let nz = numer_nonzero lo hi n d j he in
+    added n d (negsuc j) f x y z nz (positive_nonzero d u) (power_value n d (negsuc j) x nz px) (power_value n d f y nz py) (power_value n d (negsuc j +ℤ f) z nz pz)
+
+-- ---- powers as pairs that are not reduced
+
+-- only 0 to a negative exponent has the second number 0
+pair_nonzero : (n d e : ℤ) → n ≢ pos 0 → d ≢ pos 0 → (power_of n d e).1 ≢ pos 0
+pair_nonzero n d (pos k) nz dz = pow_nonzero d k dz
+pair_nonzero n d (negsuc k) nz dz = pow_nonzero n (suc k) nz
+
+-- the pairs of powers that exist multiply to a pair with the value of the power with the sum of the exponents, which exists too
+pub record PairsAdd (n d e f : ℤ) : Type 0 where
+  pub exists : (power_of n d (e +ℤ f)).1 ≢ pos 0
+  pub same : SameValue ((power_of n d e).0 *ℤ (power_of n d f).0) ((power_of n d e).1 *ℤ (power_of n d f).1) (power_of n d (e +ℤ f)).0 (power_of n d (e +ℤ f)).1
+
+pairs_added : (n d e f : ℤ) → n ≢ pos 0 → d ≢ pos 0 → PairsAdd n d e f
+pairs_added n d e f nz dz = record {
+  exists = pair_nonzero n d (e +ℤ f) nz dz;
+  same = added n d e f (power_of n d e) (power_of n d f) (power_of n d (e +ℤ f)) nz dz (pair_value n d e) (pair_value n d f) (pair_value n d (e +ℤ f));
+}
+
+base_nonzero : (n : ℤ) (k : ℕ) → int_pow n (suc k) ≢ pos 0 → n ≢ pos 0
+base_nonzero n k nonzero z = nonzero (zero_pow n k z)
+
+pub pairs_add : (n d e f : ℤ) → d ≢ pos 0 → (power_of n d e).1 ≢ pos 0 → (power_of n d f).1 ≢ pos 0 → PairsAdd n d e f
+pairs_add n d (pos j) (pos k) dz first second = record {
+  exists = pow_nonzero d (j + k) dz;
+  same = rw (int_pow-add n j k, int_pow-add d j k) refl;
+}
+pairs_add n d (pos j) (negsuc k) dz first second = pairs_added n d (pos j) (negsuc k) (base_nonzero n k second) dz
+pairs_add n d (negsuc j) f dz first second = pairs_added n d (negsuc j) f (base_nonzero n j first) dz
 
 -- ---- reciprocals
 
@@ -191,7 +230,7 @@ own_common d u = record {
       rw e (omega (arith, ints));
 }
 
--- both parts lie between 0 and the numerator
+-- both parts lie between 0 and the numerator, so they are in range
 between : (lo hi n x : ℤ) → lo ≤ℤ pos 0 → pos 2 ≤ℤ hi → IsHeld lo hi n → ((pos 0 ≤ℤ x) × (x ≤ℤ n)) ⊎ ((n ≤ℤ x) × (x ≤ℤ pos 0)) → IsHeld lo hi x
 between lo hi n x low high h (inl s) = let a = h.below in record { above = omega (arith, ints); below = omega (arith, ints) }
 between lo hi n x low high h (inr s) = let a = h.above in record { above = omega (arith, ints); below = omega (arith, ints) }

@@ -1,4 +1,4 @@
--- Powers of whole numbers: products of as many copies, their signs and their sizes.
+-- Powers of whole numbers: as products, their signs and their magnitudes.
 use Rattle.std.specs.Prelude.{◌≡◌, ◌≢◌, ◌⊎◌, ◌*◌, ◌%◌, ◌^◌, ◌<◌, ◌<ℤ◌, ◌*ℤ◌, ℕ, ℤ, zero, suc, pos, negsuc, neg_ℤ, unsigned_abs}
 use Rattle.std.specs.Int.{int_pow}
 use Rattle.std.proofs.Common.{sym, ap, arith, ◌∙◌, inl, inr, pow-suc}
@@ -17,7 +17,7 @@ neg-times : (m a : ℕ) → neg_ℤ (pos m) *ℤ negsuc a ≡ pos (m * suc a)
 neg-times zero a = omega (arith, ints)
 neg-times (suc m) a = negsuc-*ℤ-negsuc m a
 
--- one more factor
+-- z^(e+1) is z^e * z
 pub int_pow-suc : (z : ℤ) (e : ℕ) → int_pow z (suc e) ≡ int_pow z e *ℤ z
 int_pow-suc (pos a) e = ap pos (pow-suc a e)
 int_pow-suc (negsuc a) e = go (parity e)
@@ -30,7 +30,7 @@ pub int_pow-zero : (z : ℤ) → int_pow z 0 ≡ pos 1
 int_pow-zero (pos a) = ap pos (pow-zero a)
 int_pow-zero (negsuc a) = ap pos (pow-zero (suc a))
 
--- twice the exponent is the power of the square
+-- (z*z)^k is z^(2*k)
 pub int_pow-double : (z : ℤ) (k : ℕ) → int_pow (z *ℤ z) k ≡ int_pow z (2 * k)
 int_pow-double z zero = int_pow-zero (z *ℤ z) ∙ sym (int_pow-zero z)
 int_pow-double z (suc k) =
@@ -44,14 +44,14 @@ int_pow-double z (suc k) =
     two : (n : ℕ) → suc (suc (2 * n)) ≡ 2 * suc n
     two n = omega arith
 
--- ---- signs and sizes
+-- ---- signs and magnitudes
 
 pub pow_above : (d : ℤ) (m : ℕ) → pos 0 <ℤ d → pos 0 <ℤ int_pow d m
 pow_above (pos zero) m u = absurd (omega (arith, ints))
 pow_above (pos (suc n)) m u = let t = one-le-pow m (suc n) (let h : 0 < suc n = omega arith in h) in omega (arith, ints)
 pow_above (negsuc n) m u = absurd (omega (arith, ints))
 
--- the size of a power is the power of the size
+-- the magnitude of a power is the power of the magnitude
 pub size-pow : (z : ℤ) (e : ℕ) → unsigned_abs (int_pow z e) ≡ unsigned_abs z ^ e
 size-pow z zero = ap unsigned_abs (int_pow-zero z) ∙ sym (pow-zero (unsigned_abs z))
 size-pow z (suc e) =

@@ -1,4 +1,4 @@
--- The loop that forms a power by squaring.
+-- The loop that computes a power by squaring.
 use Rattle.std.specs.Prelude.{◌≡◌, ◌≢◌, ◌⊎◌, ◌*◌, ◌/◌, ◌%◌, ◌^◌, ◌≤◌, ◌≤ℤ◌, ◌<ℤ◌, ◌*ℤ◌, ◌+ℤ◌, ℕ, ℤ, zero, suc, pos, negsuc, unsigned_abs}
 use Rattle.std.specs.Int.{int_pow}
 use Rattle.std.proofs.Common.{refl, sym, ap, arith, ◌∙◌, inl, inr, pow-suc}
@@ -16,7 +16,7 @@ use Rattle.ratio_core.proofs.ProductOrder.{down_times, up_times}
 
 -- ---- the loop
 
--- the power that is wanted, total, is p times s to what is left
+-- the result `total` is p * s^left
 pub record PowerSoFar (total p s : ℤ) (left : ℕ) : Type 0 where
   pub whole : total ≡ p *ℤ int_pow s left
   pub size : 2 ≤ unsigned_abs s → (p ≡ pos 1) ⊎ (2 ≤ unsigned_abs p)
@@ -41,7 +41,7 @@ root (suc (suc a)) h = omega arith
 root-size : (s : ℤ) → 2 ≤ unsigned_abs (s *ℤ s) → 2 ≤ unsigned_abs s
 root-size s h = root (unsigned_abs s) (rw (unsigned_abs-mul s s) at h)
 
--- no factor is left over: half as many squares
+-- if `left` is even: half as many squares
 even : (total p s : ℤ) (left : ℕ) → PowerSoFar total p s left → left % 2 ≢ 1 → PowerSoFar total p (s *ℤ s) (left / 2)
 even total p s left g h = record {
   whole = g.whole ∙ ap (λ k. p *ℤ int_pow s k) (even-half left h) ∙ ap (λ (t : ℤ). p *ℤ t) (sym (int_pow-double s (left / 2)));
@@ -61,7 +61,7 @@ odd-whole total p s left e h =
 grows : (a b : ℕ) → 1 ≤ a → 2 ≤ b → 2 ≤ a * b
 grows a b h k = omega (arith, mul-le 1 2 a b h k)
 
--- one factor is left over: it goes to p
+-- if `left` is odd: one factor goes to p
 odd : (total p s w : ℤ) (left : ℕ) → PowerSoFar total p s left → left % 2 ≡ 1 → w ≡ p *ℤ s → PowerSoFar total w (s *ℤ s) (left / 2)
 odd total p s w left g h e = rw e (record {
   whole = odd-whole total p s left g.whole h;
@@ -77,7 +77,7 @@ last total p s left g h =
     let e : left ≡ 0 = omega arith in
     sym (g.whole ∙ ap (λ k. p *ℤ int_pow s k) e ∙ ap (λ (t : ℤ). p *ℤ t) (int_pow-zero s) ∙ *ℤ_comm p (pos 1) ∙ one-times p)
 
--- ---- where the type ends
+-- ---- numbers out of range
 
 pub square : (s : ℤ) → s *ℤ s ≡ pos (unsigned_abs s * unsigned_abs s)
 square (pos n) = pos-*ℤ-pos n n
@@ -86,7 +86,7 @@ square (negsuc n) = negsuc-*ℤ-negsuc n n
 square-pow : (s : ℤ) (k : ℕ) → int_pow (s *ℤ s) k ≡ pos ((unsigned_abs s * unsigned_abs s) ^ k)
 square-pow s k = ap (λ (t : ℤ). int_pow t k) (square s)
 
--- what is not held is not held times 1 or more
+-- if w is out of range, so is w * k for k ≥ 1
 out_times : (lo hi w : ℤ) (k : ℕ) → IsRange lo hi → 1 ≤ k → ¬ (IsHeld lo hi w) → ¬ (IsHeld lo hi (w *ℤ pos k))
 out_times lo hi w k range h out held = go w out held
   where
@@ -100,7 +100,7 @@ out_times lo hi w k range h out held = go w out held
     go (pos n) out x = let t = up_times (pos n) (pos k) (omega (arith, ints)) (omega (arith, ints)) in let a = x.below in out (record { above = omega (arith, ints, low); below = omega (arith, ints) })
     go (negsuc n) out x = let t = down_times (negsuc n) (pos k) (omega (arith, ints)) (omega (arith, ints)) in let a = x.above in out (record { above = omega (arith, ints); below = omega (arith, ints, high) })
 
--- a factor that is wanted is not held
+-- if a needed factor is out of range, so is the result
 factor_out : (lo hi total p s : ℤ) (left : ℕ) → IsRange lo hi → PowerSoFar total p s left → left % 2 ≡ 1 → ¬ (IsHeld lo hi (p *ℤ s)) → ¬ (IsHeld lo hi total)
 factor_out lo hi total p s left range g h out held = out_times lo hi (p *ℤ s) k range (some s out) out (rw (odd-whole total p s left g.whole h ∙ ap (λ (t : ℤ). (p *ℤ s) *ℤ t) (square-pow s (left / 2))) at held)
   where
@@ -112,19 +112,19 @@ factor_out lo hi total p s left range g h out held = out_times lo hi (p *ℤ s) 
     some (pos (suc n)) out = one-le-pow (left / 2) (suc n * suc n) (omega arith)
     some (negsuc n) out = one-le-pow (left / 2) (suc n * suc n) (omega arith)
 
--- a power of 1 or more has its base as a factor
-base_below : (a k : ℕ) → 1 ≤ a → 1 ≤ k → a ≤ a ^ k
+-- if a ≥ 1 and k ≥ 1, then a ≤ a^k
+pub base_below : (a k : ℕ) → 1 ≤ a → 1 ≤ k → a ≤ a ^ k
 base_below a zero h i = absurd (omega arith)
 base_below a (suc k) h i = rw (pow-suc a k) (omega (arith, mul-le 1 a (a ^ k) a (one-le-pow k a h) (omega arith)))
 
 doubled : (a b c : ℕ) → 2 ≤ a → b ≤ c → 2 * b ≤ a * c
 doubled a b c h k = mul-le 2 b a c h k
 
--- the sizes of a type's numbers
+-- the magnitude of a number in range is at most hi + 1
 pub size_below : (lo hi z : ℤ) → IsRange lo hi → IsHeld lo hi z → pos (unsigned_abs z) ≤ℤ (hi +ℤ pos 1)
 size_below lo hi z range h = grind (arith, ints)
 
--- a square that is wanted is not held
+-- if a needed square is out of range, so is the result
 square_out : (lo hi total p s : ℤ) (left : ℕ) → IsRange lo hi → PowerSoFar total p (s *ℤ s) left → 1 ≤ left → ¬ (IsHeld lo hi (s *ℤ s)) → ¬ (IsHeld lo hi total)
 square_out lo hi total p s left range g some out held = go (g.size (rw (unsigned_abs-mul s s) (above _ past)))
   where
@@ -174,7 +174,7 @@ square_out lo hi total p s left range g some out held = go (g.size (rw (unsigned
 
 -- ---- both numbers
 
--- the same of both powers with one exponent, e
+-- the same for the powers of both numbers with one exponent e
 pub record PowersSoFar (n d : ℤ) (e : ℕ) (p q s t : ℤ) (left : ℕ) : Type 0 where
   pub numer : PowerSoFar (int_pow n e) p s left
   pub denom : PowerSoFar (int_pow d e) q t left
@@ -188,7 +188,7 @@ both_even n d e p q s t left g h = record { numer = even _ p s left g.numer h; d
 pub both_odd : (n d : ℤ) (e : ℕ) (p q s t v w : ℤ) (left : ℕ) → PowersSoFar n d e p q s t left → left % 2 ≡ 1 → v ≡ p *ℤ s → w ≡ q *ℤ t → PowersSoFar n d e v w (s *ℤ s) (t *ℤ t) (left / 2)
 both_odd n d e p q s t v w left g h ev ew = record { numer = odd _ p s v left g.numer h ev; denom = odd _ q t w left g.denom h ew }
 
--- the first factor, where one is left over
+-- if the exponent is odd, the first factor is taken before the loop
 pub both_begun : (n d : ℤ) (e : ℕ) → e % 2 ≡ 1 → PowersSoFar n d e n d (n *ℤ n) (d *ℤ d) (e / 2)
 both_begun n d e h = both_odd n d e (pos 1) (pos 1) n d n d e (both_start n d e) h (sym (one-times n)) (sym (one-times d))
 

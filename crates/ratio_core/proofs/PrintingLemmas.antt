@@ -1,4 +1,4 @@
--- The bytes of a fraction's text, and how they are written from the end on.
+-- The bytes of a fraction's text, and how they are written from the last to the first.
 use Rattle.std.proofs.Common.{◌≡◌, ◌≢◌, ◌⊎◌, refl, sym, ◌∙◌, ap, inl, inr, arith, rules, ℕ, suc, ◌+◌, ◌-◌, ◌^◌, ◌<◌, ◌≤◌, Bool, true, false, cond, List, [], ◌∷◌, ◌++◌, length, drop, slice_set, ℤ, pos, negsuc, ◌+ℤ◌, ◌-ℤ◌, ◌≤ℤ◌, neg_ℤ, unsigned_abs, Option, Some, None, Result, Ok, Err, append-nil, length-set, lit<, lit≤}
 use Rattle.std.specs.Prelude.{IsAscii, IsSome, IsOk, MatchResult}
 use Rattle.std.specs.Fmt.{signed_decimal}
@@ -44,7 +44,7 @@ some_of : (z lo hi : ℤ) (r : Option ℤ) → Checks (λ n. n) lo hi z r → Is
 some_of z lo hi None out held = absurd (out held)
 some_of z lo hi (Some y) is held = search rules
 
--- a number that is no `u128`'s is an `i128`'s
+-- a number that does not fit `u128` fits `i128`
 pub signed_some : (lo hi : ℤ) (bits : ℕ) (z : ℤ) (r : Option ℤ) → IsRange lo hi → (bits ≤ 128) × (hi +ℤ pos 1 ≡ lo +ℤ pos (2 ^ bits)) → IsHeld lo hi z
     → ¬ (IsHeld (pos 0) (pos (2 ^ 128 - 1)) z) → Checks (λ n. n) (negsuc (2 ^ 127 - 1)) (pos (2 ^ 127 - 1)) z r → IsSome r
 signed_some lo hi bits z r range width held out is =
@@ -87,19 +87,19 @@ text_ascii lo hi bits form alternate n d range width n_held d_held =
     IsAscii-append _ _ prefix (IsAscii-append _ _ (number n n_held)
     (rest_ascii (int_eq d (pos 1)) _ (IsAscii-append _ _ prefix (number d d_held))))
 
--- a call that says why it fails succeeds where that cannot be
+-- if a call has only one reason to fail, and it is excluded, the call succeeds
 pub ok_from : {A E : Type 0} (r : Result A E) (P : A → Type 0) (Q : Type 0) (R : E → Type 0) → MatchResult r P (λ e. ¬ Q × R e) → Q → IsOk r
 ok_from (Ok x) P Q R h q = search rules
 ok_from (Err e) P Q R h q = absurd (h.0 q)
 
--- ---- a text that is written from its end on
+-- ---- a text that is written from the last byte to the first
 
 module _ (bits : ℕ) (form : Form) (alternate : Bool) (n d : ℤ) where
-  -- the denominator after the slash
+  -- the slash and the denominator
   abbrev back_text : List ℕ
   back_text = slash ∷ (shown_prefix form alternate ++ number_text bits form d)
 
-  -- what is written of a numerator before some text
+  -- the numerator, and then a given text
   abbrev before : List ℕ → List ℕ
   before xs = shown_prefix form alternate ++ (number_text bits form n ++ xs)
 
@@ -123,7 +123,7 @@ module _ (bits : ℕ) (form : Form) (alternate : Bool) (n d : ℤ) where
       numer ∙ ap before (slash_put ∙ ap (λ k. slash ∷ drop k back) back_at ∙ ap (λ xs. slash ∷ xs) denom_only
       ∙ ap (λ b. cond b [] back_text) (sym (not_one (int_eq d (pos 1)) refl other)))
 
--- a prefix of two bytes that is written before what stands at `end`
+-- a prefix of two bytes is written before `end`
 pub two_written : (x y end : ℕ) (buf : List ℕ) → 2 ≤ end → end ≤ length buf → drop (end - 2) (slice_set (slice_set buf (end - 1) y) (end - 2) x) ≡ x ∷ y ∷ drop end buf
 two_written x y end buf low inside =
     let second : end - 2 + 1 ≡ end - 1 = omega (arith, low) in

@@ -1,4 +1,4 @@
--- Products and quotients: by the products of the fields as they stand, and cancelled across.
+-- Products and quotients: by the products of the fields, not reduced, and cancelled across.
 use Rattle.std.specs.Prelude.{◌≢◌, ◌<ℤ◌, ◌*ℤ◌, ℤ, zero, suc, pos, negsuc, Option, Some, None}
 use Rattle.std.proofs.Common.{sym, ap, arith, ◌∙◌}
 use Rattle.std.proofs.lemmas.Int.{ints}
@@ -11,14 +11,14 @@ use Rattle.ratio_integer.proofs.DivisionLemmas.{low_below}
 use Rattle.ratio_integer.proofs.LowestTerms.{HasLowest, checks_lowest_moved, denom_out, held_lowest_moved, lowest_exist, lowest_own, lowest_unique, numer_out, same_value_chained, same_value_products, same_value_turned}
 use Rattle.ratio_integer.proofs.Whole.{mul_nonzero, mul_positive, positive_factor, positive_nonzero}
 
--- ---- one fraction for another
+-- ---- a fraction in place of another
 
--- the answer for the lowest terms of a fraction is the answer for the fraction
+-- the result for the lowest terms of a fraction is the result for the fraction
 pub checks_by_lowest : {R : Type 0} (numer denom : R → ℤ) (lo hi n d a b : ℤ) (r : Option R) → IsLowestTermsOf n d a b → ChecksLowest numer denom lo hi (a, b) r → ChecksLowest numer denom lo hi (n, d) r
 checks_by_lowest numer denom lo hi n d a b r low answer =
     checks_lowest_moved numer denom lo hi a b n d r (positive_nonzero b low.lowest.positive) low.fraction low.same answer
 
--- a pair in lowest terms fits only where both of its numbers are held
+-- a pair in lowest terms fits only if both of its numbers are in range
 pub own_numer_out : (lo hi a b : ℤ) → IsLowestTerms a b → ¬ (IsHeld lo hi a) → ¬ (Fits lo hi a b)
 own_numer_out lo hi a b lowest out = numer_out lo hi a b a b (lowest_own a b lowest) out
 
@@ -27,7 +27,7 @@ own_denom_out lo hi a b lowest out = denom_out lo hi a b a b (lowest_own a b low
 
 -- ---- factors
 
--- a number is held where its product with a positive one is
+-- if p times a positive number is in range, so is p
 pub factor_held : (lo hi p s : ℤ) → IsRange lo hi → pos 0 <ℤ s → IsHeld lo hi (p *ℤ s) → IsHeld lo hi p
 factor_held lo hi p (pos zero) range positive held = absurd (omega (arith, ints))
 factor_held lo hi p (negsuc m) range positive held = absurd (omega (arith, ints))
@@ -45,7 +45,7 @@ factor_held lo hi (negsuc n) (pos (suc m)) range positive held =
 right_nonzero : (a b : ℤ) → a *ℤ b ≢ pos 0 → b ≢ pos 0
 right_nonzero a b nonzero e = nonzero (ap (λ (t : ℤ). a *ℤ t) e ∙ *ℤ-zero a)
 
--- a fraction is 0 exactly where the numerator of its lowest terms is
+-- if the numerator of the lowest terms is not 0, neither is the numerator of the fraction
 numer_nonzero : (n d a b : ℤ) → IsLowestTermsOf n d a b → a ≢ pos 0 → n ≢ pos 0
 numer_nonzero n d a b low nonzero e = mul_nonzero a d nonzero low.fraction (sym low.same ∙ ap (λ (t : ℤ). t *ℤ b) e ∙ zero-*ℤ b)
 
@@ -60,7 +60,7 @@ numer_positive n d a b n_positive d_positive low = positive_factor a d d_positiv
 reciprocal_same : (n d a b : ℤ) → SameValue n d a b → SameValue d n b a
 reciprocal_same n d a b same = *ℤ_comm d a ∙ sym same ∙ *ℤ_comm n b
 
--- the answer for the quotient of lowest terms is the answer for the quotient: those of a/b are p/q, and those of c/d are s/t
+-- the result for the quotient of the lowest terms is the result for the quotient; p/q are the lowest terms of a/b, and s/t those of c/d
 pub quotient_by_lowest : {R : Type 0} (numer denom : R → ℤ) (lo hi a b c d p q s t : ℤ) (r : Option R) → IsLowestTermsOf a b p q → IsLowestTermsOf c d s t → ChecksLowest numer denom lo hi (p *ℤ t, q *ℤ s) r → ChecksLowest numer denom lo hi (a *ℤ d, b *ℤ c) r
 quotient_by_lowest numer denom lo hi a b c d p q s t (Some r) left right is =
     held_lowest_moved lo hi (p *ℤ t) (q *ℤ s) (a *ℤ d) (b *ℤ c) _ _
@@ -74,7 +74,7 @@ quotient_by_lowest numer denom lo hi a b c d p q s t None left right out = λ fi
       (same_value_turned (a *ℤ d) (b *ℤ c) (p *ℤ t) (q *ℤ s) (same_value_products a b d c p q t s left.same (reciprocal_same c d s t right.same))) fits.low;
 })
 
--- and so it is for the product
+-- the same for the product
 pub product_by_lowest : {R : Type 0} (numer denom : R → ℤ) (lo hi a b c d p q s t : ℤ) (r : Option R) → IsLowestTermsOf a b p q → IsLowestTermsOf c d s t → ChecksLowest numer denom lo hi (p *ℤ s, q *ℤ t) r → ChecksLowest numer denom lo hi (a *ℤ c, b *ℤ d) r
 product_by_lowest numer denom lo hi a b c d p q s t r left right answer =
     checks_lowest_moved numer denom lo hi (p *ℤ s) (q *ℤ t) (a *ℤ c) (b *ℤ d) r
@@ -82,9 +82,9 @@ product_by_lowest numer denom lo hi a b c d p q s t r left right answer =
     (mul_nonzero b d left.fraction right.fraction)
     (same_value_products a b c d p q s t left.same right.same) answer
 
--- the lowest terms of m/e are a/b and those of n/f are c/d, and those of d/b are s/t
+-- the lowest terms of m/e are a/b, those of n/f are c/d, and those of d/b are s/t
 module _ (m e n f a b c d s t : ℤ) (left : IsLowestTermsOf m e a b) (right : IsLowestTermsOf n f c d) (denoms : IsLowestTermsOf d b s t) where
-  -- where those of a/c are p/q, the quotient of m/e by n/f has the lowest terms that cancelling across gives
+  -- if the lowest terms of a/c are p/q, then cancelling across gives the lowest terms of m/e divided by n/f
   pub quotient_lowest : (p q : ℤ) → IsLowestTermsOf a c p q → IsLowestTermsOf (m *ℤ f) (e *ℤ n) (p *ℤ s) (q *ℤ t)
   quotient_lowest p q numers = record {
     fraction = mul_nonzero e n left.fraction (numer_nonzero n f c d right numers.fraction);
@@ -99,8 +99,7 @@ module _ (m e n f a b c d s t : ℤ) (left : IsLowestTermsOf m e a b) (right : I
         denoms.lowest.only_one;
   }
 
-  -- the numbers of the quotient's lowest terms are at least as far from 0 as those of the numerators' over one another, so
-  -- where these do not fit, it does not
+  -- the lowest terms of the quotient are at least as far from 0 as those of a/c; so if a/c does not fit, neither does the quotient
   pub quotient_out : (lo hi : ℤ) → IsRange lo hi → ¬ (Fits lo hi a c) → ¬ (Fits lo hi (m *ℤ f) (e *ℤ n))
   quotient_out lo hi range out fits =
       let c_nonzero : c ≢ pos 0 = lowest_nonzero n f c d right (right_nonzero e n fits.low.terms.fraction) in

@@ -1,4 +1,4 @@
--- How products with a positive factor stand to one another.
+-- The order of products with a positive factor.
 use Rattle.std.specs.Prelude.{◌≡◌, ◌⊎◌, ◌+◌, ◌*◌, ◌≤◌, ◌≤ℤ◌, ◌<ℤ◌, ◌*ℤ◌, ◌+ℤ◌, ◌-ℤ◌, ℕ, ℤ, zero, suc, pos, negsuc}
 use Rattle.std.proofs.Common.{refl, ap, arith, ◌∙◌, inl, inr}
 use Rattle.std.proofs.lemmas.Int.{ints}
@@ -34,7 +34,7 @@ pub times_le : (a b d : ℤ) → a ≤ℤ b → pos 0 ≤ℤ d → (a *ℤ d) �
 times_le a b (pos k) h u = at_most_in _ _ (simp (up-mul, down-mul) (omega (arith, scaled (up a) (down b) (up b) (down a) k (le_out a b h))))
 times_le a b (negsuc k) h u = absurd (omega (arith, ints))
 
--- f * d < (g + 1) * d
+-- if f * d < (g + 1) * d, then f ≤ g
 pub whole_at_most : (f g d : ℤ) → pos 0 <ℤ d → (f *ℤ d) <ℤ (g *ℤ d +ℤ d) → f ≤ℤ g
 whole_at_most f g d u h = go (cases f g)
   where
@@ -45,7 +45,7 @@ whole_at_most f g d u h = go (cases f g)
     go (inl k) = k
     go (inr k) = absurd (let m : ((g +ℤ pos 1) *ℤ d) ≤ℤ (f *ℤ d) = times_le (g +ℤ pos 1) f d k (omega (arith, ints)) in omega (arith, ints, more-times g d))
 
--- ---- a factor of 1 or more takes a number no nearer to 0
+-- ---- a factor of at least 1 does not bring a number nearer to 0
 
 pub up_times : (q d : ℤ) → pos 0 ≤ℤ q → pos 0 <ℤ d → q ≤ℤ (q *ℤ d)
 up_times q d h u = let t : (pos 1 *ℤ q) ≤ℤ (d *ℤ q) = times_le (pos 1) d q (omega (arith, ints)) h in omega (arith, ints, *ℤ_comm q d)

@@ -1,4 +1,4 @@
--- The text of a fraction reads as its two numbers, and so is answered by their lowest terms.
+-- The text of a fraction reads as its two numbers, so reading it returns their lowest terms.
 use Rattle.std.proofs.Common.{◌≡◌, ◌≢◌, refl, sym, ◌∙◌, ap, subst, inl, inr, arith, ℕ, suc, ◌^◌, ◌<◌, ◌≤◌, Bool, true, false, cond, List, [], ◌∷◌, ◌++◌, ℤ, pos, negsuc, ◌≤ℤ◌, ◌<ℤ◌, neg_ℤ, unsigned_abs, append-nil, lit≤}
 use Rattle.std.specs.Prelude.{decimal}
 use Rattle.std.specs.Fmt.{signed_decimal}
@@ -20,7 +20,7 @@ use Rattle.ratio_core.proofs.NumberLemmas.{digits_value_sum}
 use Rattle.ratio_core.proofs.Numerals.{numeral_back}
 use Rattle.ratio_core.proofs.NumbersExist.{positive_fits}
 
--- the digits that std writes of n are a numeral of n
+-- the digits that std prints of n read as n
 decimal_numeral : (n : ℕ) → n < 2 ^ 128 → IsNumeral 10 (decimal n) × (digits_sum 10 (decimal n) ≡ n)
 decimal_numeral n small =
     let std = decimal_is_IsNumeral_wide n (omega (arith, small)) in
@@ -46,7 +46,7 @@ reads_fields lo hi n d false e n_held d_held n_small d_small = inl (record {
   sides = record { numer = reads_number lo hi n n_held n_small; denom = reads_number lo hi d d_held d_small };
 })
 
--- ---- what is answered to a text of n and d alone
+-- ---- the result of a text that reads as n and d alone
 
 module _ (lo hi n d : ℤ) (Reads : ℤ → ℤ → Type 0) (reads : Reads n d) (only : (m e : ℤ) → Reads m e → (m ≡ n) × (e ≡ d)) (fits : Fits lo hi n d) (positive : pos 0 <ℤ d) where
   none_refused : (kind : RatioErrorKind) → ¬ (Refuses lo hi Reads kind)

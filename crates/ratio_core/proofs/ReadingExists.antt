@@ -1,4 +1,4 @@
--- Each text has an answer where it is read: the lowest terms of its two numbers, or its first refusal.
+-- Reading each text has a result: the lowest terms of its two numbers, or a refusal.
 use Rattle.std.proofs.Common.{◌≡◌, ◌≢◌, ◌⊎◌, refl, sym, ◌∙◌, ap, subst, inl, inr, arith, ℕ, zero, suc, ◌≤◌, List, [], ◌∷◌, ◌++◌, ℤ, pos, ◌<ℤ◌, Option, Some, None, Result, Ok, Err, lit≤}
 use Rattle.std.proofs.lemmas.Bool.{cases_eq, cases_lt}
 use Rattle.std.proofs.lemmas.Int.{ints}
@@ -7,7 +7,7 @@ use Rattle.std.specs.Str.Parse.{AllDigits, IsNumeral, signed_digits_value, witho
 use Rattle.ratio_integer.specs.Range.{IsHeld}
 use Rattle.ratio_core.specs.declared.parse_error.RatioErrorKind.{RatioErrorKind}
 use Rattle.ratio_core.specs.declared.parse_error.RatioErrorKind.TheVariants.{ParseError, ZeroDenominator}
-use Rattle.ratio_core.specs.Reading.{slash, AnswersPair, AnswersText, IsFractionText, ReadsNumber, SidesReadAs}
+use Rattle.ratio_core.specs.Reading.{slash, AnswersFields, AnswersText, IsFractionText, ReadsNumber, SidesReadAs}
 use Rattle.ratio_core.proofs.CutLemmas.{HasNoSlash, fraction_with_slash, no_fraction, only_fraction, same_cut, with_slash}
 use Rattle.ratio_core.proofs.NumberLemmas.{from_signed, to_signed}
 use Rattle.ratio_core.proofs.NumbersExist.{fits_decided, held_decided, zero_decided}
@@ -15,7 +15,7 @@ use Rattle.ratio_core.proofs.RefusalLemmas.{none_fits, refused}
 
 -- ---- numbers
 
--- the bytes of a text are digits or not
+-- the bytes of a text are all digits or not
 digits_decided : (radix : ℕ) (ds : List ℕ) → Dec (AllDigits radix ds)
 digits_decided radix [] = yes tt
 digits_decided radix (c ∷ cs) =
@@ -24,16 +24,14 @@ digits_decided radix (c ∷ cs) =
       | inl small ↦ elim (digits_decided radix cs) [ yes others ↦ yes (small, others) | no bad ↦ no (λ all. bad all.1) ]
     ]
 
--- and a text is a numeral or not
 numeral_decided : (radix : ℕ) (ds : List ℕ) → Dec (IsNumeral radix ds)
 numeral_decided radix [] = no (λ h. omega (arith, h.0))
 numeral_decided radix (c ∷ cs) = elim (digits_decided radix (c ∷ cs)) [ yes all ↦ yes (omega arith, all) | no bad ↦ no (λ h. bad h.1) ]
 
--- each whole number is its own value
 abbrev itself : ℤ → ℤ
 itself z = z
 
--- a text is answered as a number, for a type with numbers below 0: std's number of it where that is held
+-- for a type with numbers below 0, each text has a result as a number: std's number, if that is in range
 number_exists : (lo hi : ℤ) (radix : ℕ) (text : List ℕ) → lo <ℤ pos 0 → radix ≤ 36 → (r : Option ℤ) × ReadsNumber itself lo hi radix text r
 number_exists lo hi radix text below small =
     elim (numeral_decided radix (without_leading_sign text)) [
@@ -47,9 +45,9 @@ number_exists lo hi radix text below small =
 -- ---- the two sides of a slash
 
 abbrev Sides : ℤ → ℤ → List ℕ → List ℕ → Type 0
-Sides lo hi front back = (r : Result (ℤ × ℤ) RatioErrorKind) × AnswersPair itself (SidesReadAs lo hi 10 front back) r
+Sides lo hi front back = (r : Result (ℤ × ℤ) RatioErrorKind) × AnswersFields itself (SidesReadAs lo hi 10 front back) r
 
--- two texts are answered by the numbers that they read as
+-- two texts have a result: the two numbers that they read as, or a refusal
 sides_by : (lo hi : ℤ) (front back : List ℕ) (n d : Option ℤ) → ReadsNumber itself lo hi 10 front n → ReadsNumber itself lo hi 10 back d → Sides lo hi front back
 sides_by lo hi front back None d numer denom = (Err ParseError, λ n m reads. numer n reads.numer)
 sides_by lo hi front back (Some n) None numer denom = (Err ParseError, λ m d reads. denom d reads.denom)
@@ -67,7 +65,7 @@ sides_exist lo hi front back below =
 
 -- ---- the first slash
 
--- the text is cut at its first slash
+-- a text, cut at its first slash
 record IsTruncatedDivision (text : List ℕ) : Type 0 where
   front : List ℕ
   back : List ℕ
@@ -95,12 +93,12 @@ cut_exists (c ∷ cs) =
 
 -- ---- the two numbers of a text
 
-abbrev Pair : ℤ → ℤ → List ℕ → Type 0
-Pair lo hi text = (r : Result (ℤ × ℤ) RatioErrorKind) × AnswersPair itself (IsFractionText lo hi text) r
+abbrev FieldsOf : ℤ → ℤ → List ℕ → Type 0
+FieldsOf lo hi text = (r : Result (ℤ × ℤ) RatioErrorKind) × AnswersFields itself (IsFractionText lo hi text) r
 
--- of a text with a slash, those of its two sides
-pair_with_slash : (lo hi : ℤ) (text : List ℕ) → lo <ℤ pos 0 → IsTruncatedDivision text → Pair lo hi text
-pair_with_slash lo hi text below at =
+-- a text with a slash: the numbers of its two sides
+fields_with_slash : (lo hi : ℤ) (text : List ℕ) → lo <ℤ pos 0 → IsTruncatedDivision text → FieldsOf lo hi text
+fields_with_slash lo hi text below at =
     let sides = sides_exist lo hi at.front at.back below in (
       sides.0,
       fraction_with_slash itself lo hi text at.front at.back at.cut sides.0
@@ -108,33 +106,33 @@ pair_with_slash lo hi text below at =
           (λ xs ys other free. same_cut at.front xs at.back ys (sym at.cut ∙ other) at.first free) sides.0 sides.1),
     )
 
--- of one without, its number and 1
-pair_without_slash : (lo hi : ℤ) (text : List ℕ) → HasNoSlash text → (r : Option ℤ) → ReadsNumber itself lo hi 10 text r → Pair lo hi text
-pair_without_slash lo hi text free None reads = (Err ParseError, no_fraction itself lo hi text free reads)
-pair_without_slash lo hi text free (Some n) reads = (Ok (n, pos 1), (inr (reads, refl), λ e. omega (arith, ints, e)))
+-- a text without a slash: its number and 1
+fields_without_slash : (lo hi : ℤ) (text : List ℕ) → HasNoSlash text → (r : Option ℤ) → ReadsNumber itself lo hi 10 text r → FieldsOf lo hi text
+fields_without_slash lo hi text free None reads = (Err ParseError, no_fraction itself lo hi text free reads)
+fields_without_slash lo hi text free (Some n) reads = (Ok (n, pos 1), (inr (reads, refl), λ e. omega (arith, ints, e)))
 
-pair_exists : (lo hi : ℤ) (text : List ℕ) → lo <ℤ pos 0 → Pair lo hi text
-pair_exists lo hi text below =
+fields_exist : (lo hi : ℤ) (text : List ℕ) → lo <ℤ pos 0 → FieldsOf lo hi text
+fields_exist lo hi text below =
     elim (cut_exists text) [
-      | inl at ↦ pair_with_slash lo hi text below at
-      | inr free ↦ let number = number_exists lo hi 10 text below (lit≤ tt) in pair_without_slash lo hi text free number.0 number.1
+      | inl at ↦ fields_with_slash lo hi text below at
+      | inr free ↦ let number = number_exists lo hi 10 text below (lit≤ tt) in fields_without_slash lo hi text free number.0 number.1
     ]
 
--- ---- the answer to a text
+-- ---- the result for a text
 
 abbrev Answer : ℤ → ℤ → List ℕ → Type 0
 Answer lo hi text = (r : Result (ℤ × ℤ) RatioErrorKind) × AnswersText (λ x. x.0) (λ x. x.1) lo hi (IsFractionText lo hi text) r
 
--- its two numbers are reduced where that fits
-answer_by : (lo hi : ℤ) (text : List ℕ) (r : Result (ℤ × ℤ) RatioErrorKind) → AnswersPair itself (IsFractionText lo hi text) r → Answer lo hi text
-answer_by lo hi text (Err kind) pair = (Err kind, refused itself lo hi (IsFractionText lo hi text) kind pair)
-answer_by lo hi text (Ok p) pair =
+-- its two numbers are reduced, if the lowest terms fit
+answer_by : (lo hi : ℤ) (text : List ℕ) (r : Result (ℤ × ℤ) RatioErrorKind) → AnswersFields itself (IsFractionText lo hi text) r → Answer lo hi text
+answer_by lo hi text (Err kind) fields = (Err kind, refused itself lo hi (IsFractionText lo hi text) kind fields)
+answer_by lo hi text (Ok p) fields =
     elim (fits_decided lo hi p.0 p.1) [
-      | yes fits ↦ (Ok (fits.numer, fits.denom), record { n = p.0; d = p.1; reads = pair.0; low = fits.low })
-      | no out ↦ (Err ParseError, none_fits lo hi (IsFractionText lo hi text) p.0 p.1 (λ m e other. only_fraction lo hi text m e p.0 p.1 other pair.0) pair.1 out)
+      | yes fits ↦ (Ok (fits.numer, fits.denom), record { n = p.0; d = p.1; reads = fields.0; low = fits.low })
+      | no out ↦ (Err ParseError, none_fits lo hi (IsFractionText lo hi text) p.0 p.1 (λ m e other. only_fraction lo hi text m e p.0 p.1 other fields.0) fields.1 out)
     ]
 
--- each text has an answer, for a type with numbers below 0
+-- for a type with numbers below 0, reading each text has a result
 pub text_answer_exists : (lo hi : ℤ) (text : List ℕ) → lo <ℤ pos 0
     → (r : Result (ℤ × ℤ) RatioErrorKind) × AnswersText (λ x. x.0) (λ x. x.1) lo hi (IsFractionText lo hi text) r
-text_answer_exists lo hi text below = let pair = pair_exists lo hi text below in answer_by lo hi text pair.0 pair.1
+text_answer_exists lo hi text below = let fields = fields_exist lo hi text below in answer_by lo hi text fields.0 fields.1

@@ -1,15 +1,10 @@
--- Reciprocals, and powers of negative exponents.
+-- Reciprocals, and powers with negative exponents.
 use Rattle.std.specs.Prelude.{◌≡◌, ◌≢◌, ◌⊎◌, ◌<ℤ◌, ◌-ℤ◌, ℕ, ℤ, zero, suc, pos, negsuc, neg_ℤ, unsigned_abs, Option, Some, None}
 use Rattle.std.specs.Int.{int_pow}
 use Rattle.std.proofs.Common.{refl, arith, inl, inr}
 use Rattle.std.proofs.lemmas.Int.{ints}
-use Rattle.ratio_integer.specs.Range.{IsHeld, IsRange}
 use Rattle.ratio_core.specs.Power.{ChecksPower, ChecksReciprocal, IsPower, IsReciprocal, PowerCondition, PowersHeld}
 use Rattle.ratio_core.proofs.PowerLemmas.{pow_above}
-
--- where a number below 0 is held, so is the negative of each held number above 0
-pub negative_held : (lo hi n d : ℤ) → IsRange lo hi → IsHeld lo hi n → IsHeld lo hi d → n <ℤ pos 0 → pos 0 <ℤ d → IsHeld lo hi (neg_ℤ d)
-negative_held lo hi n d range hn hd h u = grind (arith, ints)
 
 pub minus_is : (z : ℤ) → pos 0 -ℤ z ≡ neg_ℤ z
 minus_is z = omega (arith, ints)
@@ -26,11 +21,11 @@ reciprocal_denom (pos zero) d a b nz is z = nz refl
 reciprocal_denom (pos (suc n)) d a b nz is z = let e : b ≡ pos (suc n) = (is.positive (omega (arith, ints))).1 in omega (arith, ints)
 reciprocal_denom (negsuc n) d a b nz is z = let e : b ≡ pos (suc n) = (is.negative (omega (arith, ints))).1 in omega (arith, ints)
 
--- what is raised to the e, or to its magnitude, and turned over: n/d for a negative e, and d/n for another
+-- the fraction whose power is inverted at the end: n/d for a negative e, else d/n
 abbrev pub IsWay : ℤ → ℤ → ℤ → ℤ → ℤ → Type 0
 IsWay n d e u l = ((e <ℤ pos 0) × (u ≡ n) × (l ≡ d)) ⊎ ((¬ (e <ℤ pos 0)) × (u ≡ d) × (l ≡ n))
 
--- both powers of u/l, held
+-- a and b are the powers of u and l, and both are in range
 abbrev ArePowers : ℤ → ℤ → ℤ → ℤ → ℕ → ℤ → ℤ → Type 0
 ArePowers lo hi u l m a b = PowersHeld lo hi u l m × ((a ≡ int_pow u m) × (b ≡ int_pow l m))
 
@@ -40,7 +35,7 @@ way_asked lo hi n d e u l a b m above (inr w) p h =
     let t : pos 0 <ℤ a = rw (p.1.0, w.1) (pow_above d m above) in
     absurd (omega (arith, ints))
 
--- the powers turned over are the power wanted
+-- the reciprocal of these powers is the power
 pub way_back : {R : Type 0} (numer denom : R → ℤ) (lo hi n d e u l a b : ℤ) (m : ℕ) (r : Option R) → pos 0 <ℤ d → m ≡ unsigned_abs e → IsWay n d e u l → ArePowers lo hi u l m a b → ChecksReciprocal numer denom lo hi a b r → ChecksPower numer denom lo hi n d e r
 way_back numer denom lo hi n d (pos k) u l a b m r above em (inl w) p c = absurd (let h : pos k <ℤ pos 0 = w.0 in omega (arith, ints))
 way_back numer denom lo hi n d (negsuc k) u l a b m r above em (inr w) p c = absurd (w.0 (omega (arith, ints)))

@@ -1,16 +1,16 @@
--- From the two numbers of a text to its answer.
+-- From the two numbers of a text to the result.
 use Rattle.std.proofs.Common.{◌≡◌, ◌≢◌, sym, ◌∙◌, subst, ℤ, pos, Result, Ok, Err}
 use Rattle.ratio_integer.specs.Fraction.{Fits}
 use Rattle.ratio_core.specs.declared.parse_error.RatioErrorKind.{RatioErrorKind}
 use Rattle.ratio_core.specs.declared.parse_error.RatioErrorKind.TheVariants.{ParseError, ZeroDenominator}
-use Rattle.ratio_core.specs.Reading.{AnswersFraction, AnswersPair, AnswersText, NoneFits, Refuses}
+use Rattle.ratio_core.specs.Reading.{AnswersFraction, AnswersFields, AnswersText, NoneFits, Refuses}
 
--- where a text has no two numbers, or the second is 0, that is its refusal
-pub refused : {T : Type 0} (value : T → ℤ) (lo hi : ℤ) (Reads : ℤ → ℤ → Type 0) (kind : RatioErrorKind) → AnswersPair value Reads (Err kind) → Refuses lo hi Reads kind
+-- if a text does not read as two numbers, or the second is 0, this is its refusal
+pub refused : {T : Type 0} (value : T → ℤ) (lo hi : ℤ) (Reads : ℤ → ℤ → Type 0) (kind : RatioErrorKind) → AnswersFields value Reads (Err kind) → Refuses lo hi Reads kind
 refused value lo hi Reads ParseError none = record { each = λ n d reads. absurd (none n d reads) }
 refused value lo hi Reads ZeroDenominator zero = zero
 
--- where its two numbers do not fit, no others do
+-- if its only two numbers do not fit, none fit
 pub none_fits : (lo hi : ℤ) (Reads : ℤ → ℤ → Type 0) (n d : ℤ) → ((m e : ℤ) → Reads m e → (m ≡ n) × (e ≡ d)) → d ≢ pos 0 → ¬ (Fits lo hi n d) → NoneFits lo hi Reads
 none_fits lo hi Reads n d only nonzero out = record {
   each = λ m e other.
@@ -18,7 +18,7 @@ none_fits lo hi Reads n d only nonzero out = record {
       (λ zero. nonzero (sym same.1 ∙ zero), λ fits. out (subst (λ x. Fits lo hi x d) same.0 (subst (λ y. Fits lo hi m y) same.1 fits)));
 }
 
--- a text of n and d alone, with d not 0, is answered as these two are
+-- if a text reads as n and d alone, and d is not 0, its result is the result of n/d
 pub answered : {T : Type 0} (value : T → ℤ) (lo hi : ℤ) (Reads : ℤ → ℤ → Type 0) (n d : ℤ) → Reads n d → d ≢ pos 0 → ((m e : ℤ) → Reads m e → (m ≡ n) × (e ≡ d))
     → (r : Result (T × T) RatioErrorKind) → AnswersFraction value lo hi n d r → AnswersText (λ p. value p.0) (λ p. value p.1) lo hi Reads r
 answered value lo hi Reads n d reads nonzero only (Ok low) h = record { n = n; d = d; reads = reads; low = h }

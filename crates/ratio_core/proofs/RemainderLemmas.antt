@@ -1,4 +1,4 @@
--- What one fraction leaves of another, over their least common denominator.
+-- The remainder of one fraction by another, over their least common denominator.
 use Rattle.std.specs.Prelude.{◌≡◌, ◌≢◌, ◌/◌, ◌*◌, ◌<◌, ◌<ℤ◌, ◌*ℤ◌, ◌+ℤ◌, ◌-ℤ◌, ℕ, ℤ, zero, suc, pos, negsuc, neg_ℤ, int_div, int_rem}
 use Rattle.std.proofs.Common.{refl, sym, ap, arith, ◌∙◌}
 use Rattle.std.proofs.Math.Nat.{mul-div-mul_right}
@@ -11,7 +11,7 @@ use Rattle.ratio_integer.proofs.LowestTerms.{held_lowest_moved}
 use Rattle.ratio_integer.proofs.Whole.{mul_assoc, mul_nonzero, mul_positive, positive_nonzero, sub-mul}
 use Rattle.ratio_core.proofs.SumLemmas.{over_common, over_common_right}
 
--- ---- the quotient cut towards zero is kept where both numbers are multiplied by a positive one
+-- ---- the quotient cut towards zero does not change if both numbers are multiplied by a positive one
 
 below_zero : (a m : ℕ) → 0 < m → int_div (pos a) (neg_ℤ (pos m)) ≡ neg_ℤ (pos (a / m))
 below_zero a zero positive = absurd (omega arith)
@@ -34,14 +34,14 @@ quotient-multiplied (pos a) (negsuc b) (pos (suc k)) positive = below_zero (a * 
 quotient-multiplied (negsuc a) (pos b) (pos (suc k)) positive = from_below_zero (suc a * suc k) (b * suc k) (omega arith) ∙ ap (λ t. neg_ℤ (pos t)) (mul-div-mul_right (suc a) b (omega arith))
 quotient-multiplied (negsuc a) (negsuc b) (pos (suc k)) positive = both_below_zero (suc a * suc k) (suc b * suc k) (omega arith) (omega arith) ∙ ap pos (mul-div-mul_right (suc a) (suc b) (omega arith))
 
--- p = t*q + r
-rest_is : (p q t r : ℤ) → t *ℤ q +ℤ r ≡ p → r ≡ p -ℤ t *ℤ q
+-- if t*q + r = p, then r = p - t*q
+pub rest_is : (p q t r : ℤ) → t *ℤ q +ℤ r ≡ p → r ≡ p -ℤ t *ℤ q
 rest_is p q t r whole = omega (arith, ints)
 
 -- ---- the value
 
 module _ (a b c d l p q : ℤ) (b_positive : pos 0 <ℤ b) (d_positive : pos 0 <ℤ d) (is : IsScaled a b c d l p q) where
-  -- the numerators over the common denominator have the quotient of the fractions
+  -- the quotient of the scaled numerators is the quotient of the fractions
   quotient_same : int_div p q ≡ int_div (a *ℤ d) (b *ℤ c)
   quotient_same =
       sym (quotient-multiplied p q (b *ℤ d) (mul_positive b d b_positive d_positive))
@@ -60,11 +60,11 @@ module _ (a b c d l p q : ℤ) (b_positive : pos 0 <ℤ b) (d_positive : pos 0 <
       ∙ sym (sub-mul p (t *ℤ q) (b *ℤ d))
       ∙ ap (λ (z : ℤ). z *ℤ (b *ℤ d)) (sym r-is)
 
-  -- a divisor other than 0 stays so over the common denominator
+  -- if the divisor is not 0, neither is its scaled numerator
   pub divisor_scaled : c ≢ pos 0 → q ≢ pos 0
   divisor_scaled nonzero e = mul_nonzero c l nonzero (positive_nonzero l is.least.positive) (sym is.right ∙ ap (λ (t : ℤ). t *ℤ d) e ∙ zero-*ℤ d)
 
--- ---- what the remainder over the least common denominator answers
+-- ---- the result over the least common denominator
 
 pub remainder_answer : (lo hi a b c d l p q r u v : ℤ) → pos 0 <ℤ b → pos 0 <ℤ d → c ≢ pos 0 → IsHeldScaled lo hi a b c d l p q → r ≡ int_rem p q → IsHeldLowest lo hi r l u v → RemainderHeld lo hi a b c d × IsHeldLowest lo hi (a *ℤ d -ℤ int_div (a *ℤ d) (b *ℤ c) *ℤ (c *ℤ b)) (b *ℤ d) u v
 remainder_answer lo hi a b c d l p q r u v b_positive d_positive nonzero is r-rest low = (
@@ -72,6 +72,6 @@ remainder_answer lo hi a b c d l p q r u v b_positive d_positive nonzero is r-re
   held_lowest_moved lo hi r l _ (b *ℤ d) u v (mul_nonzero b d (positive_nonzero b b_positive) (positive_nonzero d d_positive)) (remainder_same a b c d l p q b_positive d_positive is.scaled r r-rest) low,
 )
 
--- -1 leaves nothing
+-- dividing by -1 leaves no rest
 pub rest_by_minus_one : (p q : ℤ) → q ≡ negsuc 0 → int_rem p q ≡ pos 0
 rest_by_minus_one p q e = (multiple-rem p q).0 (multiple_of_minus_one p q e)

@@ -1,4 +1,4 @@
--- There is one floor, ceiling, truncation and rounded value, and each turns on the value alone.
+-- There is exactly one floor, ceiling, truncation and rounded value, and each depends only on the value.
 use Rattle.std.specs.Prelude.{◌≡◌, ◌≢◌, ◌⊎◌, ◌*◌, ◌≤◌, ◌≤ℤ◌, ◌<ℤ◌, ◌*ℤ◌, ◌+ℤ◌, ◌-ℤ◌, ℤ, pos, negsuc, neg_ℤ, unsigned_abs, int_div, int_rem}
 use Rattle.std.proofs.Common.{refl, sym, ap, arith, ◌∙◌, inl, inr}
 use Rattle.std.proofs.lemmas.Int.{ints}
@@ -56,24 +56,24 @@ one_rounded n d r s u x y = go (which r s (x.furthest s y.near) (y.furthest r x.
     go (inl e) = e
     go (inr e) = absurd (apart r s d n e.1 e.0 u x.near y.near)
 
--- ---- the value alone
+-- ---- only the value counts
 
 turn : (f d e : ℤ) → (f *ℤ d) *ℤ e ≡ (f *ℤ e) *ℤ d
 turn f d e = mul_assoc f d e ∙ ap (λ (t : ℤ). f *ℤ t) (*ℤ_comm d e) ∙ sym (mul_assoc f e d)
 
--- f * d ≤ n gives f * e ≤ m
+-- if f*d ≤ n, then f*e ≤ m
 lower : (n d m e f : ℤ) → pos 0 <ℤ d → pos 0 <ℤ e → n *ℤ e ≡ m *ℤ d → (f *ℤ d) ≤ℤ n → (f *ℤ e) ≤ℤ m
 lower n d m e f u w same h =
     let a : ((f *ℤ d) *ℤ e) ≤ℤ (n *ℤ e) = times_le (f *ℤ d) n e h (omega (arith, ints)) in
     whole_at_most (f *ℤ e) m d u (omega (arith, ints, turn f d e, same))
 
--- and n ≤ f * d gives m ≤ f * e
+-- if n ≤ f*d, then m ≤ f*e
 upper : (n d m e f : ℤ) → pos 0 <ℤ d → pos 0 <ℤ e → n *ℤ e ≡ m *ℤ d → n ≤ℤ (f *ℤ d) → m ≤ℤ (f *ℤ e)
 upper n d m e f u w same h =
     let a : (n *ℤ e) ≤ℤ ((f *ℤ d) *ℤ e) = times_le n (f *ℤ d) e h (omega (arith, ints)) in
     whole_at_most m (f *ℤ e) d u (omega (arith, ints, turn f d e, same))
 
--- strictly, by turning the other way
+-- if n < f*d, then m < f*e
 strict_upper : (n d m e f : ℤ) → pos 0 <ℤ d → pos 0 <ℤ e → n *ℤ e ≡ m *ℤ d → n <ℤ (f *ℤ d) → m <ℤ (f *ℤ e)
 strict_upper n d m e f u w same h = go (split (f *ℤ e) m)
   where
@@ -106,11 +106,11 @@ same_ceiling n d m e f u w same x = record {
   at_least = upper n d m e f u w same x.at_least;
 }
 
--- the sides of 0
-side_up : (n d m e : ℤ) → pos 0 <ℤ d → pos 0 <ℤ e → n *ℤ e ≡ m *ℤ d → pos 0 ≤ℤ n → pos 0 ≤ℤ m
+-- n and m are on the same side of 0
+pub side_up : (n d m e : ℤ) → pos 0 <ℤ d → pos 0 <ℤ e → n *ℤ e ≡ m *ℤ d → pos 0 ≤ℤ n → pos 0 ≤ℤ m
 side_up n d m e u w same h = let t = lower n d m e (pos 0) u w same (omega (arith, ints)) in omega (arith, ints)
 
-side_down : (n d m e : ℤ) → pos 0 <ℤ d → pos 0 <ℤ e → n *ℤ e ≡ m *ℤ d → n ≤ℤ pos 0 → m ≤ℤ pos 0
+pub side_down : (n d m e : ℤ) → pos 0 <ℤ d → pos 0 <ℤ e → n *ℤ e ≡ m *ℤ d → n ≤ℤ pos 0 → m ≤ℤ pos 0
 side_down n d m e u w same h = let t = upper n d m e (pos 0) u w same (omega (arith, ints)) in omega (arith, ints)
 
 pub same_truncation : (n d m e t : ℤ) → pos 0 <ℤ d → pos 0 <ℤ e → n *ℤ e ≡ m *ℤ d → IsTruncation n d t → IsTruncation m e t
@@ -119,8 +119,8 @@ same_truncation n d m e t u w same x = record {
   ceiling = λ h. same_ceiling n d m e t u w same (x.ceiling (side_down m e n d w u (sym same) h));
 }
 
--- a half from n/d: (2 * r - 1) * d ≤ 2 * n ≤ (2 * r + 1) * d
-same_half : (n d m e r : ℤ) → pos 0 <ℤ d → pos 0 <ℤ e → n *ℤ e ≡ m *ℤ d → IsWithinHalf n d r → IsWithinHalf m e r
+-- a half from n/d: (2*r - 1)*d ≤ 2*n ≤ (2*r + 1)*d
+pub same_half : (n d m e r : ℤ) → pos 0 <ℤ d → pos 0 <ℤ e → n *ℤ e ≡ m *ℤ d → IsWithinHalf n d r → IsWithinHalf m e r
 same_half n d m e r u w same x =
     let doubled : (pos 2 *ℤ n) *ℤ e ≡ (pos 2 *ℤ m) *ℤ d = mul_assoc (pos 2) n e ∙ ap (λ (t : ℤ). pos 2 *ℤ t) same ∙ sym (mul_assoc (pos 2) m d) in
     let a : neg_ℤ d ≤ℤ (pos 2 *ℤ n -ℤ pos 2 *ℤ (r *ℤ d)) = x.above in
@@ -138,7 +138,7 @@ same_rounded n d m e r u w same x = record {
   furthest = λ s k. x.furthest s (same_half m e n d s w u (sym same) k);
 }
 
--- ---- there is one
+-- ---- there is at least one
 
 cut_of : (n d : ℤ) → pos 0 <ℤ d → IsTruncatedDivision n d (int_div n d) (int_rem n d)
 cut_of n d u = cut_division n d _ _ u refl refl
@@ -181,7 +181,7 @@ each_rounded n d u = half (sides (d -ℤ pos (2 * unsigned_abs (int_rem n d)) -�
     half (inl h) = away (λ k. let l : pos (2 * unsigned_abs (int_rem n d)) <ℤ d = k in omega (arith, ints)) (sides (int_rem n d))
     half (inr h) = only _ (rounded_same n d _ _ (cut_of n d u) (grind (arith, ints)))
 
--- ---- side by side
+-- ---- floors and ceilings
 
 pub next_to : CeilingsAreNextToFloors
 next_to n d f c u x y =

@@ -1,4 +1,4 @@
--- What a quotient q cut towards zero and its rest r say of the whole numbers near n/d.
+-- The whole numbers near n/d, from the quotient q cut towards zero and its rest r.
 use Rattle.std.specs.Prelude.{◌≡◌, ◌≢◌, ◌⊎◌, ◌↔◌, ◌*◌, ◌%◌, ◌<◌, ◌≤◌, ◌≤ℤ◌, ◌<ℤ◌, ◌*ℤ◌, ◌+ℤ◌, ◌-ℤ◌, ℕ, ℤ, zero, suc, pos, negsuc, neg_ℤ, unsigned_abs, int_div, int_rem}
 use Rattle.std.proofs.Common.{sym, arith, inl, inr}
 use Rattle.std.proofs.lemmas.Int.{ints, quot-rem}
@@ -37,7 +37,7 @@ cut_division n d q r u eq er = rw (eq, er) (go n d u)
       below = λ h. (omega (arith, ints), omega (arith, ints));
     }
 
--- ---- truncation and what it leaves
+-- ---- the truncation and its rest
 
 not_below : (a b : ℤ) → ¬ (a <ℤ b) → b ≤ℤ a
 not_below a b h = grind (arith, ints)
@@ -68,7 +68,7 @@ ceiling_more n d q r c h = let s = c.sum in let k = c.rest in record { last_belo
 pub ceiling_same : (n d q r : ℤ) → IsTruncatedDivision n d q r → ¬ (pos 0 <ℤ r) → IsCeiling n d q
 ceiling_same n d q r c h = let s = c.sum in let k = c.rest in let a = not_below (pos 0) r h in record { last_below = omega (arith, ints); at_least = omega (arith, ints) }
 
--- ---- what is formed is held
+-- ---- the results are in range
 
 pub less_held : (lo hi n d q r : ℤ) → IsRange lo hi → IsHeld lo hi n → IsTruncatedDivision n d q r → r <ℤ pos 0 → IsHeld lo hi (q -ℤ pos 1)
 less_held lo hi n d q r range held c h = go (sides n)
@@ -102,8 +102,8 @@ further_down s t h k = omega (arith, ints)
 further_up : (s t : ℤ) → s ≤ℤ t → pos 0 ≤ℤ s → unsigned_abs s ≤ unsigned_abs t
 further_up s t h k = omega (arith, ints)
 
--- below 0, one that is not a half above n/d is the one further from 0
-round_below : (n d t : ℤ) → pos 0 <ℤ d → n ≤ℤ pos 0 → neg_ℤ d <ℤ (pos 2 *ℤ n -ℤ pos 2 *ℤ (t *ℤ d)) → (pos 2 *ℤ n -ℤ pos 2 *ℤ (t *ℤ d)) ≤ℤ d → IsRounded n d t
+-- if n/d ≤ 0, and t is within a half but not a half above, t is the one further from 0
+pub round_below : (n d t : ℤ) → pos 0 <ℤ d → n ≤ℤ pos 0 → neg_ℤ d <ℤ (pos 2 *ℤ n -ℤ pos 2 *ℤ (t *ℤ d)) → (pos 2 *ℤ n -ℤ pos 2 *ℤ (t *ℤ d)) ≤ℤ d → IsRounded n d t
 round_below n d t u h low up = record {
   near = record { above = omega (arith, ints); below = up };
   furthest = λ s k. let a = k.above in let b = k.below in further_down s t
@@ -111,8 +111,8 @@ round_below n d t u h low up = record {
       (whole_at_most s (pos 0) d u (omega (arith, ints)));
 }
 
--- and above 0, one that is not a half below
-round_above : (n d t : ℤ) → pos 0 <ℤ d → pos 0 ≤ℤ n → neg_ℤ d ≤ℤ (pos 2 *ℤ n -ℤ pos 2 *ℤ (t *ℤ d)) → (pos 2 *ℤ n -ℤ pos 2 *ℤ (t *ℤ d)) <ℤ d → IsRounded n d t
+-- the same for n/d ≥ 0 and a half below
+pub round_above : (n d t : ℤ) → pos 0 <ℤ d → pos 0 ≤ℤ n → neg_ℤ d ≤ℤ (pos 2 *ℤ n -ℤ pos 2 *ℤ (t *ℤ d)) → (pos 2 *ℤ n -ℤ pos 2 *ℤ (t *ℤ d)) <ℤ d → IsRounded n d t
 round_above n d t u h low up = record {
   near = record { above = low; below = omega (arith, ints) };
   furthest = λ s k. let a = k.above in let b = k.below in further_up s t
@@ -147,11 +147,11 @@ rounded_more n d q r c half h = go (sides n)
     go (inl s) = absurd (let a = c.below (omega (arith, ints)) in let k = c.rest in let b = not_below r (pos 0) h in let e = enough in omega (arith, ints))
     go (inr s) = let sum = c.sum in let k = c.rest in let b = not_below r (pos 0) h in let e = enough in round_above n d (q +ℤ pos 1) (omega (arith, ints)) s (omega (arith, ints, more-times q d)) (omega (arith, ints, more-times q d))
 
--- what is not below a half is not nothing
+-- if r is not below a half, it is not 0
 pub half_nonzero : (n d q r : ℤ) → IsTruncatedDivision n d q r → ¬ (IsBelowHalf d r) → r ≢ pos 0
 half_nonzero n d q r c half z = let k = c.rest in let e = not_below (pos (2 * unsigned_abs r)) d half in omega (arith, ints)
 
--- what is missing to d is more than r, for r on either side of 0
+-- r is below a half exactly if its magnitude is less than what it lacks to d; r may be on either side of 0
 pub missing_below : (d r minus plus nought : ℤ) → r <ℤ pos 0 → nought ≡ pos 0 → minus ≡ nought -ℤ r → plus ≡ r +ℤ d → (minus <ℤ plus) ↔ IsBelowHalf d r
 missing_below d r minus plus nought h z m p = ((λ l. omega (arith, ints)), (λ l. omega (arith, ints)))
 

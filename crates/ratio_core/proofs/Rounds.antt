@@ -1,4 +1,4 @@
--- The rounds of a comparison: how many there are, and what each of them answers.
+-- The rounds of a comparison: how many there are, and the result of each.
 use Rattle.std.specs.Prelude.{◌≡◌, ◌≢◌, ◌⊎◌, ◌+◌, ◌*◌, ◌^◌, ◌<◌, ◌≤◌, ◌≤ℤ◌, ◌<ℤ◌, ◌+ℤ◌, ◌*ℤ◌, ◌||◌, ℕ, ℤ, suc, pos, negsuc, unsigned_abs, min, Bool, true, false, cond, not, List, [], ◌∷◌, length}
 use Rattle.std.proofs.Common.{refl, sym, ap, arith, subst, inl, inr, ◌∙◌}
 use Rattle.std.proofs.lemmas.Bool.{true≢false}
@@ -71,7 +71,7 @@ ended false k h = refl
 abbrev RoundsAre : ℤ → ℤ → ℤ → ℤ → ℤ → ℕ → Type 0
 RoundsAre top n d m e k = (ps qs : List ℤ) → IsPartialQuotients n d ps → IsPartialQuotients m e qs → k ≡ rounds top ps qs
 
--- -hi-1 over -1 has the one quotient hi+1
+-- -hi-1 over -1 has the single quotient hi+1
 above_floored : (hi n d : ℤ) → IsAboveMax hi n d → IsFloored n d (hi +ℤ pos 1) (pos 0)
 above_floored hi n d top =
     let numer = top.numer in
@@ -170,9 +170,9 @@ module _ (hi n d q r m e p s : ℤ) (f : IsFloored n d q r) (g : IsFloored m e p
     rounds_are = one_more (hi +ℤ pos 1) n d q r m e p s f g qt pt k h rn sn next.rounds_are;
   }
 
--- ---- rounds in a loop, which keeps a mark in place of the reversals
+-- ---- rounds in a loop, with a flag in place of reversals
 
--- what is compared from here on, a/b and c/f, answers for n/d and m/e
+-- the order of a/b and c/f, with the flag, gives the order of n/d and m/e
 pub record AnswersFor (top n d m e : ℤ) (left right : ℕ) (reversed : Bool) (a b c f : ℤ) (left' right' : ℕ) : Type 0 where
   pub done : ℕ
   pub left_rose : left' ≡ left + done
@@ -254,7 +254,7 @@ steps-by_rounds {hi = hi} {n} {d} {m} {e} dn en unsettled h =
       },
     )
 
--- where this is settled, nothing is counted
+-- if the fact settles the comparison, there are no steps
 pub steps_none : {Settled : Type 0} {hi n d m e : ℤ} (l r : ℕ) → Settled → (k : ℕ) × (l ≡ l + k) × (r ≡ r + k) × IsRoundsUnless Settled hi n d m e k
 steps_none l r settled = (0, omega arith, omega arith, record { exact = inl (settled, refl); bound = λ j h. omega arith })
 
@@ -262,11 +262,11 @@ still_unsettled : {Held Settled Rounds : Type 0} {k : ℕ} → ¬ Held → ¬ Se
 still_unsettled out unsettled (inl h) = absurd (out h.0)
 still_unsettled out unsettled (inr h) = inr (unsettled, h.1)
 
--- where neither of two facts settles it, both count alike
+-- if neither of two facts settles it, both have the same count
 pub unsettled_by_both : {Held Settled : Type 0} {hi n d m e : ℤ} {k : ℕ} → ¬ Held → ¬ Settled → IsRoundsUnless Held hi n d m e k → IsRoundsUnless Settled hi n d m e k
 unsettled_by_both out unsettled is = record { exact = still_unsettled out unsettled is.exact; bound = is.bound }
 
--- where no test of a sparing comparison decides, nothing settles it
+-- if no test of a sparing comparison decides, nothing settles it
 pub nothing_settles : {lo hi n d m e : ℤ} → ¬ ((d ≡ e) × (pos 0 <ℤ d)) → ¬ ((pos 0 <ℤ d) × (pos 0 <ℤ e) × HaveUnlikeSigns n m) → ¬ (AreProductsHeld lo hi n d m e)
     → ¬ (DoNumeratorsDecide n d m e ⊎ AreProductsHeld lo hi n d m e)
 nothing_settles shared split held (inr h) = held h

@@ -1,4 +1,4 @@
--- Fractions stand as equals exactly where they have the same value, and where they have the same quotients.
+-- Fractions compare as equal exactly if they have the same value, and exactly if they have the same quotients.
 use Rattle.std.specs.Prelude.{◌≡◌, ◌≢◌, ◌⊎◌, ◌↔◌, ◌<ℤ◌, ◌*ℤ◌, ℤ, pos, negsuc, List, [], ◌∷◌}
 use Rattle.std.proofs.Common.{refl, sym, ap, arith, inl, inr, subst, ◌∙◌}
 use Rattle.std.proofs.lemmas.Int.{ints}
@@ -51,7 +51,7 @@ value_of_rest n d r m e s p ps f g (inl h) (inr k) next = absurd (subst (IsParti
 value_of_rest n d r m e s p ps f g (inr h) (inl k) next = absurd (subst (IsPartialQuotients d r) k.1 h.1)
 value_of_rest n d r m e s p ps f g (inr h) (inr k) next = tied-rest n d p r m e p s f g refl h.0 k.0 ∙ ap ordering_reverse (next h.1 k.1)
 
--- the same quotients, the same value
+-- fractions with the same quotients compare as equal
 pub value_of_quotients : (n d m e : ℤ) (ps : List ℤ) → IsPartialQuotients n d ps → IsPartialQuotients m e ps → cross_cmp n d m e ≡ Equal
 value_of_quotients n d m e [] f g = absurd f
 value_of_quotients n d m e (p ∷ ps) f g = value_of_rest n d f.0 m e g.0 p ps f.1 g.1 f.2 g.2 (λ h k. value_of_quotients d f.0 e g.0 ps h k)
@@ -69,7 +69,7 @@ rest_same n d r m e s p q ps qs f g h pq (inr a) (inl b) next = let l = tied-sec
 rest_same n d r m e s p q ps qs f g h pq (inr a) (inr b) next =
     next a.1 b.1 (equal_back (cross_cmp d r e s) (sym (tied-rest n d p r m e q s f g pq a.0 b.0) ∙ h))
 
--- the same value, the same quotients
+-- fractions that compare as equal have the same quotients
 pub quotients_of_value : (n d m e : ℤ) (ps qs : List ℤ) → IsPartialQuotients n d ps → IsPartialQuotients m e qs → cross_cmp n d m e ≡ Equal → ps ≡ qs
 quotients_of_value n d m e [] qs f g h = absurd f
 quotients_of_value n d m e (p ∷ ps) [] f g h = absurd g

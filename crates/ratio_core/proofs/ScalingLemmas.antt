@@ -1,4 +1,4 @@
--- Fractions over their least common denominator: what the lowest terms of b/d give, and that there is one such triple.
+-- Fractions over their least common denominator, which the lowest terms of b/d give. There is exactly one such triple.
 use Rattle.std.specs.Prelude.{◌≡◌, ◌≤◌, ◌≤ℤ◌, ◌<ℤ◌, ◌*ℤ◌, ℤ, pos, unsigned_abs}
 use Rattle.std.proofs.Common.{refl, sym, ap, arith, ◌∙◌}
 use Rattle.std.proofs.Math.Nat.{le_of_dvd}
@@ -14,15 +14,15 @@ use Rattle.ratio_integer.proofs.Whole.{mul_assoc, mul_cancel, mul_positive, mul-
 
 -- ---- the least common denominator
 
--- a positive multiple is at least as great
+-- a positive multiple of l is at least l
 multiple_above : (m l : ℤ) → pos 0 <ℤ m → pos 0 <ℤ l → IsMultiple m l → l ≤ℤ m
 multiple_above m l m_positive l_positive multiple =
     let size : unsigned_abs l ≤ unsigned_abs m = le_of_dvd (abs_pos m (positive_nonzero m m_positive)) (multiple_divides m l multiple) in
     omega (arith, ints)
 
--- where u/v are the lowest terms of b/d, b*v is the least common denominator
+-- if u/v are the lowest terms of b/d, then b*v is the least common denominator
 module _ (b d u v : ℤ) (b_positive : pos 0 <ℤ b) (d_positive : pos 0 <ℤ d) (low : IsLowestTermsOf b d u v) where
-  -- what both b and d divide, b*v does: of k*b = j*d, v divides k, since it divides k*u and has nothing in common with u
+  -- if b and d divide m, so does b*v: m is k*b and j*d, and v divides k, since it divides k*u and has no divisor in common with u
   common_divides : (m : ℤ) → IsMultiple m b → IsMultiple m d → IsMultiple m (b *ℤ v)
   common_divides m (k, by_b) (j, by_d) =
       let apart : IsGcdOf v u (pos 1) = record {
@@ -64,7 +64,7 @@ module _ (b d u v : ℤ) (b_positive : pos 0 <ℤ b) (d_positive : pos 0 <ℤ d)
     right_held = right.0;
   })
 
--- equal denominators are their own least common one
+-- if b = d, it is the least common denominator
 pub scaled_equals : (a b c d : ℤ) → b ≡ d → pos 0 <ℤ b → IsScaled a b c d b a c
 scaled_equals a b c d equal b_positive = record {
   least = record {
@@ -88,7 +88,7 @@ held_equals lo hi a b c d equal b_positive a_held b_held c_held = record {
   right_held = c_held;
 }
 
--- ---- there is one such triple
+-- ---- there is only one such triple
 
 pub least_common_unique : (b d l m : ℤ) → IsLeastCommon b d l → IsLeastCommon b d m → l ≡ m
 least_common_unique b d l m first second =
@@ -106,7 +106,7 @@ module _ (a b c d l p q m r s : ℤ) (b_positive : pos 0 <ℤ b) (d_positive : p
   pub same_right : q ≡ s
   same_right = mul_cancel q s d (positive_nonzero d d_positive) (one.right ∙ ap (λ (t : ℤ). c *ℤ t) same_common ∙ sym other.right)
 
--- so where one of the three is not held, the fractions are not scaled
+-- if one of the three is out of range, the fractions cannot be scaled
 module _ (lo hi a b c d l p q : ℤ) (b_positive : pos 0 <ℤ b) (d_positive : pos 0 <ℤ d) (is : IsScaled a b c d l p q) where
   pub common_out : ¬ (IsHeld lo hi l) → ¬ (ScaledHeld lo hi a b c d)
   common_out out held = out (rw (same_common a b c d l p q held.common held.left held.right b_positive d_positive is held.held.scaled) held.held.common_held)

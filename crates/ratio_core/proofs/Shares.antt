@@ -1,4 +1,4 @@
--- How often a whole number goes into another one.
+-- How often one whole number fits into another.
 use Rattle.std.specs.Prelude.{◌+◌, ◌*◌, ◌≤◌, ◌≤ℤ◌, ◌<ℤ◌, ◌-ℤ◌, ◌*ℤ◌, ℤ, pos, negsuc}
 use Rattle.std.proofs.Common.{arith}
 use Rattle.std.proofs.Math.Nat.{mul-le-mul_right}
@@ -6,7 +6,7 @@ use Rattle.std.proofs.lemmas.Int.{ints}
 use borrow.Author.Differences.{up, down}
 use Rattle.ratio_integer.specs.Division.{IsFlooredQuotient}
 
--- k is the greatest number of times that b goes into a
+-- k is how often b fits into a
 pub record IsShare (a b k : ℤ) : Type 0 where
   pub up : pos 0 ≤ℤ k
   pub fits : (b *ℤ k) ≤ℤ a

@@ -5,7 +5,7 @@ use Rattle.std.proofs.lemmas.Int.{ints}
 use Rattle.ratio_integer.proofs.Whole.{mul_positive, neg-mul, neg-mul-neg, positive_factor}
 use Rattle.ratio_core.specs.Signs.{IsNegative, IsPositive}
 
--- ---- the sign of n, for a denominator of either sign
+-- ---- the sign of n/d, for a denominator of either sign
 
 pub positive_above : (n d : ℤ) → pos 0 <ℤ d → (pos 0 <ℤ n) ↔ IsPositive n d
 positive_above n d u = ((λ h. mul_positive n d h u), (λ h. positive_factor n d u h))

@@ -1,5 +1,5 @@
--- A function with an empty body changes the steps behind its one borrow: the borrow is opened, and closed with the new ones. What
--- it changes them to is left open, since the two ticks differ in nothing else.
+-- A function with an empty body changes the steps behind its one borrow: it opens the borrow, and closes it with the new steps.
+-- The change is a parameter, since the two ticks differ in nothing else.
 use Rattle.std.proofs.Common.{◌≡◌, [], ◌∷◌, refl}
 use Rattle.std.proofs.raw_atomic.Walks.{proved}
 use seplogic.Ra.Ura.{Ura}
@@ -27,7 +27,7 @@ use Rattle.ratio_core.specs.declared.steps.Steps.{Steps}
 abbrev stayed : Stays f.ended.signature.params f.ended.kept
 stayed = (stay_ref (0 ∷ []) tt (plain (λ _. R)), tt)
 
--- what such a function compiles to, with the parts of its parameter's type
+-- the compiled code of such a function, with the parts of its parameter's type
 abbrev pub empty : Lifetime → Mutability → Ty → Fn
 empty lifetime mutability pointee = record {
   lifetimes = 1;

@@ -28,7 +28,7 @@ gap_below n m d e h away = size (n *ℤ pos e -ℤ m *ℤ pos d) (omega (arith, 
 product_positive : (a b : ℕ) → 0 < a → 0 < b → 0 < a * b
 product_positive a b p q = mul-le-mul p q
 
--- e is a multiple of q: it is not less, and is q only where the multiple is 1
+-- if e is q * y and not 0, then q < e, or q = e
 multiple : (e q y : ℕ) → 0 < e → e ≡ q * y → (q < e) ⊎ (q ≡ e)
 multiple e q zero up is = absurd (omega arith)
 multiple e q (suc zero) up is = inr (omega arith)
@@ -40,7 +40,7 @@ same_numer p m q e up same is =
     let alike : m *ℤ pos q ≡ m *ℤ pos e = ap (λ (t : ℕ). m *ℤ pos t) same in
     mul_cancel p m (pos e) (λ z. omega (arith, ints)) (omega (arith, ints))
 
--- as near, and a multiple
+-- of two fractions of the same value, the one whose denominator divides the other comes first
 tied : (p m : ℤ) (q e g h y : ℕ) → 0 < e → e ≡ q * y → p *ℤ pos e ≡ m *ℤ pos q +ℤ pos 0 → g * e ≡ h * q → ComesFirst g p (pos q) h m (pos e)
 tied p m q e g h y up is same near = elim (multiple e q y up is) [
   | inl less ↦ inr (near, inl (omega (arith, ints)))
@@ -71,30 +71,30 @@ module _ (n : ℤ) (d : ℕ) (lp : ℤ) (lq lg : ℕ) (rp : ℤ) (rq rg : ℕ) (
   right_further zero h beside away = right_tied h beside (omega arith)
   right_further (suc t) h beside away = inl (let more : 0 < d * suc t = product_positive d (suc t) d_up (omega arith) in omega arith)
 
-  -- on the left of both
+  -- m/e is on the left of both
   pub left_first : (t : ℕ) → lp *ℤ pos e ≡ m *ℤ pos lq +ℤ pos t → ComesFirst lg lp (pos lq) (gap n (pos d) m (pos e)) m (pos e)
   left_first t beside = elim (compared n m e d) [
     | inl away ↦ rw (gap_above n m d e away.0 away.1) (left_further t away.0 beside (further_left n d lp lq lg rp rq rg around m e t away.0 beside away.1))
     | inr turned ↦ absurd (let none : suc turned.0 * lq + (lg * e + d * t) ≡ 0 = never_left n d lp lq lg rp rq rg around m e t (suc turned.0) beside turned.1 in let more : 0 < suc turned.0 * lq = product_positive (suc turned.0) lq (omega arith) lq_up in omega arith)
   ]
 
-  -- on the right of both
+  -- m/e is on the right of both
   pub right_first : (t : ℕ) → m *ℤ pos rq ≡ rp *ℤ pos e +ℤ pos t → ComesFirst rg rp (pos rq) (gap n (pos d) m (pos e)) m (pos e)
   right_first t beside = elim (compared m n d e) [
     | inl away ↦ rw (gap_below n m d e away.0 away.1) (right_further t away.0 beside (further_right n d lp lq lg rp rq rg around m e t away.0 beside away.1))
     | inr turned ↦ absurd (let none : suc turned.0 * rq + (rg * e + d * t) ≡ 0 = never_right n d lp lq lg rp rq rg around m e t (suc turned.0) beside turned.1 in let more : 0 < suc turned.0 * rq = product_positive (suc turned.0) rq (omega arith) rq_up in omega arith)
   ]
 
-  -- nothing between them has a denominator below the sum of theirs
+  -- a fraction between them has a denominator of at least the sum of theirs
   between_two : (x y : ℕ) → m *ℤ pos lq ≡ lp *ℤ pos e +ℤ pos (suc x) → rp *ℤ pos e ≡ m *ℤ pos rq +ℤ pos (suc y) → lq + rq ≤ e
   between_two x y above below =
       let made : e ≡ lq * suc y + rq * suc x = between n d lp lq lg rp rq rg around m e (suc x) (suc y) above below in
       omega arith
 
--- ---- what comes before both comes before all
+-- ---- what comes before both neighbours comes before all fractions
 
 module _ (n : ℤ) (d : ℕ) (lp : ℤ) (lq lg : ℕ) (rp : ℤ) (rq rg : ℕ) (around : AreAround n d lp lq lg rp rq rg) (d_up : 0 < d) (lq_up : 0 < lq) (rq_up : 0 < rq) where
-  -- below a denominator that is the sum of theirs
+  -- if the denominator of m/e is below the sum of theirs
   pub before_all : (c : ℕ) (p q : ℤ) → pos 0 <ℤ q → ComesFirst c p q lg lp (pos lq) → ComesFirst c p q rg rp (pos rq) → (m : ℤ) (e : ℕ) → 0 < e → e < lq + rq → ComesFirst c p q (gap n (pos d) m (pos e)) m (pos e)
   before_all c p q q_up left right m e e_up room = elim (compared m lp lq e) [
     | inl above ↦ after_left above.0 above.1
@@ -118,7 +118,7 @@ module _ (n : ℤ) (d : ℕ) (lp : ℤ) (lq lg : ℕ) (rp : ℤ) (rq rg : ℕ) (
           before_right zero below = by_right 0 (omega (arith, ints))
           before_right (suc y) below = absurd (let far : lq + rq ≤ e = between_two n d lp lq lg rp rq rg around d_up lq_up rq_up m e e_up x y above below in omega arith)
 
--- where one of them is n/d, it comes before all
+-- if one neighbour is n/d, it comes before all
 module _ (n : ℤ) (d : ℕ) (lp : ℤ) (lq lg : ℕ) (rp : ℤ) (rq rg : ℕ) (around : AreAround n d lp lq lg rp rq rg) (d_up : 0 < d) (lq_up : 0 < lq) (rq_up : 0 < rq) (m : ℤ) (e : ℕ) (e_up : 0 < e) where
   nonzero_factor : (q g : ℕ) → 0 < q * g → 0 < g
   nonzero_factor q zero h = absurd (omega arith)

@@ -1,4 +1,4 @@
--- A number below 0 in two's complement: how far it lies above the least number, and one more than the greatest.
+-- The two's complement of a number below 0: its distance from the least number, and the greatest number and 1.
 use Rattle.std.proofs.Common.{◌≡◌, ◌⊎◌, sym, ◌∙◌, ap, arith, rules, ℕ, ◌+◌, ◌-◌, ◌^◌, ◌≤◌, ℤ, pos, negsuc, ◌+ℤ◌, ◌-ℤ◌, ◌≤ℤ◌, ◌<ℤ◌, neg_ℤ, Option, Some, None, inl, inr}
 use Rattle.std.specs.Prelude.{IsSome}
 use Rattle.std.proofs.Math.Nat.{pow-le-pow_right}
@@ -6,7 +6,7 @@ use Rattle.std.proofs.lemmas.Int.{ints}
 use Rattle.ratio_integer.specs.Range.{Checks, IsHeld, IsRange}
 use Rattle.ratio_core.specs.Printing.{twos_complement}
 
--- z is held in a signed type of the width, and below 0
+-- z is below 0, and in range for a signed type of this width
 pub record IsBelowZero (lo hi z p : ℤ) : Type 0 where
   pub below : z <ℤ pos 0
   pub above_least : lo ≤ℤ z
@@ -41,7 +41,7 @@ high_of lo hi p (inl h) width small = omega (arith, ints, h, width, small)
 high_of lo hi p (inr (inl h)) width small = omega (arith, ints, h, width, small)
 high_of lo hi p (inr (inr h)) width small = omega (arith, ints, h, width, small)
 
--- a number that is held, and not as a `u128`, is below 0
+-- a number in range that does not fit `u128` is below 0
 pub below_zero : (lo hi z : ℤ) (bits : ℕ) → IsRange lo hi → (bits ≤ 128) × (hi +ℤ pos 1 ≡ lo +ℤ pos (2 ^ bits)) → IsHeld lo hi z
     → ¬ (IsHeld (pos 0) (pos (2 ^ 128 - 1)) z) → IsBelowZero lo hi z (pos (2 ^ bits))
 below_zero lo hi z bits range width held out =
@@ -49,7 +49,7 @@ below_zero lo hi z bits range width held out =
     let small : pos (2 ^ bits) ≤ℤ pos (2 ^ 128) = omega (arith, ints, p) in
     by_least lo hi z (pos (2 ^ bits)) range.low width.1 small held (not_above z hi (high_of lo hi (pos (2 ^ bits)) range.low width.1 small) held.below out)
 
--- what a `u128` holds is answered
+-- if a number fits `u128`, the result is `Some`
 pub some_natural : (z : ℤ) (r : Option ℕ) → Checks (λ n. pos n) (pos 0) (pos (2 ^ 128 - 1)) z r → pos 0 ≤ℤ z → z ≤ℤ pos (2 ^ 128 - 1) → IsSome r
 some_natural z None out above below = absurd (out (record { above = above; below = below }))
 some_natural z (Some n) is above below = search rules
@@ -58,7 +58,7 @@ pub natural_is : (z : ℤ) (r : Option ℕ) (n : ℕ) → Checks (λ n. pos n) (
 natural_is z None n is e = absurd (let none : None ≡ Some n = e in cc)
 natural_is z (Some m) n is e = let same : m ≡ n = cc in ap pos (sym same) ∙ is.1
 
--- the sum of both, and 1, is the two's complement
+-- the sum of the two, and 1, is the two's complement
 pub complement_sum : (lo hi z : ℤ) (bits above greatest : ℕ) → IsBelowZero lo hi z (pos (2 ^ bits)) → pos above ≡ (z -ℤ lo) → pos greatest ≡ hi → above + greatest + 1 ≡ twos_complement bits z
 complement_sum lo hi (pos n) bits above greatest h a g = absurd (omega (arith, ints, h.below))
 complement_sum lo hi (negsuc n) bits above greatest h a g = omega (arith, ints, a, g, h.width)

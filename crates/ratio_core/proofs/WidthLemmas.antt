@@ -1,4 +1,4 @@
--- A type of at most 128 bits holds numbers of an `i128`, or of a `u128`; so what std reads at these tells what a type's number is.
+-- The numbers of a type of at most 128 bits all fit `i128`, or all fit `u128`. So what std reads at these types gives the number of a type.
 use Rattle.std.proofs.Common.{◌≡◌, ◌⊎◌, sym, ◌∙◌, ap, subst, arith, ℕ, ◌^◌, ◌<◌, ◌≤◌, List, ℤ, pos, negsuc, ◌+ℤ◌, ◌-◌, inl, inr, ◌-ℤ◌, ◌≤ℤ◌, ◌<ℤ◌, neg_ℤ, FitsSigned, Option, Some, None, Result, Ok, Err}
 use Rattle.std.proofs.lemmas.Int.{ints, to_z-of_z}
 use Rattle.std.proofs.Math.Nat.{pow-le-pow_right}
@@ -10,7 +10,6 @@ use Rattle.ratio_integer.specs.Range.{IsHeld, IsRange, Checks}
 use Rattle.ratio_core.specs.Reading.{IsNumberText, ReadsNumber}
 use Rattle.ratio_core.proofs.NumberLemmas.{from_signed, from_unsigned, to_signed, to_unsigned}
 
--- the numbers of a type of at most 128 bits are those of an `i128`, or of a `u128`
 power_small : (bits : ℕ) → bits ≤ 128 → 2 ^ bits ≤ 2 ^ 128
 power_small bits h = pow-le-pow_right {n = 2} (omega arith) h
 
@@ -41,7 +40,7 @@ wide_unsigned lo hi bits range above width n held =
     let low : lo ≡ pos 0 = zero_low lo hi range.low range.high above in
     omega (arith, ints, p, low, width.1, held.below)
 
--- what `number` answers, from what std read at the widest type
+-- what `number` returns, from what std reads at the widest type
 module _ {T : Type 0} (value : T → ℤ) (lo hi : ℤ) (radix : ℕ) (text : List ℕ) (small : radix ≤ 36) (range : IsRange lo hi) (bits : ℕ) (width : (bits ≤ 128) × (hi +ℤ pos 1 ≡ lo +ℤ pos (2 ^ bits))) where
   answered : (v : ℤ) (r : Option T) → IsNumberText lo radix text v → ((z : ℤ) → IsNumberText lo radix text z → z ≡ v) → Checks value lo hi v r → ReadsNumber value lo hi radix text r
   answered v None t only k = λ z reads. k (subst (IsHeld lo hi) (only z reads.number) reads.held)

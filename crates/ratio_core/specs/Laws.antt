@@ -1,4 +1,4 @@
--- The laws of sums and products of fractions, by the lowest terms that the calls answer. A fraction is a pair here.
+-- The laws of sums and products of fractions in lowest terms. A fraction is a pair here.
 use Rattle.std.specs.Prelude.{◌≡◌, ◌<ℤ◌, ℤ, Bool, pos}
 use Rattle.ratio_integer.specs.Arithmetic.{DifferenceHeld, SumHeld, difference_of, product_of, sum_of}
 use Rattle.ratio_integer.specs.Fraction.{Fits, IsLowestTermsOf}
@@ -17,7 +17,7 @@ IsProduct x y z = IsLowestTermsOf (product_of x.0 x.1 y.0 y.1).0 (product_of x.0
 abbrev pub SumsCommute : Type 0
 SumsCommute = (x y left right : ℤ × ℤ) → IsSum x y left → IsSum y x right → left ≡ right
 
--- (x + y) + z is x + (y + z), where each of the four sums is answered
+-- (x + y) + z is x + (y + z), if all four sums are `Some`
 abbrev pub SumsAssociate : Type 0
 SumsAssociate =
     (x y z xy yz left right : ℤ × ℤ) → IsSum x y xy → IsSum xy z left → IsSum y z yz → IsSum x yz right → left ≡ right
@@ -42,11 +42,11 @@ ProductsDistribute =
     → IsSum xy xz right
     → left ≡ right
 
--- where x + y is answered, so is y + x
+-- if `SumCondition` holds of x and y, it holds of y and x
 abbrev pub SumConditionsCommute : Type 0
 SumConditionsCommute = (exact : Bool) (lo hi a b c d : ℤ) → SumCondition exact lo hi a b c d → SumCondition exact lo hi c d a b
 
--- a sum formed over the least common denominator fits, so a type of exact sums answers all that another would
+-- a sum computed over the least common denominator fits, so a type of exact sums loses no result
 abbrev pub FormedSumsFit : Type 0
 FormedSumsFit =
     (lo hi a b c d : ℤ)
@@ -56,7 +56,7 @@ FormedSumsFit =
     → SumHeld lo hi a b c d
     → Fits lo hi (sum_of a b c d).0 (sum_of a b c d).1
 
--- a difference formed over the least common denominator fits
+-- a difference computed over the least common denominator fits
 abbrev pub FormedDifferencesFit : Type 0
 FormedDifferencesFit =
     (lo hi a b c d : ℤ)

@@ -2,11 +2,16 @@ pub mod Cancelling
 pub mod Conditions
 pub mod ContinuedFraction
 pub mod Convergents
+pub mod Decimal
+pub mod Enclosing
+pub mod Floats
+pub mod FromQuotients
 pub mod Laws
 pub mod Moving
 pub mod Nearest
 pub mod NearestLaws
 pub mod Order
+pub mod Parts
 pub mod Power
 pub mod PowerLaws
 pub mod Printing
@@ -14,4 +19,7 @@ pub mod Reading
 pub mod Refusal
 pub mod Rounding
 pub mod RoundingLaws
+pub mod RoundingRules
 pub mod Signs
+pub mod Simplest
+pub mod SimplestLaws

@@ -1,34 +1,33 @@
--- How fractions stand to one another, by their cross products.
+-- The order of fractions, by their cross products.
 use Rattle.std.specs.Prelude.{◌≡◌, ◌≢◌, ◌⊎◌, ◌≤ℤ◌, ◌<ℤ◌, ◌*ℤ◌, ℤ, pos, negsuc, Result, Ok, Err}
 use Rattle.std.specs.Ordering.{MatchOrdering, int_cmp}
 use Rattle.std.specs.declared.cmp.Ordering.{Ordering}
 use Rattle.ratio_integer.specs.Division.{IsFloored}
 use Rattle.ratio_integer.specs.Range.{IsHeld}
 
--- the sign of a number is -1 where it is below 0, and else 1
+-- -1 for a number below 0, and else 1
 abbrev pub sign : ℤ → ℤ
 sign (pos n) = pos 1
 sign (negsuc n) = negsuc 0
 
--- n/d stands to m/e as n*e does to m*d where d and e have one sign, and the other way round where they do not
+-- the order of n*e and m*d, for n/d and m/e; it is reversed where d*e is below 0. For 1/2 and 2/3 it is the order of 3 and 4
 unfoldable pub cross_cmp : ℤ → ℤ → ℤ → ℤ → Ordering
 cross_cmp n d m e = int_cmp (sign (d *ℤ e) *ℤ (n *ℤ e)) (sign (d *ℤ e) *ℤ (m *ℤ d))
 
--- one of the two is below 0, and the other is not
+-- one of two numbers is below 0, and the other is not
 abbrev pub HaveUnlikeSigns : ℤ → ℤ → Type 0
 HaveUnlikeSigns d e = ((d <ℤ pos 0) × (pos 0 ≤ℤ e)) ⊎ ((pos 0 ≤ℤ d) × (e <ℤ pos 0))
 
--- the type holds both cross products of n/d and m/e
+-- both cross products of n/d and m/e are in range
 pub record AreProductsHeld (lo hi n d m e : ℤ) : Type 0 where
   pub left : IsHeld lo hi (n *ℤ e)
   pub right : IsHeld lo hi (m *ℤ d)
 
--- both denominators are positive, and they are one number or exactly one of the numerators is below 0: the numerators stand as
--- the fractions do
+-- both denominators are positive, and they are equal or exactly one numerator is below 0; then the numerators have the order of the fractions
 abbrev pub DoNumeratorsDecide : ℤ → ℤ → ℤ → ℤ → Type 0
 DoNumeratorsDecide n d m e = (pos 0 <ℤ d) × (pos 0 <ℤ e) × ((d ≡ e) ⊎ HaveUnlikeSigns n m)
 
--- the floored quotient of n/d is another number than q, and at most hi, and q stands to it so
+-- the order of q and the floored quotient of n/d; the two differ, and the quotient is at most hi
 pub record IsOrderOfQuotients (hi q n d : ℤ) (order : Ordering) : Type 0 where
   pub quotient : ℤ
   pub rest : ℤ
@@ -36,13 +35,13 @@ pub record IsOrderOfQuotients (hi q n d : ℤ) (order : Ordering) : Type 0 where
   pub below : quotient ≤ℤ hi
   pub apart : MatchOrdering order (q <ℤ quotient) ⊥ (quotient <ℤ q)
 
--- the answer is the rest of n/d where q is its floored quotient, and else how q stands to that
+-- the result is the rest of n/d if q is its floored quotient, and else the order of q and that quotient
 abbrev pub FollowsQuotient : {T : Type 0} → (T → ℤ) → ℤ → ℤ → ℤ → ℤ → Result T Ordering → Type 0
 FollowsQuotient value hi q n d (Ok rest) = IsFloored n d q (value rest)
 FollowsQuotient value hi q n d (Err order) = IsOrderOfQuotients hi q n d order
 
--- the whole parts p and q and the rests r and s decide the order o: it is that of p and q where they differ, and where they are
--- equal, one without a rest is below one with a rest, and two without are equal
+-- o is the order of the whole parts p and q. If these are equal, a fraction without a rest is
+-- below one with a rest, and two without a rest are equal; r and s are the rests
 abbrev pub IsOrderOfParts : ℤ → ℤ → ℤ → ℤ → Ordering → Type 0
 IsOrderOfParts p r q s o =
     MatchOrdering o

@@ -9,11 +9,11 @@ use Rattle.ratio_core.specs.Laws.{IsProduct, IsSum}
 use Rattle.ratio_core.specs.Power.{IsPower, IsReciprocal, PowerCondition}
 use Rattle.ratio_core.specs.Rounding.{IsFractionalPart, IsTruncation}
 
--- a number to the m is the product of m copies: 1 for none, and one more factor for one more copy
+-- z to the 0 is 1, and z to the m + 1 is z to the m times z
 abbrev pub PowersAreProducts : Type 0
 PowersAreProducts = (z : ℤ) → (int_pow z 0 ≡ pos 1) × ((m : ℕ) → int_pow z (m + 1) ≡ int_pow z m *ℤ z)
 
--- x to the e + f has the value of x to the e times x to the f, where all three are answered
+-- x to the e + f has the value of x to the e times x to the f, if all three are `Some`
 abbrev pub PowersAdd : Type 0
 PowersAdd =
     (lo hi n d e f : ℤ) (x y z : ℤ × ℤ)
@@ -34,7 +34,7 @@ ReciprocalsInvert = (n d a b : ℤ) → pos 0 <ℤ d → n ≢ pos 0 → IsRecip
 abbrev pub PartsAddUp : Type 0
 PartsAddUp = (n d t f : ℤ) (z : ℤ × ℤ) → pos 0 <ℤ d → IsTruncation n d t → IsFractionalPart n d f → IsSum (t, pos 1) (f, d) z → SameValue n d z.0 z.1
 
--- and this sum is always answered
+-- this sum is always `Some`, if both numbers of x are in range
 abbrev pub PartsAreAnswered : Type 0
 PartsAreAnswered =
     (exact : Bool) (lo hi n d t f : ℤ)

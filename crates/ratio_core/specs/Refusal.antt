@@ -3,7 +3,7 @@ use Rattle.std.specs.Prelude.{ℕ, List, codes}
 use Rattle.ratio_core.specs.declared.parse_error.RatioErrorKind.{RatioErrorKind}
 use Rattle.ratio_core.specs.declared.parse_error.RatioErrorKind.TheVariants.{ParseError, ZeroDenominator}
 
--- a refusal of each kind is printed as this text
+-- the text that a refusal of each kind prints
 abbrev pub refusal_text : RatioErrorKind → List ℕ
 refusal_text ParseError = codes "failed to parse integer"
 refusal_text ZeroDenominator = codes "zero value denominator"

@@ -13,22 +13,22 @@ IsNegative n d = (n *ℤ d) <ℤ pos 0
 abbrev pub IsPositive : ℤ → ℤ → Type 0
 IsPositive n d = pos 0 <ℤ (n *ℤ d)
 
--- s is the sign of n/d: 1, 0 or -1 as its value is above 0, 0 or below 0
+-- s is the sign of n/d: 1, 0 or -1, as its value is above 0, 0 or below 0
 pub record IsSign (n d s : ℤ) : Type 0 where
   pub above : IsPositive n d → s ≡ pos 1
   pub zero : n ≡ pos 0 → s ≡ pos 0
   pub below : IsNegative n d → s ≡ negsuc 0
 
--- a/d is the absolute value of n/d: a is -n where n/d is below 0, and n where it is not
+-- a/d is the absolute value of n/d: a is -n if n/d is below 0, and else n
 pub record IsAbsolute (n d a : ℤ) : Type 0 where
   pub below : IsNegative n d → a ≡ neg_ℤ n
   pub not_below : ¬ (IsNegative n d) → a ≡ n
 
--- where a/b is above c/d, their difference is answered
+-- if a/b is above c/d, their `DifferenceCondition` holds
 abbrev pub PositiveDifferenceCondition : Bool → ℤ → ℤ → ℤ → ℤ → ℤ → ℤ → Type 0
 PositiveDifferenceCondition exact lo hi a b c d = cross_cmp a b c d ≡ Greater → DifferenceCondition exact lo hi a b c d
 
--- x/y is the lowest terms of a/b - c/d where a/b is above c/d, and 0/1 where it is not
+-- x/y is the lowest terms of a/b - c/d, in range, if a/b is above c/d; else it is 0/1
 pub record IsPositiveDifference (lo hi a b c d x y : ℤ) : Type 0 where
   pub above : cross_cmp a b c d ≡ Greater → IsHeldLowestOf lo hi (difference_of a b c d) x y
   pub not_above : cross_cmp a b c d ≢ Greater → (x ≡ pos 0) × (y ≡ pos 1)

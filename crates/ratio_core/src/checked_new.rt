@@ -1,18 +1,17 @@
-//! The lowest terms of a fraction, where the type holds them.
+//! The lowest terms of a fraction, if they fit the type.
 ghost use Rattle.std.specs.Prelude.{pos};
 ghost use Rattle.ratio_integer.specs.Fraction.{ChecksLowest};
 ghost use Rattle.ratio_core.specs.Cancelling.{IsCancelled};
 
-use ratio_integer::{Integer, cancelled};
+use ratio_integer::{Integer, both_held, cancelled};
 
-/// The lowest terms of `n/d`, or `None` where `d` is 0 or the type does not hold them. Either
-/// number may be the least one.
+/// The lowest terms of `n/d`, or `None` if `d` is 0 or they do not fit the type. Over `i8`, 6/-4 gives -3/2,
+/// and -128/-1 gives `None`. Either number may be the least one.
 pub fn checked_new<T: Integer>(n: T, d: T) -> Option<(T, T)>
     ensures { ChecksLowest (λ r. T.value r.0) (λ r. T.value r.1) T.lo T.hi (T.value n, T.value d) result }
 {
     if d.is_one() {
-        let _ = n.held();
-        let _ = d.held();
+        both_held(n, d);
         return Some((n, d));
     }
     if d.is_zero() {
@@ -21,7 +20,7 @@ pub fn checked_new<T: Integer>(n: T, d: T) -> Option<(T, T)>
     if n.is_zero() {
         return Some((T::ZERO, T::ONE));
     }
-    // The greatest common divisor of the least number and itself may not be held.
+    // The gcd of the least number and itself may not fit the type.
     if n == d {
         return Some((T::ONE, T::ONE));
     }
@@ -29,7 +28,7 @@ pub fn checked_new<T: Integer>(n: T, d: T) -> Option<(T, T)>
     sign_moved(numer, denom)
 }
 
-// The same fraction with a positive denominator, or `None` where the type does not hold it.
+// The same fraction with a positive denominator, or `None` if it does not fit the type.
 fn sign_moved<T: Integer>(a: T, b: T) -> Option<(T, T)>
     requires { IsCancelled (T.value a) (T.value b) }
     ensures { ChecksLowest (λ r. T.value r.0) (λ r. T.value r.1) T.lo T.hi (T.value a, T.value b) result }
@@ -43,8 +42,7 @@ fn sign_moved<T: Integer>(a: T, b: T) -> Option<(T, T)>
             },
         }
     } else {
-        let _ = a.held();
-        let _ = b.held();
+        both_held(a, b);
         Some((a, b))
     }
 }

@@ -1,11 +1,10 @@
-//! What the codes of a fraction are handed to, one after another.
+//! A list that takes the codes of a fraction, one after another.
 ghost use Rattle.std.specs.Prelude.{◌≡◌, ℤ, List, [], ◌∷◌, ◌++◌};
 
 use ratio_integer::Integer;
 
-/// A list that takes integers at its end: an array that keeps them, or a hasher that is fed with
-/// them. Contracts see the numbers that it has taken so far; a list that does not keep them has a
-/// `Taken` beside what it does keep.
+/// A list that takes integers at its end: an array that keeps them, or a hasher that is fed with them.
+/// Contracts see all numbers that it has taken. A list that does not keep its numbers has a `Taken` for them.
 pub trait CodeList<T: Integer> {
     // The numbers taken so far.
     ghost taken: { Self → List ℤ };

@@ -1,16 +1,17 @@
-//! The codes by which a fraction is hashed, over its fields.
+//! The codes by which a fraction is hashed.
 ghost use Rattle.std.specs.Prelude.{◌≡◌, ◌≢◌, ◌+◌, ℕ, ℤ, pos, fold, List, ◌++◌};
 ghost use Rattle.ratio_core.specs.ContinuedFraction.{AreCodesCounted, IsCodeCount, IsCodesOf, TellsApart};
 
 use crate::code_list::CodeList;
 use crate::order::dividing::{divide_left, is_above_max};
 use crate::steps::Steps;
-use ratio_integer::Integer;
+use ratio_integer::{Integer, both_held};
 
-/// Hands the codes of `n/d` to `list`: the quotients of its continued fraction, then 0. The quotient
-/// `hi + 1`, which the type does not hold, stands as the least number, twice. Fractions of one value
-/// have one list of codes, for denominators of either sign, reduced or not, and other fractions have
-/// others.
+/// Hands the codes of `n/d` to `list`: the quotients of its continued fraction, and then 0. The codes of 7/3
+/// are 2, 3 and 0. The quotient `hi + 1`, which does not fit the type, is written as the least number, twice.
+///
+/// Fractions of the same value have the same codes, reduced or not, with a denominator of either sign.
+/// Fractions of different values have different codes.
 pub fn hash_counted<T: Integer, L: CodeList<T>>(n: T, d: T, list: &mut L, steps: &mut Steps)
     requires { T.value d ≢ pos 0 }
     ensures codes { (codes : List ℤ) × IsCodesOf T.lo T.hi (T.value n) (T.value d) codes
@@ -20,12 +21,11 @@ pub fn hash_counted<T: Integer, L: CodeList<T>>(n: T, d: T, list: &mut L, steps:
         × IsCodeCount T.hi (T.value n) (T.value d) k }
     ensures right { steps.new.right ≡ steps.old.right }
 {
-    let _ = n.held();
-    let _ = d.held();
+    both_held(n, d);
     take_codes(n, d, list, steps);
 }
 
-/// Euclid's algorithm, each quotient handed to `list`.
+/// Euclid's algorithm: hands each quotient to `list`.
 fn take_codes<T: Integer, L: CodeList<T>>(n: T, d: T, list: &mut L, steps: &mut Steps)
     requires { T.value d ≢ pos 0 }
     ensures taken { (codes : List ℤ) × (k : ℕ)
@@ -38,7 +38,6 @@ fn take_codes<T: Integer, L: CodeList<T>>(n: T, d: T, list: &mut L, steps: &mut 
     'rounds: while !is_above_max(numer, denom) {
         // A number over 1 is its own quotient: a step without a division.
         if denom.is_one() {
-            let _ = numer.held();
             steps.tick_left();
             list.take(numer);
             list.take(T::ZERO);
@@ -58,7 +57,7 @@ fn take_codes<T: Integer, L: CodeList<T>>(n: T, d: T, list: &mut L, steps: &mut 
     list.take(T::ZERO);
 }
 
-/// Hands both to `list`.
+/// Hands both to `list`, in this order.
 fn take_both<T: Integer, L: CodeList<T>>(list: &mut L, first: T, second: T)
     ensures { list.new ≡ L.after (L.after list.old (T.value first)) (T.value second) }
 {

@@ -1,33 +1,37 @@
-//! The laws of sums and products: each function's contract is the law, and it does nothing. An
-//! answer of `checked_add` or `checked_mul` is the sum or the product that they speak of.
+//! The laws of this crate. Each function does nothing: its contract is the law. If `checked_add` or
+//! `checked_mul` returns `Some`, that is a sum or a product as the laws mean it.
+ghost use Rattle.ratio_core.specs.FromQuotients.{FractionsAreLowest, QuotientsGiveBack};
 ghost use Rattle.ratio_core.specs.Laws.{FormedDifferencesFit, FormedSumsFit, ProductsAssociate, ProductsCommute, ProductsDistribute, SumConditionsCommute, SumsAssociate, SumsCommute};
 ghost use Rattle.ratio_core.specs.NearestLaws.{LowestIsNearest, NearestIsLowest, OneIsNearest, SameValueSameNearest};
 ghost use Rattle.ratio_core.specs.PowerLaws.{PartsAddUp, PartsAreAnswered, PowersAdd, PowersAreProducts, ReciprocalsInvert};
 ghost use Rattle.ratio_core.specs.Rounding.{IsCeiling, IsFloor, IsRounded, IsTruncation};
 ghost use Rattle.ratio_core.specs.RoundingLaws.{CeilingsAreNextToFloors, EachHasOne, IsByValue};
+ghost use Rattle.ratio_core.specs.RoundingRules.{HalvesDifferAtTies, IsRoundedBy, RoundedIsMonotone, RoundedIsNear};
+ghost use Rattle.ratio_core.specs.SimplestLaws.{OneIsSimplest, SameValuesSameSimplest, SimplestIsLowest};
+ghost use Rattle.ratio_core.specs.declared.rounding_rule.Rounding.{Rounding};
 
-/// Sums in lowest terms.
+/// Laws of sums in lowest terms.
 pub fn sums()
     ensures commute { SumsCommute }
     ensures associate { SumsAssociate }
 {}
 
-/// Products in lowest terms.
+/// Laws of products in lowest terms.
 pub fn products()
     ensures commute { ProductsCommute }
     ensures associate { ProductsAssociate }
     ensures distribute { ProductsDistribute }
 {}
 
-/// What sums and differences ask.
+/// Laws of what sums and differences require.
 pub fn conditions()
     ensures commute { SumConditionsCommute }
     ensures formed_sums_fit { FormedSumsFit }
     ensures formed_differences_fit { FormedDifferencesFit }
 {}
 
-/// Whole numbers near a fraction: each fraction has one floor, one ceiling, one truncation and one
-/// rounded value.
+/// Each fraction has exactly one floor, one ceiling, one truncation and one rounded value. The ceiling is the floor or
+/// one more.
 pub fn roundings()
     ensures floors { EachHasOne IsFloor }
     ensures ceilings { EachHasOne IsCeiling }
@@ -36,7 +40,7 @@ pub fn roundings()
     ensures next { CeilingsAreNextToFloors }
 {}
 
-/// They turn on the value of a fraction alone, reduced or not.
+/// These depend only on the value of a fraction, reduced or not: the floor of 7/2 and of 14/4 is 3.
 pub fn roundings_by_value()
     ensures floors { IsByValue IsFloor }
     ensures ceilings { IsByValue IsCeiling }
@@ -44,23 +48,47 @@ pub fn roundings_by_value()
     ensures rounded { IsByValue IsRounded }
 {}
 
-/// Reciprocals and powers.
+/// By each rule, a fraction has exactly one rounded value. It depends only on the fraction's value, is less than 1
+/// away, and never falls as the fraction grows. `HalfAway` and `HalfEven` differ only at a tie, such as 5/2.
+pub fn rounding_rules()
+    ensures one { (rule : Rounding) → EachHasOne (IsRoundedBy rule) }
+    ensures value { (rule : Rounding) → IsByValue (IsRoundedBy rule) }
+    ensures halves { HalvesDifferAtTies }
+    ensures near { RoundedIsNear }
+    ensures monotone { RoundedIsMonotone }
+{}
+
+/// Laws of reciprocals and powers.
 pub fn powers()
     ensures products { PowersAreProducts }
     ensures add { PowersAdd }
     ensures invert { ReciprocalsInvert }
 {}
 
-/// A fraction is the sum of its two parts, and this sum is always answered.
+/// A fraction is the sum of its two parts, and this sum is always `Some`.
 pub fn parts()
     ensures add_up { PartsAddUp }
     ensures answered { PartsAreAnswered }
 {}
 
-/// The nearest fraction with a bounded denominator, as `nearest` answers it.
+/// Laws of the nearest fraction with a bounded denominator, which `nearest` returns.
 pub fn nearest_fractions()
     ensures one { OneIsNearest }
     ensures lowest { NearestIsLowest }
     ensures own { LowestIsNearest }
     ensures value { SameValueSameNearest }
+{}
+
+/// Laws of the fraction with given quotients, which `from_quotients` returns. It is in lowest terms, and the
+/// quotients of a fraction in lowest terms give it back: those of 415/93 are 4, 2, 6 and 7.
+pub fn fractions_of_quotients()
+    ensures lowest { FractionsAreLowest }
+    ensures give_back { QuotientsGiveBack }
+{}
+
+/// Laws of the simplest fraction strictly between two others, which `simplest_between` returns.
+pub fn simplest_fractions()
+    ensures one { OneIsSimplest }
+    ensures lowest { SimplestIsLowest }
+    ensures value { SameValuesSameSimplest }
 {}

@@ -1,4 +1,4 @@
-//! The nearest fraction whose denominator is at most a bound, over the two numbers of each.
+//! The nearest fraction whose denominator is at most a bound.
 mod neighbour;
 
 ghost use Rattle.std.specs.Prelude.{◌≡◌, ◌<ℤ◌, ◌+◌, ℕ, pos, unsigned_abs};
@@ -10,11 +10,11 @@ ghost use Rattle.ratio_core.specs.Nearest.{IsNearest};
 use crate::nearest::neighbour::{Neighbour, first_of, moved, steps_towards};
 use crate::order::dividing::divide_left;
 use crate::steps::Steps;
-use ratio_integer::Integer;
+use ratio_integer::{Integer, both_held};
 
-/// Of all fractions with a denominator from 1 to `most` the one that lies nearest to `n/d`, in
-/// lowest terms; of two that lie as near the one with the smaller denominator, and of two whole
-/// numbers the lesser one.
+/// The nearest fraction to `n/d` with a denominator from 1 to `most`, in lowest terms.
+/// For 355/113 and 10 it is 22/7. Of two that are as near, it is the one with the smaller
+/// denominator, and of two whole numbers the smaller one: for 1/2 and 1 it is 0/1.
 pub fn nearest<T: Integer>(n: T, d: T, most: T) -> (T, T)
     requires positive { pos 0 <ℤ T.value d }
     requires room { pos 0 <ℤ T.value most }
@@ -24,11 +24,12 @@ pub fn nearest<T: Integer>(n: T, d: T, most: T) -> (T, T)
     nearest_counted(n, d, most, &mut Steps::new())
 }
 
-/// The same, by Euclid's algorithm, with every division counted: the left side divides what is left
-/// of `n/d`, the right side the room below `most`. The right side divides once for each convergent of
-/// `n/d`, other than `n/d` itself, whose denominator is at most `most`, and the left side once more.
-/// The convergents before 355/113 are 3/1 and 22/7: where `most` is 50, the left side divides three
-/// times and the right side twice. Each divides at most twice as often as `d` has binary digits.
+/// The same by Euclid's algorithm, counting each division. The left side divides the rests of `n/d`, and the
+/// right side divides the room below `most`.
+///
+/// The right side divides once for each convergent of `n/d` with a denominator of at most `most`, except for `n/d` itself.
+/// The left side divides once more. For example, the convergents before 355/113 are 3/1 and 22/7. If `most` is 50, the
+/// left side divides three times, and the right side twice. Each side divides at most twice for each binary digit of `d`.
 pub fn nearest_counted<T: Integer>(n: T, d: T, most: T, steps: &mut Steps) -> (T, T)
     requires positive { pos 0 <ℤ T.value d }
     requires room { pos 0 <ℤ T.value most }
@@ -39,8 +40,7 @@ pub fn nearest_counted<T: Integer>(n: T, d: T, most: T, steps: &mut Steps) -> (T
     ensures left { (k : ℕ) × (steps.new.left ≡ steps.old.left + k) × IsWithinBits (unsigned_abs (T.value d)) k }
     ensures right { (k : ℕ) × (steps.new.right ≡ steps.old.right + k) × IsWithinBits (unsigned_abs (T.value d)) k }
 {
-    let _ = n.held();
-    let _ = d.held();
+    both_held(n, d);
     let _ = most.held();
     let (floor, rest) = divide_left(n, d, steps);
     if rest.is_zero() {

@@ -1,26 +1,27 @@
 //! Reciprocals and powers.
 //!
-//! A power is formed by squaring, one turn for each binary digit of the exponent, and each turn serves both numbers. A
-//! square that no factor is left for is not formed, so that a power is answered where the type holds it, though it may
-//! not hold the next square. 0, 1 and -1 have a power with each exponent.
+//! A power is computed by squaring, for both numbers in one loop: it takes one turn for each binary digit of the
+//! exponent but the last. It computes no square that it does not use. So over `i8`, 10 to the 2 is `Some`, though the
+//! next square, 10 to the 4, does not fit. All powers of 0, 1 and -1 fit, but a negative power of 0 does not exist.
+pub mod lowest;
+
 ghost use Rattle.std.specs.Prelude.{◌≡◌, ◌≢◌, ◌<ℤ◌, ◌*ℤ◌, pos, neg_ℤ};
 ghost use Rattle.ratio_integer.specs.Range.{IsHeld};
 ghost use Rattle.ratio_core.specs.Power.{ChecksBoth, ChecksPower, ChecksReciprocal, IsPower, IsReciprocal, PowerCondition};
 
 use crate::exponent::Exponent;
 use crate::sign::is_below_zero;
-use ratio_integer::Integer;
+use ratio_integer::{Integer, both_held};
 
-/// The reciprocal, its sign above: `-3/2` for `-2/3`. It is not reduced. Only the least number has no
-/// negative.
+/// The reciprocal, with its sign in the numerator: `-3/2` for `-2/3`. It is not reduced. If `n` is negative,
+/// `-n` must fit the type. Over `i8`, only -128 has no negative.
 pub fn recip<T: Integer>(n: T, d: T) -> (T, T)
     requires positive { pos 0 <ℤ T.value d }
     requires nonzero { T.value n ≢ pos 0 }
     requires held { T.value n <ℤ pos 0 → IsHeld T.lo T.hi (neg_ℤ (T.value n)) }
     ensures { IsReciprocal (T.value n) (T.value d) (T.value result.0) (T.value result.1) }
 {
-    let _ = n.held();
-    let _ = d.held();
+    both_held(n, d);
     if is_below_zero(n) {
         (negative(d), negative(n))
     } else {
@@ -28,7 +29,7 @@ pub fn recip<T: Integer>(n: T, d: T) -> (T, T)
     }
 }
 
-/// `n/d` to the `e`, or `None` where the type does not hold it: see `checked_pow_with`.
+/// `n/d` to the `e`, or `None` if it does not fit the type: see `checked_pow_with`.
 pub fn checked_pow<T: Integer>(n: T, d: T, e: i32) -> Option<(T, T)>
     requires { pos 0 <ℤ T.value d }
     ensures { ChecksPower (λ r. T.value r.0) (λ r. T.value r.1) T.lo T.hi (T.value n) (T.value d) e result }
@@ -36,7 +37,7 @@ pub fn checked_pow<T: Integer>(n: T, d: T, e: i32) -> Option<(T, T)>
     checked_pow_with(n, d, e)
 }
 
-/// `n/d` to the `e`. The test is `checked_pow`.
+/// `n/d` to the `e`. It requires that `checked_pow` returns `Some`.
 pub fn pow<T: Integer>(n: T, d: T, e: i32) -> (T, T)
     requires positive { pos 0 <ℤ T.value d }
     requires answered { PowerCondition T.lo T.hi (T.value n) (T.value d) e }
@@ -45,20 +46,22 @@ pub fn pow<T: Integer>(n: T, d: T, e: i32) -> (T, T)
     pow_with(n, d, e)
 }
 
-/// `n/d` to the `e`, each number to the `e` and not reduced: 1/1 for the exponent 0, also of 0, and for
-/// a negative one the reciprocal of the power with its magnitude. `None` exactly where one of the two
-/// numbers is not held, and, for a negative exponent, where `n` is 0 or a sign cannot be moved.
+/// `n/d` to the `e`: each number to the `e`, not reduced. For the exponent 0 it is 1/1, also for 0/1. For a
+/// negative exponent it is the reciprocal of the power with its magnitude: 2/4 to the -2 is 16/4.
+///
+/// The call returns `None` exactly if one of the two powers does not fit the type or, for a negative
+/// exponent, if `n` is 0 or the sign cannot be moved. Over `i8`, -128/1 to the -1 would be -1/128.
 pub fn checked_pow_with<T: Integer, E: Exponent>(n: T, d: T, e: E) -> Option<(T, T)>
     requires { pos 0 <ℤ T.value d }
     ensures { ChecksPower (λ r. T.value r.0) (λ r. T.value r.1) T.lo T.hi (T.value n) (T.value d) (E.number e) result }
 {
-    // n/d is d/n turned over, so one way serves exponents of both signs.
+    // n/d is the reciprocal of d/n, so `checked_recip` serves exponents of both signs.
     let (upper, lower) = if e.is_below_zero() { (n, d) } else { (d, n) };
     let (upper, lower) = try_powers(upper, lower, e.magnitude())?;
     checked_recip(upper, lower)
 }
 
-/// `n/d` to the `e`. The test is `checked_pow_with`.
+/// `n/d` to the `e`. It requires that `checked_pow_with` returns `Some`.
 pub fn pow_with<T: Integer, E: Exponent>(n: T, d: T, e: E) -> (T, T)
     requires positive { pos 0 <ℤ T.value d }
     requires answered { PowerCondition T.lo T.hi (T.value n) (T.value d) (E.number e) }
@@ -70,7 +73,7 @@ pub fn pow_with<T: Integer, E: Exponent>(n: T, d: T, e: E) -> (T, T)
     }
 }
 
-// Both numbers to the `exponent`, or `None` where the type does not hold both.
+// Both numbers to the `exponent`, or `None` if one of the powers does not fit the type.
 fn try_powers<T: Integer>(n: T, d: T, exponent: u128) -> Option<(T, T)>
     ensures { ChecksPower (λ r. T.value r.0) (λ r. T.value r.1) T.lo T.hi (T.value n) (T.value d) (pos exponent) result }
 {
@@ -82,19 +85,18 @@ fn try_powers<T: Integer>(n: T, d: T, exponent: u128) -> Option<(T, T)>
     let mut square = (n, d);
     let mut left = exponent / 2;
     'bits: while left > 0 {
-        // At least one factor is left, so this square is part of it.
+        // A digit of the exponent is left, so this square is a factor of the power.
         square = both_times(square, square)?;
         if left % 2 == 1 {
             power = both_times(power, square)?;
         }
         left /= 2;
     }
-    let _ = power.0.held();
-    let _ = power.1.held();
+    both_held(power.0, power.1);
     Some(power)
 }
 
-// The products of the first numbers and of the second ones, or `None` where the type does not hold both.
+// The products of the first numbers and of the second ones, or `None` if one does not fit the type.
 #[inline(always)]
 fn both_times<T: Integer>(x: (T, T), y: (T, T)) -> Option<(T, T)>
     ensures { ChecksBoth (λ r. T.value r.0) (λ r. T.value r.1) T.lo T.hi (T.value x.0 *ℤ T.value y.0) (T.value x.1 *ℤ T.value y.1) result }
@@ -102,7 +104,8 @@ fn both_times<T: Integer>(x: (T, T), y: (T, T)) -> Option<(T, T)>
     Some((x.0.try_times(y.0)?, x.1.try_times(y.1)?))
 }
 
-/// The reciprocal, its sign above and not reduced, or `None` where there is none or its sign cannot be moved.
+/// The reciprocal, with its sign in the numerator, not reduced. `None` if `n` is 0 or the sign cannot be
+/// moved: over `i8`, the reciprocal of -128/3 would be -3/128.
 pub fn checked_recip<T: Integer>(n: T, d: T) -> Option<(T, T)>
     requires { T.value n <ℤ pos 0 → pos 0 <ℤ T.value d }
     ensures { ChecksReciprocal (λ r. T.value r.0) (λ r. T.value r.1) T.lo T.hi (T.value n) (T.value d) result }
@@ -110,8 +113,7 @@ pub fn checked_recip<T: Integer>(n: T, d: T) -> Option<(T, T)>
     if n.is_zero() {
         return None;
     }
-    let _ = n.held();
-    let _ = d.held();
+    both_held(n, d);
     if is_below_zero(n) {
         let denom = T::ZERO.try_minus(n)?;
         Some((negative(d), denom))
@@ -120,7 +122,6 @@ pub fn checked_recip<T: Integer>(n: T, d: T) -> Option<(T, T)>
     }
 }
 
-// The negative.
 fn negative<T: Integer>(z: T) -> T
     requires { IsHeld T.lo T.hi (neg_ℤ (T.value z)) }
     ensures { T.value result ≡ neg_ℤ (T.value z) }

@@ -1,7 +1,7 @@
-//! Whole numbers near a fraction, and the number as a machine integer.
+//! Whole numbers near a fraction, and its whole part as a machine integer.
 //!
-//! Each call asks for a positive denominator and nothing more. It divides once, and what it forms lies
-//! between the ends of the type: nothing is doubled, and nothing is added before the division.
+//! Each call requires only a positive denominator. It divides once, and no step overflows: nothing is
+//! doubled, and nothing is added before the division.
 ghost use Rattle.std.specs.Prelude.{◌≡◌, ◌↔◌, ◌-◌, ◌^◌, ◌<ℤ◌, ◌+ℤ◌, ◌-ℤ◌, pos, negsuc, IsTrue};
 ghost use Rattle.ratio_integer.specs.Range.{IsHeld};
 ghost use Rattle.ratio_core.specs.Rounding.{ChecksTruncation, IsBelowHalf, IsCeiling, IsTruncatedDivision, IsFloor, IsFractionalPart, IsRest, IsRounded, IsTruncation};
@@ -9,7 +9,7 @@ ghost use Rattle.ratio_core.specs.Rounding.{ChecksTruncation, IsBelowHalf, IsCei
 use crate::sign::{is_above_zero, is_below_zero};
 use ratio_integer::Integer;
 
-/// The greatest whole number that is not above `n/d`.
+/// The greatest whole number that is not above `n/d`: -4 for -7/2.
 pub fn floor<T: Integer>(n: T, d: T) -> T
     requires { pos 0 <ℤ T.value d }
     ensures { IsFloor (T.value n) (T.value d) (T.value result) }
@@ -22,7 +22,7 @@ pub fn floor<T: Integer>(n: T, d: T) -> T
     }
 }
 
-/// The least whole number that is not below `n/d`.
+/// The least whole number that is not below `n/d`: -3 for -7/2.
 pub fn ceil<T: Integer>(n: T, d: T) -> T
     requires { pos 0 <ℤ T.value d }
     ensures { IsCeiling (T.value n) (T.value d) (T.value result) }
@@ -35,7 +35,7 @@ pub fn ceil<T: Integer>(n: T, d: T) -> T
     }
 }
 
-/// The whole number next to `n/d` towards zero.
+/// `n/d` cut towards zero: -3 for -7/2.
 pub fn trunc<T: Integer>(n: T, d: T) -> T
     requires { pos 0 <ℤ T.value d }
     ensures { IsTruncation (T.value n) (T.value d) (T.value result) }
@@ -43,7 +43,7 @@ pub fn trunc<T: Integer>(n: T, d: T) -> T
     cut(n, d).0
 }
 
-/// The whole number nearest to `n/d`; a half is rounded away from zero.
+/// The whole number nearest to `n/d`. A half is rounded away from zero: 5/2 to 3.
 pub fn round<T: Integer>(n: T, d: T) -> T
     requires { pos 0 <ℤ T.value d }
     ensures { IsRounded (T.value n) (T.value d) (T.value result) }
@@ -58,7 +58,7 @@ pub fn round<T: Integer>(n: T, d: T) -> T
     }
 }
 
-/// The numerator of what `trunc` leaves, over the same denominator: 0 or of the sign of `n`.
+/// The numerator, over `d`, of `n/d` minus its `trunc`: -1 for -7/2. It is 0 or has the sign of `n`.
 pub fn fract<T: Integer>(n: T, d: T) -> T
     requires { pos 0 <ℤ T.value d }
     ensures { IsFractionalPart (T.value n) (T.value d) (T.value result) }
@@ -66,7 +66,7 @@ pub fn fract<T: Integer>(n: T, d: T) -> T
     cut(n, d).1
 }
 
-/// The whole number of `trunc`.
+/// The same as `trunc`.
 pub fn to_integer<T: Integer>(n: T, d: T) -> T
     requires { pos 0 <ℤ T.value d }
     ensures { IsTruncation (T.value n) (T.value d) (T.value result) }
@@ -74,7 +74,7 @@ pub fn to_integer<T: Integer>(n: T, d: T) -> T
     trunc(n, d)
 }
 
-/// The whole number of `trunc` as an `i64`, or `None` where that type does not hold it.
+/// `trunc` as an `i64`, or `None` if it does not fit that type.
 pub fn to_i64<T: Integer>(n: T, d: T) -> Option<i64>
     requires { pos 0 <ℤ T.value d }
     ensures { ChecksTruncation (λ y. y) (negsuc (2 ^ 63 - 1)) (pos (2 ^ 63 - 1)) (T.value n) (T.value d) result }
@@ -82,7 +82,7 @@ pub fn to_i64<T: Integer>(n: T, d: T) -> Option<i64>
     i64::from_i128(trunc(n, d).to_i128()?)
 }
 
-/// The whole number of `trunc` as an `i128`, or `None` where that type does not hold it.
+/// `trunc` as an `i128`, or `None` if it does not fit that type.
 pub fn to_i128<T: Integer>(n: T, d: T) -> Option<i128>
     requires { pos 0 <ℤ T.value d }
     ensures { ChecksTruncation (λ y. y) (negsuc (2 ^ 127 - 1)) (pos (2 ^ 127 - 1)) (T.value n) (T.value d) result }
@@ -90,7 +90,7 @@ pub fn to_i128<T: Integer>(n: T, d: T) -> Option<i128>
     trunc(n, d).to_i128()
 }
 
-/// The whole number of `trunc` as a `u64`, or `None` where that type does not hold it.
+/// `trunc` as a `u64`, or `None` if it does not fit that type.
 pub fn to_u64<T: Integer>(n: T, d: T) -> Option<u64>
     requires { pos 0 <ℤ T.value d }
     ensures { ChecksTruncation (λ y. pos y) (pos 0) (pos (2 ^ 64 - 1)) (T.value n) (T.value d) result }
@@ -98,7 +98,7 @@ pub fn to_u64<T: Integer>(n: T, d: T) -> Option<u64>
     u64::from_u128(trunc(n, d).to_u128()?)
 }
 
-/// The whole number of `trunc` as a `u128`, or `None` where that type does not hold it.
+/// `trunc` as a `u128`, or `None` if it does not fit that type.
 pub fn to_u128<T: Integer>(n: T, d: T) -> Option<u128>
     requires { pos 0 <ℤ T.value d }
     ensures { ChecksTruncation (λ y. pos y) (pos 0) (pos (2 ^ 128 - 1)) (T.value n) (T.value d) result }
@@ -106,7 +106,7 @@ pub fn to_u128<T: Integer>(n: T, d: T) -> Option<u128>
     trunc(n, d).to_u128()
 }
 
-// The quotient cut towards zero and what it leaves. By a positive number each number of the type may be divided.
+// The quotient cut towards zero, and the rest. A division by a positive number never overflows.
 fn cut<T: Integer>(n: T, d: T) -> (T, T)
     requires { pos 0 <ℤ T.value d }
     ensures cut { IsTruncatedDivision (T.value n) (T.value d) (T.value result.0) (T.value result.1) }
@@ -116,8 +116,8 @@ fn cut<T: Integer>(n: T, d: T) -> (T, T)
     n.div_rem(d)
 }
 
-// Whether a part of the denominator is less than half of it. Twice the part may not be held, so it is compared with what
-// lacks.
+// Whether twice `part` is nearer to 0 than `d`. Twice `part` may not fit the
+// type, so we compare `part` with the rest of `d`.
 fn is_below_half<T: Integer>(part: T, d: T) -> bool
     requires { IsRest (T.value d) (T.value part) }
     ensures { IsTrue result ↔ IsBelowHalf (T.value d) (T.value part) }
@@ -130,7 +130,6 @@ fn is_below_half<T: Integer>(part: T, d: T) -> bool
     }
 }
 
-// The whole number before.
 fn previous<T: Integer>(whole: T) -> T
     requires { IsHeld T.lo T.hi (T.value whole -ℤ pos 1) }
     ensures { T.value result ≡ T.value whole -ℤ pos 1 }
@@ -138,7 +137,6 @@ fn previous<T: Integer>(whole: T) -> T
     whole.minus(T::ONE)
 }
 
-// The whole number after.
 fn next<T: Integer>(whole: T) -> T
     requires { IsHeld T.lo T.hi (T.value whole +ℤ pos 1) }
     ensures { T.value result ≡ T.value whole +ℤ pos 1 }

@@ -1,4 +1,4 @@
-//! Signs of fractions, for denominators of either sign, and of numbers.
+//! Signs of fractions and of numbers. A denominator may have either sign.
 ghost use Rattle.std.specs.Prelude.{◌≡◌, ◌≢◌, ◌↔◌, ◌<ℤ◌, pos, neg_ℤ, IsTrue};
 ghost use Rattle.ratio_integer.specs.Range.{IsHeld};
 ghost use Rattle.ratio_core.specs.Signs.{IsAbsolute, IsNegative, IsPositive, IsPositiveDifference, IsSign, PositiveDifferenceCondition};
@@ -9,7 +9,7 @@ use crate::sums::sub;
 use ratio_integer::{Integer, SignedInteger};
 use std::cmp::Ordering;
 
-/// The numerator of the negative, over the same denominator.
+/// The numerator of the negative fraction, over the same denominator.
 pub fn neg<T: SignedInteger>(n: T) -> T
     requires { IsHeld T.lo T.hi (neg_ℤ (T.value n)) }
     ensures { T.value result ≡ neg_ℤ (T.value n) }
@@ -17,7 +17,7 @@ pub fn neg<T: SignedInteger>(n: T) -> T
     n.negate()
 }
 
-/// The numerator of the absolute value, over the same denominator.
+/// The numerator of the absolute value, over the same denominator: -1 for 1/-2.
 pub fn abs<T: SignedInteger>(n: T, d: T) -> T
     requires nonzero { T.value d ≢ pos 0 }
     requires held { IsNegative (T.value n) (T.value d) → IsHeld T.lo T.hi (neg_ℤ (T.value n)) }
@@ -26,8 +26,8 @@ pub fn abs<T: SignedInteger>(n: T, d: T) -> T
     if is_negative(n, d) { n.negate() } else { n }
 }
 
-/// The lowest terms of `a/b - c/d` where `a/b` is above `c/d`, and 0/1 where it is not. Where it is
-/// above, the test is `checked_sub`.
+/// The lowest terms of `a/b - c/d` if `a/b` is above `c/d`, and else 0/1. If it
+/// is above, the call requires that `checked_sub` returns `Some`.
 pub fn abs_sub<T: SignedInteger>(a: T, b: T, c: T, d: T) -> (T, T)
     requires left_positive { pos 0 <ℤ T.value b }
     requires right_positive { pos 0 <ℤ T.value d }

@@ -1,12 +1,12 @@
-//! What a list of codes has taken, where only contracts see it.
+//! The codes that a list has taken, which only contracts see.
 ghost use Rattle.std.specs.Prelude.{◌≡◌, ℤ, List, [], ◌∷◌, ◌++◌};
 ghost use Rattle.std.specs.Borrow.{ftrue};
 
 use ratio_integer::Integer;
 use std::marker::Model;
 
-/// The numbers of all codes that a list has taken, in their order. It has no bytes at run time, so a
-/// list that keeps no codes, as one over a hasher, has it beside what it feeds.
+/// The numbers of all codes that a list has taken, in their order. It takes no memory. A list that keeps no
+/// codes, such as one over a hasher, has a `Taken` for them.
 #[derive(Drop)]
 pub struct Taken {
     pub ghost codes: { List ℤ },
@@ -26,7 +26,7 @@ impl Taken {
         Taken {}
     }
 
-    /// One more code, at the end.
+    /// Adds one code at the end.
     pub fn note<T: Integer>(&mut self, _t: &T)
         ensures { self.new ≡ record { codes = self.old.codes ++ T.value _t.now ∷ [] } }
     {}

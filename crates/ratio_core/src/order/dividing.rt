@@ -1,12 +1,13 @@
-//! The two floored divisions of the order and of the codes, each of which is a step of its side.
+//! The floored divisions of comparing and hashing. Each is one step of its side.
 ghost use Rattle.std.specs.Prelude.{◌≡◌, ◌≢◌, ◌↔◌, ◌≤ℤ◌, ◌+◌, pos, IsTrue};
 ghost use Rattle.ratio_integer.specs.Division.{IsAboveMax, IsFloored};
+ghost use Rattle.ratio_integer.specs.Range.{IsHeld};
 
 use crate::sign::is_below_zero;
 use crate::steps::Steps;
-use ratio_integer::Integer;
+use ratio_integer::{Integer, both_held};
 
-/// A step of the left side: the floored quotient, and what is left over.
+/// A step of the left side: the floored quotient and the rest. For -7 by 2 they are -4 and 1.
 pub(crate) fn divide_left<T: Integer>(n: T, d: T, steps: &mut Steps) -> (T, T)
     requires nonzero { T.value d ≢ pos 0 }
     requires held { ¬ (IsAboveMax T.hi (T.value n) (T.value d)) }
@@ -21,7 +22,7 @@ pub(crate) fn divide_left<T: Integer>(n: T, d: T, steps: &mut Steps) -> (T, T)
     division
 }
 
-/// A step of the right side: the floored quotient, and what is left over.
+/// A step of the right side: the floored quotient and the rest.
 pub(crate) fn divide_right<T: Integer>(n: T, d: T, steps: &mut Steps) -> (T, T)
     requires nonzero { T.value d ≢ pos 0 }
     requires held { ¬ (IsAboveMax T.hi (T.value n) (T.value d)) }
@@ -36,12 +37,12 @@ pub(crate) fn divide_right<T: Integer>(n: T, d: T, steps: &mut Steps) -> (T, T)
     division
 }
 
-/// Whether the pair is `-hi-1` over -1, whose quotient the type does not hold.
+/// Whether the pair is `-hi-1` over -1. Its quotient `hi+1` does not fit the type: over `i8`, -128/-1 is 128.
 pub(crate) fn is_above_max<T: Integer>(n: T, d: T) -> bool
-    ensures { IsTrue result ↔ IsAboveMax T.hi (T.value n) (T.value d) }
+    ensures answer { IsTrue result ↔ IsAboveMax T.hi (T.value n) (T.value d) }
+    ensures held { IsHeld T.lo T.hi (T.value n) }
 {
-    let _ = n.held();
-    let _ = d.held();
+    both_held(n, d);
     is_below_zero(d)
         && is_below_zero(n)
         && d.plus(T::ONE).is_zero()

@@ -1,15 +1,15 @@
-//! A step of the right side after one of the left side: most quotients are the same, and a product shows that.
+//! A step of the right side after one of the left side. Most quotients are the same, and a product shows that.
 ghost use Rattle.std.specs.Prelude.{◌≡◌, ◌≢◌, ◌<ℤ◌, ◌+◌, pos, IfSome};
 ghost use Rattle.ratio_integer.specs.Division.{IsAboveMax};
 ghost use Rattle.ratio_core.specs.Order.{FollowsQuotient};
 
 use crate::order::dividing::divide_right;
 use crate::steps::Steps;
-use ratio_integer::Integer;
+use ratio_integer::{Integer, both_held};
 use std::cmp::Ordering;
 
-/// A step of the right side: what is left over where `quotient` is its floored quotient, and else
-/// how `quotient` stands to that.
+/// A step of the right side. If `quotient` is the floored quotient of `n/d`, it returns the rest, as `Ok`. Else it returns
+/// how `quotient` compares with that, as `Err`. For `quotient` 2, 9/4 gives `Ok(1)`, and 5/4 gives `Err(Greater)`.
 pub(crate) fn follow_right<T: Integer>(
     quotient: T,
     n: T,
@@ -35,13 +35,12 @@ pub(crate) fn follow_right<T: Integer>(
     }
 }
 
-// The same without a division, or `None` where the product of the two is below all numbers of the type.
+// The same without a division. `None` if the product of `quotient` and `d` is below all numbers of the type.
 fn follow_by_product<T: Integer>(quotient: T, n: T, d: T) -> Option<Result<T, Ordering>>
     requires positive { pos 0 <ℤ T.value d }
     ensures { IfSome result (λ followed. FollowsQuotient T.value T.hi (T.value quotient) (T.value n) (T.value d) followed) }
 {
-    let _ = n.held();
-    let _ = d.held();
+    both_held(n, d);
     let product = match quotient.try_times(d) {
         Some(product) => product,
         None if T::ZERO < quotient => return Some(Err(Ordering::Greater)),

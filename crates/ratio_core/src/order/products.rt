@@ -1,4 +1,4 @@
-//! The order of fractions by their cross products, where the type holds both.
+//! Comparing fractions by their cross products, if both fit the type.
 ghost use Rattle.std.specs.Prelude.{◌≡◌, ◌≢◌, pos, MatchOption};
 ghost use Rattle.ratio_core.specs.Order.{AreProductsHeld, cross_cmp};
 
@@ -6,7 +6,7 @@ use crate::order::signs::have_unlike_signs;
 use ratio_integer::Integer;
 use std::cmp::Ordering;
 
-/// How `n/d` stands to `m/e` by their cross products, or `None` where the type does not hold both.
+/// The order of `n/d` and `m/e` by their cross products, or `None` if one of these does not fit the type.
 #[inline(always)]
 pub(crate) fn order_of_products<T: Integer>(n: T, d: T, m: T, e: T) -> Option<Ordering>
     requires left_nonzero { T.value d ≢ pos 0 }

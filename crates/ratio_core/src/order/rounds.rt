@@ -1,4 +1,4 @@
-//! The order of fractions by rounds of Euclid's algorithm on both, a step a side and round.
+//! Comparing fractions by rounds of Euclid's algorithm on both. A round takes one step a side.
 ghost use Rattle.std.specs.Prelude.{◌≡◌, ◌≢◌, ◌+ℤ◌, ℤ, pos, cond, MatchOption};
 ghost use Rattle.std.specs.Ordering.{ordering_reverse};
 ghost use Rattle.ratio_core.specs.ContinuedFraction.{Compares, IsCompared};
@@ -11,7 +11,7 @@ use crate::steps::Steps;
 use ratio_integer::Integer;
 use std::cmp::Ordering;
 
-/// How `n/d` stands to `m/e`, by rounds alone.
+/// The order of `n/d` and `m/e`, by rounds alone.
 pub(crate) fn cmp_by_rounds<T: Integer>(n: T, d: T, m: T, e: T, steps: &mut Steps) -> Ordering
     requires left_nonzero { T.value d ≢ pos 0 }
     requires right_nonzero { T.value e ≢ pos 0 }
@@ -22,7 +22,7 @@ pub(crate) fn cmp_by_rounds<T: Integer>(n: T, d: T, m: T, e: T, steps: &mut Step
     let mut denom = d;
     let mut other_numer = m;
     let mut other_denom = e;
-    // The reciprocals of what a round leaves stand the other way round.
+    // A round goes on with the reciprocals of the rests, and these have the reverse order.
     let mut reversed = false;
     'rounds: loop {
         if let Some(order) = order_at_top(numer, denom, other_numer, other_denom) {
@@ -44,7 +44,7 @@ pub(crate) fn cmp_by_rounds<T: Integer>(n: T, d: T, m: T, e: T, steps: &mut Step
     }
 }
 
-/// How the two stand where one of them has a value that the type does not hold.
+/// The order of the two, if the value of one of them is `hi+1`, which does not fit the type.
 fn order_at_top<T: Integer>(n: T, d: T, m: T, e: T) -> Option<Ordering>
     requires left_nonzero { T.value d ≢ pos 0 }
     requires right_nonzero { T.value e ≢ pos 0 }
@@ -52,8 +52,6 @@ fn order_at_top<T: Integer>(n: T, d: T, m: T, e: T) -> Option<Ordering>
         ((¬ (IsAboveMax T.hi (T.value n) (T.value d))) × (¬ (IsAboveMax T.hi (T.value m) (T.value e))))
         (λ order. IsCompared (T.hi +ℤ pos 1) (T.value n) (T.value d) (T.value m) (T.value e) order 0) }
 {
-    let _ = n.held();
-    let _ = m.held();
     match (is_above_max(n, d), is_above_max(m, e)) {
         (true, true) => Some(Ordering::Equal),
         (true, false) => Some(Ordering::Greater),
@@ -62,7 +60,7 @@ fn order_at_top<T: Integer>(n: T, d: T, m: T, e: T) -> Option<Ordering>
     }
 }
 
-/// How two of one quotient stand, by whether a rest is left, where this decides.
+/// The order of two fractions with the same quotient, if at least one of them has no rest.
 fn order_of_rests<T: Integer>(rest: T, other_rest: T) -> Option<Ordering>
     ensures { MatchOption result ((T.value rest ≢ pos 0) × (T.value other_rest ≢ pos 0))
         (λ order. (quotient : ℤ) → IsOrderOfParts quotient (T.value rest) quotient (T.value other_rest) order) }
@@ -75,7 +73,7 @@ fn order_of_rests<T: Integer>(rest: T, other_rest: T) -> Option<Ordering>
     }
 }
 
-/// The answer, turned where `reversed` is set.
+/// The order, reversed if `reversed` is set.
 fn turned(reversed: bool, answer: Ordering) -> Ordering
     ensures { result ≡ cond reversed (ordering_reverse answer) answer }
 {

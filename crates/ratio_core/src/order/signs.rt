@@ -5,7 +5,7 @@ ghost use Rattle.ratio_core.specs.Order.{HaveUnlikeSigns};
 use crate::sign::is_below_zero;
 use ratio_integer::Integer;
 
-/// Whether one of the two is below 0, and the other is not.
+/// Whether exactly one of the two is below 0.
 pub(crate) fn have_unlike_signs<T: Integer>(d: T, e: T) -> bool
     ensures { IsTrue result ↔ HaveUnlikeSigns (T.value d) (T.value e) }
 {

@@ -1,11 +1,11 @@
-//! What the words for texts mean: each function's contract is the law, and it does nothing.
+//! What the words for texts mean. Each function does nothing: its contract is the law.
 ghost use Rattle.std.specs.Prelude.{◌≡◌, ◌⊎◌, ◌+◌, ◌/◌, ◌%◌, ◌^◌, ◌<◌, ◌≤◌, ◌∷◌, ◌++◌, [], ℕ, ℤ, List, decimal};
 ghost use Rattle.std.specs.Char.{digit_value};
 ghost use Rattle.std.specs.Int.{IsInRange};
 ghost use Rattle.ratio_core.specs.Reading.{IsFractionText, IsNumberText, IsSlashedText};
 
-/// What a byte is worth as a digit: `0` to `9`, and then the letters in either case; the others are
-/// no digits, which is said by the value 36, since no radix is above it.
+/// What a byte is worth as a digit: 0 to 9 for `0` to `9`, and 10 to 35 for the letters in either case. The
+/// value of any other byte is not below 36. No radix is above 36, so such a byte is no digit.
 pub fn digits()
     ensures decimal { (k : ℕ) → k < 10 → digit_value (48 + k) ≡ k }
     ensures upper { (k : ℕ) → k < 26 → digit_value (65 + k) ≡ k + 10 }
@@ -14,15 +14,15 @@ pub fn digits()
         → IsInRange 48 57 c ⊎ (IsInRange 65 90 c ⊎ IsInRange 97 122 c) }
 {}
 
-/// The decimal text of a natural number, as std prints it: one byte below 10, and for a greater
-/// number the text of its tenth part and its last digit. No number here has more than 39 digits.
+/// The decimal text of a natural number, as std prints it. Below 10 it is one byte. For a greater number it is the
+/// text of its tenth part, and then its last digit. The law goes up to 64 digits; no number here has more than 39.
 pub fn decimal_digits()
     ensures one { (n : ℕ) → n < 10 → decimal n ≡ (48 + n) ∷ [] }
     ensures more { (n : ℕ) → 10 ≤ n → n < 10 ^ 64
         → decimal n ≡ decimal (n / 10) ++ (48 + n % 10) ∷ [] }
 {}
 
-/// A text is the number text of one number at most, and has two numbers in one way at most.
+/// A text reads as at most one number, and as at most one pair of numbers.
 pub fn one_reading()
     ensures number { (lo : ℤ) (radix : ℕ) (text : List ℕ) (z y : ℤ) → radix ≤ 36
         → IsNumberText lo radix text z → IsNumberText lo radix text y → z ≡ y }

@@ -1,4 +1,4 @@
-//! Printing a number in base 2, 8 or 16, from its end on.
+//! A number in base 2, 8 or 16, written from the last digit to the first.
 ghost use Rattle.std.specs.Prelude.{◌≡◌, ◌+◌, ◌*◌, ◌^◌, ◌<◌, ◌≤◌, ◌++◌, drop, length, map, ℕ};
 ghost use Rattle.std.specs.Fmt.{digit_glyph};
 ghost use Rattle.std.specs.Int.Digits.{digits_of};
@@ -6,8 +6,8 @@ ghost use Rattle.ratio_core.specs.Printing.{numeral, twos_complement};
 
 use ratio_integer::Primitive;
 
-// Writes the digits so that they end at `end`, and returns where they start. Past 64 bits they go in
-// groups of 16. The base is known where this is called, so that no division is left.
+// Writes the digits so that they end at `end`, and returns where they start. A number above 64 bits is
+// written in groups of 16 digits. The code is compiled for each base, so it divides by constants.
 #[inline(always)]
 pub(crate) fn put_numeral(n: u128, base: u128, upper: bool, buf: &mut [u8], end: usize) -> usize
     requires low { 2 ≤ base }
@@ -44,7 +44,7 @@ pub(crate) fn put_numeral(n: u128, base: u128, upper: bool, buf: &mut [u8], end:
     at
 }
 
-// Writes a group, its leading zeros too: the digits of a longer number that ends so.
+// Writes the last 16 digits of a longer number, with leading zeros.
 #[inline(always)]
 fn put_group(n: u64, base: u64, upper: bool, buf: &mut [u8])
     requires low { 2 ≤ base }
@@ -67,7 +67,6 @@ static LOWER: [u8; 16] = *b"0123456789abcdef";
 
 static UPPER: [u8; 16] = *b"0123456789ABCDEF";
 
-// The digit.
 #[inline(always)]
 fn glyph(digit: u8, upper: bool) -> u8
     requires { digit < 16 }
@@ -80,7 +79,7 @@ fn glyph(digit: u8, upper: bool) -> u8
     }
 }
 
-// The number, and, where it is below 0, what counts to it from 2 to the width of the type on.
+// The number, and 2 to the width of the type more if it is below 0: 255 for -1 over `i8`.
 pub(crate) fn twos_complement<T: Primitive>(t: T) -> u128
     ensures { result ≡ twos_complement T.BITS (T.value t) }
 {

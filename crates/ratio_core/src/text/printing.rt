@@ -1,22 +1,21 @@
-//! Printing a fraction as a text, from its end on.
+//! Printing a fraction as a text, written from the last byte to the first.
 ghost use Rattle.std.specs.Prelude.{◌≡◌, ◌≢◌, ◌+◌, ◌≤◌, ◌≤ℤ◌, ◌<ℤ◌, ◌++◌, drop, false, length, pos, unsigned_abs};
 ghost use Rattle.std.specs.Fmt.{signed_decimal};
 ghost use Rattle.ratio_core.specs.declared.text.form.Form.TheVariants.{Decimal};
-ghost use Rattle.ratio_core.specs.Printing.{ReadsBack, base_of, decimal_room, number_text, prefix_of, shown_prefix, text_of};
+ghost use Rattle.ratio_core.specs.Printing.{ReadsBack, base_of, base_ten_room, number_text, prefix_of, shown_prefix, text_of};
 ghost use Rattle.ratio_core.specs.Reading.{IsFractionText, IsSlashedText};
 
-use crate::text::decimal::DecimalText;
 use crate::text::digits::put_digits;
+use crate::text::fixed_text::{BaseTenText, RatioText};
 use crate::text::form::Form;
 use crate::text::numeral::{put_numeral, twos_complement};
-use crate::text::ratio_text::RatioText;
-use ratio_integer::Primitive;
+use ratio_integer::{Primitive, both_held};
 
-/// The text of a fraction's two numbers as they stand: the numerator, and, unless the denominator
-/// is 1, a slash and the denominator. With `alternate` the prefix that names the base stands before
-/// each number; decimal has none. Reading the decimal text of a positive denominator gives the
-/// lowest terms, and so does reading another text without prefixes in its base, where no number is
-/// below 0 and there is a slash.
+/// The text of a fraction's two numbers, not reduced: the numerator and, unless the denominator is 1, a slash and
+/// the denominator. With `alternate`, each number has the prefix of its base: `0x2/0x4`. Decimal has no prefix.
+///
+/// A text in base 10 with a positive denominator reads back as the fraction's lowest terms. A text in another
+/// base does so, read in that base, if it has a slash, no prefix, and no number below 0.
 pub fn text<T: Primitive>(numer: T, denom: T, form: Form, alternate: bool) -> RatioText
     ensures bytes { result ≡ text_of T.BITS form alternate (T.value numer) (T.value denom) }
     ensures reads_back { form ≡ Decimal → pos 0 <ℤ T.value denom
@@ -26,46 +25,42 @@ pub fn text<T: Primitive>(numer: T, denom: T, form: Form, alternate: bool) -> Ra
         → ReadsBack T.lo T.hi (IsSlashedText T.lo T.hi (base_of form) result)
         (T.value numer) (T.value denom) }
 {
-    let _ = numer.held();
-    let _ = denom.held();
+    both_held(numer, denom);
     let mut text = RatioText::empty();
     put_text(numer, denom, form, alternate, &mut text);
     text
 }
 
-/// Puts that text in the place of what `text` was, so that no array is moved.
+/// Writes that text over the one in `text`, so that no array is moved.
 pub fn put_text<T: Primitive>(numer: T, denom: T, form: Form, alternate: bool, text: &mut RatioText)
     ensures { text.new ≡ text_of T.BITS form alternate (T.value numer) (T.value denom) }
 {
-    let _ = numer.held();
-    let _ = denom.held();
+    both_held(numer, denom);
     text.start = put_fraction(numer, denom, form, alternate, &mut text.bytes);
 }
 
-/// The same in decimal, in an array of 81 bytes, which takes less time to make.
-pub fn decimal_text<T: Primitive>(numer: T, denom: T) -> DecimalText
+/// The text in base 10, in an array of 81 bytes, which takes less time to make.
+pub fn base_ten_text<T: Primitive>(numer: T, denom: T) -> BaseTenText
     ensures bytes { result ≡ text_of T.BITS Decimal false (T.value numer) (T.value denom) }
-    ensures short { length result ≤ decimal_room T.lo T.hi }
+    ensures short { length result ≤ base_ten_room T.lo T.hi }
     ensures reads_back { pos 0 <ℤ T.value denom
         → ReadsBack T.lo T.hi (IsFractionText T.lo T.hi result) (T.value numer) (T.value denom) }
 {
-    let _ = numer.held();
-    let _ = denom.held();
-    let mut text = DecimalText::empty();
-    put_decimal_text(numer, denom, &mut text);
+    both_held(numer, denom);
+    let mut text = BaseTenText::empty();
+    put_base_ten_text(numer, denom, &mut text);
     text
 }
 
-/// Puts the decimal text in the place of what `text` was.
-pub fn put_decimal_text<T: Primitive>(numer: T, denom: T, text: &mut DecimalText)
+/// Writes the text in base 10 over the one in `text`.
+pub fn put_base_ten_text<T: Primitive>(numer: T, denom: T, text: &mut BaseTenText)
     ensures { text.new ≡ text_of T.BITS Decimal false (T.value numer) (T.value denom) }
 {
-    let _ = numer.held();
-    let _ = denom.held();
-    text.start = put_decimal_fraction(numer, denom, &mut text.bytes);
+    both_held(numer, denom);
+    text.start = put_base_ten_fraction(numer, denom, &mut text.bytes);
 }
 
-// Writes the fraction so that it ends where the buffer does, and returns where it starts.
+// Writes the fraction at the end of the buffer, and returns where it starts.
 fn put_fraction<T: Primitive>(
     numer: T,
     denom: T,
@@ -86,8 +81,7 @@ fn put_fraction<T: Primitive>(
     put_prefixed(numer, form, alternate, buf, slash)
 }
 
-// Writes the number, after its prefix where that is asked for, so that it ends at `end`, and returns
-// where it starts.
+// Writes the number so that it ends at `end`, after its prefix if `alternate` is set, and returns where it starts.
 fn put_prefixed<T: Primitive>(
     t: T,
     form: Form,
@@ -110,7 +104,7 @@ fn put_prefixed<T: Primitive>(
     }
 }
 
-// The same of the prefix alone.
+// The same for the prefix alone.
 fn put_prefix(form: Form, buf: &mut [u8], end: usize) -> usize
     requires room { 2 ≤ end }
     requires inside { end ≤ length buf.old }
@@ -130,7 +124,7 @@ fn put_prefix(form: Form, buf: &mut [u8], end: usize) -> usize
     end - 2
 }
 
-// The same of the number alone.
+// The same for the number alone.
 fn put_number<T: Primitive>(t: T, form: Form, buf: &mut [u8], end: usize) -> usize
     requires room { 128 ≤ end }
     requires inside { end ≤ length buf.old }
@@ -147,8 +141,8 @@ fn put_number<T: Primitive>(t: T, form: Form, buf: &mut [u8], end: usize) -> usi
     }
 }
 
-// Writes the fraction in decimal so that it ends where the buffer does, and returns where it starts.
-fn put_decimal_fraction<T: Primitive>(numer: T, denom: T, buf: &mut [u8]) -> usize
+// Writes the fraction in decimal at the end of the buffer, and returns where it starts.
+fn put_base_ten_fraction<T: Primitive>(numer: T, denom: T, buf: &mut [u8]) -> usize
     requires { length buf.old ≡ 81 }
     ensures written { drop result buf.new
         ≡ text_of T.BITS Decimal false (T.value numer) (T.value denom) }
@@ -178,11 +172,10 @@ fn put_decimal<T: Primitive>(t: T, buf: &mut [u8], end: usize) -> usize
     start
 }
 
-// The distance of the number from 0.
-fn magnitude<T: Primitive>(t: T) -> u128
+/// The distance of the number from 0.
+pub(crate) fn magnitude<T: Primitive>(t: T) -> u128
     ensures { result ≡ unsigned_abs (T.value t) }
 {
-    let _ = t.held();
     match t.to_u128() {
         Some(n) => n,
         None => t.to_i128().unwrap().unsigned_abs(),

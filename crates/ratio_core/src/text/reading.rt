@@ -1,43 +1,46 @@
 //! Reading a fraction from a text.
 ghost use Rattle.std.specs.Prelude.{◌≡◌, ◌≤◌};
-ghost use Rattle.ratio_core.specs.Reading.{AnswersFraction, AnswersPair, AnswersText, IsFractionText, IsSlashedText, ReadsNumber, SidesReadAs};
+ghost use Rattle.ratio_core.specs.Reading.{AnswersFraction, AnswersFields, AnswersText, IsFractionText, IsSlashedText, ReadsNumber, SidesReadAs};
 
 use crate::checked_new::checked_new;
 use crate::parse_error::{ParseRatioError, RatioErrorKind};
-use crate::text::quick_pair::{quick_pair, quick_slashed_pair};
+use crate::text::quick_fields::{quick_fields, quick_slashed_fields};
 use ratio_integer::{Integer, Primitive};
 
-/// The fraction of a decimal text in lowest terms: `N/D` for two number texts, or `N` for `N/1`. A
-/// number text is one digit or more after an optional `+`, or `-` for a type with numbers below 0;
-/// leading zeros are allowed, and nothing else is. The kind of the first refusal that applies is
-/// `ParseError` where a part is no number text or the type does not hold its number,
-/// `ZeroDenominator` where the second number is 0, and `ParseError` where the type does not hold
-/// the lowest terms.
+/// The fraction of a text in base 10, in lowest terms: `6/4` gives 3/2. The text is `N/D` with two number texts,
+/// or `N`, which means `N/1`. A number text is one digit or more, after an optional `+`. If the type has
+/// numbers below 0, a `-` may come instead of the `+`. Leading zeros are allowed, and nothing else is.
+///
+/// The first of these refusals that applies is returned:
+///
+/// - `ParseError`, if a part is no number text or its number does not fit the type;
+/// - `ZeroDenominator`, if the second number is 0;
+/// - `ParseError`, if the lowest terms do not fit the type.
 pub fn from_str<T: Primitive>(text: &str) -> Result<(T, T), ParseRatioError>
     ensures { AnswersText (λ r. T.value r.0) (λ r. T.value r.1) T.lo T.hi
         (IsFractionText T.lo T.hi text.now) result }
 {
-    match pair::<T>(text) {
+    match fields::<T>(text) {
         Err(refusal) => Err(refusal),
         Ok(read) => in_lowest_terms(read.0, read.1),
     }
 }
 
-/// The same of a text in the radix, which is `N/D` alone: a text without a slash is a parse error.
-/// The digits above 9 are the letters, in either case; no prefix such as `0x` is a part of a number.
+/// The same in a radix, for a text `N/D` only: a text without a slash is a parse error. The digits above 9
+/// are the letters, in either case. A number has no prefix such as `0x`.
 pub fn from_str_radix<T: Primitive>(text: &str, radix: u32) -> Result<(T, T), ParseRatioError>
     requires low { 2 ≤ radix }
     requires high { radix ≤ 36 }
     ensures { AnswersText (λ r. T.value r.0) (λ r. T.value r.1) T.lo T.hi
         (IsSlashedText T.lo T.hi radix text.now) result }
 {
-    match slashed_pair::<T>(text, radix) {
+    match slashed_fields::<T>(text, radix) {
         Err(refusal) => Err(refusal),
         Ok(read) => in_lowest_terms(read.0, read.1),
     }
 }
 
-// The lowest terms of a text's two numbers.
+// The lowest terms of the two numbers, or a parse error if they do not fit the type.
 fn in_lowest_terms<T: Primitive>(numer: T, denom: T) -> Result<(T, T), ParseRatioError>
     ensures { AnswersFraction T.value T.lo T.hi (T.value numer) (T.value denom) result }
 {
@@ -47,7 +50,8 @@ fn in_lowest_terms<T: Primitive>(numer: T, denom: T) -> Result<(T, T), ParseRati
     }
 }
 
-// The number of the text in the radix, read in 128 bits, or `None` where it is no number text or the type does not hold its number.
+// The number of the text in the radix, read in 128 bits. `None` if it is no
+// number text or its number does not fit the type.
 fn number<T: Primitive>(text: &str, radix: u32) -> Option<T>
     requires low { 2 ≤ radix }
     requires high { radix ≤ 36 }
@@ -64,7 +68,7 @@ fn number<T: Primitive>(text: &str, radix: u32) -> Option<T>
 fn sides<T: Primitive>(front: &str, back: &str, radix: u32) -> Result<(T, T), ParseRatioError>
     requires low { 2 ≤ radix }
     requires high { radix ≤ 36 }
-    ensures { AnswersPair T.value (SidesReadAs T.lo T.hi radix front.now back.now) result }
+    ensures { AnswersFields T.value (SidesReadAs T.lo T.hi radix front.now back.now) result }
 {
     match number::<T>(front, radix) {
         None => Err(ParseRatioError::new(RatioErrorKind::ParseError)),
@@ -75,13 +79,13 @@ fn sides<T: Primitive>(front: &str, back: &str, radix: u32) -> Result<(T, T), Pa
     }
 }
 
-// The two numbers of a text in the radix that has a slash, as they stand. Most texts are read at once.
-fn slashed_pair<T: Primitive>(text: &str, radix: u32) -> Result<(T, T), ParseRatioError>
+// The two numbers of a text with a slash, not reduced. `quick_slashed_fields` reads most texts.
+fn slashed_fields<T: Primitive>(text: &str, radix: u32) -> Result<(T, T), ParseRatioError>
     requires low { 2 ≤ radix }
     requires high { radix ≤ 36 }
-    ensures { AnswersPair T.value (IsSlashedText T.lo T.hi radix text.now) result }
+    ensures { AnswersFields T.value (IsSlashedText T.lo T.hi radix text.now) result }
 {
-    if let Some(read) = quick_slashed_pair::<T>(text.as_bytes(), radix) {
+    if let Some(read) = quick_slashed_fields::<T>(text.as_bytes(), radix) {
         return nonzero(read.0, read.1);
     }
     match text.split_once('/') {
@@ -90,19 +94,19 @@ fn slashed_pair<T: Primitive>(text: &str, radix: u32) -> Result<(T, T), ParseRat
     }
 }
 
-// The two numbers of a decimal text, as they stand. Most texts are short.
-fn pair<T: Primitive>(text: &str) -> Result<(T, T), ParseRatioError>
-    ensures { AnswersPair T.value (IsFractionText T.lo T.hi text.now) result }
+// The two numbers of a text in base 10, not reduced. `quick_fields` reads most texts.
+fn fields<T: Primitive>(text: &str) -> Result<(T, T), ParseRatioError>
+    ensures { AnswersFields T.value (IsFractionText T.lo T.hi text.now) result }
 {
-    match quick_pair::<T>(text.as_bytes()) {
+    match quick_fields::<T>(text.as_bytes()) {
         Some(read) => nonzero(read.0, read.1),
-        None => long_pair(text),
+        None => long_fields(text),
     }
 }
 
-// The two numbers, where the second is not 0.
+// The two numbers, or a zero denominator if the second one is 0.
 fn nonzero<T: Integer>(numer: T, denom: T) -> Result<(T, T), ParseRatioError>
-    ensures { AnswersPair T.value (λ n d. (T.value numer ≡ n) × (T.value denom ≡ d)) result }
+    ensures { AnswersFields T.value (λ n d. (T.value numer ≡ n) × (T.value denom ≡ d)) result }
 {
     if denom.is_zero() {
         Err(ParseRatioError::new(RatioErrorKind::ZeroDenominator))
@@ -111,9 +115,9 @@ fn nonzero<T: Integer>(numer: T, denom: T) -> Result<(T, T), ParseRatioError>
     }
 }
 
-// The same of a text of any length.
-fn long_pair<T: Primitive>(text: &str) -> Result<(T, T), ParseRatioError>
-    ensures { AnswersPair T.value (IsFractionText T.lo T.hi text.now) result }
+// The same for any text, with a search for the slash.
+fn long_fields<T: Primitive>(text: &str) -> Result<(T, T), ParseRatioError>
+    ensures { AnswersFields T.value (IsFractionText T.lo T.hi text.now) result }
 {
     match text.split_once('/') {
         Some((front, back)) => sides(front, back, 10),

@@ -6,7 +6,7 @@ use Rattle.ratio_core.proofs.CancellingLemmas.{cancelled_left, lowest_of_same, l
 use Rattle.ratio_core.proofs.checked_new.checked_new.Goals as goal
 
 pub returns-then-is_one : goal.returns-then-is_one
-returns-then-is_one g c = held_lowest_over_one _ _ _ _ c.held.ensures.range c.held-then-is_one.ensures.range (c.is_one.ensures.0 c.if-is_one.true)
+returns-then-is_one g c = held_lowest_over_one _ _ _ _ c.both_held.ensures.first c.both_held.ensures.second (c.is_one.ensures.0 c.if-is_one.true)
 
 pub returns-then-is_zero-2 : goal.returns-then-is_zero-2
 returns-then-is_zero-2 g c =

@@ -8,7 +8,7 @@ pub returns-then-is_one-clause-taken : goal.returns-then-is_one-clause-taken
 returns-then-is_one-clause-taken g c =
     let whole = floored_by_one _ _ (c.is_one.ensures.0 c.if-is_one.true) in
     hashing_ends _ _ _ _ _ _ _ _ _ _ _ _ _ _ _ c.rounds.invariant.begun
-    (coded-last _ _ _ _ _ _ whole c.held.ensures.range.below refl)
+    (coded-last _ _ _ _ _ _ whole c.rounds-test.ensures.held.below refl)
     (took_two g.L.CodeList.after c.take.ensures c.take-then-is_one.ensures refl (ap g.T.Integer.value c.ZERO.ensures ∙ g.met.T.Integer.zero_law))
     (ap (λ steps. steps.left) c.tick_left.ensures)
 
@@ -33,6 +33,6 @@ rounds-preserved g c =
 pub returns-clause-taken : goal.returns-clause-taken
 returns-clause-taken g c =
     hashing_ends _ _ _ _ _ _ _ _ _ _ _ _ _ _ _ c.rounds.invariant.begun
-    (coded-above _ _ _ _ (c.rounds-test.ensures.0 refl))
+    (coded-above _ _ _ _ (c.rounds-test.ensures.answer.0 refl))
     (took_three g.L.CodeList.after c.take_both.ensures c.take-2.ensures (ap g.T.Integer.value c.MIN.ensures ∙ g.met.T.Integer.min_law) (ap g.T.Integer.value c.MIN-2.ensures ∙ g.met.T.Integer.min_law) (ap g.T.Integer.value c.ZERO-2.ensures ∙ g.met.T.Integer.zero_law))
     (omega arith)

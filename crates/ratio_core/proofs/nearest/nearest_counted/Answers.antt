@@ -17,7 +17,7 @@ pub returns-then-is_zero : goal.returns-then-is_zero
 returns-then-is_zero g c =
     let v = g.T.Integer.value in
     let m = g.met.T.Integer in
-    let asked : IsAsked g.T.Integer.lo g.T.Integer.hi (v c.args.n) (v c.args.d) (v c.args.most) = record { range = m.range_law; n_held = c.held.ensures.range; d_held = c.held-2.ensures.range; most_held = c.held-3.ensures.range; positive = c.requires.positive; room = c.requires.room } in
+    let asked : IsAsked g.T.Integer.lo g.T.Integer.hi (v c.args.n) (v c.args.d) (v c.args.most) = record { range = m.range_law; n_held = c.both_held.ensures.first; d_held = c.both_held.ensures.second; most_held = c.held.ensures.range; positive = c.requires.positive; room = c.requires.room } in
     let one : v c.ONE.result ≡ pos 1 = ap v c.ONE.ensures ∙ m.one_law in
     let is = nearest_exact _ _ _ c.requires.positive _ _ _ _ _ _ (turned (begun asked _ _ _ _ _ _ one one refl refl c.divide_left.ensures.floored)) (c.is_zero.ensures.0 c.if-is_zero.true) in
     record { nearest = is; lowest = nearest_lowest _ _ _ _ _ is; steps = steps_none _ _ _ _ _ _ _ _ _ c.divide_left.ensures.left c.divide_left.ensures.right c.divide_left.ensures.floored (c.is_zero.ensures.0 c.if-is_zero.true); left = (1, c.divide_left.ensures.left, once _ (let up = c.requires.positive in omega (arith, ints))); right = (0, (let same = c.divide_left.ensures.right in omega arith), never _) }
@@ -26,7 +26,7 @@ pub plus-requires : goal.plus-requires
 plus-requires g c =
     let v = g.T.Integer.value in
     let m = g.met.T.Integer in
-    let asked : IsAsked g.T.Integer.lo g.T.Integer.hi (v c.args.n) (v c.args.d) (v c.args.most) = record { range = m.range_law; n_held = c.held.ensures.range; d_held = c.held-2.ensures.range; most_held = c.held-3.ensures.range; positive = c.requires.positive; room = c.requires.room } in
+    let asked : IsAsked g.T.Integer.lo g.T.Integer.hi (v c.args.n) (v c.args.d) (v c.args.most) = record { range = m.range_law; n_held = c.both_held.ensures.first; d_held = c.both_held.ensures.second; most_held = c.held.ensures.range; positive = c.requires.positive; room = c.requires.room } in
     let one : v c.ONE-3.result ≡ pos 1 = ap v c.ONE-3.ensures ∙ m.one_law in
     let around = begun asked _ _ _ _ _ _ one one (ap (λ (t : ℤ). v c.divide_left.result.0 +ℤ t) one) refl c.divide_left.ensures.floored in
     moving_numer_held asked around (above_zero _ (fixed_is asked around).gap_up (iff_false c.is_zero.ensures c.if-is_zero.false))
@@ -35,14 +35,14 @@ pub minus-requires : goal.minus-requires
 minus-requires g c =
     let v = g.T.Integer.value in
     let m = g.met.T.Integer in
-    let asked : IsAsked g.T.Integer.lo g.T.Integer.hi (v c.args.n) (v c.args.d) (v c.args.most) = record { range = m.range_law; n_held = c.held.ensures.range; d_held = c.held-2.ensures.range; most_held = c.held-3.ensures.range; positive = c.requires.positive; room = c.requires.room } in
+    let asked : IsAsked g.T.Integer.lo g.T.Integer.hi (v c.args.n) (v c.args.d) (v c.args.most) = record { range = m.range_law; n_held = c.both_held.ensures.first; d_held = c.both_held.ensures.second; most_held = c.held.ensures.range; positive = c.requires.positive; room = c.requires.room } in
     moving_gap_held asked (begun asked _ _ _ _ _ _ refl refl refl refl c.divide_left.ensures.floored)
 
 pub steps-init : goal.steps-init
 steps-init g c =
     let v = g.T.Integer.value in
     let m = g.met.T.Integer in
-    let asked : IsAsked g.T.Integer.lo g.T.Integer.hi (v c.args.n) (v c.args.d) (v c.args.most) = record { range = m.range_law; n_held = c.held.ensures.range; d_held = c.held-2.ensures.range; most_held = c.held-3.ensures.range; positive = c.requires.positive; room = c.requires.room } in
+    let asked : IsAsked g.T.Integer.lo g.T.Integer.hi (v c.args.n) (v c.args.d) (v c.args.most) = record { range = m.range_law; n_held = c.both_held.ensures.first; d_held = c.both_held.ensures.second; most_held = c.held.ensures.range; positive = c.requires.positive; room = c.requires.room } in
     let one : v c.ONE-2.result ≡ pos 1 = ap v c.ONE-2.ensures ∙ m.one_law in
     let next : v c.ONE-3.result ≡ pos 1 = ap v c.ONE-3.ensures ∙ m.one_law in
     let other : v c.ONE-4.result ≡ pos 1 = ap v c.ONE-4.ensures ∙ m.one_law in

@@ -31,4 +31,4 @@ bits-preserved g c =
     ]
 
 pub returns : goal.returns
-returns g c = both_last _ _ _ _ _ _ _ _ _ _ c.bits.invariant c.bits-test.false c.held.ensures.range c.held-2.ensures.range
+returns g c = both_last _ _ _ _ _ _ _ _ _ _ c.bits.invariant c.bits-test.false c.both_held.ensures.first c.both_held.ensures.second

@@ -8,7 +8,7 @@ use Rattle.ratio_core.proofs.remainder.truncated_rest.Goals.{else-lt-via-then-lt
 pub plus-requires : goal.plus-requires
 plus-requires g c =
     let m = g.met.T.Integer in
-    grind (arith, ints, m.lt_law, m.zero_law, m.one_law, c.held-2.ensures.range, m.range_law)
+    grind (arith, ints, m.lt_law, m.zero_law, m.one_law, c.held.ensures.range, m.range_law)
 
 pub returns-then-is_zero : goal.returns-then-is_zero
 returns-then-is_zero g c =

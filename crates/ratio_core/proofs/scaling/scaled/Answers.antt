@@ -5,7 +5,7 @@ use Rattle.ratio_core.proofs.scaling.scaled.Goals as goal
 pub returns-then-eq : goal.returns-then-eq
 returns-then-eq g c =
     let equal = (g.met.T.Integer.eq_law c.args.b c.args.d).0 (sym c.if-eq.ensures) in
-    held_equals _ _ _ _ _ _ equal c.requires.left_positive c.held.ensures.range c.held-then-eq.ensures.range c.held-then-eq-2.ensures.range
+    held_equals _ _ _ _ _ _ equal c.requires.left_positive c.both_held.ensures.first c.both_held.ensures.second c.held.ensures.range
 
 pub returns-in_err-try_times : goal.returns-in_err-try_times
 returns-in_err-try_times g c =

@@ -1,4 +1,4 @@
--- A struct without a byte is made, with 0 in both of its ghost fields.
+-- Makes a struct without a byte, with 0 in both ghost fields.
 use Rattle.std.proofs.Common.{[], ◌∷◌, refl}
 use Rattle.std.proofs.raw_atomic.Walks.{proved}
 use base.Fml.{ftrue}

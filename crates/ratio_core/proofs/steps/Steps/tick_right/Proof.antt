@@ -1,4 +1,4 @@
--- The body is empty, and the count of the right side rises by one.
+-- The body is empty, and the count of the right side rises by 1.
 use Rattle.std.proofs.Common.{◌+◌}
 use Rattle.ratio_core.specs.contracts.steps.Steps.tick_right as f
 use Rattle.ratio_core.proofs.Ticks.{changed}

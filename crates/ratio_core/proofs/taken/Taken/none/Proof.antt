@@ -1,4 +1,4 @@
--- A struct without a byte is made, with no code in its ghost field.
+-- Makes a struct without a byte, with no codes in its ghost field.
 use Rattle.std.proofs.Common.{[], ◌∷◌, refl}
 use Rattle.std.proofs.raw_atomic.Walks.{proved}
 use base.Fml.{ftrue}

@@ -1,4 +1,4 @@
--- The body is empty: the borrow is opened, and closed with the number of `_t` at the end of the codes.
+-- The body is empty: the proof opens the borrow, and closes it with the number of `_t` at the end of the codes.
 use Rattle.std.proofs.Common.{List, [], ◌∷◌, ◌++◌, refl}
 use Rattle.std.proofs.raw_atomic.Walks.{proved}
 use base.Fml.{ftrue, flft}

@@ -14,9 +14,9 @@ returns-clause-reads_back g c = λ decimal positive.
     let n = t.value c.args.numer in
     let d = t.value c.args.denom in
     subst (λ bytes. ReadsBack t.lo t.hi (IsFractionText t.lo t.hi bytes) n d) (sym (c.put_text.ensures ∙ ap (λ form. text_of bits form c.args.alternate n d) decimal))
-    (decimal_back bits c.args.alternate t.lo t.hi n d m.range_law c.held.ensures.range c.held-2.ensures.range
-    (small_magnitude t.lo t.hi bits n m.range_law width c.held.ensures.range)
-    (small_magnitude t.lo t.hi bits d m.range_law width c.held-2.ensures.range) positive)
+    (decimal_back bits c.args.alternate t.lo t.hi n d m.range_law c.both_held.ensures.first c.both_held.ensures.second
+    (small_magnitude t.lo t.hi bits n m.range_law width c.both_held.ensures.first)
+    (small_magnitude t.lo t.hi bits d m.range_law width c.both_held.ensures.second) positive)
 
 pub returns-clause-reads_back_in_base : goal.returns-clause-reads_back_in_base
 returns-clause-reads_back_in_base g c = λ bare above positive other.
@@ -27,6 +27,6 @@ returns-clause-reads_back_in_base g c = λ bare above positive other.
     let n = t.value c.args.numer in
     let d = t.value c.args.denom in
     subst (λ bytes. ReadsBack t.lo t.hi (IsSlashedText t.lo t.hi (base_of c.args.form) bytes) n d) (sym (c.put_text.ensures ∙ ap (λ alternate. text_of bits c.args.form alternate n d) bare))
-    (base_back bits c.args.form t.lo t.hi n d m.range_law c.held.ensures.range c.held-2.ensures.range
-    (small_magnitude t.lo t.hi bits n m.range_law width c.held.ensures.range)
-    (small_magnitude t.lo t.hi bits d m.range_law width c.held-2.ensures.range) above positive other)
+    (base_back bits c.args.form t.lo t.hi n d m.range_law c.both_held.ensures.first c.both_held.ensures.second
+    (small_magnitude t.lo t.hi bits n m.range_law width c.both_held.ensures.first)
+    (small_magnitude t.lo t.hi bits d m.range_law width c.both_held.ensures.second) above positive other)

@@ -1,0 +1,21 @@
+-- Written by templates/write from templates/scaled_sums_answers.antt.txt: change that file, and write this one anew.
+use Rattle.std.specs.Prelude.{◌-ℤ◌}
+use Rattle.ratio_integer.proofs.Whole.{sub-mul}
+use Rattle.ratio_core.proofs.SumLemmas.{formed_held, formed_lowest}
+use Rattle.ratio_core.proofs.sums.difference.scaled_difference.Goals as goal
+
+pub returns-in_err-left : goal.returns-in_err-left
+returns-in_err-left g c = rw c.from_residual.ensures (λ formed. c.in_err-left.ensures (record { common = formed.common; left = formed.left; right = formed.right; held = formed.held }))
+
+pub returns-in_err-difference : goal.returns-in_err-difference
+returns-in_err-difference g c =
+    rw c.from_residual-in_err-difference.ensures (λ formed. c.in_err-difference.ensures (formed_held (λ x y. x -ℤ y) sub-mul _ _ _ _ _ _ c.requires.left_positive c.requires.right_positive _ _ _ _ _ _ c.in_ok-left.ensures.scaled formed.held.scaled formed.difference_held))
+
+pub lowest_terms-requires : goal.lowest_terms-requires
+lowest_terms-requires g c = let scaled = c.in_ok-left.ensures in scaled.scaled.least.positive
+
+pub returns : goal.returns
+returns g c =
+    let scaled = c.in_ok-left.ensures in
+    let low = formed_lowest (λ x y. x -ℤ y) sub-mul _ _ _ _ _ _ c.requires.left_positive c.requires.right_positive _ _ _ _ _ _ scaled.scaled c.in_ok-difference.ensures.1 c.lowest_terms.ensures in
+    (record { common = _; left = _; right = _; held = scaled; difference_held = c.in_ok-difference.ensures.0 }, low)

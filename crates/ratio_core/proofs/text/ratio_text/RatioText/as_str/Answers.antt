@@ -1,8 +1,0 @@
-use Rattle.std.proofs.Common.{drop, ◌-◌}
-use Rattle.std.proofs.lemmas.Str.{IsAscii-take, IsUtf8-from_ascii}
-use Rattle.ratio_core.proofs.text.ratio_text.RatioText.as_str.Goals as goal
-
-pub from_utf8_unchecked-requires : goal.from_utf8_unchecked-requires
-from_utf8_unchecked-requires c =
-    let fields = c.self.inside in
-    IsUtf8-from_ascii _ (IsAscii-take (drop fields.start fields.bytes) (261 - fields.start) c.self.invariant.1)

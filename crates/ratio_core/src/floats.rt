@@ -1,0 +1,2 @@
+//! Floats as fractions, and the floats nearest to fractions.
+pub mod exact;

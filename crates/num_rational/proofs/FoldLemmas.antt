@@ -1,4 +1,4 @@
--- Folds over an iterator's items: where every step is answered the next one is, and what the steps so far gave.
+-- Folds over the items of an iterator: when the next step meets its condition, and what the steps so far gave.
 use Rattle.std.proofs.Common.{◌≡◌, ◌∙◌, ℕ, ◌+◌, ◌<◌, ℤ, pos, List, [], ◌∷◌, ◌++◌, Option, Some, ap, subst, sym, refl, map, take, drop, length, get_or, take-append-drop}
 use Rattle.std.proofs.lemmas.Fn.{FoldsTo-push}
 use Rattle.std.proofs.lemmas.Iterator.{YieldsList, items_from_drains}
@@ -32,13 +32,13 @@ last_of_all : {A : Type 0} (P : A → Type 0) (xs : List A) (x : A) → All P (x
 last_of_all P [] x all = All-head P x [] all
 last_of_all P (y ∷ xs) x all = last_of_all P xs x (All-tail P y (xs ++ x ∷ []) all)
 
--- where each item's denominator is positive, so is the one of the pair that the next item is read as
+-- if the denominators of all items are positive, so is the one of the next item's pair
 pub next_positive : {S A : Type 0} (view : A → ℤ × ℤ) (steps : S → Option A → S → Type 0) {s i t u : S} (xs : List A) {x : A} {pair : ℤ × ℤ} → pair ≡ view x → HoldsAlong steps s (ArePositive view) → i ≡ s → Yields steps i xs t → steps t (Some x) u → pos 0 <ℤ pair.1
 next_positive view steps xs {x} seen positive same gave last =
     let all : ArePositive view (xs ++ x ∷ []) = along_more steps xs positive same gave last in
     subst (λ p. pos 0 <ℤ p.1) (sym seen) (last_of_all (λ y. pos 0 <ℤ (view y).1) xs x all)
 
--- ---- the steps of a fold, where a step gives one total at most
+-- ---- the steps of a fold, if a step gives at most one total
 
 same_pair : (p q : ℤ × ℤ) → p.0 ≡ q.0 → p.1 ≡ q.1 → p ≡ q
 same_pair p q first second = λ k. (first k, second k)
@@ -53,23 +53,23 @@ one_product p x q r first second =
     let same = lowest_unique _ _ q.0 q.1 r.0 r.1 first second in
     same_pair q r same.0 same.1
 
--- every step over the items so far was answered, they gave this total, and its denominator is positive
+-- each step over the items so far met its condition, they gave this total, and its denominator is positive
 pub record StepsSoFar {A : Type 0} (view : A → ℤ × ℤ) (Can : ℤ × ℤ → ℤ × ℤ → Type 0) (Gives : ℤ × ℤ → ℤ × ℤ → ℤ × ℤ → Type 0) (start : ℤ × ℤ) (xs : List A) (q : ℤ × ℤ) : Type 0 where
   pub answered : AnswersFrom view Can Gives start xs
   pub total : FoldsTo (λ p x q. Gives p (view x) q) start xs q
   pub positive : pos 0 <ℤ q.1
 
 module _ {A : Type 0} (view : A → ℤ × ℤ) (Can : ℤ × ℤ → ℤ × ℤ → Type 0) (Gives : ℤ × ℤ → ℤ × ℤ → ℤ × ℤ → Type 0) where
-  -- the total of the items before one that is answered meets the condition with it
+  -- if all steps meet their condition, so do the total before the last item and this item
   next_answered : (xs : List A) (x : A) (p q : ℤ × ℤ) → AnswersFrom view Can Gives p (xs ++ x ∷ []) → FoldsTo (λ p x q. Gives p (view x) q) p xs q → Can q (view x)
   next_answered [] x p q answered total = subst (λ w. Can w (view x)) total answered.0
   next_answered (y ∷ xs) x p q answered total = next_answered xs x total.0 q (answered.1 total.0 total.1) total.2
 
-  -- and so does the total of what an iterator gave so far, where every step along its calls is answered
+  -- the same for an iterator, if each step along its calls meets its condition
   pub next_along : {S : Type 0} (steps : S → Option A → S → Type 0) {s i t u : S} (start : ℤ × ℤ) (xs : List A) {x : A} {q pair : ℤ × ℤ} → pair ≡ view x → HoldsAlong steps s (AnswersFrom view Can Gives start) → i ≡ s → Yields steps i xs t → steps t (Some x) u → FoldsTo (λ p x q. Gives p (view x) q) start xs q → Can q pair
   next_along steps start xs {x} {q} seen can same gave last total = subst (Can q) (sym seen) (next_answered xs x start q (along_more steps xs can same gave last) total)
 
-  -- where one step is not, not every step over the items so far and this one is
+  -- if the step over an item does not meet its condition, not all steps up to this item do
   pub step_refused : (start : ℤ × ℤ) (xs : List A) (x : A) (q : ℤ × ℤ) {pair : ℤ × ℤ} → pair ≡ view x → FoldsTo (λ p x q. Gives p (view x) q) start xs q → ¬ (Can q pair) → ¬ (AnswersFrom view Can Gives start (xs ++ x ∷ []))
   step_refused start xs x q seen total cannot answered = cannot (subst (Can q) (sym seen) (next_answered xs x start q answered total))
 
@@ -87,7 +87,7 @@ module _ {A : Type 0} (view : A → ℤ × ℤ) (Can : ℤ × ℤ → ℤ × ℤ
         let same = one p (view x) second.0 first.0 second.1 first.1 in
         one_total xs first.0 q r first.2 (subst (λ w. FoldsTo (λ p x q. Gives p (view x) q) w xs r) same second.2)
 
-    -- one step more is answered, if every total of the items before meets the condition
+    -- one more step meets its condition, if every total of the items before meets it with the new item
     answered_more : (xs : List A) (x : A) (p : ℤ × ℤ) → AnswersFrom view Can Gives p xs → ((q : ℤ × ℤ) → FoldsTo (λ p x q. Gives p (view x) q) p xs q → Can q (view x)) → AnswersFrom view Can Gives p (xs ++ x ∷ [])
     answered_more [] x p answered can = (can p refl, λ next gives. tt)
     answered_more (y ∷ xs) x p answered can = (answered.0, λ next gives. answered_more xs x next (answered.1 next gives) (λ q total. can q (next, gives, total)))
@@ -99,7 +99,7 @@ module _ {A : Type 0} (view : A → ℤ × ℤ) (Can : ℤ × ℤ → ℤ × ℤ
       positive = positive;
     }
 
--- ---- a list that is read an item at a time
+-- ---- a list that is read one item at a time
 
 module _ {A : Type 0} (view : A → ℤ × ℤ) (Can : ℤ × ℤ → ℤ × ℤ → Type 0) (Gives : ℤ × ℤ → ℤ × ℤ → ℤ × ℤ → Type 0) (start : ℤ × ℤ) (all : List A) (i : ℕ) (x : A) (below : i < length all) (is : x ≡ get_or all i x) where
   one_further : take (i + 1) all ≡ take i all ++ x ∷ []
@@ -109,7 +109,7 @@ module _ {A : Type 0} (view : A → ℤ × ℤ) (Can : ℤ × ℤ → ℤ × ℤ
   beginning [] more p answered = tt
   beginning (y ∷ ys) more p answered = (answered.0, λ q gives. beginning ys more q (answered.1 q gives))
 
-  -- where the step over the next item is refused, not every step over the list is answered
+  -- if the step over the next item does not meet its condition, not all steps over the list do
   pub list_refused : (q : ℤ × ℤ) {pair : ℤ × ℤ} → pair ≡ view x → FoldsTo (λ p x q. Gives p (view x) q) start (take i all) q → ¬ (Can q pair) → ¬ (AnswersFrom view Can Gives start all)
   list_refused q seen total cannot answered =
       let whole : AnswersFrom view Can Gives start (take (i + 1) all ++ drop (i + 1) all) = subst (AnswersFrom view Can Gives start) (sym (take-append-drop (i + 1) all)) answered in
@@ -121,18 +121,18 @@ module _ {A : Type 0} (view : A → ℤ × ℤ) (Can : ℤ × ℤ → ℤ × ℤ
 -- ---- an iterator that gives a list
 
 module _ {A B : Type 0} (view : B → ℤ × ℤ) (v : A → B) (Can : ℤ × ℤ → ℤ × ℤ → Type 0) (Gives : ℤ × ℤ → ℤ × ℤ → ℤ × ℤ → Type 0) where
-  -- the front of a list, where v reads its items
+  -- if all steps over a list meet their condition, so do those over a front of it that v reads
   front_answered : (xs : List A) (more : List B) (p : ℤ × ℤ) → AnswersFrom view Can Gives p (map v xs ++ more) → AnswersFrom (λ x. view (v x)) Can Gives p xs
   front_answered [] more p answered = tt
   front_answered (x ∷ xs) more p answered = (answered.0, λ q gives. front_answered xs more q (answered.1 q gives))
 
-  -- where every step over the list is answered, so is every one along the calls
+  -- if each step over the list meets its condition, so does each step along the calls
   pub along_front : {S : Type 0} {steps : S → Option A → S → Type 0} {s : S} (all : List B) (p : ℤ × ℤ) → YieldsList steps v s all → AnswersFrom view Can Gives p all → HoldsAlong steps s (AnswersFrom (λ x. view (v x)) Can Gives p)
   along_front all p given answered xs t gave =
       let whole : AnswersFrom view Can Gives p (take (length xs) all ++ drop (length xs) all) = subst (AnswersFrom view Can Gives p) (sym (take-append-drop (length xs) all)) answered in
       front_answered xs (drop (length xs) all) p (subst (λ w. AnswersFrom view Can Gives p (w ++ drop (length xs) all)) (sym (YieldsList-so_far given xs t gave)) whole)
 
-  -- where every step of a whole run is answered, so is every one over the list
+  -- if each step of a whole run meets its condition, so does each step over the list
   answered_map : (xs : List A) (p : ℤ × ℤ) → AnswersFrom (λ x. view (v x)) Can Gives p xs → AnswersFrom view Can Gives p (map v xs)
   answered_map [] p answered = tt
   answered_map (x ∷ xs) p answered = (answered.0, λ q gives. answered_map xs q (answered.1 q gives))
@@ -145,7 +145,7 @@ module _ {A B : Type 0} (view : B → ℤ × ℤ) (v : A → B) where
   positive_unmap [] all = All-nil (λ x. pos 0 <ℤ (view (v x)).1)
   positive_unmap (x ∷ xs) all = All-cons (λ x. pos 0 <ℤ (view (v x)).1) x xs (All-head (λ y. pos 0 <ℤ (view y).1) (v x) (map v xs) all) (positive_unmap xs (All-tail (λ y. pos 0 <ℤ (view y).1) (v x) (map v xs) all))
 
-  -- where each denominator of the list is positive, so is each one along the calls
+  -- if each denominator of the list is positive, so is each one along the calls
   pub positive_along : {S : Type 0} {steps : S → Option A → S → Type 0} {s : S} (all : List B) → YieldsList steps v s all → ArePositive view all → HoldsAlong steps s (ArePositive (λ x. view (v x)))
   positive_along all given positive xs t gave =
       positive_unmap xs (subst (ArePositive view) (sym (YieldsList-so_far given xs t gave)) (All-take (λ y. pos 0 <ℤ (view y).1) (length xs) all positive))

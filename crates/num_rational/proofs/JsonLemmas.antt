@@ -1,4 +1,4 @@
--- JSON lists of two values, and what they are answered.
+-- JSON lists of two values, and what reading them returns.
 use Rattle.std.proofs.Common.{◌≡◌, ◌≢◌, refl, sym, ◌∙◌, ap, subst, arith, List, [], ◌∷◌, length, get_or, ℤ, pos, negsuc, Option, Some, None, Result, Ok, Err, inl, inr}
 use Rattle.std.specs.Prelude.{option_and_then}
 use Rattle.serde_json.specs.Data.{Data, array, boolean, item, Items, no_items, null, number, object, string}
@@ -43,11 +43,11 @@ has_two v a b vs e list =
 
 -- ---- whole numbers
 
--- a value that is no number, or a float, is no whole number
+-- a value that is not a number, or is a float, is not a whole number
 pub no_integer : {T : Type 0} (value : T → ℤ) (lo hi : ℤ) (v : Data) → option_and_then as_integer (as_number v) ≡ None → AnswersJsonInteger value lo hi v None
 no_integer value lo hi v none z is = let h : None ≡ Some z = sym none ∙ is.whole in cc
 
--- a whole number is answered where it is held
+-- a whole number is read if it is in range
 pub checked_integer : {T : Type 0} (value : T → ℤ) (lo hi : ℤ) (v : Data) (z : ℤ) (r : Option T) → option_and_then as_integer (as_number v) ≡ Some z → Checks value lo hi z r → AnswersJsonInteger value lo hi v r
 checked_integer value lo hi v z None whole out = λ y is. let h : Some z ≡ Some y = sym whole ∙ is.whole in let same : z ≡ y = cc in out (subst (IsHeld lo hi) (sym same) is.held)
 checked_integer value lo hi v z (Some y) whole is = record { whole = whole ∙ ap Some (sym is.1); held = subst (IsHeld lo hi) (sym is.1) is.0 }

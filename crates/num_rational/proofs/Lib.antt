@@ -1,5 +1,13 @@
+pub mod CastLemmas
 pub mod FoldLemmas
+pub mod HeadlineLemmas
 pub mod JsonLemmas
+pub mod NeutralLemmas
+pub mod OrderLawLemmas
 pub mod PaddingLemmas
 pub mod RatioLemmas
 pub mod ReducedLemmas
+pub mod ResultLemmas
+pub mod SignLawLemmas
+pub mod UndoingLemmas
+pub mod ValueLemmas

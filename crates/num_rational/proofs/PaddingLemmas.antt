@@ -1,4 +1,4 @@
--- What `pad_integral` writes of a text where a hole has no options.
+-- What `pad_integral` writes if no option is given.
 use Rattle.std.proofs.Common.{◌≡◌, refl, sym, ◌∙◌, ap, subst, arith, ℕ, ℤ, ◌-◌, ◌/◌, ◌==◌, Bool, true, false, cond, List, [], ◌∷◌, ◌++◌, drop, length, Result}
 use Rattle.std.specs.Prelude.{◌≢◌}
 use Rattle.std.specs.Str.Parse.{starts_with_minus}
@@ -43,15 +43,15 @@ pub no_minus : (text : List ℕ) → ((rest : List ℕ) → text ≢ 45 ∷ rest
 no_minus [] other = refl
 no_minus (c ∷ cs) other = ne_eqb c 45 (λ e. other cs (ap (λ x. x ∷ cs) e))
 
--- what stands after a prefix is one text
+-- the rest after a prefix is unique
 pub same_rest : (prefix xs ys : List ℕ) → prefix ++ xs ≡ prefix ++ ys → xs ≡ ys
 same_rest [] xs ys e = e
 same_rest (c ∷ cs) xs ys e = same_rest cs xs ys (let tail : cs ++ xs ≡ cs ++ ys = cc in tail)
 
--- without `#` no prefix is written
+-- without `#`, no prefix is written
 pub bare_body : (alternate : Bool) (bits : ℕ) (form : Form) (n d : ℤ) → alternate ≡ false → body_of bits form alternate n d ≡ text_of bits form false n d
 bare_body alternate bits form n d bare = ap (λ shown. body_of bits form shown n d) bare
 
--- a text that is cut after its prefix
+-- the rest of a text that is cut after its prefix
 pub rest_is : (prefix text rest body : List ℕ) (n : ℕ) → text ≡ prefix ++ drop n text → rest ≡ drop n text → text ≡ prefix ++ body → rest ≡ body
 rest_is prefix text rest body n cut is whole = is ∙ same_rest prefix (drop n text) body (sym cut ∙ whole)

@@ -1,4 +1,4 @@
--- Fractions with the same fields are the same, and lowest terms are their own.
+-- Fractions with the same fields are the same. A fraction in lowest terms is its own lowest terms.
 use Rattle.std.proofs.Common.{◌≡◌, ℤ, pos}
 use Rattle.std.proofs.Props.{props}
 use mathlib.Core.HLevel.{is_prop→PathP}
@@ -14,7 +14,7 @@ same_ratio {i = i} x y a b = λ k. record { numer = a k; denom = b k; nonzero = 
 pub same_reduced : {T : _} {i : _} {o : _} {e : _} {p : _} {h : _} (x y : Reduced T i o e p h) → x.ratio ≡ y.ratio → x ≡ y
 same_reduced x y same = λ k. record { ratio = same k; lowest = is_prop→PathP (λ j. IsInLowestTerms (same j)) (λ j. Prim.hlevel props) x.lowest y.lowest k }
 
--- lowest terms that are held fit
+-- lowest terms in range fit
 pub fits_itself : (lo hi n d a b : ℤ) → IsHeldLowest lo hi n d a b → Fits lo hi a b
 fits_itself lo hi n d a b low = record {
   numer = a;

@@ -1,4 +1,4 @@
--- How two fractions stand to one another.
+-- How two fractions compare.
 use Rattle.std.specs.Prelude.{◌≡◌, ◌*ℤ◌, Bool}
 use Rattle.std.specs.Ordering.{int_eq}
 use Rattle.std.specs.declared.cmp.Ordering.{Ordering}
@@ -11,18 +11,18 @@ use Rattle.num_rational.specs.Ratio.{denominator, numerator}
 abbrev pub order_of : {T : _} {i : _} {o : _} {e : _} {p : _} {h : _} → Ratio T i o e p h → Ratio T i o e p h → Ordering
 order_of x y = cross_cmp (numerator x) (denominator x) (numerator y) (denominator y)
 
--- they have the same value
+-- the two have the same value
 abbrev pub AreEqual : {T : _} {i : _} {o : _} {e : _} {p : _} {h : _} → Ratio T i o e p h → Ratio T i o e p h → Type 0
 AreEqual x y = SameValue (numerator x) (denominator x) (numerator y) (denominator y)
 
--- whether they have: the test of `AreEqual`
+-- the test of `AreEqual`
 abbrev pub same_value : {T : _} {i : _} {o : _} {e : _} {p : _} {h : _} → Ratio T i o e p h → Ratio T i o e p h → Bool
 same_value x y = int_eq (numerator x *ℤ denominator y) (numerator y *ℤ denominator x)
 
--- their numerators are the same number, and so are their denominators
+-- the numerators are the same number, and so are the denominators
 abbrev pub HaveSameFields : {T : _} {i : _} {o : _} {e : _} {p : _} {h : _} → Ratio T i o e p h → Ratio T i o e p h → Type 0
 HaveSameFields x y = (numerator x ≡ numerator y) × (denominator x ≡ denominator y)
 
--- the fraction is in lowest terms as it stands
+-- the fraction's own two numbers are in lowest terms
 abbrev pub IsInLowestTerms : {T : _} {i : _} {o : _} {e : _} {p : _} {h : _} → Ratio T i o e p h → Type 0
 IsInLowestTerms x = IsLowestTerms (numerator x) (denominator x)

@@ -1,5 +1,5 @@
--- Sums and products of lists. An item is seen as two whole numbers, and so is the total so far.
-use Rattle.std.specs.Prelude.{◌<ℤ◌, ℤ, pos, All, Bool, List, [], ◌∷◌, Option, None, Some, ⊤}
+-- Sums and products of lists. Each item is seen as two whole numbers, and so is the total so far.
+use Rattle.std.specs.Prelude.{◌<ℤ◌, ℤ, pos, All, Bool, true, List, [], ◌∷◌, Option, None, Some, ⊤}
 use Rattle.std.specs.List.{FoldsTo}
 use Rattle.ratio_core.specs.Laws.{IsProduct, IsSum}
 use Rattle.num_rational.specs.declared.ratio.Ratio.{Ratio}
@@ -9,35 +9,40 @@ use Rattle.num_rational.specs.Operators.{CanAdd, CanMultiply, numbers}
 abbrev pub ArePositive : {A : Type 0} → (A → ℤ × ℤ) → List A → Type 0
 ArePositive view xs = All (λ x. pos 0 <ℤ (view x).1) xs
 
--- every step over the items is answered, where the first step starts from this total, and each later one from whatever the
--- step before it gives; Can says of a total and an item that their step is answered, and Gives which total it gives
+-- Each step over the items meets its condition. The first step starts from this total, and each later one from what the step
+-- before it gives. `Can` is the condition of a total and an item, and `Gives` says which total their step gives.
 abbrev pub AnswersFrom : {A : Type 0} → (A → ℤ × ℤ) → (ℤ × ℤ → ℤ × ℤ → Type 0) → (ℤ × ℤ → ℤ × ℤ → ℤ × ℤ → Type 0) → ℤ × ℤ → List A → Type 0
 AnswersFrom view Can Gives total [] = ⊤
 AnswersFrom view Can Gives total (x ∷ xs) = Can total (view x) × ((next : ℤ × ℤ) → Gives total (view x) next → AnswersFrom view Can Gives next xs)
 
--- every sum over the items, in order from 0/1 on, is answered over a type of the whole numbers from lo to hi, whose sums
--- are exact or not
+-- each step that adds an item, from 0/1 on, meets its condition, over a type with the numbers from lo to hi, whose sums are
+-- exact or not
 pub record CanSum {A : Type 0} (exact : Bool) (lo hi : ℤ) (view : A → ℤ × ℤ) (xs : List A) : Type 0 where
   pub answered : AnswersFrom view (CanAdd exact lo hi) IsSum (pos 0, pos 1) xs
 
--- the total is what adding the items to 0/1, in order, gives
+-- adding the items to 0/1, in order, gives this total
 abbrev pub IsSumOf : {A : Type 0} → (A → ℤ × ℤ) → List A → ℤ × ℤ → Type 0
 IsSumOf view xs total = FoldsTo (λ p x q. IsSum p (view x) q) (pos 0, pos 1) xs total
 
--- the answer is the sum of the items where every step to it is answered, and `None` where one is not
+-- the result is the sum of the items if each step meets its condition, and else `None`
 abbrev pub ChecksSumOf : {T : _} {i : _} {o : _} {e : _} {p : _} {h : _} {A : Type 0} → (A → ℤ × ℤ) → List A → Option (Ratio T i o e p h) → Type 0
 ChecksSumOf {i = i} view xs None = ¬ (CanSum i.EXACT_SUMS i.lo i.hi view xs)
 ChecksSumOf {i = i} view xs (Some total) = CanSum i.EXACT_SUMS i.lo i.hi view xs × IsSumOf view xs (numbers total)
 
--- every product over the items, in order from 1/1 on, is answered over a type of the whole numbers from lo to hi
+-- the result is the sum of the items if the lowest terms of each sum on the way are in range, and else `None`
+abbrev pub ChecksExactSumOf : {T : _} {i : _} {o : _} {e : _} {p : _} {h : _} {A : Type 0} → (A → ℤ × ℤ) → List A → Option (Ratio T i o e p h) → Type 0
+ChecksExactSumOf {i = i} view xs None = ¬ (CanSum true i.lo i.hi view xs)
+ChecksExactSumOf {i = i} view xs (Some total) = CanSum true i.lo i.hi view xs × IsSumOf view xs (numbers total)
+
+-- each step that multiplies by an item, from 1/1 on, meets its condition, over a type with the numbers from lo to hi
 pub record CanProduct {A : Type 0} (lo hi : ℤ) (view : A → ℤ × ℤ) (xs : List A) : Type 0 where
   pub answered : AnswersFrom view (CanMultiply lo hi) IsProduct (pos 1, pos 1) xs
 
--- the total is what multiplying 1/1 by the items, in order, gives
+-- multiplying 1/1 by the items, in order, gives this total
 abbrev pub IsProductOf : {A : Type 0} → (A → ℤ × ℤ) → List A → ℤ × ℤ → Type 0
 IsProductOf view xs total = FoldsTo (λ p x q. IsProduct p (view x) q) (pos 1, pos 1) xs total
 
--- the answer is the product of the items where every step to it is answered, and `None` where one is not
+-- the result is the product of the items if each step meets its condition, and else `None`
 abbrev pub ChecksProductOf : {T : _} {i : _} {o : _} {e : _} {p : _} {h : _} {A : Type 0} → (A → ℤ × ℤ) → List A → Option (Ratio T i o e p h) → Type 0
 ChecksProductOf {i = i} view xs None = ¬ (CanProduct i.lo i.hi view xs)
 ChecksProductOf {i = i} view xs (Some total) = CanProduct i.lo i.hi view xs × IsProductOf view xs (numbers total)

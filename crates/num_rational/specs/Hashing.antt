@@ -1,4 +1,4 @@
--- By what a fraction is hashed.
+-- What a fraction feeds a hasher.
 use Rattle.std.specs.Prelude.{◌≡◌, ℕ, ℤ, List, length}
 use Rattle.std.specs.List.{flat_map}
 use Rattle.ratio_integer.specs.Range.{IsHeld}
@@ -6,7 +6,7 @@ use Rattle.ratio_core.proofs.HashLaws.{codes_of}
 use Rattle.num_rational.specs.declared.ratio.Ratio.{Ratio}
 use Rattle.num_rational.specs.Ratio.{denominator, numerator}
 
--- the codes of the quotients of its continued fraction, the one list that is `IsCodesOf` its two numbers
+-- the codes of the fraction: the one list that is `IsCodesOf` its two numbers
 abbrev pub codes_of_ratio : {T : _} {i : _} {o : _} {e : _} {p : _} {h : _} → Ratio T i o e p h → List ℤ
 codes_of_ratio {i = i} x = codes_of i.lo i.hi (numerator x) (denominator x) x.nonzero
 
@@ -14,7 +14,7 @@ codes_of_ratio {i = i} x = codes_of i.lo i.hi (numerator x) (denominator x) x.no
 abbrev pub writes_of : {T : _} {i : _} {o : _} {e : _} {p : _} {h : _} → Ratio T i o e p h → List (List ℕ)
 writes_of {i = i} x = flat_map i.number_hash_input (codes_of_ratio x)
 
--- each number from lo to hi feeds a hasher a list of this length, and no two feed it the same
+-- the numbers from lo to hi feed a hasher lists of one length, and no two feed it the same list
 pub record AreToldApart (lo hi : ℤ) (write : ℤ → List (List ℕ)) : Type 0 where
   pub size : ℕ
   pub long : (z : ℤ) → IsHeld lo hi z → length (write z) ≡ size

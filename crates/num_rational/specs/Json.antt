@@ -1,4 +1,4 @@
--- A fraction as a JSON value, and what such a value is answered.
+-- A fraction as a JSON value, and what reading such a value returns.
 use Rattle.std.specs.Prelude.{◌≡◌, ◌≢◌, ◌⊎◌, ℕ, ℤ, pos, List, codes, Result, Ok, Err, Option, Some, None, option_and_then}
 use Rattle.serde_json.specs.Data.{Data, array, item, no_items, number}
 use Rattle.serde_json.specs.Find.{as_integer, as_number, of_integer}
@@ -16,12 +16,12 @@ list_of_two a b = array (item a (item b no_items))
 abbrev pub json_pair : ℤ → ℤ → Data
 json_pair n d = list_of_two (number (of_integer n)) (number (of_integer d))
 
--- a JSON value is the whole number z, and z is held; a number that is kept as a float is none
+-- the JSON value is the whole number z, which is in range; a number that is kept as a float is none
 pub record IsJsonInteger (lo hi : ℤ) (v : Data) (z : ℤ) : Type 0 where
   pub whole : option_and_then as_integer (as_number v) ≡ Some z
   pub held : IsHeld lo hi z
 
--- a JSON value is the list of two whole numbers n and d, which are held
+-- the JSON value is the list of two whole numbers n and d, which are in range
 pub record IsJsonPair (lo hi : ℤ) (v : Data) (n d : ℤ) : Type 0 where
   pub first : Data
   pub second : Data
@@ -29,30 +29,31 @@ pub record IsJsonPair (lo hi : ℤ) (v : Data) (n d : ℤ) : Type 0 where
   pub numer : IsJsonInteger lo hi first n
   pub denom : IsJsonInteger lo hi second d
 
--- a JSON value is a list of two values, of which one is no whole number that is held
+-- the JSON value is a list of two values, of which one is no whole number in range
 pub record HasNoJsonInteger (lo hi : ℤ) (v : Data) : Type 0 where
   pub first : Data
   pub second : Data
   pub list : v ≡ list_of_two first second
   pub other : ((z : ℤ) → ¬ (IsJsonInteger lo hi first z)) ⊎ ((z : ℤ) → ¬ (IsJsonInteger lo hi second z))
 
--- the answer has the two numbers of the list, or is the first refusal that applies; numer and denom read the answer
+-- The result has the two numbers of the list, and the second is not 0. Or it is the refusal that applies. numer and denom read
+-- the result.
 abbrev pub AnswersJson : {R : Type 0} → (R → ℤ) → (R → ℤ) → ℤ → ℤ → Data → Result R JsonRatioError → Type 0
 AnswersJson numer denom lo hi v (Ok r) = IsJsonPair lo hi v (numer r) (denom r) × (denom r ≢ pos 0)
 AnswersJson numer denom lo hi v (Err NotAPair) = (a b : Data) → v ≢ list_of_two a b
 AnswersJson numer denom lo hi v (Err NotAnInteger) = HasNoJsonInteger lo hi v
 AnswersJson numer denom lo hi v (Err ZeroDenominator) = (n : ℤ) × IsJsonPair lo hi v n (pos 0)
 
--- the answer stands for the whole number that the value is, and is `None` where it is none
+-- the result is the whole number that the JSON value is, and `None` if it is none
 abbrev pub AnswersJsonInteger : {T : Type 0} → (T → ℤ) → ℤ → ℤ → Data → Option T → Type 0
 AnswersJsonInteger value lo hi v None = (z : ℤ) → ¬ (IsJsonInteger lo hi v z)
 AnswersJsonInteger value lo hi v (Some y) = IsJsonInteger lo hi v (value y)
 
--- the answer is the fraction of the list's two numbers as they stand, or the first refusal that applies
+-- the result has the list's two numbers, not reduced, or is the refusal that applies
 abbrev pub ReadsJson : {T : _} {i : _} {o : _} {e : _} {p : _} {h : _} → Data → Result (Ratio T i o e p h) JsonRatioError → Type 0
 ReadsJson {i = i} v result = AnswersJson numerator denominator i.lo i.hi v result
 
--- what each refusal is printed as
+-- the texts of the refusals
 abbrev pub json_refusal_text : JsonRatioError → List ℕ
 json_refusal_text NotAPair = codes "not a list of two"
 json_refusal_text NotAnInteger = codes "not a whole number of the type"

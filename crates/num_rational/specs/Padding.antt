@@ -1,15 +1,15 @@
--- What a fraction is printed as under the options of a hole.
+-- How a fraction is printed under the options in a pair of braces.
 use Rattle.std.specs.Prelude.{ℕ, ℤ, Bool, true, false, List, [], drop, if◌then◌else◌}
 use Rattle.std.specs.Str.Parse.{starts_with_minus}
 use Rattle.ratio_core.specs.declared.text.form.Form.{Form}
 use Rattle.ratio_core.specs.Printing.{body_of, prefix_of}
 
--- a decimal text as pad writes numbers, from whether they are below 0, a prefix and their digits: a minus at the text's
--- beginning is the sign, and all the rest counts as the digits
-abbrev pub padded_decimal : (Bool → List ℕ → List ℕ → List ℕ) → List ℕ → List ℕ
-padded_decimal pad text = if starts_with_minus text then pad true [] (drop 1 text) else pad false [] text
+-- A text in base 10, padded as a number: -1/2 in `{:06}` is `-001/2`. `pad` writes a number from its sign, its prefix and its
+-- digits. A minus at the text's beginning is the sign, and the rest counts as the digits.
+abbrev pub padded_base_ten : (Bool → List ℕ → List ℕ → List ℕ) → List ℕ → List ℕ
+padded_base_ten pad text = if starts_with_minus text then pad true [] (drop 1 text) else pad false [] text
 
--- a fraction in base 2, 8 or 16, as pad writes numbers that are not below 0: the prefix is the numerator's, and all the rest
--- counts as the digits
+-- A fraction in base 2, 8 or 16, padded as a number not below 0: 1/2 in `{:#08x}` is `0x01/0x2`. The numerator's prefix is the
+-- prefix, and the rest counts as the digits.
 abbrev pub padded_in_base : (Bool → List ℕ → List ℕ → List ℕ) → Bool → ℕ → Form → ℤ → ℤ → List ℕ
 padded_in_base pad alternate bits form n d = pad false (prefix_of form) (body_of bits form alternate n d)

@@ -1,12 +1,11 @@
 -- The reciprocal and the powers of a fraction.
 use Rattle.std.specs.Prelude.{◌≢◌, ◌<ℤ◌, ℤ, pos, neg_ℤ, Option}
 use Rattle.ratio_integer.specs.Range.{IsHeld}
-use Rattle.ratio_core.specs.Power.{ChecksPower, IsPower, IsReciprocal}
+use Rattle.ratio_core.specs.Power.{ChecksPower, IsPower, IsReciprocal, power_of}
 use Rattle.num_rational.specs.declared.ratio.Ratio.{Ratio}
-use Rattle.num_rational.specs.Ratio.{denominator, numerator}
+use Rattle.num_rational.specs.Ratio.{ChecksRatio, denominator, numerator}
 
--- x may be asked for its reciprocal: its denominator is positive, it is not 0, and where it is negative, its numerator has a
--- negative
+-- what `recip` requires: the denominator is positive, the numerator is not 0 and, if it is negative, its negative is in range
 pub record CanInvert {T : _} {i : _} {o : _} {e : _} {p : _} {h : _} (x : Ratio T i o e p h) : Type 0 where
   pub positive : pos 0 <ℤ denominator x
   pub nonzero : numerator x ≢ pos 0
@@ -20,6 +19,10 @@ GivesReciprocal x r = IsReciprocal (numerator x) (denominator x) (numerator r) (
 abbrev pub GivesPower : {T : _} {i : _} {o : _} {e : _} {p : _} {h : _} → Ratio T i o e p h → ℤ → Ratio T i o e p h → Type 0
 GivesPower x exponent r = IsPower (numerator x) (denominator x) exponent (numerator r) (denominator r)
 
--- the answer is x to the exponent where that is answered, and `None` where it is not
+-- the result is x to the exponent if the condition of powers holds, and else `None`
 abbrev pub ChecksRatioPower : {T : _} {i : _} {o : _} {e : _} {p : _} {h : _} → Ratio T i o e p h → ℤ → Option (Ratio T i o e p h) → Type 0
 ChecksRatioPower {i = i} x exponent result = ChecksPower numerator denominator i.lo i.hi (numerator x) (denominator x) exponent result
+
+-- the result is x to the exponent in lowest terms if these are in range, and else `None`. 0 to an exponent below 0 has no lowest terms
+abbrev pub ChecksExactPower : {T : _} {i : _} {o : _} {e : _} {p : _} {h : _} → Ratio T i o e p h → ℤ → Option (Ratio T i o e p h) → Type 0
+ChecksExactPower x exponent result = ChecksRatio (power_of (numerator x) (denominator x) exponent) result

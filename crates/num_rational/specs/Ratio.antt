@@ -1,4 +1,4 @@
--- What a fraction's two numbers are.
+-- The two numbers of a fraction.
 use Rattle.std.specs.Prelude.{◌≡◌, ℕ, ℤ, pos, List, Option, None, Some, Result}
 use Rattle.ratio_integer.specs.Fraction.{ChecksLowest, Fits, IsHeldLowest, IsLowestTermsOf}
 use Rattle.ratio_integer.specs.Range.{IsHeld}
@@ -8,11 +8,11 @@ use Rattle.ratio_core.specs.declared.parse_error.RatioErrorKind.{RatioErrorKind}
 use Rattle.ratio_core.specs.Reading.{AnswersText, IsFractionText}
 use Rattle.num_rational.specs.declared.ratio.Ratio.{Ratio}
 
--- the numerator and the denominator, as values of the element type
+-- the numerator and the denominator, as values of the integer type
 abbrev pub fields : {T : _} {i : _} {o : _} {e : _} {p : _} {h : _} → Ratio T i o e p h → T × T
 fields r = (r.numer, r.denom)
 
--- the fraction c over 1, with its fields
+-- the fraction with c and ONE as its fields
 abbrev pub from_integer : {T : Type 0} {i : _} {o : _} {e : _} {p : _} {h : _} → T → Ratio T i o e p h
 from_integer {i = i} c = record { numer = c; denom = i.ONE; nonzero = positive_nonzero (i.value i.ONE) (over_one (i.value c) (i.value i.ONE) i.one_number).positive }
 
@@ -28,24 +28,24 @@ denominator {i = i} r = i.value r.denom
 abbrev pub IsWhole : {T : _} {i : _} {o : _} {e : _} {p : _} {h : _} → ℤ → Ratio T i o e p h → Type 0
 IsWhole c r = (numerator r ≡ c) × (denominator r ≡ pos 1)
 
--- the answer is c over 1 where the type holds c, and `None` where it does not
+-- the result is c over 1 if c is in range, and else `None`
 abbrev pub ChecksWhole : {T : _} {i : _} {o : _} {e : _} {p : _} {h : _} → ℤ → Option (Ratio T i o e p h) → Type 0
 ChecksWhole {i = i} c None = ¬ (IsHeld i.lo i.hi c)
 ChecksWhole {i = i} c (Some r) = IsHeld i.lo i.hi c × IsWhole c r
 
--- r is the lowest terms of the pair x, which are held
+-- r is the lowest terms of the pair x, and they are in range
 abbrev pub IsLowestOf : {T : _} {i : _} {o : _} {e : _} {p : _} {h : _} → ℤ × ℤ → Ratio T i o e p h → Type 0
 IsLowestOf {i = i} x r = IsHeldLowest i.lo i.hi x.0 x.1 (numerator r) (denominator r)
 
--- the answer is the lowest terms of the pair x where these are held, and `None` where they are not
+-- the result is the lowest terms of the pair x if these are in range, and else `None`
 abbrev pub ChecksRatio : {T : _} {i : _} {o : _} {e : _} {p : _} {h : _} → ℤ × ℤ → Option (Ratio T i o e p h) → Type 0
 ChecksRatio {i = i} x result = ChecksLowest numerator denominator i.lo i.hi x result
 
--- r may be reduced, and its lowest terms are its own two numbers
+-- the lowest terms of r are in range, and they are its own two numbers
 pub record IsReduced {T : _} {i : _} {o : _} {e : _} {p : _} {h : _} (r : Ratio T i o e p h) : Type 0 where
   pub fits : Fits i.lo i.hi (numerator r) (denominator r)
   pub same : (a b : ℤ) → IsLowestTermsOf (numerator r) (denominator r) a b → (a ≡ numerator r) × (b ≡ denominator r)
 
--- the answer is the fraction of a decimal text in lowest terms, or the first refusal that applies
+-- the result is the fraction of a text in base 10, in lowest terms, or a refusal that applies
 abbrev pub ReadsRatio : {T : _} {i : _} {o : _} {e : _} {p : _} {h : _} → List ℕ → Result (Ratio T i o e p h) RatioErrorKind → Type 0
 ReadsRatio {i = i} text result = AnswersText numerator denominator i.lo i.hi (IsFractionText i.lo i.hi text) result

@@ -6,14 +6,14 @@ use crate::ratio::Ratio;
 use ratio_integer::Integer;
 
 impl<T: Copy + Integer> Ratio<T> {
-    /// The whole number over 1, or `None` where the type does not hold it.
+    /// The whole number over 1, or `None` if it does not fit the type.
     pub fn from_i64(n: i64) -> Option<Ratio<T>>
         ensures { ChecksWhole n result }
     {
         Ratio::from_i128(n as i128)
     }
 
-    /// The whole number over 1, or `None` where the type does not hold it.
+    /// The whole number over 1, or `None` if it does not fit the type.
     pub fn from_i128(n: i128) -> Option<Ratio<T>>
         ensures { ChecksWhole n result }
     {
@@ -23,14 +23,14 @@ impl<T: Copy + Integer> Ratio<T> {
         }
     }
 
-    /// The whole number over 1, or `None` where the type does not hold it.
+    /// The whole number over 1, or `None` if it does not fit the type.
     pub fn from_u64(n: u64) -> Option<Ratio<T>>
         ensures { ChecksWhole (pos n) result }
     {
         Ratio::from_u128(n as u128)
     }
 
-    /// The whole number over 1, or `None` where the type does not hold it.
+    /// The whole number over 1, or `None` if it does not fit the type.
     pub fn from_u128(n: u128) -> Option<Ratio<T>>
         ensures { ChecksWhole (pos n) result }
     {

@@ -1,4 +1,4 @@
-//! The hash of fractions, the same for all fractions of one value.
+//! The hash of a fraction. It is the same for all fractions of one value.
 ghost use Rattle.std.specs.Prelude.{◌≡◌, ◌+◌, ℕ, ℤ, fold, refl, List, [], ◌∷◌, ◌++◌};
 ghost use Rattle.std.specs.List.{flat_map};
 ghost use Rattle.ratio_core.specs.ContinuedFraction.{IsCodeCount, IsCodesOf, TellsApart};
@@ -12,11 +12,13 @@ use ratio_integer::Integer;
 use std::hash::{Hash, Hasher};
 
 impl<T: Copy + Integer> Ratio<T> {
-    /// Hands the codes of this fraction to `list`: the quotients of its continued fraction, then 0.
-    /// The quotient `hi + 1`, which the type does not hold, stands as the least number, twice. Of all
-    /// fractions over the type, exactly those of the same value have this list. The left side of
-    /// `steps` rises by the number of divisions, which is at most twice the number of binary digits
-    /// of the denominator.
+    /// Hands the codes of this fraction to `list`: the quotients of its continued fraction, and then
+    /// 0. The codes of 7/3 are 2, 3 and 0. The quotient `hi + 1`, which does not fit the type, is
+    /// written as the least number, twice.
+    ///
+    /// Of all fractions over the type, exactly those of the same value have these codes. The left
+    /// side of `steps` rises by one for each quotient except `hi + 1`. That is at most twice the
+    /// number of binary digits of the denominator.
     pub fn hash_counted<L: CodeList<T>>(&self, list: &mut L, steps: &mut Steps)
         ensures codes { (codes : List ℤ) × IsCodesOf T.lo T.hi (numerator self.now) (denominator self.now) codes
             × TellsApart T.lo T.hi (numerator self.now) (denominator self.now) codes
@@ -29,7 +31,7 @@ impl<T: Copy + Integer> Ratio<T> {
     }
 }
 
-/// A hasher as a list of codes: each goes to the element's own `hash`.
+/// A hasher as a list of codes. It takes each code by the element's own `hash`.
 struct HashedCodes<'a, H> {
     state: &'a mut H,
     taken: Taken,
@@ -64,7 +66,8 @@ impl<T: Copy + Integer> Hash for Ratio<T> {
 
     ghost respects_eq = { λ x y h. same_writes_by_value numerator denominator (λ r. r.nonzero) T.number_hash_input T.lo T.hi x y h };
 
-    /// Feeds the element's `hash` with the codes that `hash_counted` hands out, in their order.
+    /// Feeds the hasher with the codes of `hash_counted`, in their order, each by the element's own
+    /// `hash`.
     fn hash<H: Hasher>(&self, state: &mut H)
         ensures writes { state.new ≡ fold H.write state.old (writes_of self.now) }
         ensures codes { (codes : List ℤ) × IsCodesOf T.lo T.hi (numerator self.now) (denominator self.now) codes

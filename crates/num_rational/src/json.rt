@@ -1,4 +1,4 @@
-//! Fractions as JSON: the list of the two fields.
+//! Fractions as JSON: a list of the two fields.
 ghost use Rattle.std.specs.Prelude.{◌≡◌, IfOk, Some};
 ghost use Rattle.serde_json.specs.View.{view};
 ghost use Rattle.num_rational.specs.Json.{AnswersJson, AnswersJsonInteger, ReadsJson, json_pair, json_refusal_text};
@@ -11,15 +11,15 @@ use std::alloc::{AllocError, Global};
 use std::error::Error;
 use std::fmt;
 
-/// Why a JSON value is no fraction.
+/// Why a JSON value is not a fraction.
 #[derive(Clone, Copy, PartialEq, Debug)]
 pub enum JsonRatioError {
-    /// It is no list of exactly two values.
+    /// The value is not a list of exactly two values.
     NotAPair = 1,
-    /// One of the two is no whole number that the type holds; a number that is kept as a float is
-    /// none, even `1.0`.
+    /// One of the two is not a whole number that fits the type. A number that is kept as a float is
+    /// not one, even `1.0`.
     NotAnInteger = 2,
-    /// The second is 0.
+    /// The second number is 0.
     ZeroDenominator = 3,
 }
 
@@ -37,7 +37,7 @@ impl fmt::Display for JsonRatioError {
 
 impl Error for JsonRatioError {}
 
-/// A type whose fractions are written as JSON: each of its numbers is one of an `i64`.
+/// A type whose fractions can be written as JSON. Each of its numbers fits an `i64`.
 pub trait JsonInteger: Primitive {
     /// The number.
     fn json_number(self) -> i64
@@ -57,15 +57,16 @@ impl JsonInteger for i64 {
 }
 
 impl<T: JsonInteger> Ratio<T> {
-    /// The list of the two fields as they stand, the numerator first. Only want of memory is refused.
+    /// The list of the two fields as they are, the numerator first: `[2,4]` for 2/4. It fails only if
+    /// there is no memory.
     pub fn to_json(&self, alloc: Global) -> Result<Value, AllocError>
         ensures { IfOk result (λ v. view v ≡ json_pair (numerator self.now) (denominator self.now)) }
     {
         json!(in alloc; [self.numer.json_number(), self.denom.json_number()])
     }
 
-    /// The fraction of these two fields as they stand, not reduced. The refusals come in this order:
-    /// not a list of two, one of the two no whole number of the type, then a denominator of 0.
+    /// The fraction with the two fields of a list, not reduced. The refusals come in this order: it
+    /// is not a list of two, one of the two is not a whole number of the type, the denominator is 0.
     pub fn from_json(value: &Value) -> Result<Ratio<T>, JsonRatioError>
         ensures { ReadsJson (view value.now) result }
     {
@@ -101,7 +102,7 @@ fn fields<T: Primitive>(value: &Value) -> Result<(T, T), JsonRatioError>
     }
 }
 
-// The whole number that the value is.
+// The whole number that the value is, if it is one.
 fn integer<T: Primitive>(value: &Value) -> Option<T>
     ensures { AnswersJsonInteger T.value T.lo T.hi (view value.now) result }
 {

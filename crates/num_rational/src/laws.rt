@@ -1,12 +1,16 @@
-//! What the words for fractions mean together: each function's contract is the law, and it does nothing.
-pub mod lowest;
+//! The laws of this crate. Each function does nothing: its contract is the law.
+pub mod neutral;
+pub mod order;
+pub mod reduced;
+pub mod signs;
+pub mod undoing;
 
 ghost use Rattle.std.specs.Prelude.{◌≡◌, ◌≢◌, ℤ, pos, Result, Ok};
 ghost use Rattle.ratio_integer.specs.Range.{IsHeld};
 ghost use Rattle.num_rational.specs.Json.{AnswersJson, json_pair};
 ghost use Rattle.num_rational.specs.declared.json.JsonRatioError.{JsonRatioError};
 
-/// To the JSON list of a fraction's two fields one answer alone can be given: these fields.
+/// Reading the JSON list of a fraction's two fields gives these fields, and nothing else.
 pub fn json_pairs()
     ensures { (lo hi n d : ℤ) (answer : Result (ℤ × ℤ) JsonRatioError)
         → IsHeld lo hi n → IsHeld lo hi d → d ≢ pos 0

@@ -1,22 +1,22 @@
-//! What may stand on the right of an operator's symbol.
+//! The right operand of an operator's symbol.
 ghost use Rattle.std.specs.Prelude.{◌≡◌, ℤ};
 ghost use Rattle.num_rational.specs.Operators.{numbers, whole};
 
 use crate::ratio::Ratio;
 use ratio_integer::Integer;
 
-/// What may stand on the right of an operator's symbol: a fraction, or a whole number over 1, by
-/// value or behind a reference.
+/// What an operator's symbol takes on its right: a fraction, or a whole number over 1. It may be a
+/// value or a reference.
 pub trait Operand<T: Copy + Integer> {
-    ghost pair: { Self → ℤ × ℤ };
+    ghost two_numbers: { Self → ℤ × ℤ };
 
-    /// The fraction that it is, its fields as they stand.
+    /// The operand as a fraction, its fields as they are.
     fn ratio(self) -> Ratio<T>
-        ensures { numbers result ≡ pair self };
+        ensures { numbers result ≡ two_numbers self };
 }
 
 impl<T: Copy + Integer> Operand<T> for Ratio<T> {
-    ghost pair = { numbers };
+    ghost two_numbers = { numbers };
 
     fn ratio(self) -> Ratio<T> {
         self
@@ -24,7 +24,7 @@ impl<T: Copy + Integer> Operand<T> for Ratio<T> {
 }
 
 impl<T: Copy + Integer> Operand<T> for &Ratio<T> {
-    ghost pair = { λ x. numbers x.now };
+    ghost two_numbers = { λ x. numbers x.now };
 
     fn ratio(self) -> Ratio<T> {
         *self
@@ -32,7 +32,7 @@ impl<T: Copy + Integer> Operand<T> for &Ratio<T> {
 }
 
 impl<T: Copy + Integer> Operand<T> for T {
-    ghost pair = { λ c. whole (T.value c) };
+    ghost two_numbers = { λ c. whole (T.value c) };
 
     fn ratio(self) -> Ratio<T> {
         Ratio::from_integer(self)
@@ -40,7 +40,7 @@ impl<T: Copy + Integer> Operand<T> for T {
 }
 
 impl<T: Copy + Integer> Operand<T> for &T {
-    ghost pair = { λ c. whole (T.value c.now) };
+    ghost two_numbers = { λ c. whole (T.value c.now) };
 
     fn ratio(self) -> Ratio<T> {
         Ratio::from_integer(*self)

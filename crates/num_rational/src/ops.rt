@@ -1,4 +1,4 @@
-//! The five operators: a file for each, in the same order.
+//! The five operators, each in a file of its own. The files have their items in the same order.
 mod add;
 mod div;
 mod mul;

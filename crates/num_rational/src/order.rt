@@ -14,11 +14,12 @@ use ratio_integer::Integer;
 use std::cmp::Ordering;
 
 impl<T: Copy + Integer> Ratio<T> {
-    /// How this fraction stands to another one, for denominators of either sign, reduced or not, and
-    /// the divisions that this took. Both sides of `steps` rise by the same number: by 0, and then
-    /// the type holds both cross products of the fields, or by the number of rounds of Euclid's
-    /// algorithm on both fractions side by side. It is at most twice the number of binary digits of
-    /// the smaller denominator.
+    /// How this fraction compares with another one. The denominators may have either sign, and the
+    /// fractions need not be reduced.
+    ///
+    /// Both sides of `steps` rise by the same number. It is 0 if both cross products of the fields
+    /// fit the type. Else it is the number of rounds of Euclid's algorithm on both fractions side by
+    /// side. It is at most twice the number of binary digits of the smaller denominator.
     pub fn cmp_counted(&self, other: &Self, steps: &mut Steps) -> Ordering
         ensures order { result ≡ order_of self.now other.now }
         ensures steps { (k : ℕ) × (steps.new.left ≡ steps.old.left + k)
@@ -34,7 +35,8 @@ impl<T: Copy + Integer> PartialEq for Ratio<T> {
 
     ghost laws = { partial_equiv_from_equiv (same_equivalence numerator denominator (λ x. x.nonzero)) };
 
-    /// Whether the values are equal: so for fields in lowest terms, whether the fields are.
+    /// Whether the values are equal: 1/2 and 2/4 are. In lowest terms that is whether the fields are
+    /// equal.
     fn eq(&self, other: &Ratio<T>) -> bool
         ensures answer { result ≡ same_value self.now other.now }
         ensures value { IsTrue result ↔ AreEqual self.now other.now }
@@ -67,7 +69,7 @@ impl<T: Copy + Integer> Ord for Ratio<T> {
 
     ghost matches_eq = { same_agrees numerator denominator (λ x. x.nonzero) };
 
-    /// The order by `compare`, which settles what it can before it divides.
+    /// The order, by `compare`, which divides only if it must.
     #[inline]
     fn cmp(&self, other: &Ratio<T>) -> Ordering {
         let (n, d) = (self.numer, self.denom);

@@ -1,22 +1,22 @@
-//! Printing fractions by the traits of std.
+//! Printing fractions through the traits of std.
 ghost use Rattle.std.specs.Prelude.{◌≡◌, ◌++◌, [], ℕ, List, Some, false, if◌then◌else◌};
 ghost use Rattle.std.specs.Fmt.{WritesOnOk, WritesStyledOnOk, formatter_spec, padded_integral, spec_alternate};
-ghost use Rattle.num_rational.specs.Padding.{padded_decimal, padded_in_base};
+ghost use Rattle.num_rational.specs.Padding.{padded_base_ten, padded_in_base};
 ghost use Rattle.num_rational.specs.Ratio.{denominator, numerator};
 ghost use Rattle.ratio_core.specs.Printing.{prefix_of, text_of};
 ghost use Rattle.ratio_core.specs.declared.text.form.Form.TheVariants.{Decimal};
 
 use crate::ratio::Ratio;
-use ratio_core::{DecimalText, Form, RatioText};
+use ratio_core::{BaseTenText, Form, RatioText};
 use ratio_integer::Primitive;
 use std::fmt;
 use std::fmt::{Binary, Display, Formatter, LowerHex, Octal, UpperHex, Write};
 
-// Writes a decimal text, whose minus counts as its sign.
-fn write_decimal<W: Write>(text: &str, f: &mut Formatter<W>) -> fmt::Result
+// Writes a text in base 10. A minus at its beginning is its sign.
+fn write_base_ten<W: Write>(text: &str, f: &mut Formatter<W>) -> fmt::Result
     ensures plain { WritesOnOk W.write_str_gives f.old result text.now f.new }
     ensures styled { WritesStyledOnOk W.write_str_gives f.old result
-        (padded_decimal (padded_integral (formatter_spec f.old)) text.now) f.new }
+        (padded_base_ten (padded_integral (formatter_spec f.old)) text.now) f.new }
 {
     match text.strip_prefix('-') {
         Some(digits) => f.pad_integral(false, "", digits),
@@ -45,7 +45,7 @@ fn write_in_base<T: Primitive, W: Write>(
     f.pad_integral(true, prefix, after_prefix(text, prefix, alternate))
 }
 
-// The text from the end of its prefix on, where it has one.
+// The text without its prefix, if it has one.
 fn after_prefix<'a>(text: &'a str, prefix: &str, is_there: bool) -> &'a str
     ensures { (body : List ℕ) → text.now ≡ (if is_there then prefix.now else []) ++ body
         → result.now ≡ body }
@@ -62,13 +62,13 @@ fn after_prefix<'a>(text: &'a str, prefix: &str, is_there: bool) -> &'a str
 impl<T: Primitive> Display for Ratio<T> {
     ghost output = { λ x. Some (text_of T.BITS Decimal false (numerator x) (denominator x)) };
 
-    ghost styled_output = { λ x options. Some (padded_decimal (padded_integral options)
+    ghost styled_output = { λ x options. Some (padded_base_ten (padded_integral options)
         (text_of T.BITS Decimal false (numerator x) (denominator x))) };
 
     fn fmt<W: Write>(&self, f: &mut Formatter<W>) -> fmt::Result {
-        let mut text = DecimalText::empty();
-        self.put_decimal_text(&mut text);
-        write_decimal(text.as_str(), f)
+        let mut text = BaseTenText::empty();
+        self.put_base_ten_text(&mut text);
+        write_base_ten(text.as_str(), f)
     }
 }
 

@@ -1,4 +1,4 @@
-//! The fraction type, how its values are made, and what their fields are.
+//! The fraction type, the ways to make a fraction, and its fields.
 ghost use Rattle.std.specs.Prelude.{◌≡◌, ◌≢◌, ◌↔◌, pos, IsTrue};
 ghost use Rattle.ratio_integer.specs.Fraction.{Fits};
 
@@ -6,9 +6,9 @@ use ratio_core::checked_new;
 use ratio_integer::Integer;
 use std::alloc::AllocError;
 
-/// A fraction of two numbers of the type `T`, whose denominator is not 0. Its fields are kept as
-/// they were given: `new` and most calls give lowest terms with a positive denominator, `new_raw`
-/// takes any two numbers.
+/// A fraction of two numbers of the type `T`. Its denominator is not 0. The fields are kept as they
+/// are given: `new` and most calls return lowest terms with a positive denominator, but `new_raw`
+/// takes any numerator, and any denominator except 0.
 #[derive(Copy, Debug)]
 pub struct Ratio<T: Copy + Integer> {
     pub(crate) numer: T,
@@ -40,7 +40,7 @@ impl<T: Copy + Integer> Clone for Ratio<T> {
 impl<T: Copy + Integer> Ratio<T> {
     ghost use Rattle.num_rational.specs.Ratio.{ChecksRatio, IsLowestOf, IsReduced, IsWhole, denominator, fields, numerator};
 
-    /// The fraction with these fields, as they are given: they are not reduced, and the denominator
+    /// The fraction with these fields, as they are given. They are not reduced, and the denominator
     /// may be negative.
     pub fn new_raw(numer: T, denom: T) -> Ratio<T>
         requires { T.value denom ≢ pos 0 }
@@ -51,7 +51,7 @@ impl<T: Copy + Integer> Ratio<T> {
         Ratio { numer, denom }
     }
 
-    /// The numerator and the denominator, as they stand.
+    /// The numerator and the denominator, as they are.
     pub fn into_raw(self) -> (T, T)
         ensures fields { result ≡ fields self }
         ensures numer { T.value result.0 ≡ numerator self }
@@ -60,7 +60,7 @@ impl<T: Copy + Integer> Ratio<T> {
         (self.numer, self.denom)
     }
 
-    /// The numerator, as it stands.
+    /// The numerator, as it is.
     pub fn numer(&self) -> &T
         ensures field { result.now ≡ (fields self.now).0 }
         ensures value { T.value result.now ≡ numerator self.now }
@@ -68,7 +68,7 @@ impl<T: Copy + Integer> Ratio<T> {
         &self.numer
     }
 
-    /// The denominator, as it stands. It is not 0, but may be negative.
+    /// The denominator, as it is. It is not 0, but it may be negative.
     pub fn denom(&self) -> &T
         ensures field { result.now ≡ (fields self.now).1 }
         ensures value { T.value result.now ≡ denominator self.now }
@@ -87,8 +87,8 @@ impl<T: Copy + Integer> Ratio<T> {
         }
     }
 
-    /// The lowest terms of `n/d`, or `None` where `d` is 0 or the type does not hold them. Over `i8`
-    /// that is `-1/64` for 2 and -128, and `None` for 1 and -128, since it holds no 128.
+    /// The lowest terms of `n/d`, or `None` if `d` is 0 or they do not fit the type. Over `i8`, 2 and
+    /// -128 give -1/64, and 1 and -128 give `None`, since 128 does not fit.
     pub fn checked_new(n: T, d: T) -> Option<Ratio<T>>
         ensures { ChecksRatio (T.value n, T.value d) result }
     {
@@ -98,7 +98,7 @@ impl<T: Copy + Integer> Ratio<T> {
         }
     }
 
-    /// The lowest terms of `n/d`. The test is `checked_new`.
+    /// The lowest terms of `n/d`. It requires that `checked_new` returns `Some`.
     pub fn new(n: T, d: T) -> Ratio<T>
         requires { Fits T.lo T.hi (T.value n) (T.value d) }
         ensures { IsLowestOf (T.value n, T.value d) result }
@@ -106,7 +106,8 @@ impl<T: Copy + Integer> Ratio<T> {
         Ratio::checked_new(n, d).unwrap()
     }
 
-    /// The lowest terms of a numerator and a denominator. The test is `checked_new`.
+    /// The lowest terms of a numerator and a denominator. It requires that `checked_new` returns
+    /// `Some`.
     pub fn from_pair(pair: (T, T)) -> Ratio<T>
         requires { Fits T.lo T.hi (T.value pair.0) (T.value pair.1) }
         ensures { IsLowestOf (T.value pair.0, T.value pair.1) result }
@@ -114,8 +115,9 @@ impl<T: Copy + Integer> Ratio<T> {
         Ratio::new(pair.0, pair.1)
     }
 
-    /// The lowest terms of this fraction; reducing twice is reducing once. The test is
-    /// `checked_new` of the fields: it fails only for a negative denominator.
+    /// The lowest terms of this fraction; reducing twice is the same as reducing once. It requires
+    /// that `checked_new` of the fields returns `Some`. That can fail only for a negative
+    /// denominator: over `i8`, for 1/-128.
     pub fn reduced(&self) -> Ratio<T>
         requires { Fits T.lo T.hi (numerator self.now) (denominator self.now) }
         ensures lowest { IsLowestOf (numerator self.now, denominator self.now) result }
@@ -152,21 +154,21 @@ impl<T: Copy + Integer> Ratio<T> {
         *self = Ratio::one();
     }
 
-    /// Whether the fraction is 0: its numerator is.
+    /// Whether the fraction is 0, that is, whether its numerator is 0.
     pub fn is_zero(&self) -> bool
         ensures { IsTrue result ↔ (numerator self.now ≡ pos 0) }
     {
         self.numer.is_zero()
     }
 
-    /// Whether the fraction is 1: its fields are equal, as those of 2/2 are.
+    /// Whether the fraction is 1, that is, whether its fields are equal. 2/2 is 1, too.
     pub fn is_one(&self) -> bool
         ensures { IsTrue result ↔ (numerator self.now ≡ denominator self.now) }
     {
         self.numer == self.denom
     }
 
-    /// Whether the denominator is 1. So 4/2, as `new_raw` makes it, is none.
+    /// Whether the denominator is 1. So it is false for 4/2, as `new_raw` makes it.
     pub fn is_integer(&self) -> bool
         ensures { IsTrue result ↔ (denominator self.now ≡ pos 1) }
     {
@@ -174,8 +176,8 @@ impl<T: Copy + Integer> Ratio<T> {
     }
 }
 
-/// The constants of `Ratio` and of `Reduced`. They stand in a trait, since `ZERO` and `zero` of one type
-/// would differ in case alone.
+/// The constants of `Ratio` and of `Reduced`. They are in a trait, since the names `ZERO` and `zero`
+/// of one type would differ only in case.
 pub trait Constants: Sized {
     ghost ZERO: { Self };
 

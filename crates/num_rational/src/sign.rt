@@ -1,4 +1,4 @@
-//! Signs of fractions, also by the symbol `-`. All but `abs_sub` take denominators of either sign.
+//! Signs of fractions, and the symbol `-`. A denominator may have either sign, except in `abs_sub`.
 ghost use Rattle.std.specs.Prelude.{◌≡◌, ◌↔◌, ◌<ℤ◌, pos, neg_ℤ, IsTrue};
 ghost use Rattle.ratio_integer.specs.Range.{IsHeld};
 ghost use Rattle.ratio_core.specs.Signs.{IsAbsolute, IsNegative, IsPositive, IsPositiveDifference, IsSign, PositiveDifferenceCondition};
@@ -11,8 +11,8 @@ use ratio_integer::SignedInteger;
 use std::ops::Neg;
 
 impl<T: Copy + SignedInteger> Ratio<T> {
-    /// The negative, over the same denominator; also by the symbol `-`. Only the least number has no
-    /// negative.
+    /// The negative, over the same denominator, also by the symbol `-`. The negative of the numerator
+    /// must fit the type. Over `i8`, only -128 has none.
     pub fn neg(self) -> Ratio<T>
         requires { IsHeld T.lo T.hi (neg_ℤ (numerator self)) }
         ensures { IsNegated self result }
@@ -20,7 +20,7 @@ impl<T: Copy + SignedInteger> Ratio<T> {
         Ratio::new_raw(sign::neg(self.numer), self.denom)
     }
 
-    /// The absolute value, over the same denominator: that of 1/-2 is -1/-2.
+    /// The absolute value, over the same denominator: -1/-2 for 1/-2.
     pub fn abs(&self) -> Ratio<T>
         requires { IsNegative (numerator self.now) (denominator self.now) → IsHeld T.lo T.hi (neg_ℤ (numerator self.now)) }
         ensures numer { IsAbsolute (numerator self.now) (denominator self.now) (numerator result) }
@@ -29,8 +29,8 @@ impl<T: Copy + SignedInteger> Ratio<T> {
         Ratio::new_raw(sign::abs(self.numer, self.denom), self.denom)
     }
 
-    /// The difference in lowest terms where this fraction is above the other one, and 0/1 where it is
-    /// not. Where it is above, the test is `checked_sub`.
+    /// The difference in lowest terms if this fraction is above the other one, and else 0/1. If it is
+    /// above, the call requires that `checked_sub` returns `Some`.
     pub fn abs_sub(&self, other: &Ratio<T>) -> Ratio<T>
         requires left_positive { pos 0 <ℤ denominator self.now }
         requires right_positive { pos 0 <ℤ denominator other.now }

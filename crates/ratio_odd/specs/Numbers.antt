@@ -1,4 +1,4 @@
--- How the whole numbers of a range meet the laws of a type, once for all ranges.
+-- The laws of a type, for the whole numbers of any range.
 use Rattle.std.specs.Prelude.{◌≡◌, ℕ, ℤ, pos, List, Some}
 use Rattle.std.specs.Ordering.{int_cmp, int_eq}
 use Rattle.std.proofs.Common.{refl}
@@ -6,7 +6,7 @@ use Rattle.std.proofs.lemmas.Bool.Decides.{Decides-int_eq}
 use Rattle.ratio_integer.specs.Laws.{IsLawful}
 use Rattle.ratio_integer.specs.Range.{IsRange}
 
--- values of a type T are numbers from lo to hi, which `number` reads and `of` gives back
+-- a type T with the numbers from lo to hi is lawful, if `number` of `of z` is z, and the numbers compare and hash the values
 pub laws_of_numbers : {T : Type 0} (lo hi : ℤ) (number : T → ℤ) (of : ℤ → T) (hash : ℤ → List (List ℕ)) →
     IsRange lo hi → ((z : ℤ) → number (of z) ≡ z) →
     IsLawful T lo hi number (of (pos 0)) (of (pos 1)) (of lo) (of hi)

@@ -1,4 +1,4 @@
-//! Types that meet the laws of `Integer` and are no primitive ones.
+//! Types that meet the laws of `Integer` and are not primitive.
 #![tactic(auto)]
 
 mod nat2;

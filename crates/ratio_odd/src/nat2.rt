@@ -9,7 +9,7 @@ ghost use Rattle.ratio_odd.specs.Numbers.{laws_of_numbers};
 use ratio_integer::Integer;
 use std::marker::Model;
 
-/// The whole numbers from 0 to 2, made by `from_i128`: the fewest that a lawful type may have.
+/// The whole numbers from 0 to 2, made by `from_i128`.
 #[derive(Clone, Copy, PartialEq, Eq, PartialOrd, Ord, Hash)]
 pub struct Nat2 {
     n: i8,
@@ -44,6 +44,8 @@ impl Integer for Nat2 {
 
     ghost EXACT_SUMS = { false };
 
+    ghost EXACT_REMAINDERS = { false };
+
     ghost one_number = { refl };
 
     const ZERO: Nat2 = Nat2 { n: 0 };
@@ -55,6 +57,8 @@ impl Integer for Nat2 {
     const MAX: Nat2 = Nat2 { n: 2 };
 
     const EXACT_SUMS: bool = false;
+
+    const EXACT_REMAINDERS: bool = false;
 
     fn plus(self, o: Nat2) -> Nat2 {
         Nat2 { n: self.n + o.n }
@@ -116,4 +120,6 @@ impl Integer for Nat2 {
 
     ghost laws = { laws_of_numbers (pos 0) (pos 2) (λ x. x) (λ z. z) hash.i8
         (record { high = record { le = tt }; low = inl refl }) (λ z. refl) };
+
+    ghost exact_remainders_law = { tt };
 }

@@ -1,5 +1,5 @@
 // Written by templates/write from templates/odd.rt.txt: change that file, and write this one anew.
-//! A type whose least number is the negative of its greatest, as in no machine.
+//! A type whose least number is the negative of its greatest one. No machine type is like that.
 ghost use Rattle.std.specs.Prelude.{◌≡◌, ℤ, pos, negsuc, false};
 ghost use Rattle.std.specs.Hash as hash;
 ghost use Rattle.std.proofs.Common.{inl, inr, refl};
@@ -44,6 +44,8 @@ impl Integer for Sym5 {
 
     ghost EXACT_SUMS = { false };
 
+    ghost EXACT_REMAINDERS = { false };
+
     ghost one_number = { refl };
 
     const ZERO: Sym5 = Sym5 { n: 0 };
@@ -55,6 +57,8 @@ impl Integer for Sym5 {
     const MAX: Sym5 = Sym5 { n: 5 };
 
     const EXACT_SUMS: bool = false;
+
+    const EXACT_REMAINDERS: bool = false;
 
     fn plus(self, o: Sym5) -> Sym5 {
         Sym5 { n: self.n + o.n }
@@ -116,6 +120,8 @@ impl Integer for Sym5 {
 
     ghost laws = { laws_of_numbers (negsuc 4) (pos 5) (λ x. x) (λ z. z) hash.i8
         (record { high = record { le = tt }; low = inr (inl refl) }) (λ z. refl) };
+
+    ghost exact_remainders_law = { tt };
 }
 
 impl SignedInteger for Sym5 {

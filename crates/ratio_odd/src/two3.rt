@@ -9,7 +9,7 @@ ghost use Rattle.ratio_odd.specs.Numbers.{laws_of_numbers};
 use ratio_integer::{Integer, SignedInteger};
 use std::marker::Model;
 
-/// The whole numbers from -3 to 2, made by `from_i128`: the fewest with a least number whose negative is not among them.
+/// The whole numbers from -3 to 2, made by `from_i128`.
 #[derive(Clone, Copy, PartialEq, Eq, PartialOrd, Ord, Hash)]
 pub struct Two3 {
     n: i8,
@@ -44,6 +44,8 @@ impl Integer for Two3 {
 
     ghost EXACT_SUMS = { false };
 
+    ghost EXACT_REMAINDERS = { false };
+
     ghost one_number = { refl };
 
     const ZERO: Two3 = Two3 { n: 0 };
@@ -55,6 +57,8 @@ impl Integer for Two3 {
     const MAX: Two3 = Two3 { n: 2 };
 
     const EXACT_SUMS: bool = false;
+
+    const EXACT_REMAINDERS: bool = false;
 
     fn plus(self, o: Two3) -> Two3 {
         Two3 { n: self.n + o.n }
@@ -116,6 +120,8 @@ impl Integer for Two3 {
 
     ghost laws = { laws_of_numbers (negsuc 2) (pos 2) (λ x. x) (λ z. z) hash.i8
         (record { high = record { le = tt }; low = inr (inr refl) }) (λ z. refl) };
+
+    ghost exact_remainders_law = { tt };
 }
 
 impl SignedInteger for Two3 {

@@ -1,4 +1,4 @@
-//! A type that counts how often its numbers are divided, and how often added.
+//! A type that counts how often its numbers are divided, and how often they are added or subtracted.
 ghost use Rattle.std.specs.Prelude.{◌≡◌, ◌-◌, ◌^◌, pos, negsuc, false};
 ghost use Rattle.std.specs.Hash as hash;
 ghost use Rattle.std.specs.Cmp.{partial_order_from_own_ties};
@@ -13,9 +13,9 @@ use std::cell::Cell;
 use std::cmp::Ordering;
 use std::hash::{Hash, Hasher};
 
-/// What can be counted up by one. No contract speaks of how far it got.
+/// A counter that can be raised by one. No contract says how far it got.
 pub trait Counter: Copy {
-    /// One more.
+    /// Raises the counter by one.
     fn raise(self);
 }
 
@@ -26,17 +26,17 @@ impl Counter for &Cell<u32> {
     }
 }
 
-/// The numbers of `i8`, watched by two counters: each division raises one of them, each sum and each
-/// difference the other. A number made from watched ones is watched; a constant is not, nor is a
-/// number that `from_i128` or `from_u128` makes. Values are equal, ordered and hashed by their
-/// numbers alone.
+/// The numbers of `i8`, watched by two counters. Each division raises one of them; each sum and each
+/// difference raises the other. A number made from watched ones is watched. Constants and the numbers
+/// that `from_i128` and `from_u128` make are not. Only the numbers count when values are compared or
+/// hashed.
 #[derive(Clone, Copy)]
 pub struct Watched<C: Counter> {
     n: i8,
     counters: Option<Counters<C>>,
 }
 
-/// The numbers of `i8`, watched by two cells.
+/// The numbers of `i8`, with two cells as counters.
 pub type Watch8<'a> = Watched<&'a Cell<u32>>;
 
 /// The two counters of a watched number.
@@ -47,7 +47,7 @@ struct Counters<C: Counter> {
 }
 
 impl<C: Counter> Watched<C> {
-    /// The number `v`, whose divisions raise `divs`, and whose sums and differences raise `sums`.
+    /// The number `v`. Its divisions raise `divs`; its sums and differences raise `sums`.
     pub fn new(v: i8, divs: C, sums: C) -> Watched<C>
         ensures { watched_number result ≡ v }
     {
@@ -57,7 +57,7 @@ impl<C: Counter> Watched<C> {
         }
     }
 
-    /// The counters of this number, or else those of the other one.
+    /// The counters of this number or, if it has none, of the other one.
     fn counters_with(self, o: Watched<C>) -> Option<Counters<C>> {
         match self.counters {
             Some(counters) => Some(counters),
@@ -147,6 +147,8 @@ impl<C: Counter> Integer for Watched<C> {
 
     ghost EXACT_SUMS = { false };
 
+    ghost EXACT_REMAINDERS = { false };
+
     ghost one_number = { refl };
 
     const ZERO: Watched<C> = Watched {
@@ -170,6 +172,8 @@ impl<C: Counter> Integer for Watched<C> {
     };
 
     const EXACT_SUMS: bool = false;
+
+    const EXACT_REMAINDERS: bool = false;
 
     fn plus(self, o: Watched<C>) -> Watched<C> {
         let sum = Watched {
@@ -256,4 +260,6 @@ impl<C: Counter> Integer for Watched<C> {
 
     ghost laws = { laws_of_numbers (negsuc (2 ^ 7 - 1)) (pos (2 ^ 7 - 1)) watched_number unwatched hash.i8
         (record { high = record { le = tt }; low = inr (inr refl) }) (λ z. refl) };
+
+    ghost exact_remainders_law = { tt };
 }

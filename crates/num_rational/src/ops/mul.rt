@@ -1,5 +1,5 @@
 // Written by templates/write from templates/operator.rt.txt: change that file, and write this one anew.
-//! Products: the checked call, the call that asks for an answer, and the symbols `*` and `*=`.
+//! Products: the checked call, the call that requires a result, and the symbols `*` and `*=`.
 ghost use Rattle.std.specs.Prelude.{◌<ℤ◌, pos};
 ghost use Rattle.ratio_core.specs.Conditions.{ProductCondition};
 ghost use Rattle.num_rational.specs.Operators.{CanMultiply, ChecksProduct, GivesProduct, numbers};
@@ -12,8 +12,8 @@ use ratio_integer::Integer;
 use std::ops::{Mul, MulAssign};
 
 impl<T: Copy + Integer> Ratio<T> {
-    /// The product in lowest terms, or `None` where the type does not hold them. The fractions need
-    /// not be reduced.
+    /// The product in lowest terms, or `None` if these do not fit the type. The fractions need not be
+    /// reduced.
     pub fn checked_mul(&self, other: &Ratio<T>) -> Option<Ratio<T>>
         requires left_positive { pos 0 <ℤ denominator self.now }
         requires right_positive { pos 0 <ℤ denominator other.now }
@@ -25,7 +25,8 @@ impl<T: Copy + Integer> Ratio<T> {
         }
     }
 
-    /// The product in lowest terms, also by the symbol `*`. The test is `checked_mul`.
+    /// The product in lowest terms, also by the symbol `*`. It requires that `checked_mul` returns
+    /// `Some`.
     pub fn mul(self, other: Ratio<T>) -> Ratio<T>
         requires left_positive { pos 0 <ℤ denominator self }
         requires right_positive { pos 0 <ℤ denominator other }
@@ -40,9 +41,9 @@ impl<T: Copy + Integer> Ratio<T> {
 impl<T: Copy + Integer, O: Operand<T>> Mul<O> for Ratio<T> {
     type Output = Ratio<T>;
 
-    ghost can_mul = { λ x y. CanMultiply T.lo T.hi (numbers x) (O.pair y) };
+    ghost can_mul = { λ x y. CanMultiply T.lo T.hi (numbers x) (O.two_numbers y) };
 
-    ghost mul_gives = { λ x y. GivesProduct (numbers x) (O.pair y) };
+    ghost mul_gives = { λ x y. GivesProduct (numbers x) (O.two_numbers y) };
 
     fn mul(self, other: O) -> Ratio<T> {
         self.mul(other.ratio())
@@ -52,9 +53,9 @@ impl<T: Copy + Integer, O: Operand<T>> Mul<O> for Ratio<T> {
 impl<T: Copy + Integer, O: Operand<T>> Mul<O> for &Ratio<T> {
     type Output = Ratio<T>;
 
-    ghost can_mul = { λ x y. CanMultiply T.lo T.hi (numbers x.now) (O.pair y) };
+    ghost can_mul = { λ x y. CanMultiply T.lo T.hi (numbers x.now) (O.two_numbers y) };
 
-    ghost mul_gives = { λ x y. GivesProduct (numbers x.now) (O.pair y) };
+    ghost mul_gives = { λ x y. GivesProduct (numbers x.now) (O.two_numbers y) };
 
     fn mul(self, other: O) -> Ratio<T> {
         (*self).mul(other.ratio())
@@ -62,9 +63,9 @@ impl<T: Copy + Integer, O: Operand<T>> Mul<O> for &Ratio<T> {
 }
 
 impl<T: Copy + Integer, O: Operand<T>> MulAssign<O> for Ratio<T> {
-    ghost can_mul_assign = { λ x y. CanMultiply T.lo T.hi (numbers x) (O.pair y) };
+    ghost can_mul_assign = { λ x y. CanMultiply T.lo T.hi (numbers x) (O.two_numbers y) };
 
-    ghost mul_assign_gives = { λ x y. GivesProduct (numbers x) (O.pair y) };
+    ghost mul_assign_gives = { λ x y. GivesProduct (numbers x) (O.two_numbers y) };
 
     fn mul_assign(&mut self, other: O) {
         *self = self.mul(other.ratio());

@@ -1,5 +1,5 @@
 // Written by templates/write from templates/operator.rt.txt: change that file, and write this one anew.
-//! Differences: the checked call, the call that asks for an answer, and the symbols `-` and `-=`.
+//! Differences: the checked call, the call that requires a result, and the symbols `-` and `-=`.
 ghost use Rattle.std.specs.Prelude.{◌<ℤ◌, pos};
 ghost use Rattle.ratio_core.specs.Conditions.{DifferenceCondition};
 ghost use Rattle.num_rational.specs.Operators.{CanSubtract, ChecksDifference, GivesDifference, numbers};
@@ -12,10 +12,11 @@ use ratio_integer::Integer;
 use std::ops::{Sub, SubAssign};
 
 impl<T: Copy + Integer> Ratio<T> {
-    /// The difference in lowest terms. Where the type's `EXACT_SUMS` is true, as for `i32` and `i64`,
-    /// `None` exactly where the type does not hold them. Where it is false, `None` exactly where the
-    /// least common denominator, a numerator over it or the difference of these is not held; the
-    /// fields count as they stand.
+    /// The difference in lowest terms. For a type whose `EXACT_SUMS` is true, as for `i32` and `i64`,
+    /// the call returns `None` exactly if these do not fit the type. For any other type, it returns
+    /// `None` exactly if the least common denominator, a numerator over it or the difference of these
+    /// numerators does not fit: over `i8`, for 1/30 - 1/70. The fields are taken as they are, not
+    /// reduced.
     pub fn checked_sub(&self, other: &Ratio<T>) -> Option<Ratio<T>>
         requires left_positive { pos 0 <ℤ denominator self.now }
         requires right_positive { pos 0 <ℤ denominator other.now }
@@ -27,7 +28,8 @@ impl<T: Copy + Integer> Ratio<T> {
         }
     }
 
-    /// The difference in lowest terms, also by the symbol `-`. The test is `checked_sub`.
+    /// The difference in lowest terms, also by the symbol `-`. It requires that `checked_sub` returns
+    /// `Some`.
     pub fn sub(self, other: Ratio<T>) -> Ratio<T>
         requires left_positive { pos 0 <ℤ denominator self }
         requires right_positive { pos 0 <ℤ denominator other }
@@ -42,9 +44,9 @@ impl<T: Copy + Integer> Ratio<T> {
 impl<T: Copy + Integer, O: Operand<T>> Sub<O> for Ratio<T> {
     type Output = Ratio<T>;
 
-    ghost can_sub = { λ x y. CanSubtract T.EXACT_SUMS T.lo T.hi (numbers x) (O.pair y) };
+    ghost can_sub = { λ x y. CanSubtract T.EXACT_SUMS T.lo T.hi (numbers x) (O.two_numbers y) };
 
-    ghost sub_gives = { λ x y. GivesDifference (numbers x) (O.pair y) };
+    ghost sub_gives = { λ x y. GivesDifference (numbers x) (O.two_numbers y) };
 
     fn sub(self, other: O) -> Ratio<T> {
         self.sub(other.ratio())
@@ -54,9 +56,9 @@ impl<T: Copy + Integer, O: Operand<T>> Sub<O> for Ratio<T> {
 impl<T: Copy + Integer, O: Operand<T>> Sub<O> for &Ratio<T> {
     type Output = Ratio<T>;
 
-    ghost can_sub = { λ x y. CanSubtract T.EXACT_SUMS T.lo T.hi (numbers x.now) (O.pair y) };
+    ghost can_sub = { λ x y. CanSubtract T.EXACT_SUMS T.lo T.hi (numbers x.now) (O.two_numbers y) };
 
-    ghost sub_gives = { λ x y. GivesDifference (numbers x.now) (O.pair y) };
+    ghost sub_gives = { λ x y. GivesDifference (numbers x.now) (O.two_numbers y) };
 
     fn sub(self, other: O) -> Ratio<T> {
         (*self).sub(other.ratio())
@@ -64,9 +66,9 @@ impl<T: Copy + Integer, O: Operand<T>> Sub<O> for &Ratio<T> {
 }
 
 impl<T: Copy + Integer, O: Operand<T>> SubAssign<O> for Ratio<T> {
-    ghost can_sub_assign = { λ x y. CanSubtract T.EXACT_SUMS T.lo T.hi (numbers x) (O.pair y) };
+    ghost can_sub_assign = { λ x y. CanSubtract T.EXACT_SUMS T.lo T.hi (numbers x) (O.two_numbers y) };
 
-    ghost sub_assign_gives = { λ x y. GivesDifference (numbers x) (O.pair y) };
+    ghost sub_assign_gives = { λ x y. GivesDifference (numbers x) (O.two_numbers y) };
 
     fn sub_assign(&mut self, other: O) {
         *self = self.sub(other.ratio());

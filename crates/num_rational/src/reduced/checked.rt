@@ -1,42 +1,49 @@
 //! The five checked calls.
-ghost use Rattle.num_rational.specs.Operators.{ChecksDifference, ChecksProduct, ChecksQuotient, ChecksRemainder, ChecksSum, numbers};
+ghost use Rattle.num_rational.specs.Operators.{ChecksExactDifference, ChecksExactSum, ChecksLowestRemainder, ChecksProduct, ChecksQuotient, numbers};
 ghost use Rattle.num_rational.specs.Reduced.{ratio_in, ratio_of};
 
 use super::Reduced;
 use super::operand::ReducedOperand;
 use crate::ratio::Ratio;
-use ratio_core::products::lowest;
+use ratio_core::{products, remainder, sums};
 use ratio_integer::Integer;
 
 impl<T: Copy + Integer> Reduced<T> {
-    /// The sum. Where the type's `EXACT_SUMS` is true, as for `i32` and `i64`, `None` exactly where the
-    /// type does not hold its lowest terms. Where it is false, `None` exactly where the least common
-    /// denominator, a numerator over it or the sum of these is not held.
+    /// The sum, or `None` if its lowest terms do not fit the type. Over `i8`, 1/36 + 1/28 is 4/63, though
+    /// the least common denominator 252 does not fit. 127/1 + 1/127 is `None`.
+    #[inline(always)]
     pub fn checked_add<O: ReducedOperand<T>>(&self, other: O) -> Option<Reduced<T>>
-        ensures { ChecksSum (numbers (ratio_of self.now)) (O.pair other) (ratio_in result) }
+        ensures { ChecksExactSum (numbers (ratio_of self.now)) (O.two_numbers other) (ratio_in result) }
     {
-        match self.ratio.checked_add(&other.reduced().ratio) {
-            Some(ratio) => Some(Reduced { ratio }),
+        let (numer, denom) = other.reduced().into_raw();
+        match sums::lowest::checked_add(*self.numer(), *self.denom(), numer, denom) {
+            Some((numer, denom)) => Some(Reduced {
+                ratio: Ratio::new_raw(numer, denom),
+            }),
             None => None,
         }
     }
 
-    /// The difference, or `None` as for `checked_add`.
+    /// The difference, or `None` if its lowest terms do not fit the type.
+    #[inline(always)]
     pub fn checked_sub<O: ReducedOperand<T>>(&self, other: O) -> Option<Reduced<T>>
-        ensures { ChecksDifference (numbers (ratio_of self.now)) (O.pair other) (ratio_in result) }
+        ensures { ChecksExactDifference (numbers (ratio_of self.now)) (O.two_numbers other) (ratio_in result) }
     {
-        match self.ratio.checked_sub(&other.reduced().ratio) {
-            Some(ratio) => Some(Reduced { ratio }),
+        let (numer, denom) = other.reduced().into_raw();
+        match sums::lowest::checked_sub(*self.numer(), *self.denom(), numer, denom) {
+            Some((numer, denom)) => Some(Reduced {
+                ratio: Ratio::new_raw(numer, denom),
+            }),
             None => None,
         }
     }
 
-    /// The product, or `None` where the type does not hold its lowest terms.
+    /// The product, or `None` if its lowest terms do not fit the type.
     pub fn checked_mul<O: ReducedOperand<T>>(&self, other: O) -> Option<Reduced<T>>
-        ensures { ChecksProduct (numbers (ratio_of self.now)) (O.pair other) (ratio_in result) }
+        ensures { ChecksProduct (numbers (ratio_of self.now)) (O.two_numbers other) (ratio_in result) }
     {
         let (numer, denom) = other.reduced().into_raw();
-        match lowest::checked_mul(*self.numer(), *self.denom(), numer, denom) {
+        match products::lowest::checked_mul(*self.numer(), *self.denom(), numer, denom) {
             Some((numer, denom)) => Some(Reduced {
                 ratio: Ratio::new_raw(numer, denom),
             }),
@@ -44,12 +51,12 @@ impl<T: Copy + Integer> Reduced<T> {
         }
     }
 
-    /// The quotient, or `None` where `other` is 0 or the type does not hold its lowest terms.
+    /// The quotient, or `None` if `other` is 0 or the lowest terms do not fit the type.
     pub fn checked_div<O: ReducedOperand<T>>(&self, other: O) -> Option<Reduced<T>>
-        ensures { ChecksQuotient (numbers (ratio_of self.now)) (O.pair other) (ratio_in result) }
+        ensures { ChecksQuotient (numbers (ratio_of self.now)) (O.two_numbers other) (ratio_in result) }
     {
         let (numer, denom) = other.reduced().into_raw();
-        match lowest::checked_div(*self.numer(), *self.denom(), numer, denom) {
+        match products::lowest::checked_div(*self.numer(), *self.denom(), numer, denom) {
             Some((numer, denom)) => Some(Reduced {
                 ratio: Ratio::new_raw(numer, denom),
             }),
@@ -57,13 +64,19 @@ impl<T: Copy + Integer> Reduced<T> {
         }
     }
 
-    /// What whole times `other` leave of this fraction, cut towards zero, or `None` where `other` is 0 or
-    /// the type does not hold a number on the way.
+    /// The remainder: 3/4 by 1/2 leaves 1/4. Over a primitive type of at most 64 bits, as over each type whose
+    /// `EXACT_REMAINDERS` is true, it is `None` if `other` is 0 or the lowest terms do not fit the type. Over
+    /// `i8`, 127/1 by 1/127 leaves 0/1. Over `i128`, `u128` and other types, it is `None` if `other` is 0, or
+    /// if the least common denominator or a numerator over it does not fit the type.
+    #[inline(always)]
     pub fn checked_rem<O: ReducedOperand<T>>(&self, other: O) -> Option<Reduced<T>>
-        ensures { ChecksRemainder (numbers (ratio_of self.now)) (O.pair other) (ratio_in result) }
+        ensures { ChecksLowestRemainder (numbers (ratio_of self.now)) (O.two_numbers other) (ratio_in result) }
     {
-        match self.ratio.checked_rem(&other.reduced().ratio) {
-            Some(ratio) => Some(Reduced { ratio }),
+        let (numer, denom) = other.reduced().into_raw();
+        match remainder::lowest::checked_rem(*self.numer(), *self.denom(), numer, denom) {
+            Some((numer, denom)) => Some(Reduced {
+                ratio: Ratio::new_raw(numer, denom),
+            }),
             None => None,
         }
     }

@@ -12,7 +12,7 @@ impl<T: Copy + Integer> Hash for Reduced<T> {
 
     ghost respects_eq = { λ x y h. same_writes_by_fields (λ r. numerator (ratio_of r)) (λ r. denominator (ratio_of r)) (λ r. r.lowest) T.number_hash_input x y h };
 
-    /// Feeds the two fields, each by the element's own hash.
+    /// Feeds the hasher with the two fields, each by the element's own hash.
     fn hash<H: Hasher>(&self, state: &mut H) {
         self.numer().hash(state);
         self.denom().hash(state);

@@ -1,4 +1,4 @@
-//! What may stand on the right of a checked call.
+//! The right operand of a checked call.
 ghost use Rattle.std.specs.Prelude.{◌≡◌, ℤ};
 ghost use Rattle.num_rational.specs.Operators.{numbers, whole};
 ghost use Rattle.num_rational.specs.Reduced.{ratio_of};
@@ -6,18 +6,18 @@ ghost use Rattle.num_rational.specs.Reduced.{ratio_of};
 use super::Reduced;
 use ratio_integer::Integer;
 
-/// What may stand on the right of a checked call of `Reduced`: a fraction in lowest terms, or a whole
-/// number over 1, by value or behind a reference.
+/// What a checked call of `Reduced` takes on its right: a fraction in lowest terms, or a whole number
+/// over 1. It may be a value or a reference.
 pub trait ReducedOperand<T: Copy + Integer> {
-    ghost pair: { Self → ℤ × ℤ };
+    ghost two_numbers: { Self → ℤ × ℤ };
 
-    /// The fraction that it is.
+    /// The operand as a fraction.
     fn reduced(self) -> Reduced<T>
-        ensures { numbers (ratio_of result) ≡ pair self };
+        ensures { numbers (ratio_of result) ≡ two_numbers self };
 }
 
 impl<T: Copy + Integer> ReducedOperand<T> for Reduced<T> {
-    ghost pair = { λ x. numbers (ratio_of x) };
+    ghost two_numbers = { λ x. numbers (ratio_of x) };
 
     fn reduced(self) -> Reduced<T> {
         self
@@ -25,7 +25,7 @@ impl<T: Copy + Integer> ReducedOperand<T> for Reduced<T> {
 }
 
 impl<T: Copy + Integer> ReducedOperand<T> for &Reduced<T> {
-    ghost pair = { λ x. numbers (ratio_of x.now) };
+    ghost two_numbers = { λ x. numbers (ratio_of x.now) };
 
     fn reduced(self) -> Reduced<T> {
         *self
@@ -33,7 +33,7 @@ impl<T: Copy + Integer> ReducedOperand<T> for &Reduced<T> {
 }
 
 impl<T: Copy + Integer> ReducedOperand<T> for T {
-    ghost pair = { λ c. whole (T.value c) };
+    ghost two_numbers = { λ c. whole (T.value c) };
 
     fn reduced(self) -> Reduced<T> {
         Reduced::from_integer(self)
@@ -41,7 +41,7 @@ impl<T: Copy + Integer> ReducedOperand<T> for T {
 }
 
 impl<T: Copy + Integer> ReducedOperand<T> for &T {
-    ghost pair = { λ c. whole (T.value c.now) };
+    ghost two_numbers = { λ c. whole (T.value c.now) };
 
     fn reduced(self) -> Reduced<T> {
         Reduced::from_integer(*self)

@@ -1,4 +1,4 @@
-//! The order of the values, and the equality by the fields.
+//! The order by values, and the equality by fields.
 ghost use Rattle.std.specs.Prelude.{◌≡◌, ◌↔◌, refl, IsTrue};
 ghost use Rattle.std.specs.Cmp.{partial_equiv_from_equiv};
 ghost use Rattle.std.specs.Ordering.{as_partial_cmp};
@@ -24,7 +24,7 @@ impl<T: Copy + Integer> PartialEq for Reduced<T> {
 
     ghost laws = { partial_equiv_from_equiv (same_equivalence (λ x. numerator (ratio_of x)) (λ x. denominator (ratio_of x)) (λ x. x.ratio.nonzero)) };
 
-    /// Whether the fields are equal, which is whether the values are.
+    /// Whether the fields are equal. In lowest terms, that is whether the values are equal.
     fn eq(&self, other: &Reduced<T>) -> bool
         ensures answer { result ≡ same_value (ratio_of self.now) (ratio_of other.now) }
         ensures value { IsTrue result ↔ AreEqual (ratio_of self.now) (ratio_of other.now) }

@@ -1,7 +1,7 @@
-//! Printing fractions in lowest terms by the traits of std, as the `Ratio` of their fields.
+//! Printing fractions in lowest terms through the traits of std, as the `Ratio` of their fields.
 ghost use Rattle.std.specs.Prelude.{Some, false};
 ghost use Rattle.std.specs.Fmt.{WritesOnOk, WritesStyledOnOk, formatter_spec, padded_integral, spec_alternate};
-ghost use Rattle.num_rational.specs.Padding.{padded_decimal, padded_in_base};
+ghost use Rattle.num_rational.specs.Padding.{padded_base_ten, padded_in_base};
 ghost use Rattle.num_rational.specs.Ratio.{denominator, numerator};
 ghost use Rattle.num_rational.specs.Reduced.{ratio_of};
 ghost use Rattle.ratio_core.specs.Printing.{text_of};
@@ -15,7 +15,7 @@ use std::fmt::{Binary, Display, Formatter, LowerHex, Octal, UpperHex, Write};
 impl<T: Primitive> Display for Reduced<T> {
     ghost output = { λ x. Some (text_of T.BITS Decimal false (numerator (ratio_of x)) (denominator (ratio_of x))) };
 
-    ghost styled_output = { λ x options. Some (padded_decimal (padded_integral options)
+    ghost styled_output = { λ x options. Some (padded_base_ten (padded_integral options)
         (text_of T.BITS Decimal false (numerator (ratio_of x)) (denominator (ratio_of x)))) };
 
     fn fmt<W: Write>(&self, f: &mut Formatter<W>) -> fmt::Result {

@@ -6,10 +6,11 @@ ghost use Rattle.num_rational.specs.Reduced.{ratio_in, ratio_of};
 
 use super::Reduced;
 use crate::ratio::Ratio;
-use ratio_integer::{Integer, SignedInteger};
+use ratio_integer::{Integer, SignedInteger, both_held};
 
 impl<T: Copy + SignedInteger> Reduced<T> {
-    /// The negative, or `None` where the type does not hold it: at most for the least number.
+    /// The negative, or `None` if it does not fit the type. Only the least numerator can have none:
+    /// over `i8`, -128.
     pub fn checked_neg(&self) -> Option<Reduced<T>>
         ensures { ChecksRatio (neg_ℤ (numerator (ratio_of self.now)), denominator (ratio_of self.now)) (ratio_in result) }
     {
@@ -23,12 +24,12 @@ impl<T: Copy + SignedInteger> Reduced<T> {
         }
     }
 
-    /// The absolute value, or `None` where the type does not hold it: at most for the least number.
+    /// The absolute value, or `None` if it does not fit the type. Only the least numerator can have
+    /// none: over `i8`, -128.
     pub fn checked_abs(&self) -> Option<Reduced<T>>
         ensures { ChecksRatio (pos (unsigned_abs (numerator (ratio_of self.now))), denominator (ratio_of self.now)) (ratio_in result) }
     {
-        let _ = self.numer().held();
-        let _ = self.denom().held();
+        both_held(*self.numer(), *self.denom());
         if self.is_negative() {
             self.checked_neg()
         } else {

@@ -1,8 +1,0 @@
-use Rattle.std.proofs.Common.{pos}
-use Rattle.ratio_core.specs.Laws.{IsSum}
-use Rattle.num_rational.specs.Operators.{CanAdd, numbers}
-use Rattle.num_rational.proofs.FoldLemmas.{StepsSoFar}
-use Rattle.num_rational.proofs.fold.checked_sum_of_operands.Given as goal
-
-abbrev pub invariant-items : goal.invariant-items
-invariant-items g l = StepsSoFar g.O.Operand.pair (CanAdd g.T.Integer.EXACT_SUMS g.T.Integer.lo g.T.Integer.hi) IsSum (pos 0, pos 1) l.yielded (numbers l.total)

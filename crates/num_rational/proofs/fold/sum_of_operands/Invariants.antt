@@ -1,6 +1,0 @@
-use Rattle.num_rational.specs.Folds.{IsSumOf}
-use Rattle.num_rational.specs.Operators.{numbers}
-use Rattle.num_rational.proofs.fold.sum_of_operands.Given as goal
-
-abbrev pub invariant-items : goal.invariant-items
-invariant-items g l = IsSumOf g.O.Operand.pair l.yielded (numbers l.total)

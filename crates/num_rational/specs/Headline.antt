@@ -1,0 +1,35 @@
+-- The headline: what `headline` gives for any two fractions with non-zero denominators, over any lawful integer type.
+use Rattle.std.specs.Prelude.{◌≡◌, ◌↔◌, ◌+◌, ◌<ℤ◌, ◌++◌, ℕ, ℤ, pos, min, unsigned_abs, IsTrue, List}
+use Rattle.ratio_core.specs.ContinuedFraction.{IsCodesOf, IsWithinBits}
+use Rattle.ratio_core.specs.declared.steps.Steps.{Steps}
+use Rattle.num_rational.specs.declared.main_statement.HeadlineResult.{HeadlineResult}
+use Rattle.num_rational.specs.declared.ratio.Ratio.{Ratio}
+use Rattle.num_rational.specs.Comparison.{AreEqual, order_of}
+use Rattle.num_rational.specs.Operators.{ChecksProduct, ChecksQuotient, numbers}
+use Rattle.num_rational.specs.Ratio.{denominator, numerator}
+
+-- A list or a count is given twice: before the call (.0) and after it (.1). A step is at most one division
+pub record IsHeadline {T : _} {i : _} {o : _} {e : _} {p : _} {h : _} (x y : Ratio T i o e p h) (told : HeadlineResult T i o e p h) (xs ys : List ℤ × List ℤ) (compared x_hashed y_hashed : Steps × Steps) : Type 0 where
+  -- they are ordered as their unbounded cross products say
+  pub ordered : told.order ≡ order_of x y
+  -- they are found equal as these say
+  pub found_equal : IsTrue told.equal ↔ AreEqual x y
+  -- each feeds its list its own codes
+  pub x_codes : List ℤ
+  pub y_codes : List ℤ
+  pub x_fed : (xs.1 ≡ xs.0 ++ x_codes) × IsCodesOf i.lo i.hi (numerator x) (denominator x) x_codes
+  pub y_fed : (ys.1 ≡ ys.0 ++ y_codes) × IsCodesOf i.lo i.hi (numerator y) (denominator y) y_codes
+  -- they are hashed alike exactly if they are equal
+  pub hashed_alike : (x_codes ≡ y_codes) ↔ AreEqual x y
+  -- a comparison takes as many steps on each side: at most twice as many as the smaller denominator has binary digits
+  pub compare_steps : ℕ
+  pub compared_by : (compared.1.left ≡ compared.0.left + compare_steps) × (compared.1.right ≡ compared.0.right + compare_steps)
+  pub compare_bound : IsWithinBits (min (unsigned_abs (denominator x)) (unsigned_abs (denominator y))) compare_steps
+  -- hashing takes at most twice as many as the denominator has
+  pub x_steps : ℕ
+  pub y_steps : ℕ
+  pub hashed_by : (x_hashed.1.left ≡ x_hashed.0.left + x_steps) × (y_hashed.1.left ≡ y_hashed.0.left + y_steps)
+  pub hash_bounds : IsWithinBits (unsigned_abs (denominator x)) x_steps × IsWithinBits (unsigned_abs (denominator y)) y_steps
+  -- for positive denominators, the product and the quotient are the lowest terms exactly where these fit
+  pub multiplied : pos 0 <ℤ denominator x → pos 0 <ℤ denominator y → ChecksProduct (numbers x) (numbers y) told.product
+  pub divided : pos 0 <ℤ denominator x → pos 0 <ℤ denominator y → ChecksQuotient (numbers x) (numbers y) told.quotient

@@ -1,0 +1,110 @@
+// Written by templates/write from templates/fold.rt.txt: change that file, and write this one anew.
+//! The product of the items of an iterator.
+ghost use Rattle.std.specs.Prelude.{IsSome, List};
+ghost use Rattle.std.specs.Iterator.{Drains, DrainsIf, HoldsAlong, IsFinite};
+ghost use Rattle.num_rational.specs.Folds.{ArePositive, CanProduct, ChecksProductOf, IsProductOf};
+ghost use Rattle.num_rational.specs.Operators.{numbers};
+
+use crate::operand::Operand;
+use crate::ratio::Ratio;
+use ratio_integer::Integer;
+use std::iter::Product;
+
+impl<T: Copy + Integer> Ratio<T> {
+    /// The product of the items, in order from 1/1 on. It returns `None` at the first item for which
+    /// `checked_mul` does.
+    pub fn checked_product<I: Iterator<Item = Ratio<T>>>(iter: I) -> Option<Ratio<T>>
+        requires can { I.can_next iter }
+        requires finite { IsFinite (I.remaining iter) }
+        requires positive { HoldsAlong I.next_gives iter (ArePositive numbers) }
+        ensures { (xs : List _) × DrainsIf I.next_gives (IsSome result) iter xs × ChecksProductOf numbers xs result }
+    {
+        checked_product_of_operands(iter)
+    }
+
+    /// The product of the items, in order from 1/1 on. It is 1/1 for no items. The call requires that
+    /// `checked_product` returns `Some`.
+    pub fn product<I: Iterator<Item = Ratio<T>>>(iter: I) -> Ratio<T>
+        requires can { I.can_next iter }
+        requires finite { IsFinite (I.remaining iter) }
+        requires answered { HoldsAlong I.next_gives iter (CanProduct T.lo T.hi numbers) }
+        ensures { (xs : List _) × Drains I.next_gives iter xs × IsProductOf numbers xs (numbers result) }
+    {
+        product_of_operands(iter)
+    }
+
+    /// The same as `checked_product`, for references to fractions.
+    pub fn checked_product_refs<'a, I: Iterator<Item = &'a Ratio<T>>>(iter: I) -> Option<Ratio<T>>
+    where
+        T: 'a,
+        requires can { I.can_next iter }
+        requires finite { IsFinite (I.remaining iter) }
+        requires positive { HoldsAlong I.next_gives iter (ArePositive (λ x. numbers x.now)) }
+        ensures { (xs : List _) × DrainsIf I.next_gives (IsSome result) iter xs × ChecksProductOf (λ x. numbers x.now) xs result }
+    {
+        checked_product_of_operands(iter)
+    }
+
+    /// The same as `product`, for references to fractions. It requires that `checked_product_refs`
+    /// returns `Some`.
+    pub fn product_refs<'a, I: Iterator<Item = &'a Ratio<T>>>(iter: I) -> Ratio<T>
+    where
+        T: 'a,
+        requires can { I.can_next iter }
+        requires finite { IsFinite (I.remaining iter) }
+        requires answered { HoldsAlong I.next_gives iter (CanProduct T.lo T.hi (λ x. numbers x.now)) }
+        ensures { (xs : List _) × Drains I.next_gives iter xs × IsProductOf (λ x. numbers x.now) xs (numbers result) }
+    {
+        product_of_operands(iter)
+    }
+}
+
+// The product of items that an operator takes on its right.
+fn product_of_operands<T: Copy + Integer, O: Operand<T>, I: Iterator<Item = O>>(iter: I) -> Ratio<T>
+    requires can { I.can_next iter }
+    requires finite { IsFinite (I.remaining iter) }
+    requires answered { HoldsAlong I.next_gives iter (CanProduct T.lo T.hi O.two_numbers) }
+    ensures { (xs : List _) × Drains I.next_gives iter xs × IsProductOf O.two_numbers xs (numbers result) }
+{
+    let mut total = Ratio::one();
+    'items: for x in iter {
+        total = total.mul(x.ratio());
+    }
+    total
+}
+
+// The same by the checked call.
+fn checked_product_of_operands<T: Copy + Integer, O: Operand<T>, I: Iterator<Item = O>>(
+    iter: I,
+) -> Option<Ratio<T>>
+    requires can { I.can_next iter }
+    requires finite { IsFinite (I.remaining iter) }
+    requires positive { HoldsAlong I.next_gives iter (ArePositive O.two_numbers) }
+    ensures { (xs : List _) × DrainsIf I.next_gives (IsSome result) iter xs × ChecksProductOf O.two_numbers xs result }
+{
+    let mut total = Ratio::one();
+    'items: for x in iter {
+        total = total.checked_mul(&x.ratio())?;
+    }
+    Some(total)
+}
+
+impl<T: Copy + Integer> Product<Ratio<T>> for Ratio<T> {
+    ghost can_product = { CanProduct T.lo T.hi numbers };
+
+    ghost product_gives = { λ xs r. IsProductOf numbers xs (numbers r) };
+
+    fn product<I: Iterator<Item = Ratio<T>>>(iter: I) -> Ratio<T> {
+        Ratio::<T>::product(iter)
+    }
+}
+
+impl<'a, T: Copy + Integer> Product<&'a Ratio<T>> for Ratio<T> {
+    ghost can_product = { CanProduct T.lo T.hi (λ x. numbers x.now) };
+
+    ghost product_gives = { λ xs r. IsProductOf (λ x. numbers x.now) xs (numbers r) };
+
+    fn product<I: Iterator<Item = &'a Ratio<T>>>(iter: I) -> Ratio<T> {
+        Ratio::<T>::product_refs(iter)
+    }
+}

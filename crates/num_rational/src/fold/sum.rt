@@ -1,0 +1,110 @@
+// Written by templates/write from templates/fold.rt.txt: change that file, and write this one anew.
+//! The sum of the items of an iterator.
+ghost use Rattle.std.specs.Prelude.{IsSome, List};
+ghost use Rattle.std.specs.Iterator.{Drains, DrainsIf, HoldsAlong, IsFinite};
+ghost use Rattle.num_rational.specs.Folds.{ArePositive, CanSum, ChecksSumOf, IsSumOf};
+ghost use Rattle.num_rational.specs.Operators.{numbers};
+
+use crate::operand::Operand;
+use crate::ratio::Ratio;
+use ratio_integer::Integer;
+use std::iter::Sum;
+
+impl<T: Copy + Integer> Ratio<T> {
+    /// The sum of the items, in order from 0/1 on. It returns `None` at the first item for which
+    /// `checked_add` does.
+    pub fn checked_sum<I: Iterator<Item = Ratio<T>>>(iter: I) -> Option<Ratio<T>>
+        requires can { I.can_next iter }
+        requires finite { IsFinite (I.remaining iter) }
+        requires positive { HoldsAlong I.next_gives iter (ArePositive numbers) }
+        ensures { (xs : List _) × DrainsIf I.next_gives (IsSome result) iter xs × ChecksSumOf numbers xs result }
+    {
+        checked_sum_of_operands(iter)
+    }
+
+    /// The sum of the items, in order from 0/1 on. It is 0/1 for no items. The call requires that
+    /// `checked_sum` returns `Some`.
+    pub fn sum<I: Iterator<Item = Ratio<T>>>(iter: I) -> Ratio<T>
+        requires can { I.can_next iter }
+        requires finite { IsFinite (I.remaining iter) }
+        requires answered { HoldsAlong I.next_gives iter (CanSum T.EXACT_SUMS T.lo T.hi numbers) }
+        ensures { (xs : List _) × Drains I.next_gives iter xs × IsSumOf numbers xs (numbers result) }
+    {
+        sum_of_operands(iter)
+    }
+
+    /// The same as `checked_sum`, for references to fractions.
+    pub fn checked_sum_refs<'a, I: Iterator<Item = &'a Ratio<T>>>(iter: I) -> Option<Ratio<T>>
+    where
+        T: 'a,
+        requires can { I.can_next iter }
+        requires finite { IsFinite (I.remaining iter) }
+        requires positive { HoldsAlong I.next_gives iter (ArePositive (λ x. numbers x.now)) }
+        ensures { (xs : List _) × DrainsIf I.next_gives (IsSome result) iter xs × ChecksSumOf (λ x. numbers x.now) xs result }
+    {
+        checked_sum_of_operands(iter)
+    }
+
+    /// The same as `sum`, for references to fractions. It requires that `checked_sum_refs` returns
+    /// `Some`.
+    pub fn sum_refs<'a, I: Iterator<Item = &'a Ratio<T>>>(iter: I) -> Ratio<T>
+    where
+        T: 'a,
+        requires can { I.can_next iter }
+        requires finite { IsFinite (I.remaining iter) }
+        requires answered { HoldsAlong I.next_gives iter (CanSum T.EXACT_SUMS T.lo T.hi (λ x. numbers x.now)) }
+        ensures { (xs : List _) × Drains I.next_gives iter xs × IsSumOf (λ x. numbers x.now) xs (numbers result) }
+    {
+        sum_of_operands(iter)
+    }
+}
+
+// The sum of items that an operator takes on its right.
+fn sum_of_operands<T: Copy + Integer, O: Operand<T>, I: Iterator<Item = O>>(iter: I) -> Ratio<T>
+    requires can { I.can_next iter }
+    requires finite { IsFinite (I.remaining iter) }
+    requires answered { HoldsAlong I.next_gives iter (CanSum T.EXACT_SUMS T.lo T.hi O.two_numbers) }
+    ensures { (xs : List _) × Drains I.next_gives iter xs × IsSumOf O.two_numbers xs (numbers result) }
+{
+    let mut total = Ratio::zero();
+    'items: for x in iter {
+        total = total.add(x.ratio());
+    }
+    total
+}
+
+// The same by the checked call.
+fn checked_sum_of_operands<T: Copy + Integer, O: Operand<T>, I: Iterator<Item = O>>(
+    iter: I,
+) -> Option<Ratio<T>>
+    requires can { I.can_next iter }
+    requires finite { IsFinite (I.remaining iter) }
+    requires positive { HoldsAlong I.next_gives iter (ArePositive O.two_numbers) }
+    ensures { (xs : List _) × DrainsIf I.next_gives (IsSome result) iter xs × ChecksSumOf O.two_numbers xs result }
+{
+    let mut total = Ratio::zero();
+    'items: for x in iter {
+        total = total.checked_add(&x.ratio())?;
+    }
+    Some(total)
+}
+
+impl<T: Copy + Integer> Sum<Ratio<T>> for Ratio<T> {
+    ghost can_sum = { CanSum T.EXACT_SUMS T.lo T.hi numbers };
+
+    ghost sum_gives = { λ xs r. IsSumOf numbers xs (numbers r) };
+
+    fn sum<I: Iterator<Item = Ratio<T>>>(iter: I) -> Ratio<T> {
+        Ratio::<T>::sum(iter)
+    }
+}
+
+impl<'a, T: Copy + Integer> Sum<&'a Ratio<T>> for Ratio<T> {
+    ghost can_sum = { CanSum T.EXACT_SUMS T.lo T.hi (λ x. numbers x.now) };
+
+    ghost sum_gives = { λ xs r. IsSumOf (λ x. numbers x.now) xs (numbers r) };
+
+    fn sum<I: Iterator<Item = &'a Ratio<T>>>(iter: I) -> Ratio<T> {
+        Ratio::<T>::sum_refs(iter)
+    }
+}

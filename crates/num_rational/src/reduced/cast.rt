@@ -1,0 +1,32 @@
+//! The same fraction over another integer type.
+ghost use Rattle.num_rational.specs.Reduced.{ChecksCast};
+ghost use Rattle.ratio_integer.specs.Range.{Checks};
+
+use super::Reduced;
+use crate::ratio::Ratio;
+use ratio_integer::{Integer, Primitive};
+
+impl<T: Primitive> Reduced<T> {
+    /// The same fraction over the type `U`, or `None` if its numerator or its denominator does not fit
+    /// that type. Over `i8`, 1/127 is `Some`, and 1/128 is `None`.
+    pub fn cast<U: Copy + Integer>(&self) -> Option<Reduced<U>>
+        ensures { ChecksCast self.now result }
+    {
+        let numer = number(*self.numer())?;
+        let denom = number(*self.denom())?;
+        Some(Reduced {
+            ratio: Ratio::new_raw(numer, denom),
+        })
+    }
+}
+
+// The same number over the type `U`, or `None` if it does not fit that type. A number that does not fit `i128`
+// fits `u128`.
+fn number<T: Primitive, U: Integer>(t: T) -> Option<U>
+    ensures { Checks U.value U.lo U.hi (T.value t) result }
+{
+    match t.to_i128() {
+        Some(n) => U::from_i128(n),
+        None => U::from_u128(t.to_u128().unwrap()),
+    }
+}

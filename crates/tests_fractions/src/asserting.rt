@@ -1,7 +1,7 @@
-//! What the tests assert: each function holds one assertion, and says what it was given where that fails.
+//! What the tests assert. Each function holds one assertion. If it fails, its message says what was given.
 use std::process::Abort;
 
-/// Every row holds: there is no first one that does not.
+/// All rows hold, so no row is the first wrong one.
 pub(crate) fn all_hold(rt: &impl Abort, what: &str, first_wrong: Option<usize>) {
     assert!(rt; first_wrong.is_none(), "{what}: row {first_wrong:?}");
 }
@@ -15,12 +15,12 @@ fn first_false(facts: &[bool]) -> Option<usize> {
     None
 }
 
-/// Each of these holds.
+/// All of these hold.
 pub(crate) fn each_holds(rt: &impl Abort, facts: &[bool]) {
     all_hold(rt, "facts", first_false(facts));
 }
 
-/// The two texts are one.
+/// The two texts are the same.
 pub(crate) fn reads(rt: &impl Abort, text: &str, want: &str) {
     assert!(rt; text == want, "{text}, not {want}");
 }

@@ -1,7 +1,8 @@
-//! The calls on two numbers, of `ratio_core`.
+//! The calls of `ratio_core` on two numbers.
 mod arithmetic;
 mod comparing;
 mod every_call;
 mod laws;
 mod nearest;
 mod printing;
+mod simplest;

@@ -1,3 +1,3 @@
-//! The calls of integer types, of `ratio_integer`.
+//! The calls of `ratio_integer` on integer types.
 mod every_call;
 mod rows;

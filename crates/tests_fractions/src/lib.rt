@@ -11,3 +11,4 @@ mod integers;
 mod ratios;
 #[cfg(test)]
 mod recorder;
+pub mod written;

@@ -1,17 +1,26 @@
-//! The types of fractions, of `num_rational`.
+//! The fraction types of `num_rational`.
 mod carried;
+mod casts;
 mod comparing;
+mod continued;
+mod decimals;
 mod every_call;
+mod floats;
 mod folds;
 mod forms;
 mod json;
 mod keys;
+mod laws;
 mod long_texts;
-mod lowest;
+mod lowest_remainders;
+mod lowest_sums;
+mod main_statement;
 mod operators;
 mod powers;
+mod reduced;
 mod rounding;
 mod rows;
 mod signs;
+mod simplest;
 mod texts;
 mod twelve_types;

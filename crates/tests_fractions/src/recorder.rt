@@ -1,12 +1,11 @@
-//! What a list of codes and a hasher receive, kept in fixed arrays.
-ghost use Rattle.std.specs.Prelude.{◌≡◌, ◌+◌, ◌≤◌, ℕ, ℤ, List, [], ◌∷◌, ◌++◌, if◌then◌else◌, nat_le, nat_lt, length, map, refl, take};
+//! What a list of codes receives, kept in a fixed array.
+ghost use Rattle.std.specs.Prelude.{◌≡◌, ◌≤◌, ℤ, List, [], ◌∷◌, ◌++◌, if◌then◌else◌, nat_lt, length, map, refl, take};
 
 use num_rational::{CodeList, Taken};
 use ratio_integer::Integer;
-use std::hash::Hasher;
 use std::marker::Model;
 
-/// The first 24 codes that it took.
+/// The first 24 codes that it received.
 #[derive(Drop)]
 pub struct Codes<T: Integer> {
     codes: [T; 24],
@@ -23,7 +22,7 @@ impl<T: Integer> Model for Codes<T> {
 }
 
 impl<T: Integer> Codes<T> {
-    /// No code.
+    /// A record without codes.
     pub fn new() -> Codes<T>
         ensures { result ≡ ([], []) }
     {
@@ -57,64 +56,4 @@ impl<T: Integer> CodeList<T> for Codes<T> {
     }
 
     ghost end_law = { λ list z. refl };
-}
-
-/// The bytes that it was written, up to 96. A write that does not fit is left out.
-#[derive(Drop)]
-pub struct Written {
-    bytes: [u8; 96],
-    len: usize,
-}
-
-impl Model for Written {
-    ghost Value = { List ℕ };
-
-    ghost view = { λ r. take r.len r.bytes };
-
-    ghost invariant = { λ r. r.len ≤ 96 };
-}
-
-impl Written {
-    /// No byte.
-    pub fn new() -> Written
-        ensures { result ≡ [] }
-    {
-        Written {
-            bytes: [0; 96],
-            len: 0,
-        }
-    }
-
-    /// The bytes so far.
-    pub fn as_slice(&self) -> &[u8]
-        ensures { result.now ≡ self.now }
-    {
-        &self.bytes[..self.len]
-    }
-
-    fn put(&mut self, byte: u8)
-        requires { length self.old + 1 ≤ 96 }
-        ensures { self.new ≡ self.old ++ byte ∷ [] }
-    {
-        self.bytes[self.len] = byte;
-        self.len += 1;
-    }
-}
-
-impl Hasher for Written {
-    ghost write = { λ xs bs. if nat_le (length xs + length bs) 96 then xs ++ bs else xs };
-
-    ghost finish = { λ _. 0 };
-
-    fn finish(&self) -> u64 {
-        0
-    }
-
-    fn write(&mut self, bytes: &[u8]) {
-        if bytes.len() <= 96 - self.len {
-            for byte in bytes {
-                self.put(*byte);
-            }
-        }
-    }
 }

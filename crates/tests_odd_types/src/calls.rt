@@ -14,10 +14,10 @@ pub enum Call {
     Rem,
 }
 
-/// All of them.
+/// All five.
 pub const CALLS: [Call; 5] = [Call::Add, Call::Sub, Call::Mul, Call::Div, Call::Rem];
 
-/// What the call answers, if `T` has both fractions and their denominators are positive.
+/// What the call returns, if `T` has both fractions and their denominators are positive.
 pub fn called<T: Integer>(x: Plain, call: Call, y: Plain) -> Option<Option<Ratio<T>>> {
     let left = fraction::<T>(x)?;
     let right = fraction::<T>(y)?;
@@ -34,7 +34,7 @@ pub fn called<T: Integer>(x: Plain, call: Call, y: Plain) -> Option<Option<Ratio
     }
 }
 
-/// What the model answers.
+/// What the model returns.
 pub fn modelled(x: Plain, call: Call, y: Plain, range: Range) -> Option<Plain> {
     match call {
         Call::Add => range.sum(x, y),

@@ -1,12 +1,12 @@
 //! Rows at the ends of the signed primitive types.
 use crate::fractions::raw;
-use crate::written::Written;
 use num_rational::Ratio;
 use ratio_integer::SignedInteger;
 use std::cmp::Ordering;
 use std::hash::Hash;
+use tests_fractions::written::Written;
 
-/// Whether `n/d` stands so to `m/e`.
+/// Whether `n/d` and `m/e` have this order.
 fn stands<T: SignedInteger>(n: T, d: T, m: T, e: T, order: Ordering) -> bool {
     match (raw(n, d), raw(m, e)) {
         (Some(x), Some(y)) => x.cmp(&y) == order,
@@ -14,7 +14,7 @@ fn stands<T: SignedInteger>(n: T, d: T, m: T, e: T, order: Ordering) -> bool {
     }
 }
 
-/// Whether a hasher is fed with these codes of `n/d`, and with no others.
+/// Whether `n/d` feeds a hasher these codes, and no others.
 fn has_codes<T: SignedInteger>(n: T, d: T, codes: &[T]) -> bool {
     let mut wanted = Written::new();
     for code in codes {
@@ -26,7 +26,7 @@ fn has_codes<T: SignedInteger>(n: T, d: T, codes: &[T]) -> bool {
     }
 }
 
-/// Whether the greatest and the least fraction are ordered and hashed by their values.
+/// Whether fractions of the greatest and the least number are ordered and hashed by their values.
 fn are_ordered<T: SignedInteger>(minus_one: T, above_max: &[T], one: &[T]) -> bool {
     stands(T::MIN, minus_one, T::MAX, T::ONE, Ordering::Greater)
         && stands(T::MIN, T::MIN, T::ONE, T::ONE, Ordering::Equal)
@@ -36,7 +36,8 @@ fn are_ordered<T: SignedInteger>(minus_one: T, above_max: &[T], one: &[T]) -> bo
         && has_codes(T::MIN, T::MIN, one)
 }
 
-/// Whether the ends are rounded to themselves, and a 0 over the least number is 0/1.
+/// Whether the floor of the least number and the ceiling of the greatest one are these
+/// numbers, and 0 over the least number is 0/1.
 fn are_whole<T: SignedInteger>() -> bool {
     let zero = match Ratio::checked_new(T::ZERO, T::MIN) {
         Some(zero) => zero.into_raw() == (T::ZERO, T::ONE),
@@ -46,7 +47,7 @@ fn are_whole<T: SignedInteger>() -> bool {
         && Ratio::from_integer(T::MAX).ceil().into_raw() == (T::MAX, T::ONE)
 }
 
-/// Whether all rows hold over `T`: the codes are those of `MIN/-1` and of 1.
+/// Whether all rows hold over `T`. The codes are those of `MIN/-1` and of 1.
 fn hold<T: SignedInteger>(minus_one: T, above_max: &[T], one: &[T]) -> bool {
     are_ordered(minus_one, above_max, one) && are_whole::<T>()
 }

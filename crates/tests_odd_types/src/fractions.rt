@@ -23,7 +23,7 @@ pub fn has<T: Integer>(x: Ratio<T>, n: i128, d: i128) -> bool {
     x.numer().to_i128() == Some(n) && x.denom().to_i128() == Some(d)
 }
 
-/// Whether the answer is the wanted one.
+/// Whether the result is the wanted one.
 pub fn answers<T: Integer>(answer: Option<Ratio<T>>, wanted: Option<Plain>) -> bool {
     match (answer, wanted) {
         (Some(x), Some(y)) => has(x, y.n as i128, y.d as i128),
@@ -32,7 +32,7 @@ pub fn answers<T: Integer>(answer: Option<Ratio<T>>, wanted: Option<Plain>) -> b
     }
 }
 
-/// One more, if there was something to look at, which has to be well.
+/// Counts a case if there is one, and asserts that it is well.
 pub fn looked_at(rt: &impl Abort, before: u32, well: Option<bool>) -> u32 {
     match well {
         Some(is_well) => {

@@ -1,5 +1,5 @@
-//! Tests of the odd types: every fraction of the smallest types walked, the counted divisions, and rows
-//! from outside.
+//! Tests of the odd types: every fraction of the smallest types,
+//! the counted divisions, and rows from outside.
 #![tactic(auto)]
 
 #[cfg(test)]
@@ -8,6 +8,12 @@ mod calls;
 mod ends;
 #[cfg(test)]
 mod fractions;
+#[cfg(test)]
+mod laws;
+#[cfg(test)]
+mod lowest_powers;
+#[cfg(test)]
+mod lowest_sums;
 #[cfg(test)]
 mod plain;
 #[cfg(test)]
@@ -20,5 +26,3 @@ mod rows;
 mod walks;
 #[cfg(test)]
 mod watched;
-#[cfg(test)]
-mod written;

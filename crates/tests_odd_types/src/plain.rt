@@ -1,4 +1,4 @@
-//! What the calls must answer, by plain whole numbers of 128 bits.
+//! What the calls must return, in plain whole numbers of 128 bits.
 use std::cmp::Ordering;
 
 /// The numerator and the denominator of a fraction.
@@ -23,7 +23,7 @@ struct Scaled {
     right: i128,
 }
 
-/// How the two stand to each other: by their cross products, turned for denominators of unlike signs.
+/// The order of two fractions by their cross products. Denominators of unlike signs reverse it.
 pub fn order(x: Plain, y: Plain) -> Ordering {
     let left = times(x.n as i128, y.d as i128);
     let right = times(y.n as i128, x.d as i128);
@@ -34,12 +34,12 @@ pub fn order(x: Plain, y: Plain) -> Ordering {
     }
 }
 
-/// The product of the two, which are small.
+/// The product of two small numbers.
 pub fn times(a: i128, b: i128) -> i128 {
     a.wrapping_mul(b)
 }
 
-/// The difference of the two, which are small.
+/// The difference of two small numbers.
 pub fn minus(a: i128, b: i128) -> i128 {
     a.wrapping_sub(b)
 }
@@ -55,7 +55,8 @@ pub fn sign(x: Plain) -> i8 {
     }
 }
 
-/// The first `k` times over and the second `j` times over, if that makes their denominators equal.
+/// Both fractions over one denominator: both numbers of the first times `k`, and of the second times
+/// `j`. `None` if the denominators then differ.
 fn over_common(x: Plain, k: i128, y: Plain, j: i128) -> Option<Scaled> {
     let denom = times(x.d as i128, k);
     if denom == times(y.d as i128, j) {
@@ -75,7 +76,8 @@ impl Range {
         self.lo as i128 <= z && z <= self.hi as i128
     }
 
-    /// The pair of held numbers with the value `n/d` and the least positive denominator, if one has it.
+    /// The pair of numbers in range with the value `n/d` and the
+    /// least positive denominator, if there is one.
     pub fn lowest(self, n: i128, d: i128) -> Option<Plain> {
         if d == 0 {
             return None;
@@ -90,7 +92,7 @@ impl Range {
         None
     }
 
-    /// The two over their least common denominator, if all three numbers are held.
+    /// Both fractions over their least common denominator, if all three numbers are in range.
     fn scaled(self, x: Plain, y: Plain) -> Option<Scaled> {
         for k in 1..=self.hi {
             for j in 1..=self.hi {
@@ -110,7 +112,7 @@ impl Range {
         self.holds(scaled.denom) && self.holds(scaled.left) && self.holds(scaled.right)
     }
 
-    /// The lowest terms of a held number over another.
+    /// The lowest terms of a number over another, if the first is in range.
     fn lowest_held(self, numer: i128, denom: i128) -> Option<Plain> {
         if self.holds(numer) {
             self.lowest(numer, denom)
@@ -119,25 +121,25 @@ impl Range {
         }
     }
 
-    /// The sum, if its parts are held.
+    /// The sum in lowest terms, if the numbers on the way are in range.
     pub fn sum(self, x: Plain, y: Plain) -> Option<Plain> {
         let scaled = self.scaled(x, y)?;
         self.lowest_held(scaled.left.wrapping_add(scaled.right), scaled.denom)
     }
 
-    /// The difference, if its parts are held.
+    /// The difference in lowest terms, if the numbers on the way are in range.
     pub fn difference(self, x: Plain, y: Plain) -> Option<Plain> {
         let scaled = self.scaled(x, y)?;
         self.lowest_held(minus(scaled.left, scaled.right), scaled.denom)
     }
 
-    /// The remainder, if `y` is not 0 and the parts are held.
+    /// The remainder in lowest terms, if `y` is not 0 and the numbers on the way are in range.
     pub fn remainder(self, x: Plain, y: Plain) -> Option<Plain> {
         let scaled = self.scaled(x, y)?;
         self.lowest(scaled.left.checked_rem(scaled.right)?, scaled.denom)
     }
 
-    /// The product, if its lowest terms are held.
+    /// The product in lowest terms, if these are in range.
     pub fn product(self, x: Plain, y: Plain) -> Option<Plain> {
         self.lowest(
             times(x.n as i128, y.n as i128),
@@ -145,7 +147,7 @@ impl Range {
         )
     }
 
-    /// The quotient, if `y` is not 0 and its lowest terms are held.
+    /// The quotient in lowest terms, if `y` is not 0 and these are in range.
     pub fn quotient(self, x: Plain, y: Plain) -> Option<Plain> {
         self.lowest(
             times(x.n as i128, y.d as i128),
@@ -153,7 +155,8 @@ impl Range {
         )
     }
 
-    /// The greatest whole number of the range that is not above `x`, whose denominator is positive.
+    /// The greatest whole number of the range that is not
+    /// above `x`. The denominator of `x` is positive.
     pub fn floor(self, x: Plain) -> Option<i8> {
         for z in self.lo..=self.hi {
             let rest = rest(x, z);
@@ -164,7 +167,7 @@ impl Range {
         None
     }
 
-    /// The least whole number of the range that is not below it.
+    /// The least whole number of the range that is not below `x`.
     pub fn ceiling(self, x: Plain) -> Option<i8> {
         for z in self.lo..=self.hi {
             let rest = rest(x, z);
@@ -175,7 +178,8 @@ impl Range {
         None
     }
 
-    /// The nearest whole number of the range, and of two as near the one further from 0.
+    /// The nearest whole number of the range. Of two that are
+    /// equally near, it is the one further from 0.
     pub fn rounded(self, x: Plain) -> Option<i8> {
         for z in self.lo..=self.hi {
             let twice_off = times(2, rest(x, z));
@@ -196,12 +200,12 @@ impl Range {
     }
 }
 
-/// What is left of the numerator without `z` times the denominator.
+/// The numerator minus `z` times the denominator.
 pub fn rest(x: Plain, z: i8) -> i128 {
     minus(x.n as i128, times(z as i128, x.d as i128))
 }
 
-/// Whether a whole number is the nearest one, where twice what is left without it is `twice_off`.
+/// Whether a whole number is the nearest one. `twice_off` is twice its `rest`.
 fn is_nearest(twice_off: i128, d: i128, is_negative: bool) -> bool {
     if is_negative {
         minus(0, d) < twice_off && twice_off <= d
@@ -218,7 +222,7 @@ pub struct Euclid {
 }
 
 impl Euclid {
-    /// The fraction, with the sign of its denominator moved.
+    /// The fraction, with the sign of its denominator moved to the numerator.
     pub fn of(x: Plain) -> Euclid {
         let sign = if x.d < 0 { -1 } else { 1 };
         Euclid {
@@ -227,7 +231,7 @@ impl Euclid {
         }
     }
 
-    /// The next floored quotient, and `None` after the last.
+    /// The next floored quotient, or `None` after the last.
     pub fn quotient(&mut self) -> Option<i128> {
         let quotient = self.n.checked_div_euclid(self.d)?;
         let rest = self.n.checked_rem_euclid(self.d)?;

@@ -1,4 +1,4 @@
-//! Powers of every fraction of the three smallest types, beside a plain model.
+//! Powers of every fraction of the three smallest types, compared with a plain model.
 use crate::fractions::{fraction, has, looked_at};
 use crate::plain::{self, Plain, Range};
 use ratio_integer::Integer;
@@ -6,8 +6,9 @@ use ratio_odd::{Nat2, Sym5, Two3};
 use std::process::Abort;
 use std::test::Fail;
 
-/// The power's numerator and denominator, if the type holds them: each number to the magnitude of the
-/// exponent, and for a negative one these turned over, with the sign above.
+/// The power's numerator and denominator, if the type holds them. Each number is
+/// raised to the magnitude of the exponent. For a negative exponent they are then
+/// exchanged, with the sign in the numerator.
 fn power(x: Plain, exponent: i32, range: Range) -> Option<(i128, i128)> {
     let numer = (x.n as i128).checked_pow(exponent.unsigned_abs())?;
     let denom = (x.d as i128).checked_pow(exponent.unsigned_abs())?;
@@ -21,7 +22,7 @@ fn power(x: Plain, exponent: i32, range: Range) -> Option<(i128, i128)> {
     }
 }
 
-/// The denominator over the numerator, with the sign above, if the type holds both.
+/// The denominator over the numerator, with the sign in the numerator, if the type holds both.
 fn turned_over(numer: i128, denom: i128, range: Range) -> Option<(i128, i128)> {
     let below = plain::minus(0, numer);
     if numer > 0 {
@@ -33,8 +34,8 @@ fn turned_over(numer: i128, denom: i128, range: Range) -> Option<(i128, i128)> {
     }
 }
 
-/// Whether `checked_pow` answers what the model does, if `T` has the fraction and its denominator is
-/// positive.
+/// Whether `checked_pow` returns what the model does, if `T` has
+/// the fraction and its denominator is positive.
 fn raised_well<T: Integer>(x: Plain, exponent: i32, range: Range) -> Option<bool> {
     let value = fraction::<T>(x)?;
     if T::ZERO < *value.denom() {
@@ -50,7 +51,7 @@ fn raised_well<T: Integer>(x: Plain, exponent: i32, range: Range) -> Option<bool
     }
 }
 
-/// How many fractions of `T` are raised as in the model, to each exponent from -4 to 4.
+/// How many powers of fractions of `T`, with exponents from -4 to 4, are as in the model.
 fn raised<T: Integer>(rt: &impl Abort, range: Range) -> u32 {
     let mut looked = 0;
     for n in -5..=5 {

@@ -1,4 +1,4 @@
-//! Rounding and signs of every fraction of the three smallest types, beside a plain model.
+//! Rounding and signs of every fraction of the three smallest types, compared with a plain model.
 use crate::fractions::{fraction, has, looked_at};
 use crate::plain::{self, Plain, Range};
 use num_rational::Ratio;
@@ -15,7 +15,7 @@ fn is_whole<T: Integer>(x: Ratio<T>, wanted: Option<i8>) -> bool {
     }
 }
 
-/// Whether `part` is what is left of `x` without the whole number, over its own denominator.
+/// Whether `part` is what `x` leaves without the whole number, over the denominator of `x`.
 fn is_rest<T: Integer>(part: Ratio<T>, x: Plain, whole: Option<i8>) -> bool {
     match whole {
         Some(z) => has(part, plain::rest(x, z), x.d as i128),
@@ -23,8 +23,8 @@ fn is_rest<T: Integer>(part: Ratio<T>, x: Plain, whole: Option<i8>) -> bool {
     }
 }
 
-/// Whether each rounding call answers what the model does, if `T` has the fraction and its
-/// denominator is positive.
+/// Whether each rounding call returns what the model does, if `T` has
+/// the fraction and its denominator is positive.
 fn rounded_well<T: Integer>(x: Plain, range: Range) -> Option<bool> {
     let value = fraction::<T>(x)?;
     if T::ZERO < *value.denom() {
@@ -77,7 +77,8 @@ fn rounded<T: Integer>(rt: &impl Abort, range: Range) -> u32 {
     looked
 }
 
-/// How many fractions of `T` have a negative, an absolute value and a sign, each as in the model.
+/// How many fractions of `T` have the negative, the absolute
+/// value and the sign of the model: three counts.
 fn signed<T: SignedInteger>(rt: &impl Abort) -> (u32, u32, u32) {
     let mut negated = 0;
     let mut absolute = 0;

@@ -1,14 +1,14 @@
-//! Rows of the checked calls over the three types, from outside.
+//! Rows of the checked calls over the three types. Their answers come from outside.
 use crate::calls::{Call, called};
 use crate::fractions::{answers, fraction};
 use crate::plain::Plain;
-use crate::written::Written;
 use num_rational::Ratio;
 use ratio_integer::{Integer, SignedInteger};
 use ratio_odd::{Nat2, Sym5, Two3};
 use std::cmp::Ordering;
+use tests_fractions::written::Written;
 
-/// A row: a fraction, a call, another fraction and the answer's fields.
+/// A row: a fraction, a call, another fraction, and the fields of the result.
 type Row = (i8, i8, Call, i8, i8, Option<(i8, i8)>);
 
 fn holds<T: Integer>((n, d, call, m, e, wanted): Row) -> bool {
@@ -42,7 +42,7 @@ fn checked_calls(rt: HostRuntime) {
     }
 }
 
-/// How two fractions of `Two3` stand, if it has both.
+/// The order of two fractions of `Two3`, if it has both.
 fn stands(x: Plain, y: Plain) -> Option<Ordering> {
     Some(fraction::<Two3>(x)?.cmp(&fraction::<Two3>(y)?))
 }

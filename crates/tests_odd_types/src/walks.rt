@@ -1,27 +1,27 @@
-//! Every fraction of the three smallest types, of either sign, beside a plain model.
+//! Every fraction of the three smallest types, of either sign, compared with a plain model.
 use crate::calls::{CALLS, called, modelled};
 use crate::fractions::{answers, fraction, looked_at};
 use crate::plain::{self, Euclid, Plain, Range};
-use crate::written::Written;
 use num_rational::Ratio;
 use ratio_integer::Integer;
 use ratio_odd::{Nat2, Sym5, Two3};
 use std::process::Abort;
 use std::test::Fail;
+use tests_fractions::written::Written;
 
 /// How many pairs of numbers from -5 to 5 there are.
-const PLACES: u8 = 121;
+pub const PLACES: u8 = 121;
 
 /// The pair at this place.
-fn pair_at(place: u8) -> Plain {
+pub fn pair_at(place: u8) -> Plain {
     Plain {
         n: (place / 11) as i8 - 5,
         d: (place % 11) as i8 - 5,
     }
 }
 
-/// Whether these are the codes of `x`, each as a byte: its quotients, with the one above the range as
-/// the least number twice, and 0 at the end.
+/// Whether these are the codes of `x`, each as a byte: its quotients, and then 0. A quotient
+/// above the range is the least number twice.
 fn are_codes(codes: &[u8], x: Plain, range: Range) -> bool {
     let mut euclid = Euclid::of(x);
     let mut twice = false;
@@ -51,7 +51,7 @@ fn are_codes(codes: &[u8], x: Plain, range: Range) -> bool {
     ended
 }
 
-/// Whether `cmp` and `==` tell of the two what the model does, if `T` has both fractions.
+/// Whether `cmp` and `==` say what the model does, if `T` has both fractions.
 fn ordered_well<T: Integer>(x: Plain, y: Plain) -> Option<bool> {
     let left = fraction::<T>(x)?;
     let right = fraction::<T>(y)?;
@@ -59,7 +59,8 @@ fn ordered_well<T: Integer>(x: Plain, y: Plain) -> Option<bool> {
     Some(left.cmp(&right) == order && (left == right) == order.is_eq())
 }
 
-/// Whether the two have the same codes exactly if the model finds them equal, if `T` has both.
+/// Whether the two have the same codes exactly if the model finds
+/// them equal. `None` if `T` does not have both.
 fn coded_well<T: Integer>(x: Plain, y: Plain) -> Option<bool> {
     let left = fraction::<T>(x)?;
     let right = fraction::<T>(y)?;
@@ -67,8 +68,8 @@ fn coded_well<T: Integer>(x: Plain, y: Plain) -> Option<bool> {
     Some(same_codes == plain::order(x, y).is_eq())
 }
 
-/// Whether the five checked calls answer what the model does, if `T` has both fractions and their
-/// denominators are positive.
+/// Whether the five checked calls return what the model does, if `T` has both
+/// fractions and their denominators are positive.
 fn computed_well<T: Integer>(x: Plain, y: Plain, range: Range) -> Option<bool> {
     for call in CALLS {
         if !answers(called::<T>(x, call, y)?, modelled(x, call, y, range)) {
@@ -78,8 +79,7 @@ fn computed_well<T: Integer>(x: Plain, y: Plain, range: Range) -> Option<bool> {
     Some(true)
 }
 
-/// Whether the codes of the fraction at this place, and its lowest terms, are those of the model, if
-/// `T` has it.
+/// Whether the codes and the lowest terms of the fraction are as in the model, if `T` has it.
 fn stands_well<T: Integer>(x: Plain, range: Range) -> Option<bool> {
     let fraction = fraction::<T>(x)?;
     let codes = Written::of(&fraction);
@@ -90,7 +90,7 @@ fn stands_well<T: Integer>(x: Plain, range: Range) -> Option<bool> {
     )
 }
 
-/// Whether no fraction of `T` at an earlier place has the codes of the one at this place.
+/// Whether no fraction of `T` at an earlier place has the same codes as the one at this place.
 fn is_new<T: Integer>(place: u8) -> bool {
     let Some(x) = fraction::<T>(pair_at(place)) else {
         return false;
@@ -106,7 +106,7 @@ fn is_new<T: Integer>(place: u8) -> bool {
     true
 }
 
-/// How many of each a walk looked at.
+/// How many of each kind a walk looked at.
 #[derive(Clone, Copy, PartialEq, Eq)]
 struct Looked {
     fractions: u32,
@@ -180,7 +180,7 @@ fn every_fraction(rt: HostRuntime) -> Result<(), Fail> {
     Ok(())
 }
 
-/// How many raw fractions of `i8` stand to `y` as in the model, both ways.
+/// How many comparisons of raw fractions of `i8` with `y`, both ways, are as in the model.
 fn raw_walked(rt: &impl Abort, y: Plain) -> u32 {
     let mut looked = 0;
     for n in i8::MIN..=i8::MAX {

@@ -1,7 +1,7 @@
-//! The divisions of the order, of the codes and of the search for the nearest fraction, counted where they are made.
+//! Counts the divisions of the order, of the codes and of the search for
+//! the nearest fraction, where they are made.
 use crate::fractions::{looked_at, raw};
 use crate::plain::{self, Euclid, Plain};
-use crate::written::Written;
 use num_rational::Ratio;
 use ratio_core::nearest::nearest;
 use ratio_integer::Integer;
@@ -10,11 +10,12 @@ use std::cell::Cell;
 use std::cmp::Ordering;
 use std::process::Abort;
 use std::test::Fail;
+use tests_fractions::written::Written;
 
-/// The quotient of -128 by -1, the only one that `i8` does not hold.
+/// The quotient of -128 by -1. It is the only one that `i8` does not hold.
 const ABOVE_MAX: i128 = 128;
 
-/// The watched fraction.
+/// The fraction with counted divisions, sums and differences.
 fn watched<'a>(x: Plain, divs: &'a Cell<u32>, sums: &'a Cell<u32>) -> Option<Ratio<Watch8<'a>>> {
     raw(Watch8::new(x.n, divs, sums), Watch8::new(x.d, divs, sums))
 }
@@ -24,7 +25,7 @@ fn written<T: Integer>(x: Ratio<T>) -> Written {
     Written::of(&x)
 }
 
-/// Whether the counts are at most so many divisions, and eight times one more sums and differences.
+/// Whether there are at most `most` divisions, and at most `8 * (most + 1)` sums and differences.
 fn are_within(divs: &Cell<u32>, sums: &Cell<u32>, most: u8) -> bool {
     divs.get() <= most as u32 && sums.get() <= 8 * (most as u32 + 1)
 }
@@ -48,8 +49,7 @@ fn says<T: Integer>(x: Ratio<T>, call: Comparison, y: Ratio<T>, order: Ordering)
     }
 }
 
-/// Whether the call makes at most so many divisions and says what the model does, if both are
-/// fractions.
+/// Whether the call makes at most `most` divisions and says what the model does, if both are fractions.
 fn says_within(x: Plain, call: Comparison, y: Plain, most: u8) -> Option<bool> {
     let divs = Cell::new(0);
     let sums = Cell::new(0);
@@ -58,7 +58,7 @@ fn says_within(x: Plain, call: Comparison, y: Plain, most: u8) -> Option<bool> {
     Some(says(left, call, right, plain::order(x, y)) && are_within(&divs, &sums, most))
 }
 
-/// Whether `cmp`, `partial_cmp`, `==` and `<` do, each with counters of its own.
+/// The same for `cmp`, `partial_cmp`, `==` and `<`, each with counters of its own.
 fn compares_within(x: Plain, y: Plain, most: u8) -> Option<bool> {
     let mut all = true;
     for call in [
@@ -72,7 +72,7 @@ fn compares_within(x: Plain, y: Plain, most: u8) -> Option<bool> {
     Some(all)
 }
 
-/// Whether `hash` makes at most so many divisions, if this is a fraction.
+/// Whether `hash` makes at most `most` divisions, if this is a fraction.
 fn hashes_within(x: Plain, most: u8) -> Option<bool> {
     let divs = Cell::new(0);
     let sums = Cell::new(0);
@@ -81,8 +81,8 @@ fn hashes_within(x: Plain, most: u8) -> Option<bool> {
     Some(are_within(&divs, &sums, most))
 }
 
-/// Whether the search for the fraction nearest to `x` makes exactly so many divisions, if its denominator
-/// and the bound are positive.
+/// Whether the search for the fraction nearest to `x` makes exactly `divisions` divisions, if the
+/// denominator of `x` and the bound are positive.
 fn searches_in(x: Plain, most: i8, divisions: u32) -> Option<bool> {
     if x.d <= 0 || most <= 0 {
         return None;
@@ -97,8 +97,8 @@ fn searches_in(x: Plain, most: i8, divisions: u32) -> Option<bool> {
     Some(divs.get() == divisions)
 }
 
-/// How many divisions both sides may make together: none where both cross products are held, else one
-/// a side for each pair of quotients up to the first that differ, or that the type does not hold.
+/// How many divisions both sides may make together: none if both cross products are in range. Otherwise
+/// one a side for each pair of quotients that the type holds, up to the first pair that differs.
 fn divisions_of_order(x: Plain, y: Plain) -> u8 {
     if i8::from_i128(plain::times(x.n as i128, y.d as i128)).is_some()
         && i8::from_i128(plain::times(y.n as i128, x.d as i128)).is_some()
@@ -135,8 +135,8 @@ fn divisions_of_codes(x: Plain) -> u8 {
     divisions
 }
 
-/// How many divisions both sides of a search make together: one, and two for each convergent but the
-/// last whose denominator is at most `most`.
+/// How many divisions both sides of a search make together: one, and two more for each convergent that
+/// is not the last and whose denominator is at most `most`.
 fn divisions_of_search(x: Plain, most: i8) -> u32 {
     let mut euclid = Euclid::of(x);
     let mut before = 1i128;
@@ -177,7 +177,7 @@ fn rows(rt: HostRuntime) {
     }
 }
 
-/// How many fractions are compared with `y`, both ways, within the divisions of the model.
+/// How many comparisons of fractions with `y`, both ways, stay within the divisions of the model.
 fn compared(rt: &impl Abort, y: Plain) -> u32 {
     let mut looked = 0;
     for n in i8::MIN..=i8::MAX {
@@ -220,7 +220,7 @@ fn every_hash(rt: HostRuntime) -> Result<(), Fail> {
     Ok(())
 }
 
-/// How many fractions are searched for with the divisions of the model.
+/// How many searches make exactly the divisions of the model.
 fn searched(rt: &impl Abort, most: i8) -> u32 {
     let mut looked = 0;
     for n in i8::MIN..=i8::MAX {

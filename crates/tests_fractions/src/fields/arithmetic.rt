@@ -1,4 +1,4 @@
-//! Worked rows of sums, differences, products, quotients and remainders, over five types.
+//! Rows of sums, differences, products, quotients and remainders, over five types.
 ghost use Rattle.std.specs.Prelude.{◌<ℤ◌, pos, IsTrue};
 
 use ratio_core::products::{checked_div, checked_mul, div, mul};
@@ -13,10 +13,10 @@ fn is_positive<T: Integer>(d: T) -> bool
     T::ZERO < d
 }
 
-// A row: a, b, c and d, and the wanted answer for a/b and c/d.
+// A row: a, b, c and d, and the expected result for a/b and c/d.
 type Row<T> = (T, T, T, T, Option<(T, T)>);
 
-// The answer of the checked call.
+// The result of the checked call.
 fn answer<T: Integer>(a: T, b: T, symbol: char, c: T, d: T) -> Option<(T, T)>
     requires left { pos 0 <ℤ T.value b }
     requires right { pos 0 <ℤ T.value d }
@@ -30,7 +30,7 @@ fn answer<T: Integer>(a: T, b: T, symbol: char, c: T, d: T) -> Option<(T, T)>
     }
 }
 
-// The first row that has another answer, or a denominator that is not positive.
+// The first row with another result, or with a denominator that is not positive.
 fn first_wrong<T: Integer>(symbol: char, rows: &[Row<T>]) -> Option<usize> {
     for (i, &(a, b, c, d, want)) in rows.iter().enumerate() {
         if !is_positive(b) || !is_positive(d) || answer(a, b, symbol, c, d) != want {
@@ -45,7 +45,7 @@ fn rows_hold<T: Integer>(rt: &impl Abort, symbol: char, rows: &[Row<T>]) {
     assert!(rt; first.is_none(), "{symbol}: row {first:?}");
 }
 
-// The five calls that ask what the checked ones test, on 1/2 and 1/3.
+// The five calls that require what the checked ones test, on 1/2 and 1/3.
 #[tactic(auto, using(ratio_core::proofs::SumLemmas::fits_by))]
 fn answered<T: Integer>(rt: &impl Abort, two: T, three: T) {
     let one = T::ONE;
@@ -164,7 +164,7 @@ fn rows_of_u8(rt: HostRuntime) {
     answered(&rt, 2u8, 3);
 }
 
-// Over `i32` and `i64` sums and differences are exact.
+// Sums and differences are exact over `i32` and `i64`.
 #[test]
 fn rows_of_i32(rt: HostRuntime) {
     rows_hold(

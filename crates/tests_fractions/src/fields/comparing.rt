@@ -1,4 +1,4 @@
-//! Worked rows of the order and of the codes, with their expected values from outside.
+//! Rows of the order and of the codes. The expected values come from outside.
 use crate::asserting::{all_hold, each_holds};
 use crate::recorder::Codes;
 use ratio_core::{Steps, cmp_counted, compare, hash_counted};
@@ -6,10 +6,10 @@ use ratio_integer::Integer;
 use std::cmp::Ordering;
 use std::process::Abort;
 
-// A row: n, d, m and e, and how n/d stands to m/e.
+// A row: n, d, m and e, and how n/d compares with m/e.
 type Row<T> = (T, T, T, T, Ordering);
 
-// Whether both comparisons answer so.
+// Whether both comparisons return this order.
 fn stands<T: Integer>(n: T, d: T, m: T, e: T, order: Ordering) -> bool {
     !d.is_zero()
         && !e.is_zero()
@@ -17,7 +17,7 @@ fn stands<T: Integer>(n: T, d: T, m: T, e: T, order: Ordering) -> bool {
         && compare(n, d, m, e, &mut Steps::new()) == order
 }
 
-// The first row that stands in another order.
+// The first row with another order.
 fn first_wrong<T: Integer>(rows: &[Row<T>]) -> Option<usize> {
     for (i, &(n, d, m, e, order)) in rows.iter().enumerate() {
         if !stands(n, d, m, e, order) {
@@ -48,7 +48,7 @@ fn order_over_i8(rt: HostRuntime) {
             (-128, -128, 1, 1, Ordering::Equal),
             (1, -128, -1, 127, Ordering::Greater),
             (-128, 127, 127, -128, Ordering::Less),
-            // 0 lies between the two, and their products are not held.
+            // 0 lies between the two, and their products do not fit.
             (-127, 126, 127, 125, Ordering::Less),
             (127, 126, -127, 125, Ordering::Greater),
             // One denominator, of either sign.
@@ -79,7 +79,7 @@ fn order_over_i64(rt: HostRuntime) {
     );
 }
 
-// Whether an empty list receives these codes of n/d, and no other.
+// Whether an empty list gets exactly these codes of n/d.
 fn has_codes<T: Integer>(n: T, d: T, mut list: Codes<T>, expected: &[T]) -> bool {
     if d.is_zero() {
         return false;

@@ -1,4 +1,4 @@
-//! The laws are calls like any other.
+//! The laws can be called like any function.
 use num_rational::laws::json_pairs;
 use ratio_core::{laws, text};
 use ratio_integer::laws as integers;
@@ -12,9 +12,12 @@ fn each_law_is_called(_rt: HostRuntime) {
     laws::conditions();
     laws::roundings();
     laws::roundings_by_value();
+    laws::rounding_rules();
     laws::powers();
     laws::parts();
     laws::nearest_fractions();
+    laws::simplest_fractions();
+    laws::fractions_of_quotients();
     text::laws::digits();
     text::laws::decimal_digits();
     text::laws::one_reading();

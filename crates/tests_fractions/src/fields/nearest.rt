@@ -1,9 +1,9 @@
-//! Worked rows of the nearest fraction, with their expected values from outside.
+//! Rows of the nearest fraction. The expected values come from outside.
 use crate::asserting::all_hold;
 use ratio_core::Steps;
 use ratio_core::nearest::{nearest, nearest_counted};
 
-// A row: n, d and the bound, and the answer's two numbers.
+// A row: n, d and the bound, and the two numbers of the result.
 type Row<T> = (T, T, T, T, T);
 
 fn first_wrong_over_i8(rows: &[Row<i8>]) -> Option<usize> {

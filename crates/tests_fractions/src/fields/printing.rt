@@ -4,12 +4,12 @@ use ratio_core::Form;
 use ratio_core::text::text;
 use ratio_integer::Primitive;
 
-// Whether the fields are printed so.
+// Whether the fields are printed as this text.
 fn prints<T: Primitive>(numer: T, denom: T, form: Form, alternate: bool, want: &str) -> bool {
     text(numer, denom, form, alternate).as_str() == want
 }
 
-// The first row that is not printed so in decimal, where a prefix changes nothing.
+// The first row that is printed as another text in decimal. A prefix changes nothing there.
 fn first_wrong(rows: &[(i64, i64, &str)]) -> Option<usize> {
     for (i, &(n, d, want)) in rows.iter().enumerate() {
         if !prints(n, d, Form::Decimal, false, want) || !prints(n, d, Form::Decimal, true, want) {
@@ -39,7 +39,7 @@ fn fields_of_64_bits(rt: HostRuntime) {
     all_hold(&rt, "decimal", first_wrong(&rows));
 }
 
-// Whether the fields are printed so in decimal.
+// Whether the fields are printed as this text in decimal.
 fn is_decimal<T: Primitive>(numer: T, denom: T, want: &str) -> bool {
     prints(numer, denom, Form::Decimal, false, want)
 }

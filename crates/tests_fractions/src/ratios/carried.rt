@@ -1,17 +1,15 @@
-//! The values of the Rust crate's own tests, under the names that they have there: construction, access
-//! and comparison.
+//! The values of the Rust crate's own tests, with the names that they have there: construction, access and comparison.
 use crate::asserting::each_holds;
 use crate::ratios::forms::{self, fraction, has, raw};
 use crate::ratios::rows::reduced;
 use crate::ratios::texts::shown_as;
-use crate::recorder::Written;
+use crate::written::Written;
 use num_rational::{Constants, Form, Ratio, Rational32, Rational64};
 use ratio_integer::Integer;
 use std::cmp::Ordering;
 use std::fmt::InlineText;
-use std::hash::Hash;
 
-// The lowest terms by `new`, where `checked_new` answers.
+// The lowest terms by `new`, if `checked_new` returns them.
 fn new<T: Integer>(n: T, d: T) -> Ratio<T> {
     match Ratio::checked_new(n, d) {
         Some(_) => Ratio::new(n, d),
@@ -19,7 +17,7 @@ fn new<T: Integer>(n: T, d: T) -> Ratio<T> {
     }
 }
 
-// 0, 1, 2, 1/2, 3/2 and -1/2, each made by a call of its own, and their fields.
+// 0, 1, 2, 1/2, 3/2 and -1/2, each made by another call, and their fields.
 fn six() -> [(Rational64, i64, i64); 6] {
     [
         (Rational64::zero(), 0, 1),
@@ -52,7 +50,7 @@ fn test_is_integer(rt: HostRuntime) {
     }
 }
 
-// Whether the fraction equals each of these.
+// Whether the fraction equals all of these.
 fn equals(x: Rational64, others: &[Rational64]) -> bool {
     for other in others {
         if x != *other {
@@ -86,17 +84,17 @@ fn test_new_reduce(rt: HostRuntime) {
     each_holds(&rt, &facts);
 }
 
-// Whether the second is above the first, by the operators that tell two fractions apart.
+// Whether the second is above the first, by `!=`, `<` and `>`.
 fn is_below(low: Rational64, high: Rational64) -> bool {
     low != high && high != low && low < high && !(high < low) && high > low && !(low > high)
 }
 
-// The same by the operators that hold of equal fractions too.
+// The same by `<=` and `>=`.
 fn is_at_most(low: Rational64, high: Rational64) -> bool {
     low <= high && !(high <= low) && high >= low && !(low >= high)
 }
 
-// Whether the fraction is itself by each of those.
+// Whether `==`, `<=` and `>=` are true of the fraction and itself.
 fn is_itself(x: Rational64) -> bool {
     x == x && x <= x && x >= x
 }
@@ -117,8 +115,8 @@ fn test_cmp(rt: HostRuntime) {
     each_holds(&rt, &facts);
 }
 
-// The pair that a fraction with these fields gives.
-fn pair_of(numer: i64, denom: i64) -> (i64, i64) {
+// The pair that a fraction with these fields becomes.
+fn fields_of(numer: i64, denom: i64) -> (i64, i64) {
     match raw(numer, denom) {
         Some(x) => x.into(),
         None => (numer, denom),
@@ -128,14 +126,14 @@ fn pair_of(numer: i64, denom: i64) -> (i64, i64) {
 #[test]
 fn test_into_pair(rt: HostRuntime) {
     let facts = [
-        pair_of(0, 1) == (0, 1),
-        pair_of(-2, 1) == (-2, 1),
-        pair_of(1, -2) == (1, -2),
+        fields_of(0, 1) == (0, 1),
+        fields_of(-2, 1) == (-2, 1),
+        fields_of(1, -2) == (1, -2),
     ];
     each_holds(&rt, &facts);
 }
 
-// The fraction of a pair, where `checked_new` answers.
+// The fraction of a pair, if `checked_new` returns it.
 fn from_pair(pair: (i64, i64)) -> Rational64 {
     match Ratio::checked_new(pair.0, pair.1) {
         Some(_) => Ratio::from_pair(pair),
@@ -179,13 +177,9 @@ fn test_num_one(rt: HostRuntime) {
     assert!(rt; x.is_one());
 }
 
-// Whether a hasher receives the same of both.
+// Whether both feed a hasher the same.
 fn write_alike(x: &Rational64, y: &Rational64) -> bool {
-    let mut first = Written::new();
-    x.hash(&mut first);
-    let mut second = Written::new();
-    y.hash(&mut second);
-    first.as_slice() == second.as_slice()
+    Written::of(x).as_slice() == Written::of(y).as_slice()
 }
 
 #[test]
@@ -215,7 +209,7 @@ fn test_const(rt: HostRuntime) {
     each_holds(&rt, &facts);
 }
 
-// Whether the base, and 1 over it, are printed so in the form of that base.
+// Whether the base, and 1 over it, are printed as these texts in the form of that base.
 fn shows_base(base: i64, form: Form, padded: &str, prefixed: &str) -> bool {
     let whole = shown_as(base, 1, form);
     let part = shown_as(1, base, form);
@@ -246,7 +240,7 @@ fn test_show(rt: HostRuntime) {
     assert!(rt; row.as_str() == "f 0");
 }
 
-// Whether the fraction is printed so, and the text reads as the fraction.
+// Whether the fraction is printed as this text, and the text is read as the fraction.
 fn is_text_of(text: &str, fraction: Rational64) -> bool {
     let is_printed = fraction.text(Form::Decimal, false).as_str() == text;
     let is_read = match Rational64::from_str(text) {

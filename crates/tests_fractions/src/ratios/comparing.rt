@@ -1,13 +1,14 @@
 //! Rows of the order and of the hash of fractions, from outside.
 use crate::asserting::each_holds;
 use crate::ratios::forms::raw;
-use crate::recorder::{Codes, Written};
+use crate::recorder::Codes;
+use crate::written::Written;
 use num_rational::{Ratio, Steps};
 use ratio_integer::{Integer, SignedInteger};
 use std::cmp::Ordering;
 use std::hash::Hash;
 
-// Whether each call that compares says that x stands so to y.
+// Whether each call that compares returns this order of x and y.
 fn stand<T: Integer>(x: Ratio<T>, y: Ratio<T>, order: Ordering) -> bool {
     let orders = [
         x.cmp(&y) == order,
@@ -70,16 +71,14 @@ fn order_at_the_ends(rt: HostRuntime) {
     each_holds(&rt, &facts);
 }
 
-// Whether an empty list and a hasher receive these codes of x, and no other.
+// Whether an empty list and a hasher get exactly these codes of x.
 fn has_codes<T: Integer>(x: &Ratio<T>, mut list: Codes<T>, expected: &[T]) -> bool {
     x.hash_counted(&mut list, &mut Steps::new());
-    let mut hashed = Written::new();
-    x.hash(&mut hashed);
     let mut written = Written::new();
     for code in expected {
         code.hash(&mut written);
     }
-    list.as_slice() == expected && hashed.as_slice() == written.as_slice()
+    list.as_slice() == expected && Written::of(x).as_slice() == written.as_slice()
 }
 
 fn codes_of_8_bits(numer: i8, denom: i8, expected: &[i8]) -> bool {

@@ -15,7 +15,7 @@ fn are_positive<T: Integer>(items: &[Ratio<T>]) -> bool
     items.iter().all(|x| *x.denom() > T::ZERO)
 }
 
-// The fields of the sum, where both checked calls answer it and every other call gives the same.
+// The fields of the sum, if both checked calls return it and every other call gives the same.
 fn sum<T: Integer>(items: &[Ratio<T>]) -> Option<(T, T)>
     requires { ArePositive numbers items.now }
 {
@@ -85,7 +85,7 @@ fn multiplied<T: Integer>(items: &[Ratio<T>]) -> Option<(T, T)> {
     Some(total)
 }
 
-// Whether the sum is this by every call, or by none.
+// Whether every call gives this sum, or none gives any.
 fn is_sum<T: Integer>(items: &[Ratio<T>], want: Option<(T, T)>) -> bool {
     are_positive(items) && sum(items) == want && added(items) == want
 }

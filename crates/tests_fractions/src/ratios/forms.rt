@@ -1,5 +1,5 @@
-//! Every form of an operator: the checked call, the named call, the symbol and its assigning form. The
-//! right operand is of any form that an operator takes.
+//! Every form of an operator: the checked call, the named call, the symbol and its assigning form. The right operand may be a
+//! fraction or a whole number, a value or a reference.
 ghost use Rattle.std.specs.Prelude.{◌<ℤ◌, pos, IfSome};
 ghost use Rattle.num_rational.specs.Operators.{CanAdd, CanDivide, CanMultiply, CanSubtract, CanTakeRemainder, numbers};
 ghost use Rattle.num_rational.specs.Ratio.{denominator};
@@ -7,7 +7,7 @@ ghost use Rattle.num_rational.specs.Ratio.{denominator};
 use num_rational::{Operand, Ratio};
 use ratio_integer::Integer;
 
-/// The fraction of a row, or 0 where its denominator is not positive.
+/// The fraction with these fields, or 0 if its denominator is not positive.
 pub fn fraction<T: Integer>(fields: (T, T)) -> Ratio<T>
     ensures { pos 0 <ℤ denominator result }
 {
@@ -18,7 +18,7 @@ pub fn fraction<T: Integer>(fields: (T, T)) -> Ratio<T>
     }
 }
 
-/// The fraction with these fields, where its denominator is positive.
+/// The fraction with these fields, if its denominator is positive.
 pub fn positive<T: Integer>(numer: T, denom: T) -> Option<Ratio<T>>
     ensures { IfSome result (λ x. pos 0 <ℤ denominator x) }
 {
@@ -29,7 +29,7 @@ pub fn positive<T: Integer>(numer: T, denom: T) -> Option<Ratio<T>>
     }
 }
 
-/// The fraction with these fields, where its denominator is not 0.
+/// The fraction with these fields, if its denominator is not 0.
 pub(crate) fn raw<T: Integer>(numer: T, denom: T) -> Option<Ratio<T>> {
     if denom.is_zero() {
         None
@@ -43,7 +43,7 @@ pub(crate) fn has<T: Integer>(x: Ratio<T>, fields: (T, T)) -> bool {
     x.into_raw() == fields
 }
 
-/// Whether the answer has these fields, or there is none.
+/// Whether the result has these fields, or both are `None`.
 pub(crate) fn answers<T: Integer>(answer: Option<Ratio<T>>, want: Option<(T, T)>) -> bool {
     match answer {
         Some(x) => want == Some(x.into_raw()),
@@ -51,10 +51,10 @@ pub(crate) fn answers<T: Integer>(answer: Option<Ratio<T>>, want: Option<(T, T)>
     }
 }
 
-/// The fields of the sum, where the checked call answers it and every other form gives the same.
+/// The fields of the sum, if the checked call returns it and every other form gives the same.
 pub(crate) fn sum<T: Integer, O: Operand<T> + Copy>(x: Ratio<T>, o: O) -> Option<(T, T)>
     requires left { pos 0 <ℤ denominator x }
-    requires right { pos 0 <ℤ (O.pair o).1 }
+    requires right { pos 0 <ℤ (O.two_numbers o).1 }
 {
     let y = o.ratio();
     let fields = x.checked_add(&y)?.into_raw();
@@ -72,7 +72,7 @@ fn every_sum<T: Integer, O: Operand<T> + Copy>(
     fields: (T, T),
 ) -> bool
     requires named { CanAdd T.EXACT_SUMS T.lo T.hi (numbers x) (numbers y) }
-    requires operand { CanAdd T.EXACT_SUMS T.lo T.hi (numbers x) (O.pair o) }
+    requires operand { CanAdd T.EXACT_SUMS T.lo T.hi (numbers x) (O.two_numbers o) }
 {
     let mut assigned = x;
     assigned += o;
@@ -85,7 +85,7 @@ fn every_sum<T: Integer, O: Operand<T> + Copy>(
 /// The same of the difference.
 pub(crate) fn difference<T: Integer, O: Operand<T> + Copy>(x: Ratio<T>, o: O) -> Option<(T, T)>
     requires left { pos 0 <ℤ denominator x }
-    requires right { pos 0 <ℤ (O.pair o).1 }
+    requires right { pos 0 <ℤ (O.two_numbers o).1 }
 {
     let y = o.ratio();
     let fields = x.checked_sub(&y)?.into_raw();
@@ -103,7 +103,7 @@ fn every_difference<T: Integer, O: Operand<T> + Copy>(
     fields: (T, T),
 ) -> bool
     requires named { CanSubtract T.EXACT_SUMS T.lo T.hi (numbers x) (numbers y) }
-    requires operand { CanSubtract T.EXACT_SUMS T.lo T.hi (numbers x) (O.pair o) }
+    requires operand { CanSubtract T.EXACT_SUMS T.lo T.hi (numbers x) (O.two_numbers o) }
 {
     let mut assigned = x;
     assigned -= o;
@@ -116,7 +116,7 @@ fn every_difference<T: Integer, O: Operand<T> + Copy>(
 /// The same of the product.
 pub(crate) fn product<T: Integer, O: Operand<T> + Copy>(x: Ratio<T>, o: O) -> Option<(T, T)>
     requires left { pos 0 <ℤ denominator x }
-    requires right { pos 0 <ℤ (O.pair o).1 }
+    requires right { pos 0 <ℤ (O.two_numbers o).1 }
 {
     let y = o.ratio();
     let fields = x.checked_mul(&y)?.into_raw();
@@ -134,7 +134,7 @@ fn every_product<T: Integer, O: Operand<T> + Copy>(
     fields: (T, T),
 ) -> bool
     requires named { CanMultiply T.lo T.hi (numbers x) (numbers y) }
-    requires operand { CanMultiply T.lo T.hi (numbers x) (O.pair o) }
+    requires operand { CanMultiply T.lo T.hi (numbers x) (O.two_numbers o) }
 {
     let mut assigned = x;
     assigned *= o;
@@ -147,7 +147,7 @@ fn every_product<T: Integer, O: Operand<T> + Copy>(
 /// The same of the quotient.
 pub(crate) fn quotient<T: Integer, O: Operand<T> + Copy>(x: Ratio<T>, o: O) -> Option<(T, T)>
     requires left { pos 0 <ℤ denominator x }
-    requires right { pos 0 <ℤ (O.pair o).1 }
+    requires right { pos 0 <ℤ (O.two_numbers o).1 }
 {
     let y = o.ratio();
     let fields = x.checked_div(&y)?.into_raw();
@@ -165,7 +165,7 @@ fn every_quotient<T: Integer, O: Operand<T> + Copy>(
     fields: (T, T),
 ) -> bool
     requires named { CanDivide T.lo T.hi (numbers x) (numbers y) }
-    requires operand { CanDivide T.lo T.hi (numbers x) (O.pair o) }
+    requires operand { CanDivide T.lo T.hi (numbers x) (O.two_numbers o) }
 {
     let mut assigned = x;
     assigned /= o;
@@ -178,7 +178,7 @@ fn every_quotient<T: Integer, O: Operand<T> + Copy>(
 /// The same of the remainder.
 pub(crate) fn remainder<T: Integer, O: Operand<T> + Copy>(x: Ratio<T>, o: O) -> Option<(T, T)>
     requires left { pos 0 <ℤ denominator x }
-    requires right { pos 0 <ℤ (O.pair o).1 }
+    requires right { pos 0 <ℤ (O.two_numbers o).1 }
 {
     let y = o.ratio();
     let fields = x.checked_rem(&y)?.into_raw();
@@ -196,7 +196,7 @@ fn every_remainder<T: Integer, O: Operand<T> + Copy>(
     fields: (T, T),
 ) -> bool
     requires named { CanTakeRemainder T.lo T.hi (numbers x) (numbers y) }
-    requires operand { CanTakeRemainder T.lo T.hi (numbers x) (O.pair o) }
+    requires operand { CanTakeRemainder T.lo T.hi (numbers x) (O.two_numbers o) }
 {
     let mut assigned = x;
     assigned %= o;

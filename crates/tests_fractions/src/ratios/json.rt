@@ -6,7 +6,7 @@ use std::alloc::Global;
 use std::fmt::InlineText;
 use std::test::Fail;
 
-// Whether the JSON text is answered by these fields, or by the refusal of this number.
+// Whether the JSON text gives these fields, or the refusal with this number.
 fn reads<T: JsonInteger>(
     text: &str,
     alloc: Global,

@@ -12,7 +12,8 @@ fn raw(rt: &impl Abort, numer: i64, denom: i64) -> Rational64 {
 
 #[test]
 fn keys_are_found_by_equal_keys(rt: HostRuntime) -> Result<(), Fail> {
-    // The fields of a key, and those of an equal one. Only the least number over -1 has no other fields.
+    // The fields of a key, and those of an equal one. Only the least number over -1 has no other
+    // fields.
     let rows = [
         (1, 2, -3, -6),
         (4, -6, -2, 3),

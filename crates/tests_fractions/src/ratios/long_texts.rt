@@ -1,8 +1,8 @@
-//! Rows of texts of 20 digits and more, from outside. They are read and printed in groups of digits.
+//! Rows of texts of 20 digits or more, from outside. They are read and printed in groups of digits.
 use crate::asserting::all_hold;
 use num_rational::{Form, Ratio};
 
-// Whether the text reads as these fields, and these fields are printed so.
+// Whether the text is read as these fields, and these fields are printed as the text.
 fn is_text_of(text: &str, numer: i128, denom: i128) -> bool {
     if denom == 0
         || Ratio::new_raw(numer, denom)
@@ -18,7 +18,7 @@ fn is_text_of(text: &str, numer: i128, denom: i128) -> bool {
     }
 }
 
-// The first row that is read or printed in another way.
+// The first row that is read or printed otherwise.
 fn first_wrong(rows: &[(&str, i128, i128)]) -> Option<usize> {
     for (i, &(text, numer, denom)) in rows.iter().enumerate() {
         if !is_text_of(text, numer, denom) {
@@ -136,7 +136,7 @@ fn fractions(rt: HostRuntime) {
     all_hold(&rt, "fractions", first_wrong(&rows));
 }
 
-// The first row that is read in another way.
+// The first row that is read otherwise.
 fn first_misread(rows: &[(&str, u32, i128, i128)]) -> Option<usize> {
     for (i, &(text, radix, numer, denom)) in rows.iter().enumerate() {
         if radix < 2 || radix > 36 {

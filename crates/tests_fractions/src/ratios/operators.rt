@@ -1,5 +1,5 @@
-//! Rows of the five operators, by every form of each: the values of the Rust crate's own tests, under
-//! the names that they have there, and where a range ends.
+//! Rows of the five operators, by every form of each. They are the values of the Rust crate's own tests, with the names that
+//! they have there, and rows at the ends of a range.
 ghost use Rattle.std.specs.Prelude.{◌<ℤ◌, pos};
 ghost use Rattle.num_rational.specs.Ratio.{denominator};
 
@@ -11,7 +11,7 @@ use std::process::Abort;
 
 fn answer<T: Integer, O: Operand<T> + Copy>(x: Ratio<T>, symbol: u8, o: O) -> Option<(T, T)>
     requires left { pos 0 <ℤ denominator x }
-    requires right { pos 0 <ℤ (O.pair o).1 }
+    requires right { pos 0 <ℤ (O.two_numbers o).1 }
 {
     match symbol {
         b'+' => forms::sum(x, o),
@@ -22,7 +22,7 @@ fn answer<T: Integer, O: Operand<T> + Copy>(x: Ratio<T>, symbol: u8, o: O) -> Op
     }
 }
 
-// The same of a fraction in lowest terms.
+// The same for a fraction in lowest terms.
 fn lowest_answer<T: Integer, O: ReducedOperand<T>>(
     x: Reduced<T>,
     symbol: u8,
@@ -37,7 +37,7 @@ fn lowest_answer<T: Integer, O: ReducedOperand<T>>(
     }
 }
 
-// Whether the answer has these fields, or there is none.
+// Whether the result has these fields, or both are `None`.
 fn is_lowest<T: Integer>(answer: Option<Reduced<T>>, want: Option<(T, T)>) -> bool {
     match answer {
         Some(y) => Some(y.into_raw()) == want,
@@ -45,7 +45,7 @@ fn is_lowest<T: Integer>(answer: Option<Reduced<T>>, want: Option<(T, T)>) -> bo
     }
 }
 
-// Whether it is so from the lowest terms of the left side.
+// Whether the lowest terms of the left side give this result.
 fn lowest_holds<T: Integer, O: ReducedOperand<T> + Copy>(
     left: (T, T),
     symbol: u8,
@@ -58,7 +58,7 @@ fn lowest_holds<T: Integer, O: ReducedOperand<T> + Copy>(
     }
 }
 
-// And from those of the right side.
+// Whether the lowest terms of both sides do.
 fn both_lowest_hold<T: Integer>(
     left: (T, T),
     symbol: u8,
@@ -71,7 +71,7 @@ fn both_lowest_hold<T: Integer>(
     }
 }
 
-// Whether it is so by every form: the right operand stands by value and behind a reference.
+// Whether every form gives this result. The right operand is a value or a reference.
 fn holds<T: Integer>(left: (T, T), symbol: u8, right: (T, T), want: Option<(T, T)>) -> bool {
     let (x, y) = (fraction(left), fraction(right));
     answer(x, symbol, y) == want
@@ -79,7 +79,13 @@ fn holds<T: Integer>(left: (T, T), symbol: u8, right: (T, T), want: Option<(T, T
         && both_lowest_hold(left, symbol, right, want)
 }
 
-// The same of a whole number on the right.
+// Whether `Ratio` refuses the sum of these fields, and `Reduced` returns it.
+fn is_sum_of_lowest_terms<T: Integer>(left: (T, T), right: (T, T), want: (T, T)) -> bool {
+    let (x, y) = (fraction(left), fraction(right));
+    answer(x, b'+', y).is_none() && both_lowest_hold(left, b'+', right, Some(want))
+}
+
+// Whether every form gives this result with a whole number on the right.
 fn holds_with<T: Integer>(left: (T, T), symbol: u8, c: T, want: Option<(T, T)>) -> bool {
     let x = fraction(left);
     answer(x, symbol, c) == want
@@ -88,7 +94,7 @@ fn holds_with<T: Integer>(left: (T, T), symbol: u8, c: T, want: Option<(T, T)>) 
         && lowest_holds(left, symbol, &c, want)
 }
 
-// A row: a, b, a symbol, c, d, and the wanted answer for a/b and c/d.
+// A row: a, b, a symbol, c, d, and the expected result for a/b and c/d.
 type Row<T> = (T, T, u8, T, T, Option<(T, T)>);
 
 // The first row that does not hold.
@@ -179,12 +185,12 @@ fn most<T: Primitive>() -> u128 {
     T::MAX.to_u128().unwrap_or(0)
 }
 
-// The number as one of a type that holds it.
+// The number as one of a type that it fits.
 fn number<T: Primitive>(n: u128) -> T {
     T::from_u128(n).unwrap_or(T::ZERO)
 }
 
-// 1 over about half of M, and what it is times 2/3.
+// 1 over about half of M, and two thirds of that.
 fn halves<T: Primitive>() -> ((T, T), (T, T)) {
     let half = most::<T>() / 4;
     ((T::ONE, number(half * 2)), (T::ONE, number(half * 3)))
@@ -208,8 +214,8 @@ fn multiples_hold<T: Primitive>(symbol: u8) -> bool {
     }
 }
 
-// Whether the rows of an operator near the greatest number M hold, where naive products of the fields
-// are not held.
+// Whether the rows of an operator near the greatest number M hold. There, plain products of the
+// fields do not fit.
 fn near_the_greatest<T: Primitive>(symbol: u8) -> bool {
     let x = (T::ONE, T::MAX);
     match symbol {
@@ -365,20 +371,14 @@ fn where_8_bits_end(rt: HostRuntime) {
             (-127, 2, b'%', 1, 1, Some((-1, 2))),
         ],
     );
-    rows_hold(
-        &rt,
-        &[
-            (255u8, 2, b'+', 255, 2, None),
-            (1, 2, b'-', 1, 1, None),
-            (1, 1, b'%', 0, 3, None),
-        ],
-    );
+    rows_hold(&rt, &[(1u8, 2, b'-', 1, 1, None), (1, 1, b'%', 0, 3, None)]);
+    assert!(rt; is_sum_of_lowest_terms((255u8, 2), (255, 2), (255, 1)));
 }
 
 #[test]
 fn where_32_bits_end(rt: HostRuntime) {
     let half = (4294967295u32, 2);
-    assert!(rt; holds(half, b'+', half, None));
+    assert!(rt; is_sum_of_lowest_terms(half, half, (4294967295, 1)));
     let (most, b, d) = (2147483647i32, 11862016, 11993088);
     rows_hold(
         &rt,

@@ -1,4 +1,4 @@
-//! Rows of the rounding calls and of the numbers as machine integers, from outside.
+//! Rows of the rounding calls and of fractions as machine integers, from outside.
 use crate::asserting::{all_hold, each_holds};
 use crate::ratios::forms::positive;
 use num_rational::{Ratio, Reduced};
@@ -20,7 +20,7 @@ fn near<T: Integer>(n: T, d: T) -> Option<(T, T, T, T)> {
     ))
 }
 
-// The same four of the fraction that is always in lowest terms.
+// The same four of a `Reduced`.
 fn near_lowest<T: Integer>(n: T, d: T) -> Option<(T, T, T, T)> {
     let x = Reduced::checked_new(n, d)?;
     Some((
@@ -31,7 +31,7 @@ fn near_lowest<T: Integer>(n: T, d: T) -> Option<(T, T, T, T)> {
     ))
 }
 
-// The first row that is rounded in another way.
+// The first row that is rounded otherwise.
 fn first_wrong<T: Integer>(rows: &[Row<T>]) -> Option<usize> {
     for (i, &(n, d, want)) in rows.iter().enumerate() {
         if near(n, d) != Some(want) || near_lowest(n, d) != Some(want) {
@@ -95,7 +95,7 @@ fn rounding_at_the_ends(rt: HostRuntime) {
     );
 }
 
-// The fields of what truncation leaves of n/d as it stands, and the whole number.
+// The fields of the fractional part of n/d, not reduced, and the whole part.
 fn parts<T: Integer>(n: T, d: T) -> Option<((T, T), T)> {
     let x = positive(n, d)?;
     Some((x.fract().into_raw(), x.to_integer()))

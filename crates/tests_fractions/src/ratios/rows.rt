@@ -4,7 +4,7 @@ use num_rational::Ratio;
 use ratio_integer::Integer;
 use std::fmt::InlineText;
 
-// The lowest terms by `new`, where `checked_new` answers.
+// The lowest terms by `new`, if `checked_new` returns them.
 fn made<T: Integer>(n: T, d: T) -> Option<(T, T)> {
     match Ratio::checked_new(n, d) {
         Some(_) => Some(Ratio::new(n, d).into_raw()),
@@ -12,7 +12,7 @@ fn made<T: Integer>(n: T, d: T) -> Option<(T, T)> {
     }
 }
 
-// The lowest terms by `from_pair`, where `checked_new` answers.
+// The lowest terms by `from_pair`, if `checked_new` returns them.
 fn paired<T: Integer>(pair: (T, T)) -> Option<(T, T)> {
     match Ratio::checked_new(pair.0, pair.1) {
         Some(_) => Some(Ratio::from_pair(pair).into_raw()),
@@ -20,7 +20,7 @@ fn paired<T: Integer>(pair: (T, T)) -> Option<(T, T)> {
     }
 }
 
-/// The lowest terms by `reduced`, where `checked_new` of the fields answers.
+/// The lowest terms by `reduced`, if `checked_new` of the fields returns them.
 pub(crate) fn reduced<T: Integer>(n: T, d: T) -> Option<(T, T)> {
     match Ratio::checked_new(n, d) {
         Some(_) => Some(Ratio::new_raw(n, d).reduced().into_raw()),
@@ -28,7 +28,7 @@ pub(crate) fn reduced<T: Integer>(n: T, d: T) -> Option<(T, T)> {
     }
 }
 
-// Whether each call that reduces answers so.
+// Whether each call that reduces returns these lowest terms.
 fn reduces<T: Integer>(n: T, d: T, want: Option<(T, T)>) -> bool {
     made(n, d) == want && paired((n, d)) == want && reduced(n, d) == want
 }
@@ -95,7 +95,7 @@ fn read(text: &str) -> Result<(i8, i8), u8> {
     }
 }
 
-// The first text that is read in another way.
+// The first text that is read otherwise.
 fn first_misread(rows: &[(&str, Result<(i8, i8), u8>)]) -> Option<usize> {
     for (i, &(text, want)) in rows.iter().enumerate() {
         if read(text) != want {
@@ -143,7 +143,7 @@ fn fields_alone_are_tested(rt: HostRuntime) {
     each_holds(&rt, &facts);
 }
 
-// Whether the text is refused, and the refusal printed so.
+// Whether the text is refused, and the refusal is printed as `want`.
 fn refusal_reads(text: &str, want: &str) -> bool {
     match Ratio::<i8>::from_str(text) {
         Ok(_) => false,

@@ -1,13 +1,13 @@
 //! Rows of texts, read and printed, from outside.
 use crate::asserting::{all_hold, each_holds, reads as reads_as};
 use crate::ratios::forms::raw;
-use num_rational::{DecimalText, Form, Ratio, RatioText};
+use num_rational::{BaseTenText, Form, Ratio, RatioText};
 use ratio_integer::Primitive;
 use std::fmt;
 use std::fmt::{Binary, Display, Formatter, InlineText, LowerHex, Octal, UpperHex, Write};
 use std::process::Abort;
 
-// Whether the text in the radix is answered by these fields, or by the refusal of this number.
+// Whether the text in the radix gives these fields, or the refusal with this number.
 fn reads<T: Primitive>(text: &str, radix: u32, want: Result<(T, T), u8>) -> bool {
     if radix < 2 || radix > 36 {
         return false;
@@ -34,7 +34,7 @@ fn texts_in_a_radix(rt: HostRuntime) {
     each_holds(&rt, &facts);
 }
 
-/// A fraction that is printed in a form, under the options of the hole that it stands in.
+/// A fraction that is printed in a form, under the options of its pair of braces.
 #[derive(Drop)]
 pub(crate) struct Shown<X: Copy + Display + Binary + Octal + LowerHex + UpperHex> {
     pub fraction: X,
@@ -53,7 +53,7 @@ impl<X: Copy + Display + Binary + Octal + LowerHex + UpperHex> Display for Shown
     }
 }
 
-/// `numer/denom` in this form, and 0/1 where the denominator is 0.
+/// `numer/denom` in this form, and 0/1 if the denominator is 0.
 pub(crate) fn shown_as<T: Primitive>(numer: T, denom: T, form: Form) -> Shown<Ratio<T>> {
     let fraction = raw(numer, denom).unwrap_or(Ratio::zero());
     Shown { fraction, form }
@@ -62,8 +62,8 @@ pub(crate) fn shown_as<T: Primitive>(numer: T, denom: T, form: Form) -> Shown<Ra
 // A row of printed fractions.
 type Line = InlineText<120>;
 
-/// The first form in which -7/12 over `i8` is printed otherwise: plain, with a sign, with a prefix, in a width, and with
-/// zeros.
+/// The first form in which -7/12 over `i8` is printed otherwise: plain, with a sign, with a prefix,
+/// in a width, or with zeros.
 pub(crate) fn first_misprinted<X>(fraction: X) -> Option<usize>
 where
     X: Copy + Drop + Display + Binary + Octal + LowerHex + UpperHex,
@@ -157,11 +157,11 @@ fn widths(rt: HostRuntime) {
 #[test]
 fn texts_in_place(rt: HostRuntime) {
     let half = Ratio::new_raw(-2i64, 4);
-    reads_as(&rt, half.decimal_text().as_str(), "-2/4");
-    let mut decimal = DecimalText::empty();
-    half.put_decimal_text(&mut decimal);
+    reads_as(&rt, half.base_ten_text().as_str(), "-2/4");
+    let mut decimal = BaseTenText::empty();
+    half.put_base_ten_text(&mut decimal);
     reads_as(&rt, decimal.as_str(), "-2/4");
-    Ratio::from_integer(7i64).put_decimal_text(&mut decimal);
+    Ratio::from_integer(7i64).put_base_ten_text(&mut decimal);
     reads_as(&rt, decimal.as_str(), "7");
     let mut text = RatioText::empty();
     half.put_text(Form::LowerHex, true, &mut text);

@@ -4,7 +4,7 @@ ghost use Rattle.std.specs.Prelude.{◌≡◌, ◌+◌, ◌≤◌, ℕ, List, []
 use std::hash::{Hash, Hasher};
 use std::marker::Model;
 
-/// The bytes that it was written, up to 96. A write that does not fit is left out.
+/// The bytes written so far, at most 96. It ignores a write that does not fit.
 #[derive(Drop)]
 pub struct Written {
     bytes: [u8; 96],
@@ -20,7 +20,7 @@ impl Model for Written {
 }
 
 impl Written {
-    /// No byte.
+    /// A record without bytes.
     pub fn new() -> Written
         ensures { result ≡ [] }
     {
@@ -30,7 +30,7 @@ impl Written {
         }
     }
 
-    /// What `x` feeds a hasher: for a fraction of a small type, one byte a code.
+    /// What `x` feeds a hasher.
     pub fn of<X: Hash>(x: &X) -> Written {
         let mut written = Written::new();
         x.hash(&mut written);

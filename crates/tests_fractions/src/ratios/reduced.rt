@@ -2,8 +2,8 @@
 use crate::asserting::{all_hold, each_holds, reads};
 use crate::ratios::forms::{has, raw};
 use crate::ratios::texts::{Shown, first_misprinted};
-use num_rational::laws::lowest;
-use num_rational::{Constants, Form, Reduced, Reduced32, Reduced64};
+use num_rational::laws::reduced;
+use num_rational::{BaseTenText, Constants, Form, RatioText, Reduced, Reduced32, Reduced64};
 use ratio_integer::Integer;
 use std::cmp::Ordering;
 use std::collections::{BTreeMap, HashMap};
@@ -11,7 +11,7 @@ use std::fmt::{Debug, InlineText};
 use std::process::Abort;
 use std::test::Fail;
 
-// Whether the answer has these fields, or there is none.
+// Whether the result has these fields, or both are `None`.
 fn gives<T: Integer>(answer: Option<Reduced<T>>, want: Option<(T, T)>) -> bool {
     match answer {
         Some(x) => want == Some(x.to_ratio().into_raw()),
@@ -78,6 +78,18 @@ fn reads_texts(rt: HostRuntime) {
     each_holds(&rt, &facts);
     let half = Reduced64::from_str("2/4").unwrap_or(Reduced::zero());
     reads(&rt, half.text(Form::Decimal, false).as_str(), "1/2");
+}
+
+#[test]
+fn writes_texts_in_place(rt: HostRuntime) {
+    let half = Reduced64::checked_new(-2, 4).unwrap_or(Reduced::zero());
+    reads(&rt, half.base_ten_text().as_str(), "-1/2");
+    let mut decimal = BaseTenText::empty();
+    half.put_base_ten_text(&mut decimal);
+    reads(&rt, decimal.as_str(), "-1/2");
+    let mut text = RatioText::empty();
+    half.put_text(Form::LowerHex, true, &mut text);
+    reads(&rt, text.as_str(), "0xffffffffffffffff/0x2");
 }
 
 // The same in a radix.
@@ -233,10 +245,10 @@ fn has_laws(_rt: HostRuntime) {
     let x = Reduced64::checked_new(-7, 2).unwrap_or(Reduced::zero());
     let y = Reduced64::checked_new(i64::MAX, 3).unwrap_or(Reduced::zero());
     let z = Reduced64::one();
-    lowest::sums(&x, &y, &z);
-    lowest::products(&x, &y, &z);
-    lowest::powers(&x);
-    lowest::parts(&x);
-    lowest::orders(&x, &y);
-    lowest::hashes(&x, &y);
+    reduced::sums(&x, &y, &z);
+    reduced::products(&x, &y, &z);
+    reduced::powers(&x);
+    reduced::parts(&x);
+    reduced::orders(&x, &y);
+    reduced::hashes(&x, &y);
 }

@@ -1,0 +1,32 @@
+//! The laws of `Reduced`, called once over the numbers from -5 to 5 each.
+use num_rational::Reduced;
+use num_rational::laws::{neutral, order, signs, undoing};
+use ratio_integer::Integer;
+use ratio_odd::Sym5;
+
+fn fraction(numer: i128, denom: i128) -> Reduced<Sym5> {
+    match (Sym5::from_i128(numer), Sym5::from_i128(denom)) {
+        (Some(n), Some(d)) => Reduced::checked_new(n, d).unwrap_or(Reduced::zero()),
+        _ => Reduced::zero(),
+    }
+}
+
+#[test]
+fn laws_over_eleven_numbers(_rt: HostRuntime) {
+    let (x, y) = (fraction(-5, 2), fraction(1, 2));
+    undoing::sums(&x, &y);
+    undoing::products(&x, &y);
+    undoing::itself(&x);
+    undoing::negatives(&x, &y);
+    undoing::reciprocals(&x, &y);
+    neutral::zeros(&x);
+    neutral::ones(&x);
+    neutral::powers(&x);
+    signs::negatives(&x);
+    signs::absolutes(&x, &y);
+    signs::parts(&x);
+    signs::products(&x, &y);
+    order::sums(&x, &y, &y);
+    order::products(&y, &fraction(1, 1), &x);
+    order::negatives(&x, &y);
+}

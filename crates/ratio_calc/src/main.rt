@@ -19,7 +19,7 @@ fn main(rt: HostRuntime) -> ExitCode {
     status_of(outcome)
 }
 
-// The program's status: 0 where all lines were answered, 1 at a fault.
+// The program's status: 0 if all lines were answered, 1 at a fault.
 fn status_of(outcome: Result<(), CalcFault>) -> ExitCode
     ensures { MatchResult outcome (λ _. exit_status result ≡ 0) (λ _. exit_status result ≡ 1) }
 {

@@ -1,4 +1,4 @@
--- An input has one list of answers at most, so the relation says exactly what is written.
+-- An input has at most one list of answers. So the relation says exactly what is written.
 use Rattle.std.proofs.Common.{◌≡◌, ℕ, ℤ, pos, List, [], ◌∷◌, ◌++◌, length, Bool, true, false, nat_lt, Option, None, Some, Result, Ok, Err, refl, ap, ◌∙◌, sym, inl, inr}
 use Rattle.std.specs.Bool.{MatchBool}
 use Rattle.std.specs.List.{list_any, slice_split}
@@ -53,7 +53,7 @@ one_of_two false P Q a b p q h k = q h k
 one_text : (text a b : List ℕ) → a ≡ text → b ≡ text → a ≡ b
 one_text text a b h k = h ∙ sym k
 
--- a pair has its lowest terms alone, held or not
+-- a pair has at most one pair of lowest terms in 64 bits
 one_pair : (n d : ℤ) (x y : ℤ × ℤ) → IsHeldLowest least greatest n d x.0 x.1 → IsHeldLowest least greatest n d y.0 y.1 → x ≡ y
 one_pair n d x y h k =
     let low = lowest_unique n d x.0 x.1 y.0 y.1 h.terms k.terms in
@@ -81,7 +81,7 @@ one_division divisor Is a b one h k =
     as (λ t. MatchBool t (a ≡ Left (codes "error: division by zero")) (IsResultOutcome Is a) → MatchBool t (b ≡ Left (codes "error: division by zero")) (IsResultOutcome Is b) → a ≡ b)
     [ true ↦ λ p q. p ∙ sym q | false ↦ λ p q. one_result_outcome Is a b one p q ] h k
 
--- an operator has one outcome at most
+-- an operator has at most one outcome
 one_outcome : (operator : Operator) (x y : ℤ × ℤ) (a b : Outcome) → IsOutcome operator x y a → IsOutcome operator x y b → a ≡ b
 one_outcome Add x y a b = one_result_outcome (IsLowestResult (sum_of x.0 x.1 y.0 y.1)) a b (one_result (sum_of x.0 x.1 y.0 y.1))
 one_outcome Sub x y a b = one_result_outcome (IsLowestResult (difference_of x.0 x.1 y.0 y.1)) a b (one_result (difference_of x.0 x.1 y.0 y.1))
@@ -101,7 +101,7 @@ one_applied (operator ∷ operators) [] x a b h k = h ∙ sym k
 one_applied (operator ∷ operators) (y ∷ ys) x a b h k =
     one_after k.0 (λ z. IsApplied operators z ys) a b (λ z. one_applied operators ys z a b) (rw (one_outcome operator x y h.0 k.0 h.1 k.1) at h.2) k.2
 
--- texts read as one list of fractions at most, or are refused in one way
+-- texts are read as at most one list of fractions, or refused in one way
 one_read : (texts : List (List ℕ)) (p q : Result (List (ℤ × ℤ)) RatioErrorKind) → AreRead texts p → AreRead texts q → p ≡ q
 one_read [] p q h k = h ∙ sym k
 one_read (text ∷ texts) (Ok []) q h k = absurd h
@@ -152,13 +152,13 @@ one_answer line a b =
     (one_of_two (is_utf8 line) (IsPartsAnswer (slice_split is_space (without_return line))) (λ x. x ≡ codes "error: not UTF-8") a b
     (one_parts (slice_split is_space (without_return line)) a b) (one_text (codes "error: not UTF-8") a b))
 
--- some lines have one list of answers at most
+-- some lines have at most one list of answers
 pub one_list : (lines : List (List ℕ)) (xs ys : List ℕ) → AreAnswers lines xs → AreAnswers lines ys → xs ≡ ys
 one_list [] xs ys h k = h ∙ sym k
 one_list (line ∷ lines) xs ys h k =
     h.4 ∙ ap (λ answer. answer ++ 10 ∷ h.1) (one_answer line h.0 k.0 h.2 k.2)
     ∙ ap (λ rest. k.0 ++ 10 ∷ rest) (one_list lines h.1 k.1 h.3 k.3) ∙ sym k.4
 
--- an input has one list of answers at most
+-- an input has at most one list of answers
 pub one_list_of : (input xs ys : List ℕ) → AreAnswersOf input xs → AreAnswersOf input ys → xs ≡ ys
 one_list_of input = one_list (lines_of input)

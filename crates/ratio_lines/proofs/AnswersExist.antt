@@ -1,4 +1,4 @@
--- Each input has a list of answers, so the relation says something of every input; `AnswerLaws` has that it is the only one.
+-- Each input has a list of answers. So the relation says something of every input. `AnswerLaws` proves that there is no other list.
 use Rattle.std.proofs.Common.{◌≡◌, refl, inl, inr, arith, ℕ, ℤ, pos, ◌<ℤ◌, List, [], ◌∷◌, ◌++◌, length, Bool, true, false, nat_lt, Option, None, Some, Result, Ok, Err}
 use Rattle.std.specs.Bool.{MatchBool}
 use Rattle.std.specs.List.{list_any, slice_split}
@@ -24,22 +24,22 @@ use Rattle.ratio_lines.specs.declared.operator.Operator.{Operator}
 use Rattle.ratio_lines.specs.declared.operator.Operator.TheVariants.{Add, Sub, Mul, Div, Rem, Cmp}
 use Rattle.ratio_lines.proofs.Outcomes.{IsPositive, outcome_positive}
 
--- some bytes answer
+-- there are bytes of which `Is` holds
 abbrev Exists : (List ℕ → Type 0) → Type 0
 Exists Is = (answer : List ℕ) × Is answer
 
--- of two answers, that which a test chooses
+-- a test chooses one of two answers
 of_two : (t : Bool) (P Q : List ℕ → Type 0) → Exists P → Exists Q → (answer : List ℕ) × MatchBool t (P answer) (Q answer)
 of_two true P Q p q = p
 of_two false P Q p q = q
 
--- a text is its own answer
+-- a text is an answer that is equal to it
 text_exists : (text : List ℕ) → (answer : List ℕ) × (answer ≡ text)
 text_exists text = (text, refl)
 
 -- ---- numbers
 
--- some outcome is one
+-- there is an outcome of which `Is` holds
 abbrev HasOutcome : (Outcome → Type 0) → Type 0
 HasOutcome Is = (outcome : Outcome) × Is outcome
 
@@ -47,11 +47,11 @@ HasOutcome Is = (outcome : Outcome) × Is outcome
 result_exists : (Is : Option (ℤ × ℤ) → Type 0) → (number : Option (ℤ × ℤ)) × Is number → HasOutcome (IsResultOutcome Is)
 result_exists Is found = (outcome_of_result found.0, record { number = found.0; is_number = found.1; is_outcome = refl })
 
--- each pair has lowest terms in 64 bits, or none
+-- each pair has lowest terms in 64 bits, or no result
 lowest_exists : (pair : ℤ × ℤ) → HasOutcome (IsResultOutcome (IsLowestResult pair))
 lowest_exists pair = result_exists (IsLowestResult pair) (lowest_checked least greatest pair)
 
--- the numbers of 64 bits are those of a type
+-- the numbers of 64 bits are the range of a type
 fields_range : IsRange least greatest
 fields_range = record { high = omega (arith, ints); low = inr (inr refl) }
 
@@ -75,18 +75,18 @@ outcome_exists Div x y left right = division_exists y (IsLowestResult (quotient_
 outcome_exists Rem x y left right = division_exists y (IsRemainderResult x y) (remainder_exists x y left right)
 outcome_exists Cmp x y left right = (Left (order_text (cross_cmp x.0 x.1 y.0 y.1)), refl)
 
--- an outcome answers the line or lets the next operator answer it
+-- an outcome is the answer, or the next operator has one
 outcome_answers : (outcome : Outcome) (Next : ℤ × ℤ → List ℕ → Type 0) → ((z : ℤ × ℤ) → pos 0 <ℤ z.1 → Exists (Next z)) → IsPositive outcome
     → (answer : List ℕ) × MatchEither outcome (λ text. answer ≡ text) (λ z. Next z answer)
 outcome_answers (Left text) Next each positive = (text, refl)
 outcome_answers (Right z) Next each positive = each z positive
 
--- the denominators of these are positive
+-- each denominator is positive
 abbrev ArePositive : List (ℤ × ℤ) → Type 0
 ArePositive [] = Unit {0}
 ArePositive (y ∷ ys) = (pos 0 <ℤ y.1) × ArePositive ys
 
--- operators between fractions with positive denominators are answered
+-- operators between fractions with positive denominators have an answer
 applied_exists : (operators : List Operator) (ys : List (ℤ × ℤ)) (x : ℤ × ℤ) → pos 0 <ℤ x.1 → ArePositive ys → Exists (IsApplied operators x ys)
 applied_exists [] ys x left rights = text_exists (text_of 64 Decimal false x.0 x.1)
 applied_exists (operator ∷ operators) [] x left rights = text_exists (text_of 64 Decimal false x.0 x.1)
@@ -95,11 +95,11 @@ applied_exists (operator ∷ operators) (y ∷ ys) x left rights =
     let next = outcome_answers first.0 (λ z. IsApplied operators z ys) (λ z positive. applied_exists operators ys z positive rights.1) (outcome_positive operator x y first.0 first.1) in
     (next.0, (first.0, first.1, next.1))
 
--- each text is an operand or refused
+-- each text is an operand, or is refused
 pub operand_exists : (text : List ℕ) → (operand : Result (ℤ × ℤ) RatioErrorKind) × IsOperand text operand
 operand_exists text = text_answer_exists least greatest text (omega (arith, ints))
 
--- one operand more is read, where the others are read or refused
+-- one more operand is read or refused, if the others are
 operand_more : (text : List ℕ) (texts : List (List ℕ)) (operand : Result (ℤ × ℤ) RatioErrorKind) (read : Result (List (ℤ × ℤ)) RatioErrorKind) → IsOperand text operand → AreRead texts read
     → (all : Result (List (ℤ × ℤ)) RatioErrorKind) × AreRead (text ∷ texts) all
 operand_more text texts (Err kind) read h k = (Err kind, inl h)
@@ -119,7 +119,7 @@ read_positive [] (y ∷ ys) h = absurd (cc)
 read_positive (text ∷ texts) [] h = absurd h
 read_positive (text ∷ texts) (y ∷ ys) h = (h.0.low.terms.lowest.positive, read_positive texts ys h.1)
 
--- a refusal is answered, and so are fractions
+-- a refusal has an answer, and so have fractions
 operands_exist : (operators : List Operator) (left : List ℕ) (rights : List (List ℕ)) (x : Result (ℤ × ℤ) RatioErrorKind) (ys : Result (List (ℤ × ℤ)) RatioErrorKind) → IsOperand left x
     → AreRead rights ys → Exists (IsOperandsAnswer operators x ys)
 operands_exist operators left rights (Err kind) ys p q = text_exists (codes "error: left: " ++ refusal_text kind)
@@ -135,7 +135,7 @@ texts_exist operators left rights =
 
 -- ---- lines
 
--- what is no operator is answered too
+-- parts that name no operator have an answer too
 chain_exists : (operators : Option (List Operator)) (left : List ℕ) (rights : List (List ℕ)) → Exists (IsChainAnswer operators left rights)
 chain_exists None left rights = text_exists (codes "error: unknown operator")
 chain_exists (Some operators) left rights =

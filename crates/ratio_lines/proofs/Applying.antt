@@ -1,4 +1,4 @@
--- Operators applied one by one, while each operand is read.
+-- Operators apply one by one, while each operand is read.
 use Rattle.std.proofs.Common.{◌≡◌, ℕ, ℤ, pos, ◌<ℤ◌, List, [], ◌∷◌, ◌++◌, Option, None, Some, Result, Ok, Err, refl, ap, ◌∙◌, sym, inl, inr, Bor, false}
 use Rattle.std.specs.Prelude.{codes, ⊤, option_and_then, option_map, unwrap_or}
 use Rattle.either.specs.Either.{MatchEither}
@@ -18,9 +18,9 @@ use Rattle.ratio_lines.specs.declared.operator.Operator.{Operator}
 use Rattle.ratio_lines.proofs.AnswersExist.{rights_exist}
 use Rattle.ratio_lines.proofs.Outcomes.{IsPositive, outcome_positive}
 
--- ---- what is left of a line
+-- ---- the rest of a line
 
--- the answer from an outcome on: a refusal of an operand that is still to be read, else what the operators that are left give
+-- the answer from an outcome on: the refusal of an operand that is still to be read, else what the remaining operators give
 abbrev pub AnswersFrom : Outcome → List Operator → Result (List (ℤ × ℤ)) RatioErrorKind → List ℕ → Type 0
 AnswersFrom outcome operators (Err kind) answer = answer ≡ codes "error: right: " ++ refusal_text kind
 AnswersFrom outcome operators (Ok ys) answer = MatchEither outcome (λ text. answer ≡ text) (λ z. IsApplied operators z ys answer)
@@ -30,7 +30,7 @@ pub record FromHere (outcome : Outcome) (operators : List Operator) (rights : Li
   pub are_read : AreRead rights read
   pub answers : AnswersFrom outcome operators read answer
 
--- what operands read as with one more before them
+-- what operands read as, with one more before them
 abbrev with_one : ℤ × ℤ → Result (List (ℤ × ℤ)) RatioErrorKind → Result (List (ℤ × ℤ)) RatioErrorKind
 with_one y (Ok ys) = Ok (y ∷ ys)
 with_one y (Err kind) = Err kind
@@ -40,14 +40,14 @@ read_with : (y : ℤ × ℤ) (right : List ℕ) (rights : List (List ℕ)) (read
 read_with y right rights (Ok ys) h k = (h, k)
 read_with y right rights (Err kind) h k = inr (y, h, k)
 
--- an operator between fractions, and then what is left
+-- an operator between fractions, and then the rest
 operands_from : (operator : Operator) (operators : List Operator) (x y : ℤ × ℤ) (outcome : Outcome) (read : Result (List (ℤ × ℤ)) RatioErrorKind) (answer : List ℕ)
     → IsOutcome operator x y outcome → AnswersFrom outcome operators read answer → IsOperandsAnswer (operator ∷ operators) (Ok x) (with_one y read) answer
 operands_from operator operators x y outcome (Ok ys) answer h k = (outcome, h, k)
 operands_from operator operators x y outcome (Err kind) answer h k = k
 
--- the operators that are left are known, what was applied gives a number with a positive denominator or answers the line, and what
--- answers from here on answers the whole
+-- The remaining operators are known. What was applied gives a text, or a number with a positive denominator. An
+-- answer from here on is an answer to the whole.
 pub record AppliedSoFar (outcome : Outcome) (rest : List (List ℕ)) (operators : List Operator) (left : List ℕ) (rights : List (List ℕ)) : Type 0 where
   pub others : List Operator
   pub named : operators_of (operator_parts rest) ≡ Some others
@@ -70,7 +70,7 @@ applied_first operator others left right rest x y outcome named p q is = record 
   });
 }
 
--- what an operator gives after others
+-- the outcome of an operator after others
 abbrev pub GoesOn : Outcome → Operator → ℤ × ℤ → Outcome → Type 0
 GoesOn outcome operator y next = MatchEither outcome (λ text. next ≡ Left text) (λ x. IsOutcome operator x y next)
 
@@ -108,7 +108,7 @@ applied_next outcome next rest more operators left rights part right operator y 
       }));
     }
 
--- a first operand that is refused answers the line
+-- if the first operand is refused, its refusal is the answer
 pub left_refused : (operators : List Operator) (left : List ℕ) (rights : List (List ℕ)) (answer : List ℕ) (kind said : RatioErrorKind) → IsOperand left (Err kind) → said ≡ kind
     → answer ≡ codes "error: left: " ++ refusal_text said → IsTextsAnswer operators left rights answer
 left_refused operators left rights answer kind said refused same is =
@@ -121,7 +121,7 @@ left_refused operators left rights answer kind said refused same is =
       is_answer = is ∙ ap (λ k. codes "error: left: " ++ refusal_text k) same;
     }
 
--- and so does the second one
+-- the same for the second operand
 pub second_refused : (operators : List Operator) (left right : List ℕ) (rights : List (List ℕ)) (answer : List ℕ) (x : ℤ × ℤ) (kind said : RatioErrorKind) → IsOperand left (Ok x)
     → IsOperand right (Err kind) → said ≡ kind → answer ≡ codes "error: right: " ++ refusal_text said → IsTextsAnswer operators left (right ∷ rights) answer
 second_refused operators left right rights answer x kind said reads refused same is = record {
@@ -132,12 +132,12 @@ second_refused operators left right rights answer x kind said reads refused same
   is_answer = is ∙ ap (λ k. codes "error: right: " ++ refusal_text k) same;
 }
 
--- and so does the first of the two that is refused
+-- the same for the first of the two that is refused
 pub first_refused : (operators : List Operator) (left right : List ℕ) (rights : List (List ℕ)) (answer : List ℕ) → RefusesFirst left right answer → IsTextsAnswer operators left (right ∷ rights) answer
 first_refused operators left right rights answer (inl h) = left_refused operators left (right ∷ rights) answer h.0 h.0 h.1 refl h.2
 first_refused operators left right rights answer (inr h) = second_refused operators left right rights answer h.0 h.1 h.1 h.2 h.3 refl h.4
 
--- a later operand that is refused answers the line
+-- if a later operand is refused, its refusal is the answer
 pub applied_refused : (outcome : Outcome) (rest more : List (List ℕ)) (operators : List Operator) (left : List ℕ) (rights : List (List ℕ)) (part right answer : List ℕ) (kind said : RatioErrorKind)
     → AppliedSoFar outcome rest operators left rights → rest ≡ part ∷ right ∷ more → IsOperand right (Err kind) → said ≡ kind → answer ≡ codes "error: right: " ++ refusal_text said
     → IsTextsAnswer operators left rights answer
@@ -145,7 +145,7 @@ applied_refused outcome rest more operators left rights part right answer kind s
     p.goes_on answer
     (rw cut (record { read = Err kind; are_read = inl refused; answers = is ∙ ap (λ k. codes "error: right: " ++ refusal_text k) same }))
 
--- what `go_on` asks of the outcome so far
+-- what `go_on` requires of the outcome so far
 pub positive_so_far : {T : _} {i : _} {o : _} {e : _} {p : _} {h : _} (outcome : Either (Bor (List ℕ)) (Ratio T i o e p h)) → IsPositive (outcome_of outcome)
     → MatchEither outcome (λ _. ⊤) (λ left. pos 0 <ℤ denominator left)
 positive_so_far (Left text) h = tt
@@ -160,13 +160,13 @@ outcome_answers : {T : _} {i : _} {o : _} {e : _} {p : _} {h : _} (operators : L
 outcome_answers operators (Left text) = refl
 outcome_answers operators (Right number) = no_operand operators (numerator number, denominator number)
 
--- where no operand is left, the outcome answers the line
+-- if no operand is left, the outcome is the answer
 pub applied_all : {T : _} {i : _} {o : _} {e : _} {p : _} {h : _} (outcome : Either (Bor (List ℕ)) (Ratio T i o e p h)) (rest : List (List ℕ)) (operators : List Operator) (left : List ℕ)
     (rights : List (List ℕ)) → AppliedSoFar (outcome_of outcome) rest operators left rights → right_parts rest ≡ [] → IsTextsAnswer operators left rights (bytes_of outcome)
 applied_all outcome rest operators left rights p none =
     p.goes_on (bytes_of outcome) (rw none (record { read = Ok []; are_read = refl; answers = outcome_answers p.others outcome }))
 
--- a part that stands for an operator names one
+-- a part in an operator's place names one
 pub applied_named : (outcome : Outcome) (rest more : List (List ℕ)) (operators : List Operator) (left : List ℕ) (rights : List (List ℕ)) (part : List ℕ)
     → AppliedSoFar outcome rest operators left rights → operator_parts rest ≡ part ∷ more → operator_of part ≡ None → ⊥
 applied_named outcome rest more operators left rights part p cut none =

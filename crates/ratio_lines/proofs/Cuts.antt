@@ -7,7 +7,7 @@ use Rattle.ratio_lines.specs.Answers.{is_space}
 use Rattle.ratio_lines.specs.Cuts.{HasNone}
 use Rattle.ratio_lines.proofs.Bytes.{equal_itself, same_byte}
 
--- the byte stands at no place before the n-th
+-- no byte before the n-th has this value
 pub none_before : (c : ℕ) (bytes : List ℕ) (n : ℕ) → n ≤ length bytes → ((k : ℕ) → k < n → ¬ ((get_or bytes k 0 == c) ≡ true)) → HasNone c (take n bytes)
 none_before c bytes zero within none = refl
 none_before c [] (suc n) within none = refl
@@ -21,18 +21,18 @@ pub none_at_all : (c : ℕ) (bytes : List ℕ) → ((k : ℕ) → k < length byt
 none_at_all c bytes none =
     let all : HasNone c (take (length bytes) bytes) = none_before c bytes (length bytes) (omega arith) none in rw take-length at all
 
--- the bytes on both sides of a place where it stands
+-- the bytes on both sides of a byte with this value
 pub cut_at : (c : ℕ) (bytes : List ℕ) (at : ℕ) → at < length bytes → (get_or bytes at 0 == c) ≡ true → bytes ≡ take at bytes ++ c ∷ drop (at + 1) bytes
 cut_at c bytes at within is =
     sym (take-append-drop at bytes) ∙ ap (λ xs. take at bytes ++ xs) (drop_more bytes at 0 within)
     ∙ ap (λ byte. take at bytes ++ byte ∷ drop (at + 1) bytes) (same_byte (get_or bytes at 0) c is)
 
--- the same with what a slice from there on holds
+-- the same, where the second part is a slice from there on
 pub cut_slice : (c : ℕ) (bytes : List ℕ) (at : ℕ) → at < length bytes → (get_or bytes at 0 == c) ≡ true
     → bytes ≡ take at bytes ++ c ∷ take (length bytes - (at + 1)) (drop (at + 1) bytes)
 cut_slice c bytes at within is = cut_at c bytes at within is ∙ ap (λ rest. take at bytes ++ c ∷ rest) (sym (take_rest bytes (at + 1)))
 
--- a byte that stands at a place is the one looked for
+-- a byte that equals one below 128 is below 128 too
 pub small_at : (c : ℕ) (bytes : List ℕ) (at : ℕ) → c < 128 → (get_or bytes at 0 == c) ≡ true → get_or bytes at 0 < 128
 small_at c bytes at small is = rw (same_byte (get_or bytes at 0) c is) small
 
@@ -60,6 +60,6 @@ split_cut c (byte ∷ before) after none =
 pub one_part : (text : List ℕ) → HasNone 32 text → slice_split is_space text ≡ text ∷ []
 one_part text none = split_uncut 32 text none
 
--- what stands before the first space is the first part
+-- the bytes before the first space are the first part
 pub first_of_parts : (text part rest : List ℕ) → text ≡ part ++ 32 ∷ rest → HasNone 32 part → slice_split is_space text ≡ part ∷ slice_split is_space rest
 first_of_parts text part rest cut none = ap (slice_split is_space) cut ∙ split_cut 32 part rest none

@@ -77,7 +77,7 @@ took_both a b c xs ys p q = record {
   calls = moves_both a.1 b.1 c.1 xs ys p.calls q.calls;
 }
 
--- some of what follows
+-- all of the first bytes, and then a beginning of the next ones
 pub took_some_after : (a b c : Device) (xs ys : List ℕ) → Took a b xs → TookSome b c ys → TookSome a c (xs ++ ys)
 took_some_after a b c xs ys p q = record {
   written = xs ++ q.written;
@@ -87,7 +87,7 @@ took_some_after a b c xs ys p q = record {
   calls = q.calls ∙ ap after_failing (moves_both a.1 b.1 (after_moving b.1 q.written) xs q.written p.calls refl);
 }
 
--- some of the first bytes
+-- a beginning of the first bytes is a beginning of all of them
 pub took_some_before : (a b : Device) (xs ys : List ℕ) → TookSome a b xs → TookSome a b (xs ++ ys)
 took_some_before a b xs ys p = record {
   written = p.written;
@@ -107,18 +107,18 @@ took_all a b c xs p q = record {
   calls = q.calls ∙ ap after_failing p.calls;
 }
 
--- a write that took n bytes, of some
+-- a write that took n bytes, n above 0, moved them
 wrote_some : (n len : ℕ) (calls piece_moved : Calls) → n ≢ 0 → cond ((n == 0) && not (len == 0)) (after_failing calls) piece_moved ≡ piece_moved
 wrote_some n len calls piece_moved some =
     elim (n == 0) as (λ t. (n == 0) ≡ t → cond (t && not (len == 0)) (after_failing calls) piece_moved ≡ piece_moved)
     [ true ↦ λ t. absurd (some (grind (arith, nat_tests))) | false ↦ λ t. refl ] refl
 
--- a write that took none, of some
+-- a write that took none of its bytes failed
 wrote_none : (n len : ℕ) (calls piece_moved : Calls) → n ≡ 0 → 1 ≤ len → cond ((n == 0) && not (len == 0)) (after_failing calls) piece_moved ≡ after_failing calls
 wrote_none n len calls piece_moved none some =
     let test : ((n == 0) && not (len == 0)) ≡ true = grind (arith, nat_tests) in rw test refl
 
--- the n bytes from a place on follow what was taken before
+-- the n bytes from a place on come after those that were taken before
 pub took_more : (a b c : Device) (bytes : List ℕ) (at n : ℕ) → at + n ≤ length bytes → n ≢ 0 → Took a b (take at bytes)
     → Appends b.0 c.0 (take n (take (length bytes - at) (drop at bytes)))
     → c.1 ≡ cond ((n == 0) && not (length (take (length bytes - at) (drop at bytes)) == 0)) (after_failing b.1) (after_moving b.1 (take n (take (length bytes - at) (drop at bytes))))
@@ -132,7 +132,7 @@ took_more a b c bytes at n within some before known calls =
     } in
     rw take-add (took_both a b c (take at bytes) (take n (drop at bytes)) before now)
 
--- a call that took no byte of a piece that has some
+-- a call that took no byte of a piece with bytes failed
 pub took_none : (b c : Device) (n : ℕ) (piece : List ℕ) → n ≡ 0 → 1 ≤ length piece → Appends b.0 c.0 (take n piece)
     → c.1 ≡ cond ((n == 0) && not (length piece == 0)) (after_failing b.1) (after_moving b.1 (take n piece)) → Failed b c
 took_none b c n piece none some known calls = record {
@@ -183,11 +183,11 @@ pub waits_without_room : {T : Type 0} (writer : Change) (waited waiting bytes : 
     → Waits writer waited waiting bytes r
 waits_without_room writer waited waiting bytes r never = waits_beyond writer waited waiting bytes r (more_than (length waited + length bytes) never)
 
--- a call failed before the last of these bytes came
+-- a call failed before the last of these bytes
 pub waits_stopped : {T : Type 0} (writer : Change) (waited waiting xs ys : List ℕ) (r : Result T CalcFault) → 1024 < length waited + length xs → Waits writer waited waiting (xs ++ ys) r
 waits_stopped writer waited waiting xs ys r more = waits_beyond writer waited waiting (xs ++ ys) r (omega (arith, more, length-append xs ys))
 
--- where there is room these bytes wait, and the device is as it was
+-- if there is room, these bytes wait, and the device is unchanged
 abbrev pub WaitWhole : Device → Device → List ℕ → List ℕ → List ℕ → Type 0
 WaitWhole a b waited waiting bytes = length waited + length bytes ≤ 1024 → (b ≡ a) × (waiting ≡ waited ++ bytes)
 
@@ -201,7 +201,7 @@ wait_both a b c waited between waiting xs ys first next fits =
     let k = next (omega (arith, fits, length-append xs ys, ap length h.1, length-append waited xs)) in
     (k.0 ∙ h.0, k.1 ∙ ap (λ zs. zs ++ ys) h.1 ∙ append_assoc waited xs ys)
 
--- there was room for the first of these bytes, if at all, and not for those after them
+-- if the second bytes have no room after the first ones, both together have none
 pub beyond_both : (a b : Device) (waited between xs ys : List ℕ) → WaitWhole a b waited between xs → 1024 < length between + length ys → 1024 < length waited + length (xs ++ ys)
 beyond_both a b waited between xs ys first more =
     elim (nat_lt 1024 (length waited + length xs)) as (λ t. nat_lt 1024 (length waited + length xs) ≡ t → 1024 < length waited + length (xs ++ ys)) [
@@ -211,13 +211,13 @@ beyond_both a b waited between xs ys first more =
           omega (arith, more, length-append xs ys, ap length (first within).1, length-append waited xs)
     ] refl
 
--- some bytes came after others
+-- bytes that came after others
 pub waits_after : {T : Type 0} (a b c : Device) (waited between waiting xs ys : List ℕ) (r : Result T CalcFault) → WaitWhole a b waited between xs
     → Waits (changing b c) between waiting ys r → Waits (changing a c) waited waiting (xs ++ ys) r
 waits_after a b c waited between waiting xs ys (Ok x) first next = wait_both a b c waited between waiting xs ys first next
 waits_after a b c waited between waiting xs ys (Err e) first more = beyond_both a b waited between xs ys first more
 
--- some of the first of these bytes
+-- a beginning of the first bytes is a beginning of all of them
 pub gathers_part : (a b : Device) (waited xs ys : List ℕ) → TookSome a b (waited ++ xs) → TookSome a b (waited ++ (xs ++ ys))
 gathers_part a b waited xs ys some = rw (← append_assoc waited xs ys) (took_some_before a b (waited ++ xs) ys some)
 
@@ -229,7 +229,7 @@ gathers_written a b c waited between waiting bytes written (Ok x) took same h no
 gathers_written a b c waited between waiting bytes written (Err e) took same h none =
     (h.0, rw same (took_some_after a b c written between took h.1))
 
--- the same where nothing waited before
+-- the same, if nothing waited before
 pub writes_gathered : {T : Type 0} (a b c : Device) (waited between bytes written : List ℕ) (r : Result T CalcFault) → waited ≡ [] → Took a b written → waited ++ bytes ≡ written ++ between
     → Writes (changing b c) between r → Writes (changing a c) bytes r
 writes_gathered a b c waited between bytes written (Ok x) none took same h =
@@ -237,7 +237,7 @@ writes_gathered a b c waited between bytes written (Ok x) none took same h =
 writes_gathered a b c waited between bytes written (Err e) none took same h =
     (h.0, rw (ap (λ zs. zs ++ bytes) (sym none) ∙ same) (took_some_after a b c written between took h.1))
 
--- nothing waited, and nothing waits: the writer took all
+-- nothing waited, and nothing waits: the writer took everything
 pub gathered_all : (a b : Device) (waited waiting bytes written : List ℕ) → waited ≡ [] → waiting ≡ [] → Took a b written → waited ++ bytes ≡ written ++ waiting → Took a b bytes
 gathered_all a b waited waiting bytes written none none_waits took same =
     let all : bytes ≡ written = ap (λ zs. zs ++ bytes) (sym none) ∙ same ∙ ap (λ zs. written ++ zs) none_waits ∙ append-nil written in rw all took
@@ -246,6 +246,6 @@ gave_some : (A B : Type 0) (n : ℕ) → n ≢ 0 → MatchBool (n == 0) A B → 
 gave_some A B n some h =
     elim (n == 0) as (λ t. (n == 0) ≡ t → MatchBool t A B → B) [ true ↦ λ t k. absurd (some (grind (arith, nat_tests))) | false ↦ λ t k. k ] refl h
 
--- what a reader gave into a buffer, where it gave some
+-- what a reader gave into a buffer, if it gave anything
 pub gave_piece : (a b : Device) (buffer : List ℕ) (n : ℕ) → GivesPiece (changing a b) buffer (Ok n) → n ≢ 0 → Gave a b (take n buffer) × (1 ≤ length (take n buffer))
 gave_piece a b buffer n h some = (gave_some (Ended a b) (Gave a b (take n buffer)) n some h.1, simp (length-take) (let within = h.0 in omega arith))

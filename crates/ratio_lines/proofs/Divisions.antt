@@ -20,7 +20,7 @@ divides divisor Is number outcome nonzero is e =
       | false ↦ λ t. record { number = number; is_number = is; is_outcome = e }
     ] refl
 
--- the numbers of an answer are in lowest terms where it is
+-- the two numbers of a fraction that a checked call returned are the lowest terms too
 pub lowest_number : {T : _} {i : _} {o : _} {e : _} {p : _} {h : _} (lo hi : ℤ) (pair : ℤ × ℤ) (r : Option (Ratio T i o e p h))
     → ChecksLowest numerator denominator lo hi pair r → ChecksLowest (λ x. x.0) (λ x. x.1) lo hi pair (number_of r)
 lowest_number lo hi pair None answer = answer

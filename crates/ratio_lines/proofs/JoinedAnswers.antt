@@ -17,7 +17,7 @@ onto_both : (byte : ℕ) (lines more : List (List ℕ)) → 0 < length lines →
 onto_both byte [] more some = absurd (omega arith)
 onto_both byte (line ∷ lines) more some = refl
 
--- what is cut at a line end is cut on both sides of it
+-- bytes with a line end in them are cut into the parts before it, and then the parts after it
 split_at_end : (before after : List ℕ) → slice_split is_line_end (before ++ 10 ∷ after) ≡ slice_split is_line_end before ++ slice_split is_line_end after
 split_at_end [] after = refl
 split_at_end (byte ∷ before) after =
@@ -50,7 +50,7 @@ lines_after before after =
 lines_ended : (front : List ℕ) → lines_of (front ++ 10 ∷ []) ≡ slice_split is_line_end front
 lines_ended front = lines_after front [] ∙ append-nil (slice_split is_line_end front)
 
--- the lines of the whole are those before the cut and then those after it
+-- the lines of the whole are the lines before the cut, and then those after it
 lines_both : (before after : List ℕ) → EndsLine before → lines_of (before ++ after) ≡ lines_of before ++ lines_of after
 lines_both before after (inl empty) = rw empty refl
 lines_both before after (inr ended) =

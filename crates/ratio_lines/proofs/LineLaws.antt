@@ -1,11 +1,11 @@
--- What the cut into lines means: nothing of the input is lost or added, and no line has a line end in it.
+-- Cutting an input into lines loses nothing and adds nothing, and no line has a line end in it.
 use Rattle.std.proofs.Common.{◌≡◌, ℕ, ◌<◌, List, [], ◌∷◌, ◌++◌, length, Bool, true, false, not, cond, refl, ap, ◌∙◌, sym, arith}
 use Rattle.std.specs.List.{slice_split, onto_first, flat_map, list_all, list_any}
 use Rattle.std.proofs.lemmas.List.Splits.{length-slice_split}
 use Rattle.ratio_lines.proofs.Bytes.{same_byte}
 use Rattle.ratio_lines.specs.Lines.{begun_line, front_of, is_line_end, last_of, whole_lines}
 
--- each part but the last with a line end, and then the last one
+-- each part but the last one with a line end, and then the last one
 abbrev rejoined : List (List ℕ) → List ℕ
 rejoined parts = flat_map (λ line. line ++ 10 ∷ []) (front_of parts) ++ last_of parts
 

@@ -9,7 +9,7 @@ use Rattle.ratio_lines.specs.Answers.{AreAnswers, AreAnswersOf, AreWholeAnswers,
 use Rattle.ratio_lines.specs.Lines.{begun_line, front_of, if_begun, is_line_end, last_of, longest_line, whole_lines}
 use Rattle.ratio_lines.specs.KeptLine.{ArePieceAnswers, IsAnswerLine, IsByteAnswer, IsKeptAnswer, IsLastAnswer, is_empty, kept, line_after, next_line, pushed}
 
--- the parts with one more byte, which ends the last part if `ends`
+-- The parts after one more byte. If `ends`, it ends the last part.
 abbrev grown : Bool → ℕ → List (List ℕ) → List (List ℕ)
 grown ends byte [] = []
 grown ends byte (part ∷ []) = cond ends (part ∷ [] ∷ []) ((part ++ byte ∷ []) ∷ [])

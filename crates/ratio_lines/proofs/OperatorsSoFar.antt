@@ -6,7 +6,7 @@ use Rattle.std.proofs.lemmas.Bool.Decides.{nat_tests}
 use Rattle.ratio_lines.specs.Answers.{IsChainAnswer, has_byte, is_chain, is_cmp, operators_of, operator_parts}
 use Rattle.ratio_lines.specs.Lines.{front_of}
 use Rattle.ratio_lines.specs.Operands.{operator_of}
-use Rattle.ratio_lines.specs.Parts.{AreChained, are_pairs, parts_of, with_first}
+use Rattle.ratio_lines.specs.Parts.{AreChained, are_terms, parts_of, with_first}
 use Rattle.ratio_lines.specs.declared.operator.Operator.{Operator}
 
 -- ---- the shape of a line
@@ -17,7 +17,7 @@ odd_after_three n = grind (arith, nat_tests)
 more_than_two : (n : ℕ) → nat_lt 2 (suc (suc (suc n))) ≡ true
 more_than_two n = grind (arith, nat_tests)
 
--- a test may be made first or later
+-- a test may come first or later
 and_later : (t a b c d : Bool) → (t && (true && (a && (b && (c && d))))) ≡ (a && (b && (c && (t && d))))
 and_later true a b c d = refl
 and_later false true true true d = refl
@@ -25,16 +25,16 @@ and_later false true true false d = refl
 and_later false true false c d = refl
 and_later false false b c d = refl
 
--- three parts and others are a chain where each of the three has a byte and the others are pairs
+-- three parts and others are a chain exactly if none of the three is empty and the others are pairs
 pub chain_of : (left operator right : List ℕ) (parts : List (List ℕ))
-    → is_chain (left ∷ operator ∷ right ∷ parts) ≡ (has_byte left && (has_byte operator && (has_byte right && are_pairs parts)))
+    → is_chain (left ∷ operator ∷ right ∷ parts) ≡ (has_byte left && (has_byte operator && (has_byte right && are_terms parts)))
 chain_of left operator right parts =
     rw (odd_after_three (length parts), more_than_two (length parts))
     (and_later (length parts % 2 == 0) (has_byte left) (has_byte operator) (has_byte right) (list_all has_byte parts))
 
 -- ---- the operators
 
--- the operators before the last one that was named, of which none is cmp where the flag says so
+-- the operators before the last one that was named; none of them is `cmp` exactly if the flag says so
 pub record OperatorsSoFar (first last : Operator) (is_cmp_last : Bool) (all rest : List (List ℕ)) : Type 0 where
   pub before : List Operator
   pub joined : with_first first (operators_of (operator_parts all)) ≡ option_map (λ others. before ++ last ∷ others) (operators_of (operator_parts rest))
@@ -95,7 +95,7 @@ begins : (part : List ℕ) (parts : List (List ℕ)) → (more : List (List ℕ)
 begins part [] = ([], refl)
 begins part (operand ∷ parts) = (operator_parts parts, refl)
 
--- a text's first part, after which another stands or none
+-- the first part of a text, with another one after it or without one
 pub parts_two : (rest : Option (Bor (List ℕ))) (text : Bor (List ℕ)) (part operand : List ℕ) (more : List (List ℕ)) (after : Option (Bor (List ℕ))) (behind : Bor (List ℕ))
     → rest ≡ Some text → parts_of (Some text) ≡ part ∷ parts_of after → after ≡ Some behind → parts_of (Some behind) ≡ operand ∷ more → parts_of rest ≡ part ∷ operand ∷ more
 parts_two rest text part operand more after behind p q r s = ap parts_of p ∙ q ∙ ap (λ xs. part ∷ parts_of xs) r ∙ ap (λ xs. part ∷ xs) s
@@ -104,12 +104,12 @@ pub parts_one : (rest : Option (Bor (List ℕ))) (text : Bor (List ℕ)) (part :
     → rest ≡ Some text → parts_of (Some text) ≡ part ∷ parts_of after → after ≡ None → parts_of rest ≡ part ∷ []
 parts_one rest text part after p q r = ap parts_of p ∙ q ∙ ap (λ xs. part ∷ parts_of xs) r
 
--- the part that stands for the first operator is the first part
+-- the first operator part is the first part
 pub first_operator : (rest : Option (Bor (List ℕ))) (text : Bor (List ℕ)) (part : List ℕ) (after : Option (Bor (List ℕ)))
     → rest ≡ Some text → parts_of (Some text) ≡ part ∷ parts_of after → (more : List (List ℕ)) × (operator_parts (parts_of rest) ≡ part ∷ more)
 first_operator rest text part after p q = let here = begins part (parts_of after) in (here.0, ap operator_parts (ap parts_of p ∙ q) ∙ here.1)
 
--- where the parts are taken, the operators are those before the last one, and that
+-- after the last part, the operators are those before the last one, and then the last one
 all_named : (first last : Operator) (flag : Bool) (all : List (List ℕ)) → OperatorsSoFar first last flag all []
     → (before : List Operator) × (with_first first (operators_of (operator_parts all)) ≡ Some (before ++ last ∷ [])) × (list_any is_cmp (front_of (before ++ last ∷ [])) ≡ not flag)
 all_named first last flag all p = (p.before, p.joined, ap (list_any is_cmp) (front_before p.before last) ∙ p.checked)

@@ -1,4 +1,4 @@
--- What an operator gives to go on with has a positive denominator.
+-- A number for the next operator has a positive denominator.
 use Rattle.std.proofs.Common.{◌≡◌, ℤ, pos, ◌<ℤ◌, true, false, Option, None, Some}
 use Rattle.std.specs.Bool.{MatchBool}
 use Rattle.std.specs.Ordering.{int_eq}
@@ -10,7 +10,7 @@ use Rattle.ratio_lines.specs.Answers.{IsDivisionOutcome, IsLowestResult, IsOutco
 use Rattle.ratio_lines.specs.declared.operator.Operator.{Operator}
 use Rattle.ratio_lines.specs.declared.operator.Operator.TheVariants.{Add, Sub, Mul, Div, Rem, Cmp}
 
--- a number to go on with has a positive denominator
+-- if the outcome is a number, its denominator is positive
 abbrev pub IsPositive : Outcome → Type 0
 IsPositive outcome = MatchEither outcome (λ text. Unit {0}) (λ z. pos 0 <ℤ z.1)
 

@@ -13,7 +13,7 @@ use Rattle.ratio_lines.proofs.AnswersExist.{answer_exists}
 use Rattle.ratio_lines.proofs.DeviceCalls.{changing, gathers_part, joined, took_both, took_nothing, took_some_after, WaitWhole, beyond_both, wait_both, wait_uncalled, waits_stopped}
 use Rattle.ratio_lines.proofs.Pieces.{after_plain, answers_line, answers_plain}
 
--- these bytes answer what came before the rest of the piece, and the rest answers what is left
+-- These bytes are the answers to what came before the rest of the piece. With the answers to the rest, they are the answers to the piece.
 pub record PieceSoFar (line line' : Option (List ℕ)) (piece rest : List ℕ) (old new : Device) (waited waiting : List ℕ) : Type 0 where
   pub bytes : List ℕ
   pub written : List ℕ
@@ -66,7 +66,7 @@ pub piece_line : (line line' : Option (List ℕ)) (piece rest : List ℕ) (old n
 piece_line line line' piece rest old new waited waiting p none =
     sym (after_plain line' rest [] none) ∙ ap (line_after line') (append-nil rest) ∙ p.after
 
--- all of the piece is answered
+-- all of the piece has its answers
 all_answered : (line line' : Option (List ℕ)) (piece rest : List ℕ) (old new : Device) (waited waiting : List ℕ) → (p : PieceSoFar line line' piece rest old new waited waiting)
     → HasNone 10 rest → ArePieceAnswers line piece p.bytes
 all_answered line line' piece rest old new waited waiting p none =
@@ -78,7 +78,7 @@ pub piece_done : {T : Type 0} {x : T} (line line' : Option (List ℕ)) (piece re
 piece_done line line' piece rest old new waited waiting p none =
     record { bytes = p.bytes; are = all_answered line line' piece rest old new waited waiting p none; gathers = (p.written, p.took, p.gathered) }
 
--- the same of when they wait
+-- the same for the condition under which they wait
 pub piece_waits : {T : Type 0} {x : T} (line line' : Option (List ℕ)) (piece rest : List ℕ) (old new : Device) (waited waiting : List ℕ)
     → PieceSoFar line line' piece rest old new waited waiting → HasNone 10 rest → WaitsFor (ArePieceAnswers line piece) (changing old new) waited waiting (Ok x)
 piece_waits line line' piece rest old new waited waiting p none =
@@ -100,7 +100,7 @@ piece_exists line (byte ∷ piece) =
     let rest = piece_exists (next_line line byte) piece in
     (first.0 ++ rest.0, (first.0, rest.0, first.1, rest.1, refl))
 
--- a call failed before the answer to the line that ends next was written; what comes after it has its answers too
+-- A call failed before the answer to the line that ends next was written. The bytes after that line have answers too.
 pub piece_stops : {T : Type 0} (line line' : Option (List ℕ)) (piece rest bytes after answer : List ℕ) (a b c : Device) (waited between waiting : List ℕ) (r : Result T CalcFault)
     → PieceSoFar line line' piece rest a b waited between → HasNone 10 bytes → rest ≡ bytes ++ 10 ∷ after → IsKeptAnswer (extended line' bytes) answer
     → TookSome b c (between ++ (answer ++ 10 ∷ [])) → r ≡ Err Write → GathersFor (ArePieceAnswers line piece) (changing a c) waited waiting r
@@ -114,7 +114,7 @@ piece_stops line line' piece rest bytes after answer a b c waited between waitin
       gathers = (refl, gathers_part a c waited (p.bytes ++ (answer ++ 10 ∷ [])) others.0 all);
     })
 
--- the same of when they wait: the answers up to this line were too many already
+-- the same for the condition under which they wait: the answers up to this line were already too many
 pub piece_waits_no_more : {T : Type 0} (line line' : Option (List ℕ)) (piece rest bytes after answer : List ℕ) (a b c : Device) (waited between waiting : List ℕ) (r : Result T CalcFault)
     → PieceSoFar line line' piece rest a b waited between → HasNone 10 bytes → rest ≡ bytes ++ 10 ∷ after → IsKeptAnswer (extended line' bytes) answer
     → 1024 < length between + length (answer ++ 10 ∷ []) → WaitsFor (ArePieceAnswers line piece) (changing a c) waited waiting r

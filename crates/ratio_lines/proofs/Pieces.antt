@@ -14,7 +14,7 @@ below n t = grind (arith, nat_tests)
 room : (n m k : ℕ) → m ≡ n + 1 → m + k ≤ longest_line → nat_lt n longest_line ≡ true
 room n m k e within = grind (arith, nat_tests)
 
--- what is kept of a line that is not too long with more bytes
+-- what is kept of a line after more bytes, if they are not too many
 pub extended_within : (line more : List ℕ) → length line + length more ≤ longest_line → extended (Some line) more ≡ Some (line ++ more)
 extended_within line [] within = ap Some (sym (append-nil line))
 extended_within line (byte ∷ more) within =
@@ -36,7 +36,7 @@ extended_beyond line (byte ∷ more) short beyond =
       | false ↦ λ t. extended_none more
     ] refl
 
--- what `extend` does where there is room
+-- what `extend` does if there is room
 pub extended_fits : (long : Bool) (line more new : List ℕ) → length line + length more ≤ longest_line → new ≡ line ++ more
     → cond long None (Some new) ≡ extended (cond long None (Some line)) more
 extended_fits true line more new within e = sym (extended_none more)
@@ -52,7 +52,7 @@ beyond : (n : ℕ) → (n ≤ longest_line → false ≡ true) → longest_line 
 beyond n never =
     elim (nat_lt longest_line n) as (λ t. nat_lt longest_line n ≡ t → longest_line < n) [ true ↦ λ t. above n t | false ↦ λ t. absurd (let no : false ≡ true = never (within n t) in cc) ] refl
 
--- and where there is none
+-- what `extend` does if there is none
 pub extended_over : (long : Bool) (line more : List ℕ) → length line ≤ longest_line → (length line + length more ≤ longest_line → false ≡ true) → extended (cond long None (Some line)) more ≡ None
 extended_over true line more short over = extended_none more
 extended_over false line more short over = extended_beyond line more short (beyond (length line + length more) over)
@@ -66,7 +66,7 @@ pub empty_line : (line : Option (List ℕ)) → is_empty line ≡ true → line 
 empty_line None t = absurd (let no : false ≡ true = t in cc)
 empty_line (Some line) t = ap Some (is_nil line t)
 
--- the answer to a whole line is that to what is kept of it
+-- the answer to a whole line is the answer to what is kept of it
 pub answer_kept : (line answer : List ℕ) → IsAnswer line answer → IsKeptAnswer (extended (Some []) line) answer
 answer_kept line answer h =
     elim (nat_lt longest_line (length line)) as (λ t. nat_lt longest_line (length line) ≡ t → IsAnswer line answer → IsKeptAnswer (extended (Some []) line) answer) [
@@ -81,7 +81,7 @@ after_plain line (byte ∷ bytes) rest none =
     let first = first_none 10 byte bytes none in
     ap (λ t. line_after (cond t (Some []) (pushed line byte)) (bytes ++ rest)) first.0 ∙ after_plain (pushed line byte) bytes rest first.1
 
--- they answer nothing
+-- these bytes add no answer
 pub answers_plain : (line : Option (List ℕ)) (bytes rest answers : List ℕ) → HasNone 10 bytes → ArePieceAnswers (extended line bytes) rest answers
     → ArePieceAnswers line (bytes ++ rest) answers
 answers_plain line [] rest answers none h = h
@@ -89,7 +89,7 @@ answers_plain line (byte ∷ bytes) rest answers none h =
     let first = first_none 10 byte bytes none in
     ([], answers, rw first.0 refl, rw first.0 (answers_plain (pushed line byte) bytes rest answers first.1 h), refl)
 
--- a line end after them answers the line
+-- a line end after them adds the answer to the line
 pub answers_line : (line : Option (List ℕ)) (bytes rest first others : List ℕ) → HasNone 10 bytes → IsAnswerLine (extended line bytes) first → ArePieceAnswers (Some []) rest others
     → ArePieceAnswers line (bytes ++ 10 ∷ rest) (first ++ others)
 answers_line line bytes rest first others none answer h = answers_plain line bytes (10 ∷ rest) (first ++ others) none (first, others, answer, h, refl)

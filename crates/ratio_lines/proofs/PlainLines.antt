@@ -34,14 +34,14 @@ both true true h = (refl, refl)
 both true false h = absurd (let no : false ≡ true = h in cc)
 both false t h = absurd (let no : false ≡ true = h in cc)
 
--- what each byte that passes one test passes too, all do
+-- if each byte that passes one test passes the other, so does each text
 all_pass : (p q : ℕ → Bool) → ((byte : ℕ) → p byte ≡ true → q byte ≡ true) → (text : List ℕ) → list_all p text ≡ true → list_all q text ≡ true
 all_pass p q each [] h = refl
 all_pass p q each (byte ∷ text) h =
     let parts = both (p byte) (list_all p text) h in
     ap (λ t. t && list_all q text) (each byte parts.0) ∙ all_pass p q each text parts.1
 
--- a byte that does not pass stands nowhere
+-- a byte that fails the test is not in a text that passes it
 none_passes : (p : ℕ → Bool) (c : ℕ) → p c ≡ false → (text : List ℕ) → list_all p text ≡ true → HasNone c text
 none_passes p c fails [] h = refl
 none_passes p c fails (byte ∷ text) h =
@@ -123,7 +123,7 @@ chained left name right answer operator named left_some right_some h =
     let operators : operators_of (name ∷ []) ≡ Some (operator ∷ []) = ap (option_and_then (λ first. option_map (λ others. first ∷ others) (Some []))) named in
     rw (is, operators) h
 
--- the answer to the operator and the operands of a plain line answers the line
+-- the answer to the operator and the operands of a plain line is the answer to the line
 pub plain_answered : (bytes left : List ℕ) (operator : Operator) (right after answer : List ℕ) → BeginsPlain bytes left operator right after
     → IsTextsAnswer (operator ∷ []) left (right ∷ []) answer → IsFirstAnswer (Some []) bytes after answer
 plain_answered bytes left operator right after answer p h =
@@ -165,7 +165,7 @@ part_ends bytes from byte end after within graphic is = record {
 pub line_answered : (bytes line after answer : List ℕ) → HasNone 10 line → bytes ≡ line ++ 10 ∷ after → IsAnswer line answer → IsFirstAnswer (Some []) bytes after answer
 line_answered bytes line after answer none split h = record { ended = line; none = none; split = split; answers = answer_kept line answer h }
 
--- a line that is empty is as it was, whether it ended or not
+-- an empty line stays empty, whether a line ended or not
 pub empty_either_way : (ended : Bool) (line : Option (List ℕ)) → line ≡ Some [] → line ≡ cond ended (Some []) line
 empty_either_way true line empty = empty
 empty_either_way false line empty = refl

@@ -22,7 +22,7 @@ kept (b ∷ []) h =
     [ true ↦ λ t. absurd (h [] (ap (λ x. x ∷ []) (same_byte b 13 t))) | false ↦ λ t. refl ] refl
 kept (b ∷ c ∷ bytes) h = ap (λ xs. b ∷ xs) (kept (c ∷ bytes) (λ front e. h (b ∷ front) (ap (λ xs. b ∷ xs) e)))
 
--- what stands before a trailing carriage return, or else the bytes
+-- the bytes before a carriage return at the end, or else all bytes
 pub stripped : (text out : Bor (List ℕ)) (r : Option (Bor (List ℕ))) → MatchOption r ((front : List ℕ) → text.now ≢ front ++ 13 ∷ []) (λ x. text.now ≡ x.now ++ 13 ∷ [])
     → out ≡ unwrap_or r text → without_return text.now ≡ out.now
 stripped text out None h e = kept text.now h ∙ ap (λ (x : Bor (List ℕ)). x.now) (sym e)

@@ -14,7 +14,7 @@ use Rattle.ratio_lines.proofs.DeviceCalls.{changing, appends_kept, consumes_both
 use Rattle.ratio_lines.proofs.AnswersExist.{answers_of_lines}
 use Rattle.ratio_lines.proofs.LinesSoFar.{answers_both, answers_last, answers_piece, kept_piece}
 
--- so many bytes were read at least, the lines among them that have their line end are answered, the begun one is kept, and no byte waits
+-- At least `count` bytes were read. Their whole lines are answered, the begun line is kept, and no byte waits.
 pub record Progress (reader reader' writer writer' : Device) (line : Option (List ℕ)) (waiting : List ℕ) (count : ℕ) : Type 0 where
   pub read : List ℕ
   pub answers : List ℕ
@@ -156,12 +156,12 @@ stopped_reading reader reader' writer writer' Endless r h e =
       marked = tt;
     })
 
--- all answers, by the line that is kept at the end
+-- all answers, with the one to the line that is kept at the end
 answers_by : (read answers : List ℕ) (line : Option (List ℕ)) (bytes : List ℕ) → AreWholeAnswers read answers → line ≡ kept (begun_line read) → IsLastAnswer line bytes
     → AreAnswersOf read (answers ++ bytes)
 answers_by read answers line bytes whole begun last = answers_last read answers bytes whole (rw begun at last)
 
--- the whole input was read, and the answers or a beginning of them were written when a call failed
+-- the whole input was read, and a call failed after the answers or a beginning of them
 pub stopped_writing : {T : Type 0} (reader reader' writer a b : Device) (line : Option (List ℕ)) (bytes : List ℕ) (r : Result T CalcFault)
     → ReadsLines (changing reader reader') (changing writer a) (Ok line) → IsLastAnswer line bytes → TookSome a b bytes → r ≡ Err Write → Whole reader reader' writer b r
 stopped_writing reader reader' writer a b line bytes r h last more e =

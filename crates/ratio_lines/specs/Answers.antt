@@ -1,4 +1,4 @@
--- What the calculator answers to an input, as a whole.
+-- What the calculator answers to a whole input.
 use Rattle.std.specs.Prelude.{◌≡◌, ℕ, ℤ, pos, List, [], ◌∷◌, ◌++◌, length, Bool, true, false, not, ◌&&◌, ◌==◌, ◌%◌, ◌⊎◌, nat_lt, Option, Some, None, Result, Ok, Err, if◌then◌else◌, codes, option_and_then, option_map, MatchBool}
 use Rattle.std.specs.List.{list_all, list_any, slice_split}
 use Rattle.either.specs.Either.{MatchEither}
@@ -20,45 +20,47 @@ use Rattle.ratio_lines.specs.Operands.{IsOperand, greatest, least, operator_of}
 use Rattle.ratio_lines.specs.declared.operator.Operator.{Operator}
 use Rattle.ratio_lines.specs.declared.operator.Operator.TheVariants.{Add, Sub, Mul, Div, Rem, Cmp}
 
--- the byte that stands between the parts of a line
+-- a space, the byte between the parts of a line
 abbrev pub is_space : ℕ → Bool
 is_space byte = byte == 32
 
--- the sign of an order
+-- the text of an order
 abbrev pub order_text : Ordering → List ℕ
 order_text Less = codes "<"
 order_text Equal = codes "="
 order_text Greater = codes ">"
 
--- what one operator gives: on the left a text that answers the line, on the right a number for the next operator
+-- what an operator gives: on the left a text that is the answer to the line, on the right a number for the next operator
 abbrev pub Outcome : Type 0
 Outcome = Either (List ℕ) (ℤ × ℤ)
 
--- a result is a number to go on with, and that there is none answers the line
+-- A result is the number for the next operator. Without one, the answer is `error: out of range`.
 abbrev pub outcome_of_result : Option (ℤ × ℤ) → Outcome
 outcome_of_result (Some x) = Right x
 outcome_of_result None = Left (codes "error: out of range")
 
--- the outcome is that of the result of which `Is` holds
+-- this is the outcome of a result of which `Is` holds
 pub record IsResultOutcome (Is : Option (ℤ × ℤ) → Type 0) (outcome : Outcome) : Type 0 where
   pub number : Option (ℤ × ℤ)
   pub is_number : Is number
   pub is_outcome : outcome ≡ outcome_of_result number
 
--- the result is the lowest terms of a pair where they fit in 64 bits, and there is none where they do not
+-- The result is the lowest terms of the pair, if they fit in 64 bits. Otherwise there is none. For example, `2/4` gives `1/2`.
 abbrev pub IsLowestResult : ℤ × ℤ → Option (ℤ × ℤ) → Type 0
 IsLowestResult pair number = ChecksLowest (λ x. x.0) (λ x. x.1) least greatest pair number
 
--- the result is the lowest terms of the remainder where it is formed and they fit, and there is none elsewhere
+-- If `RemainderHeld`, the result is the lowest terms of the remainder, which fit in 64 bits. Otherwise there is
+-- none. For example, `3/4 % 1/2` gives `1/4`.
 abbrev pub IsRemainderResult : ℤ × ℤ → ℤ × ℤ → Option (ℤ × ℤ) → Type 0
 IsRemainderResult x y number =
     AnswersLowest (λ z. z.0) (λ z. z.1) least greatest (RemainderHeld least greatest x.0 x.1 y.0 y.1) (remainder_of x.0 x.1 y.0 y.1) number
 
--- a division by 0 answers the line, and another has the outcome of its result
+-- A division by 0 has the answer `error: division by zero`. Any other division has the outcome of its result.
 abbrev pub IsDivisionOutcome : ℤ × ℤ → (Option (ℤ × ℤ) → Type 0) → Outcome → Type 0
 IsDivisionOutcome divisor Is outcome = MatchBool (int_eq divisor.0 (pos 0)) (outcome ≡ Left (codes "error: division by zero")) (IsResultOutcome Is outcome)
 
--- the outcome of an operator between two fractions is that of its result, or the sign of their order
+-- The outcome of an operator between two fractions is the outcome of its result, or for `cmp` the text of their
+-- order. For example, `1/2 cmp 1/3` gives `>`.
 abbrev pub IsOutcome : Operator → ℤ × ℤ → ℤ × ℤ → Outcome → Type 0
 IsOutcome Add x y outcome = IsResultOutcome (IsLowestResult (sum_of x.0 x.1 y.0 y.1)) outcome
 IsOutcome Sub x y outcome = IsResultOutcome (IsLowestResult (difference_of x.0 x.1 y.0 y.1)) outcome
@@ -67,28 +69,29 @@ IsOutcome Div x y outcome = IsDivisionOutcome y (IsLowestResult (quotient_of x.0
 IsOutcome Rem x y outcome = IsDivisionOutcome y (IsRemainderResult x y) outcome
 IsOutcome Cmp x y outcome = outcome ≡ Left (order_text (cross_cmp x.0 x.1 y.0 y.1))
 
--- operators are applied from left to right, each to what the one before gave and to the next operand, until one answers the line
--- or none is left
+-- Operators apply from left to right, each to the number so far and the next operand. The first text is the answer. If there is none, the answer is
+-- the last number. For example, `1 - 2 * 3` gives `-3`.
 abbrev pub IsApplied : List Operator → ℤ × ℤ → List (ℤ × ℤ) → List ℕ → Type 0
 IsApplied [] x ys answer = answer ≡ text_of 64 Decimal false x.0 x.1
 IsApplied (operator ∷ operators) x [] answer = answer ≡ text_of 64 Decimal false x.0 x.1
 IsApplied (operator ∷ operators) x (y ∷ ys) answer =
     (outcome : Outcome) × IsOutcome operator x y outcome × MatchEither outcome (λ text. answer ≡ text) (λ z. IsApplied operators z ys answer)
 
--- texts are read as their fractions, or refused as the first of them that is refused
+-- All texts are read as fractions, or the first text that is refused refuses them all. For example, `1`, `x` and `1/0` give the parse error of `x`.
 abbrev pub AreRead : List (List ℕ) → Result (List (ℤ × ℤ)) RatioErrorKind → Type 0
 AreRead [] read = read ≡ Ok []
 AreRead (text ∷ texts) (Ok []) = ⊥
 AreRead (text ∷ texts) (Ok (x ∷ xs)) = IsOperand text (Ok x) × AreRead texts (Ok xs)
 AreRead (text ∷ texts) (Err kind) = IsOperand text (Err kind) ⊎ ((x : ℤ × ℤ) × IsOperand text (Ok x) × AreRead texts (Err kind))
 
--- the answer is a refusal of the left operand, else the first refusal of one on the right, else what the operators give
+-- the answer is the refusal of the left operand, else the first refusal on the right, else what the operators give
 abbrev pub IsOperandsAnswer : List Operator → Result (ℤ × ℤ) RatioErrorKind → Result (List (ℤ × ℤ)) RatioErrorKind → List ℕ → Type 0
 IsOperandsAnswer operators (Err kind) _ answer = answer ≡ codes "error: left: " ++ refusal_text kind
 IsOperandsAnswer operators (Ok x) (Err kind) answer = answer ≡ codes "error: right: " ++ refusal_text kind
 IsOperandsAnswer operators (Ok x) (Ok ys) answer = IsApplied operators x ys answer
 
--- the answer to operators between a text and others: every operand is read before any operator is applied
+-- The answer to operators between a first text and others. Every operand is read before any operator applies: `1 / 0 + x` has the
+-- answer `error: right: failed to parse integer`.
 pub record IsTextsAnswer (operators : List Operator) (left : List ℕ) (rights : List (List ℕ)) (answer : List ℕ) : Type 0 where
   pub left_operand : Result (ℤ × ℤ) RatioErrorKind
   pub right_operands : Result (List (ℤ × ℤ)) RatioErrorKind
@@ -96,33 +99,33 @@ pub record IsTextsAnswer (operators : List Operator) (left : List ℕ) (rights :
   pub rights_read : AreRead rights right_operands
   pub is_answer : IsOperandsAnswer operators left_operand right_operands answer
 
--- the parts after a first operand stand by turns for an operator and for the operand on its right: these stand for operators
+-- After the first operand, the parts are by turns an operator and its right operand. These are the operators: `+` and `*` of `1 + 2 * 3`.
 abbrev pub operator_parts : List (List ℕ) → List (List ℕ)
 operator_parts [] = []
 operator_parts (operator ∷ []) = operator ∷ []
 operator_parts (operator ∷ right ∷ parts) = operator ∷ operator_parts parts
 
--- and these for operands
+-- these are the right operands: `2` and `3` of `1 + 2 * 3`
 abbrev pub right_parts : List (List ℕ) → List (List ℕ)
 right_parts [] = []
 right_parts (operator ∷ []) = []
 right_parts (operator ∷ right ∷ parts) = right ∷ right_parts parts
 
--- the operators that some parts name, if each of them names one
+-- the operators that the parts name, if each part names one
 abbrev pub operators_of : List (List ℕ) → Option (List Operator)
 operators_of [] = Some []
 operators_of (part ∷ parts) = option_and_then (λ operator. option_map (λ operators. operator ∷ operators) (operators_of parts)) (operator_of part)
 
--- the operator is cmp
+-- the operator is `cmp`
 abbrev pub is_cmp : Operator → Bool
 is_cmp Cmp = true
 is_cmp _ = false
 
--- a line that is no chain is answered so
+-- the answer to a line that is no chain
 abbrev pub want_three : List ℕ
 want_three = codes "error: want LEFT OP RIGHT"
 
--- a part has a byte
+-- the part is not empty
 abbrev pub has_byte : List ℕ → Bool
 has_byte part = not (length part == 0)
 
@@ -130,19 +133,20 @@ has_byte part = not (length part == 0)
 abbrev pub is_chain : List (List ℕ) → Bool
 is_chain parts = (length parts % 2 == 1) && (nat_lt 2 (length parts) && list_all has_byte parts)
 
--- operators are refused where a part names none of the six, and where cmp stands before another one; else the operands are answered
+-- A part that names no operator is refused, and so is `cmp` before another operator. Otherwise the answer is the answer to the operands. For example,
+-- `1 cmp 2 + 3` has the answer `error: cmp must be last`.
 abbrev pub IsChainAnswer : Option (List Operator) → List ℕ → List (List ℕ) → List ℕ → Type 0
 IsChainAnswer None left rights answer = answer ≡ codes "error: unknown operator"
 IsChainAnswer (Some operators) left rights answer =
     MatchBool (list_any is_cmp (front_of operators)) (answer ≡ codes "error: cmp must be last") (IsTextsAnswer operators left rights answer)
 
--- the parts of a line are refused where they are no chain; else their operators are answered, all of them at once
+-- the answer to the parts of a line is `want_three` if they are no chain, else the answer to all operators of the chain
 abbrev pub IsPartsAnswer : List (List ℕ) → List ℕ → Type 0
 IsPartsAnswer [] answer = answer ≡ want_three
 IsPartsAnswer (left ∷ parts) answer =
     MatchBool (is_chain (left ∷ parts)) (IsChainAnswer (operators_of (operator_parts parts)) left (right_parts parts) answer) (answer ≡ want_three)
 
--- the bytes without one trailing carriage return
+-- the bytes without one carriage return at the end
 abbrev pub without_return : List ℕ → List ℕ
 without_return [] = []
 without_return (byte ∷ []) = if byte == 13 then [] else byte ∷ []
@@ -154,16 +158,16 @@ IsAnswer line answer =
     MatchBool (nat_lt longest_line (length line)) (answer ≡ codes "error: line too long")
     (MatchBool (is_utf8 line) (IsPartsAnswer (slice_split is_space (without_return line)) answer) (answer ≡ codes "error: not UTF-8"))
 
--- the answers to some lines: those to each, in order, with a line end after each
+-- the answers to some lines, in order, with a line end after each
 abbrev pub AreAnswers : List (List ℕ) → List ℕ → Type 0
 AreAnswers [] written = written ≡ []
 AreAnswers (line ∷ lines) written =
     (answer : List ℕ) × (rest : List ℕ) × IsAnswer line answer × AreAnswers lines rest × (written ≡ answer ++ 10 ∷ rest)
 
--- the answers to the lines that have their line end
+-- the answers to the whole lines of an input
 abbrev pub AreWholeAnswers : List ℕ → List ℕ → Type 0
 AreWholeAnswers input written = AreAnswers (whole_lines input) written
 
--- the answers of an input: those to all of its lines
+-- the answers to all lines of an input
 abbrev pub AreAnswersOf : List ℕ → List ℕ → Type 0
 AreAnswersOf input written = AreAnswers (lines_of input) written

@@ -1,8 +1,8 @@
--- The lines of an input: whole ones, and the one that is begun.
+-- The lines of an input: the whole ones, and the begun one.
 use Rattle.std.specs.Prelude.{ℕ, List, [], ◌∷◌, ◌++◌, Bool, ◌==◌}
 use Rattle.std.specs.List.{slice_split}
 
--- the most bytes that a line may have, without its line end
+-- the most bytes of a line, without its line end
 abbrev pub longest_line : ℕ
 longest_line = 1000
 
@@ -16,25 +16,25 @@ front_of [] = []
 front_of (item ∷ []) = []
 front_of (item ∷ next ∷ items) = item ∷ front_of (next ∷ items)
 
--- the last that an input is cut into, which is a line that is begun
+-- the last line that an input is cut into, which is the begun one
 abbrev pub last_of : List (List ℕ) → List ℕ
 last_of [] = []
 last_of (line ∷ []) = line
 last_of (line ∷ next ∷ lines) = last_of (next ∷ lines)
 
--- the lines that have their line end
+-- the lines that have their line end, without it
 abbrev pub whole_lines : List ℕ → List (List ℕ)
 whole_lines input = front_of (slice_split is_line_end input)
 
--- the bytes that stand after the last line end
+-- the bytes after the last line end
 abbrev pub begun_line : List ℕ → List ℕ
 begun_line input = last_of (slice_split is_line_end input)
 
--- a last line without a line end counts if it isn't empty
+-- the begun line counts if it has a byte
 abbrev pub if_begun : List ℕ → List (List ℕ)
 if_begun [] = []
 if_begun (byte ∷ bytes) = (byte ∷ bytes) ∷ []
 
--- the lines of an input are those that have their line end, and then a last one without it if it counts
+-- The whole lines, and then the begun line if it has a byte. For example, the input `1 + 1`, a line end and `2` has two lines.
 abbrev pub lines_of : List ℕ → List (List ℕ)
 lines_of input = whole_lines input ++ if_begun (begun_line input)

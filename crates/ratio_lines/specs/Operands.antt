@@ -8,14 +8,14 @@ use Rattle.num_rational.specs.declared.ratio.Ratio.{Ratio}
 use Rattle.ratio_lines.specs.declared.operator.Operator.{Operator}
 use Rattle.ratio_lines.specs.declared.operator.Operator.TheVariants.{Add, Sub, Mul, Div, Rem, Cmp}
 
--- the least and the greatest number of a field
+-- the least and the greatest number of an operand
 abbrev pub least : ℤ
 least = negsuc (2 ^ 63 - 1)
 
 abbrev pub greatest : ℤ
 greatest = pos (2 ^ 63 - 1)
 
--- what a text is answered as an operand: the two numbers of its fraction in lowest terms, or its first refusal
+-- What a text gives as an operand: the two numbers of its fraction in lowest terms, or its first refusal. For example, `6/4` gives 3 and 2.
 abbrev pub IsOperand : List ℕ → Result (ℤ × ℤ) RatioErrorKind → Type 0
 IsOperand text operand = AnswersText (λ x. x.0) (λ x. x.1) least greatest (IsFractionText least greatest text) operand
 
@@ -28,7 +28,7 @@ numbers_of (Err kind) = Err kind
 abbrev pub is_text : List ℕ → List ℕ → Bool
 is_text text other = pointwise (λ a b. a == b) text other
 
--- the operator that a part names, if it is one of the six
+-- the operator that a part names: `+`, `-`, `*`, `/`, `%` or `cmp`
 abbrev pub operator_of : List ℕ → Option Operator
 operator_of part =
     if is_text part (codes "+") then Some Add
@@ -39,7 +39,7 @@ operator_of part =
     else (if is_text part (codes "cmp") then Some Cmp
     else None)))))
 
--- the two numbers of a fraction that a checked call answered
+-- the two numbers of a fraction that a checked call returned
 abbrev pub number_of : {T : _} {i : _} {o : _} {e : _} {p : _} {h : _} → Option (Ratio T i o e p h) → Option (ℤ × ℤ)
 number_of (Some r) = Some (numerator r, denominator r)
 number_of None = None

@@ -1,4 +1,4 @@
--- What is left of a line while its parts are taken one by one.
+-- The rest of a line, while its parts are taken one by one.
 use Rattle.std.specs.Prelude.{◌≡◌, ◌⊎◌, ℕ, ℤ, List, [], ◌∷◌, ◌++◌, Bool, false, ◌&&◌, ◌==◌, ◌%◌, length, Option, None, Some, Ok, Err, option_map, codes}
 use Rattle.std.specs.Borrow.{Bor}
 use Rattle.std.specs.List.{list_all, list_any, slice_split}
@@ -9,26 +9,26 @@ use Rattle.ratio_lines.specs.Lines.{front_of}
 use Rattle.ratio_lines.specs.Operands.{IsOperand}
 use Rattle.ratio_lines.specs.declared.operator.Operator.{Operator}
 
--- these parts are left: none, or those of a text
+-- the parts that are left: none, or the parts of a text
 abbrev pub parts_of : Option (Bor (List ℕ)) → List (List ℕ)
 parts_of None = []
 parts_of (Some text) = slice_split is_space text.now
 
--- some parts are pairs of an operator and an operand, none of which is empty
-abbrev pub are_pairs : List (List ℕ) → Bool
-are_pairs parts = (length parts % 2 == 0) && list_all has_byte parts
+-- the parts are pairs of an operator and an operand, and none is empty
+abbrev pub are_terms : List (List ℕ) → Bool
+are_terms parts = (length parts % 2 == 0) && list_all has_byte parts
 
--- an operator and those that stand after it, if these are known
+-- an operator and then the others, if these are known
 abbrev pub with_first : Operator → Option (List Operator) → Option (List Operator)
 with_first first operators = option_map (λ others. first ∷ others) operators
 
--- the parts after an operator name operators too, and cmp stands before none
+-- the parts after an operator name operators too, and `cmp` comes before none
 pub record AreChained (first : Operator) (parts : List (List ℕ)) : Type 0 where
   pub others : List Operator
   pub named : operators_of parts ≡ Some others
   pub cmp_last : list_any is_cmp (front_of (first ∷ others)) ≡ false
 
--- an operator between what two texts read as gives this
+-- both texts are read as fractions, and the operator between these has this outcome
 pub record OperatesOn (left : List ℕ) (operator : Operator) (right : List ℕ) (outcome : Outcome) : Type 0 where
   pub first : ℤ × ℤ
   pub second : ℤ × ℤ
@@ -36,7 +36,7 @@ pub record OperatesOn (left : List ℕ) (operator : Operator) (right : List ℕ)
   pub right_reads : IsOperand right (Ok second)
   pub is_outcome : IsOutcome operator first second outcome
 
--- the first of two texts is refused, or the second one alone, and this says so
+-- the first text is refused, or else the second one, and the answer is this refusal
 abbrev pub RefusesFirst : List ℕ → List ℕ → List ℕ → Type 0
 RefusesFirst left right answer =
     ((kind : RatioErrorKind) × IsOperand left (Err kind) × (answer ≡ codes "error: left: " ++ refusal_text kind))

@@ -1,4 +1,4 @@
--- The line that ends first, and one that is cut into its parts as its end is looked for.
+-- The line that ends first in some bytes. A plain line is cut into its parts while its end is looked for.
 use Rattle.std.specs.Prelude.{◌≡◌, ℕ, ◌+◌, ◌-◌, ◌<◌, ◌≤◌, List, ◌∷◌, ◌++◌, length, take, drop, true, Option, None, Some}
 use Rattle.std.specs.Borrow.{Bor}
 use Rattle.std.specs.Char.{is_ascii_graphic}
@@ -13,18 +13,19 @@ use Rattle.ratio_lines.specs.Operands.{operator_of}
 use Rattle.ratio_lines.specs.declared.operator.Operator.{Operator}
 use Rattle.ratio_lines.specs.Lines.{longest_line}
 
--- each byte is a character from `!` to `~`
+-- each byte is a graphic character, from `!` to `~`
 abbrev pub IsGraphic : List ℕ → Type 0
 IsGraphic text = list_all is_ascii_graphic text ≡ true
 
--- such characters stand from a place to another one, and this byte after them
+-- graphic characters fill the bytes from one place to another, and this byte follows
 pub record EndsPart (bytes : List ℕ) (from byte end : ℕ) : Type 0 where
   pub after : from ≤ end
   pub within : end < length bytes
   pub graphic : IsGraphic (take (end - from) (drop from bytes))
   pub split : drop from bytes ≡ take (end - from) (drop from bytes) ++ byte ∷ drop (end + 1) bytes
 
--- the bytes begin with a line of two operands of such characters and an operator between them, which is not too long, and these stand after its line end
+-- The bytes begin with a line that is not too long: two operands of graphic characters and an operator between them, with single spaces. `after`
+-- follows its line end: in `1/2 + 1/3`, a line end and `4`, it is `4`.
 pub record BeginsPlain (bytes left : List ℕ) (operator : Operator) (right after : List ℕ) : Type 0 where
   pub name : List ℕ
   pub split : bytes ≡ left ++ 32 ∷ (name ++ 32 ∷ (right ++ 10 ∷ after))
@@ -36,14 +37,14 @@ pub record BeginsPlain (bytes left : List ℕ) (operator : Operator) (right afte
   pub right_some : has_byte right ≡ true
   pub short : length left + length name + length right + 2 ≤ longest_line
 
--- the bytes are what a begun line goes on with, a line end and what stands after it, and this answers that line
+-- the bytes are the rest of the begun line, a line end and `after`, and this is the answer to that line
 pub record IsFirstAnswer (line : Option (List ℕ)) (bytes after answer : List ℕ) : Type 0 where
   pub ended : List ℕ
   pub none : HasNone 10 ended
   pub split : bytes ≡ ended ++ 10 ∷ after
   pub answers : IsKeptAnswer (extended line ended) answer
 
--- what the first line end in some bytes answers, and what stands after it; or there is none
+-- the answer to the line that the first line end ends, and the bytes after it, or there is no line end
 abbrev pub IsNextAnswer : {T : _} {i : _} {o : _} {e : _} {p : _} {h : _} → Option (List ℕ) → List ℕ → Option (Either (Bor (List ℕ)) (Ratio T i o e p h) × Bor (List ℕ)) → Type 0
 IsNextAnswer line bytes None = HasNone 10 bytes
 IsNextAnswer line bytes (Some next) = IsFirstAnswer line bytes next.1.now (bytes_of next.0)

@@ -1,4 +1,4 @@
--- What holds of the answers to an input that is cut after a line end.
+-- The answers to an input that is cut after a line end.
 use Rattle.std.specs.Prelude.{◌≡◌, ℕ, List, [], ◌∷◌, ◌++◌, ◌⊎◌}
 use Rattle.ratio_lines.specs.Answers.{AreAnswersOf}
 
@@ -6,11 +6,12 @@ use Rattle.ratio_lines.specs.Answers.{AreAnswersOf}
 abbrev pub EndsLine : List ℕ → Type 0
 EndsLine input = (input ≡ []) ⊎ ((front : List ℕ) × (input ≡ front ++ 10 ∷ []))
 
--- where an input is cut after a line end, the answers to what stands before and then those to what stands after answer the whole
+-- Cut an input after a line end. The answers to the first part, and then the answers to the second, are the answers to the whole. For example, the
+-- lines `1 + 1` and `2 + 2` have the answers `2` and `4`, together or each on its own.
 abbrev pub AnswersJoin : Type 0
 AnswersJoin = (before after xs ys : List ℕ) → EndsLine before → AreAnswersOf before xs → AreAnswersOf after ys → AreAnswersOf (before ++ after) (xs ++ ys)
 
--- and nothing else answers it
+-- the whole has no other answers
 abbrev pub AnswersPart : Type 0
 AnswersPart =
     (before after all : List ℕ)
@@ -18,6 +19,6 @@ AnswersPart =
     → AreAnswersOf (before ++ after) all
     → (xs : List ℕ) × (ys : List ℕ) × AreAnswersOf before xs × AreAnswersOf after ys × (all ≡ xs ++ ys)
 
--- each input has answers, and has no others
+-- each input has answers, and no others
 abbrev pub EachIsAnswered : Type 0
 EachIsAnswered = (input : List ℕ) → (xs : List ℕ) × AreAnswersOf input xs × ((ys : List ℕ) → AreAnswersOf input ys → ys ≡ xs)

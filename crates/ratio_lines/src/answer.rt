@@ -13,21 +13,21 @@ ghost use Rattle.ratio_lines.specs.Parts.{AreChained, OperatesOn, RefusesFirst, 
 use crate::answer_text::AnswerText;
 use crate::limits::LONGEST_LINE;
 use crate::operator::{Operator, operator_named};
-use crate::parts::{come_in_pairs, first_part};
+use crate::parts::{all_are_terms, first_part};
 use either::Either;
 use num_rational::{RatioErrorKind, Rational64};
 use std::cmp::Ordering;
 
 const WANT_THREE: &str = "error: want LEFT OP RIGHT";
 
-/// The answer to a line that is longer than a line may be.
+/// The answer to a line that is too long.
 pub const TOO_LONG: &str = "error: line too long";
 
 const DIVISION_BY_ZERO: &str = "error: division by zero";
 
 const UNKNOWN_OPERATOR: &str = "error: unknown operator";
 
-/// What a result gives: a number to go on with, or the refusal where there is none.
+/// A result is the number for the next operator. Without one, the answer is `error: out of range`.
 fn result_outcome(checked: Option<Rational64>) -> AnswerText
     ensures { outcome_of result ≡ outcome_of_result (number_of checked) }
 {
@@ -37,7 +37,7 @@ fn result_outcome(checked: Option<Rational64>) -> AnswerText
     }
 }
 
-/// The sign of an order.
+/// The text of an order.
 fn order_sign(order: Ordering) -> &'static str
     ensures { result.now ≡ order_text order }
 {
@@ -48,7 +48,7 @@ fn order_sign(order: Ordering) -> &'static str
     }
 }
 
-/// What an operator between two fractions gives.
+/// The outcome of an operator between two fractions: a number, or the text that is the answer.
 fn apply_operator(operator: Operator, left: Rational64, right: Rational64) -> AnswerText
     requires left_positive { pos 0 <ℤ denominator left }
     requires right_positive { pos 0 <ℤ denominator right }
@@ -66,7 +66,7 @@ fn apply_operator(operator: Operator, left: Rational64, right: Rational64) -> An
     }
 }
 
-/// What an operator gives after others, which may have answered the line.
+/// The outcome of an operator after others. If these gave a text, it stays the answer.
 fn go_on(so_far: AnswerText, operator: Operator, right: Rational64) -> AnswerText
     requires left_positive { MatchEither so_far (λ _. ⊤) (λ left. pos 0 <ℤ denominator left) }
     requires right_positive { pos 0 <ℤ denominator right }
@@ -78,7 +78,7 @@ fn go_on(so_far: AnswerText, operator: Operator, right: Rational64) -> AnswerTex
     }
 }
 
-/// The refusal of a first operand.
+/// The answer that refuses the first operand.
 fn left_refusal(kind: RatioErrorKind) -> AnswerText
     ensures { bytes_of result ≡ codes "error: left: " ++ refusal_text kind }
 {
@@ -88,7 +88,7 @@ fn left_refusal(kind: RatioErrorKind) -> AnswerText
     })
 }
 
-/// The refusal of a later operand.
+/// The answer that refuses a later operand.
 fn right_refusal(kind: RatioErrorKind) -> AnswerText
     ensures { bytes_of result ≡ codes "error: right: " ++ refusal_text kind }
 {
@@ -98,7 +98,8 @@ fn right_refusal(kind: RatioErrorKind) -> AnswerText
     })
 }
 
-/// What an operator between two operands gives, or the refusal of the first operand that is refused.
+/// The outcome of an operator between two operands, or the answer that
+/// refuses the first operand that is refused.
 #[inline(always)]
 fn first_outcome(left: &str, operator: Operator, right: &str) -> Result<AnswerText, AnswerText>
     ensures { MatchResult result
@@ -125,9 +126,9 @@ pub fn answer_two(left: &str, operator: Operator, right: &str) -> AnswerText
     }
 }
 
-/// The answer to operators between operands, which are applied from left to right. Each operand is
-/// read once; those after an operator that has answered the line are read too, since their refusal
-/// comes first.
+/// The answer to operators between operands. Operators apply from left to right. Each operand is read
+/// once. It is read even if the answer is already known, since a refusal comes first: `1 / 0 + x` has
+/// the answer `error: right: failed to parse integer`.
 fn answer_texts(left: &str, operator: Operator, right: &str, parts: Option<&str>) -> AnswerText
     requires { AreChained operator (operator_parts (parts_of parts)) }
     ensures { IsTextsAnswer (operator ∷ unwrap_or (operators_of (operator_parts (parts_of parts.entry))) []) left.now (right.now ∷ right_parts (parts_of parts.entry)) (bytes_of result) }
@@ -156,7 +157,7 @@ fn answer_texts(left: &str, operator: Operator, right: &str, parts: Option<&str>
     outcome
 }
 
-/// The refusal of operators, if they are refused: one that is unknown, else `cmp` before another one.
+/// The refusal of the operators, if they are refused: an unknown one, or else `cmp` before another one.
 fn operators_refusal(first: Operator, parts: Option<&str>) -> Option<&'static str>
     ensures { MatchOption result (AreChained first (operator_parts (parts_of parts.entry)))
         (λ text. (left : List ℕ) (rights : List (List ℕ)) → IsChainAnswer (with_first first (operators_of (operator_parts (parts_of parts.entry)))) left rights text.now) }
@@ -183,11 +184,11 @@ fn operators_refusal(first: Operator, parts: Option<&str>) -> Option<&'static st
     }
 }
 
-/// Whether some parts are a chain: the first three have a byte each, and the others come in pairs.
+/// Whether the parts are a chain: none is empty, and those after the first three come in pairs.
 fn is_chain(left: &str, operator: &str, right: &str, parts: Option<&str>) -> bool
     ensures { result ≡ is_chain (left.now ∷ operator.now ∷ right.now ∷ parts_of parts.entry) }
 {
-    !left.is_empty() && !operator.is_empty() && !right.is_empty() && come_in_pairs(parts)
+    !left.is_empty() && !operator.is_empty() && !right.is_empty() && all_are_terms(parts)
 }
 
 /// The answer to at least three parts.
@@ -206,7 +207,7 @@ fn answer_chain(left: &str, operator: &str, right: &str, parts: Option<&str>) ->
     }
 }
 
-/// The answer to a text, whose parts stand between single spaces.
+/// The answer to a text whose parts have single spaces between them.
 fn answer_parts(text: &str) -> AnswerText
     ensures { IsPartsAnswer (slice_split is_space text.now) (bytes_of result) }
 {
@@ -220,7 +221,8 @@ fn answer_parts(text: &str) -> AnswerText
     answer_chain(left, operator, right, parts)
 }
 
-/// The answer to a line without its line end. One carriage return at its end is left out of account.
+/// The answer to a line without its line end. A carriage return at its end counts as
+/// a byte of the line, and then it is dropped.
 pub fn answer(line: &[u8]) -> AnswerText
     ensures { IsAnswer line.now (bytes_of result) }
 {

@@ -1,8 +1,8 @@
-//! The text that answers a line.
+//! The text of an answer.
 
 use either::Either;
 use num_rational::Rational64;
 
-/// The text that answers a line, without a line end: on the left one that is known beforehand, on the
-/// right the decimal text of a number.
+/// The text of an answer, without a line end. On the left is a known text, on the
+/// right a number that is printed in decimal.
 pub type AnswerText = Either<&'static str, Rational64>;

@@ -10,7 +10,7 @@ use crate::gathered::Gathered;
 use crate::line::Line;
 use crate::piece::{answer_piece, put_answer};
 
-/// Reads a piece, and says of how many bytes: 0 at the end.
+/// Reads a piece, and returns the number of its bytes: 0 at the end.
 fn read_piece<R: CalcRead>(reader: &mut R, buffer: &mut [u8; 512]) -> Result<usize, CalcFault>
     ensures { GivesPiece (change_of R.remaining R.calls reader.old reader.new) buffer.new result }
 {
@@ -20,8 +20,8 @@ fn read_piece<R: CalcRead>(reader: &mut R, buffer: &mut [u8; 512]) -> Result<usi
     }
 }
 
-/// Answers each line that has its line end, and gives the line that is then begun. The answers to
-/// what a piece brought are written before the next piece is read.
+/// Answers each whole line, and returns the begun line. The answers to a piece
+/// are written before the next piece is read.
 fn answer_whole_lines<R: CalcRead, W: CalcWrite>(
     reader: &mut R,
     writer: &mut W,
@@ -58,7 +58,7 @@ fn take_piece<W: CalcWrite>(
     gathered.write_out(writer)
 }
 
-/// Answers a last line that has no line end.
+/// Answers the begun line, if it has a byte.
 fn answer_last<W: CalcWrite>(line: &Line, writer: &mut W) -> Result<(), CalcFault>
     ensures { WritesFor (IsLastAnswer line.now) (change_of W.contents W.calls writer.old writer.new) result }
 {
@@ -80,8 +80,8 @@ fn flush<W: CalcWrite>(writer: &mut W) -> Result<(), CalcFault>
     }
 }
 
-/// Reads the whole input and answers each of its lines, and then flushes the writer. It takes no
-/// memory, and stops at the first call that fails.
+/// Reads the whole input, answers each of its lines, and then flushes the writer. It takes no
+/// memory. It stops at the first call that fails.
 pub fn run<R: CalcRead, W: CalcWrite>(reader: &mut R, writer: &mut W) -> Result<(), CalcFault>
     ensures answered { Ran (change_of R.remaining R.calls reader.old reader.new)
         (change_of W.contents W.calls writer.old writer.new) result }
@@ -90,7 +90,7 @@ pub fn run<R: CalcRead, W: CalcWrite>(reader: &mut R, writer: &mut W) -> Result<
     ensures reader_failed { (R.calls reader.new).failures ≡ (R.calls reader.old).failures + read_failures result }
     ensures writer_failed { (W.calls writer.new).failures ≡ (W.calls writer.old).failures + write_failures result }
 
-    // The reader itself said that it has ended, and the writer was flushed once, after its last byte.
+    // The reader itself said that it has ended. The writer was flushed once, after its last byte.
     ensures ended { OnOk result ((R.calls reader.new).ends ≡ (R.calls reader.old).ends + 1) }
     ensures flushed { OnOk result ((W.calls writer.new).flushes ≡ (W.calls writer.old).flushes + 1) }
     ensures marked { OnOk result ((W.calls writer.new).mark ≡ length (W.calls writer.new).moved) }

@@ -1,12 +1,11 @@
-//! What the calls of a device did so far, where only contracts see it.
+//! What the calls of a device did so far. Only contracts see it.
 ghost use Rattle.std.specs.Prelude.{◌≡◌, ℕ, ◌+◌, List, [], ◌++◌, length};
 ghost use Rattle.std.specs.Borrow.{ftrue};
 
 use std::marker::Model;
 
-/// What the calls of a reader or a writer did so far. It has no bytes at run time: its fields are
-/// unbounded numbers and lists that only clauses and proofs see, and only the functions here change
-/// them.
+/// What the calls of a reader or a writer did so far. The fields are unbounded numbers and lists. They
+/// exist only in contracts and proofs, and take no memory. Only the functions here change them.
 #[derive(Drop)]
 pub struct Calls {
     /// The bytes that calls gave or took.
@@ -15,9 +14,9 @@ pub struct Calls {
     pub ghost failures: { ℕ },
     /// How many reads said that the reader has ended.
     pub ghost ends: { ℕ },
-    /// How many flushes answered `Ok`.
+    /// How many flushes returned `Ok`.
     pub ghost flushes: { ℕ },
-    /// How many bytes had been moved at the last such flush.
+    /// How many bytes had moved at the last such flush.
     pub ghost mark: { ℕ },
 }
 
@@ -28,14 +27,14 @@ impl Model for Calls {
 impl Calls {
     ghost use Rattle.ratio_lines.specs.Devices.{after_moving, after_failing, after_ending, after_flushing, no_calls};
 
-    /// No call yet.
+    /// No call was made.
     pub fn none() -> Calls
         ensures { result ≡ no_calls }
     {
         Calls {}
     }
 
-    // The calls become any others, since they have no byte at run time: whoever calls this says which.
+    // Changes the calls to `next`, which the caller chooses. Nothing happens at run time.
     fn note(&mut self, _bytes: &[u8])
         ghost next: { Calls }
         ensures { self.new ≡ next }
@@ -62,7 +61,7 @@ impl Calls {
         self.note(&[])
     }
 
-    /// A flush answered `Ok`.
+    /// A flush returned `Ok`.
     pub fn note_flushed(&mut self)
         ensures { self.new ≡ after_flushing self.old }
     {

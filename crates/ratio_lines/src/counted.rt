@@ -1,4 +1,4 @@
-//! Readers and writers whose calls contracts can follow.
+//! Readers and writers whose calls a contract can follow.
 ghost use Rattle.std.specs.Prelude.{◌≡◌, ℕ};
 ghost use Rattle.std.specs.Io.{ReadsAtMost, WritesAtMost};
 ghost use Rattle.std.specs.Io.KnownBytes.{ReadConsumes, WriteAppends, Keeps};
@@ -12,10 +12,10 @@ use std::marker::Model;
 
 /// A reader whose calls are followed.
 pub trait CalcRead: Read {
-    /// What calls did so far.
+    /// What the calls did so far.
     ghost calls: { Self → Calls };
 
-    /// Reads as `read` does. A call that answers `Err` has failed.
+    /// Reads as `read` does. A call that returns `Err` has failed.
     fn read_counted(&mut self, buf: &mut [u8]) -> io::Result<usize>
         ensures bound { ReadsAtMost result buf.new }
         ensures bytes { ReadConsumes (Self.remaining self.old) (Self.remaining self.new) result buf.new }
@@ -24,11 +24,11 @@ pub trait CalcRead: Read {
 
 /// A writer whose calls are followed.
 pub trait CalcWrite: Write {
-    /// What calls did so far.
+    /// What the calls did so far.
     ghost calls: { Self → Calls };
 
-    /// Writes as `write` does. A call that answers `Err`, or takes no byte where there are some, has
-    /// failed.
+    /// Writes as `write` does. A call has failed if it returns
+    /// `Err`, or takes no byte though there are some.
     fn write_counted(&mut self, buf: &[u8]) -> io::Result<usize>
         ensures bound { WritesAtMost result buf.now }
         ensures bytes { WriteAppends (Self.contents self.old) (Self.contents self.new) result buf.now }
@@ -40,7 +40,7 @@ pub trait CalcWrite: Write {
         ensures calls { calls self.new ≡ after_flush (calls self.old) result };
 }
 
-/// Any reader or writer, with its calls followed. That takes no bytes at run time.
+/// A reader or a writer with its calls followed. To follow them takes no memory.
 #[derive(Drop)]
 pub struct Counted<D> {
     device: D,
@@ -55,7 +55,7 @@ impl<D> Model for Counted<D> {
 }
 
 impl<D> Counted<D> {
-    /// A device of which no call has been made.
+    /// The device. No call has been made.
     pub fn new(device: D) -> Counted<D>
         ensures { result ≡ record { device = device; reads = no_calls; writes = no_calls } }
     {

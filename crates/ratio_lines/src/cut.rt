@@ -1,10 +1,11 @@
-//! Cutting at the first byte of a value.
+//! Cutting at the first byte with a given value.
 ghost use Rattle.std.specs.Prelude.{◌<◌};
 ghost use Rattle.ratio_lines.specs.Cuts.{IsCut};
 
 use memchr::memchr;
 
-/// What stands before the first such byte, and what after it.
+/// The bytes before the first such byte, and the bytes after it. For
+/// example, `a/b/c` at `/` gives `a` and `b/c`.
 pub fn cut(bytes: &[u8], byte: u8) -> Option<(&[u8], &[u8])>
     ensures { IsCut byte bytes.now result }
 {
@@ -14,7 +15,7 @@ pub fn cut(bytes: &[u8], byte: u8) -> Option<(&[u8], &[u8])>
     }
 }
 
-/// The same of a text, at a byte that is a character of its own.
+/// The same for a text, at an ASCII byte.
 pub fn cut_text(text: &str, byte: u8) -> Option<(&str, &str)>
     requires { byte < 128 }
     ensures { IsCut byte text.now result }

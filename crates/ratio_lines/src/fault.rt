@@ -1,4 +1,4 @@
-//! Why a run stopped, and what the program says of it.
+//! Why a run stopped, and what the program prints then.
 ghost use Rattle.std.specs.Prelude.{◌≡◌};
 ghost use Rattle.ratio_lines.specs.Run.{fault_text};
 
@@ -13,7 +13,7 @@ pub enum CalcFault {
     Endless = 3,
 }
 
-/// What the program says of a fault.
+/// What the program prints at a fault.
 pub fn fault_line(fault: CalcFault) -> &'static str
     ensures { result.now ≡ fault_text fault }
 {

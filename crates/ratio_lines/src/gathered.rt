@@ -1,4 +1,4 @@
-//! Bytes that wait to be written, so that many answers are written by one call.
+//! Bytes that wait to be written, so that one call writes many answers.
 ghost use Rattle.std.specs.Prelude.{◌≡◌, ℕ, List, [], OnOk};
 ghost use Rattle.ratio_lines.specs.Devices.{Gathers, Waits, Writes, change_of};
 
@@ -29,8 +29,8 @@ impl Gathered {
         }
     }
 
-    /// Adds bytes at the end. Where there is room for them, nothing is written. Where there is none, those
-    /// that wait are written first; what is longer than all the room is then written at once.
+    /// Adds bytes at the end. If there is room for them, nothing is written. Otherwise those that wait
+    /// are written first. Bytes that are longer than all the room are then written at once.
     pub fn put<W: CalcWrite>(&mut self, writer: &mut W, bytes: &[u8]) -> Result<(), CalcFault>
         ensures gathered { Gathers (change_of W.contents W.calls writer.old writer.new) self.old self.new bytes.now result }
         ensures waits { Waits (change_of W.contents W.calls writer.old writer.new) self.old self.new bytes.now result }
@@ -41,7 +41,7 @@ impl Gathered {
         }
     }
 
-    // Writes those that wait, and then adds the bytes or writes them too.
+    // Writes those that wait. Then adds the bytes, or writes them too.
     fn put_after<W: CalcWrite>(&mut self, writer: &mut W, bytes: &[u8]) -> Result<(), CalcFault>
         ensures { Gathers (change_of W.contents W.calls writer.old writer.new) self.old self.new bytes.now result }
     {

@@ -1,4 +1,4 @@
-//! The calculator as a library: answers each line of an input with a line of an output.
+//! The calculator as a library. It answers each line of an input with a line of an output.
 #![tactic(auto)]
 
 pub mod answer;

@@ -1,4 +1,4 @@
-//! What a line may have at most.
+//! The limit of a line.
 
-/// The longest length of a line, in bytes without its line end.
+/// The most bytes of a line, without its line end.
 pub const LONGEST_LINE: usize = 1000;

@@ -37,7 +37,7 @@ impl Line {
         }
     }
 
-    /// Puts more bytes at the end. A line that has become too long stays so.
+    /// Adds more bytes at the end. A line that has become too long stays so.
     pub fn extend(&mut self, more: &[u8])
         ensures { self.new ≡ extended self.old more.now }
     {

@@ -2,7 +2,7 @@
 ghost use Rattle.std.specs.Prelude.{◌≡◌, ◌∷◌, []};
 ghost use Rattle.ratio_lines.specs.Operands.{operator_of};
 
-/// What a line asks of its two operands.
+/// An operator between two operands.
 #[derive(Clone, Copy, PartialEq, Debug)]
 pub enum Operator {
     Add,
@@ -16,7 +16,7 @@ pub enum Operator {
 impl Operator {
     ghost use Rattle.ratio_lines.specs.Answers.{is_cmp};
 
-    /// Whether it compares, and so gives no number to go on with.
+    /// Whether it is `cmp`, which gives no number for a next operator.
     pub fn is_cmp(self) -> bool
         ensures { result ≡ is_cmp self }
     {

@@ -1,12 +1,13 @@
-//! The parts of a text, which stand between single spaces.
+//! The parts of a text, with single spaces between them.
 ghost use Rattle.std.specs.Prelude.{◌≡◌, ◌∷◌};
 ghost use Rattle.std.specs.List.{slice_split};
 ghost use Rattle.ratio_lines.specs.Answers.{is_space};
-ghost use Rattle.ratio_lines.specs.Parts.{are_pairs, parts_of};
+ghost use Rattle.ratio_lines.specs.Parts.{are_terms, parts_of};
 
 use crate::cut::cut_text;
 
-/// The first part of a text, and what stands after it, if it is not the last one.
+/// The first part of a text, and the rest after its space, if it has
+/// one. For example, `1 + 2` gives `1` and `+ 2`.
 pub fn first_part(text: &str) -> (&str, Option<&str>)
     ensures { slice_split is_space text.now ≡ result.0.now ∷ parts_of result.1 }
 {
@@ -16,9 +17,9 @@ pub fn first_part(text: &str) -> (&str, Option<&str>)
     }
 }
 
-/// Whether parts come in pairs, and none of them is empty.
-pub fn come_in_pairs(parts: Option<&str>) -> bool
-    ensures { result ≡ are_pairs (parts_of parts.entry) }
+/// Whether the parts come in pairs, and none is empty.
+pub fn all_are_terms(parts: Option<&str>) -> bool
+    ensures { result ≡ are_terms (parts_of parts.entry) }
 {
     let mut rest = parts;
     while let Some(text) = rest {

@@ -29,7 +29,7 @@ fn put_text<W: CalcWrite>(
     match answer {
         Either::Left(text) => gathered.put(writer, text.as_bytes()),
         Either::Right(number) => {
-            let text = number.decimal_text();
+            let text = number.base_ten_text();
             gathered.put(writer, text.as_str().as_bytes())
         }
     }
@@ -50,7 +50,8 @@ pub fn put_answer<W: CalcWrite>(
     gathered.put(writer, b"\n")
 }
 
-/// The answer to the line that the bytes begin with, and what stands after its line end.
+/// The answer to the line that the bytes begin with, and the bytes after
+/// its line end. `None` if there is no line end.
 fn first_answer(bytes: &[u8]) -> Option<(AnswerText, &[u8])>
     ensures { IsNextAnswer (Some []) bytes.now result }
 {
@@ -61,8 +62,8 @@ fn first_answer(bytes: &[u8]) -> Option<(AnswerText, &[u8])>
     Some((answer(line), after))
 }
 
-/// The answer to the line that ends first in the bytes, and what stands after its line end. A line that
-/// begins in them is answered where it stands.
+/// The answer to the line that ends first in the bytes, and the bytes after its line end. `None` if
+/// there is no line end. A line that also begins in these bytes is answered without a copy.
 fn next_answer<'a>(line: &mut Line, bytes: &'a [u8]) -> Option<(AnswerText, &'a [u8])>
     ensures answered { IsNextAnswer line.old bytes.now result }
     ensures line { line.new ≡ (if is_some result then Some [] else line.old) }
@@ -77,7 +78,7 @@ fn next_answer<'a>(line: &mut Line, bytes: &'a [u8]) -> Option<(AnswerText, &'a 
     Some((answer, after))
 }
 
-/// Answers each line that ends in the piece, and keeps what stands after the last line end.
+/// Answers each line that ends in the piece, and keeps the bytes after the last line end.
 pub fn answer_piece<W: CalcWrite>(
     line: &mut Line,
     gathered: &mut Gathered,

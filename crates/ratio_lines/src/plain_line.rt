@@ -1,12 +1,12 @@
-//! A plain line: two operands of graphic ASCII characters and an operator between them, cut as the end
-//! of the line is looked for.
+//! A plain line: two operands of graphic ASCII characters and an operator between them. It is cut
+//! into its parts while its end is looked for.
 ghost use Rattle.std.specs.Prelude.{◌≡◌, ◌≤◌, IfSome, length};
 ghost use Rattle.ratio_lines.specs.PlainLine.{BeginsPlain, EndsPart, IsGraphic};
 
 use crate::limits::LONGEST_LINE;
 use crate::operator::{Operator, operator_named};
 
-/// The parts of a plain line, and what stands after its line end.
+/// The parts of a plain line, and the bytes after its line end.
 #[derive(Drop)]
 pub struct PlainLine<'a> {
     pub left: &'a str,
@@ -15,8 +15,8 @@ pub struct PlainLine<'a> {
     pub after: &'a [u8],
 }
 
-// Where the part that begins at a place ends: it has graphic characters alone, and this byte stands
-// after them.
+// The end of the part that begins at `from`. The part has only
+// graphic characters, and `byte` follows it.
 #[inline(always)]
 fn part_end(bytes: &[u8], from: usize, byte: u8) -> Option<usize>
     requires { from ≤ length bytes.now }
@@ -33,7 +33,7 @@ fn part_end(bytes: &[u8], from: usize, byte: u8) -> Option<usize>
     }
 }
 
-// The text of graphic characters.
+// Graphic characters as a text.
 #[inline(always)]
 fn text(bytes: &[u8]) -> &str
     requires { IsGraphic bytes.now }
@@ -42,8 +42,8 @@ fn text(bytes: &[u8]) -> &str
     unsafe { str::from_utf8_unchecked(bytes) }
 }
 
-/// The plain line that the bytes begin with. Each byte is read once to find its parts. A line of other
-/// characters, of more parts or of a refused shape is none.
+/// The plain line that the bytes begin with. Each byte is read once to find its parts. `None` for a
+/// line of other characters, of more parts or of a refused shape.
 pub fn plain_line(bytes: &[u8]) -> Option<PlainLine<'_>>
     ensures { IfSome result (λ line. BeginsPlain bytes.now line.left.now line.operator line.right.now line.after.now) }
 {

@@ -1,4 +1,4 @@
--- The answers that stand in the room so far, and those that are still to come.
+-- The answers in the room so far, and those that are still to come.
 use Rattle.std.proofs.Common.{◌≡◌, ℕ, zero, suc, ◌+◌, ◌-◌, ◌^◌, ◌<◌, ◌≤◌, List, [], ◌∷◌, ◌++◌, length, take, drop, Option, Some, None, true, false, ◌==◌, refl, sym, ap, ◌∙◌, inl, inr, arith, append_assoc, length-append}
 use Rattle.std.specs.List.{slice_split}
 use Rattle.std.specs.Option.{unwrap_or}
@@ -25,13 +25,13 @@ lines_cut line after none =
     ap (λ parts. front_of parts ++ if_begun (last_of parts)) (split_cut 10 line after none)
     ∙ lines_under line (slice_split is_line_end after) (omega (arith, length-slice_split is_line_end after))
 
--- what has no line end is one line, if it has a byte
+-- bytes without a line end are one line, if there are any
 lines_uncut : (byte : ℕ) (rest : List ℕ) → HasNone 10 (byte ∷ rest) → lines_of (byte ∷ rest) ≡ (byte ∷ rest) ∷ []
 lines_uncut byte rest none = ap (λ parts. front_of parts ++ if_begun (last_of parts)) (split_uncut 10 (byte ∷ rest) none)
 
 -- ---- the room
 
--- the answers to what stood before `rest` in the input are at the room's beginning, which is as it was behind them
+-- The answers to what came before `rest` in the input are at the beginning of the room, which is unchanged behind them.
 pub record SoFar (input rest old new : List ℕ) (filled : ℕ) : Type 0 where
   pub done : List ℕ
   pub counted : filled ≡ length done
@@ -55,7 +55,7 @@ back_room : (done old mid : List ℕ) (at k : ℕ) → at ≡ length done → mi
 back_room done old mid at k counted room =
     sym (drop-drop k at mid) ∙ ap (λ xs. drop k (drop at xs)) room ∙ ap (drop k) (drop_at done (drop at old) at (sym counted)) ∙ drop-drop k at old
 
--- the room after some bytes were put behind those that stood there
+-- the room after more bytes were put behind those that it had
 room_after : (done old mid new bytes : List ℕ) (at end : ℕ) → at ≡ length done → mid ≡ done ++ drop at old → IsPut bytes at mid new (Some end)
     → new ≡ (done ++ bytes) ++ drop end old
 room_after done old mid new bytes at end counted room put =
@@ -118,7 +118,7 @@ ends input old new filled so_far =
     let all : AreAnswersOf input (so_far.done ++ []) = so_far.goes_on [] refl in
     record { answers = so_far.done; are = rw append-nil at all; shown = inl record { counted = so_far.counted; filled = so_far.room } }
 
--- the last bytes were put, or had no place
+-- the last bytes were put, or did not fit
 ended : (input rest old mid new : List ℕ) (at count : ℕ) (bytes : List ℕ) (result : Option ℕ) → (so_far : SoFar input rest old mid at) → IsPut bytes at mid new result
     → AreAnswersOf input (so_far.done ++ bytes) → count ≡ unwrap_or result (2 ^ 64 - 1) → Shows input old new count
 ended input rest old mid new at count bytes None so_far put are is =
@@ -133,7 +133,7 @@ ended input rest old mid new at count bytes (Some end) so_far put are is =
       };
     }
 
--- the last line, which has no line end, was answered or had no place
+-- the last line, which has no line end, was answered or did not fit
 pub last_line : (input rest old mid new : List ℕ) (at count : ℕ) (result : Option ℕ) → SoFar input rest old mid at → HasNone 10 rest → false ≡ (length rest == 0)
     → IsAnswerPut rest at mid new result → count ≡ unwrap_or result (2 ^ 64 - 1) → Shows input old new count
 last_line input [] old mid new at count result so_far none some put is = absurd (let no : false ≡ true = some in cc)

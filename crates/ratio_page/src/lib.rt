@@ -1,4 +1,4 @@
-//! The calculator over memory: the lines of a text go in, and their answers come out.
+//! The calculator over memory. The lines of a text go in, and their answers come out.
 #![tactic(auto)]
 
 ghost use Rattle.ratio_page.specs.Page.{Shows};
@@ -10,9 +10,8 @@ mod tests;
 use ratio_lines::cut::cut;
 use room::put_answer;
 
-/// Writes the answers to the lines of `input` to the beginning of `room`, and says how many bytes they
-/// are. Where they have no place there, it says so by the greatest number, and `room` has their
-/// beginning.
+/// Writes the answers to the lines of `input` to the beginning of `room`, and returns their length. If
+/// they do not fit, it returns 2^64-1, and `room` holds the first part of them.
 #[unsafe(no_mangle)]
 pub extern "C" fn ratio_page_answers(input: &[u8], room: &mut [u8]) -> usize
     ensures { Shows input.now room.old room.new result }

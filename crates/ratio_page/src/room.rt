@@ -1,4 +1,4 @@
-//! Putting answers into a piece of memory, one behind the other.
+//! Putting answers into a piece of memory, one after another.
 ghost use Rattle.std.specs.Prelude.{◌≡◌, ◌≤◌, length};
 ghost use Rattle.ratio_lines.specs.AnswerText.{bytes_of};
 ghost use Rattle.ratio_page.specs.Page.{IsAnswerPut, IsPut};
@@ -7,8 +7,8 @@ use either::Either;
 use ratio_lines::answer::answer;
 use ratio_lines::answer_text::AnswerText;
 
-/// Puts the answer to a line and a line end at a place, and says where they end. Where they have no
-/// place up to the room's end, their beginning fills it.
+/// Puts the answer to a line, and a line end, at a place, and returns where they end. If they do not
+/// fit, it returns `None`, and their first part fills the room to its end.
 pub fn put_answer(line: &[u8], room: &mut [u8], at: usize) -> Option<usize>
     requires { at ≤ length room.old }
     ensures { IsAnswerPut line.now at room.old room.new result }
@@ -17,7 +17,7 @@ pub fn put_answer(line: &[u8], room: &mut [u8], at: usize) -> Option<usize>
     put(b"\n", room, end)
 }
 
-/// The same of an answer without its line end.
+/// The same for an answer without its line end.
 fn put_text(answer: &AnswerText, room: &mut [u8], at: usize) -> Option<usize>
     requires { at ≤ length room.old }
     ensures { IsPut (bytes_of answer.now) at room.old room.new result }
@@ -25,13 +25,13 @@ fn put_text(answer: &AnswerText, room: &mut [u8], at: usize) -> Option<usize>
     match answer {
         Either::Left(text) => put(text.as_bytes(), room, at),
         Either::Right(number) => {
-            let text = number.decimal_text();
+            let text = number.base_ten_text();
             put(text.as_str().as_bytes(), room, at)
         }
     }
 }
 
-/// The same of any bytes.
+/// The same for any bytes.
 fn put(bytes: &[u8], room: &mut [u8], at: usize) -> Option<usize>
     requires { at ≤ length room.old }
     ensures { IsPut bytes.now at room.old room.new result }

@@ -1,4 +1,5 @@
-//! What stands in a room after a call, for rooms of every length around that of the answers.
+//! What a room holds after a call. Some rooms are shorter than
+//! the answers, some as long and some longer.
 
 use crate::ratio_page_answers;
 use std::process::Abort;
@@ -8,7 +9,8 @@ const INPUT: &[u8] = b"1/2 + 1/3\n1 / 0\n\n2/4 cmp 1/2";
 
 const ANSWERS: &[u8] = b"5/6\nerror: division by zero\nerror: want LEFT OP RIGHT\n=\n";
 
-/// The room of this length has the answers and is untouched behind them, or has their beginning.
+/// A room that is long enough has the answers, and is unchanged
+/// behind them. A shorter one has their first part.
 fn shows(rt: &impl Abort, room: &mut [u8]) {
     let count = ratio_page_answers(INPUT, room);
     let fits = ANSWERS.len() <= room.len();

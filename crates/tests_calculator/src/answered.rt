@@ -1,4 +1,4 @@
-//! What the tests share: a run over devices in memory, and the one place that asserts what it did.
+//! What the tests share: a run over devices in memory, and the one function that asserts what it did.
 ghost use Rattle.std.specs.Prelude.{◌<◌, IfOk};
 ghost use Rattle.ratio_lines.specs.Answers.{AreAnswersOf};
 
@@ -10,8 +10,8 @@ use std::alloc::Global;
 use std::process::Abort;
 use std::test::Fail;
 
-/// What is written for an input of which each read gives at most so many bytes: the theorem on `run`, at
-/// devices in memory.
+/// What is written for an input of which each read gives at most `step` bytes. The contract is
+/// the theorem on `run`, for devices in memory.
 pub fn answered(alloc: Global, input: &[u8], step: usize) -> Result<Vec<u8>, CalcFault>
     requires { 0 < step }
     ensures { IfOk result (λ bytes. AreAnswersOf input.now bytes.items) }
@@ -37,7 +37,7 @@ pub fn assert_answers(
     Ok(())
 }
 
-/// So many times the same bytes.
+/// The same bytes `count` times.
 pub fn repeated(alloc: Global, bytes: &[u8], count: usize) -> Result<Vec<u8>, Fail> {
     let mut all = Vec::new(alloc);
     for _ in 0..count {

@@ -1,4 +1,4 @@
-//! A reader and a writer over memory, for tests: each fails where a test wants it to.
+//! A reader and a writer over memory, for tests. Each fails where a test wants it to.
 ghost use Rattle.std.specs.Prelude.{◌≡◌, ◌<◌, [], None, Some};
 
 use std::alloc::Global;
@@ -6,8 +6,7 @@ use std::cell::Cell;
 use std::io;
 use std::io::{ErrorKind, Read, Write};
 
-/// Gives its bytes, at most `step` a call. Where `left` is set, each call fails once that many of
-/// them were given.
+/// Gives its bytes, at most `step` a call. If `left` is set, each call fails after that many bytes.
 #[derive(Drop)]
 pub struct Feed<'a> {
     bytes: &'a [u8],
@@ -31,7 +30,7 @@ impl<'a> Feed<'a> {
         }
     }
 
-    /// A reader that fails once it gave `left` bytes.
+    /// A reader that fails after `left` bytes.
     pub fn failing(bytes: &'a [u8], step: usize, left: usize, kind: ErrorKind) -> Feed<'a>
         requires { 0 < step }
         ensures { (result.bytes.now ≡ bytes.now) × (result.left ≡ Some left) }
@@ -64,15 +63,15 @@ impl Read for Feed<'_> {
     }
 }
 
-/// What a writer does once it takes no more.
+/// How a writer refuses a call.
 #[derive(Clone, Copy)]
 pub enum Refusal {
     Fails(ErrorKind),
     TakesNone,
 }
 
-/// Keeps the bytes it takes, at most `step` a call. Where `left` is set, each call is refused once
-/// that many of them were taken.
+/// Keeps the bytes that it takes, at most `step` a call. If `left` is set,
+/// it refuses each call after that many bytes.
 #[derive(Drop)]
 pub struct Sink {
     pub bytes: Vec<u8>,
@@ -83,7 +82,7 @@ pub struct Sink {
 }
 
 impl Sink {
-    /// A writer that takes all there is.
+    /// A writer that takes everything.
     pub fn new(alloc: Global) -> Sink
         ensures { result.bytes.items ≡ [] }
     {
@@ -150,9 +149,8 @@ impl Write for Sink {
     }
 }
 
-/// What is seen of a run as it goes on: how often it read and wrote, how many bytes its first reads
-/// gave, how many line ends it has read and written, and whether a read came while a whole line had no
-/// answer.
+/// What a run has done so far: how often it read and wrote, how many bytes its first reads gave, how
+/// many line ends it read and wrote, and whether it read while a whole line had no answer.
 #[derive(Drop)]
 pub struct Watch {
     pub reads: Cell<usize>,
@@ -164,7 +162,7 @@ pub struct Watch {
 }
 
 impl Watch {
-    /// Nothing was seen.
+    /// Nothing was done.
     pub fn new() -> Watch {
         Watch {
             reads: Cell::new(0),
@@ -216,7 +214,7 @@ impl Read for WatchedFeed<'_> {
     }
 }
 
-/// Takes all there is, and tells the watch.
+/// Takes everything, and tells the watch.
 #[derive(Drop)]
 pub struct WatchedSink<'a> {
     pub watch: &'a Watch,

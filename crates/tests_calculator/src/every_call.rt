@@ -1,4 +1,4 @@
-//! What a run asks of its devices, and each public call that no line shows.
+//! How a run uses its devices, and each public call that no line shows.
 use crate::answered::repeated;
 use crate::devices::{Feed, Sink, Watch, WatchedFeed, WatchedSink};
 use ratio_lines::calculator::run;
@@ -11,8 +11,8 @@ use std::test::Fail;
 #[test]
 fn reads_and_writes_once_a_piece(rt: HostRuntime) -> Result<(), Fail> {
     let input = repeated(rt.alloc(), b"1 + 2\n", 86)?;
-    // 516 bytes come in pieces of 512 and 4 bytes, and a last read gives none. A write follows each read
-    // that brought a line end.
+    // 516 bytes come in pieces of 512 and 4 bytes, and the last read gives none. A
+    // write follows each read that gave a line end.
     for (step, reads, first_reads, writes) in [
         (512, 3, [512, 4, 0], 2),
         (7, 75, [7, 7, 7], 74),

@@ -15,12 +15,13 @@ const INPUT: &[u8] = b"1/2 + 1/3\n1 cmp 2\n";
 /// The answers to them, of 6 bytes.
 const ANSWERS: &[u8] = b"5/6\n<\n";
 
-/// The first bytes, as many as there are.
+/// The first `count` bytes, or all if there are fewer.
 fn beginning(bytes: &[u8], count: usize) -> &[u8] {
     &bytes[..count.min(bytes.len())]
 }
 
-/// How many bytes of answers stand before a read fails: a table says from which number of bytes on.
+/// How many bytes of answers are written if a read fails after `read` bytes. Each row of the
+/// table says from how many bytes on it holds.
 fn written_before(table: &[(usize, usize)], read: usize) -> usize {
     let mut written = 0;
     for (from, count) in table {
@@ -31,7 +32,7 @@ fn written_before(table: &[(usize, usize)], read: usize) -> usize {
     written
 }
 
-/// A run on these devices ends with this fault, and these bytes were written.
+/// A run on these devices ends with this fault, after it wrote these bytes.
 fn assert_fault(rt: &impl Abort, reader: Feed, writer: Sink, fault: CalcFault, written: &[u8]) {
     let mut reader = Counted::new(reader);
     let mut writer = Counted::new(writer);
@@ -40,7 +41,8 @@ fn assert_fault(rt: &impl Abort, reader: Feed, writer: Sink, fault: CalcFault, w
     assert_eq!(rt; writer.into_inner().bytes.as_slice(), written);
 }
 
-/// The reader fails after each number of bytes, with errors of two kinds, and gives 1, 7 or 512 a call.
+/// The reader fails after each number of bytes, with two kinds of
+/// error. A read gives at most 1, 7 or 512 bytes.
 fn assert_read_faults(
     rt: &impl Abort,
     alloc: Global,
@@ -59,7 +61,8 @@ fn assert_read_faults(
     }
 }
 
-/// The writer is refused after each number of bytes, in three ways, and takes 1 byte or all a call.
+/// The writer refuses a call after each number of bytes, in three
+/// ways. A write takes at most 1 byte, or all.
 fn assert_write_faults(rt: &impl Abort, alloc: Global, input: &[u8], answers: &[u8]) {
     for left in 0..answers.len() {
         for refusal in [

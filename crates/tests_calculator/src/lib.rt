@@ -1,5 +1,5 @@
-//! Tests of the programs, with answers from outside: the calculator over devices in memory, and the small
-//! programs.
+//! Tests of the programs: the calculator over devices in memory, and the small
+//! programs. The expected answers come from outside.
 #![tactic(auto)]
 
 #[cfg(test)]

@@ -77,6 +77,7 @@ fn answers_operators(rt: HostRuntime) -> Result<(), Fail> {
         make_row(b"3/2 / -1/2", b"-3\n"),
         make_row(b"5/2 % 3/2", b"1\n"),
         make_row(b"-9223372036854775808 % -1", b"0\n"),
+        make_row(b"9223372036854775807 % 1/2", b"error: out of range\n"),
         make_row(b"1/2 cmp 1/3", b">\n"),
         make_row(b"9223372036854775807 + 1", b"error: out of range\n"),
         make_row(
@@ -176,7 +177,7 @@ fn answers_hostile_lines(rt: HostRuntime) -> Result<(), Fail> {
     Ok(())
 }
 
-/// An input of many bytes: `first`, then so many times `middle`, and then `last`.
+/// A long input: `first`, then `count` times `middle`, and then `last`.
 #[derive(Clone, Copy)]
 struct LongRow {
     first: &'static [u8],
@@ -234,7 +235,7 @@ fn answers_long_lines(rt: HostRuntime) -> Result<(), Fail> {
         long(b"", b"\xff", 121, b"", b"error: not UTF-8\n"),
         long(b"", b"\0", 1001, b"\n1 + 2", b"error: line too long\n3\n"),
         long(b"", b"a", 10_000, b"", b"error: line too long\n"),
-        // A line that is too long, and one that is not, each with another after it.
+        // A line that is too long, and a long one that is not. Another line follows each.
         long(b"", b"a", 1001, b"\n1 - 1\n", b"error: line too long\n0\n"),
         long(
             b"",
@@ -243,7 +244,7 @@ fn answers_long_lines(rt: HostRuntime) -> Result<(), Fail> {
             b"\n1 - 1\n",
             b"error: want LEFT OP RIGHT\n0\n",
         ),
-        // A line end that is the first byte of a piece of 512 bytes, and a carriage return that is the last.
+        // A line end at the first byte of a piece of 512 bytes, and a carriage return at the last byte.
         long(
             b"",
             b"a",
@@ -258,7 +259,8 @@ fn answers_long_lines(rt: HostRuntime) -> Result<(), Fail> {
             b"\n1 + 2\r\n",
             b"error: want LEFT OP RIGHT\n3\n",
         ),
-        // The first two bytes of a character end a piece of 512 bytes; its third one follows, or does not.
+        // The first two bytes of a character end a piece of 512
+        // bytes. Its third byte follows, or does not.
         long(
             b"",
             b"a",
@@ -296,7 +298,7 @@ fn answers_a_line_of_ten_megabytes(rt: HostRuntime) -> Result<(), Fail> {
     Ok(())
 }
 
-/// So many equal lines, and the answer to each.
+/// `count` equal lines, and the answer to each.
 #[derive(Clone, Copy)]
 struct EqualLines {
     line: &'static [u8],
@@ -307,13 +309,13 @@ struct EqualLines {
 #[test]
 fn answers_many_lines(rt: HostRuntime) -> Result<(), Fail> {
     let rows = [
-        // The last of 86 lines of 6 bytes lies across the edge of a piece of 512 bytes.
+        // The last of 86 lines of 6 bytes crosses the end of a piece of 512 bytes.
         EqualLines {
             line: b"1 + 2\n",
             answer: b"3\n",
             count: 86,
         },
-        // The answers to one piece are many times what an array of waiting bytes has room for.
+        // The answers to one piece are many times longer than the array of waiting bytes.
         EqualLines {
             line: b"\n",
             answer: b"error: want LEFT OP RIGHT\n",

@@ -15,7 +15,7 @@ fn frac(rt: &impl Abort, numer: i64, denom: i64) -> Reduced64 {
     Reduced64::checked_new(numer, denom).expect(rt, "the row is a fraction")
 }
 
-// The answer has these fields, or there is none.
+// The result has these fields, or there is none.
 fn answers(rt: &impl Abort, answer: Option<Reduced64>, want: Option<(i64, i64)>) {
     let fields = answer.map(|x| x.into_raw());
     assert!(rt; fields == want, "{fields:?}, not {want:?}");
@@ -25,13 +25,14 @@ fn holds(rt: &impl Abort, what: &str, fact: bool) {
     assert!(rt; fact, "{what}");
 }
 
-// The teeth of both wheels, or none.
+// The teeth of both wheels, if there is a result.
 fn teeth(wanted: &Reduced64, most: i64) -> Option<(i64, i64)> {
     let gears = nearest_pair(wanted, most)?;
     Some((gears.first, gears.second))
 }
 
-// The first row whose wheels are others: the two numbers of the wanted ratio, the most teeth of the second wheel, and the teeth of both.
+// The first row whose wheels differ. A row has the two numbers of the wanted ratio, the most teeth
+// of the second wheel, and the teeth of both.
 fn first_wrong_wheels(rows: &[(i64, i64, i64, i64, i64)]) -> Option<usize> {
     for (i, &(numer, denom, most, first, second)) in rows.iter().enumerate() {
         let wheels = Reduced64::checked_new(numer, denom).and_then(|wanted| teeth(&wanted, most));
@@ -65,7 +66,8 @@ fn test_gears(rt: HostRuntime) {
     holds(&rt, "bound below 0", teeth(&golden, -1) == None);
 }
 
-// Of these ratios the nearest fraction is 0, so the first wheel has 1 tooth and the second as many as it may.
+// The fraction nearest to each of these ratios is 0. So the first wheel has 1
+// tooth, and the second has as many as it may.
 #[test]
 fn test_gears_near_zero(rt: HostRuntime) {
     let rows = [
@@ -86,7 +88,7 @@ fn test_gears_near_zero(rt: HostRuntime) {
     answers(&rt, off, None);
 }
 
-// What is answered, and the parts that are then there.
+// What `split` returns, and the parts after the call.
 fn splits(
     rt: &impl Abort,
     amount: i64,
@@ -227,7 +229,7 @@ fn test_callers(rt: HostRuntime) {
     );
 }
 
-// The next beat is at this time and of this voice.
+// The next beat comes at this time, from this voice.
 fn beats(rt: &impl Abort, beats: &mut Beats, want: (i64, i64), want_voice: Voice) {
     let beat = beats.next().expect(rt, "a beat follows");
     let (fields, voice) = (beat.time.into_raw(), beat.voice);

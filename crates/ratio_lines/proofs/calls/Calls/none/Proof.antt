@@ -1,4 +1,4 @@
--- A struct without a byte is made, with nothing in its ghost fields.
+-- Makes a struct without a byte. Its ghost fields are empty.
 use Rattle.std.proofs.Common.{[], ◌∷◌, refl}
 use Rattle.std.proofs.raw_atomic.Walks.{proved}
 use base.Fml.{ftrue}

@@ -1,4 +1,4 @@
--- The body is empty: the borrow is opened and closed at another ghost value.
+-- The body is empty. The borrow is opened, and closed with another ghost value.
 use Rattle.std.proofs.Common.{List, [], ◌∷◌, refl}
 use Rattle.std.proofs.raw_atomic.Walks.{proved}
 use base.Fml.{ftrue, flft}

@@ -1,12 +1,15 @@
 /* Exact fractions of machine integers: calls over slices of fractions, proved.
  *
- * Each call takes what is asked and a place for each answer, and how many of each there are. It
- * returns RATIO_DONE, and each answer has a code; or the two numbers are unlike, or there is too little
- * room for texts, and then it returns RATIO_BAD_LENGTH and writes nothing. No call overflows, stops the
- * program or takes memory, whatever numbers it is given. What is written may overlap nothing else, and a
- * pointer may not be null.
+ * Each call takes an array of inputs and an array for the answers, and the length of each. It returns
+ * RATIO_DONE, and each answer has a code. If the lengths differ, or if there is too little room for texts,
+ * it returns RATIO_BAD_LENGTH and writes nothing. No call overflows, stops the program or allocates
+ * memory, whatever the numbers are. The arrays that a call writes may not overlap any other array, and no
+ * pointer may be null.
  *
- * Link with libratio_c.a.
+ * From C and from C++, with libratio_c.a, which `rt lib` makes in crates/ratio_c/out:
+ *
+ *   cc -std=c99 -I include program.c crates/ratio_c/out/libratio_c.a -o program
+ *   c++ -std=c++11 -I include program.cc crates/ratio_c/out/libratio_c.a -o program
  */
 #ifndef RATIO_H
 #define RATIO_H
@@ -14,18 +17,25 @@
 #include <stddef.h>
 #include <stdint.h>
 
+#ifdef __cplusplus
+extern "C" {
+#endif
+
 /* What a call returns. */
 enum { RATIO_DONE = 0, RATIO_BAD_LENGTH = 1 };
 
-/* The code of an answer. Where it is another than RATIO_ANSWERED, the numbers are 0, and the span of a text is empty. */
+/* The code of an answer. If it is not RATIO_ANSWERED, the numbers are 0, and the span of a text is empty. The number of a
+ * code never changes: a new code gets a new number.
+ */
 enum {
     RATIO_ANSWERED = 0,
     RATIO_NOT_HELD = 1,                 /* the answer does not fit in the type */
-    RATIO_DIVISION_BY_ZERO = 2,         /* of div and rem */
+    RATIO_DIVISION_BY_ZERO = 2,         /* of div and rem, and of pow for 0 to an exponent below 0 */
     RATIO_DENOMINATOR_NOT_POSITIVE = 3, /* of all others */
-    RATIO_ZERO_DENOMINATOR = 4,         /* of compare, hash, reduce and print, which take negative ones, and of read */
+    RATIO_ZERO_DENOMINATOR = 4,         /* of compare, equal, hash, reduce and print, which take negative ones, and of read */
     RATIO_PARSE_ERROR = 5,              /* of read: no fraction, or its numbers or lowest terms do not fit */
-    RATIO_NO_TEXT = 6                   /* of read: the span does not lie in the texts */
+    RATIO_NO_TEXT = 6,                  /* of read: the span does not lie in the texts */
+    RATIO_BOUND_NOT_POSITIVE = 7        /* of nearest: no denominator lies from 1 to the bound */
 };
 
 /* A number of 128 bits: high times 2^64, and low. */
@@ -34,64 +44,90 @@ typedef struct { uint64_t low; int64_t high; } ratio_wide;
 /* An order, which is -1, 0 or 1. */
 typedef struct { uint32_t code; int32_t order; } ratio_order;
 
-/* A hash, which is the same for fractions of one value. */
+/* Whether something holds: 1 if it does, and 0 if it does not. */
+typedef struct { uint32_t code; uint32_t holds; } ratio_truth;
+
+/* A hash: the same for fractions of one value. */
 typedef struct { uint32_t code; uint64_t hash; } ratio_hash;
 
 /* The bytes of a text: from start on, and before end. */
 typedef struct { size_t start, end; } ratio_span;
 
-/* Where the text of a fraction stands; the span is empty where the code is another than RATIO_ANSWERED. */
+/* Where the text of a fraction is. The span is empty if the code is not RATIO_ANSWERED. */
 typedef struct { uint32_t code; ratio_span span; } ratio_text;
 
-/* How many bytes print wants for each fraction of a type. */
+/* How many bytes print requires for each fraction of a type. */
 enum { RATIO_ROOM_I32 = 23, RATIO_ROOM_I64 = 41, RATIO_ROOM_I128 = 81 };
 
 /* Declares the types and the calls over a type of numbers.
  *
- *   ratio_compare_i32    how the left fraction stands to the right one, as their values do, reduced or not
- *   ratio_hash_i32       a hash of each fraction, by its value: 1/2, 2/4 and -1/-2 have one. It keeps no secret.
- *   ratio_add_i32 ..     the sum, difference, product, quotient and remainder of each pair, in lowest terms;
- *                        the remainder is left - right * t, where t is the quotient cut towards zero
- *   ratio_reduce_i32     the lowest terms, the sign above
+ *   ratio_compare_i32    how the left fraction compares to the right one, by their values, reduced or not
+ *   ratio_equal_i32      whether both fractions have the same value, reduced or not
+ *   ratio_hash_i32       a hash of each fraction, by its value: the same for 1/2, 2/4 and -1/-2. It keeps no secret.
+ *   ratio_add_i32 ..     the sum, difference, product, quotient and remainder of each pair, in lowest terms. They give
+ *                        RATIO_NOT_HELD only if these do not fit. ratio_rem_i128 gives it also if the least common denominator
+ *                        or a numerator over it does not fit. The remainder is left - right * t, where t is the quotient cut
+ *                        towards zero
+ *   ratio_reduce_i32     the lowest terms, with the sign in the numerator
+ *   ratio_neg_i32        the negative, and the absolute value, over the same denominator, not reduced. If the numerator is the
+ *   ratio_abs_i32        least number of the type, its negative gives RATIO_NOT_HELD
  *   ratio_floor_i32      the greatest whole number that is not above each fraction, over 1
+ *   ratio_ceil_i32       the least whole number that is not below it, over 1
+ *   ratio_trunc_i32      the fraction cut towards zero, over 1: -3 for -7/2
  *   ratio_round_i32      the nearest whole number, a half away from zero, over 1
+ *   ratio_nearest_i32    the nearest fraction with a denominator from 1 to the bound `most`, in lowest terms: 22/7 for 355/113
+ *                        within 10. Of two that are as near, it is the one with the smaller denominator, and of two whole numbers
+ *                        the smaller one
  *   ratio_read_i32       the fraction of each text of the bytes that a span names: N/D or N in decimal, in lowest terms
- *   ratio_print_i32      each fraction as it stands, N/D or N where D is 1, one after another in the bytes; these are at least
- *                        RATIO_ROOM_I32 for each fraction, or it returns RATIO_BAD_LENGTH, and nothing is written behind the last text
- *   ratio_pow_i32        each fraction to its exponent, not reduced; 0 to a negative one is RATIO_NOT_HELD
+ *   ratio_print_i32      each fraction as it is, N/D, or N if D is 1, one text after another. With fewer than RATIO_ROOM_I32 bytes
+ *                        for each fraction it returns RATIO_BAD_LENGTH. Nothing is written behind the last text
+ *   ratio_pow_i32        each fraction to its exponent, not reduced. 0 to an exponent below 0 gives RATIO_DIVISION_BY_ZERO
  */
-#define RATIO_CALLS(suffix, number)                                                     \
-    typedef struct { number numer, denom; } ratio_##suffix;                             \
-    typedef struct { ratio_##suffix left, right; } ratio_pair_##suffix;                 \
-    typedef struct { ratio_##suffix base; int32_t exponent; } ratio_power_##suffix;     \
-    typedef struct { uint32_t code; ratio_##suffix value; } ratio_answer_##suffix;      \
-    uint32_t ratio_compare_##suffix(const ratio_pair_##suffix *asked, size_t asked_len, \
-                                    ratio_order *answers, size_t answers_len);          \
-    uint32_t ratio_hash_##suffix(const ratio_##suffix *asked, size_t asked_len,         \
-                                 ratio_hash *answers, size_t answers_len);              \
-    uint32_t ratio_add_##suffix(const ratio_pair_##suffix *asked, size_t asked_len,     \
-                                ratio_answer_##suffix *answers, size_t answers_len);    \
-    uint32_t ratio_sub_##suffix(const ratio_pair_##suffix *asked, size_t asked_len,     \
-                                ratio_answer_##suffix *answers, size_t answers_len);    \
-    uint32_t ratio_mul_##suffix(const ratio_pair_##suffix *asked, size_t asked_len,     \
-                                ratio_answer_##suffix *answers, size_t answers_len);    \
-    uint32_t ratio_div_##suffix(const ratio_pair_##suffix *asked, size_t asked_len,     \
-                                ratio_answer_##suffix *answers, size_t answers_len);    \
-    uint32_t ratio_rem_##suffix(const ratio_pair_##suffix *asked, size_t asked_len,     \
-                                ratio_answer_##suffix *answers, size_t answers_len);    \
-    uint32_t ratio_reduce_##suffix(const ratio_##suffix *asked, size_t asked_len,       \
-                                   ratio_answer_##suffix *answers, size_t answers_len); \
-    uint32_t ratio_floor_##suffix(const ratio_##suffix *asked, size_t asked_len,        \
-                                  ratio_answer_##suffix *answers, size_t answers_len);  \
-    uint32_t ratio_round_##suffix(const ratio_##suffix *asked, size_t asked_len,        \
-                                  ratio_answer_##suffix *answers, size_t answers_len);  \
-    uint32_t ratio_pow_##suffix(const ratio_power_##suffix *asked, size_t asked_len,    \
-                                ratio_answer_##suffix *answers, size_t answers_len);    \
-    uint32_t ratio_read_##suffix(const uint8_t *texts, size_t texts_len,                \
-                                 const ratio_span *spans, size_t spans_len,             \
-                                 ratio_answer_##suffix *answers, size_t answers_len);   \
-    uint32_t ratio_print_##suffix(const ratio_##suffix *asked, size_t asked_len,        \
-                                  uint8_t *texts, size_t texts_len,                     \
+#define RATIO_CALLS(suffix, number)                                                        \
+    typedef struct { number numer, denom; } ratio_##suffix;                                \
+    typedef struct { ratio_##suffix left, right; } ratio_pair_##suffix;                    \
+    typedef struct { ratio_##suffix base; int32_t exponent; } ratio_power_##suffix;        \
+    typedef struct { ratio_##suffix value; number most; } ratio_bounded_##suffix;          \
+    typedef struct { uint32_t code; ratio_##suffix value; } ratio_answer_##suffix;         \
+    uint32_t ratio_compare_##suffix(const ratio_pair_##suffix *asked, size_t asked_len,    \
+                                    ratio_order *answers, size_t answers_len);             \
+    uint32_t ratio_equal_##suffix(const ratio_pair_##suffix *asked, size_t asked_len,      \
+                                  ratio_truth *answers, size_t answers_len);               \
+    uint32_t ratio_hash_##suffix(const ratio_##suffix *asked, size_t asked_len,            \
+                                 ratio_hash *answers, size_t answers_len);                 \
+    uint32_t ratio_add_##suffix(const ratio_pair_##suffix *asked, size_t asked_len,        \
+                                ratio_answer_##suffix *answers, size_t answers_len);       \
+    uint32_t ratio_sub_##suffix(const ratio_pair_##suffix *asked, size_t asked_len,        \
+                                ratio_answer_##suffix *answers, size_t answers_len);       \
+    uint32_t ratio_mul_##suffix(const ratio_pair_##suffix *asked, size_t asked_len,        \
+                                ratio_answer_##suffix *answers, size_t answers_len);       \
+    uint32_t ratio_div_##suffix(const ratio_pair_##suffix *asked, size_t asked_len,        \
+                                ratio_answer_##suffix *answers, size_t answers_len);       \
+    uint32_t ratio_rem_##suffix(const ratio_pair_##suffix *asked, size_t asked_len,        \
+                                ratio_answer_##suffix *answers, size_t answers_len);       \
+    uint32_t ratio_reduce_##suffix(const ratio_##suffix *asked, size_t asked_len,          \
+                                   ratio_answer_##suffix *answers, size_t answers_len);    \
+    uint32_t ratio_neg_##suffix(const ratio_##suffix *asked, size_t asked_len,             \
+                                ratio_answer_##suffix *answers, size_t answers_len);       \
+    uint32_t ratio_abs_##suffix(const ratio_##suffix *asked, size_t asked_len,             \
+                                ratio_answer_##suffix *answers, size_t answers_len);       \
+    uint32_t ratio_floor_##suffix(const ratio_##suffix *asked, size_t asked_len,           \
+                                  ratio_answer_##suffix *answers, size_t answers_len);     \
+    uint32_t ratio_ceil_##suffix(const ratio_##suffix *asked, size_t asked_len,            \
+                                 ratio_answer_##suffix *answers, size_t answers_len);      \
+    uint32_t ratio_trunc_##suffix(const ratio_##suffix *asked, size_t asked_len,           \
+                                  ratio_answer_##suffix *answers, size_t answers_len);     \
+    uint32_t ratio_round_##suffix(const ratio_##suffix *asked, size_t asked_len,           \
+                                  ratio_answer_##suffix *answers, size_t answers_len);     \
+    uint32_t ratio_pow_##suffix(const ratio_power_##suffix *asked, size_t asked_len,       \
+                                ratio_answer_##suffix *answers, size_t answers_len);       \
+    uint32_t ratio_nearest_##suffix(const ratio_bounded_##suffix *asked, size_t asked_len, \
+                                    ratio_answer_##suffix *answers, size_t answers_len);   \
+    uint32_t ratio_read_##suffix(const uint8_t *texts, size_t texts_len,                   \
+                                 const ratio_span *spans, size_t spans_len,                \
+                                 ratio_answer_##suffix *answers, size_t answers_len);      \
+    uint32_t ratio_print_##suffix(const ratio_##suffix *asked, size_t asked_len,           \
+                                  uint8_t *texts, size_t texts_len,                        \
                                   ratio_text *answers, size_t answers_len);
 
 RATIO_CALLS(i32, int32_t)
@@ -99,5 +135,66 @@ RATIO_CALLS(i64, int64_t)
 RATIO_CALLS(i128, ratio_wide)
 
 #undef RATIO_CALLS
+
+/* Declares the calls over a type of at most 64 bits.
+ *
+ *   ratio_hash_lowest_i32   a hash of fractions in lowest terms, which takes a few nanoseconds: two products. The call does not
+ *                           test that they are in lowest terms: 1/2 and 2/4 have unlike hashes. Fractions with the same
+ *                           denominator and unlike numerators have unlike hashes, and so have fractions with the same numerator
+ *                           and unlike denominators. It keeps no secret.
+ */
+#define RATIO_SHORT_CALLS(suffix)                                                            \
+    uint32_t ratio_hash_lowest_##suffix(const ratio_##suffix *asked, size_t asked_len,       \
+                                        ratio_hash *answers, size_t answers_len);
+
+RATIO_SHORT_CALLS(i32)
+RATIO_SHORT_CALLS(i64)
+
+#undef RATIO_SHORT_CALLS
+
+/* Declares the call that gives the same fractions over a type of another width, not reduced. A number that does not fit gives
+ * RATIO_NOT_HELD: reduce the fraction before, if it is not in lowest terms.
+ */
+#define RATIO_CAST(from, to)                                                                 \
+    uint32_t ratio_cast_##from##_to_##to(const ratio_##from *asked, size_t asked_len,        \
+                                         ratio_answer_##to *answers, size_t answers_len);
+
+RATIO_CAST(i32, i64)
+RATIO_CAST(i32, i128)
+RATIO_CAST(i64, i32)
+RATIO_CAST(i64, i128)
+RATIO_CAST(i128, i32)
+RATIO_CAST(i128, i64)
+
+#undef RATIO_CAST
+
+#ifdef __cplusplus
+}
+#endif
+
+/* C++ compares the sizes of the structs with those in the library, on machines of 64 bits. */
+#if defined(__cplusplus) && SIZE_MAX == UINT64_MAX
+static_assert(sizeof(ratio_wide) == 16, "the size of ratio_wide");
+static_assert(sizeof(ratio_order) == 8, "the size of ratio_order");
+static_assert(sizeof(ratio_truth) == 8, "the size of ratio_truth");
+static_assert(sizeof(ratio_hash) == 16, "the size of ratio_hash");
+static_assert(sizeof(ratio_span) == 16, "the size of ratio_span");
+static_assert(sizeof(ratio_text) == 24, "the size of ratio_text");
+static_assert(sizeof(ratio_i32) == 8, "the size of ratio_i32");
+static_assert(sizeof(ratio_pair_i32) == 16, "the size of ratio_pair_i32");
+static_assert(sizeof(ratio_power_i32) == 12, "the size of ratio_power_i32");
+static_assert(sizeof(ratio_bounded_i32) == 12, "the size of ratio_bounded_i32");
+static_assert(sizeof(ratio_answer_i32) == 12, "the size of ratio_answer_i32");
+static_assert(sizeof(ratio_i64) == 16, "the size of ratio_i64");
+static_assert(sizeof(ratio_pair_i64) == 32, "the size of ratio_pair_i64");
+static_assert(sizeof(ratio_power_i64) == 24, "the size of ratio_power_i64");
+static_assert(sizeof(ratio_bounded_i64) == 24, "the size of ratio_bounded_i64");
+static_assert(sizeof(ratio_answer_i64) == 24, "the size of ratio_answer_i64");
+static_assert(sizeof(ratio_i128) == 32, "the size of ratio_i128");
+static_assert(sizeof(ratio_pair_i128) == 64, "the size of ratio_pair_i128");
+static_assert(sizeof(ratio_power_i128) == 40, "the size of ratio_power_i128");
+static_assert(sizeof(ratio_bounded_i128) == 48, "the size of ratio_bounded_i128");
+static_assert(sizeof(ratio_answer_i128) == 40, "the size of ratio_answer_i128");
+#endif
 
 #endif

@@ -1,4 +1,4 @@
-/* Calls each function of the header once, over each type of numbers, and ends with status 1 where an answer is another one. */
+/* Calls each function of the header at least once over each type of numbers. It ends with status 1 if an answer is wrong. */
 #include "ratio.h"
 
 #include <stdio.h>
@@ -6,7 +6,7 @@
 
 static int wrong;
 
-/* 2/4, x and 3/0, and a span that goes on behind them. */
+/* 2/4, x and 3/0, and a span that goes on after them. */
 static const uint8_t texts[8] = {'2', '/', '4', 'x', '3', '/', '0', '1'};
 static const ratio_span spans[4] = {
     {.start = 0, .end = 3}, {.start = 3, .end = 4}, {.start = 4, .end = 7}, {.start = 7, .end = 9},
@@ -19,7 +19,7 @@ static void expect(int holds, const char *what) {
     }
 }
 
-/* A number of each type, and whether it is below 0. Where the header drops a sign, no number is. */
+/* A number of each type, and whether it is below 0. If the header drops a sign, no number is below 0. */
 #define PLAIN(n) n
 #define WIDE(n) {.low = (uint64_t) (int64_t) (n), .high = (n) < 0 ? -1 : 0}
 #define IS_PLAIN_BELOW_0(x) ((double) (x) < 0)
@@ -29,7 +29,7 @@ static void expect(int holds, const char *what) {
 #define PAIR(N, n, d, m, e) {.left = FRACTION(N, n, d), .right = FRACTION(N, m, e)}
 #define ANSWER(N, n, d) {.code = RATIO_ANSWERED, .value = FRACTION(N, n, d)}
 
-/* 3/2 and -1/4 under each call, and fractions that are refused. */
+/* Each call on 3/2 and -1/4, and on fractions that are refused. */
 #define EVERY_CALL(suffix, N, IS_BELOW_0, room)                                                      \
     static void every_call_##suffix(void) {                                                          \
         static const ratio_pair_##suffix pair = PAIR(N, 3, 2, -1, 4);                                \
@@ -37,24 +37,34 @@ static void expect(int holds, const char *what) {
         static const ratio_pair_##suffix by_zero = PAIR(N, 3, 2, 0, 4);                              \
         static const ratio_pair_##suffix none = PAIR(N, 3, 0, -1, -4);                               \
         static const ratio_##suffix loose[2] = {FRACTION(N, 6, -4), FRACTION(N, -3, 2)};             \
+        static const ratio_bounded_##suffix near = {.value = FRACTION(N, 355, 113), .most = N(10)};  \
+        static const ratio_bounded_##suffix nowhere = {.value = FRACTION(N, 355, 113), .most = N(0)};\
+        static const ratio_pair_##suffix same = PAIR(N, 2, 4, -1, -2);                               \
         static const ratio_power_##suffix power = {.base = FRACTION(N, -3, 2), .exponent = -3};      \
         static const ratio_power_##suffix zero = {.base = FRACTION(N, 0, 1), .exponent = -1};        \
         static const ratio_answer_##suffix sum = ANSWER(N, 5, 4), difference = ANSWER(N, 7, 4),      \
             product = ANSWER(N, -3, 8), quotient = ANSWER(N, -6, 1), rest = ANSWER(N, 0, 1),         \
             low = ANSWER(N, -3, 2), half = ANSWER(N, 1, 2), floor = ANSWER(N, -2, 1),                \
-            raised = ANSWER(N, -8, 27);                                                              \
+            raised = ANSWER(N, -8, 27), negative = ANSWER(N, 3, 2), up = ANSWER(N, -1, 1),           \
+            nearest = ANSWER(N, 22, 7);                                                              \
         ratio_answer_##suffix answer[2], read[4];                                                    \
         static const ratio_##suffix shown[3] = {FRACTION(N, 6, -4), FRACTION(N, 3, 0), FRACTION(N, -5, 1)};\
         uint8_t bytes[3 * 81];                                                                       \
         ratio_text text[3];                                                                          \
         ratio_order order = {.code = 9, .order = 9};                                                 \
         ratio_hash hash[2];                                                                          \
+        ratio_truth truth[3];                                                                        \
+        const ratio_pair_##suffix pairs[3] = {same, pair, none};                                     \
         expect(ratio_compare_##suffix(&pair, 1, &order, 1) == RATIO_DONE, "compare " #suffix);       \
         expect(order.code == RATIO_ANSWERED && order.order == 1, "order " #suffix);                  \
         expect(ratio_compare_##suffix(&turned, 1, &order, 1) == RATIO_DONE, "compare " #suffix);     \
         expect(order.code == RATIO_ANSWERED && (int64_t) order.order == -1, "order below 0 " #suffix);\
         expect(ratio_compare_##suffix(&none, 1, &order, 1) == RATIO_DONE, "compare " #suffix);       \
         expect(order.code == RATIO_ZERO_DENOMINATOR && order.order == 0, "no order " #suffix);       \
+        expect(ratio_equal_##suffix(pairs, 3, truth, 3) == RATIO_DONE, "equal " #suffix);            \
+        expect(truth[0].code == RATIO_ANSWERED && truth[0].holds == 1, "equal values " #suffix);     \
+        expect(truth[1].code == RATIO_ANSWERED && truth[1].holds == 0, "unlike values " #suffix);    \
+        expect(truth[2].code == RATIO_ZERO_DENOMINATOR && truth[2].holds == 0, "no value " #suffix); \
         expect(ratio_hash_##suffix(loose, 2, hash, 2) == RATIO_DONE, "hash " #suffix);               \
         expect(hash[0].code == RATIO_ANSWERED && hash[0].hash == hash[1].hash, "hashes " #suffix);   \
         GIVES(suffix, add, pair, sum)                                                                \
@@ -71,6 +81,13 @@ static void expect(int holds, const char *what) {
         REFUSES(suffix, reduce, none.left, RATIO_ZERO_DENOMINATOR)                                   \
         GIVES(suffix, floor, loose[1], floor)                                                        \
         GIVES(suffix, round, loose[1], floor)                                                        \
+        GIVES(suffix, ceil, loose[1], up)                                                            \
+        GIVES(suffix, trunc, loose[1], up)                                                           \
+        GIVES(suffix, neg, loose[1], negative)                                                       \
+        GIVES(suffix, abs, loose[1], negative)                                                       \
+        REFUSES(suffix, neg, loose[0], RATIO_DENOMINATOR_NOT_POSITIVE)                               \
+        GIVES(suffix, nearest, near, nearest)                                                        \
+        REFUSES(suffix, nearest, nowhere, RATIO_BOUND_NOT_POSITIVE)                                  \
         REFUSES(suffix, floor, loose[0], RATIO_DENOMINATOR_NOT_POSITIVE)                             \
         expect(ratio_read_##suffix(texts, 8, spans, 4, read, 4) == RATIO_DONE, "read " #suffix);     \
         expect(SAME(read[0], half) && read[1].code == RATIO_PARSE_ERROR, "text " #suffix);           \
@@ -85,11 +102,11 @@ static void expect(int holds, const char *what) {
         expect(text[1].code == RATIO_ZERO_DENOMINATOR && text[1].span.start == text[1].span.end, "second " #suffix);\
         expect(text[2].code == RATIO_ANSWERED && text[2].span.start == 4 && text[2].span.end == 6, "third " #suffix);\
         GIVES(suffix, pow, power, raised)                                                            \
-        REFUSES(suffix, pow, zero, RATIO_NOT_HELD)                                                   \
+        REFUSES(suffix, pow, zero, RATIO_DIVISION_BY_ZERO)                                           \
         expect(ratio_add_##suffix(&pair, 1, answer, 2) == RATIO_BAD_LENGTH, "length " #suffix);      \
     }
 
-/* Structs are compared by their fields, since there may be room between these. */
+/* This compares the fields of structs, since there may be padding between them. */
 #define SAME(a, b)                                                                                   \
     ((a).code == (b).code && memcmp(&(a).value.numer, &(b).value.numer, sizeof (a).value.numer) == 0 \
      && memcmp(&(a).value.denom, &(b).value.denom, sizeof (a).value.denom) == 0)
@@ -121,10 +138,58 @@ static void wide_halves(void) {
     expect(shown.span.end == sizeof text - 1 && memcmp(bytes, text, sizeof text - 1) == 0, "printed halves");
 }
 
+/* Half of 2^127-1, twice, is 2^127-1, though the sum of the numerators does not fit. 4/2 less 2/2 is 1. */
+static void sums_that_fit(void) {
+    const ratio_wide most = {.low = UINT64_MAX, .high = INT64_MAX}, one = {.low = 1}, two = {.low = 2}, four = {.low = 4};
+    const ratio_pair_i128 halves = {{most, two}, {most, two}}, loose = {{four, two}, {two, two}};
+    const ratio_answer_i128 whole = {RATIO_ANSWERED, {most, one}}, rest = {RATIO_ANSWERED, {one, one}};
+    ratio_answer_i128 answer[1];
+    GIVES(i128, add, halves, whole)
+    GIVES(i128, sub, loose, rest)
+}
+
+/* A script of Python computed the hash of 1/2, by the definition. */
+static void lowest_hashes(void) {
+    const ratio_i64 x[4] = {{1, 2}, {-1, 2}, {1, 3}, {1, 0}};
+    const ratio_i32 narrow[2] = {{1, 2}, {-1, 2}};
+    ratio_hash hash[4], narrow_hash[2];
+    expect(ratio_hash_lowest_i64(x, 4, hash, 4) == RATIO_DONE, "lowest hash");
+    expect(ratio_hash_lowest_i32(narrow, 2, narrow_hash, 2) == RATIO_DONE, "lowest hash of 32 bits");
+    expect(hash[0].code == RATIO_ANSWERED && hash[0].hash == UINT64_C(0xce9190573cc142f8), "lowest hash of 1/2");
+    expect(hash[0].hash == narrow_hash[0].hash && hash[1].hash == narrow_hash[1].hash, "lowest hash of each width");
+    expect(hash[0].hash != hash[1].hash && hash[0].hash != hash[2].hash, "unlike lowest hashes");
+    expect(hash[3].code == RATIO_DENOMINATOR_NOT_POSITIVE && hash[3].hash == 0, "no lowest hash");
+}
+
+/* The least number has no negative, and fits no narrower type. */
+static void casts(void) {
+    const ratio_i64 least = {.numer = INT64_MIN, .denom = 1}, half = {.numer = -1, .denom = 2};
+    const ratio_i32 narrow = {.numer = -1, .denom = 2};
+    const ratio_i128 wide = {.numer = {.low = UINT64_MAX, .high = -1}, .denom = {.low = 2}};
+    const ratio_answer_i64 low = {RATIO_ANSWERED, {-1, 2}};
+    const ratio_answer_i32 narrow_low = {RATIO_ANSWERED, {-1, 2}};
+    const ratio_answer_i128 wide_low = {RATIO_ANSWERED, {{UINT64_MAX, -1}, {2, 0}}};
+    ratio_answer_i64 answer[1];
+    ratio_answer_i32 narrowed[1];
+    ratio_answer_i128 widened[1];
+    REFUSES(i64, neg, least, RATIO_NOT_HELD)
+    REFUSES(i64, abs, least, RATIO_NOT_HELD)
+    expect(ratio_cast_i64_to_i32(&least, 1, narrowed, 1) == RATIO_DONE && narrowed[0].code == RATIO_NOT_HELD, "cast of the least");
+    expect(ratio_cast_i64_to_i32(&half, 1, narrowed, 1) == RATIO_DONE && SAME(narrowed[0], narrow_low), "cast to 32 bits");
+    expect(ratio_cast_i128_to_i32(&wide, 1, narrowed, 1) == RATIO_DONE && SAME(narrowed[0], narrow_low), "cast 128 to 32 bits");
+    expect(ratio_cast_i32_to_i64(&narrow, 1, answer, 1) == RATIO_DONE && SAME(answer[0], low), "cast to 64 bits");
+    expect(ratio_cast_i128_to_i64(&wide, 1, answer, 1) == RATIO_DONE && SAME(answer[0], low), "cast 128 to 64 bits");
+    expect(ratio_cast_i32_to_i128(&narrow, 1, widened, 1) == RATIO_DONE && SAME(widened[0], wide_low), "cast 32 to 128 bits");
+    expect(ratio_cast_i64_to_i128(&half, 1, widened, 1) == RATIO_DONE && SAME(widened[0], wide_low), "cast 64 to 128 bits");
+}
+
 int main(void) {
     every_call_i32();
     every_call_i64();
     every_call_i128();
     wide_halves();
+    sums_that_fit();
+    casts();
+    lowest_hashes();
     return wrong;
 }

@@ -1,9 +1,9 @@
-/* The example of README.md, line for line, and what it gives. */
+/* The example of README.md, line for line, and a test of its results. */
 #include "ratio.h"
 
 #include <stdio.h>
 
-/* Whether the call answered this fraction. */
+/* Whether the call returned this fraction. */
 static int is_fraction(ratio_answer_i64 answer, int64_t numer, int64_t denom) {
     return answer.code == RATIO_ANSWERED && answer.value.numer == numer && answer.value.denom == denom;
 }

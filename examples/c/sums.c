@@ -1,4 +1,4 @@
-/* Prints a page of sums: two fractions, how they stand, and what the calls answer. */
+/* Prints a page of sums: two fractions, how they compare, and what the calls return. */
 #include "ratio.h"
 
 #include <stdio.h>

@@ -1,4 +1,4 @@
--- What follows where a test holds.
+-- What follows if a test holds.
 use Rattle.ratio_c.specs.Calls.{Tested}
 
 pub where_held : {P Then Else : Type 0} → P → Then → Tested P Then Else

@@ -1,4 +1,6 @@
 pub mod Places
 pub mod PrintedTexts
 pub mod Hashes
+pub mod LowestHashes
 pub mod Cases
+pub mod Magnitudes

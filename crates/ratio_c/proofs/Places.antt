@@ -11,7 +11,7 @@ pub record Before {A B : Type 0} (R : A → B → Type 0) (xs : List A) (ys : Li
 pub none_before : {A B : Type 0} (R : A → B → Type 0) (xs : List A) (ys : List B) → Before R xs ys 0
 none_before R xs ys = record { each = λ k d e within. absurd (omega arith) }
 
--- R holds at all places where it does before the last
+-- R holds at all places, if it holds at each place before the end
 pub all_zip : {A B : Type 0} (R : A → B → Type 0) (xs : List A) (ys : List B) → length xs ≡ length ys → ((k : ℕ) (d : A) (e : B) → k < length xs → R (get_or xs k d) (get_or ys k e)) → AllZip R xs ys
 all_zip R [] [] same each = tt
 all_zip R [] (y ∷ ys) same each = absurd (omega arith)

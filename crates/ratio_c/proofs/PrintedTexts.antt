@@ -1,4 +1,4 @@
--- The texts that are written so far, and where they stand.
+-- The texts that were written so far, and their places.
 use Rattle.std.proofs.Common.{◌≡◌, refl, sym, ◌∙◌, ap, inl, inr, arith, ℕ, suc, ◌+◌, ◌-◌, ◌*◌, ◌<◌, ◌≤◌, List, [], ◌∷◌, ◌++◌, append-nil, append_assoc, length, length-append, take, drop, get_or, set, ℤ, pos, negsuc, ◌^◌, eq-zero-or-pos}
 use Rattle.std.specs.List.{flat_map}
 use Rattle.std.proofs.lemmas.List.{drop_at, get_or_default, get_or-set_other, get_or-set_same, take_at, take_more}
@@ -8,7 +8,7 @@ use Rattle.std.proofs.Math.Nat.{max-le, suc-mul}
 use Rattle.std.proofs.Math.Seq.{take-length}
 use Rattle.std.specs.Fmt.{decimal}
 use Rattle.std.proofs.lemmas.Fmt.{length-decimal-le_wide}
-use Rattle.ratio_core.specs.Printing.{decimal_room}
+use Rattle.ratio_core.specs.Printing.{base_ten_room}
 use Rattle.ratio_c.specs.Texts.{ArePrinted, IsTextAnswer, all_shown, shown, shown_code}
 use Rattle.ratio_c.specs.declared.printing.Text.{Text}
 
@@ -69,7 +69,7 @@ module _ {A : Type 0} (bits : ℕ) (fraction : A → ℤ × ℤ) (room : ℕ) (a
 
 -- ---- how much room the texts of a type take
 
-pub room_within : {room : ℕ} (digits lower upper : ℕ) → 0 < digits → suc lower < 10 ^ digits → upper < 10 ^ digits → suc lower < 10 ^ 64 → upper < 10 ^ 64 → 2 * digits + 3 ≤ room → decimal_room (negsuc lower) (pos upper) ≤ room
+pub room_within : {room : ℕ} (digits lower upper : ℕ) → 0 < digits → suc lower < 10 ^ digits → upper < 10 ^ digits → suc lower < 10 ^ 64 → upper < 10 ^ 64 → 2 * digits + 3 ≤ room → base_ten_room (negsuc lower) (pos upper) ≤ room
 room_within digits lower upper some low high low_wide high_wide room =
     omega (
       arith,

@@ -1,71 +1,79 @@
--- What the calls answer to fractions as pairs of whole numbers, and what a call over slices does.
-use Rattle.std.specs.Prelude.{◌≡◌, ◌≢◌, ◌==◌, ◌<ℤ◌, ◌≤◌, ℕ, ℤ, pos, Bool, List, length, Option, MatchBool, Result, fold, slice_range}
+-- What a call answers for fractions, which are pairs of whole numbers here, and what a call over slices does.
+use Rattle.std.specs.Prelude.{◌≡◌, ◌≢◌, ◌==◌, ◌<ℤ◌, ◌≤◌, ℕ, ℤ, pos, neg_ℤ, unsigned_abs, Bool, List, length, Option, MatchBool, Result, fold, slice_range}
 use Rattle.std.specs.List.{AllZip}
 use Rattle.std.specs.Str.{IsUtf8}
 use Rattle.ratio_core.specs.Reading.{AnswersText, IsFractionText}
 use Rattle.ratio_core.specs.declared.parse_error.RatioErrorKind.{RatioErrorKind}
-use Rattle.ratio_integer.specs.Arithmetic.{RemainderHeld, difference_of, product_of, quotient_of, remainder_of, sum_of}
-use Rattle.ratio_integer.specs.Fraction.{AnswersLowest, ChecksLowest}
-use Rattle.ratio_core.specs.Conditions.{DifferenceCondition, SumCondition}
+use Rattle.ratio_integer.specs.Arithmetic.{difference_of, product_of, quotient_of, remainder_of, sum_of}
+use Rattle.ratio_integer.specs.Fraction.{AnswersLowest, ChecksLowest, SameValue}
+use Rattle.ratio_core.specs.Conditions.{RemainderCondition}
 use Rattle.ratio_core.specs.ContinuedFraction.{IsCodesOf}
+use Rattle.ratio_core.specs.Nearest.{IsNearest}
 use Rattle.ratio_core.specs.Order.{cross_cmp}
-use Rattle.ratio_core.specs.Power.{ChecksPower}
-use Rattle.ratio_core.specs.Rounding.{IsFloor, IsRounded}
+use Rattle.ratio_core.specs.Power.{ChecksBoth, ChecksPower}
+use Rattle.ratio_core.specs.Rounding.{IsCeiling, IsFloor, IsRounded, IsTruncation}
 use Rattle.ratio_c.specs.Crossing.{Said, Says, mixed, order_number, refused, said_of_text}
-use Rattle.ratio_c.specs.Codes.{code_answered, code_denominator_not_positive, code_division_by_zero, code_no_text, code_parse_error, code_zero_denominator, return_bad_length, return_done}
+use Rattle.ratio_c.specs.Codes.{code_answered, code_bound_not_positive, code_denominator_not_positive, code_division_by_zero, code_no_text, code_parse_error, code_zero_denominator, return_bad_length, return_done}
 
--- each answer is one to what was asked at its place; or the slices have unlike lengths, and nothing is written
+-- Each answer is right for the item at its place, and the call returns 0. If the slices have unlike lengths, it returns 1 and writes nothing.
 abbrev pub AnswersEach : {A B : Type 0} → (A → B → Type 0) → List A → List B → List B → ℕ → Type 0
 AnswersEach Gives asked old new result =
     MatchBool (length asked == length old) ((result ≡ return_done) × AllZip Gives asked new) ((result ≡ return_bad_length) × (new ≡ old))
 
--- one thing holds where P does, and another where it does not
+-- `Then` holds if `P` does, and `Else` if it does not
 pub record Tested (P Then Else : Type 0) : Type 0 where
   pub yes : P → Then
   pub no : ¬ P → Else
 
--- the denominators are positive
+-- both denominators are positive
 abbrev pub BothPositive : ℤ × ℤ → ℤ × ℤ → Type 0
 BothPositive x y = (pos 0 <ℤ x.1) × (pos 0 <ℤ y.1)
 
--- the answer to two fractions is the one that `Is` says where their denominators are positive, and says so where one is not
+-- If both denominators are positive, `Is` holds. Otherwise the answer has the code `code_denominator_not_positive`.
 abbrev pub OfPositive : ℤ × ℤ → ℤ × ℤ → Said → Type 0 → Type 0
 OfPositive x y answer Is = Tested (BothPositive x y) Is (answer ≡ refused code_denominator_not_positive)
 
--- x + y, x - y and x * y in lowest terms where the library's calls answer them
-abbrev pub IsSumAnswer : Bool → ℤ → ℤ → ℤ × ℤ → ℤ × ℤ → Said → Type 0
-IsSumAnswer exact lo hi x y answer =
-    OfPositive x y answer (Says (AnswersLowest (λ z. z.0) (λ z. z.1) lo hi (SumCondition exact lo hi x.0 x.1 y.0 y.1) (sum_of x.0 x.1 y.0 y.1)) answer)
+-- x + y, x - y and x * y in lowest terms, if these fit
+abbrev pub IsSumAnswer : ℤ → ℤ → ℤ × ℤ → ℤ × ℤ → Said → Type 0
+IsSumAnswer lo hi x y answer = OfPositive x y answer (Says (ChecksLowest (λ z. z.0) (λ z. z.1) lo hi (sum_of x.0 x.1 y.0 y.1)) answer)
 
-abbrev pub IsDifferenceAnswer : Bool → ℤ → ℤ → ℤ × ℤ → ℤ × ℤ → Said → Type 0
-IsDifferenceAnswer exact lo hi x y answer =
-    OfPositive x y answer (Says (AnswersLowest (λ z. z.0) (λ z. z.1) lo hi (DifferenceCondition exact lo hi x.0 x.1 y.0 y.1) (difference_of x.0 x.1 y.0 y.1)) answer)
+abbrev pub IsDifferenceAnswer : ℤ → ℤ → ℤ × ℤ → ℤ × ℤ → Said → Type 0
+IsDifferenceAnswer lo hi x y answer = OfPositive x y answer (Says (ChecksLowest (λ z. z.0) (λ z. z.1) lo hi (difference_of x.0 x.1 y.0 y.1)) answer)
 
 abbrev pub IsProductAnswer : ℤ → ℤ → ℤ × ℤ → ℤ × ℤ → Said → Type 0
 IsProductAnswer lo hi x y answer = OfPositive x y answer (Says (ChecksLowest (λ z. z.0) (λ z. z.1) lo hi (product_of x.0 x.1 y.0 y.1)) answer)
 
--- a division by 0 is answered by its code, and else x / y and x % y in lowest terms where the library's calls answer them
+-- A division by 0 has a code of its own. Otherwise the answer is x / y in lowest terms, if these fit, or x % y, if the library's call returns it.
 abbrev pub OfDivisor : ℤ × ℤ → Said → (Option (ℤ × ℤ) → Type 0) → Type 0
 OfDivisor y answer Is = Tested (y.0 ≡ pos 0) (answer ≡ refused code_division_by_zero) (Says Is answer)
 
 abbrev pub IsQuotientAnswer : ℤ → ℤ → ℤ × ℤ → ℤ × ℤ → Said → Type 0
 IsQuotientAnswer lo hi x y answer = OfPositive x y answer (OfDivisor y answer (ChecksLowest (λ z. z.0) (λ z. z.1) lo hi (quotient_of x.0 x.1 y.0 y.1)))
 
-abbrev pub IsRemainderAnswer : ℤ → ℤ → ℤ × ℤ → ℤ × ℤ → Said → Type 0
-IsRemainderAnswer lo hi x y answer =
+abbrev pub IsRemainderAnswer : Bool → ℤ → ℤ → ℤ × ℤ → ℤ × ℤ → Said → Type 0
+IsRemainderAnswer exact lo hi x y answer =
     OfPositive x y answer
-    (OfDivisor y answer (AnswersLowest (λ z. z.0) (λ z. z.1) lo hi (RemainderHeld lo hi x.0 x.1 y.0 y.1) (remainder_of x.0 x.1 y.0 y.1)))
+    (OfDivisor y answer (AnswersLowest (λ z. z.0) (λ z. z.1) lo hi (RemainderCondition exact lo hi x.0 x.1 y.0 y.1) (remainder_of x.0 x.1 y.0 y.1)))
 
--- fractions are ordered where no denominator is 0; the code says which it was
+-- The order of two fractions, if no denominator is 0. The code says whether one is.
 abbrev pub IsOrderAnswer : ℤ × ℤ → ℤ × ℤ → ℕ → ℤ → Type 0
 IsOrderAnswer x y code order =
     Tested ((x.1 ≢ pos 0) × (y.1 ≢ pos 0)) ((code ≡ code_answered) × (order ≡ order_number (cross_cmp x.0 x.1 y.0 y.1))) ((code ≡ code_zero_denominator) × (order ≡ pos 0))
 
--- a fraction is brought to lowest terms where its denominator is not 0 and they are held
+-- `holds` is 1 if P does, and 0 if it does not
+abbrev pub IsTruth : Type 0 → ℕ → Type 0
+IsTruth P holds = Tested P (holds ≡ 1) (holds ≡ 0)
+
+-- Whether two fractions have the same value, if no denominator is 0. For example, 1/2 and -2/-4 have.
+abbrev pub IsEqualAnswer : ℤ × ℤ → ℤ × ℤ → ℕ → ℕ → Type 0
+IsEqualAnswer x y code holds =
+    Tested ((x.1 ≢ pos 0) × (y.1 ≢ pos 0)) ((code ≡ code_answered) × IsTruth (SameValue x.0 x.1 y.0 y.1) holds) ((code ≡ code_zero_denominator) × (holds ≡ 0))
+
+-- The lowest terms of a fraction, if they fit. A denominator of 0 has a code of its own. For example, 2/4 gives 1/2.
 abbrev pub IsLowestAnswer : ℤ → ℤ → ℤ × ℤ → Said → Type 0
 IsLowestAnswer lo hi x answer = Tested (x.1 ≡ pos 0) (answer ≡ refused code_zero_denominator) (Says (ChecksLowest (λ z. z.0) (λ z. z.1) lo hi x) answer)
 
--- the answer to one fraction is the one that `Is` says where its denominator is positive, and says so where it is not
+-- If the denominator is positive, `Is` holds. Otherwise the answer has the code `code_denominator_not_positive`.
 abbrev pub OfOne : ℤ × ℤ → Said → Type 0 → Type 0
 OfOne x answer Is = Tested (pos 0 <ℤ x.1) Is (answer ≡ refused code_denominator_not_positive)
 
@@ -75,18 +83,56 @@ pub record SaysWhole (Is : ℤ → Type 0) (answer : Said) : Type 0 where
   pub is_number : Is number
   pub is_said : answer ≡ (code_answered, (number, pos 1))
 
--- the floor, and the whole number that is nearest, a half away from zero
+-- The floor, the ceiling, the fraction cut towards zero, and the nearest whole number, a half away from zero. For example, -7/2 gives -4/1,
+-- -3/1, -3/1 and -4/1.
 abbrev pub IsFloorAnswer : ℤ × ℤ → Said → Type 0
 IsFloorAnswer x answer = OfOne x answer (SaysWhole (IsFloor x.0 x.1) answer)
+
+abbrev pub IsCeilingAnswer : ℤ × ℤ → Said → Type 0
+IsCeilingAnswer x answer = OfOne x answer (SaysWhole (IsCeiling x.0 x.1) answer)
+
+abbrev pub IsTruncationAnswer : ℤ × ℤ → Said → Type 0
+IsTruncationAnswer x answer = OfOne x answer (SaysWhole (IsTruncation x.0 x.1) answer)
 
 abbrev pub IsRoundAnswer : ℤ × ℤ → Said → Type 0
 IsRoundAnswer x answer = OfOne x answer (SaysWhole (IsRounded x.0 x.1) answer)
 
--- a power, not reduced, where its numbers are held
-abbrev pub IsPowerAnswer : ℤ → ℤ → ℤ × ℤ → ℤ → Said → Type 0
-IsPowerAnswer lo hi x exponent answer = OfOne x answer (Says (ChecksPower (λ z. z.0) (λ z. z.1) lo hi x.0 x.1 exponent) answer)
+-- The answer says both numbers of the pair as they are, if they fit the type from lo to hi. For example, 2/4 stays 2/4.
+abbrev pub SaysPair : ℤ → ℤ → ℤ × ℤ → Said → Type 0
+SaysPair lo hi x answer = Says (ChecksBoth (λ z. z.0) (λ z. z.1) lo hi x.0 x.1) answer
 
--- a fraction is hashed by the codes of its continued fraction, the same for all fractions of its value, where its denominator is not 0
+-- The negative and the absolute value, over the same denominator, if the numerator fits. For example, 2/4 gives -2/4 and 2/4.
+abbrev pub IsNegationAnswer : ℤ → ℤ → ℤ × ℤ → Said → Type 0
+IsNegationAnswer lo hi x answer = OfOne x answer (SaysPair lo hi (neg_ℤ x.0, x.1) answer)
+
+abbrev pub IsAbsoluteAnswer : ℤ → ℤ → ℤ × ℤ → Said → Type 0
+IsAbsoluteAnswer lo hi x answer = OfOne x answer (SaysPair lo hi (pos (unsigned_abs x.0), x.1) answer)
+
+-- The same two numbers over another type, from lo to hi, if they fit.
+abbrev pub IsCastAnswer : ℤ → ℤ → ℤ × ℤ → Said → Type 0
+IsCastAnswer lo hi x answer = OfOne x answer (SaysPair lo hi x answer)
+
+-- the answer is the nearest fraction with a denominator from 1 to `most`
+pub record SaysNearest (x : ℤ × ℤ) (most : ℤ) (answer : Said) : Type 0 where
+  pub nearest : ℤ × ℤ
+  pub is_nearest : IsNearest x.0 x.1 most nearest.0 nearest.1
+  pub is_said : answer ≡ (code_answered, nearest)
+
+-- The nearest fraction, if the bound of its denominator is positive. Otherwise there is none, and the code says so. For example, 355/113
+-- gives 22/7 within 10.
+abbrev pub IsNearestAnswer : ℤ × ℤ → ℤ → Said → Type 0
+IsNearestAnswer x most answer = OfOne x answer (Tested (pos 0 <ℤ most) (SaysNearest x most answer) (answer ≡ refused code_bound_not_positive))
+
+-- A power, not reduced, if the library's call returns it. For example, 2/4 to the 2 is 4/16. A power of 0 with an exponent below 0 is a
+-- division by 0.
+abbrev pub IsPowerAnswer : ℤ → ℤ → ℤ × ℤ → ℤ → Said → Type 0
+IsPowerAnswer lo hi x exponent answer =
+    OfOne x answer
+    (Tested ((x.0 ≡ pos 0) × (exponent <ℤ pos 0)) (answer ≡ refused code_division_by_zero)
+    (Says (ChecksPower (λ z. z.0) (λ z. z.1) lo hi x.0 x.1 exponent) answer))
+
+-- The hash comes from the codes of the continued fraction, if the denominator is not 0. All fractions of one value have the
+-- same codes, so 1/2 and 2/4 have the same hash.
 pub record IsHashOf (lo hi : ℤ) (x : ℤ × ℤ) (hash : ℕ) : Type 0 where
   pub codes : List ℤ
   pub are_codes : IsCodesOf lo hi x.0 x.1 codes
@@ -95,13 +141,13 @@ pub record IsHashOf (lo hi : ℤ) (x : ℤ × ℤ) (hash : ℕ) : Type 0 where
 abbrev pub IsHashAnswer : ℤ → ℤ → ℤ × ℤ → ℕ → ℕ → Type 0
 IsHashAnswer lo hi x code hash = Tested (x.1 ≡ pos 0) ((code ≡ code_zero_denominator) × (hash ≡ 0)) ((code ≡ code_answered) × IsHashOf lo hi x hash)
 
--- the answer is what a text is answered as a fraction
+-- the answer is the fraction of a text in lowest terms, or the code of its refusal
 pub record SaysText (lo hi : ℤ) (text : List ℕ) (answer : Said) : Type 0 where
   pub read : Result (ℤ × ℤ) RatioErrorKind
   pub is_read : AnswersText (λ z. z.0) (λ z. z.1) lo hi (IsFractionText lo hi text) read
   pub is_said : answer ≡ said_of_text read
 
--- the text from a place to another one is read where it lies in the texts; one that is not UTF-8 is a parse error
+-- The text from `start` to `end` is read, if it lies in `texts`. Otherwise the code is `code_no_text`. A text that is not UTF-8 is a parse error.
 abbrev pub IsReadAnswer : ℤ → ℤ → List ℕ → ℕ → ℕ → Said → Type 0
 IsReadAnswer lo hi texts start end answer =
     let text = slice_range texts start end in

@@ -1,14 +1,14 @@
 -- The numbers that a C program sees in include/ratio.h, and the multiplier of the hash.
 use Rattle.std.specs.Prelude.{ℕ}
 
--- what a call returns: it wrote its answers, or the lengths do not fit and it wrote nothing
+-- what a call returns: 0 if it wrote its answers, or 1 if the lengths do not fit and it wrote nothing
 abbrev pub return_done : ℕ
 return_done = 0
 
 abbrev pub return_bad_length : ℕ
 return_bad_length = 1
 
--- the code of an answer: it has its numbers, or why it has none
+-- the code of an answer: 0 with its numbers, or why there are none
 abbrev pub code_answered : ℕ
 code_answered = 0
 
@@ -30,7 +30,11 @@ code_parse_error = 5
 abbrev pub code_no_text : ℕ
 code_no_text = 6
 
--- how many bytes a call that prints requires for each fraction of 32, 64 and 128 bits
+abbrev pub code_bound_not_positive : ℕ
+code_bound_not_positive = 7
+
+-- How many bytes a call that prints requires for each fraction of 32, 64 and 128 bits. For example, two
+-- numbers of at most 11 bytes and a slash are 23.
 abbrev pub room32 : ℕ
 room32 = 23
 
@@ -40,6 +44,6 @@ room64 = 41
 abbrev pub room128 : ℕ
 room128 = 81
 
--- by what a hash is multiplied before it takes the next code
+-- a hash is multiplied by this before it takes the next code
 abbrev pub hash_multiplier : ℕ
 hash_multiplier = 0x9e37_79b9_7f4a_7c15

@@ -8,20 +8,20 @@ use Rattle.ratio_core.specs.declared.parse_error.RatioErrorKind.TheVariants.{Par
 use Rattle.ratio_c.specs.declared.wide.Wide.{Wide}
 use Rattle.ratio_c.specs.Codes.{code_answered, code_not_held, code_parse_error, code_zero_denominator, hash_multiplier}
 
--- what an answer says: its code, and its two numbers
+-- what an answer says: its code and its two numbers
 abbrev pub Said : Type 0
 Said = ℕ × (ℤ × ℤ)
 
--- an answer without numbers has 0 twice
+-- an answer without numbers: its code, and 0 twice
 abbrev pub refused : ℕ → Said
 refused code = (code, (pos 0, pos 0))
 
--- a result is answered, and that there is none is said by its code
+-- a result has the code `code_answered`, and `None` has the code `code_not_held`
 abbrev pub said_of : Option (ℤ × ℤ) → Said
 said_of (Some x) = (code_answered, x)
 said_of None = refused code_not_held
 
--- an answer says the result of which `Is` holds
+-- the answer says a result of which `Is` holds
 pub record Says (Is : Option (ℤ × ℤ) → Type 0) (answer : Said) : Type 0 where
   pub result : Option (ℤ × ℤ)
   pub is_result : Is result
@@ -33,19 +33,19 @@ order_number Less = negsuc 0
 order_number Equal = pos 0
 order_number Greater = pos 1
 
--- the number of two halves, the lower of which counts units and the upper 2^64s
+-- The number of two halves: the upper one times 2^64, plus the lower one. For example, -1 and 5 are 5 - 2^64.
 abbrev pub wide_number : Wide → ℤ
 wide_number n = n.high *ℤ pos (2 ^ 64) +ℤ pos n.low
 
--- what is left of a number by 2^64
+-- A number modulo 2^64. For example, -1 gives 2^64-1.
 abbrev pub residue : ℤ → ℕ
 residue z = unsigned_abs (int_rem_euclid z (pos (2 ^ 64)))
 
--- a hash that takes a code: the hash times the multiplier, and what is left of the code, each by 2^64
+-- a hash after one more code: the hash times the multiplier, plus the code, modulo 2^64
 abbrev pub mixed : ℕ → ℤ → ℕ
 mixed hash code = ((hash * hash_multiplier) % 2 ^ 64 + residue code) % 2 ^ 64
 
--- a text's fraction is answered, and its refusal is said by its code
+-- a text's fraction has the code `code_answered`, and its refusal has a code of its own
 abbrev pub said_of_text : Result (ℤ × ℤ) RatioErrorKind → Said
 said_of_text (Ok x) = (code_answered, x)
 said_of_text (Err ParseError) = refused code_parse_error

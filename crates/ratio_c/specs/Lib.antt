@@ -5,3 +5,4 @@ pub mod Texts
 pub mod Numbers32
 pub mod Numbers64
 pub mod Numbers128
+pub mod LowestHash

@@ -16,6 +16,6 @@ greatest128 = pos (2 ^ 127 - 1)
 abbrev pub fraction128 : Fraction128 → ℤ × ℤ
 fraction128 x = (wide_number x.numer, wide_number x.denom)
 
--- what an answer says
+-- the code and the two numbers of an answer
 abbrev pub said128 : Answer128 → Said
 said128 answer = (answer.code, fraction128 answer.value)

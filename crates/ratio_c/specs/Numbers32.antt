@@ -16,6 +16,6 @@ greatest32 = pos (2 ^ 31 - 1)
 abbrev pub fraction32 : Fraction32 → ℤ × ℤ
 fraction32 x = (x.numer, x.denom)
 
--- what an answer says
+-- the code and the two numbers of an answer
 abbrev pub said32 : Answer32 → Said
 said32 answer = (answer.code, fraction32 answer.value)

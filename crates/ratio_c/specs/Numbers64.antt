@@ -16,6 +16,6 @@ greatest64 = pos (2 ^ 63 - 1)
 abbrev pub fraction64 : Fraction64 → ℤ × ℤ
 fraction64 x = (x.numer, x.denom)
 
--- what an answer says
+-- the code and the two numbers of an answer
 abbrev pub said64 : Answer64 → Said
 said64 answer = (answer.code, fraction64 answer.value)

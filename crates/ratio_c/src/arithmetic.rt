@@ -4,12 +4,14 @@ ghost use Rattle.num_rational.specs.Operators.{numbers};
 ghost use Rattle.ratio_c.specs.Calls.{BothPositive, IsDifferenceAnswer, IsProductAnswer, IsQuotientAnswer, IsRemainderAnswer, IsSumAnswer};
 
 use crate::code::{DENOMINATOR_NOT_POSITIVE, DIVISION_BY_ZERO};
-use crate::crossing::{Reply, TwoFractions, checked, refused};
+use crate::crossing::{Reply, TwoFractions, checked, checked_fields, refused};
 use crate::each::Call;
 use num_rational::Ratio;
+use ratio_core::remainder;
+use ratio_core::sums::reducing;
 use ratio_integer::Integer;
 
-/// The two fractions of a pair, where their denominators are positive.
+/// The two fractions of a pair, if their denominators are positive.
 #[inline(always)]
 fn both<P: TwoFractions>(pair: &P) -> Option<(Ratio<P::Inside>, Ratio<P::Inside>)>
     ensures { MatchOption result
@@ -32,12 +34,17 @@ fn both<P: TwoFractions>(pair: &P) -> Option<(Ratio<P::Inside>, Ratio<P::Inside>
 pub struct Sum;
 
 impl<P: TwoFractions, A: Reply<P::Inside>> Call<P, A> for Sum {
-    ghost gives = { λ _ pair answer. IsSumAnswer P.Inside.EXACT_SUMS P.Inside.lo P.Inside.hi (P.left pair) (P.right pair) (A.said answer) };
+    ghost gives = { λ _ pair answer. IsSumAnswer P.Inside.lo P.Inside.hi (P.left pair) (P.right pair) (A.said answer) };
 
     #[inline(always)]
     fn answer(&self, pair: &P) -> A {
         match both(pair) {
-            Some((left, right)) => checked(left.checked_add(&right)),
+            Some((x, y)) => checked_fields(reducing::checked_add(
+                *x.numer(),
+                *x.denom(),
+                *y.numer(),
+                *y.denom(),
+            )),
             None => refused(DENOMINATOR_NOT_POSITIVE),
         }
     }
@@ -48,12 +55,17 @@ impl<P: TwoFractions, A: Reply<P::Inside>> Call<P, A> for Sum {
 pub struct Difference;
 
 impl<P: TwoFractions, A: Reply<P::Inside>> Call<P, A> for Difference {
-    ghost gives = { λ _ pair answer. IsDifferenceAnswer P.Inside.EXACT_SUMS P.Inside.lo P.Inside.hi (P.left pair) (P.right pair) (A.said answer) };
+    ghost gives = { λ _ pair answer. IsDifferenceAnswer P.Inside.lo P.Inside.hi (P.left pair) (P.right pair) (A.said answer) };
 
     #[inline(always)]
     fn answer(&self, pair: &P) -> A {
         match both(pair) {
-            Some((left, right)) => checked(left.checked_sub(&right)),
+            Some((x, y)) => checked_fields(reducing::checked_sub(
+                *x.numer(),
+                *x.denom(),
+                *y.numer(),
+                *y.denom(),
+            )),
             None => refused(DENOMINATOR_NOT_POSITIVE),
         }
     }
@@ -92,18 +104,23 @@ impl<P: TwoFractions, A: Reply<P::Inside>> Call<P, A> for Quotient {
     }
 }
 
-/// What is left of a fraction by another one.
+/// The remainder of a fraction by another one.
 #[derive(Clone, Copy)]
 pub struct Remainder;
 
 impl<P: TwoFractions, A: Reply<P::Inside>> Call<P, A> for Remainder {
-    ghost gives = { λ _ pair answer. IsRemainderAnswer P.Inside.lo P.Inside.hi (P.left pair) (P.right pair) (A.said answer) };
+    ghost gives = { λ _ pair answer. IsRemainderAnswer P.Inside.EXACT_REMAINDERS P.Inside.lo P.Inside.hi (P.left pair) (P.right pair) (A.said answer) };
 
     #[inline(always)]
     fn answer(&self, pair: &P) -> A {
         match both(pair) {
             Some((_, right)) if right.is_zero() => refused(DIVISION_BY_ZERO),
-            Some((left, right)) => checked(left.checked_rem(&right)),
+            Some((x, y)) => checked_fields(remainder::lowest::checked_rem(
+                *x.numer(),
+                *x.denom(),
+                *y.numer(),
+                *y.denom(),
+            )),
             None => refused(DENOMINATOR_NOT_POSITIVE),
         }
     }

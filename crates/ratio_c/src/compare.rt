@@ -1,6 +1,6 @@
-//! The order of a pair.
-ghost use Rattle.std.specs.Prelude.{◌≡◌};
-ghost use Rattle.ratio_c.specs.Calls.{IsOrderAnswer};
+//! The order of a pair, and whether it is equal.
+ghost use Rattle.std.specs.Prelude.{◌≡◌, IsTrue};
+ghost use Rattle.ratio_c.specs.Calls.{IsEqualAnswer, IsOrderAnswer, IsTruth};
 ghost use Rattle.ratio_c.specs.Crossing.{order_number};
 
 use crate::code::{ANSWERED, ZERO_DENOMINATOR};
@@ -10,7 +10,7 @@ use num_rational::Ratio;
 use ratio_integer::Integer;
 use std::cmp::Ordering;
 
-/// An order as -1, 0 or 1, or the code why there is none, and then 0.
+/// An order: -1, 0 or 1. If there is none, the code says why, and `order` is 0.
 #[repr(C)]
 #[derive(Drop)]
 pub struct Order {
@@ -18,7 +18,7 @@ pub struct Order {
     pub order: i32,
 }
 
-/// How the first fraction stands to the second one.
+/// The order of the first fraction and the second one.
 #[derive(Clone, Copy)]
 pub struct Comparison;
 
@@ -43,7 +43,7 @@ impl<P: TwoFractions> Call<P, Order> for Comparison {
     }
 }
 
-/// An order as a number.
+/// An order as a number: -1, 0 or 1.
 #[inline(always)]
 fn number_of(order: Ordering) -> i32
     ensures { result ≡ order_number order }
@@ -53,4 +53,45 @@ fn number_of(order: Ordering) -> i32
         Ordering::Equal => 0,
         Ordering::Greater => 1,
     }
+}
+
+/// Whether something holds: 1 if it does, and 0 if it does not. If that is not known, the code says why, and `holds` is 0.
+#[repr(C)]
+#[derive(Drop)]
+pub struct Truth {
+    pub code: u32,
+    pub holds: u32,
+}
+
+/// Whether the two fractions have the same value.
+#[derive(Clone, Copy)]
+pub struct Equality;
+
+impl<P: TwoFractions> Call<P, Truth> for Equality {
+    ghost gives = { λ _ pair answer. IsEqualAnswer (P.left pair) (P.right pair) answer.code answer.holds };
+
+    #[inline(always)]
+    fn answer(&self, pair: &P) -> Truth {
+        let (n, d) = pair.left();
+        let (m, e) = pair.right();
+        if d.is_zero() || e.is_zero() {
+            return Truth {
+                code: ZERO_DENOMINATOR,
+                holds: 0,
+            };
+        }
+        let equal = Ratio::new_raw(n, d) == Ratio::new_raw(m, e);
+        Truth {
+            code: ANSWERED,
+            holds: truth_of(equal),
+        }
+    }
+}
+
+/// A test as a number: 1 for true, and 0 for false.
+#[inline(always)]
+fn truth_of(test: bool) -> u32
+    ensures { IsTruth (IsTrue test) result }
+{
+    if test { 1 } else { 0 }
 }

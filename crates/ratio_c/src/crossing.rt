@@ -1,23 +1,32 @@
-//! What is asked and what is answered, as it crosses from a caller and back.
+//! Inputs and answers, as they cross from a caller and back.
 ghost use Rattle.std.specs.Prelude.{◌≡◌, ℤ, option_map, pos};
 ghost use Rattle.num_rational.specs.Operators.{numbers};
 ghost use Rattle.ratio_c.specs.Crossing.{Said, refused, residue, said_of};
 
 use crate::code::{ANSWERED, NOT_HELD};
 use num_rational::Ratio;
-use ratio_integer::Primitive;
+use ratio_integer::{Primitive, SignedInteger};
 
-/// A number of which a hash takes the lowest 64 binary digits.
-pub trait Digest: Copy + Primitive {
-    /// What is left of it by 2^64.
+/// A number of at most 128 bits, with its sign. A hash takes its lowest 64 bits.
+pub trait Digest: Copy + Primitive + SignedInteger {
+    /// The number modulo 2^64.
     fn residue(self) -> u64
         ensures { result ≡ residue (Self.value self) };
+
+    /// The number in 128 bits.
+    fn wide(self) -> i128
+        ensures { result ≡ Self.value self };
 }
 
 impl Digest for i32 {
     #[inline(always)]
     fn residue(self) -> u64 {
         (self as i128).rem_euclid(1 << 64) as u64
+    }
+
+    #[inline(always)]
+    fn wide(self) -> i128 {
+        self as i128
     }
 }
 
@@ -26,6 +35,11 @@ impl Digest for i64 {
     fn residue(self) -> u64 {
         (self as i128).rem_euclid(1 << 64) as u64
     }
+
+    #[inline(always)]
+    fn wide(self) -> i128 {
+        self as i128
+    }
 }
 
 impl Digest for i128 {
@@ -33,17 +47,22 @@ impl Digest for i128 {
     fn residue(self) -> u64 {
         self.rem_euclid(1 << 64) as u64
     }
+
+    #[inline(always)]
+    fn wide(self) -> i128 {
+        self
+    }
 }
 
 /// A fraction.
 pub trait OneFraction {
-    /// The type of its two numbers inside.
+    /// The type of its two numbers in the library.
     type Inside: Digest;
 
     // Its two numbers.
     ghost fraction: { Self → ℤ × ℤ };
 
-    /// Its two numbers inside.
+    /// Its two numbers, as the library takes them.
     fn fraction(&self) -> (Self::Inside, Self::Inside)
         ensures { (Self.Inside.value result.0, Self.Inside.value result.1) ≡ fraction self.now };
 }
@@ -57,9 +76,18 @@ pub trait Raised: OneFraction {
         ensures { result ≡ exponent self.now };
 }
 
+/// A fraction and a bound of denominators.
+pub trait Bounded: OneFraction {
+    ghost most: { Self → ℤ };
+
+    /// The bound, as the library takes it.
+    fn most(&self) -> Self::Inside
+        ensures { Self.Inside.value result ≡ most self.now };
+}
+
 /// Two fractions.
 pub trait TwoFractions {
-    /// The type of their numbers inside.
+    /// The type of their numbers in the library.
     type Inside: Primitive;
 
     ghost left: { Self → ℤ × ℤ };
@@ -80,12 +108,12 @@ pub trait Reply<T: Primitive>: Drop {
     // What it says.
     ghost said: { Self → Said };
 
-    /// The answer of these.
+    /// The answer with this code and these numbers.
     fn reply(code: u32, numer: T, denom: T) -> Self
         ensures { said result ≡ (code, (T.value numer, T.value denom)) };
 }
 
-/// No answer, and why.
+/// An answer without numbers: the code says why.
 #[inline(always)]
 pub fn refused<T: Copy + Primitive, A: Reply<T>>(code: u32) -> A
     ensures { A.said result ≡ refused code }
@@ -93,13 +121,24 @@ pub fn refused<T: Copy + Primitive, A: Reply<T>>(code: u32) -> A
     A::reply(code, T::ZERO, T::ZERO)
 }
 
-/// What a checked call answered.
+/// The answer for what a checked call returned.
 #[inline(always)]
 pub fn checked<T: Copy + Primitive, A: Reply<T>>(answer: Option<Ratio<T>>) -> A
     ensures { A.said result ≡ said_of (option_map numbers answer) }
 {
     match answer {
         Some(x) => A::reply(ANSWERED, *x.numer(), *x.denom()),
+        None => refused::<T, A>(NOT_HELD),
+    }
+}
+
+/// The same for a call that returned the two numbers.
+#[inline(always)]
+pub fn checked_fields<T: Copy + Primitive, A: Reply<T>>(answer: Option<(T, T)>) -> A
+    ensures { A.said result ≡ said_of (option_map (λ x. (T.value x.0, T.value x.1)) answer) }
+{
+    match answer {
+        Some((numer, denom)) => A::reply(ANSWERED, numer, denom),
         None => refused::<T, A>(NOT_HELD),
     }
 }

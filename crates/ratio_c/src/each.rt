@@ -1,22 +1,23 @@
-//! One call on each element of a slice.
+//! One call for each item of a slice.
 ghost use Rattle.ratio_c.specs.Calls.{AnswersEach};
 
-/// What a call answers to what it is asked.
+/// A call that gives an answer for one item.
 pub trait Call<A, B> {
-    // The answers to what it is asked.
+    // The answers that are right for an item.
     ghost gives: { Self → A → B → Type 0 };
 
     fn answer(&self, asked: &A) -> B
         ensures { gives self.now asked.now result };
 }
 
-/// The return of a call that wrote its answers.
+/// A call returns this if it wrote its answers.
 pub const DONE: u32 = 0;
 
-/// The return of a call that was given slices of unlike lengths, or too little room for texts, and wrote nothing.
+/// A call returns this if it wrote nothing: the slices have unlike
+/// lengths, or there is too little room for texts.
 pub const BAD_LENGTH: u32 = 1;
 
-/// Writes the answer to each element, where there is a place for each and no other.
+/// Writes the answer for each item, if there are as many answers as items.
 #[inline(always)]
 pub fn each<C: Call<A, B>, A, B: Drop>(call: &C, asked: &[A], answers: &mut [B]) -> u32
     ensures { AnswersEach (C.gives call.now) asked.now answers.old answers.new result }

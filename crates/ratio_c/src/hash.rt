@@ -9,10 +9,10 @@ use crate::each::Call;
 use ratio_core::{CodeList, Steps, Taken, hash_counted};
 use ratio_integer::Integer;
 
-/// By what a hash is multiplied before it takes the next code.
+/// A hash is multiplied by this before it takes the next code.
 pub const MULTIPLIER: u64 = 0x9e37_79b9_7f4a_7c15;
 
-/// A hash, or the code why there is none, and then 0.
+/// A hash. If there is none, the code says why, and `hash` is 0.
 #[repr(C)]
 #[derive(Drop)]
 pub struct Hash {

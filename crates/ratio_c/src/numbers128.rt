@@ -1,19 +1,27 @@
 // Written by templates/write from templates/numbers.rt.txt: change that file, and write this one anew.
 //! Fractions of `i128` and the exports over them.
 ghost use Rattle.std.specs.Prelude.{false};
-ghost use Rattle.ratio_c.specs.Calls.{AnswersEach, IsDifferenceAnswer, IsFloorAnswer, IsHashAnswer, IsLowestAnswer, IsOrderAnswer, IsPowerAnswer, IsProductAnswer, IsQuotientAnswer, IsReadAnswer, IsRemainderAnswer, IsRoundAnswer, IsSumAnswer};
+ghost use Rattle.ratio_c.specs.Calls.{AnswersEach, IsAbsoluteAnswer, IsCastAnswer, IsCeilingAnswer, IsDifferenceAnswer, IsEqualAnswer, IsFloorAnswer, IsHashAnswer, IsLowestAnswer, IsNearestAnswer, IsNegationAnswer, IsOrderAnswer, IsPowerAnswer, IsProductAnswer, IsQuotientAnswer, IsReadAnswer, IsRemainderAnswer, IsRoundAnswer, IsSumAnswer, IsTruncationAnswer};
 ghost use Rattle.ratio_c.specs.Codes.{room128};
+ghost use Rattle.ratio_c.specs.Crossing.{wide_number};
 ghost use Rattle.ratio_c.specs.Numbers128.{fraction128, greatest128, least128, said128};
+ghost use Rattle.ratio_c.specs.Numbers32.{greatest32, least32, said32};
+ghost use Rattle.ratio_c.specs.Numbers64.{greatest64, least64, said64};
 ghost use Rattle.ratio_c.specs.Texts.{Prints};
 
 use crate::arithmetic::{Difference, Product, Quotient, Remainder, Sum};
-use crate::compare::{Comparison, Order};
-use crate::crossing::{OneFraction, Raised, Reply, TwoFractions};
+use crate::cast::Casting;
+use crate::compare::{Comparison, Equality, Order, Truth};
+use crate::crossing::{Bounded, OneFraction, Raised, Reply, TwoFractions};
 use crate::each::each;
 use crate::hash::{Hash, Hashing};
-use crate::one_fraction::{Floor, LowestTerms, Raising, Rounding};
+use crate::nearest::Nearest;
+use crate::numbers32::Answer32;
+use crate::numbers64::Answer64;
+use crate::one_fraction::{Ceiling, Floor, LowestTerms, Raising, Rounding, Truncation};
 use crate::printing::{Text, print};
 use crate::reading::{Reading, Span};
+use crate::sign::{Absolute, Negation};
 use crate::wide::Wide;
 
 /// The room for a text: a slash, and two numbers of at most 40 bytes.
@@ -43,7 +51,15 @@ pub struct Power128 {
     pub exponent: i32,
 }
 
-/// A fraction, or the code why there is none, and then 0 over 0.
+/// A fraction and the greatest denominator of the nearest one.
+#[repr(C)]
+#[derive(Drop)]
+pub struct Bounded128 {
+    pub value: Fraction128,
+    pub most: Wide,
+}
+
+/// A fraction. If there is none, the code says why, and the value is 0 over 0.
 #[repr(C)]
 #[derive(Drop)]
 pub struct Answer128 {
@@ -82,6 +98,26 @@ impl Raised for Power128 {
     }
 }
 
+impl OneFraction for Bounded128 {
+    type Inside = i128;
+
+    ghost fraction = { λ x. fraction128 x.value };
+
+    #[inline(always)]
+    fn fraction(&self) -> (i128, i128) {
+        (self.value.numer.number(), self.value.denom.number())
+    }
+}
+
+impl Bounded for Bounded128 {
+    ghost most = { λ x. (wide_number x.most) };
+
+    #[inline(always)]
+    fn most(&self) -> i128 {
+        self.most.number()
+    }
+}
+
 impl TwoFractions for Pair128 {
     type Inside = i128;
 
@@ -113,12 +149,20 @@ impl Reply<i128> for Answer128 {
     }
 }
 
-/// How the fractions of each pair stand to one another.
+/// The order of each pair, by value.
 #[unsafe(no_mangle)]
 pub extern "C" fn ratio_compare_i128(asked: &[Pair128], answers: &mut [Order]) -> u32
     ensures { AnswersEach (λ x answer. IsOrderAnswer (fraction128 x.left) (fraction128 x.right) answer.code answer.order) asked.now answers.old answers.new result }
 {
     each(&Comparison, asked, answers)
+}
+
+/// Whether the fractions of each pair have the same value.
+#[unsafe(no_mangle)]
+pub extern "C" fn ratio_equal_i128(asked: &[Pair128], answers: &mut [Truth]) -> u32
+    ensures { AnswersEach (λ x answer. IsEqualAnswer (fraction128 x.left) (fraction128 x.right) answer.code answer.holds) asked.now answers.old answers.new result }
+{
+    each(&Equality, asked, answers)
 }
 
 /// The hash of each fraction.
@@ -132,7 +176,7 @@ pub extern "C" fn ratio_hash_i128(asked: &[Fraction128], answers: &mut [Hash]) -
 /// The sum of each pair.
 #[unsafe(no_mangle)]
 pub extern "C" fn ratio_add_i128(asked: &[Pair128], answers: &mut [Answer128]) -> u32
-    ensures { AnswersEach (λ x answer. IsSumAnswer false least128 greatest128 (fraction128 x.left) (fraction128 x.right) (said128 answer)) asked.now answers.old answers.new result }
+    ensures { AnswersEach (λ x answer. IsSumAnswer least128 greatest128 (fraction128 x.left) (fraction128 x.right) (said128 answer)) asked.now answers.old answers.new result }
 {
     each(&Sum, asked, answers)
 }
@@ -140,7 +184,7 @@ pub extern "C" fn ratio_add_i128(asked: &[Pair128], answers: &mut [Answer128]) -
 /// The difference of each pair.
 #[unsafe(no_mangle)]
 pub extern "C" fn ratio_sub_i128(asked: &[Pair128], answers: &mut [Answer128]) -> u32
-    ensures { AnswersEach (λ x answer. IsDifferenceAnswer false least128 greatest128 (fraction128 x.left) (fraction128 x.right) (said128 answer)) asked.now answers.old answers.new result }
+    ensures { AnswersEach (λ x answer. IsDifferenceAnswer least128 greatest128 (fraction128 x.left) (fraction128 x.right) (said128 answer)) asked.now answers.old answers.new result }
 {
     each(&Difference, asked, answers)
 }
@@ -164,7 +208,7 @@ pub extern "C" fn ratio_div_i128(asked: &[Pair128], answers: &mut [Answer128]) -
 /// The remainder of each pair.
 #[unsafe(no_mangle)]
 pub extern "C" fn ratio_rem_i128(asked: &[Pair128], answers: &mut [Answer128]) -> u32
-    ensures { AnswersEach (λ x answer. IsRemainderAnswer least128 greatest128 (fraction128 x.left) (fraction128 x.right) (said128 answer)) asked.now answers.old answers.new result }
+    ensures { AnswersEach (λ x answer. IsRemainderAnswer false least128 greatest128 (fraction128 x.left) (fraction128 x.right) (said128 answer)) asked.now answers.old answers.new result }
 {
     each(&Remainder, asked, answers)
 }
@@ -177,7 +221,23 @@ pub extern "C" fn ratio_reduce_i128(asked: &[Fraction128], answers: &mut [Answer
     each(&LowestTerms, asked, answers)
 }
 
-/// The floor of each fraction.
+/// The negative of each fraction, not reduced.
+#[unsafe(no_mangle)]
+pub extern "C" fn ratio_neg_i128(asked: &[Fraction128], answers: &mut [Answer128]) -> u32
+    ensures { AnswersEach (λ x answer. IsNegationAnswer least128 greatest128 (fraction128 x) (said128 answer)) asked.now answers.old answers.new result }
+{
+    each(&Negation, asked, answers)
+}
+
+/// The absolute value of each fraction, not reduced.
+#[unsafe(no_mangle)]
+pub extern "C" fn ratio_abs_i128(asked: &[Fraction128], answers: &mut [Answer128]) -> u32
+    ensures { AnswersEach (λ x answer. IsAbsoluteAnswer least128 greatest128 (fraction128 x) (said128 answer)) asked.now answers.old answers.new result }
+{
+    each(&Absolute, asked, answers)
+}
+
+/// The floor of each fraction, over 1.
 #[unsafe(no_mangle)]
 pub extern "C" fn ratio_floor_i128(asked: &[Fraction128], answers: &mut [Answer128]) -> u32
     ensures { AnswersEach (λ x answer. IsFloorAnswer (fraction128 x) (said128 answer)) asked.now answers.old answers.new result }
@@ -185,7 +245,23 @@ pub extern "C" fn ratio_floor_i128(asked: &[Fraction128], answers: &mut [Answer1
     each(&Floor, asked, answers)
 }
 
-/// Each fraction rounded.
+/// The ceiling of each fraction, over 1.
+#[unsafe(no_mangle)]
+pub extern "C" fn ratio_ceil_i128(asked: &[Fraction128], answers: &mut [Answer128]) -> u32
+    ensures { AnswersEach (λ x answer. IsCeilingAnswer (fraction128 x) (said128 answer)) asked.now answers.old answers.new result }
+{
+    each(&Ceiling, asked, answers)
+}
+
+/// Each fraction cut towards zero, over 1.
+#[unsafe(no_mangle)]
+pub extern "C" fn ratio_trunc_i128(asked: &[Fraction128], answers: &mut [Answer128]) -> u32
+    ensures { AnswersEach (λ x answer. IsTruncationAnswer (fraction128 x) (said128 answer)) asked.now answers.old answers.new result }
+{
+    each(&Truncation, asked, answers)
+}
+
+/// Each fraction rounded, a half away from zero.
 #[unsafe(no_mangle)]
 pub extern "C" fn ratio_round_i128(asked: &[Fraction128], answers: &mut [Answer128]) -> u32
     ensures { AnswersEach (λ x answer. IsRoundAnswer (fraction128 x) (said128 answer)) asked.now answers.old answers.new result }
@@ -193,7 +269,7 @@ pub extern "C" fn ratio_round_i128(asked: &[Fraction128], answers: &mut [Answer1
     each(&Rounding, asked, answers)
 }
 
-/// Each fraction to its exponent.
+/// The power of each fraction, not reduced.
 #[unsafe(no_mangle)]
 pub extern "C" fn ratio_pow_i128(asked: &[Power128], answers: &mut [Answer128]) -> u32
     ensures { AnswersEach (λ x answer. IsPowerAnswer least128 greatest128 (fraction128 x.base) x.exponent (said128 answer)) asked.now answers.old answers.new result }
@@ -201,7 +277,31 @@ pub extern "C" fn ratio_pow_i128(asked: &[Power128], answers: &mut [Answer128]) 
     each(&Raising, asked, answers)
 }
 
-/// The fraction of each text of `texts` that the spans name.
+/// The nearest fraction with a denominator from 1 to the bound.
+#[unsafe(no_mangle)]
+pub extern "C" fn ratio_nearest_i128(asked: &[Bounded128], answers: &mut [Answer128]) -> u32
+    ensures { AnswersEach (λ x answer. IsNearestAnswer (fraction128 x.value) (wide_number x.most) (said128 answer)) asked.now answers.old answers.new result }
+{
+    each(&Nearest, asked, answers)
+}
+
+/// Each fraction over `i32`, not reduced.
+#[unsafe(no_mangle)]
+pub extern "C" fn ratio_cast_i128_to_i32(asked: &[Fraction128], answers: &mut [Answer32]) -> u32
+    ensures { AnswersEach (λ x answer. IsCastAnswer least32 greatest32 (fraction128 x) (said32 answer)) asked.now answers.old answers.new result }
+{
+    each(&Casting::<i32>::new(), asked, answers)
+}
+
+/// Each fraction over `i64`, not reduced.
+#[unsafe(no_mangle)]
+pub extern "C" fn ratio_cast_i128_to_i64(asked: &[Fraction128], answers: &mut [Answer64]) -> u32
+    ensures { AnswersEach (λ x answer. IsCastAnswer least64 greatest64 (fraction128 x) (said64 answer)) asked.now answers.old answers.new result }
+{
+    each(&Casting::<i64>::new(), asked, answers)
+}
+
+/// The fraction of each text in `texts`. The spans name the texts.
 #[unsafe(no_mangle)]
 pub extern "C" fn ratio_read_i128(texts: &[u8], spans: &[Span], answers: &mut [Answer128]) -> u32
     ensures { AnswersEach (λ span answer. IsReadAnswer least128 greatest128 texts.now span.start span.end (said128 answer)) spans.now answers.old answers.new result }
@@ -209,7 +309,7 @@ pub extern "C" fn ratio_read_i128(texts: &[u8], spans: &[Span], answers: &mut [A
     each(&Reading::<i128>::of(texts), spans, answers)
 }
 
-/// The text of each fraction as it stands, one after another in `texts`, which has `ROOM` bytes for each.
+/// The text of each fraction, not reduced, one after another in `texts`, which has `ROOM` bytes for each.
 #[unsafe(no_mangle)]
 pub extern "C" fn ratio_print_i128(
     asked: &[Fraction128],

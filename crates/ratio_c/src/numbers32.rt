@@ -1,19 +1,28 @@
 // Written by templates/write from templates/numbers.rt.txt: change that file, and write this one anew.
 //! Fractions of `i32` and the exports over them.
 ghost use Rattle.std.specs.Prelude.{true};
-ghost use Rattle.ratio_c.specs.Calls.{AnswersEach, IsDifferenceAnswer, IsFloorAnswer, IsHashAnswer, IsLowestAnswer, IsOrderAnswer, IsPowerAnswer, IsProductAnswer, IsQuotientAnswer, IsReadAnswer, IsRemainderAnswer, IsRoundAnswer, IsSumAnswer};
+ghost use Rattle.ratio_c.specs.Calls.{AnswersEach, IsAbsoluteAnswer, IsCastAnswer, IsCeilingAnswer, IsDifferenceAnswer, IsEqualAnswer, IsFloorAnswer, IsHashAnswer, IsLowestAnswer, IsNearestAnswer, IsNegationAnswer, IsOrderAnswer, IsPowerAnswer, IsProductAnswer, IsQuotientAnswer, IsReadAnswer, IsRemainderAnswer, IsRoundAnswer, IsSumAnswer, IsTruncationAnswer};
 ghost use Rattle.ratio_c.specs.Codes.{room32};
+ghost use Rattle.ratio_c.specs.LowestHash.{IsLowestHashAnswer};
 ghost use Rattle.ratio_c.specs.Numbers32.{fraction32, greatest32, least32, said32};
+ghost use Rattle.ratio_c.specs.Numbers64.{greatest64, least64, said64};
+ghost use Rattle.ratio_c.specs.Numbers128.{greatest128, least128, said128};
 ghost use Rattle.ratio_c.specs.Texts.{Prints};
 
 use crate::arithmetic::{Difference, Product, Quotient, Remainder, Sum};
-use crate::compare::{Comparison, Order};
-use crate::crossing::{OneFraction, Raised, Reply, TwoFractions};
+use crate::cast::Casting;
+use crate::compare::{Comparison, Equality, Order, Truth};
+use crate::crossing::{Bounded, OneFraction, Raised, Reply, TwoFractions};
 use crate::each::each;
 use crate::hash::{Hash, Hashing};
-use crate::one_fraction::{Floor, LowestTerms, Raising, Rounding};
+use crate::lowest_hash::LowestHashing;
+use crate::nearest::Nearest;
+use crate::numbers64::Answer64;
+use crate::numbers128::Answer128;
+use crate::one_fraction::{Ceiling, Floor, LowestTerms, Raising, Rounding, Truncation};
 use crate::printing::{Text, print};
 use crate::reading::{Reading, Span};
+use crate::sign::{Absolute, Negation};
 
 /// The room for a text: a slash, and two numbers of at most 11 bytes.
 pub const ROOM: usize = 23;
@@ -42,7 +51,15 @@ pub struct Power32 {
     pub exponent: i32,
 }
 
-/// A fraction, or the code why there is none, and then 0 over 0.
+/// A fraction and the greatest denominator of the nearest one.
+#[repr(C)]
+#[derive(Drop)]
+pub struct Bounded32 {
+    pub value: Fraction32,
+    pub most: i32,
+}
+
+/// A fraction. If there is none, the code says why, and the value is 0 over 0.
 #[repr(C)]
 #[derive(Drop)]
 pub struct Answer32 {
@@ -81,6 +98,26 @@ impl Raised for Power32 {
     }
 }
 
+impl OneFraction for Bounded32 {
+    type Inside = i32;
+
+    ghost fraction = { λ x. fraction32 x.value };
+
+    #[inline(always)]
+    fn fraction(&self) -> (i32, i32) {
+        (self.value.numer, self.value.denom)
+    }
+}
+
+impl Bounded for Bounded32 {
+    ghost most = { λ x. x.most };
+
+    #[inline(always)]
+    fn most(&self) -> i32 {
+        self.most
+    }
+}
+
 impl TwoFractions for Pair32 {
     type Inside = i32;
 
@@ -109,12 +146,20 @@ impl Reply<i32> for Answer32 {
     }
 }
 
-/// How the fractions of each pair stand to one another.
+/// The order of each pair, by value.
 #[unsafe(no_mangle)]
 pub extern "C" fn ratio_compare_i32(asked: &[Pair32], answers: &mut [Order]) -> u32
     ensures { AnswersEach (λ x answer. IsOrderAnswer (fraction32 x.left) (fraction32 x.right) answer.code answer.order) asked.now answers.old answers.new result }
 {
     each(&Comparison, asked, answers)
+}
+
+/// Whether the fractions of each pair have the same value.
+#[unsafe(no_mangle)]
+pub extern "C" fn ratio_equal_i32(asked: &[Pair32], answers: &mut [Truth]) -> u32
+    ensures { AnswersEach (λ x answer. IsEqualAnswer (fraction32 x.left) (fraction32 x.right) answer.code answer.holds) asked.now answers.old answers.new result }
+{
+    each(&Equality, asked, answers)
 }
 
 /// The hash of each fraction.
@@ -128,7 +173,7 @@ pub extern "C" fn ratio_hash_i32(asked: &[Fraction32], answers: &mut [Hash]) -> 
 /// The sum of each pair.
 #[unsafe(no_mangle)]
 pub extern "C" fn ratio_add_i32(asked: &[Pair32], answers: &mut [Answer32]) -> u32
-    ensures { AnswersEach (λ x answer. IsSumAnswer true least32 greatest32 (fraction32 x.left) (fraction32 x.right) (said32 answer)) asked.now answers.old answers.new result }
+    ensures { AnswersEach (λ x answer. IsSumAnswer least32 greatest32 (fraction32 x.left) (fraction32 x.right) (said32 answer)) asked.now answers.old answers.new result }
 {
     each(&Sum, asked, answers)
 }
@@ -136,7 +181,7 @@ pub extern "C" fn ratio_add_i32(asked: &[Pair32], answers: &mut [Answer32]) -> u
 /// The difference of each pair.
 #[unsafe(no_mangle)]
 pub extern "C" fn ratio_sub_i32(asked: &[Pair32], answers: &mut [Answer32]) -> u32
-    ensures { AnswersEach (λ x answer. IsDifferenceAnswer true least32 greatest32 (fraction32 x.left) (fraction32 x.right) (said32 answer)) asked.now answers.old answers.new result }
+    ensures { AnswersEach (λ x answer. IsDifferenceAnswer least32 greatest32 (fraction32 x.left) (fraction32 x.right) (said32 answer)) asked.now answers.old answers.new result }
 {
     each(&Difference, asked, answers)
 }
@@ -160,7 +205,7 @@ pub extern "C" fn ratio_div_i32(asked: &[Pair32], answers: &mut [Answer32]) -> u
 /// The remainder of each pair.
 #[unsafe(no_mangle)]
 pub extern "C" fn ratio_rem_i32(asked: &[Pair32], answers: &mut [Answer32]) -> u32
-    ensures { AnswersEach (λ x answer. IsRemainderAnswer least32 greatest32 (fraction32 x.left) (fraction32 x.right) (said32 answer)) asked.now answers.old answers.new result }
+    ensures { AnswersEach (λ x answer. IsRemainderAnswer true least32 greatest32 (fraction32 x.left) (fraction32 x.right) (said32 answer)) asked.now answers.old answers.new result }
 {
     each(&Remainder, asked, answers)
 }
@@ -173,7 +218,23 @@ pub extern "C" fn ratio_reduce_i32(asked: &[Fraction32], answers: &mut [Answer32
     each(&LowestTerms, asked, answers)
 }
 
-/// The floor of each fraction.
+/// The negative of each fraction, not reduced.
+#[unsafe(no_mangle)]
+pub extern "C" fn ratio_neg_i32(asked: &[Fraction32], answers: &mut [Answer32]) -> u32
+    ensures { AnswersEach (λ x answer. IsNegationAnswer least32 greatest32 (fraction32 x) (said32 answer)) asked.now answers.old answers.new result }
+{
+    each(&Negation, asked, answers)
+}
+
+/// The absolute value of each fraction, not reduced.
+#[unsafe(no_mangle)]
+pub extern "C" fn ratio_abs_i32(asked: &[Fraction32], answers: &mut [Answer32]) -> u32
+    ensures { AnswersEach (λ x answer. IsAbsoluteAnswer least32 greatest32 (fraction32 x) (said32 answer)) asked.now answers.old answers.new result }
+{
+    each(&Absolute, asked, answers)
+}
+
+/// The floor of each fraction, over 1.
 #[unsafe(no_mangle)]
 pub extern "C" fn ratio_floor_i32(asked: &[Fraction32], answers: &mut [Answer32]) -> u32
     ensures { AnswersEach (λ x answer. IsFloorAnswer (fraction32 x) (said32 answer)) asked.now answers.old answers.new result }
@@ -181,7 +242,23 @@ pub extern "C" fn ratio_floor_i32(asked: &[Fraction32], answers: &mut [Answer32]
     each(&Floor, asked, answers)
 }
 
-/// Each fraction rounded.
+/// The ceiling of each fraction, over 1.
+#[unsafe(no_mangle)]
+pub extern "C" fn ratio_ceil_i32(asked: &[Fraction32], answers: &mut [Answer32]) -> u32
+    ensures { AnswersEach (λ x answer. IsCeilingAnswer (fraction32 x) (said32 answer)) asked.now answers.old answers.new result }
+{
+    each(&Ceiling, asked, answers)
+}
+
+/// Each fraction cut towards zero, over 1.
+#[unsafe(no_mangle)]
+pub extern "C" fn ratio_trunc_i32(asked: &[Fraction32], answers: &mut [Answer32]) -> u32
+    ensures { AnswersEach (λ x answer. IsTruncationAnswer (fraction32 x) (said32 answer)) asked.now answers.old answers.new result }
+{
+    each(&Truncation, asked, answers)
+}
+
+/// Each fraction rounded, a half away from zero.
 #[unsafe(no_mangle)]
 pub extern "C" fn ratio_round_i32(asked: &[Fraction32], answers: &mut [Answer32]) -> u32
     ensures { AnswersEach (λ x answer. IsRoundAnswer (fraction32 x) (said32 answer)) asked.now answers.old answers.new result }
@@ -189,7 +266,7 @@ pub extern "C" fn ratio_round_i32(asked: &[Fraction32], answers: &mut [Answer32]
     each(&Rounding, asked, answers)
 }
 
-/// Each fraction to its exponent.
+/// The power of each fraction, not reduced.
 #[unsafe(no_mangle)]
 pub extern "C" fn ratio_pow_i32(asked: &[Power32], answers: &mut [Answer32]) -> u32
     ensures { AnswersEach (λ x answer. IsPowerAnswer least32 greatest32 (fraction32 x.base) x.exponent (said32 answer)) asked.now answers.old answers.new result }
@@ -197,7 +274,39 @@ pub extern "C" fn ratio_pow_i32(asked: &[Power32], answers: &mut [Answer32]) -> 
     each(&Raising, asked, answers)
 }
 
-/// The fraction of each text of `texts` that the spans name.
+/// The nearest fraction with a denominator from 1 to the bound.
+#[unsafe(no_mangle)]
+pub extern "C" fn ratio_nearest_i32(asked: &[Bounded32], answers: &mut [Answer32]) -> u32
+    ensures { AnswersEach (λ x answer. IsNearestAnswer (fraction32 x.value) x.most (said32 answer)) asked.now answers.old answers.new result }
+{
+    each(&Nearest, asked, answers)
+}
+
+/// The hash of each fraction in lowest terms.
+#[unsafe(no_mangle)]
+pub extern "C" fn ratio_hash_lowest_i32(asked: &[Fraction32], answers: &mut [Hash]) -> u32
+    ensures { AnswersEach (λ x answer. IsLowestHashAnswer (fraction32 x) answer.code answer.hash) asked.now answers.old answers.new result }
+{
+    each(&LowestHashing, asked, answers)
+}
+
+/// Each fraction over `i64`, not reduced.
+#[unsafe(no_mangle)]
+pub extern "C" fn ratio_cast_i32_to_i64(asked: &[Fraction32], answers: &mut [Answer64]) -> u32
+    ensures { AnswersEach (λ x answer. IsCastAnswer least64 greatest64 (fraction32 x) (said64 answer)) asked.now answers.old answers.new result }
+{
+    each(&Casting::<i64>::new(), asked, answers)
+}
+
+/// Each fraction over `i128`, not reduced.
+#[unsafe(no_mangle)]
+pub extern "C" fn ratio_cast_i32_to_i128(asked: &[Fraction32], answers: &mut [Answer128]) -> u32
+    ensures { AnswersEach (λ x answer. IsCastAnswer least128 greatest128 (fraction32 x) (said128 answer)) asked.now answers.old answers.new result }
+{
+    each(&Casting::<i128>::new(), asked, answers)
+}
+
+/// The fraction of each text in `texts`. The spans name the texts.
 #[unsafe(no_mangle)]
 pub extern "C" fn ratio_read_i32(texts: &[u8], spans: &[Span], answers: &mut [Answer32]) -> u32
     ensures { AnswersEach (λ span answer. IsReadAnswer least32 greatest32 texts.now span.start span.end (said32 answer)) spans.now answers.old answers.new result }
@@ -205,7 +314,7 @@ pub extern "C" fn ratio_read_i32(texts: &[u8], spans: &[Span], answers: &mut [An
     each(&Reading::<i32>::of(texts), spans, answers)
 }
 
-/// The text of each fraction as it stands, one after another in `texts`, which has `ROOM` bytes for each.
+/// The text of each fraction, not reduced, one after another in `texts`, which has `ROOM` bytes for each.
 #[unsafe(no_mangle)]
 pub extern "C" fn ratio_print_i32(
     asked: &[Fraction32],

@@ -1,19 +1,28 @@
 // Written by templates/write from templates/numbers.rt.txt: change that file, and write this one anew.
 //! Fractions of `i64` and the exports over them.
 ghost use Rattle.std.specs.Prelude.{true};
-ghost use Rattle.ratio_c.specs.Calls.{AnswersEach, IsDifferenceAnswer, IsFloorAnswer, IsHashAnswer, IsLowestAnswer, IsOrderAnswer, IsPowerAnswer, IsProductAnswer, IsQuotientAnswer, IsReadAnswer, IsRemainderAnswer, IsRoundAnswer, IsSumAnswer};
+ghost use Rattle.ratio_c.specs.Calls.{AnswersEach, IsAbsoluteAnswer, IsCastAnswer, IsCeilingAnswer, IsDifferenceAnswer, IsEqualAnswer, IsFloorAnswer, IsHashAnswer, IsLowestAnswer, IsNearestAnswer, IsNegationAnswer, IsOrderAnswer, IsPowerAnswer, IsProductAnswer, IsQuotientAnswer, IsReadAnswer, IsRemainderAnswer, IsRoundAnswer, IsSumAnswer, IsTruncationAnswer};
 ghost use Rattle.ratio_c.specs.Codes.{room64};
+ghost use Rattle.ratio_c.specs.LowestHash.{IsLowestHashAnswer};
 ghost use Rattle.ratio_c.specs.Numbers64.{fraction64, greatest64, least64, said64};
+ghost use Rattle.ratio_c.specs.Numbers32.{greatest32, least32, said32};
+ghost use Rattle.ratio_c.specs.Numbers128.{greatest128, least128, said128};
 ghost use Rattle.ratio_c.specs.Texts.{Prints};
 
 use crate::arithmetic::{Difference, Product, Quotient, Remainder, Sum};
-use crate::compare::{Comparison, Order};
-use crate::crossing::{OneFraction, Raised, Reply, TwoFractions};
+use crate::cast::Casting;
+use crate::compare::{Comparison, Equality, Order, Truth};
+use crate::crossing::{Bounded, OneFraction, Raised, Reply, TwoFractions};
 use crate::each::each;
 use crate::hash::{Hash, Hashing};
-use crate::one_fraction::{Floor, LowestTerms, Raising, Rounding};
+use crate::lowest_hash::LowestHashing;
+use crate::nearest::Nearest;
+use crate::numbers32::Answer32;
+use crate::numbers128::Answer128;
+use crate::one_fraction::{Ceiling, Floor, LowestTerms, Raising, Rounding, Truncation};
 use crate::printing::{Text, print};
 use crate::reading::{Reading, Span};
+use crate::sign::{Absolute, Negation};
 
 /// The room for a text: a slash, and two numbers of at most 20 bytes.
 pub const ROOM: usize = 41;
@@ -42,7 +51,15 @@ pub struct Power64 {
     pub exponent: i32,
 }
 
-/// A fraction, or the code why there is none, and then 0 over 0.
+/// A fraction and the greatest denominator of the nearest one.
+#[repr(C)]
+#[derive(Drop)]
+pub struct Bounded64 {
+    pub value: Fraction64,
+    pub most: i64,
+}
+
+/// A fraction. If there is none, the code says why, and the value is 0 over 0.
 #[repr(C)]
 #[derive(Drop)]
 pub struct Answer64 {
@@ -81,6 +98,26 @@ impl Raised for Power64 {
     }
 }
 
+impl OneFraction for Bounded64 {
+    type Inside = i64;
+
+    ghost fraction = { λ x. fraction64 x.value };
+
+    #[inline(always)]
+    fn fraction(&self) -> (i64, i64) {
+        (self.value.numer, self.value.denom)
+    }
+}
+
+impl Bounded for Bounded64 {
+    ghost most = { λ x. x.most };
+
+    #[inline(always)]
+    fn most(&self) -> i64 {
+        self.most
+    }
+}
+
 impl TwoFractions for Pair64 {
     type Inside = i64;
 
@@ -109,12 +146,20 @@ impl Reply<i64> for Answer64 {
     }
 }
 
-/// How the fractions of each pair stand to one another.
+/// The order of each pair, by value.
 #[unsafe(no_mangle)]
 pub extern "C" fn ratio_compare_i64(asked: &[Pair64], answers: &mut [Order]) -> u32
     ensures { AnswersEach (λ x answer. IsOrderAnswer (fraction64 x.left) (fraction64 x.right) answer.code answer.order) asked.now answers.old answers.new result }
 {
     each(&Comparison, asked, answers)
+}
+
+/// Whether the fractions of each pair have the same value.
+#[unsafe(no_mangle)]
+pub extern "C" fn ratio_equal_i64(asked: &[Pair64], answers: &mut [Truth]) -> u32
+    ensures { AnswersEach (λ x answer. IsEqualAnswer (fraction64 x.left) (fraction64 x.right) answer.code answer.holds) asked.now answers.old answers.new result }
+{
+    each(&Equality, asked, answers)
 }
 
 /// The hash of each fraction.
@@ -128,7 +173,7 @@ pub extern "C" fn ratio_hash_i64(asked: &[Fraction64], answers: &mut [Hash]) -> 
 /// The sum of each pair.
 #[unsafe(no_mangle)]
 pub extern "C" fn ratio_add_i64(asked: &[Pair64], answers: &mut [Answer64]) -> u32
-    ensures { AnswersEach (λ x answer. IsSumAnswer true least64 greatest64 (fraction64 x.left) (fraction64 x.right) (said64 answer)) asked.now answers.old answers.new result }
+    ensures { AnswersEach (λ x answer. IsSumAnswer least64 greatest64 (fraction64 x.left) (fraction64 x.right) (said64 answer)) asked.now answers.old answers.new result }
 {
     each(&Sum, asked, answers)
 }
@@ -136,7 +181,7 @@ pub extern "C" fn ratio_add_i64(asked: &[Pair64], answers: &mut [Answer64]) -> u
 /// The difference of each pair.
 #[unsafe(no_mangle)]
 pub extern "C" fn ratio_sub_i64(asked: &[Pair64], answers: &mut [Answer64]) -> u32
-    ensures { AnswersEach (λ x answer. IsDifferenceAnswer true least64 greatest64 (fraction64 x.left) (fraction64 x.right) (said64 answer)) asked.now answers.old answers.new result }
+    ensures { AnswersEach (λ x answer. IsDifferenceAnswer least64 greatest64 (fraction64 x.left) (fraction64 x.right) (said64 answer)) asked.now answers.old answers.new result }
 {
     each(&Difference, asked, answers)
 }
@@ -160,7 +205,7 @@ pub extern "C" fn ratio_div_i64(asked: &[Pair64], answers: &mut [Answer64]) -> u
 /// The remainder of each pair.
 #[unsafe(no_mangle)]
 pub extern "C" fn ratio_rem_i64(asked: &[Pair64], answers: &mut [Answer64]) -> u32
-    ensures { AnswersEach (λ x answer. IsRemainderAnswer least64 greatest64 (fraction64 x.left) (fraction64 x.right) (said64 answer)) asked.now answers.old answers.new result }
+    ensures { AnswersEach (λ x answer. IsRemainderAnswer true least64 greatest64 (fraction64 x.left) (fraction64 x.right) (said64 answer)) asked.now answers.old answers.new result }
 {
     each(&Remainder, asked, answers)
 }
@@ -173,7 +218,23 @@ pub extern "C" fn ratio_reduce_i64(asked: &[Fraction64], answers: &mut [Answer64
     each(&LowestTerms, asked, answers)
 }
 
-/// The floor of each fraction.
+/// The negative of each fraction, not reduced.
+#[unsafe(no_mangle)]
+pub extern "C" fn ratio_neg_i64(asked: &[Fraction64], answers: &mut [Answer64]) -> u32
+    ensures { AnswersEach (λ x answer. IsNegationAnswer least64 greatest64 (fraction64 x) (said64 answer)) asked.now answers.old answers.new result }
+{
+    each(&Negation, asked, answers)
+}
+
+/// The absolute value of each fraction, not reduced.
+#[unsafe(no_mangle)]
+pub extern "C" fn ratio_abs_i64(asked: &[Fraction64], answers: &mut [Answer64]) -> u32
+    ensures { AnswersEach (λ x answer. IsAbsoluteAnswer least64 greatest64 (fraction64 x) (said64 answer)) asked.now answers.old answers.new result }
+{
+    each(&Absolute, asked, answers)
+}
+
+/// The floor of each fraction, over 1.
 #[unsafe(no_mangle)]
 pub extern "C" fn ratio_floor_i64(asked: &[Fraction64], answers: &mut [Answer64]) -> u32
     ensures { AnswersEach (λ x answer. IsFloorAnswer (fraction64 x) (said64 answer)) asked.now answers.old answers.new result }
@@ -181,7 +242,23 @@ pub extern "C" fn ratio_floor_i64(asked: &[Fraction64], answers: &mut [Answer64]
     each(&Floor, asked, answers)
 }
 
-/// Each fraction rounded.
+/// The ceiling of each fraction, over 1.
+#[unsafe(no_mangle)]
+pub extern "C" fn ratio_ceil_i64(asked: &[Fraction64], answers: &mut [Answer64]) -> u32
+    ensures { AnswersEach (λ x answer. IsCeilingAnswer (fraction64 x) (said64 answer)) asked.now answers.old answers.new result }
+{
+    each(&Ceiling, asked, answers)
+}
+
+/// Each fraction cut towards zero, over 1.
+#[unsafe(no_mangle)]
+pub extern "C" fn ratio_trunc_i64(asked: &[Fraction64], answers: &mut [Answer64]) -> u32
+    ensures { AnswersEach (λ x answer. IsTruncationAnswer (fraction64 x) (said64 answer)) asked.now answers.old answers.new result }
+{
+    each(&Truncation, asked, answers)
+}
+
+/// Each fraction rounded, a half away from zero.
 #[unsafe(no_mangle)]
 pub extern "C" fn ratio_round_i64(asked: &[Fraction64], answers: &mut [Answer64]) -> u32
     ensures { AnswersEach (λ x answer. IsRoundAnswer (fraction64 x) (said64 answer)) asked.now answers.old answers.new result }
@@ -189,7 +266,7 @@ pub extern "C" fn ratio_round_i64(asked: &[Fraction64], answers: &mut [Answer64]
     each(&Rounding, asked, answers)
 }
 
-/// Each fraction to its exponent.
+/// The power of each fraction, not reduced.
 #[unsafe(no_mangle)]
 pub extern "C" fn ratio_pow_i64(asked: &[Power64], answers: &mut [Answer64]) -> u32
     ensures { AnswersEach (λ x answer. IsPowerAnswer least64 greatest64 (fraction64 x.base) x.exponent (said64 answer)) asked.now answers.old answers.new result }
@@ -197,7 +274,39 @@ pub extern "C" fn ratio_pow_i64(asked: &[Power64], answers: &mut [Answer64]) -> 
     each(&Raising, asked, answers)
 }
 
-/// The fraction of each text of `texts` that the spans name.
+/// The nearest fraction with a denominator from 1 to the bound.
+#[unsafe(no_mangle)]
+pub extern "C" fn ratio_nearest_i64(asked: &[Bounded64], answers: &mut [Answer64]) -> u32
+    ensures { AnswersEach (λ x answer. IsNearestAnswer (fraction64 x.value) x.most (said64 answer)) asked.now answers.old answers.new result }
+{
+    each(&Nearest, asked, answers)
+}
+
+/// The hash of each fraction in lowest terms.
+#[unsafe(no_mangle)]
+pub extern "C" fn ratio_hash_lowest_i64(asked: &[Fraction64], answers: &mut [Hash]) -> u32
+    ensures { AnswersEach (λ x answer. IsLowestHashAnswer (fraction64 x) answer.code answer.hash) asked.now answers.old answers.new result }
+{
+    each(&LowestHashing, asked, answers)
+}
+
+/// Each fraction over `i32`, not reduced.
+#[unsafe(no_mangle)]
+pub extern "C" fn ratio_cast_i64_to_i32(asked: &[Fraction64], answers: &mut [Answer32]) -> u32
+    ensures { AnswersEach (λ x answer. IsCastAnswer least32 greatest32 (fraction64 x) (said32 answer)) asked.now answers.old answers.new result }
+{
+    each(&Casting::<i32>::new(), asked, answers)
+}
+
+/// Each fraction over `i128`, not reduced.
+#[unsafe(no_mangle)]
+pub extern "C" fn ratio_cast_i64_to_i128(asked: &[Fraction64], answers: &mut [Answer128]) -> u32
+    ensures { AnswersEach (λ x answer. IsCastAnswer least128 greatest128 (fraction64 x) (said128 answer)) asked.now answers.old answers.new result }
+{
+    each(&Casting::<i128>::new(), asked, answers)
+}
+
+/// The fraction of each text in `texts`. The spans name the texts.
 #[unsafe(no_mangle)]
 pub extern "C" fn ratio_read_i64(texts: &[u8], spans: &[Span], answers: &mut [Answer64]) -> u32
     ensures { AnswersEach (λ span answer. IsReadAnswer least64 greatest64 texts.now span.start span.end (said64 answer)) spans.now answers.old answers.new result }
@@ -205,7 +314,7 @@ pub extern "C" fn ratio_read_i64(texts: &[u8], spans: &[Span], answers: &mut [An
     each(&Reading::<i64>::of(texts), spans, answers)
 }
 
-/// The text of each fraction as it stands, one after another in `texts`, which has `ROOM` bytes for each.
+/// The text of each fraction, not reduced, one after another in `texts`, which has `ROOM` bytes for each.
 #[unsafe(no_mangle)]
 pub extern "C" fn ratio_print_i64(
     asked: &[Fraction64],

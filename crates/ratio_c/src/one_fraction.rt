@@ -1,17 +1,17 @@
 //! The calls on one fraction.
 ghost use Rattle.std.specs.Prelude.{◌≡◌, ◌<ℤ◌, pos, MatchOption};
 ghost use Rattle.num_rational.specs.Operators.{numbers};
-ghost use Rattle.ratio_c.specs.Calls.{IsFloorAnswer, IsLowestAnswer, IsPowerAnswer, IsRoundAnswer};
+ghost use Rattle.ratio_c.specs.Calls.{IsCeilingAnswer, IsFloorAnswer, IsLowestAnswer, IsPowerAnswer, IsRoundAnswer, IsTruncationAnswer};
 
-use crate::code::{DENOMINATOR_NOT_POSITIVE, ZERO_DENOMINATOR};
+use crate::code::{DENOMINATOR_NOT_POSITIVE, DIVISION_BY_ZERO, ZERO_DENOMINATOR};
 use crate::crossing::{OneFraction, Raised, Reply, checked, refused};
 use crate::each::Call;
 use num_rational::Ratio;
 use ratio_integer::Integer;
 
-/// The fraction, where its denominator is positive.
+/// The fraction, if its denominator is positive.
 #[inline(always)]
-fn positive<F: OneFraction>(x: &F) -> Option<Ratio<F::Inside>>
+pub fn positive<F: OneFraction>(x: &F) -> Option<Ratio<F::Inside>>
     ensures { MatchOption result
         (¬ (pos 0 <ℤ (F.fraction x.now).1))
         (λ r. (pos 0 <ℤ (numbers r).1) × (numbers r ≡ F.fraction x.now)) }
@@ -42,7 +42,7 @@ impl<F: OneFraction, A: Reply<F::Inside>> Call<F, A> for LowestTerms {
     }
 }
 
-/// The floor of a fraction, over 1.
+/// The floor of a fraction, over 1: 7/2 gives 3/1.
 #[derive(Clone, Copy)]
 pub struct Floor;
 
@@ -58,7 +58,39 @@ impl<F: OneFraction, A: Reply<F::Inside>> Call<F, A> for Floor {
     }
 }
 
-/// A fraction rounded, over 1.
+/// The ceiling of a fraction, over 1: 7/2 gives 4/1.
+#[derive(Clone, Copy)]
+pub struct Ceiling;
+
+impl<F: OneFraction, A: Reply<F::Inside>> Call<F, A> for Ceiling {
+    ghost gives = { λ _ x answer. IsCeilingAnswer (F.fraction x) (A.said answer) };
+
+    #[inline(always)]
+    fn answer(&self, x: &F) -> A {
+        match positive(x) {
+            Some(r) => checked(Some(r.ceil())),
+            None => refused(DENOMINATOR_NOT_POSITIVE),
+        }
+    }
+}
+
+/// A fraction cut towards zero, over 1: -7/2 gives -3/1.
+#[derive(Clone, Copy)]
+pub struct Truncation;
+
+impl<F: OneFraction, A: Reply<F::Inside>> Call<F, A> for Truncation {
+    ghost gives = { λ _ x answer. IsTruncationAnswer (F.fraction x) (A.said answer) };
+
+    #[inline(always)]
+    fn answer(&self, x: &F) -> A {
+        match positive(x) {
+            Some(r) => checked(Some(r.trunc())),
+            None => refused(DENOMINATOR_NOT_POSITIVE),
+        }
+    }
+}
+
+/// A fraction rounded, over 1: 7/2 gives 4/1.
 #[derive(Clone, Copy)]
 pub struct Rounding;
 
@@ -74,7 +106,7 @@ impl<F: OneFraction, A: Reply<F::Inside>> Call<F, A> for Rounding {
     }
 }
 
-/// A fraction to an exponent.
+/// A power of a fraction.
 #[derive(Clone, Copy)]
 pub struct Raising;
 
@@ -84,6 +116,7 @@ impl<F: Raised, A: Reply<F::Inside>> Call<F, A> for Raising {
     #[inline(always)]
     fn answer(&self, x: &F) -> A {
         match positive(x) {
+            Some(r) if r.is_zero() && x.exponent() < 0 => refused(DIVISION_BY_ZERO),
             Some(r) => checked(r.checked_pow(x.exponent())),
             None => refused(DENOMINATOR_NOT_POSITIVE),
         }

@@ -1,16 +1,16 @@
 //! Printing fractions as texts.
 ghost use Rattle.std.specs.Prelude.{◌≡◌, ◌+◌, ◌*◌, ◌<◌, ◌≤◌, ◌++◌, drop, length, take, MatchBool};
-ghost use Rattle.ratio_core.specs.Printing.{decimal_room};
+ghost use Rattle.ratio_core.specs.Printing.{base_ten_room};
 ghost use Rattle.ratio_c.specs.Texts.{Prints, shown, shown_code};
 
 use crate::code::{ANSWERED, ZERO_DENOMINATOR};
 use crate::crossing::OneFraction;
 use crate::each::{BAD_LENGTH, DONE};
 use crate::reading::Span;
-use ratio_core::text::decimal_text;
+use ratio_core::text::base_ten_text;
 use ratio_integer::Integer;
 
-/// Where the text of a fraction stands, or the code why there is none, and then an empty span.
+/// The place of a fraction's text. If there is none, the code says why, and the span is empty.
 #[repr(C)]
 #[derive(Drop)]
 pub struct Text {
@@ -18,8 +18,8 @@ pub struct Text {
     pub span: Span,
 }
 
-/// Writes the texts of fractions one after another, and where each stands. There is to be an answer for
-/// each fraction, and so much room for each text.
+/// Writes the texts of fractions one after another, and the place of each. If there is not one answer
+/// for each fraction, or not `room` bytes for each text, it returns `BAD_LENGTH` and writes nothing.
 #[inline(always)]
 pub fn print<F: OneFraction>(
     asked: &[F],
@@ -27,7 +27,7 @@ pub fn print<F: OneFraction>(
     texts: &mut [u8],
     answers: &mut [Text],
 ) -> u32
-    requires { decimal_room F.Inside.lo F.Inside.hi ≤ room }
+    requires { base_ten_room F.Inside.lo F.Inside.hi ≤ room }
     ensures { Prints F.Inside.BITS room F.fraction asked.now texts.old texts.new answers.old answers.new result }
 {
     if asked.len() != answers.len() || !has_room(asked.len(), room, texts.len()) {
@@ -42,7 +42,7 @@ pub fn print<F: OneFraction>(
     DONE
 }
 
-/// Whether so many texts have so much room each.
+/// Whether `len` bytes are enough for `count` texts of `room` bytes each.
 fn has_room(count: usize, room: usize, len: usize) -> bool
     ensures { MatchBool result (count * room ≤ len) (len < count * room) }
 {
@@ -52,13 +52,13 @@ fn has_room(count: usize, room: usize, len: usize) -> bool
     }
 }
 
-/// Puts the text of a fraction at a place.
+/// Writes the text of a fraction at a place.
 fn put<F: OneFraction>(x: &F, texts: &mut [u8], at: usize) -> Text
-    requires { at + decimal_room F.Inside.lo F.Inside.hi ≤ length texts.old }
+    requires { at + base_ten_room F.Inside.lo F.Inside.hi ≤ length texts.old }
     ensures code { result.code ≡ shown_code (F.fraction x.now) }
     ensures start { result.span.start ≡ at }
     ensures end { result.span.end ≡ at + length (shown F.Inside.BITS (F.fraction x.now)) }
-    ensures short { result.span.end ≤ at + decimal_room F.Inside.lo F.Inside.hi }
+    ensures short { result.span.end ≤ at + base_ten_room F.Inside.lo F.Inside.hi }
     ensures written { texts.new
         ≡ take at texts.old ++ (shown F.Inside.BITS (F.fraction x.now) ++ drop result.span.end texts.old) }
 {
@@ -70,7 +70,7 @@ fn put<F: OneFraction>(x: &F, texts: &mut [u8], at: usize) -> Text
             span,
         };
     }
-    let text = decimal_text(n, d);
+    let text = base_ten_text(n, d);
     let bytes = text.as_str().as_bytes();
     let end = at + bytes.len();
     texts[at..end].copy_from_slice(bytes);

@@ -8,7 +8,7 @@ use crate::each::Call;
 use num_rational::{Ratio, RatioErrorKind};
 use std::marker::PhantomData;
 
-/// Where a text begins and where it ends.
+/// The places where a text starts and ends.
 #[repr(C)]
 #[derive(Drop)]
 pub struct Span {
@@ -16,7 +16,7 @@ pub struct Span {
     pub end: usize,
 }
 
-/// The fraction of a text among others.
+/// The call that reads one of several texts.
 #[derive(Drop)]
 pub struct Reading<'a, T> {
     pub texts: &'a [u8],
@@ -24,7 +24,7 @@ pub struct Reading<'a, T> {
 }
 
 impl<'a, T> Reading<'a, T> {
-    /// The one over these texts.
+    /// The call over these texts.
     #[inline(always)]
     pub fn of(texts: &'a [u8]) -> Reading<'a, T>
         ensures { result.texts.now ≡ texts.now }
@@ -51,7 +51,7 @@ impl<'a, T: Digest, A: Reply<T>> Call<Span, A> for Reading<'a, T> {
     }
 }
 
-/// The fraction of a text.
+/// The fraction of a text, or the code of its refusal.
 fn read<T: Digest, A: Reply<T>>(text: &str) -> A
     ensures { SaysText T.lo T.hi text.now (A.said result) }
 {

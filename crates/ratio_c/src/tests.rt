@@ -1,8 +1,17 @@
-//! Worked rows, with answers from outside.
-use crate::code::{ANSWERED, NOT_HELD, PARSE_ERROR, ZERO_DENOMINATOR};
+//! Worked rows. Their answers come from outside.
+use crate::code::{
+    ANSWERED, BOUND_NOT_POSITIVE, DENOMINATOR_NOT_POSITIVE, DIVISION_BY_ZERO, NOT_HELD,
+    PARSE_ERROR, ZERO_DENOMINATOR,
+};
+use crate::compare::Truth;
 use crate::each::{BAD_LENGTH, DONE};
+use crate::hash::Hash;
+use crate::numbers32::{Answer32, Fraction32};
 use crate::numbers64::{
-    Answer64, Fraction64, Pair64, ROOM, ratio_add_i64, ratio_print_i64, ratio_read_i64,
+    Answer64, Bounded64, Fraction64, Pair64, Power64, ROOM, ratio_abs_i64, ratio_add_i64,
+    ratio_cast_i64_to_i32, ratio_ceil_i64, ratio_equal_i64, ratio_hash_lowest_i64,
+    ratio_nearest_i64, ratio_neg_i64, ratio_pow_i64, ratio_print_i64, ratio_read_i64,
+    ratio_trunc_i64,
 };
 use crate::printing::Text;
 use crate::reading::Span;
@@ -16,6 +25,19 @@ fn no_answer() -> Answer64 {
         code: 9,
         value: fraction(9, 9),
     }
+}
+
+fn no_narrow() -> Answer32 {
+    let value = Fraction32 { numer: 9, denom: 9 };
+    Answer32 { code: 9, value }
+}
+
+fn no_truth() -> Truth {
+    Truth { code: 9, holds: 9 }
+}
+
+fn no_hash() -> Hash {
+    Hash { code: 9, hash: 9 }
 }
 
 fn no_text() -> Text {
@@ -42,6 +64,101 @@ fn sums(rt: HostRuntime) {
     assert!(rt; [first.value.numer, first.value.denom] == [5, 6]);
     let mut one = [no_answer()];
     assert!(rt; ratio_add_i64(&pairs, &mut one) == BAD_LENGTH);
+}
+
+#[test]
+fn equal_values(rt: HostRuntime) {
+    let pairs = [
+        Pair64 {
+            left: fraction(1, 2),
+            right: fraction(-2, -4),
+        },
+        Pair64 {
+            left: fraction(1, 2),
+            right: fraction(1, 3),
+        },
+    ];
+    let mut answers = [no_truth(), no_truth()];
+    assert!(rt; ratio_equal_i64(&pairs, &mut answers) == DONE);
+    let [first, second] = answers;
+    assert!(rt; [first.holds, second.holds] == [1, 0]);
+}
+
+#[test]
+fn whole_numbers(rt: HostRuntime) {
+    let asked = [fraction(-7, 2), fraction(7, 2)];
+    let mut answers = [no_answer(), no_answer()];
+    assert!(rt; ratio_ceil_i64(&asked, &mut answers) == DONE);
+    assert!(rt; [answers[0].value.numer, answers[1].value.numer] == [-3, 4]);
+    assert!(rt; ratio_trunc_i64(&asked, &mut answers) == DONE);
+    assert!(rt; [answers[0].value.numer, answers[1].value.numer] == [-3, 3]);
+}
+
+#[test]
+fn signs(rt: HostRuntime) {
+    let asked = [fraction(-2, 4), fraction(i64::MIN, 4)];
+    let mut answers = [no_answer(), no_answer()];
+    assert!(rt; ratio_neg_i64(&asked, &mut answers) == DONE);
+    assert!(rt; [answers[0].value.numer, answers[0].value.denom] == [2, 4]);
+    assert!(rt; answers[1].code == NOT_HELD);
+    assert!(rt; ratio_abs_i64(&asked, &mut answers) == DONE);
+    assert!(rt; [answers[0].value.numer, answers[0].value.denom] == [2, 4]);
+    assert!(rt; answers[1].code == NOT_HELD);
+}
+
+#[test]
+fn nearest_fractions(rt: HostRuntime) {
+    let asked = [
+        Bounded64 {
+            value: fraction(355, 113),
+            most: 100,
+        },
+        Bounded64 {
+            value: fraction(355, 113),
+            most: 0,
+        },
+    ];
+    let mut answers = [no_answer(), no_answer()];
+    assert!(rt; ratio_nearest_i64(&asked, &mut answers) == DONE);
+    assert!(rt; [answers[0].value.numer, answers[0].value.denom] == [311, 99]);
+    assert!(rt; answers[1].code == BOUND_NOT_POSITIVE);
+}
+
+#[test]
+fn casts(rt: HostRuntime) {
+    let asked = [fraction(-2, 4), fraction(1 << 31, 4)];
+    let mut answers = [no_narrow(), no_narrow()];
+    assert!(rt; ratio_cast_i64_to_i32(&asked, &mut answers) == DONE);
+    assert!(rt; [answers[0].value.numer, answers[0].value.denom] == [-2, 4]);
+    assert!(rt; answers[1].code == NOT_HELD);
+}
+
+#[test]
+fn powers_of_zero(rt: HostRuntime) {
+    let asked = [
+        Power64 {
+            base: fraction(0, 1),
+            exponent: -1,
+        },
+        Power64 {
+            base: fraction(0, 1),
+            exponent: 0,
+        },
+    ];
+    let mut answers = [no_answer(), no_answer()];
+    assert!(rt; ratio_pow_i64(&asked, &mut answers) == DONE);
+    assert!(rt; answers[0].code == DIVISION_BY_ZERO);
+    assert!(rt; [answers[1].value.numer, answers[1].value.denom] == [1, 1]);
+}
+
+#[test]
+fn lowest_hashes(rt: HostRuntime) {
+    let asked = [fraction(1, 2), fraction(1, 0)];
+    let mut answers = [no_hash(), no_hash()];
+    assert!(rt; ratio_hash_lowest_i64(&asked, &mut answers) == DONE);
+    let [first, second] = answers;
+    assert!(rt; [first.hash, second.hash] == [0xce91_9057_3cc1_42f8, 0]);
+    assert!(rt; second.code == DENOMINATOR_NOT_POSITIVE);
 }
 
 #[test]

@@ -2,7 +2,7 @@
 ghost use Rattle.std.specs.Prelude.{◌≡◌};
 ghost use Rattle.ratio_c.specs.Crossing.{wide_number};
 
-/// An `i128` as its two halves: the number is `high` times 2^64, and `low`.
+/// An `i128` as its two halves: the number is `high` times 2^64, plus `low`.
 #[repr(C)]
 #[derive(Drop)]
 pub struct Wide {

@@ -1,4 +1,4 @@
--- How times stand to one another, and what one beat more does.
+-- How times are ordered, and what one more beat does.
 use Rattle.std.specs.Prelude.{◌≡◌, ◌-◌, ◌^◌, ◌<ℤ◌, ◌+ℤ◌, ◌*ℤ◌, ℤ, pos, negsuc}
 use Rattle.std.specs.Cmp.{int_ranks}
 use Rattle.std.specs.Ordering.{MatchOrdering, int_cmp}
@@ -34,7 +34,7 @@ times-one a = *ℤ-one a
 swapped : (a b c : ℤ) → (a *ℤ b) *ℤ c ≡ (a *ℤ c) *ℤ b
 swapped a b c = mul-swap_last a b c ∙ sym (mul_assoc a c b)
 
--- ---- equal times stand alike
+-- ---- equal times are ordered alike
 
 module _ (x t y : ℤ × ℤ) (x_up : pos 0 <ℤ x.1) (t_up : pos 0 <ℤ t.1) (same : SameValue x.0 x.1 t.0 t.1) where
   cross : (x.0 *ℤ y.1) *ℤ t.1 ≡ (t.0 *ℤ y.1) *ℤ x.1
@@ -58,7 +58,7 @@ before_is_up_to x y less = omega (arith, ints)
 same_is_up_to : (x y : ℤ × ℤ) → SameValue x.0 x.1 y.0 y.1 → IsUpTo x y
 same_is_up_to x y same = omega (arith, ints)
 
--- ---- one beat more
+-- ---- one more beat
 
 -- the next beat of a voice is later
 later : (p q : ℤ × ℤ) (k : ℤ) → pos 0 <ℤ p.0 → pos 0 <ℤ p.1 → pos 0 <ℤ q.1 → IsBefore q (periods k p) → IsBefore q (periods (k +ℤ pos 1) p)
@@ -81,7 +81,7 @@ had_it p t k above up is = record {
 }
 
 module _ (a b : ℤ × ℤ) (k l : ℤ) (s t : ℤ × ℤ) (a_up : pos 0 <ℤ a.1) (b_up : pos 0 <ℤ b.1) (step : AreInStep a b k l) (first : IsLowestTermsOf (periods (k +ℤ pos 1) a).0 (periods (k +ℤ pos 1) a).1 s.0 s.1) (second : IsLowestTermsOf (periods (l +ℤ pos 1) b).0 (periods (l +ℤ pos 1) b).1 t.0 t.1) where
-  -- the next beat of the first voice is before that of the second
+  -- the next beat of the first voice comes before the next beat of the second
   ordered : IsBefore s t → IsBefore (periods (k +ℤ pos 1) a) (periods (l +ℤ pos 1) b)
   ordered less = left_from_same (periods (k +ℤ pos 1) a) s (periods (l +ℤ pos 1) b) a_up first.lowest.positive first.same (right_from_same (periods (l +ℤ pos 1) b) t s b_up second.lowest.positive second.same less)
 
@@ -148,7 +148,7 @@ starts a b a_above b_above a_up b_up = record { first_above = a_above; second_ab
         let once : (pos 1 *ℤ y.0) ≡ y.0 = one-times y.0 in
         rw (zero_times, once) (mul_positive y.0 x.1 y_above x_up)
 
--- ---- what is held
+-- ---- what fits
 
 number_held : (z : ℤ) → SFits w64 z → IsHeld (negsuc (2 ^ 63 - 1)) (pos (2 ^ 63 - 1)) z
 number_held (pos n) fits = let small = fits.sfits in record { above = omega (arith, ints); below = omega (arith, ints) }
@@ -175,7 +175,7 @@ beat_is period m k time fits is held =
     let moved = rw (e.0, e.1) at held in
     (record { count = number_held (k +ℤ pos 1) fits; time = fits_by _ _ _ _ time.0 time.1 moved }, moved.terms)
 
--- ---- what an order of two times tells
+-- ---- what an order of two times says
 
 along : (s t : ℤ × ℤ) → pos 0 <ℤ s.1 → pos 0 <ℤ t.1 → cross_cmp s.0 s.1 t.0 t.1 ≡ int_cmp (s.0 *ℤ t.1) (t.0 *ℤ s.1)
 along s t s_up t_up = cross-along s.0 s.1 t.0 t.1 (positive_nonzero s.1 s_up) (positive_nonzero t.1 t_up) (λ unlike. alike s.1 t.1 s_up t_up unlike)
@@ -183,7 +183,7 @@ along s t s_up t_up = cross-along s.0 s.1 t.0 t.1 (positive_nonzero s.1 s_up) (p
     alike : (d e : ℤ) → pos 0 <ℤ d → pos 0 <ℤ e → HaveUnlikeSigns d e → ⊥
     alike d e d_up e_up unlike = grind (arith, ints)
 
--- the order of two numbers tells how they stand
+-- what an order of two numbers says
 less : (x y : ℤ) → Less ≡ int_cmp x y → x <ℤ y
 less x y is = subst (λ o. MatchOrdering o (x <ℤ y) (x ≡ y) (y <ℤ x)) (sym is) (int_ranks x y)
 

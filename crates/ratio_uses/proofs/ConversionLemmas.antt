@@ -1,4 +1,4 @@
--- One rate more of a chain.
+-- One more rate of a chain.
 use Rattle.std.specs.Prelude.{◌≡◌, ◌<ℤ◌, ◌*ℤ◌, ◌+◌, ◌<◌, ℕ, ℤ, pos, List, [], ◌∷◌, ◌++◌, length, take, Option, Some, None}
 use Rattle.std.proofs.Common.{refl, sym, ap, ◌∙◌, add-one, get_or}
 use Rattle.std.proofs.Math.Seq.{take-suc}
@@ -23,14 +23,14 @@ module _ {A : Type 0} (view : A → ℤ × ℤ) (amount : ℤ × ℤ) where
       = ap (λ (t : ℤ). amount.1 *ℤ t) (product-more (λ rate. (view rate).1) xs x) ∙ sym (mul_assoc amount.1 _ (view x).1) in
       λ k. (first k, second k)
 
-  -- one more rate, as a loop over the chain meets it
+  -- one more rate, as a loop over the chain takes it
   pub converted-next : (xs : List A) (k : ℕ) (x : A) → k < length xs → x ≡ get_or xs k x → converted view amount (take (k + 1) xs) ≡ product_of (converted view amount (take k xs)).0 (converted view amount (take k xs)).1 (view x).0 (view x).1
   converted-next xs k x below is =
       ap (λ n. converted view amount (take n xs)) (add-one k)
       ∙ ap (converted view amount) (take-suc xs k x below ∙ ap (λ y. take k xs ++ y ∷ []) (sym is))
       ∙ converted-more (take k xs) x
 
--- a product by the lowest terms of a pair fits exactly where the product by the pair does, with the same lowest terms
+-- a product with the lowest terms of a pair fits exactly if the product with the pair does, and has the same lowest terms
 module _ (lo hi : ℤ) (x t y : ℤ × ℤ) (low : IsLowestTermsOf x.0 x.1 t.0 t.1) (positive : pos 0 <ℤ y.1) where
   moved : (r : Option (ℤ × ℤ)) → ChecksLowest (λ p. p.0) (λ p. p.1) lo hi (product_of t.0 t.1 y.0 y.1) r → ChecksLowest (λ p. p.0) (λ p. p.1) lo hi (product_of x.0 x.1 y.0 y.1) r
   moved r =

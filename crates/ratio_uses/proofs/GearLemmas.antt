@@ -12,9 +12,9 @@ use Rattle.num_rational.specs.Ratio.{denominator, numerator}
 use Rattle.num_rational.specs.Reduced.{ratio_in}
 use Rattle.num_rational.specs.declared.reduced.Reduced.{Reduced}
 use Rattle.ratio_uses.specs.Gears.{AreNearestWheels, ChecksWheels}
-use Rattle.ratio_uses.specs.Held.{pair_of}
+use Rattle.ratio_uses.specs.Held.{lowest_numbers}
 
--- the nearest fraction has teeth on both wheels
+-- if the nearest fraction is above 0, it is the nearest pair of wheels
 pub with_teeth : (n d most p q : ℤ) → pos 0 <ℤ p → IsNearest n d most p q → AreNearestWheels (n, d) most p q
 with_teeth n d most p q up is = record {
   first_teeth = up;
@@ -23,7 +23,7 @@ with_teeth n d most p q up is = record {
   nearest = λ m e m_up e_up within. is.first m e e_up within;
 }
 
--- ---- where the nearest fraction p/q is not above 0, n/d is less than 1 over the bound
+-- ---- if the nearest fraction p/q is not above 0, n/d is less than 1 over the bound
 
 less_or_not : (x y : ℕ) → (x < y) ⊎ (y ≤ x)
 less_or_not x y = grind arith
@@ -55,7 +55,7 @@ below_least n d most q p d_up q_up low first = cases (less_or_not (n * most) d)
         let rest : gap (pos n) (pos d) (pos 1) (pos most) ≡ n * most - d = omega (arith, ints) in
         absurd (too_far n d most q (gap (pos n) (pos d) p (pos q)) (n * most - d) d_up q_up (wide_gap n d q p low) (subst (λ k. gap (pos n) (pos d) p (pos q) * most ≤ k * q) rest near) (omega arith))
 
--- ---- and 1 over the bound comes first of all fractions m/e above 0
+-- ---- 1 over the bound then comes first of all fractions m/e above 0
 
 further : (n d most m e g h : ℕ) → g + n * most ≡ d → h + n * e ≡ m * d → 0 < d → e < m * most → g * e < h * most
 further n d most m e g h here there d_up less =
@@ -112,7 +112,7 @@ least_of_all n d most q p d_up low is = record {
     each (negsuc m) e m_up e_up within = absurd (omega (arith, ints))
     each (pos m) (negsuc e) m_up e_up within = absurd (omega (arith, ints))
 
--- where the nearest fraction has no tooth, 1 over the bound is the nearest pair of wheels
+-- if the nearest fraction is not above 0, 1 over the bound is the nearest pair of wheels
 pub without_teeth : (n d most p q : ℤ) → pos 0 <ℤ n → pos 0 <ℤ d → p ≤ℤ pos 0 → IsNearest n d most p q → AreNearestWheels (n, d) most (pos 1) most
 without_teeth (pos n) (pos d) (pos most) p (pos q) n_up d_up low is = least_of_all n d most q p (omega (arith, ints)) low is
 without_teeth (negsuc n) d most p q n_up d_up low is = absurd (omega (arith, ints))
@@ -129,7 +129,7 @@ module _ (lo hi : ℤ) (n d most p q : ℤ) (n_up : pos 0 <ℤ n) (d_up : pos 0 
   most_up : pos 0 <ℤ most
   most_up = let up = is.positive in let within = is.within in omega (arith, ints)
 
-  -- it fits, so that its lowest terms are answered, and these are the nearest wheels
+  -- 1 over the bound fits, so it has lowest terms, and these are the nearest wheels
   pub one_over_fits : IsHeld lo hi (pos 1) → IsHeld lo hi most → Fits lo hi (pos 1) most
   one_over_fits one_held most_held = record { numer = pos 1; denom = most; low = record { terms = one_over most most_up; numer_held = one_held; denom_held = most_held } }
 
@@ -138,10 +138,10 @@ module _ (lo hi : ℤ) (n d most p q : ℤ) (n_up : pos 0 <ℤ n) (d_up : pos 0 
       let same = lowest_unique (pos 1) most a b (pos 1) most held.terms (one_over most most_up) in
       rw (same.0, same.1) (without_teeth n d most p q n_up d_up low is)
 
--- what `checked_new` answers of 1 and the bound
+-- what `checked_new` returns for 1 and the bound
 pub one_over_answers : {T : _} {i : _} {o : _} {e : _} {p : _} {h : _} (n d most a b : ℤ) (r : Option (Reduced T i o e p h)) → pos 0 <ℤ n → pos 0 <ℤ d → a ≤ℤ pos 0 → IsNearest n d most a b → most ≤ℤ pos (2 ^ 63 - 1) → ChecksLowest numerator denominator (negsuc (2 ^ 63 - 1)) (pos (2 ^ 63 - 1)) (pos 1, most) (ratio_in r) → ChecksWheels (n, d) most r
 one_over_answers n d most a b None n_up d_up low is held out =
     let up = is.positive in
     let within = is.within in
     absurd (out (one_over_fits _ _ n d most a b n_up d_up low is (record { above = omega (arith, ints); below = omega (arith, ints) }) (record { above = omega (arith, ints); below = held })))
-one_over_answers n d most a b (Some r) n_up d_up low is held answers = one_over_wheels _ _ n d most a b n_up d_up low is (pair_of r).0 (pair_of r).1 answers
+one_over_answers n d most a b (Some r) n_up d_up low is held answers = one_over_wheels _ _ n d most a b n_up d_up low is (lowest_numbers r).0 (lowest_numbers r).1 answers

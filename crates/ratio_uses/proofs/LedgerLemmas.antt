@@ -1,4 +1,4 @@
--- Rounded running sums: neighbours differ by less than 1 more or less than the exact share, and the last is the amount.
+-- Rounded running sums. The difference of two neighbours is less than 1 away from the exact share, and the last sum is the amount.
 use Rattle.std.specs.Prelude.{◌≡◌, ◌≢◌, ◌⊎◌, ◌↔◌, ◌+◌, ◌-◌, ◌^◌, ◌<◌, ◌≤◌, ◌≤ℤ◌, ◌<ℤ◌, ◌+ℤ◌, ◌-ℤ◌, ◌*ℤ◌, ℕ, ℤ, zero, suc, pos, negsuc, neg_ℤ, unsigned_abs, List, [], ◌∷◌, ◌++◌, fold, length, slice_index_or, take, IsSome, None, Option, Some}
 use Rattle.std.proofs.Common.{refl, sym, ap, subst, ◌∙◌, arith, inl, inr, add-one, get_or}
 use Rattle.std.proofs.Math.Seq.{take-length, take-suc}
@@ -37,10 +37,10 @@ cancel_less x y d up less = cases (less_or_not x y)
     cases (inl h) = h
     cases (inr h) = let sign : pos 0 ≤ℤ d = omega (arith, ints) in absurd (let k = times_le y x d h sign in omega (arith, ints))
 
--- ---- what rounding leaves, where a half goes up and where it goes down
+-- ---- what rounding leaves, for a half that goes up and one that goes down
 
 module _ (n d r : ℤ) (up : pos 0 <ℤ d) (is : IsRounded n d r) where
-  -- of a number that is not below 0, a half goes up
+  -- for a number that is not below 0, a half goes up
   pub rest_below : pos 0 ≤ℤ n → (pos 2 *ℤ n -ℤ pos 2 *ℤ (r *ℤ d)) <ℤ d
   rest_below sign = cases (less_or_not (pos 2 *ℤ n -ℤ pos 2 *ℤ (r *ℤ d)) d)
     where
@@ -56,7 +56,7 @@ module _ (n d r : ℤ) (up : pos 0 <ℤ d) (is : IsRounded n d r) where
           let times = times_le (r +ℤ pos 1) (pos 0) d negative nonneg in
           absurd (omega (arith, ints))
 
-  -- of a number that is not above 0, a half goes down
+  -- for a number that is not above 0, a half goes down
   pub rest_above : n ≤ℤ pos 0 → neg_ℤ d <ℤ (pos 2 *ℤ n -ℤ pos 2 *ℤ (r *ℤ d))
   rest_above sign = cases (less_or_not (neg_ℤ d) (pos 2 *ℤ n -ℤ pos 2 *ℤ (r *ℤ d)))
     where
@@ -80,7 +80,7 @@ not_below x h = omega (arith, ints)
 
 -- ---- neighbours
 
--- a number times a factor above 0, rounded over that factor more
+-- rounding is the same if both numbers are multiplied by a factor above 0
 module _ (x d t r : ℤ) (d_up : pos 0 <ℤ d) (t_up : pos 0 <ℤ t) where
   widened : IsRounded x d r → IsRounded (x *ℤ t) (d *ℤ t) r
   widened is = same_rounded x d (x *ℤ t) (d *ℤ t) r d_up (mul_positive d t d_up t_up) (sym (mul-swap_last x t d)) is
@@ -214,7 +214,7 @@ last_mark a d r up is = same (less_or_not a r) (less_or_not r a)
         let near = is.near.below in
         omega (arith, ints))
 
--- ---- a mark depends on the value of the sum alone
+-- ---- a mark depends only on the value of the sum
 
 fits_moved : (x y : ℤ × ℤ) → y.1 ≢ pos 0 → SameValue y.0 y.1 x.0 x.1 → FitsIn64 x → FitsIn64 y
 fits_moved x y fraction same fits = record { numer = fits.numer; denom = fits.denom; low = held_lowest_moved _ _ x.0 x.1 y.0 y.1 fits.numer fits.denom fraction same fits.low }
@@ -237,7 +237,7 @@ module _ (a : ℤ) (x y : ℤ × ℤ) (x_up : pos 0 <ℤ x.1) (y_up : pos 0 <ℤ
     fits_moved (amount_times a y) (amount_times a x) (positive_nonzero x.1 x_up) (sym (times_same a x y same)) both.1,
   )
 
--- the amount times a sum in lowest terms, as it is computed
+-- the amount times a sum, as it is computed from the sum's lowest terms
 module _ (a : ℤ) (x s : ℤ × ℤ) (x_up : pos 0 <ℤ x.1) (low : IsLowestTermsOf x.0 x.1 s.0 s.1) where
   computed_same : SameValue (s.0 *ℤ a) (s.1 *ℤ pos 1) (a *ℤ x.0) x.1
   computed_same =
@@ -268,18 +268,18 @@ total_next view xs k x below is =
     ∙ ap (total_of view) (take-suc xs k x below ∙ ap (λ y. take k xs ++ y ∷ []) (sym is))
     ∙ fold-append _ (pos 0, pos 1) (take k xs) (x ∷ [])
 
--- the same value with one share more
+-- with one more share, the values are still the same
 pub next_same : (t s y : ℤ × ℤ) → IsLowestTermsOf t.0 t.1 s.0 s.1 → SameValue (sum_of t.0 t.1 y.0 y.1).0 (sum_of t.0 t.1 y.0 y.1).1 (sum_of s.0 s.1 y.0 y.1).0 (sum_of s.0 s.1 y.0 y.1).1
 next_same t s y low = same_value_sums t.0 t.1 y.0 y.1 s.0 s.1 y.0 y.1 low.same refl
 
--- a sum is 1 where its lowest terms are, and only there
+-- a sum is 1 exactly if its lowest terms are
 pub one_told : (x s : ℤ × ℤ) → IsLowestTermsOf x.0 x.1 s.0 s.1 → (x.0 ≡ x.1) ↔ (s.0 ≡ s.1)
 one_told x s low = (
   λ e. mul_cancel s.0 s.1 x.1 low.fraction (sym low.same ∙ ap (λ (z : ℤ). z *ℤ s.1) e ∙ *ℤ_comm x.1 s.1),
   λ e. mul_cancel x.0 x.1 s.1 (positive_nonzero s.1 low.lowest.positive) (low.same ∙ ap (λ (z : ℤ). z *ℤ x.1) e ∙ *ℤ_comm s.1 x.1),
 )
 
--- the parts of the first k shares are written; their sum is the mark, the amount times the sum of these shares, rounded
+-- The parts of the first k shares are written. Their sum is the mark: the amount times the sum of these shares, rounded.
 pub record IsSplitSoFar {A : Type 0} (view : A → ℤ × ℤ) (amount : ℤ) (shares : List A) (parts : List ℤ) (k : ℕ) (sum : ℤ × ℤ) (mark : ℤ) : Type 0 where
   pub value : IsLowestTermsOf (total_of view (take k shares)).0 (total_of view (take k shares)).1 sum.0 sum.1
   pub above : pos 0 ≤ℤ (total_of view (take k shares)).0
@@ -289,12 +289,12 @@ pub record IsSplitSoFar {A : Type 0} (view : A → ℤ × ℤ) (amount : ℤ) (s
   pub marks : (j : ℕ) → j < k → IsMarkOf amount (total_of view (take (j + 1) shares)) (added (take (j + 1) parts))
   pub near : (j : ℕ) → j < k → (share : A) (part : ℤ) → IsNearShare amount (view (slice_index_or shares j share)) (slice_index_or parts j part)
 
--- what fits is answered
+-- what fits has a result
 pub mark_answered : {T : _} {i : _} {o : _} {e : _} {p : _} {h : _} (a : ℤ) (x : ℤ × ℤ) (r : Option (Reduced T i o e p h × ℤ)) → FitsIn64 x × FitsIn64 (amount_times a x) → ChecksMark a x r → IsSome r
 mark_answered a x None fits out = absurd (out fits)
 mark_answered a x (Some r) fits is = refl
 
--- a part is held where the mark is
+-- a part fits if the mark does
 pub part_held : (p q : ℤ) → ((pos 0 ≤ℤ p) × (p ≤ℤ q)) ⊎ ((q ≤ℤ p) × (p ≤ℤ pos 0)) → SFits w64 q → SFits w64 p
 part_held p q (inl h) fits = up p q h.0 h.1 fits
   where

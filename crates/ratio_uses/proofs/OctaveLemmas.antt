@@ -1,4 +1,4 @@
--- Doublings and halvings: what one more gives, and that they come to an end.
+-- Doublings and halvings: what one more does, and that they come to an end.
 use Rattle.std.specs.Prelude.{◌≡◌, ◌≢◌, ◌⊎◌, ◌+◌, ◌*◌, ◌-◌, ◌^◌, ◌<◌, ◌≤◌, ◌≤ℤ◌, ◌<ℤ◌, ◌+ℤ◌, ◌*ℤ◌, ℕ, ℤ, pos, negsuc, unsigned_abs, Option, Some, None, IsSome}
 use Rattle.std.specs.Int.{◌∣◌}
 use Rattle.std.proofs.Common.{refl, sym, ap, subst, ◌∙◌, arith, inl, inr}
@@ -21,7 +21,7 @@ use Rattle.ratio_uses.specs.Held.{FitsIn64}
 use Rattle.ratio_uses.specs.Units.{DoublingFails, IsDoubled, IsHalved, IsInOctave}
 use Rattle.ratio_uses.proofs.ConversionLemmas.{product_out}
 
--- ---- fractions of one value stand alike to 1
+-- ---- fractions of one value compare with 1 alike
 
 pub less_times : (a b d : ℤ) → a <ℤ b → pos 0 <ℤ d → (a *ℤ d) <ℤ (b *ℤ d)
 less_times a b d less up =
@@ -54,7 +54,7 @@ below_alike n d a b d_up b_up same less = cases (either n d)
     cases (inr h) = h
     cases (inl at_least) = absurd (let k = at_least_alike n d a b d_up b_up same at_least in omega (arith, ints))
 
--- ---- one step more
+-- ---- one more step
 
 double_power : (a : ℤ) (k : ℕ) → (a *ℤ pos (2 ^ k)) *ℤ pos 2 ≡ a *ℤ pos (2 ^ (k + 1))
 double_power a k = mul_assoc a (pos (2 ^ k)) (pos 2) ∙ ap (λ n. a *ℤ pos n) (sym (pow-add 2 k 1))
@@ -97,7 +97,7 @@ halved_more x y z before two next = record {
       at_least_alike (y.0 *ℤ pos 1) (y.1 *ℤ pos 2) z.0 z.1 (omega (arith, ints)) next.lowest.positive next.same least;
 }
 
--- ---- the numbers come nearer to one another
+-- ---- the two numbers come nearer to each other
 
 crossed : (n g a b : ℕ) → 0 < n → 0 < g → b ≤ n + g → (n * 2) * b ≡ a * (n + g) → a + g ≤ b → ⊥
 crossed n g a b n_up g_up within same far =
@@ -119,14 +119,14 @@ nearer n d a b n_up less within same = cases (either (b - a) (d - n))
     cases (inl h) = h
     cases (inr far) = absurd (crossed n (d - n) a b n_up (omega arith) (omega arith) (rw whole same) (omega arith))
 
--- the sizes of the numbers before and after a step, where the first is twice what was
+-- the magnitudes before and after a doubling
 step_sizes : (n d a b : ℤ) → (n *ℤ pos 2) *ℤ b ≡ a *ℤ (d *ℤ pos 1) → (unsigned_abs n * 2) * unsigned_abs b ≡ unsigned_abs a * unsigned_abs d
 step_sizes n d a b same =
     ap (λ m. m * unsigned_abs b) (sym (unsigned_abs-mul n (pos 2)))
     ∙ unsigned_abs-products (n *ℤ pos 2) b a (d *ℤ pos 1) same
     ∙ ap (λ t. unsigned_abs a * unsigned_abs t) (times-one d)
 
--- a divisor of a number above 0 is at most it
+-- a divisor of a number above 0 is at most that number
 divisor_within : (a d : ℤ) → pos 0 <ℤ d → unsigned_abs a ∣ unsigned_abs d → unsigned_abs a ≤ unsigned_abs d
 divisor_within a d up divides = le_of_dvd (abs_pos d (positive_nonzero d up)) divides
 
@@ -142,7 +142,7 @@ halving_nearer y z up two next =
     (divisor_within z.0 y.0 (omega (arith, ints)) (rw (times-one y.0) at (numer_divides (y.0 *ℤ pos 1) (y.1 *ℤ pos 2) z.0 z.1 next)))
     (step_sizes y.1 y.0 z.1 z.0 (*ℤ_comm (y.1 *ℤ pos 2) z.0 ∙ sym next.same ∙ *ℤ_comm (y.0 *ℤ pos 1) z.1))
 
--- ---- halves of a fraction that is at least 2 are held
+-- ---- halves of a fraction that is at least 2 fit
 
 held_by_size : (m : ℕ) (a : ℤ) → unsigned_abs a ≤ m → IsHeld (negsuc m) (pos m) a
 held_by_size m a small = record { above = omega (arith, ints); below = omega (arith, ints) }
@@ -173,7 +173,7 @@ in_octave x y z up down below = record {
   below_two = below;
 }
 
--- what fits is answered
+-- what fits has a result
 pub answered : {T : _} {i : _} {o : _} {e : _} {p : _} {h : _} (x : ℤ × ℤ) (r : Option (Reduced T i o e p h)) → Fits i.lo i.hi x.0 x.1 → ChecksRatio x (ratio_in r) → IsSome r
 answered x None fits out = absurd (out fits)
 answered x (Some y) fits low = refl

@@ -2,22 +2,22 @@
 use Rattle.std.specs.Prelude.{◌≡◌, ◌⊎◌, ◌+◌, ◌<◌, ◌^◌, ◌≤ℤ◌, ◌<ℤ◌, ◌*ℤ◌, ℕ, ℤ, pos, List, [], ◌∷◌, length, take, Option, Some, None, IsPermutation}
 use Rattle.ratio_integer.specs.Fraction.{IsLowestTermsOf, SameValue}
 use Rattle.num_rational.specs.declared.reduced.Reduced.{Reduced}
-use Rattle.ratio_uses.specs.Held.{FitsIn64, HasValue, pair_of}
+use Rattle.ratio_uses.specs.Held.{FitsIn64, HasValue, lowest_numbers}
 
--- the product of a whole number of each item
+-- the product of one whole number of each item
 abbrev pub product_by : {A : Type 0} → (A → ℤ) → List A → ℤ
 product_by f [] = pos 1
 product_by f (x ∷ xs) = f x *ℤ product_by f xs
 
--- an amount times all rates: a product of numerators over one of denominators
+-- an amount times all rates: a product of numerators over a product of denominators
 abbrev pub converted : {A : Type 0} → (A → ℤ × ℤ) → ℤ × ℤ → List A → ℤ × ℤ
 converted view amount rates = (amount.0 *ℤ product_by (λ rate. (view rate).0) rates, amount.1 *ℤ product_by (λ rate. (view rate).1) rates)
 
--- the amount times the first rate, times the first two, and so on to all of them, fits in 64 bits each time
+-- the amount times the first rate, times the first two, and so on, fits in 64 bits each time
 abbrev pub EachStepFits : {A : Type 0} → (A → ℤ × ℤ) → ℤ × ℤ → List A → Type 0
 EachStepFits view amount rates = (k : ℕ) → k < length rates → FitsIn64 (converted view amount (take (k + 1) rates))
 
--- the answer is the amount times all rates where each step fits, and `None` where one does not
+-- the result is the amount times all rates if each step fits, else `None`
 abbrev pub ChecksConversion : {A : Type 0} {T : _} {i : _} {o : _} {e : _} {p : _} {h : _} → (A → ℤ × ℤ) → ℤ × ℤ → List A → Option (Reduced T i o e p h) → Type 0
 ChecksConversion view amount rates None = ¬ (EachStepFits view amount rates)
 ChecksConversion view amount rates (Some r) = EachStepFits view amount rates × HasValue (converted view amount rates) r
@@ -31,7 +31,7 @@ OrderIsFree =
     → IsLowestTermsOf (converted (λ rate. rate) amount others).0 (converted (λ rate. rate) amount others).1 y.0 y.1
     → x ≡ y
 
--- y is x doubled or halved some times, at least 1 and below 2
+-- y is x doubled and halved some times, at least 1 and below 2, as 3/2 is for 3
 pub record IsInOctave (x y : ℤ × ℤ) : Type 0 where
   pub doublings : ℕ
   pub halvings : ℕ
@@ -39,26 +39,26 @@ pub record IsInOctave (x y : ℤ × ℤ) : Type 0 where
   pub at_least_one : y.1 ≤ℤ y.0
   pub below_two : y.0 <ℤ (pos 2 *ℤ y.1)
 
--- the interval doubled some times is still below 1, and doubled once more it does not fit
+-- x doubled some times is still below 1, and doubled once more it does not fit in 64 bits
 pub record DoublingFails (x : ℤ × ℤ) : Type 0 where
   pub doublings : ℕ
   pub below_one : (x.0 *ℤ pos (2 ^ doublings)) <ℤ x.1
   pub out : ¬ (FitsIn64 (x.0 *ℤ pos (2 ^ (doublings + 1)), x.1))
 
--- the answer is the interval in the octave from 1 to 2; it is `None` only where the interval is not above 0, or a doubling fails
+-- The result is the interval in the octave from 1 to 2. It is `None` only if the interval is not above 0 or a doubling fails.
 abbrev pub ChecksOctave : {T : _} {i : _} {o : _} {e : _} {p : _} {h : _} → ℤ × ℤ → Option (Reduced T i o e p h) → Type 0
 ChecksOctave x None = (x.0 ≤ℤ pos 0) ⊎ DoublingFails x
-ChecksOctave x (Some r) = IsInOctave x (pair_of r)
+ChecksOctave x (Some r) = IsInOctave x (lowest_numbers r)
 
 -- y is x doubled some times: an inner step
 pub record IsDoubled (x y : ℤ × ℤ) : Type 0 where
   pub doublings : ℕ
   pub value : IsLowestTermsOf (x.0 *ℤ pos (2 ^ doublings)) x.1 y.0 y.1
 
--- the answer is x doubled some times and at least 1, and `None` only where a doubling fails: an inner step
+-- The result is x doubled some times, and at least 1. It is `None` only if a doubling fails. This is an inner step.
 abbrev pub ChecksDoubled : {T : _} {i : _} {o : _} {e : _} {p : _} {h : _} → ℤ × ℤ → Option (Reduced T i o e p h) → Type 0
 ChecksDoubled x None = DoublingFails x
-ChecksDoubled x (Some r) = IsDoubled x (pair_of r) × ((pair_of r).1 ≤ℤ (pair_of r).0)
+ChecksDoubled x (Some r) = IsDoubled x (lowest_numbers r) × ((lowest_numbers r).1 ≤ℤ (lowest_numbers r).0)
 
 -- y is x halved some times, and at least 1: an inner step
 pub record IsHalved (x y : ℤ × ℤ) : Type 0 where

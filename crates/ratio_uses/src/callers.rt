@@ -1,11 +1,11 @@
-//! Two more callers over fractions that are always in lowest terms.
+//! Two more callers over fractions in lowest terms.
 ghost use Rattle.std.specs.Prelude.{◌≡◌, ◌≢◌, ◌↔◌, [], All, IfSome};
 ghost use Rattle.std.specs.List.{Contains};
 ghost use Rattle.std.specs.declared.cmp.Ordering.TheVariants.{Greater};
 ghost use Rattle.num_rational.specs.Comparison.{order_of};
 ghost use Rattle.num_rational.specs.Reduced.{ratio_of};
 ghost use Rattle.ratio_uses.specs.Callers.{ChecksMean};
-ghost use Rattle.ratio_uses.specs.Held.{pair_of};
+ghost use Rattle.ratio_uses.specs.Held.{lowest_numbers};
 
 use num_rational::Reduced64;
 
@@ -20,7 +20,7 @@ pub fn greatest(amounts: &[Reduced64]) -> Option<Reduced64>
 
 /// The mean of two amounts, or `None` exactly where their sum or its half does not fit in 64 bits.
 pub fn mean(left: &Reduced64, right: &Reduced64) -> Option<Reduced64>
-    ensures { ChecksMean (pair_of left.now) (pair_of right.now) result }
+    ensures { ChecksMean (lowest_numbers left.now) (lowest_numbers right.now) result }
 {
     left.checked_add(right)?.checked_div(2)
 }

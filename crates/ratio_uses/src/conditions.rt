@@ -1,4 +1,4 @@
-//! Callers of `Ratio`, which show what its calls ask.
+//! Callers of `Ratio`. They show what its calls require.
 ghost use Rattle.std.specs.Prelude.{◌≡◌, ◌⊎◌, ◌≤ℤ◌, ◌<ℤ◌, pos, IfSome};
 ghost use Rattle.num_rational.specs.Folds.{ArePositive, ChecksProductOf};
 ghost use Rattle.num_rational.specs.Operators.{ChecksSum, numbers};
@@ -18,8 +18,8 @@ pub fn together(left: &Rational64, right: &Rational64) -> Option<Rational64>
     }
 }
 
-/// The product of the rates, or `None` exactly where a product on the way does not fit. The second clause says what a next
-/// call requires of it.
+/// The product of the rates, or `None` exactly where a product on the way does not fit. The clause `positive` is what the
+/// next call requires of it.
 pub fn chained(rates: &[Rational64]) -> Option<Rational64>
     requires { ArePositive numbers rates.now }
     ensures product { ChecksProductOf numbers rates.now result }

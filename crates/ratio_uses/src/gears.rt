@@ -1,7 +1,7 @@
 //! Two wheels whose ratio of teeth is near a wanted one.
 ghost use Rattle.std.specs.Prelude.{◌<ℤ◌, pos};
 ghost use Rattle.ratio_uses.specs.Gears.{ChecksGears, ChecksWheels};
-ghost use Rattle.ratio_uses.specs.Held.{pair_of};
+ghost use Rattle.ratio_uses.specs.Held.{lowest_numbers};
 
 use num_rational::Reduced64;
 
@@ -12,16 +12,16 @@ pub struct Gears {
     pub first: i64,
     /// The teeth of the second wheel, at least 1.
     pub second: i64,
-    /// The wanted ratio less that of the wheels, or `None` where that does not fit in 64 bits.
+    /// The wanted ratio minus the ratio of the wheels, or `None` where that does not fit in 64 bits.
     pub off: Option<Reduced64>,
 }
 
-/// Of all pairs of wheels whose second has at most `most` teeth, the pair whose ratio of teeth, first to second, is nearest
-/// to the wanted one. Each wheel has at least 1 tooth. Of two pairs as near it is the one with the smaller second wheel, and
-/// then the one with the smaller first wheel. `None` exactly where the wanted ratio is not above 0 or `most` is below 1.
-/// So 1/2 with at most 1 gives 1 and 1, and 1/10 with at most 3 gives 1 and 3.
+/// The pair of wheels whose ratio of teeth, first to second, is nearest to the wanted one. Each wheel has at least 1
+/// tooth, and the second at most `most`. Of two pairs that are equally near, it is the one with the smaller second
+/// wheel, and then the one with the smaller first wheel. `None` exactly where the wanted ratio is not above 0 or `most`
+/// is below 1. For example, 1/2 with at most 1 gives 1 and 1, and 1/10 with at most 3 gives 1 and 3.
 pub fn nearest_pair(wanted: &Reduced64, most: i64) -> Option<Gears>
-    ensures { ChecksGears (pair_of wanted.now) most result }
+    ensures { ChecksGears (lowest_numbers wanted.now) most result }
 {
     if *wanted.numer() < 1 {
         return None;
@@ -35,11 +35,11 @@ pub fn nearest_pair(wanted: &Reduced64, most: i64) -> Option<Gears>
     })
 }
 
-// The teeth of the nearest wheels, as a fraction. Where the nearest fraction is 0, no fraction above 0 is nearer than the
-// least one, which is 1 over `most`.
+// The teeth of the nearest wheels, as a fraction. If the nearest fraction is 0, the
+// nearest one above 0 is the least, 1 over `most`.
 fn nearest_wheels(wanted: &Reduced64, most: i64) -> Option<Reduced64>
-    requires { pos 0 <ℤ (pair_of wanted.now).0 }
-    ensures { ChecksWheels (pair_of wanted.now) most result }
+    requires { pos 0 <ℤ (lowest_numbers wanted.now).0 }
+    ensures { ChecksWheels (lowest_numbers wanted.now) most result }
 {
     let nearest = wanted.nearest(most)?;
     if *nearest.numer() > 0 {

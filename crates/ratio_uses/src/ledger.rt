@@ -1,7 +1,7 @@
 //! An amount split by shares, so that no cent is lost.
 ghost use Rattle.std.specs.Prelude.{◌≡◌, ◌↔◌, length, IfErr, IsTrue, MatchResult, OnErr, OnOk};
 ghost use Rattle.ratio_integer.specs.Arithmetic.{sum_of};
-ghost use Rattle.ratio_uses.specs.Held.{pair_of};
+ghost use Rattle.ratio_uses.specs.Held.{lowest_numbers};
 ghost use Rattle.ratio_uses.specs.Ledger.{AddUpToOne, CanSplit, ChecksMark, IsSplit, NoneIsBelowZero, RefusesSplit, SumsFit, SumsRefuse};
 
 use num_rational::Reduced64;
@@ -9,7 +9,7 @@ use num_rational::Reduced64;
 /// Why an amount is not split: the first of these that applies.
 #[derive(Clone, Copy, Debug, PartialEq, Eq)]
 pub enum Refusal {
-    /// There are not as many parts as shares.
+    /// The number of parts is not the number of shares.
     Length,
     /// A share is below 0.
     BelowZero,
@@ -19,12 +19,13 @@ pub enum Refusal {
     NotOne,
 }
 
-/// Splits the amount by the shares into the parts: these add up to the amount exactly, and each is less than 1 away
-/// from the amount times its share. At a refusal no part has changed. The sums of the first shares, times the
-/// amount, are rounded with a half away from 0; a part is the difference of two neighbours.
+/// Splits the amount by the shares into the parts. The parts add up to the amount exactly, and each is less than
+/// 1 away from the amount times its share. For example, 100 split by 1/3, 1/3 and 1/3 is 33, 34 and 33. At a
+/// refusal no part has changed. The sums of the first shares, times the amount, are rounded with a half away from
+/// 0. A part is the difference of two neighbours.
 pub fn split(amount: i64, shares: &[Reduced64], parts: &mut [i64]) -> Result<(), Refusal>
-    ensures ok { OnOk result (CanSplit pair_of amount shares.now (length parts.old) × IsSplit pair_of amount shares.now parts.new) }
-    ensures refused { IfErr result (λ why. RefusesSplit pair_of amount shares.now (length parts.old) why) }
+    ensures ok { OnOk result (CanSplit lowest_numbers amount shares.now (length parts.old) × IsSplit lowest_numbers amount shares.now parts.new) }
+    ensures refused { IfErr result (λ why. RefusesSplit lowest_numbers amount shares.now (length parts.old) why) }
     ensures unchanged { OnErr result (parts.new ≡ parts.old) }
 {
     if parts.len() != shares.len() {
@@ -39,23 +40,23 @@ pub fn split(amount: i64, shares: &[Reduced64], parts: &mut [i64]) -> Result<(),
 }
 
 fn none_is_below_zero(shares: &[Reduced64]) -> bool
-    ensures { IsTrue result ↔ NoneIsBelowZero pair_of shares.now }
+    ensures { IsTrue result ↔ NoneIsBelowZero lowest_numbers shares.now }
 {
     shares.iter().all(|share| *share.numer() >= 0)
 }
 
-// The sum with one share more, and the amount times it, rounded.
+// The sum with one more share, and the amount times it, rounded.
 fn next_mark(amount: i64, sum: &Reduced64, share: &Reduced64) -> Option<(Reduced64, i64)>
-    ensures { ChecksMark amount (sum_of (pair_of sum.now).0 (pair_of sum.now).1 (pair_of share.now).0 (pair_of share.now).1) result }
+    ensures { ChecksMark amount (sum_of (lowest_numbers sum.now).0 (lowest_numbers sum.now).1 (lowest_numbers share.now).0 (lowest_numbers share.now).1) result }
 {
     let sum = sum.checked_add(share)?;
     let rounded = sum.checked_mul(amount)?.round();
     Some((sum, *rounded.numer()))
 }
 
-// Whether each sum of the first shares, and the amount times it, fits, and the last is 1.
+// Whether each sum of the first shares fits, the amount times each sum fits, and the last sum is 1.
 fn check_sums(amount: i64, shares: &[Reduced64]) -> Result<(), Refusal>
-    ensures { MatchResult result (λ _. SumsFit pair_of amount shares.now × AddUpToOne pair_of shares.now) (λ why. SumsRefuse pair_of amount shares.now why) }
+    ensures { MatchResult result (λ _. SumsFit lowest_numbers amount shares.now × AddUpToOne lowest_numbers shares.now) (λ why. SumsRefuse lowest_numbers amount shares.now why) }
 {
     let mut sum = Reduced64::zero();
     for share in shares {
@@ -71,10 +72,10 @@ fn check_sums(amount: i64, shares: &[Reduced64]) -> Result<(), Refusal>
     }
 }
 
-// The parts, where no refusal applies.
+// Writes the parts. It requires that no refusal applies.
 fn write_parts(amount: i64, shares: &[Reduced64], parts: &mut [i64])
-    requires { CanSplit pair_of amount shares.now (length parts.old) }
-    ensures { IsSplit pair_of amount shares.now parts.new }
+    requires { CanSplit lowest_numbers amount shares.now (length parts.old) }
+    ensures { IsSplit lowest_numbers amount shares.now parts.new }
 {
     let mut sum = Reduced64::zero();
     let mut mark = 0;

@@ -1,17 +1,17 @@
-//! The functions that the README shows, over fractions that are always in lowest terms.
+//! The functions that `CALLING.md` shows first, over fractions that are always in lowest terms. The README shows the last one.
 ghost use Rattle.std.specs.Prelude.{◌≡◌};
 ghost use Rattle.num_rational.specs.Comparison.{order_of};
-ghost use Rattle.num_rational.specs.Folds.{ChecksSumOf};
+ghost use Rattle.num_rational.specs.Folds.{ChecksExactSumOf};
 ghost use Rattle.num_rational.specs.Reduced.{ratio_in, ratio_of};
 ghost use Rattle.ratio_uses.specs.Callers.{ReadsThird};
-ghost use Rattle.ratio_uses.specs.Held.{pair_of};
+ghost use Rattle.ratio_uses.specs.Held.{lowest_numbers};
 
 use num_rational::{ParseRatioError, Reduced64};
 use std::cmp::Ordering;
 
 /// The total of the shares, or `None` exactly where a sum on the way does not fit.
 pub fn total(shares: &[Reduced64]) -> Option<Reduced64>
-    ensures { ChecksSumOf pair_of shares.now (ratio_in result) }
+    ensures { ChecksExactSumOf lowest_numbers shares.now (ratio_in result) }
 {
     let mut sum = Reduced64::zero();
     for share in shares {

@@ -1,10 +1,10 @@
 use Rattle.std.proofs.Common.{ℕ, ◌+◌, ◌<◌, take}
-use Rattle.ratio_uses.specs.Held.{FitsIn64, HasValue, pair_of}
+use Rattle.ratio_uses.specs.Held.{FitsIn64, HasValue, lowest_numbers}
 use Rattle.ratio_uses.specs.Units.{converted}
 use Rattle.ratio_uses.proofs.units.convert.Given as goal
 
 abbrev pub invariant-loop-rate : goal.invariant-loop-rate
 invariant-loop-rate l = record {
-  fits : (k : ℕ) → k < l.rate-index → FitsIn64 (converted pair_of (pair_of l.amount) (take (k + 1) l.rates));
-  value : HasValue (converted pair_of (pair_of l.amount) (take l.rate-index l.rates)) l.total;
+  fits : (k : ℕ) → k < l.rate-index → FitsIn64 (converted lowest_numbers (lowest_numbers l.amount) (take (k + 1) l.rates));
+  value : HasValue (converted lowest_numbers (lowest_numbers l.amount) (take l.rate-index l.rates)) l.total;
 }

@@ -4,7 +4,7 @@ use Rattle.std.proofs.lemmas.Int.{ints}
 use mir.Syntax.{w64}
 use mir.Val.{SFits}
 use Rattle.ratio_integer.proofs.LowestTerms.{lowest_own}
-use Rattle.ratio_uses.specs.Held.{pair_of}
+use Rattle.ratio_uses.specs.Held.{lowest_numbers}
 use Rattle.ratio_uses.proofs.OctaveLemmas.{answered, half_fits, halved_more, halving_nearer, no_halving}
 use Rattle.ratio_uses.proofs.units.halved.Goals as goal
 
@@ -27,9 +27,9 @@ unwrap-pitch-requires c =
     let again_fits : SFits w64 c.denom-in-loop-pitch.result.now = search rules in
     let up = c.loop-pitch.pitch.lowest.positive in
     let at_least = c.loop-pitch.invariant.at_least_one in
-    let least : (pos 2 *ℤ (pair_of c.loop-pitch.pitch).1) ≤ℤ (pair_of c.loop-pitch.pitch).0 = grind (arith, ints, c.numer.ensures.value, c.denom.ensures.value, c.denom-in-loop-pitch.ensures.value, c.loop-pitch-test.true) in
-    let held : (pair_of c.loop-pitch.pitch).0 ≤ℤ pos (2 ^ 63 - 1) = grind (arith, ints, c.numer.ensures.value) in
-    answered _ _ (half_fits (2 ^ 63 - 1) (pair_of c.loop-pitch.pitch) up least held) c.checked_div.ensures
+    let least : (pos 2 *ℤ (lowest_numbers c.loop-pitch.pitch).1) ≤ℤ (lowest_numbers c.loop-pitch.pitch).0 = grind (arith, ints, c.numer.ensures.value, c.denom.ensures.value, c.denom-in-loop-pitch.ensures.value, c.loop-pitch-test.true) in
+    let held : (lowest_numbers c.loop-pitch.pitch).0 ≤ℤ pos (2 ^ 63 - 1) = grind (arith, ints, c.numer.ensures.value) in
+    answered _ _ (half_fits (2 ^ 63 - 1) (lowest_numbers c.loop-pitch.pitch) up least held) c.checked_div.ensures
 
 pub loop-pitch-smaller : goal.loop-pitch-smaller
 loop-pitch-smaller c =
@@ -38,9 +38,9 @@ loop-pitch-smaller c =
     let again_fits : SFits w64 c.denom-in-loop-pitch.result.now = search rules in
     let up = c.loop-pitch.pitch.lowest.positive in
     let at_least = c.loop-pitch.invariant.at_least_one in
-    let least : (pos 2 *ℤ (pair_of c.loop-pitch.pitch).1) ≤ℤ (pair_of c.loop-pitch.pitch).0 = grind (arith, ints, c.numer.ensures.value, c.denom.ensures.value, c.denom-in-loop-pitch.ensures.value, c.loop-pitch-test.true) in
+    let least : (pos 2 *ℤ (lowest_numbers c.loop-pitch.pitch).1) ≤ℤ (lowest_numbers c.loop-pitch.pitch).0 = grind (arith, ints, c.numer.ensures.value, c.denom.ensures.value, c.denom-in-loop-pitch.ensures.value, c.loop-pitch-test.true) in
     let next = rw c.unwrap-pitch.ensures at c.checked_div.ensures in
-    halving_nearer (pair_of c.loop-pitch.pitch) (pair_of c.unwrap-pitch.result) up least next.terms
+    halving_nearer (lowest_numbers c.loop-pitch.pitch) (lowest_numbers c.unwrap-pitch.result) up least next.terms
 
 pub loop-pitch-preserved : goal.loop-pitch-preserved
 loop-pitch-preserved c =
@@ -49,6 +49,6 @@ loop-pitch-preserved c =
     let again_fits : SFits w64 c.denom-in-loop-pitch.result.now = search rules in
     let up = c.loop-pitch.pitch.lowest.positive in
     let at_least = c.loop-pitch.invariant.at_least_one in
-    let least : (pos 2 *ℤ (pair_of c.loop-pitch.pitch).1) ≤ℤ (pair_of c.loop-pitch.pitch).0 = grind (arith, ints, c.numer.ensures.value, c.denom.ensures.value, c.denom-in-loop-pitch.ensures.value, c.loop-pitch-test.true) in
+    let least : (pos 2 *ℤ (lowest_numbers c.loop-pitch.pitch).1) ≤ℤ (lowest_numbers c.loop-pitch.pitch).0 = grind (arith, ints, c.numer.ensures.value, c.denom.ensures.value, c.denom-in-loop-pitch.ensures.value, c.loop-pitch-test.true) in
     let next = rw c.unwrap-pitch.ensures at c.checked_div.ensures in
     halved_more _ _ _ c.loop-pitch.invariant least next.terms

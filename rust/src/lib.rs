@@ -5,26 +5,44 @@
 //!
 //! let shares = [Ratio::new(1, 2), Ratio::new(1, 3), Ratio::new(1, 6)];
 //! assert_eq!(shares.iter().sum::<Ratio<i64>>(), Ratio::from_integer(1));
+//! assert_eq!("6/8".parse::<Ratio<i64>>().unwrap().to_string(), "3/4");
+//! assert!(Ratio::new(i64::MAX - 1, i64::MAX) < Ratio::from_integer(1));
 //! ```
 //!
-//! The code that computes was proved as it stood before its contracts were taken off: it lies in `src/proved/`.
-//! Above it stands the layer of `src/layer/`, written by hand, which tests what the proved calls ask.
+//! The code that computes was proved in Rattle. `src/proved/` holds this code without its contracts. A layer written by hand,
+//! in `src/layer/`, tests what the proved calls require.
+//!
+//! Floats and the forms `{:e}` and `{:E}` are not proved. The layer computes them, and tests compare them with num-rational.
 #![cfg_attr(not(feature = "std"), no_std)]
 #![warn(missing_docs)]
 
-#[cfg(not(target_pointer_width = "64"))]
-compile_error!("what is proved of isize and usize is proved of 64 bits, and this target has another width");
+#[cfg(any(feature = "num-bigint", feature = "num-bigint-std"))]
+compile_error!("bakhsney has no fractions of big integers: leave out the features num-bigint and num-bigint-std, or take num-rational");
+
+#[cfg(not(any(target_pointer_width = "64", target_pointer_width = "32")))]
+compile_error!("isize and usize have proofs of 64 and of 32 bits, and this target has another width");
 
 #[cfg(all(test, not(feature = "std")))]
 extern crate std;
 
 mod layer;
+#[cfg(not(feature = "proved-calls"))]
 mod proved;
-#[cfg(test)]
+#[cfg(feature = "proved-calls")]
+#[doc(hidden)]
+pub mod proved;
+#[cfg(all(test, target_pointer_width = "64"))]
 mod test_support;
 
-pub use layer::{Integer, Ratio, Rational, Rational32, Rational64, Reduced, Reduced32, Reduced64};
-/// What `parse` answers where a text is no fraction, or none that the type holds.
+/// The trait of the element types, for generic code.
+///
+/// It is a module of its own. So `use num_rational::*` beside `use num_integer::*` brings one `Integer`, that of num-integer.
+pub mod integer {
+    pub use crate::layer::Integer;
+}
+
+pub use layer::{CastError, Ratio, Rational, Rational32, Rational64, Reduced, Reduced32, Reduced64, ReducedError};
+/// The error of `parse`: the text is not a fraction, or its lowest terms do not fit the type.
 ///
 /// ```
 /// use bakhsney::Ratio;
@@ -34,7 +52,7 @@ pub use layer::{Integer, Ratio, Rational, Rational32, Rational64, Reduced, Reduc
 /// ```
 #[doc(inline)]
 pub use proved::num_rational::ParseRatioError;
-/// The two kinds of that, as `kind` shows them.
+/// The two kinds of this error, which `kind` returns.
 ///
 /// ```
 /// use bakhsney::{Ratio, RatioErrorKind};
@@ -44,13 +62,34 @@ pub use proved::num_rational::ParseRatioError;
 /// ```
 #[doc(inline)]
 pub use proved::num_rational::RatioErrorKind;
-/// What `decimal_text` of a fraction answers, and `put_decimal_text` writes.
+/// The text that `base_ten_text` of a fraction returns, and that `put_base_ten_text` writes.
 ///
 /// ```
-/// use bakhsney::{DecimalText, Ratio};
+/// use bakhsney::{BaseTenText, Ratio};
 ///
-/// let text: DecimalText = Ratio::new(1, 2).decimal_text();
+/// let text: BaseTenText = Ratio::new(1, 2).base_ten_text();
 /// assert_eq!(text.as_str(), "1/2");
 /// ```
 #[doc(inline)]
+pub use proved::ratio_core::BaseTenText;
+/// The text that `decimal` and `exact_decimal` of a `Reduced` return.
+///
+/// ```
+/// use bakhsney::{DecimalText, Reduced64, Rounding};
+///
+/// let text: DecimalText = Reduced64::checked_new(1, 3).unwrap().decimal(2, Rounding::HalfEven);
+/// assert_eq!(text.as_str(), "0.33");
+/// ```
+#[doc(inline)]
 pub use proved::ratio_core::DecimalText;
+/// How a fraction is rounded to a multiple, such as cents.
+///
+/// ```
+/// use bakhsney::{Reduced64, Rounding};
+///
+/// let by = |rule| Reduced64::checked_new(-5, 2).unwrap().decimal(0, rule).as_str().to_owned();
+/// assert_eq!([by(Rounding::HalfAway), by(Rounding::HalfEven), by(Rounding::Down)], ["-3", "-2", "-2"]);
+/// assert_eq!([by(Rounding::Up), by(Rounding::Floor), by(Rounding::Ceil)], ["-3", "-3", "-2"]);
+/// ```
+#[doc(inline)]
+pub use proved::ratio_core::rounding_rule::Rounding;

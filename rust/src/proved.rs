@@ -1,8 +1,8 @@
-//! The proved sources with their contracts taken off: what stands in `proved/` is written by `rust/erase`.
+//! The proved sources with their contracts taken off. `rust/erase` writes this file, and each one in `proved/`.
 //!
 //! Nothing here tests a condition on its caller: the layer does that before each call.
 
-// The layer calls not all that is proved, imports serve contracts too, and some forms are the proved language's.
+// Not all that is proved is called, imports serve contracts too, and some forms are the proved language's.
 #![allow(dead_code, missing_docs, unused_imports, unused_variables)]
 #![allow(clippy::all)]
 
@@ -10,5 +10,5 @@ pub mod itoa;
 pub mod num_rational;
 pub mod ratio_core;
 pub mod ratio_integer;
-#[cfg(test)]
+#[cfg(all(test, target_pointer_width = "64"))]
 mod tests_fractions;

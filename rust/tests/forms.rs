@@ -1,9 +1,9 @@
-//! Each form of an operator and of a power, each element type, and the numbers at the ends of the types.
+//! Each form of an operator and of a power, each integer type, and the numbers at the ends of the types.
 
-// The forms are what is tested.
+// The tests are about these forms.
 #![allow(clippy::op_ref)]
 
-use bakhsney::{Integer, Ratio, Rational, Rational32, Rational64, Reduced, Reduced32, Reduced64};
+use bakhsney::{integer::Integer, Ratio, Rational, Rational32, Rational64, Reduced, Reduced32, Reduced64};
 use num_traits::{FromPrimitive, One, Pow, Signed, ToPrimitive, Zero};
 
 #[test]
@@ -44,7 +44,7 @@ fn powers_by_each_exponent_type() {
     macro_rules! rows {
         ($($E:ty)*) => {$(
             assert_eq!(powers!(half, 3 as $E), [Ratio::new(1, 8); 4], stringify!($E));
-            // A power of 2: in fewer bits it is 0, and 0 to the 0 is 1.
+            // A power of 2. In fewer bits it is 0, and 0 to the 0 is 1.
             let wide = <$E>::MAX - <$E>::MAX / 2;
             assert_eq!(powers!(zero, wide), [zero; 4], stringify!($E));
         )*};
@@ -117,7 +117,6 @@ fn from_whole_numbers_at_the_ends() {
     assert_eq!(fields::<u8>(-1, 256, -1, 256), [None; 4]);
     assert_eq!(fields(i64::MIN, high, i128::MIN, 1 << 126), [Some((low, 1)), Some((high.into(), 1)), Some((i128::MIN, 1)), Some((1 << 126, 1))]);
     assert_eq!(Ratio::from_u128(u128::MAX), Some(Ratio::from_integer(u128::MAX)));
-    assert_eq!((Rational64::from_f32(0.0), Rational64::from_f64(0.0)), (None, None));
 }
 
 #[test]

@@ -1,9 +1,10 @@
 //! Rows of the type that is always in lowest terms.
 
-// The forms are what is tested.
+// The tests are about these forms.
 #![allow(clippy::needless_borrows_for_generic_args)]
 
-use bakhsney::{Ratio, RatioErrorKind, Reduced, Reduced64};
+use bakhsney::{BaseTenText, Ratio, RatioErrorKind, Reduced, Reduced64, ReducedError, Rounding};
+use num_traits::{CheckedNeg, ToPrimitive};
 use std::cmp::Ordering;
 use std::collections::hash_map::DefaultHasher;
 use std::collections::{BTreeSet, HashMap};
@@ -15,7 +16,7 @@ fn i8_of(numer: i8, denom: i8) -> Reduced<i8> {
     Reduced::checked_new(numer, denom).unwrap()
 }
 
-fn fields<T: bakhsney::Integer>(answer: Option<Reduced<T>>) -> Fields<T> {
+fn fields<T: bakhsney::integer::Integer>(answer: Option<Reduced<T>>) -> Fields<T> {
     answer.map(Reduced::into_raw)
 }
 
@@ -38,10 +39,13 @@ fn products_quotients_and_sums_at_the_edges() {
     assert_eq!(i8_of(127, 1).checked_add(1), None);
     assert_eq!(i8_of(1, 2).checked_div(0), None);
     assert_eq!(i8_of(1, 2).checked_rem(&0), None);
+    assert_eq!(fields(i8_of(127, 1).checked_rem(i8_of(1, 127))), Some((0, 1)));
+    assert_eq!(i8_of(100, 99).checked_rem(i8_of(99, 100)), None);
     assert_eq!(i8_of(-128, 3).checked_recip(), None);
     assert_eq!(fields(i8_of(-127, 3).checked_recip()), Some((-3, 127)));
     assert_eq!((i8_of(-128, 3).checked_neg(), fields(i8_of(-127, 3).checked_abs())), (None, Some((127, 3))));
     assert_eq!(fields(i8_of(2, 3).checked_pow(-2)), Some((9, 4)));
+    assert_eq!((fields(i8_of(-1, 2).checked_pow(-7)), i8_of(-1, 2).checked_pow(7)), (Some((-128, 1)), None));
 }
 
 #[test]
@@ -70,6 +74,16 @@ fn rounding() {
         assert_eq!([x.floor(), x.ceil(), x.round(), x.trunc()], whole.map(Reduced::from), "{x}");
         assert_eq!((x.to_integer(), x.fract().into_raw()), (whole[3], rest), "{x}");
     }
+}
+
+#[test]
+fn simplest_between_two_of_either_kind() {
+    let [low, high] = [i8_of(-7, 2), i8_of(-5, 3)];
+    assert_eq!(fields(Reduced::simplest_between(&low, &high)), Some((-2, 1)));
+    let between = |low: Ratio<i8>, high| Ratio::simplest_between(&low, &high).map(Ratio::into_raw);
+    assert_eq!(between(Ratio::new_raw(-2, -6), Ratio::new_raw(4, 8)), Some((2, 5)));
+    assert_eq!(between(Ratio::new_raw(-1, -128), Ratio::new(1, 2)), None);
+    assert_eq!(between(Ratio::new(0, 1), Ratio::new(1, 127)), None);
 }
 
 #[test]
@@ -130,4 +144,129 @@ fn folds_take_fractions_and_numbers() {
     assert_eq!(Reduced64::checked_sum(shares.iter().filter(|share| share.is_integer())), Some(0.into()));
     assert_eq!(fields(Reduced64::checked_product(shares)), Some((1, 36)));
     assert_eq!(Reduced::<u8>::checked_sum([255, 1]), None);
+}
+
+#[test]
+fn conversions_of_pairs_and_ratios() {
+    let rows = [((6, -4), Some((-3, 2))), ((1, 0), None), ((0, 0), None), ((0, -5), Some((0, 1))), ((1, -128), None), ((2, -128), Some((-1, 64)))];
+    for (pair, want) in rows {
+        let raw = Ratio::new_raw(pair.0, pair.1);
+        let made: [Result<Reduced<i8>, ReducedError>; 2] = [pair.try_into(), raw.try_into()];
+        assert_eq!(made.map(|made| made.ok().map(<(i8, i8)>::from)), [want; 2], "{pair:?}");
+    }
+    let error: Box<dyn std::error::Error> = Box::new(Reduced::try_from((1u8, 0)).unwrap_err());
+    assert_eq!(error.to_string(), "the denominator is 0, or the lowest terms do not fit the type");
+    assert_eq!(Ratio::from(i8_of(-6, 4)).into_raw(), (-3, 2));
+}
+
+#[test]
+fn to_numbers() {
+    let x = i8_of(-7, 2);
+    assert_eq!((x.to_i64(), x.to_i128(), x.to_u64(), x.to_u128(), x.to_i8(), x.to_u8()), (Some(-3), Some(-3), None, None, Some(-3), None));
+    assert_eq!((x.to_f32(), x.to_f64()), (Some(-3.5), Some(-3.5)));
+    let most = Reduced::from(u128::MAX);
+    assert_eq!((most.to_u128(), most.to_i128(), most.to_u64(), most.to_i64()), (Some(u128::MAX), None, None, None));
+    assert_eq!(most.to_f32(), Some(f32::INFINITY));
+    // Rounded once: as an `f64` and then as an `f32` it would be 0.3333333.
+    assert_eq!(Reduced64::checked_new(178956969, 536870915).unwrap().to_f32(), Some(0.33333334));
+    let negated = |x: Reduced<i8>| fields(CheckedNeg::checked_neg(&x));
+    assert_eq!((negated(x), negated(Reduced::from(-128))), (Some((7, 2)), None));
+}
+
+#[test]
+fn comparisons_with_ratios_and_numbers() {
+    use Ordering::{Equal, Greater, Less};
+    let half = i8_of(1, 2);
+    let rows = [((1, 2), Some(Equal)), ((-2, -4), Some(Equal)), ((1, 3), Some(Greater)), ((1, -2), Some(Greater)), ((2, 3), Some(Less)), ((-128, -1), Some(Less)), ((1, 0), None), ((0, 0), None)];
+    for ((numer, denom), order) in rows {
+        let x = Ratio::new_raw(numer, denom);
+        assert_eq!((half == x, half != x, half.partial_cmp(&x)), (order == Some(Equal), order != Some(Equal), order), "{x}");
+        let symbols = [half < x, half <= x, half > x, half >= x];
+        assert_eq!(symbols, [order == Some(Less), matches!(order, Some(Less | Equal)), order == Some(Greater), matches!(order, Some(Greater | Equal))]);
+    }
+    let two = i8_of(2, 1);
+    assert!(two == 2 && two != 1 && two != -2 && half != 0 && half != 1);
+    assert!(half > 0 && half < 1 && two >= 2 && two <= 2 && i8_of(-1, 2) < 0 && i8_of(127, 1) > -128);
+    assert_eq!([-1, 0, 1].map(|n| half.partial_cmp(&n)), [Some(Greater), Some(Greater), Some(Less)]);
+}
+
+#[test]
+fn sums_and_products_of_options() {
+    let shares = ["1/2", "1/3", "1/6"].map(|text| text.parse::<Reduced64>().unwrap());
+    let sums: [Option<Reduced64>; 2] = [shares.iter().sum(), shares.into_iter().sum()];
+    assert_eq!(sums, [Some(Reduced64::ONE); 2]);
+    let products: [Option<Reduced64>; 2] = [shares.iter().product(), shares.into_iter().product()];
+    assert_eq!(products.map(fields), [Some((1, 36)); 2]);
+    let none: [Reduced64; 0] = [];
+    assert_eq!((none.iter().sum(), none.iter().product()), (Some(Reduced64::ZERO), Some(Reduced64::ONE)));
+    let large = [255u8, 1].map(Reduced::from);
+    assert_eq!((large.iter().sum::<Option<Reduced<u8>>>(), large.iter().product()), (None, Some(Reduced::from(255u8))));
+    assert_eq!([16u8, 16].map(Reduced::from).iter().product::<Option<Reduced<u8>>>(), None);
+}
+
+#[test]
+fn a_text_is_a_str() {
+    let text: BaseTenText = i8_of(-1, 10).base_ten_text();
+    let as_ref: &str = text.as_ref();
+    assert_eq!((&*text, as_ref, text.len(), text.split_once('/')), ("-1/10", "-1/10", 5, Some(("-1", "10"))));
+    assert_eq!((format!("{text}|{text:>7}|{text:?}"), text.to_string()), ("-1/10|  -1/10|\"-1/10\"".to_owned(), "-1/10".to_owned()));
+}
+
+#[test]
+fn nearest_of_a_ratio() {
+    let nearest = |numer: i8, denom: i8, most: i8| Ratio::new_raw(numer, denom).nearest(most).map(Ratio::into_raw);
+    assert_eq!([nearest(22, 7, 3), nearest(-44, -14, 3), nearest(22, -7, 3)], [Some((3, 1)), Some((3, 1)), Some((-3, 1))]);
+    assert_eq!([nearest(1, 2, 1), nearest(-1, 2, 1), nearest(100, 99, 127)], [Some((0, 1)), Some((-1, 1)), Some((100, 99))]);
+    assert_eq!([nearest(1, 2, 0), nearest(1, 2, -1), nearest(1, 0, 5), nearest(1, -128, 5)], [None; 4]);
+}
+
+#[cfg(feature = "serde")]
+#[test]
+fn serialized_as_lowest_terms_alone() {
+    let read = |text: &str| serde_json::from_str::<Reduced<i8>>(text);
+    assert_eq!(serde_json::to_string(&i8_of(-6, 4)).unwrap(), "[-3,2]");
+    assert_eq!(["[-3,2]", "[0,1]", "[-128,1]", "[127,126]"].map(|text| read(text).unwrap().into_raw()), [(-3, 2), (0, 1), (-128, 1), (127, 126)]);
+    for text in ["[2,4]", "[1,-2]", "[0,2]", "[0,-1]", "[1,0]", "[0,0]", "[-128,-128]", "[-128,-1]"] {
+        let refusal = read(text).unwrap_err().to_string();
+        assert!(refusal.starts_with("a fraction must be in lowest terms with a positive denominator"), "{text}: {refusal}");
+    }
+    assert!(["[128,1]", "[1]", "1", "[1,2,3]", "\"1/2\""].iter().all(|text| read(text).is_err()));
+}
+
+/// Where a float is exact, `{:.2}` of it is the decimal by `HalfEven`, but for the minus of a value that is rounded to 0.
+#[test]
+fn decimals_are_those_of_exact_floats() {
+    for numer in -4_000..4_000i32 {
+        let exact = f64::from(numer) / 1_024.0;
+        let x = Reduced::checked_new(numer, 1_024).unwrap();
+        for places in 0..12 {
+            let float = format!("{exact:.*}", places as usize);
+            let is_zero = !float.contains(|digit| ('1'..='9').contains(&digit));
+            let want = if is_zero { float.trim_start_matches('-') } else { &float };
+            assert_eq!(x.decimal(places, Rounding::HalfEven).as_str(), want);
+        }
+    }
+}
+
+/// The digits of a fraction over a power of two end, and are those of the float.
+#[test]
+fn all_digits_of_exact_floats() {
+    for numer in -4_000..4_000i32 {
+        let x = Reduced::checked_new(numer, 1_024).unwrap();
+        let all = x.exact_decimal().unwrap();
+        assert_eq!(all.as_str(), (f64::from(numer) / 1_024.0 + 0.0).to_string());
+        assert!(Reduced::checked_new(numer * 3 + 1, 3 * 1_024).unwrap().exact_decimal().is_none());
+    }
+}
+
+#[test]
+#[should_panic(expected = "more than 38 places")]
+fn more_places_than_a_decimal_has() {
+    Reduced64::ONE.decimal(39, Rounding::Down);
+}
+
+#[test]
+#[should_panic(expected = "the number of parts is not above 0")]
+fn no_parts() {
+    let _ = Reduced64::ONE.round_to(0, Rounding::Down);
 }

@@ -1,9 +1,9 @@
-//! Rows of the calls as a Rust program writes them.
+//! Rows of the calls, as a Rust program writes them.
 
-// The forms are what is tested.
+// The tests are about these forms.
 #![allow(clippy::op_ref, clippy::modulo_one, clippy::needless_borrows_for_generic_args)]
 
-use bakhsney::{DecimalText, Integer, ParseRatioError, Ratio, Rational64};
+use bakhsney::{BaseTenText, integer::Integer, ParseRatioError, Ratio, Rational64};
 use num_traits::{CheckedAdd, CheckedDiv, CheckedMul, CheckedRem, CheckedSub, FromPrimitive, Inv, Num, One, Signed, ToPrimitive, Zero};
 use std::cmp::Ordering;
 use std::collections::hash_map::DefaultHasher;
@@ -62,6 +62,19 @@ fn either_sign_of_a_denominator() {
 }
 
 #[test]
+fn comparisons_by_each_symbol() {
+    let (third, same) = (Ratio::new(1, 3), Ratio::new_raw(-2, -4));
+    let rows = [
+        (third, half(), [true, true, false, false, false, true]),
+        (half(), same, [false, true, false, true, true, false]),
+        (half(), third, [false, false, true, true, false, true]),
+    ];
+    for (x, y, want) in rows {
+        assert_eq!([x < y, x <= y, x > y, x >= y, x == y, x != y], want, "{x} and {y}");
+    }
+}
+
+#[test]
 fn checked_calls() {
     let greatest = Ratio::from_integer(u8::MAX);
     assert_eq!(greatest.checked_add(&Ratio::one()), None);
@@ -90,7 +103,7 @@ fn texts() {
 fn conversions() {
     assert_eq!(Ratio::<u8>::from_i64(300), None);
     assert_eq!(Ratio::<u8>::from_u128(200), Some(Ratio::from_integer(200)));
-    assert_eq!(Ratio::<u8>::from_f64(0.5), None);
+    assert_eq!((Ratio::<u8>::from_f64(0.5), Ratio::<u8>::from_f32(-0.5)), (Some(Ratio::new(1, 2)), None));
     assert_eq!(<(i32, i32)>::from(Ratio::new_raw(2, 4)), (2, 4));
     assert_eq!(Ratio::from((2, 4)), half());
     assert_eq!(Ratio::from(3), Ratio::from_integer(3));
@@ -112,7 +125,7 @@ fn whole_numbers() {
     assert_eq!((x.to_i64(), x.to_u64(), x.to_i8(), x.to_u128()), (Some(-3), None, Some(-3), None));
     assert_eq!(Ratio::new(-1i64, 2).to_u64(), Some(0));
     assert_eq!(Ratio::new(1u128 << 77, 1 << 7).to_i128(), Some(1 << 70));
-    assert_eq!((x.to_f32(), x.to_f64()), (None, None));
+    assert_eq!((x.to_f32(), x.to_f64()), (Some(-3.875), Some(-3.875)));
 }
 
 #[test]
@@ -210,9 +223,9 @@ fn forms_and_radix() {
     assert_eq!(format!("{:05}|{:*^7}", Ratio::from_integer(-1i8), half()), "-0001|**1/2**");
     let raw = Ratio::new_raw(10i8, -20);
     assert_eq!(format!("{raw} {raw:b} {raw:o} {raw:x} {raw:X}"), "10/-20 1010/11101100 12/354 a/ec A/EC");
-    let mut text = DecimalText::empty();
-    raw.put_decimal_text(&mut text);
-    assert_eq!([text.as_str(), raw.decimal_text().as_str()], ["10/-20"; 2]);
+    let mut text = BaseTenText::empty();
+    raw.put_base_ten_text(&mut text);
+    assert_eq!([text.as_str(), raw.base_ten_text().as_str()], ["10/-20"; 2]);
     assert_eq!(Ratio::from_str_radix("101/11", 2), Ok(Ratio::new(5i64, 3)));
     assert_eq!(Ratio::from_str_radix("f/2", 16), Ok(Ratio::new(15i64, 2)));
     assert_eq!(Ratio::from_str_radix("z/Z", 36), Ok(Ratio::from_integer(1u8)));

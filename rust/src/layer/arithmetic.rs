@@ -1,5 +1,5 @@
 //! Sums, differences, products, quotients and remainders: the checked traits, the operators and the folds.
-use super::integer::Integer;
+use super::integer::{Element, Integer};
 use super::ratio::Ratio;
 use core::iter::{Product, Sum};
 use core::ops::{Add, AddAssign, Div, DivAssign, Mul, MulAssign, Rem, RemAssign, Sub, SubAssign};
@@ -24,19 +24,22 @@ checked_calls! {
     CheckedRem checked_rem;
 }
 
-// Each operator with the checked call that answers it, and the two panics where that answers `None`: for a
-// divisor of 0, and for all else.
+// Each operator with its checked call, and its two panics if that returns `None`: the first for a divisor of 0, the second for
+// all else. A denominator of 0 has the same panic in each operator.
 macro_rules! operators {
     ($($Op:ident $op:ident $OpAssign:ident $op_assign:ident $Checked:ident $checked:ident $zero:literal $overflow:literal;)*) => {$(
         impl<T: Integer> $Op for Ratio<T> {
             type Output = Ratio<T>;
 
+            /// # Panics
+            ///
+            #[doc = concat!("If `", stringify!($checked), "` returns `None`.")]
             #[inline]
             #[track_caller]
             fn $op(self, other: Ratio<T>) -> Ratio<T> {
                 match $Checked::$checked(&self, &other) {
                     Some(answer) => answer,
-                    None => refuse(&other, $zero, $overflow),
+                    None => refuse(&self, &other, $zero, $overflow),
                 }
             }
         }
@@ -61,6 +64,9 @@ macro_rules! forms {
         impl<T: Integer> $Op<$Right> for $Left {
             type Output = Ratio<T>;
 
+            /// # Panics
+            ///
+            #[doc = concat!("If `checked_", stringify!($op), "` returns `None`.")]
             #[inline]
             #[track_caller]
             fn $op($self, $other: $Right) -> Ratio<T> {
@@ -73,6 +79,9 @@ macro_rules! forms {
 macro_rules! assigning {
     ($OpAssign:ident $op_assign:ident $Op:ident $op:ident; $Right:ty) => {
         impl<T: Integer> $OpAssign<$Right> for Ratio<T> {
+            /// # Panics
+            ///
+            #[doc = concat!("If `checked_", stringify!($op), "` returns `None`.")]
             #[inline]
             #[track_caller]
             fn $op_assign(&mut self, other: $Right) {
@@ -98,34 +107,53 @@ operators! {
 #[cold]
 #[inline(never)]
 #[track_caller]
-fn refuse<T: Integer>(other: &Ratio<T>, zero: &str, overflow: &str) -> ! {
-    panic!("{}", if *other.numer() == T::NUMBER_0 { zero } else { overflow })
+fn refuse<T: Integer>(x: &Ratio<T>, other: &Ratio<T>, zero: &str, overflow: &str) -> ! {
+    let has_values = *x.denom() != T::NUMBER_0 && *other.denom() != T::NUMBER_0;
+    let cause = match (has_values, *other.numer() == T::NUMBER_0) {
+        (false, _) => "denominator == 0",
+        (true, true) => zero,
+        (true, false) => overflow,
+    };
+    panic!("{cause}")
 }
 
-impl<T: Integer> Sum for Ratio<T> {
-    #[inline]
-    fn sum<I: Iterator<Item = Ratio<T>>>(items: I) -> Ratio<T> {
-        items.fold(Ratio::ZERO, |total, item| total + item)
-    }
+// Each fold is a loop over an operator. A closure has no caller, so a panic in it would name a line of this file.
+// `Sum::sum(items)` names the caller's line. `items.sum()` names a line of core, which calls this.
+macro_rules! folds {
+    ($($Fold:ident $fold:ident $START:ident $op_assign:tt;)*) => {$(
+        impl<T: Integer> $Fold for Ratio<T> {
+            /// # Panics
+            ///
+            /// If a step panics.
+            #[inline]
+            #[track_caller]
+            fn $fold<I: Iterator<Item = Ratio<T>>>(items: I) -> Ratio<T> {
+                let mut total = Ratio::$START;
+                for item in items {
+                    total $op_assign item;
+                }
+                total
+            }
+        }
+
+        impl<'a, T: Integer + 'a> $Fold<&'a Ratio<T>> for Ratio<T> {
+            /// # Panics
+            ///
+            /// If a step panics.
+            #[inline]
+            #[track_caller]
+            fn $fold<I: Iterator<Item = &'a Ratio<T>>>(items: I) -> Ratio<T> {
+                let mut total = Ratio::$START;
+                for item in items {
+                    total $op_assign item;
+                }
+                total
+            }
+        }
+    )*};
 }
 
-impl<'a, T: Integer + 'a> Sum<&'a Ratio<T>> for Ratio<T> {
-    #[inline]
-    fn sum<I: Iterator<Item = &'a Ratio<T>>>(items: I) -> Ratio<T> {
-        items.fold(Ratio::ZERO, |total, item| total + item)
-    }
-}
-
-impl<T: Integer> Product for Ratio<T> {
-    #[inline]
-    fn product<I: Iterator<Item = Ratio<T>>>(items: I) -> Ratio<T> {
-        items.fold(Ratio::ONE, |total, item| total * item)
-    }
-}
-
-impl<'a, T: Integer + 'a> Product<&'a Ratio<T>> for Ratio<T> {
-    #[inline]
-    fn product<I: Iterator<Item = &'a Ratio<T>>>(items: I) -> Ratio<T> {
-        items.fold(Ratio::ONE, |total, item| total * item)
-    }
+folds! {
+    Sum sum ZERO +=;
+    Product product ONE *=;
 }

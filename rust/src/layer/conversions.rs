@@ -1,5 +1,6 @@
-//! Conversions between fractions, pairs and whole numbers, and the constants by their traits.
-use super::integer::Integer;
+//! Conversions between fractions, pairs and whole numbers, and the constants through their traits.
+use super::approximations::approximation;
+use super::integer::{Element, Integer};
 use super::ratio::{Proved, Ratio};
 use num_traits::{FromPrimitive, One, Zero};
 
@@ -22,7 +23,7 @@ impl<T: Integer> One for Ratio<T> {
         Ratio::ONE
     }
 
-    /// Whether the fields are equal, as those of 2/2 are.
+    /// Whether the fields are equal. 2/2 is 1, too.
     #[inline]
     fn is_one(&self) -> bool {
         self.numer() == self.denom()
@@ -44,7 +45,11 @@ impl<T: Integer> From<T> for Ratio<T> {
 }
 
 impl<T: Integer> From<(T, T)> for Ratio<T> {
-    /// The lowest terms, as by `new`, which panics where they are not held.
+    /// The lowest terms, as by `new`.
+    ///
+    /// # Panics
+    ///
+    /// If the denominator is 0, or if the lowest terms do not fit the type.
     #[inline]
     #[track_caller]
     fn from((numer, denom): (T, T)) -> Ratio<T> {
@@ -59,7 +64,8 @@ impl<T: Integer> From<Ratio<T>> for (T, T) {
     }
 }
 
-/// A float is refused: nothing is proved of them.
+/// A fraction of a whole number, or `None` if that does not fit the type. A fraction near a float is as `approximate_float`
+/// returns it, and not proved.
 impl<T: Integer> FromPrimitive for Ratio<T> {
     #[inline]
     fn from_i64(number: i64) -> Option<Ratio<T>> {
@@ -82,12 +88,12 @@ impl<T: Integer> FromPrimitive for Ratio<T> {
     }
 
     #[inline]
-    fn from_f32(_: f32) -> Option<Ratio<T>> {
-        None
+    fn from_f32(float: f32) -> Option<Ratio<T>> {
+        approximation(float)
     }
 
     #[inline]
-    fn from_f64(_: f64) -> Option<Ratio<T>> {
-        None
+    fn from_f64(float: f64) -> Option<Ratio<T>> {
+        approximation(float)
     }
 }

@@ -1,17 +1,17 @@
 //! The element types: the twelve primitive integer types.
 use crate::proved::num_rational::{Ratio, Reduced};
 use crate::proved::ratio_integer::{Integer as ProvedInteger, Primitive, SignedInteger};
-use core::fmt::{Binary, Debug, Display, LowerHex, Octal, UpperHex};
+use core::fmt::{Binary, Debug, Display, LowerExp, LowerHex, Octal, UpperExp, UpperHex};
 use core::hash::Hash;
 use num_traits::{NumAssign, PrimInt};
 
 /// One of the twelve primitive integer types, from `i8` to `u128`, with `isize` and `usize`.
 ///
-/// What is proved of fractions rests on the laws of the element type, and is proved of these twelve.
-/// So no other type can have this trait.
+/// The proofs need only the laws of the integer type, and these laws are proved of the twelve types. So no other type can have
+/// this trait.
 ///
 /// ```
-/// use bakhsney::{Integer, Ratio};
+/// use bakhsney::{integer::Integer, Ratio};
 ///
 /// fn half<T: Integer>() -> Ratio<T> {
 ///     Ratio::new(T::one(), T::one() + T::one())
@@ -24,16 +24,34 @@ use num_traits::{NumAssign, PrimInt};
 /// #[derive(Clone, Copy)]
 /// struct Mine(i32);
 ///
-/// impl bakhsney::Integer for Mine {}
+/// impl bakhsney::integer::Integer for Mine {}
 /// ```
 pub trait Integer:
-    Element + PrimInt + NumAssign + Hash + Debug + Display + Binary + Octal + LowerHex + UpperHex
+    Hidden + PrimInt + NumAssign + Hash + Debug + Display + Binary + Octal + LowerHex + UpperHex + LowerExp + UpperExp
 {
 }
 
-/// An element as the proved calls see it. It stands apart, so that the names of the proved trait do not get in
-/// the way of num-traits' in generic code.
-pub trait Element: Copy {
+/// What `Element` says of a type, under names that no other trait has. As a supertrait of `Integer`, it brings its names into
+/// generic code of this crate's users. So a user's own trait may have a call `of`.
+pub trait Hidden: Copy {
+    type BakhsneyProved: Primitive;
+
+    type BakhsneySigns: Signs<Self::BakhsneyProved>;
+
+    const BAKHSNEY_0: Self;
+
+    const BAKHSNEY_1: Self;
+
+    fn bakhsney_into_proved(self) -> Self::BakhsneyProved;
+
+    fn bakhsney_from_proved(number: Self::BakhsneyProved) -> Self;
+
+    fn bakhsney_of(number: &Self::BakhsneyProved) -> &Self;
+}
+
+/// An element as the proved calls see it, for this crate alone. It is a trait of its own, so that the names of the proved trait
+/// do not hide num-traits' names in generic code.
+pub(crate) trait Element: Copy {
     /// The same type.
     type Proved: Primitive;
 
@@ -51,30 +69,57 @@ pub trait Element: Copy {
     fn of(number: &Self::Proved) -> &Self;
 }
 
+impl<T: Hidden> Element for T {
+    type Proved = T::BakhsneyProved;
+
+    type Signs = T::BakhsneySigns;
+
+    const NUMBER_0: T = T::BAKHSNEY_0;
+
+    const NUMBER_1: T = T::BAKHSNEY_1;
+
+    #[inline]
+    fn into_proved(self) -> T::BakhsneyProved {
+        self.bakhsney_into_proved()
+    }
+
+    #[inline]
+    fn from_proved(number: T::BakhsneyProved) -> T {
+        T::bakhsney_from_proved(number)
+    }
+
+    #[inline]
+    fn of(number: &T::BakhsneyProved) -> &T {
+        T::bakhsney_of(number)
+    }
+}
+
+// Each type with the one that the proved calls compute with. The two have the same numbers, and `$of` takes a reference to one for
+// a reference to the other.
 macro_rules! elements {
-    ($signs:ident: $($type:ty)*) => {$(
-        impl Element for $type {
-            type Proved = $type;
+    ($signs:ident by $of:ident: $($type:ident as $proved:ident)*) => {$(
+        impl Hidden for $type {
+            type BakhsneyProved = $proved;
 
-            type Signs = $signs;
+            type BakhsneySigns = $signs;
 
-            const NUMBER_0: $type = <$type as ProvedInteger>::ZERO;
+            const BAKHSNEY_0: $type = <$proved as ProvedInteger>::ZERO as $type;
 
-            const NUMBER_1: $type = <$type as ProvedInteger>::ONE;
+            const BAKHSNEY_1: $type = <$proved as ProvedInteger>::ONE as $type;
 
             #[inline]
-            fn into_proved(self) -> $type {
-                self
+            fn bakhsney_into_proved(self) -> $proved {
+                self as $proved
             }
 
             #[inline]
-            fn from_proved(number: $type) -> $type {
-                number
+            fn bakhsney_from_proved(number: $proved) -> $type {
+                number as $type
             }
 
             #[inline]
-            fn of(number: &$type) -> &$type {
-                number
+            fn bakhsney_of(number: &$proved) -> &$type {
+                $of(number)
             }
         }
 
@@ -82,10 +127,39 @@ macro_rules! elements {
     )*};
 }
 
-elements! { Below0: i8 i16 i32 i64 i128 isize }
-elements! { From0: u8 u16 u32 u64 u128 usize }
+elements! { Below0 by itself: i8 as i8 i16 as i16 i32 as i32 i64 as i64 i128 as i128 }
+elements! { From0 by itself: u8 as u8 u16 as u16 u32 as u32 u64 as u64 u128 as u128 }
 
-/// The calls on signs, by whether the element type has numbers below 0.
+// The proofs of `isize` and `usize` are of 64 bits. Where a pointer has 32 bits, the proofs of `i32` and `u32` say the same of them.
+#[cfg(target_pointer_width = "64")]
+elements! { Below0 by itself: isize as isize }
+#[cfg(target_pointer_width = "64")]
+elements! { From0 by itself: usize as usize }
+#[cfg(target_pointer_width = "32")]
+elements! { Below0 by isize_of: isize as i32 }
+#[cfg(target_pointer_width = "32")]
+elements! { From0 by usize_of: usize as u32 }
+
+#[inline]
+fn itself<T>(number: &T) -> &T {
+    number
+}
+
+#[cfg(target_pointer_width = "32")]
+#[inline]
+fn isize_of(number: &i32) -> &isize {
+    // SAFETY: where a pointer has 32 bits, `isize` and `i32` have the same size, alignment and numbers.
+    unsafe { &*(number as *const i32).cast() }
+}
+
+#[cfg(target_pointer_width = "32")]
+#[inline]
+fn usize_of(number: &u32) -> &usize {
+    // SAFETY: where a pointer has 32 bits, `usize` and `u32` have the same size, alignment and numbers.
+    unsafe { &*(number as *const u32).cast() }
+}
+
+/// The calls on signs. Each kind of type, with and without numbers below 0, has its own.
 pub trait Signs<P: Primitive> {
     fn checked_neg(x: Ratio<P>) -> Option<Ratio<P>>;
 
@@ -104,7 +178,7 @@ pub trait Signs<P: Primitive> {
     fn signum_lowest(x: Reduced<P>) -> Reduced<P>;
 }
 
-/// Says that a type has numbers below 0.
+/// The type has numbers below 0.
 pub struct Below0;
 
 impl<P: Primitive + SignedInteger> Signs<P> for Below0 {
@@ -153,8 +227,8 @@ impl<P: Primitive + SignedInteger> Signs<P> for Below0 {
     }
 }
 
-/// Says that a type has none. Its calls are not reached: `Neg` and `Signed` ask for these of the element type,
-/// and no unsigned type has them.
+/// The type has no numbers below 0. These calls are never reached: `Neg` and `Signed` require the same traits of the element
+/// type, and no unsigned type has them.
 pub struct From0;
 
 impl<P: Primitive> Signs<P> for From0 {

@@ -1,8 +1,8 @@
 //! Reciprocals and powers.
 //!
-//! A negative denominator is first brought to lowest terms, where the type holds these; else the call panics, or
-//! answers `None` where it can.
-use super::integer::Integer;
+//! A negative denominator is first brought to lowest terms. If these do not fit the type, a checked call returns `None`, and
+//! the others panic.
+use super::integer::{Element, Integer};
 use super::ratio::Ratio;
 use crate::proved::num_rational::Exponent;
 use crate::proved::ratio_integer::Integer as _;
@@ -13,7 +13,8 @@ impl<T: Integer> Ratio<T> {
     ///
     /// # Panics
     ///
-    /// Where the numerator is 0, or is the least number, of which no sign can be moved.
+    /// If the numerator is 0, or if it is the least number over a positive denominator: its sign cannot be moved. If the
+    /// denominator is 0, or if it is negative and the lowest terms do not fit the type: `new_raw(3i8, -128).recip()` panics.
     ///
     /// ```
     /// assert_eq!(bakhsney::Ratio::new(-2, 3).recip().into_raw(), (-3, 2));
@@ -21,7 +22,8 @@ impl<T: Integer> Ratio<T> {
     #[inline]
     #[track_caller]
     pub fn recip(&self) -> Ratio<T> {
-        // No branch asks for the sign, which no processor can guess where signs vary. Only the least number has no negative.
+        // This has no branch on the sign, since no processor can guess the sign if signs vary. Only the least number has no
+        // negative.
         let has_reciprocal = (*self.numer() != T::NUMBER_0) & (*self.numer() != T::min_value());
         if has_reciprocal & (T::NUMBER_0 < *self.denom()) {
             return Ratio::from_proved(self.proved().recip());
@@ -34,7 +36,7 @@ impl<T: Integer> Ratio<T> {
     fn recip_of_any(&self) -> Ratio<T> {
         let fraction = self.expect_positive();
         let numer = *fraction.numer();
-        if numer.is_zero() || (numer < T::Proved::ZERO && T::Proved::ZERO.try_minus(numer).is_none()) {
+        if numer.is_zero() || (numer < <T as Element>::Proved::ZERO && <T as Element>::Proved::ZERO.try_minus(numer).is_none()) {
             refuse(self, "attempt to negate with overflow");
         }
         Ratio::from_proved(fraction.recip())
@@ -44,8 +46,8 @@ impl<T: Integer> Ratio<T> {
     ///
     /// # Panics
     ///
-    /// Where the type does not hold the power, or the fraction is 0 and the exponent negative. The test is
-    /// `checked_pow`.
+    /// If the power does not fit the type, or if the fraction is 0 and the exponent negative. Also if the denominator is
+    /// negative and the lowest terms do not fit, or 0. `checked_pow` tests all this.
     ///
     /// ```
     /// use bakhsney::Ratio;
@@ -59,7 +61,7 @@ impl<T: Integer> Ratio<T> {
         power(self, exponent)
     }
 
-    /// The power, or `None` where the type does not hold it, or the fraction is 0 and the exponent negative.
+    /// The power. It is `None` if `pow` panics.
     ///
     /// ```
     /// use bakhsney::Ratio;
@@ -92,6 +94,9 @@ fn refuse<T: Integer>(base: &Ratio<T>, overflow: &str) -> ! {
 impl<T: Integer> Inv for Ratio<T> {
     type Output = Ratio<T>;
 
+    /// # Panics
+    ///
+    /// If `recip` panics.
     #[inline]
     #[track_caller]
     fn inv(self) -> Ratio<T> {
@@ -102,6 +107,9 @@ impl<T: Integer> Inv for Ratio<T> {
 impl<T: Integer> Inv for &Ratio<T> {
     type Output = Ratio<T>;
 
+    /// # Panics
+    ///
+    /// If `recip` panics.
     #[inline]
     #[track_caller]
     fn inv(self) -> Ratio<T> {
@@ -113,17 +121,20 @@ macro_rules! powers {
     ($($exponent:ty)*) => {$(
         powers! { $exponent, Ratio<T>; self, exponent => &self, exponent }
         powers! { $exponent, &Ratio<T>; self, exponent => self, exponent }
-        powers! { &$exponent, Ratio<T>; self, exponent => &self, *exponent }
-        powers! { &$exponent, &Ratio<T>; self, exponent => self, *exponent }
+        powers! { &$exponent, Ratio<T>; self, exponent => &self, (*exponent) }
+        powers! { &$exponent, &Ratio<T>; self, exponent => self, (*exponent) }
     )*};
     ($Exponent:ty, $Base:ty; $self:ident, $exponent:ident => $left:expr, $right:expr) => {
         impl<T: Integer> Pow<$Exponent> for $Base {
             type Output = Ratio<T>;
 
+            /// # Panics
+            ///
+            /// If the power does not fit the type, as `Ratio::pow`.
             #[inline]
             #[track_caller]
             fn pow($self, $exponent: $Exponent) -> Ratio<T> {
-                power($left, $right)
+                power($left, $right.into_proved())
             }
         }
     };

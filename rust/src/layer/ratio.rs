@@ -1,10 +1,10 @@
-//! The fraction type, how its values are made, and how they become those of the proved calls.
+//! The fraction type, the ways to make a fraction, and how it becomes a fraction of the proved calls.
 use super::integer::{Element, Integer};
 use crate::proved::num_rational as proved;
 use crate::proved::ratio_integer::Integer as _;
 
-/// A fraction of two integers. `new` and most calls give lowest terms with a positive denominator; `new_raw`
-/// keeps any two numbers.
+/// A fraction of two integers. `new` and most calls return lowest terms with a positive denominator. `new_raw` keeps any two
+/// numbers.
 ///
 /// ```
 /// use bakhsney::Ratio;
@@ -46,9 +46,9 @@ pub type Rational64 = Ratio<i64>;
 pub(super) type Proved<T> = proved::Ratio<<T as Element>::Proved>;
 
 impl<T> Ratio<T> {
-    /// The fraction with these fields, as they are given: they are not reduced, and the denominator may be
-    /// negative. It must not be 0, which is not tested here, since this is a `const fn`: each call on such a
-    /// fraction that needs its value panics.
+    /// The fraction with these fields, as they are given. They are not reduced, and the denominator may be negative. It must
+    /// not be 0. This call does not test that, since it is a `const fn`. The fraction then has no value. A call that needs the value
+    /// returns `None` if it has an `Option`, and panics if not.
     ///
     /// ```
     /// use bakhsney::Ratio;
@@ -62,7 +62,7 @@ impl<T> Ratio<T> {
         Ratio { numer, denom }
     }
 
-    /// The numerator and the denominator, as they stand.
+    /// The numerator and the denominator, as they are.
     ///
     /// ```
     /// assert_eq!(bakhsney::Ratio::new_raw(2, -4).into_raw(), (2, -4));
@@ -72,7 +72,7 @@ impl<T> Ratio<T> {
         (self.numer, self.denom)
     }
 
-    /// The numerator, as it stands.
+    /// The numerator, as it is.
     ///
     /// ```
     /// assert_eq!(*bakhsney::Ratio::new(6, 8).numer(), 3);
@@ -82,7 +82,7 @@ impl<T> Ratio<T> {
         &self.numer
     }
 
-    /// The denominator, as it stands.
+    /// The denominator, as it is.
     ///
     /// ```
     /// assert_eq!(*bakhsney::Ratio::new(6, 8).denom(), 4);
@@ -112,7 +112,7 @@ impl<T: Integer> Ratio<T> {
     ///
     /// # Panics
     ///
-    /// Where the denominator is 0, or the type does not hold the lowest terms. The test is `checked_new`.
+    /// If the denominator is 0, or if the lowest terms do not fit the type. `checked_new` tests that.
     ///
     /// ```
     /// assert_eq!(bakhsney::Ratio::new(4, -6).into_raw(), (-2, 3));
@@ -126,7 +126,7 @@ impl<T: Integer> Ratio<T> {
         }
     }
 
-    /// The lowest terms of `numer/denom`, or `None` where the denominator is 0 or the type does not hold them.
+    /// The lowest terms of `numer/denom`, or `None` if the denominator is 0 or they do not fit the type.
     ///
     /// ```
     /// use bakhsney::Ratio;
@@ -150,7 +150,7 @@ impl<T: Integer> Ratio<T> {
         Ratio { numer: number, denom: T::NUMBER_1 }
     }
 
-    /// Whether the denominator is 1. So 4/2, as `new_raw` makes it, is none.
+    /// Whether the denominator is 1. So it is false for 4/2, as `new_raw` makes it.
     ///
     /// ```
     /// use bakhsney::Ratio;
@@ -167,8 +167,7 @@ impl<T: Integer> Ratio<T> {
     ///
     /// # Panics
     ///
-    /// Where the denominator is 0, or the type does not hold the lowest terms. The test is `checked_new` of
-    /// the fields.
+    /// If the denominator is 0, or if the lowest terms do not fit the type. `checked_new` of the fields tests that.
     ///
     /// ```
     /// assert_eq!(bakhsney::Ratio::new_raw(4, -6).reduced().into_raw(), (-2, 3));
@@ -179,36 +178,47 @@ impl<T: Integer> Ratio<T> {
         Ratio::new(self.numer, self.denom)
     }
 
-    /// What a proved call answers.
+    /// The fraction that a proved call returned.
     #[inline]
     pub(super) fn from_proved(fraction: Proved<T>) -> Ratio<T> {
         let (numer, denom) = fraction.into_raw();
         Ratio { numer: T::from_proved(numer), denom: T::from_proved(denom) }
     }
 
-    /// The fraction for calls that ask for a denominator other than 0.
+    /// The fraction for calls that require a denominator other than 0. It panics if the denominator is 0.
     #[inline]
+    #[track_caller]
     pub(super) fn proved(&self) -> Proved<T> {
-        let denom = self.denom.into_proved();
-        if denom.is_zero() {
-            refuse_zero();
+        match self.checked_proved() {
+            Some(fraction) => fraction,
+            None => refuse_zero(),
         }
-        Proved::<T>::new_raw(self.numer.into_proved(), denom)
     }
 
-    /// The fraction for calls that ask for a positive denominator: the lowest terms, where it is negative, or
-    /// `None`, where the type does not hold these.
+    /// The same, but `None` if the denominator is 0.
+    #[inline]
+    pub(super) fn checked_proved(&self) -> Option<Proved<T>> {
+        let denom = self.denom.into_proved();
+        if denom.is_zero() {
+            None
+        } else {
+            Some(Proved::<T>::new_raw(self.numer.into_proved(), denom))
+        }
+    }
+
+    /// The fraction for calls that require a positive denominator. If the denominator is negative, it is the lowest terms. It is
+    /// `None` if these do not fit the type, or if the denominator is 0.
     #[inline]
     pub(super) fn positive(&self) -> Option<Proved<T>> {
         let (numer, denom) = (self.numer.into_proved(), self.denom.into_proved());
-        if T::Proved::ZERO < denom {
+        if <T as Element>::Proved::ZERO < denom {
             Some(Proved::<T>::new_raw(numer, denom))
         } else {
             self.turned()
         }
     }
 
-    /// The same, with a panic for that `None`.
+    /// The same, but it panics where that is `None`.
     #[inline]
     #[track_caller]
     pub(super) fn expect_positive(&self) -> Proved<T> {
@@ -220,8 +230,7 @@ impl<T: Integer> Ratio<T> {
 
     #[cold]
     fn turned(&self) -> Option<Proved<T>> {
-        let (numer, denom) = self.proved().into_raw();
-        Proved::<T>::checked_new(numer, denom)
+        Proved::<T>::checked_new(self.numer.into_proved(), self.denom.into_proved())
     }
 }
 
@@ -237,6 +246,7 @@ fn refuse_new<T: Integer>(denom: T) -> ! {
 
 #[cold]
 #[inline(never)]
+#[track_caller]
 fn refuse_zero() -> ! {
     panic!("denominator == 0")
 }

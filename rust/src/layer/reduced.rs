@@ -1,18 +1,22 @@
 //! The fraction type that is always in lowest terms.
 //!
-//! No call of the proved type asks anything of its caller, so nothing is tested here.
+//! Two calls of the proved type require something of a plain number, and this module tests it: `decimal`, at most 38 places,
+//! and `round_to`, a positive number of parts. The others require nothing.
 use super::integer::{Element, Integer, Signs};
 use super::ratio::Ratio;
 use crate::proved::num_rational as proved;
 use crate::proved::num_rational::{Constants, ParseRatioError};
+use crate::proved::ratio_core::rounding_rule::Rounding;
+use crate::proved::ratio_core::{BaseTenText, DecimalText};
 use core::cmp::Ordering;
 use core::fmt;
 use core::hash::{Hash, Hasher};
 use core::str::FromStr;
 use num_traits::Signed;
 
-/// A fraction of two integers that is always in lowest terms: the denominator is positive, and no number above 1
-/// divides both. A checked call answers `None` where it is refused, and none panics. num-rational has no such type.
+/// A fraction of two integers that is always in lowest terms: the denominator is positive, and no number above 1 divides both.
+/// Where there is no result, a checked call returns `None`. No call panics, except `decimal` for more than 38 places and `round_to`
+/// for no parts. num-rational has no such type.
 ///
 /// ```
 /// use bakhsney::{ParseRatioError, Reduced64};
@@ -65,7 +69,7 @@ impl<T: Integer> Reduced<T> {
     /// ```
     pub const ONE: Reduced<T> = Reduced { fraction: Proved::<T>::ONE };
 
-    /// The lowest terms of `numer/denom`, or `None` where the denominator is 0 or the type does not hold them.
+    /// The lowest terms of `numer/denom`, or `None` if the denominator is 0 or they do not fit the type.
     ///
     /// ```
     /// use bakhsney::Reduced;
@@ -88,7 +92,7 @@ impl<T: Integer> Reduced<T> {
         Reduced { fraction: Proved::<T>::from_integer(number.into_proved()) }
     }
 
-    /// The lowest terms of a fraction, or `None` where its denominator is 0 or the type does not hold them.
+    /// The lowest terms of a fraction, or `None` if its denominator is 0 or they do not fit the type.
     ///
     /// ```
     /// use bakhsney::{Ratio, Reduced};
@@ -99,6 +103,34 @@ impl<T: Integer> Reduced<T> {
     #[inline]
     pub fn from_ratio(fraction: &Ratio<T>) -> Option<Reduced<T>> {
         Reduced::checked_new(*fraction.numer(), *fraction.denom())
+    }
+
+    /// The fraction with exactly the value of the float. `None` if the float is infinite or no number, or if its lowest terms do
+    /// not fit the type.
+    ///
+    /// ```
+    /// use bakhsney::Reduced;
+    ///
+    /// assert_eq!(Reduced::from_float(-0.75), Reduced::checked_new(-3, 4));
+    /// assert_eq!(Reduced::from_float(0.1), Reduced::checked_new(3602879701896397i64, 36028797018963968));
+    /// assert_eq!(Reduced::<i32>::from_float(0.1), None);
+    /// assert_eq!(Reduced::<i64>::from_float(f64::NAN), None);
+    /// ```
+    #[inline]
+    pub fn from_float(float: f64) -> Option<Reduced<T>> {
+        Reduced::of(Proved::<T>::from_float(float))
+    }
+
+    /// The same for a float of 32 bits.
+    ///
+    /// ```
+    /// use bakhsney::Reduced;
+    ///
+    /// assert_eq!(Reduced::from_float32(0.1), Reduced::checked_new(13421773, 134217728));
+    /// ```
+    #[inline]
+    pub fn from_float32(float: f32) -> Option<Reduced<T>> {
+        Reduced::of(Proved::<T>::from_float32(float))
     }
 
     /// The same fraction as a `Ratio`.
@@ -113,8 +145,26 @@ impl<T: Integer> Reduced<T> {
         Ratio::from_proved(self.fraction.to_ratio())
     }
 
-    /// The lowest terms of a text `N/D` in the radix. A text without a slash is refused, and so is each text where the
-    /// radix is not from 2 to 36.
+    /// The same fraction over the type `U`, or `None` if its numerator or its denominator does not fit that type.
+    ///
+    /// `Reduced<U>` also has `From<Reduced<T>>` if std has `From<T>` for `U`, as from `u8` to `i64`. If not, it has
+    /// `TryFrom<Reduced<T>>`.
+    ///
+    /// ```
+    /// use bakhsney::{Reduced, Reduced64};
+    ///
+    /// let x = Reduced64::checked_new(1, 127).unwrap();
+    /// assert_eq!(x.cast::<i8>(), Reduced::checked_new(1, 127));
+    /// assert_eq!(Reduced64::checked_new(1, 128).unwrap().cast::<i8>(), None);
+    /// assert_eq!(Reduced64::from(Reduced::from(200u8)), Reduced::from(200));
+    /// ```
+    #[inline]
+    pub fn cast<U: Integer>(&self) -> Option<Reduced<U>> {
+        Reduced::of(self.fraction.cast())
+    }
+
+    /// The lowest terms of a text `N/D` in the radix. A text without a slash is an error, and so is each text if the radix is
+    /// not from 2 to 36.
     ///
     /// ```
     /// use bakhsney::Reduced;
@@ -125,6 +175,88 @@ impl<T: Integer> Reduced<T> {
     #[inline]
     pub fn from_str_radix(text: &str, radix: u32) -> Result<Reduced<T>, ParseRatioError> {
         Proved::<T>::from_str_radix(text, radix).map(Reduced::new)
+    }
+
+    /// The text that `{}` writes. It needs no formatter, so it takes less time.
+    ///
+    /// ```
+    /// use bakhsney::Reduced;
+    ///
+    /// assert_eq!(Reduced::checked_new(-6, 8).unwrap().base_ten_text().as_str(), "-3/4");
+    /// ```
+    #[inline]
+    pub fn base_ten_text(&self) -> BaseTenText {
+        self.fraction.base_ten_text()
+    }
+
+    /// Writes that text into `text`, in place of what was there. No array is moved, so it takes even less time.
+    ///
+    /// ```
+    /// use bakhsney::{BaseTenText, Reduced};
+    ///
+    /// let mut text = BaseTenText::empty();
+    /// Reduced::checked_new(-6, 8).unwrap().put_base_ten_text(&mut text);
+    /// assert_eq!(text.as_str(), "-3/4");
+    /// ```
+    #[inline]
+    pub fn put_base_ten_text(&self, text: &mut BaseTenText) {
+        self.fraction.put_base_ten_text(text);
+    }
+
+    /// The fraction as a decimal with so many places, rounded by the rule. There are always as many digits behind the point, and
+    /// without places no point. A fraction that is rounded to 0 has no minus.
+    ///
+    /// # Panics
+    ///
+    /// If there are more than 38 places.
+    ///
+    /// ```
+    /// use bakhsney::{Reduced, Rounding};
+    ///
+    /// let eighth = Reduced::checked_new(1, 8).unwrap();
+    /// assert_eq!(eighth.decimal(2, Rounding::HalfEven).as_str(), "0.12");
+    /// assert_eq!(eighth.decimal(2, Rounding::HalfAway).as_str(), "0.13");
+    /// ```
+    #[inline]
+    #[track_caller]
+    pub fn decimal(&self, places: u32, rule: Rounding) -> DecimalText {
+        assert!(places <= 38, "more than 38 places");
+        self.fraction.decimal(places, rule)
+    }
+
+    /// All of the fraction as a decimal, or `None` if the digits do not end. They end if the denominator has no prime factor but 2
+    /// and 5.
+    ///
+    /// ```
+    /// use bakhsney::Reduced;
+    ///
+    /// assert_eq!(Reduced::checked_new(99, 8).unwrap().exact_decimal().unwrap().as_str(), "12.375");
+    /// assert!(Reduced::checked_new(1, 3).unwrap().exact_decimal().is_none());
+    /// ```
+    #[inline]
+    pub fn exact_decimal(&self) -> Option<DecimalText> {
+        self.fraction.exact_decimal()
+    }
+
+    /// The multiple of `1/parts` that the rule says, such as cents for 100 and quarters for 4. It is `None` only if its lowest
+    /// terms do not fit the type.
+    ///
+    /// # Panics
+    ///
+    /// If `parts` is not above 0.
+    ///
+    /// ```
+    /// use bakhsney::{Reduced, Rounding};
+    ///
+    /// let price = Reduced::checked_new(2, 3).unwrap();
+    /// assert_eq!(price.round_to(100, Rounding::HalfEven), Reduced::checked_new(67, 100));
+    /// assert_eq!(Reduced::checked_new(100i8, 3).unwrap().round_to(100, Rounding::HalfEven), None);
+    /// ```
+    #[inline]
+    #[track_caller]
+    pub fn round_to(&self, parts: T, rule: Rounding) -> Option<Reduced<T>> {
+        assert!(T::NUMBER_0 < parts, "the number of parts is not above 0");
+        Reduced::of(self.fraction.round_to(parts.into_proved(), rule))
     }
 
     /// The numerator and the denominator.
@@ -148,7 +280,7 @@ impl<T: Integer> Reduced<T> {
         T::of(self.fraction.numer())
     }
 
-    /// The denominator, which is positive.
+    /// The denominator. It is positive.
     ///
     /// ```
     /// assert_eq!(*bakhsney::Reduced::checked_new(6, 8).unwrap().denom(), 4);
@@ -194,7 +326,7 @@ macro_rules! checked_calls {
         impl<T: Integer> Reduced<T> {$(
             #[doc = $what]
             ///
-            /// A number may stand on the right, too.
+            /// A number may be the right operand, too.
             ///
             /// ```
             /// let half = bakhsney::Reduced::checked_new(1i8, 2).unwrap();
@@ -209,20 +341,20 @@ macro_rules! checked_calls {
 }
 
 checked_calls! {
-    checked_add: "The sum, or `None` where it is refused: of `i32` and `i64` where its lowest terms are not held, of other types where a number on the way is not.",
+    checked_add: "The sum, or `None` where its lowest terms are not held.",
         "assert_eq!(half.checked_add(half), Some(1.into()));";
-    checked_sub: "The difference, or `None` as of `checked_add`.",
+    checked_sub: "The difference, or `None` where its lowest terms are not held.",
         "assert_eq!(half.checked_sub(1), bakhsney::Reduced::checked_new(-1, 2));";
     checked_mul: "The product, or `None` where its lowest terms are not held.",
         "assert_eq!(half.checked_mul(-128), Some((-64).into()));";
     checked_div: "The quotient, or `None` where the divisor is 0 or the lowest terms are not held.",
         "assert_eq!(half.checked_div(&half), Some(1.into()));";
-    checked_rem: "What the quotient cut to a whole number leaves, or `None` where the divisor is 0 or a number on the way is not held.",
+    checked_rem: "What the quotient cut to a whole number leaves, or `None` where the divisor is 0 or the lowest terms are not held. Over `i128` and `u128` it is also `None` where a number on the way is not held.",
         "assert_eq!(half.checked_rem(1), Some(half));";
 }
 
 impl<T: Integer> Reduced<T> {
-    /// The sum of the items, or `None` where a step is refused.
+    /// The sum of the items, or `None` if a step returns `None`.
     ///
     /// ```
     /// use bakhsney::Reduced64;
@@ -234,7 +366,7 @@ impl<T: Integer> Reduced<T> {
         items.into_iter().try_fold(Reduced::ZERO, |total, item| total.checked_add(item))
     }
 
-    /// The product of the items, or `None` where a step is refused.
+    /// The product of the items, or `None` if a step returns `None`.
     ///
     /// ```
     /// use bakhsney::Reduced64;
@@ -246,7 +378,7 @@ impl<T: Integer> Reduced<T> {
         items.into_iter().try_fold(Reduced::ONE, |total, item| total.checked_mul(item))
     }
 
-    /// The reciprocal, or `None` where the fraction is 0 or the type does not hold it.
+    /// The reciprocal, or `None` if the fraction is 0 or the reciprocal does not fit the type.
     ///
     /// ```
     /// use bakhsney::Reduced32;
@@ -259,7 +391,7 @@ impl<T: Integer> Reduced<T> {
         Reduced::of(self.fraction.checked_recip())
     }
 
-    /// The power, or `None` where the type does not hold it, or the fraction is 0 and the exponent negative.
+    /// The power, or `None` if it does not fit the type, or if the fraction is 0 and the exponent negative.
     ///
     /// ```
     /// use bakhsney::Reduced;
@@ -272,8 +404,8 @@ impl<T: Integer> Reduced<T> {
         Reduced::of(self.fraction.checked_pow(exponent))
     }
 
-    /// The fraction nearest to this one whose denominator is at most `most`, or `None` where `most` is below 1. Of
-    /// two that are as near it is the one with the smaller denominator, and of two whole numbers the lesser one.
+    /// The nearest fraction to this one with a denominator from 1 to `most`, or `None` if `most` is below 1. Of two that are as
+    /// near, it is the one with the smaller denominator, and of two whole numbers the smaller one.
     ///
     /// ```
     /// use bakhsney::Reduced64;
@@ -287,7 +419,24 @@ impl<T: Integer> Reduced<T> {
         Reduced::of(self.fraction.nearest(most.into_proved()))
     }
 
-    /// The whole number next to this fraction towards zero.
+    /// Of all fractions strictly between `low` and `high`, the one with the smallest denominator, and of these the one whose
+    /// numerator is nearest to 0. `None` exactly if the type has no fraction between them, so also if `low` is not below `high`.
+    ///
+    /// ```
+    /// use bakhsney::Reduced;
+    ///
+    /// let [low, high] = ["1/3", "1/2"].map(|text| text.parse::<Reduced<i8>>().unwrap());
+    /// assert_eq!(Reduced::simplest_between(&low, &high), Reduced::checked_new(2, 5));
+    /// assert_eq!(Reduced::simplest_between(&high, &low), None);
+    /// let least = Reduced::checked_new(1i8, 127).unwrap();
+    /// assert_eq!(Reduced::simplest_between(&Reduced::ZERO, &least), None);
+    /// ```
+    #[inline]
+    pub fn simplest_between(low: &Reduced<T>, high: &Reduced<T>) -> Option<Reduced<T>> {
+        Reduced::of(Proved::<T>::simplest_between(&low.fraction, &high.fraction))
+    }
+
+    /// This fraction cut towards zero.
     ///
     /// ```
     /// assert_eq!(bakhsney::Reduced::checked_new(-7, 2).unwrap().to_integer(), -3);
@@ -316,15 +465,15 @@ macro_rules! rounding_calls {
 }
 
 rounding_calls! {
-    floor: "The greatest whole number that is not above this fraction.", "assert_eq!(x.floor(), (-4).into());";
-    ceil: "The least whole number that is not below this fraction.", "assert_eq!(x.ceil(), (-3).into());";
-    round: "The whole number nearest to this fraction; a half is rounded away from zero.", "assert_eq!(x.round(), (-4).into());";
-    trunc: "The whole number next to this fraction towards zero.", "assert_eq!(x.trunc(), (-3).into());";
+    floor: "The greatest whole number that is not above this fraction.", "assert_eq!(x.floor(), -4);";
+    ceil: "The least whole number that is not below this fraction.", "assert_eq!(x.ceil(), -3);";
+    round: "The whole number nearest to this fraction; a half is rounded away from zero.", "assert_eq!(x.round(), -4);";
+    trunc: "The whole number next to this fraction towards zero.", "assert_eq!(x.trunc(), -3);";
     fract: "What `trunc` leaves of this fraction.", "assert_eq!(x.fract().into_raw(), (-1, 2));";
 }
 
 impl<T: Integer + Signed> Reduced<T> {
-    /// The negative, or `None` where the numerator is the least number.
+    /// The negative, or `None` if the numerator is the least number.
     ///
     /// ```
     /// use bakhsney::Reduced;
@@ -334,10 +483,10 @@ impl<T: Integer + Signed> Reduced<T> {
     /// ```
     #[inline]
     pub fn checked_neg(&self) -> Option<Reduced<T>> {
-        Reduced::of(T::Signs::checked_neg_lowest(self.fraction))
+        Reduced::of(<T as Element>::Signs::checked_neg_lowest(self.fraction))
     }
 
-    /// The value without its sign, or `None` where the numerator is the least number.
+    /// The value without its sign, or `None` if the numerator is the least number.
     ///
     /// ```
     /// use bakhsney::Reduced;
@@ -347,17 +496,17 @@ impl<T: Integer + Signed> Reduced<T> {
     /// ```
     #[inline]
     pub fn checked_abs(&self) -> Option<Reduced<T>> {
-        Reduced::of(T::Signs::checked_abs_lowest(self.fraction))
+        Reduced::of(<T as Element>::Signs::checked_abs_lowest(self.fraction))
     }
 
-    /// 1, 0 or -1, as the fraction is above 0, 0 or below.
+    /// 1, 0 or -1, as the fraction is above 0, 0 or below 0.
     ///
     /// ```
-    /// assert_eq!(bakhsney::Reduced::checked_new(-1, 2).unwrap().signum(), (-1).into());
+    /// assert_eq!(bakhsney::Reduced::checked_new(-1, 2).unwrap().signum(), -1);
     /// ```
     #[inline]
     pub fn signum(&self) -> Reduced<T> {
-        Reduced::new(T::Signs::signum_lowest(self.fraction))
+        Reduced::new(<T as Element>::Signs::signum_lowest(self.fraction))
     }
 
     /// Whether the fraction is above 0.
@@ -367,7 +516,7 @@ impl<T: Integer + Signed> Reduced<T> {
     /// ```
     #[inline]
     pub fn is_positive(&self) -> bool {
-        T::Signs::is_positive(self.fraction.to_ratio())
+        <T as Element>::Signs::is_positive(self.fraction.to_ratio())
     }
 
     /// Whether the fraction is below 0.
@@ -377,7 +526,7 @@ impl<T: Integer + Signed> Reduced<T> {
     /// ```
     #[inline]
     pub fn is_negative(&self) -> bool {
-        T::Signs::is_negative(self.fraction.to_ratio())
+        <T as Element>::Signs::is_negative(self.fraction.to_ratio())
     }
 }
 

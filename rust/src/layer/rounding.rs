@@ -1,13 +1,17 @@
-//! Whole numbers near a fraction, and what truncation leaves.
+//! Whole numbers near a fraction, and its fractional part.
 //!
-//! A negative denominator is first brought to lowest terms, where the type holds these; else the call panics, or
-//! answers `None` where it can.
-use super::integer::Integer;
+//! A negative denominator is first brought to lowest terms. If these do not fit the type, a call that can returns `None`, and
+//! the others panic.
+use super::integer::{Element, Integer};
 use super::ratio::Ratio;
 use num_traits::ToPrimitive;
 
 impl<T: Integer> Ratio<T> {
     /// The greatest whole number that is not above this fraction.
+    ///
+    /// # Panics
+    ///
+    /// If the denominator is 0, or if it is negative and the lowest terms do not fit the type.
     ///
     /// ```
     /// assert_eq!(bakhsney::Ratio::new(-7, 2).floor(), (-4).into());
@@ -20,6 +24,10 @@ impl<T: Integer> Ratio<T> {
 
     /// The least whole number that is not below this fraction.
     ///
+    /// # Panics
+    ///
+    /// If the denominator is 0, or if it is negative and the lowest terms do not fit the type.
+    ///
     /// ```
     /// assert_eq!(bakhsney::Ratio::new(255u8, 2).ceil(), 128.into());
     /// ```
@@ -29,7 +37,11 @@ impl<T: Integer> Ratio<T> {
         Ratio::from_proved(self.expect_positive().ceil())
     }
 
-    /// The whole number nearest to this fraction; a half is rounded away from zero.
+    /// The whole number nearest to this fraction. A half is rounded away from zero.
+    ///
+    /// # Panics
+    ///
+    /// If the denominator is 0, or if it is negative and the lowest terms do not fit the type.
     ///
     /// ```
     /// assert_eq!(bakhsney::Ratio::new(-5, 2).round(), (-3).into());
@@ -40,7 +52,11 @@ impl<T: Integer> Ratio<T> {
         Ratio::from_proved(self.expect_positive().round())
     }
 
-    /// The whole number next to this fraction towards zero.
+    /// This fraction cut towards zero.
+    ///
+    /// # Panics
+    ///
+    /// If the denominator is 0, or if it is negative and the lowest terms do not fit the type.
     ///
     /// ```
     /// assert_eq!(bakhsney::Ratio::new(-7, 2).trunc(), (-3).into());
@@ -51,7 +67,11 @@ impl<T: Integer> Ratio<T> {
         Ratio::from_proved(self.expect_positive().trunc())
     }
 
-    /// What `trunc` leaves of this fraction.
+    /// This fraction minus its `trunc`.
+    ///
+    /// # Panics
+    ///
+    /// If the denominator is 0, or if it is negative and the lowest terms do not fit the type.
     ///
     /// ```
     /// assert_eq!(bakhsney::Ratio::new(-7, 2).fract(), bakhsney::Ratio::new(-1, 2));
@@ -62,7 +82,11 @@ impl<T: Integer> Ratio<T> {
         Ratio::from_proved(self.expect_positive().fract())
     }
 
-    /// The whole number next to this fraction towards zero.
+    /// This fraction cut towards zero.
+    ///
+    /// # Panics
+    ///
+    /// If the denominator is 0, or if it is negative and the lowest terms do not fit the type.
     ///
     /// ```
     /// assert_eq!(bakhsney::Ratio::new(-7, 2).to_integer(), -3);
@@ -72,9 +96,31 @@ impl<T: Integer> Ratio<T> {
     pub fn to_integer(&self) -> T {
         T::from_proved(self.expect_positive().to_integer())
     }
+
+    /// The nearest fraction to this one with a denominator from 1 to `most`, in lowest terms. Of two that are as near, it is the
+    /// one with the smaller denominator, and of two whole numbers the smaller one. It is `None` if `most` is below 1. It is also
+    /// `None` if the denominator is 0, or if it is negative and the lowest terms do not fit the type. num-rational has no such
+    /// call.
+    ///
+    /// ```
+    /// use bakhsney::Ratio;
+    ///
+    /// assert_eq!(Ratio::new(314159, 100000).nearest(10), Some(Ratio::new(22, 7)));
+    /// assert_eq!(Ratio::new(1, 2).nearest(0), None);
+    /// ```
+    #[inline]
+    pub fn nearest(&self, most: T) -> Option<Ratio<T>> {
+        let fraction = self.positive()?;
+        if T::NUMBER_0 < most {
+            Some(Ratio::from_proved(fraction.nearest(most.into_proved())))
+        } else {
+            None
+        }
+    }
 }
 
-/// The whole number of `trunc`, where the type asked for holds it. A float is refused: nothing is proved of them.
+/// This fraction cut towards zero, or `None` if that does not fit the integer type, or if the denominator is 0. And the nearest
+/// float, which is not proved.
 impl<T: Integer> ToPrimitive for Ratio<T> {
     #[inline]
     fn to_i64(&self) -> Option<i64> {
@@ -96,13 +142,28 @@ impl<T: Integer> ToPrimitive for Ratio<T> {
         self.positive()?.to_u128()
     }
 
+    /// The nearest `f32`. If two are as near, it is the one whose last binary digit is 0. As in num-rational, a denominator of
+    /// 0 makes it infinite, and 0/0 is `None`.
+    ///
+    /// ```
+    /// use num_traits::ToPrimitive;
+    ///
+    /// assert_eq!(bakhsney::Ratio::new(1, 3).to_f32(), Some(0.33333334));
+    /// ```
     #[inline]
     fn to_f32(&self) -> Option<f32> {
-        None
+        self.nearest_f32()
     }
 
+    /// The nearest `f64`, by the same rules.
+    ///
+    /// ```
+    /// use num_traits::ToPrimitive;
+    ///
+    /// assert_eq!(bakhsney::Ratio::new(1, 3).to_f64(), Some(1.0 / 3.0));
+    /// ```
     #[inline]
     fn to_f64(&self) -> Option<f64> {
-        None
+        self.nearest_f64()
     }
 }

@@ -13,7 +13,7 @@ fn write_pair(pair: u64, buf: &mut [u8], at: usize) {
 // Writes the digits so that they end at `end`, and returns where they start.
 /// # Conditions
 ///
-/// What is proved asks of the caller:
+/// The proof requires of the caller:
 ///
 /// - `(length (decimal n) ≤ end) × (end ≤ length buf.old)`
 #[inline]

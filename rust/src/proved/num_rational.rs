@@ -1,10 +1,15 @@
 // Erased from crates/num_rational/src/lib.rt by rust/erase: not to be edited.
 //! Exact fractions of machine integers.
+//!
+//! `both_held(n, d);` and `let _ = d.held();` do nothing at run time. They tell the prover that d lies
+//! between the type's least and greatest number: over `i8`, from -128 to 127. A value in hand is in range,
+//! and no law can say that.
 mod convert;
 mod fold;
 mod hash;
 
 pub mod laws;
+mod main_statement;
 mod nearest;
 mod operand;
 mod ops;
@@ -17,9 +22,12 @@ mod rounding;
 mod sign;
 mod text;
 
+pub use main_statement::{HeadlineResult, headline};
 pub use operand::Operand;
 pub use ratio::{Constants, Ratio, Rational, Rational32, Rational64};
+pub use crate::proved::ratio_core::rounding_rule::Rounding;
 pub use crate::proved::ratio_core::{
-    CodeList, DecimalText, Exponent, Form, ParseRatioError, RatioErrorKind, RatioText, Steps, Taken,
+    BaseTenText, CodeList, DecimalText, Exponent, Form, ParseRatioError, RatioErrorKind, RatioText,
+    Steps, Taken,
 };
 pub use reduced::{Reduced, Reduced32, Reduced64, ReducedOperand};

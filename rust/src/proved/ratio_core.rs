@@ -1,8 +1,14 @@
 // Erased from crates/ratio_core/src/lib.rt by rust/erase: not to be edited.
 //! What is computed on fractions, over the two numbers of each.
+//!
+//! `both_held(n, d);` and `let _ = n.held();` do nothing at run time. They tell the prover that n lies
+//! between the type's least and greatest number: over `i8`, from -128 to 127. A value in hand is in range,
+//! and no law can say that.
 pub mod checked_new;
 mod code_list;
+pub mod continued;
 mod exponent;
+pub mod floats;
 mod hash;
 pub mod laws;
 pub mod nearest;
@@ -11,9 +17,12 @@ mod parse_error;
 pub mod pow;
 pub mod products;
 pub mod remainder;
+mod rounded;
 pub mod rounding;
+pub mod rounding_rule;
 mod scaling;
 pub mod sign;
+pub mod simplest;
 mod steps;
 pub mod sums;
 mod taken;
@@ -24,6 +33,7 @@ pub use exponent::Exponent;
 pub use hash::hash_counted;
 pub use order::{cmp_counted, compare};
 pub use parse_error::{ParseRatioError, RatioErrorKind};
+pub use rounded::round_to;
 pub use steps::Steps;
 pub use taken::Taken;
-pub use text::{DecimalText, Form, RatioText};
+pub use text::{BaseTenText, DecimalText, Form, RatioText};

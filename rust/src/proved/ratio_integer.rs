@@ -2,21 +2,22 @@
 //! Types of the whole numbers from a least to a greatest one: a trait, its laws, and the twelve
 //! primitive integer types.
 //!
-//! Many bodies have the line `let _ = n.held();`. It costs nothing: it is there for the proof. That a
-//! value stands for a number of its type's range is no law of the trait, since a law cannot speak of
-//! the values in hand. The contract of `held` says it of one value, so a body that needs the fact of
-//! `n` asks for it there.
+//! `both_held(n, d);` and `let _ = n.held();` do nothing at run time. They tell the prover that n lies
+//! between the type's least and greatest number: over `i8`, from -128 to 127. A value in hand is in range,
+//! and no law can say that, since in a law an `i8` is any whole number.
 mod binary_gcd;
 mod exact_sum;
+mod half_width;
+mod held;
 mod impls;
 mod integer;
 pub mod laws;
 mod narrow;
-mod narrowed;
 mod primitive;
 mod reducing;
 mod signed;
 
+pub use held::both_held;
 pub use integer::Integer;
 pub use primitive::Primitive;
 pub use reducing::{cancelled, lowest_terms};

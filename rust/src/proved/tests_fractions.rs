@@ -10,3 +10,4 @@ mod integers;
 mod ratios;
 #[cfg(test)]
 mod recorder;
+pub mod written;

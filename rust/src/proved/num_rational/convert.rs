@@ -5,13 +5,13 @@ use crate::proved::num_rational::ratio::Ratio;
 use crate::proved::ratio_integer::Integer;
 
 impl<T: Copy + Integer> Ratio<T> {
-    /// The whole number over 1, or `None` where the type does not hold it.
+    /// The whole number over 1, or `None` if it does not fit the type.
     #[inline]
     pub fn from_i64(n: i64) -> Option<Ratio<T>> {
         Ratio::from_i128(n as i128)
     }
 
-    /// The whole number over 1, or `None` where the type does not hold it.
+    /// The whole number over 1, or `None` if it does not fit the type.
     #[inline]
     pub fn from_i128(n: i128) -> Option<Ratio<T>> {
         match T::from_i128(n) {
@@ -20,13 +20,13 @@ impl<T: Copy + Integer> Ratio<T> {
         }
     }
 
-    /// The whole number over 1, or `None` where the type does not hold it.
+    /// The whole number over 1, or `None` if it does not fit the type.
     #[inline]
     pub fn from_u64(n: u64) -> Option<Ratio<T>> {
         Ratio::from_u128(n as u128)
     }
 
-    /// The whole number over 1, or `None` where the type does not hold it.
+    /// The whole number over 1, or `None` if it does not fit the type.
     #[inline]
     pub fn from_u128(n: u128) -> Option<Ratio<T>> {
         match T::from_u128(n) {

@@ -1,7 +1,11 @@
 // Erased from crates/num_rational/src/laws.rt by rust/erase: not to be edited.
-//! What the words for fractions mean together: each function's contract is the law, and it does nothing.
-pub mod lowest;
+//! The laws of this crate. Each function does nothing: its contract is the law.
+pub mod neutral;
+pub mod order;
+pub mod reduced;
+pub mod signs;
+pub mod undoing;
 
-/// To the JSON list of a fraction's two fields one answer alone can be given: these fields.
+/// Reading the JSON list of a fraction's two fields gives these fields, and nothing else.
 #[inline]
 pub fn json_pairs() {}

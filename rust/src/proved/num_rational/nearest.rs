@@ -5,14 +5,14 @@ use crate::proved::num_rational::ratio::Ratio;
 use crate::proved::ratio_integer::Integer;
 
 impl<T: Copy + Integer> Ratio<T> {
-    /// Of all fractions with a denominator from 1 to `most` the one that lies nearest to this one,
-    /// in lowest terms; of two that lie as near the one with the smaller denominator, and of two
-    /// whole numbers the lesser one. It never fails. So 355/113 with at most 100 is 311/99, and 1/2
-    /// with at most 1 is 0/1.
+    /// The nearest fraction to this one with a denominator from 1 to `most`, in lowest terms. For
+    /// 355/113 and 100 it is 311/99. Of two that are as near, it is the one with the smaller
+    /// denominator, and of two whole numbers the smaller one: for 1/2 and 1 it is 0/1. It never
+    /// fails.
     ///
     /// # Conditions
     ///
-    /// What is proved asks of the caller:
+    /// The proof requires of the caller:
     ///
     /// - `positive`: `pos 0 <ℤ denominator self.now`
     /// - `room`: `pos 0 <ℤ T.value most`

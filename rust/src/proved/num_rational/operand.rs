@@ -1,13 +1,13 @@
 // Erased from crates/num_rational/src/operand.rt by rust/erase: not to be edited.
-//! What may stand on the right of an operator's symbol.
+//! The right operand of an operator's symbol.
 
 use crate::proved::num_rational::ratio::Ratio;
 use crate::proved::ratio_integer::Integer;
 
-/// What may stand on the right of an operator's symbol: a fraction, or a whole number over 1, by
-/// value or behind a reference.
+/// What an operator's symbol takes on its right: a fraction, or a whole number over 1. It may be a
+/// value or a reference.
 pub trait Operand<T: Copy + Integer> {
-    /// The fraction that it is, its fields as they stand.
+    /// The operand as a fraction, its fields as they are.
     fn ratio(self) -> Ratio<T>;
 }
 

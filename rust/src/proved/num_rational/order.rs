@@ -7,11 +7,12 @@ use crate::proved::ratio_integer::Integer;
 use core::cmp::Ordering;
 
 impl<T: Copy + Integer> Ratio<T> {
-    /// How this fraction stands to another one, for denominators of either sign, reduced or not, and
-    /// the divisions that this took. Both sides of `steps` rise by the same number: by 0, and then
-    /// the type holds both cross products of the fields, or by the number of rounds of Euclid's
-    /// algorithm on both fractions side by side. It is at most twice the number of binary digits of
-    /// the smaller denominator.
+    /// How this fraction compares with another one. The denominators may have either sign, and the
+    /// fractions need not be reduced.
+    ///
+    /// Both sides of `steps` rise by the same number. It is 0 if both cross products of the fields
+    /// fit the type. Else it is the number of rounds of Euclid's algorithm on both fractions side by
+    /// side. It is at most twice the number of binary digits of the smaller denominator.
     #[inline]
     pub fn cmp_counted(&self, other: &Self, steps: &mut Steps) -> Ordering {
         crate::proved::ratio_core::cmp_counted(self.numer, self.denom, other.numer, other.denom, steps)
@@ -19,7 +20,8 @@ impl<T: Copy + Integer> Ratio<T> {
 }
 
 impl<T: Copy + Integer> PartialEq for Ratio<T> {
-    /// Whether the values are equal: so for fields in lowest terms, whether the fields are.
+    /// Whether the values are equal: 1/2 and 2/4 are. In lowest terms that is whether the fields are
+    /// equal.
     #[inline]
     fn eq(&self, other: &Ratio<T>) -> bool {
         self.cmp(other).is_eq()
@@ -37,7 +39,7 @@ impl<T: Copy + Integer> PartialOrd for Ratio<T> {
 }
 
 impl<T: Copy + Integer> Ord for Ratio<T> {
-    /// The order by `compare`, which settles what it can before it divides.
+    /// The order, by `compare`, which divides only if it must.
     #[inline]
     fn cmp(&self, other: &Ratio<T>) -> Ordering {
         let (n, d) = (self.numer, self.denom);

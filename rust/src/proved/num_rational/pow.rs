@@ -7,12 +7,12 @@ use crate::proved::ratio_core::{Exponent, pow};
 use crate::proved::ratio_integer::Integer;
 
 impl<T: Copy + Integer> Ratio<T> {
-    /// The reciprocal, its sign above: -3/2 for -2/3. It is not reduced. Only the least number has no
-    /// negative, so that one over it, where it is negative, has no reciprocal.
+    /// The reciprocal, with its sign in the numerator: -3/2 for -2/3. It is not reduced. If the
+    /// numerator is negative, its negative must fit the type. Over `i8`, only -128 has none.
     ///
     /// # Conditions
     ///
-    /// What is proved asks of the caller:
+    /// The proof requires of the caller:
     ///
     /// - `positive`: `pos 0 <ℤ denominator self.now`
     /// - `nonzero`: `numerator self.now ≢ pos 0`
@@ -23,11 +23,11 @@ impl<T: Copy + Integer> Ratio<T> {
         Ratio::new_raw(numer, denom)
     }
 
-    /// The reciprocal, as `recip` gives it.
+    /// The same as `recip`.
     ///
     /// # Conditions
     ///
-    /// What is proved asks of the caller:
+    /// The proof requires of the caller:
     ///
     /// - `positive`: `pos 0 <ℤ denominator self`
     /// - `nonzero`: `numerator self ≢ pos 0`
@@ -37,11 +37,11 @@ impl<T: Copy + Integer> Ratio<T> {
         self.recip()
     }
 
-    /// The power, or `None` where the type does not hold it: see `checked_pow_with`.
+    /// The power, or `None` if it does not fit the type: see `checked_pow_with`.
     ///
     /// # Conditions
     ///
-    /// What is proved asks of the caller:
+    /// The proof requires of the caller:
     ///
     /// - `pos 0 <ℤ denominator self.now`
     #[inline]
@@ -49,11 +49,11 @@ impl<T: Copy + Integer> Ratio<T> {
         self.checked_pow_with(exponent)
     }
 
-    /// The power. The test is `checked_pow`.
+    /// The power. It requires that `checked_pow` returns `Some`.
     ///
     /// # Conditions
     ///
-    /// What is proved asks of the caller:
+    /// The proof requires of the caller:
     ///
     /// - `positive`: `pos 0 <ℤ denominator self.now`
     /// - `answered`: `PowerCondition T.lo T.hi (numerator self.now) (denominator self.now) exponent`
@@ -62,14 +62,17 @@ impl<T: Copy + Integer> Ratio<T> {
         self.checked_pow(exponent).unwrap()
     }
 
-    /// The power: each field to the exponent, and not reduced. It is 1/1 for the exponent 0, also of 0,
-    /// and for a negative one the reciprocal of the power with its magnitude. `None` exactly where one
-    /// of the two powers is not held, and, for a negative exponent, where the numerator is 0 or a sign
-    /// cannot be moved. 0, 1 and -1 answer every exponent at once.
+    /// The power: each field to the exponent, not reduced. For the exponent 0 it is 1/1, also for
+    /// 0/1. For a negative exponent it is the reciprocal of the power with its magnitude: 2/4 to the
+    /// -2 is 16/4.
+    ///
+    /// The call returns `None` exactly if one of the two powers does not fit the type or, for a
+    /// negative exponent, if the numerator is 0 or the sign cannot be moved. All powers of 0/1, 1/1
+    /// and -1/1 fit, but 0 has no negative power.
     ///
     /// # Conditions
     ///
-    /// What is proved asks of the caller:
+    /// The proof requires of the caller:
     ///
     /// - `pos 0 <ℤ denominator self.now`
     #[inline]
@@ -80,11 +83,11 @@ impl<T: Copy + Integer> Ratio<T> {
         }
     }
 
-    /// The power. The test is `checked_pow_with`.
+    /// The power. It requires that `checked_pow_with` returns `Some`.
     ///
     /// # Conditions
     ///
-    /// What is proved asks of the caller:
+    /// The proof requires of the caller:
     ///
     /// - `positive`: `pos 0 <ℤ denominator self.now`
     /// - `answered`: `PowerCondition T.lo T.hi (numerator self.now) (denominator self.now) (E.number exponent)`

@@ -1,15 +1,15 @@
 // Erased from crates/num_rational/src/printing.rt by rust/erase: not to be edited.
-//! Printing fractions by the traits of std.
+//! Printing fractions through the traits of std.
 
 use crate::proved::num_rational::ratio::Ratio;
-use crate::proved::ratio_core::{DecimalText, Form, RatioText};
+use crate::proved::ratio_core::{BaseTenText, Form, RatioText};
 use crate::proved::ratio_integer::Primitive;
 use core::fmt;
 use core::fmt::{Binary, Display, Formatter, LowerHex, Octal, UpperHex, Write};
 
-// Writes a decimal text, whose minus counts as its sign.
+// Writes a text in base 10. A minus at its beginning is its sign.
 #[inline]
-fn write_decimal(text: &str, f: &mut Formatter<'_>) -> fmt::Result {
+fn write_base_ten(text: &str, f: &mut Formatter<'_>) -> fmt::Result {
     match text.strip_prefix('-') {
         Some(digits) => f.pad_integral(false, "", digits),
         None => f.pad_integral(true, "", text),
@@ -31,7 +31,7 @@ fn write_in_base<T: Primitive>(
     f.pad_integral(true, prefix, after_prefix(text, prefix, alternate))
 }
 
-// The text from the end of its prefix on, where it has one.
+// The text without its prefix, if it has one.
 #[inline]
 fn after_prefix<'a>(text: &'a str, prefix: &str, is_there: bool) -> &'a str {
     if !is_there {
@@ -46,9 +46,9 @@ fn after_prefix<'a>(text: &'a str, prefix: &str, is_there: bool) -> &'a str {
 impl<T: Primitive> Display for Ratio<T> {
     #[inline]
     fn fmt(&self, f: &mut Formatter<'_>) -> fmt::Result {
-        let mut text = DecimalText::empty();
-        self.put_decimal_text(&mut text);
-        write_decimal(text.as_str(), f)
+        let mut text = BaseTenText::empty();
+        self.put_base_ten_text(&mut text);
+        write_base_ten(text.as_str(), f)
     }
 }
 

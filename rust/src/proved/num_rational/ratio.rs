@@ -1,12 +1,12 @@
 // Erased from crates/num_rational/src/ratio.rt by rust/erase: not to be edited.
-//! The fraction type, how its values are made, and what their fields are.
+//! The fraction type, the ways to make a fraction, and its fields.
 
 use crate::proved::ratio_core::checked_new;
 use crate::proved::ratio_integer::Integer;
 
-/// A fraction of two numbers of the type `T`, whose denominator is not 0. Its fields are kept as
-/// they were given: `new` and most calls give lowest terms with a positive denominator, `new_raw`
-/// takes any two numbers.
+/// A fraction of two numbers of the type `T`. Its denominator is not 0. The fields are kept as they
+/// are given: `new` and most calls return lowest terms with a positive denominator, but `new_raw`
+/// takes any numerator, and any denominator except 0.
 #[derive(Copy, Debug)]
 pub struct Ratio<T: Copy + Integer> {
     pub(crate) numer: T,
@@ -30,12 +30,12 @@ impl<T: Copy + Integer> Clone for Ratio<T> {
 }
 
 impl<T: Copy + Integer> Ratio<T> {
-    /// The fraction with these fields, as they are given: they are not reduced, and the denominator
+    /// The fraction with these fields, as they are given. They are not reduced, and the denominator
     /// may be negative.
     ///
     /// # Conditions
     ///
-    /// What is proved asks of the caller:
+    /// The proof requires of the caller:
     ///
     /// - `T.value denom ≢ pos 0`
     #[inline]
@@ -43,19 +43,19 @@ impl<T: Copy + Integer> Ratio<T> {
         Ratio { numer, denom }
     }
 
-    /// The numerator and the denominator, as they stand.
+    /// The numerator and the denominator, as they are.
     #[inline]
     pub fn into_raw(self) -> (T, T) {
         (self.numer, self.denom)
     }
 
-    /// The numerator, as it stands.
+    /// The numerator, as it is.
     #[inline]
     pub fn numer(&self) -> &T {
         &self.numer
     }
 
-    /// The denominator, as it stands. It is not 0, but may be negative.
+    /// The denominator, as it is. It is not 0, but it may be negative.
     #[inline]
     pub fn denom(&self) -> &T {
         &self.denom
@@ -70,8 +70,8 @@ impl<T: Copy + Integer> Ratio<T> {
         }
     }
 
-    /// The lowest terms of `n/d`, or `None` where `d` is 0 or the type does not hold them. Over `i8`
-    /// that is `-1/64` for 2 and -128, and `None` for 1 and -128, since it holds no 128.
+    /// The lowest terms of `n/d`, or `None` if `d` is 0 or they do not fit the type. Over `i8`, 2 and
+    /// -128 give -1/64, and 1 and -128 give `None`, since 128 does not fit.
     #[inline]
     pub fn checked_new(n: T, d: T) -> Option<Ratio<T>> {
         match checked_new::checked_new(n, d) {
@@ -80,11 +80,11 @@ impl<T: Copy + Integer> Ratio<T> {
         }
     }
 
-    /// The lowest terms of `n/d`. The test is `checked_new`.
+    /// The lowest terms of `n/d`. It requires that `checked_new` returns `Some`.
     ///
     /// # Conditions
     ///
-    /// What is proved asks of the caller:
+    /// The proof requires of the caller:
     ///
     /// - `Fits T.lo T.hi (T.value n) (T.value d)`
     #[inline]
@@ -92,11 +92,12 @@ impl<T: Copy + Integer> Ratio<T> {
         Ratio::checked_new(n, d).unwrap()
     }
 
-    /// The lowest terms of a numerator and a denominator. The test is `checked_new`.
+    /// The lowest terms of a numerator and a denominator. It requires that `checked_new` returns
+    /// `Some`.
     ///
     /// # Conditions
     ///
-    /// What is proved asks of the caller:
+    /// The proof requires of the caller:
     ///
     /// - `Fits T.lo T.hi (T.value pair.0) (T.value pair.1)`
     #[inline]
@@ -104,12 +105,13 @@ impl<T: Copy + Integer> Ratio<T> {
         Ratio::new(pair.0, pair.1)
     }
 
-    /// The lowest terms of this fraction; reducing twice is reducing once. The test is
-    /// `checked_new` of the fields: it fails only for a negative denominator.
+    /// The lowest terms of this fraction; reducing twice is the same as reducing once. It requires
+    /// that `checked_new` of the fields returns `Some`. That can fail only for a negative
+    /// denominator: over `i8`, for 1/-128.
     ///
     /// # Conditions
     ///
-    /// What is proved asks of the caller:
+    /// The proof requires of the caller:
     ///
     /// - `Fits T.lo T.hi (numerator self.now) (denominator self.now)`
     #[inline]
@@ -141,27 +143,27 @@ impl<T: Copy + Integer> Ratio<T> {
         *self = Ratio::one();
     }
 
-    /// Whether the fraction is 0: its numerator is.
+    /// Whether the fraction is 0, that is, whether its numerator is 0.
     #[inline]
     pub fn is_zero(&self) -> bool {
         self.numer.is_zero()
     }
 
-    /// Whether the fraction is 1: its fields are equal, as those of 2/2 are.
+    /// Whether the fraction is 1, that is, whether its fields are equal. 2/2 is 1, too.
     #[inline]
     pub fn is_one(&self) -> bool {
         self.numer == self.denom
     }
 
-    /// Whether the denominator is 1. So 4/2, as `new_raw` makes it, is none.
+    /// Whether the denominator is 1. So it is false for 4/2, as `new_raw` makes it.
     #[inline]
     pub fn is_integer(&self) -> bool {
         self.denom.is_one()
     }
 }
 
-/// The constants of `Ratio` and of `Reduced`. They stand in a trait, since `ZERO` and `zero` of one type
-/// would differ in case alone.
+/// The constants of `Ratio` and of `Reduced`. They are in a trait, since the names `ZERO` and `zero`
+/// of one type would differ only in case.
 pub trait Constants: Sized {
     /// The fraction 0/1.
     const ZERO: Self;

@@ -1,10 +1,15 @@
 // Erased from crates/num_rational/src/reduced.rt by rust/erase: not to be edited.
-//! The fraction type that is always in lowest terms, how its values are made, and what their fields are.
+//! The fraction type that is always in lowest terms, the ways to make such a fraction, and its fields.
 //!
-//! A contract sees such a fraction as the `Ratio` of its fields, by `ratio_of`. No named call asks anything of its caller.
+//! A contract sees such a fraction as the `Ratio` of its fields, by `ratio_of`. No named call requires anything of its caller,
+//! except `decimal`, at most 38 places, and `round_to`, a positive number of parts.
 
+mod cast;
 mod checked;
+mod continued;
 mod convert;
+mod decimal;
+mod floats;
 mod fold;
 mod hash;
 mod operand;
@@ -13,14 +18,20 @@ mod pow;
 mod printing;
 mod rounding;
 mod sign;
+mod simplest;
 mod text;
 
 use crate::proved::num_rational::ratio::{Constants, Ratio};
 pub use operand::ReducedOperand;
 use crate::proved::ratio_integer::Integer;
 
-/// A fraction of two numbers of the type `T` that is always in lowest terms: the denominator is
-/// positive, and no number above 1 divides both. No named call asks anything of its caller.
+/// A fraction of two numbers of the type `T` that is always in lowest terms: its denominator is
+/// positive, and no number above 1 divides both. No named call requires anything of its caller, except
+/// `decimal`, at most 38 places, and `round_to`, a positive number of parts.
+///
+/// A call returns `None` only if there is no result, as for a divisor 0, or if its lowest terms do not fit
+/// the type. There are two exceptions: `checked_rem`, whose page says for which types, and a sum or product
+/// of a list, which is `None` if one of its steps is.
 #[derive(Copy, Debug)]
 pub struct Reduced<T: Copy + Integer> {
     ratio: Ratio<T>,
@@ -40,8 +51,8 @@ impl<T: Copy + Integer> Clone for Reduced<T> {
 }
 
 impl<T: Copy + Integer> Reduced<T> {
-    /// The lowest terms of `n/d`, or `None` where `d` is 0 or the type does not hold them. Over `i8`
-    /// that is `-1/64` for 2 and -128, and `None` for 1 and -128, since it holds no 128.
+    /// The lowest terms of `n/d`, or `None` if `d` is 0 or they do not fit the type. Over `i8`, 2 and
+    /// -128 give -1/64, and 1 and -128 give `None`, since 128 does not fit.
     #[inline]
     pub fn checked_new(n: T, d: T) -> Option<Reduced<T>> {
         match Ratio::checked_new(n, d) {
@@ -50,7 +61,7 @@ impl<T: Copy + Integer> Reduced<T> {
         }
     }
 
-    /// The lowest terms of a fraction, or `None` where the type does not hold them.
+    /// The lowest terms of a fraction, or `None` if they do not fit the type.
     #[inline]
     pub fn from_ratio(ratio: &Ratio<T>) -> Option<Reduced<T>> {
         Reduced::checked_new(*ratio.numer(), *ratio.denom())
@@ -94,7 +105,7 @@ impl<T: Copy + Integer> Reduced<T> {
         self.ratio.numer()
     }
 
-    /// The denominator, which is positive, and has no common divisor above 1 with the numerator.
+    /// The denominator. It is positive, and has no common divisor above 1 with the numerator.
     #[inline]
     pub fn denom(&self) -> &T {
         self.ratio.denom()

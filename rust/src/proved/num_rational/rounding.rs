@@ -1,19 +1,18 @@
 // Erased from crates/num_rational/src/rounding.rt by rust/erase: not to be edited.
-//! Whole numbers near a fraction, what truncation leaves, and the number as a machine integer.
+//! Whole numbers near a fraction, its fractional part, and its whole part as a machine integer.
 //!
-//! Each call asks for a positive denominator and nothing more: what it answers, and what it forms on the way, the type
-//! holds.
+//! Each call requires only a positive denominator. No step overflows.
 
 use crate::proved::num_rational::ratio::Ratio;
 use crate::proved::ratio_core::rounding;
 use crate::proved::ratio_integer::Integer;
 
 impl<T: Copy + Integer> Ratio<T> {
-    /// The greatest whole number that is not above this fraction, over 1.
+    /// The greatest whole number that is not above this fraction, over 1: -4/1 for -7/2.
     ///
     /// # Conditions
     ///
-    /// What is proved asks of the caller:
+    /// The proof requires of the caller:
     ///
     /// - `pos 0 <ℤ denominator self.now`
     #[inline]
@@ -21,11 +20,11 @@ impl<T: Copy + Integer> Ratio<T> {
         Ratio::from_integer(rounding::floor(self.numer, self.denom))
     }
 
-    /// The least whole number that is not below this fraction, over 1.
+    /// The least whole number that is not below this fraction, over 1: -3/1 for -7/2.
     ///
     /// # Conditions
     ///
-    /// What is proved asks of the caller:
+    /// The proof requires of the caller:
     ///
     /// - `pos 0 <ℤ denominator self.now`
     #[inline]
@@ -33,11 +32,12 @@ impl<T: Copy + Integer> Ratio<T> {
         Ratio::from_integer(rounding::ceil(self.numer, self.denom))
     }
 
-    /// The whole number nearest to this fraction, over 1; a half is rounded away from zero.
+    /// The whole number nearest to this fraction, over 1. A half is rounded away from zero: 5/2 to
+    /// 3/1.
     ///
     /// # Conditions
     ///
-    /// What is proved asks of the caller:
+    /// The proof requires of the caller:
     ///
     /// - `pos 0 <ℤ denominator self.now`
     #[inline]
@@ -45,11 +45,11 @@ impl<T: Copy + Integer> Ratio<T> {
         Ratio::from_integer(rounding::round(self.numer, self.denom))
     }
 
-    /// The whole number next to this fraction towards zero, over 1.
+    /// This fraction cut towards zero, over 1: -3/1 for -7/2.
     ///
     /// # Conditions
     ///
-    /// What is proved asks of the caller:
+    /// The proof requires of the caller:
     ///
     /// - `pos 0 <ℤ denominator self.now`
     #[inline]
@@ -57,12 +57,12 @@ impl<T: Copy + Integer> Ratio<T> {
         Ratio::from_integer(self.to_integer())
     }
 
-    /// What `trunc` leaves of this fraction. The denominator is kept, so 4/2, as `new_raw` makes it,
-    /// leaves 0/2.
+    /// This fraction minus its `trunc`: -1/2 for -7/2. The denominator is kept: 4/2, as `new_raw`
+    /// makes it, gives 0/2.
     ///
     /// # Conditions
     ///
-    /// What is proved asks of the caller:
+    /// The proof requires of the caller:
     ///
     /// - `pos 0 <ℤ denominator self.now`
     #[inline]
@@ -70,11 +70,11 @@ impl<T: Copy + Integer> Ratio<T> {
         Ratio::new_raw(rounding::fract(self.numer, self.denom), self.denom)
     }
 
-    /// The whole number next to this fraction towards zero.
+    /// This fraction cut towards zero: -3 for -7/2.
     ///
     /// # Conditions
     ///
-    /// What is proved asks of the caller:
+    /// The proof requires of the caller:
     ///
     /// - `pos 0 <ℤ denominator self.now`
     #[inline]
@@ -82,11 +82,11 @@ impl<T: Copy + Integer> Ratio<T> {
         rounding::to_integer(self.numer, self.denom)
     }
 
-    /// The whole number of `trunc` as an `i64`, or `None` where that type does not hold it.
+    /// This fraction cut towards zero, as an `i64`, or `None` if that does not fit an `i64`.
     ///
     /// # Conditions
     ///
-    /// What is proved asks of the caller:
+    /// The proof requires of the caller:
     ///
     /// - `pos 0 <ℤ denominator self.now`
     #[inline]
@@ -94,11 +94,11 @@ impl<T: Copy + Integer> Ratio<T> {
         rounding::to_i64(self.numer, self.denom)
     }
 
-    /// The whole number of `trunc` as an `i128`, or `None` where that type does not hold it.
+    /// This fraction cut towards zero, as an `i128`, or `None` if that does not fit an `i128`.
     ///
     /// # Conditions
     ///
-    /// What is proved asks of the caller:
+    /// The proof requires of the caller:
     ///
     /// - `pos 0 <ℤ denominator self.now`
     #[inline]
@@ -106,12 +106,12 @@ impl<T: Copy + Integer> Ratio<T> {
         rounding::to_i128(self.numer, self.denom)
     }
 
-    /// The whole number of `trunc` as a `u64`, or `None` where that type does not hold it. That of -1/2
-    /// is 0.
+    /// This fraction cut towards zero, as a `u64`, or `None` if that does not fit a `u64`. It is 0
+    /// for -1/2.
     ///
     /// # Conditions
     ///
-    /// What is proved asks of the caller:
+    /// The proof requires of the caller:
     ///
     /// - `pos 0 <ℤ denominator self.now`
     #[inline]
@@ -119,11 +119,11 @@ impl<T: Copy + Integer> Ratio<T> {
         rounding::to_u64(self.numer, self.denom)
     }
 
-    /// The whole number of `trunc` as a `u128`, or `None` where that type does not hold it.
+    /// This fraction cut towards zero, as a `u128`, or `None` if that does not fit a `u128`.
     ///
     /// # Conditions
     ///
-    /// What is proved asks of the caller:
+    /// The proof requires of the caller:
     ///
     /// - `pos 0 <ℤ denominator self.now`
     #[inline]

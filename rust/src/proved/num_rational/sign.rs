@@ -1,5 +1,5 @@
 // Erased from crates/num_rational/src/sign.rt by rust/erase: not to be edited.
-//! Signs of fractions, also by the symbol `-`. All but `abs_sub` take denominators of either sign.
+//! Signs of fractions, and the symbol `-`. A denominator may have either sign, except in `abs_sub`.
 
 use crate::proved::num_rational::ratio::Ratio;
 use crate::proved::ratio_core::sign;
@@ -7,12 +7,12 @@ use crate::proved::ratio_integer::SignedInteger;
 use core::ops::Neg;
 
 impl<T: Copy + SignedInteger> Ratio<T> {
-    /// The negative, over the same denominator; also by the symbol `-`. Only the least number has no
-    /// negative.
+    /// The negative, over the same denominator, also by the symbol `-`. The negative of the numerator
+    /// must fit the type. Over `i8`, only -128 has none.
     ///
     /// # Conditions
     ///
-    /// What is proved asks of the caller:
+    /// The proof requires of the caller:
     ///
     /// - `IsHeld T.lo T.hi (neg_ℤ (numerator self))`
     #[inline]
@@ -20,11 +20,11 @@ impl<T: Copy + SignedInteger> Ratio<T> {
         Ratio::new_raw(sign::neg(self.numer), self.denom)
     }
 
-    /// The absolute value, over the same denominator: that of 1/-2 is -1/-2.
+    /// The absolute value, over the same denominator: -1/-2 for 1/-2.
     ///
     /// # Conditions
     ///
-    /// What is proved asks of the caller:
+    /// The proof requires of the caller:
     ///
     /// - `IsNegative (numerator self.now) (denominator self.now) → IsHeld T.lo T.hi (neg_ℤ (numerator self.now))`
     #[inline]
@@ -32,12 +32,12 @@ impl<T: Copy + SignedInteger> Ratio<T> {
         Ratio::new_raw(sign::abs(self.numer, self.denom), self.denom)
     }
 
-    /// The difference in lowest terms where this fraction is above the other one, and 0/1 where it is
-    /// not. Where it is above, the test is `checked_sub`.
+    /// The difference in lowest terms if this fraction is above the other one, and else 0/1. If it is
+    /// above, the call requires that `checked_sub` returns `Some`.
     ///
     /// # Conditions
     ///
-    /// What is proved asks of the caller:
+    /// The proof requires of the caller:
     ///
     /// - `left_positive`: `pos 0 <ℤ denominator self.now`
     /// - `right_positive`: `pos 0 <ℤ denominator other.now`

@@ -1,15 +1,14 @@
 // Erased from crates/ratio_core/src/checked_new.rt by rust/erase: not to be edited.
-//! The lowest terms of a fraction, where the type holds them.
+//! The lowest terms of a fraction, if they fit the type.
 
-use crate::proved::ratio_integer::{Integer, cancelled};
+use crate::proved::ratio_integer::{Integer, both_held, cancelled};
 
-/// The lowest terms of `n/d`, or `None` where `d` is 0 or the type does not hold them. Either
-/// number may be the least one.
+/// The lowest terms of `n/d`, or `None` if `d` is 0 or they do not fit the type. Over `i8`, 6/-4 gives -3/2,
+/// and -128/-1 gives `None`. Either number may be the least one.
 #[inline]
 pub fn checked_new<T: Integer>(n: T, d: T) -> Option<(T, T)> {
     if d.is_one() {
-        let _ = n.held();
-        let _ = d.held();
+        both_held(n, d);
         return Some((n, d));
     }
     if d.is_zero() {
@@ -18,7 +17,7 @@ pub fn checked_new<T: Integer>(n: T, d: T) -> Option<(T, T)> {
     if n.is_zero() {
         return Some((T::ZERO, T::ONE));
     }
-    // The greatest common divisor of the least number and itself may not be held.
+    // The gcd of the least number and itself may not fit the type.
     if n == d {
         return Some((T::ONE, T::ONE));
     }
@@ -26,7 +25,7 @@ pub fn checked_new<T: Integer>(n: T, d: T) -> Option<(T, T)> {
     sign_moved(numer, denom)
 }
 
-// The same fraction with a positive denominator, or `None` where the type does not hold it.
+// The same fraction with a positive denominator, or `None` if it does not fit the type.
 #[inline]
 fn sign_moved<T: Integer>(a: T, b: T) -> Option<(T, T)> {
     if b < T::ZERO {
@@ -38,8 +37,7 @@ fn sign_moved<T: Integer>(a: T, b: T) -> Option<(T, T)> {
             },
         }
     } else {
-        let _ = a.held();
-        let _ = b.held();
+        both_held(a, b);
         Some((a, b))
     }
 }

@@ -1,13 +1,14 @@
 // Erased from crates/ratio_core/src/exponent.rt by rust/erase: not to be edited.
-//! Whole numbers that may stand as an exponent.
+// Written by templates/write from templates/exponent.rt.txt: change that file, and write this one anew.
+//! Whole numbers that may be an exponent.
 
-/// A value that stands for one whole number, of a magnitude below 2^128. The twelve primitive integer
-/// types and references to them are such.
+/// A whole number that may be an exponent, of a magnitude below 2^128. The
+/// twelve primitive integer types and references to them implement it.
 pub trait Exponent: Copy {
     /// Whether the number is below 0.
     fn is_below_zero(&self) -> bool;
 
-    /// The number without its sign, exact also for the least value of a type: 2^31 for `i32::MIN`.
+    /// The number without its sign, also for the least value of a type: 2^31 for `i32::MIN`.
     fn magnitude(&self) -> u128;
 }
 

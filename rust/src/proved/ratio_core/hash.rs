@@ -1,33 +1,33 @@
 // Erased from crates/ratio_core/src/hash.rt by rust/erase: not to be edited.
-//! The codes by which a fraction is hashed, over its fields.
+//! The codes by which a fraction is hashed.
 
 use crate::proved::ratio_core::code_list::CodeList;
 use crate::proved::ratio_core::order::dividing::{divide_left, is_above_max};
 use crate::proved::ratio_core::steps::Steps;
-use crate::proved::ratio_integer::Integer;
+use crate::proved::ratio_integer::{Integer, both_held};
 
-/// Hands the codes of `n/d` to `list`: the quotients of its continued fraction, then 0. The quotient
-/// `hi + 1`, which the type does not hold, stands as the least number, twice. Fractions of one value
-/// have one list of codes, for denominators of either sign, reduced or not, and other fractions have
-/// others.
+/// Hands the codes of `n/d` to `list`: the quotients of its continued fraction, and then 0. The codes of 7/3
+/// are 2, 3 and 0. The quotient `hi + 1`, which does not fit the type, is written as the least number, twice.
+///
+/// Fractions of the same value have the same codes, reduced or not, with a denominator of either sign.
+/// Fractions of different values have different codes.
 ///
 /// # Conditions
 ///
-/// What is proved asks of the caller:
+/// The proof requires of the caller:
 ///
 /// - `T.value d ≢ pos 0`
 #[inline]
 pub fn hash_counted<T: Integer, L: CodeList<T>>(n: T, d: T, list: &mut L, steps: &mut Steps) {
-    let _ = n.held();
-    let _ = d.held();
+    both_held(n, d);
     take_codes(n, d, list, steps);
 }
 
-/// Euclid's algorithm, each quotient handed to `list`.
+/// Euclid's algorithm: hands each quotient to `list`.
 ///
 /// # Conditions
 ///
-/// What is proved asks of the caller:
+/// The proof requires of the caller:
 ///
 /// - `T.value d ≢ pos 0`
 #[inline]
@@ -37,7 +37,6 @@ fn take_codes<T: Integer, L: CodeList<T>>(n: T, d: T, list: &mut L, steps: &mut 
     while !is_above_max(numer, denom) {
         // A number over 1 is its own quotient: a step without a division.
         if denom.is_one() {
-            let _ = numer.held();
             steps.tick_left();
             list.take(numer);
             list.take(T::ZERO);
@@ -57,7 +56,7 @@ fn take_codes<T: Integer, L: CodeList<T>>(n: T, d: T, list: &mut L, steps: &mut 
     list.take(T::ZERO);
 }
 
-/// Hands both to `list`.
+/// Hands both to `list`, in this order.
 #[inline]
 fn take_both<T: Integer, L: CodeList<T>>(list: &mut L, first: T, second: T) {
     list.take(first);

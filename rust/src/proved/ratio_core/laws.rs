@@ -1,36 +1,50 @@
 // Erased from crates/ratio_core/src/laws.rt by rust/erase: not to be edited.
-//! The laws of sums and products: each function's contract is the law, and it does nothing. An
-//! answer of `checked_add` or `checked_mul` is the sum or the product that they speak of.
+//! The laws of this crate. Each function does nothing: its contract is the law. If `checked_add` or
+//! `checked_mul` returns `Some`, that is a sum or a product as the laws mean it.
 
-/// Sums in lowest terms.
+/// Laws of sums in lowest terms.
 #[inline]
 pub fn sums() {}
 
-/// Products in lowest terms.
+/// Laws of products in lowest terms.
 #[inline]
 pub fn products() {}
 
-/// What sums and differences ask.
+/// Laws of what sums and differences require.
 #[inline]
 pub fn conditions() {}
 
-/// Whole numbers near a fraction: each fraction has one floor, one ceiling, one truncation and one
-/// rounded value.
+/// Each fraction has exactly one floor, one ceiling, one truncation and one rounded value. The ceiling is the floor or
+/// one more.
 #[inline]
 pub fn roundings() {}
 
-/// They turn on the value of a fraction alone, reduced or not.
+/// These depend only on the value of a fraction, reduced or not: the floor of 7/2 and of 14/4 is 3.
 #[inline]
 pub fn roundings_by_value() {}
 
-/// Reciprocals and powers.
+/// By each rule, a fraction has exactly one rounded value. It depends only on the fraction's value, is less than 1
+/// away, and never falls as the fraction grows. `HalfAway` and `HalfEven` differ only at a tie, such as 5/2.
+#[inline]
+pub fn rounding_rules() {}
+
+/// Laws of reciprocals and powers.
 #[inline]
 pub fn powers() {}
 
-/// A fraction is the sum of its two parts, and this sum is always answered.
+/// A fraction is the sum of its two parts, and this sum is always `Some`.
 #[inline]
 pub fn parts() {}
 
-/// The nearest fraction with a bounded denominator, as `nearest` answers it.
+/// Laws of the nearest fraction with a bounded denominator, which `nearest` returns.
 #[inline]
 pub fn nearest_fractions() {}
+
+/// Laws of the fraction with given quotients, which `from_quotients` returns. It is in lowest terms, and the
+/// quotients of a fraction in lowest terms give it back: those of 415/93 are 4, 2, 6 and 7.
+#[inline]
+pub fn fractions_of_quotients() {}
+
+/// Laws of the simplest fraction strictly between two others, which `simplest_between` returns.
+#[inline]
+pub fn simplest_fractions() {}

@@ -1,19 +1,19 @@
 // Erased from crates/ratio_core/src/nearest.rt by rust/erase: not to be edited.
-//! The nearest fraction whose denominator is at most a bound, over the two numbers of each.
+//! The nearest fraction whose denominator is at most a bound.
 mod neighbour;
 
 use crate::proved::ratio_core::nearest::neighbour::{Neighbour, first_of, moved, steps_towards};
 use crate::proved::ratio_core::order::dividing::divide_left;
 use crate::proved::ratio_core::steps::Steps;
-use crate::proved::ratio_integer::Integer;
+use crate::proved::ratio_integer::{Integer, both_held};
 
-/// Of all fractions with a denominator from 1 to `most` the one that lies nearest to `n/d`, in
-/// lowest terms; of two that lie as near the one with the smaller denominator, and of two whole
-/// numbers the lesser one.
+/// The nearest fraction to `n/d` with a denominator from 1 to `most`, in lowest terms.
+/// For 355/113 and 10 it is 22/7. Of two that are as near, it is the one with the smaller
+/// denominator, and of two whole numbers the smaller one: for 1/2 and 1 it is 0/1.
 ///
 /// # Conditions
 ///
-/// What is proved asks of the caller:
+/// The proof requires of the caller:
 ///
 /// - `positive`: `pos 0 <ℤ T.value d`
 /// - `room`: `pos 0 <ℤ T.value most`
@@ -22,22 +22,22 @@ pub fn nearest<T: Integer>(n: T, d: T, most: T) -> (T, T) {
     nearest_counted(n, d, most, &mut Steps::new())
 }
 
-/// The same, by Euclid's algorithm, with every division counted: the left side divides what is left
-/// of `n/d`, the right side the room below `most`. The right side divides once for each convergent of
-/// `n/d`, other than `n/d` itself, whose denominator is at most `most`, and the left side once more.
-/// The convergents before 355/113 are 3/1 and 22/7: where `most` is 50, the left side divides three
-/// times and the right side twice. Each divides at most twice as often as `d` has binary digits.
+/// The same by Euclid's algorithm, counting each division. The left side divides the rests of `n/d`, and the
+/// right side divides the room below `most`.
+///
+/// The right side divides once for each convergent of `n/d` with a denominator of at most `most`, except for `n/d` itself.
+/// The left side divides once more. For example, the convergents before 355/113 are 3/1 and 22/7. If `most` is 50, the
+/// left side divides three times, and the right side twice. Each side divides at most twice for each binary digit of `d`.
 ///
 /// # Conditions
 ///
-/// What is proved asks of the caller:
+/// The proof requires of the caller:
 ///
 /// - `positive`: `pos 0 <ℤ T.value d`
 /// - `room`: `pos 0 <ℤ T.value most`
 #[inline]
 pub fn nearest_counted<T: Integer>(n: T, d: T, most: T, steps: &mut Steps) -> (T, T) {
-    let _ = n.held();
-    let _ = d.held();
+    both_held(n, d);
     let _ = most.held();
     let (floor, rest) = divide_left(n, d, steps);
     if rest.is_zero() {

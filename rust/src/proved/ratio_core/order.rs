@@ -1,5 +1,5 @@
 // Erased from crates/ratio_core/src/order.rt by rust/erase: not to be edited.
-//! The order of fractions, over their fields.
+//! Comparing fractions.
 mod comparing;
 pub(crate) mod dividing;
 mod following;

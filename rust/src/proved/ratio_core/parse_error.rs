@@ -8,20 +8,21 @@ use core::fmt;
 /// What is wrong with a text.
 #[derive(Clone, Copy, PartialEq, Debug)]
 pub enum RatioErrorKind {
-    /// It writes no fraction of numbers that the type holds, or one whose lowest terms it does not hold.
+    /// The text is not a fraction of numbers that fit the type, or its lowest
+    /// terms do not fit. Over `i8`: `x`, `128` and `1/-128`.
     ParseError = 1,
-    /// It writes a fraction of such numbers, with the denominator 0.
+    /// The text is a fraction of numbers that fit the type, and its denominator is 0: `1/0`.
     ZeroDenominator = 2,
 }
 
-/// The refusal of a text. A contract sees it as its kind.
+/// The refusal of a text. Contracts see its kind.
 #[derive(Clone, Copy, PartialEq, Debug)]
 pub struct ParseRatioError {
     kind: RatioErrorKind,
 }
 
 impl ParseRatioError {
-    /// The refusal of this kind.
+    /// A refusal of this kind.
     #[inline]
     pub fn new(kind: RatioErrorKind) -> ParseRatioError {
         ParseRatioError { kind }

@@ -1,21 +1,20 @@
 // Erased from crates/ratio_core/src/products.rt by rust/erase: not to be edited.
-//! Products and quotients in lowest terms, answered exactly where the type holds these.
+//! Products and quotients in lowest terms, which are `Some` exactly if these fit the type.
 //!
-//! Where both products of the fields are held, one greatest common divisor finishes them. Where one
-//! is not, the operands are brought to lowest terms and cancelled across, and a sign is moved before
-//! anything is multiplied: then the products are the lowest terms, and only these must be held.
+//! If both products of the fields fit, one gcd reduces them. Else the operands are reduced and cancelled
+//! across, and a sign is moved, before anything is multiplied. The products are then the lowest terms, so
+//! only these must fit. Over `i8`, 100/3 times 3/100 is 1/1.
 pub mod lowest;
 
 use crate::proved::ratio_core::checked_new::checked_new;
 use crate::proved::ratio_core::products::lowest::{crossed_product, crossed_quotient};
 use crate::proved::ratio_integer::{Integer, lowest_terms};
 
-/// The lowest terms of `a/b * c/d`, or `None` where the type does not hold them. The fractions need
-/// not be reduced.
+/// The lowest terms of `a/b * c/d`, or `None` if they do not fit the type. The fractions need not be reduced.
 ///
 /// # Conditions
 ///
-/// What is proved asks of the caller:
+/// The proof requires of the caller:
 ///
 /// - `left_positive`: `pos 0 <ℤ T.value b`
 /// - `right_positive`: `pos 0 <ℤ T.value d`
@@ -29,12 +28,12 @@ pub fn checked_mul<T: Integer>(a: T, b: T, c: T, d: T) -> Option<(T, T)> {
     cancelled_product(a, b, c, d)
 }
 
-/// The lowest terms of `a/b` divided by `c/d`, or `None` where `c` is 0 or the type does not hold
-/// them. The fractions need not be reduced.
+/// The lowest terms of `a/b` divided by `c/d`, or `None` if `c` is 0 or they do
+/// not fit the type. The fractions need not be reduced.
 ///
 /// # Conditions
 ///
-/// What is proved asks of the caller:
+/// The proof requires of the caller:
 ///
 /// - `left_positive`: `pos 0 <ℤ T.value b`
 /// - `right_positive`: `pos 0 <ℤ T.value d`
@@ -48,11 +47,11 @@ pub fn checked_div<T: Integer>(a: T, b: T, c: T, d: T) -> Option<(T, T)> {
     cancelled_quotient(a, b, c, d)
 }
 
-/// The lowest terms of `a/b * c/d`. The test is `checked_mul`.
+/// The lowest terms of `a/b * c/d`. It requires that `checked_mul` returns `Some`.
 ///
 /// # Conditions
 ///
-/// What is proved asks of the caller:
+/// The proof requires of the caller:
 ///
 /// - `left_positive`: `pos 0 <ℤ T.value b`
 /// - `right_positive`: `pos 0 <ℤ T.value d`
@@ -65,11 +64,11 @@ pub fn mul<T: Integer>(a: T, b: T, c: T, d: T) -> (T, T) {
     }
 }
 
-/// The lowest terms of `a/b` divided by `c/d`. The test is `checked_div`.
+/// The lowest terms of `a/b` divided by `c/d`. It requires that `checked_div` returns `Some`.
 ///
 /// # Conditions
 ///
-/// What is proved asks of the caller:
+/// The proof requires of the caller:
 ///
 /// - `left_positive`: `pos 0 <ℤ T.value b`
 /// - `right_positive`: `pos 0 <ℤ T.value d`
@@ -82,7 +81,7 @@ pub fn div<T: Integer>(a: T, b: T, c: T, d: T) -> (T, T) {
     }
 }
 
-// The same product, cancelled before it is multiplied.
+// The product, cancelled before it is multiplied.
 #[inline]
 fn cancelled_product<T: Integer>(a: T, b: T, c: T, d: T) -> Option<(T, T)> {
     let (a, b) = lowest_terms(a, b);
@@ -90,7 +89,7 @@ fn cancelled_product<T: Integer>(a: T, b: T, c: T, d: T) -> Option<(T, T)> {
     crossed_product(a, b, c, d)
 }
 
-// The same quotient, cancelled before it is multiplied.
+// The quotient, cancelled before it is multiplied.
 #[inline]
 fn cancelled_quotient<T: Integer>(a: T, b: T, c: T, d: T) -> Option<(T, T)> {
     let (a, b) = lowest_terms(a, b);

@@ -1,16 +1,21 @@
 // Erased from crates/ratio_core/src/remainder.rt by rust/erase: not to be edited.
-//! What one fraction leaves of another, in lowest terms.
+//! The remainder of one fraction by another, in lowest terms.
+
+pub mod lowest;
+mod wide;
 
 use crate::proved::ratio_core::scaling::scaled;
 use crate::proved::ratio_integer::{Integer, lowest_terms};
 
-/// The lowest terms of `x - t*y`, where `x` is `a/b`, `y` is `c/d` and `t` is their quotient cut
-/// towards zero: 0, or of the sign of `x` and nearer to 0 than `y`. `None` exactly where `c` is 0, or
-/// the least common denominator or a numerator over it is not held; the fields count as they stand.
+/// The lowest terms of `x - t*y`. Here `x` is `a/b`, `y` is `c/d`, and `t` is their quotient cut towards
+/// zero: 3/4 by 1/2 leaves 1/4. The remainder is 0 or has the sign of `x`, and it is nearer to 0 than `y`.
+///
+/// The call returns `None` exactly if `c` is 0, or if the least common denominator or a numerator over it
+/// does not fit the type. The fields are taken as they are, not reduced.
 ///
 /// # Conditions
 ///
-/// What is proved asks of the caller:
+/// The proof requires of the caller:
 ///
 /// - `left_positive`: `pos 0 <ℤ T.value b`
 /// - `right_positive`: `pos 0 <ℤ T.value d`
@@ -23,11 +28,11 @@ pub fn checked_rem<T: Integer>(a: T, b: T, c: T, d: T) -> Option<(T, T)> {
     Some(lowest_terms(truncated_rest(left, right), common))
 }
 
-/// The lowest terms of what `a/b` divided by `c/d` and cut towards zero leaves. The test is `checked_rem`.
+/// The remainder that `checked_rem` returns. It requires that `checked_rem` returns `Some`.
 ///
 /// # Conditions
 ///
-/// What is proved asks of the caller:
+/// The proof requires of the caller:
 ///
 /// - `left_positive`: `pos 0 <ℤ T.value b`
 /// - `right_positive`: `pos 0 <ℤ T.value d`
@@ -40,10 +45,9 @@ pub fn rem<T: Integer>(a: T, b: T, c: T, d: T) -> (T, T) {
     }
 }
 
-// The remainder of division cut towards zero. The least number may not be divided by -1.
+// The remainder of a division cut towards zero. Dividing the least number by -1 may overflow, so -1 is set aside.
 #[inline]
 fn truncated_rest<T: Integer>(p: T, q: T) -> T {
-    let _ = p.held();
     let _ = q.held();
     if q < T::ZERO && q.plus(T::ONE).is_zero() {
         return T::ZERO;

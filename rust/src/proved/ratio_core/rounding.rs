@@ -1,17 +1,17 @@
 // Erased from crates/ratio_core/src/rounding.rt by rust/erase: not to be edited.
-//! Whole numbers near a fraction, and the number as a machine integer.
+//! Whole numbers near a fraction, and its whole part as a machine integer.
 //!
-//! Each call asks for a positive denominator and nothing more. It divides once, and what it forms lies
-//! between the ends of the type: nothing is doubled, and nothing is added before the division.
+//! Each call requires only a positive denominator. It divides once, and no step overflows: nothing is
+//! doubled, and nothing is added before the division.
 
 use crate::proved::ratio_core::sign::{is_above_zero, is_below_zero};
 use crate::proved::ratio_integer::Integer;
 
-/// The greatest whole number that is not above `n/d`.
+/// The greatest whole number that is not above `n/d`: -4 for -7/2.
 ///
 /// # Conditions
 ///
-/// What is proved asks of the caller:
+/// The proof requires of the caller:
 ///
 /// - `pos 0 <ℤ T.value d`
 #[inline]
@@ -24,11 +24,11 @@ pub fn floor<T: Integer>(n: T, d: T) -> T {
     }
 }
 
-/// The least whole number that is not below `n/d`.
+/// The least whole number that is not below `n/d`: -3 for -7/2.
 ///
 /// # Conditions
 ///
-/// What is proved asks of the caller:
+/// The proof requires of the caller:
 ///
 /// - `pos 0 <ℤ T.value d`
 #[inline]
@@ -41,11 +41,11 @@ pub fn ceil<T: Integer>(n: T, d: T) -> T {
     }
 }
 
-/// The whole number next to `n/d` towards zero.
+/// `n/d` cut towards zero: -3 for -7/2.
 ///
 /// # Conditions
 ///
-/// What is proved asks of the caller:
+/// The proof requires of the caller:
 ///
 /// - `pos 0 <ℤ T.value d`
 #[inline]
@@ -53,11 +53,11 @@ pub fn trunc<T: Integer>(n: T, d: T) -> T {
     cut(n, d).0
 }
 
-/// The whole number nearest to `n/d`; a half is rounded away from zero.
+/// The whole number nearest to `n/d`. A half is rounded away from zero: 5/2 to 3.
 ///
 /// # Conditions
 ///
-/// What is proved asks of the caller:
+/// The proof requires of the caller:
 ///
 /// - `pos 0 <ℤ T.value d`
 #[inline]
@@ -72,11 +72,11 @@ pub fn round<T: Integer>(n: T, d: T) -> T {
     }
 }
 
-/// The numerator of what `trunc` leaves, over the same denominator: 0 or of the sign of `n`.
+/// The numerator, over `d`, of `n/d` minus its `trunc`: -1 for -7/2. It is 0 or has the sign of `n`.
 ///
 /// # Conditions
 ///
-/// What is proved asks of the caller:
+/// The proof requires of the caller:
 ///
 /// - `pos 0 <ℤ T.value d`
 #[inline]
@@ -84,11 +84,11 @@ pub fn fract<T: Integer>(n: T, d: T) -> T {
     cut(n, d).1
 }
 
-/// The whole number of `trunc`.
+/// The same as `trunc`.
 ///
 /// # Conditions
 ///
-/// What is proved asks of the caller:
+/// The proof requires of the caller:
 ///
 /// - `pos 0 <ℤ T.value d`
 #[inline]
@@ -96,11 +96,11 @@ pub fn to_integer<T: Integer>(n: T, d: T) -> T {
     trunc(n, d)
 }
 
-/// The whole number of `trunc` as an `i64`, or `None` where that type does not hold it.
+/// `trunc` as an `i64`, or `None` if it does not fit that type.
 ///
 /// # Conditions
 ///
-/// What is proved asks of the caller:
+/// The proof requires of the caller:
 ///
 /// - `pos 0 <ℤ T.value d`
 #[inline]
@@ -108,11 +108,11 @@ pub fn to_i64<T: Integer>(n: T, d: T) -> Option<i64> {
     i64::from_i128(trunc(n, d).to_i128()?)
 }
 
-/// The whole number of `trunc` as an `i128`, or `None` where that type does not hold it.
+/// `trunc` as an `i128`, or `None` if it does not fit that type.
 ///
 /// # Conditions
 ///
-/// What is proved asks of the caller:
+/// The proof requires of the caller:
 ///
 /// - `pos 0 <ℤ T.value d`
 #[inline]
@@ -120,11 +120,11 @@ pub fn to_i128<T: Integer>(n: T, d: T) -> Option<i128> {
     trunc(n, d).to_i128()
 }
 
-/// The whole number of `trunc` as a `u64`, or `None` where that type does not hold it.
+/// `trunc` as a `u64`, or `None` if it does not fit that type.
 ///
 /// # Conditions
 ///
-/// What is proved asks of the caller:
+/// The proof requires of the caller:
 ///
 /// - `pos 0 <ℤ T.value d`
 #[inline]
@@ -132,11 +132,11 @@ pub fn to_u64<T: Integer>(n: T, d: T) -> Option<u64> {
     u64::from_u128(trunc(n, d).to_u128()?)
 }
 
-/// The whole number of `trunc` as a `u128`, or `None` where that type does not hold it.
+/// `trunc` as a `u128`, or `None` if it does not fit that type.
 ///
 /// # Conditions
 ///
-/// What is proved asks of the caller:
+/// The proof requires of the caller:
 ///
 /// - `pos 0 <ℤ T.value d`
 #[inline]
@@ -144,15 +144,15 @@ pub fn to_u128<T: Integer>(n: T, d: T) -> Option<u128> {
     trunc(n, d).to_u128()
 }
 
-// The quotient cut towards zero and what it leaves. By a positive number each number of the type may be divided.
+// The quotient cut towards zero, and the rest. A division by a positive number never overflows.
 #[inline]
 fn cut<T: Integer>(n: T, d: T) -> (T, T) {
     let _ = n.held();
     n.div_rem(d)
 }
 
-// Whether a part of the denominator is less than half of it. Twice the part may not be held, so it is compared with what
-// lacks.
+// Whether twice `part` is nearer to 0 than `d`. Twice `part` may not fit the
+// type, so we compare `part` with the rest of `d`.
 #[inline]
 fn is_below_half<T: Integer>(part: T, d: T) -> bool {
     let _ = d.held();
@@ -163,13 +163,11 @@ fn is_below_half<T: Integer>(part: T, d: T) -> bool {
     }
 }
 
-// The whole number before.
 #[inline]
 fn previous<T: Integer>(whole: T) -> T {
     whole.minus(T::ONE)
 }
 
-// The whole number after.
 #[inline]
 fn next<T: Integer>(whole: T) -> T {
     whole.plus(T::ONE)

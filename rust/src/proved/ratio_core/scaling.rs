@@ -1,27 +1,29 @@
 // Erased from crates/ratio_core/src/scaling.rt by rust/erase: not to be edited.
 //! Two fractions over their least common denominator.
 
-use crate::proved::ratio_integer::{Integer, lowest_terms};
+use crate::proved::ratio_integer::{Integer, both_held, lowest_terms};
 
-/// The numerators of `a/b` and `c/d` over their least common denominator, and that, or `None` where
-/// one of the three is not held. The fields count as they stand: equal denominators, and those
-/// without a common divisor, cost no division.
+/// The numerators of `a/b` and `c/d` over their least common denominator, and then this denominator. For 3/4
+/// and 1/6 they are 9, 2 and 12. `None` if one of the three does not fit the type.
+///
+/// The fields are taken as they are, not reduced. Equal denominators cost no
+/// division. Those without a common divisor cost only the gcd.
 ///
 /// # Conditions
 ///
-/// What is proved asks of the caller:
+/// The proof requires of the caller:
 ///
 /// - `left_positive`: `pos 0 <ℤ T.value b`
 /// - `right_positive`: `pos 0 <ℤ T.value d`
 #[inline]
 pub(crate) fn scaled<T: Integer>(a: T, b: T, c: T, d: T) -> Option<(T, T, T)> {
     if b == d {
-        let _ = a.held();
-        let _ = b.held();
+        both_held(a, b);
         let _ = c.held();
         return Some((a, c, b));
     }
-    // b/d in lowest terms: each is what the other fraction lacks.
+    // Each fraction is expanded by the other's part of b/d in lowest terms. For
+    // 3/4 and 1/6, 4/6 is 2/3: 3/4 by 3, and 1/6 by 2.
     let (for_right, for_left) = lowest_terms(b, d);
     Some((
         a.try_times(for_left)?,

@@ -1,5 +1,5 @@
 // Erased from crates/ratio_core/src/sign.rt by rust/erase: not to be edited.
-//! Signs of fractions, for denominators of either sign, and of numbers.
+//! Signs of fractions and of numbers. A denominator may have either sign.
 
 use crate::proved::ratio_core::order::compare;
 use crate::proved::ratio_core::steps::Steps;
@@ -7,11 +7,11 @@ use crate::proved::ratio_core::sums::sub;
 use crate::proved::ratio_integer::{Integer, SignedInteger};
 use core::cmp::Ordering;
 
-/// The numerator of the negative, over the same denominator.
+/// The numerator of the negative fraction, over the same denominator.
 ///
 /// # Conditions
 ///
-/// What is proved asks of the caller:
+/// The proof requires of the caller:
 ///
 /// - `IsHeld T.lo T.hi (neg_ℤ (T.value n))`
 #[inline]
@@ -19,11 +19,11 @@ pub fn neg<T: SignedInteger>(n: T) -> T {
     n.negate()
 }
 
-/// The numerator of the absolute value, over the same denominator.
+/// The numerator of the absolute value, over the same denominator: -1 for 1/-2.
 ///
 /// # Conditions
 ///
-/// What is proved asks of the caller:
+/// The proof requires of the caller:
 ///
 /// - `nonzero`: `T.value d ≢ pos 0`
 /// - `held`: `IsNegative (T.value n) (T.value d) → IsHeld T.lo T.hi (neg_ℤ (T.value n))`
@@ -32,12 +32,12 @@ pub fn abs<T: SignedInteger>(n: T, d: T) -> T {
     if is_negative(n, d) { n.negate() } else { n }
 }
 
-/// The lowest terms of `a/b - c/d` where `a/b` is above `c/d`, and 0/1 where it is not. Where it is
-/// above, the test is `checked_sub`.
+/// The lowest terms of `a/b - c/d` if `a/b` is above `c/d`, and else 0/1. If it
+/// is above, the call requires that `checked_sub` returns `Some`.
 ///
 /// # Conditions
 ///
-/// What is proved asks of the caller:
+/// The proof requires of the caller:
 ///
 /// - `left_positive`: `pos 0 <ℤ T.value b`
 /// - `right_positive`: `pos 0 <ℤ T.value d`
@@ -54,7 +54,7 @@ pub fn abs_sub<T: SignedInteger>(a: T, b: T, c: T, d: T) -> (T, T) {
 ///
 /// # Conditions
 ///
-/// What is proved asks of the caller:
+/// The proof requires of the caller:
 ///
 /// - `T.value d ≢ pos 0`
 #[inline]
@@ -72,7 +72,7 @@ pub fn signum<T: SignedInteger>(n: T, d: T) -> T {
 ///
 /// # Conditions
 ///
-/// What is proved asks of the caller:
+/// The proof requires of the caller:
 ///
 /// - `T.value d ≢ pos 0`
 #[inline]
@@ -88,7 +88,7 @@ pub fn is_positive<T: SignedInteger>(n: T, d: T) -> bool {
 ///
 /// # Conditions
 ///
-/// What is proved asks of the caller:
+/// The proof requires of the caller:
 ///
 /// - `T.value d ≢ pos 0`
 #[inline]

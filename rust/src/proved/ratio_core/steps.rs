@@ -1,9 +1,8 @@
 // Erased from crates/ratio_core/src/steps.rt by rust/erase: not to be edited.
-//! A count of divisions that only contracts see.
+//! A count of steps that only contracts see.
 
-/// How many steps each side of a comparison has taken, or, on the left side, a list of codes. A step
-/// finds one quotient, by one division at most. It has no bytes at run time: both numbers are unbounded, and only clauses and
-/// proofs see them.
+/// How many steps each side of a comparison has taken. A list of codes counts on the left side. A step finds one quotient,
+/// with at most one division. Both counts are unbounded: only clauses and proofs see them, and they take no memory.
 pub struct Steps {}
 
 const _: () = assert!(core::mem::size_of::<Steps>() == 0);
@@ -15,11 +14,11 @@ impl Steps {
         Steps {}
     }
 
-    /// A step of the left side.
+    /// One more step of the left side.
     #[inline]
     pub(crate) fn tick_left(&mut self) {}
 
-    /// A step of the right side.
+    /// One more step of the right side.
     #[inline]
     pub(crate) fn tick_right(&mut self) {}
 }

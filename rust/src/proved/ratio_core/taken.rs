@@ -1,10 +1,10 @@
 // Erased from crates/ratio_core/src/taken.rt by rust/erase: not to be edited.
-//! What a list of codes has taken, where only contracts see it.
+//! The codes that a list has taken, which only contracts see.
 
 use crate::proved::ratio_integer::Integer;
 
-/// The numbers of all codes that a list has taken, in their order. It has no bytes at run time, so a
-/// list that keeps no codes, as one over a hasher, has it beside what it feeds.
+/// The numbers of all codes that a list has taken, in their order. It takes no memory. A list that keeps no
+/// codes, such as one over a hasher, has a `Taken` for them.
 pub struct Taken {}
 
 const _: () = assert!(core::mem::size_of::<Taken>() == 0);
@@ -16,7 +16,7 @@ impl Taken {
         Taken {}
     }
 
-    /// One more code, at the end.
+    /// Adds one code at the end.
     #[inline]
     pub fn note<T: Integer>(&mut self, _t: &T) {}
 }

@@ -1,17 +1,19 @@
 // Erased from crates/ratio_core/src/text.rt by rust/erase: not to be edited.
 //! Fractions as texts.
-mod decimal;
 mod digits;
+mod exact;
+mod fixed_text;
 mod form;
 pub mod laws;
 mod numeral;
+mod places;
 mod printing;
-mod quick_pair;
-mod ratio_text;
+mod quick_fields;
 mod reading;
 
-pub use decimal::DecimalText;
+pub use exact::exact_decimal;
+pub use fixed_text::{BaseTenText, DecimalText, RatioText};
 pub use form::Form;
-pub use printing::{decimal_text, put_decimal_text, put_text, text};
-pub use ratio_text::RatioText;
+pub use places::decimal;
+pub use printing::{base_ten_text, put_base_ten_text, put_text, text};
 pub use reading::{from_str, from_str_radix};

@@ -1,32 +1,32 @@
 // Erased from crates/ratio_integer/src/exact_sum.rt by rust/erase: not to be edited.
-//! Exact sums of types of at most 64 bits: they are computed in `i128`, where every product and
-//! every sum of two products is held, and reduced there.
+//! Exact sums for types of at most 64 bits. They are computed in `i128`, where no product and no sum of two
+//! products overflows, and are reduced there.
 //!
-//! So no condition is left but the one that matters, that the lowest terms are held. A sum over the
-//! least common denominator refuses more, since that may be too great before the sum is reduced.
+//! So a sum requires only that its lowest terms fit the type. A sum over the least common denominator requires
+//! more, since that denominator may overflow before the sum is reduced: for 1/30 + 1/70, which is 1/21, it is 210.
 
 use crate::proved::ratio_integer::binary_gcd::gcd_above;
 use crate::proved::ratio_integer::narrow::Narrow;
 use crate::proved::ratio_integer::reducing::divided;
 
-/// The product of a number and a positive one, which leaves room for a sum of two such products.
+/// The product of a number and a positive one. The sum of two such products does not overflow.
 ///
 /// # Conditions
 ///
-/// What is proved asks of the caller:
+/// The proof requires of the caller:
 ///
 /// - `pos 0 <ℤ T.value positive`
 #[inline]
-fn product<T: Narrow>(number: T, positive: T) -> i128 {
+fn product_with_room<T: Narrow>(number: T, positive: T) -> i128 {
     number.wide() * positive.wide()
 }
 
-/// The lowest terms of `n/d` as values of `T`, or `None` where `T` does not hold them. For the denominator
-/// to be held the greatest common divisor has to be above a bound, so it is looked for only above that.
+/// The lowest terms of `n/d` as values of `T`, or `None` if they do not fit `T`. The denominator fits only if
+/// the gcd is above a bound, so we look for the gcd only above it.
 ///
 /// # Conditions
 ///
-/// What is proved asks of the caller:
+/// The proof requires of the caller:
 ///
 /// - `pos 0 <ℤ d`
 #[inline]
@@ -41,28 +41,34 @@ fn narrow_lowest_terms<T: Narrow>(n: i128, d: i128) -> Option<(T, T)> {
     }
 }
 
-/// The lowest terms of `a/b + c/d`, or `None` where `T` does not hold them.
+/// The lowest terms of `a/b + c/d`, or `None` if they do not fit `T`.
 ///
 /// # Conditions
 ///
-/// What is proved asks of the caller:
+/// The proof requires of the caller:
 ///
 /// - `left_positive`: `pos 0 <ℤ T.value b`
 /// - `right_positive`: `pos 0 <ℤ T.value d`
 #[inline]
 pub(crate) fn exact_sum<T: Narrow>(a: T, b: T, c: T, d: T) -> Option<(T, T)> {
-    narrow_lowest_terms(product(a, d) + product(c, b), product(b, d))
+    narrow_lowest_terms(
+        product_with_room(a, d) + product_with_room(c, b),
+        product_with_room(b, d),
+    )
 }
 
-/// The lowest terms of `a/b - c/d`, or `None` where `T` does not hold them.
+/// The lowest terms of `a/b - c/d`, or `None` if they do not fit `T`.
 ///
 /// # Conditions
 ///
-/// What is proved asks of the caller:
+/// The proof requires of the caller:
 ///
 /// - `left_positive`: `pos 0 <ℤ T.value b`
 /// - `right_positive`: `pos 0 <ℤ T.value d`
 #[inline]
 pub(crate) fn exact_diff<T: Narrow>(a: T, b: T, c: T, d: T) -> Option<(T, T)> {
-    narrow_lowest_terms(product(a, d) - product(c, b), product(b, d))
+    narrow_lowest_terms(
+        product_with_room(a, d) - product_with_room(c, b),
+        product_with_room(b, d),
+    )
 }

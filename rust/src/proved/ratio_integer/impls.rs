@@ -1,5 +1,5 @@
 // Erased from crates/ratio_integer/src/impls.rt by rust/erase: not to be edited.
-//! The primitive types, one a file, each with the same calls in the same order.
+//! The primitive types, one in each file, with the same calls in the same order.
 mod i128;
 mod i16;
 mod i32;

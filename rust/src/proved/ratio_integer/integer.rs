@@ -3,8 +3,8 @@
 
 use core::hash::Hash;
 
-/// A type of the whole numbers from `lo` to `hi`. Each value stands for one of them, and values are
-/// equal, ordered and hashed by their numbers. Values of equal number need not be identical.
+/// A type of the whole numbers from `lo` to `hi`. Each value has one of these numbers. Values are equal,
+/// ordered and hashed by their numbers. Values with the same number need not be identical.
 pub trait Integer: Copy + Ord + Hash {
     /// The number 0.
     const ZERO: Self;
@@ -18,86 +18,89 @@ pub trait Integer: Copy + Ord + Hash {
     /// The greatest number.
     const MAX: Self;
 
-    /// Whether `exact_sum` and `exact_diff` compute, or always answer `None`.
+    /// Whether `exact_sum` and `exact_diff` compute a result. If not, they always return `None`.
     const EXACT_SUMS: bool;
 
-    /// The sum. The test is `try_plus`.
+    /// Whether the remainder of two fractions can be computed in `u128`: no number of the type is above 2^64-1.
+    const EXACT_REMAINDERS: bool;
+
+    /// The sum. It requires that `try_plus` returns `Some`.
     ///
     /// # Conditions
     ///
-    /// What is proved asks of the caller:
+    /// The proof requires of the caller:
     ///
     /// - `IsHeld lo hi (value self +ℤ value o)`
     fn plus(self, o: Self) -> Self;
 
-    /// The difference. The test is `try_minus`.
+    /// The difference. It requires that `try_minus` returns `Some`.
     ///
     /// # Conditions
     ///
-    /// What is proved asks of the caller:
+    /// The proof requires of the caller:
     ///
     /// - `IsHeld lo hi (value self -ℤ value o)`
     fn minus(self, o: Self) -> Self;
 
-    /// The product. The test is `try_times`.
+    /// The product. It requires that `try_times` returns `Some`.
     ///
     /// # Conditions
     ///
-    /// What is proved asks of the caller:
+    /// The proof requires of the caller:
     ///
     /// - `IsHeld lo hi (value self *ℤ value o)`
     fn times(self, o: Self) -> Self;
 
-    /// The product, or `None` where the type does not hold it.
+    /// The product, or `None` if it does not fit the type.
     fn try_times(self, o: Self) -> Option<Self>;
 
-    /// The quotient cut towards zero, and the remainder, which is 0 or has the sign of `self`. The
-    /// quotient of two held numbers is held, but for that of `-hi-1` by -1.
+    /// The quotient cut towards zero, and the remainder, which is 0 or has the sign of `self`: -3 and -1 for
+    /// -7 by 2. The quotient always fits the type, except for `-hi-1` by -1.
     ///
     /// # Conditions
     ///
-    /// What is proved asks of the caller:
+    /// The proof requires of the caller:
     ///
     /// - `nonzero`: `value o ≢ pos 0`
     /// - `held`: `¬ (IsAboveMax hi (value self) (value o))`
     fn div_rem(self, o: Self) -> (Self, Self);
 
-    /// The number as an `i128`, or `None` where that type does not hold it. A value in hand lies
-    /// from `lo` to `hi`.
+    /// The number as an `i128`, or `None` if it does not fit that type. The
+    /// contract also says that the number lies from `lo` to `hi`.
     fn to_i128(self) -> Option<i128>;
 
-    /// The number as a `u128`, or `None` where that type does not hold it.
+    /// The number as a `u128`, or `None` if it does not fit that type.
     fn to_u128(self) -> Option<u128>;
 
-    /// The value that stands for `n`, or `None` where the type does not hold it.
+    /// The value with the number `n`, or `None` if `n` does not fit the type.
     fn from_i128(n: i128) -> Option<Self>;
 
-    /// The value that stands for `n`, or `None` where the type does not hold it.
+    /// The value with the number `n`, or `None` if `n` does not fit the type.
     fn from_u128(n: u128) -> Option<Self>;
 
-    /// The lowest terms of `a/b + c/d`, or `None` where these do not fit: so where `EXACT_SUMS` is
-    /// true. Where it is false, always `None`.
+    /// If `EXACT_SUMS` is true, the lowest terms of `a/b + c/d`, or `None` if they do not fit the type. If it is
+    /// false, always `None`.
     ///
     /// # Conditions
     ///
-    /// What is proved asks of the caller:
+    /// The proof requires of the caller:
     ///
     /// - `left_positive`: `pos 0 <ℤ value b`
     /// - `right_positive`: `pos 0 <ℤ value d`
     fn exact_sum(a: Self, b: Self, c: Self, d: Self) -> Option<(Self, Self)>;
 
-    /// The lowest terms of `a/b - c/d`, or `None` where these do not fit: so where `EXACT_SUMS` is
-    /// true. Where it is false, always `None`.
+    /// If `EXACT_SUMS` is true, the lowest terms of `a/b - c/d`, or `None` if they do not fit the type. If it is
+    /// false, always `None`.
     ///
     /// # Conditions
     ///
-    /// What is proved asks of the caller:
+    /// The proof requires of the caller:
     ///
     /// - `left_positive`: `pos 0 <ℤ value b`
     /// - `right_positive`: `pos 0 <ℤ value d`
     fn exact_diff(a: Self, b: Self, c: Self, d: Self) -> Option<(Self, Self)>;
 
-    /// True, and the contract tells that a value in hand lies from `lo` to `hi`.
+    /// Always true. The contract says that the number fits the type.
     #[inline]
     fn held(self) -> bool {
         let _ = self.to_i128();
@@ -119,7 +122,6 @@ pub trait Integer: Copy + Ord + Hash {
     /// Whether 2 divides the number.
     #[inline]
     fn is_even(self) -> bool {
-        let _ = self.held();
         let two = Self::ONE.plus(Self::ONE);
         let (_, left_over) = self.div_rem(two);
         left_over.is_zero()
@@ -131,7 +133,7 @@ pub trait Integer: Copy + Ord + Hash {
         !self.is_even()
     }
 
-    /// The sum, or `None` where the type does not hold it.
+    /// The sum, or `None` if it does not fit the type.
     #[inline]
     fn try_plus(self, o: Self) -> Option<Self> {
         let _ = self.held();
@@ -146,7 +148,7 @@ pub trait Integer: Copy + Ord + Hash {
         Some(self.plus(o))
     }
 
-    /// The difference, or `None` where the type does not hold it.
+    /// The difference, or `None` if it does not fit the type.
     #[inline]
     fn try_minus(self, o: Self) -> Option<Self> {
         let _ = self.held();
@@ -161,8 +163,8 @@ pub trait Integer: Copy + Ord + Hash {
         Some(self.minus(o))
     }
 
-    /// The least common multiple, never negative, or `None` where the type does not hold it; 0 if
-    /// either number is 0.
+    /// The least common multiple, or `None` if it does not fit the type. It is
+    /// never negative, and it is 0 if either number is 0.
     #[inline]
     fn try_lcm(self, o: Self) -> Option<Self> {
         if self.is_zero() || o.is_zero() {
@@ -170,7 +172,7 @@ pub trait Integer: Copy + Ord + Hash {
         }
         let _ = self.held();
         let _ = o.held();
-        // The greatest common divisor of the least number and itself may not be held.
+        // The gcd of the least number and itself may not fit the type.
         if self == o {
             return if self < Self::ZERO {
                 Self::ZERO.try_minus(self)
@@ -192,12 +194,12 @@ pub trait Integer: Copy + Ord + Hash {
         }
     }
 
-    /// The floored quotient, and the remainder, which is 0 or has the sign of `o`. The floored
-    /// quotient of two held numbers is held, but for that of `-hi-1` by -1.
+    /// The floored quotient, and the remainder, which is 0 or has the sign of `o`: -4 and 1 for -7 by 2. The
+    /// quotient always fits the type, except for `-hi-1` by -1.
     ///
     /// # Conditions
     ///
-    /// What is proved asks of the caller:
+    /// The proof requires of the caller:
     ///
     /// - `nonzero`: `value o ≢ pos 0`
     /// - `held`: `¬ (IsAboveMax hi (value self) (value o))`
@@ -218,11 +220,11 @@ pub trait Integer: Copy + Ord + Hash {
         }
     }
 
-    /// The floored quotient, the greatest whole number that is not above the exact one.
+    /// The floored quotient, which is the greatest whole number that is not above the exact one: -4 for -7 by 2.
     ///
     /// # Conditions
     ///
-    /// What is proved asks of the caller:
+    /// The proof requires of the caller:
     ///
     /// - `nonzero`: `value o ≢ pos 0`
     /// - `held`: `¬ (IsAboveMax hi (value self) (value o))`
@@ -231,11 +233,11 @@ pub trait Integer: Copy + Ord + Hash {
         self.div_mod_floor(o).0
     }
 
-    /// The remainder of floored division, which is 0 or has the sign of `o`.
+    /// The remainder of a floored division, which is 0 or has the sign of `o`: 1 for -7 by 2.
     ///
     /// # Conditions
     ///
-    /// What is proved asks of the caller:
+    /// The proof requires of the caller:
     ///
     /// - `nonzero`: `value o ≢ pos 0`
     /// - `held`: `¬ (IsAboveMax hi (value self) (value o))`
@@ -244,12 +246,12 @@ pub trait Integer: Copy + Ord + Hash {
         self.div_mod_floor(o).1
     }
 
-    /// The greatest common divisor, never negative; that of 0 and 0 is 0. It is held, but for the
-    /// one case that one number is `-hi-1` and the other is `-hi-1` or 0.
+    /// The greatest common divisor. It is never negative, and for 0 and 0 it is 0. It fits the type, unless
+    /// one number is `-hi-1` and the other is `-hi-1` or 0.
     ///
     /// # Conditions
     ///
-    /// What is proved asks of the caller:
+    /// The proof requires of the caller:
     ///
     /// - `¬ (IsGcdAboveMax hi (value self) (value o))`
     #[inline]
@@ -259,7 +261,7 @@ pub trait Integer: Copy + Ord + Hash {
         let mut x = self;
         let mut y = o;
         while !y.is_zero() {
-            // The least number may not be divided by -1.
+            // Dividing the least number by -1 may overflow.
             if y < Self::ZERO && y.plus(Self::ONE).is_zero() {
                 return Self::ONE;
             }
@@ -274,11 +276,12 @@ pub trait Integer: Copy + Ord + Hash {
         }
     }
 
-    /// The least common multiple, never negative; 0 if either number is 0. The test is `try_lcm`.
+    /// The least common multiple. It is never negative, and it is 0 if either
+    /// number is 0. The call requires that `try_lcm` returns `Some`.
     ///
     /// # Conditions
     ///
-    /// What is proved asks of the caller:
+    /// The proof requires of the caller:
     ///
     /// - `LcmHeld lo hi (value self) (value o)`
     #[inline]
@@ -289,15 +292,14 @@ pub trait Integer: Copy + Ord + Hash {
         }
     }
 
-    /// Whether some whole number times `o` is the number. For `o` 0, whether the number is 0.
+    /// Whether the number is a whole number times `o`. Of 0, only 0 is a multiple.
     #[inline]
     fn is_multiple_of(self, o: Self) -> bool {
-        let _ = self.held();
         let _ = o.held();
         if o.is_zero() {
             return self.is_zero();
         }
-        // The least number may not be divided by -1.
+        // Dividing the least number by -1 may overflow.
         if o < Self::ZERO && o.plus(Self::ONE).is_zero() {
             return true;
         }

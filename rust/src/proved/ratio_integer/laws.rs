@@ -1,10 +1,10 @@
 // Erased from crates/ratio_integer/src/laws.rt by rust/erase: not to be edited.
-//! Where a quotient and a greatest common divisor are held: each function's contract is the law, and it does nothing.
+//! When a quotient and a greatest common divisor fit the type. Each function does nothing: its contract is the law.
 
-/// What a division asks of its two numbers is exactly what its result needs.
+/// What a division requires of its two numbers is exactly what its result needs to fit.
 #[inline]
 pub fn quotients() {}
 
-/// What a greatest common divisor asks of its two numbers is exactly what its result needs.
+/// What a greatest common divisor requires of its two numbers is exactly what it needs to fit.
 #[inline]
 pub fn divisors() {}

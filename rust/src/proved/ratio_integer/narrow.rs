@@ -1,18 +1,18 @@
 // Erased from crates/ratio_integer/src/narrow.rt by rust/erase: not to be edited.
-//! Types of at most 64 bits with a sign, by their way into `i128` and back.
+//! Signed types of at most 64 bits, converted to `i128` and back.
 
 use num_traits::cast;
 
-/// A type of at most 64 bits with a sign, by its way into `i128` and back. It stands apart from
-/// `Integer` since the `exact_sum` of an `Integer` is computed by it.
+/// A signed type of at most 64 bits, converted to `i128` and back. It is apart from `Integer`, since the
+/// `exact_sum` of an `Integer` is computed with it.
 pub(crate) trait Narrow: Copy {
-    /// The bits of the greatest number.
+    /// How many bits the greatest number has.
     const ROOM: u32;
 
     /// The number as an `i128`.
     fn wide(self) -> i128;
 
-    /// The value that stands for `n`, or `None` where the type does not hold it.
+    /// The value with the number `n`, or `None` if `n` does not fit the type.
     fn narrow(n: i128) -> Option<Self>;
 }
 

@@ -3,7 +3,7 @@
 
 use crate::proved::ratio_integer::integer::Integer;
 
-/// A type that has each whole number of `BITS` bits, with a sign or without one.
+/// A type that has every whole number of `BITS` bits, signed or unsigned.
 pub trait Primitive: Integer {
     const BITS: u32;
 }

@@ -1,35 +1,34 @@
 // Erased from crates/ratio_integer/src/reducing.rt by rust/erase: not to be edited.
-//! The two numbers of a fraction without their common divisors, and its lowest terms.
+//! The two numbers of a fraction divided by their gcd, and its lowest terms.
 
+use crate::proved::ratio_integer::held::both_held;
 use crate::proved::ratio_integer::integer::Integer;
 
-/// The lowest terms of `n/d`, for a positive `d`. They are always held, and so is the greatest
-/// common divisor on the way to them, since it is at most `d`. A number over 1 is answered at once.
+/// The lowest terms of `n/d`, for a positive `d`. They always fit the type. So does the gcd on the way, since
+/// it is at most `d`. A number over 1 is returned at once.
 ///
 /// # Conditions
 ///
-/// What is proved asks of the caller:
+/// The proof requires of the caller:
 ///
 /// - `pos 0 <ℤ T.value d`
 #[inline]
 pub fn lowest_terms<T: Integer>(n: T, d: T) -> (T, T) {
     if d.is_one() {
-        let _ = n.held();
-        let _ = d.held();
+        both_held(n, d);
         return (n, d);
     }
     let (numer, denom) = cancelled(n, d);
-    let _ = numer.held();
-    let _ = denom.held();
+    both_held(numer, denom);
     (numer, denom)
 }
 
-/// Both numbers divided by their greatest common divisor, so the signs stay where they are. Numbers
-/// that have no common divisor above 1 are answered as they stand, without a division.
+/// Both numbers, divided by their gcd. The signs stay where they are: 4/-6 gives 2/-3. Numbers without a
+/// common divisor above 1 are returned unchanged, without a division.
 ///
 /// # Conditions
 ///
-/// What is proved asks of the caller:
+/// The proof requires of the caller:
 ///
 /// - `fraction`: `T.value d ≢ pos 0`
 /// - `held`: `¬ (IsGcdAboveMax T.hi (T.value n) (T.value d))`
@@ -38,11 +37,11 @@ pub fn cancelled<T: Integer>(n: T, d: T) -> (T, T) {
     divided(n, d, n.gcd(d))
 }
 
-/// The same, by the greatest common divisor.
+/// The same, with a given gcd.
 ///
 /// # Conditions
 ///
-/// What is proved asks of the caller:
+/// The proof requires of the caller:
 ///
 /// - `fraction`: `T.value d ≢ pos 0`
 /// - `greatest`: `IsGcdOf (T.value n) (T.value d) (T.value divisor)`

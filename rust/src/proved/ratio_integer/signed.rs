@@ -3,13 +3,13 @@
 
 use crate::proved::ratio_integer::integer::Integer;
 
-/// A type that has the negative of each of its numbers, but perhaps of the least.
+/// A type that has the negative of each of its numbers, except perhaps of the least.
 pub trait SignedInteger: Integer {
-    /// The negative. The test is `try_negate`.
+    /// The negative. It requires that `try_negate` returns `Some`.
     ///
     /// # Conditions
     ///
-    /// What is proved asks of the caller:
+    /// The proof requires of the caller:
     ///
     /// - `IsHeld Self.lo Self.hi (neg_ℤ (Self.value self))`
     #[inline]
@@ -17,7 +17,7 @@ pub trait SignedInteger: Integer {
         Self::ZERO.minus(self)
     }
 
-    /// The negative, or `None` where the type does not hold it: at most for the least number.
+    /// The negative, or `None` if it does not fit the type. That can only be for the least number, such as -128 over `i8`.
     #[inline]
     fn try_negate(self) -> Option<Self> {
         Self::ZERO.try_minus(self)

@@ -1,7 +1,7 @@
 // Erased from crates/tests_fractions/src/asserting.rt by rust/erase: not to be edited.
-//! What the tests assert: each function holds one assertion, and says what it was given where that fails.
+//! What the tests assert. Each function holds one assertion. If it fails, its message says what was given.
 
-/// Every row holds: there is no first one that does not.
+/// All rows hold, so no row is the first wrong one.
 #[inline]
 pub(crate) fn all_hold(what: &str, first_wrong: Option<usize>) {
     assert!(first_wrong.is_none(), "{what}: row {first_wrong:?}");
@@ -17,13 +17,13 @@ fn first_false(facts: &[bool]) -> Option<usize> {
     None
 }
 
-/// Each of these holds.
+/// All of these hold.
 #[inline]
 pub(crate) fn each_holds(facts: &[bool]) {
     all_hold("facts", first_false(facts));
 }
 
-/// The two texts are one.
+/// The two texts are the same.
 #[inline]
 pub(crate) fn reads(text: &str, want: &str) {
     assert!(text == want, "{text}, not {want}");

@@ -1,18 +1,27 @@
 // Erased from crates/tests_fractions/src/ratios.rt by rust/erase: not to be edited.
-//! The types of fractions, of `num_rational`.
+//! The fraction types of `num_rational`.
 mod carried;
+mod casts;
 mod comparing;
+mod continued;
+mod decimals;
 mod every_call;
+mod floats;
 mod folds;
 mod forms;
 
 mod keys;
+mod laws;
 mod long_texts;
-mod lowest;
+mod lowest_remainders;
+mod lowest_sums;
+mod main_statement;
 mod operators;
 mod powers;
+mod reduced;
 mod rounding;
 mod rows;
 mod signs;
+mod simplest;
 mod texts;
 mod twelve_types;

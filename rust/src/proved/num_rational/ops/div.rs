@@ -1,6 +1,6 @@
 // Erased from crates/num_rational/src/ops/div.rt by rust/erase: not to be edited.
 // Written by templates/write from templates/operator.rt.txt: change that file, and write this one anew.
-//! Quotients: the checked call, the call that asks for an answer, and the symbols `/` and `/=`.
+//! Quotients: the checked call, the call that requires a result, and the symbols `/` and `/=`.
 
 use crate::proved::num_rational::operand::Operand;
 use crate::proved::num_rational::ratio::Ratio;
@@ -9,12 +9,12 @@ use crate::proved::ratio_integer::Integer;
 use core::ops::{Div, DivAssign};
 
 impl<T: Copy + Integer> Ratio<T> {
-    /// The quotient in lowest terms, or `None` where the divisor is 0 or the type does not hold them.
-    /// The fractions need not be reduced.
+    /// The quotient in lowest terms, or `None` if the divisor is 0 or these do not fit the type. The
+    /// fractions need not be reduced.
     ///
     /// # Conditions
     ///
-    /// What is proved asks of the caller:
+    /// The proof requires of the caller:
     ///
     /// - `left_positive`: `pos 0 <ℤ denominator self.now`
     /// - `right_positive`: `pos 0 <ℤ denominator other.now`
@@ -26,12 +26,12 @@ impl<T: Copy + Integer> Ratio<T> {
         }
     }
 
-    /// The quotient in lowest terms, also by the symbol `/`. The test is `checked_div`; a divisor 0
-    /// is refused too, since a pair with the denominator 0 has no lowest terms.
+    /// The quotient in lowest terms, also by the symbol `/`. It requires that `checked_div` returns
+    /// `Some`, so the divisor may not be 0.
     ///
     /// # Conditions
     ///
-    /// What is proved asks of the caller:
+    /// The proof requires of the caller:
     ///
     /// - `left_positive`: `pos 0 <ℤ denominator self`
     /// - `right_positive`: `pos 0 <ℤ denominator other`

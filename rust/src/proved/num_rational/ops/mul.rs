@@ -1,6 +1,6 @@
 // Erased from crates/num_rational/src/ops/mul.rt by rust/erase: not to be edited.
 // Written by templates/write from templates/operator.rt.txt: change that file, and write this one anew.
-//! Products: the checked call, the call that asks for an answer, and the symbols `*` and `*=`.
+//! Products: the checked call, the call that requires a result, and the symbols `*` and `*=`.
 
 use crate::proved::num_rational::operand::Operand;
 use crate::proved::num_rational::ratio::Ratio;
@@ -9,12 +9,12 @@ use crate::proved::ratio_integer::Integer;
 use core::ops::{Mul, MulAssign};
 
 impl<T: Copy + Integer> Ratio<T> {
-    /// The product in lowest terms, or `None` where the type does not hold them. The fractions need
-    /// not be reduced.
+    /// The product in lowest terms, or `None` if these do not fit the type. The fractions need not be
+    /// reduced.
     ///
     /// # Conditions
     ///
-    /// What is proved asks of the caller:
+    /// The proof requires of the caller:
     ///
     /// - `left_positive`: `pos 0 <ℤ denominator self.now`
     /// - `right_positive`: `pos 0 <ℤ denominator other.now`
@@ -26,11 +26,12 @@ impl<T: Copy + Integer> Ratio<T> {
         }
     }
 
-    /// The product in lowest terms, also by the symbol `*`. The test is `checked_mul`.
+    /// The product in lowest terms, also by the symbol `*`. It requires that `checked_mul` returns
+    /// `Some`.
     ///
     /// # Conditions
     ///
-    /// What is proved asks of the caller:
+    /// The proof requires of the caller:
     ///
     /// - `left_positive`: `pos 0 <ℤ denominator self`
     /// - `right_positive`: `pos 0 <ℤ denominator other`

@@ -1,6 +1,6 @@
 // Erased from crates/num_rational/src/ops/rem.rt by rust/erase: not to be edited.
 // Written by templates/write from templates/operator.rt.txt: change that file, and write this one anew.
-//! Remainders: the checked call, the call that asks for an answer, and the symbols `%` and `%=`.
+//! Remainders: the checked call, the call that requires a result, and the symbols `%` and `%=`.
 
 use crate::proved::num_rational::operand::Operand;
 use crate::proved::num_rational::ratio::Ratio;
@@ -9,13 +9,14 @@ use crate::proved::ratio_integer::Integer;
 use core::ops::{Rem, RemAssign};
 
 impl<T: Copy + Integer> Ratio<T> {
-    /// The lowest terms of `x - t*y`, where `t` is the quotient `x/y` cut towards zero: 0, or of the
-    /// sign of `x` and nearer to 0 than `y`. `None` exactly where the divisor is 0, or the least
-    /// common denominator or a numerator over it is not held; the fields count as they stand.
+    /// The lowest terms of `x - t*y`, where `t` is the quotient `x/y` cut towards zero: 3/4 by 1/2
+    /// leaves 1/4. The remainder is 0 or has the sign of `x`, and it is nearer to 0 than `y`. The
+    /// call returns `None` exactly if the divisor is 0, or if the least common denominator or a
+    /// numerator over it does not fit the type. The fields are taken as they are, not reduced.
     ///
     /// # Conditions
     ///
-    /// What is proved asks of the caller:
+    /// The proof requires of the caller:
     ///
     /// - `left_positive`: `pos 0 <ℤ denominator self.now`
     /// - `right_positive`: `pos 0 <ℤ denominator other.now`
@@ -27,11 +28,12 @@ impl<T: Copy + Integer> Ratio<T> {
         }
     }
 
-    /// The remainder in lowest terms, also by the symbol `%`. The test is `checked_rem`.
+    /// The remainder in lowest terms, also by the symbol `%`. It requires that `checked_rem` returns
+    /// `Some`.
     ///
     /// # Conditions
     ///
-    /// What is proved asks of the caller:
+    /// The proof requires of the caller:
     ///
     /// - `left_positive`: `pos 0 <ℤ denominator self`
     /// - `right_positive`: `pos 0 <ℤ denominator other`

@@ -1,6 +1,6 @@
 // Erased from crates/num_rational/src/ops/sub.rt by rust/erase: not to be edited.
 // Written by templates/write from templates/operator.rt.txt: change that file, and write this one anew.
-//! Differences: the checked call, the call that asks for an answer, and the symbols `-` and `-=`.
+//! Differences: the checked call, the call that requires a result, and the symbols `-` and `-=`.
 
 use crate::proved::num_rational::operand::Operand;
 use crate::proved::num_rational::ratio::Ratio;
@@ -9,14 +9,15 @@ use crate::proved::ratio_integer::Integer;
 use core::ops::{Sub, SubAssign};
 
 impl<T: Copy + Integer> Ratio<T> {
-    /// The difference in lowest terms. Where the type's `EXACT_SUMS` is true, as for `i32` and `i64`,
-    /// `None` exactly where the type does not hold them. Where it is false, `None` exactly where the
-    /// least common denominator, a numerator over it or the difference of these is not held; the
-    /// fields count as they stand.
+    /// The difference in lowest terms. For a type whose `EXACT_SUMS` is true, as for `i32` and `i64`,
+    /// the call returns `None` exactly if these do not fit the type. For any other type, it returns
+    /// `None` exactly if the least common denominator, a numerator over it or the difference of these
+    /// numerators does not fit: over `i8`, for 1/30 - 1/70. The fields are taken as they are, not
+    /// reduced.
     ///
     /// # Conditions
     ///
-    /// What is proved asks of the caller:
+    /// The proof requires of the caller:
     ///
     /// - `left_positive`: `pos 0 <ℤ denominator self.now`
     /// - `right_positive`: `pos 0 <ℤ denominator other.now`
@@ -28,11 +29,12 @@ impl<T: Copy + Integer> Ratio<T> {
         }
     }
 
-    /// The difference in lowest terms, also by the symbol `-`. The test is `checked_sub`.
+    /// The difference in lowest terms, also by the symbol `-`. It requires that `checked_sub` returns
+    /// `Some`.
     ///
     /// # Conditions
     ///
-    /// What is proved asks of the caller:
+    /// The proof requires of the caller:
     ///
     /// - `left_positive`: `pos 0 <ℤ denominator self`
     /// - `right_positive`: `pos 0 <ℤ denominator other`

@@ -4,35 +4,40 @@
 use super::Reduced;
 use super::operand::ReducedOperand;
 use crate::proved::num_rational::ratio::Ratio;
-use crate::proved::ratio_core::products::lowest;
+use crate::proved::ratio_core::{products, remainder, sums};
 use crate::proved::ratio_integer::Integer;
 
 impl<T: Copy + Integer> Reduced<T> {
-    /// The sum. Where the type's `EXACT_SUMS` is true, as for `i32` and `i64`, `None` exactly where the
-    /// type does not hold its lowest terms. Where it is false, `None` exactly where the least common
-    /// denominator, a numerator over it or the sum of these is not held.
-    #[inline]
+    /// The sum, or `None` if its lowest terms do not fit the type. Over `i8`, 1/36 + 1/28 is 4/63, though
+    /// the least common denominator 252 does not fit. 127/1 + 1/127 is `None`.
+    #[inline(always)]
     pub fn checked_add<O: ReducedOperand<T>>(&self, other: O) -> Option<Reduced<T>> {
-        match self.ratio.checked_add(&other.reduced().ratio) {
-            Some(ratio) => Some(Reduced { ratio }),
+        let (numer, denom) = other.reduced().into_raw();
+        match sums::lowest::checked_add(*self.numer(), *self.denom(), numer, denom) {
+            Some((numer, denom)) => Some(Reduced {
+                ratio: Ratio::new_raw(numer, denom),
+            }),
             None => None,
         }
     }
 
-    /// The difference, or `None` as for `checked_add`.
-    #[inline]
+    /// The difference, or `None` if its lowest terms do not fit the type.
+    #[inline(always)]
     pub fn checked_sub<O: ReducedOperand<T>>(&self, other: O) -> Option<Reduced<T>> {
-        match self.ratio.checked_sub(&other.reduced().ratio) {
-            Some(ratio) => Some(Reduced { ratio }),
+        let (numer, denom) = other.reduced().into_raw();
+        match sums::lowest::checked_sub(*self.numer(), *self.denom(), numer, denom) {
+            Some((numer, denom)) => Some(Reduced {
+                ratio: Ratio::new_raw(numer, denom),
+            }),
             None => None,
         }
     }
 
-    /// The product, or `None` where the type does not hold its lowest terms.
+    /// The product, or `None` if its lowest terms do not fit the type.
     #[inline]
     pub fn checked_mul<O: ReducedOperand<T>>(&self, other: O) -> Option<Reduced<T>> {
         let (numer, denom) = other.reduced().into_raw();
-        match lowest::checked_mul(*self.numer(), *self.denom(), numer, denom) {
+        match products::lowest::checked_mul(*self.numer(), *self.denom(), numer, denom) {
             Some((numer, denom)) => Some(Reduced {
                 ratio: Ratio::new_raw(numer, denom),
             }),
@@ -40,11 +45,11 @@ impl<T: Copy + Integer> Reduced<T> {
         }
     }
 
-    /// The quotient, or `None` where `other` is 0 or the type does not hold its lowest terms.
+    /// The quotient, or `None` if `other` is 0 or the lowest terms do not fit the type.
     #[inline]
     pub fn checked_div<O: ReducedOperand<T>>(&self, other: O) -> Option<Reduced<T>> {
         let (numer, denom) = other.reduced().into_raw();
-        match lowest::checked_div(*self.numer(), *self.denom(), numer, denom) {
+        match products::lowest::checked_div(*self.numer(), *self.denom(), numer, denom) {
             Some((numer, denom)) => Some(Reduced {
                 ratio: Ratio::new_raw(numer, denom),
             }),
@@ -52,12 +57,17 @@ impl<T: Copy + Integer> Reduced<T> {
         }
     }
 
-    /// What whole times `other` leave of this fraction, cut towards zero, or `None` where `other` is 0 or
-    /// the type does not hold a number on the way.
-    #[inline]
+    /// The remainder: 3/4 by 1/2 leaves 1/4. Over a primitive type of at most 64 bits, as over each type whose
+    /// `EXACT_REMAINDERS` is true, it is `None` if `other` is 0 or the lowest terms do not fit the type. Over
+    /// `i8`, 127/1 by 1/127 leaves 0/1. Over `i128`, `u128` and other types, it is `None` if `other` is 0, or
+    /// if the least common denominator or a numerator over it does not fit the type.
+    #[inline(always)]
     pub fn checked_rem<O: ReducedOperand<T>>(&self, other: O) -> Option<Reduced<T>> {
-        match self.ratio.checked_rem(&other.reduced().ratio) {
-            Some(ratio) => Some(Reduced { ratio }),
+        let (numer, denom) = other.reduced().into_raw();
+        match remainder::lowest::checked_rem(*self.numer(), *self.denom(), numer, denom) {
+            Some((numer, denom)) => Some(Reduced {
+                ratio: Ratio::new_raw(numer, denom),
+            }),
             None => None,
         }
     }

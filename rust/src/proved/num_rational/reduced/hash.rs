@@ -6,7 +6,7 @@ use crate::proved::ratio_integer::Integer;
 use core::hash::{Hash, Hasher};
 
 impl<T: Copy + Integer> Hash for Reduced<T> {
-    /// Feeds the two fields, each by the element's own hash.
+    /// Feeds the hasher with the two fields, each by the element's own hash.
     #[inline]
     fn hash<H: Hasher>(&self, state: &mut H) {
         self.numer().hash(state);

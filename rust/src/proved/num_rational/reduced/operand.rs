@@ -1,13 +1,13 @@
 // Erased from crates/num_rational/src/reduced/operand.rt by rust/erase: not to be edited.
-//! What may stand on the right of a checked call.
+//! The right operand of a checked call.
 
 use super::Reduced;
 use crate::proved::ratio_integer::Integer;
 
-/// What may stand on the right of a checked call of `Reduced`: a fraction in lowest terms, or a whole
-/// number over 1, by value or behind a reference.
+/// What a checked call of `Reduced` takes on its right: a fraction in lowest terms, or a whole number
+/// over 1. It may be a value or a reference.
 pub trait ReducedOperand<T: Copy + Integer> {
-    /// The fraction that it is.
+    /// The operand as a fraction.
     fn reduced(self) -> Reduced<T>;
 }
 

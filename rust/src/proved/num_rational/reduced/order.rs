@@ -1,5 +1,5 @@
 // Erased from crates/num_rational/src/reduced/order.rt by rust/erase: not to be edited.
-//! The order of the values, and the equality by the fields.
+//! The order by values, and the equality by fields.
 
 use super::Reduced;
 use crate::proved::ratio_integer::Integer;
@@ -12,7 +12,7 @@ fn same_fields<T: Copy + Integer>(x: &Reduced<T>, y: &Reduced<T>) -> bool {
 }
 
 impl<T: Copy + Integer> PartialEq for Reduced<T> {
-    /// Whether the fields are equal, which is whether the values are.
+    /// Whether the fields are equal. In lowest terms, that is whether the values are equal.
     #[inline]
     fn eq(&self, other: &Reduced<T>) -> bool {
         same_fields(self, other)

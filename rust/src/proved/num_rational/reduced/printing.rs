@@ -1,5 +1,5 @@
 // Erased from crates/num_rational/src/reduced/printing.rt by rust/erase: not to be edited.
-//! Printing fractions in lowest terms by the traits of std, as the `Ratio` of their fields.
+//! Printing fractions in lowest terms through the traits of std, as the `Ratio` of their fields.
 
 use super::Reduced;
 use crate::proved::ratio_integer::Primitive;

@@ -3,10 +3,11 @@
 
 use super::Reduced;
 use crate::proved::num_rational::ratio::Ratio;
-use crate::proved::ratio_integer::{Integer, SignedInteger};
+use crate::proved::ratio_integer::{Integer, SignedInteger, both_held};
 
 impl<T: Copy + SignedInteger> Reduced<T> {
-    /// The negative, or `None` where the type does not hold it: at most for the least number.
+    /// The negative, or `None` if it does not fit the type. Only the least numerator can have none:
+    /// over `i8`, -128.
     #[inline]
     pub fn checked_neg(&self) -> Option<Reduced<T>> {
         let denom = *self.denom();
@@ -19,11 +20,11 @@ impl<T: Copy + SignedInteger> Reduced<T> {
         }
     }
 
-    /// The absolute value, or `None` where the type does not hold it: at most for the least number.
+    /// The absolute value, or `None` if it does not fit the type. Only the least numerator can have
+    /// none: over `i8`, -128.
     #[inline]
     pub fn checked_abs(&self) -> Option<Reduced<T>> {
-        let _ = self.numer().held();
-        let _ = self.denom().held();
+        both_held(*self.numer(), *self.denom());
         if self.is_negative() {
             self.checked_neg()
         } else {

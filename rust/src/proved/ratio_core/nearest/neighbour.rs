@@ -1,12 +1,12 @@
 // Erased from crates/ratio_core/src/nearest/neighbour.rt by rust/erase: not to be edited.
-//! A fraction beside another one that is sought, and the steps that bring two of them nearer.
+//! A fraction near the one that is sought, and the steps that bring two of them nearer.
 
 use crate::proved::ratio_core::order::dividing::{divide_left, divide_right};
 use crate::proved::ratio_core::steps::Steps;
 use crate::proved::ratio_integer::Integer;
 
-/// The fraction `numer/denom` and how far it lies from the fraction `n/d` that is sought: `gap` is
-/// that distance times `d` and `denom`.
+/// The fraction `numer/denom`, and its distance from the fraction `n/d` that is sought: `gap` is this
+/// distance times `d` and `denom`. For 7/5 and 4/3 the distance is 1/15, so `gap` is 1.
 #[derive(Copy)]
 pub(crate) struct Neighbour<T: Copy + Integer> {
     pub(crate) numer: T,
@@ -21,12 +21,12 @@ impl<T: Copy + Integer> Clone for Neighbour<T> {
     }
 }
 
-/// How many steps towards `fixed` the gap of `moving` has, a division of the left side, and how many
-/// the bound `most` of the denominators leaves room for, one of the right side.
+/// How many steps towards `fixed` the gap of `moving` has room for, and how many the bound `most` of the
+/// denominators has room for. The first takes a division of the left side, the second one of the right side.
 ///
 /// # Conditions
 ///
-/// What is proved asks of the caller:
+/// The proof requires of the caller:
 ///
 /// - `gap`: `pos 0 <ℤ T.value fixed.gap`
 /// - `denom`: `pos 0 <ℤ T.value fixed.denom`
@@ -43,12 +43,12 @@ pub(crate) fn steps_towards<T: Integer>(
     (whole, room)
 }
 
-/// The neighbour `moving` after `times` steps towards `fixed`, each of which adds the numbers of
-/// `fixed` to its own.
+/// The neighbour `moving` after `times` steps towards `fixed`. Each step adds
+/// the numbers of `fixed`: two steps from 1/1 towards 0/1 lead to 1/3.
 ///
 /// # Conditions
 ///
-/// What is proved asks of the caller:
+/// The proof requires of the caller:
 ///
 /// - `CanMove T.lo T.hi (T.value moving.numer) (T.value moving.denom) (T.value moving.gap) (T.value fixed.numer) (T.value fixed.denom) (T.value fixed.gap) (T.value times)`
 #[inline]
@@ -60,12 +60,12 @@ pub(crate) fn moved<T: Integer>(moving: Neighbour<T>, fixed: Neighbour<T>, times
     }
 }
 
-/// The one of two that comes first: the nearer one, of two as near the one with the smaller
-/// denominator, and then the one with the smaller numerator.
+/// The nearer of two fractions. If they are as near, it is the one with the
+/// smaller denominator, and then the one with the smaller numerator.
 ///
 /// # Conditions
 ///
-/// What is proved asks of the caller:
+/// The proof requires of the caller:
 ///
 /// - `CanCompare T.lo T.hi (T.value left.gap) (T.value left.denom) (T.value right.gap) (T.value right.denom)`
 #[inline]

@@ -1,5 +1,5 @@
 // Erased from crates/ratio_core/src/order/comparing.rt by rust/erase: not to be edited.
-//! The two comparisons of fractions: one that counts each division, and one that divides only where it must.
+//! Two comparisons of fractions: one counts each division, and one divides only if it must.
 
 use crate::proved::ratio_core::order::products::order_of_products;
 use crate::proved::ratio_core::order::rounds::cmp_by_rounds;
@@ -8,13 +8,13 @@ use crate::proved::ratio_core::steps::Steps;
 use crate::proved::ratio_integer::Integer;
 use core::cmp::Ordering;
 
-/// How `n/d` stands to `m/e`, for denominators of either sign, reduced or not. Where the type holds
-/// both cross products these are compared, and no step is made. Elsewhere both fractions are divided
-/// in rounds by Euclid's algorithm, one step a side and round, until two quotients differ.
+/// Compares `n/d` with `m/e`. The denominators may have either sign, and the fractions need not be reduced. If both
+/// cross products fit the type, it compares these and takes no step. Else it divides both fractions in rounds, by
+/// Euclid's algorithm, until the quotients differ or one side has no rest. A round takes one step a side.
 ///
 /// # Conditions
 ///
-/// What is proved asks of the caller:
+/// The proof requires of the caller:
 ///
 /// - `left_nonzero`: `T.value d ≢ pos 0`
 /// - `right_nonzero`: `T.value e ≢ pos 0`
@@ -26,12 +26,12 @@ pub fn cmp_counted<T: Integer>(n: T, d: T, m: T, e: T, steps: &mut Steps) -> Ord
     }
 }
 
-/// How `n/d` stands to `m/e`, for denominators of either sign, reduced or not: the answer of
-/// `cmp_counted`, which is asked only where neither the numerators alone nor the products decide.
+/// Compares `n/d` with `m/e`, as `cmp_counted` does. The denominators may have either sign, and the fractions need
+/// not be reduced. It calls `cmp_counted` only if neither the numerators alone nor the cross products decide.
 ///
 /// # Conditions
 ///
-/// What is proved asks of the caller:
+/// The proof requires of the caller:
 ///
 /// - `left_nonzero`: `T.value d ≢ pos 0`
 /// - `right_nonzero`: `T.value e ≢ pos 0`
@@ -43,20 +43,20 @@ pub fn compare<T: Integer>(n: T, d: T, m: T, e: T, steps: &mut Steps) -> Orderin
     if let Some(order) = order_of_products(n, d, m, e) {
         return order;
     }
-    // Tested this late, since the processor cannot guess it.
+    // This test comes last, since a processor cannot guess it.
     if are_split_by_zero(n, d, m, e) {
         return n.cmp(&m);
     }
     cmp_counted(n, d, m, e, steps)
 }
 
-/// Whether the denominators are one positive number.
+/// Whether both denominators are the same positive number.
 #[inline]
 fn share_denominator<T: Integer>(d: T, e: T) -> bool {
     d == e && T::ZERO < d
 }
 
-/// Whether both denominators are positive, and one numerator is below 0 and the other is not.
+/// Whether both denominators are positive and exactly one numerator is below 0.
 #[inline]
 fn are_split_by_zero<T: Integer>(n: T, d: T, m: T, e: T) -> bool {
     T::ZERO < d && T::ZERO < e && have_unlike_signs(n, m)

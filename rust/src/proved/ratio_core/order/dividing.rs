@@ -1,15 +1,15 @@
 // Erased from crates/ratio_core/src/order/dividing.rt by rust/erase: not to be edited.
-//! The two floored divisions of the order and of the codes, each of which is a step of its side.
+//! The floored divisions of comparing and hashing. Each is one step of its side.
 
 use crate::proved::ratio_core::sign::is_below_zero;
 use crate::proved::ratio_core::steps::Steps;
-use crate::proved::ratio_integer::Integer;
+use crate::proved::ratio_integer::{Integer, both_held};
 
-/// A step of the left side: the floored quotient, and what is left over.
+/// A step of the left side: the floored quotient and the rest. For -7 by 2 they are -4 and 1.
 ///
 /// # Conditions
 ///
-/// What is proved asks of the caller:
+/// The proof requires of the caller:
 ///
 /// - `nonzero`: `T.value d ≢ pos 0`
 /// - `held`: `¬ (IsAboveMax T.hi (T.value n) (T.value d))`
@@ -21,11 +21,11 @@ pub(crate) fn divide_left<T: Integer>(n: T, d: T, steps: &mut Steps) -> (T, T) {
     division
 }
 
-/// A step of the right side: the floored quotient, and what is left over.
+/// A step of the right side: the floored quotient and the rest.
 ///
 /// # Conditions
 ///
-/// What is proved asks of the caller:
+/// The proof requires of the caller:
 ///
 /// - `nonzero`: `T.value d ≢ pos 0`
 /// - `held`: `¬ (IsAboveMax T.hi (T.value n) (T.value d))`
@@ -37,11 +37,10 @@ pub(crate) fn divide_right<T: Integer>(n: T, d: T, steps: &mut Steps) -> (T, T) 
     division
 }
 
-/// Whether the pair is `-hi-1` over -1, whose quotient the type does not hold.
+/// Whether the pair is `-hi-1` over -1. Its quotient `hi+1` does not fit the type: over `i8`, -128/-1 is 128.
 #[inline]
 pub(crate) fn is_above_max<T: Integer>(n: T, d: T) -> bool {
-    let _ = n.held();
-    let _ = d.held();
+    both_held(n, d);
     is_below_zero(d)
         && is_below_zero(n)
         && d.plus(T::ONE).is_zero()

@@ -1,17 +1,17 @@
 // Erased from crates/ratio_core/src/order/following.rt by rust/erase: not to be edited.
-//! A step of the right side after one of the left side: most quotients are the same, and a product shows that.
+//! A step of the right side after one of the left side. Most quotients are the same, and a product shows that.
 
 use crate::proved::ratio_core::order::dividing::divide_right;
 use crate::proved::ratio_core::steps::Steps;
-use crate::proved::ratio_integer::Integer;
+use crate::proved::ratio_integer::{Integer, both_held};
 use core::cmp::Ordering;
 
-/// A step of the right side: what is left over where `quotient` is its floored quotient, and else
-/// how `quotient` stands to that.
+/// A step of the right side. If `quotient` is the floored quotient of `n/d`, it returns the rest, as `Ok`. Else it returns
+/// how `quotient` compares with that, as `Err`. For `quotient` 2, 9/4 gives `Ok(1)`, and 5/4 gives `Err(Greater)`.
 ///
 /// # Conditions
 ///
-/// What is proved asks of the caller:
+/// The proof requires of the caller:
 ///
 /// - `nonzero`: `T.value d ≢ pos 0`
 /// - `held`: `¬ (IsAboveMax T.hi (T.value n) (T.value d))`
@@ -35,11 +35,10 @@ pub(crate) fn follow_right<T: Integer>(
     }
 }
 
-// The same without a division, or `None` where the product of the two is below all numbers of the type.
+// The same without a division. `None` if the product of `quotient` and `d` is below all numbers of the type.
 #[inline]
 fn follow_by_product<T: Integer>(quotient: T, n: T, d: T) -> Option<Result<T, Ordering>> {
-    let _ = n.held();
-    let _ = d.held();
+    both_held(n, d);
     let product = match quotient.try_times(d) {
         Some(product) => product,
         None if T::ZERO < quotient => return Some(Err(Ordering::Greater)),

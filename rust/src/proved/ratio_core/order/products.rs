@@ -1,15 +1,15 @@
 // Erased from crates/ratio_core/src/order/products.rt by rust/erase: not to be edited.
-//! The order of fractions by their cross products, where the type holds both.
+//! Comparing fractions by their cross products, if both fit the type.
 
 use crate::proved::ratio_core::order::signs::have_unlike_signs;
 use crate::proved::ratio_integer::Integer;
 use core::cmp::Ordering;
 
-/// How `n/d` stands to `m/e` by their cross products, or `None` where the type does not hold both.
+/// The order of `n/d` and `m/e` by their cross products, or `None` if one of these does not fit the type.
 ///
 /// # Conditions
 ///
-/// What is proved asks of the caller:
+/// The proof requires of the caller:
 ///
 /// - `left_nonzero`: `T.value d ≢ pos 0`
 /// - `right_nonzero`: `T.value e ≢ pos 0`

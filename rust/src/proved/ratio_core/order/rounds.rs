@@ -1,5 +1,5 @@
 // Erased from crates/ratio_core/src/order/rounds.rt by rust/erase: not to be edited.
-//! The order of fractions by rounds of Euclid's algorithm on both, a step a side and round.
+//! Comparing fractions by rounds of Euclid's algorithm on both. A round takes one step a side.
 
 use crate::proved::ratio_core::order::dividing::{divide_left, is_above_max};
 use crate::proved::ratio_core::order::following::follow_right;
@@ -7,11 +7,11 @@ use crate::proved::ratio_core::steps::Steps;
 use crate::proved::ratio_integer::Integer;
 use core::cmp::Ordering;
 
-/// How `n/d` stands to `m/e`, by rounds alone.
+/// The order of `n/d` and `m/e`, by rounds alone.
 ///
 /// # Conditions
 ///
-/// What is proved asks of the caller:
+/// The proof requires of the caller:
 ///
 /// - `left_nonzero`: `T.value d ≢ pos 0`
 /// - `right_nonzero`: `T.value e ≢ pos 0`
@@ -21,7 +21,7 @@ pub(crate) fn cmp_by_rounds<T: Integer>(n: T, d: T, m: T, e: T, steps: &mut Step
     let mut denom = d;
     let mut other_numer = m;
     let mut other_denom = e;
-    // The reciprocals of what a round leaves stand the other way round.
+    // A round goes on with the reciprocals of the rests, and these have the reverse order.
     let mut reversed = false;
     loop {
         if let Some(order) = order_at_top(numer, denom, other_numer, other_denom) {
@@ -43,18 +43,16 @@ pub(crate) fn cmp_by_rounds<T: Integer>(n: T, d: T, m: T, e: T, steps: &mut Step
     }
 }
 
-/// How the two stand where one of them has a value that the type does not hold.
+/// The order of the two, if the value of one of them is `hi+1`, which does not fit the type.
 ///
 /// # Conditions
 ///
-/// What is proved asks of the caller:
+/// The proof requires of the caller:
 ///
 /// - `left_nonzero`: `T.value d ≢ pos 0`
 /// - `right_nonzero`: `T.value e ≢ pos 0`
 #[inline]
 fn order_at_top<T: Integer>(n: T, d: T, m: T, e: T) -> Option<Ordering> {
-    let _ = n.held();
-    let _ = m.held();
     match (is_above_max(n, d), is_above_max(m, e)) {
         (true, true) => Some(Ordering::Equal),
         (true, false) => Some(Ordering::Greater),
@@ -63,7 +61,7 @@ fn order_at_top<T: Integer>(n: T, d: T, m: T, e: T) -> Option<Ordering> {
     }
 }
 
-/// How two of one quotient stand, by whether a rest is left, where this decides.
+/// The order of two fractions with the same quotient, if at least one of them has no rest.
 #[inline]
 fn order_of_rests<T: Integer>(rest: T, other_rest: T) -> Option<Ordering> {
     match (rest.is_zero(), other_rest.is_zero()) {
@@ -74,7 +72,7 @@ fn order_of_rests<T: Integer>(rest: T, other_rest: T) -> Option<Ordering> {
     }
 }
 
-/// The answer, turned where `reversed` is set.
+/// The order, reversed if `reversed` is set.
 #[inline]
 fn turned(reversed: bool, answer: Ordering) -> Ordering {
     if reversed { answer.reverse() } else { answer }

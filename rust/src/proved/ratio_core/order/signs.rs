@@ -4,7 +4,7 @@
 use crate::proved::ratio_core::sign::is_below_zero;
 use crate::proved::ratio_integer::Integer;
 
-/// Whether one of the two is below 0, and the other is not.
+/// Whether exactly one of the two is below 0.
 #[inline]
 pub(crate) fn have_unlike_signs<T: Integer>(d: T, e: T) -> bool {
     is_below_zero(d) != is_below_zero(e)

@@ -1,18 +1,17 @@
 // Erased from crates/ratio_core/src/products/lowest.rt by rust/erase: not to be edited.
-//! Products and quotients of fractions in lowest terms, which are not reduced again.
+//! Products and quotients of fractions that are already in lowest terms.
 //!
-//! Where both products of the fields are held, one greatest common divisor finishes them. Where one is
-//! not, the fractions are cancelled across, which takes two.
+//! If both products of the fields fit the type, one gcd reduces them. Else the
+//! fractions are cancelled across, with two gcds.
 
 use crate::proved::ratio_core::checked_new::checked_new;
 use crate::proved::ratio_integer::{Integer, lowest_terms};
 
-/// The lowest terms of `a/b * c/d` where both are in lowest terms, or `None` where the type does not
-/// hold them.
+/// The lowest terms of `a/b * c/d`, or `None` if they do not fit the type. Both fractions must be in lowest terms.
 ///
 /// # Conditions
 ///
-/// What is proved asks of the caller:
+/// The proof requires of the caller:
 ///
 /// - `left`: `IsLowestTerms (T.value a) (T.value b)`
 /// - `right`: `IsLowestTerms (T.value c) (T.value d)`
@@ -26,12 +25,12 @@ pub fn checked_mul<T: Integer>(a: T, b: T, c: T, d: T) -> Option<(T, T)> {
     crossed_product(a, b, c, d)
 }
 
-/// The lowest terms of `a/b` divided by `c/d` where both are in lowest terms, or `None` where `c` is 0
-/// or the type does not hold them.
+/// The lowest terms of `a/b` divided by `c/d`, or `None` if `c` is 0 or they do
+/// not fit the type. Both fractions must be in lowest terms.
 ///
 /// # Conditions
 ///
-/// What is proved asks of the caller:
+/// The proof requires of the caller:
 ///
 /// - `left`: `IsLowestTerms (T.value a) (T.value b)`
 /// - `right`: `IsLowestTerms (T.value c) (T.value d)`
@@ -45,11 +44,11 @@ pub fn checked_div<T: Integer>(a: T, b: T, c: T, d: T) -> Option<(T, T)> {
     crossed_quotient(a, b, c, d)
 }
 
-/// The same product, cancelled across before it is multiplied.
+/// The product, cancelled across before it is multiplied: 2/3 times 3/4 becomes 1/1 times 1/2.
 ///
 /// # Conditions
 ///
-/// What is proved asks of the caller:
+/// The proof requires of the caller:
 ///
 /// - `left`: `IsLowestTerms (T.value a) (T.value b)`
 /// - `right`: `IsLowestTerms (T.value c) (T.value d)`
@@ -60,12 +59,11 @@ pub(crate) fn crossed_product<T: Integer>(a: T, b: T, c: T, d: T) -> Option<(T, 
     multiplied(p, q, s, t)
 }
 
-/// The same quotient: the numerators over one another, which moves the divisor's sign, times the
-/// denominators over one another.
+/// The quotient: `a/c` times `d/b`. Reducing `a/c` moves the divisor's sign.
 ///
 /// # Conditions
 ///
-/// What is proved asks of the caller:
+/// The proof requires of the caller:
 ///
 /// - `left`: `IsLowestTerms (T.value a) (T.value b)`
 /// - `right`: `IsLowestTerms (T.value c) (T.value d)`
@@ -76,7 +74,7 @@ pub(crate) fn crossed_quotient<T: Integer>(a: T, b: T, c: T, d: T) -> Option<(T,
     multiplied(p, q, s, t)
 }
 
-// `p/q * s/t` where its products are in lowest terms as they stand.
+// `p/q * s/t`, if its products are already in lowest terms.
 #[inline]
 fn multiplied<T: Integer>(p: T, q: T, s: T, t: T) -> Option<(T, T)> {
     Some((p.try_times(s)?, q.try_times(t)?))

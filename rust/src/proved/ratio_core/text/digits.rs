@@ -1,9 +1,9 @@
 // Erased from crates/ratio_core/src/text/digits.rt by rust/erase: not to be edited.
-//! The decimal digits of a number, from its end on.
+//! The decimal digits of a number, written from the last to the first.
 
 use crate::proved::itoa::write_digits;
 
-// What 19 digits, and 18, count up to.
+// 10^19 and 10^18: a group has 19 digits, and 18 of them are written after a 1.
 const GROUP: u64 = 10_000_000_000_000_000_000;
 
 const ONE_BEFORE: u64 = 1_000_000_000_000_000_000;
@@ -11,12 +11,12 @@ const ONE_BEFORE: u64 = 1_000_000_000_000_000_000;
 // The quotient of 2^127 by 10^19.
 const RECIPROCAL: u128 = 17_014_118_346_046_923_173;
 
-// Writes the decimal digits so that they end at `end`, and returns where they start. Past 64 bits
-// they go in groups of 19: the last digit, and the 18 before it after a 1, which keeps their leading
-// zeros. The digits before the group then stand in the place of the 1.
+// Writes the decimal digits so that they end at `end`, and returns where they start. A number above 64 bits
+// is written in groups of 19 digits: the last digit, and the 18 before it after a 1, which keeps their
+// leading zeros. The digits before the group then overwrite the 1.
 /// # Conditions
 ///
-/// What is proved asks of the caller:
+/// The proof requires of the caller:
 ///
 /// - `room`: `39 ≤ end`
 /// - `inside`: `end ≤ length buf.old`
@@ -35,8 +35,8 @@ pub(crate) fn put_digits(n: u128, buf: &mut [u8], end: usize) -> usize {
     put_word(left as u64, buf, at)
 }
 
-// The quotient by 10^19, without a division in 128 bits: the upper half gives less than that by 4 at
-// most, and an eighth of what is then left fits 64 bits.
+// The quotient by 10^19, without a division in 128 bits. The upper half gives a guess that is at most 4 too
+// low. An eighth of what is then left fits 64 bits.
 #[inline(always)]
 fn groups(n: u128) -> u128 {
     let guess = n / (1 << 64) * RECIPROCAL / (1 << 63);
@@ -44,9 +44,16 @@ fn groups(n: u128) -> u128 {
     guess + ((left / 8) as u64 / (GROUP / 8)) as u128
 }
 
-// The same of a number of 64 bits. The place of four digits is tested once, and not that of each.
+/// The same for a number of 64 bits. The bounds are tested once for four digits.
+///
+/// # Conditions
+///
+/// The proof requires of the caller:
+///
+/// - `room`: `length (decimal n) ≤ end`
+/// - `inside`: `end ≤ length buf.old`
 #[inline]
-fn put_word(n: u64, buf: &mut [u8], end: usize) -> usize {
+pub(crate) fn put_word(n: u64, buf: &mut [u8], end: usize) -> usize {
     let mut left = n;
     let mut at = end;
     while left >= 10_000 {
@@ -57,21 +64,21 @@ fn put_word(n: u64, buf: &mut [u8], end: usize) -> usize {
     write_digits(left, buf, at)
 }
 
-// Writes four digits, leading zeros too.
+// Writes four digits, with leading zeros.
 #[inline(always)]
 fn put_four(n: u64, place: &mut [u8]) {
-    put_pair(n % 100, place, 2);
-    put_pair(n / 100, place, 0);
+    put_two_digits(n % 100, place, 2);
+    put_two_digits(n / 100, place, 0);
 }
 
-static PAIRS: [u8; 200] =
+static TWO_DIGITS: [u8; 200] =
     *b"00010203040506070809101112131415161718192021222324252627282930313233343536373839404142434445464748495051525354555657585960616263646566676869707172737475767778798081828384858687888990919293949596979899";
 
-// Writes two digits at a place, a leading zero too.
+// Writes two digits at a place, with a leading zero.
 #[inline(always)]
-fn put_pair(n: u64, place: &mut [u8], at: usize) {
+fn put_two_digits(n: u64, place: &mut [u8], at: usize) {
     let from = n as usize * 2;
-    let (tens, ones) = (PAIRS[from], PAIRS[from + 1]);
+    let (tens, ones) = (TWO_DIGITS[from], TWO_DIGITS[from + 1]);
     place[at] = tens;
     place[at + 1] = ones;
 }

@@ -6,7 +6,7 @@
 pub enum Form {
     /// Decimal digits, after a minus for a number below 0.
     Decimal,
-    /// Digits in base 2 of the two's complement, in the width of the type. Its prefix is `0b`.
+    /// The two's complement in base 2, in the width of the type: `11111111` for -1 over `i8`. Its prefix is `0b`.
     Binary,
     /// The same in base 8, with the prefix `0o`.
     Octal,

@@ -1,16 +1,16 @@
 // Erased from crates/ratio_core/src/text/laws.rt by rust/erase: not to be edited.
-//! What the words for texts mean: each function's contract is the law, and it does nothing.
+//! What the words for texts mean. Each function does nothing: its contract is the law.
 
-/// What a byte is worth as a digit: `0` to `9`, and then the letters in either case; the others are
-/// no digits, which is said by the value 36, since no radix is above it.
+/// What a byte is worth as a digit: 0 to 9 for `0` to `9`, and 10 to 35 for the letters in either case. The
+/// value of any other byte is not below 36. No radix is above 36, so such a byte is no digit.
 #[inline]
 pub fn digits() {}
 
-/// The decimal text of a natural number, as std prints it: one byte below 10, and for a greater
-/// number the text of its tenth part and its last digit. No number here has more than 39 digits.
+/// The decimal text of a natural number, as std prints it. Below 10 it is one byte. For a greater number it is the
+/// text of its tenth part, and then its last digit. The law goes up to 64 digits; no number here has more than 39.
 #[inline]
 pub fn decimal_digits() {}
 
-/// A text is the number text of one number at most, and has two numbers in one way at most.
+/// A text reads as at most one number, and as at most one pair of numbers.
 #[inline]
 pub fn one_reading() {}

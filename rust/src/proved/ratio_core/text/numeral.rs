@@ -1,13 +1,13 @@
 // Erased from crates/ratio_core/src/text/numeral.rt by rust/erase: not to be edited.
-//! Printing a number in base 2, 8 or 16, from its end on.
+//! A number in base 2, 8 or 16, written from the last digit to the first.
 
 use crate::proved::ratio_integer::Primitive;
 
-// Writes the digits so that they end at `end`, and returns where they start. Past 64 bits they go in
-// groups of 16. The base is known where this is called, so that no division is left.
+// Writes the digits so that they end at `end`, and returns where they start. A number above 64 bits is
+// written in groups of 16 digits. The code is compiled for each base, so it divides by constants.
 /// # Conditions
 ///
-/// What is proved asks of the caller:
+/// The proof requires of the caller:
 ///
 /// - `low`: `2 ≤ base`
 /// - `high`: `base ≤ 16`
@@ -41,7 +41,7 @@ pub(crate) fn put_numeral(n: u128, base: u128, upper: bool, buf: &mut [u8], end:
     at
 }
 
-// Writes a group, its leading zeros too: the digits of a longer number that ends so.
+// Writes the last 16 digits of a longer number, with leading zeros.
 #[inline(always)]
 fn put_group(n: u64, base: u64, upper: bool, buf: &mut [u8]) {
     let mut left = n;
@@ -57,7 +57,6 @@ static LOWER: [u8; 16] = *b"0123456789abcdef";
 
 static UPPER: [u8; 16] = *b"0123456789ABCDEF";
 
-// The digit.
 #[inline(always)]
 fn glyph(digit: u8, upper: bool) -> u8 {
     if upper {
@@ -67,7 +66,7 @@ fn glyph(digit: u8, upper: bool) -> u8 {
     }
 }
 
-// The number, and, where it is below 0, what counts to it from 2 to the width of the type on.
+// The number, and 2 to the width of the type more if it is below 0: 255 for -1 over `i8`.
 #[inline]
 pub(crate) fn twos_complement<T: Primitive>(t: T) -> u128 {
     let _ = t.held();

@@ -1,54 +1,49 @@
 // Erased from crates/ratio_core/src/text/printing.rt by rust/erase: not to be edited.
-//! Printing a fraction as a text, from its end on.
+//! Printing a fraction as a text, written from the last byte to the first.
 
-use crate::proved::ratio_core::text::decimal::DecimalText;
 use crate::proved::ratio_core::text::digits::put_digits;
+use crate::proved::ratio_core::text::fixed_text::{BaseTenText, RatioText};
 use crate::proved::ratio_core::text::form::Form;
 use crate::proved::ratio_core::text::numeral::{put_numeral, twos_complement};
-use crate::proved::ratio_core::text::ratio_text::RatioText;
-use crate::proved::ratio_integer::Primitive;
+use crate::proved::ratio_integer::{Primitive, both_held};
 
-/// The text of a fraction's two numbers as they stand: the numerator, and, unless the denominator
-/// is 1, a slash and the denominator. With `alternate` the prefix that names the base stands before
-/// each number; decimal has none. Reading the decimal text of a positive denominator gives the
-/// lowest terms, and so does reading another text without prefixes in its base, where no number is
-/// below 0 and there is a slash.
+/// The text of a fraction's two numbers, not reduced: the numerator and, unless the denominator is 1, a slash and
+/// the denominator. With `alternate`, each number has the prefix of its base: `0x2/0x4`. Decimal has no prefix.
+///
+/// A text in base 10 with a positive denominator reads back as the fraction's lowest terms. A text in another
+/// base does so, read in that base, if it has a slash, no prefix, and no number below 0.
 #[inline]
 pub fn text<T: Primitive>(numer: T, denom: T, form: Form, alternate: bool) -> RatioText {
-    let _ = numer.held();
-    let _ = denom.held();
+    both_held(numer, denom);
     let mut text = RatioText::empty();
     put_text(numer, denom, form, alternate, &mut text);
     text
 }
 
-/// Puts that text in the place of what `text` was, so that no array is moved.
+/// Writes that text over the one in `text`, so that no array is moved.
 #[inline]
 pub fn put_text<T: Primitive>(numer: T, denom: T, form: Form, alternate: bool, text: &mut RatioText) {
-    let _ = numer.held();
-    let _ = denom.held();
+    both_held(numer, denom);
     text.start = put_fraction(numer, denom, form, alternate, &mut text.bytes);
 }
 
-/// The same in decimal, in an array of 81 bytes, which takes less time to make.
+/// The text in base 10, in an array of 81 bytes, which takes less time to make.
 #[inline]
-pub fn decimal_text<T: Primitive>(numer: T, denom: T) -> DecimalText {
-    let _ = numer.held();
-    let _ = denom.held();
-    let mut text = DecimalText::empty();
-    put_decimal_text(numer, denom, &mut text);
+pub fn base_ten_text<T: Primitive>(numer: T, denom: T) -> BaseTenText {
+    both_held(numer, denom);
+    let mut text = BaseTenText::empty();
+    put_base_ten_text(numer, denom, &mut text);
     text
 }
 
-/// Puts the decimal text in the place of what `text` was.
+/// Writes the text in base 10 over the one in `text`.
 #[inline]
-pub fn put_decimal_text<T: Primitive>(numer: T, denom: T, text: &mut DecimalText) {
-    let _ = numer.held();
-    let _ = denom.held();
-    text.start = put_decimal_fraction(numer, denom, &mut text.bytes);
+pub fn put_base_ten_text<T: Primitive>(numer: T, denom: T, text: &mut BaseTenText) {
+    both_held(numer, denom);
+    text.start = put_base_ten_fraction(numer, denom, &mut text.bytes);
 }
 
-// Writes the fraction so that it ends where the buffer does, and returns where it starts.
+// Writes the fraction at the end of the buffer, and returns where it starts.
 #[inline]
 fn put_fraction<T: Primitive>(
     numer: T,
@@ -65,8 +60,7 @@ fn put_fraction<T: Primitive>(
     put_prefixed(numer, form, alternate, buf, slash)
 }
 
-// Writes the number, after its prefix where that is asked for, so that it ends at `end`, and returns
-// where it starts.
+// Writes the number so that it ends at `end`, after its prefix if `alternate` is set, and returns where it starts.
 #[inline]
 fn put_prefixed<T: Primitive>(
     t: T,
@@ -83,7 +77,7 @@ fn put_prefixed<T: Primitive>(
     }
 }
 
-// The same of the prefix alone.
+// The same for the prefix alone.
 #[inline]
 fn put_prefix(form: Form, buf: &mut [u8], end: usize) -> usize {
     let letter = match form {
@@ -98,7 +92,7 @@ fn put_prefix(form: Form, buf: &mut [u8], end: usize) -> usize {
     end - 2
 }
 
-// The same of the number alone.
+// The same for the number alone.
 #[inline]
 fn put_number<T: Primitive>(t: T, form: Form, buf: &mut [u8], end: usize) -> usize {
     match form {
@@ -110,9 +104,9 @@ fn put_number<T: Primitive>(t: T, form: Form, buf: &mut [u8], end: usize) -> usi
     }
 }
 
-// Writes the fraction in decimal so that it ends where the buffer does, and returns where it starts.
+// Writes the fraction in decimal at the end of the buffer, and returns where it starts.
 #[inline]
-fn put_decimal_fraction<T: Primitive>(numer: T, denom: T, buf: &mut [u8]) -> usize {
+fn put_base_ten_fraction<T: Primitive>(numer: T, denom: T, buf: &mut [u8]) -> usize {
     if denom.is_one() {
         return put_decimal(numer, buf, 81);
     }
@@ -132,10 +126,9 @@ fn put_decimal<T: Primitive>(t: T, buf: &mut [u8], end: usize) -> usize {
     start
 }
 
-// The distance of the number from 0.
+/// The distance of the number from 0.
 #[inline]
-fn magnitude<T: Primitive>(t: T) -> u128 {
-    let _ = t.held();
+pub(crate) fn magnitude<T: Primitive>(t: T) -> u128 {
     match t.to_u128() {
         Some(n) => n,
         None => t.to_i128().unwrap().unsigned_abs(),

@@ -3,41 +3,44 @@
 
 use crate::proved::ratio_core::checked_new::checked_new;
 use crate::proved::ratio_core::parse_error::{ParseRatioError, RatioErrorKind};
-use crate::proved::ratio_core::text::quick_pair::{quick_pair, quick_slashed_pair};
+use crate::proved::ratio_core::text::quick_fields::{quick_fields, quick_slashed_fields};
 use crate::proved::ratio_integer::{Integer, Primitive};
 
-/// The fraction of a decimal text in lowest terms: `N/D` for two number texts, or `N` for `N/1`. A
-/// number text is one digit or more after an optional `+`, or `-` for a type with numbers below 0;
-/// leading zeros are allowed, and nothing else is. The kind of the first refusal that applies is
-/// `ParseError` where a part is no number text or the type does not hold its number,
-/// `ZeroDenominator` where the second number is 0, and `ParseError` where the type does not hold
-/// the lowest terms.
+/// The fraction of a text in base 10, in lowest terms: `6/4` gives 3/2. The text is `N/D` with two number texts,
+/// or `N`, which means `N/1`. A number text is one digit or more, after an optional `+`. If the type has
+/// numbers below 0, a `-` may come instead of the `+`. Leading zeros are allowed, and nothing else is.
+///
+/// The first of these refusals that applies is returned:
+///
+/// - `ParseError`, if a part is no number text or its number does not fit the type;
+/// - `ZeroDenominator`, if the second number is 0;
+/// - `ParseError`, if the lowest terms do not fit the type.
 #[inline]
 pub fn from_str<T: Primitive>(text: &str) -> Result<(T, T), ParseRatioError> {
-    match pair::<T>(text) {
+    match fields::<T>(text) {
         Err(refusal) => Err(refusal),
         Ok(read) => in_lowest_terms(read.0, read.1),
     }
 }
 
-/// The same of a text in the radix, which is `N/D` alone: a text without a slash is a parse error.
-/// The digits above 9 are the letters, in either case; no prefix such as `0x` is a part of a number.
+/// The same in a radix, for a text `N/D` only: a text without a slash is a parse error. The digits above 9
+/// are the letters, in either case. A number has no prefix such as `0x`.
 ///
 /// # Conditions
 ///
-/// What is proved asks of the caller:
+/// The proof requires of the caller:
 ///
 /// - `low`: `2 ≤ radix`
 /// - `high`: `radix ≤ 36`
 #[inline]
 pub fn from_str_radix<T: Primitive>(text: &str, radix: u32) -> Result<(T, T), ParseRatioError> {
-    match slashed_pair::<T>(text, radix) {
+    match slashed_fields::<T>(text, radix) {
         Err(refusal) => Err(refusal),
         Ok(read) => in_lowest_terms(read.0, read.1),
     }
 }
 
-// The lowest terms of a text's two numbers.
+// The lowest terms of the two numbers, or a parse error if they do not fit the type.
 #[inline]
 fn in_lowest_terms<T: Primitive>(numer: T, denom: T) -> Result<(T, T), ParseRatioError> {
     match checked_new(numer, denom) {
@@ -46,7 +49,8 @@ fn in_lowest_terms<T: Primitive>(numer: T, denom: T) -> Result<(T, T), ParseRati
     }
 }
 
-// The number of the text in the radix, read in 128 bits, or `None` where it is no number text or the type does not hold its number.
+// The number of the text in the radix, read in 128 bits. `None` if it is no
+// number text or its number does not fit the type.
 #[inline]
 fn number<T: Primitive>(text: &str, radix: u32) -> Option<T> {
     if T::MIN < T::ZERO {
@@ -68,10 +72,10 @@ fn sides<T: Primitive>(front: &str, back: &str, radix: u32) -> Result<(T, T), Pa
     }
 }
 
-// The two numbers of a text in the radix that has a slash, as they stand. Most texts are read at once.
+// The two numbers of a text with a slash, not reduced. `quick_slashed_fields` reads most texts.
 #[inline]
-fn slashed_pair<T: Primitive>(text: &str, radix: u32) -> Result<(T, T), ParseRatioError> {
-    if let Some(read) = quick_slashed_pair::<T>(text.as_bytes(), radix) {
+fn slashed_fields<T: Primitive>(text: &str, radix: u32) -> Result<(T, T), ParseRatioError> {
+    if let Some(read) = quick_slashed_fields::<T>(text.as_bytes(), radix) {
         return nonzero(read.0, read.1);
     }
     match text.split_once('/') {
@@ -80,16 +84,16 @@ fn slashed_pair<T: Primitive>(text: &str, radix: u32) -> Result<(T, T), ParseRat
     }
 }
 
-// The two numbers of a decimal text, as they stand. Most texts are short.
+// The two numbers of a text in base 10, not reduced. `quick_fields` reads most texts.
 #[inline]
-fn pair<T: Primitive>(text: &str) -> Result<(T, T), ParseRatioError> {
-    match quick_pair::<T>(text.as_bytes()) {
+fn fields<T: Primitive>(text: &str) -> Result<(T, T), ParseRatioError> {
+    match quick_fields::<T>(text.as_bytes()) {
         Some(read) => nonzero(read.0, read.1),
-        None => long_pair(text),
+        None => long_fields(text),
     }
 }
 
-// The two numbers, where the second is not 0.
+// The two numbers, or a zero denominator if the second one is 0.
 #[inline]
 fn nonzero<T: Integer>(numer: T, denom: T) -> Result<(T, T), ParseRatioError> {
     if denom.is_zero() {
@@ -99,9 +103,9 @@ fn nonzero<T: Integer>(numer: T, denom: T) -> Result<(T, T), ParseRatioError> {
     }
 }
 
-// The same of a text of any length.
+// The same for any text, with a search for the slash.
 #[inline]
-fn long_pair<T: Primitive>(text: &str) -> Result<(T, T), ParseRatioError> {
+fn long_fields<T: Primitive>(text: &str) -> Result<(T, T), ParseRatioError> {
     match text.split_once('/') {
         Some((front, back)) => sides(front, back, 10),
         None => match number(text, 10) {

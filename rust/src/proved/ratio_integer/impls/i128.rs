@@ -3,8 +3,8 @@
 //! The type `i128`.
 
 use crate::proved::ratio_integer::binary_gcd::binary_gcd_wide;
+use crate::proved::ratio_integer::half_width;
 use crate::proved::ratio_integer::integer::Integer;
-use crate::proved::ratio_integer::narrowed;
 use crate::proved::ratio_integer::primitive::Primitive;
 use crate::proved::ratio_integer::signed::SignedInteger;
 use num_traits::cast;
@@ -19,6 +19,8 @@ impl Integer for i128 {
     const MAX: i128 = i128::MAX;
 
     const EXACT_SUMS: bool = false;
+
+    const EXACT_REMAINDERS: bool = false;
 
     #[inline]
     fn plus(self, o: i128) -> i128 {
@@ -37,12 +39,12 @@ impl Integer for i128 {
 
     #[inline]
     fn try_times(self, o: i128) -> Option<i128> {
-        narrowed::try_times(self, o)
+        half_width::try_times(self, o)
     }
 
     #[inline]
     fn div_rem(self, o: i128) -> (i128, i128) {
-        narrowed::div_rem(self, o)
+        half_width::div_rem(self, o)
     }
 
     #[inline]

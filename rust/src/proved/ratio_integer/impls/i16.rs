@@ -19,6 +19,8 @@ impl Integer for i16 {
 
     const EXACT_SUMS: bool = false;
 
+    const EXACT_REMAINDERS: bool = true;
+
     #[inline]
     fn plus(self, o: i16) -> i16 {
         self + o

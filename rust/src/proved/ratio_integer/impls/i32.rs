@@ -20,6 +20,8 @@ impl Integer for i32 {
 
     const EXACT_SUMS: bool = true;
 
+    const EXACT_REMAINDERS: bool = true;
+
     #[inline]
     fn plus(self, o: i32) -> i32 {
         self + o

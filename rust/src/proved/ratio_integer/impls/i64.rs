@@ -20,6 +20,8 @@ impl Integer for i64 {
 
     const EXACT_SUMS: bool = true;
 
+    const EXACT_REMAINDERS: bool = true;
+
     #[inline]
     fn plus(self, o: i64) -> i64 {
         self + o

@@ -19,6 +19,8 @@ impl Integer for i8 {
 
     const EXACT_SUMS: bool = false;
 
+    const EXACT_REMAINDERS: bool = true;
+
     #[inline]
     fn plus(self, o: i8) -> i8 {
         self + o

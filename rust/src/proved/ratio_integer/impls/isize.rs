@@ -19,6 +19,8 @@ impl Integer for isize {
 
     const EXACT_SUMS: bool = false;
 
+    const EXACT_REMAINDERS: bool = true;
+
     #[inline]
     fn plus(self, o: isize) -> isize {
         self + o

@@ -3,8 +3,8 @@
 //! The type `u128`.
 
 use crate::proved::ratio_integer::binary_gcd::binary_gcd_wide;
+use crate::proved::ratio_integer::half_width;
 use crate::proved::ratio_integer::integer::Integer;
-use crate::proved::ratio_integer::narrowed;
 use crate::proved::ratio_integer::primitive::Primitive;
 use num_traits::cast;
 
@@ -18,6 +18,8 @@ impl Integer for u128 {
     const MAX: u128 = u128::MAX;
 
     const EXACT_SUMS: bool = false;
+
+    const EXACT_REMAINDERS: bool = false;
 
     #[inline]
     fn plus(self, o: u128) -> u128 {
@@ -41,7 +43,7 @@ impl Integer for u128 {
 
     #[inline]
     fn div_rem(self, o: u128) -> (u128, u128) {
-        narrowed::div_rem_unsigned(self, o)
+        half_width::div_rem_unsigned(self, o)
     }
 
     #[inline]

@@ -18,6 +18,8 @@ impl Integer for u16 {
 
     const EXACT_SUMS: bool = false;
 
+    const EXACT_REMAINDERS: bool = true;
+
     #[inline]
     fn plus(self, o: u16) -> u16 {
         self + o

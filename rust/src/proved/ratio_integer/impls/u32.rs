@@ -18,6 +18,8 @@ impl Integer for u32 {
 
     const EXACT_SUMS: bool = false;
 
+    const EXACT_REMAINDERS: bool = true;
+
     #[inline]
     fn plus(self, o: u32) -> u32 {
         self + o

@@ -18,6 +18,8 @@ impl Integer for u64 {
 
     const EXACT_SUMS: bool = false;
 
+    const EXACT_REMAINDERS: bool = true;
+
     #[inline]
     fn plus(self, o: u64) -> u64 {
         self + o

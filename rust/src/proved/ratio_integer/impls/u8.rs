@@ -18,6 +18,8 @@ impl Integer for u8 {
 
     const EXACT_SUMS: bool = false;
 
+    const EXACT_REMAINDERS: bool = true;
+
     #[inline]
     fn plus(self, o: u8) -> u8 {
         self + o

@@ -18,6 +18,8 @@ impl Integer for usize {
 
     const EXACT_SUMS: bool = false;
 
+    const EXACT_REMAINDERS: bool = true;
+
     #[inline]
     fn plus(self, o: usize) -> usize {
         self + o

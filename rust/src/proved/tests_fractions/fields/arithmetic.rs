@@ -1,5 +1,5 @@
 // Erased from crates/tests_fractions/src/fields/arithmetic.rt by rust/erase: not to be edited.
-//! Worked rows of sums, differences, products, quotients and remainders, over five types.
+//! Rows of sums, differences, products, quotients and remainders, over five types.
 
 use crate::proved::ratio_core::products::{checked_div, checked_mul, div, mul};
 use crate::proved::ratio_core::remainder::{checked_rem, rem};
@@ -11,10 +11,10 @@ fn is_positive<T: Integer>(d: T) -> bool {
     T::ZERO < d
 }
 
-// A row: a, b, c and d, and the wanted answer for a/b and c/d.
+// A row: a, b, c and d, and the expected result for a/b and c/d.
 type Row<T> = (T, T, T, T, Option<(T, T)>);
 
-// The answer of the checked call.
+// The result of the checked call.
 #[inline]
 fn answer<T: Integer>(a: T, b: T, symbol: char, c: T, d: T) -> Option<(T, T)> {
     match symbol {
@@ -26,7 +26,7 @@ fn answer<T: Integer>(a: T, b: T, symbol: char, c: T, d: T) -> Option<(T, T)> {
     }
 }
 
-// The first row that has another answer, or a denominator that is not positive.
+// The first row with another result, or with a denominator that is not positive.
 #[inline]
 fn first_wrong<T: Integer>(symbol: char, rows: &[Row<T>]) -> Option<usize> {
     for (i, &(a, b, c, d, want)) in rows.iter().enumerate() {
@@ -43,7 +43,7 @@ fn rows_hold<T: Integer>(symbol: char, rows: &[Row<T>]) {
     assert!(first.is_none(), "{symbol}: row {first:?}");
 }
 
-// The five calls that ask what the checked ones test, on 1/2 and 1/3.
+// The five calls that require what the checked ones test, on 1/2 and 1/3.
 #[inline]
 fn answered<T: Integer>(two: T, three: T) {
     let one = T::ONE;
@@ -152,7 +152,7 @@ fn rows_of_u8() {
     answered(2u8, 3);
 }
 
-// Over `i32` and `i64` sums and differences are exact.
+// Sums and differences are exact over `i32` and `i64`.
 #[test]
 fn rows_of_i32() {
     rows_hold(

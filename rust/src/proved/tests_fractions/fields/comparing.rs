@@ -1,15 +1,15 @@
 // Erased from crates/tests_fractions/src/fields/comparing.rt by rust/erase: not to be edited.
-//! Worked rows of the order and of the codes, with their expected values from outside.
+//! Rows of the order and of the codes. The expected values come from outside.
 use crate::proved::tests_fractions::asserting::{all_hold, each_holds};
 use crate::proved::tests_fractions::recorder::Codes;
 use crate::proved::ratio_core::{Steps, cmp_counted, compare, hash_counted};
 use crate::proved::ratio_integer::Integer;
 use core::cmp::Ordering;
 
-// A row: n, d, m and e, and how n/d stands to m/e.
+// A row: n, d, m and e, and how n/d compares with m/e.
 type Row<T> = (T, T, T, T, Ordering);
 
-// Whether both comparisons answer so.
+// Whether both comparisons return this order.
 #[inline]
 fn stands<T: Integer>(n: T, d: T, m: T, e: T, order: Ordering) -> bool {
     !d.is_zero()
@@ -18,7 +18,7 @@ fn stands<T: Integer>(n: T, d: T, m: T, e: T, order: Ordering) -> bool {
         && compare(n, d, m, e, &mut Steps::new()) == order
 }
 
-// The first row that stands in another order.
+// The first row with another order.
 #[inline]
 fn first_wrong<T: Integer>(rows: &[Row<T>]) -> Option<usize> {
     for (i, &(n, d, m, e, order)) in rows.iter().enumerate() {
@@ -50,7 +50,7 @@ fn order_over_i8() {
             (-128, -128, 1, 1, Ordering::Equal),
             (1, -128, -1, 127, Ordering::Greater),
             (-128, 127, 127, -128, Ordering::Less),
-            // 0 lies between the two, and their products are not held.
+            // 0 lies between the two, and their products do not fit.
             (-127, 126, 127, 125, Ordering::Less),
             (127, 126, -127, 125, Ordering::Greater),
             // One denominator, of either sign.
@@ -80,7 +80,7 @@ fn order_over_i64() {
     );
 }
 
-// Whether an empty list receives these codes of n/d, and no other.
+// Whether an empty list gets exactly these codes of n/d.
 #[inline]
 fn has_codes<T: Integer>(n: T, d: T, mut list: Codes<T>, expected: &[T]) -> bool {
     if d.is_zero() {

@@ -1,15 +1,18 @@
 // Erased from crates/tests_fractions/src/fields/every_call.rt by rust/erase: not to be edited.
-//! The calls on fields that fractions pass on to, each once at a concrete type.
+//! The calls on fields that the calls of fractions pass on to, each once at a concrete type.
 use crate::proved::tests_fractions::asserting::{each_holds, reads};
 use crate::proved::ratio_core::checked_new::checked_new;
 use crate::proved::ratio_core::pow::{checked_pow, checked_pow_with, checked_recip, pow, pow_with, recip};
 use crate::proved::ratio_core::rounding::{
     ceil, floor, fract, round, to_i64, to_i128, to_integer, to_u64, to_u128, trunc,
 };
+use crate::proved::ratio_core::rounding_rule::Rounding;
 use crate::proved::ratio_core::sign::{abs, abs_sub, is_negative, is_positive, neg, signum};
 use crate::proved::ratio_core::sums::checked_sub;
-use crate::proved::ratio_core::text::{decimal_text, from_str, from_str_radix, put_decimal_text, put_text};
-use crate::proved::ratio_core::{DecimalText, Form, RatioText};
+use crate::proved::ratio_core::text::{
+    base_ten_text, decimal, from_str, from_str_radix, put_base_ten_text, put_text,
+};
+use crate::proved::ratio_core::{BaseTenText, Form, RatioText, round_to};
 use crate::proved::ratio_integer::{cancelled, lowest_terms};
 
 #[test]
@@ -18,13 +21,14 @@ fn reducing() {
         checked_new(6i64, -4) == Some((-3, 2)),
         lowest_terms(-6i64, 4) == (-3, 2),
         cancelled(6i64, -4) == (3, -2),
+        round_to(2i64, 3, 100, Rounding::HalfEven) == Some((67, 100)),
         recip(-2i64, 3) == (-3, 2),
         checked_recip(-2i64, 3) == Some((-3, 2)),
     ];
     each_holds(&facts);
 }
 
-// The power by each call, where the checked one answers and the others give the same.
+// The power by each call, if the checked one returns it and the others return the same.
 #[inline]
 fn power(n: i64, d: i64, e: i32) -> Option<(i64, i64)> {
     if d <= 0 {
@@ -63,7 +67,7 @@ fn rounding() {
     each_holds(&facts);
 }
 
-// The difference that is not below 0, where the checked one answers.
+// The difference that is not below 0, if the checked call returns it.
 #[inline]
 fn positive_difference(a: i64, b: i64, c: i64, d: i64) -> Option<(i64, i64)> {
     if b <= 0 || d <= 0 {
@@ -95,10 +99,14 @@ fn texts() {
         from_str_radix::<i64>("f/A", 16).ok() == Some((3, 2)),
     ];
     each_holds(&facts);
-    reads(decimal_text(-2i64, 4).as_str(), "-2/4");
-    let mut decimal = DecimalText::empty();
-    put_decimal_text(-2i64, 4, &mut decimal);
-    reads(decimal.as_str(), "-2/4");
+    reads(base_ten_text(-2i64, 4).as_str(), "-2/4");
+    let mut fields = BaseTenText::empty();
+    put_base_ten_text(-2i64, 4, &mut fields);
+    reads(fields.as_str(), "-2/4");
+    reads(
+        decimal(-2i64, 4, 1, Rounding::HalfEven).as_str(),
+        "-0.5",
+    );
     let mut text = RatioText::empty();
     put_text(15i64, 2, Form::LowerHex, true, &mut text);
     reads(text.as_str(), "0xf/0x2");

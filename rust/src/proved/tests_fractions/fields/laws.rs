@@ -1,5 +1,5 @@
 // Erased from crates/tests_fractions/src/fields/laws.rt by rust/erase: not to be edited.
-//! The laws are calls like any other.
+//! The laws can be called like any function.
 use crate::proved::num_rational::laws::json_pairs;
 use crate::proved::ratio_core::{laws, text};
 use crate::proved::ratio_integer::laws as integers;
@@ -13,9 +13,12 @@ fn each_law_is_called() {
     laws::conditions();
     laws::roundings();
     laws::roundings_by_value();
+    laws::rounding_rules();
     laws::powers();
     laws::parts();
     laws::nearest_fractions();
+    laws::simplest_fractions();
+    laws::fractions_of_quotients();
     text::laws::digits();
     text::laws::decimal_digits();
     text::laws::one_reading();

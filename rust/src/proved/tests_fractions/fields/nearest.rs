@@ -1,10 +1,10 @@
 // Erased from crates/tests_fractions/src/fields/nearest.rt by rust/erase: not to be edited.
-//! Worked rows of the nearest fraction, with their expected values from outside.
+//! Rows of the nearest fraction. The expected values come from outside.
 use crate::proved::tests_fractions::asserting::all_hold;
 use crate::proved::ratio_core::Steps;
 use crate::proved::ratio_core::nearest::{nearest, nearest_counted};
 
-// A row: n, d and the bound, and the answer's two numbers.
+// A row: n, d and the bound, and the two numbers of the result.
 type Row<T> = (T, T, T, T, T);
 
 #[inline]

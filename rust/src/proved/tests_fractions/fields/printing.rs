@@ -5,13 +5,13 @@ use crate::proved::ratio_core::Form;
 use crate::proved::ratio_core::text::text;
 use crate::proved::ratio_integer::Primitive;
 
-// Whether the fields are printed so.
+// Whether the fields are printed as this text.
 #[inline]
 fn prints<T: Primitive>(numer: T, denom: T, form: Form, alternate: bool, want: &str) -> bool {
     text(numer, denom, form, alternate).as_str() == want
 }
 
-// The first row that is not printed so in decimal, where a prefix changes nothing.
+// The first row that is printed as another text in decimal. A prefix changes nothing there.
 #[inline]
 fn first_wrong(rows: &[(i64, i64, &str)]) -> Option<usize> {
     for (i, &(n, d, want)) in rows.iter().enumerate() {
@@ -42,7 +42,7 @@ fn fields_of_64_bits() {
     all_hold("decimal", first_wrong(&rows));
 }
 
-// Whether the fields are printed so in decimal.
+// Whether the fields are printed as this text in decimal.
 #[inline]
 fn is_decimal<T: Primitive>(numer: T, denom: T, want: &str) -> bool {
     prints(numer, denom, Form::Decimal, false, want)

@@ -1,16 +1,16 @@
 // Erased from crates/tests_fractions/src/integers/every_call.rt by rust/erase: not to be edited.
-//! Each call once at each of the twelve types, through the bound: 6 and 4 have the same answers in all.
+//! Each call once at each of the twelve types, through the bound. 6 and 4 have the same results in all types.
 
 use crate::proved::tests_fractions::asserting::each_holds;
-use crate::proved::ratio_integer::{Integer, Primitive, SignedInteger};
+use crate::proved::ratio_integer::{Integer, Primitive, SignedInteger, both_held};
 
-/// The number, or -1 where `i128` does not hold it.
+/// The number, or -1 if it does not fit an `i128`.
 #[inline]
 fn number<T: Integer>(t: T) -> i128 {
     t.to_i128().unwrap_or(-1)
 }
 
-/// The number of an answer, or -1 for `None`.
+/// The number of a result, or -1 for `None`.
 #[inline]
 fn answer<T: Integer>(t: Option<T>) -> i128 {
     match t {
@@ -19,7 +19,7 @@ fn answer<T: Integer>(t: Option<T>) -> i128 {
     }
 }
 
-/// The last two digits of a number, or -1 where `u128` does not hold it.
+/// The last two digits of a number, or -1 if it does not fit a `u128`.
 #[inline]
 fn last_two_digits<T: Integer>(t: T) -> i128 {
     match t.to_u128() {
@@ -37,11 +37,11 @@ fn pair<T: Integer>(sum: Option<(T, T)>) -> Option<(i128, i128)> {
     }
 }
 
-/// What the required calls answer, in the order of the trait.
+/// What the required calls return, in the order of the trait.
 ///
 /// # Conditions
 ///
-/// What is proved asks of the caller:
+/// The proof requires of the caller:
 ///
 /// - `sum`: `IsHeld T.lo T.hi (T.value a +ℤ T.value b)`
 /// - `difference`: `IsHeld T.lo T.hi (T.value a -ℤ T.value b)`
@@ -49,8 +49,6 @@ fn pair<T: Integer>(sum: Option<(T, T)>) -> Option<(i128, i128)> {
 /// - `positive`: `pos 0 <ℤ T.value b`
 #[inline]
 fn required<T: Integer>(a: T, b: T) -> [i128; 12] {
-    let _ = a.held();
-    let _ = b.held();
     let (quotient, rest) = a.div_rem(b);
     [
         number(T::ZERO),
@@ -68,24 +66,23 @@ fn required<T: Integer>(a: T, b: T) -> [i128; 12] {
     ]
 }
 
-/// What the provided calls answer, in the order of the trait; a test answers 1 or 0.
+/// What the provided calls return, in the order of the trait. A test gives 1 or 0.
 ///
 /// # Conditions
 ///
-/// What is proved asks of the caller:
+/// The proof requires of the caller:
 ///
 /// - `pos 0 <ℤ T.value b`
 #[inline]
 fn provided<T: Integer>(a: T, b: T) -> [i128; 16] {
-    let held = a.held();
-    let _ = b.held();
+    both_held(a, b);
     let (quotient, rest) = a.div_mod_floor(b);
     let multiple = match a.try_lcm(b) {
         Some(_) => number(a.lcm(b)),
         None => -1,
     };
     [
-        held as i128,
+        a.held() as i128,
         a.is_zero() as i128,
         a.is_one() as i128,
         a.is_even() as i128,
@@ -104,12 +101,12 @@ fn provided<T: Integer>(a: T, b: T) -> [i128; 16] {
     ]
 }
 
-/// Whether all calls of an integer type answer as they must at 6 and 4, with the lowest terms of
-/// their sums where the type has exact ones.
+/// Whether all calls of an integer type return what they must at 6 and 4. For a type of exact sums,
+/// these are the lowest terms of their sums.
 ///
 /// # Conditions
 ///
-/// What is proved asks of the caller:
+/// The proof requires of the caller:
 ///
 /// - `sum`: `IsHeld T.lo T.hi (T.value a +ℤ T.value b)`
 /// - `difference`: `IsHeld T.lo T.hi (T.value a -ℤ T.value b)`
@@ -130,11 +127,11 @@ fn answers_all<T: Integer>(a: T, b: T) -> bool {
         && provided(a, b) == [1, 0, 0, 1, 0, 10, 2, 12, 1, 2, 1, 2, 2, 12, 0, 1]
 }
 
-/// Whether the calls of a type with negative numbers answer as they must at 6.
+/// Whether the calls of a type with negative numbers return what they must at 6.
 ///
 /// # Conditions
 ///
-/// What is proved asks of the caller:
+/// The proof requires of the caller:
 ///
 /// - `IsHeld T.lo T.hi (neg_ℤ (T.value a))`
 #[inline]

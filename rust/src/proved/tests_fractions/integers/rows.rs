@@ -1,5 +1,5 @@
 // Erased from crates/tests_fractions/src/integers/rows.rt by rust/erase: not to be edited.
-//! Rows of each call, worked out by hand, through the public calls.
+//! Rows of each public call, worked out by hand.
 use crate::proved::tests_fractions::asserting::each_holds;
 use crate::proved::ratio_integer::{Integer, SignedInteger};
 
@@ -51,7 +51,8 @@ fn divisors_of_equal_lower_halves() {
         ((6u128 << 64) + 21).gcd(21) == 3,
         1_936_908_127_739_502_919_701u128.gcd(387_381_625_547_900_583_957) == 21,
         387_381_625_547_900_583_957i128.gcd(-1_190_423_735_308_698_494_435_349) == 21,
-        // They differ by 21 times 2^65. If a factor 2 stays in a difference, the loop takes 2^55 steps or more.
+        // They differ by 21 times 2^65. If a factor 2 stays in a difference, the loop takes 2^55
+        // steps or more.
         27_913_787_911_483_234_105_743_199_361_688_403_989u128.gcd(
             27_913_787_911_483_233_330_979_948_265_887_236_117,
         ) == 21,
@@ -73,7 +74,7 @@ fn divisors_of_128_bits() {
     each_holds(&facts);
 }
 
-// The least common multiple, by the call that asks for the checked one's answer.
+// The least common multiple, by the call that requires that the checked one returns it.
 #[inline]
 fn multiple(a: i8, b: i8) -> Option<i8> {
     match a.try_lcm(b) {
@@ -82,7 +83,7 @@ fn multiple(a: i8, b: i8) -> Option<i8> {
     }
 }
 
-// Whether the least common multiple is this by both calls, or by neither.
+// Whether both calls return this least common multiple, or neither returns any.
 #[inline]
 fn is_multiple(a: i8, b: i8, want: Option<i8>) -> bool {
     a.try_lcm(b) == want && multiple(a, b) == want

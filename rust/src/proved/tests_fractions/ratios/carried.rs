@@ -1,18 +1,16 @@
 // Erased from crates/tests_fractions/src/ratios/carried.rt by rust/erase: not to be edited.
-//! The values of the Rust crate's own tests, under the names that they have there: construction, access
-//! and comparison.
+//! The values of the Rust crate's own tests, with the names that they have there: construction, access and comparison.
 use crate::proved::tests_fractions::asserting::each_holds;
 use crate::proved::tests_fractions::ratios::forms::{self, fraction, has, raw};
 use crate::proved::tests_fractions::ratios::rows::reduced;
 use crate::proved::tests_fractions::ratios::texts::shown_as;
-use crate::proved::tests_fractions::recorder::Written;
+use crate::proved::tests_fractions::written::Written;
 use crate::proved::num_rational::{Constants, Form, Ratio, Rational32, Rational64};
 use crate::proved::ratio_integer::Integer;
 use core::cmp::Ordering;
 use crate::test_support::InlineText;
-use core::hash::Hash;
 
-// The lowest terms by `new`, where `checked_new` answers.
+// The lowest terms by `new`, if `checked_new` returns them.
 #[inline]
 fn new<T: Integer>(n: T, d: T) -> Ratio<T> {
     match Ratio::checked_new(n, d) {
@@ -21,7 +19,7 @@ fn new<T: Integer>(n: T, d: T) -> Ratio<T> {
     }
 }
 
-// 0, 1, 2, 1/2, 3/2 and -1/2, each made by a call of its own, and their fields.
+// 0, 1, 2, 1/2, 3/2 and -1/2, each made by another call, and their fields.
 #[inline]
 fn six() -> [(Rational64, i64, i64); 6] {
     [
@@ -55,7 +53,7 @@ fn test_is_integer() {
     }
 }
 
-// Whether the fraction equals each of these.
+// Whether the fraction equals all of these.
 #[inline]
 fn equals(x: Rational64, others: &[Rational64]) -> bool {
     for other in others {
@@ -90,19 +88,19 @@ fn test_new_reduce() {
     each_holds(&facts);
 }
 
-// Whether the second is above the first, by the operators that tell two fractions apart.
+// Whether the second is above the first, by `!=`, `<` and `>`.
 #[inline]
 fn is_below(low: Rational64, high: Rational64) -> bool {
     low != high && high != low && low < high && !(high < low) && high > low && !(low > high)
 }
 
-// The same by the operators that hold of equal fractions too.
+// The same by `<=` and `>=`.
 #[inline]
 fn is_at_most(low: Rational64, high: Rational64) -> bool {
     low <= high && !(high <= low) && high >= low && !(low >= high)
 }
 
-// Whether the fraction is itself by each of those.
+// Whether `==`, `<=` and `>=` are true of the fraction and itself.
 #[inline]
 fn is_itself(x: Rational64) -> bool {
     x == x && x <= x && x >= x
@@ -124,9 +122,9 @@ fn test_cmp() {
     each_holds(&facts);
 }
 
-// The pair that a fraction with these fields gives.
+// The pair that a fraction with these fields becomes.
 #[inline]
-fn pair_of(numer: i64, denom: i64) -> (i64, i64) {
+fn fields_of(numer: i64, denom: i64) -> (i64, i64) {
     match raw(numer, denom) {
         Some(x) => x.into(),
         None => (numer, denom),
@@ -136,14 +134,14 @@ fn pair_of(numer: i64, denom: i64) -> (i64, i64) {
 #[test]
 fn test_into_pair() {
     let facts = [
-        pair_of(0, 1) == (0, 1),
-        pair_of(-2, 1) == (-2, 1),
-        pair_of(1, -2) == (1, -2),
+        fields_of(0, 1) == (0, 1),
+        fields_of(-2, 1) == (-2, 1),
+        fields_of(1, -2) == (1, -2),
     ];
     each_holds(&facts);
 }
 
-// The fraction of a pair, where `checked_new` answers.
+// The fraction of a pair, if `checked_new` returns it.
 #[inline]
 fn from_pair(pair: (i64, i64)) -> Rational64 {
     match Ratio::checked_new(pair.0, pair.1) {
@@ -187,14 +185,10 @@ fn test_num_one() {
     assert!(x.is_one());
 }
 
-// Whether a hasher receives the same of both.
+// Whether both feed a hasher the same.
 #[inline]
 fn write_alike(x: &Rational64, y: &Rational64) -> bool {
-    let mut first = Written::new();
-    x.hash(&mut first);
-    let mut second = Written::new();
-    y.hash(&mut second);
-    first.as_slice() == second.as_slice()
+    Written::of(x).as_slice() == Written::of(y).as_slice()
 }
 
 #[test]
@@ -224,7 +218,7 @@ fn test_const() {
     each_holds(&facts);
 }
 
-// Whether the base, and 1 over it, are printed so in the form of that base.
+// Whether the base, and 1 over it, are printed as these texts in the form of that base.
 #[inline]
 fn shows_base(base: i64, form: Form, padded: &str, prefixed: &str) -> bool {
     let whole = shown_as(base, 1, form);
@@ -256,7 +250,7 @@ fn test_show() {
     assert!(row.as_str() == "f 0");
 }
 
-// Whether the fraction is printed so, and the text reads as the fraction.
+// Whether the fraction is printed as this text, and the text is read as the fraction.
 #[inline]
 fn is_text_of(text: &str, fraction: Rational64) -> bool {
     let is_printed = fraction.text(Form::Decimal, false).as_str() == text;

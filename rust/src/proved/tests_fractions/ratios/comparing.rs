@@ -2,13 +2,14 @@
 //! Rows of the order and of the hash of fractions, from outside.
 use crate::proved::tests_fractions::asserting::each_holds;
 use crate::proved::tests_fractions::ratios::forms::raw;
-use crate::proved::tests_fractions::recorder::{Codes, Written};
+use crate::proved::tests_fractions::recorder::Codes;
+use crate::proved::tests_fractions::written::Written;
 use crate::proved::num_rational::{Ratio, Steps};
 use crate::proved::ratio_integer::{Integer, SignedInteger};
 use core::cmp::Ordering;
 use core::hash::Hash;
 
-// Whether each call that compares says that x stands so to y.
+// Whether each call that compares returns this order of x and y.
 #[inline]
 fn stand<T: Integer>(x: Ratio<T>, y: Ratio<T>, order: Ordering) -> bool {
     let orders = [
@@ -75,17 +76,15 @@ fn order_at_the_ends() {
     each_holds(&facts);
 }
 
-// Whether an empty list and a hasher receive these codes of x, and no other.
+// Whether an empty list and a hasher get exactly these codes of x.
 #[inline]
 fn has_codes<T: Integer>(x: &Ratio<T>, mut list: Codes<T>, expected: &[T]) -> bool {
     x.hash_counted(&mut list, &mut Steps::new());
-    let mut hashed = Written::new();
-    x.hash(&mut hashed);
     let mut written = Written::new();
     for code in expected {
         code.hash(&mut written);
     }
-    list.as_slice() == expected && hashed.as_slice() == written.as_slice()
+    list.as_slice() == expected && Written::of(x).as_slice() == written.as_slice()
 }
 
 #[inline]

@@ -12,7 +12,7 @@ fn are_positive<T: Integer>(items: &[Ratio<T>]) -> bool {
     items.iter().all(|x| *x.denom() > T::ZERO)
 }
 
-// The fields of the sum, where both checked calls answer it and every other call gives the same.
+// The fields of the sum, if both checked calls return it and every other call gives the same.
 #[inline]
 fn sum<T: Integer>(items: &[Ratio<T>]) -> Option<(T, T)> {
     let fields = Ratio::checked_sum_refs(items.iter())?.into_raw();
@@ -80,7 +80,7 @@ fn multiplied<T: Integer>(items: &[Ratio<T>]) -> Option<(T, T)> {
     Some(total)
 }
 
-// Whether the sum is this by every call, or by none.
+// Whether every call gives this sum, or none gives any.
 #[inline]
 fn is_sum<T: Integer>(items: &[Ratio<T>], want: Option<(T, T)>) -> bool {
     are_positive(items) && sum(items) == want && added(items) == want

@@ -1,11 +1,11 @@
 // Erased from crates/tests_fractions/src/ratios/forms.rt by rust/erase: not to be edited.
-//! Every form of an operator: the checked call, the named call, the symbol and its assigning form. The
-//! right operand is of any form that an operator takes.
+//! Every form of an operator: the checked call, the named call, the symbol and its assigning form. The right operand may be a
+//! fraction or a whole number, a value or a reference.
 
 use crate::proved::num_rational::{Operand, Ratio};
 use crate::proved::ratio_integer::Integer;
 
-/// The fraction of a row, or 0 where its denominator is not positive.
+/// The fraction with these fields, or 0 if its denominator is not positive.
 #[inline]
 pub fn fraction<T: Integer>(fields: (T, T)) -> Ratio<T> {
     if fields.1 > T::ZERO {
@@ -15,7 +15,7 @@ pub fn fraction<T: Integer>(fields: (T, T)) -> Ratio<T> {
     }
 }
 
-/// The fraction with these fields, where its denominator is positive.
+/// The fraction with these fields, if its denominator is positive.
 #[inline]
 pub fn positive<T: Integer>(numer: T, denom: T) -> Option<Ratio<T>> {
     if T::ZERO < denom {
@@ -25,7 +25,7 @@ pub fn positive<T: Integer>(numer: T, denom: T) -> Option<Ratio<T>> {
     }
 }
 
-/// The fraction with these fields, where its denominator is not 0.
+/// The fraction with these fields, if its denominator is not 0.
 #[inline]
 pub(crate) fn raw<T: Integer>(numer: T, denom: T) -> Option<Ratio<T>> {
     if denom.is_zero() {
@@ -41,7 +41,7 @@ pub(crate) fn has<T: Integer>(x: Ratio<T>, fields: (T, T)) -> bool {
     x.into_raw() == fields
 }
 
-/// Whether the answer has these fields, or there is none.
+/// Whether the result has these fields, or both are `None`.
 #[inline]
 pub(crate) fn answers<T: Integer>(answer: Option<Ratio<T>>, want: Option<(T, T)>) -> bool {
     match answer {
@@ -50,14 +50,14 @@ pub(crate) fn answers<T: Integer>(answer: Option<Ratio<T>>, want: Option<(T, T)>
     }
 }
 
-/// The fields of the sum, where the checked call answers it and every other form gives the same.
+/// The fields of the sum, if the checked call returns it and every other form gives the same.
 ///
 /// # Conditions
 ///
-/// What is proved asks of the caller:
+/// The proof requires of the caller:
 ///
 /// - `left`: `pos 0 <ℤ denominator x`
-/// - `right`: `pos 0 <ℤ (O.pair o).1`
+/// - `right`: `pos 0 <ℤ (O.two_numbers o).1`
 #[inline]
 pub(crate) fn sum<T: Integer, O: Operand<T> + Copy>(x: Ratio<T>, o: O) -> Option<(T, T)> {
     let y = o.ratio();
@@ -88,10 +88,10 @@ fn every_sum<T: Integer, O: Operand<T> + Copy>(
 ///
 /// # Conditions
 ///
-/// What is proved asks of the caller:
+/// The proof requires of the caller:
 ///
 /// - `left`: `pos 0 <ℤ denominator x`
-/// - `right`: `pos 0 <ℤ (O.pair o).1`
+/// - `right`: `pos 0 <ℤ (O.two_numbers o).1`
 #[inline]
 pub(crate) fn difference<T: Integer, O: Operand<T> + Copy>(x: Ratio<T>, o: O) -> Option<(T, T)> {
     let y = o.ratio();
@@ -122,10 +122,10 @@ fn every_difference<T: Integer, O: Operand<T> + Copy>(
 ///
 /// # Conditions
 ///
-/// What is proved asks of the caller:
+/// The proof requires of the caller:
 ///
 /// - `left`: `pos 0 <ℤ denominator x`
-/// - `right`: `pos 0 <ℤ (O.pair o).1`
+/// - `right`: `pos 0 <ℤ (O.two_numbers o).1`
 #[inline]
 pub(crate) fn product<T: Integer, O: Operand<T> + Copy>(x: Ratio<T>, o: O) -> Option<(T, T)> {
     let y = o.ratio();
@@ -156,10 +156,10 @@ fn every_product<T: Integer, O: Operand<T> + Copy>(
 ///
 /// # Conditions
 ///
-/// What is proved asks of the caller:
+/// The proof requires of the caller:
 ///
 /// - `left`: `pos 0 <ℤ denominator x`
-/// - `right`: `pos 0 <ℤ (O.pair o).1`
+/// - `right`: `pos 0 <ℤ (O.two_numbers o).1`
 #[inline]
 pub(crate) fn quotient<T: Integer, O: Operand<T> + Copy>(x: Ratio<T>, o: O) -> Option<(T, T)> {
     let y = o.ratio();
@@ -190,10 +190,10 @@ fn every_quotient<T: Integer, O: Operand<T> + Copy>(
 ///
 /// # Conditions
 ///
-/// What is proved asks of the caller:
+/// The proof requires of the caller:
 ///
 /// - `left`: `pos 0 <ℤ denominator x`
-/// - `right`: `pos 0 <ℤ (O.pair o).1`
+/// - `right`: `pos 0 <ℤ (O.two_numbers o).1`
 #[inline]
 pub(crate) fn remainder<T: Integer, O: Operand<T> + Copy>(x: Ratio<T>, o: O) -> Option<(T, T)> {
     let y = o.ratio();

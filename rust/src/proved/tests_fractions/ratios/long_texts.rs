@@ -1,9 +1,9 @@
 // Erased from crates/tests_fractions/src/ratios/long_texts.rt by rust/erase: not to be edited.
-//! Rows of texts of 20 digits and more, from outside. They are read and printed in groups of digits.
+//! Rows of texts of 20 digits or more, from outside. They are read and printed in groups of digits.
 use crate::proved::tests_fractions::asserting::all_hold;
 use crate::proved::num_rational::{Form, Ratio};
 
-// Whether the text reads as these fields, and these fields are printed so.
+// Whether the text is read as these fields, and these fields are printed as the text.
 #[inline]
 fn is_text_of(text: &str, numer: i128, denom: i128) -> bool {
     if denom == 0
@@ -20,7 +20,7 @@ fn is_text_of(text: &str, numer: i128, denom: i128) -> bool {
     }
 }
 
-// The first row that is read or printed in another way.
+// The first row that is read or printed otherwise.
 #[inline]
 fn first_wrong(rows: &[(&str, i128, i128)]) -> Option<usize> {
     for (i, &(text, numer, denom)) in rows.iter().enumerate() {
@@ -139,7 +139,7 @@ fn fractions() {
     all_hold("fractions", first_wrong(&rows));
 }
 
-// The first row that is read in another way.
+// The first row that is read otherwise.
 #[inline]
 fn first_misread(rows: &[(&str, u32, i128, i128)]) -> Option<usize> {
     for (i, &(text, radix, numer, denom)) in rows.iter().enumerate() {

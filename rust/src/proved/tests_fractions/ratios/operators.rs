@@ -1,6 +1,6 @@
 // Erased from crates/tests_fractions/src/ratios/operators.rt by rust/erase: not to be edited.
-//! Rows of the five operators, by every form of each: the values of the Rust crate's own tests, under
-//! the names that they have there, and where a range ends.
+//! Rows of the five operators, by every form of each. They are the values of the Rust crate's own tests, with the names that
+//! they have there, and rows at the ends of a range.
 
 use crate::proved::tests_fractions::asserting::{all_hold, each_holds};
 use crate::proved::tests_fractions::ratios::forms::{self, fraction};
@@ -18,7 +18,7 @@ fn answer<T: Integer, O: Operand<T> + Copy>(x: Ratio<T>, symbol: u8, o: O) -> Op
     }
 }
 
-// The same of a fraction in lowest terms.
+// The same for a fraction in lowest terms.
 #[inline]
 fn lowest_answer<T: Integer, O: ReducedOperand<T>>(
     x: Reduced<T>,
@@ -34,7 +34,7 @@ fn lowest_answer<T: Integer, O: ReducedOperand<T>>(
     }
 }
 
-// Whether the answer has these fields, or there is none.
+// Whether the result has these fields, or both are `None`.
 #[inline]
 fn is_lowest<T: Integer>(answer: Option<Reduced<T>>, want: Option<(T, T)>) -> bool {
     match answer {
@@ -43,7 +43,7 @@ fn is_lowest<T: Integer>(answer: Option<Reduced<T>>, want: Option<(T, T)>) -> bo
     }
 }
 
-// Whether it is so from the lowest terms of the left side.
+// Whether the lowest terms of the left side give this result.
 #[inline]
 fn lowest_holds<T: Integer, O: ReducedOperand<T> + Copy>(
     left: (T, T),
@@ -57,7 +57,7 @@ fn lowest_holds<T: Integer, O: ReducedOperand<T> + Copy>(
     }
 }
 
-// And from those of the right side.
+// Whether the lowest terms of both sides do.
 #[inline]
 fn both_lowest_hold<T: Integer>(
     left: (T, T),
@@ -71,7 +71,7 @@ fn both_lowest_hold<T: Integer>(
     }
 }
 
-// Whether it is so by every form: the right operand stands by value and behind a reference.
+// Whether every form gives this result. The right operand is a value or a reference.
 #[inline]
 fn holds<T: Integer>(left: (T, T), symbol: u8, right: (T, T), want: Option<(T, T)>) -> bool {
     let (x, y) = (fraction(left), fraction(right));
@@ -80,7 +80,14 @@ fn holds<T: Integer>(left: (T, T), symbol: u8, right: (T, T), want: Option<(T, T
         && both_lowest_hold(left, symbol, right, want)
 }
 
-// The same of a whole number on the right.
+// Whether `Ratio` refuses the sum of these fields, and `Reduced` returns it.
+#[inline]
+fn is_sum_of_lowest_terms<T: Integer>(left: (T, T), right: (T, T), want: (T, T)) -> bool {
+    let (x, y) = (fraction(left), fraction(right));
+    answer(x, b'+', y).is_none() && both_lowest_hold(left, b'+', right, Some(want))
+}
+
+// Whether every form gives this result with a whole number on the right.
 #[inline]
 fn holds_with<T: Integer>(left: (T, T), symbol: u8, c: T, want: Option<(T, T)>) -> bool {
     let x = fraction(left);
@@ -90,7 +97,7 @@ fn holds_with<T: Integer>(left: (T, T), symbol: u8, c: T, want: Option<(T, T)>) 
         && lowest_holds(left, symbol, &c, want)
 }
 
-// A row: a, b, a symbol, c, d, and the wanted answer for a/b and c/d.
+// A row: a, b, a symbol, c, d, and the expected result for a/b and c/d.
 type Row<T> = (T, T, u8, T, T, Option<(T, T)>);
 
 // The first row that does not hold.
@@ -179,13 +186,13 @@ fn most<T: Primitive>() -> u128 {
     T::MAX.to_u128().unwrap_or(0)
 }
 
-// The number as one of a type that holds it.
+// The number as one of a type that it fits.
 #[inline]
 fn number<T: Primitive>(n: u128) -> T {
     T::from_u128(n).unwrap_or(T::ZERO)
 }
 
-// 1 over about half of M, and what it is times 2/3.
+// 1 over about half of M, and two thirds of that.
 #[inline]
 fn halves<T: Primitive>() -> ((T, T), (T, T)) {
     let half = most::<T>() / 4;
@@ -212,8 +219,8 @@ fn multiples_hold<T: Primitive>(symbol: u8) -> bool {
     }
 }
 
-// Whether the rows of an operator near the greatest number M hold, where naive products of the fields
-// are not held.
+// Whether the rows of an operator near the greatest number M hold. There, plain products of the
+// fields do not fit.
 #[inline]
 fn near_the_greatest<T: Primitive>(symbol: u8) -> bool {
     let x = (T::ONE, T::MAX);
@@ -369,19 +376,14 @@ fn where_8_bits_end() {
             (-127, 2, b'%', 1, 1, Some((-1, 2))),
         ],
     );
-    rows_hold(
-        &[
-            (255u8, 2, b'+', 255, 2, None),
-            (1, 2, b'-', 1, 1, None),
-            (1, 1, b'%', 0, 3, None),
-        ],
-    );
+    rows_hold(&[(1u8, 2, b'-', 1, 1, None), (1, 1, b'%', 0, 3, None)]);
+    assert!(is_sum_of_lowest_terms((255u8, 2), (255, 2), (255, 1)));
 }
 
 #[test]
 fn where_32_bits_end() {
     let half = (4294967295u32, 2);
-    assert!(holds(half, b'+', half, None));
+    assert!(is_sum_of_lowest_terms(half, half, (4294967295, 1)));
     let (most, b, d) = (2147483647i32, 11862016, 11993088);
     rows_hold(
         &[

@@ -6,7 +6,7 @@ use crate::proved::num_rational::{Exponent, Ratio, Reduced};
 use num_traits::Inv;
 use crate::proved::ratio_integer::Integer;
 
-// n/d to the e, by the checked call and by the one that asks for its answer.
+// n/d to the e, by the checked call and by the one that requires that it returns `Some`.
 #[inline]
 fn power<T: Integer, E: Exponent>(n: T, d: T, e: E) -> Option<(T, T)> {
     let x = positive(n, d)?;
@@ -16,7 +16,7 @@ fn power<T: Integer, E: Exponent>(n: T, d: T, e: E) -> Option<(T, T)> {
     }
 }
 
-// The same for an i32.
+// The same for an `i32`.
 #[inline]
 fn small_power<T: Integer>(n: T, d: T, e: i32) -> Option<(T, T)> {
     let x = positive(n, d)?;
@@ -26,7 +26,7 @@ fn small_power<T: Integer>(n: T, d: T, e: i32) -> Option<(T, T)> {
     }
 }
 
-// Whether the lowest terms of n/d to the e are those of this fraction, or there are none.
+// Whether the lowest terms of n/d to the e are these, or both are `None`.
 #[inline]
 fn lowest_power<T: Integer>(n: T, d: T, e: i32, want: Option<(T, T)>) -> bool {
     let answer = match Reduced::checked_new(n, d) {
@@ -43,7 +43,7 @@ fn lowest_power<T: Integer>(n: T, d: T, e: i32, want: Option<(T, T)>) -> bool {
 // A row: n, d, e and the fields of n/d to the e.
 type Row<T> = (T, T, i32, Option<(T, T)>);
 
-// Whether every call answers so.
+// Whether every call returns this power.
 #[inline]
 fn holds<T: Integer>(n: T, d: T, e: i32, want: Option<(T, T)>) -> bool {
     small_power(n, d, e) == want && power(n, d, &e) == want && lowest_power(n, d, e, want)
@@ -94,10 +94,29 @@ fn test_pow() {
             (-2i8, 1, 7, Some((-128, 1))),
             (-2, 1, -7, None),
             (-128, 1, -1, None),
-            (-1, 2, -7, None),
+            (-128, 1, 1, Some((-128, 1))),
             (-2, 1, -3, Some((-1, 8))),
         ],
     );
+}
+
+// For a negative exponent a `Reduced` moves the sign before it forms the powers, and a `Ratio` after.
+#[test]
+fn lowest_powers_fit() {
+    let facts = [
+        small_power(-1i8, 2, -7).is_none(),
+        lowest_power(-1i8, 2, -7, Some((-128, 1))),
+        lowest_power(-1i8, 2, 7, None),
+        lowest_power(-1i8, 2, -8, None),
+        lowest_power(0i8, 1, -1, None),
+        lowest_power(0i8, 1, 0, Some((1, 1))),
+        lowest_power(-128i8, 1, 1, Some((-128, 1))),
+        lowest_power(-128i8, 1, -1, None),
+        lowest_power(-127i8, 2, -1, Some((-2, 127))),
+        lowest_power(1i8, 2, -2, Some((4, 1))),
+        lowest_power(-1i64, 2, -63, Some((i64::MIN, 1))),
+    ];
+    each_holds(&facts);
 }
 
 #[inline]
@@ -139,7 +158,7 @@ fn magnitudes() {
     each_holds(&[!0u8.is_below_zero(), !(&7i64).is_below_zero()]);
 }
 
-// The reciprocal of n/d by each call, and what n/d times it is.
+// The reciprocal of n/d by each call, and n/d times it.
 #[inline]
 fn reciprocal(n: i64, d: i64) -> Option<((i64, i64), (i64, i64))> {
     if 0 < d && n != 0 && n != i64::MIN {
@@ -159,7 +178,7 @@ fn reciprocal(n: i64, d: i64) -> Option<((i64, i64), (i64, i64))> {
     None
 }
 
-// Whether the reciprocal of n/d is this, and n/d times it is 1.
+// Whether this is the reciprocal of n/d, and n/d times it is 1.
 #[inline]
 fn has_reciprocal(n: i64, d: i64, want: (i64, i64)) -> bool {
     reciprocal(n, d) == Some((want, (1, 1)))

@@ -1,5 +1,5 @@
 // Erased from crates/tests_fractions/src/ratios/rounding.rt by rust/erase: not to be edited.
-//! Rows of the rounding calls and of the numbers as machine integers, from outside.
+//! Rows of the rounding calls and of fractions as machine integers, from outside.
 use crate::proved::tests_fractions::asserting::{all_hold, each_holds};
 use crate::proved::tests_fractions::ratios::forms::positive;
 use crate::proved::num_rational::{Ratio, Reduced};
@@ -21,7 +21,7 @@ fn near<T: Integer>(n: T, d: T) -> Option<(T, T, T, T)> {
     ))
 }
 
-// The same four of the fraction that is always in lowest terms.
+// The same four of a `Reduced`.
 #[inline]
 fn near_lowest<T: Integer>(n: T, d: T) -> Option<(T, T, T, T)> {
     let x = Reduced::checked_new(n, d)?;
@@ -33,7 +33,7 @@ fn near_lowest<T: Integer>(n: T, d: T) -> Option<(T, T, T, T)> {
     ))
 }
 
-// The first row that is rounded in another way.
+// The first row that is rounded otherwise.
 #[inline]
 fn first_wrong<T: Integer>(rows: &[Row<T>]) -> Option<usize> {
     for (i, &(n, d, want)) in rows.iter().enumerate() {
@@ -95,7 +95,7 @@ fn rounding_at_the_ends() {
     );
 }
 
-// The fields of what truncation leaves of n/d as it stands, and the whole number.
+// The fields of the fractional part of n/d, not reduced, and the whole part.
 #[inline]
 fn parts<T: Integer>(n: T, d: T) -> Option<((T, T), T)> {
     let x = positive(n, d)?;

@@ -5,7 +5,7 @@ use crate::proved::num_rational::Ratio;
 use crate::proved::ratio_integer::Integer;
 use crate::test_support::InlineText;
 
-// The lowest terms by `new`, where `checked_new` answers.
+// The lowest terms by `new`, if `checked_new` returns them.
 #[inline]
 fn made<T: Integer>(n: T, d: T) -> Option<(T, T)> {
     match Ratio::checked_new(n, d) {
@@ -14,7 +14,7 @@ fn made<T: Integer>(n: T, d: T) -> Option<(T, T)> {
     }
 }
 
-// The lowest terms by `from_pair`, where `checked_new` answers.
+// The lowest terms by `from_pair`, if `checked_new` returns them.
 #[inline]
 fn paired<T: Integer>(pair: (T, T)) -> Option<(T, T)> {
     match Ratio::checked_new(pair.0, pair.1) {
@@ -23,7 +23,7 @@ fn paired<T: Integer>(pair: (T, T)) -> Option<(T, T)> {
     }
 }
 
-/// The lowest terms by `reduced`, where `checked_new` of the fields answers.
+/// The lowest terms by `reduced`, if `checked_new` of the fields returns them.
 #[inline]
 pub(crate) fn reduced<T: Integer>(n: T, d: T) -> Option<(T, T)> {
     match Ratio::checked_new(n, d) {
@@ -32,7 +32,7 @@ pub(crate) fn reduced<T: Integer>(n: T, d: T) -> Option<(T, T)> {
     }
 }
 
-// Whether each call that reduces answers so.
+// Whether each call that reduces returns these lowest terms.
 #[inline]
 fn reduces<T: Integer>(n: T, d: T, want: Option<(T, T)>) -> bool {
     made(n, d) == want && paired((n, d)) == want && reduced(n, d) == want
@@ -102,7 +102,7 @@ fn read(text: &str) -> Result<(i8, i8), u8> {
     }
 }
 
-// The first text that is read in another way.
+// The first text that is read otherwise.
 #[inline]
 fn first_misread(rows: &[(&str, Result<(i8, i8), u8>)]) -> Option<usize> {
     for (i, &(text, want)) in rows.iter().enumerate() {
@@ -151,7 +151,7 @@ fn fields_alone_are_tested() {
     each_holds(&facts);
 }
 
-// Whether the text is refused, and the refusal printed so.
+// Whether the text is refused, and the refusal is printed as `want`.
 #[inline]
 fn refusal_reads(text: &str, want: &str) -> bool {
     match Ratio::<i8>::from_str(text) {

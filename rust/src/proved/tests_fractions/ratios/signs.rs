@@ -1,12 +1,13 @@
 // Erased from crates/tests_fractions/src/ratios/signs.rt by rust/erase: not to be edited.
-//! Rows of the signs, and of the ends of a type in the order, from outside.
+//! Rows of the signs, and of the order at the ends of a type, from outside.
 use crate::proved::tests_fractions::asserting::{all_hold, each_holds};
 use crate::proved::tests_fractions::ratios::forms::positive;
 use crate::proved::num_rational::Ratio;
 use crate::proved::ratio_integer::{Integer, SignedInteger};
 use core::cmp::Ordering;
 
-// The fields of the negative of n/d by each form, and of its absolute value and sign, and whether it is above and below 0.
+// The fields of the negative of n/d by each form, and of its absolute value; its sign; whether it is
+// above 0 and below 0.
 type Signs<T> = ((T, T), (T, T), T, bool, bool);
 
 #[inline]
@@ -91,7 +92,7 @@ fn test_signed() {
     each_holds(&facts);
 }
 
-// The difference that is not below 0, where the checked one answers or the first is not above.
+// The difference that is not below 0, if the checked call returns it or the first is not above.
 #[inline]
 fn positive_difference(left: (i64, i64), right: (i64, i64)) -> Option<(i64, i64)> {
     let x = positive(left.0, left.1)?;
@@ -123,7 +124,8 @@ fn reciprocal(x: Ratio<i8>) -> Option<Ratio<i8>> {
     }
 }
 
-// How the two stand, as their reciprocals, their negatives and the negatives of their reciprocals say too.
+// The order of the two, if their reciprocals, their negatives and the negatives of their reciprocals
+// agree with it.
 #[inline]
 fn order(a: (i8, i8), b: (i8, i8)) -> Option<Ordering> {
     let (x, y) = (Ratio::checked_new(a.0, a.1)?, Ratio::checked_new(b.0, b.1)?);
@@ -136,7 +138,7 @@ fn order(a: (i8, i8), b: (i8, i8)) -> Option<Ordering> {
     if same { Some(order) } else { None }
 }
 
-// Whether each two of an ascending list stand so.
+// Whether each two fractions of an ascending list compare as their places do.
 #[inline]
 fn is_ascending(rows: &[(i8, i8)]) -> bool {
     for (i, &a) in rows.iter().enumerate() {

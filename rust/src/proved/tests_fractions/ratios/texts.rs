@@ -2,7 +2,7 @@
 //! Rows of texts, read and printed, from outside.
 use crate::proved::tests_fractions::asserting::{all_hold, each_holds, reads as reads_as};
 use crate::proved::tests_fractions::ratios::forms::raw;
-use crate::proved::num_rational::{DecimalText, Form, Ratio, RatioText};
+use crate::proved::num_rational::{BaseTenText, Form, Ratio, RatioText};
 use crate::proved::ratio_integer::Primitive;
 use core::fmt;
 use core::fmt::Binary;
@@ -14,7 +14,7 @@ use core::fmt::Octal;
 use core::fmt::UpperHex;
 use core::fmt::Write;
 
-// Whether the text in the radix is answered by these fields, or by the refusal of this number.
+// Whether the text in the radix gives these fields, or the refusal with this number.
 #[inline]
 fn reads<T: Primitive>(text: &str, radix: u32, want: Result<(T, T), u8>) -> bool {
     if radix < 2 || radix > 36 {
@@ -42,7 +42,7 @@ fn texts_in_a_radix() {
     each_holds(&facts);
 }
 
-/// A fraction that is printed in a form, under the options of the hole that it stands in.
+/// A fraction that is printed in a form, under the options of its pair of braces.
 pub(crate) struct Shown<X: Copy + Display + Binary + Octal + LowerHex + UpperHex> {
     pub fraction: X,
     pub form: Form,
@@ -61,7 +61,7 @@ impl<X: Copy + Display + Binary + Octal + LowerHex + UpperHex> Display for Shown
     }
 }
 
-/// `numer/denom` in this form, and 0/1 where the denominator is 0.
+/// `numer/denom` in this form, and 0/1 if the denominator is 0.
 #[inline]
 pub(crate) fn shown_as<T: Primitive>(numer: T, denom: T, form: Form) -> Shown<Ratio<T>> {
     let fraction = raw(numer, denom).unwrap_or(Ratio::zero());
@@ -71,8 +71,8 @@ pub(crate) fn shown_as<T: Primitive>(numer: T, denom: T, form: Form) -> Shown<Ra
 // A row of printed fractions.
 type Line = InlineText<120>;
 
-/// The first form in which -7/12 over `i8` is printed otherwise: plain, with a sign, with a prefix, in a width, and with
-/// zeros.
+/// The first form in which -7/12 over `i8` is printed otherwise: plain, with a sign, with a prefix,
+/// in a width, or with zeros.
 #[inline]
 pub(crate) fn first_misprinted<X>(fraction: X) -> Option<usize>
 where
@@ -172,11 +172,11 @@ fn widths() {
 #[test]
 fn texts_in_place() {
     let half = Ratio::new_raw(-2i64, 4);
-    reads_as(half.decimal_text().as_str(), "-2/4");
-    let mut decimal = DecimalText::empty();
-    half.put_decimal_text(&mut decimal);
+    reads_as(half.base_ten_text().as_str(), "-2/4");
+    let mut decimal = BaseTenText::empty();
+    half.put_base_ten_text(&mut decimal);
     reads_as(decimal.as_str(), "-2/4");
-    Ratio::from_integer(7i64).put_decimal_text(&mut decimal);
+    Ratio::from_integer(7i64).put_base_ten_text(&mut decimal);
     reads_as(decimal.as_str(), "7");
     let mut text = RatioText::empty();
     half.put_text(Form::LowerHex, true, &mut text);

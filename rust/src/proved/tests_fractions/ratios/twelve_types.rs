@@ -13,7 +13,8 @@ fn refuses<T: Integer>(x: Result<Ratio<T>, ParseRatioError>) -> bool {
     }
 }
 
-// Whether the texts of the least number, of the greatest and of one more are read and printed so.
+// Whether the texts of the least number, of the greatest one and of one more are read and printed as
+// they must be.
 #[inline]
 fn hold_at_the_ends<T: Primitive>(least: &str, greatest: &str, more: &str) -> bool {
     let (low, high) = (Ratio::from_integer(T::MIN), Ratio::from_integer(T::MAX));

@@ -1,10 +1,10 @@
-// Erased from crates/tests_fractions/src/ratios/lowest.rt by rust/erase: not to be edited.
+// Erased from crates/tests_fractions/src/ratios/reduced.rt by rust/erase: not to be edited.
 //! Fractions that are always in lowest terms: rows from outside, and each call once at a concrete type.
 use crate::proved::tests_fractions::asserting::{all_hold, each_holds, reads};
 use crate::proved::tests_fractions::ratios::forms::{has, raw};
 use crate::proved::tests_fractions::ratios::texts::{Shown, first_misprinted};
-use crate::proved::num_rational::laws::lowest;
-use crate::proved::num_rational::{Constants, Form, Reduced, Reduced32, Reduced64};
+use crate::proved::num_rational::laws::reduced;
+use crate::proved::num_rational::{BaseTenText, Constants, Form, RatioText, Reduced, Reduced32, Reduced64};
 use crate::proved::ratio_integer::Integer;
 use core::cmp::Ordering;
 use std::collections::BTreeMap;
@@ -14,7 +14,7 @@ use crate::test_support::InlineText;
 
 use crate::test_support::Fail;
 
-// Whether the answer has these fields, or there is none.
+// Whether the result has these fields, or both are `None`.
 #[inline]
 fn gives<T: Integer>(answer: Option<Reduced<T>>, want: Option<(T, T)>) -> bool {
     match answer {
@@ -84,6 +84,18 @@ fn reads_texts() {
     each_holds(&facts);
     let half = Reduced64::from_str("2/4").unwrap_or(Reduced::zero());
     reads(half.text(Form::Decimal, false).as_str(), "1/2");
+}
+
+#[test]
+fn writes_texts_in_place() {
+    let half = Reduced64::checked_new(-2, 4).unwrap_or(Reduced::zero());
+    reads(half.base_ten_text().as_str(), "-1/2");
+    let mut decimal = BaseTenText::empty();
+    half.put_base_ten_text(&mut decimal);
+    reads(decimal.as_str(), "-1/2");
+    let mut text = RatioText::empty();
+    half.put_text(Form::LowerHex, true, &mut text);
+    reads(text.as_str(), "0xffffffffffffffff/0x2");
 }
 
 // The same in a radix.
@@ -227,10 +239,10 @@ fn has_laws() {
     let x = Reduced64::checked_new(-7, 2).unwrap_or(Reduced::zero());
     let y = Reduced64::checked_new(i64::MAX, 3).unwrap_or(Reduced::zero());
     let z = Reduced64::one();
-    lowest::sums(&x, &y, &z);
-    lowest::products(&x, &y, &z);
-    lowest::powers(&x);
-    lowest::parts(&x);
-    lowest::orders(&x, &y);
-    lowest::hashes(&x, &y);
+    reduced::sums(&x, &y, &z);
+    reduced::products(&x, &y, &z);
+    reduced::powers(&x);
+    reduced::parts(&x);
+    reduced::orders(&x, &y);
+    reduced::hashes(&x, &y);
 }

@@ -1,11 +1,11 @@
-// Erased from crates/ratio_core/src/text/quick_pair.rt by rust/erase: not to be edited.
+// Erased from crates/ratio_core/src/text/quick_fields.rt by rust/erase: not to be edited.
 //! Reading a fraction in one pass over its bytes, as many digits at a time as a `u64` holds.
 
 use crate::proved::ratio_integer::Primitive;
 
-/// The two numbers of a decimal text without a plus sign, as they stand. A `None` says nothing of the text.
+/// The two numbers of a text in base 10 without a plus sign, not reduced. `None` says nothing about the text.
 #[inline]
-pub(crate) fn quick_pair<T: Primitive>(bytes: &[u8]) -> Option<(T, T)> {
+pub(crate) fn quick_fields<T: Primitive>(bytes: &[u8]) -> Option<(T, T)> {
     let (numer, at) = leading_number::<T>(bytes, 10)?;
     if at == bytes.len() {
         return Some((numer, T::ONE));
@@ -14,22 +14,22 @@ pub(crate) fn quick_pair<T: Primitive>(bytes: &[u8]) -> Option<(T, T)> {
     Some((numer, denom))
 }
 
-/// The same of a text in the radix that has a slash.
+/// The same in any radix, for a text with a slash.
 ///
 /// # Conditions
 ///
-/// What is proved asks of the caller:
+/// The proof requires of the caller:
 ///
 /// - `low`: `2 ≤ radix`
 /// - `high`: `radix ≤ 36`
 #[inline]
-pub(crate) fn quick_slashed_pair<T: Primitive>(bytes: &[u8], radix: u32) -> Option<(T, T)> {
+pub(crate) fn quick_slashed_fields<T: Primitive>(bytes: &[u8], radix: u32) -> Option<(T, T)> {
     let (numer, at) = leading_number::<T>(bytes, radix)?;
     let denom = number_after_slash::<T>(bytes, at, radix)?;
     Some((numer, denom))
 }
 
-// The number whose text is all that stands after a slash at `at`.
+// The number that all bytes after a slash at `at` read as.
 #[inline(always)]
 fn number_after_slash<T: Primitive>(bytes: &[u8], at: usize, radix: u32) -> Option<T> {
     if at >= bytes.len() || bytes[at] != b'/' {
@@ -40,17 +40,17 @@ fn number_after_slash<T: Primitive>(bytes: &[u8], at: usize, radix: u32) -> Opti
     if end == back.len() { Some(denom) } else { None }
 }
 
-// The number that the bytes begin with, and how many of them are its text.
+// The number that the bytes begin with, and the length of its text.
 #[inline(always)]
 fn leading_number<T: Primitive>(bytes: &[u8], radix: u32) -> Option<(T, usize)> {
     if T::MIN < T::ZERO && begins_with_minus(bytes) {
-        let (n, count) = digits::<T>(&bytes[1..], radix)?;
+        let (n, count) = read_digits::<T>(&bytes[1..], radix)?;
         if count == 0 || n > i128::MAX as u128 {
             return None;
         }
         Some((T::from_i128(-(n as i128))?, count + 1))
     } else {
-        let (n, count) = digits::<T>(bytes, radix)?;
+        let (n, count) = read_digits::<T>(bytes, radix)?;
         if count == 0 {
             return None;
         }
@@ -58,16 +58,16 @@ fn leading_number<T: Primitive>(bytes: &[u8], radix: u32) -> Option<(T, usize)> 
     }
 }
 
-// Whether the first byte is a minus.
 #[inline]
 fn begins_with_minus(bytes: &[u8]) -> bool {
     !bytes.is_empty() && bytes[0] == b'-'
 }
 
-// The number of the digits that the bytes begin with, and how many of them were read. Of a type of 64 bits or less these
-// are at most 19 in decimal, which are enough; in radix 16 they may be 16.
+// The number of the digits that the bytes begin with, and how many of these were read. For a type of at most
+// 64 bits and a radix up to 10, it reads one group of at most 19 digits. In radix 16 a `u64` may have 16
+// digits, and a group has 15, so several groups are read.
 #[inline(always)]
-fn digits<T: Primitive>(bytes: &[u8], radix: u32) -> Option<(u128, usize)> {
+fn read_digits<T: Primitive>(bytes: &[u8], radix: u32) -> Option<(u128, usize)> {
     if T::BITS > 64 || radix > 10 {
         return grouped_digits(bytes, radix);
     }
@@ -75,7 +75,7 @@ fn digits<T: Primitive>(bytes: &[u8], radix: u32) -> Option<(u128, usize)> {
     Some((n as u128, count))
 }
 
-// The number of the digits that the bytes begin with, and how many these are, or `None` where a `u128` does not hold it.
+// The number of all digits that the bytes begin with, and how many these are. `None` if the number does not fit `u128`.
 #[inline(always)]
 fn grouped_digits(bytes: &[u8], radix: u32) -> Option<(u128, usize)> {
     let most = most_digits(radix);
@@ -93,8 +93,8 @@ fn grouped_digits(bytes: &[u8], radix: u32) -> Option<(u128, usize)> {
     Some((n, at))
 }
 
-// The number of the digits that the bytes begin with, and how many these are: so few at most that a `u64` holds each
-// number of as many, and no step tests for it.
+// The number of the digits that the bytes begin with, and how many of these were read. It reads at most
+// `most_digits`, so the number always fits `u64`, and no step tests for overflow.
 #[inline(always)]
 fn leading_digits(bytes: &[u8], radix: u32) -> (u64, usize) {
     let most = most_digits(radix);
@@ -107,7 +107,7 @@ fn leading_digits(bytes: &[u8], radix: u32) -> (u64, usize) {
     (n, at)
 }
 
-// A count of digits, of which a `u64` holds each number, and the power of the radix beside.
+// How many digits always fit `u64`. The radix to this power fits, too.
 #[inline(always)]
 fn most_digits(radix: u32) -> usize {
     if radix <= 10 {
@@ -119,7 +119,7 @@ fn most_digits(radix: u32) -> usize {
     }
 }
 
-// What the bytes from `0` to `z` are worth as digits, and 36 for those that are none.
+// What the bytes from `0` to `z` are worth as digits, and 36 for a byte that is no digit.
 static DIGITS: [u8; 75] = [
     0, 1, 2, 3, 4, 5, 6, 7, 8, 9, 36, 36, 36, 36, 36, 36, 36, 10, 11, 12, 13, 14, 15, 16, 17, 18,
     19, 20, 21, 22, 23, 24, 25, 26, 27, 28, 29, 30, 31, 32, 33, 34, 35, 36, 36, 36, 36, 36, 36, 10,
@@ -127,7 +127,7 @@ static DIGITS: [u8; 75] = [
     35,
 ];
 
-// What the byte is worth as a digit, and 36 where it is none. The digits of a radix up to 10 take no table.
+// What the byte is worth as a digit, and 36 if it is none. The digits `0` to `9` of a radix up to 10 need no table.
 #[inline(always)]
 fn digit(byte: u8, radix: u32) -> u64 {
     if byte < b'0' {

@@ -1,0 +1,11 @@
+//! The proved sources with their contracts taken off. `rust/erase` writes this file, and each one in `proved/`.
+//!
+//! Nothing here tests a condition on its caller: the calls of the program were proved with it.
+
+// Not all that is proved is called, imports serve contracts too, and some forms are the proved language's.
+#![allow(dead_code, missing_docs, unused_imports, unused_variables)]
+#![allow(clippy::all)]
+
+pub mod ratio_calc;
+pub mod ratio_lines;
+pub mod ratio_page;

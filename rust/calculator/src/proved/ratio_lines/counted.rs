@@ -1,0 +1,120 @@
+// Erased from crates/ratio_lines/src/counted.rt by rust/erase: not to be edited.
+//! Readers and writers whose calls a contract can follow.
+
+use crate::proved::ratio_lines::calls::Calls;
+use std::io;
+use std::io::{Read, Write};
+
+/// A reader whose calls are followed.
+pub trait CalcRead: Read {
+    /// Reads as `read` does. A call that returns `Err` has failed.
+    fn read_counted(&mut self, buf: &mut [u8]) -> io::Result<usize>;
+}
+
+/// A writer whose calls are followed.
+pub trait CalcWrite: Write {
+    /// Writes as `write` does. A call has failed if it returns
+    /// `Err`, or takes no byte though there are some.
+    fn write_counted(&mut self, buf: &[u8]) -> io::Result<usize>;
+
+    /// Flushes as `flush` does.
+    fn flush_counted(&mut self) -> io::Result<()>;
+}
+
+/// A reader or a writer with its calls followed. To follow them takes no memory.
+pub struct Counted<D> {
+    device: D,
+    reads: Calls,
+    writes: Calls,
+}
+
+impl<D> Counted<D> {
+    /// The device. No call has been made.
+    #[inline]
+    pub fn new(device: D) -> Counted<D> {
+        Counted {
+            device,
+            reads: Calls::none(),
+            writes: Calls::none(),
+        }
+    }
+
+    /// The device.
+    #[inline]
+    pub fn into_inner(self) -> D {
+        self.device
+    }
+}
+
+impl<D: Read> Read for Counted<D> {
+    #[inline]
+    fn read(&mut self, buf: &mut [u8]) -> io::Result<usize> {
+        self.read_counted(buf)
+    }
+}
+
+impl<D: Read> CalcRead for Counted<D> {
+    #[inline]
+    fn read_counted(&mut self, buf: &mut [u8]) -> io::Result<usize> {
+        match self.device.read(buf) {
+            Ok(0) if !buf.is_empty() => {
+                self.reads.note_ended();
+                Ok(0)
+            }
+            Ok(n) => {
+                self.reads.note_moved(&buf[..n]);
+                Ok(n)
+            }
+            Err(e) => {
+                self.reads.note_failed();
+                Err(e)
+            }
+        }
+    }
+}
+
+impl<D: Write> Write for Counted<D> {
+    #[inline]
+    fn write(&mut self, buf: &[u8]) -> io::Result<usize> {
+        self.write_counted(buf)
+    }
+
+    #[inline]
+    fn flush(&mut self) -> io::Result<()> {
+        self.flush_counted()
+    }
+}
+
+impl<D: Write> CalcWrite for Counted<D> {
+    #[inline]
+    fn write_counted(&mut self, buf: &[u8]) -> io::Result<usize> {
+        match self.device.write(buf) {
+            Ok(0) if !buf.is_empty() => {
+                self.writes.note_failed();
+                Ok(0)
+            }
+            Ok(n) => {
+                self.writes.note_moved(&buf[..n]);
+                Ok(n)
+            }
+            Err(e) => {
+                self.writes.note_failed();
+                Err(e)
+            }
+        }
+    }
+
+    #[inline]
+    fn flush_counted(&mut self) -> io::Result<()> {
+        match self.device.flush() {
+            Ok(()) => {
+                self.writes.note_flushed();
+                Ok(())
+            }
+            Err(e) => {
+                self.writes.note_failed();
+                Err(e)
+            }
+        }
+    }
+}

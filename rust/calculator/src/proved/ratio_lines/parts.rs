@@ -1,0 +1,35 @@
+// Erased from crates/ratio_lines/src/parts.rt by rust/erase: not to be edited.
+//! The parts of a text, with single spaces between them.
+
+use crate::proved::ratio_lines::cut::cut_text;
+
+/// The first part of a text, and the rest after its space, if it has
+/// one. For example, `1 + 2` gives `1` and `+ 2`.
+#[inline]
+pub fn first_part(text: &str) -> (&str, Option<&str>) {
+    match cut_text(text, b' ') {
+        Some((part, rest)) => (part, Some(rest)),
+        None => (text, None),
+    }
+}
+
+/// Whether the parts come in pairs, and none is empty.
+#[inline]
+pub fn all_are_terms(parts: Option<&str>) -> bool {
+    let mut rest = parts;
+    while let Some(text) = rest {
+        let (operator, after) = first_part(text);
+        let after = match after {
+            Some(after) => after,
+            _ => {
+                return false;
+            }
+        };
+        let (operand, after) = first_part(after);
+        if operator.is_empty() || operand.is_empty() {
+            return false;
+        }
+        rest = after;
+    }
+    true
+}

@@ -1,0 +1,106 @@
+//! Fractions near a float, found as num-rational finds them, by the float's continued fraction.
+//!
+//! This module is not proved. Tests compare it with num-rational.
+use super::integer::{Element, Integer};
+use super::ratio::Ratio;
+use num_traits::float::FloatCore;
+use num_traits::{NumCast, Signed, Unsigned};
+
+/// A fraction that is nearer to the float than this ends the search.
+const NEAR: f64 = 10e-20;
+
+/// The search takes at most this many quotients of the continued fraction.
+const ROUNDS: usize = 30;
+
+impl<T: Integer + Signed> Ratio<T> {
+    /// A fraction near the float. This call is not proved.
+    ///
+    /// It is the last convergent of the float's continued fraction that fits the type. An earlier one is returned if its
+    /// quotient in floats differs from the float by less than 10e-20, or if it is the thirtieth. The call returns `None` for
+    /// NaN, and for a float whose magnitude is above the greatest number of the type.
+    ///
+    /// ```
+    /// use bakhsney::{Ratio, Rational32};
+    ///
+    /// assert_eq!(Rational32::approximate_float(-0.75), Some(Ratio::new(-3, 4)));
+    /// assert_eq!(Ratio::<i8>::approximate_float(3.14159), Some(Ratio::new(22, 7)));
+    /// assert_eq!(Ratio::<i8>::approximate_float(f64::NAN), None);
+    /// ```
+    pub fn approximate_float<F: FloatCore + NumCast>(float: F) -> Option<Ratio<T>> {
+        approximation(float)
+    }
+}
+
+impl<T: Integer + Unsigned> Ratio<T> {
+    /// A fraction near the float, as `approximate_float` returns it, for types without numbers below 0. This call is not
+    /// proved.
+    ///
+    /// ```
+    /// use bakhsney::Ratio;
+    ///
+    /// assert_eq!(Ratio::<u8>::approximate_float_unsigned(0.75), Some(Ratio::new(3, 4)));
+    /// assert_eq!(Ratio::<u8>::approximate_float_unsigned(-0.75), None);
+    /// ```
+    pub fn approximate_float_unsigned<F: FloatCore + NumCast>(float: F) -> Option<Ratio<T>> {
+        approximation(float)
+    }
+}
+
+/// A fraction near the float. If the type has numbers below 0, the search is for the magnitude, and the result gets the sign.
+pub(super) fn approximation<T: Integer, F: FloatCore + NumCast>(float: F) -> Option<Ratio<T>> {
+    if T::min_value() < T::NUMBER_0 && float < F::zero() {
+        let (numer, denom) = last_convergent::<T, F>(float.abs())?.into_raw();
+        Some(Ratio::new_raw(T::NUMBER_0 - numer, denom))
+    } else {
+        last_convergent(float)
+    }
+}
+
+fn last_convergent<T: Integer, F: FloatCore + NumCast>(float: F) -> Option<Ratio<T>> {
+    let near = <F as NumCast>::from(NEAR)?;
+    let most = <F as NumCast>::from(T::max_value())?;
+    if float < F::zero() || float > most {
+        return None;
+    }
+    let (mut found, mut rest) = (Convergent::first(), float);
+    for _ in 0..ROUNDS {
+        let (next, part) = match found.next(rest) {
+            Some(step) => step,
+            None => break,
+        };
+        found = next;
+        let is_near = found.quotient::<F>().map_or(true, |quotient| (quotient - float).abs() < near);
+        if is_near || part < most.recip() {
+            break;
+        }
+        rest = part.recip();
+    }
+    // Before the first step the denominator is 0, and this is `None`. NaN allows no step.
+    Ratio::checked_new(found.numer, found.denom)
+}
+
+/// A convergent of a continued fraction, and the one before it.
+struct Convergent<T> {
+    numer: T,
+    denom: T,
+    before: (T, T),
+}
+
+impl<T: Integer> Convergent<T> {
+    fn first() -> Convergent<T> {
+        Convergent { numer: T::NUMBER_1, denom: T::NUMBER_0, before: (T::NUMBER_0, T::NUMBER_1) }
+    }
+
+    /// The next convergent, whose quotient is the whole part of `rest`, and the part of `rest` behind the point.
+    fn next<F: FloatCore + NumCast>(&self, rest: F) -> Option<(Convergent<T>, F)> {
+        let whole = <T as NumCast>::from(rest)?;
+        let part = rest - <F as NumCast>::from(whole)?;
+        let numer = whole.checked_mul(&self.numer)?.checked_add(&self.before.0)?;
+        let denom = whole.checked_mul(&self.denom)?.checked_add(&self.before.1)?;
+        Some((Convergent { numer, denom, before: (self.numer, self.denom) }, part))
+    }
+
+    fn quotient<F: FloatCore + NumCast>(&self) -> Option<F> {
+        Some(<F as NumCast>::from(self.numer)? / <F as NumCast>::from(self.denom)?)
+    }
+}

@@ -1,0 +1,60 @@
+//! The forms with an exponent, `{:e}` and `{:E}`. Each field is written in the form of its own type.
+//!
+//! This module is not proved. Tests compare it with num-rational.
+use super::integer::Integer;
+use super::ratio::Ratio;
+use core::fmt::{self, Write};
+use core::str;
+
+/// Two numbers of 39 digits, each with a sign, a point and `e38`, and a slash.
+const MOST_BYTES: usize = 2 * (39 + 1 + 1 + 3) + 1;
+
+/// A text that is being written.
+struct Text {
+    bytes: [u8; MOST_BYTES],
+    end: usize,
+}
+
+impl Text {
+    const EMPTY: Text = Text { bytes: [0; MOST_BYTES], end: 0 };
+
+    /// Writes the text as std writes an integer with these digits: with the sign, the fill and the width of the formatter.
+    fn pad(&self, f: &mut fmt::Formatter<'_>) -> fmt::Result {
+        let text = str::from_utf8(&self.bytes[..self.end]).map_err(|_| fmt::Error)?;
+        match text.strip_prefix('-') {
+            Some(digits) => f.pad_integral(false, "", digits),
+            None => f.pad_integral(true, "", text),
+        }
+    }
+}
+
+impl Write for Text {
+    fn write_str(&mut self, piece: &str) -> fmt::Result {
+        let end = self.end + piece.len();
+        self.bytes.get_mut(self.end..end).ok_or(fmt::Error)?.copy_from_slice(piece.as_bytes());
+        self.end = end;
+        Ok(())
+    }
+}
+
+macro_rules! forms {
+    ($($Form:ident $number:literal $fraction:literal)*) => {$(
+        /// The numerator, a slash and the denominator, each with its own exponent. This is not proved.
+        impl<T: Integer> fmt::$Form for Ratio<T> {
+            fn fmt(&self, f: &mut fmt::Formatter<'_>) -> fmt::Result {
+                let mut text = Text::EMPTY;
+                if self.is_integer() {
+                    write!(text, $number, self.numer())?;
+                } else {
+                    write!(text, $fraction, self.numer(), self.denom())?;
+                }
+                text.pad(f)
+            }
+        }
+    )*};
+}
+
+forms! {
+    LowerExp "{:e}" "{:e}/{:e}"
+    UpperExp "{:E}" "{:E}/{:E}"
+}

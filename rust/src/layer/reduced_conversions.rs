@@ -1,0 +1,93 @@
+//! Conversions between `Reduced` and pairs, `Ratio`s and numbers, and num-traits' `CheckedNeg`.
+use super::integer::Integer;
+use super::ratio::Ratio;
+use super::reduced::Reduced;
+use core::fmt;
+use num_traits::{CheckedNeg, Signed, ToPrimitive};
+
+/// The error of `try_from` for a pair or a `Ratio`: there are no lowest terms that fit the type.
+///
+/// ```
+/// use bakhsney::{Reduced, ReducedError};
+///
+/// let x: Result<Reduced<i8>, ReducedError> = (1, 0).try_into();
+/// assert_eq!(x.unwrap_err().to_string(), "the denominator is 0, or the lowest terms do not fit the type");
+/// ```
+#[derive(Clone, Copy, Debug, PartialEq, Eq)]
+pub struct ReducedError(());
+
+impl fmt::Display for ReducedError {
+    fn fmt(&self, f: &mut fmt::Formatter<'_>) -> fmt::Result {
+        f.pad("the denominator is 0, or the lowest terms do not fit the type")
+    }
+}
+
+#[cfg(feature = "std")]
+impl std::error::Error for ReducedError {}
+
+impl<T: Integer> TryFrom<(T, T)> for Reduced<T> {
+    type Error = ReducedError;
+
+    /// The lowest terms, or an error if the denominator is 0 or they do not fit the type.
+    #[inline]
+    fn try_from((numer, denom): (T, T)) -> Result<Reduced<T>, ReducedError> {
+        Reduced::checked_new(numer, denom).ok_or(ReducedError(()))
+    }
+}
+
+impl<T: Integer> TryFrom<Ratio<T>> for Reduced<T> {
+    type Error = ReducedError;
+
+    /// The lowest terms, or an error if the denominator is 0 or they do not fit the type.
+    #[inline]
+    fn try_from(fraction: Ratio<T>) -> Result<Reduced<T>, ReducedError> {
+        Reduced::try_from(fraction.into_raw())
+    }
+}
+
+impl<T: Integer> From<Reduced<T>> for (T, T) {
+    #[inline]
+    fn from(fraction: Reduced<T>) -> (T, T) {
+        fraction.into_raw()
+    }
+}
+
+/// This fraction cut towards zero, or `None` if that does not fit the integer type. And the nearest float, as for `Ratio`.
+impl<T: Integer> ToPrimitive for Reduced<T> {
+    #[inline]
+    fn to_i64(&self) -> Option<i64> {
+        self.to_ratio().to_i64()
+    }
+
+    #[inline]
+    fn to_u64(&self) -> Option<u64> {
+        self.to_ratio().to_u64()
+    }
+
+    #[inline]
+    fn to_i128(&self) -> Option<i128> {
+        self.to_ratio().to_i128()
+    }
+
+    #[inline]
+    fn to_u128(&self) -> Option<u128> {
+        self.to_ratio().to_u128()
+    }
+
+    #[inline]
+    fn to_f32(&self) -> Option<f32> {
+        self.to_ratio().to_f32()
+    }
+
+    #[inline]
+    fn to_f64(&self) -> Option<f64> {
+        self.to_ratio().to_f64()
+    }
+}
+
+impl<T: Integer + Signed> CheckedNeg for Reduced<T> {
+    #[inline]
+    fn checked_neg(&self) -> Option<Reduced<T>> {
+        Reduced::checked_neg(self)
+    }
+}

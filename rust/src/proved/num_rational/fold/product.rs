@@ -1,0 +1,111 @@
+// Erased from crates/num_rational/src/fold/product.rt by rust/erase: not to be edited.
+// Written by templates/write from templates/fold.rt.txt: change that file, and write this one anew.
+//! The product of the items of an iterator.
+
+use crate::proved::num_rational::operand::Operand;
+use crate::proved::num_rational::ratio::Ratio;
+use crate::proved::ratio_integer::Integer;
+use core::iter::Product;
+
+impl<T: Copy + Integer> Ratio<T> {
+    /// The product of the items, in order from 1/1 on. It returns `None` at the first item for which
+    /// `checked_mul` does.
+    ///
+    /// # Conditions
+    ///
+    /// The proof requires of the caller:
+    ///
+    /// - `can`: `I.can_next iter`
+    /// - `finite`: `IsFinite (I.remaining iter)`
+    /// - `positive`: `HoldsAlong I.next_gives iter (ArePositive numbers)`
+    #[inline]
+    pub fn checked_product<I: Iterator<Item = Ratio<T>>>(iter: I) -> Option<Ratio<T>> {
+        checked_product_of_operands(iter)
+    }
+
+    /// The product of the items, in order from 1/1 on. It is 1/1 for no items. The call requires that
+    /// `checked_product` returns `Some`.
+    ///
+    /// # Conditions
+    ///
+    /// The proof requires of the caller:
+    ///
+    /// - `can`: `I.can_next iter`
+    /// - `finite`: `IsFinite (I.remaining iter)`
+    /// - `answered`: `HoldsAlong I.next_gives iter (CanProduct T.lo T.hi numbers)`
+    #[inline]
+    pub fn product<I: Iterator<Item = Ratio<T>>>(iter: I) -> Ratio<T> {
+        product_of_operands(iter)
+    }
+
+    /// The same as `checked_product`, for references to fractions.
+    ///
+    /// # Conditions
+    ///
+    /// The proof requires of the caller:
+    ///
+    /// - `can`: `I.can_next iter`
+    /// - `finite`: `IsFinite (I.remaining iter)`
+    /// - `positive`: `HoldsAlong I.next_gives iter (ArePositive (λ x. numbers x.now))`
+    #[inline]
+    pub fn checked_product_refs<'a, I: Iterator<Item = &'a Ratio<T>>>(iter: I) -> Option<Ratio<T>>
+    where
+        T: 'a,
+    {
+        checked_product_of_operands(iter)
+    }
+
+    /// The same as `product`, for references to fractions. It requires that `checked_product_refs`
+    /// returns `Some`.
+    ///
+    /// # Conditions
+    ///
+    /// The proof requires of the caller:
+    ///
+    /// - `can`: `I.can_next iter`
+    /// - `finite`: `IsFinite (I.remaining iter)`
+    /// - `answered`: `HoldsAlong I.next_gives iter (CanProduct T.lo T.hi (λ x. numbers x.now))`
+    #[inline]
+    pub fn product_refs<'a, I: Iterator<Item = &'a Ratio<T>>>(iter: I) -> Ratio<T>
+    where
+        T: 'a,
+    {
+        product_of_operands(iter)
+    }
+}
+
+// The product of items that an operator takes on its right.
+#[inline]
+fn product_of_operands<T: Copy + Integer, O: Operand<T>, I: Iterator<Item = O>>(iter: I) -> Ratio<T> {
+    let mut total = Ratio::one();
+    for x in iter {
+        total = total.mul(x.ratio());
+    }
+    total
+}
+
+// The same by the checked call.
+#[inline]
+fn checked_product_of_operands<T: Copy + Integer, O: Operand<T>, I: Iterator<Item = O>>(
+    iter: I,
+) -> Option<Ratio<T>> {
+    let mut total = Ratio::one();
+    for x in iter {
+        total = total.checked_mul(&x.ratio())?;
+    }
+    Some(total)
+}
+
+impl<T: Copy + Integer> Product<Ratio<T>> for Ratio<T> {
+    #[inline]
+    fn product<I: Iterator<Item = Ratio<T>>>(iter: I) -> Ratio<T> {
+        Ratio::<T>::product(iter)
+    }
+}
+
+impl<'a, T: Copy + Integer + 'a> Product<&'a Ratio<T>> for Ratio<T> {
+    #[inline]
+    fn product<I: Iterator<Item = &'a Ratio<T>>>(iter: I) -> Ratio<T> {
+        Ratio::<T>::product_refs(iter)
+    }
+}

@@ -1,0 +1,111 @@
+// Erased from crates/num_rational/src/fold/sum.rt by rust/erase: not to be edited.
+// Written by templates/write from templates/fold.rt.txt: change that file, and write this one anew.
+//! The sum of the items of an iterator.
+
+use crate::proved::num_rational::operand::Operand;
+use crate::proved::num_rational::ratio::Ratio;
+use crate::proved::ratio_integer::Integer;
+use core::iter::Sum;
+
+impl<T: Copy + Integer> Ratio<T> {
+    /// The sum of the items, in order from 0/1 on. It returns `None` at the first item for which
+    /// `checked_add` does.
+    ///
+    /// # Conditions
+    ///
+    /// The proof requires of the caller:
+    ///
+    /// - `can`: `I.can_next iter`
+    /// - `finite`: `IsFinite (I.remaining iter)`
+    /// - `positive`: `HoldsAlong I.next_gives iter (ArePositive numbers)`
+    #[inline]
+    pub fn checked_sum<I: Iterator<Item = Ratio<T>>>(iter: I) -> Option<Ratio<T>> {
+        checked_sum_of_operands(iter)
+    }
+
+    /// The sum of the items, in order from 0/1 on. It is 0/1 for no items. The call requires that
+    /// `checked_sum` returns `Some`.
+    ///
+    /// # Conditions
+    ///
+    /// The proof requires of the caller:
+    ///
+    /// - `can`: `I.can_next iter`
+    /// - `finite`: `IsFinite (I.remaining iter)`
+    /// - `answered`: `HoldsAlong I.next_gives iter (CanSum T.EXACT_SUMS T.lo T.hi numbers)`
+    #[inline]
+    pub fn sum<I: Iterator<Item = Ratio<T>>>(iter: I) -> Ratio<T> {
+        sum_of_operands(iter)
+    }
+
+    /// The same as `checked_sum`, for references to fractions.
+    ///
+    /// # Conditions
+    ///
+    /// The proof requires of the caller:
+    ///
+    /// - `can`: `I.can_next iter`
+    /// - `finite`: `IsFinite (I.remaining iter)`
+    /// - `positive`: `HoldsAlong I.next_gives iter (ArePositive (λ x. numbers x.now))`
+    #[inline]
+    pub fn checked_sum_refs<'a, I: Iterator<Item = &'a Ratio<T>>>(iter: I) -> Option<Ratio<T>>
+    where
+        T: 'a,
+    {
+        checked_sum_of_operands(iter)
+    }
+
+    /// The same as `sum`, for references to fractions. It requires that `checked_sum_refs` returns
+    /// `Some`.
+    ///
+    /// # Conditions
+    ///
+    /// The proof requires of the caller:
+    ///
+    /// - `can`: `I.can_next iter`
+    /// - `finite`: `IsFinite (I.remaining iter)`
+    /// - `answered`: `HoldsAlong I.next_gives iter (CanSum T.EXACT_SUMS T.lo T.hi (λ x. numbers x.now))`
+    #[inline]
+    pub fn sum_refs<'a, I: Iterator<Item = &'a Ratio<T>>>(iter: I) -> Ratio<T>
+    where
+        T: 'a,
+    {
+        sum_of_operands(iter)
+    }
+}
+
+// The sum of items that an operator takes on its right.
+#[inline]
+fn sum_of_operands<T: Copy + Integer, O: Operand<T>, I: Iterator<Item = O>>(iter: I) -> Ratio<T> {
+    let mut total = Ratio::zero();
+    for x in iter {
+        total = total.add(x.ratio());
+    }
+    total
+}
+
+// The same by the checked call.
+#[inline]
+fn checked_sum_of_operands<T: Copy + Integer, O: Operand<T>, I: Iterator<Item = O>>(
+    iter: I,
+) -> Option<Ratio<T>> {
+    let mut total = Ratio::zero();
+    for x in iter {
+        total = total.checked_add(&x.ratio())?;
+    }
+    Some(total)
+}
+
+impl<T: Copy + Integer> Sum<Ratio<T>> for Ratio<T> {
+    #[inline]
+    fn sum<I: Iterator<Item = Ratio<T>>>(iter: I) -> Ratio<T> {
+        Ratio::<T>::sum(iter)
+    }
+}
+
+impl<'a, T: Copy + Integer + 'a> Sum<&'a Ratio<T>> for Ratio<T> {
+    #[inline]
+    fn sum<I: Iterator<Item = &'a Ratio<T>>>(iter: I) -> Ratio<T> {
+        Ratio::<T>::sum_refs(iter)
+    }
+}

@@ -1,0 +1,28 @@
+// Erased from crates/num_rational/src/reduced/floats.rt by rust/erase: not to be edited.
+//! Fractions with exactly the value of a float.
+
+use super::Reduced;
+use crate::proved::num_rational::ratio::Ratio;
+use crate::proved::ratio_core::floats::exact;
+use crate::proved::ratio_integer::Integer;
+
+impl<T: Copy + Integer> Reduced<T> {
+    /// The fraction with exactly the value of the float: 3/4 for 0.75, and
+    /// 3602879701896397/36028797018963968 for 0.1. Both 0.0 and -0.0 give 0/1. `None` if the float is
+    /// infinite or no number, or if its lowest terms do not fit the type.
+    #[inline]
+    pub fn from_float(x: f64) -> Option<Reduced<T>> {
+        match exact::from_float(x) {
+            Some((numer, denom)) => Some(Reduced {
+                ratio: Ratio::new_raw(numer, denom),
+            }),
+            None => None,
+        }
+    }
+
+    /// The same for a float of 32 bits: 13421773/134217728 for 0.1.
+    #[inline]
+    pub fn from_float32(x: f32) -> Option<Reduced<T>> {
+        Reduced::from_float(f64::from(x))
+    }
+}

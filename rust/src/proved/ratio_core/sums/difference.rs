@@ -1,0 +1,55 @@
+// Erased from crates/ratio_core/src/sums/difference.rt by rust/erase: not to be edited.
+// Written by templates/write from templates/sums.rt.txt: change that file, and write this one anew.
+//! The difference in lowest terms.
+
+use crate::proved::ratio_core::scaling::scaled;
+use crate::proved::ratio_integer::{Integer, lowest_terms};
+
+/// The lowest terms of `a/b - c/d`. If `EXACT_SUMS` is true, the call returns `None` exactly if they do
+/// not fit the type. If it is false, the call returns `None` exactly if one of these does not fit: the least
+/// common denominator, a numerator over it, or the difference of the two numerators. The fields are taken as
+/// they are, not reduced. Over `i8`, 1/30 - 1/70 is `None`, since 210 does not fit.
+///
+/// # Conditions
+///
+/// The proof requires of the caller:
+///
+/// - `left_positive`: `pos 0 <ℤ T.value b`
+/// - `right_positive`: `pos 0 <ℤ T.value d`
+#[inline(always)]
+pub fn checked_sub<T: Integer>(a: T, b: T, c: T, d: T) -> Option<(T, T)> {
+    if !T::EXACT_SUMS {
+        return scaled_difference(a, b, c, d);
+    }
+    if b == d {
+        if let Some(difference) = a.try_minus(c) {
+            return Some(lowest_terms(difference, b));
+        }
+    }
+    T::exact_diff(a, b, c, d)
+}
+
+/// The lowest terms of `a/b - c/d`. It requires that `checked_sub` returns `Some`.
+///
+/// # Conditions
+///
+/// The proof requires of the caller:
+///
+/// - `left_positive`: `pos 0 <ℤ T.value b`
+/// - `right_positive`: `pos 0 <ℤ T.value d`
+/// - `answered`: `DifferenceCondition T.EXACT_SUMS T.lo T.hi (T.value a) (T.value b) (T.value c) (T.value d)`
+#[inline]
+pub fn sub<T: Integer>(a: T, b: T, c: T, d: T) -> (T, T) {
+    match checked_sub(a, b, c, d) {
+        Some(difference) => difference,
+        None => unreachable!(),
+    }
+}
+
+// The difference, computed over the least common denominator.
+#[inline(always)]
+fn scaled_difference<T: Integer>(a: T, b: T, c: T, d: T) -> Option<(T, T)> {
+    let (left, right, common) = scaled(a, b, c, d)?;
+    let difference = left.try_minus(right)?;
+    Some(lowest_terms(difference, common))
+}

@@ -1,0 +1,82 @@
+// Erased from crates/ratio_core/src/sums/mixed.rt by rust/erase: not to be edited.
+//! Sums and differences of fractions: the whole numbers and the parts of 1 are added separately.
+//!
+//! Over `i8`, 3/2 + 5/6 is 1 and 0, and 1/2 + 5/6, which is a carry and 1/3. So it is 2 and 1/3: 7/3. If a
+//! number on the way does not fit, the lowest terms do not fit either.
+
+use crate::proved::ratio_core::sums::multiple::carried_on;
+use crate::proved::ratio_core::sums::parts::parts_sum;
+use crate::proved::ratio_integer::Integer;
+
+/// The lowest terms of `a/b + c/d`, from the floors of both, or `None` if they do not fit.
+///
+/// # Conditions
+///
+/// The proof requires of the caller:
+///
+/// - `left`: `IsLowestTerms (T.value a) (T.value b)`
+/// - `right`: `IsLowestTerms (T.value c) (T.value d)`
+#[cold]
+pub(crate) fn mixed_sum<T: Integer>(a: T, b: T, c: T, d: T) -> Option<(T, T)> {
+    let _ = a.held();
+    let (floor, p) = a.div_mod_floor(b);
+    let _ = floor.held();
+    let (other, r) = c.div_mod_floor(d);
+    let (carry, part, denom) = parts_sum(p, b, r, d)?;
+    let whole = carried_on(floor, carry).try_plus(other)?;
+    Some((numerator_of(whole, part, denom)?, denom))
+}
+
+/// The lowest terms of `a/b - c/d`, from the floor of the left and the ceiling of the right side, or `None`
+/// if they do not fit.
+///
+/// # Conditions
+///
+/// The proof requires of the caller:
+///
+/// - `left`: `IsLowestTerms (T.value a) (T.value b)`
+/// - `right`: `IsLowestTerms (T.value c) (T.value d)`
+#[cold]
+pub(crate) fn mixed_difference<T: Integer>(a: T, b: T, c: T, d: T) -> Option<(T, T)> {
+    let _ = a.held();
+    let (floor, p) = a.div_mod_floor(b);
+    let _ = floor.held();
+    let (other, r) = ceiling(c, d);
+    let (carry, part, denom) = parts_sum(p, b, r, d)?;
+    let whole = carried_on(floor, carry).try_minus(other)?;
+    Some((numerator_of(whole, part, denom)?, denom))
+}
+
+// The ceiling of `c/d`, and the ceiling less `c/d`, as a numerator over `d`: 2 and 1 for 5/3.
+#[inline]
+fn ceiling<T: Integer>(c: T, d: T) -> (T, T) {
+    let _ = c.held();
+    let _ = d.held();
+    let (floor, rest) = c.div_mod_floor(d);
+    let _ = floor.held();
+    if rest.is_zero() {
+        return (floor, rest);
+    }
+    (floor.plus(T::ONE), d.minus(rest))
+}
+
+/// The numerator of `whole + part/denom`, or `None` if it does not fit. If `whole` is below 0, the next whole
+/// number is multiplied: `whole * denom` may be out of range where the numerator is not.
+///
+/// # Conditions
+///
+/// The proof requires of the caller:
+///
+/// - `above`: `pos 0 ≤ℤ T.value part`
+/// - `at_most`: `T.value part ≤ℤ T.value denom`
+#[inline]
+pub(crate) fn numerator_of<T: Integer>(whole: T, part: T, denom: T) -> Option<T> {
+    let _ = whole.held();
+    let _ = denom.held();
+    if whole < T::ZERO {
+        let next = whole.plus(T::ONE).try_times(denom)?;
+        return next.try_minus(denom.minus(part));
+    }
+    let product = whole.try_times(denom)?;
+    product.try_plus(part)
+}

@@ -1,0 +1,29 @@
+// Erased from crates/ratio_integer/src/binary_gcd/above.rt by rust/erase: not to be edited.
+// Written by templates/write from templates/odd_gcd.rt.txt: change that file, and write this one anew.
+//! The greatest common divisor of two odd numbers.
+
+use crate::proved::ratio_integer::binary_gcd::odd_distance;
+
+/// The greatest common divisor of two odd numbers.
+/// It is `None` only if the divisor is at most `bound`: the divisor divides the smaller number of each step.
+///
+/// # Conditions
+///
+/// The proof requires of the caller:
+///
+/// - `left`: `a % 2 ≡ 1`
+/// - `right`: `b % 2 ≡ 1`
+#[inline]
+pub(crate) fn odd_gcd_above(a: u64, b: u64, bound: u64) -> Option<u64> {
+    let mut x = a;
+    let mut y = b;
+    while x != y {
+        if x <= bound {
+            return None;
+        }
+        let rest = odd_distance(x, y);
+        x = x.min(y);
+        y = rest;
+    }
+    Some(x)
+}

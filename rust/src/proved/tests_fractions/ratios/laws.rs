@@ -1,0 +1,73 @@
+// Erased from crates/tests_fractions/src/ratios/laws.rt by rust/erase: not to be edited.
+//! The laws of `Reduced`, called once over `i64` each, with fractions for which they say something. And sums where two ways to add
+//! differ.
+use crate::proved::tests_fractions::asserting::each_holds;
+use crate::proved::num_rational::laws::{neutral, order, signs, undoing};
+use crate::proved::num_rational::{Reduced, Reduced64};
+
+#[inline]
+fn fraction(numer: i64, denom: i64) -> Reduced64 {
+    Reduced::checked_new(numer, denom).unwrap_or(Reduced::zero())
+}
+
+#[test]
+fn calls_undo_one_another() {
+    let (x, y) = (fraction(-7, 2), fraction(2, 3));
+    undoing::sums(&x, &y);
+    undoing::products(&x, &y);
+    undoing::itself(&x);
+    undoing::negatives(&x, &y);
+    undoing::reciprocals(&x, &y);
+}
+
+#[test]
+fn zero_and_one() {
+    let x = fraction(i64::MIN, 3);
+    neutral::zeros(&x);
+    neutral::ones(&x);
+    neutral::powers(&x);
+}
+
+#[test]
+fn signs_of_results() {
+    let (x, y) = (fraction(-7, 2), fraction(2, 3));
+    signs::negatives(&x);
+    signs::absolutes(&x, &y);
+    signs::parts(&x);
+    signs::products(&x, &y);
+}
+
+#[test]
+fn order_of_results() {
+    let (x, y, z) = (fraction(-7, 2), fraction(2, 3), fraction(-1, 5));
+    order::sums(&x, &y, &z);
+    order::products(&x, &y, &z);
+    order::products(&y, &x, &y);
+    order::negatives(&x, &y);
+}
+
+// Whether (x + y) + z and x + (y + z) are `Some`, over `i8`.
+#[inline]
+fn added(x: i8, y: i8, z: i8) -> (bool, bool) {
+    let first = Reduced::from_integer(x);
+    let second = Reduced::from_integer(y);
+    let left = match first.checked_add(second) {
+        Some(sum) => sum.checked_add(z).is_some(),
+        None => false,
+    };
+    let right = match second.checked_add(z) {
+        Some(sum) => first.checked_add(sum).is_some(),
+        None => false,
+    };
+    (left, right)
+}
+
+#[test]
+fn one_way_to_add_may_have_no_result() {
+    let facts = [
+        added(127, 1, -1) == (false, true),
+        added(-1, 1, 127) == (true, false),
+        added(100, 100, 1) == (false, false),
+    ];
+    each_holds(&facts);
+}

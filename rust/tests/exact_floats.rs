@@ -1,0 +1,54 @@
+//! `Reduced::from_float` and `from_float32`, compared with fractions of big integers.
+
+mod support;
+
+use bakhsney::{integer::Integer, Reduced};
+use num_rational::BigRational;
+use num_traits::ToPrimitive;
+use support::Numbers;
+
+/// The float's fields if both fit the type.
+fn fields<T: Integer>(float: f64) -> Option<(T, T)> {
+    let exact = BigRational::from_float(float)?;
+    let field = |x: &num_rational::BigRational| x.to_i128().and_then(|x| T::from(x)).or_else(|| T::from(x.to_u128()?));
+    Some((field(&exact.numer().clone().into())?, field(&exact.denom().clone().into())?))
+}
+
+/// A float with few or many digits, near 1 or far from it, of either sign.
+fn float(numbers: &mut Numbers) -> f64 {
+    let digits = numbers.word() >> 12 >> numbers.below(52) << numbers.below(52);
+    let exponent = match numbers.below(4) {
+        0 => numbers.below(0x800),
+        1 => numbers.below(2) * 0x7ff,
+        _ => 1023 - 140 + numbers.below(280),
+    };
+    f64::from_bits(numbers.below(2) << 63 | exponent << 52 | (digits & ((1 << 52) - 1)))
+}
+
+macro_rules! sweeps {
+    ($($name:ident $T:ty;)*) => {$(
+        #[test]
+        fn $name() {
+            let mut numbers = Numbers(3);
+            for _ in 0..3000 {
+                let double = float(&mut numbers);
+                let single = double as f32;
+                assert_eq!(Reduced::<$T>::from_float(double).map(Reduced::into_raw), fields(double), "{double:e}");
+                assert_eq!(Reduced::<$T>::from_float32(single).map(Reduced::into_raw), fields(single.into()), "{single:e}");
+            }
+        }
+    )*};
+}
+
+sweeps! {
+    big_i8 i8; big_i16 i16; big_i32 i32; big_i64 i64; big_i128 i128; big_isize isize;
+    big_u8 u8; big_u16 u16; big_u32 u32; big_u64 u64; big_u128 u128; big_usize usize;
+}
+
+/// Each float of 16 bits of digits and signs near 1, over a small type: some fit, some do not.
+#[test]
+fn some_fit_and_some_do_not() {
+    let eighths = (-1100..1100).filter(|n| Reduced::<i8>::from_float(f64::from(*n) / 8.0).is_some()).count();
+    // -128 to 127 whole numbers; -127/2 to 127/2, 128 of them; 128/4 in the same way; and 128/8.
+    assert_eq!(eighths, 256 + 128 + 128 + 128);
+}

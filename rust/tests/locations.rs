@@ -1,0 +1,164 @@
+//! A panic of the layer names the line of the program that called it.
+
+// The tests are about these forms. A function instead of a closure would be called through a pointer, which has no caller.
+#![allow(clippy::op_ref, clippy::redundant_closure)]
+
+use bakhsney::{Ratio, Reduced, Rounding};
+use num_traits::{Inv, Num, Pow, Signed};
+use std::cell::RefCell;
+use std::collections::hash_map::DefaultHasher;
+use std::hash::Hash;
+use std::iter::{Product, Sum};
+use std::panic::{catch_unwind, set_hook, take_hook};
+
+thread_local! {
+    static PLACE: RefCell<(String, u32)> = RefCell::default();
+}
+
+type Fraction = Ratio<i32>;
+type Row = (&'static str, u32, fn());
+
+fn done<R>(_: R) {}
+
+/// A fraction with the denominator 0, which has no value.
+fn none() -> Fraction {
+    Ratio::new_raw(1, 0)
+}
+
+fn zero() -> Fraction {
+    Ratio::ZERO
+}
+
+fn one() -> Fraction {
+    Ratio::ONE
+}
+
+fn most() -> Fraction {
+    Ratio::from_integer(i32::MAX)
+}
+
+fn least() -> Fraction {
+    Ratio::from_integer(i32::MIN)
+}
+
+/// A fraction whose lowest terms do not fit.
+fn refused() -> Fraction {
+    Ratio::new_raw(1, i32::MIN)
+}
+
+/// The file and the line that the panic of this call names.
+fn place_of(call: fn()) -> (String, u32) {
+    PLACE.with(|place| *place.borrow_mut() = (String::new(), 0));
+    let old = take_hook();
+    set_hook(Box::new(|panic| {
+        let place = panic.location().unwrap();
+        PLACE.with(|found| *found.borrow_mut() = (place.file().to_owned(), place.line()));
+    }));
+    done(catch_unwind(call));
+    set_hook(old);
+    PLACE.with(|place| place.borrow().clone())
+}
+
+const MAKING: &[Row] = &[
+    ("new", line!(), || done(Ratio::new(1, 0))),
+    ("new of what does not fit", line!(), || done(Ratio::new(1, i32::MIN))),
+    ("reduced", line!(), || done(refused().reduced())),
+    ("from a pair", line!(), || done(Ratio::from((1, 0)))),
+    ("from_str_radix", line!(), || done(Fraction::from_str_radix("1/1", 37))),
+];
+
+const ARITHMETIC: &[Row] = &[
+    ("+", line!(), || done(most() + one())),
+    ("-", line!(), || done(least() - one())),
+    ("*", line!(), || done(most() * most())),
+    ("/", line!(), || done(one() / zero())),
+    ("%", line!(), || done(one() % zero())),
+    ("&x + y", line!(), || done(&most() + one())),
+    ("x + &y", line!(), || done(most() + &one())),
+    ("&x + &y", line!(), || done(&most() + &one())),
+    ("x + 1", line!(), || done(most() + 1)),
+    ("x + &1", line!(), || done(most() + &1)),
+    ("&x + 1", line!(), || done(&most() + 1)),
+    ("&x + &1", line!(), || done(&most() + &1)),
+    ("+=", line!(), || done({ let mut x = most(); x += one(); x })),
+    ("+= &y", line!(), || done({ let mut x = most(); x += &one(); x })),
+    ("+= 1", line!(), || done({ let mut x = most(); x += 1; x })),
+    ("+= &1", line!(), || done({ let mut x = most(); x += &1; x })),
+    ("+ of no value", line!(), || done(one() + none())),
+    ("sum", line!(), || done(Fraction::sum([most(), one()].into_iter()))),
+    ("sum of references", line!(), || done(Fraction::sum([most(), one()].iter()))),
+    ("product", line!(), || done(Fraction::product([most(), most()].into_iter()))),
+    ("product of references", line!(), || done(Fraction::product([most(), most()].iter()))),
+];
+
+const POWERS_AND_SIGNS: &[Row] = &[
+    ("recip", line!(), || done(zero().recip())),
+    ("recip of the least", line!(), || done(least().recip())),
+    ("recip of no lowest terms", line!(), || done(refused().recip())),
+    ("inv", line!(), || done(zero().inv())),
+    ("inv of a reference", line!(), || done(Inv::inv(&zero()))),
+    ("pow", line!(), || done(Ratio::pow(&most(), 2))),
+    ("Pow", line!(), || done(Pow::pow(most(), 2u8))),
+    ("Pow of a reference", line!(), || done(Pow::pow(&most(), 2i128))),
+    ("Pow to a reference", line!(), || done(Pow::pow(most(), &2usize))),
+    ("Pow of a reference to one", line!(), || done(Pow::pow(&most(), &2i64))),
+    ("neg", line!(), || done(-least())),
+    ("neg of a reference", line!(), || done(-&least())),
+    ("abs", line!(), || done(least().abs())),
+    ("abs_sub", line!(), || done(most().abs_sub(&-one()))),
+    ("abs_sub of no value", line!(), || done(none().abs_sub(&one()))),
+    ("signum", line!(), || done(none().signum())),
+    ("is_positive", line!(), || done(none().is_positive())),
+    ("is_negative", line!(), || done(none().is_negative())),
+];
+
+const COMPARING: &[Row] = &[
+    ("==", line!(), || done(none() == one())),
+    ("!=", line!(), || done(one() != none())),
+    ("<", line!(), || done(one() < none())),
+    ("<=", line!(), || done(one() <= none())),
+    (">", line!(), || done(one() > none())),
+    (">=", line!(), || done(one() >= none())),
+    ("cmp", line!(), || done(none().cmp(&one()))),
+    ("hash", line!(), || none().hash(&mut DefaultHasher::new())),
+];
+
+const ROUNDING: &[Row] = &[
+    ("floor", line!(), || done(none().floor())),
+    ("ceil", line!(), || done(none().ceil())),
+    ("round", line!(), || done(none().round())),
+    ("trunc", line!(), || done(none().trunc())),
+    ("fract", line!(), || done(none().fract())),
+    ("to_integer", line!(), || done(none().to_integer())),
+    ("floor of no lowest terms", line!(), || done(refused().floor())),
+    ("round_to", line!(), || done(Reduced::from(1).round_to(0, Rounding::Up))),
+    ("decimal", line!(), || done(Reduced::from(1).decimal(39, Rounding::Up))),
+];
+
+#[test]
+fn the_callers_line_is_named() {
+    for (name, line, call) in [MAKING, ARITHMETIC, POWERS_AND_SIGNS, COMPARING, ROUNDING].concat() {
+        assert_eq!(place_of(call), (file!().to_owned(), line), "{name}");
+    }
+}
+
+/// The layer's methods that only the layer calls.
+const OWN: [&str; 4] = ["pub(super) fn ", "fn recip_of_any(", "fn refuse", "fn power<"];
+
+#[test]
+fn each_call_that_panics_says_when() {
+    let layer = concat!(env!("CARGO_MANIFEST_DIR"), "/src/layer");
+    let mut calls = 0;
+    for file in std::fs::read_dir(layer).unwrap() {
+        let source = std::fs::read_to_string(file.unwrap().path()).unwrap();
+        let lines: Vec<&str> = source.lines().map(str::trim).collect();
+        for at in (0..lines.len()).filter(|&at| lines[at] == "#[track_caller]") {
+            let call = lines[at..].iter().find(|line| line.contains("fn ")).unwrap();
+            let above = lines[..at].iter().rev().take_while(|line| line.starts_with("///") || line.starts_with("#["));
+            let says_when = above.into_iter().any(|line| *line == "/// # Panics");
+            assert!(says_when || OWN.iter().any(|own| call.starts_with(own)), "{call}");
+            calls += usize::from(says_when);
+        }
+    }
+    assert!(calls > 30, "{calls}");
+}

@@ -1,0 +1,34 @@
+//! Numbers for the sweeps. Each run has the same ones.
+
+/// A sequence of numbers, by the method splitmix64.
+pub struct Numbers(pub u64);
+
+impl Numbers {
+    pub fn word(&mut self) -> u64 {
+        self.0 = self.0.wrapping_add(0x9e37_79b9_7f4a_7c15);
+        let mut word = self.0;
+        word = (word ^ (word >> 30)).wrapping_mul(0xbf58_476d_1ce4_e5b9);
+        word = (word ^ (word >> 27)).wrapping_mul(0x94d0_49bb_1331_11eb);
+        word ^ (word >> 31)
+    }
+
+    pub fn below(&mut self, end: u64) -> u64 {
+        self.word() % end
+    }
+
+    pub fn wide(&mut self) -> u128 {
+        u128::from(self.word()) << 64 | u128::from(self.word())
+    }
+
+    /// A number of as many binary digits as the dice say: any number, a power of two, or a neighbour of such a power.
+    #[allow(dead_code)]
+    pub fn of_any_length(&mut self) -> u128 {
+        let shift = self.below(128);
+        match self.below(6) {
+            0 => 1 << shift,
+            1 => (1 << shift) - 1,
+            2 => (1 << shift) + 1,
+            _ => self.wide() >> shift,
+        }
+    }
+}

@@ -1,4 +1,4 @@
-//! Answers, as both libraries write them, and the element types.
+//! Results, as both libraries write them, and the integer types.
 
 use num_integer::Integer;
 use num_rational::Ratio;
@@ -7,7 +7,7 @@ use std::fmt::{Debug, Display, LowerHex};
 use std::hash::Hash;
 use std::str::FromStr;
 
-/// Two numbers where the code is 1, and else why there are none: 0 for `None`, 2 and 3 for a text
+/// Two numbers if the code is 1. The other codes say why there are none: 0 for `None`, and 2 and 3 for a text
 /// that is refused.
 #[repr(C)]
 #[derive(Clone, Copy, Debug, PartialEq)]
@@ -35,7 +35,7 @@ impl<T: Number> Answer<T> {
     }
 }
 
-/// What the bench asks of an element type.
+/// What the bench requires of an integer type.
 pub trait Number:
     Copy
     + Integer
@@ -53,7 +53,7 @@ pub trait Number:
 
     fn narrow(n: i128) -> Self;
 
-    /// A power by the crate, which asks for a trait of references to the type.
+    /// A power by the crate, which requires a trait of references to the type.
     fn power(x: &Ratio<Self>, exponent: i32) -> Ratio<Self>;
 }
 

@@ -1,4 +1,4 @@
-//! Each call on each kind of input: the answers of all three, then their times.
+//! Each call on each kind of input: the results of all three libraries, then their times.
 
 use crate::answer::{Answer, Number};
 use crate::inputs::{Inputs, Texts};
@@ -11,13 +11,13 @@ use bakhsney::proved::ratio_integer::Primitive;
 use num_rational::Ratio;
 use std::fmt::Debug;
 
-/// How many pairs are timed.
+/// The number of pairs that are timed.
 const COUNT: usize = 4096;
 
-/// How many pairs a type the erased crate and the proved library answer beside: about a million.
+/// The erased crate and the proved library are compared on this many pairs of each type, about a million.
 pub const COMPARED: usize = KINDS.len() * 49 * COUNT;
 
-/// How many differing pairs of one type are printed.
+/// At most this many differing pairs of a type are printed.
 const SHOWN: usize = 5;
 
 /// The room for a text.
@@ -31,7 +31,7 @@ type Reading<T> = fn(&[u8], &[Span], &mut [Answer<T>]);
 
 type Printing<A> = fn(&[A], &mut [u8], &mut [usize]);
 
-/// The bench of one element type.
+/// The bench of one integer type.
 pub struct Bench<'a, C: Crossing> {
     exports: &'a Exports<C>,
     random: Random,
@@ -42,7 +42,7 @@ pub struct Bench<'a, C: Crossing> {
 
 impl<'a, C: Crossing> Bench<'a, C>
 where
-    C::Number: bakhsney::Integer + Primitive,
+    C::Number: bakhsney::integer::Integer + Primitive,
 {
     pub fn new(exports: &'a Exports<C>, filter: &'a str) -> Bench<'a, C> {
         Bench { exports, random: Random::new(20_240_229), filter, is_timed: false, differing: 0 }
@@ -84,7 +84,7 @@ where
         let reduce = |out: &mut [_]| each(e.reduce, &raw.first, out);
         self.answers("reduced", kind, raw, Some(&reduce), erased::reduced, theirs::reduced);
         self.answers("gcd", kind, raw, None, erased::gcd, theirs::gcd);
-        // Of wider fields the crate rounds some wrongly, and no type holds most powers.
+        // The crate rounds some wider fields wrongly, and most powers of them fit no type.
         if kind == "small" || kind == "half" {
             let many = self.many(kind, low);
             self.roundings(kind, &many);
@@ -96,7 +96,7 @@ where
         self.texts(kind, raw, low);
     }
 
-    /// Where calls of a few nanoseconds are timed, they get so many pairs that no processor knows by heart which way each goes.
+    /// Calls of a few nanoseconds are timed on many pairs, so that no processor can learn which way each one goes.
     fn many(&mut self, kind: &str, low: &Inputs<C>) -> Inputs<C> {
         let count = if self.is_timed { 16 * COUNT } else { 0 };
         let more = kinds::pairs(kind, C::Number::WIDTH, count, &mut self.random);
@@ -120,8 +120,8 @@ where
         self.reading("from_str_radix", kind, &hexadecimal, None, erased::from_str_radix, theirs::from_str_radix);
         self.printing("text", kind, low, true, erased::text, theirs::printed);
         self.printing("hex", kind, low, false, erased::hex_text, theirs::hex);
-        self.printing("`{}`", kind, low, false, erased::printed, theirs::printed);
-        self.printing("`{:x}`", kind, low, false, erased::hex, theirs::hex);
+        self.printing("{}", kind, low, false, erased::printed, theirs::printed);
+        self.printing("{:x}", kind, low, false, erased::hex, theirs::hex);
     }
 
     fn passes(&self, call: &str, kind: &str) -> bool {
@@ -146,7 +146,7 @@ where
         }
     }
 
-    /// Prints the row, after what each side gave was compared. Of what is not timed the crate was not asked.
+    /// Prints the row, after the results were compared. If a call is not timed, the crate did not make it.
     fn ended<A: PartialEq + Debug, I: Debug>(&mut self, call: &str, kind: &str, row: Option<Row>, all: &[(I, Option<A>, A, A)], is_none: fn(&A) -> bool) {
         let mut counts = Counts::default();
         for (input, proved, erased, theirs) in all {
@@ -251,7 +251,7 @@ where
         self.ended(call, kind, row, &all, |answer| answer.code == 0);
     }
 
-    /// Only where the crate's `%` is defined are the calls timed and compared with it.
+    /// The calls are timed, and compared with the crate's `%`, only where that is defined.
     fn remainders(&mut self, kind: &str, inputs: &Inputs<C>) {
         let is_timed = self.is_timed;
         let defined = inputs.only(|f| !is_timed || remainder_held(C::Number::WIDTH, f));
@@ -260,7 +260,7 @@ where
         }
     }
 
-    /// Powers with small exponents of both signs: of fractions that are not 0, each is held.
+    /// Powers with small exponents of both signs, of fractions that are not 0. Each fits.
     fn powers(&mut self, kind: &str, inputs: &Inputs<C>) {
         let most = if kind == "small" { 3 } else { 2 };
         let exponent = |f: &Fields| f[2].rem_euclid(2 * most + 1) as i32 - most as i32;
@@ -323,7 +323,7 @@ where
     }
 }
 
-/// The fractions in lowest terms, but for equal denominators, which stay equal.
+/// The fractions in lowest terms. But equal denominators stay equal.
 fn lowest(kind: &str, fields: &Fields) -> Fields {
     if kind == "equal denominators" {
         return *fields;
@@ -332,7 +332,7 @@ fn lowest(kind: &str, fields: &Fields) -> Fields {
     [*x.numer(), *x.denom(), *y.numer(), *y.denom()]
 }
 
-/// Whether the least common denominator and both numerators over it are held, and the divisor is not 0.
+/// Whether the least common denominator and both numerators over it fit, and the divisor is not 0.
 fn remainder_held(bits: u32, fields: &Fields) -> bool {
     let [a, b, c, d] = *fields;
     let held = |n: i128| bits == 128 || (n < 1 << (bits - 1) && n >= -(1 << (bits - 1)));

@@ -1,4 +1,4 @@
-//! The same calls by the plain Rust crate that is erased from the proved library.
+//! The same calls by the plain Rust crate.
 
 use crate::answer::{Answer, Number};
 use crate::mixing::Mixing;
@@ -6,7 +6,7 @@ use crate::proved::Span;
 use bakhsney::proved::num_rational as proved;
 use bakhsney::proved::ratio_core::Form;
 use bakhsney::proved::ratio_integer::{Integer as Proved, Primitive};
-use bakhsney::{DecimalText, Integer, Ratio};
+use bakhsney::{integer::Integer, BaseTenText, Ratio};
 use num_traits::{CheckedAdd, CheckedDiv, CheckedMul, CheckedRem, CheckedSub, Num};
 use std::hash::{Hash, Hasher};
 use std::io::Write;
@@ -45,12 +45,12 @@ fn copied(text: &str, out: &mut [u8]) -> usize {
     text.len()
 }
 
-/// In decimal, without std's formatter: each text in the place of the one before.
+/// In decimal, without std's formatter. Each text takes the place of the one before.
 #[inline(never)]
 pub fn text<T: Number + Integer>(fractions: &[Ratio<T>], out: &mut [u8], ends: &mut [usize]) {
-    let mut text = DecimalText::empty();
+    let mut text = BaseTenText::empty();
     put(fractions, out, ends, |x, out| {
-        x.put_decimal_text(&mut text);
+        x.put_base_ten_text(&mut text);
         copied(text.as_str(), out)
     });
 }

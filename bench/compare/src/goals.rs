@@ -1,6 +1,6 @@
-//! What is aimed at: the most that a call may take, as a part of the crate's time.
+//! The goals: a call may take at most this part of the crate's time.
 
-/// Nothing takes more than this, unless every answer is `None`.
+/// No call may take more than this, unless every result is `None`.
 pub const MOST: f64 = 1.2;
 
 pub fn goal(call: &str, kind: &str) -> f64 {
@@ -15,7 +15,7 @@ pub fn goal(call: &str, kind: &str) -> f64 {
         "floor" | "round" => 0.8,
         "to_integer" | "recip" | "bare recip" | "pow" => 1.0,
         "hash" => 0.9,
-        "from_str" | "from_str_radix" | "hex" | "`{:x}`" => 0.6,
+        "from_str" | "from_str_radix" | "hex" | "{:x}" => 0.6,
         "text" => 0.4,
         _ => MOST,
     }

@@ -18,7 +18,7 @@ pub struct Inputs<C: Crossing> {
 
 impl<C: Crossing> Inputs<C>
 where
-    C::Number: bakhsney::Integer,
+    C::Number: bakhsney::integer::Integer,
 {
     pub fn new(fields: Vec<Fields>) -> Inputs<C> {
         let number = C::Number::narrow;
@@ -45,7 +45,7 @@ where
     }
 }
 
-/// Texts one after another, and where each stands.
+/// Texts one after another, and the place of each.
 pub struct Texts {
     pub bytes: Vec<u8>,
     pub spans: Vec<Span>,

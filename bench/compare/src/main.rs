@@ -1,6 +1,6 @@
-//! Runs each call of the proved library and of the plain Rust crate that is erased from it beside the same call of the
-//! Rust crates, in one process: compares every answer, and prints a row of times for each kind of input. It ends with
-//! status 1 where answers differ.
+//! Runs each call of the proved library and of the plain Rust crate, and the same call of num-rational, in
+//! one process. It compares all results, and prints a row of times for each kind of input. It ends with
+//! status 1 if results differ.
 
 #[macro_use]
 mod slices;
@@ -22,10 +22,10 @@ use bakhsney::proved::ratio_integer::Primitive;
 use calls::Bench;
 use proved::{Crossing, Exports};
 
-/// The rows of one type: how many answers differ.
+/// Prints the rows of one type, and returns how many results differ.
 fn rows<C: Crossing>(exports: &Exports<C>, filter: &str) -> usize
 where
-    C::Number: bakhsney::Integer + Primitive,
+    C::Number: bakhsney::integer::Integer + Primitive,
 {
     let mut bench = Bench::new(exports, filter);
     bench.run();
@@ -37,7 +37,7 @@ fn main() {
     row::head();
     let differing = rows(&proved::EXPORTS_32, &filter) + rows(&proved::EXPORTS_64, &filter) + rows(&proved::EXPORTS_128, &filter);
     if filter.is_empty() {
-        println!("\nErased beside proved: each call that both have on up to {} more pairs a type, with {differing} differences, those with the crate counted too.", calls::COMPARED);
+        eprintln!("Erased and proved were also compared on up to {} more pairs of each type. Differences, with those from the crate: {differing}.", calls::COMPARED);
     }
     std::process::exit(i32::from(differing > 0));
 }

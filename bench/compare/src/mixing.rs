@@ -1,8 +1,9 @@
-//! A hasher that costs next to nothing, so that what a hash hands to it is what is timed: the one of `ratio_hash_i32` and its kin.
+//! A hasher that costs next to nothing, so that the time is the time of the call. It is the one of `ratio_hash_i32`,
+//! `ratio_hash_i64` and `ratio_hash_i128`.
 
 use std::hash::Hasher;
 
-/// By what the hash is multiplied before it takes the next number.
+/// The hash is multiplied by this before it takes the next number.
 const MULTIPLIER: u64 = 0x9e37_79b9_7f4a_7c15;
 
 pub struct Mixing {

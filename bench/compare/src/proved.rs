@@ -68,7 +68,7 @@ pub struct Text {
     pub span: Span,
 }
 
-/// How a number crosses.
+/// How a number is passed to C and back.
 pub trait Crossing: Copy {
     type Number: Number;
 
@@ -149,7 +149,7 @@ pub type Read<C> = unsafe extern "C" fn(*const u8, usize, *const Span, usize, *m
 
 pub type Print<C> = unsafe extern "C" fn(*const Fraction<C>, usize, *mut u8, usize, *mut Text, usize) -> u32;
 
-/// The exports of one element type.
+/// The exports of one integer type.
 pub struct Exports<C> {
     pub compare: Each<Pair<C>, Order>,
     pub hash: Each<Fraction<C>, Hash>,
@@ -166,7 +166,7 @@ pub struct Exports<C> {
     print: Print<C>,
 }
 
-/// The call on each of what is asked.
+/// Makes the call on each item of `asked`.
 pub fn each<A, B>(call: Each<A, B>, asked: &[A], answers: &mut [B]) {
     let code = unsafe { call(asked.as_ptr(), asked.len(), answers.as_mut_ptr(), answers.len()) };
     assert_eq!(code, 0);

@@ -1,12 +1,15 @@
-//! A row of the table.
+//! A row of docs/benchmarks.tsv, without its last column. bench/run adds that: the commit.
 
 use crate::goals::{goal, MOST};
 use crate::timing::{times, Times};
 
-/// By how much the erased crate's part of the crate's time may be above the proved library's.
+/// The erased crate's part of the crate's time may be above the proved library's part by at most this.
 const MOST_ABOVE: f64 = 0.05;
 
-/// Where both have an answer, ours has one alone, and neither has one.
+/// The names of the columns, here and in checks/benchmarks.
+const COLUMNS: &str = "fraction\ttype\tcall\tinput\tproved_ns\terased_ns\tratio_ns\tcrate_ns\tproved_of_crate\terased_of_crate\tof_ratio\tgoal\tverdict\tboth\tours\tneither";
+
+/// How often both have a result, only ours has one, and neither has one.
 #[derive(Default)]
 pub struct Counts {
     pub both: usize,
@@ -14,15 +17,14 @@ pub struct Counts {
     pub neither: usize,
 }
 
-/// What a call takes: by the proved library, where that exports it, and by the erased crate, each in turn with the crate's.
+/// The time of a call by the proved library, if that exports it, and by the erased crate. Each is timed in turn with the crate.
 pub struct Row {
     proved: Option<Times>,
     erased: Times,
 }
 
 pub fn head() {
-    println!("| Type | Call | Input | Proved, ns | Erased, ns | Crate, ns | Proved | Erased | Goal | | Answers of both, of ours alone, of neither |");
-    println!("|---|---|---|---|---|---|---|---|---|---|---|");
+    println!("{COLUMNS}");
 }
 
 impl Row {
@@ -30,17 +32,17 @@ impl Row {
         Row { proved: proved.map(|proved| times(len, proved, theirs)), erased: times(len, erased, theirs) }
     }
 
-    /// What is said of the goal.
+    /// The verdict on the goal.
     fn said(&self, goal: f64, counts: &Counts) -> &'static str {
         let ratio = self.proved.as_ref().map_or(self.erased.ratio, |times| times.ratio);
         if ratio > goal && counts.both + counts.ours == 0 {
             "no answers"
         } else if ratio > MOST {
-            "**above 1.2**"
+            "above 1.2"
         } else if ratio > goal {
-            "**missed**"
+            "missed"
         } else if self.erased.ratio > ratio + MOST_ABOVE {
-            "met; **erased above**"
+            "erased above"
         } else {
             "met"
         }
@@ -53,7 +55,7 @@ impl Row {
             None => (String::new(), String::new()),
         };
         println!(
-            "| i{bits} | {call} | {kind} | {nanoseconds} | {:.1} | {:.1} | {ratio} | {:.2} | {goal:.1} | {} | {}, {}, {} |",
+            "Ratio\ti{bits}\t{call}\t{kind}\t{nanoseconds}\t{:.1}\t\t{:.1}\t{ratio}\t{:.2}\t\t{goal:.1}\t{}\t{}\t{}\t{}",
             self.erased.ours,
             self.erased.theirs,
             self.erased.ratio,

@@ -1,6 +1,6 @@
 //! A call on each fraction or pair of a slice, for a fraction type with the names of num-rational.
 
-/// What each call is asked, and a place for each answer.
+/// The items of each call, and a place for each result.
 macro_rules! slices {
     ($($Bound:path),+) => {
         pub type Pair<T> = (Ratio<T>, Ratio<T>);

@@ -1,4 +1,4 @@
-//! The calls by the Rust crates.
+//! The calls by num-rational and num-integer.
 
 use crate::answer::{Answer, Number};
 use crate::mixing::Mixing;
@@ -10,7 +10,7 @@ use std::io::Write;
 
 slices! { Number }
 
-/// The crate has no checked call for `%`: only where `%` is defined may this be called.
+/// The crate has no checked call for `%`. Call this only if `%` is defined.
 #[inline(never)]
 pub fn checked_rem<T: Number>(pairs: &[Pair<T>], out: &mut [Answer<T>]) {
     each(pairs, out, |pair| answered(Some(pair.0 % pair.1)));
@@ -21,7 +21,7 @@ pub fn gcd<T: Number>(fractions: &[Ratio<T>], out: &mut [Answer<T>]) {
     each(fractions, out, |x| Answer::some(num_integer::Integer::gcd(x.numer(), x.denom()), T::one()));
 }
 
-/// Only where the power is held may this be called.
+/// Call this only if the power fits.
 #[inline(never)]
 pub fn pow<T: Number>(fractions: &[Ratio<T>], exponents: &[i32], out: &mut [Answer<T>]) {
     for ((x, exponent), place) in fractions.iter().zip(exponents).zip(out) {

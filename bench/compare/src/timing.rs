@@ -1,14 +1,15 @@
-//! Times of two ways to the same answers, taken in turn so that what else the machine does falls on both.
+//! Times of two ways to the same results. They are taken in turn, so that what else the machine does slows
+//! both alike.
 
 use std::time::Instant;
 
 /// How often each way is timed.
 const ROUNDS: usize = 101;
 
-/// How long one timing takes at least, in nanoseconds.
+/// The least time of one timing, in nanoseconds.
 const SLICE: f64 = 100_000.0;
 
-/// Nanoseconds a call of ours and of theirs, and the median of ours over theirs.
+/// The nanoseconds of a call of ours and of theirs, and the median of ours over theirs.
 pub struct Times {
     pub ours: f64,
     pub theirs: f64,

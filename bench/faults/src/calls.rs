@@ -1,4 +1,4 @@
-//! The calls of the Rust crate that are tried, each beside the exact answer.
+//! The tested calls of the Rust crate, each with the exact result.
 
 use crate::exact;
 use crate::operands::{show_fraction, Fraction, Operands};
@@ -7,7 +7,7 @@ use num_traits::{CheckedDiv, CheckedMul};
 use std::hash::{DefaultHasher, Hash};
 use std::panic::{catch_unwind, UnwindSafe};
 
-/// What is looked for: a panic though there is an answer, or another answer.
+/// What the search looks for: a panic though there is a result, or another result.
 pub enum Fault {
     Panics,
     Answers,
@@ -21,7 +21,7 @@ pub struct Call {
     pub show: fn(Operands) -> String,
 }
 
-/// What a call answers, or that it panics.
+/// What a call returns, or that it panics.
 pub fn caught(call: impl FnOnce() -> String + UnwindSafe) -> String {
     catch_unwind(call).unwrap_or_else(|_| "panics".to_string())
 }

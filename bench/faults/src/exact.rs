@@ -1,4 +1,4 @@
-//! Exact answers, in 128 bits.
+//! Exact results, in 128 bits.
 
 use crate::operands::{show_fraction, Fraction, Operands};
 
@@ -14,7 +14,7 @@ fn held(z: i128) -> Option<i8> {
     i8::try_from(z).ok()
 }
 
-/// The lowest terms, where an `i8` holds both numbers.
+/// The lowest terms, if both numbers fit an `i8`.
 pub fn lowest(n: i128, d: i128) -> Option<Fraction> {
     let common = gcd(n, d) * d.signum();
     if d == 0 {
@@ -49,13 +49,13 @@ pub fn hashed(operands: Operands) -> Option<String> {
     ((operands.1) == (0, 1)).then(|| "a hash".to_string())
 }
 
-/// Where both denominators are positive, as every call asks that is not total.
+/// The operands, if both denominators are positive. Every call that is not total requires that.
 fn positive(operands: Operands) -> Option<(i128, i128, i128, i128)> {
     let (a, b, c, d) = wide(operands);
     (b > 0 && d > 0).then_some((a, b, c, d))
 }
 
-/// That a sum is not held, where it is not.
+/// Says that a sum does not fit, if it does not.
 pub fn refused_sum(operands: Operands) -> Option<String> {
     let (a, b, c, d) = positive(operands)?;
     lowest(a * d + c * b, b * d)
@@ -73,8 +73,7 @@ pub fn quotient(operands: Operands) -> Option<String> {
     shown(lowest(a * d, b * c))
 }
 
-/// What is left of the first after whole times the second, where the least common denominator and both numerators over it
-/// are held.
+/// The remainder of the first by the second, if the least common denominator and both numerators over it fit.
 pub fn remainder(operands: Operands) -> Option<String> {
     let (a, b, c, d) = positive(operands)?;
     let common = b / gcd(b, d) * d;
@@ -101,7 +100,7 @@ pub fn ceil(operands: Operands) -> Option<String> {
     Some((-(-n).div_euclid(d)).to_string())
 }
 
-/// What a text of these two numbers is answered: the lowest terms, or the name of the refusal.
+/// What a text of these two numbers gives: the lowest terms, or the name of the refusal.
 pub fn text(operands: Operands) -> Option<String> {
     let (n, d, c, one) = wide(operands);
     ((c, one) == (0, 1)).then(|| lowest(n, d).map_or("parse error".to_string(), show_fraction))

@@ -1,7 +1,7 @@
-//! Finds, for each call of the Rust crate num-rational, the simplest operands over `i8` at which it gives another answer than
-//! the exact one, or panics though there is one. It prints a line for each: the call, the four numbers, the operands as
-//! Rust writes them, what the crate did, and the exact answer. With arguments NAME=A,B,C,D it does not look for operands,
-//! and shows what it does at these: so the release profile shows what becomes of the panics of the debug profile.
+//! Finds, for each call of the Rust crate num-rational, the simplest operands over `i8` for which it is wrong: it panics though
+//! there is a result, or it returns another one. It prints a line for each: the call, the four numbers, the operands as Rust
+//! writes them, what the crate did, and the exact result. With arguments NAME=A,B,C,D it does not search, but shows what the
+//! crate does at these operands. So the release build shows what happens where the debug build panics.
 
 mod calls;
 mod exact;
@@ -28,8 +28,8 @@ fn main() {
     }
 }
 
-/// The operands of the argument for this call, or else the simplest at which the crate has this fault, with its answer and
-/// the exact one.
+/// The operands that an argument gives for this call, or else the simplest ones at which the crate has this fault, with its
+/// result and the exact one.
 fn simplest(call: &Call, all: &[Operands]) -> Option<(Operands, String, String)> {
     let given = std::env::args()
         .skip(1)

@@ -1,4 +1,4 @@
-//! Operands in the order of how simple they are.
+//! Operands, the simplest ones first.
 
 pub type Fraction = (i8, i8);
 pub type Operands = (Fraction, Fraction);
@@ -7,7 +7,7 @@ const NUMBERS: [i8; 17] = [
     0, 1, -1, 2, -2, 3, -3, 4, 5, 7, 63, 64, 100, 126, 127, -127, -128,
 ];
 
-/// How simple a number is: small ones come first, then those at the ends of the type.
+/// The cost of a number: small numbers cost least, then those at the ends of the type.
 fn cost(number: i8) -> u32 {
     let magnitude = u32::from(number.unsigned_abs());
     let near = if magnitude > 32 {
@@ -37,7 +37,7 @@ pub fn pairs() -> Vec<Operands> {
     all
 }
 
-/// The operands that an argument NAME=A,B,C,D gives for the call of this name.
+/// The operands that an argument NAME=A,B,C,D gives for the call with this name.
 pub fn read(text: &str, name: &str) -> Option<Operands> {
     let numbers = text.strip_prefix(name)?.strip_prefix('=')?;
     let mut numbers = numbers.split(',').map(|number| number.parse().ok());

@@ -1,5 +1,5 @@
-//! Runs the calculator and the plain one on the same generated lines: compares what they write, and prints their
-//! times and the instructions that valgrind counts.
+//! Runs the calculator and the plain one on the same generated lines. It compares what they write, and prints
+//! their times and the instructions that valgrind counts.
 //!
 //! Arguments: the calculator, the plain calculator, and a folder to work in.
 
@@ -15,7 +15,7 @@ use std::time::Instant;
 const LINES: usize = 100_000;
 const ROUNDS: usize = 15;
 
-/// A number of about so many bits, now and then written in another way than plainly.
+/// A number of about this many bits, now and then in an unusual form.
 fn number(bits: u32, random: &mut Random) -> String {
     let n = random.signed(1 << bits);
     match random.below(40) {

@@ -1,5 +1,6 @@
-//! The line calculator as one would write it in plain Rust over num-rational: lines on standard input, answers
-//! on standard output, both buffered. Its rules are those of the repository's README.
+//! The line calculator as one would write it in plain Rust with num-rational. It reads lines from standard
+//! input and writes answers to standard output, both buffered. Its rules are those of
+//! `docs/CALCULATOR.md`.
 
 use num_integer::Integer;
 use num_rational::Ratio;
@@ -14,7 +15,7 @@ type Refusal = &'static str;
 const MOST_BYTES: usize = 1000;
 const OPERATORS: [&str; 6] = ["+", "-", "*", "/", "%", "cmp"];
 
-/// A fraction of wider numbers, where both of its own fit.
+/// A fraction of wider numbers, if both of its numbers fit.
 fn narrow(wide: Ratio<i128>) -> Option<Fraction> {
     let numer = i64::try_from(*wide.numer()).ok()?;
     Some(Ratio::new_raw(numer, i64::try_from(*wide.denom()).ok()?))
@@ -43,7 +44,7 @@ fn fraction(text: &str) -> Result<Fraction, Refusal> {
     Ok(Ratio::new(numer, denom))
 }
 
-/// What the first leaves of division by the second, where the numbers over the least common denominator fit.
+/// The remainder of the first by the second, if the numerators over the least common denominator fit.
 fn remainder(x: &Fraction, y: &Fraction) -> Option<Fraction> {
     let common = (x.denom() / x.denom().gcd(y.denom())).checked_mul(*y.denom())?;
     let left = x.numer().checked_mul(&(common / x.denom()))?;
@@ -51,7 +52,7 @@ fn remainder(x: &Fraction, y: &Fraction) -> Option<Fraction> {
     Some(Ratio::new(left.checked_rem(right).unwrap_or(0), common))
 }
 
-/// The crate refuses some results that fit: these are formed in wider numbers.
+/// The crate refuses some results that fit, so these are computed in wider numbers.
 fn result(operator: &str, x: &Fraction, y: &Fraction) -> Option<Fraction> {
     match operator {
         "+" => x.checked_add(y).or_else(|| narrow(wide(x) + wide(y))),

@@ -1,5 +1,6 @@
 pub mod CastLemmas
 pub mod FoldLemmas
+pub mod HashWriteLemmas
 pub mod HeadlineLemmas
 pub mod JsonLemmas
 pub mod NeutralLemmas

@@ -1,5 +1,5 @@
 -- What a fraction feeds a hasher.
-use Rattle.std.specs.Prelude.{◌≡◌, ℕ, ℤ, List, length}
+use Rattle.std.specs.Prelude.{◌≡◌, ◌-◌, ◌^◌, ℕ, ℤ, pos, negsuc, unsigned_abs, List, length}
 use Rattle.std.specs.List.{flat_map}
 use Rattle.ratio_integer.specs.Range.{IsHeld}
 use Rattle.ratio_core.proofs.HashLaws.{codes_of}
@@ -19,3 +19,10 @@ pub record AreToldApart (lo hi : ℤ) (write : ℤ → List (List ℕ)) : Type 0
   pub size : ℕ
   pub long : (z : ℤ) → IsHeld lo hi z → length (write z) ≡ size
   pub apart : (y z : ℤ) → IsHeld lo hi y → IsHeld lo hi z → write y ≡ write z → y ≡ z
+
+-- the same of the signed and of the unsigned numbers of some bits
+abbrev pub AreSignedToldApart : ℕ → (ℤ → List (List ℕ)) → Type 0
+AreSignedToldApart bits write = AreToldApart (negsuc (2 ^ (bits - 1) - 1)) (pos (2 ^ (bits - 1) - 1)) write
+
+abbrev pub AreUnsignedToldApart : ℕ → (ℕ → List (List ℕ)) → Type 0
+AreUnsignedToldApart bits write = AreToldApart (pos 0) (pos (2 ^ bits - 1)) (λ z. write (unsigned_abs z))

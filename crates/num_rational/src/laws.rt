@@ -3,6 +3,7 @@ pub mod neutral;
 pub mod order;
 pub mod reduced;
 pub mod signs;
+pub mod told_apart;
 pub mod undoing;
 
 ghost use Rattle.std.specs.Prelude.{◌≡◌, ◌≢◌, ℤ, pos, Result, Ok};

@@ -138,6 +138,11 @@ pub record IsHashOf (lo hi : ℤ) (x : ℤ × ℤ) (hash : ℕ) : Type 0 where
   pub are_codes : IsCodesOf lo hi x.0 x.1 codes
   pub is_hash : hash ≡ fold mixed 0 codes
 
+-- Over one type, fractions of equal value have one hash. For example, 1/2 and -2/-4 do over `int32_t`.
+abbrev pub EqualValuesHaveOneHash : Type 0
+EqualValuesHaveOneHash =
+    (lo hi : ℤ) (x y : ℤ × ℤ) (h k : ℕ) → x.1 ≢ pos 0 → y.1 ≢ pos 0 → SameValue x.0 x.1 y.0 y.1 → IsHashOf lo hi x h → IsHashOf lo hi y k → h ≡ k
+
 abbrev pub IsHashAnswer : ℤ → ℤ → ℤ × ℤ → ℕ → ℕ → Type 0
 IsHashAnswer lo hi x code hash = Tested (x.1 ≡ pos 0) ((code ≡ code_zero_denominator) × (hash ≡ 0)) ((code ≡ code_answered) × IsHashOf lo hi x hash)
 

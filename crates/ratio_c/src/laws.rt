@@ -1,4 +1,5 @@
 //! The laws of this crate. Each function does nothing: its contract is the law.
+ghost use Rattle.ratio_c.specs.Calls.{EqualValuesHaveOneHash};
 ghost use Rattle.ratio_c.specs.LowestHash.{DenominatorsHaveUnlikeHashes, EqualHaveOneHash, NumeratorsHaveUnlikeHashes};
 
 /// Which fractions have the same hash in lowest terms.
@@ -6,4 +7,9 @@ pub fn lowest_hashes()
     ensures equal { EqualHaveOneHash }
     ensures numerators { NumeratorsHaveUnlikeHashes }
     ensures denominators { DenominatorsHaveUnlikeHashes }
+{}
+
+/// The hash by value is one for all fractions of a value.
+pub fn hashes()
+    ensures { EqualValuesHaveOneHash }
 {}

@@ -4,6 +4,7 @@ pub mod neutral;
 pub mod order;
 pub mod reduced;
 pub mod signs;
+pub mod told_apart;
 pub mod undoing;
 
 /// Reading the JSON list of a fraction's two fields gives these fields, and nothing else.

@@ -4,6 +4,7 @@ use crate::proved::tests_fractions::asserting::{all_hold, each_holds, reads};
 use crate::proved::tests_fractions::ratios::forms::{has, raw};
 use crate::proved::tests_fractions::ratios::texts::{Shown, first_misprinted};
 use crate::proved::num_rational::laws::reduced;
+use crate::proved::num_rational::laws::told_apart::told_apart;
 use crate::proved::num_rational::{BaseTenText, Constants, Form, RatioText, Reduced, Reduced32, Reduced64};
 use crate::proved::ratio_integer::Integer;
 use core::cmp::Ordering;
@@ -245,4 +246,5 @@ fn has_laws() {
     reduced::parts(&x);
     reduced::orders(&x, &y);
     reduced::hashes(&x, &y);
+    told_apart();
 }

@@ -1,12 +1,13 @@
 //! The names and traits of num-rational over the proved calls.
 //!
-//! Each file of the layer hands its fields to a proved call and its answer back. A condition that the proved
-//! call asks of its caller is tested here before, in each build, and where it does not hold the call panics or,
-//! where it has a `None`, answers that.
+//! Each call of the layer passes its fields to a proved call, and returns its result. If the proved call requires something of its
+//! caller, the layer tests that first, in each build. If the test fails, a call that returns an `Option` returns `None`, and the
+//! others panic.
 //!
-//! The floats and the forms with an exponent stand on no proved call: they are tested alone.
+//! No proved call is behind the floats and the forms with an exponent. Tests compare these with num-rational.
 mod approximations;
 mod arithmetic;
+mod as_reduced;
 mod casts;
 mod conversions;
 mod exponents;

@@ -131,8 +131,10 @@ const ROUNDING: &[Row] = &[
     ("fract", line!(), || done(none().fract())),
     ("to_integer", line!(), || done(none().to_integer())),
     ("floor of no lowest terms", line!(), || done(refused().floor())),
-    ("round_to", line!(), || done(Reduced::from(1).round_to(0, Rounding::Up))),
     ("decimal", line!(), || done(Reduced::from(1).decimal(39, Rounding::Up))),
+    ("decimal of a ratio", line!(), || done(one().decimal(39, Rounding::Up))),
+    ("decimal of no value", line!(), || done(none().decimal(2, Rounding::Up))),
+    ("decimal of no lowest terms", line!(), || done(refused().decimal(2, Rounding::Up))),
 ];
 
 #[test]
@@ -142,9 +144,10 @@ fn the_callers_line_is_named() {
     }
 }
 
-/// The layer's methods that only the layer calls.
+/// The layer's functions that only the layer calls.
 const OWN: [&str; 4] = ["pub(super) fn ", "fn recip_of_any(", "fn refuse", "fn power<"];
 
+/// A call that can panic has `#[track_caller]` and says when it panics. A call that returns an `Option` never panics.
 #[test]
 fn each_call_that_panics_says_when() {
     let layer = concat!(env!("CARGO_MANIFEST_DIR"), "/src/layer");
@@ -152,12 +155,13 @@ fn each_call_that_panics_says_when() {
     for file in std::fs::read_dir(layer).unwrap() {
         let source = std::fs::read_to_string(file.unwrap().path()).unwrap();
         let lines: Vec<&str> = source.lines().map(str::trim).collect();
-        for at in (0..lines.len()).filter(|&at| lines[at] == "#[track_caller]") {
-            let call = lines[at..].iter().find(|line| line.contains("fn ")).unwrap();
-            let above = lines[..at].iter().rev().take_while(|line| line.starts_with("///") || line.starts_with("#["));
-            let says_when = above.into_iter().any(|line| *line == "/// # Panics");
-            assert!(says_when || OWN.iter().any(|own| call.starts_with(own)), "{call}");
-            calls += usize::from(says_when);
+        for at in (0..lines.len()).filter(|&at| lines[at].contains("fn ") && !OWN.iter().any(|own| lines[at].starts_with(own))) {
+            let above: Vec<_> = lines[..at].iter().rev().take_while(|line| line.starts_with("///") || line.starts_with("#[")).collect();
+            let has = |words: &str| above.iter().any(|line| **line == words);
+            let (panics, names_the_line) = (has("/// # Panics"), has("#[track_caller]"));
+            assert_eq!(panics, names_the_line, "{}", lines[at]);
+            assert!(!(panics && lines[at].contains("-> Option<")), "{}", lines[at]);
+            calls += usize::from(panics);
         }
     }
     assert!(calls > 30, "{calls}");

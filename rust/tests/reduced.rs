@@ -3,7 +3,7 @@
 // The tests are about these forms.
 #![allow(clippy::needless_borrows_for_generic_args)]
 
-use bakhsney::{BaseTenText, Ratio, RatioErrorKind, Reduced, Reduced64, ReducedError, Rounding};
+use bakhsney::{BaseTenText, DecimalText, Ratio, RatioErrorKind, Reduced, Reduced64, ReducedError, Rounding};
 use num_traits::{CheckedNeg, ToPrimitive};
 use std::cmp::Ordering;
 use std::collections::hash_map::DefaultHasher;
@@ -84,6 +84,8 @@ fn simplest_between_two_of_either_kind() {
     assert_eq!(between(Ratio::new_raw(-2, -6), Ratio::new_raw(4, 8)), Some((2, 5)));
     assert_eq!(between(Ratio::new_raw(-1, -128), Ratio::new(1, 2)), None);
     assert_eq!(between(Ratio::new(0, 1), Ratio::new(1, 127)), None);
+    let (none, one) = (Ratio::new_raw(1, 0), Ratio::ONE);
+    assert_eq!([between(none, one), between(one, none), between(none, none)], [None; 3]);
 }
 
 #[test]
@@ -210,6 +212,9 @@ fn a_text_is_a_str() {
     let as_ref: &str = text.as_ref();
     assert_eq!((&*text, as_ref, text.len(), text.split_once('/')), ("-1/10", "-1/10", 5, Some(("-1", "10"))));
     assert_eq!((format!("{text}|{text:>7}|{text:?}"), text.to_string()), ("-1/10|  -1/10|\"-1/10\"".to_owned(), "-1/10".to_owned()));
+    let text: DecimalText = i8_of(-1, 10).decimal(2, Rounding::Down);
+    let as_ref: &str = text.as_ref();
+    assert_eq!((&*text, as_ref, format!("{text}|{text:>7}|{text:?}")), ("-0.10", "-0.10", "-0.10|  -0.10|\"-0.10\"".to_owned()));
 }
 
 #[test]
@@ -218,6 +223,28 @@ fn nearest_of_a_ratio() {
     assert_eq!([nearest(22, 7, 3), nearest(-44, -14, 3), nearest(22, -7, 3)], [Some((3, 1)), Some((3, 1)), Some((-3, 1))]);
     assert_eq!([nearest(1, 2, 1), nearest(-1, 2, 1), nearest(100, 99, 127)], [Some((0, 1)), Some((-1, 1)), Some((100, 99))]);
     assert_eq!([nearest(1, 2, 0), nearest(1, 2, -1), nearest(1, 0, 5), nearest(1, -128, 5)], [None; 4]);
+}
+
+#[test]
+fn calls_of_reduced_for_a_ratio() {
+    let pairs: [(i8, i8); 9] = [(1, 3), (2, -6), (-7, 2), (100, 3), (-128, 127), (-128, -2), (0, -5), (1, -128), (1, 0)];
+    for (numer, denom) in pairs {
+        let (x, lowest) = (Ratio::new_raw(numer, denom), Reduced::checked_new(numer, denom));
+        for parts in [-1, 0, 1, 4, 100] {
+            let want = lowest.and_then(|lowest| lowest.round_to(parts, Rounding::HalfEven));
+            assert_eq!(x.round_to(parts, Rounding::HalfEven).map(Ratio::into_raw), fields(want), "{x} in {parts}");
+        }
+        let decimals = [x.exact_decimal(), lowest.and_then(|lowest| lowest.exact_decimal())].map(|text| text.map(|text| text.to_string()));
+        assert_eq!(decimals[0], decimals[1], "{x}");
+        assert_eq!(x.cast::<i64>().map(Ratio::into_raw), lowest.and_then(|lowest| fields(lowest.cast())), "{x}");
+        assert_eq!(x.cast::<u8>().map(Ratio::into_raw), lowest.and_then(|lowest| fields(lowest.cast())), "{x}");
+        if let Some(lowest) = lowest {
+            assert_eq!(x.decimal(3, Rounding::Up).as_str(), lowest.decimal(3, Rounding::Up).as_str(), "{x}");
+        }
+    }
+    let floats = [0.0, -0.5, 0.1, 127.5, 128.0, f64::NAN, f64::INFINITY].map(|float| (Ratio::from_float(float), Reduced::<i8>::from_float(float)));
+    assert!(floats.iter().all(|(x, lowest)| x.map(Ratio::into_raw) == fields(*lowest)));
+    assert_eq!([-0.5, 0.1].map(|float| Ratio::from_float32(float).map(Ratio::into_raw)), [Some((-1i8, 2)), None]);
 }
 
 #[cfg(feature = "serde")]
@@ -233,13 +260,14 @@ fn serialized_as_lowest_terms_alone() {
     assert!(["[128,1]", "[1]", "1", "[1,2,3]", "\"1/2\""].iter().all(|text| read(text).is_err()));
 }
 
-/// Where a float is exact, `{:.2}` of it is the decimal by `HalfEven`, but for the minus of a value that is rounded to 0.
+/// If a float is exact, `{:.2}` of it is the decimal by `HalfEven`, but for the minus of a value that is rounded to 0. Without places,
+/// std rounded 0.5 to 1 before Rust 1.67.
 #[test]
 fn decimals_are_those_of_exact_floats() {
     for numer in -4_000..4_000i32 {
         let exact = f64::from(numer) / 1_024.0;
         let x = Reduced::checked_new(numer, 1_024).unwrap();
-        for places in 0..12 {
+        for places in 1..12 {
             let float = format!("{exact:.*}", places as usize);
             let is_zero = !float.contains(|digit| ('1'..='9').contains(&digit));
             let want = if is_zero { float.trim_start_matches('-') } else { &float };
@@ -266,7 +294,7 @@ fn more_places_than_a_decimal_has() {
 }
 
 #[test]
-#[should_panic(expected = "the number of parts is not above 0")]
 fn no_parts() {
-    let _ = Reduced64::ONE.round_to(0, Rounding::Down);
+    let third = i8_of(1, 3);
+    assert_eq!([-128, -1, 0, 1].map(|parts| third.round_to(parts, Rounding::Up)), [None, None, None, Some(Reduced::ONE)]);
 }

@@ -1,7 +1,8 @@
 //! The fraction type that is always in lowest terms.
 //!
-//! Two calls of the proved type require something of a plain number, and this module tests it: `decimal`, at most 38 places,
-//! and `round_to`, a positive number of parts. The others require nothing.
+//! Two calls of the proved type require something of a plain number, and this module tests it. `decimal` requires at most 38
+//! places, and panics if there are more. `round_to` requires a positive number of parts, and is `None` if it is not positive. The
+//! others require nothing.
 use super::integer::{Element, Integer, Signs};
 use super::ratio::Ratio;
 use crate::proved::num_rational as proved;
@@ -15,8 +16,8 @@ use core::str::FromStr;
 use num_traits::Signed;
 
 /// A fraction of two integers that is always in lowest terms: the denominator is positive, and no number above 1 divides both.
-/// Where there is no result, a checked call returns `None`. No call panics, except `decimal` for more than 38 places and `round_to`
-/// for no parts. num-rational has no such type.
+/// If there is no result, a checked call returns `None`. No call panics, except `decimal` for more than 38 places. num-rational has no
+/// such type.
 ///
 /// ```
 /// use bakhsney::{ParseRatioError, Reduced64};
@@ -238,12 +239,8 @@ impl<T: Integer> Reduced<T> {
         self.fraction.exact_decimal()
     }
 
-    /// The multiple of `1/parts` that the rule says, such as cents for 100 and quarters for 4. It is `None` only if its lowest
-    /// terms do not fit the type.
-    ///
-    /// # Panics
-    ///
-    /// If `parts` is not above 0.
+    /// The multiple of `1/parts` that the rule says, such as cents for 100 and quarters for 4. It is `None` if its lowest terms do
+    /// not fit the type, or if `parts` is not above 0.
     ///
     /// ```
     /// use bakhsney::{Reduced, Rounding};
@@ -251,12 +248,15 @@ impl<T: Integer> Reduced<T> {
     /// let price = Reduced::checked_new(2, 3).unwrap();
     /// assert_eq!(price.round_to(100, Rounding::HalfEven), Reduced::checked_new(67, 100));
     /// assert_eq!(Reduced::checked_new(100i8, 3).unwrap().round_to(100, Rounding::HalfEven), None);
+    /// assert_eq!(price.round_to(0, Rounding::HalfEven), None);
     /// ```
     #[inline]
-    #[track_caller]
     pub fn round_to(&self, parts: T, rule: Rounding) -> Option<Reduced<T>> {
-        assert!(T::NUMBER_0 < parts, "the number of parts is not above 0");
-        Reduced::of(self.fraction.round_to(parts.into_proved(), rule))
+        if T::NUMBER_0 < parts {
+            Reduced::of(self.fraction.round_to(parts.into_proved(), rule))
+        } else {
+            None
+        }
     }
 
     /// The numerator and the denominator.
@@ -341,15 +341,15 @@ macro_rules! checked_calls {
 }
 
 checked_calls! {
-    checked_add: "The sum, or `None` where its lowest terms are not held.",
+    checked_add: "The sum, or `None` if its lowest terms do not fit the type.",
         "assert_eq!(half.checked_add(half), Some(1.into()));";
-    checked_sub: "The difference, or `None` where its lowest terms are not held.",
+    checked_sub: "The difference, or `None` if its lowest terms do not fit the type.",
         "assert_eq!(half.checked_sub(1), bakhsney::Reduced::checked_new(-1, 2));";
-    checked_mul: "The product, or `None` where its lowest terms are not held.",
+    checked_mul: "The product, or `None` if its lowest terms do not fit the type.",
         "assert_eq!(half.checked_mul(-128), Some((-64).into()));";
-    checked_div: "The quotient, or `None` where the divisor is 0 or the lowest terms are not held.",
+    checked_div: "The quotient, or `None` if the divisor is 0 or the lowest terms do not fit the type.",
         "assert_eq!(half.checked_div(&half), Some(1.into()));";
-    checked_rem: "What the quotient cut to a whole number leaves, or `None` where the divisor is 0 or the lowest terms are not held. Over `i128` and `u128` it is also `None` where a number on the way is not held.",
+    checked_rem: "The remainder of the quotient that is cut to a whole number. `None` if the divisor is 0 or the lowest terms do not fit the type. Over `i128` and `u128` it is also `None` if a number on the way does not fit.",
         "assert_eq!(half.checked_rem(1), Some(half));";
 }
 

@@ -6,11 +6,8 @@ use crate::proved::ratio_core::simplest;
 impl<T: Integer> Ratio<T> {
     /// Of all fractions strictly between `low` and `high`, the one with the smallest denominator, and of these the one whose
     /// numerator is nearest to 0, in lowest terms. `None` if the type has no fraction between them, so also if `low` is not below
-    /// `high`. Also `None` if a denominator is negative and the lowest terms do not fit. num-rational has no such call.
-    ///
-    /// # Panics
-    ///
-    /// If a denominator is 0.
+    /// `high`. It is also `None` if a denominator is 0, or if it is negative and the lowest terms do not fit. num-rational has no
+    /// such call.
     ///
     /// ```
     /// use bakhsney::Ratio;
@@ -20,7 +17,6 @@ impl<T: Integer> Ratio<T> {
     /// assert_eq!(Ratio::simplest_between(&high, &low), None);
     /// ```
     #[inline]
-    #[track_caller]
     pub fn simplest_between(low: &Ratio<T>, high: &Ratio<T>) -> Option<Ratio<T>> {
         let (low, high) = (low.positive()?, high.positive()?);
         let (numer, denom) = simplest::simplest_between(*low.numer(), *low.denom(), *high.numer(), *high.denom())?;

@@ -2,7 +2,7 @@
 use super::integer::{Element, Integer};
 use super::ratio::{Proved, Ratio};
 use crate::proved::num_rational::ParseRatioError;
-use crate::proved::ratio_core::{text, BaseTenText, Form, RatioText};
+use crate::proved::ratio_core::{text, BaseTenText, DecimalText, Form, RatioText};
 use core::fmt;
 use core::ops::Deref;
 use core::str::FromStr;
@@ -133,4 +133,4 @@ macro_rules! texts {
     )*};
 }
 
-texts! { BaseTenText RatioText }
+texts! { BaseTenText DecimalText RatioText }

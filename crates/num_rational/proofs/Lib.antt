@@ -1,11 +1,14 @@
 pub mod CastLemmas
+pub mod EqualValueLemmas
 pub mod FoldLemmas
 pub mod HashWriteLemmas
 pub mod HeadlineLemmas
 pub mod JsonLemmas
+pub mod NearestBoundLemmas
 pub mod NeutralLemmas
 pub mod OrderLawLemmas
 pub mod PaddingLemmas
+pub mod PowerLawLemmas
 pub mod RatioLemmas
 pub mod ReducedLemmas
 pub mod ResultLemmas

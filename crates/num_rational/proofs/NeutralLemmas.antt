@@ -17,7 +17,7 @@ use Rattle.num_rational.proofs.ValueLemmas.{one_times, plus_zero, same_numbers, 
 one_nonzero : pos 1 ≢ pos 0
 one_nonzero same = omega (arith, ints)
 
-first_power : (z : ℤ) → int_pow z 1 ≡ z
+pub first_power : (z : ℤ) → int_pow z 1 ≡ z
 first_power z = int_pow-suc z 0 ∙ ap (λ (t : ℤ). t *ℤ z) (int_pow-zero z) ∙ omega (arith, ints)
 
 -- the numbers of x are in range

@@ -29,6 +29,13 @@ pub one_result : {T : _} {i : _} {o : _} {e : _} {p : _} {h : _} → (n d m b : 
 one_result {i = i} n d m b first second d_nonzero b_nonzero same told other =
     same_answers m b first second (checks_lowest_moved numerator denominator i.lo i.hi n d m b (ratio_in first) d_nonzero b_nonzero same told) other
 
+-- so are they if one denominator is 0 exactly if the other is
+pub one_result_if_any : {T : _} {i : _} {o : _} {e : _} {p : _} {h : _} → (n d m b : ℤ) (first second : Option (Reduced T i o e p h))
+    → (d ≢ pos 0 → b ≢ pos 0) → (b ≢ pos 0 → d ≢ pos 0) → SameValue m b n d → ChecksRatio (n, d) (ratio_in first) → ChecksRatio (m, b) (ratio_in second) → AreOneAnswer first second
+one_result_if_any n d m b None None there back same told other = tt
+one_result_if_any n d m b (Some a) second there back same told other = one_result n d m b (Some a) second told.terms.fraction (there told.terms.fraction) same told other
+one_result_if_any n d m b None (Some c) there back same told other = one_result n d m b None (Some c) (back other.terms.fraction) other.terms.fraction same told other
+
 -- if a pair has the value of z, whose numbers are in range, its result is `Some` of z
 pub one_value : {T : _} {i : _} {o : _} {e : _} {p : _} {h : _} → (n d : ℤ) (z : Reduced T i o e p h) (answer : Option (Reduced T i o e p h))
     → d ≢ pos 0 → SameValue n d (numerator z.ratio) (denominator z.ratio)

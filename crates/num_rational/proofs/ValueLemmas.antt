@@ -10,7 +10,7 @@ use borrow.Author.Differences.{up, down, product_is, same_in}
 use lib.IntN.{*ℤ_comm}
 use Rattle.ratio_integer.specs.Fraction.{SameValue}
 use Rattle.ratio_integer.proofs.LowestTerms.{same_value_chained, same_value_products}
-use Rattle.ratio_integer.proofs.Whole.{add-mul, mul_assoc, mul_nonzero, mul_positive, mul-swap_inner, neg-mul, positive_nonzero, sub-mul, unsigned_abs-products}
+use Rattle.ratio_integer.proofs.Whole.{add-mul, mul_assoc, mul_cancel, mul_nonzero, mul_positive, mul-swap_inner, neg-mul, positive_nonzero, sub-mul, unsigned_abs-products}
 use Rattle.ratio_core.specs.Order.{HaveUnlikeSigns, cross_cmp}
 use Rattle.ratio_core.proofs.CrossOrder.{cross-along}
 use Rattle.ratio_core.proofs.LawLemmas.{same_value_sums}
@@ -32,6 +32,14 @@ same_value_flipped a b p q same = *ℤ_comm b p ∙ sym same ∙ *ℤ_comm a q
 
 pub same_value_quotients : (a b c d p q s t : ℤ) → SameValue a b p q → SameValue c d s t → SameValue (a *ℤ d) (b *ℤ c) (p *ℤ t) (q *ℤ s)
 same_value_quotients a b c d p q s t left right = same_value_products a b d c p q t s left (same_value_flipped c d s t right)
+
+zero_times : (z : ℤ) → pos 0 *ℤ z ≡ pos 0
+zero_times z = omega (arith, ints)
+
+-- of two equal values, one is not 0 if the other is not
+pub numer_nonzero : (a b p q : ℤ) → q ≢ pos 0 → SameValue a b p q → a ≢ pos 0 → p ≢ pos 0
+numer_nonzero a b p q q_nonzero same nonzero none =
+    nonzero (mul_cancel a (pos 0) q q_nonzero (same ∙ ap (λ (t : ℤ). t *ℤ b) none ∙ zero_times b ∙ sym (zero_times q)))
 
 -- ---- products of the same factors
 

@@ -1,10 +1,13 @@
 //! The laws of this crate. Each function does nothing: its contract is the law.
+pub mod nearest;
 pub mod neutral;
 pub mod order;
+pub mod powers;
 pub mod reduced;
 pub mod signs;
 pub mod told_apart;
 pub mod undoing;
+pub mod values;
 
 ghost use Rattle.std.specs.Prelude.{◌≡◌, ◌≢◌, ℤ, pos, Result, Ok};
 ghost use Rattle.ratio_integer.specs.Range.{IsHeld};

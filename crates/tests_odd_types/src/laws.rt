@@ -1,6 +1,8 @@
 //! The laws of `Reduced`, called once over the numbers from -5 to 5 each.
-use num_rational::Reduced;
-use num_rational::laws::{neutral, order, signs, undoing};
+use crate::fractions;
+use crate::plain::Plain;
+use num_rational::laws::{nearest, neutral, order, powers, signs, undoing, values};
+use num_rational::{Ratio, Reduced};
 use ratio_integer::Integer;
 use ratio_odd::Sym5;
 
@@ -9,6 +11,11 @@ fn fraction(numer: i128, denom: i128) -> Reduced<Sym5> {
         (Some(n), Some(d)) => Reduced::checked_new(n, d).unwrap_or(Reduced::zero()),
         _ => Reduced::zero(),
     }
+}
+
+// A fraction that is not reduced.
+fn unreduced(n: i8, d: i8) -> Ratio<Sym5> {
+    fractions::fraction(Plain { n, d }).unwrap_or(Ratio::zero())
 }
 
 #[test]
@@ -29,4 +36,17 @@ fn laws_over_eleven_numbers(_rt: HostRuntime) {
     order::sums(&x, &y, &y);
     order::products(&y, &fraction(1, 1), &x);
     order::negatives(&x, &y);
+    powers::exponents(&y);
+    powers::products(&x, &y);
+    powers::reciprocals(&x);
+    nearest::bounds(&fraction(3, 5));
+}
+
+#[test]
+fn equal_fractions_over_eleven_numbers(_rt: HostRuntime) {
+    let (x, y) = (unreduced(2, 4), unreduced(-4, 2));
+    let (u, v) = (unreduced(1, 2), unreduced(-2, 1));
+    values::products(&x, &y, &u, &v);
+    values::sums(&x, &y, &u, &v);
+    values::nearest(&x, &u);
 }

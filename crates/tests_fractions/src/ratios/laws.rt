@@ -1,8 +1,8 @@
 //! The laws of `Reduced`, called once over `i64` each, with fractions for which they say something. And sums where two ways to add
 //! differ.
 use crate::asserting::each_holds;
-use num_rational::laws::{neutral, order, signs, undoing};
-use num_rational::{Reduced, Reduced64};
+use num_rational::laws::{nearest, neutral, order, powers, signs, undoing, values};
+use num_rational::{Ratio, Reduced, Reduced64};
 
 fn fraction(numer: i64, denom: i64) -> Reduced64 {
     Reduced::checked_new(numer, denom).unwrap_or(Reduced::zero())
@@ -42,6 +42,28 @@ fn order_of_results(_rt: HostRuntime) {
     order::products(&x, &y, &z);
     order::products(&y, &x, &y);
     order::negatives(&x, &y);
+}
+
+#[test]
+fn powers_of_powers(_rt: HostRuntime) {
+    let (x, y) = (fraction(-7, 2), fraction(2, 3));
+    powers::exponents(&x);
+    powers::products(&x, &y);
+    powers::reciprocals(&x);
+}
+
+#[test]
+fn nearest_fractions(_rt: HostRuntime) {
+    nearest::bounds(&fraction(355, 113));
+}
+
+#[test]
+fn equal_fractions(_rt: HostRuntime) {
+    let (x, y) = (Ratio::new_raw(2i64, 4), Ratio::new_raw(-6i64, 9));
+    let (u, v) = (Ratio::new_raw(1i64, 2), Ratio::new_raw(-2i64, 3));
+    values::products(&x, &y, &u, &v);
+    values::sums(&x, &y, &u, &v);
+    values::nearest(&y, &v);
 }
 
 // Whether (x + y) + z and x + (y + z) are `Some`, over `i8`.

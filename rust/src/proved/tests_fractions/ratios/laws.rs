@@ -2,8 +2,8 @@
 //! The laws of `Reduced`, called once over `i64` each, with fractions for which they say something. And sums where two ways to add
 //! differ.
 use crate::proved::tests_fractions::asserting::each_holds;
-use crate::proved::num_rational::laws::{neutral, order, signs, undoing};
-use crate::proved::num_rational::{Reduced, Reduced64};
+use crate::proved::num_rational::laws::{nearest, neutral, order, powers, signs, undoing, values};
+use crate::proved::num_rational::{Ratio, Reduced, Reduced64};
 
 #[inline]
 fn fraction(numer: i64, denom: i64) -> Reduced64 {
@@ -44,6 +44,28 @@ fn order_of_results() {
     order::products(&x, &y, &z);
     order::products(&y, &x, &y);
     order::negatives(&x, &y);
+}
+
+#[test]
+fn powers_of_powers() {
+    let (x, y) = (fraction(-7, 2), fraction(2, 3));
+    powers::exponents(&x);
+    powers::products(&x, &y);
+    powers::reciprocals(&x);
+}
+
+#[test]
+fn nearest_fractions() {
+    nearest::bounds(&fraction(355, 113));
+}
+
+#[test]
+fn equal_fractions() {
+    let (x, y) = (Ratio::new_raw(2i64, 4), Ratio::new_raw(-6i64, 9));
+    let (u, v) = (Ratio::new_raw(1i64, 2), Ratio::new_raw(-2i64, 3));
+    values::products(&x, &y, &u, &v);
+    values::sums(&x, &y, &u, &v);
+    values::nearest(&y, &v);
 }
 
 // Whether (x + y) + z and x + (y + z) are `Some`, over `i8`.

@@ -10,7 +10,6 @@ use Rattle.ratio_core.specs.Conditions.{DifferenceCondition, SumCondition}
 use Rattle.ratio_core.proofs.LawLemmas.{same_value_sums}
 use Rattle.ratio_core.proofs.NearestLawLemmas.{nearest_moved, nearest_unique}
 use Rattle.num_rational.specs.declared.ratio.Ratio.{Ratio}
-use Rattle.num_rational.specs.Comparison.{AreEqual}
 use Rattle.num_rational.specs.Operators.{ChecksDifference, ChecksSum, numbers}
 use Rattle.num_rational.specs.Ratio.{ChecksRatio, denominator, numerator}
 use Rattle.num_rational.specs.ValueLaws.{AddsByValue, AreOneResult, DividesByValue, IsNearestByValue, MultipliesByValue, SubtractsByValue}

@@ -15,3 +15,4 @@ pub mod ResultLemmas
 pub mod SignLawLemmas
 pub mod UndoingLemmas
 pub mod ValueLemmas
+pub mod WholeNumberLemmas

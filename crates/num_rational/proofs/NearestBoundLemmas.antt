@@ -1,9 +1,9 @@
 -- The laws of the nearest fraction for one bound and a larger one.
-use Rattle.std.specs.Prelude.{◌≡◌, ◌⊎◌, ◌*◌, ◌<◌, ◌≤◌, ◌≤ℤ◌, ◌<ℤ◌, ℕ, ℤ, pos, unsigned_abs, Option, None, Some}
+use Rattle.std.specs.Prelude.{◌*◌, ◌≤◌, ℕ, ℤ, unsigned_abs, None, Some}
 use Rattle.std.proofs.Common.{arith, rules, inl, inr}
 use Rattle.std.proofs.lemmas.Int.{ints}
 use Rattle.ratio_integer.proofs.LowestTerms.{lowest_own}
-use Rattle.ratio_core.specs.Nearest.{ComesFirst, IsNearest, gap}
+use Rattle.ratio_core.specs.Nearest.{ComesFirst, gap}
 use Rattle.ratio_core.proofs.NearestLawLemmas.{lowest_nearest, nearest_unique}
 use Rattle.num_rational.specs.declared.reduced.Reduced.{Reduced}
 use Rattle.num_rational.specs.NearestLaws.{HasNearest, KeepsNearest, NearsWithBound}

@@ -14,6 +14,7 @@ pub mod Powers
 pub mod Ratio
 pub mod Reduced
 pub mod ReducedLaws
+pub mod RoundingLaws
 pub mod SignLaws
 pub mod UndoingLaws
 pub mod ValueLaws

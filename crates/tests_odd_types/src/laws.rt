@@ -1,7 +1,7 @@
 //! The laws of `Reduced`, called once over the numbers from -5 to 5 each.
 use crate::fractions;
 use crate::plain::Plain;
-use num_rational::laws::{nearest, neutral, order, powers, signs, undoing, values};
+use num_rational::laws::{nearest, neutral, order, powers, rounding, signs, undoing, values};
 use num_rational::{Ratio, Reduced};
 use ratio_integer::Integer;
 use ratio_odd::Sym5;
@@ -40,6 +40,10 @@ fn laws_over_eleven_numbers(_rt: HostRuntime) {
     powers::products(&x, &y);
     powers::reciprocals(&x);
     nearest::bounds(&fraction(3, 5));
+    rounding::orders(&x, &y);
+    rounding::distances(&x);
+    rounding::sums(&x, &fraction(3, 1));
+    rounding::negatives(&x);
 }
 
 #[test]

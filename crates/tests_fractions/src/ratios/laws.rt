@@ -1,7 +1,7 @@
 //! The laws of `Reduced`, called once over `i64` each, with fractions for which they say something. And sums where two ways to add
 //! differ.
 use crate::asserting::each_holds;
-use num_rational::laws::{nearest, neutral, order, powers, signs, undoing, values};
+use num_rational::laws::{nearest, neutral, order, powers, rounding, signs, undoing, values};
 use num_rational::{Ratio, Reduced, Reduced64};
 
 fn fraction(numer: i64, denom: i64) -> Reduced64 {
@@ -66,6 +66,16 @@ fn equal_fractions(_rt: HostRuntime) {
     values::nearest(&y, &v);
 }
 
+#[test]
+fn whole_numbers_near(_rt: HostRuntime) {
+    let (x, y) = (fraction(-7, 2), fraction(2, 3));
+    rounding::orders(&x, &y);
+    rounding::distances(&x);
+    rounding::distances(&fraction(i64::MIN, 1));
+    rounding::sums(&x, &fraction(9, 1));
+    rounding::negatives(&x);
+}
+
 // Whether (x + y) + z and x + (y + z) are `Some`, over `i8`.
 fn added(x: i8, y: i8, z: i8) -> (bool, bool) {
     let first = Reduced::from_integer(x);
@@ -88,5 +98,14 @@ fn one_way_to_add_may_have_no_result(rt: HostRuntime) {
         added(-1, 1, 127) == (true, false),
         added(100, 100, 1) == (false, false),
     ];
+    each_holds(&rt, &facts);
+}
+
+// `trunc` takes no part in these laws: the whole part of -3/2 + 2 is 0, and -1 + 2 is 1.
+#[test]
+fn whole_parts_do_not_add(rt: HostRuntime) {
+    let x = fraction(-3, 2);
+    let sum = fraction(1, 2);
+    let facts = [x.trunc() == fraction(-1, 1), sum.trunc() == fraction(0, 1)];
     each_holds(&rt, &facts);
 }

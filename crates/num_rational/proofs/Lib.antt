@@ -9,6 +9,7 @@ pub mod NeutralLemmas
 pub mod OrderLawLemmas
 pub mod PaddingLemmas
 pub mod PowerLawLemmas
+pub mod QuotientLemmas
 pub mod RatioLemmas
 pub mod ReducedLemmas
 pub mod ResultLemmas

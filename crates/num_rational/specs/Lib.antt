@@ -1,4 +1,5 @@
 pub mod Comparison
+pub mod ContinuedFractions
 pub mod Folds
 pub mod Hashing
 pub mod Headline

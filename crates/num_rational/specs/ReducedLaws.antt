@@ -1,5 +1,7 @@
 -- The laws of fractions that are always in lowest terms. A premise only says what a call returned.
-use Rattle.std.specs.Prelude.{◌≡◌, ◌+ℤ◌, ℤ, pos, neg_ℤ, unsigned_abs, Option, None, Some, ⊤}
+use Rattle.std.specs.Prelude.{◌≡◌, ◌+ℤ◌, ℤ, pos, neg_ℤ, unsigned_abs, List, Option, None, Some, ⊤}
+use Rattle.ratio_core.specs.ContinuedFraction.{IsPartialQuotients}
+use Rattle.ratio_core.specs.FromQuotients.{ChecksFraction}
 use Rattle.ratio_core.specs.Power.{ChecksReciprocal}
 use Rattle.ratio_core.specs.Rounding.{IsFractionalPart, IsTruncation}
 use Rattle.num_rational.specs.declared.reduced.Reduced.{Reduced}
@@ -118,3 +120,11 @@ IsSumOfParts {T} {i} {o} {e} {p} {h} x =
     → denominator (ratio_of part) ≡ denominator (ratio_of x)
     → AnswersSum whole part sum
     → AreOneAnswer sum (Some x)
+
+-- the fraction with the quotients of x is x
+abbrev pub ComesFromQuotients : {T : _} {i : _} {o : _} {e : _} {p : _} {h : _} → Reduced T i o e p h → Type 0
+ComesFromQuotients {T} {i} {o} {e} {p} {h} x =
+    (qs : List ℤ) (r : Option (Reduced T i o e p h))
+    → IsPartialQuotients (numerator (ratio_of x)) (denominator (ratio_of x)) qs
+    → ChecksFraction numerator denominator i.lo i.hi qs (ratio_in r)
+    → AreOneAnswer r (Some x)

@@ -17,6 +17,7 @@ mod ops;
 mod order;
 mod pow;
 mod printing;
+mod quotients;
 mod ratio;
 mod reduced;
 mod rounding;
@@ -26,6 +27,7 @@ mod text;
 pub use json::{JsonInteger, JsonRatioError};
 pub use main_statement::{HeadlineResult, headline};
 pub use operand::Operand;
+pub use quotients::Quotients;
 pub use ratio::{Constants, Ratio, Rational, Rational32, Rational64};
 pub use ratio_core::rounding_rule::Rounding;
 pub use ratio_core::{

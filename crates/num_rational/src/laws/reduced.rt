@@ -5,7 +5,7 @@ ghost use Rattle.std.specs.declared.cmp.Ordering.TheVariants.{Equal};
 ghost use Rattle.num_rational.specs.Comparison.{HaveSameFields, order_of};
 ghost use Rattle.num_rational.specs.Hashing.{AreToldApart};
 ghost use Rattle.num_rational.specs.Reduced.{ratio_of, writes_of_fields};
-ghost use Rattle.num_rational.specs.ReducedLaws.{AddsExponents, AssociatesInProduct, AssociatesInSum, CommutesInProduct, CommutesInSum, DistributesOverSum, IsInvertedByReciprocal, IsSumOfParts};
+ghost use Rattle.num_rational.specs.ReducedLaws.{AddsExponents, AssociatesInProduct, AssociatesInSum, ComesFromQuotients, CommutesInProduct, CommutesInSum, DistributesOverSum, IsInvertedByReciprocal, IsSumOfParts};
 
 use crate::reduced::Reduced;
 use ratio_integer::{Integer, both_held};
@@ -48,4 +48,11 @@ pub fn hashes<T: Copy + Integer>(x: &Reduced<T>, y: &Reduced<T>)
 {
     both_held(*x.numer(), *x.denom());
     both_held(*y.numer(), *y.denom());
+}
+
+/// From the quotients of a fraction comes the fraction itself.
+pub fn continued_fractions<T: Copy + Integer>(x: &Reduced<T>)
+    ensures { ComesFromQuotients x.now }
+{
+    both_held(*x.numer(), *x.denom());
 }

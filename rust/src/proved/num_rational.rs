@@ -16,6 +16,7 @@ mod ops;
 mod order;
 mod pow;
 mod printing;
+mod quotients;
 mod ratio;
 mod reduced;
 mod rounding;
@@ -24,6 +25,7 @@ mod text;
 
 pub use main_statement::{HeadlineResult, headline};
 pub use operand::Operand;
+pub use quotients::Quotients;
 pub use ratio::{Constants, Ratio, Rational, Rational32, Rational64};
 pub use crate::proved::ratio_core::rounding_rule::Rounding;
 pub use crate::proved::ratio_core::{

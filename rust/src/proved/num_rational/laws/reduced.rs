@@ -34,3 +34,9 @@ pub fn hashes<T: Copy + Integer>(x: &Reduced<T>, y: &Reduced<T>) {
     both_held(*x.numer(), *x.denom());
     both_held(*y.numer(), *y.denom());
 }
+
+/// From the quotients of a fraction comes the fraction itself.
+#[inline]
+pub fn continued_fractions<T: Copy + Integer>(x: &Reduced<T>) {
+    both_held(*x.numer(), *x.denom());
+}

@@ -1,12 +1,25 @@
 // Erased from crates/num_rational/src/reduced/continued.rt by rust/erase: not to be edited.
-//! Fractions from the quotients of their continued fractions.
+//! Continued fractions: the quotients of a fraction, and the fraction of some quotients.
 
 use super::Reduced;
+use crate::proved::num_rational::quotients::Quotients;
 use crate::proved::num_rational::ratio::Ratio;
 use crate::proved::ratio_core::continued::from_quotients;
 use crate::proved::ratio_integer::Integer;
 
 impl<T: Copy + Integer> Reduced<T> {
+    /// The quotients of the continued fraction, one after another: 4, 2, 6 and 7 for 415/93, which is
+    /// 4 + 1/(2 + 1/(6 + 1/7)). The first is the floor, and each later one is at least 1.
+    ///
+    /// For -7/3 they are -3, 1 and 2, and for 5 there is only 5.
+    #[inline]
+    pub fn continued_fraction(&self) -> Quotients<T> {
+        Quotients {
+            numer: *self.numer(),
+            denom: *self.denom(),
+        }
+    }
+
     /// The fraction with these quotients: 4, 2, 6 and 7 give 4 + 1/(2 + 1/(6 + 1/7)), which is 415/93. `None`
     /// if there is no quotient, if one after the first is below 1, or if the fraction does not fit the type.
     ///

@@ -59,3 +59,38 @@ fn negative_quotients_cancel() {
     ];
     each_holds(&facts);
 }
+
+// Whether these are the quotients of n/d, and no others come.
+#[inline]
+fn has_quotients<T: Integer>(n: T, d: T, want: &[T]) -> bool {
+    let x = match Reduced::checked_new(n, d) {
+        Some(x) => x,
+        _ => {
+            return false;
+        }
+    };
+    let mut quotients = x.continued_fraction();
+    for quotient in want {
+        if quotients.next() != Some(*quotient) {
+            return false;
+        }
+    }
+    quotients.next().is_none()
+}
+
+#[test]
+fn gives_quotients() {
+    let facts = [
+        has_quotients(415i64, 93, &[4, 2, 6, 7]),
+        has_quotients(355i64, 113, &[3, 7, 16]),
+        has_quotients(-7i8, 3, &[-3, 1, 2]),
+        has_quotients(5i8, 1, &[5]),
+        has_quotients(0i8, 1, &[0]),
+        has_quotients(-128i8, 1, &[-128]),
+        has_quotients(-128i8, 127, &[-2, 1, 126]),
+        has_quotients(-1i8, 127, &[-1, 1, 126]),
+        has_quotients(1u8, 255, &[0, 255]),
+        has_quotients(255u8, 2, &[127, 2]),
+    ];
+    each_holds(&facts);
+}

@@ -1,8 +1,10 @@
-"""The answers of the page are those of the program ./calc, byte for byte."""
+"""The answers of the page are those of the program ./calc, byte for byte. The decimals beside them are those of Python."""
 import functools
 import random
+import re
 import subprocess
 import time
+from fractions import Fraction
 from pathlib import Path
 
 TOP = Path(__file__).resolve().parent.parent.parent
@@ -29,6 +31,12 @@ x ^ y
 1 - 2 * 3
 1/2 + 1/3 cmp 5/6
 1 cmp 2 + 3
+1/3 - 1/2
+1/8 + 0
+-1/2000000 + 0
+3/2000000 + 0
+1/9223372036854775807 + 0
+1999999/2000000 + 0
 1 cmp 2 cmp 3
 1 cmp 2 ^ 3
 1 / 0 + x
@@ -92,17 +100,30 @@ def compare(page, name, text, seconds, put):
     return fault or rows_fault(page, name, text, want)
 
 
+def decimals_of(answer):
+    """What a row has after its answer: the decimal of a fraction to six places, and nothing after other answers."""
+    if not re.fullmatch(r"-?\d+/\d+", answer):
+        return []
+    scaled = Fraction(answer) * 10**6
+    nearest = round(scaled)
+    sign, digits = "-" if nearest < 0 else "", str(abs(nearest)).zfill(7)
+    text = f"{sign}{digits[:-6]}.{digits[-6:]}"
+    return [f"= {text.rstrip('0')}" if nearest == scaled else f"≈ {text}"]
+
+
 def rows_fault(page, name, text, want):
-    """Each row has its line, which may be cut after 1,000 characters, and the answer to it."""
+    """Each row has its line, which may be cut after 1,000 characters, the answer to it, and the decimal of a fraction."""
     pairs, start = list(zip(text.split("\n"), want.split("\n"))), page.js("return first")
     rows = page.rows()
     if len(rows) != min(want.count("\n"), page.js("return ROWS")):
         return f"{name}: the page has {len(rows)} rows"
-    for index, (line, answer) in enumerate(rows, start):
+    for index, (line, answer, *decimals) in enumerate(rows, start):
         wanted_line, wanted_answer = pairs[index]
         shown = wanted_line if len(wanted_line) <= 1000 else wanted_line[:1000] + "…"
         if [line, answer] != [shown, wanted_answer]:
             return f"{name}: row {index + 1} does not have its line or its answer: {line[:60]!r}, {answer!r}"
+        if decimals != decimals_of(wanted_answer):
+            return f"{name}: row {index + 1} has the decimals {decimals}, and not {decimals_of(wanted_answer)}"
     return None
 
 

@@ -26,7 +26,7 @@ def said(page):
 
 def answered(page):
     page.open()
-    return compare(page, "lines of a faulty page", "1 + 1\n1 / 0\n", 1, page.paste)
+    return compare(page, "lines of a faulty page", "1 + 1\n1 / 0\n2/3 + 0\n", 1, page.paste)
 
 
 # A name, the text of the page, the text in its place, and the check.
@@ -63,6 +63,7 @@ FAULTS = [
     ("a missing module not said", "if (!response.ok)", "if (false)", said),
     ("64-bit memory not asked for", "if (!hasWideMemory() && ", "if (false && ", said),
     ("a page from a file not said", 'location.protocol === "file:"', "false", said),
+    ("decimals that are cut", "below + 1n : below", "below : below", answered),
     ("an answer that is changed", "textContent = text;", 'textContent = text.replace("2", "two");', answered),
 ]
 

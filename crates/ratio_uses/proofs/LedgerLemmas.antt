@@ -23,7 +23,7 @@ use Rattle.num_rational.specs.declared.reduced.Reduced.{Reduced}
 use Rattle.ratio_uses.specs.Held.{FitsIn64}
 use Rattle.ratio_uses.specs.Ledger.{AddUpToOne, ChecksMark, IsMark, IsMarkOf, IsNearShare, IsSplit, added, amount_times, total_of}
 
-times-one : (a : ℤ) → a *ℤ pos 1 ≡ a
+pub times-one : (a : ℤ) → a *ℤ pos 1 ≡ a
 unfolding one
 times-one a = *ℤ-one a
 
@@ -216,7 +216,7 @@ last_mark a d r up is = same (less_or_not a r) (less_or_not r a)
 
 -- ---- a mark depends only on the value of the sum
 
-fits_moved : (x y : ℤ × ℤ) → y.1 ≢ pos 0 → SameValue y.0 y.1 x.0 x.1 → FitsIn64 x → FitsIn64 y
+pub fits_moved : (x y : ℤ × ℤ) → y.1 ≢ pos 0 → SameValue y.0 y.1 x.0 x.1 → FitsIn64 x → FitsIn64 y
 fits_moved x y fraction same fits = record { numer = fits.numer; denom = fits.denom; low = held_lowest_moved _ _ x.0 x.1 y.0 y.1 fits.numer fits.denom fraction same fits.low }
 
 times_same : (a : ℤ) (x y : ℤ × ℤ) → SameValue y.0 y.1 x.0 x.1 → SameValue (a *ℤ y.0) y.1 (a *ℤ x.0) x.1
@@ -322,15 +322,15 @@ module _ {A : Type 0} (view : A → ℤ × ℤ) (amount : ℤ) (shares : List A)
     near = λ j below. absurd (omega arith);
   }
 
-  module _ (parts : List ℤ) (k : ℕ) (sum : ℤ × ℤ) (mark : ℤ) (share : A) (after : ℤ × ℤ) (next_mark : ℤ) (below : k < length shares) (room : k < length parts) (is : share ≡ get_or shares k share) (so_far : IsSplitSoFar view amount shares parts k sum mark) (share_up : pos 0 <ℤ (view share).1) (share_above : pos 0 ≤ℤ (view share).0) (marked : IsMark amount (sum_of (total_of view (take k shares)).0 (total_of view (take k shares)).1 (view share).0 (view share).1) after next_mark) where
+  module _ (parts : List ℤ) (k : ℕ) (sum : ℤ × ℤ) (mark : ℤ) (share : A) (after : ℤ × ℤ) (next_mark : ℤ) (below : k < length shares) (room : k < length parts) (is : share ≡ get_or shares k share) (so_far : IsSplitSoFar view amount shares parts k sum mark) (share_up : pos 0 <ℤ (view share).1) (share_above : pos 0 ≤ℤ (view share).0) (value : IsLowestTermsOf (sum_of (total_of view (take k shares)).0 (total_of view (take k shares)).1 (view share).0 (view share).1).0 (sum_of (total_of view (take k shares)).0 (total_of view (take k shares)).1 (view share).0 (view share).1).1 after.0 after.1) (rounded : IsMarkOf amount (sum_of (total_of view (take k shares)).0 (total_of view (take k shares)).1 (view share).0 (view share).1) next_mark) where
     next : total_of view (take (k + 1) shares) ≡ sum_of (total_of view (take k shares)).0 (total_of view (take k shares)).1 (view share).0 (view share).1
     next = total_next view shares k share below is
 
     pub next_near : IsNearShare amount (view share) (next_mark -ℤ mark)
-    next_near = near_share amount _ _ (view share).0 (view share).1 mark next_mark so_far.up share_up so_far.above share_above so_far.rounded marked.rounded
+    next_near = near_share amount _ _ (view share).0 (view share).1 mark next_mark so_far.up share_up so_far.above share_above so_far.rounded rounded
 
     pub next_between : ((pos 0 ≤ℤ (next_mark -ℤ mark)) × ((next_mark -ℤ mark) ≤ℤ next_mark)) ⊎ ((next_mark ≤ℤ (next_mark -ℤ mark)) × ((next_mark -ℤ mark) ≤ℤ pos 0))
-    next_between = part_between amount _ _ (view share).0 (view share).1 mark next_mark so_far.up share_up so_far.above share_above so_far.rounded marked.rounded
+    next_between = part_between amount _ _ (view share).0 (view share).1 mark next_mark so_far.up share_up so_far.above share_above so_far.rounded rounded
 
     total : added (take (k + 1) (set parts k (next_mark -ℤ mark))) ≡ next_mark
     total =
@@ -346,7 +346,7 @@ module _ {A : Type 0} (view : A → ℤ × ℤ) (amount : ℤ) (shares : List A)
     here other part = rw get_or-set_same (subst (λ x. IsNearShare amount (view x) (next_mark -ℤ mark)) (is ∙ get_or_default shares k share other below) next_near)
 
     next_rounded : IsMarkOf amount (total_of view (take (k + 1) shares)) next_mark
-    next_rounded = subst (λ x. IsMarkOf amount x next_mark) (sym next) marked.rounded
+    next_rounded = subst (λ x. IsMarkOf amount x next_mark) (sym next) rounded
 
     mark_kept : (j : ℕ) → j < k → IsMarkOf amount (total_of view (take (j + 1) shares)) (added (take (j + 1) (set parts k (next_mark -ℤ mark))))
     mark_kept j less = subst (λ ps. IsMarkOf amount (total_of view (take (j + 1) shares)) (added ps)) (sym (take-set-le (j + 1) parts k (next_mark -ℤ mark) (omega arith))) (so_far.marks j less)
@@ -356,7 +356,7 @@ module _ {A : Type 0} (view : A → ℤ × ℤ) (amount : ℤ) (shares : List A)
 
     pub split_more : IsSplitSoFar view amount shares (set parts k (next_mark -ℤ mark)) (k + 1) after next_mark
     split_more = record {
-      value = subst (λ x. IsLowestTermsOf x.0 x.1 after.0 after.1) (sym next) marked.value;
+      value = subst (λ x. IsLowestTermsOf x.0 x.1 after.0 after.1) (sym next) value;
       above = subst (λ x. pos 0 ≤ℤ x.0) (sym next) (both_up _ _ (sign_up _ _ so_far.above (not_below _ share_up)) (sign_up _ _ share_above (not_below _ so_far.up)));
       up = subst (λ x. pos 0 <ℤ x.1) (sym next) (mul_positive _ _ so_far.up share_up);
       rounded = next_rounded;

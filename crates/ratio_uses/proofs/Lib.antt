@@ -1,5 +1,6 @@
 pub mod BeatLemmas
 pub mod CallerLemmas
+pub mod CentLemmas
 pub mod ChainOrder
 pub mod ConversionLemmas
 pub mod GearLemmas

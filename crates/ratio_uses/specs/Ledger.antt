@@ -6,7 +6,7 @@ use Rattle.ratio_core.specs.Rounding.{IsRounded}
 use Rattle.num_rational.specs.declared.reduced.Reduced.{Reduced}
 use Rattle.ratio_uses.specs.Held.{FitsIn64, lowest_numbers}
 use Rattle.ratio_uses.specs.declared.ledger.Refusal.{Refusal}
-use Rattle.ratio_uses.specs.declared.ledger.Refusal.TheVariants.{BelowZero, Length, NotHeld, NotOne}
+use Rattle.ratio_uses.specs.declared.ledger.Refusal.TheVariants.{BelowZero, Length, NotHeld, NotMultiple, NotOne}
 
 -- the sum of the shares, not reduced
 abbrev pub total_of : {A : Type 0} → (A → ℤ × ℤ) → List A → ℤ × ℤ
@@ -40,6 +40,7 @@ pub record CanSplit {A : Type 0} (view : A → ℤ × ℤ) (amount : ℤ) (share
 abbrev pub RefusesSplit : {A : Type 0} → (A → ℤ × ℤ) → ℤ → List A → ℕ → Refusal → Type 0
 RefusesSplit view amount shares parts Length = parts ≢ length shares
 RefusesSplit view amount shares parts BelowZero = (parts ≡ length shares) × ¬ (NoneIsBelowZero view shares)
+RefusesSplit view amount shares parts NotMultiple = ⊥
 RefusesSplit view amount shares parts NotHeld = (parts ≡ length shares) × NoneIsBelowZero view shares × ¬ (SumsFit view amount shares)
 RefusesSplit view amount shares parts NotOne = (parts ≡ length shares) × NoneIsBelowZero view shares × SumsFit view amount shares × ¬ (AddUpToOne view shares)
 
@@ -79,5 +80,6 @@ ChecksMark amount x (Some r) = IsMark amount x (lowest_numbers r.0) r.1
 abbrev pub SumsRefuse : {A : Type 0} → (A → ℤ × ℤ) → ℤ → List A → Refusal → Type 0
 SumsRefuse view amount shares Length = ⊥
 SumsRefuse view amount shares BelowZero = ⊥
+SumsRefuse view amount shares NotMultiple = ⊥
 SumsRefuse view amount shares NotHeld = ¬ (SumsFit view amount shares)
 SumsRefuse view amount shares NotOne = SumsFit view amount shares × ¬ (AddUpToOne view shares)

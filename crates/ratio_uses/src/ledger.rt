@@ -1,9 +1,12 @@
 //! An amount split by shares, so that no cent is lost.
+mod cents;
+
 ghost use Rattle.std.specs.Prelude.{◌≡◌, ◌↔◌, length, IfErr, IsTrue, MatchResult, OnErr, OnOk};
 ghost use Rattle.ratio_integer.specs.Arithmetic.{sum_of};
 ghost use Rattle.ratio_uses.specs.Held.{lowest_numbers};
 ghost use Rattle.ratio_uses.specs.Ledger.{AddUpToOne, CanSplit, ChecksMark, IsSplit, NoneIsBelowZero, RefusesSplit, SumsFit, SumsRefuse};
 
+pub use cents::{in_cents, split_to};
 use num_rational::Reduced64;
 
 /// Why an amount is not split: the first of these that applies.
@@ -13,7 +16,10 @@ pub enum Refusal {
     Length,
     /// A share is below 0.
     BelowZero,
-    /// A sum of the first shares, or the amount times such a sum, does not fit in 64 bits.
+    /// The amount is no multiple of the unit. Only `split_to` returns this.
+    NotMultiple,
+    /// A sum of the first shares, or the amount times such a sum, does not fit in 64 bits. In `split_to` it may also
+    /// be this product, rounded, or a part.
     NotHeld,
     /// The shares do not add up to 1.
     NotOne,

@@ -1,4 +1,4 @@
-//! The functions that `CALLING.md` shows first, over fractions that are always in lowest terms. The README shows the last one.
+//! The functions that `CALLING.md` shows first, over fractions that are always in lowest terms.
 ghost use Rattle.std.specs.Prelude.{◌≡◌};
 ghost use Rattle.num_rational.specs.Comparison.{order_of};
 ghost use Rattle.num_rational.specs.Folds.{ChecksExactSumOf};

@@ -4,7 +4,7 @@ use ratio_uses::beats::{Beats, Voice};
 use ratio_uses::callers::{greatest, mean};
 use ratio_uses::conditions::{chained, together};
 use ratio_uses::gears::nearest_pair;
-use ratio_uses::ledger::{Refusal, split};
+use ratio_uses::ledger::{Refusal, in_cents, split, split_to};
 use ratio_uses::readme::{faster, third_of, total};
 use ratio_uses::units::{convert, in_octave};
 use std::cmp::Ordering;
@@ -151,6 +151,53 @@ fn test_ledger(rt: HostRuntime) {
         &[1, 2],
     );
     splits(&rt, 0, &[], &mut [], Err(Refusal::NotOne), &[]);
+}
+
+// What `split_to` returns, and the parts after the call.
+fn splits_to(
+    rt: &impl Abort,
+    amount: &Reduced64,
+    shares: &[Reduced64],
+    unit_parts: i64,
+    want: Result<(), Refusal>,
+    want_parts: &[(i64, i64)],
+) {
+    let mut parts = [Reduced64::one(); 3];
+    if unit_parts > 0 && want_parts.len() <= 3 {
+        let answer = split_to(amount, shares, unit_parts, &mut parts[..want_parts.len()]);
+        assert!(rt; answer == want, "{answer:?}");
+        for (part, want) in parts.iter().zip(want_parts) {
+            let fields = part.into_raw();
+            assert!(rt; fields == *want, "{fields:?}, not {want:?}");
+        }
+    }
+}
+
+#[test]
+fn test_cents(rt: HostRuntime) {
+    let third = frac(&rt, 1, 3);
+    let thirds = [third; 3];
+    let (ten, half) = (frac(&rt, 10, 1), frac(&rt, 1, 2));
+    let cents = [(333, 100), (167, 50), (333, 100)];
+    splits_to(&rt, &ten, &thirds, 100, Ok(()), &cents);
+    let owed = [(-333, 100), (-167, 50), (-333, 100)];
+    splits_to(&rt, &frac(&rt, -10, 1), &thirds, 100, Ok(()), &owed);
+    let quarters = [(1, 4), (1, 4), (1, 4)];
+    splits_to(&rt, &frac(&rt, 3, 4), &thirds, 4, Ok(()), &quarters);
+    let unchanged = [(1, 1), (1, 1), (1, 1)];
+    let short = Err(Refusal::Length);
+    splits_to(&rt, &ten, &thirds, 100, short, &unchanged[..2]);
+    let below = [half, half, frac(&rt, -1, 2)];
+    splits_to(&rt, &ten, &below, 100, Err(Refusal::BelowZero), &unchanged);
+    let fine = Err(Refusal::NotMultiple);
+    splits_to(&rt, &third, &thirds, 100, fine, &unchanged);
+    let two = [third, frac(&rt, 2, 3)];
+    let wide = Err(Refusal::NotHeld);
+    splits_to(&rt, &frac(&rt, 1 << 62, 1), &two, 100, wide, &unchanged[..2]);
+    let less = Err(Refusal::NotOne);
+    splits_to(&rt, &ten, &[half, third], 100, less, &unchanged[..2]);
+    let text = in_cents(&third);
+    holds(&rt, "cents", text.as_str() == "0.33");
 }
 
 #[test]

@@ -44,7 +44,7 @@ overflow_sub-parts c =
     (mul_positive before.1 share.1 c.loop-i.invariant.up c.index-shares-i.result.lowest.positive)
     (next_same before sum share c.loop-i.invariant.value) (lowest_numbers c.unwrap-next_mark.result.0) c.unwrap-next_mark.result.1
     (simp to_z-of_z at (rw c.unwrap-next_mark.ensures at c.next_mark.ensures)) in
-    let between = next_between lowest_numbers c.args.amount c.args.shares.now c.loop-i.parts c.loop-i.i sum _ c.index-shares-i.result (lowest_numbers c.unwrap-next_mark.result.0) c.unwrap-next_mark.result.1 c.loop-i-test.true (omega arith) c.index-shares-i.is so_far c.index-shares-i.result.lowest.positive above marked in
+    let between = next_between lowest_numbers c.args.amount c.args.shares.now c.loop-i.parts c.loop-i.i sum _ c.index-shares-i.result (lowest_numbers c.unwrap-next_mark.result.0) c.unwrap-next_mark.result.1 c.loop-i-test.true (omega arith) c.index-shares-i.is so_far c.index-shares-i.result.lowest.positive above marked.value marked.rounded in
     simp to_z-of_z (part_held _ _ between next_fits)
 
 pub loop-i-preserved : goal.loop-i-preserved
@@ -61,9 +61,9 @@ loop-i-preserved c =
     (mul_positive before.1 share.1 c.loop-i.invariant.up c.index-shares-i.result.lowest.positive)
     (next_same before sum share c.loop-i.invariant.value) (lowest_numbers c.unwrap-next_mark.result.0) c.unwrap-next_mark.result.1
     (simp to_z-of_z at (rw c.unwrap-next_mark.ensures at c.next_mark.ensures)) in
-    let between = next_between lowest_numbers c.args.amount c.args.shares.now c.loop-i.parts c.loop-i.i sum _ c.index-shares-i.result (lowest_numbers c.unwrap-next_mark.result.0) c.unwrap-next_mark.result.1 c.loop-i-test.true (omega arith) c.index-shares-i.is so_far c.index-shares-i.result.lowest.positive above marked in
+    let between = next_between lowest_numbers c.args.amount c.args.shares.now c.loop-i.parts c.loop-i.i sum _ c.index-shares-i.result (lowest_numbers c.unwrap-next_mark.result.0) c.unwrap-next_mark.result.1 c.loop-i-test.true (omega arith) c.index-shares-i.is so_far c.index-shares-i.result.lowest.positive above marked.value marked.rounded in
     let part_fits = part_held _ _ between next_fits in
-    simp to_z-of_z (split_more lowest_numbers c.args.amount c.args.shares.now c.loop-i.parts c.loop-i.i sum _ c.index-shares-i.result (lowest_numbers c.unwrap-next_mark.result.0) c.unwrap-next_mark.result.1 c.loop-i-test.true (omega arith) c.index-shares-i.is so_far c.index-shares-i.result.lowest.positive above marked)
+    simp to_z-of_z (split_more lowest_numbers c.args.amount c.args.shares.now c.loop-i.parts c.loop-i.i sum _ c.index-shares-i.result (lowest_numbers c.unwrap-next_mark.result.0) c.unwrap-next_mark.result.1 c.loop-i-test.true (omega arith) c.index-shares-i.is so_far c.index-shares-i.result.lowest.positive above marked.value marked.rounded)
 
 pub returns : goal.returns
 returns c =

@@ -9,6 +9,7 @@ mod approximations;
 mod arithmetic;
 mod as_reduced;
 mod casts;
+mod continued;
 mod conversions;
 mod exponents;
 mod floats;
@@ -30,6 +31,7 @@ mod simplest;
 mod text;
 
 pub use casts::CastError;
+pub use continued::Quotients;
 pub use integer::Integer;
 pub use ratio::{Ratio, Rational, Rational32, Rational64};
 pub use reduced::{Reduced, Reduced32, Reduced64};

@@ -89,6 +89,25 @@ fn simplest_between_two_of_either_kind() {
 }
 
 #[test]
+fn continued_fractions() {
+    let rows: [((i8, i8), &[i8]); 5] = [((-7, 3), &[-3, 1, 2]), ((5, 1), &[5]), ((0, 1), &[0]), ((-128, 127), &[-2, 1, 126]), ((1, 127), &[0, 127])];
+    for ((numer, denom), quotients) in rows {
+        let x = i8_of(numer, denom);
+        assert!(x.continued_fraction().eq(quotients.iter().copied()), "{x}");
+        assert_eq!(fields(Reduced::from_continued_fraction(quotients)), Some((numer, denom)));
+        assert_eq!(Ratio::from_continued_fraction(quotients).map(Ratio::into_raw), Some((numer, denom)));
+    }
+    for refused in [&[][..], &[3, 0], &[127, 127], &[1, -1], &[1; 193]] {
+        assert_eq!(Reduced::<i8>::from_continued_fraction(refused), None);
+        assert_eq!(Ratio::<i8>::from_continued_fraction(refused), None);
+    }
+    // The quotients of two neighbours among the Fibonacci numbers are all 1.
+    assert_eq!(Reduced::<u128>::from_continued_fraction(&[1; 187]), None);
+    let longest = Reduced::<u128>::from_continued_fraction(&[1; 185]);
+    assert_eq!(longest.map(|x| x.continued_fraction().count()), Some(184));
+}
+
+#[test]
 fn signs() {
     for (numer, denom, sign) in [(0, 1, 0), (3, 4, 1), (-3, 4, -1), (2, 1, 1), (-2, 1, -1)] {
         let x = i8_of(numer, denom);

@@ -3,6 +3,7 @@
 //! Two calls of the proved type require something of a plain number, and this module tests it. `decimal` requires at most 38
 //! places, and panics if there are more. `round_to` requires a positive number of parts, and is `None` if it is not positive. The
 //! others require nothing.
+use super::continued::{Quotients, in_proved};
 use super::integer::{Element, Integer, Signs};
 use super::ratio::Ratio;
 use crate::proved::num_rational as proved;
@@ -434,6 +435,33 @@ impl<T: Integer> Reduced<T> {
     #[inline]
     pub fn simplest_between(low: &Reduced<T>, high: &Reduced<T>) -> Option<Reduced<T>> {
         Reduced::of(Proved::<T>::simplest_between(&low.fraction, &high.fraction))
+    }
+
+    /// The quotients of this fraction's continued fraction, one after another: 4, 2, 6 and 7 for 415/93, which is
+    /// 4 + 1/(2 + 1/(6 + 1/7)). The first is the floor, and each later one is at least 1.
+    ///
+    /// ```
+    /// let x = bakhsney::Reduced64::checked_new(415, 93).unwrap();
+    /// assert!(x.continued_fraction().eq([4, 2, 6, 7]));
+    /// ```
+    #[inline]
+    pub fn continued_fraction(&self) -> Quotients<T> {
+        Quotients::of(self.fraction.continued_fraction())
+    }
+
+    /// The fraction with these quotients: 4, 2, 6 and 7 give 415/93, and so do 4, 2, 6, 6 and 1. `None` if there is no quotient,
+    /// if one after the first is below 1, or if the fraction does not fit the type.
+    ///
+    /// ```
+    /// use bakhsney::Reduced;
+    ///
+    /// assert_eq!(Reduced::from_continued_fraction(&[-3i8, 1, 2]), Reduced::checked_new(-7, 3));
+    /// assert_eq!(Reduced::from_continued_fraction(&[3i8, 0]), None);
+    /// assert_eq!(Reduced::from_continued_fraction(&[127i8, 127]), None);
+    /// ```
+    #[inline]
+    pub fn from_continued_fraction(quotients: &[T]) -> Option<Reduced<T>> {
+        Reduced::of(in_proved(quotients, Proved::<T>::from_continued_fraction))
     }
 
     /// This fraction cut towards zero.

@@ -1,0 +1,60 @@
+//! Continued fractions: the quotients of a fraction, and the fraction of some quotients.
+use super::integer::{Element, Integer};
+use super::ratio::Ratio;
+use super::reduced::Reduced;
+use crate::proved::num_rational as proved;
+use core::iter::FusedIterator;
+
+// A fraction with n quotients has a denominator of at least the nth Fibonacci number. The 187th is above 2^128, so no type
+// holds a fraction with as many quotients as this.
+const MOST: usize = 192;
+
+/// The quotients of a continued fraction, one after another. `Reduced::continued_fraction` returns it.
+pub struct Quotients<T: Integer> {
+    quotients: Proved<T>,
+}
+
+type Proved<T> = proved::Quotients<<T as Element>::Proved>;
+
+impl<T: Integer> Iterator for Quotients<T> {
+    type Item = T;
+
+    #[inline]
+    fn next(&mut self) -> Option<T> {
+        self.quotients.next().map(T::from_proved)
+    }
+}
+
+impl<T: Integer> FusedIterator for Quotients<T> {}
+
+impl<T: Integer> Quotients<T> {
+    #[inline]
+    pub(super) fn of(quotients: Proved<T>) -> Quotients<T> {
+        Quotients { quotients }
+    }
+}
+
+/// Calls `then` on the quotients as the proved calls see them. `None` if there are more than a fraction that fits can have.
+pub(super) fn in_proved<T: Integer, R>(quotients: &[T], then: impl FnOnce(&[<T as Element>::Proved]) -> Option<R>) -> Option<R> {
+    let mut list = [T::NUMBER_0.into_proved(); MOST];
+    let list = list.get_mut(..quotients.len())?;
+    for (place, quotient) in list.iter_mut().zip(quotients) {
+        *place = quotient.into_proved();
+    }
+    then(list)
+}
+
+impl<T: Integer> Ratio<T> {
+    /// The fraction with these quotients, in lowest terms: 4, 2, 6 and 7 give 415/93, and so do 4, 2, 6, 6 and 1. `None` if there
+    /// is no quotient, if one after the first is below 1, or if the fraction does not fit the type. num-rational has no such call.
+    ///
+    /// ```
+    /// use bakhsney::Ratio;
+    ///
+    /// assert_eq!(Ratio::from_continued_fraction(&[4i64, 2, 6, 7]), Some(Ratio::new(415, 93)));
+    /// assert_eq!(Ratio::<i64>::from_continued_fraction(&[]), None);
+    /// ```
+    pub fn from_continued_fraction(quotients: &[T]) -> Option<Ratio<T>> {
+        Reduced::from_continued_fraction(quotients).map(Ratio::from)
+    }
+}

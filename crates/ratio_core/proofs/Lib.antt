@@ -4,6 +4,7 @@ pub mod Codes
 pub mod Convergents
 pub mod CrossOrder
 pub mod CutLemmas
+pub mod DecimalLawLemmas
 pub mod DecimalLemmas
 pub mod DigitGroups
 pub mod EqualityLaws

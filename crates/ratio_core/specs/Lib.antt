@@ -3,6 +3,7 @@ pub mod Conditions
 pub mod ContinuedFraction
 pub mod Convergents
 pub mod Decimal
+pub mod DecimalLaws
 pub mod Enclosing
 pub mod Floats
 pub mod FromQuotients

@@ -1,5 +1,6 @@
 //! The laws of this crate. Each function does nothing: its contract is the law. If `checked_add` or
 //! `checked_mul` returns `Some`, that is a sum or a product as the laws mean it.
+ghost use Rattle.ratio_core.specs.DecimalLaws.{DecimalsAreMonotone, DecimalsAreNear};
 ghost use Rattle.ratio_core.specs.FromQuotients.{FractionsAreLowest, QuotientsGiveBack};
 ghost use Rattle.ratio_core.specs.Laws.{FormedDifferencesFit, FormedSumsFit, ProductsAssociate, ProductsCommute, ProductsDistribute, SumConditionsCommute, SumsAssociate, SumsCommute};
 ghost use Rattle.ratio_core.specs.NearestLaws.{LowestIsNearest, NearestIsLowest, OneIsNearest, SameValueSameNearest};
@@ -56,6 +57,13 @@ pub fn rounding_rules()
     ensures halves { HalvesDifferAtTies }
     ensures near { RoundedIsNear }
     ensures monotone { RoundedIsMonotone }
+{}
+
+/// To as many places by one rule, the decimal of a greater fraction is never smaller. It is less than one unit of its
+/// last place away from the fraction, and at most half a unit by `HalfAway` and `HalfEven`.
+pub fn decimals()
+    ensures monotone { DecimalsAreMonotone }
+    ensures near { DecimalsAreNear }
 {}
 
 /// Laws of reciprocals and powers.

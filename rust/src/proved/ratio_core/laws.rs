@@ -28,6 +28,11 @@ pub fn roundings_by_value() {}
 #[inline]
 pub fn rounding_rules() {}
 
+/// To as many places by one rule, the decimal of a greater fraction is never smaller. It is less than one unit of its
+/// last place away from the fraction, and at most half a unit by `HalfAway` and `HalfEven`.
+#[inline]
+pub fn decimals() {}
+
 /// Laws of reciprocals and powers.
 #[inline]
 pub fn powers() {}

@@ -14,6 +14,7 @@ fn each_law_is_called() {
     laws::roundings();
     laws::roundings_by_value();
     laws::rounding_rules();
+    laws::decimals();
     laws::powers();
     laws::parts();
     laws::nearest_fractions();

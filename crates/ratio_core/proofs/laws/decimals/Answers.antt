@@ -1,0 +1,5 @@
+use Rattle.ratio_core.proofs.DecimalLawLemmas.{decimals_monotone, decimals_near}
+use Rattle.ratio_core.proofs.laws.decimals.Goals as goal
+
+pub returns : goal.returns
+returns c = record { monotone = decimals_monotone; near = decimals_near }

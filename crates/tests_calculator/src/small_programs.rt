@@ -193,7 +193,14 @@ fn test_cents(rt: HostRuntime) {
     splits_to(&rt, &third, &thirds, 100, fine, &unchanged);
     let two = [third, frac(&rt, 2, 3)];
     let wide = Err(Refusal::NotHeld);
-    splits_to(&rt, &frac(&rt, 1 << 62, 1), &two, 100, wide, &unchanged[..2]);
+    splits_to(
+        &rt,
+        &frac(&rt, 1 << 62, 1),
+        &two,
+        100,
+        wide,
+        &unchanged[..2],
+    );
     let less = Err(Refusal::NotOne);
     splits_to(&rt, &ten, &[half, third], 100, less, &unchanged[..2]);
     let text = in_cents(&third);

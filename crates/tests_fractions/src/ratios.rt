@@ -1,4 +1,5 @@
 //! The fraction types of `num_rational`.
+mod arranged;
 mod carried;
 mod casts;
 mod comparing;

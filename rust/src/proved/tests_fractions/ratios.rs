@@ -1,5 +1,6 @@
 // Erased from crates/tests_fractions/src/ratios.rt by rust/erase: not to be edited.
 //! The fraction types of `num_rational`.
+mod arranged;
 mod carried;
 mod casts;
 mod comparing;

@@ -1,9 +1,9 @@
-//! Two more callers over fractions in lowest terms.
+//! Three more callers over fractions in lowest terms.
 ghost use Rattle.std.specs.Prelude.{◌≡◌, ◌≢◌, ◌↔◌, [], All, IfSome};
 ghost use Rattle.std.specs.List.{Contains};
 ghost use Rattle.std.specs.declared.cmp.Ordering.TheVariants.{Greater};
 ghost use Rattle.num_rational.specs.Comparison.{order_of};
-ghost use Rattle.num_rational.specs.Reduced.{ratio_of};
+ghost use Rattle.num_rational.specs.Reduced.{ChecksSimplestBetween, ratio_of};
 ghost use Rattle.ratio_uses.specs.Callers.{ChecksMean};
 ghost use Rattle.ratio_uses.specs.Held.{lowest_numbers};
 
@@ -23,4 +23,12 @@ pub fn mean(left: &Reduced64, right: &Reduced64) -> Option<Reduced64>
     ensures { ChecksMean (lowest_numbers left.now) (lowest_numbers right.now) result }
 {
     left.checked_add(right)?.checked_div(2)
+}
+
+/// The place of a new item between two others, in an order that a user arranges. No other place changes. `None` exactly where
+/// 64 bits hold no fraction between the two.
+pub fn place_between(before: &Reduced64, after: &Reduced64) -> Option<Reduced64>
+    ensures { ChecksSimplestBetween before.now after.now result }
+{
+    Reduced64::simplest_between(before, after)
 }

@@ -12,6 +12,7 @@ pub mod PowerLawLemmas
 pub mod QuotientLemmas
 pub mod RatioLemmas
 pub mod ReducedLemmas
+pub mod RemainderLawLemmas
 pub mod ResultLemmas
 pub mod SignLawLemmas
 pub mod UndoingLemmas

@@ -57,6 +57,10 @@ square_moved a b d = same_in _ _ (simp (up-mul, down-mul) (omega arith))
 factors_moved : (a b c d : ℤ) → ((a *ℤ c) *ℤ d) *ℤ b ≡ a *ℤ ((b *ℤ d) *ℤ c)
 factors_moved a b c d = same_in _ _ (simp (up-mul, down-mul) (omega arith))
 
+-- ((t*c)*q)*b = (t*(c*b))*q
+pub factors_turned : (t c q b : ℤ) → ((t *ℤ c) *ℤ q) *ℤ b ≡ (t *ℤ (c *ℤ b)) *ℤ q
+factors_turned t c q b = same_in _ _ (simp (up-mul, down-mul) (omega arith))
+
 -- ---- undoing
 
 sum_back : (a b c d : ℤ) → SameValue ((a *ℤ d +ℤ c *ℤ b) *ℤ d -ℤ c *ℤ (b *ℤ d)) ((b *ℤ d) *ℤ d) a b

@@ -15,6 +15,7 @@ pub mod Powers
 pub mod Ratio
 pub mod Reduced
 pub mod ReducedLaws
+pub mod RemainderLaws
 pub mod RoundingLaws
 pub mod SignLaws
 pub mod UndoingLaws

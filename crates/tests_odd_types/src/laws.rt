@@ -1,7 +1,9 @@
 //! The laws of `Reduced`, called once over the numbers from -5 to 5 each.
 use crate::fractions;
 use crate::plain::Plain;
-use num_rational::laws::{nearest, neutral, order, powers, rounding, signs, undoing, values};
+use num_rational::laws::{
+    nearest, neutral, order, powers, remainder, rounding, signs, undoing, values,
+};
 use num_rational::{Ratio, Reduced};
 use ratio_integer::Integer;
 use ratio_odd::Sym5;
@@ -44,6 +46,7 @@ fn laws_over_eleven_numbers(_rt: HostRuntime) {
     rounding::distances(&x);
     rounding::sums(&x, &fraction(3, 1));
     rounding::negatives(&x);
+    remainder::parts(&x, &y);
 }
 
 #[test]

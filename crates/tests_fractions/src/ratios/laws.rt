@@ -1,7 +1,9 @@
 //! The laws of `Reduced`, called once over `i64` each, with fractions for which they say something. And sums where two ways to add
 //! differ.
 use crate::asserting::each_holds;
-use num_rational::laws::{nearest, neutral, order, powers, rounding, signs, undoing, values};
+use num_rational::laws::{
+    nearest, neutral, order, powers, remainder, rounding, signs, undoing, values,
+};
 use num_rational::{Ratio, Reduced, Reduced64};
 
 fn fraction(numer: i64, denom: i64) -> Reduced64 {
@@ -74,6 +76,7 @@ fn whole_numbers_near(_rt: HostRuntime) {
     rounding::distances(&fraction(i64::MIN, 1));
     rounding::sums(&x, &fraction(9, 1));
     rounding::negatives(&x);
+    remainder::parts(&x, &y);
 }
 
 // Whether (x + y) + z and x + (y + z) are `Some`, over `i8`.

@@ -42,10 +42,13 @@ def faults(driver, page_file):
         cases = [
             ("a missing module", "is missing", said_at(driver, address)),
             ("a page from a file", "opened from a file", said_at(driver, (folder / "index.html").as_uri())),
-            ("no 64-bit memory", "no 64-bit memory", said_with_script(driver, address, NO_MEMORY)),
-            ("no WebAssembly", "no 64-bit memory", said_with_script(driver, address, NO_WEBASSEMBLY)),
             ("no JavaScript", "needs JavaScript", said_without_script(driver, address)),
         ]
+        # The page looks at the module before it looks at the browser: a module of 32-bit memory needs less of it.
         (folder / MODULE).write_bytes(b"\0asm")
-        cases.append(("a broken module", "not a whole WebAssembly module", said_at(driver, address)))
+        cases += [
+            ("no 64-bit memory", "no 64-bit memory", said_with_script(driver, address, NO_MEMORY)),
+            ("no WebAssembly", "no 64-bit memory", said_with_script(driver, address, NO_WEBASSEMBLY)),
+            ("a broken module", "not a whole WebAssembly module", said_at(driver, address)),
+        ]
     return [f"of {case} the page says {said[:200]!r}" for case, wanted, said in cases if wanted not in said]

@@ -1,5 +1,6 @@
 pub mod CastLemmas
 pub mod EqualValueLemmas
+pub mod ConvergentLemmas
 pub mod FoldLemmas
 pub mod HashWriteLemmas
 pub mod HeadlineLemmas

@@ -1,5 +1,6 @@
 pub mod Comparison
 pub mod ContinuedFractions
+pub mod ConvergentSteps
 pub mod Folds
 pub mod Hashing
 pub mod Headline

@@ -34,4 +34,4 @@ pub use ratio_core::{
     BaseTenText, CodeList, DecimalText, Exponent, Form, ParseRatioError, RatioErrorKind, RatioText,
     Steps, Taken,
 };
-pub use reduced::{Reduced, Reduced32, Reduced64, ReducedOperand};
+pub use reduced::{Convergents, Reduced, Reduced32, Reduced64, ReducedOperand};

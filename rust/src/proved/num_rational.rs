@@ -32,4 +32,4 @@ pub use crate::proved::ratio_core::{
     BaseTenText, CodeList, DecimalText, Exponent, Form, ParseRatioError, RatioErrorKind, RatioText,
     Steps, Taken,
 };
-pub use reduced::{Reduced, Reduced32, Reduced64, ReducedOperand};
+pub use reduced::{Convergents, Reduced, Reduced32, Reduced64, ReducedOperand};

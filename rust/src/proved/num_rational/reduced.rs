@@ -7,6 +7,7 @@
 mod cast;
 mod checked;
 mod continued;
+mod convergents;
 mod convert;
 mod decimal;
 mod floats;
@@ -22,6 +23,7 @@ mod simplest;
 mod text;
 
 use crate::proved::num_rational::ratio::{Constants, Ratio};
+pub use convergents::Convergents;
 pub use operand::ReducedOperand;
 use crate::proved::ratio_integer::Integer;
 

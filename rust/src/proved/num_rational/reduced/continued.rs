@@ -1,11 +1,11 @@
 // Erased from crates/num_rational/src/reduced/continued.rt by rust/erase: not to be edited.
 //! Continued fractions: the quotients of a fraction, and the fraction of some quotients.
 
-use super::Reduced;
+use super::{Convergents, Reduced};
 use crate::proved::num_rational::quotients::Quotients;
 use crate::proved::num_rational::ratio::Ratio;
 use crate::proved::ratio_core::continued::from_quotients;
-use crate::proved::ratio_integer::Integer;
+use crate::proved::ratio_integer::{Integer, both_held};
 
 impl<T: Copy + Integer> Reduced<T> {
     /// The quotients of the continued fraction, one after another: 4, 2, 6 and 7 for 415/93, which is
@@ -17,6 +17,28 @@ impl<T: Copy + Integer> Reduced<T> {
         Quotients {
             numer: *self.numer(),
             denom: *self.denom(),
+        }
+    }
+
+    /// The convergents of the continued fraction, one after another: 4, 9/2, 58/13 and 415/93 for 415/93. Each is the
+    /// fraction of the first quotients, one more than the one before. The first is the floor, and the last is the
+    /// fraction itself. Each is in lowest terms, and none leaves the type.
+    ///
+    /// For -7/3 they are -3, -2 and -7/3, and for 5 there is only 5.
+    #[inline]
+    pub fn convergents(&self) -> Convergents<T> {
+        let numer = *self.numer();
+        let denom = *self.denom();
+        both_held(numer, denom);
+        let one = T::ONE;
+        let zero = T::ZERO;
+        Convergents {
+            numer,
+            denom,
+            last_numer: one,
+            last_denom: zero,
+            earlier_numer: zero,
+            earlier_denom: one,
         }
     }
 

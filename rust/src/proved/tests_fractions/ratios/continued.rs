@@ -94,3 +94,40 @@ fn gives_quotients() {
     ];
     each_holds(&facts);
 }
+
+// Whether these are the convergents of n/d, and no others come.
+#[inline]
+fn has_convergents<T: Integer>(n: T, d: T, want: &[(T, T)]) -> bool {
+    let x = match Reduced::checked_new(n, d) {
+        Some(x) => x,
+        _ => {
+            return false;
+        }
+    };
+    let mut convergents = x.convergents();
+    for fields in want {
+        match convergents.next() {
+            Some(y) => {
+                if y.into_raw() != *fields {
+                    return false;
+                }
+            }
+            None => return false,
+        }
+    }
+    convergents.next().is_none()
+}
+
+#[test]
+fn gives_convergents() {
+    let facts = [
+        has_convergents(415i64, 93, &[(4, 1), (9, 2), (58, 13), (415, 93)]),
+        has_convergents(-7i8, 3, &[(-3, 1), (-2, 1), (-7, 3)]),
+        has_convergents(5i8, 1, &[(5, 1)]),
+        has_convergents(-128i8, 3, &[(-43, 1), (-128, 3)]),
+        has_convergents(-1i8, 3, &[(-1, 1), (0, 1), (-1, 3)]),
+        has_convergents(1u8, 255, &[(0, 1), (1, 255)]),
+        has_convergents(355i64, 113, &[(3, 1), (22, 7), (355, 113)]),
+    ];
+    each_holds(&facts);
+}

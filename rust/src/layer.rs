@@ -31,7 +31,7 @@ mod simplest;
 mod text;
 
 pub use casts::CastError;
-pub use continued::Quotients;
+pub use continued::{Convergents, Quotients};
 pub use integer::Integer;
 pub use ratio::{Ratio, Rational, Rational32, Rational64};
 pub use reduced::{Reduced, Reduced32, Reduced64};

@@ -41,7 +41,7 @@ pub mod integer {
     pub use crate::layer::Integer;
 }
 
-pub use layer::{CastError, Quotients, Ratio, Rational, Rational32, Rational64, Reduced, Reduced32, Reduced64, ReducedError};
+pub use layer::{CastError, Convergents, Quotients, Ratio, Rational, Rational32, Rational64, Reduced, Reduced32, Reduced64, ReducedError};
 /// The error of `parse`: the text is not a fraction, or its lowest terms do not fit the type.
 ///
 /// ```

@@ -97,6 +97,9 @@ fn continued_fractions() {
         assert_eq!(fields(Reduced::from_continued_fraction(quotients)), Some((numer, denom)));
         assert_eq!(Ratio::from_continued_fraction(quotients).map(Ratio::into_raw), Some((numer, denom)));
     }
+    let x = Reduced64::checked_new(415, 93).unwrap();
+    assert!(x.convergents().map(Reduced::into_raw).eq([(4, 1), (9, 2), (58, 13), (415, 93)]));
+    assert!(i8_of(-128, 3).convergents().map(Reduced::into_raw).eq([(-43, 1), (-128, 3)]));
     for refused in [&[][..], &[3, 0], &[127, 127], &[1, -1], &[1; 193]] {
         assert_eq!(Reduced::<i8>::from_continued_fraction(refused), None);
         assert_eq!(Ratio::<i8>::from_continued_fraction(refused), None);

@@ -34,6 +34,31 @@ impl<T: Integer> Quotients<T> {
     }
 }
 
+/// The convergents of a continued fraction, one after another. `Reduced::convergents` returns it.
+pub struct Convergents<T: Integer> {
+    convergents: ProvedConvergents<T>,
+}
+
+type ProvedConvergents<T> = proved::Convergents<<T as Element>::Proved>;
+
+impl<T: Integer> Iterator for Convergents<T> {
+    type Item = Reduced<T>;
+
+    #[inline]
+    fn next(&mut self) -> Option<Reduced<T>> {
+        self.convergents.next().map(Reduced::new)
+    }
+}
+
+impl<T: Integer> FusedIterator for Convergents<T> {}
+
+impl<T: Integer> Convergents<T> {
+    #[inline]
+    pub(super) fn of(convergents: ProvedConvergents<T>) -> Convergents<T> {
+        Convergents { convergents }
+    }
+}
+
 /// Calls `then` on the quotients as the proved calls see them. `None` if there are more than a fraction that fits can have.
 pub(super) fn in_proved<T: Integer, R>(quotients: &[T], then: impl FnOnce(&[<T as Element>::Proved]) -> Option<R>) -> Option<R> {
     let mut list = [T::NUMBER_0.into_proved(); MOST];

@@ -3,7 +3,7 @@
 //! Two calls of the proved type require something of a plain number, and this module tests it. `decimal` requires at most 38
 //! places, and panics if there are more. `round_to` requires a positive number of parts, and is `None` if it is not positive. The
 //! others require nothing.
-use super::continued::{Quotients, in_proved};
+use super::continued::{Convergents, Quotients, in_proved};
 use super::integer::{Element, Integer, Signs};
 use super::ratio::Ratio;
 use crate::proved::num_rational as proved;
@@ -312,7 +312,7 @@ impl<T: Integer> Reduced<T> {
     }
 
     #[inline]
-    fn new(fraction: Proved<T>) -> Reduced<T> {
+    pub(super) fn new(fraction: Proved<T>) -> Reduced<T> {
         Reduced { fraction }
     }
 
@@ -447,6 +447,18 @@ impl<T: Integer> Reduced<T> {
     #[inline]
     pub fn continued_fraction(&self) -> Quotients<T> {
         Quotients::of(self.fraction.continued_fraction())
+    }
+
+    /// The convergents of this fraction's continued fraction, one after another: 4, 9/2, 58/13 and 415/93 for 415/93. The first is
+    /// the floor, and the last is the fraction itself. Each is in lowest terms, and none leaves the type.
+    ///
+    /// ```
+    /// let x = bakhsney::Reduced::checked_new(-7i8, 3).unwrap();
+    /// assert!(x.convergents().map(|y| y.into_raw()).eq([(-3, 1), (-2, 1), (-7, 3)]));
+    /// ```
+    #[inline]
+    pub fn convergents(&self) -> Convergents<T> {
+        Convergents::of(self.fraction.convergents())
     }
 
     /// The fraction with these quotients: 4, 2, 6 and 7 give 415/93, and so do 4, 2, 6, 6 and 1. `None` if there is no quotient,

@@ -5,6 +5,7 @@ pub mod neutral;
 pub mod order;
 pub mod powers;
 pub mod reduced;
+pub mod remainder;
 pub mod rounding;
 pub mod signs;
 pub mod told_apart;

@@ -5,6 +5,7 @@
 //! and no law can say that.
 #![tactic(auto)]
 
+mod convergents;
 mod convert;
 mod fold;
 mod hash;
@@ -24,6 +25,7 @@ mod rounding;
 mod sign;
 mod text;
 
+pub use convergents::Convergents;
 pub use json::{JsonInteger, JsonRatioError};
 pub use main_statement::{HeadlineResult, headline};
 pub use operand::Operand;
@@ -34,4 +36,4 @@ pub use ratio_core::{
     BaseTenText, CodeList, DecimalText, Exponent, Form, ParseRatioError, RatioErrorKind, RatioText,
     Steps, Taken,
 };
-pub use reduced::{Convergents, Reduced, Reduced32, Reduced64, ReducedOperand};
+pub use reduced::{Reduced, Reduced32, Reduced64, ReducedOperand};

@@ -4,6 +4,7 @@
 //! `both_held(n, d);` and `let _ = d.held();` do nothing at run time. They tell the prover that d lies
 //! between the type's least and greatest number: over `i8`, from -128 to 127. A value in hand is in range,
 //! and no law can say that.
+mod convergents;
 mod convert;
 mod fold;
 mod hash;
@@ -23,6 +24,8 @@ mod rounding;
 mod sign;
 mod text;
 
+pub use convergents::Convergents;
+
 pub use main_statement::{HeadlineResult, headline};
 pub use operand::Operand;
 pub use quotients::Quotients;
@@ -32,4 +35,4 @@ pub use crate::proved::ratio_core::{
     BaseTenText, CodeList, DecimalText, Exponent, Form, ParseRatioError, RatioErrorKind, RatioText,
     Steps, Taken,
 };
-pub use reduced::{Convergents, Reduced, Reduced32, Reduced64, ReducedOperand};
+pub use reduced::{Reduced, Reduced32, Reduced64, ReducedOperand};

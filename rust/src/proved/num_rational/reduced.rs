@@ -7,7 +7,6 @@
 mod cast;
 mod checked;
 mod continued;
-mod convergents;
 mod convert;
 mod decimal;
 mod floats;
@@ -23,7 +22,6 @@ mod simplest;
 mod text;
 
 use crate::proved::num_rational::ratio::{Constants, Ratio};
-pub use convergents::Convergents;
 pub use operand::ReducedOperand;
 use crate::proved::ratio_integer::Integer;
 
@@ -36,7 +34,7 @@ use crate::proved::ratio_integer::Integer;
 /// of a list, which is `None` if one of its steps is.
 #[derive(Copy, Debug)]
 pub struct Reduced<T: Copy + Integer> {
-    ratio: Ratio<T>,
+    pub(crate) ratio: Ratio<T>,
 }
 
 /// A fraction of two `i32` in lowest terms.

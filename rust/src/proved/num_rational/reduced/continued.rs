@@ -1,7 +1,8 @@
 // Erased from crates/num_rational/src/reduced/continued.rt by rust/erase: not to be edited.
 //! Continued fractions: the quotients of a fraction, and the fraction of some quotients.
 
-use super::{Convergents, Reduced};
+use super::Reduced;
+use crate::proved::num_rational::convergents::Convergents;
 use crate::proved::num_rational::quotients::Quotients;
 use crate::proved::num_rational::ratio::Ratio;
 use crate::proved::ratio_core::continued::from_quotients;

@@ -6,9 +6,14 @@ use num_rational::{HeadlineResult, Ratio, Steps, headline};
 use ratio_integer::Integer;
 use std::cmp::Ordering;
 
-// What two fractions give, and whether their lists of codes are the same.
-fn shown<T: Integer>(x: &Ratio<T>, y: &Ratio<T>) -> (HeadlineResult<T>, bool) {
-    let (mut left, mut right) = (Codes::new(), Codes::new());
+// What two fractions give, and whether their codes are the same. The two lists are empty. A caller with a type of known size
+// makes them.
+fn shown<T: Integer>(
+    x: &Ratio<T>,
+    y: &Ratio<T>,
+    mut left: Codes<T>,
+    mut right: Codes<T>,
+) -> (HeadlineResult<T>, bool) {
     let (mut compared, mut hashed) = (Steps::new(), Steps::new());
     let told = headline(
         x,
@@ -24,6 +29,8 @@ fn shown<T: Integer>(x: &Ratio<T>, y: &Ratio<T>) -> (HeadlineResult<T>, bool) {
 
 // Whether two fractions have this order, and this product and quotient.
 fn stand<T: Integer>(
+    left: Codes<T>,
+    right: Codes<T>,
     fields: [(T, T); 2],
     order: Ordering,
     product: Option<(T, T)>,
@@ -32,7 +39,7 @@ fn stand<T: Integer>(
     let [(n, d), (m, e)] = fields;
     match (raw(n, d), raw(m, e)) {
         (Some(x), Some(y)) => {
-            let (told, alike) = shown(&x, &y);
+            let (told, alike) = shown(&x, &y, left, right);
             told.order == order
                 && [told.equal, alike] == [order.is_eq(); 2]
                 && answers(told.product, product)
@@ -42,35 +49,48 @@ fn stand<T: Integer>(
     }
 }
 
+fn stand_8(
+    fields: [(i8, i8); 2],
+    order: Ordering,
+    product: Option<(i8, i8)>,
+    quotient: Option<(i8, i8)>,
+) -> bool {
+    stand(Codes::new(), Codes::new(), fields, order, product, quotient)
+}
+
+fn stand_64(
+    fields: [(i64, i64); 2],
+    order: Ordering,
+    product: Option<(i64, i64)>,
+    quotient: Option<(i64, i64)>,
+) -> bool {
+    stand(Codes::new(), Codes::new(), fields, order, product, quotient)
+}
+
 #[test]
 fn the_headline_over_machine_types(rt: HostRuntime) {
     let facts = [
-        stand(
-            [(100i8, 3), (3, 100)],
-            Ordering::Greater,
-            Some((1, 1)),
-            None,
-        ),
-        stand(
-            [(2i64, 4), (1, 2)],
+        stand_8([(100, 3), (3, 100)], Ordering::Greater, Some((1, 1)), None),
+        stand_64(
+            [(2, 4), (1, 2)],
             Ordering::Equal,
             Some((1, 4)),
             Some((1, 1)),
         ),
-        stand([(1i64, -2), (3, -2)], Ordering::Greater, None, None),
-        stand(
+        stand_64([(1, -2), (3, -2)], Ordering::Greater, None, None),
+        stand_64(
             [(i64::MIN, -1), (i64::MAX, 1)],
             Ordering::Greater,
             None,
             None,
         ),
-        stand(
+        stand_64(
             [(i64::MAX, 2), (i64::MAX, 3)],
             Ordering::Greater,
             None,
             Some((3, 2)),
         ),
-        stand([(0i64, 5), (0, 7)], Ordering::Equal, Some((0, 1)), None),
+        stand_64([(0, 5), (0, 7)], Ordering::Equal, Some((0, 1)), None),
     ];
     each_holds(&rt, &facts);
 }

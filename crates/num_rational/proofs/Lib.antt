@@ -12,6 +12,7 @@ pub mod PaddingLemmas
 pub mod PowerLawLemmas
 pub mod QuotientLemmas
 pub mod RatioLemmas
+pub mod ReadingLawLemmas
 pub mod ReducedLemmas
 pub mod RemainderLawLemmas
 pub mod ResultLemmas

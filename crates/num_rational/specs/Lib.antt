@@ -14,6 +14,7 @@ pub mod Padding
 pub mod PowerLaws
 pub mod Powers
 pub mod Ratio
+pub mod ReadingLaws
 pub mod Reduced
 pub mod ReducedLaws
 pub mod RemainderLaws

@@ -3,6 +3,7 @@ pub mod nearest;
 pub mod neutral;
 pub mod order;
 pub mod powers;
+pub mod reading;
 pub mod reduced;
 pub mod remainder;
 pub mod rounding;

@@ -2,7 +2,7 @@
 //! differ.
 use crate::asserting::each_holds;
 use num_rational::laws::{
-    nearest, neutral, order, powers, remainder, rounding, signs, undoing, values,
+    nearest, neutral, order, powers, reading, remainder, rounding, signs, undoing, values,
 };
 use num_rational::{Ratio, Reduced, Reduced64};
 
@@ -77,6 +77,13 @@ fn whole_numbers_near(_rt: HostRuntime) {
     rounding::sums(&x, &fraction(9, 1));
     rounding::negatives(&x);
     remainder::parts(&x, &y);
+}
+
+#[test]
+fn texts_read_back(_rt: HostRuntime) {
+    reading::base_ten(&fraction(i64::MIN, 3));
+    reading::in_base(&fraction(15, 16));
+    reading::in_base(&fraction(-1, 2));
 }
 
 // Whether (x + y) + z and x + (y + z) are `Some`, over `i8`.

@@ -3,7 +3,7 @@
 //! differ.
 use crate::proved::tests_fractions::asserting::each_holds;
 use crate::proved::num_rational::laws::{
-    nearest, neutral, order, powers, remainder, rounding, signs, undoing, values,
+    nearest, neutral, order, powers, reading, remainder, rounding, signs, undoing, values,
 };
 use crate::proved::num_rational::{Ratio, Reduced, Reduced64};
 
@@ -79,6 +79,13 @@ fn whole_numbers_near() {
     rounding::sums(&x, &fraction(9, 1));
     rounding::negatives(&x);
     remainder::parts(&x, &y);
+}
+
+#[test]
+fn texts_read_back() {
+    reading::base_ten(&fraction(i64::MIN, 3));
+    reading::in_base(&fraction(15, 16));
+    reading::in_base(&fraction(-1, 2));
 }
 
 // Whether (x + y) + z and x + (y + z) are `Some`, over `i8`.

@@ -1,0 +1,24 @@
+//! What reading a printed `Reduced` returns. Each function changes nothing: its contract is the law, for the fraction that it is
+//! given.
+ghost use Rattle.num_rational.specs.ReadingLaws.{ReadsItsText, ReadsItsTextInBase, RefusesBelowZeroInBase, RefusesWholeInBase};
+
+use crate::reduced::Reduced;
+use ratio_integer::{Primitive, both_held};
+
+/// Reading the text of a fraction in base 10 gives `Ok` of the fraction.
+pub fn base_ten<T: Copy + Primitive>(x: &Reduced<T>)
+    ensures { ReadsItsText T.BITS x.now }
+{
+    both_held(*x.numer(), *x.denom());
+}
+
+/// Reading a text without prefixes in its base gives `Ok` of the fraction if this is neither whole nor below 0: over `i8`, `f/10`
+/// in base 16 gives 15/16. A whole number has no slash, so its text is a parse error. So is that of a number below 0 in another
+/// base than 10: -1/2 is `ff/2`, and 255 does not fit `i8`.
+pub fn in_base<T: Copy + Primitive>(x: &Reduced<T>)
+    ensures back { ReadsItsTextInBase T.BITS x.now }
+    ensures whole { RefusesWholeInBase T.BITS x.now }
+    ensures below { RefusesBelowZeroInBase T.BITS x.now }
+{
+    both_held(*x.numer(), *x.denom());
+}

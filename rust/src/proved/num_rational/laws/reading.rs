@@ -1,0 +1,20 @@
+// Erased from crates/num_rational/src/laws/reading.rt by rust/erase: not to be edited.
+//! What reading a printed `Reduced` returns. Each function changes nothing: its contract is the law, for the fraction that it is
+//! given.
+
+use crate::proved::num_rational::reduced::Reduced;
+use crate::proved::ratio_integer::{Primitive, both_held};
+
+/// Reading the text of a fraction in base 10 gives `Ok` of the fraction.
+#[inline]
+pub fn base_ten<T: Copy + Primitive>(x: &Reduced<T>) {
+    both_held(*x.numer(), *x.denom());
+}
+
+/// Reading a text without prefixes in its base gives `Ok` of the fraction if this is neither whole nor below 0: over `i8`, `f/10`
+/// in base 16 gives 15/16. A whole number has no slash, so its text is a parse error. So is that of a number below 0 in another
+/// base than 10: -1/2 is `ff/2`, and 255 does not fit `i8`.
+#[inline]
+pub fn in_base<T: Copy + Primitive>(x: &Reduced<T>) {
+    both_held(*x.numer(), *x.denom());
+}

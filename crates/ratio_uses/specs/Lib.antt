@@ -1,5 +1,6 @@
 pub mod Held
 pub mod Callers
+pub mod Accounts
 pub mod Gears
 pub mod Beats
 pub mod Walk

@@ -3,6 +3,7 @@
 //! `README.md` and `CALLING.md` show are here too.
 #![tactic(auto)]
 
+pub mod accounts;
 pub mod beats;
 pub mod callers;
 pub mod conditions;

@@ -65,6 +65,11 @@ module _ {A : Type 0} (view : A → ℤ × ℤ) (Can : ℤ × ℤ → ℤ × ℤ
   next_answered [] x p q answered total = subst (λ w. Can w (view x)) total answered.0
   next_answered (y ∷ xs) x p q answered total = next_answered xs x total.0 q (answered.1 total.0 total.1) total.2
 
+  -- if all steps meet their condition, so do those over the first items
+  pub beginning : (xs more : List A) (p : ℤ × ℤ) → AnswersFrom view Can Gives p (xs ++ more) → AnswersFrom view Can Gives p xs
+  beginning [] more p answered = tt
+  beginning (y ∷ ys) more p answered = (answered.0, λ q gives. beginning ys more q (answered.1 q gives))
+
   -- the same for an iterator, if each step along its calls meets its condition
   pub next_along : {S : Type 0} (steps : S → Option A → S → Type 0) {s i t u : S} (start : ℤ × ℤ) (xs : List A) {x : A} {q pair : ℤ × ℤ} → pair ≡ view x → HoldsAlong steps s (AnswersFrom view Can Gives start) → i ≡ s → Yields steps i xs t → steps t (Some x) u → FoldsTo (λ p x q. Gives p (view x) q) start xs q → Can q pair
   next_along steps start xs {x} {q} seen can same gave last total = subst (Can q) (sym seen) (next_answered xs x start q (along_more steps xs can same gave last) total)
@@ -81,7 +86,7 @@ module _ {A : Type 0} (view : A → ℤ × ℤ) (Can : ℤ × ℤ → ℤ × ℤ
   }
 
   module _ (one : (p x q r : ℤ × ℤ) → Gives p x q → Gives p x r → q ≡ r) where
-    one_total : (xs : List A) (p q r : ℤ × ℤ) → FoldsTo (λ p x q. Gives p (view x) q) p xs q → FoldsTo (λ p x q. Gives p (view x) q) p xs r → q ≡ r
+    pub one_total : (xs : List A) (p q r : ℤ × ℤ) → FoldsTo (λ p x q. Gives p (view x) q) p xs q → FoldsTo (λ p x q. Gives p (view x) q) p xs r → q ≡ r
     one_total [] p q r first second = sym first ∙ second
     one_total (x ∷ xs) p q r first second =
         let same = one p (view x) second.0 first.0 second.1 first.1 in
@@ -105,15 +110,11 @@ module _ {A : Type 0} (view : A → ℤ × ℤ) (Can : ℤ × ℤ → ℤ × ℤ
   one_further : take (i + 1) all ≡ take i all ++ x ∷ []
   one_further = take_more all i x below ∙ ap (λ y. take i all ++ y ∷ []) (sym is)
 
-  beginning : (xs more : List A) (p : ℤ × ℤ) → AnswersFrom view Can Gives p (xs ++ more) → AnswersFrom view Can Gives p xs
-  beginning [] more p answered = tt
-  beginning (y ∷ ys) more p answered = (answered.0, λ q gives. beginning ys more q (answered.1 q gives))
-
   -- if the step over the next item does not meet its condition, not all steps over the list do
   pub list_refused : (q : ℤ × ℤ) {pair : ℤ × ℤ} → pair ≡ view x → FoldsTo (λ p x q. Gives p (view x) q) start (take i all) q → ¬ (Can q pair) → ¬ (AnswersFrom view Can Gives start all)
   list_refused q seen total cannot answered =
       let whole : AnswersFrom view Can Gives start (take (i + 1) all ++ drop (i + 1) all) = subst (AnswersFrom view Can Gives start) (sym (take-append-drop (i + 1) all)) answered in
-      step_refused view Can Gives start (take i all) x q seen total cannot (subst (AnswersFrom view Can Gives start) one_further (beginning (take (i + 1) all) (drop (i + 1) all) start whole))
+      step_refused view Can Gives start (take i all) x q seen total cannot (subst (AnswersFrom view Can Gives start) one_further (beginning view Can Gives (take (i + 1) all) (drop (i + 1) all) start whole))
 
   pub list_more : ((p x q r : ℤ × ℤ) → Gives p x q → Gives p x r → q ≡ r) → (q r : ℤ × ℤ) {pair : ℤ × ℤ} → pair ≡ view x → StepsSoFar view Can Gives start (take i all) q → Can q pair → Gives q pair r → pos 0 <ℤ r.1 → StepsSoFar view Can Gives start (take (i + 1) all) r
   list_more one q r seen before can gives positive = subst (λ xs. StepsSoFar view Can Gives start xs r) (sym one_further) (step_more view Can Gives one start (take i all) x q r seen before can gives positive)

@@ -1,6 +1,7 @@
 pub mod CastLemmas
 pub mod EqualValueLemmas
 pub mod ConvergentLemmas
+pub mod FoldLawLemmas
 pub mod FoldLemmas
 pub mod HashWriteLemmas
 pub mod HeadlineLemmas

@@ -21,7 +21,7 @@ use Rattle.num_rational.proofs.ResultLemmas.{product_nonzero, same_answers}
 one_pair : (x y : ℤ × ℤ) → (x.0 ≡ y.0) × (x.1 ≡ y.1) → x ≡ y
 one_pair x y same = ap (λ (t : ℤ). (t, x.1)) same.0 ∙ ap (λ (t : ℤ). (y.0, t)) same.1
 
-both_fields : (x y : ℤ × ℤ) → x ≡ y → (x.0 ≡ y.0) × (x.1 ≡ y.1)
+pub both_fields : (x y : ℤ × ℤ) → x ≡ y → (x.0 ≡ y.0) × (x.1 ≡ y.1)
 both_fields x y same = (ap (λ (p : ℤ × ℤ). p.0) same, ap (λ (p : ℤ × ℤ). p.1) same)
 
 one_answer_turned : {T : _} {i : _} {o : _} {e : _} {p : _} {h : _} (x y : Option (Reduced T i o e p h)) → AreOneAnswer x y → AreOneAnswer y x

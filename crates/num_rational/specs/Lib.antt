@@ -1,6 +1,7 @@
 pub mod Comparison
 pub mod ContinuedFractions
 pub mod ConvergentSteps
+pub mod FoldLaws
 pub mod Folds
 pub mod Hashing
 pub mod Headline

@@ -1,4 +1,5 @@
 //! The laws of this crate. Each function does nothing: its contract is the law.
+pub mod folds;
 pub mod nearest;
 pub mod neutral;
 pub mod order;

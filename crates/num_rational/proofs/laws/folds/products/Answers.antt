@@ -1,0 +1,8 @@
+use Rattle.num_rational.proofs.FoldLawLemmas.{has_no_product_of_both, products_go_on}
+use Rattle.num_rational.proofs.laws.folds.products.Goals as goal
+
+pub returns-clause-on : goal.returns-clause-on
+returns-clause-on g c = products_go_on _ c.args.x.now c.args.first.now c.args.second.now
+
+pub returns-clause-none : goal.returns-clause-none
+returns-clause-none g c = has_no_product_of_both _ _ _ c.args.first.now c.args.second.now

@@ -1,0 +1,27 @@
+//! Sums and products of lists, as `Reduced` returns them. Each function does nothing: its contract is the law, for the lists that
+//! it is given. x is the result of the first list, wherever that is `Some`.
+ghost use Rattle.num_rational.specs.FoldLaws.{HasNoProductOfBoth, HasNoSumOfBoth, ProductsGoOn, SumsGoOn};
+
+use crate::reduced::{Reduced, ReducedOperand};
+use ratio_integer::Integer;
+
+/// Adding the second list to the sum of the first, item by item, is the sum of both lists, one after the other. It is `None` if
+/// the sum of the first list is.
+pub fn sums<T: Copy + Integer, O: ReducedOperand<T> + Copy>(
+    x: &Reduced<T>,
+    first: &[O],
+    second: &[O],
+)
+    ensures on { SumsGoOn O.two_numbers x.now first.now second.now }
+    ensures none { HasNoSumOfBoth T.lo T.hi O.two_numbers first.now second.now }
+{}
+
+/// The same for products.
+pub fn products<T: Copy + Integer, O: ReducedOperand<T> + Copy>(
+    x: &Reduced<T>,
+    first: &[O],
+    second: &[O],
+)
+    ensures on { ProductsGoOn O.two_numbers x.now first.now second.now }
+    ensures none { HasNoProductOfBoth T.lo T.hi O.two_numbers first.now second.now }
+{}

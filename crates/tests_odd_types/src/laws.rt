@@ -2,7 +2,7 @@
 use crate::fractions;
 use crate::plain::Plain;
 use num_rational::laws::{
-    nearest, neutral, order, powers, remainder, rounding, signs, undoing, values,
+    folds, nearest, neutral, order, powers, remainder, rounding, signs, undoing, values,
 };
 use num_rational::{Ratio, Reduced};
 use ratio_integer::Integer;
@@ -41,6 +41,8 @@ fn laws_over_eleven_numbers(_rt: HostRuntime) {
     powers::exponents(&y);
     powers::products(&x, &y);
     powers::reciprocals(&x);
+    folds::sums(&y, &[y], &[x, y]);
+    folds::products(&y, &[y], &[x, y]);
     nearest::bounds(&fraction(3, 5));
     rounding::orders(&x, &y);
     rounding::distances(&x);

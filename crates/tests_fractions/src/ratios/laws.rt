@@ -3,6 +3,7 @@
 use crate::asserting::each_holds;
 use num_rational::laws::{
     nearest, neutral, order, powers, reading, remainder, rounding, signs, undoing, values,
+    folds, nearest, neutral, order, powers, remainder, rounding, signs, undoing, values,
 };
 use num_rational::{Ratio, Reduced, Reduced64};
 
@@ -52,6 +53,14 @@ fn powers_of_powers(_rt: HostRuntime) {
     powers::exponents(&x);
     powers::products(&x, &y);
     powers::reciprocals(&x);
+}
+
+#[test]
+fn lists_in_parts(_rt: HostRuntime) {
+    let first = [fraction(1, 2), fraction(1, 3)];
+    let second = [fraction(1, 6), fraction(-2, 1)];
+    folds::sums(&fraction(5, 6), &first, &second);
+    folds::products(&fraction(1, 6), &first, &second);
 }
 
 #[test]

@@ -1,0 +1,23 @@
+// Erased from crates/num_rational/src/laws/folds.rt by rust/erase: not to be edited.
+//! Sums and products of lists, as `Reduced` returns them. Each function does nothing: its contract is the law, for the lists that
+//! it is given. x is the result of the first list, wherever that is `Some`.
+
+use crate::proved::num_rational::reduced::{Reduced, ReducedOperand};
+use crate::proved::ratio_integer::Integer;
+
+/// Adding the second list to the sum of the first, item by item, is the sum of both lists, one after the other. It is `None` if
+/// the sum of the first list is.
+#[inline]
+pub fn sums<T: Copy + Integer, O: ReducedOperand<T> + Copy>(
+    x: &Reduced<T>,
+    first: &[O],
+    second: &[O],
+) {}
+
+/// The same for products.
+#[inline]
+pub fn products<T: Copy + Integer, O: ReducedOperand<T> + Copy>(
+    x: &Reduced<T>,
+    first: &[O],
+    second: &[O],
+) {}

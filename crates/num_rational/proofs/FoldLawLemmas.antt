@@ -1,14 +1,20 @@
 -- The laws of sums and products of lists.
-use Rattle.std.specs.Prelude.{◌≡◌, ℤ, pos, true, List, [], ◌∷◌, ◌++◌, None, Some}
+use Rattle.std.specs.Prelude.{◌≡◌, ◌≢◌, ℤ, pos, true, List, [], ◌∷◌, ◌++◌, None, Some}
 use Rattle.std.specs.List.{FoldsTo}
-use Rattle.std.proofs.Common.{sym, subst}
+use Rattle.std.proofs.Common.{arith, sym, subst}
+use Rattle.std.proofs.lemmas.Int.{ints}
+use Rattle.ratio_integer.proofs.Whole.{mul_nonzero}
 use Rattle.ratio_core.specs.Laws.{IsProduct, IsSum}
 use Rattle.num_rational.specs.declared.reduced.Reduced.{Reduced}
-use Rattle.num_rational.specs.FoldLaws.{HasNoProductOfBoth, HasNoSumOfBoth, ProductsGoOn, SumsGoOn}
+use Rattle.num_rational.specs.FoldLaws.{AddsInAnyOrder, AddsInParts, HasNoProductOfBoth, HasNoSumOfBoth, MultipliesInAnyOrder, MultipliesInParts, ProductsGoOn, SumsGoOn}
 use Rattle.num_rational.specs.Folds.{AnswersFrom}
 use Rattle.num_rational.specs.Operators.{CanAdd, CanMultiply, numbers}
 use Rattle.num_rational.proofs.FoldLemmas.{beginning, one_product, one_sum, one_total}
+use Rattle.num_rational.specs.Ratio.{denominator, numerator}
 use Rattle.num_rational.proofs.ReducedLemmas.{both_fields}
+use Rattle.num_rational.proofs.ResultLemmas.{denominator_nonzero}
+use Rattle.num_rational.proofs.TotalLemmas.{in_any_order, moved, one_of_list, products_are_commutative, sums_are_commutative}
+use Rattle.num_rational.proofs.ValueLemmas.{plus_zero, times_one}
 
 -- ---- one list after another, if a step gives at most one total
 
@@ -57,3 +63,45 @@ has_no_sum_of_both lo hi view xs ys none both = none (record { answered = beginn
 
 pub has_no_product_of_both : {A : Type 0} (lo hi : ℤ) (view : A → ℤ × ℤ) (xs ys : List A) → HasNoProductOfBoth lo hi view xs ys
 has_no_product_of_both lo hi view xs ys none both = none (record { answered = beginning view (CanMultiply lo hi) IsProduct xs ys (pos 1, pos 1) both.answered })
+
+-- ---- the laws of parts, and of lists in another order
+
+one_nonzero : pos 1 ≢ pos 0
+one_nonzero same = omega (arith, ints)
+
+-- x + 0/1 is x, and x * 1/1 is x
+plus_nothing : {T : _} {i : _} {o : _} {e : _} {p : _} {h : _} (x : Reduced T i o e p h) → IsSum (numbers x.ratio) (pos 0, pos 1) (numbers x.ratio)
+plus_nothing x = record {
+  fraction = mul_nonzero (denominator x.ratio) (pos 1) (denominator_nonzero x) one_nonzero;
+  same = plus_zero (numerator x.ratio) (denominator x.ratio);
+  lowest = x.lowest;
+}
+
+times_nothing : {T : _} {i : _} {o : _} {e : _} {p : _} {h : _} (x : Reduced T i o e p h) → IsProduct (numbers x.ratio) (pos 1, pos 1) (numbers x.ratio)
+times_nothing x = record {
+  fraction = mul_nonzero (denominator x.ratio) (pos 1) (denominator_nonzero x) one_nonzero;
+  same = times_one (numerator x.ratio) (denominator x.ratio);
+  lowest = x.lowest;
+}
+
+pub adds_in_parts : {T : _} {i : _} {o : _} {e : _} {p : _} {h : _} {A : Type 0} (view : A → ℤ × ℤ) (x : Reduced T i o e p h) (xs ys : List A) → AddsInParts view x xs ys
+adds_in_parts view x xs ys y both sum first second whole told =
+    let rest = moved view IsSum sums_are_commutative (numbers x.ratio) (pos 0, pos 1) (numbers x.ratio) (numbers y.ratio) (numbers sum.ratio) ys (plus_nothing x) second.1 told.terms in
+    both_fields (numbers both.ratio) (numbers sum.ratio) (one_of_list view IsSum sums_are_commutative (xs ++ ys) (pos 0, pos 1) (numbers both.ratio) (numbers sum.ratio) whole.1
+    (total_joined view IsSum xs ys (pos 0, pos 1) (numbers x.ratio) (numbers sum.ratio) first.1 rest))
+
+pub multiplies_in_parts : {T : _} {i : _} {o : _} {e : _} {p : _} {h : _} {A : Type 0} (view : A → ℤ × ℤ) (x : Reduced T i o e p h) (xs ys : List A) → MultipliesInParts view x xs ys
+multiplies_in_parts view x xs ys y both product first second whole told =
+    let rest = moved view IsProduct products_are_commutative (numbers x.ratio) (pos 1, pos 1) (numbers x.ratio) (numbers y.ratio) (numbers product.ratio) ys (times_nothing x) second.1 told.terms in
+    both_fields (numbers both.ratio) (numbers product.ratio) (one_of_list view IsProduct products_are_commutative (xs ++ ys) (pos 1, pos 1) (numbers both.ratio) (numbers product.ratio) whole.1
+    (total_joined view IsProduct xs ys (pos 1, pos 1) (numbers x.ratio) (numbers product.ratio) first.1 rest))
+
+pub adds_in_any_order : {T : _} {i : _} {o : _} {e : _} {p : _} {h : _} {A : Type 0} (view : A → ℤ × ℤ) (x : Reduced T i o e p h) (xs ys : List A) → AddsInAnyOrder view x xs ys
+adds_in_any_order view x xs ys y order first second =
+    both_fields (numbers x.ratio) (numbers y.ratio) (one_of_list view IsSum sums_are_commutative ys (pos 0, pos 1) (numbers x.ratio) (numbers y.ratio)
+    (in_any_order view IsSum sums_are_commutative (pos 0, pos 1) (numbers x.ratio) xs ys order first.1) second.1)
+
+pub multiplies_in_any_order : {T : _} {i : _} {o : _} {e : _} {p : _} {h : _} {A : Type 0} (view : A → ℤ × ℤ) (x : Reduced T i o e p h) (xs ys : List A) → MultipliesInAnyOrder view x xs ys
+multiplies_in_any_order view x xs ys y order first second =
+    both_fields (numbers x.ratio) (numbers y.ratio) (one_of_list view IsProduct products_are_commutative ys (pos 1, pos 1) (numbers x.ratio) (numbers y.ratio)
+    (in_any_order view IsProduct products_are_commutative (pos 1, pos 1) (numbers x.ratio) xs ys order first.1) second.1)

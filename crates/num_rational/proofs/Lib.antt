@@ -18,6 +18,7 @@ pub mod ReducedLemmas
 pub mod RemainderLawLemmas
 pub mod ResultLemmas
 pub mod SignLawLemmas
+pub mod TotalLemmas
 pub mod UndoingLemmas
 pub mod ValueLemmas
 pub mod WholeNumberLemmas

@@ -1,13 +1,14 @@
 -- Sums and products of lists, as `Reduced` returns them. A premise only says what a call returned. `view` gives the two numbers
 -- of an item.
-use Rattle.std.specs.Prelude.{ℤ, true, List, ◌++◌, Option, None, Some}
+use Rattle.std.specs.Prelude.{ℤ, true, List, ◌++◌, Option, None, Some, IsPermutation}
 use Rattle.std.specs.List.{FoldsTo}
 use Rattle.ratio_core.specs.Laws.{IsProduct, IsSum}
 use Rattle.num_rational.specs.declared.reduced.Reduced.{Reduced}
+use Rattle.num_rational.specs.Comparison.{HaveSameFields}
 use Rattle.num_rational.specs.Folds.{AnswersFrom, CanProduct, CanSum, ChecksExactSumOf, ChecksProductOf}
 use Rattle.num_rational.specs.Operators.{CanAdd, CanMultiply, numbers}
 use Rattle.num_rational.specs.Reduced.{ratio_in, ratio_of}
-use Rattle.num_rational.specs.ReducedLaws.{AreOneAnswer}
+use Rattle.num_rational.specs.ReducedLaws.{AnswersProduct, AnswersSum, AreOneAnswer}
 
 -- the sum of the items returns r
 abbrev pub AnswersSumOf : {T : _} {i : _} {o : _} {e : _} {p : _} {h : _} {A : Type 0} → (A → ℤ × ℤ) → List A → Option (Reduced T i o e p h) → Type 0
@@ -48,3 +49,33 @@ HasNoSumOfBoth lo hi view xs ys = ¬ (CanSum true lo hi view xs) → ¬ (CanSum 
 -- if the product of xs is `None`, so is the product of both lists
 abbrev pub HasNoProductOfBoth : {A : Type 0} → (lo hi : ℤ) → (A → ℤ × ℤ) → List A → List A → Type 0
 HasNoProductOfBoth lo hi view xs ys = ¬ (CanProduct lo hi view xs) → ¬ (CanProduct lo hi view (xs ++ ys))
+
+-- the sum of both lists is the sum x + y of their two sums, if all these are `Some`
+abbrev pub AddsInParts : {T : _} {i : _} {o : _} {e : _} {p : _} {h : _} {A : Type 0} → (A → ℤ × ℤ) → Reduced T i o e p h → List A → List A → Type 0
+AddsInParts {T} {i} {o} {e} {p} {h} view x xs ys =
+    (y both sum : Reduced T i o e p h)
+    → AnswersSumOf view xs (Some x)
+    → AnswersSumOf view ys (Some y)
+    → AnswersSumOf view (xs ++ ys) (Some both)
+    → AnswersSum x y (Some sum)
+    → HaveSameFields (ratio_of both) (ratio_of sum)
+
+-- the product of both lists is the product x * y of their two products, if all these are `Some`
+abbrev pub MultipliesInParts : {T : _} {i : _} {o : _} {e : _} {p : _} {h : _} {A : Type 0} → (A → ℤ × ℤ) → Reduced T i o e p h → List A → List A → Type 0
+MultipliesInParts {T} {i} {o} {e} {p} {h} view x xs ys =
+    (y both product : Reduced T i o e p h)
+    → AnswersProductOf view xs (Some x)
+    → AnswersProductOf view ys (Some y)
+    → AnswersProductOf view (xs ++ ys) (Some both)
+    → AnswersProduct x y (Some product)
+    → HaveSameFields (ratio_of both) (ratio_of product)
+
+-- if ys has the items of xs in another order, both have one sum, if both sums are `Some`
+abbrev pub AddsInAnyOrder : {T : _} {i : _} {o : _} {e : _} {p : _} {h : _} {A : Type 0} → (A → ℤ × ℤ) → Reduced T i o e p h → List A → List A → Type 0
+AddsInAnyOrder {T} {i} {o} {e} {p} {h} view x xs ys =
+    (y : Reduced T i o e p h) → IsPermutation xs ys → AnswersSumOf view xs (Some x) → AnswersSumOf view ys (Some y) → HaveSameFields (ratio_of x) (ratio_of y)
+
+-- if ys has the items of xs in another order, both have one product, if both products are `Some`
+abbrev pub MultipliesInAnyOrder : {T : _} {i : _} {o : _} {e : _} {p : _} {h : _} {A : Type 0} → (A → ℤ × ℤ) → Reduced T i o e p h → List A → List A → Type 0
+MultipliesInAnyOrder {T} {i} {o} {e} {p} {h} view x xs ys =
+    (y : Reduced T i o e p h) → IsPermutation xs ys → AnswersProductOf view xs (Some x) → AnswersProductOf view ys (Some y) → HaveSameFields (ratio_of x) (ratio_of y)

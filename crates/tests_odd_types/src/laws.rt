@@ -43,6 +43,7 @@ fn laws_over_eleven_numbers(_rt: HostRuntime) {
     powers::reciprocals(&x);
     folds::sums(&y, &[y], &[x, y]);
     folds::products(&y, &[y], &[x, y]);
+    folds::sums(&fraction(-2, 1), &[x, y], &[y, x]);
     nearest::bounds(&fraction(3, 5));
     rounding::orders(&x, &y);
     rounding::distances(&x);

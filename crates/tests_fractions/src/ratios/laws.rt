@@ -61,6 +61,9 @@ fn lists_in_parts(_rt: HostRuntime) {
     let second = [fraction(1, 6), fraction(-2, 1)];
     folds::sums(&fraction(5, 6), &first, &second);
     folds::products(&fraction(1, 6), &first, &second);
+    let turned = [fraction(1, 3), fraction(1, 2)];
+    folds::sums(&fraction(5, 6), &first, &turned);
+    folds::products(&fraction(1, 6), &first, &turned);
 }
 
 #[test]

@@ -6,7 +6,8 @@ use crate::proved::num_rational::reduced::{Reduced, ReducedOperand};
 use crate::proved::ratio_integer::Integer;
 
 /// Adding the second list to the sum of the first, item by item, is the sum of both lists, one after the other. It is `None` if
-/// the sum of the first list is.
+/// the sum of the first list is. The sum of both is also the sum of their two sums, and lists with the same items have the same
+/// sum. Over `i8`, 127, 1 and -1 have no sum, and 127, -1 and 1 have one. So these two laws are for sums that are `Some`.
 #[inline]
 pub fn sums<T: Copy + Integer, O: ReducedOperand<T> + Copy>(
     x: &Reduced<T>,

@@ -2,8 +2,7 @@
 //! differ.
 use crate::asserting::each_holds;
 use num_rational::laws::{
-    nearest, neutral, order, powers, reading, remainder, rounding, signs, undoing, values,
-    folds, nearest, neutral, order, powers, remainder, rounding, signs, undoing, values,
+    folds, nearest, neutral, order, powers, reading, remainder, rounding, signs, undoing, values,
 };
 use num_rational::{Ratio, Reduced, Reduced64};
 

@@ -1,5 +1,6 @@
 // Erased from crates/num_rational/src/laws.rt by rust/erase: not to be edited.
 //! The laws of this crate. Each function does nothing: its contract is the law.
+pub mod folds;
 pub mod nearest;
 pub mod neutral;
 pub mod order;

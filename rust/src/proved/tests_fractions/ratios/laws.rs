@@ -3,7 +3,7 @@
 //! differ.
 use crate::proved::tests_fractions::asserting::each_holds;
 use crate::proved::num_rational::laws::{
-    nearest, neutral, order, powers, reading, remainder, rounding, signs, undoing, values,
+    folds, nearest, neutral, order, powers, reading, remainder, rounding, signs, undoing, values,
 };
 use crate::proved::num_rational::{Ratio, Reduced, Reduced64};
 
@@ -54,6 +54,17 @@ fn powers_of_powers() {
     powers::exponents(&x);
     powers::products(&x, &y);
     powers::reciprocals(&x);
+}
+
+#[test]
+fn lists_in_parts() {
+    let first = [fraction(1, 2), fraction(1, 3)];
+    let second = [fraction(1, 6), fraction(-2, 1)];
+    folds::sums(&fraction(5, 6), &first, &second);
+    folds::products(&fraction(1, 6), &first, &second);
+    let turned = [fraction(1, 3), fraction(1, 2)];
+    folds::sums(&fraction(5, 6), &first, &turned);
+    folds::products(&fraction(1, 6), &first, &turned);
 }
 
 #[test]

@@ -1,5 +1,6 @@
 //! Rows of the small programs of `ratio_uses`.
 use num_rational::{Rational64, Reduced64};
+use ratio_uses::accounts::move_part;
 use ratio_uses::beats::{Beats, Voice};
 use ratio_uses::callers::{greatest, mean};
 use ratio_uses::conditions::{chained, together};
@@ -41,6 +42,29 @@ fn first_wrong_wheels(rows: &[(i64, i64, i64, i64, i64)]) -> Option<usize> {
         }
     }
     None
+}
+
+// The fields of both accounts after the part has moved.
+fn moved(from: &Reduced64, to: &Reduced64, part: &Reduced64) -> Option<((i64, i64), (i64, i64))> {
+    let (rest, more) = move_part(from, to, part)?;
+    Some((rest.into_raw(), more.into_raw()))
+}
+
+#[test]
+fn test_accounts(rt: HostRuntime) {
+    let (half, third, sixth) = (frac(&rt, 1, 2), frac(&rt, 1, 3), frac(&rt, 1, 6));
+    let least = frac(&rt, i64::MIN, 1);
+    holds(
+        &rt,
+        "a sixth",
+        moved(&half, &third, &sixth) == Some(((1, 3), (1, 2))),
+    );
+    holds(&rt, "no room below", moved(&least, &third, &sixth) == None);
+    holds(
+        &rt,
+        "no room above",
+        moved(&half, &frac(&rt, i64::MAX, 1), &sixth) == None,
+    );
 }
 
 #[test]

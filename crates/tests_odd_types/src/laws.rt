@@ -41,15 +41,20 @@ fn laws_over_eleven_numbers(_rt: HostRuntime) {
     powers::exponents(&y);
     powers::products(&x, &y);
     powers::reciprocals(&x);
-    folds::sums(&y, &[y], &[x, y]);
-    folds::products(&y, &[y], &[x, y]);
-    folds::sums(&fraction(-2, 1), &[x, y], &[y, x]);
     nearest::bounds(&fraction(3, 5));
     rounding::orders(&x, &y);
     rounding::distances(&x);
     rounding::sums(&x, &fraction(3, 1));
     rounding::negatives(&x);
     remainder::parts(&x, &y);
+}
+
+#[test]
+fn lists_over_eleven_numbers(_rt: HostRuntime) {
+    let first = [fraction(1, 2)];
+    let second = [fraction(-5, 2), fraction(1, 2)];
+    folds::sums(&fraction(1, 2), &first, &second);
+    folds::products(&fraction(1, 2), &first, &second);
 }
 
 #[test]

@@ -91,3 +91,22 @@ CREATE FUNCTION ratio_smaller(ratio, ratio) RETURNS ratio AS 'MODULE_PATHNAME' L
 CREATE AGGREGATE min(ratio) (SFUNC = ratio_smaller, STYPE = ratio, COMBINEFUNC = ratio_smaller, SORTOP = <, PARALLEL = SAFE);
 CREATE FUNCTION ratio_larger(ratio, ratio) RETURNS ratio AS 'MODULE_PATHNAME' LANGUAGE C IMMUTABLE STRICT PARALLEL SAFE;
 CREATE AGGREGATE max(ratio) (SFUNC = ratio_larger, STYPE = ratio, COMBINEFUNC = ratio_larger, SORTOP = >, PARALLEL = SAFE);
+
+-- sum and avg
+CREATE FUNCTION ratio_accum(internal, ratio) RETURNS internal AS 'MODULE_PATHNAME' LANGUAGE C IMMUTABLE PARALLEL SAFE;
+CREATE FUNCTION ratio_unaccum(internal, ratio) RETURNS internal AS 'MODULE_PATHNAME' LANGUAGE C IMMUTABLE PARALLEL SAFE;
+CREATE FUNCTION ratio_combine(internal, internal) RETURNS internal AS 'MODULE_PATHNAME' LANGUAGE C IMMUTABLE PARALLEL SAFE;
+CREATE FUNCTION ratio_serialize(internal) RETURNS bytea AS 'MODULE_PATHNAME' LANGUAGE C IMMUTABLE STRICT PARALLEL SAFE;
+CREATE FUNCTION ratio_deserialize(bytea, internal) RETURNS internal AS 'MODULE_PATHNAME' LANGUAGE C IMMUTABLE STRICT PARALLEL SAFE;
+CREATE FUNCTION ratio_sum_final(internal) RETURNS ratio AS 'MODULE_PATHNAME' LANGUAGE C IMMUTABLE PARALLEL SAFE;
+CREATE AGGREGATE sum(ratio) (
+    SFUNC = ratio_accum, STYPE = internal, SSPACE = 192, FINALFUNC = ratio_sum_final,
+    COMBINEFUNC = ratio_combine, SERIALFUNC = ratio_serialize, DESERIALFUNC = ratio_deserialize, PARALLEL = SAFE,
+    MSFUNC = ratio_accum, MINVFUNC = ratio_unaccum, MSTYPE = internal, MSSPACE = 192, MFINALFUNC = ratio_sum_final
+);
+CREATE FUNCTION ratio_avg_final(internal) RETURNS ratio AS 'MODULE_PATHNAME' LANGUAGE C IMMUTABLE PARALLEL SAFE;
+CREATE AGGREGATE avg(ratio) (
+    SFUNC = ratio_accum, STYPE = internal, SSPACE = 192, FINALFUNC = ratio_avg_final,
+    COMBINEFUNC = ratio_combine, SERIALFUNC = ratio_serialize, DESERIALFUNC = ratio_deserialize, PARALLEL = SAFE,
+    MSFUNC = ratio_accum, MINVFUNC = ratio_unaccum, MSTYPE = internal, MSSPACE = 192, MFINALFUNC = ratio_avg_final
+);

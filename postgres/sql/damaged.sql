@@ -9,5 +9,6 @@ SELECT name, call, refusal(format('SELECT %s(r) FROM damaged WHERE name = %L', c
     unnest('{abs,sign,floor,ceil,round,trunc,int8,ratio_hash}'::text[]) call ORDER BY name, call;
 SELECT name, refusal(format('SELECT r::text FROM damaged WHERE name = %L', name)) FROM damaged ORDER BY name;
 SELECT refusal('SELECT ratio_power(r, 2) FROM damaged'), refusal('SELECT ratio_nearest(r, 2) FROM damaged'), refusal('SELECT r FROM damaged ORDER BY r');
+SELECT refusal('SELECT sum(r) FROM damaged'), refusal('SELECT avg(r) FROM damaged');
 DROP TABLE damaged;
 DROP CAST (point AS ratio);

@@ -12,6 +12,8 @@ pub mod ExactLemmas
 pub mod FieldLemmas
 pub mod FloatFields
 pub mod FloatParts
+pub mod FloatQuotient
+pub mod FloatRounding
 pub mod Floored
 pub mod Following
 pub mod FromQuotientsLemmas

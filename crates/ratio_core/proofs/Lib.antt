@@ -10,6 +10,7 @@ pub mod DigitGroups
 pub mod EqualityLaws
 pub mod ExactLemmas
 pub mod FieldLemmas
+pub mod FloatDivision
 pub mod FloatFields
 pub mod FloatParts
 pub mod FloatQuotient

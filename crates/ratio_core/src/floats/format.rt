@@ -1,7 +1,7 @@
 //! The two types of floats, as the rounding needs them.
-ghost use Rattle.std.specs.Prelude.{◌≡◌, ◌*◌, ◌≤◌, ℕ, from_bits};
+ghost use Rattle.std.specs.Prelude.{◌≡◌, ◌*◌, ◌^◌, ◌<◌, ◌≤◌, ℕ, false, from_bits};
 ghost use Rattle.std.specs.Float.{Float, Format, binary32, binary64};
-ghost use Rattle.std.specs.Float.Ieee.{hid, low, neg, ones, prec};
+ghost use Rattle.std.specs.Float.Ieee.{hid, low, neg, ones, prec, round};
 ghost use Rattle.std.proofs.Common.{refl};
 
 /// A type of floats.
@@ -29,6 +29,13 @@ pub(crate) trait FloatType: Copy {
     fn of_bits(bits: u64) -> Self
         requires { bits ≤ ones format * hid format }
         ensures { value result ≡ from_bits format bits };
+
+    /// The quotient, rounded once. Both numbers are floats, so that their conversion is exact.
+    fn quotient(n: u64, d: u64) -> Self
+        requires n_exact { n < 2 ^ DIGITS }
+        requires d_exact { d < 2 ^ DIGITS }
+        requires d_positive { 0 < d }
+        ensures { value result ≡ round format false n d };
 
     /// The float with the other sign.
     fn negated(self) -> Self
@@ -62,6 +69,10 @@ impl FloatType for f64 {
         f64::from_bits(bits)
     }
 
+    fn quotient(n: u64, d: u64) -> f64 {
+        n as f64 / d as f64
+    }
+
     fn negated(self) -> f64 {
         -self
     }
@@ -92,6 +103,10 @@ impl FloatType for f32 {
 
     fn of_bits(bits: u64) -> f32 {
         f32::from_bits(bits as u32)
+    }
+
+    fn quotient(n: u64, d: u64) -> f32 {
+        n as f32 / d as f32
     }
 
     fn negated(self) -> f32 {

@@ -1,5 +1,5 @@
 //! Floats as fractions, and the floats nearest to fractions.
 pub mod exact;
-mod format;
+pub(crate) mod format;
 pub mod nearest;
 mod quotient;

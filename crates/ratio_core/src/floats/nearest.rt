@@ -17,7 +17,7 @@ pub fn to_f64<T: Primitive>(numer: T, denom: T) -> f64
     requires { pos 0 <ℤ T.value denom }
     ensures { result ≡ nearest_float binary64 (T.value numer) (T.value denom) }
 {
-    nearest(numer, denom)
+    nearest::<T, f64>(numer, denom)
 }
 
 /// The same for a float of 32 bits: 0.33333334 for 1/3. It is infinite for a fraction of at least 2^128-2^103.
@@ -25,7 +25,7 @@ pub fn to_f32<T: Primitive>(numer: T, denom: T) -> f32
     requires { pos 0 <ℤ T.value denom }
     ensures { result ≡ nearest_float binary32 (T.value numer) (T.value denom) }
 {
-    nearest(numer, denom)
+    nearest::<T, f32>(numer, denom)
 }
 
 fn nearest<T: Primitive, F: FloatType>(numer: T, denom: T) -> F
@@ -52,8 +52,8 @@ fn nearest_size<F: FloatType>(n: u128, d: u128) -> F
     }
 }
 
-// The bits of the float nearest to n/d.
-fn nearest_bits<F: FloatType>(n: u128, d: u128) -> u64
+/// The bits of the float nearest to n/d.
+pub(crate) fn nearest_bits<F: FloatType>(n: u128, d: u128) -> u64
     requires { 0 < d }
     ensures { IsNearestBits F.format n d result }
 {

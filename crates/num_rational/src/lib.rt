@@ -7,6 +7,7 @@
 
 mod convergents;
 mod convert;
+mod floats;
 mod fold;
 mod hash;
 mod json;

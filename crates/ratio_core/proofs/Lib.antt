@@ -12,8 +12,11 @@ pub mod EndLemmas
 pub mod EqualityLaws
 pub mod ExactLemmas
 pub mod FieldLemmas
+pub mod FloatDivision
 pub mod FloatFields
 pub mod FloatParts
+pub mod FloatQuotient
+pub mod FloatRounding
 pub mod Floored
 pub mod Following
 pub mod FractionOrder

@@ -6,7 +6,7 @@ mod form;
 pub mod laws;
 mod numeral;
 mod places;
-mod printing;
+pub(crate) mod printing;
 mod quick_fields;
 mod reading;
 

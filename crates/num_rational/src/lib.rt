@@ -18,6 +18,7 @@ mod operand;
 mod ops;
 mod order;
 mod pow;
+mod precision;
 mod printing;
 mod quotients;
 mod ratio;

@@ -21,12 +21,14 @@ pub mod Floored
 pub mod Following
 pub mod FractionOrder
 pub mod FromQuotientsLemmas
+pub mod HalfEvenLemmas
 pub mod HashLaws
 pub mod Hashing
 pub mod HeldAround
 pub mod KeptLowest
 pub mod LawLemmas
 pub mod LeadingDigits
+pub mod LongLemmas
 pub mod LowestPowers
 pub mod MixedLemmas
 pub mod NearerZero
@@ -47,6 +49,7 @@ pub mod PlacesLemmas
 pub mod PowerLawLemmas
 pub mod PowerLemmas
 pub mod PowerLoop
+pub mod PrecisionLemmas
 pub mod PrintingLemmas
 pub mod ProductLemmas
 pub mod ProductOrder

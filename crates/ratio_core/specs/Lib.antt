@@ -17,6 +17,7 @@ pub mod Order
 pub mod Parts
 pub mod Power
 pub mod PowerLaws
+pub mod Precision
 pub mod Printing
 pub mod Reading
 pub mod Refusal

@@ -4,6 +4,7 @@ ghost use Rattle.ratio_core.specs.DecimalLaws.{DecimalsAreMonotone, DecimalsAreN
 ghost use Rattle.ratio_core.specs.FromQuotients.{FractionsAreLowest, QuotientsGiveBack};
 ghost use Rattle.ratio_core.specs.Laws.{FormedDifferencesFit, FormedSumsFit, ProductsAssociate, ProductsCommute, ProductsDistribute, SumConditionsCommute, SumsAssociate, SumsCommute};
 ghost use Rattle.ratio_core.specs.NearestLaws.{LowestIsNearest, NearestIsLowest, OneIsNearest, SameValueSameNearest};
+ghost use Rattle.ratio_core.specs.Precision.{HalfEvenIsDecimal};
 ghost use Rattle.ratio_core.specs.PowerLaws.{PartsAddUp, PartsAreAnswered, PowersAdd, PowersAreProducts, ReciprocalsInvert};
 ghost use Rattle.ratio_core.specs.Rounding.{IsCeiling, IsFloor, IsRounded, IsTruncation};
 ghost use Rattle.ratio_core.specs.RoundingLaws.{CeilingsAreNextToFloors, EachHasOne, IsByValue};
@@ -61,10 +62,12 @@ pub fn rounding_rules()
 {}
 
 /// To as many places by one rule, the decimal of a greater fraction is never smaller. It is less than one unit of its
-/// last place away from the fraction, and at most half a unit by `HalfAway` and `HalfEven`.
+/// last place away from the fraction, and at most half a unit by `HalfAway` and `HalfEven`. The text under a precision
+/// is the decimal by `HalfEven`.
 pub fn decimals()
     ensures monotone { DecimalsAreMonotone }
     ensures near { DecimalsAreNear }
+    ensures printed { HalfEvenIsDecimal }
 {}
 
 /// Laws of reciprocals and powers.

@@ -206,7 +206,8 @@ impl<T: Integer> Reduced<T> {
     }
 
     /// The fraction as a decimal with so many places, rounded by the rule. There are always as many digits behind the point, and
-    /// without places no point. A fraction that is rounded to 0 has no minus.
+    /// without places no point. A fraction that is rounded to 0 has no minus. `{:.2}` writes the decimal by `HalfEven`, and takes any
+    /// number of places.
     ///
     /// # Panics
     ///
@@ -218,6 +219,7 @@ impl<T: Integer> Reduced<T> {
     /// let eighth = Reduced::checked_new(1, 8).unwrap();
     /// assert_eq!(eighth.decimal(2, Rounding::HalfEven).as_str(), "0.12");
     /// assert_eq!(eighth.decimal(2, Rounding::HalfAway).as_str(), "0.13");
+    /// assert_eq!(format!("{:.2} {:+.50}", eighth, eighth), format!("0.12 +0.125{}", "0".repeat(47)));
     /// ```
     #[inline]
     #[track_caller]

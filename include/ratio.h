@@ -6,7 +6,8 @@
  * memory, whatever the numbers are. The arrays that a call writes may not overlap any other array, and no
  * pointer may be null.
  *
- * From C and from C++, with libratio_c.a, which `rt lib` makes in crates/ratio_c/out:
+ * From C and from C++, with libratio_c.a, which `rt lib` makes in crates/ratio_c/out. Without rt, rust/c/build makes it in
+ * rust/c/target/release:
  *
  *   cc -std=c99 -I include program.c crates/ratio_c/out/libratio_c.a -o program
  *   c++ -std=c++11 -I include program.cc crates/ratio_c/out/libratio_c.a -o program

@@ -94,12 +94,20 @@ fn continued_fractions() {
     for ((numer, denom), quotients) in rows {
         let x = i8_of(numer, denom);
         assert!(x.continued_fraction().eq(quotients.iter().copied()), "{x}");
+        assert!(x.to_ratio().continued_fraction().unwrap().eq(quotients.iter().copied()), "{x}");
         assert_eq!(fields(Reduced::from_continued_fraction(quotients)), Some((numer, denom)));
         assert_eq!(Ratio::from_continued_fraction(quotients).map(Ratio::into_raw), Some((numer, denom)));
     }
     let x = Reduced64::checked_new(415, 93).unwrap();
     assert!(x.convergents().map(Reduced::into_raw).eq([(4, 1), (9, 2), (58, 13), (415, 93)]));
     assert!(i8_of(-128, 3).convergents().map(Reduced::into_raw).eq([(-43, 1), (-128, 3)]));
+    // The same for a `Ratio`, which may be loose, or have no value or no lowest terms.
+    let loose = Ratio::new_raw(-64i8, -8);
+    assert!(loose.continued_fraction().unwrap().eq([8]));
+    assert!(loose.convergents().unwrap().map(Reduced::into_raw).eq([(8, 1)]));
+    for none in [Ratio::new_raw(1i8, 0), Ratio::new_raw(1, -128)] {
+        assert!(none.continued_fraction().is_none() && none.convergents().is_none());
+    }
     for refused in [&[][..], &[3, 0], &[127, 127], &[1, -1], &[1; 193]] {
         assert_eq!(Reduced::<i8>::from_continued_fraction(refused), None);
         assert_eq!(Ratio::<i8>::from_continued_fraction(refused), None);

@@ -9,7 +9,7 @@ use core::iter::FusedIterator;
 // holds a fraction with as many quotients as this.
 const MOST: usize = 192;
 
-/// The quotients of a continued fraction, one after another. `Reduced::continued_fraction` returns it.
+/// The quotients of a continued fraction, one after another. `Reduced::continued_fraction` and `Ratio::continued_fraction` return it.
 pub struct Quotients<T: Integer> {
     quotients: Proved<T>,
 }
@@ -34,7 +34,7 @@ impl<T: Integer> Quotients<T> {
     }
 }
 
-/// The convergents of a continued fraction, one after another. `Reduced::convergents` returns it.
+/// The convergents of a continued fraction, one after another. `Reduced::convergents` and `Ratio::convergents` return it.
 pub struct Convergents<T: Integer> {
     convergents: ProvedConvergents<T>,
 }
@@ -81,5 +81,33 @@ impl<T: Integer> Ratio<T> {
     /// ```
     pub fn from_continued_fraction(quotients: &[T]) -> Option<Ratio<T>> {
         Reduced::from_continued_fraction(quotients).map(Ratio::from)
+    }
+
+    /// The quotients of this fraction's continued fraction, one after another, as `Reduced::continued_fraction` returns them. `None`
+    /// if the denominator is 0, or if it is negative and the lowest terms do not fit the type. num-rational has no such call.
+    ///
+    /// ```
+    /// use bakhsney::Ratio;
+    ///
+    /// assert!(Ratio::new_raw(830i64, 186).continued_fraction().unwrap().eq([4, 2, 6, 7]));
+    /// assert!(Ratio::new_raw(1i64, 0).continued_fraction().is_none());
+    /// ```
+    #[inline]
+    pub fn continued_fraction(&self) -> Option<Quotients<T>> {
+        Reduced::from_ratio(self).map(|fraction| fraction.continued_fraction())
+    }
+
+    /// The convergents of this fraction's continued fraction, one after another, as `Reduced::convergents` returns them. `None` if
+    /// the denominator is 0, or if it is negative and the lowest terms do not fit the type. num-rational has no such call.
+    ///
+    /// ```
+    /// use bakhsney::Ratio;
+    ///
+    /// let convergents = Ratio::new(-7i8, 3).convergents().unwrap();
+    /// assert!(convergents.map(|x| x.into_raw()).eq([(-3, 1), (-2, 1), (-7, 3)]));
+    /// ```
+    #[inline]
+    pub fn convergents(&self) -> Option<Convergents<T>> {
+        Reduced::from_ratio(self).map(|fraction| fraction.convergents())
     }
 }

@@ -1,4 +1,5 @@
 pub mod Around
+pub mod AsSimple
 pub mod CancellingLemmas
 pub mod Codes
 pub mod Convergents
@@ -7,6 +8,7 @@ pub mod CutLemmas
 pub mod DecimalLawLemmas
 pub mod DecimalLemmas
 pub mod DigitGroups
+pub mod EndLemmas
 pub mod EqualityLaws
 pub mod ExactLemmas
 pub mod FieldLemmas
@@ -14,6 +16,7 @@ pub mod FloatFields
 pub mod FloatParts
 pub mod Floored
 pub mod Following
+pub mod FractionOrder
 pub mod FromQuotientsLemmas
 pub mod HashLaws
 pub mod Hashing
@@ -23,6 +26,7 @@ pub mod LawLemmas
 pub mod LeadingDigits
 pub mod LowestPowers
 pub mod MixedLemmas
+pub mod NearerZero
 pub mod NearestChoice
 pub mod NearestCounting
 pub mod NearestLawLemmas
@@ -32,6 +36,7 @@ pub mod Neighbours
 pub mod NumberLemmas
 pub mod NumbersExist
 pub mod Numerals
+pub mod OpenBounds
 pub mod OrderLaws
 pub mod PartLemmas
 pub mod PartsSumLemmas
@@ -66,6 +71,8 @@ pub mod SimplestLawLemmas
 pub mod SimplestNeighbours
 pub mod SimplestSearch
 pub mod SimplestSteps
+pub mod SimplestWithinLawLemmas
+pub mod SimplestWithinLemmas
 pub mod SumLemmas
 pub mod TestLemmas
 pub mod TextLengths
@@ -74,3 +81,4 @@ pub mod TwoNearest
 pub mod TwosComplement
 pub mod WideRemainders
 pub mod WidthLemmas
+pub mod WithinLemmas

@@ -1,3 +1,4 @@
+pub mod Bounds
 pub mod Cancelling
 pub mod Conditions
 pub mod ContinuedFraction
@@ -5,6 +6,7 @@ pub mod Convergents
 pub mod Decimal
 pub mod DecimalLaws
 pub mod Enclosing
+pub mod EndChoice
 pub mod Floats
 pub mod FromQuotients
 pub mod Laws
@@ -24,3 +26,5 @@ pub mod RoundingRules
 pub mod Signs
 pub mod Simplest
 pub mod SimplestLaws
+pub mod SimplestWithin
+pub mod SimplestWithinLaws

@@ -9,6 +9,7 @@ ghost use Rattle.ratio_core.specs.Rounding.{IsCeiling, IsFloor, IsRounded, IsTru
 ghost use Rattle.ratio_core.specs.RoundingLaws.{CeilingsAreNextToFloors, EachHasOne, IsByValue};
 ghost use Rattle.ratio_core.specs.RoundingRules.{HalvesDifferAtTies, IsRoundedBy, RoundedIsMonotone, RoundedIsNear};
 ghost use Rattle.ratio_core.specs.SimplestLaws.{OneIsSimplest, SameValuesSameSimplest, SimplestIsLowest};
+ghost use Rattle.ratio_core.specs.SimplestWithinLaws.{ExcludedIsBetween, OneIsSimplestWithin, SameBoundsSameSimplest, SimplestWithinIsLowest};
 ghost use Rattle.ratio_core.specs.declared.rounding_rule.Rounding.{Rounding};
 
 /// Laws of sums in lowest terms.
@@ -99,4 +100,13 @@ pub fn simplest_fractions()
     ensures one { OneIsSimplest }
     ensures lowest { SimplestIsLowest }
     ensures value { SameValuesSameSimplest }
+{}
+
+/// Laws of the simplest fraction within two bounds, which `simplest_within` returns. Within two excluded bounds
+/// it is the fraction that `simplest_between` returns.
+pub fn simplest_fractions_within()
+    ensures one { OneIsSimplestWithin }
+    ensures lowest { SimplestWithinIsLowest }
+    ensures value { SameBoundsSameSimplest }
+    ensures between { ExcludedIsBetween }
 {}

@@ -9,6 +9,7 @@ use std::cmp::Ordering;
 use std::collections::hash_map::DefaultHasher;
 use std::collections::{BTreeSet, HashMap};
 use std::hash::{Hash, Hasher};
+use std::ops::Bound::{Excluded, Included, Unbounded};
 
 type Fields<T> = Option<(T, T)>;
 
@@ -89,6 +90,38 @@ fn simplest_between_two_of_either_kind() {
 }
 
 #[test]
+fn simplest_within_bounds_of_either_kind() {
+    let [third, half, wide] = [i8_of(1, 3), i8_of(1, 2), i8_of(5, 2)];
+    let rows = [
+        (Included(third), Included(half), Some((1, 2))),
+        (Included(third), Excluded(half), Some((1, 3))),
+        (Excluded(third), Excluded(half), Some((2, 5))),
+        (Included(half), Included(half), Some((1, 2))),
+        (Included(half), Excluded(half), None),
+        (Included(half), Included(third), None),
+        (Excluded(wide), Unbounded, Some((3, 1))),
+        (Unbounded, Excluded(third), Some((0, 1))),
+        (Unbounded, Unbounded, Some((0, 1))),
+        (Excluded(i8_of(127, 1)), Unbounded, None),
+        (Unbounded, Excluded(i8_of(-128, 1)), None),
+        (Unbounded, Included(i8_of(-128, 1)), Some((-128, 1))),
+    ];
+    let ratio = |bound| match bound {
+        Included(x) => Included(Ratio::from(x)),
+        Excluded(x) => Excluded(Ratio::from(x)),
+        Unbounded => Unbounded,
+    };
+    for (low, high, want) in rows {
+        assert_eq!(fields(Reduced::simplest_within(low, high)), want, "{low:?}, {high:?}");
+        assert_eq!(Ratio::simplest_within(ratio(low), ratio(high)).map(Ratio::into_raw), want, "{low:?}, {high:?}");
+    }
+    let from = |low| Ratio::simplest_within(Included(low), Unbounded).map(Ratio::into_raw);
+    assert_eq!(from(Ratio::new_raw(10i8, -4)), Some((0, 1)));
+    assert_eq!(from(Ratio::new_raw(6i8, 4)), Some((2, 1)));
+    assert_eq!([from(Ratio::new_raw(1i8, 0)), from(Ratio::new_raw(-1, -128))], [None; 2]);
+}
+
+#[test]
 fn continued_fractions() {
     let rows: [((i8, i8), &[i8]); 5] = [((-7, 3), &[-3, 1, 2]), ((5, 1), &[5]), ((0, 1), &[0]), ((-128, 127), &[-2, 1, 126]), ((1, 127), &[0, 127])];
     for ((numer, denom), quotients) in rows {
@@ -105,6 +138,9 @@ fn continued_fractions() {
     let loose = Ratio::new_raw(-64i8, -8);
     assert!(loose.continued_fraction().unwrap().eq([8]));
     assert!(loose.convergents().unwrap().map(Reduced::into_raw).eq([(8, 1)]));
+    let same = Ratio::new_raw(-830i64, -186);
+    assert!(same.continued_fraction().unwrap().eq(x.continued_fraction()));
+    assert!(same.convergents().unwrap().eq(x.convergents()));
     for none in [Ratio::new_raw(1i8, 0), Ratio::new_raw(1, -128)] {
         assert!(none.continued_fraction().is_none() && none.convergents().is_none());
     }

@@ -10,7 +10,7 @@ use Rattle.std.specs.declared.ops.Bound.TheVariants.{Included, Excluded}
 use Rattle.ratio_integer.specs.Fraction.{IsHeldLowest, SameValue}
 use Rattle.ratio_integer.specs.Range.{IsHeld}
 use Rattle.ratio_integer.proofs.Whole.{positive_nonzero}
-use Rattle.ratio_core.specs.Bounds.{HasPositiveDenominator, IsFrom, IsUpTo, IsWithin}
+use Rattle.ratio_core.specs.Bounds.{HasPositiveDenominator, IsWithinLow, IsWithinHigh, IsWithin}
 use Rattle.ratio_core.specs.EndChoice.{ChecksFirstHeld, ChecksWithEnd, IsAsSimple, IsFirstHeld, IsFirstOfTwo, IsFound, end_bound}
 use Rattle.ratio_core.specs.Order.{HaveUnlikeSigns, cross_cmp}
 use Rattle.ratio_core.specs.Simplest.{ChecksSimplest, IsBetween}
@@ -31,11 +31,11 @@ order_told n d m e o d_up e_up is = int_ranked _ _ o (is ∙ cross-along n d m e
 
 -- ---- no fraction, or only the two ends
 
-at_low : (included : Bool) (n d a b : ℤ) → IsFrom (end_bound included n d) a b → (n *ℤ b) ≤ℤ (a *ℤ d)
+at_low : (included : Bool) (n d a b : ℤ) → IsWithinLow (end_bound included n d) a b → (n *ℤ b) ≤ℤ (a *ℤ d)
 at_low true n d a b is = is
 at_low false n d a b is = omega (arith, ints)
 
-at_high : (included : Bool) (m e a b : ℤ) → IsUpTo (end_bound included m e) a b → (a *ℤ e) ≤ℤ (m *ℤ b)
+at_high : (included : Bool) (m e a b : ℤ) → IsWithinHigh (end_bound included m e) a b → (a *ℤ e) ≤ℤ (m *ℤ b)
 at_high true m e a b is = is
 at_high false m e a b is = omega (arith, ints)
 
@@ -53,7 +53,7 @@ module _ (lo hi : ℤ) (left right : Bool) (n d m e : ℤ) (d_up : pos 0 <ℤ d)
   low_excluded : left ≡ false → n *ℤ e ≡ m *ℤ d → HoldsNoneWithin lo hi (end_bound left n d) (end_bound right m e)
   low_excluded out same = record {
     each = λ a b a_held b_held is. (
-        let above : (n *ℤ b) <ℤ (a *ℤ d) = subst (λ x. IsFrom (end_bound x n d) a b) out is.above in
+        let above : (n *ℤ b) <ℤ (a *ℤ d) = subst (λ x. IsWithinLow (end_bound x n d) a b) out is.above in
         let less = below_then n d a b m e d_up is.positive e_up above (at_high right m e a b is.below) in
         omega (arith, ints));
   }
@@ -61,7 +61,7 @@ module _ (lo hi : ℤ) (left right : Bool) (n d m e : ℤ) (d_up : pos 0 <ℤ d)
   high_excluded : right ≡ false → n *ℤ e ≡ m *ℤ d → HoldsNoneWithin lo hi (end_bound left n d) (end_bound right m e)
   high_excluded out same = record {
     each = λ a b a_held b_held is. (
-        let below : (a *ℤ e) <ℤ (m *ℤ b) = subst (λ x. IsUpTo (end_bound x m e) a b) out is.below in
+        let below : (a *ℤ e) <ℤ (m *ℤ b) = subst (λ x. IsWithinHigh (end_bound x m e) a b) out is.below in
         let less = then_below n d a b m e d_up is.positive e_up (at_low left n d a b is.above) below in
         omega (arith, ints));
   }
@@ -124,7 +124,7 @@ module _ {T : Type 0} (value : T → ℤ) (lo hi n d : ℤ) (bound : Bound (ℤ 
       by (inr above) = inl (record { positive = is.positive; above = above; below = is.below })
 
   -- the low end n/d, which is within the high bound
-  pub with_low : (included : Bool) (found result : Option (T × T)) → IsUpTo bound n d → ChecksFirstHeld value lo hi (Excluded (n, d)) bound found → ChecksWithEnd value lo hi included found n d result → ChecksFirstHeld value lo hi (end_bound included n d) bound result
+  pub with_low : (included : Bool) (found result : Option (T × T)) → IsWithinHigh bound n d → ChecksFirstHeld value lo hi (Excluded (n, d)) bound found → ChecksWithEnd value lo hi included found n d result → ChecksFirstHeld value lo hi (end_bound included n d) bound result
   with_low false found result end_is first same = subst (λ r. ChecksFirstHeld value lo hi (Excluded (n, d)) bound r) (sym same) first
   with_low true found None end_is first never = absurd never
   with_low true found (Some r) end_is first two = first_widened value lo hi n d (Excluded (n, d)) bound (Included (n, d)) bound
@@ -141,7 +141,7 @@ module _ {T : Type 0} (value : T → ℤ) (lo hi n d : ℤ) (bound : Bound (ℤ 
       by (inr below) = inl (record { positive = is.positive; above = is.above; below = below })
 
   -- the high end n/d, which is within the low bound
-  pub with_high : (included : Bool) (found result : Option (T × T)) → IsFrom bound n d → ChecksFirstHeld value lo hi bound (Excluded (n, d)) found → ChecksWithEnd value lo hi included found n d result → ChecksFirstHeld value lo hi bound (end_bound included n d) result
+  pub with_high : (included : Bool) (found result : Option (T × T)) → IsWithinLow bound n d → ChecksFirstHeld value lo hi bound (Excluded (n, d)) found → ChecksWithEnd value lo hi included found n d result → ChecksFirstHeld value lo hi bound (end_bound included n d) result
   with_high false found result end_is first same = subst (λ r. ChecksFirstHeld value lo hi bound (Excluded (n, d)) r) (sym same) first
   with_high true found None end_is first never = absurd never
   with_high true found (Some r) end_is first two = first_widened value lo hi n d bound (Excluded (n, d)) bound (Included (n, d))
@@ -167,7 +167,7 @@ between_first value lo hi n d m e (Some r) is = record {
     by a b denom numer (inl least) = inr (omega (arith, ints), numer)
     by a b denom numer (inr less) = inl less
 
-from_end : (included : Bool) (n d m e : ℤ) → (n *ℤ e) <ℤ (m *ℤ d) → IsFrom (end_bound included n d) m e
+from_end : (included : Bool) (n d m e : ℤ) → (n *ℤ e) <ℤ (m *ℤ d) → IsWithinLow (end_bound included n d) m e
 from_end true n d m e less = omega (arith, ints)
 from_end false n d m e less = less
 

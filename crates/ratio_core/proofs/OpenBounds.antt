@@ -6,7 +6,7 @@ use Rattle.std.proofs.lemmas.Int.{ints}
 use Rattle.std.specs.declared.ops.Bound.{Bound}
 use Rattle.std.specs.declared.ops.Bound.TheVariants.{Included, Excluded, Unbounded}
 use Rattle.ratio_integer.specs.Range.{IsHeld, IsRange}
-use Rattle.ratio_core.specs.Bounds.{HasPositiveDenominator, IsFrom, IsUpTo, IsWithin}
+use Rattle.ratio_core.specs.Bounds.{HasPositiveDenominator, IsWithinLow, IsWithinHigh, IsWithin}
 use Rattle.ratio_core.specs.EndChoice.{IsFirstHeld, end_bound, high_bound, low_bound}
 use Rattle.ratio_core.specs.SimplestWithin.{HoldsNoneWithin, IsSimplestWithin}
 use Rattle.ratio_core.proofs.Shares.{times_up}
@@ -38,22 +38,22 @@ under_greatest lo hi a b range held up =
     let more = times_up hi (pos 1) b (omega (arith, ints)) (omega (arith, ints)) in
     omega (arith, ints)
 
-from_low_bound : (lo hi : ℤ) (low : Bound (ℤ × ℤ)) (a b : ℤ) → IsRange lo hi → IsHeld lo hi a → pos 0 <ℤ b → IsFrom low a b → IsFrom (low_bound lo low) a b
+from_low_bound : (lo hi : ℤ) (low : Bound (ℤ × ℤ)) (a b : ℤ) → IsRange lo hi → IsHeld lo hi a → pos 0 <ℤ b → IsWithinLow low a b → IsWithinLow (low_bound lo low) a b
 from_low_bound lo hi (Included x) a b range held up is = is
 from_low_bound lo hi (Excluded x) a b range held up is = is
 from_low_bound lo hi Unbounded a b range held up is = over_least lo hi a b range held up
 
-up_to_high_bound : (lo hi : ℤ) (high : Bound (ℤ × ℤ)) (a b : ℤ) → IsRange lo hi → IsHeld lo hi a → pos 0 <ℤ b → IsUpTo high a b → IsUpTo (high_bound hi high) a b
+up_to_high_bound : (lo hi : ℤ) (high : Bound (ℤ × ℤ)) (a b : ℤ) → IsRange lo hi → IsHeld lo hi a → pos 0 <ℤ b → IsWithinHigh high a b → IsWithinHigh (high_bound hi high) a b
 up_to_high_bound lo hi (Included x) a b range held up is = is
 up_to_high_bound lo hi (Excluded x) a b range held up is = is
 up_to_high_bound lo hi Unbounded a b range held up is = under_greatest lo hi a b range held up
 
-from_open : (lo : ℤ) (low : Bound (ℤ × ℤ)) (a b : ℤ) → IsFrom (low_bound lo low) a b → IsFrom low a b
+from_open : (lo : ℤ) (low : Bound (ℤ × ℤ)) (a b : ℤ) → IsWithinLow (low_bound lo low) a b → IsWithinLow low a b
 from_open lo (Included x) a b is = is
 from_open lo (Excluded x) a b is = is
 from_open lo Unbounded a b is = tt
 
-up_to_open : (hi : ℤ) (high : Bound (ℤ × ℤ)) (a b : ℤ) → IsUpTo (high_bound hi high) a b → IsUpTo high a b
+up_to_open : (hi : ℤ) (high : Bound (ℤ × ℤ)) (a b : ℤ) → IsWithinHigh (high_bound hi high) a b → IsWithinHigh high a b
 up_to_open hi (Included x) a b is = is
 up_to_open hi (Excluded x) a b is = is
 up_to_open hi Unbounded a b is = tt

@@ -7,7 +7,7 @@ use Rattle.std.specs.declared.ops.Bound.TheVariants.{Included, Excluded, Unbound
 use Rattle.ratio_integer.proofs.CommonDivisors.{divides_multiple}
 use Rattle.ratio_integer.proofs.Whole.{mul-swap_last}
 use Rattle.ratio_integer.specs.Fraction.{IsLowestTerms, SameValue}
-use Rattle.ratio_core.specs.Bounds.{HasPositiveDenominator, IsFrom, IsUpTo, IsWithin}
+use Rattle.ratio_core.specs.Bounds.{HasPositiveDenominator, IsWithinLow, IsWithinHigh, IsWithin}
 use Rattle.ratio_core.specs.Simplest.{IsBetween, IsSimplest}
 use Rattle.ratio_core.specs.SimplestWithin.{IsSimplestWithin}
 use Rattle.ratio_core.specs.SimplestWithinLaws.{AreSameBounds, SameBoundsSameSimplest}
@@ -48,7 +48,7 @@ module _ (low high : Bound (ℤ × ℤ)) (low_up : HasPositiveDenominator low) (
 
 -- ---- bounds of the same values
 
-from_same : (low low' : Bound (ℤ × ℤ)) (a b : ℤ) → HasPositiveDenominator low → HasPositiveDenominator low' → pos 0 <ℤ b → AreSameBounds low low' → IsFrom low a b → IsFrom low' a b
+from_same : (low low' : Bound (ℤ × ℤ)) (a b : ℤ) → HasPositiveDenominator low → HasPositiveDenominator low' → pos 0 <ℤ b → AreSameBounds low low' → IsWithinLow low a b → IsWithinLow low' a b
 from_same (Included x) (Included y) a b x_up y_up b_up same is = at_most_chained y.0 y.1 x.0 x.1 a b y_up x_up b_up (omega (arith, ints)) is
 from_same (Excluded x) (Excluded y) a b x_up y_up b_up same is = then_below y.0 y.1 x.0 x.1 a b y_up x_up b_up (omega (arith, ints)) is
 from_same Unbounded Unbounded a b x_up y_up b_up same is = is
@@ -59,7 +59,7 @@ from_same (Excluded x) Unbounded a b x_up y_up b_up same is = absurd same
 from_same Unbounded (Included y) a b x_up y_up b_up same is = absurd same
 from_same Unbounded (Excluded y) a b x_up y_up b_up same is = absurd same
 
-up_to_same : (high high' : Bound (ℤ × ℤ)) (a b : ℤ) → HasPositiveDenominator high → HasPositiveDenominator high' → pos 0 <ℤ b → AreSameBounds high high' → IsUpTo high a b → IsUpTo high' a b
+up_to_same : (high high' : Bound (ℤ × ℤ)) (a b : ℤ) → HasPositiveDenominator high → HasPositiveDenominator high' → pos 0 <ℤ b → AreSameBounds high high' → IsWithinHigh high a b → IsWithinHigh high' a b
 up_to_same (Included x) (Included y) a b x_up y_up b_up same is = at_most_chained a b x.0 x.1 y.0 y.1 b_up x_up y_up is (omega (arith, ints))
 up_to_same (Excluded x) (Excluded y) a b x_up y_up b_up same is = below_then a b x.0 x.1 y.0 y.1 b_up x_up y_up is (omega (arith, ints))
 up_to_same Unbounded Unbounded a b x_up y_up b_up same is = is

@@ -5,17 +5,17 @@ use Rattle.std.proofs.lemmas.Int.{ints}
 use Rattle.std.specs.declared.ops.Bound.{Bound}
 use Rattle.std.specs.declared.ops.Bound.TheVariants.{Included, Excluded, Unbounded}
 use Rattle.ratio_integer.specs.Fraction.{SameValue}
-use Rattle.ratio_core.specs.Bounds.{HasPositiveDenominator, IsFrom, IsUpTo, IsWithin}
+use Rattle.ratio_core.specs.Bounds.{HasPositiveDenominator, IsWithinLow, IsWithinHigh, IsWithin}
 use Rattle.ratio_core.proofs.FractionOrder.{at_most_chained, below_then, then_below}
 
 -- a/b is from the bound, and a/b ≤ r/s
-pub from_kept : (low : Bound (ℤ × ℤ)) (a b r s : ℤ) → HasPositiveDenominator low → pos 0 <ℤ b → pos 0 <ℤ s → IsFrom low a b → (a *ℤ s) ≤ℤ (r *ℤ b) → IsFrom low r s
+pub from_kept : (low : Bound (ℤ × ℤ)) (a b r s : ℤ) → HasPositiveDenominator low → pos 0 <ℤ b → pos 0 <ℤ s → IsWithinLow low a b → (a *ℤ s) ≤ℤ (r *ℤ b) → IsWithinLow low r s
 from_kept (Included x) a b r s low_up b_up s_up from less = at_most_chained x.0 x.1 a b r s low_up b_up s_up from less
 from_kept (Excluded x) a b r s low_up b_up s_up from less = below_then x.0 x.1 a b r s low_up b_up s_up from less
 from_kept Unbounded a b r s low_up b_up s_up from less = tt
 
 -- r/s ≤ a/b, and a/b is up to the bound
-pub up_to_kept : (high : Bound (ℤ × ℤ)) (a b r s : ℤ) → HasPositiveDenominator high → pos 0 <ℤ b → pos 0 <ℤ s → IsUpTo high a b → (r *ℤ b) ≤ℤ (a *ℤ s) → IsUpTo high r s
+pub up_to_kept : (high : Bound (ℤ × ℤ)) (a b r s : ℤ) → HasPositiveDenominator high → pos 0 <ℤ b → pos 0 <ℤ s → IsWithinHigh high a b → (r *ℤ b) ≤ℤ (a *ℤ s) → IsWithinHigh high r s
 up_to_kept (Included x) a b r s high_up b_up s_up up_to less = at_most_chained r s a b x.0 x.1 s_up b_up high_up less up_to
 up_to_kept (Excluded x) a b r s high_up b_up s_up up_to less = then_below r s a b x.0 x.1 s_up b_up high_up less up_to
 up_to_kept Unbounded a b r s high_up b_up s_up up_to less = tt

@@ -16,19 +16,19 @@ HasPositiveDenominator (Excluded x) = pos 0 <ℤ x.1
 HasPositiveDenominator Unbounded = ⊤
 
 -- a/b is within a low bound: 1/2 from 1/2, if it is included; each fraction, if the bound is open
-abbrev pub IsFrom : Bound (ℤ × ℤ) → ℤ → ℤ → Type 0
-IsFrom (Included x) a b = (x.0 *ℤ b) ≤ℤ (a *ℤ x.1)
-IsFrom (Excluded x) a b = (x.0 *ℤ b) <ℤ (a *ℤ x.1)
-IsFrom Unbounded a b = ⊤
+abbrev pub IsWithinLow : Bound (ℤ × ℤ) → ℤ → ℤ → Type 0
+IsWithinLow (Included x) a b = (x.0 *ℤ b) ≤ℤ (a *ℤ x.1)
+IsWithinLow (Excluded x) a b = (x.0 *ℤ b) <ℤ (a *ℤ x.1)
+IsWithinLow Unbounded a b = ⊤
 
 -- a/b is within a high bound
-abbrev pub IsUpTo : Bound (ℤ × ℤ) → ℤ → ℤ → Type 0
-IsUpTo (Included x) a b = (a *ℤ x.1) ≤ℤ (x.0 *ℤ b)
-IsUpTo (Excluded x) a b = (a *ℤ x.1) <ℤ (x.0 *ℤ b)
-IsUpTo Unbounded a b = ⊤
+abbrev pub IsWithinHigh : Bound (ℤ × ℤ) → ℤ → ℤ → Type 0
+IsWithinHigh (Included x) a b = (a *ℤ x.1) ≤ℤ (x.0 *ℤ b)
+IsWithinHigh (Excluded x) a b = (a *ℤ x.1) <ℤ (x.0 *ℤ b)
+IsWithinHigh Unbounded a b = ⊤
 
 -- a/b, with a positive denominator, is within both bounds: 3/1 above 5/2 without a high bound
 pub record IsWithin (low high : Bound (ℤ × ℤ)) (a b : ℤ) : Type 0 where
   pub positive : pos 0 <ℤ b
-  pub above : IsFrom low a b
-  pub below : IsUpTo high a b
+  pub above : IsWithinLow low a b
+  pub below : IsWithinHigh high a b

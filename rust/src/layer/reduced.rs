@@ -6,6 +6,7 @@
 use super::continued::{Convergents, Quotients, in_proved};
 use super::integer::{Element, Integer, Signs};
 use super::ratio::Ratio;
+use super::simplest::bound_with;
 use crate::proved::num_rational as proved;
 use crate::proved::num_rational::{Constants, ParseRatioError};
 use crate::proved::ratio_core::rounding_rule::Rounding;
@@ -13,6 +14,7 @@ use crate::proved::ratio_core::{BaseTenText, DecimalText};
 use core::cmp::Ordering;
 use core::fmt;
 use core::hash::{Hash, Hasher};
+use core::ops::Bound;
 use core::str::FromStr;
 use num_traits::Signed;
 
@@ -437,6 +439,25 @@ impl<T: Integer> Reduced<T> {
     #[inline]
     pub fn simplest_between(low: &Reduced<T>, high: &Reduced<T>) -> Option<Reduced<T>> {
         Reduced::of(Proved::<T>::simplest_between(&low.fraction, &high.fraction))
+    }
+
+    /// Of all fractions within the bounds, the one with the smallest denominator, and of these the one whose numerator is nearest
+    /// to 0. An included bound may be the result. `None` exactly if the type has no fraction within the bounds.
+    ///
+    /// ```
+    /// use bakhsney::Reduced;
+    /// use std::ops::Bound::{Excluded, Included, Unbounded};
+    ///
+    /// let [low, high] = ["1/3", "1/2"].map(|text| text.parse::<Reduced<i8>>().unwrap());
+    /// assert_eq!(Reduced::simplest_within(Included(low), Included(high)), Some(high));
+    /// assert_eq!(Reduced::simplest_within(Included(low), Excluded(low)), None);
+    /// assert_eq!(Reduced::simplest_within(Excluded(high), Unbounded), Some(Reduced::ONE));
+    /// assert_eq!(Reduced::simplest_within(Excluded(Reduced::from(127i8)), Unbounded), None);
+    /// ```
+    #[inline]
+    pub fn simplest_within(low: Bound<Reduced<T>>, high: Bound<Reduced<T>>) -> Option<Reduced<T>> {
+        let inner = |bound| bound_with(bound, |fraction: Reduced<T>| Some(fraction.fraction));
+        Reduced::of(Proved::<T>::simplest_within(inner(low)?, inner(high)?))
     }
 
     /// The quotients of this fraction's continued fraction, one after another: 4, 2, 6 and 7 for 415/93, which is

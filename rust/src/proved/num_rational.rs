@@ -6,6 +6,7 @@
 //! and no law can say that.
 mod convergents;
 mod convert;
+mod floats;
 mod fold;
 mod hash;
 
@@ -16,6 +17,7 @@ mod operand;
 mod ops;
 mod order;
 mod pow;
+mod precision;
 mod printing;
 mod quotients;
 mod ratio;

@@ -3,7 +3,9 @@ pub mod Conditions
 pub mod ContinuedFraction
 pub mod Convergents
 pub mod Decimal
+pub mod DecimalCuts
 pub mod DecimalLaws
+pub mod DecimalReading
 pub mod Enclosing
 pub mod Floats
 pub mod FromQuotients

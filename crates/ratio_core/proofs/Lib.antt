@@ -5,8 +5,13 @@ pub mod Codes
 pub mod Convergents
 pub mod CrossOrder
 pub mod CutLemmas
+pub mod DecimalAnswers
+pub mod DecimalDigits
 pub mod DecimalLawLemmas
 pub mod DecimalLemmas
+pub mod DecimalTerms
+pub mod DecimalTexts
+pub mod DecimalValues
 pub mod DigitGroups
 pub mod EndLemmas
 pub mod EqualityLaws

@@ -4,7 +4,9 @@ pub mod Conditions
 pub mod ContinuedFraction
 pub mod Convergents
 pub mod Decimal
+pub mod DecimalCuts
 pub mod DecimalLaws
+pub mod DecimalReading
 pub mod Enclosing
 pub mod EndChoice
 pub mod Floats

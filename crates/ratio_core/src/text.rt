@@ -1,4 +1,5 @@
 //! Fractions as texts.
+mod decimals;
 mod digits;
 mod exact;
 mod fixed_text;
@@ -11,6 +12,7 @@ pub(crate) mod printing;
 mod quick_fields;
 mod reading;
 
+pub use decimals::{DecimalRefusal, from_decimal};
 pub use exact::exact_decimal;
 pub use fixed_text::{BaseTenText, DecimalText, RatioText};
 pub use form::Form;

@@ -5,6 +5,7 @@ pub mod Convergents
 pub mod Decimal
 pub mod DecimalLaws
 pub mod Enclosing
+pub mod FloatLaws
 pub mod Floats
 pub mod FromQuotients
 pub mod Laws

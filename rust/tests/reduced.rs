@@ -231,12 +231,13 @@ fn conversions_of_pairs_and_ratios() {
 fn to_numbers() {
     let x = i8_of(-7, 2);
     assert_eq!((x.to_i64(), x.to_i128(), x.to_u64(), x.to_u128(), x.to_i8(), x.to_u8()), (Some(-3), Some(-3), None, None, Some(-3), None));
-    assert_eq!((x.to_f32(), x.to_f64()), (Some(-3.5), Some(-3.5)));
+    assert_eq!((x.to_f32(), x.to_f64()), (-3.5, -3.5));
+    assert_eq!((ToPrimitive::to_f32(&x), ToPrimitive::to_f64(&x)), (Some(-3.5), Some(-3.5)));
     let most = Reduced::from(u128::MAX);
     assert_eq!((most.to_u128(), most.to_i128(), most.to_u64(), most.to_i64()), (Some(u128::MAX), None, None, None));
-    assert_eq!(most.to_f32(), Some(f32::INFINITY));
+    assert_eq!(most.to_f32(), f32::INFINITY);
     // Rounded once: as an `f64` and then as an `f32` it would be 0.3333333.
-    assert_eq!(Reduced64::checked_new(178956969, 536870915).unwrap().to_f32(), Some(0.33333334));
+    assert_eq!(Reduced64::checked_new(178956969, 536870915).unwrap().to_f32(), 0.33333334);
     let negated = |x: Reduced<i8>| fields(CheckedNeg::checked_neg(&x));
     assert_eq!((negated(x), negated(Reduced::from(-128))), (Some((7, 2)), None));
 }

@@ -19,6 +19,7 @@ pub mod ExactLemmas
 pub mod FieldLemmas
 pub mod FloatDivision
 pub mod FloatFields
+pub mod FloatLawLemmas
 pub mod FloatParts
 pub mod FloatQuotient
 pub mod FloatRounding

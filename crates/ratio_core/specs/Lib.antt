@@ -9,6 +9,7 @@ pub mod DecimalLaws
 pub mod DecimalReading
 pub mod Enclosing
 pub mod EndChoice
+pub mod FloatLaws
 pub mod Floats
 pub mod FromQuotients
 pub mod Laws

@@ -4,6 +4,7 @@
 //! places, and panics if there are more. `round_to` requires a positive number of parts, and is `None` if it is not positive. The
 //! others require nothing.
 use super::continued::{Convergents, Quotients, in_proved};
+use super::floats::Float;
 use super::integer::{Element, Integer, Signs};
 use super::ratio::Ratio;
 use super::simplest::bound_with;
@@ -135,6 +136,32 @@ impl<T: Integer> Reduced<T> {
     #[inline]
     pub fn from_float32(float: f32) -> Option<Reduced<T>> {
         Reduced::of(Proved::<T>::from_float32(float))
+    }
+
+    /// The nearest float. If two are as near, it is the one whose last binary digit is 0. num-traits' `ToPrimitive` has a call of
+    /// this name that returns an `Option`.
+    ///
+    /// ```
+    /// use bakhsney::Reduced;
+    ///
+    /// assert_eq!(Reduced::checked_new(1, 3).unwrap().to_f64(), 1.0 / 3.0);
+    /// ```
+    #[inline]
+    pub fn to_f64(&self) -> f64 {
+        Float::nearest(*self.fraction.numer(), *self.fraction.denom())
+    }
+
+    /// The same for a float of 32 bits. It is infinite if the magnitude of the fraction is 2^128-2^103 or more.
+    ///
+    /// ```
+    /// use bakhsney::Reduced;
+    ///
+    /// assert_eq!(Reduced::checked_new(1, 3).unwrap().to_f32(), 0.33333334);
+    /// assert_eq!(Reduced::from(u128::MAX).to_f32(), f32::INFINITY);
+    /// ```
+    #[inline]
+    pub fn to_f32(&self) -> f32 {
+        Float::nearest(*self.fraction.numer(), *self.fraction.denom())
     }
 
     /// The same fraction as a `Ratio`.

@@ -40,7 +40,7 @@ part_small rest d k less = (div-lt_iff_lt-mul {k = d} {x = rest * 10 ^ k} {y = 1
     strict zero h = absurd (omega arith)
     strict (suc p) h = let up : rest * suc p ≤ rest * suc p = omega arith in let more : suc rest * suc p ≤ d * suc p = mul-le (suc rest) (suc p) d (suc p) less (omega arith) in omega arith
 
--- a tenth of less than d is less than 10 times d
+-- in ten times a number below d, d is fewer than ten times
 pub digit_small : (rest d q next : ℕ) → rest < d → rest * 10 ≡ q * d + next → q < 10
 digit_small rest d q next less e = elim (eq-zero-or-pos (q - 9)) [
   | inl z ↦ omega arith

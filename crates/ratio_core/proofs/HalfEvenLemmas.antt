@@ -1,4 +1,4 @@
--- A whole number rounded by half_even, and when 10^k of its parts are rounded to fewer.
+-- What `half_even` is, and what it gives for a number with a whole part or a first digit.
 use Rattle.std.specs.Prelude.{◌≡◌, ◌*◌, ◌+◌, ◌/◌, ◌%◌, ◌^◌, ◌<◌, ◌≤◌, ◌*ℤ◌, ◌+ℤ◌, ◌-◌, ℕ, zero, suc, pos, Bool, true, false, cond, ltb}
 use Rattle.std.proofs.Common.{refl, sym, ap, arith, ◌∙◌, subst, pow-suc, eq-zero-or-pos, inl, inr, ltb-true, ltb-false}
 use Rattle.std.proofs.Math.Nat.{div-add-mod', div-lt_iff_lt-mul, mod-lt, mul-add-div_right, mul-add-mod_self_right, mul_assoc, mul_comm, pow-le-pow_right}

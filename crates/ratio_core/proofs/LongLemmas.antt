@@ -41,6 +41,7 @@ nothing_shown : (alternate : Bool) → cond {A = List ℕ} alternate [] [] ≡ [
 nothing_shown true = refl
 nothing_shown false = refl
 
+-- fill, the sign and zeros
 pub front_text : (s : FormatSpec) (below : Bool) (len padding before zeros fill : ℕ) (sign : List ℕ) → padding ≡ number_padding s below [] len
     → before ≡ cond s.zero 0 (padding_before s padding 3) → zeros ≡ cond s.zero padding 0 → fill ≡ s.fill → sign ≡ sign_text_with s.plus below
     → (repeat before (encode_utf8 fill) ++ sign) ++ repeat zeros (encode_utf8 48) ≡ before_digits s below [] len

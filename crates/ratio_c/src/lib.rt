@@ -20,4 +20,6 @@ pub mod reading;
 pub mod sign;
 #[cfg(test)]
 mod tests;
+pub mod total_steps;
+pub mod totals;
 pub mod wide;

@@ -13,8 +13,15 @@ use crate::numbers64::{
     ratio_nearest_i64, ratio_neg_i64, ratio_pow_i64, ratio_print_i64, ratio_read_i64,
     ratio_trunc_i64,
 };
+use crate::numbers128::Fraction128;
 use crate::printing::Text;
 use crate::reading::Span;
+use crate::total_steps::{
+    ratio_total_add_i64, ratio_total_mean_i64, ratio_total_merge_i64, ratio_total_subtract_i64,
+    ratio_total_sum_i64,
+};
+use crate::totals::Total64;
+use crate::wide::Wide;
 
 fn fraction(numer: i64, denom: i64) -> Fraction64 {
     Fraction64 { numer, denom }
@@ -189,4 +196,37 @@ fn texts(rt: HostRuntime) {
         third.span.end,
     ];
     assert!(rt; places == [4, 4, 4, 24]);
+}
+
+fn empty() -> Total64 {
+    let sum = Fraction128 {
+        numer: Wide { low: 0, high: 0 },
+        denom: Wide { low: 0, high: 0 },
+    };
+    Total64 {
+        code: ANSWERED,
+        count: 0,
+        sum,
+    }
+}
+
+#[test]
+fn totals(rt: HostRuntime) {
+    let shares = [fraction(1, 2), fraction(2, 6), fraction(1, 6)];
+    let mut total = [empty()];
+    let mut other = [empty()];
+    let mut answers = [no_answer()];
+    assert!(rt; ratio_total_add_i64(&shares[..2], &mut total) == DONE);
+    assert!(rt; ratio_total_add_i64(&shares[2..], &mut other) == DONE);
+    assert!(rt; ratio_total_merge_i64(&other, &mut total) == DONE);
+    assert!(rt; ratio_total_mean_i64(&total, &mut answers) == DONE);
+    assert!(rt; [answers[0].value.numer, answers[0].value.denom] == [1, 3]);
+    assert!(rt; ratio_total_subtract_i64(&shares[2..], &mut total) == DONE);
+    assert!(rt; ratio_total_sum_i64(&total, &mut answers) == DONE);
+    assert!(rt; [answers[0].value.numer, answers[0].value.denom] == [5, 6]);
+    assert!(rt; total[0].count == 2);
+    let none = [fraction(1, 0)];
+    assert!(rt; ratio_total_add_i64(&none, &mut total) == DONE);
+    assert!(rt; ratio_total_add_i64(&shares, &mut total) == DONE);
+    assert!(rt; total[0].code == DENOMINATOR_NOT_POSITIVE);
 }

@@ -51,6 +51,9 @@ typedef struct { uint32_t code; uint32_t holds; } ratio_truth;
 /* A hash: the same for fractions of one value. */
 typedef struct { uint32_t code; uint64_t hash; } ratio_hash;
 
+/* A key for sorting: 64 bits. */
+typedef struct { uint32_t code; int64_t key; } ratio_key;
+
 /* The bytes of a text: from start on, and before end. */
 typedef struct { size_t start, end; } ratio_span;
 
@@ -169,6 +172,12 @@ RATIO_CAST(i128, i64)
 
 #undef RATIO_CAST
 
+/* The key of each fraction, for sorting by short keys: if one value is at most another, so is its key. So equal values have equal keys.
+ * A key keeps 56 binary digits of the value, and whether there are more: -1/3 has the key -4491590028364174677, and 1/2 has
+ * 4539628424389459968. Values with the same key can be unlike: `ratio_compare_i64` tells which is greater.
+ */
+uint32_t ratio_key_i64(const ratio_i64 *asked, size_t asked_len, ratio_key *answers, size_t answers_len);
+
 /* A total: how many fractions were added, and their exact sum in lowest terms. Made all zero, as by `ratio_total_i64 total = {0};`, it
  * is the total of no fraction. The code is RATIO_ANSWERED, or it says why the total is lost: RATIO_NOT_HELD if a sum on the way, or the
  * count, did not fit, RATIO_DENOMINATOR_NOT_POSITIVE for such a fraction, or RATIO_NO_TOTAL if the sum was not in lowest terms. A lost
@@ -204,6 +213,7 @@ static_assert(sizeof(ratio_wide) == 16, "the size of ratio_wide");
 static_assert(sizeof(ratio_order) == 8, "the size of ratio_order");
 static_assert(sizeof(ratio_truth) == 8, "the size of ratio_truth");
 static_assert(sizeof(ratio_hash) == 16, "the size of ratio_hash");
+static_assert(sizeof(ratio_key) == 16, "the size of ratio_key");
 static_assert(sizeof(ratio_span) == 16, "the size of ratio_span");
 static_assert(sizeof(ratio_text) == 24, "the size of ratio_text");
 static_assert(sizeof(ratio_i32) == 8, "the size of ratio_i32");

@@ -6,3 +6,4 @@ pub mod Cases
 pub mod Magnitudes
 pub mod TotalSteps
 pub mod TotalLaws
+pub mod Keys

@@ -8,3 +8,4 @@ pub mod Numbers128
 pub mod LowestHash
 pub mod Totals
 pub mod TotalLaws
+pub mod Keys

@@ -1,5 +1,6 @@
 //! The laws of this crate. Each function does nothing: its contract is the law.
 ghost use Rattle.ratio_c.specs.Calls.{EqualValuesHaveOneHash};
+ghost use Rattle.ratio_c.specs.Keys.{KeysKeepOrder};
 ghost use Rattle.ratio_c.specs.LowestHash.{DenominatorsHaveUnlikeHashes, EqualHaveOneHash, NumeratorsHaveUnlikeHashes};
 ghost use Rattle.ratio_c.specs.TotalLaws.{CallsFollow, LostStaysLost, TotalsInAnyOrder, OutUndoesIn, PartsMerge};
 
@@ -22,4 +23,9 @@ pub fn totals()
     ensures calls { CallsFollow }
     ensures undone { OutUndoesIn }
     ensures lost { LostStaysLost }
+{}
+
+/// If one value is at most another, so is its key.
+pub fn keys()
+    ensures { KeysKeepOrder }
 {}

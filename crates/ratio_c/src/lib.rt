@@ -8,6 +8,7 @@ pub mod compare;
 pub mod crossing;
 pub mod each;
 pub mod hash;
+pub mod key;
 pub mod laws;
 pub mod lowest_hash;
 pub mod nearest;

@@ -6,6 +6,7 @@ use crate::code::{
 use crate::compare::Truth;
 use crate::each::{BAD_LENGTH, DONE};
 use crate::hash::Hash;
+use crate::key::{Key, ratio_key_i64};
 use crate::numbers32::{Answer32, Fraction32};
 use crate::numbers64::{
     Answer64, Bounded64, Fraction64, Pair64, Power64, ROOM, ratio_abs_i64, ratio_add_i64,
@@ -45,6 +46,10 @@ fn no_truth() -> Truth {
 
 fn no_hash() -> Hash {
     Hash { code: 9, hash: 9 }
+}
+
+fn no_key() -> Key {
+    Key { code: 9, key: 9 }
 }
 
 fn no_text() -> Text {
@@ -166,6 +171,18 @@ fn lowest_hashes(rt: HostRuntime) {
     let [first, second] = answers;
     assert!(rt; [first.hash, second.hash] == [0xce91_9057_3cc1_42f8, 0]);
     assert!(rt; second.code == DENOMINATOR_NOT_POSITIVE);
+}
+
+#[test]
+fn keys(rt: HostRuntime) {
+    let asked = [fraction(-1, 3), fraction(2, 4), fraction(1, 0)];
+    let mut answers = [no_key(), no_key(), no_key()];
+    assert!(rt; ratio_key_i64(&asked, &mut answers) == DONE);
+    let [first, second, third] = answers;
+    assert!(rt;
+        [first.key, second.key, third.key] == [-4491590028364174677, 4539628424389459968, 0]
+    );
+    assert!(rt; third.code == DENOMINATOR_NOT_POSITIVE);
 }
 
 #[test]

@@ -7,6 +7,7 @@ pub mod compare;
 pub mod crossing;
 pub mod each;
 pub mod hash;
+pub mod key;
 pub mod laws;
 pub mod lowest_hash;
 pub mod nearest;
@@ -18,4 +19,6 @@ pub mod printing;
 pub mod reading;
 pub mod sign;
 
+pub mod total_steps;
+pub mod totals;
 pub mod wide;

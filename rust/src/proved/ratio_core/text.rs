@@ -1,5 +1,6 @@
 // Erased from crates/ratio_core/src/text.rt by rust/erase: not to be edited.
 //! Fractions as texts.
+mod decimals;
 mod digits;
 mod exact;
 mod fixed_text;
@@ -12,6 +13,7 @@ pub(crate) mod printing;
 mod quick_fields;
 mod reading;
 
+pub use decimals::{DecimalRefusal, from_decimal};
 pub use exact::exact_decimal;
 pub use fixed_text::{BaseTenText, DecimalText, RatioText};
 pub use form::Form;

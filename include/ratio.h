@@ -6,7 +6,8 @@
  * memory, whatever the numbers are. The arrays that a call writes may not overlap any other array, and no
  * pointer may be null.
  *
- * From C and from C++, with libratio_c.a, which `rt lib` makes in crates/ratio_c/out:
+ * From C and from C++, with libratio_c.a, which `rt lib` makes in crates/ratio_c/out. Without rt, rust/c/build makes it in
+ * rust/c/target/release:
  *
  *   cc -std=c99 -I include program.c crates/ratio_c/out/libratio_c.a -o program
  *   c++ -std=c++11 -I include program.cc crates/ratio_c/out/libratio_c.a -o program
@@ -35,7 +36,8 @@ enum {
     RATIO_ZERO_DENOMINATOR = 4,         /* of compare, equal, hash, reduce and print, which take negative ones, and of read */
     RATIO_PARSE_ERROR = 5,              /* of read: no fraction, or its numbers or lowest terms do not fit */
     RATIO_NO_TEXT = 6,                  /* of read: the span does not lie in the texts */
-    RATIO_BOUND_NOT_POSITIVE = 7        /* of nearest: no denominator lies from 1 to the bound */
+    RATIO_BOUND_NOT_POSITIVE = 7,       /* of nearest: no denominator lies from 1 to the bound */
+    RATIO_NO_TOTAL = 8                  /* of totals: the code is 0, but the sum is not in lowest terms */
 };
 
 /* A number of 128 bits: high times 2^64, and low. */
@@ -49,6 +51,9 @@ typedef struct { uint32_t code; uint32_t holds; } ratio_truth;
 
 /* A hash: the same for fractions of one value. */
 typedef struct { uint32_t code; uint64_t hash; } ratio_hash;
+
+/* A key for sorting: 64 bits. */
+typedef struct { uint32_t code; int64_t key; } ratio_key;
 
 /* The bytes of a text: from start on, and before end. */
 typedef struct { size_t start, end; } ratio_span;
@@ -168,6 +173,37 @@ RATIO_CAST(i128, i64)
 
 #undef RATIO_CAST
 
+/* The key of each fraction, for sorting by short keys: if one value is at most another, so is its key. So equal values have equal keys.
+ * A key keeps 56 binary digits of the value, and whether there are more: -1/3 has the key -4491590028364174677, and 1/2 has
+ * 4539628424389459968. Values with the same key can be unlike: `ratio_compare_i64` tells which is greater.
+ */
+uint32_t ratio_key_i64(const ratio_i64 *asked, size_t asked_len, ratio_key *answers, size_t answers_len);
+
+/* A total: how many fractions were added, and their exact sum in lowest terms. Made all zero, as by `ratio_total_i64 total = {0};`, it
+ * is the total of no fraction. The code is RATIO_ANSWERED, or it says why the total is lost: RATIO_NOT_HELD if a sum on the way, or the
+ * count, did not fit, RATIO_DENOMINATOR_NOT_POSITIVE for such a fraction, or RATIO_NO_TOTAL if the sum was not in lowest terms. A lost
+ * total stays lost, with its code, and its numbers are 0.
+ */
+typedef struct { uint32_t code; uint64_t count; ratio_i128 sum; } ratio_total_i64;
+
+/* The calls over totals. The first three change one total: if `total_len` is not 1, they return RATIO_BAD_LENGTH and write nothing.
+ *
+ *   ratio_total_add_i64        the fractions go into the total: 1/2, 1/3 and 1/6 give the count 3 and the sum 1/1
+ *   ratio_total_subtract_i64   the fractions go out of it, as from a window that moves: 1/3 out of these gives 2 and 2/3
+ *   ratio_total_merge_i64      the other totals go into it, as those of workers
+ *   ratio_total_sum_i64        the sum of each total, or RATIO_NOT_HELD if it does not fit 64 bits. A lost total gives its code
+ *   ratio_total_mean_i64       the sum divided by the count, in lowest terms, or RATIO_NOT_HELD if these do not fit 64 bits. The
+ *                              total of no fraction gives RATIO_DIVISION_BY_ZERO
+ *
+ * A total that is not lost is the same in any order, and however its fractions were cut into parts. Whether it is lost may depend on
+ * the order, since each sum on the way must fit 128 bits.
+ */
+uint32_t ratio_total_add_i64(const ratio_i64 *asked, size_t asked_len, ratio_total_i64 *total, size_t total_len);
+uint32_t ratio_total_subtract_i64(const ratio_i64 *asked, size_t asked_len, ratio_total_i64 *total, size_t total_len);
+uint32_t ratio_total_merge_i64(const ratio_total_i64 *asked, size_t asked_len, ratio_total_i64 *total, size_t total_len);
+uint32_t ratio_total_sum_i64(const ratio_total_i64 *asked, size_t asked_len, ratio_answer_i64 *answers, size_t answers_len);
+uint32_t ratio_total_mean_i64(const ratio_total_i64 *asked, size_t asked_len, ratio_answer_i64 *answers, size_t answers_len);
+
 #ifdef __cplusplus
 }
 #endif
@@ -178,6 +214,7 @@ static_assert(sizeof(ratio_wide) == 16, "the size of ratio_wide");
 static_assert(sizeof(ratio_order) == 8, "the size of ratio_order");
 static_assert(sizeof(ratio_truth) == 8, "the size of ratio_truth");
 static_assert(sizeof(ratio_hash) == 16, "the size of ratio_hash");
+static_assert(sizeof(ratio_key) == 16, "the size of ratio_key");
 static_assert(sizeof(ratio_span) == 16, "the size of ratio_span");
 static_assert(sizeof(ratio_text) == 24, "the size of ratio_text");
 static_assert(sizeof(ratio_i32) == 8, "the size of ratio_i32");
@@ -195,6 +232,7 @@ static_assert(sizeof(ratio_pair_i128) == 64, "the size of ratio_pair_i128");
 static_assert(sizeof(ratio_power_i128) == 40, "the size of ratio_power_i128");
 static_assert(sizeof(ratio_bounded_i128) == 48, "the size of ratio_bounded_i128");
 static_assert(sizeof(ratio_answer_i128) == 40, "the size of ratio_answer_i128");
+static_assert(sizeof(ratio_total_i64) == 48, "the size of ratio_total_i64");
 #endif
 
 #endif

@@ -183,6 +183,47 @@ static void casts(void) {
     expect(ratio_cast_i64_to_i128(&half, 1, widened, 1) == RATIO_DONE && SAME(widened[0], wide_low), "cast 64 to 128 bits");
 }
 
+/* Three shares of a whole: in two parts, merged, and without the last one again. */
+static void totals(void) {
+    static const ratio_i64 shares[3] = {{1, 2}, {2, 6}, {1, 6}}, loose = {1, 0}, most = {INT64_MAX, 1};
+    static const ratio_answer_i64 whole = {RATIO_ANSWERED, {1, 1}}, third = {RATIO_ANSWERED, {1, 3}}, rest = {RATIO_ANSWERED, {5, 6}};
+    static const ratio_total_i64 empty;
+    ratio_total_i64 total = empty, other = empty, lost = empty, wide = empty, none = empty, pair[2];
+    ratio_answer_i64 answer[1];
+    expect(ratio_total_add_i64(shares, 2, &total, 1) == RATIO_DONE && ratio_total_add_i64(shares + 2, 1, &other, 1) == RATIO_DONE, "add to totals");
+    expect(total.code == RATIO_ANSWERED && total.count == 2 && total.sum.numer.low == 5 && total.sum.denom.low == 6, "total of a part");
+    expect(ratio_total_merge_i64(&other, 1, &total, 1) == RATIO_DONE && total.count == 3, "merge of totals");
+    GIVES(i64, total_sum, total, whole)
+    GIVES(i64, total_mean, total, third)
+    expect(ratio_total_subtract_i64(shares + 2, 1, &total, 1) == RATIO_DONE && total.count == 2, "subtract from a total");
+    GIVES(i64, total_sum, total, rest)
+    REFUSES(i64, total_mean, none, RATIO_DIVISION_BY_ZERO)
+    expect(ratio_total_add_i64(&loose, 1, &lost, 1) == RATIO_DONE && ratio_total_add_i64(shares, 3, &lost, 1) == RATIO_DONE, "add to a lost total");
+    expect(lost.code == RATIO_DENOMINATOR_NOT_POSITIVE && lost.count == 0, "lost total");
+    REFUSES(i64, total_sum, lost, RATIO_DENOMINATOR_NOT_POSITIVE)
+    REFUSES(i64, total_mean, lost, RATIO_DENOMINATOR_NOT_POSITIVE)
+    expect(ratio_total_merge_i64(&lost, 1, &other, 1) == RATIO_DONE && other.code == RATIO_DENOMINATOR_NOT_POSITIVE, "merge of a lost total");
+    expect(ratio_total_add_i64(&most, 1, &wide, 1) == RATIO_DONE && ratio_total_add_i64(&most, 1, &wide, 1) == RATIO_DONE, "add of 2^63-1");
+    REFUSES(i64, total_sum, wide, RATIO_NOT_HELD)
+    expect(ratio_total_subtract_i64(shares, 1, &none, 1) == RATIO_DONE && none.code == RATIO_NOT_HELD, "count below 0");
+    total.sum.numer.low = 10, total.sum.denom.low = 12;
+    REFUSES(i64, total_sum, total, RATIO_NO_TOTAL)
+    pair[0] = pair[1] = empty;
+    expect(ratio_total_add_i64(shares, 1, pair, 2) == RATIO_BAD_LENGTH && pair[0].count == 0, "two totals");
+}
+
+/* A script of Python computed the keys, by the definition. */
+static void keys(void) {
+    static const ratio_i64 x[6] = {{INT64_MIN, 1}, {-1, 3}, {0, 7}, {2, 4}, {INT64_MAX, 1}, {1, 0}};
+    ratio_key key[6];
+    int i;
+    expect(ratio_key_i64(x, 6, key, 6) == RATIO_DONE, "keys");
+    expect(key[0].key == -INT64_C(9151314442816847872) && key[1].key == -INT64_C(4491590028364174677), "keys below 0");
+    expect(key[2].code == RATIO_ANSWERED && key[2].key == 0 && key[3].key == INT64_C(4539628424389459968), "keys of 0 and 1/2");
+    for (i = 0; i < 4; i++) expect(key[i].key < key[i + 1].key, "order of keys");
+    expect(key[5].code == RATIO_DENOMINATOR_NOT_POSITIVE && key[5].key == 0, "no key");
+}
+
 int main(void) {
     every_call_i32();
     every_call_i64();
@@ -191,5 +232,7 @@ int main(void) {
     sums_that_fit();
     casts();
     lowest_hashes();
+    totals();
+    keys();
     return wrong;
 }

@@ -4,7 +4,7 @@
 //! caller, the layer tests that first, in each build. If the test fails, a call that returns an `Option` returns `None`, and the
 //! others panic.
 //!
-//! No proved call is behind the floats and the forms with an exponent. Tests compare these with num-rational.
+//! No proved call is behind fractions near a float and the forms with an exponent. Tests compare these with num-rational.
 mod approximations;
 mod arithmetic;
 mod as_reduced;

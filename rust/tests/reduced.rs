@@ -9,6 +9,7 @@ use std::cmp::Ordering;
 use std::collections::hash_map::DefaultHasher;
 use std::collections::{BTreeSet, HashMap};
 use std::hash::{Hash, Hasher};
+use std::ops::Bound::{Excluded, Included, Unbounded};
 
 type Fields<T> = Option<(T, T)>;
 
@@ -89,17 +90,60 @@ fn simplest_between_two_of_either_kind() {
 }
 
 #[test]
+fn simplest_within_bounds_of_either_kind() {
+    let [third, half, wide] = [i8_of(1, 3), i8_of(1, 2), i8_of(5, 2)];
+    let rows = [
+        (Included(third), Included(half), Some((1, 2))),
+        (Included(third), Excluded(half), Some((1, 3))),
+        (Excluded(third), Excluded(half), Some((2, 5))),
+        (Included(half), Included(half), Some((1, 2))),
+        (Included(half), Excluded(half), None),
+        (Included(half), Included(third), None),
+        (Excluded(wide), Unbounded, Some((3, 1))),
+        (Unbounded, Excluded(third), Some((0, 1))),
+        (Unbounded, Unbounded, Some((0, 1))),
+        (Excluded(i8_of(127, 1)), Unbounded, None),
+        (Unbounded, Excluded(i8_of(-128, 1)), None),
+        (Unbounded, Included(i8_of(-128, 1)), Some((-128, 1))),
+    ];
+    let ratio = |bound| match bound {
+        Included(x) => Included(Ratio::from(x)),
+        Excluded(x) => Excluded(Ratio::from(x)),
+        Unbounded => Unbounded,
+    };
+    for (low, high, want) in rows {
+        assert_eq!(fields(Reduced::simplest_within(low, high)), want, "{low:?}, {high:?}");
+        assert_eq!(Ratio::simplest_within(ratio(low), ratio(high)).map(Ratio::into_raw), want, "{low:?}, {high:?}");
+    }
+    let from = |low| Ratio::simplest_within(Included(low), Unbounded).map(Ratio::into_raw);
+    assert_eq!(from(Ratio::new_raw(10i8, -4)), Some((0, 1)));
+    assert_eq!(from(Ratio::new_raw(6i8, 4)), Some((2, 1)));
+    assert_eq!([from(Ratio::new_raw(1i8, 0)), from(Ratio::new_raw(-1, -128))], [None; 2]);
+}
+
+#[test]
 fn continued_fractions() {
     let rows: [((i8, i8), &[i8]); 5] = [((-7, 3), &[-3, 1, 2]), ((5, 1), &[5]), ((0, 1), &[0]), ((-128, 127), &[-2, 1, 126]), ((1, 127), &[0, 127])];
     for ((numer, denom), quotients) in rows {
         let x = i8_of(numer, denom);
         assert!(x.continued_fraction().eq(quotients.iter().copied()), "{x}");
+        assert!(x.to_ratio().continued_fraction().unwrap().eq(quotients.iter().copied()), "{x}");
         assert_eq!(fields(Reduced::from_continued_fraction(quotients)), Some((numer, denom)));
         assert_eq!(Ratio::from_continued_fraction(quotients).map(Ratio::into_raw), Some((numer, denom)));
     }
     let x = Reduced64::checked_new(415, 93).unwrap();
     assert!(x.convergents().map(Reduced::into_raw).eq([(4, 1), (9, 2), (58, 13), (415, 93)]));
     assert!(i8_of(-128, 3).convergents().map(Reduced::into_raw).eq([(-43, 1), (-128, 3)]));
+    // The same for a `Ratio`, which may be loose, or have no value or no lowest terms.
+    let loose = Ratio::new_raw(-64i8, -8);
+    assert!(loose.continued_fraction().unwrap().eq([8]));
+    assert!(loose.convergents().unwrap().map(Reduced::into_raw).eq([(8, 1)]));
+    let same = Ratio::new_raw(-830i64, -186);
+    assert!(same.continued_fraction().unwrap().eq(x.continued_fraction()));
+    assert!(same.convergents().unwrap().eq(x.convergents()));
+    for none in [Ratio::new_raw(1i8, 0), Ratio::new_raw(1, -128)] {
+        assert!(none.continued_fraction().is_none() && none.convergents().is_none());
+    }
     for refused in [&[][..], &[3, 0], &[127, 127], &[1, -1], &[1; 193]] {
         assert_eq!(Reduced::<i8>::from_continued_fraction(refused), None);
         assert_eq!(Ratio::<i8>::from_continued_fraction(refused), None);
@@ -187,12 +231,13 @@ fn conversions_of_pairs_and_ratios() {
 fn to_numbers() {
     let x = i8_of(-7, 2);
     assert_eq!((x.to_i64(), x.to_i128(), x.to_u64(), x.to_u128(), x.to_i8(), x.to_u8()), (Some(-3), Some(-3), None, None, Some(-3), None));
-    assert_eq!((x.to_f32(), x.to_f64()), (Some(-3.5), Some(-3.5)));
+    assert_eq!((x.to_f32(), x.to_f64()), (-3.5, -3.5));
+    assert_eq!((ToPrimitive::to_f32(&x), ToPrimitive::to_f64(&x)), (Some(-3.5), Some(-3.5)));
     let most = Reduced::from(u128::MAX);
     assert_eq!((most.to_u128(), most.to_i128(), most.to_u64(), most.to_i64()), (Some(u128::MAX), None, None, None));
-    assert_eq!(most.to_f32(), Some(f32::INFINITY));
+    assert_eq!(most.to_f32(), f32::INFINITY);
     // Rounded once: as an `f64` and then as an `f32` it would be 0.3333333.
-    assert_eq!(Reduced64::checked_new(178956969, 536870915).unwrap().to_f32(), Some(0.33333334));
+    assert_eq!(Reduced64::checked_new(178956969, 536870915).unwrap().to_f32(), 0.33333334);
     let negated = |x: Reduced<i8>| fields(CheckedNeg::checked_neg(&x));
     assert_eq!((negated(x), negated(Reduced::from(-128))), (Some((7, 2)), None));
 }

@@ -11,6 +11,7 @@ pub mod NeutralLemmas
 pub mod OrderLawLemmas
 pub mod PaddingLemmas
 pub mod PowerLawLemmas
+pub mod PrecisionLemmas
 pub mod QuotientLemmas
 pub mod RatioLemmas
 pub mod ReadingLawLemmas

@@ -1,3 +1,4 @@
+pub mod Bounds
 pub mod Comparison
 pub mod ContinuedFractions
 pub mod ConvergentSteps

@@ -1,8 +1,16 @@
 -- How a fraction is printed under the options in a pair of braces.
-use Rattle.std.specs.Prelude.{ℕ, ℤ, Bool, true, false, List, [], drop, if◌then◌else◌}
+use Rattle.std.specs.Prelude.{ℕ, ℤ, Bool, true, false, List, [], Option, None, Some, drop, if◌then◌else◌}
 use Rattle.std.specs.Str.Parse.{starts_with_minus}
 use Rattle.ratio_core.specs.declared.text.form.Form.{Form}
-use Rattle.ratio_core.specs.Printing.{body_of, prefix_of}
+use Rattle.ratio_core.specs.declared.text.form.Form.TheVariants.{Decimal}
+use Rattle.ratio_core.specs.Precision.{half_even_text}
+use Rattle.ratio_core.specs.Printing.{body_of, prefix_of, text_of}
+
+-- The text of a `Reduced` in base 10: the fraction itself without a precision, and else a decimal with so many places. 7/2 in
+-- `{}` is `7/2`, and in `{:.2}` `3.50`.
+abbrev pub text_under : Option ℕ → ℕ → ℤ → ℤ → List ℕ
+text_under None bits n d = text_of bits Decimal false n d
+text_under (Some places) bits n d = half_even_text places n d
 
 -- A text in base 10, padded as a number: -1/2 in `{:06}` is `-001/2`. `pad` writes a number from its sign, its prefix and its
 -- digits. A minus at the text's beginning is the sign, and the rest counts as the digits.

@@ -7,6 +7,7 @@
 
 mod convergents;
 mod convert;
+mod floats;
 mod fold;
 mod hash;
 mod json;
@@ -17,6 +18,7 @@ mod operand;
 mod ops;
 mod order;
 mod pow;
+mod precision;
 mod printing;
 mod quotients;
 mod ratio;
@@ -33,7 +35,7 @@ pub use quotients::Quotients;
 pub use ratio::{Constants, Ratio, Rational, Rational32, Rational64};
 pub use ratio_core::rounding_rule::Rounding;
 pub use ratio_core::{
-    BaseTenText, CodeList, DecimalText, Exponent, Form, ParseRatioError, RatioErrorKind, RatioText,
-    Steps, Taken,
+    BaseTenText, CodeList, DecimalRefusal, DecimalText, Exponent, Form, ParseRatioError,
+    RatioErrorKind, RatioText, Steps, Taken,
 };
 pub use reduced::{Reduced, Reduced32, Reduced64, ReducedOperand};

@@ -13,7 +13,7 @@ use std::fmt;
 use std::fmt::{Binary, Display, Formatter, LowerHex, Octal, UpperHex, Write};
 
 // Writes a text in base 10. A minus at its beginning is its sign.
-fn write_base_ten<W: Write>(text: &str, f: &mut Formatter<W>) -> fmt::Result
+pub(crate) fn write_base_ten<W: Write>(text: &str, f: &mut Formatter<W>) -> fmt::Result
     ensures plain { WritesOnOk W.write_str_gives f.old result text.now f.new }
     ensures styled { WritesStyledOnOk W.write_str_gives f.old result
         (padded_base_ten (padded_integral (formatter_spec f.old)) text.now) f.new }

@@ -4,3 +4,6 @@ pub mod Hashes
 pub mod LowestHashes
 pub mod Cases
 pub mod Magnitudes
+pub mod TotalSteps
+pub mod TotalLaws
+pub mod Keys

@@ -6,3 +6,6 @@ pub mod Numbers32
 pub mod Numbers64
 pub mod Numbers128
 pub mod LowestHash
+pub mod Totals
+pub mod TotalLaws
+pub mod Keys

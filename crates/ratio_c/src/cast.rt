@@ -40,7 +40,7 @@ impl<F: OneFraction, T: Digest, A: Reply<T>> Call<F, A> for Casting<T> {
 
 /// Both numbers over the type `U`, or `None` if one does not fit it.
 #[inline(always)]
-fn cast<T: Digest, U: Copy + Integer>(n: T, d: T) -> Option<(U, U)>
+pub(crate) fn cast<T: Digest, U: Copy + Integer>(n: T, d: T) -> Option<(U, U)>
     ensures { ChecksBoth (λ r. U.value r.0) (λ r. U.value r.1) U.lo U.hi (T.value n) (T.value d) result }
 {
     Some((U::from_i128(n.wide())?, U::from_i128(d.wide())?))

@@ -24,3 +24,6 @@ pub const NO_TEXT: u32 = 6;
 
 /// The bound of a denominator is 0 or below it, so no fraction has such a denominator.
 pub const BOUND_NOT_POSITIVE: u32 = 7;
+
+/// A total's code is 0, but its sum is not in lowest terms.
+pub const NO_TOTAL: u32 = 8;

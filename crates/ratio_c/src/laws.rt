@@ -1,6 +1,8 @@
 //! The laws of this crate. Each function does nothing: its contract is the law.
 ghost use Rattle.ratio_c.specs.Calls.{EqualValuesHaveOneHash};
+ghost use Rattle.ratio_c.specs.Keys.{KeysKeepOrder};
 ghost use Rattle.ratio_c.specs.LowestHash.{DenominatorsHaveUnlikeHashes, EqualHaveOneHash, NumeratorsHaveUnlikeHashes};
+ghost use Rattle.ratio_c.specs.TotalLaws.{CallsFollow, LostStaysLost, TotalsInAnyOrder, OutUndoesIn, PartsMerge};
 
 /// Which fractions have the same hash in lowest terms.
 pub fn lowest_hashes()
@@ -12,4 +14,18 @@ pub fn lowest_hashes()
 /// The hash by value is one for all fractions of a value.
 pub fn hashes()
     ensures { EqualValuesHaveOneHash }
+{}
+
+/// Totals of parts make up the total of the whole, in any order. What goes in and out again leaves no trace, and a lost total stays lost.
+pub fn totals()
+    ensures parts { PartsMerge }
+    ensures order { TotalsInAnyOrder }
+    ensures calls { CallsFollow }
+    ensures undone { OutUndoesIn }
+    ensures lost { LostStaysLost }
+{}
+
+/// If one value is at most another, so is its key.
+pub fn keys()
+    ensures { KeysKeepOrder }
 {}

@@ -8,6 +8,7 @@ pub mod compare;
 pub mod crossing;
 pub mod each;
 pub mod hash;
+pub mod key;
 pub mod laws;
 pub mod lowest_hash;
 pub mod nearest;
@@ -20,4 +21,6 @@ pub mod reading;
 pub mod sign;
 #[cfg(test)]
 mod tests;
+pub mod total_steps;
+pub mod totals;
 pub mod wide;

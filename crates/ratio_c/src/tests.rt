@@ -6,6 +6,7 @@ use crate::code::{
 use crate::compare::Truth;
 use crate::each::{BAD_LENGTH, DONE};
 use crate::hash::Hash;
+use crate::key::{Key, ratio_key_i64};
 use crate::numbers32::{Answer32, Fraction32};
 use crate::numbers64::{
     Answer64, Bounded64, Fraction64, Pair64, Power64, ROOM, ratio_abs_i64, ratio_add_i64,
@@ -13,8 +14,15 @@ use crate::numbers64::{
     ratio_nearest_i64, ratio_neg_i64, ratio_pow_i64, ratio_print_i64, ratio_read_i64,
     ratio_trunc_i64,
 };
+use crate::numbers128::Fraction128;
 use crate::printing::Text;
 use crate::reading::Span;
+use crate::total_steps::{
+    ratio_total_add_i64, ratio_total_mean_i64, ratio_total_merge_i64, ratio_total_subtract_i64,
+    ratio_total_sum_i64,
+};
+use crate::totals::Total64;
+use crate::wide::Wide;
 
 fn fraction(numer: i64, denom: i64) -> Fraction64 {
     Fraction64 { numer, denom }
@@ -38,6 +46,10 @@ fn no_truth() -> Truth {
 
 fn no_hash() -> Hash {
     Hash { code: 9, hash: 9 }
+}
+
+fn no_key() -> Key {
+    Key { code: 9, key: 9 }
 }
 
 fn no_text() -> Text {
@@ -162,6 +174,18 @@ fn lowest_hashes(rt: HostRuntime) {
 }
 
 #[test]
+fn keys(rt: HostRuntime) {
+    let asked = [fraction(-1, 3), fraction(2, 4), fraction(1, 0)];
+    let mut answers = [no_key(), no_key(), no_key()];
+    assert!(rt; ratio_key_i64(&asked, &mut answers) == DONE);
+    let [first, second, third] = answers;
+    assert!(rt;
+        [first.key, second.key, third.key] == [-4491590028364174677, 4539628424389459968, 0]
+    );
+    assert!(rt; third.code == DENOMINATOR_NOT_POSITIVE);
+}
+
+#[test]
 fn readings(rt: HostRuntime) {
     let spans = [Span { start: 0, end: 4 }, Span { start: 3, end: 5 }];
     let mut answers = [no_answer(), no_answer()];
@@ -189,4 +213,37 @@ fn texts(rt: HostRuntime) {
         third.span.end,
     ];
     assert!(rt; places == [4, 4, 4, 24]);
+}
+
+fn empty() -> Total64 {
+    let sum = Fraction128 {
+        numer: Wide { low: 0, high: 0 },
+        denom: Wide { low: 0, high: 0 },
+    };
+    Total64 {
+        code: ANSWERED,
+        count: 0,
+        sum,
+    }
+}
+
+#[test]
+fn totals(rt: HostRuntime) {
+    let shares = [fraction(1, 2), fraction(2, 6), fraction(1, 6)];
+    let mut total = [empty()];
+    let mut other = [empty()];
+    let mut answers = [no_answer()];
+    assert!(rt; ratio_total_add_i64(&shares[..2], &mut total) == DONE);
+    assert!(rt; ratio_total_add_i64(&shares[2..], &mut other) == DONE);
+    assert!(rt; ratio_total_merge_i64(&other, &mut total) == DONE);
+    assert!(rt; ratio_total_mean_i64(&total, &mut answers) == DONE);
+    assert!(rt; [answers[0].value.numer, answers[0].value.denom] == [1, 3]);
+    assert!(rt; ratio_total_subtract_i64(&shares[2..], &mut total) == DONE);
+    assert!(rt; ratio_total_sum_i64(&total, &mut answers) == DONE);
+    assert!(rt; [answers[0].value.numer, answers[0].value.denom] == [5, 6]);
+    assert!(rt; total[0].count == 2);
+    let none = [fraction(1, 0)];
+    assert!(rt; ratio_total_add_i64(&none, &mut total) == DONE);
+    assert!(rt; ratio_total_add_i64(&shares, &mut total) == DONE);
+    assert!(rt; total[0].code == DENOMINATOR_NOT_POSITIVE);
 }

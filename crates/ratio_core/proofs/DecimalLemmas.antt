@@ -49,7 +49,7 @@ after_one k p few small =
     let most = power_small k few in
     ap decimal (sym one) ∙ grouped k 1 p (omega arith) small (omega arith) ∙ ap (λ xs. xs ++ last_digits k p) (decimal_digit 1 (omega arith))
 
-digits_ascii : (k n : ℕ) → IsAscii (last_digits k n)
+pub digits_ascii : (k n : ℕ) → IsAscii (last_digits k n)
 digits_ascii zero n = IsAscii-nil
 digits_ascii (suc k) n = IsAscii-append _ _ (digits_ascii k (n / 10)) (IsAscii-cons (48 + n % 10) [] (let h : n % 10 < 10 = mod-lt n (lit< tt) in omega arith) IsAscii-nil)
 

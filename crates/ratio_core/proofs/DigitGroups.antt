@@ -10,7 +10,7 @@ use Rattle.std.proofs.lemmas.Fmt.{decimal_digit, decimal_step_wide, length-decim
 use Rattle.std.proofs.lemmas.List.{drop_more, drop-set}
 use Rattle.std.proofs.Math.Nat.{pow-suc, mul_assoc, pow-le-pow_right}
 
-length_group : (k n : ℕ) → length (last_digits k n) ≡ k
+pub length_group : (k n : ℕ) → length (last_digits k n) ≡ k
 length_group zero n = refl
 length_group (suc k) n = omega (arith, length-append (last_digits k (n / 10)) ((48 + n % 10) ∷ []), length_group k (n / 10))
 

@@ -1,5 +1,5 @@
 -- All digits of n/d, whole and behind the point, and when they end.
-use Rattle.std.specs.Prelude.{◌≡◌, ◌≢◌, ◌*◌, ◌+◌, ◌-◌, ◌/◌, ◌%◌, ◌^◌, ◌<◌, ◌≤◌, ◌∷◌, ◌++◌, ◌<ℤ◌, ◌*ℤ◌, ◌+ℤ◌, ◌↔◌, [], ℕ, zero, suc, ℤ, pos, negsuc, neg_ℤ, List, Bool, true, false, drop, length, slice_set, unsigned_abs, decimal, IsAscii, IsTrue}
+use Rattle.std.specs.Prelude.{◌≡◌, ◌≢◌, ◌*◌, ◌+◌, ◌-◌, ◌/◌, ◌%◌, ◌^◌, ◌<◌, ◌≤◌, ◌∷◌, ◌++◌, ◌<ℤ◌, ◌*ℤ◌, ◌↔◌, [], ℕ, zero, suc, ℤ, pos, negsuc, neg_ℤ, List, Bool, true, false, drop, length, slice_set, unsigned_abs, decimal, IsAscii, IsTrue}
 use Rattle.std.specs.Int.{◌∣◌}
 use Rattle.std.proofs.Common.{refl, sym, ap, arith, ◌∙◌, append-nil, pow-suc, subst, eq-zero-or-pos, inl, inr}
 use Rattle.std.proofs.Math.Nat.{div-add-mod', div-le_self, div-lt_iff_lt-mul, dvd-mul_left, mod-lt, mul-add-div_right, mul-div_cancel, mul_assoc, mul_comm}
@@ -20,7 +20,7 @@ use Rattle.ratio_core.proofs.PlacesLemmas.{few_places}
 -- ---- the digits behind the point
 
 -- a digit, and the digits of what follows it
-front_digit : (k digit more : ℕ) → digit < 10 → more < 10 ^ k → last_digits (suc k) (digit * 10 ^ k + more) ≡ (48 + digit) ∷ last_digits k more
+pub front_digit : (k digit more : ℕ) → digit < 10 → more < 10 ^ k → last_digits (suc k) (digit * 10 ^ k + more) ≡ (48 + digit) ∷ last_digits k more
 front_digit zero digit more small less =
     let e : (digit * 10 ^ 0 + more) % 10 ≡ digit = omega arith in
     ap (λ x. (48 + x) ∷ []) e
@@ -40,12 +40,19 @@ part_small rest d k less = (div-lt_iff_lt-mul {k = d} {x = rest * 10 ^ k} {y = 1
     strict zero h = absurd (omega arith)
     strict (suc p) h = let up : rest * suc p ≤ rest * suc p = omega arith in let more : suc rest * suc p ≤ d * suc p = mul-le (suc rest) (suc p) d (suc p) less (omega arith) in omega arith
 
+-- in ten times a number below d, d is fewer than ten times
+pub digit_small : (rest d q next : ℕ) → rest < d → rest * 10 ≡ q * d + next → q < 10
+digit_small rest d q next less e = elim (eq-zero-or-pos (q - 9)) [
+  | inl z ↦ omega arith
+  | inr more ↦ let up : 10 * d ≤ q * d = mul-le 10 d q d (omega arith) (omega arith) in absurd (omega arith)
+]
+
 rest_digits : (rest d digit next k : ℕ) → rest < d → rest * 10 ≡ digit * d + next → next < d → last_digits (suc k) (rest * 10 ^ suc k / d) ≡ (48 + digit) ∷ last_digits k (next * 10 ^ k / d)
 rest_digits rest d digit next k less sum below =
     let power : 10 ^ suc k ≡ 10 ^ k * 10 = pow-suc 10 k in
     let all : rest * 10 ^ suc k ≡ digit * 10 ^ k * d + next * 10 ^ k = ap (λ x. rest * x) power ∙ turn (10 ^ k) ∙ ap (λ x. x * 10 ^ k) sum ∙ spread (10 ^ k) in
     let cut : rest * 10 ^ suc k / d ≡ digit * 10 ^ k + next * 10 ^ k / d = ap (λ x. x / d) all ∙ mul-add-div_right {m = d} (omega arith) (digit * 10 ^ k) (next * 10 ^ k) in
-    ap (last_digits (suc k)) cut ∙ front_digit k digit (next * 10 ^ k / d) (digit_small digit sum) (part_small next d k below)
+    ap (last_digits (suc k)) cut ∙ front_digit k digit (next * 10 ^ k / d) (digit_small rest d digit next less sum) (part_small next d k below)
   where
     turn : (p : ℕ) → rest * (p * 10) ≡ rest * 10 * p
     turn p = omega arith
@@ -53,18 +60,15 @@ rest_digits rest d digit next k less sum below =
     spread : (p : ℕ) → (digit * d + next) * p ≡ digit * p * d + next * p
     spread p = omega arith
 
-    digit_small : (q : ℕ) → rest * 10 ≡ q * d + next → q < 10
-    digit_small q e = elim (eq-zero-or-pos (q - 9)) [
-      | inl z ↦ omega arith
-      | inr more ↦ let up : 10 * d ≤ q * d = mul-le 10 d q d (omega arith) (omega arith) in absurd (omega arith)
-    ]
+pub tenfold : (rest d digit next : ℕ) → IsDivided (pos rest *ℤ pos 10) (pos d) (pos digit) (pos next) → rest * 10 ≡ digit * d + next
+tenfold rest d digit next is = let e = is.sum in omega (arith, ints)
 
 pub put_rest_digit : (rest d digit next places : ℕ) (old buf : List ℕ) → places ≢ 0 → rest < d → IsDivided (pos rest *ℤ pos 10) (pos d) (pos digit) (pos next) → places ≤ length old → length buf ≡ length old
     → drop (length old - (places - 1)) buf ≡ last_digits (places - 1) (next * 10 ^ (places - 1) / d)
     → drop (length old - places) (slice_set buf (length buf - places) (48 + digit)) ≡ last_digits places (rest * 10 ^ places / d)
 put_rest_digit rest d digit next zero old buf some less is room same later = absurd (some refl)
 put_rest_digit rest d digit next (suc k) old buf some less is room same later =
-    let sum : rest * 10 ≡ digit * d + next = natural is.sum in
+    let sum : rest * 10 ≡ digit * d + next = tenfold rest d digit next is in
     let below : next < d = let b = is.rest.below in omega (arith, ints) in
     let at : length buf - suc k ≡ length old - suc k = omega arith in
     let after : length old - suc k + 1 ≡ length old - k = omega arith in
@@ -74,9 +78,6 @@ put_rest_digit rest d digit next (suc k) old buf some less is room same later =
     ∙ ap (λ j. (48 + digit) ∷ drop j buf) after
     ∙ ap (λ xs. (48 + digit) ∷ xs) (rw back at later)
     ∙ sym (rest_digits rest d digit next k less sum below)
-  where
-    natural : pos rest *ℤ pos 10 ≡ pos digit *ℤ pos d +ℤ pos next → rest * 10 ≡ digit * d + next
-    natural e = omega (arith, ints)
 
 -- ---- the whole number before the point
 

@@ -57,7 +57,7 @@ doubled_out lo hi s n i times x range less x-is out held =
 
 -- ---- an odd number and a power of 2
 
-size_is : (s : Bool) (n : ℕ) → unsigned_abs (with_sign s n) ≡ n
+pub size_is : (s : Bool) (n : ℕ) → unsigned_abs (with_sign s n) ≡ n
 size_is false n = refl
 size_is true zero = refl
 size_is true (suc n) = refl

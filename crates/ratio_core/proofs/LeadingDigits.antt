@@ -85,7 +85,7 @@ power_fits radix most at low held few = omega (arith, held, pow-le-pow_right {n 
 
 -- ---- one group after another
 
-append_digits : (radix : ℕ) (xs ys : List ℕ) → AllDigits radix xs → AllDigits radix ys → AllDigits radix (xs ++ ys)
+pub append_digits : (radix : ℕ) (xs ys : List ℕ) → AllDigits radix xs → AllDigits radix ys → AllDigits radix (xs ++ ys)
 append_digits radix [] ys h k = k
 append_digits radix (x ∷ xs) ys h k = (h.0, append_digits radix xs ys h.1 k)
 

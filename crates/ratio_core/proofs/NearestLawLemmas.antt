@@ -42,7 +42,7 @@ same_gaps n d p q a b same = unsigned_abs-products (n *ℤ q -ℤ p *ℤ d) b (n
 -- ---- lowest terms
 
 -- of all fractions of one value, the lowest terms have the least denominator
-least_denom : (p q a b : ℤ) → pos 0 <ℤ q → IsLowestTerms a b → SameValue p q a b → b ≤ℤ q
+pub least_denom : (p q a b : ℤ) → pos 0 <ℤ q → IsLowestTerms a b → SameValue p q a b → b ≤ℤ q
 least_denom p q a b q_up lowest same =
     let crossed : unsigned_abs p * unsigned_abs b ≡ unsigned_abs a * unsigned_abs q = unsigned_abs-products p b a q same in
     let turned : unsigned_abs q * unsigned_abs a ≡ unsigned_abs p * unsigned_abs b = omega arith in

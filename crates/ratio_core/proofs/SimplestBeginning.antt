@@ -15,7 +15,7 @@ use Rattle.ratio_core.proofs.SimplestEnclosing.{excess}
 use Rattle.ratio_core.proofs.SimplestNeighbours.{right_numer_held, stood}
 
 -- by how much one whole number is at most another
-difference : (u w : ℤ) → u ≤ℤ w → (t : ℕ) × (w ≡ u +ℤ pos t)
+pub difference : (u w : ℤ) → u ≤ℤ w → (t : ℕ) × (w ≡ u +ℤ pos t)
 difference u w less = by (w -ℤ u) refl
   where
     by : (z : ℤ) → z ≡ w -ℤ u → (t : ℕ) × (w ≡ u +ℤ pos t)
@@ -85,7 +85,7 @@ one_more c f (pos d) d_up is =
     let s : up c + down f ≡ down c + up f + 1 = omega (arith, ints) in
     omega (arith, ints, ap (λ z. z * d) s)
 
-times_less : (b f g : ℤ) → pos 0 <ℤ b → g ≤ℤ f → (g *ℤ b) ≤ℤ (f *ℤ b)
+pub times_less : (b f g : ℤ) → pos 0 <ℤ b → g ≤ℤ f → (g *ℤ b) ≤ℤ (f *ℤ b)
 times_less b f g up less = (let h = times_up b g f (omega (arith, ints)) less in omega (arith, ints))
 
 -- if m/e is at most a whole number that is at most n/d, no fraction lies between

@@ -39,7 +39,7 @@ opposite n d m e p q a b d_up e_up first second below above =
     let none = first.numer (pos 0) (pos 1) zero_between in
     omega (arith, ints)
 
-same_size : (p a : ℤ) → unsigned_abs p ≡ unsigned_abs a → (p ≡ a) ⊎ ((p <ℤ pos 0) × (pos 0 <ℤ a)) ⊎ ((a <ℤ pos 0) × (pos 0 <ℤ p))
+pub same_size : (p a : ℤ) → unsigned_abs p ≡ unsigned_abs a → (p ≡ a) ⊎ ((p <ℤ pos 0) × (pos 0 <ℤ a)) ⊎ ((a <ℤ pos 0) × (pos 0 <ℤ p))
 same_size (pos p) (pos a) e = inl (omega (arith, ints))
 same_size (pos p) (negsuc a) e = inr (inr (omega (arith, ints), omega (arith, ints)))
 same_size (negsuc p) (pos a) e = inr (inl (omega (arith, ints), omega (arith, ints)))
@@ -78,7 +78,7 @@ not_moved_down m p a e q (suc b) t h b_up below same over =
     let u : up a * e + down m * suc b ≡ down a * e + up m * suc b + t = omega (arith, ints) in
     omega (arith, ap (λ z. z * suc b) w, ap (λ z. z * e) s, ap (λ z. z * q) u)
 
-below_or : (u w : ℤ) → ((t : ℕ) → u ≡ w +ℤ pos t → ⊥) → u <ℤ w
+pub below_or : (u w : ℤ) → ((t : ℕ) → u ≡ w +ℤ pos t → ⊥) → u <ℤ w
 below_or u w never = by (w -ℤ u) refl
   where
     by : (z : ℤ) → z ≡ w -ℤ u → u <ℤ w
@@ -126,7 +126,7 @@ simplest_same n d m e n' d' m' e' p q d_up e_up d'_up e'_up low high is = record
   numer = λ a b between. is.numer a b (between_same n' d' m' e' n d m e a b d'_up e'_up d_up e_up (sym low) (sym high) between);
 }
 
-one_divisor : (q b : ℤ) (k : ℕ) → pos 0 <ℤ q → q ≡ b *ℤ pos k → (pos 0 <ℤ b → q ≤ℤ b) → k ≡ 1
+pub one_divisor : (q b : ℤ) (k : ℕ) → pos 0 <ℤ q → q ≡ b *ℤ pos k → (pos 0 <ℤ b → q ≤ℤ b) → k ≡ 1
 one_divisor q (negsuc b) k q_up is most = absurd (omega (arith, ints))
 one_divisor q (pos b) zero q_up is most = absurd (omega (arith, ints))
 one_divisor q (pos zero) (suc k) q_up is most = absurd (omega (arith, ints))

@@ -1,10 +1,15 @@
+pub mod Bounds
 pub mod Cancelling
 pub mod Conditions
 pub mod ContinuedFraction
 pub mod Convergents
 pub mod Decimal
+pub mod DecimalCuts
 pub mod DecimalLaws
+pub mod DecimalReading
 pub mod Enclosing
+pub mod EndChoice
+pub mod FloatLaws
 pub mod Floats
 pub mod FromQuotients
 pub mod Laws
@@ -15,6 +20,7 @@ pub mod Order
 pub mod Parts
 pub mod Power
 pub mod PowerLaws
+pub mod Precision
 pub mod Printing
 pub mod Reading
 pub mod Refusal
@@ -24,3 +30,5 @@ pub mod RoundingRules
 pub mod Signs
 pub mod Simplest
 pub mod SimplestLaws
+pub mod SimplestWithin
+pub mod SimplestWithinLaws

@@ -1,14 +1,17 @@
 //! The laws of this crate. Each function does nothing: its contract is the law. If `checked_add` or
 //! `checked_mul` returns `Some`, that is a sum or a product as the laws mean it.
 ghost use Rattle.ratio_core.specs.DecimalLaws.{DecimalsAreMonotone, DecimalsAreNear};
+ghost use Rattle.ratio_core.specs.FloatLaws.{FloatsComeBack, NearestOfZero, SameValueSameFloat};
 ghost use Rattle.ratio_core.specs.FromQuotients.{FractionsAreLowest, QuotientsGiveBack};
 ghost use Rattle.ratio_core.specs.Laws.{FormedDifferencesFit, FormedSumsFit, ProductsAssociate, ProductsCommute, ProductsDistribute, SumConditionsCommute, SumsAssociate, SumsCommute};
 ghost use Rattle.ratio_core.specs.NearestLaws.{LowestIsNearest, NearestIsLowest, OneIsNearest, SameValueSameNearest};
+ghost use Rattle.ratio_core.specs.Precision.{HalfEvenIsDecimal};
 ghost use Rattle.ratio_core.specs.PowerLaws.{PartsAddUp, PartsAreAnswered, PowersAdd, PowersAreProducts, ReciprocalsInvert};
 ghost use Rattle.ratio_core.specs.Rounding.{IsCeiling, IsFloor, IsRounded, IsTruncation};
 ghost use Rattle.ratio_core.specs.RoundingLaws.{CeilingsAreNextToFloors, EachHasOne, IsByValue};
 ghost use Rattle.ratio_core.specs.RoundingRules.{HalvesDifferAtTies, IsRoundedBy, RoundedIsMonotone, RoundedIsNear};
 ghost use Rattle.ratio_core.specs.SimplestLaws.{OneIsSimplest, SameValuesSameSimplest, SimplestIsLowest};
+ghost use Rattle.ratio_core.specs.SimplestWithinLaws.{ExcludedIsBetween, OneIsSimplestWithin, SameBoundsSameSimplest, SimplestWithinIsLowest};
 ghost use Rattle.ratio_core.specs.declared.rounding_rule.Rounding.{Rounding};
 
 /// Laws of sums in lowest terms.
@@ -60,10 +63,12 @@ pub fn rounding_rules()
 {}
 
 /// To as many places by one rule, the decimal of a greater fraction is never smaller. It is less than one unit of its
-/// last place away from the fraction, and at most half a unit by `HalfAway` and `HalfEven`.
+/// last place away from the fraction, and at most half a unit by `HalfAway` and `HalfEven`. The text under a precision
+/// is the decimal by `HalfEven`.
 pub fn decimals()
     ensures monotone { DecimalsAreMonotone }
     ensures near { DecimalsAreNear }
+    ensures printed { HalfEvenIsDecimal }
 {}
 
 /// Laws of reciprocals and powers.
@@ -99,4 +104,21 @@ pub fn simplest_fractions()
     ensures one { OneIsSimplest }
     ensures lowest { SimplestIsLowest }
     ensures value { SameValuesSameSimplest }
+{}
+
+/// Laws of the simplest fraction within two bounds, which `simplest_within` returns. Within two excluded bounds
+/// it is the fraction that `simplest_between` returns.
+pub fn simplest_fractions_within()
+    ensures one { OneIsSimplestWithin }
+    ensures lowest { SimplestWithinIsLowest }
+    ensures value { SameBoundsSameSimplest }
+    ensures between { ExcludedIsBetween }
+{}
+
+/// Laws of the nearest float, which `to_f64` and `to_f32` return. It depends only on the value of a fraction, and the
+/// fraction with exactly the value of a float gives this float back.
+pub fn nearest_floats()
+    ensures zero { NearestOfZero }
+    ensures value { SameValueSameFloat }
+    ensures back { FloatsComeBack }
 {}

@@ -1,7 +1,8 @@
-//! The simplest fraction strictly between two fractions.
+//! The simplest fraction strictly between two fractions, and within two bounds.
 mod neighbour;
 mod search;
 mod wholes;
+mod within;
 
 ghost use Rattle.std.specs.Prelude.{◌≡◌, ◌<ℤ◌, ◌+◌, ℕ, pos, min, unsigned_abs};
 ghost use Rattle.ratio_core.specs.ContinuedFraction.{IsWithinBits};
@@ -13,6 +14,7 @@ use crate::simplest::search::search;
 use crate::simplest::wholes::{last_below, nearest_zero};
 use crate::steps::Steps;
 use ratio_integer::{Integer, both_held};
+pub use within::simplest_within;
 
 /// Of all fractions strictly between `n/d` and `m/e`, the one with the smallest denominator. Of these
 /// it is the one whose numerator is nearest to 0. Between 1/3 and 1/2 it is 2/5, and between -1/2 and

@@ -1,13 +1,16 @@
-//! Three more callers over fractions in lowest terms.
+//! More callers over fractions in lowest terms.
 ghost use Rattle.std.specs.Prelude.{◌≡◌, ◌≢◌, ◌↔◌, [], All, IfSome};
 ghost use Rattle.std.specs.List.{Contains};
 ghost use Rattle.std.specs.declared.cmp.Ordering.TheVariants.{Greater};
+ghost use Rattle.std.specs.declared.ops.Bound.TheVariants.{Excluded, Unbounded};
+ghost use Rattle.num_rational.specs.Bounds.{ChecksSimplestWithinBounds};
 ghost use Rattle.num_rational.specs.Comparison.{order_of};
 ghost use Rattle.num_rational.specs.Reduced.{ChecksSimplestBetween, ratio_of};
 ghost use Rattle.ratio_uses.specs.Callers.{ChecksMean};
 ghost use Rattle.ratio_uses.specs.Held.{lowest_numbers};
 
 use num_rational::Reduced64;
+use std::ops::Bound;
 
 /// The greatest amount, or `None` exactly where there is no amount.
 pub fn greatest(amounts: &[Reduced64]) -> Option<Reduced64>
@@ -31,4 +34,18 @@ pub fn place_between(before: &Reduced64, after: &Reduced64) -> Option<Reduced64>
     ensures { ChecksSimplestBetween before.now after.now result }
 {
     Reduced64::simplest_between(before, after)
+}
+
+/// The place of a new item after the last one. `None` exactly where 64 bits hold no fraction above it.
+pub fn place_after(last: &Reduced64) -> Option<Reduced64>
+    ensures { ChecksSimplestWithinBounds (Excluded (lowest_numbers last.now)) Unbounded result }
+{
+    Reduced64::simplest_within(Bound::Excluded(*last), Bound::Unbounded)
+}
+
+/// The place of a new item before the first one. `None` exactly where 64 bits hold no fraction below it.
+pub fn place_before(first: &Reduced64) -> Option<Reduced64>
+    ensures { ChecksSimplestWithinBounds Unbounded (Excluded (lowest_numbers first.now)) result }
+{
+    Reduced64::simplest_within(Bound::Unbounded, Bound::Excluded(*first))
 }

@@ -18,8 +18,8 @@ pub fn together(left: &Rational64, right: &Rational64) -> Option<Rational64>
     }
 }
 
-/// The product of the rates, or `None` exactly where a product on the way does not fit. The clause `positive` is what the
-/// next call requires of it.
+/// The product of the rates, or `None` exactly where a product on the way does not fit. The clause `positive` is what a
+/// checked call on the result requires.
 pub fn chained(rates: &[Rational64]) -> Option<Rational64>
     requires { ArePositive numbers rates.now }
     ensures product { ChecksProductOf numbers rates.now result }

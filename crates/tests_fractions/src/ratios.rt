@@ -18,6 +18,7 @@ mod lowest_sums;
 mod main_statement;
 mod operators;
 mod powers;
+mod precision;
 mod reduced;
 mod rounding;
 mod rows;

@@ -1,4 +1,4 @@
-//! Continued fractions: the quotients of a fraction, and the fraction of some quotients.
+//! Continued fractions: the quotients and the convergents of a fraction, and the fraction of some quotients.
 use super::integer::{Element, Integer};
 use super::ratio::Ratio;
 use super::reduced::Reduced;
@@ -9,7 +9,7 @@ use core::iter::FusedIterator;
 // holds a fraction with as many quotients as this.
 const MOST: usize = 192;
 
-/// The quotients of a continued fraction, one after another. `Reduced::continued_fraction` returns it.
+/// The quotients of a continued fraction, one after another. `Reduced::continued_fraction` and `Ratio::continued_fraction` return it.
 pub struct Quotients<T: Integer> {
     quotients: Proved<T>,
 }
@@ -34,7 +34,7 @@ impl<T: Integer> Quotients<T> {
     }
 }
 
-/// The convergents of a continued fraction, one after another. `Reduced::convergents` returns it.
+/// The convergents of a continued fraction, one after another. `Reduced::convergents` and `Ratio::convergents` return it.
 pub struct Convergents<T: Integer> {
     convergents: ProvedConvergents<T>,
 }
@@ -70,6 +70,33 @@ pub(super) fn in_proved<T: Integer, R>(quotients: &[T], then: impl FnOnce(&[<T a
 }
 
 impl<T: Integer> Ratio<T> {
+    /// The quotients of this fraction's continued fraction, as `Reduced::continued_fraction` returns them: 4, 2, 6 and 7 for 415/93.
+    /// `None` if the denominator is 0, or if it is negative and the lowest terms do not fit the type. num-rational has no such call.
+    ///
+    /// ```
+    /// use bakhsney::Ratio;
+    ///
+    /// assert!(Ratio::new_raw(830, 186).continued_fraction().unwrap().eq([4, 2, 6, 7]));
+    /// assert!(Ratio::new_raw(1, 0).continued_fraction().is_none());
+    /// ```
+    pub fn continued_fraction(&self) -> Option<Quotients<T>> {
+        Some(Reduced::from_ratio(self)?.continued_fraction())
+    }
+
+    /// The convergents of this fraction's continued fraction, as `Reduced::convergents` returns them: 4, 9/2, 58/13 and 415/93 for
+    /// 415/93. Each is a `Reduced`. `None` where `continued_fraction` is. num-rational has no such call.
+    ///
+    /// ```
+    /// use bakhsney::{Ratio, Reduced};
+    ///
+    /// let x = Ratio::new_raw(-14i8, 6);
+    /// assert!(x.convergents().unwrap().map(Reduced::into_raw).eq([(-3, 1), (-2, 1), (-7, 3)]));
+    /// assert!(Ratio::new_raw(1, 0).convergents().is_none());
+    /// ```
+    pub fn convergents(&self) -> Option<Convergents<T>> {
+        Some(Reduced::from_ratio(self)?.convergents())
+    }
+
     /// The fraction with these quotients, in lowest terms: 4, 2, 6 and 7 give 415/93, and so do 4, 2, 6, 6 and 1. `None` if there
     /// is no quotient, if one after the first is below 1, or if the fraction does not fit the type. num-rational has no such call.
     ///

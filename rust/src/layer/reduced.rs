@@ -4,8 +4,10 @@
 //! places, and panics if there are more. `round_to` requires a positive number of parts, and is `None` if it is not positive. The
 //! others require nothing.
 use super::continued::{Convergents, Quotients, in_proved};
+use super::floats::Float;
 use super::integer::{Element, Integer, Signs};
 use super::ratio::Ratio;
+use super::simplest::bound_with;
 use crate::proved::num_rational as proved;
 use crate::proved::num_rational::{Constants, ParseRatioError};
 use crate::proved::ratio_core::rounding_rule::Rounding;
@@ -13,6 +15,7 @@ use crate::proved::ratio_core::{BaseTenText, DecimalText};
 use core::cmp::Ordering;
 use core::fmt;
 use core::hash::{Hash, Hasher};
+use core::ops::Bound;
 use core::str::FromStr;
 use num_traits::Signed;
 
@@ -135,6 +138,32 @@ impl<T: Integer> Reduced<T> {
         Reduced::of(Proved::<T>::from_float32(float))
     }
 
+    /// The nearest float. If two are as near, it is the one whose last binary digit is 0. num-traits' `ToPrimitive` has a call of
+    /// this name that returns an `Option`.
+    ///
+    /// ```
+    /// use bakhsney::Reduced;
+    ///
+    /// assert_eq!(Reduced::checked_new(1, 3).unwrap().to_f64(), 1.0 / 3.0);
+    /// ```
+    #[inline]
+    pub fn to_f64(&self) -> f64 {
+        Float::nearest(*self.fraction.numer(), *self.fraction.denom())
+    }
+
+    /// The same for a float of 32 bits. It is infinite if the magnitude of the fraction is 2^128-2^103 or more.
+    ///
+    /// ```
+    /// use bakhsney::Reduced;
+    ///
+    /// assert_eq!(Reduced::checked_new(1, 3).unwrap().to_f32(), 0.33333334);
+    /// assert_eq!(Reduced::from(u128::MAX).to_f32(), f32::INFINITY);
+    /// ```
+    #[inline]
+    pub fn to_f32(&self) -> f32 {
+        Float::nearest(*self.fraction.numer(), *self.fraction.denom())
+    }
+
     /// The same fraction as a `Ratio`.
     ///
     /// ```
@@ -206,7 +235,8 @@ impl<T: Integer> Reduced<T> {
     }
 
     /// The fraction as a decimal with so many places, rounded by the rule. There are always as many digits behind the point, and
-    /// without places no point. A fraction that is rounded to 0 has no minus.
+    /// without places no point. A fraction that is rounded to 0 has no minus. `{:.2}` writes the decimal by `HalfEven`, and takes any
+    /// number of places.
     ///
     /// # Panics
     ///
@@ -218,6 +248,7 @@ impl<T: Integer> Reduced<T> {
     /// let eighth = Reduced::checked_new(1, 8).unwrap();
     /// assert_eq!(eighth.decimal(2, Rounding::HalfEven).as_str(), "0.12");
     /// assert_eq!(eighth.decimal(2, Rounding::HalfAway).as_str(), "0.13");
+    /// assert_eq!(format!("{:.2} {:+.50}", eighth, eighth), format!("0.12 +0.125{}", "0".repeat(47)));
     /// ```
     #[inline]
     #[track_caller]
@@ -435,6 +466,25 @@ impl<T: Integer> Reduced<T> {
     #[inline]
     pub fn simplest_between(low: &Reduced<T>, high: &Reduced<T>) -> Option<Reduced<T>> {
         Reduced::of(Proved::<T>::simplest_between(&low.fraction, &high.fraction))
+    }
+
+    /// Of all fractions within the bounds, the one with the smallest denominator, and of these the one whose numerator is nearest
+    /// to 0. An included bound may be the result. `None` exactly if the type has no fraction within the bounds.
+    ///
+    /// ```
+    /// use bakhsney::Reduced;
+    /// use std::ops::Bound::{Excluded, Included, Unbounded};
+    ///
+    /// let [low, high] = ["1/3", "1/2"].map(|text| text.parse::<Reduced<i8>>().unwrap());
+    /// assert_eq!(Reduced::simplest_within(Included(low), Included(high)), Some(high));
+    /// assert_eq!(Reduced::simplest_within(Included(low), Excluded(low)), None);
+    /// assert_eq!(Reduced::simplest_within(Excluded(high), Unbounded), Some(Reduced::ONE));
+    /// assert_eq!(Reduced::simplest_within(Excluded(Reduced::from(127i8)), Unbounded), None);
+    /// ```
+    #[inline]
+    pub fn simplest_within(low: Bound<Reduced<T>>, high: Bound<Reduced<T>>) -> Option<Reduced<T>> {
+        let inner = |bound| bound_with(bound, |fraction: Reduced<T>| Some(fraction.fraction));
+        Reduced::of(Proved::<T>::simplest_within(inner(low)?, inner(high)?))
     }
 
     /// The quotients of this fraction's continued fraction, one after another: 4, 2, 6 and 7 for 415/93, which is

@@ -52,7 +52,7 @@ impl<T: Integer> From<Reduced<T>> for (T, T) {
     }
 }
 
-/// This fraction cut towards zero, or `None` if that does not fit the integer type. And the nearest float, as for `Ratio`.
+/// This fraction cut towards zero, or `None` if that does not fit the integer type. And the nearest float, which is always `Some`.
 impl<T: Integer> ToPrimitive for Reduced<T> {
     #[inline]
     fn to_i64(&self) -> Option<i64> {
@@ -76,12 +76,12 @@ impl<T: Integer> ToPrimitive for Reduced<T> {
 
     #[inline]
     fn to_f32(&self) -> Option<f32> {
-        self.to_ratio().to_f32()
+        Some(Reduced::to_f32(self))
     }
 
     #[inline]
     fn to_f64(&self) -> Option<f64> {
-        self.to_ratio().to_f64()
+        Some(Reduced::to_f64(self))
     }
 }
 

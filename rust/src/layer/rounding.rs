@@ -120,7 +120,7 @@ impl<T: Integer> Ratio<T> {
 }
 
 /// This fraction cut towards zero, or `None` if that does not fit the integer type, or if the denominator is 0. And the nearest
-/// float, which is not proved.
+/// float.
 impl<T: Integer> ToPrimitive for Ratio<T> {
     #[inline]
     fn to_i64(&self) -> Option<i64> {
@@ -143,7 +143,7 @@ impl<T: Integer> ToPrimitive for Ratio<T> {
     }
 
     /// The nearest `f32`. If two are as near, it is the one whose last binary digit is 0. As in num-rational, a denominator of
-    /// 0 makes it infinite, and 0/0 is `None`.
+    /// 0 makes it infinite, and 0/0 is `None`. num-rational rounds to an `f64` first, and can return another `f32`.
     ///
     /// ```
     /// use num_traits::ToPrimitive;
@@ -152,7 +152,7 @@ impl<T: Integer> ToPrimitive for Ratio<T> {
     /// ```
     #[inline]
     fn to_f32(&self) -> Option<f32> {
-        self.nearest_f32()
+        self.nearest_float()
     }
 
     /// The nearest `f64`, by the same rules.
@@ -164,6 +164,6 @@ impl<T: Integer> ToPrimitive for Ratio<T> {
     /// ```
     #[inline]
     fn to_f64(&self) -> Option<f64> {
-        self.nearest_f64()
+        self.nearest_float()
     }
 }

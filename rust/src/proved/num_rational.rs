@@ -6,6 +6,7 @@
 //! and no law can say that.
 mod convergents;
 mod convert;
+mod floats;
 mod fold;
 mod hash;
 
@@ -16,6 +17,7 @@ mod operand;
 mod ops;
 mod order;
 mod pow;
+mod precision;
 mod printing;
 mod quotients;
 mod ratio;
@@ -32,7 +34,7 @@ pub use quotients::Quotients;
 pub use ratio::{Constants, Ratio, Rational, Rational32, Rational64};
 pub use crate::proved::ratio_core::rounding_rule::Rounding;
 pub use crate::proved::ratio_core::{
-    BaseTenText, CodeList, DecimalText, Exponent, Form, ParseRatioError, RatioErrorKind, RatioText,
-    Steps, Taken,
+    BaseTenText, CodeList, DecimalRefusal, DecimalText, Exponent, Form, ParseRatioError,
+    RatioErrorKind, RatioText, Steps, Taken,
 };
 pub use reduced::{Reduced, Reduced32, Reduced64, ReducedOperand};

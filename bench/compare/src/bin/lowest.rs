@@ -12,6 +12,7 @@ mod random;
 mod timing;
 
 use bakhsney::proved::num_rational::{Ratio, Reduced};
+use bakhsney::Rounding;
 use kinds::KINDS;
 use mixing::Mixing;
 use num_bigint::BigInt;
@@ -20,6 +21,7 @@ use num_traits::{CheckedAdd, CheckedDiv, CheckedMul, CheckedSub};
 use random::Random;
 use std::hash::{Hash, Hasher};
 use std::hint::black_box;
+use std::io::Write;
 use timing::times;
 
 /// The number of pairs of each kind.
@@ -39,6 +41,7 @@ fn goal(call: &str, kind: &str) -> Option<f64> {
     match call {
         "eq" | "hash" => Some(0.2),
         "checked_mul" if kind == "full" || kind == "near" => Some(0.8),
+        "decimal" => Some(0.4),
         _ => None,
     }
 }
@@ -163,11 +166,44 @@ macro_rules! fitting_rows {
     }};
 }
 
+/// What `{:.2}` writes for a float, and its length.
+fn float_text(x: f64) -> ([u8; 32], usize) {
+    let mut buffer = [0; 32];
+    let mut rest = &mut buffer[..];
+    write!(rest, "{x:.2}").expect("the buffer has room");
+    let left = rest.len();
+    (buffer, 32 - left)
+}
+
+/// Decimals with two places, of fractions over 1024. Each is a float, too, and none is rounded to 0, where a float keeps its minus. The
+/// program times the float in place of num-rational, which has no decimals.
+fn decimal_row(filter: &str) -> usize {
+    if !"i64/lowest_decimal/two places".contains(filter) {
+        return 0;
+    }
+    let mut random = Random::new(20_240_229);
+    let numers: Vec<_> = std::iter::repeat_with(|| random.signed(1 << 20) as i64).filter(|n| n.abs() > 5).take(COUNT).collect();
+    let lowest: Vec<_> = numers.iter().map(|n| Reduced::<i64>::checked_new(*n, 1_024).expect("a positive denominator")).collect();
+    let ratio: Vec<_> = numers.iter().map(|n| bakhsney::Ratio::new(*n, 1_024)).collect();
+    let floats: Vec<_> = numers.iter().map(|n| *n as f64 / 1_024.0).collect();
+    run(
+        (&lowest, &ratio, &floats),
+        |x| x.decimal(2, Rounding::HalfEven),
+        |x| x.decimal(2, Rounding::HalfEven),
+        |x| float_text(*x),
+        "i64\tdecimal\ttwo places",
+        goal("decimal", "two places"),
+    );
+    let differs = |x: &Reduced<i64>, float: &f64| x.decimal(2, Rounding::HalfEven).as_str() != format!("{float:.2}");
+    lowest.iter().zip(&floats).filter(|(x, float)| differs(x, float)).count()
+}
+
 fn main() {
     let filter = std::env::args().nth(1).unwrap_or_default();
     let differing = rows!(i32, &filter)
         + rows!(i64, &filter)
         + rows!(i128, &filter)
+        + decimal_row(&filter)
         + fitting_rows!(&filter, i8 i16 i32 i64 i128 isize u8 u16 u32 u64 u128 usize);
     if differing > 0 {
         eprintln!("{differing} results differ");

@@ -1,12 +1,14 @@
-//! Fractions with exactly the value of a float.
-ghost use Rattle.num_rational.specs.Ratio.{ChecksRatio};
-ghost use Rattle.num_rational.specs.Reduced.{ratio_in};
-ghost use Rattle.ratio_core.specs.Floats.{fraction_of_float};
+//! Fractions with exactly the value of a float, and the float nearest to a fraction.
+ghost use Rattle.std.specs.Prelude.{◌≡◌};
+ghost use Rattle.std.specs.Float.{binary32, binary64};
+ghost use Rattle.num_rational.specs.Ratio.{ChecksRatio, denominator, numerator};
+ghost use Rattle.num_rational.specs.Reduced.{ratio_in, ratio_of};
+ghost use Rattle.ratio_core.specs.Floats.{fraction_of_float, nearest_float};
 
 use super::Reduced;
 use crate::ratio::Ratio;
 use ratio_core::floats::exact;
-use ratio_integer::Integer;
+use ratio_integer::{Integer, Primitive};
 
 impl<T: Copy + Integer> Reduced<T> {
     /// The fraction with exactly the value of the float: 3/4 for 0.75, and
@@ -28,5 +30,23 @@ impl<T: Copy + Integer> Reduced<T> {
         ensures { ChecksRatio (fraction_of_float x) (ratio_in result) }
     {
         Reduced::from_float(f64::from(x))
+    }
+}
+
+impl<T: Primitive> Reduced<T> {
+    /// The float nearest to this fraction: 0.3333333333333333 for 1/3. If two are equally near, it is
+    /// the one whose last bit is 0. 0/1 gives 0.0.
+    pub fn to_f64(&self) -> f64
+        ensures { result ≡ nearest_float binary64 (numerator (ratio_of self.now)) (denominator (ratio_of self.now)) }
+    {
+        self.ratio.to_f64()
+    }
+
+    /// The same for a float of 32 bits: 0.33333334 for 1/3. It is infinite if the size of the fraction
+    /// is at least 2^128-2^103.
+    pub fn to_f32(&self) -> f32
+        ensures { result ≡ nearest_float binary32 (numerator (ratio_of self.now)) (denominator (ratio_of self.now)) }
+    {
+        self.ratio.to_f32()
     }
 }

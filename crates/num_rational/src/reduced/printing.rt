@@ -1,13 +1,15 @@
-//! Printing fractions in lowest terms through the traits of std, as the `Ratio` of their fields.
+//! Printing fractions in lowest terms through the traits of std, as the `Ratio` of their fields, or with a precision as
+//! decimals.
 ghost use Rattle.std.specs.Prelude.{Some, false};
-ghost use Rattle.std.specs.Fmt.{WritesOnOk, WritesStyledOnOk, formatter_spec, padded_integral, spec_alternate};
-ghost use Rattle.num_rational.specs.Padding.{padded_base_ten, padded_in_base};
+ghost use Rattle.std.specs.Fmt.{WritesOnOk, WritesStyledOnOk, formatter_spec, padded_integral, spec_alternate, spec_precision};
+ghost use Rattle.num_rational.specs.Padding.{padded_base_ten, padded_in_base, text_under};
 ghost use Rattle.num_rational.specs.Ratio.{denominator, numerator};
 ghost use Rattle.num_rational.specs.Reduced.{ratio_of};
 ghost use Rattle.ratio_core.specs.Printing.{text_of};
 ghost use Rattle.ratio_core.specs.declared.text.form.Form.TheVariants.{Decimal};
 
 use super::Reduced;
+use crate::precision::write_with_places;
 use ratio_integer::Primitive;
 use std::fmt;
 use std::fmt::{Binary, Display, Formatter, LowerHex, Octal, UpperHex, Write};
@@ -16,10 +18,13 @@ impl<T: Primitive> Display for Reduced<T> {
     ghost output = { λ x. Some (text_of T.BITS Decimal false (numerator (ratio_of x)) (denominator (ratio_of x))) };
 
     ghost styled_output = { λ x options. Some (padded_base_ten (padded_integral options)
-        (text_of T.BITS Decimal false (numerator (ratio_of x)) (denominator (ratio_of x)))) };
+        (text_under (spec_precision options) T.BITS (numerator (ratio_of x)) (denominator (ratio_of x)))) };
 
     fn fmt<W: Write>(&self, f: &mut Formatter<W>) -> fmt::Result {
-        Display::fmt(&self.ratio, f)
+        match f.precision() {
+            None => Display::fmt(&self.ratio, f),
+            Some(places) => write_with_places(*self.numer(), *self.denom(), places, f),
+        }
     }
 }
 

@@ -2,6 +2,7 @@
 ghost use Rattle.std.specs.Prelude.{◌≡◌, ◌⊎◌, ◌+◌, ◌/◌, ◌%◌, ◌^◌, ◌<◌, ◌≤◌, ◌∷◌, ◌++◌, [], ℕ, ℤ, List, decimal};
 ghost use Rattle.std.specs.Char.{digit_value};
 ghost use Rattle.std.specs.Int.{IsInRange};
+ghost use Rattle.ratio_core.specs.DecimalReading.{DecimalsHaveOneReading};
 ghost use Rattle.ratio_core.specs.Reading.{IsFractionText, IsNumberText, IsSlashedText};
 
 /// What a byte is worth as a digit: 0 to 9 for `0` to `9`, and 10 to 35 for the letters in either case. The
@@ -31,4 +32,9 @@ pub fn one_reading()
         → (n ≡ m) × (d ≡ e) }
     ensures fraction { (lo hi : ℤ) (text : List ℕ) (n d m e : ℤ)
         → IsFractionText lo hi text n d → IsFractionText lo hi text m e → (n ≡ m) × (d ≡ e) }
+{}
+
+/// A text reads as at most one decimal.
+pub fn one_decimal()
+    ensures { DecimalsHaveOneReading }
 {}

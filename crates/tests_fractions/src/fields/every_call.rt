@@ -1,6 +1,7 @@
 //! The calls on fields that the calls of fractions pass on to, each once at a concrete type.
 use crate::asserting::{each_holds, reads};
 use ratio_core::checked_new::checked_new;
+use ratio_core::floats::nearest::{to_f32, to_f64};
 use ratio_core::pow::{checked_pow, checked_pow_with, checked_recip, pow, pow_with, recip};
 use ratio_core::rounding::{
     ceil, floor, fract, round, to_i64, to_i128, to_integer, to_u64, to_u128, trunc,
@@ -21,6 +22,8 @@ fn reducing(rt: HostRuntime) {
         lowest_terms(-6i64, 4) == (-3, 2),
         cancelled(6i64, -4) == (3, -2),
         round_to(2i64, 3, 100, Rounding::HalfEven) == Some((67, 100)),
+        to_f64(-7i64, 2) == -3.5,
+        to_f32(-7i64, 2) == -3.5,
         recip(-2i64, 3) == (-3, 2),
         checked_recip(-2i64, 3) == Some((-3, 2)),
     ];

@@ -9,7 +9,7 @@ use core::fmt::{Binary, Display, Formatter, LowerHex, Octal, UpperHex, Write};
 
 // Writes a text in base 10. A minus at its beginning is its sign.
 #[inline]
-fn write_base_ten(text: &str, f: &mut Formatter<'_>) -> fmt::Result {
+pub(crate) fn write_base_ten(text: &str, f: &mut Formatter<'_>) -> fmt::Result {
     match text.strip_prefix('-') {
         Some(digits) => f.pad_integral(false, "", digits),
         None => f.pad_integral(true, "", text),

@@ -16,6 +16,7 @@ mod operand;
 mod order;
 mod pow;
 mod printing;
+mod reading;
 mod rounding;
 mod sign;
 mod simplest;

@@ -29,7 +29,8 @@ pub fn roundings_by_value() {}
 pub fn rounding_rules() {}
 
 /// To as many places by one rule, the decimal of a greater fraction is never smaller. It is less than one unit of its
-/// last place away from the fraction, and at most half a unit by `HalfAway` and `HalfEven`.
+/// last place away from the fraction, and at most half a unit by `HalfAway` and `HalfEven`. The text under a precision
+/// is the decimal by `HalfEven`.
 #[inline]
 pub fn decimals() {}
 
@@ -53,3 +54,13 @@ pub fn fractions_of_quotients() {}
 /// Laws of the simplest fraction strictly between two others, which `simplest_between` returns.
 #[inline]
 pub fn simplest_fractions() {}
+
+/// Laws of the simplest fraction within two bounds, which `simplest_within` returns. Within two excluded bounds
+/// it is the fraction that `simplest_between` returns.
+#[inline]
+pub fn simplest_fractions_within() {}
+
+/// Laws of the nearest float, which `to_f64` and `to_f32` return. It depends only on the value of a fraction, and the
+/// fraction with exactly the value of a float gives this float back.
+#[inline]
+pub fn nearest_floats() {}

@@ -1,8 +1,9 @@
 // Erased from crates/ratio_core/src/simplest.rt by rust/erase: not to be edited.
-//! The simplest fraction strictly between two fractions.
+//! The simplest fraction strictly between two fractions, and within two bounds.
 mod neighbour;
 mod search;
 mod wholes;
+mod within;
 
 use crate::proved::ratio_core::order::dividing::divide_left;
 use crate::proved::ratio_core::simplest::neighbour::Neighbour;
@@ -10,6 +11,7 @@ use crate::proved::ratio_core::simplest::search::search;
 use crate::proved::ratio_core::simplest::wholes::{last_below, nearest_zero};
 use crate::proved::ratio_core::steps::Steps;
 use crate::proved::ratio_integer::{Integer, both_held};
+pub use within::simplest_within;
 
 /// Of all fractions strictly between `n/d` and `m/e`, the one with the smallest denominator. Of these
 /// it is the one whose numerator is nearest to 0. Between 1/3 and 1/2 it is 2/5, and between -1/2 and

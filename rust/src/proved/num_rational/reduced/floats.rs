@@ -1,10 +1,10 @@
 // Erased from crates/num_rational/src/reduced/floats.rt by rust/erase: not to be edited.
-//! Fractions with exactly the value of a float.
+//! Fractions with exactly the value of a float, and the float nearest to a fraction.
 
 use super::Reduced;
 use crate::proved::num_rational::ratio::Ratio;
 use crate::proved::ratio_core::floats::exact;
-use crate::proved::ratio_integer::Integer;
+use crate::proved::ratio_integer::{Integer, Primitive};
 
 impl<T: Copy + Integer> Reduced<T> {
     /// The fraction with exactly the value of the float: 3/4 for 0.75, and
@@ -24,5 +24,21 @@ impl<T: Copy + Integer> Reduced<T> {
     #[inline]
     pub fn from_float32(x: f32) -> Option<Reduced<T>> {
         Reduced::from_float(f64::from(x))
+    }
+}
+
+impl<T: Primitive> Reduced<T> {
+    /// The float nearest to this fraction: 0.3333333333333333 for 1/3. If two are equally near, it is
+    /// the one whose last bit is 0. 0/1 gives 0.0.
+    #[inline]
+    pub fn to_f64(&self) -> f64 {
+        self.ratio.to_f64()
+    }
+
+    /// The same for a float of 32 bits: 0.33333334 for 1/3. It is infinite if the size of the fraction
+    /// is at least 2^128-2^103.
+    #[inline]
+    pub fn to_f32(&self) -> f32 {
+        self.ratio.to_f32()
     }
 }

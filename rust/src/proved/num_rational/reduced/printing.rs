@@ -1,7 +1,9 @@
 // Erased from crates/num_rational/src/reduced/printing.rt by rust/erase: not to be edited.
-//! Printing fractions in lowest terms through the traits of std, as the `Ratio` of their fields.
+//! Printing fractions in lowest terms through the traits of std, as the `Ratio` of their fields, or with a precision as
+//! decimals.
 
 use super::Reduced;
+use crate::proved::num_rational::precision::write_with_places;
 use crate::proved::ratio_integer::Primitive;
 use core::fmt;
 use core::fmt::{Binary, Display, Formatter, LowerHex, Octal, UpperHex, Write};
@@ -9,7 +11,10 @@ use core::fmt::{Binary, Display, Formatter, LowerHex, Octal, UpperHex, Write};
 impl<T: Primitive> Display for Reduced<T> {
     #[inline]
     fn fmt(&self, f: &mut Formatter<'_>) -> fmt::Result {
-        Display::fmt(&self.ratio, f)
+        match f.precision() {
+            None => Display::fmt(&self.ratio, f),
+            Some(places) => write_with_places(*self.numer(), *self.denom(), places, f),
+        }
     }
 }
 

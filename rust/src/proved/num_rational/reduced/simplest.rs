@@ -1,10 +1,11 @@
 // Erased from crates/num_rational/src/reduced/simplest.rt by rust/erase: not to be edited.
-//! The simplest fraction between two.
+//! The simplest fraction between two, and within two bounds.
 
 use super::Reduced;
 use crate::proved::num_rational::ratio::Ratio;
 use crate::proved::ratio_core::simplest;
 use crate::proved::ratio_integer::Integer;
+use core::ops::Bound;
 
 impl<T: Copy + Integer> Reduced<T> {
     /// Of all fractions strictly between `low` and `high`, the one with the smallest denominator. Of
@@ -22,5 +23,27 @@ impl<T: Copy + Integer> Reduced<T> {
         Some(Reduced {
             ratio: Ratio::new_raw(numer, denom),
         })
+    }
+
+    /// Of all fractions within the bounds, the one with the smallest denominator. Of these it is the one whose
+    /// numerator is nearest to 0. Each bound is included, excluded or open. An included one may be the result: from
+    /// 1/3 to 1/2, both included, it is 1/2. Above 5/2, without an upper bound, it is 3/1. Without any bound it is 0/1.
+    /// `None` exactly if the type has no fraction within the bounds, as above 127/1 over `i8`.
+    #[inline]
+    pub fn simplest_within(low: Bound<Reduced<T>>, high: Bound<Reduced<T>>) -> Option<Reduced<T>> {
+        let (numer, denom) = simplest::simplest_within(fields_of(low), fields_of(high))?;
+        Some(Reduced {
+            ratio: Ratio::new_raw(numer, denom),
+        })
+    }
+}
+
+/// The bound with the two fields of its fraction.
+#[inline]
+fn fields_of<T: Copy + Integer>(bound: Bound<Reduced<T>>) -> Bound<(T, T)> {
+    match bound {
+        Bound::Included(x) => Bound::Included(x.into_raw()),
+        Bound::Excluded(x) => Bound::Excluded(x.into_raw()),
+        Bound::Unbounded => Bound::Unbounded,
     }
 }

@@ -14,3 +14,7 @@ pub fn decimal_digits() {}
 /// A text reads as at most one number, and as at most one pair of numbers.
 #[inline]
 pub fn one_reading() {}
+
+/// A text reads as at most one decimal.
+#[inline]
+pub fn one_decimal() {}

@@ -2,6 +2,7 @@
 //! The calls on fields that the calls of fractions pass on to, each once at a concrete type.
 use crate::proved::tests_fractions::asserting::{each_holds, reads};
 use crate::proved::ratio_core::checked_new::checked_new;
+use crate::proved::ratio_core::floats::nearest::{to_f32, to_f64};
 use crate::proved::ratio_core::pow::{checked_pow, checked_pow_with, checked_recip, pow, pow_with, recip};
 use crate::proved::ratio_core::rounding::{
     ceil, floor, fract, round, to_i64, to_i128, to_integer, to_u64, to_u128, trunc,
@@ -22,6 +23,8 @@ fn reducing() {
         lowest_terms(-6i64, 4) == (-3, 2),
         cancelled(6i64, -4) == (3, -2),
         round_to(2i64, 3, 100, Rounding::HalfEven) == Some((67, 100)),
+        to_f64(-7i64, 2) == -3.5,
+        to_f32(-7i64, 2) == -3.5,
         recip(-2i64, 3) == (-3, 2),
         checked_recip(-2i64, 3) == Some((-3, 2)),
     ];

@@ -1,0 +1,19 @@
+-- The laws of the nearest float.
+use Rattle.std.specs.Prelude.{◌≡◌, ◌<◌, ◌<ℤ◌, ℕ, ℤ, pos, Bool, false, T}
+use Rattle.std.specs.Float.{Format, fin}
+use Rattle.std.specs.Float.Ieee.{fits}
+use Rattle.ratio_integer.specs.Fraction.{SameValue}
+use Rattle.ratio_core.specs.Floats.{fraction_of_float, nearest_float}
+
+-- 0 gives 0.0, and not -0.0
+abbrev pub NearestOfZero : Type 0
+NearestOfZero = (f : Format) (d : ℤ) → pos 0 <ℤ d → nearest_float f (pos 0) d ≡ fin false 0 (pos 0)
+
+-- fractions of one value, with positive denominators, have the same nearest float
+abbrev pub SameValueSameFloat : Type 0
+SameValueSameFloat = (f : Format) (n d m e : ℤ) → pos 0 <ℤ d → pos 0 <ℤ e → SameValue n d m e → nearest_float f n d ≡ nearest_float f m e
+
+-- a finite float other than 0 is the nearest float to each fraction with exactly its value
+abbrev pub FloatsComeBack : Type 0
+FloatsComeBack = (f : Format) (s : Bool) (k : ℕ) (e n d : ℤ) → T (fits f (fin s k e)) → 0 < k → pos 0 <ℤ d
+    → SameValue n d (fraction_of_float (fin s k e)).0 (fraction_of_float (fin s k e)).1 → nearest_float f n d ≡ fin s k e

@@ -1,0 +1,121 @@
+//! The two types of floats, as the rounding needs them.
+ghost use Rattle.std.specs.Prelude.{◌≡◌, ◌*◌, ◌^◌, ◌<◌, ◌≤◌, ℕ, false, from_bits};
+ghost use Rattle.std.specs.Float.{Float, Format, binary32, binary64};
+ghost use Rattle.std.specs.Float.Ieee.{hid, low, neg, ones, prec, round};
+ghost use Rattle.std.proofs.Common.{refl};
+
+/// A type of floats.
+pub(crate) trait FloatType: Copy {
+    ghost format: { Format };
+
+    ghost value: { Self → Float };
+
+    ghost DIGITS: { ℕ };
+
+    ghost LEAST: { ℕ };
+
+    ghost INFINITY: { ℕ };
+
+    /// How many binary digits a float has, with the leading one.
+    const DIGITS: u64;
+
+    /// The least float above 0 is 1 over 2 to this power.
+    const LEAST: u64;
+
+    /// The bits of infinity. Those of a finite float without a sign are less.
+    const INFINITY: u64;
+
+    /// The float of these bits.
+    fn of_bits(bits: u64) -> Self
+        requires { bits ≤ ones format * hid format }
+        ensures { value result ≡ from_bits format bits };
+
+    /// The quotient, rounded once. Both numbers are floats, so that their conversion is exact.
+    fn quotient(n: u64, d: u64) -> Self
+        requires n_exact { n < 2 ^ DIGITS }
+        requires d_exact { d < 2 ^ DIGITS }
+        requires d_positive { 0 < d }
+        ensures { value result ≡ round format false n d };
+
+    /// The float with the other sign.
+    fn negated(self) -> Self
+        ensures { value result ≡ neg (value self) };
+
+    ghost digits_law: { DIGITS ≡ prec format };
+
+    ghost least_law: { LEAST ≡ low format };
+
+    ghost infinity_law: { INFINITY ≡ ones format * hid format };
+}
+
+impl FloatType for f64 {
+    ghost format = { binary64 };
+
+    ghost value = { λ x. x };
+
+    ghost DIGITS = { 53 };
+
+    ghost LEAST = { 1074 };
+
+    ghost INFINITY = { 0x7ff0_0000_0000_0000 };
+
+    const DIGITS: u64 = 53;
+
+    const LEAST: u64 = 1074;
+
+    const INFINITY: u64 = 0x7ff0_0000_0000_0000;
+
+    fn of_bits(bits: u64) -> f64 {
+        f64::from_bits(bits)
+    }
+
+    fn quotient(n: u64, d: u64) -> f64 {
+        n as f64 / d as f64
+    }
+
+    fn negated(self) -> f64 {
+        -self
+    }
+
+    ghost digits_law = { refl };
+
+    ghost least_law = { refl };
+
+    ghost infinity_law = { refl };
+}
+
+impl FloatType for f32 {
+    ghost format = { binary32 };
+
+    ghost value = { λ x. x };
+
+    ghost DIGITS = { 24 };
+
+    ghost LEAST = { 149 };
+
+    ghost INFINITY = { 0x7f80_0000 };
+
+    const DIGITS: u64 = 24;
+
+    const LEAST: u64 = 149;
+
+    const INFINITY: u64 = 0x7f80_0000;
+
+    fn of_bits(bits: u64) -> f32 {
+        f32::from_bits(bits as u32)
+    }
+
+    fn quotient(n: u64, d: u64) -> f32 {
+        n as f32 / d as f32
+    }
+
+    fn negated(self) -> f32 {
+        -self
+    }
+
+    ghost digits_law = { refl };
+
+    ghost least_law = { refl };
+
+    ghost infinity_law = { refl };
+}

@@ -1,0 +1,9 @@
+//! The proved sources with their contracts taken off. `rust/erase` writes this file, and each one in `proved/`.
+//!
+//! Nothing here tests a condition on its caller: the exports have no condition on their numbers.
+
+// Not all that is proved is called, imports serve contracts too, and some forms are the proved language's.
+#![allow(dead_code, missing_docs, unused_imports, unused_variables)]
+#![allow(clippy::all)]
+
+pub mod ratio_c;

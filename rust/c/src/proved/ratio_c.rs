@@ -1,0 +1,24 @@
+// Erased from crates/ratio_c/src/lib.rt by rust/erase: not to be edited.
+//! Calls of the library over slices, for programs in other languages. `include/ratio.h` declares them.
+pub mod arithmetic;
+pub mod cast;
+pub mod code;
+pub mod compare;
+pub mod crossing;
+pub mod each;
+pub mod hash;
+pub mod key;
+pub mod laws;
+pub mod lowest_hash;
+pub mod nearest;
+pub mod numbers128;
+pub mod numbers32;
+pub mod numbers64;
+pub mod one_fraction;
+pub mod printing;
+pub mod reading;
+pub mod sign;
+
+pub mod total_steps;
+pub mod totals;
+pub mod wide;

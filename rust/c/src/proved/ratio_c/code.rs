@@ -1,0 +1,30 @@
+// Erased from crates/ratio_c/src/code.rt by rust/erase: not to be edited.
+//! The codes of answers.
+
+/// The answer has its numbers.
+pub const ANSWERED: u32 = 0;
+
+/// The result does not fit in the type, or the library's call
+/// does not form it.
+pub const NOT_HELD: u32 = 1;
+
+/// The divisor is 0, or 0 has an exponent below 0.
+pub const DIVISION_BY_ZERO: u32 = 2;
+
+/// A denominator is 0 or below it, and the call requires positive ones.
+pub const DENOMINATOR_NOT_POSITIVE: u32 = 3;
+
+/// A denominator is 0.
+pub const ZERO_DENOMINATOR: u32 = 4;
+
+/// A text is no fraction, or its numbers or its lowest terms do not fit in the type.
+pub const PARSE_ERROR: u32 = 5;
+
+/// A span does not lie in the texts.
+pub const NO_TEXT: u32 = 6;
+
+/// The bound of a denominator is 0 or below it, so no fraction has such a denominator.
+pub const BOUND_NOT_POSITIVE: u32 = 7;
+
+/// A total's code is 0, but its sum is not in lowest terms.
+pub const NO_TOTAL: u32 = 8;

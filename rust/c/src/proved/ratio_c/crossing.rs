@@ -1,0 +1,114 @@
+// Erased from crates/ratio_c/src/crossing.rt by rust/erase: not to be edited.
+//! Inputs and answers, as they cross from a caller and back.
+
+use crate::proved::ratio_c::code::{ANSWERED, NOT_HELD};
+use bakhsney::proved::num_rational::Ratio;
+use bakhsney::proved::ratio_integer::{Primitive, SignedInteger};
+
+/// A number of at most 128 bits, with its sign. A hash takes its lowest 64 bits.
+pub trait Digest: Copy + Primitive + SignedInteger {
+    /// The number modulo 2^64.
+    fn residue(self) -> u64;
+
+    /// The number in 128 bits.
+    fn wide(self) -> i128;
+}
+
+impl Digest for i32 {
+    #[inline(always)]
+    fn residue(self) -> u64 {
+        (self as i128).rem_euclid(1 << 64) as u64
+    }
+
+    #[inline(always)]
+    fn wide(self) -> i128 {
+        self as i128
+    }
+}
+
+impl Digest for i64 {
+    #[inline(always)]
+    fn residue(self) -> u64 {
+        (self as i128).rem_euclid(1 << 64) as u64
+    }
+
+    #[inline(always)]
+    fn wide(self) -> i128 {
+        self as i128
+    }
+}
+
+impl Digest for i128 {
+    #[inline(always)]
+    fn residue(self) -> u64 {
+        self.rem_euclid(1 << 64) as u64
+    }
+
+    #[inline(always)]
+    fn wide(self) -> i128 {
+        self
+    }
+}
+
+/// A fraction.
+pub trait OneFraction {
+    /// The type of its two numbers in the library.
+    type Inside: Digest;
+
+    /// Its two numbers, as the library takes them.
+    fn fraction(&self) -> (Self::Inside, Self::Inside);
+}
+
+/// A fraction and the exponent of its power.
+pub trait Raised: OneFraction {
+    /// The exponent.
+    fn exponent(&self) -> i32;
+}
+
+/// A fraction and a bound of denominators.
+pub trait Bounded: OneFraction {
+    /// The bound, as the library takes it.
+    fn most(&self) -> Self::Inside;
+}
+
+/// Two fractions.
+pub trait TwoFractions {
+    /// The type of their numbers in the library.
+    type Inside: Primitive;
+
+    /// The first one.
+    fn left(&self) -> (Self::Inside, Self::Inside);
+
+    /// The second one.
+    fn right(&self) -> (Self::Inside, Self::Inside);
+}
+
+/// An answer: a code, and the two numbers of a fraction over `T`.
+pub trait Reply<T: Primitive> {
+    /// The answer with this code and these numbers.
+    fn reply(code: u32, numer: T, denom: T) -> Self;
+}
+
+/// An answer without numbers: the code says why.
+#[inline(always)]
+pub fn refused<T: Copy + Primitive, A: Reply<T>>(code: u32) -> A {
+    A::reply(code, T::ZERO, T::ZERO)
+}
+
+/// The answer for what a checked call returned.
+#[inline(always)]
+pub fn checked<T: Copy + Primitive, A: Reply<T>>(answer: Option<Ratio<T>>) -> A {
+    match answer {
+        Some(x) => A::reply(ANSWERED, *x.numer(), *x.denom()),
+        None => refused::<T, A>(NOT_HELD),
+    }
+}
+
+/// The same for a call that returned the two numbers.
+#[inline(always)]
+pub fn checked_fields<T: Copy + Primitive, A: Reply<T>>(answer: Option<(T, T)>) -> A {
+    match answer {
+        Some((numer, denom)) => A::reply(ANSWERED, numer, denom),
+        None => refused::<T, A>(NOT_HELD),
+    }
+}

@@ -1,0 +1,18 @@
+// Erased from crates/ratio_c/src/laws.rt by rust/erase: not to be edited.
+//! The laws of this crate. Each function does nothing: its contract is the law.
+
+/// Which fractions have the same hash in lowest terms.
+#[inline]
+pub fn lowest_hashes() {}
+
+/// The hash by value is one for all fractions of a value.
+#[inline]
+pub fn hashes() {}
+
+/// Totals of parts make up the total of the whole, in any order. What goes in and out again leaves no trace, and a lost total stays lost.
+#[inline]
+pub fn totals() {}
+
+/// If one value is at most another, so is its key.
+#[inline]
+pub fn keys() {}

@@ -1,0 +1,319 @@
+// Erased from crates/ratio_c/src/numbers32.rt by rust/erase: not to be edited.
+// Written by templates/write from templates/numbers.rt.txt: change that file, and write this one anew.
+//! Fractions of `i32` and the exports over them.
+
+use crate::proved::ratio_c::arithmetic::{Difference, Product, Quotient, Remainder, Sum};
+use crate::proved::ratio_c::cast::Casting;
+use crate::proved::ratio_c::compare::{Comparison, Equality, Order, Truth};
+use crate::proved::ratio_c::crossing::{Bounded, OneFraction, Raised, Reply, TwoFractions};
+use crate::proved::ratio_c::each::each;
+use crate::proved::ratio_c::hash::{Hash, Hashing};
+use crate::proved::ratio_c::lowest_hash::LowestHashing;
+use crate::proved::ratio_c::nearest::Nearest;
+use crate::proved::ratio_c::numbers64::Answer64;
+use crate::proved::ratio_c::numbers128::Answer128;
+use crate::proved::ratio_c::one_fraction::{Ceiling, Floor, LowestTerms, Raising, Rounding, Truncation};
+use crate::proved::ratio_c::printing::{Text, print};
+use crate::proved::ratio_c::reading::{Reading, Span};
+use crate::proved::ratio_c::sign::{Absolute, Negation};
+
+/// The room for a text: a slash, and two numbers of at most 11 bytes.
+pub const ROOM: usize = 23;
+
+/// A fraction as its two numbers.
+#[repr(C)]
+pub struct Fraction32 {
+    pub numer: i32,
+    pub denom: i32,
+}
+
+/// Two fractions.
+#[repr(C)]
+pub struct Pair32 {
+    pub left: Fraction32,
+    pub right: Fraction32,
+}
+
+/// A fraction and the exponent of its power.
+#[repr(C)]
+pub struct Power32 {
+    pub base: Fraction32,
+    pub exponent: i32,
+}
+
+/// A fraction and the greatest denominator of the nearest one.
+#[repr(C)]
+pub struct Bounded32 {
+    pub value: Fraction32,
+    pub most: i32,
+}
+
+/// A fraction. If there is none, the code says why, and the value is 0 over 0.
+#[repr(C)]
+pub struct Answer32 {
+    pub code: u32,
+    pub value: Fraction32,
+}
+
+impl OneFraction for Fraction32 {
+    type Inside = i32;
+
+    #[inline(always)]
+    fn fraction(&self) -> (i32, i32) {
+        (self.numer, self.denom)
+    }
+}
+
+impl OneFraction for Power32 {
+    type Inside = i32;
+
+    #[inline(always)]
+    fn fraction(&self) -> (i32, i32) {
+        (self.base.numer, self.base.denom)
+    }
+}
+
+impl Raised for Power32 {
+    #[inline(always)]
+    fn exponent(&self) -> i32 {
+        self.exponent
+    }
+}
+
+impl OneFraction for Bounded32 {
+    type Inside = i32;
+
+    #[inline(always)]
+    fn fraction(&self) -> (i32, i32) {
+        (self.value.numer, self.value.denom)
+    }
+}
+
+impl Bounded for Bounded32 {
+    #[inline(always)]
+    fn most(&self) -> i32 {
+        self.most
+    }
+}
+
+impl TwoFractions for Pair32 {
+    type Inside = i32;
+
+    #[inline(always)]
+    fn left(&self) -> (i32, i32) {
+        (self.left.numer, self.left.denom)
+    }
+
+    #[inline(always)]
+    fn right(&self) -> (i32, i32) {
+        (self.right.numer, self.right.denom)
+    }
+}
+
+impl Reply<i32> for Answer32 {
+    #[inline(always)]
+    fn reply(code: u32, numer: i32, denom: i32) -> Answer32 {
+        let value = Fraction32 { numer, denom };
+        Answer32 { code, value }
+    }
+}
+
+/// The order of each pair, by value.
+#[no_mangle]
+pub unsafe extern "C" fn ratio_compare_i32(asked: *const Pair32, asked_len: usize, answers: *mut Order, answers_len: usize) -> u32 {
+    // SAFETY: the header says what the caller owes for each pointer and its length.
+    let asked = core::slice::from_raw_parts(asked, asked_len);
+    let answers = core::slice::from_raw_parts_mut(answers, answers_len);
+    each(&Comparison, asked, answers)
+}
+
+/// Whether the fractions of each pair have the same value.
+#[no_mangle]
+pub unsafe extern "C" fn ratio_equal_i32(asked: *const Pair32, asked_len: usize, answers: *mut Truth, answers_len: usize) -> u32 {
+    // SAFETY: the header says what the caller owes for each pointer and its length.
+    let asked = core::slice::from_raw_parts(asked, asked_len);
+    let answers = core::slice::from_raw_parts_mut(answers, answers_len);
+    each(&Equality, asked, answers)
+}
+
+/// The hash of each fraction.
+#[no_mangle]
+pub unsafe extern "C" fn ratio_hash_i32(asked: *const Fraction32, asked_len: usize, answers: *mut Hash, answers_len: usize) -> u32 {
+    // SAFETY: the header says what the caller owes for each pointer and its length.
+    let asked = core::slice::from_raw_parts(asked, asked_len);
+    let answers = core::slice::from_raw_parts_mut(answers, answers_len);
+    each(&Hashing, asked, answers)
+}
+
+/// The sum of each pair.
+#[no_mangle]
+pub unsafe extern "C" fn ratio_add_i32(asked: *const Pair32, asked_len: usize, answers: *mut Answer32, answers_len: usize) -> u32 {
+    // SAFETY: the header says what the caller owes for each pointer and its length.
+    let asked = core::slice::from_raw_parts(asked, asked_len);
+    let answers = core::slice::from_raw_parts_mut(answers, answers_len);
+    each(&Sum, asked, answers)
+}
+
+/// The difference of each pair.
+#[no_mangle]
+pub unsafe extern "C" fn ratio_sub_i32(asked: *const Pair32, asked_len: usize, answers: *mut Answer32, answers_len: usize) -> u32 {
+    // SAFETY: the header says what the caller owes for each pointer and its length.
+    let asked = core::slice::from_raw_parts(asked, asked_len);
+    let answers = core::slice::from_raw_parts_mut(answers, answers_len);
+    each(&Difference, asked, answers)
+}
+
+/// The product of each pair.
+#[no_mangle]
+pub unsafe extern "C" fn ratio_mul_i32(asked: *const Pair32, asked_len: usize, answers: *mut Answer32, answers_len: usize) -> u32 {
+    // SAFETY: the header says what the caller owes for each pointer and its length.
+    let asked = core::slice::from_raw_parts(asked, asked_len);
+    let answers = core::slice::from_raw_parts_mut(answers, answers_len);
+    each(&Product, asked, answers)
+}
+
+/// The quotient of each pair.
+#[no_mangle]
+pub unsafe extern "C" fn ratio_div_i32(asked: *const Pair32, asked_len: usize, answers: *mut Answer32, answers_len: usize) -> u32 {
+    // SAFETY: the header says what the caller owes for each pointer and its length.
+    let asked = core::slice::from_raw_parts(asked, asked_len);
+    let answers = core::slice::from_raw_parts_mut(answers, answers_len);
+    each(&Quotient, asked, answers)
+}
+
+/// The remainder of each pair.
+#[no_mangle]
+pub unsafe extern "C" fn ratio_rem_i32(asked: *const Pair32, asked_len: usize, answers: *mut Answer32, answers_len: usize) -> u32 {
+    // SAFETY: the header says what the caller owes for each pointer and its length.
+    let asked = core::slice::from_raw_parts(asked, asked_len);
+    let answers = core::slice::from_raw_parts_mut(answers, answers_len);
+    each(&Remainder, asked, answers)
+}
+
+/// The lowest terms of each fraction.
+#[no_mangle]
+pub unsafe extern "C" fn ratio_reduce_i32(asked: *const Fraction32, asked_len: usize, answers: *mut Answer32, answers_len: usize) -> u32 {
+    // SAFETY: the header says what the caller owes for each pointer and its length.
+    let asked = core::slice::from_raw_parts(asked, asked_len);
+    let answers = core::slice::from_raw_parts_mut(answers, answers_len);
+    each(&LowestTerms, asked, answers)
+}
+
+/// The negative of each fraction, not reduced.
+#[no_mangle]
+pub unsafe extern "C" fn ratio_neg_i32(asked: *const Fraction32, asked_len: usize, answers: *mut Answer32, answers_len: usize) -> u32 {
+    // SAFETY: the header says what the caller owes for each pointer and its length.
+    let asked = core::slice::from_raw_parts(asked, asked_len);
+    let answers = core::slice::from_raw_parts_mut(answers, answers_len);
+    each(&Negation, asked, answers)
+}
+
+/// The absolute value of each fraction, not reduced.
+#[no_mangle]
+pub unsafe extern "C" fn ratio_abs_i32(asked: *const Fraction32, asked_len: usize, answers: *mut Answer32, answers_len: usize) -> u32 {
+    // SAFETY: the header says what the caller owes for each pointer and its length.
+    let asked = core::slice::from_raw_parts(asked, asked_len);
+    let answers = core::slice::from_raw_parts_mut(answers, answers_len);
+    each(&Absolute, asked, answers)
+}
+
+/// The floor of each fraction, over 1.
+#[no_mangle]
+pub unsafe extern "C" fn ratio_floor_i32(asked: *const Fraction32, asked_len: usize, answers: *mut Answer32, answers_len: usize) -> u32 {
+    // SAFETY: the header says what the caller owes for each pointer and its length.
+    let asked = core::slice::from_raw_parts(asked, asked_len);
+    let answers = core::slice::from_raw_parts_mut(answers, answers_len);
+    each(&Floor, asked, answers)
+}
+
+/// The ceiling of each fraction, over 1.
+#[no_mangle]
+pub unsafe extern "C" fn ratio_ceil_i32(asked: *const Fraction32, asked_len: usize, answers: *mut Answer32, answers_len: usize) -> u32 {
+    // SAFETY: the header says what the caller owes for each pointer and its length.
+    let asked = core::slice::from_raw_parts(asked, asked_len);
+    let answers = core::slice::from_raw_parts_mut(answers, answers_len);
+    each(&Ceiling, asked, answers)
+}
+
+/// Each fraction cut towards zero, over 1.
+#[no_mangle]
+pub unsafe extern "C" fn ratio_trunc_i32(asked: *const Fraction32, asked_len: usize, answers: *mut Answer32, answers_len: usize) -> u32 {
+    // SAFETY: the header says what the caller owes for each pointer and its length.
+    let asked = core::slice::from_raw_parts(asked, asked_len);
+    let answers = core::slice::from_raw_parts_mut(answers, answers_len);
+    each(&Truncation, asked, answers)
+}
+
+/// Each fraction rounded, a half away from zero.
+#[no_mangle]
+pub unsafe extern "C" fn ratio_round_i32(asked: *const Fraction32, asked_len: usize, answers: *mut Answer32, answers_len: usize) -> u32 {
+    // SAFETY: the header says what the caller owes for each pointer and its length.
+    let asked = core::slice::from_raw_parts(asked, asked_len);
+    let answers = core::slice::from_raw_parts_mut(answers, answers_len);
+    each(&Rounding, asked, answers)
+}
+
+/// The power of each fraction, not reduced.
+#[no_mangle]
+pub unsafe extern "C" fn ratio_pow_i32(asked: *const Power32, asked_len: usize, answers: *mut Answer32, answers_len: usize) -> u32 {
+    // SAFETY: the header says what the caller owes for each pointer and its length.
+    let asked = core::slice::from_raw_parts(asked, asked_len);
+    let answers = core::slice::from_raw_parts_mut(answers, answers_len);
+    each(&Raising, asked, answers)
+}
+
+/// The nearest fraction with a denominator from 1 to the bound.
+#[no_mangle]
+pub unsafe extern "C" fn ratio_nearest_i32(asked: *const Bounded32, asked_len: usize, answers: *mut Answer32, answers_len: usize) -> u32 {
+    // SAFETY: the header says what the caller owes for each pointer and its length.
+    let asked = core::slice::from_raw_parts(asked, asked_len);
+    let answers = core::slice::from_raw_parts_mut(answers, answers_len);
+    each(&Nearest, asked, answers)
+}
+
+/// The hash of each fraction in lowest terms.
+#[no_mangle]
+pub unsafe extern "C" fn ratio_hash_lowest_i32(asked: *const Fraction32, asked_len: usize, answers: *mut Hash, answers_len: usize) -> u32 {
+    // SAFETY: the header says what the caller owes for each pointer and its length.
+    let asked = core::slice::from_raw_parts(asked, asked_len);
+    let answers = core::slice::from_raw_parts_mut(answers, answers_len);
+    each(&LowestHashing, asked, answers)
+}
+
+/// Each fraction over `i64`, not reduced.
+#[no_mangle]
+pub unsafe extern "C" fn ratio_cast_i32_to_i64(asked: *const Fraction32, asked_len: usize, answers: *mut Answer64, answers_len: usize) -> u32 {
+    // SAFETY: the header says what the caller owes for each pointer and its length.
+    let asked = core::slice::from_raw_parts(asked, asked_len);
+    let answers = core::slice::from_raw_parts_mut(answers, answers_len);
+    each(&Casting::<i64>::new(), asked, answers)
+}
+
+/// Each fraction over `i128`, not reduced.
+#[no_mangle]
+pub unsafe extern "C" fn ratio_cast_i32_to_i128(asked: *const Fraction32, asked_len: usize, answers: *mut Answer128, answers_len: usize) -> u32 {
+    // SAFETY: the header says what the caller owes for each pointer and its length.
+    let asked = core::slice::from_raw_parts(asked, asked_len);
+    let answers = core::slice::from_raw_parts_mut(answers, answers_len);
+    each(&Casting::<i128>::new(), asked, answers)
+}
+
+/// The fraction of each text in `texts`. The spans name the texts.
+#[no_mangle]
+pub unsafe extern "C" fn ratio_read_i32(texts: *const u8, texts_len: usize, spans: *const Span, spans_len: usize, answers: *mut Answer32, answers_len: usize) -> u32 {
+    // SAFETY: the header says what the caller owes for each pointer and its length.
+    let texts = core::slice::from_raw_parts(texts, texts_len);
+    let spans = core::slice::from_raw_parts(spans, spans_len);
+    let answers = core::slice::from_raw_parts_mut(answers, answers_len);
+    each(&Reading::<i32>::of(texts), spans, answers)
+}
+
+/// The text of each fraction, not reduced, one after another in `texts`, which has `ROOM` bytes for each.
+#[no_mangle]
+pub unsafe extern "C" fn ratio_print_i32(asked: *const Fraction32, asked_len: usize, texts: *mut u8, texts_len: usize, answers: *mut Text, answers_len: usize) -> u32 {
+    // SAFETY: the header says what the caller owes for each pointer and its length.
+    let asked = core::slice::from_raw_parts(asked, asked_len);
+    let texts = core::slice::from_raw_parts_mut(texts, texts_len);
+    let answers = core::slice::from_raw_parts_mut(answers, answers_len);
+    print(asked, ROOM, texts, answers)
+}

@@ -1,0 +1,319 @@
+// Erased from crates/ratio_c/src/numbers64.rt by rust/erase: not to be edited.
+// Written by templates/write from templates/numbers.rt.txt: change that file, and write this one anew.
+//! Fractions of `i64` and the exports over them.
+
+use crate::proved::ratio_c::arithmetic::{Difference, Product, Quotient, Remainder, Sum};
+use crate::proved::ratio_c::cast::Casting;
+use crate::proved::ratio_c::compare::{Comparison, Equality, Order, Truth};
+use crate::proved::ratio_c::crossing::{Bounded, OneFraction, Raised, Reply, TwoFractions};
+use crate::proved::ratio_c::each::each;
+use crate::proved::ratio_c::hash::{Hash, Hashing};
+use crate::proved::ratio_c::lowest_hash::LowestHashing;
+use crate::proved::ratio_c::nearest::Nearest;
+use crate::proved::ratio_c::numbers32::Answer32;
+use crate::proved::ratio_c::numbers128::Answer128;
+use crate::proved::ratio_c::one_fraction::{Ceiling, Floor, LowestTerms, Raising, Rounding, Truncation};
+use crate::proved::ratio_c::printing::{Text, print};
+use crate::proved::ratio_c::reading::{Reading, Span};
+use crate::proved::ratio_c::sign::{Absolute, Negation};
+
+/// The room for a text: a slash, and two numbers of at most 20 bytes.
+pub const ROOM: usize = 41;
+
+/// A fraction as its two numbers.
+#[repr(C)]
+pub struct Fraction64 {
+    pub numer: i64,
+    pub denom: i64,
+}
+
+/// Two fractions.
+#[repr(C)]
+pub struct Pair64 {
+    pub left: Fraction64,
+    pub right: Fraction64,
+}
+
+/// A fraction and the exponent of its power.
+#[repr(C)]
+pub struct Power64 {
+    pub base: Fraction64,
+    pub exponent: i32,
+}
+
+/// A fraction and the greatest denominator of the nearest one.
+#[repr(C)]
+pub struct Bounded64 {
+    pub value: Fraction64,
+    pub most: i64,
+}
+
+/// A fraction. If there is none, the code says why, and the value is 0 over 0.
+#[repr(C)]
+pub struct Answer64 {
+    pub code: u32,
+    pub value: Fraction64,
+}
+
+impl OneFraction for Fraction64 {
+    type Inside = i64;
+
+    #[inline(always)]
+    fn fraction(&self) -> (i64, i64) {
+        (self.numer, self.denom)
+    }
+}
+
+impl OneFraction for Power64 {
+    type Inside = i64;
+
+    #[inline(always)]
+    fn fraction(&self) -> (i64, i64) {
+        (self.base.numer, self.base.denom)
+    }
+}
+
+impl Raised for Power64 {
+    #[inline(always)]
+    fn exponent(&self) -> i32 {
+        self.exponent
+    }
+}
+
+impl OneFraction for Bounded64 {
+    type Inside = i64;
+
+    #[inline(always)]
+    fn fraction(&self) -> (i64, i64) {
+        (self.value.numer, self.value.denom)
+    }
+}
+
+impl Bounded for Bounded64 {
+    #[inline(always)]
+    fn most(&self) -> i64 {
+        self.most
+    }
+}
+
+impl TwoFractions for Pair64 {
+    type Inside = i64;
+
+    #[inline(always)]
+    fn left(&self) -> (i64, i64) {
+        (self.left.numer, self.left.denom)
+    }
+
+    #[inline(always)]
+    fn right(&self) -> (i64, i64) {
+        (self.right.numer, self.right.denom)
+    }
+}
+
+impl Reply<i64> for Answer64 {
+    #[inline(always)]
+    fn reply(code: u32, numer: i64, denom: i64) -> Answer64 {
+        let value = Fraction64 { numer, denom };
+        Answer64 { code, value }
+    }
+}
+
+/// The order of each pair, by value.
+#[no_mangle]
+pub unsafe extern "C" fn ratio_compare_i64(asked: *const Pair64, asked_len: usize, answers: *mut Order, answers_len: usize) -> u32 {
+    // SAFETY: the header says what the caller owes for each pointer and its length.
+    let asked = core::slice::from_raw_parts(asked, asked_len);
+    let answers = core::slice::from_raw_parts_mut(answers, answers_len);
+    each(&Comparison, asked, answers)
+}
+
+/// Whether the fractions of each pair have the same value.
+#[no_mangle]
+pub unsafe extern "C" fn ratio_equal_i64(asked: *const Pair64, asked_len: usize, answers: *mut Truth, answers_len: usize) -> u32 {
+    // SAFETY: the header says what the caller owes for each pointer and its length.
+    let asked = core::slice::from_raw_parts(asked, asked_len);
+    let answers = core::slice::from_raw_parts_mut(answers, answers_len);
+    each(&Equality, asked, answers)
+}
+
+/// The hash of each fraction.
+#[no_mangle]
+pub unsafe extern "C" fn ratio_hash_i64(asked: *const Fraction64, asked_len: usize, answers: *mut Hash, answers_len: usize) -> u32 {
+    // SAFETY: the header says what the caller owes for each pointer and its length.
+    let asked = core::slice::from_raw_parts(asked, asked_len);
+    let answers = core::slice::from_raw_parts_mut(answers, answers_len);
+    each(&Hashing, asked, answers)
+}
+
+/// The sum of each pair.
+#[no_mangle]
+pub unsafe extern "C" fn ratio_add_i64(asked: *const Pair64, asked_len: usize, answers: *mut Answer64, answers_len: usize) -> u32 {
+    // SAFETY: the header says what the caller owes for each pointer and its length.
+    let asked = core::slice::from_raw_parts(asked, asked_len);
+    let answers = core::slice::from_raw_parts_mut(answers, answers_len);
+    each(&Sum, asked, answers)
+}
+
+/// The difference of each pair.
+#[no_mangle]
+pub unsafe extern "C" fn ratio_sub_i64(asked: *const Pair64, asked_len: usize, answers: *mut Answer64, answers_len: usize) -> u32 {
+    // SAFETY: the header says what the caller owes for each pointer and its length.
+    let asked = core::slice::from_raw_parts(asked, asked_len);
+    let answers = core::slice::from_raw_parts_mut(answers, answers_len);
+    each(&Difference, asked, answers)
+}
+
+/// The product of each pair.
+#[no_mangle]
+pub unsafe extern "C" fn ratio_mul_i64(asked: *const Pair64, asked_len: usize, answers: *mut Answer64, answers_len: usize) -> u32 {
+    // SAFETY: the header says what the caller owes for each pointer and its length.
+    let asked = core::slice::from_raw_parts(asked, asked_len);
+    let answers = core::slice::from_raw_parts_mut(answers, answers_len);
+    each(&Product, asked, answers)
+}
+
+/// The quotient of each pair.
+#[no_mangle]
+pub unsafe extern "C" fn ratio_div_i64(asked: *const Pair64, asked_len: usize, answers: *mut Answer64, answers_len: usize) -> u32 {
+    // SAFETY: the header says what the caller owes for each pointer and its length.
+    let asked = core::slice::from_raw_parts(asked, asked_len);
+    let answers = core::slice::from_raw_parts_mut(answers, answers_len);
+    each(&Quotient, asked, answers)
+}
+
+/// The remainder of each pair.
+#[no_mangle]
+pub unsafe extern "C" fn ratio_rem_i64(asked: *const Pair64, asked_len: usize, answers: *mut Answer64, answers_len: usize) -> u32 {
+    // SAFETY: the header says what the caller owes for each pointer and its length.
+    let asked = core::slice::from_raw_parts(asked, asked_len);
+    let answers = core::slice::from_raw_parts_mut(answers, answers_len);
+    each(&Remainder, asked, answers)
+}
+
+/// The lowest terms of each fraction.
+#[no_mangle]
+pub unsafe extern "C" fn ratio_reduce_i64(asked: *const Fraction64, asked_len: usize, answers: *mut Answer64, answers_len: usize) -> u32 {
+    // SAFETY: the header says what the caller owes for each pointer and its length.
+    let asked = core::slice::from_raw_parts(asked, asked_len);
+    let answers = core::slice::from_raw_parts_mut(answers, answers_len);
+    each(&LowestTerms, asked, answers)
+}
+
+/// The negative of each fraction, not reduced.
+#[no_mangle]
+pub unsafe extern "C" fn ratio_neg_i64(asked: *const Fraction64, asked_len: usize, answers: *mut Answer64, answers_len: usize) -> u32 {
+    // SAFETY: the header says what the caller owes for each pointer and its length.
+    let asked = core::slice::from_raw_parts(asked, asked_len);
+    let answers = core::slice::from_raw_parts_mut(answers, answers_len);
+    each(&Negation, asked, answers)
+}
+
+/// The absolute value of each fraction, not reduced.
+#[no_mangle]
+pub unsafe extern "C" fn ratio_abs_i64(asked: *const Fraction64, asked_len: usize, answers: *mut Answer64, answers_len: usize) -> u32 {
+    // SAFETY: the header says what the caller owes for each pointer and its length.
+    let asked = core::slice::from_raw_parts(asked, asked_len);
+    let answers = core::slice::from_raw_parts_mut(answers, answers_len);
+    each(&Absolute, asked, answers)
+}
+
+/// The floor of each fraction, over 1.
+#[no_mangle]
+pub unsafe extern "C" fn ratio_floor_i64(asked: *const Fraction64, asked_len: usize, answers: *mut Answer64, answers_len: usize) -> u32 {
+    // SAFETY: the header says what the caller owes for each pointer and its length.
+    let asked = core::slice::from_raw_parts(asked, asked_len);
+    let answers = core::slice::from_raw_parts_mut(answers, answers_len);
+    each(&Floor, asked, answers)
+}
+
+/// The ceiling of each fraction, over 1.
+#[no_mangle]
+pub unsafe extern "C" fn ratio_ceil_i64(asked: *const Fraction64, asked_len: usize, answers: *mut Answer64, answers_len: usize) -> u32 {
+    // SAFETY: the header says what the caller owes for each pointer and its length.
+    let asked = core::slice::from_raw_parts(asked, asked_len);
+    let answers = core::slice::from_raw_parts_mut(answers, answers_len);
+    each(&Ceiling, asked, answers)
+}
+
+/// Each fraction cut towards zero, over 1.
+#[no_mangle]
+pub unsafe extern "C" fn ratio_trunc_i64(asked: *const Fraction64, asked_len: usize, answers: *mut Answer64, answers_len: usize) -> u32 {
+    // SAFETY: the header says what the caller owes for each pointer and its length.
+    let asked = core::slice::from_raw_parts(asked, asked_len);
+    let answers = core::slice::from_raw_parts_mut(answers, answers_len);
+    each(&Truncation, asked, answers)
+}
+
+/// Each fraction rounded, a half away from zero.
+#[no_mangle]
+pub unsafe extern "C" fn ratio_round_i64(asked: *const Fraction64, asked_len: usize, answers: *mut Answer64, answers_len: usize) -> u32 {
+    // SAFETY: the header says what the caller owes for each pointer and its length.
+    let asked = core::slice::from_raw_parts(asked, asked_len);
+    let answers = core::slice::from_raw_parts_mut(answers, answers_len);
+    each(&Rounding, asked, answers)
+}
+
+/// The power of each fraction, not reduced.
+#[no_mangle]
+pub unsafe extern "C" fn ratio_pow_i64(asked: *const Power64, asked_len: usize, answers: *mut Answer64, answers_len: usize) -> u32 {
+    // SAFETY: the header says what the caller owes for each pointer and its length.
+    let asked = core::slice::from_raw_parts(asked, asked_len);
+    let answers = core::slice::from_raw_parts_mut(answers, answers_len);
+    each(&Raising, asked, answers)
+}
+
+/// The nearest fraction with a denominator from 1 to the bound.
+#[no_mangle]
+pub unsafe extern "C" fn ratio_nearest_i64(asked: *const Bounded64, asked_len: usize, answers: *mut Answer64, answers_len: usize) -> u32 {
+    // SAFETY: the header says what the caller owes for each pointer and its length.
+    let asked = core::slice::from_raw_parts(asked, asked_len);
+    let answers = core::slice::from_raw_parts_mut(answers, answers_len);
+    each(&Nearest, asked, answers)
+}
+
+/// The hash of each fraction in lowest terms.
+#[no_mangle]
+pub unsafe extern "C" fn ratio_hash_lowest_i64(asked: *const Fraction64, asked_len: usize, answers: *mut Hash, answers_len: usize) -> u32 {
+    // SAFETY: the header says what the caller owes for each pointer and its length.
+    let asked = core::slice::from_raw_parts(asked, asked_len);
+    let answers = core::slice::from_raw_parts_mut(answers, answers_len);
+    each(&LowestHashing, asked, answers)
+}
+
+/// Each fraction over `i32`, not reduced.
+#[no_mangle]
+pub unsafe extern "C" fn ratio_cast_i64_to_i32(asked: *const Fraction64, asked_len: usize, answers: *mut Answer32, answers_len: usize) -> u32 {
+    // SAFETY: the header says what the caller owes for each pointer and its length.
+    let asked = core::slice::from_raw_parts(asked, asked_len);
+    let answers = core::slice::from_raw_parts_mut(answers, answers_len);
+    each(&Casting::<i32>::new(), asked, answers)
+}
+
+/// Each fraction over `i128`, not reduced.
+#[no_mangle]
+pub unsafe extern "C" fn ratio_cast_i64_to_i128(asked: *const Fraction64, asked_len: usize, answers: *mut Answer128, answers_len: usize) -> u32 {
+    // SAFETY: the header says what the caller owes for each pointer and its length.
+    let asked = core::slice::from_raw_parts(asked, asked_len);
+    let answers = core::slice::from_raw_parts_mut(answers, answers_len);
+    each(&Casting::<i128>::new(), asked, answers)
+}
+
+/// The fraction of each text in `texts`. The spans name the texts.
+#[no_mangle]
+pub unsafe extern "C" fn ratio_read_i64(texts: *const u8, texts_len: usize, spans: *const Span, spans_len: usize, answers: *mut Answer64, answers_len: usize) -> u32 {
+    // SAFETY: the header says what the caller owes for each pointer and its length.
+    let texts = core::slice::from_raw_parts(texts, texts_len);
+    let spans = core::slice::from_raw_parts(spans, spans_len);
+    let answers = core::slice::from_raw_parts_mut(answers, answers_len);
+    each(&Reading::<i64>::of(texts), spans, answers)
+}
+
+/// The text of each fraction, not reduced, one after another in `texts`, which has `ROOM` bytes for each.
+#[no_mangle]
+pub unsafe extern "C" fn ratio_print_i64(asked: *const Fraction64, asked_len: usize, texts: *mut u8, texts_len: usize, answers: *mut Text, answers_len: usize) -> u32 {
+    // SAFETY: the header says what the caller owes for each pointer and its length.
+    let asked = core::slice::from_raw_parts(asked, asked_len);
+    let texts = core::slice::from_raw_parts_mut(texts, texts_len);
+    let answers = core::slice::from_raw_parts_mut(answers, answers_len);
+    print(asked, ROOM, texts, answers)
+}

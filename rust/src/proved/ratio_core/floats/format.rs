@@ -1,0 +1,83 @@
+// Erased from crates/ratio_core/src/floats/format.rt by rust/erase: not to be edited.
+//! The two types of floats, as the rounding needs them.
+
+/// A type of floats.
+pub(crate) trait FloatType: Copy {
+    /// How many binary digits a float has, with the leading one.
+    const DIGITS: u64;
+
+    /// The least float above 0 is 1 over 2 to this power.
+    const LEAST: u64;
+
+    /// The bits of infinity. Those of a finite float without a sign are less.
+    const INFINITY: u64;
+
+    /// The float of these bits.
+    ///
+    /// # Conditions
+    ///
+    /// The proof requires of the caller:
+    ///
+    /// - `bits ≤ ones format * hid format`
+    fn of_bits(bits: u64) -> Self;
+
+    /// The quotient, rounded once. Both numbers are floats, so that their conversion is exact.
+    ///
+    /// # Conditions
+    ///
+    /// The proof requires of the caller:
+    ///
+    /// - `n_exact`: `n < 2 ^ DIGITS`
+    /// - `d_exact`: `d < 2 ^ DIGITS`
+    /// - `d_positive`: `0 < d`
+    fn quotient(n: u64, d: u64) -> Self;
+
+    /// The float with the other sign.
+    fn negated(self) -> Self;
+}
+
+impl FloatType for f64 {
+    const DIGITS: u64 = 53;
+
+    const LEAST: u64 = 1074;
+
+    const INFINITY: u64 = 0x7ff0_0000_0000_0000;
+
+    #[inline]
+    fn of_bits(bits: u64) -> f64 {
+        f64::from_bits(bits)
+    }
+
+    #[inline]
+    fn quotient(n: u64, d: u64) -> f64 {
+        n as f64 / d as f64
+    }
+
+    #[inline]
+    fn negated(self) -> f64 {
+        -self
+    }
+}
+
+impl FloatType for f32 {
+    const DIGITS: u64 = 24;
+
+    const LEAST: u64 = 149;
+
+    const INFINITY: u64 = 0x7f80_0000;
+
+    #[inline]
+    fn of_bits(bits: u64) -> f32 {
+        f32::from_bits(bits as u32)
+    }
+
+    #[inline]
+    fn quotient(n: u64, d: u64) -> f32 {
+        n as f32 / d as f32
+    }
+
+    #[inline]
+    fn negated(self) -> f32 {
+        -self
+    }
+}

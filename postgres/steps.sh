@@ -81,3 +81,21 @@ as_user() {
     PATH="$bin:$PATH" LC_ALL=C "$@"
   fi
 }
+
+# Starts a server with the files of $bin. It ends with the script.
+start_server() {
+  trap 'stop_server; rm -rf "$work"' EXIT
+  as_user initdb -D data --no-locale -E UTF8 -A trust -U postgres >"$work/said" || { cat "$work/said" >&2; stop "initdb failed"; }
+  cat "$here/server.conf" "$@" >>data/postgresql.conf
+  printf "listen_addresses = ''\nunix_socket_directories = '%s'\n" "$work/build" >>data/postgresql.conf
+  as_user pg_ctl -w -D data -l log start >"$work/said" || { cat log >&2; stop "the server did not start"; }
+}
+
+stop_server() {
+  as_user pg_ctl -D data -m immediate stop >/dev/null || true
+}
+
+# Runs psql there.
+ask() {
+  "$bin/psql" -h "$work/build" -U postgres -X -q "$@" postgres
+}

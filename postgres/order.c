@@ -54,11 +54,38 @@ compare(Datum x, Datum y, SortSupport sort)
 	return order_of((const Ratio *) DatumGetPointer(x), (const Ratio *) DatumGetPointer(y));
 }
 
+/* The order of keys never contradicts that of values. Values with one key are compared themselves. */
+static Datum
+short_key(Datum x, SortSupport sort)
+{
+	ratio_key	key;
+
+	ratio_key_i64((const Ratio *) DatumGetPointer(x), 1, &key, 1);
+	if (unlikely(key.code != RATIO_ANSWERED))
+		refuse_damaged("a key");
+	return Int64GetDatum(key.key);
+}
+
+static bool
+give_up_keys(int count, SortSupport sort)
+{
+	return false;
+}
+
 CALL(ratio_sortsupport)
 {
 	SortSupport sort = (SortSupport) PG_GETARG_POINTER(0);
 
 	sort->comparator = compare;
+#if SIZEOF_DATUM >= 8
+	if (sort->abbreviate)
+	{
+		sort->comparator = ssup_datum_signed_cmp;
+		sort->abbrev_converter = short_key;
+		sort->abbrev_abort = give_up_keys;
+		sort->abbrev_full_comparator = compare;
+	}
+#endif
 	PG_RETURN_VOID();
 }
 

@@ -40,6 +40,11 @@ DROP EXTENSION amcheck;
 -- sorted rows are in order by numeric, too
 SELECT count(*) AS wrong FROM (SELECT r, lag(r) OVER (ORDER BY r) AS before FROM t WHERE r IS NOT NULL) sorted
 WHERE numerator(before)::numeric * denominator(r) > numerator(r)::numeric * denominator(before);
+SELECT count(*) AS wrong FROM (SELECT r, lag(r) OVER (ORDER BY r DESC NULLS LAST) AS before FROM t) sorted
+WHERE numerator(before)::numeric * denominator(r) < numerator(r)::numeric * denominator(before);
+-- fractions so near to one another that the first 56 digits of their values are the same
+SELECT count(*), count(*) FILTER (WHERE i <> place) AS wrong FROM (SELECT i, row_number() OVER (ORDER BY ratio(9223372036854775807 - 1000 + i, 9223372036854775807 - 999 + i)) AS place
+    FROM generate_series(1, 999) i) sorted;
 SELECT min(r), max(r), count(r), count(DISTINCT r) FROM t;
 SELECT min(r), max(r) FROM t WHERE r IS NULL;
 -- a unique column takes one value once

@@ -26,6 +26,7 @@ compile_error!("isize and usize have proofs of 64 and of 32 bits, and this targe
 extern crate std;
 
 mod layer;
+mod newer;
 #[cfg(not(feature = "proved-calls"))]
 mod proved;
 #[cfg(feature = "proved-calls")]

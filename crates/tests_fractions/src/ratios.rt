@@ -24,5 +24,6 @@ mod rounding;
 mod rows;
 mod signs;
 mod simplest;
+mod simplest_within;
 mod texts;
 mod twelve_types;

@@ -23,6 +23,8 @@ mod rounding;
 #[cfg(test)]
 mod rows;
 #[cfg(test)]
+mod simplest;
+#[cfg(test)]
 mod walks;
 #[cfg(test)]
 mod watched;

@@ -5,5 +5,7 @@
 // Not all that is proved is called, imports serve contracts too, and some forms are the proved language's.
 #![allow(dead_code, missing_docs, unused_imports, unused_variables)]
 #![allow(clippy::all)]
+// But a call of std that is newer than the crate's `rust-version` is a fault of rust/erase.
+#![warn(clippy::incompatible_msrv)]
 
 pub mod ratio_c;

@@ -1,7 +1,8 @@
-//! Rows of the simplest fraction strictly between two. The expected values come from outside.
-use crate::asserting::all_hold;
+//! Rows of the simplest fraction strictly between two, and within two bounds. The expected values come from outside.
+use crate::asserting::{all_hold, each_holds};
 use ratio_core::Steps;
-use ratio_core::simplest::{simplest_between, simplest_between_counted};
+use ratio_core::simplest::{simplest_between, simplest_between_counted, simplest_within};
+use std::ops::Bound;
 
 // A row: the two ends, and the two numbers of the result.
 type Row<T> = ((T, T), (T, T), Option<(T, T)>);
@@ -55,4 +56,20 @@ fn over_u8(rt: HostRuntime) {
         ((254, 1), (255, 1), None),
     ];
     all_hold(&rt, "u8", first_wrong_over_u8(&rows));
+}
+
+// Bounds need not be in lowest terms.
+#[test]
+fn within_bounds(rt: HostRuntime) {
+    let from = Bound::Included((2i8, 6));
+    let to = Bound::Included((2i8, 4));
+    let facts = [
+        simplest_within(from, to) == Some((1, 2)),
+        simplest_within(to, to) == Some((1, 2)),
+        simplest_within(to, from).is_none(),
+        simplest_within(Bound::Excluded((10i8, 4)), Bound::Unbounded) == Some((3, 1)),
+        simplest_within(Bound::Unbounded, Bound::Excluded((-10i8, 4))) == Some((-3, 1)),
+        simplest_within(Bound::<(u8, u8)>::Unbounded, Bound::Unbounded) == Some((0, 1)),
+    ];
+    each_holds(&rt, &facts);
 }

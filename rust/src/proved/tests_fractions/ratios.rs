@@ -25,5 +25,6 @@ mod rounding;
 mod rows;
 mod signs;
 mod simplest;
+mod simplest_within;
 mod texts;
 mod twelve_types;

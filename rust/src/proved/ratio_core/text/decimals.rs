@@ -49,7 +49,7 @@ fn held<T: Primitive>(below: bool, terms: Terms) -> Option<(T, T)> {
 #[inline]
 fn signed<T: Primitive>(below: bool, size: u128) -> Option<T> {
     if below {
-        T::from_i128(0i128.checked_sub_unsigned(size)?)
+        T::from_i128(crate::newer::checked_sub_unsigned(0i128, size)?)
     } else {
         T::from_u128(size)
     }

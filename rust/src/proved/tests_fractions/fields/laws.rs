@@ -19,6 +19,7 @@ fn each_law_is_called() {
     laws::parts();
     laws::nearest_fractions();
     laws::simplest_fractions();
+    laws::simplest_fractions_within();
     laws::fractions_of_quotients();
     text::laws::digits();
     text::laws::decimal_digits();

@@ -1,0 +1,47 @@
+//! Methods of std that are newer than the crate's oldest Rust, as functions for the erased sources.
+
+/// The difference, or `None` if it does not fit. std has it since Rust 1.66, as `left.checked_sub_unsigned(right)`.
+#[inline]
+pub(crate) fn checked_sub_unsigned(left: i128, right: u128) -> Option<i128> {
+    // From 2^127 on, `right` as an `i128` is 2^128 less. Then the difference fits exactly if this subtraction overflows.
+    let (difference, overflowed) = left.overflowing_sub(right as i128);
+    if overflowed == (right > i128::MAX as u128) {
+        Some(difference)
+    } else {
+        None
+    }
+}
+
+#[cfg(test)]
+mod tests {
+    use super::checked_sub_unsigned;
+
+    #[test]
+    fn differences_at_the_ends() {
+        const LEAST: i128 = i128::MIN;
+        const MOST: i128 = i128::MAX;
+        const SIZE: u128 = 1 << 127;
+        let rows = [
+            (0, 0, Some(0)),
+            (0, 7, Some(-7)),
+            (7, 9, Some(-2)),
+            (0, SIZE - 1, Some(-MOST)),
+            (0, SIZE, Some(LEAST)),
+            (0, SIZE + 1, None),
+            (0, u128::MAX, None),
+            (1, SIZE + 1, Some(LEAST)),
+            (-1, SIZE, None),
+            (-1, SIZE - 1, Some(LEAST)),
+            (LEAST, 0, Some(LEAST)),
+            (LEAST, 1, None),
+            (LEAST, SIZE, None),
+            (LEAST, u128::MAX, None),
+            (MOST, SIZE, Some(-1)),
+            (MOST, u128::MAX, Some(LEAST)),
+            (MOST - 1, u128::MAX, None),
+        ];
+        for (left, right, difference) in rows {
+            assert_eq!(checked_sub_unsigned(left, right), difference, "{left} - {right}");
+        }
+    }
+}

@@ -11,6 +11,7 @@ pub mod DecimalLemmas
 pub mod DecimalTerms
 pub mod DecimalTexts
 pub mod DecimalValues
+pub mod DecimalsReadBack
 pub mod DigitGroups
 pub mod EqualityLaws
 pub mod ExactLemmas

@@ -141,6 +141,31 @@ fn any_characters() {
     assert!(decimals > 5000, "{decimals} decimals");
 }
 
+#[test]
+fn rows() {
+    let rows = [
+        ("12.375", Ok((99, 8))),
+        ("-0.5", Ok((-1, 2))),
+        ("5.", Ok((5, 1))),
+        ("-0.00", Ok((0, 1))),
+        ("+1.10", Ok((11, 10))),
+        (".5e1", Ok((5, 1))),
+        ("10e-1", Ok((1, 1))),
+        ("9223372036854775807", Ok((i64::MAX, 1))),
+        ("-9223372036854775808", Ok((i64::MIN, 1))),
+        ("9223372036854775808", Err(DecimalRefusal::NotHeld)),
+        ("1e-999999999999999999999", Err(DecimalRefusal::NotHeld)),
+        ("1e", Err(DecimalRefusal::NotDecimal)),
+        ("inf", Err(DecimalRefusal::NotDecimal)),
+    ];
+    for (text, want) in rows {
+        assert_eq!(read::<i64>(text), want, "{text}");
+    }
+    assert_eq!(read::<u8>("-0"), Ok((0, 1)));
+    assert_eq!(read::<u8>("-1"), Err(DecimalRefusal::NotHeld));
+    assert_eq!(read::<i8>("0.99"), Ok((99, 100)));
+}
+
 /// Texts of many digits, whose values have short terms.
 #[test]
 fn long_texts() {

@@ -9,9 +9,9 @@ use Rattle.ratio_core.specs.declared.text.decimals.DecimalRefusal.{DecimalRefusa
 use Rattle.ratio_core.specs.declared.text.decimals.DecimalRefusal.TheVariants.{NotDecimal, NotHeld}
 
 -- a sign is a minus, or else a plus or nothing; `below` says whether it is a minus
-abbrev pub IsSign : List ℕ → Bool → Type 0
-IsSign sign true = sign ≡ minus ∷ []
-IsSign sign false = (sign ≡ []) ⊎ (sign ≡ plus ∷ [])
+abbrev pub IsWrittenSign : List ℕ → Bool → Type 0
+IsWrittenSign sign true = sign ≡ minus ∷ []
+IsWrittenSign sign false = (sign ≡ []) ⊎ (sign ≡ plus ∷ [])
 
 -- the text is digits with at most one point, and one digit at least: `12.5`, `.5`, `5.` and `5`. Some digits come before
 -- the point, and `part` comes behind it
@@ -29,7 +29,7 @@ pub record IsWrittenExponent (text : List ℕ) (below : Bool) (digits : List ℕ
   pub sign : List ℕ
   pub cut : text ≡ letter ∷ (sign ++ digits)
   pub is_e : IsLetterE letter
-  pub signed : IsSign sign below
+  pub signed : IsWrittenSign sign below
   pub numeral : IsNumeral 10 digits
 
 -- the same, or no text at all, which has no digits
@@ -42,7 +42,7 @@ pub record HasDecimalParts (text : List ℕ) (below : Bool) (whole part : List �
   pub pointed : List ℕ
   pub scale : List ℕ
   pub cut : text ≡ sign ++ (pointed ++ scale)
-  pub signed : IsSign sign below
+  pub signed : IsWrittenSign sign below
   pub number : IsPointed pointed whole part
   pub scaled : IsExponent scale down exponent
 

@@ -1,8 +1,8 @@
 -- What a decimal text says, and what reading one returns. `-1.50e3` says -150 * 10^3 over 10^2.
-use Rattle.std.specs.Prelude.{◌≡◌, ◌⊎◌, ◌*◌, ◌^◌, ℕ, ℤ, pos, Bool, true, false, List, [], ◌∷◌, ◌++◌, length, Result, Ok, Err}
+use Rattle.std.specs.Prelude.{◌≡◌, ◌⊎◌, ◌<◌, ◌*◌, ◌/◌, ◌^◌, ℕ, ℤ, pos, unsigned_abs, Bool, true, false, List, [], ◌∷◌, ◌++◌, length, Result, Ok, Err}
 use Rattle.std.specs.Str.Parse.{IsNumeral}
 use Rattle.ratio_integer.specs.Fraction.{Fits}
-use Rattle.ratio_core.specs.Decimal.{point}
+use Rattle.ratio_core.specs.Decimal.{places_text, point}
 use Rattle.ratio_core.specs.Floats.{with_sign}
 use Rattle.ratio_core.specs.Reading.{ReadsLowest, digits_sum, minus, plus}
 use Rattle.ratio_core.specs.declared.text.decimals.DecimalRefusal.{DecimalRefusal}
@@ -85,3 +85,12 @@ AnswersDecimal numer denom lo hi text (Err NotHeld) = ReadsNotHeld lo hi (IsDeci
 -- each text has at most one reading as a decimal
 abbrev pub DecimalsHaveOneReading : Type 0
 DecimalsHaveOneReading = (text : List ℕ) (n d m e : ℤ) → IsDecimalText text n d → IsDecimalText text m e → (n ≡ m) × (d ≡ e)
+
+-- a printed decimal reads as the multiple of 1/10^places that it shows
+abbrev pub PrintedDecimalsRead : Type 0
+PrintedDecimalsRead = (places : ℕ) (z : ℤ) → unsigned_abs z / 10 ^ places < 2 ^ 128 → IsDecimalText (places_text places z) z (pos (10 ^ places))
+
+-- the result has the two numbers n and d
+abbrev pub IsReadDecimal : {R : Type 0} → (R → ℤ) → (R → ℤ) → ℤ → ℤ → Result R DecimalRefusal → Type 0
+IsReadDecimal numer denom n d (Ok r) = (numer r ≡ n) × (denom r ≡ d)
+IsReadDecimal numer denom n d (Err refusal) = ⊥

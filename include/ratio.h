@@ -34,10 +34,12 @@ enum {
     RATIO_DIVISION_BY_ZERO = 2,         /* of div and rem, and of pow for 0 to an exponent below 0 */
     RATIO_DENOMINATOR_NOT_POSITIVE = 3, /* of all others */
     RATIO_ZERO_DENOMINATOR = 4,         /* of compare, equal, hash, reduce and print, which take negative ones, and of read */
-    RATIO_PARSE_ERROR = 5,              /* of read: no fraction, or its numbers or lowest terms do not fit */
+    RATIO_PARSE_ERROR = 5,              /* of read: no fraction, or not even 128 bits are enough for it. If 128 bits are enough, but
+                                           not those of the type, the code is RATIO_NOT_HELD */
     RATIO_NO_TEXT = 6,                  /* of read: the span does not lie in the texts */
     RATIO_BOUND_NOT_POSITIVE = 7,       /* of nearest: no denominator lies from 1 to the bound */
-    RATIO_NO_TOTAL = 8                  /* of totals: the code is 0, but the sum is not in lowest terms */
+    RATIO_NO_TOTAL = 8,                 /* of totals: the code is 0, but the sum is not in lowest terms */
+    RATIO_BAD_OPTION = 9                /* of between and from_scaled: the call has no such flags or scale */
 };
 
 /* A number of 128 bits: high times 2^64, and low. */
@@ -64,6 +66,9 @@ typedef struct { uint32_t code; ratio_span span; } ratio_text;
 /* How many bytes print requires for each fraction of a type. */
 enum { RATIO_ROOM_I32 = 23, RATIO_ROOM_I64 = 41, RATIO_ROOM_I128 = 81 };
 
+/* A decimal as databases keep it: the value is the number by 10^scale. 1250 with the scale 2 is 12.50. */
+typedef struct { ratio_wide number; int32_t scale; } ratio_scaled;
+
 /* Declares the types and the calls over a type of numbers.
  *
  *   ratio_compare_i32    how the left fraction compares to the right one, by their values, reduced or not
@@ -83,9 +88,16 @@ enum { RATIO_ROOM_I32 = 23, RATIO_ROOM_I64 = 41, RATIO_ROOM_I128 = 81 };
  *   ratio_nearest_i32    the nearest fraction with a denominator from 1 to the bound `most`, in lowest terms: 22/7 for 355/113
  *                        within 10. Of two that are as near, it is the one with the smaller denominator, and of two whole numbers
  *                        the smaller one
- *   ratio_read_i32       the fraction of each text of the bytes that a span names: N/D or N in decimal, in lowest terms
+ *   ratio_read_i32       the fraction of each text of the bytes that a span names: N/D or N in decimal, in lowest terms. `x` gives
+ *                        RATIO_PARSE_ERROR, and 2147483648/3, which needs more than 32 bits, gives RATIO_NOT_HELD
  *   ratio_print_i32      each fraction as it is, N/D, or N if D is 1, one text after another. With fewer than RATIO_ROOM_I32 bytes
  *                        for each fraction it returns RATIO_BAD_LENGTH. Nothing is written behind the last text
+ *   ratio_between_i32    the simplest fraction between two bounds: of all fractions strictly between, the one with the smallest
+ *                        denominator, and of these the one whose numerator is nearest to 0. 1/3 and 1/2 give 2/5. If the type has no
+ *                        fraction there, as between 1/2 and 1/2, it gives RATIO_NOT_HELD. The flags are for bounds that may be taken:
+ *                        only 0, for neither, has a meaning yet, and others give RATIO_BAD_OPTION
+ *   ratio_from_scaled_i32  the lowest terms of a decimal, or RATIO_NOT_HELD if they do not fit: 25/2 for 1250 with the scale 2. A
+ *                        scale below 0 or above 38 gives RATIO_BAD_OPTION
  *   ratio_pow_i32        each fraction to its exponent, not reduced. 0 to an exponent below 0 gives RATIO_DIVISION_BY_ZERO
  */
 #define RATIO_CALLS(suffix, number)                                                        \
@@ -93,6 +105,7 @@ enum { RATIO_ROOM_I32 = 23, RATIO_ROOM_I64 = 41, RATIO_ROOM_I128 = 81 };
     typedef struct { ratio_##suffix left, right; } ratio_pair_##suffix;                    \
     typedef struct { ratio_##suffix base; int32_t exponent; } ratio_power_##suffix;        \
     typedef struct { ratio_##suffix value; number most; } ratio_bounded_##suffix;          \
+    typedef struct { ratio_##suffix low, high; uint32_t flags; } ratio_bounds_##suffix;    \
     typedef struct { uint32_t code; ratio_##suffix value; } ratio_answer_##suffix;         \
     uint32_t ratio_compare_##suffix(const ratio_pair_##suffix *asked, size_t asked_len,    \
                                     ratio_order *answers, size_t answers_len);             \
@@ -128,6 +141,10 @@ enum { RATIO_ROOM_I32 = 23, RATIO_ROOM_I64 = 41, RATIO_ROOM_I128 = 81 };
                                 ratio_answer_##suffix *answers, size_t answers_len);       \
     uint32_t ratio_nearest_##suffix(const ratio_bounded_##suffix *asked, size_t asked_len, \
                                     ratio_answer_##suffix *answers, size_t answers_len);   \
+    uint32_t ratio_between_##suffix(const ratio_bounds_##suffix *asked, size_t asked_len,  \
+                                    ratio_answer_##suffix *answers, size_t answers_len);   \
+    uint32_t ratio_from_scaled_##suffix(const ratio_scaled *asked, size_t asked_len,       \
+                                        ratio_answer_##suffix *answers, size_t answers_len); \
     uint32_t ratio_read_##suffix(const uint8_t *texts, size_t texts_len,                   \
                                  const ratio_span *spans, size_t spans_len,                \
                                  ratio_answer_##suffix *answers, size_t answers_len);      \
@@ -217,20 +234,24 @@ static_assert(sizeof(ratio_hash) == 16, "the size of ratio_hash");
 static_assert(sizeof(ratio_key) == 16, "the size of ratio_key");
 static_assert(sizeof(ratio_span) == 16, "the size of ratio_span");
 static_assert(sizeof(ratio_text) == 24, "the size of ratio_text");
+static_assert(sizeof(ratio_scaled) == 24, "the size of ratio_scaled");
 static_assert(sizeof(ratio_i32) == 8, "the size of ratio_i32");
 static_assert(sizeof(ratio_pair_i32) == 16, "the size of ratio_pair_i32");
 static_assert(sizeof(ratio_power_i32) == 12, "the size of ratio_power_i32");
 static_assert(sizeof(ratio_bounded_i32) == 12, "the size of ratio_bounded_i32");
+static_assert(sizeof(ratio_bounds_i32) == 20, "the size of ratio_bounds_i32");
 static_assert(sizeof(ratio_answer_i32) == 12, "the size of ratio_answer_i32");
 static_assert(sizeof(ratio_i64) == 16, "the size of ratio_i64");
 static_assert(sizeof(ratio_pair_i64) == 32, "the size of ratio_pair_i64");
 static_assert(sizeof(ratio_power_i64) == 24, "the size of ratio_power_i64");
 static_assert(sizeof(ratio_bounded_i64) == 24, "the size of ratio_bounded_i64");
+static_assert(sizeof(ratio_bounds_i64) == 40, "the size of ratio_bounds_i64");
 static_assert(sizeof(ratio_answer_i64) == 24, "the size of ratio_answer_i64");
 static_assert(sizeof(ratio_i128) == 32, "the size of ratio_i128");
 static_assert(sizeof(ratio_pair_i128) == 64, "the size of ratio_pair_i128");
 static_assert(sizeof(ratio_power_i128) == 40, "the size of ratio_power_i128");
 static_assert(sizeof(ratio_bounded_i128) == 48, "the size of ratio_bounded_i128");
+static_assert(sizeof(ratio_bounds_i128) == 72, "the size of ratio_bounds_i128");
 static_assert(sizeof(ratio_answer_i128) == 40, "the size of ratio_answer_i128");
 static_assert(sizeof(ratio_total_i64) == 48, "the size of ratio_total_i64");
 #endif

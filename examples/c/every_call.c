@@ -40,13 +40,19 @@ static void expect(int holds, const char *what) {
         static const ratio_bounded_##suffix near = {.value = FRACTION(N, 355, 113), .most = N(10)};  \
         static const ratio_bounded_##suffix nowhere = {.value = FRACTION(N, 355, 113), .most = N(0)};\
         static const ratio_pair_##suffix same = PAIR(N, 2, 4, -1, -2);                               \
+        static const ratio_bounds_##suffix inside = {.low = FRACTION(N, 1, 3), .high = FRACTION(N, 1, 2), .flags = 0};\
+        static const ratio_bounds_##suffix empty = {.low = FRACTION(N, 1, 2), .high = FRACTION(N, 2, 4), .flags = 0};\
+        static const ratio_bounds_##suffix flagged = {.low = FRACTION(N, 1, 3), .high = FRACTION(N, 1, 2), .flags = 1};\
+        static const ratio_bounds_##suffix loose_bounds = {.low = FRACTION(N, 1, 3), .high = FRACTION(N, 1, -2), .flags = 0};\
+        static const ratio_scaled price = {.number = {.low = 1250}, .scale = 2}, below = {.number = {.low = 5}, .scale = -1},\
+            fine = {.number = {.low = 5}, .scale = 39};                                              \
         static const ratio_power_##suffix power = {.base = FRACTION(N, -3, 2), .exponent = -3};      \
         static const ratio_power_##suffix zero = {.base = FRACTION(N, 0, 1), .exponent = -1};        \
         static const ratio_answer_##suffix sum = ANSWER(N, 5, 4), difference = ANSWER(N, 7, 4),      \
             product = ANSWER(N, -3, 8), quotient = ANSWER(N, -6, 1), rest = ANSWER(N, 0, 1),         \
             low = ANSWER(N, -3, 2), half = ANSWER(N, 1, 2), floor = ANSWER(N, -2, 1),                \
             raised = ANSWER(N, -8, 27), negative = ANSWER(N, 3, 2), up = ANSWER(N, -1, 1),           \
-            nearest = ANSWER(N, 22, 7);                                                              \
+            nearest = ANSWER(N, 22, 7), simplest = ANSWER(N, 2, 5), twelve = ANSWER(N, 25, 2);       \
         ratio_answer_##suffix answer[2], read[4];                                                    \
         static const ratio_##suffix shown[3] = {FRACTION(N, 6, -4), FRACTION(N, 3, 0), FRACTION(N, -5, 1)};\
         uint8_t bytes[3 * 81];                                                                       \
@@ -88,6 +94,13 @@ static void expect(int holds, const char *what) {
         REFUSES(suffix, neg, loose[0], RATIO_DENOMINATOR_NOT_POSITIVE)                               \
         GIVES(suffix, nearest, near, nearest)                                                        \
         REFUSES(suffix, nearest, nowhere, RATIO_BOUND_NOT_POSITIVE)                                  \
+        GIVES(suffix, between, inside, simplest)                                                     \
+        REFUSES(suffix, between, empty, RATIO_NOT_HELD)                                              \
+        REFUSES(suffix, between, flagged, RATIO_BAD_OPTION)                                          \
+        REFUSES(suffix, between, loose_bounds, RATIO_DENOMINATOR_NOT_POSITIVE)                       \
+        GIVES(suffix, from_scaled, price, twelve)                                                    \
+        REFUSES(suffix, from_scaled, below, RATIO_BAD_OPTION)                                        \
+        REFUSES(suffix, from_scaled, fine, RATIO_BAD_OPTION)                                         \
         REFUSES(suffix, floor, loose[0], RATIO_DENOMINATOR_NOT_POSITIVE)                             \
         expect(ratio_read_##suffix(texts, 8, spans, 4, read, 4) == RATIO_DONE, "read " #suffix);     \
         expect(SAME(read[0], half) && read[1].code == RATIO_PARSE_ERROR, "text " #suffix);           \
@@ -224,6 +237,25 @@ static void keys(void) {
     expect(key[5].code == RATIO_DENOMINATOR_NOT_POSITIVE && key[5].key == 0, "no key");
 }
 
+/* A text that is no fraction, and ones that need more bits than the type has. */
+static void refusals(void) {
+    static const char text[] = "x2147483648/39223372036854775808/318446744073709551616/0170141183460469231731687303715884105728";
+    static const ratio_span spans[5] = {{0, 1}, {1, 13}, {13, 34}, {34, 56}, {56, 95}};
+    static const uint32_t narrow[5] = {RATIO_PARSE_ERROR, RATIO_NOT_HELD, RATIO_NOT_HELD, RATIO_ZERO_DENOMINATOR, RATIO_PARSE_ERROR},
+        middle[5] = {RATIO_PARSE_ERROR, RATIO_ANSWERED, RATIO_NOT_HELD, RATIO_ZERO_DENOMINATOR, RATIO_PARSE_ERROR},
+        wide[5] = {RATIO_PARSE_ERROR, RATIO_ANSWERED, RATIO_ANSWERED, RATIO_ZERO_DENOMINATOR, RATIO_PARSE_ERROR};
+    ratio_answer_i32 first[5];
+    ratio_answer_i64 second[5];
+    ratio_answer_i128 third[5];
+    int i;
+    expect(ratio_read_i32((const uint8_t *) text, sizeof text - 1, spans, 5, first, 5) == RATIO_DONE, "read 32 bits");
+    expect(ratio_read_i64((const uint8_t *) text, sizeof text - 1, spans, 5, second, 5) == RATIO_DONE, "read 64 bits");
+    expect(ratio_read_i128((const uint8_t *) text, sizeof text - 1, spans, 5, third, 5) == RATIO_DONE, "read 128 bits");
+    for (i = 0; i < 5; i++) {
+        expect(first[i].code == narrow[i] && second[i].code == middle[i] && third[i].code == wide[i], "refusals apart");
+    }
+}
+
 int main(void) {
     every_call_i32();
     every_call_i64();
@@ -234,5 +266,6 @@ int main(void) {
     lowest_hashes();
     totals();
     keys();
+    refusals();
     return wrong;
 }

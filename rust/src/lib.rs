@@ -73,6 +73,16 @@ pub use proved::num_rational::RatioErrorKind;
 /// ```
 #[doc(inline)]
 pub use proved::ratio_core::BaseTenText;
+/// Why `from_decimal` of a `Reduced` takes no fraction from a text.
+///
+/// ```
+/// use bakhsney::{DecimalRefusal, Reduced};
+///
+/// assert_eq!(Reduced::<i8>::from_decimal("12,5"), Err(DecimalRefusal::NotDecimal));
+/// assert_eq!(Reduced::<i8>::from_decimal("128"), Err(DecimalRefusal::NotHeld));
+/// ```
+#[doc(inline)]
+pub use proved::ratio_core::DecimalRefusal;
 /// The text that `decimal` and `exact_decimal` of a `Reduced` return.
 ///
 /// ```

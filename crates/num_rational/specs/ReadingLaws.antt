@@ -4,6 +4,9 @@ use Rattle.ratio_core.specs.declared.parse_error.RatioErrorKind.{RatioErrorKind}
 use Rattle.ratio_core.specs.declared.parse_error.RatioErrorKind.TheVariants.{ParseError}
 use Rattle.ratio_core.specs.declared.text.form.Form.{Form}
 use Rattle.ratio_core.specs.declared.text.form.Form.TheVariants.{Decimal}
+use Rattle.ratio_core.specs.declared.text.decimals.DecimalRefusal.{DecimalRefusal}
+use Rattle.ratio_core.specs.Decimal.{IsExactDecimal}
+use Rattle.ratio_core.specs.DecimalReading.{AnswersDecimal, IsReadDecimal}
 use Rattle.ratio_core.specs.Printing.{base_of, text_of}
 use Rattle.ratio_core.specs.Reading.{AnswersText, IsSlashedText}
 use Rattle.num_rational.specs.declared.reduced.Reduced.{Reduced}
@@ -54,3 +57,11 @@ RefusesBelowZeroInBase {T} {i} {o} {e} {p} {h} bits x =
     → numerator (ratio_of x) <ℤ pos 0
     → ReadsInBase (base_of form) (printed bits form false x) result
     → result ≡ Err ParseError
+
+-- reading all of x as a decimal gives `Ok` of x
+abbrev pub ReadsItsDecimal : {T : _} {i : _} {o : _} {e : _} {p : _} {h : _} → Reduced T i o e p h → Type 0
+ReadsItsDecimal {T} {i} {o} {e} {p} {h} x =
+    (text : List ℕ) (result : Result (Reduced T i o e p h) DecimalRefusal)
+    → IsExactDecimal (numerator (ratio_of x)) (denominator (ratio_of x)) text
+    → AnswersDecimal (λ y. numerator (ratio_of y)) (λ y. denominator (ratio_of y)) i.lo i.hi text result
+    → IsReadDecimal (λ y. numerator (ratio_of y)) (λ y. denominator (ratio_of y)) (numerator (ratio_of x)) (denominator (ratio_of x)) result

@@ -44,15 +44,15 @@ pub narrow_none : (n d : ℤ) → ¬ (Fits least128 greatest128 n d) → ¬ (Fit
 narrow_none n d out fits =
     out (record { numer = fits.numer; denom = fits.denom; low = record { terms = fits.low.terms; numer_held = narrower fits.numer fits.low.numer_held; denom_held = narrower fits.denom fits.low.denom_held } })
 
--- lowest terms of 128 bits, over 64 bits if both numbers fit
-pub narrow_some : {R : Type 0} (numer denom : R → ℤ) (n d a b : ℤ) (r : Option R) → IsLowestTermsOf n d a b → ChecksBoth numer denom least64 greatest64 a b r → ChecksLowest numer denom least64 greatest64 (n, d) r
-narrow_some numer denom n d a b None low out = λ fits.
+-- lowest terms of 128 bits, over another type if both numbers fit it
+pub narrow_some : {R : Type 0} (numer denom : R → ℤ) (lo hi n d a b : ℤ) (r : Option R) → IsLowestTermsOf n d a b → ChecksBoth numer denom lo hi a b r → ChecksLowest numer denom lo hi (n, d) r
+narrow_some numer denom lo hi n d a b None low out = λ fits.
     let same = lowest_unique n d a b fits.numer fits.denom low fits.low.terms in
-    out (subst (IsHeld least64 greatest64) (sym same.0) fits.low.numer_held, subst (IsHeld least64 greatest64) (sym same.1) fits.low.denom_held)
-narrow_some numer denom n d a b (Some r) low told = record {
+    out (subst (IsHeld lo hi) (sym same.0) fits.low.numer_held, subst (IsHeld lo hi) (sym same.1) fits.low.denom_held)
+narrow_some numer denom lo hi n d a b (Some r) low told = record {
   terms = subst (λ (t : ℤ). IsLowestTermsOf n d t (denom r)) (sym told.1.0) (subst (λ (t : ℤ). IsLowestTermsOf n d a t) (sym told.1.1) low);
-  numer_held = subst (IsHeld least64 greatest64) (sym told.1.0) told.0.0;
-  denom_held = subst (IsHeld least64 greatest64) (sym told.1.1) told.0.1;
+  numer_held = subst (IsHeld lo hi) (sym told.1.0) told.0.0;
+  denom_held = subst (IsHeld lo hi) (sym told.1.1) told.0.1;
 }
 
 -- the first items went, one after another, into a total
@@ -84,7 +84,7 @@ narrowed_none n d k p q l first second third out =
 pub narrowed_some : {R : Type 0} (numer denom : R → ℤ) (n d k p q l a b s t : ℤ) (r : Option R) → p ≡ n → q ≡ d → l ≡ k → s ≡ a → t ≡ b
     → IsLowestTermsOf (p *ℤ pos 1) (q *ℤ l) a b → ChecksBoth numer denom least64 greatest64 s t r → ChecksLowest numer denom least64 greatest64 (n *ℤ pos 1, d *ℤ k) r
 narrowed_some numer denom n d k p q l a b s t r first second third fourth fifth low told =
-    narrow_some numer denom _ _ a b r
+    narrow_some numer denom least64 greatest64 _ _ a b r
     (subst (λ w. IsLowestTermsOf (n *ℤ pos 1) w a b) (ap (λ w. w *ℤ l) second ∙ ap (λ w. d *ℤ w) third) (subst (λ w. IsLowestTermsOf (w *ℤ pos 1) (q *ℤ l) a b) first low))
     (subst (λ w. ChecksBoth numer denom least64 greatest64 a w r) fifth (subst (λ w. ChecksBoth numer denom least64 greatest64 w t r) fourth told))
 
@@ -107,5 +107,15 @@ mean_said n d k p q r answer first second told said =
     record { result = option_map (λ z. (z.0, z.1)) r; is_result = mapped r (subst (λ t. ChecksLowest {R = ℤ × ℤ} (λ z. z.0) (λ z. z.1) least64 greatest64 (n *ℤ pos 1, t *ℤ k) r) second (subst (λ t. ChecksLowest {R = ℤ × ℤ} (λ z. z.0) (λ z. z.1) least64 greatest64 (t *ℤ pos 1, q *ℤ k) r) first told)); is_said = said }
   where
     mapped : (r : Option (ℤ × ℤ)) → ChecksLowest {R = ℤ × ℤ} (λ z. z.0) (λ z. z.1) least64 greatest64 (n *ℤ pos 1, d *ℤ k) r → ChecksLowest {R = ℤ × ℤ} (λ z. z.0) (λ z. z.1) least64 greatest64 (n *ℤ pos 1, d *ℤ k) (option_map (λ z. (z.0, z.1)) r)
+    mapped None out = out
+    mapped (Some z) low = low
+
+-- lowest terms over another type, as an answer says them
+pub lowest_said : {R : Type 0} (first second : R → ℤ) (lo hi n d m e : ℤ) (r : Option R) (answer : Said) → m ≡ n → e ≡ d → ChecksLowest first second lo hi (m, e) r
+    → answer ≡ said_of (option_map (λ z. (first z, second z)) r) → Says (ChecksLowest (λ (z : ℤ × ℤ). z.0) (λ (z : ℤ × ℤ). z.1) lo hi (n, d)) answer
+lowest_said {R = R} first second lo hi n d m e r answer numer denom told said =
+    record { result = option_map (λ z. (first z, second z)) r; is_result = mapped r (subst (λ t. ChecksLowest first second lo hi (n, t) r) denom (subst (λ t. ChecksLowest first second lo hi (t, e) r) numer told)); is_said = said }
+  where
+    mapped : (r : Option R) → ChecksLowest first second lo hi (n, d) r → ChecksLowest (λ (z : ℤ × ℤ). z.0) (λ (z : ℤ × ℤ). z.1) lo hi (n, d) (option_map (λ z. (first z, second z)) r)
     mapped None out = out
     mapped (Some z) low = low

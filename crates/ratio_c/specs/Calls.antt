@@ -1,9 +1,10 @@
 -- What a call answers for fractions, which are pairs of whole numbers here, and what a call over slices does.
-use Rattle.std.specs.Prelude.{◌≡◌, ◌≢◌, ◌==◌, ◌<ℤ◌, ◌≤◌, ℕ, ℤ, pos, neg_ℤ, unsigned_abs, Bool, List, length, Option, MatchBool, Result, fold, slice_range}
+use Rattle.std.specs.Prelude.{◌≡◌, ◌≢◌, ◌==◌, ◌<ℤ◌, ◌≤ℤ◌, ◌≤◌, ◌^◌, ℕ, ℤ, pos, negsuc, neg_ℤ, ◌-◌, unsigned_abs, Bool, List, length, Option, MatchBool, Result, Ok, Err, fold, slice_range}
 use Rattle.std.specs.List.{AllZip}
 use Rattle.std.specs.Str.{IsUtf8}
 use Rattle.ratio_core.specs.Reading.{AnswersText, IsFractionText}
 use Rattle.ratio_core.specs.declared.parse_error.RatioErrorKind.{RatioErrorKind}
+use Rattle.ratio_core.specs.declared.parse_error.RatioErrorKind.TheVariants.{ParseError, ZeroDenominator}
 use Rattle.ratio_integer.specs.Arithmetic.{difference_of, product_of, quotient_of, remainder_of, sum_of}
 use Rattle.ratio_integer.specs.Fraction.{AnswersLowest, ChecksLowest, SameValue}
 use Rattle.ratio_core.specs.Conditions.{RemainderCondition}
@@ -11,9 +12,10 @@ use Rattle.ratio_core.specs.ContinuedFraction.{IsCodesOf}
 use Rattle.ratio_core.specs.Nearest.{IsNearest}
 use Rattle.ratio_core.specs.Order.{cross_cmp}
 use Rattle.ratio_core.specs.Power.{ChecksBoth, ChecksPower}
+use Rattle.ratio_core.specs.Simplest.{ChecksSimplest}
 use Rattle.ratio_core.specs.Rounding.{IsCeiling, IsFloor, IsRounded, IsTruncation}
-use Rattle.ratio_c.specs.Crossing.{Said, Says, mixed, order_number, refused, said_of_text}
-use Rattle.ratio_c.specs.Codes.{code_answered, code_bound_not_positive, code_denominator_not_positive, code_division_by_zero, code_no_text, code_parse_error, code_zero_denominator, return_bad_length, return_done}
+use Rattle.ratio_c.specs.Crossing.{Said, Says, code_of_wide, mixed, order_number, refused}
+use Rattle.ratio_c.specs.Codes.{code_answered, code_bad_option, code_bound_not_positive, code_denominator_not_positive, code_division_by_zero, code_no_text, code_parse_error, code_zero_denominator, return_bad_length, return_done}
 
 -- Each answer is right for the item at its place, and the call returns 0. If the slices have unlike lengths, it returns 1 and writes nothing.
 abbrev pub AnswersEach : {A B : Type 0} → (A → B → Type 0) → List A → List B → List B → ℕ → Type 0
@@ -123,6 +125,17 @@ pub record SaysNearest (x : ℤ × ℤ) (most : ℤ) (answer : Said) : Type 0 wh
 abbrev pub IsNearestAnswer : ℤ × ℤ → ℤ → Said → Type 0
 IsNearestAnswer x most answer = OfOne x answer (Tested (pos 0 <ℤ most) (SaysNearest x most answer) (answer ≡ refused code_bound_not_positive))
 
+-- The simplest fraction strictly between two bounds, if the type has one between them. Flags other than 0 are no option yet. For example,
+-- 1/3 and 1/2 give 2/5.
+abbrev pub IsBetweenAnswer : ℤ → ℤ → ℤ × ℤ → ℤ × ℤ → ℕ → Said → Type 0
+IsBetweenAnswer lo hi x y flags answer =
+    OfPositive x y answer (Tested (flags ≡ 0) (Says (ChecksSimplest (λ z. z) lo hi x.0 x.1 y.0 y.1) answer) (answer ≡ refused code_bad_option))
+
+-- The lowest terms of n by 10^scale, if these fit, for a scale from 0 to 38. For example, 1250 with the scale 2 gives 25/2.
+abbrev pub IsScaledAnswer : ℤ → ℤ → ℤ → ℤ → Said → Type 0
+IsScaledAnswer lo hi n scale answer =
+    Tested ((pos 0 ≤ℤ scale) × (scale ≤ℤ pos 38)) (Says (ChecksLowest (λ z. z.0) (λ z. z.1) lo hi (n, pos (10 ^ unsigned_abs scale))) answer) (answer ≡ refused code_bad_option)
+
 -- A power, not reduced, if the library's call returns it. For example, 2/4 to the 2 is 4/16. A power of 0 with an exponent below 0 is a
 -- division by 0.
 abbrev pub IsPowerAnswer : ℤ → ℤ → ℤ × ℤ → ℤ → Said → Type 0
@@ -146,11 +159,24 @@ EqualValuesHaveOneHash =
 abbrev pub IsHashAnswer : ℤ → ℤ → ℤ × ℤ → ℕ → ℕ → Type 0
 IsHashAnswer lo hi x code hash = Tested (x.1 ≡ pos 0) ((code ≡ code_zero_denominator) × (hash ≡ 0)) ((code ≡ code_answered) × IsHashOf lo hi x hash)
 
+-- the code says why a text has no fraction over a narrower type: what it reads as over 128 bits
+pub record IsWideRefusal (text : List ℕ) (code : ℕ) : Type 0 where
+  pub wide : Result (ℤ × ℤ) RatioErrorKind
+  pub is_wide : AnswersText (λ z. z.0) (λ z. z.1) (negsuc (2 ^ 127 - 1)) (pos (2 ^ 127 - 1)) (IsFractionText (negsuc (2 ^ 127 - 1)) (pos (2 ^ 127 - 1)) text) wide
+  pub is_code : code ≡ code_of_wide wide
+
+-- The answer says what a text reads as: a fraction, or the code of its refusal. For example, over 64 bits `x` has the code
+-- `code_parse_error`, and `1/9223372036854775808` has the code `code_not_held`.
+abbrev pub SaysRead : List ℕ → Result (ℤ × ℤ) RatioErrorKind → Said → Type 0
+SaysRead text (Ok x) answer = answer ≡ (code_answered, x)
+SaysRead text (Err ParseError) answer = (code : ℕ) × IsWideRefusal text code × (answer ≡ refused code)
+SaysRead text (Err ZeroDenominator) answer = answer ≡ refused code_zero_denominator
+
 -- the answer is the fraction of a text in lowest terms, or the code of its refusal
 pub record SaysText (lo hi : ℤ) (text : List ℕ) (answer : Said) : Type 0 where
   pub read : Result (ℤ × ℤ) RatioErrorKind
   pub is_read : AnswersText (λ z. z.0) (λ z. z.1) lo hi (IsFractionText lo hi text) read
-  pub is_said : answer ≡ said_of_text read
+  pub is_said : SaysRead text read answer
 
 -- The text from `start` to `end` is read, if it lies in `texts`. Otherwise the code is `code_no_text`. A text that is not UTF-8 is a parse error.
 abbrev pub IsReadAnswer : ℤ → ℤ → List ℕ → ℕ → ℕ → Said → Type 0

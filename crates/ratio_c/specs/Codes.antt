@@ -36,6 +36,9 @@ code_bound_not_positive = 7
 abbrev pub code_no_total : ℕ
 code_no_total = 8
 
+abbrev pub code_bad_option : ℕ
+code_bad_option = 9
+
 -- How many bytes a call that prints requires for each fraction of 32, 64 and 128 bits. For example, two
 -- numbers of at most 11 bytes and a slash are 23.
 abbrev pub room32 : ℕ

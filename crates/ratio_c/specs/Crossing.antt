@@ -45,8 +45,9 @@ residue z = unsigned_abs (int_rem_euclid z (pos (2 ^ 64)))
 abbrev pub mixed : ℕ → ℤ → ℕ
 mixed hash code = ((hash * hash_multiplier) % 2 ^ 64 + residue code) % 2 ^ 64
 
--- a text's fraction has the code `code_answered`, and its refusal has a code of its own
-abbrev pub said_of_text : Result (ℤ × ℤ) RatioErrorKind → Said
-said_of_text (Ok x) = (code_answered, x)
-said_of_text (Err ParseError) = refused code_parse_error
-said_of_text (Err ZeroDenominator) = refused code_zero_denominator
+-- The code of a text that has no fraction over a narrower type, by what it reads as over 128 bits: a fraction does not fit, and a refusal
+-- has a code of its own.
+abbrev pub code_of_wide : Result (ℤ × ℤ) RatioErrorKind → ℕ
+code_of_wide (Ok x) = code_not_held
+code_of_wide (Err ParseError) = code_parse_error
+code_of_wide (Err ZeroDenominator) = code_zero_denominator

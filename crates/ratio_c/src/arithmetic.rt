@@ -13,7 +13,7 @@ use ratio_integer::Integer;
 
 /// The two fractions of a pair, if their denominators are positive.
 #[inline(always)]
-fn both<P: TwoFractions>(pair: &P) -> Option<(Ratio<P::Inside>, Ratio<P::Inside>)>
+pub(crate) fn both<P: TwoFractions>(pair: &P) -> Option<(Ratio<P::Inside>, Ratio<P::Inside>)>
     ensures { MatchOption result
         (¬ (BothPositive (P.left pair.now) (P.right pair.now)))
         (λ x. BothPositive (numbers x.0) (numbers x.1)

@@ -16,7 +16,7 @@ pub const DENOMINATOR_NOT_POSITIVE: u32 = 3;
 /// A denominator is 0.
 pub const ZERO_DENOMINATOR: u32 = 4;
 
-/// A text is no fraction, or its numbers or its lowest terms do not fit in the type.
+/// A text is no fraction, or its numbers or its lowest terms do not fit in 128 bits.
 pub const PARSE_ERROR: u32 = 5;
 
 /// A span does not lie in the texts.
@@ -27,3 +27,6 @@ pub const BOUND_NOT_POSITIVE: u32 = 7;
 
 /// A total's code is 0, but its sum is not in lowest terms.
 pub const NO_TOTAL: u32 = 8;
+
+/// The call has no such scale or flags.
+pub const BAD_OPTION: u32 = 9;

@@ -1,5 +1,5 @@
 //! Inputs and answers, as they cross from a caller and back.
-ghost use Rattle.std.specs.Prelude.{◌≡◌, ℤ, option_map, pos};
+ghost use Rattle.std.specs.Prelude.{◌≡◌, ℕ, ℤ, option_map, pos};
 ghost use Rattle.num_rational.specs.Operators.{numbers};
 ghost use Rattle.ratio_c.specs.Crossing.{Said, refused, residue, said_of};
 
@@ -101,6 +101,15 @@ pub trait TwoFractions {
     /// The second one.
     fn right(&self) -> (Self::Inside, Self::Inside)
         ensures { (Self.Inside.value result.0, Self.Inside.value result.1) ≡ right self.now };
+}
+
+/// Two bounds, and flags that say which of them is taken.
+pub trait Bounds: TwoFractions {
+    ghost flags: { Self → ℕ };
+
+    /// The flags.
+    fn flags(&self) -> u32
+        ensures { result ≡ flags self.now };
 }
 
 /// An answer: a code, and the two numbers of a fraction over `T`.

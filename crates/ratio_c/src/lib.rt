@@ -2,6 +2,7 @@
 #![tactic(auto)]
 
 pub mod arithmetic;
+pub mod between;
 pub mod cast;
 pub mod code;
 pub mod compare;
@@ -18,6 +19,7 @@ pub mod numbers64;
 pub mod one_fraction;
 pub mod printing;
 pub mod reading;
+pub mod scaled;
 pub mod sign;
 #[cfg(test)]
 mod tests;

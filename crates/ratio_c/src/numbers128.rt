@@ -1,7 +1,7 @@
 // Written by templates/write from templates/numbers.rt.txt: change that file, and write this one anew.
 //! Fractions of `i128` and the exports over them.
 ghost use Rattle.std.specs.Prelude.{false};
-ghost use Rattle.ratio_c.specs.Calls.{AnswersEach, IsAbsoluteAnswer, IsCastAnswer, IsCeilingAnswer, IsDifferenceAnswer, IsEqualAnswer, IsFloorAnswer, IsHashAnswer, IsLowestAnswer, IsNearestAnswer, IsNegationAnswer, IsOrderAnswer, IsPowerAnswer, IsProductAnswer, IsQuotientAnswer, IsReadAnswer, IsRemainderAnswer, IsRoundAnswer, IsSumAnswer, IsTruncationAnswer};
+ghost use Rattle.ratio_c.specs.Calls.{AnswersEach, IsAbsoluteAnswer, IsBetweenAnswer, IsCastAnswer, IsCeilingAnswer, IsDifferenceAnswer, IsEqualAnswer, IsFloorAnswer, IsHashAnswer, IsLowestAnswer, IsNearestAnswer, IsNegationAnswer, IsOrderAnswer, IsPowerAnswer, IsProductAnswer, IsQuotientAnswer, IsReadAnswer, IsRemainderAnswer, IsRoundAnswer, IsScaledAnswer, IsSumAnswer, IsTruncationAnswer};
 ghost use Rattle.ratio_c.specs.Codes.{room128};
 ghost use Rattle.ratio_c.specs.Crossing.{wide_number};
 ghost use Rattle.ratio_c.specs.Numbers128.{fraction128, greatest128, least128, said128};
@@ -10,9 +10,10 @@ ghost use Rattle.ratio_c.specs.Numbers64.{greatest64, least64, said64};
 ghost use Rattle.ratio_c.specs.Texts.{Prints};
 
 use crate::arithmetic::{Difference, Product, Quotient, Remainder, Sum};
+use crate::between::Between;
 use crate::cast::Casting;
 use crate::compare::{Comparison, Equality, Order, Truth};
-use crate::crossing::{Bounded, OneFraction, Raised, Reply, TwoFractions};
+use crate::crossing::{Bounded, Bounds, OneFraction, Raised, Reply, TwoFractions};
 use crate::each::each;
 use crate::hash::{Hash, Hashing};
 use crate::nearest::Nearest;
@@ -21,6 +22,7 @@ use crate::numbers64::Answer64;
 use crate::one_fraction::{Ceiling, Floor, LowestTerms, Raising, Rounding, Truncation};
 use crate::printing::{Text, print};
 use crate::reading::{Reading, Span};
+use crate::scaled::{Scaled, Scaling};
 use crate::sign::{Absolute, Negation};
 use crate::wide::Wide;
 
@@ -57,6 +59,15 @@ pub struct Power128 {
 pub struct Bounded128 {
     pub value: Fraction128,
     pub most: Wide,
+}
+
+/// The bounds of a fraction, and flags that say which of them is taken.
+#[repr(C)]
+#[derive(Drop)]
+pub struct Bounds128 {
+    pub low: Fraction128,
+    pub high: Fraction128,
+    pub flags: u32,
 }
 
 /// A fraction. If there is none, the code says why, and the value is 0 over 0.
@@ -115,6 +126,33 @@ impl Bounded for Bounded128 {
     #[inline(always)]
     fn most(&self) -> i128 {
         self.most.number()
+    }
+}
+
+impl TwoFractions for Bounds128 {
+    type Inside = i128;
+
+    ghost left = { λ x. fraction128 x.low };
+
+    ghost right = { λ x. fraction128 x.high };
+
+    #[inline(always)]
+    fn left(&self) -> (i128, i128) {
+        (self.low.numer.number(), self.low.denom.number())
+    }
+
+    #[inline(always)]
+    fn right(&self) -> (i128, i128) {
+        (self.high.numer.number(), self.high.denom.number())
+    }
+}
+
+impl Bounds for Bounds128 {
+    ghost flags = { λ x. x.flags };
+
+    #[inline(always)]
+    fn flags(&self) -> u32 {
+        self.flags
     }
 }
 
@@ -283,6 +321,22 @@ pub extern "C" fn ratio_nearest_i128(asked: &[Bounded128], answers: &mut [Answer
     ensures { AnswersEach (λ x answer. IsNearestAnswer (fraction128 x.value) (wide_number x.most) (said128 answer)) asked.now answers.old answers.new result }
 {
     each(&Nearest, asked, answers)
+}
+
+/// The simplest fraction strictly between the bounds.
+#[unsafe(no_mangle)]
+pub extern "C" fn ratio_between_i128(asked: &[Bounds128], answers: &mut [Answer128]) -> u32
+    ensures { AnswersEach (λ x answer. IsBetweenAnswer least128 greatest128 (fraction128 x.low) (fraction128 x.high) x.flags (said128 answer)) asked.now answers.old answers.new result }
+{
+    each(&Between, asked, answers)
+}
+
+/// The lowest terms of each number by 10^scale.
+#[unsafe(no_mangle)]
+pub extern "C" fn ratio_from_scaled_i128(asked: &[Scaled], answers: &mut [Answer128]) -> u32
+    ensures { AnswersEach (λ x answer. IsScaledAnswer least128 greatest128 (wide_number x.number) x.scale (said128 answer)) asked.now answers.old answers.new result }
+{
+    each(&Scaling::<i128>::new(), asked, answers)
 }
 
 /// Each fraction over `i32`, not reduced.

@@ -1,8 +1,9 @@
 // Written by templates/write from templates/numbers.rt.txt: change that file, and write this one anew.
 //! Fractions of `i32` and the exports over them.
 ghost use Rattle.std.specs.Prelude.{true};
-ghost use Rattle.ratio_c.specs.Calls.{AnswersEach, IsAbsoluteAnswer, IsCastAnswer, IsCeilingAnswer, IsDifferenceAnswer, IsEqualAnswer, IsFloorAnswer, IsHashAnswer, IsLowestAnswer, IsNearestAnswer, IsNegationAnswer, IsOrderAnswer, IsPowerAnswer, IsProductAnswer, IsQuotientAnswer, IsReadAnswer, IsRemainderAnswer, IsRoundAnswer, IsSumAnswer, IsTruncationAnswer};
+ghost use Rattle.ratio_c.specs.Calls.{AnswersEach, IsAbsoluteAnswer, IsBetweenAnswer, IsCastAnswer, IsCeilingAnswer, IsDifferenceAnswer, IsEqualAnswer, IsFloorAnswer, IsHashAnswer, IsLowestAnswer, IsNearestAnswer, IsNegationAnswer, IsOrderAnswer, IsPowerAnswer, IsProductAnswer, IsQuotientAnswer, IsReadAnswer, IsRemainderAnswer, IsRoundAnswer, IsScaledAnswer, IsSumAnswer, IsTruncationAnswer};
 ghost use Rattle.ratio_c.specs.Codes.{room32};
+ghost use Rattle.ratio_c.specs.Crossing.{wide_number};
 ghost use Rattle.ratio_c.specs.LowestHash.{IsLowestHashAnswer};
 ghost use Rattle.ratio_c.specs.Numbers32.{fraction32, greatest32, least32, said32};
 ghost use Rattle.ratio_c.specs.Numbers64.{greatest64, least64, said64};
@@ -10,9 +11,10 @@ ghost use Rattle.ratio_c.specs.Numbers128.{greatest128, least128, said128};
 ghost use Rattle.ratio_c.specs.Texts.{Prints};
 
 use crate::arithmetic::{Difference, Product, Quotient, Remainder, Sum};
+use crate::between::Between;
 use crate::cast::Casting;
 use crate::compare::{Comparison, Equality, Order, Truth};
-use crate::crossing::{Bounded, OneFraction, Raised, Reply, TwoFractions};
+use crate::crossing::{Bounded, Bounds, OneFraction, Raised, Reply, TwoFractions};
 use crate::each::each;
 use crate::hash::{Hash, Hashing};
 use crate::lowest_hash::LowestHashing;
@@ -22,6 +24,7 @@ use crate::numbers128::Answer128;
 use crate::one_fraction::{Ceiling, Floor, LowestTerms, Raising, Rounding, Truncation};
 use crate::printing::{Text, print};
 use crate::reading::{Reading, Span};
+use crate::scaled::{Scaled, Scaling};
 use crate::sign::{Absolute, Negation};
 
 /// The room for a text: a slash, and two numbers of at most 11 bytes.
@@ -57,6 +60,15 @@ pub struct Power32 {
 pub struct Bounded32 {
     pub value: Fraction32,
     pub most: i32,
+}
+
+/// The bounds of a fraction, and flags that say which of them is taken.
+#[repr(C)]
+#[derive(Drop)]
+pub struct Bounds32 {
+    pub low: Fraction32,
+    pub high: Fraction32,
+    pub flags: u32,
 }
 
 /// A fraction. If there is none, the code says why, and the value is 0 over 0.
@@ -115,6 +127,33 @@ impl Bounded for Bounded32 {
     #[inline(always)]
     fn most(&self) -> i32 {
         self.most
+    }
+}
+
+impl TwoFractions for Bounds32 {
+    type Inside = i32;
+
+    ghost left = { λ x. fraction32 x.low };
+
+    ghost right = { λ x. fraction32 x.high };
+
+    #[inline(always)]
+    fn left(&self) -> (i32, i32) {
+        (self.low.numer, self.low.denom)
+    }
+
+    #[inline(always)]
+    fn right(&self) -> (i32, i32) {
+        (self.high.numer, self.high.denom)
+    }
+}
+
+impl Bounds for Bounds32 {
+    ghost flags = { λ x. x.flags };
+
+    #[inline(always)]
+    fn flags(&self) -> u32 {
+        self.flags
     }
 }
 
@@ -280,6 +319,22 @@ pub extern "C" fn ratio_nearest_i32(asked: &[Bounded32], answers: &mut [Answer32
     ensures { AnswersEach (λ x answer. IsNearestAnswer (fraction32 x.value) x.most (said32 answer)) asked.now answers.old answers.new result }
 {
     each(&Nearest, asked, answers)
+}
+
+/// The simplest fraction strictly between the bounds.
+#[unsafe(no_mangle)]
+pub extern "C" fn ratio_between_i32(asked: &[Bounds32], answers: &mut [Answer32]) -> u32
+    ensures { AnswersEach (λ x answer. IsBetweenAnswer least32 greatest32 (fraction32 x.low) (fraction32 x.high) x.flags (said32 answer)) asked.now answers.old answers.new result }
+{
+    each(&Between, asked, answers)
+}
+
+/// The lowest terms of each number by 10^scale.
+#[unsafe(no_mangle)]
+pub extern "C" fn ratio_from_scaled_i32(asked: &[Scaled], answers: &mut [Answer32]) -> u32
+    ensures { AnswersEach (λ x answer. IsScaledAnswer least32 greatest32 (wide_number x.number) x.scale (said32 answer)) asked.now answers.old answers.new result }
+{
+    each(&Scaling::<i32>::new(), asked, answers)
 }
 
 /// The hash of each fraction in lowest terms.

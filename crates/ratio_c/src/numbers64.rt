@@ -1,8 +1,9 @@
 // Written by templates/write from templates/numbers.rt.txt: change that file, and write this one anew.
 //! Fractions of `i64` and the exports over them.
 ghost use Rattle.std.specs.Prelude.{true};
-ghost use Rattle.ratio_c.specs.Calls.{AnswersEach, IsAbsoluteAnswer, IsCastAnswer, IsCeilingAnswer, IsDifferenceAnswer, IsEqualAnswer, IsFloorAnswer, IsHashAnswer, IsLowestAnswer, IsNearestAnswer, IsNegationAnswer, IsOrderAnswer, IsPowerAnswer, IsProductAnswer, IsQuotientAnswer, IsReadAnswer, IsRemainderAnswer, IsRoundAnswer, IsSumAnswer, IsTruncationAnswer};
+ghost use Rattle.ratio_c.specs.Calls.{AnswersEach, IsAbsoluteAnswer, IsBetweenAnswer, IsCastAnswer, IsCeilingAnswer, IsDifferenceAnswer, IsEqualAnswer, IsFloorAnswer, IsHashAnswer, IsLowestAnswer, IsNearestAnswer, IsNegationAnswer, IsOrderAnswer, IsPowerAnswer, IsProductAnswer, IsQuotientAnswer, IsReadAnswer, IsRemainderAnswer, IsRoundAnswer, IsScaledAnswer, IsSumAnswer, IsTruncationAnswer};
 ghost use Rattle.ratio_c.specs.Codes.{room64};
+ghost use Rattle.ratio_c.specs.Crossing.{wide_number};
 ghost use Rattle.ratio_c.specs.LowestHash.{IsLowestHashAnswer};
 ghost use Rattle.ratio_c.specs.Numbers64.{fraction64, greatest64, least64, said64};
 ghost use Rattle.ratio_c.specs.Numbers32.{greatest32, least32, said32};
@@ -10,9 +11,10 @@ ghost use Rattle.ratio_c.specs.Numbers128.{greatest128, least128, said128};
 ghost use Rattle.ratio_c.specs.Texts.{Prints};
 
 use crate::arithmetic::{Difference, Product, Quotient, Remainder, Sum};
+use crate::between::Between;
 use crate::cast::Casting;
 use crate::compare::{Comparison, Equality, Order, Truth};
-use crate::crossing::{Bounded, OneFraction, Raised, Reply, TwoFractions};
+use crate::crossing::{Bounded, Bounds, OneFraction, Raised, Reply, TwoFractions};
 use crate::each::each;
 use crate::hash::{Hash, Hashing};
 use crate::lowest_hash::LowestHashing;
@@ -22,6 +24,7 @@ use crate::numbers128::Answer128;
 use crate::one_fraction::{Ceiling, Floor, LowestTerms, Raising, Rounding, Truncation};
 use crate::printing::{Text, print};
 use crate::reading::{Reading, Span};
+use crate::scaled::{Scaled, Scaling};
 use crate::sign::{Absolute, Negation};
 
 /// The room for a text: a slash, and two numbers of at most 20 bytes.
@@ -57,6 +60,15 @@ pub struct Power64 {
 pub struct Bounded64 {
     pub value: Fraction64,
     pub most: i64,
+}
+
+/// The bounds of a fraction, and flags that say which of them is taken.
+#[repr(C)]
+#[derive(Drop)]
+pub struct Bounds64 {
+    pub low: Fraction64,
+    pub high: Fraction64,
+    pub flags: u32,
 }
 
 /// A fraction. If there is none, the code says why, and the value is 0 over 0.
@@ -115,6 +127,33 @@ impl Bounded for Bounded64 {
     #[inline(always)]
     fn most(&self) -> i64 {
         self.most
+    }
+}
+
+impl TwoFractions for Bounds64 {
+    type Inside = i64;
+
+    ghost left = { λ x. fraction64 x.low };
+
+    ghost right = { λ x. fraction64 x.high };
+
+    #[inline(always)]
+    fn left(&self) -> (i64, i64) {
+        (self.low.numer, self.low.denom)
+    }
+
+    #[inline(always)]
+    fn right(&self) -> (i64, i64) {
+        (self.high.numer, self.high.denom)
+    }
+}
+
+impl Bounds for Bounds64 {
+    ghost flags = { λ x. x.flags };
+
+    #[inline(always)]
+    fn flags(&self) -> u32 {
+        self.flags
     }
 }
 
@@ -280,6 +319,22 @@ pub extern "C" fn ratio_nearest_i64(asked: &[Bounded64], answers: &mut [Answer64
     ensures { AnswersEach (λ x answer. IsNearestAnswer (fraction64 x.value) x.most (said64 answer)) asked.now answers.old answers.new result }
 {
     each(&Nearest, asked, answers)
+}
+
+/// The simplest fraction strictly between the bounds.
+#[unsafe(no_mangle)]
+pub extern "C" fn ratio_between_i64(asked: &[Bounds64], answers: &mut [Answer64]) -> u32
+    ensures { AnswersEach (λ x answer. IsBetweenAnswer least64 greatest64 (fraction64 x.low) (fraction64 x.high) x.flags (said64 answer)) asked.now answers.old answers.new result }
+{
+    each(&Between, asked, answers)
+}
+
+/// The lowest terms of each number by 10^scale.
+#[unsafe(no_mangle)]
+pub extern "C" fn ratio_from_scaled_i64(asked: &[Scaled], answers: &mut [Answer64]) -> u32
+    ensures { AnswersEach (λ x answer. IsScaledAnswer least64 greatest64 (wide_number x.number) x.scale (said64 answer)) asked.now answers.old answers.new result }
+{
+    each(&Scaling::<i64>::new(), asked, answers)
 }
 
 /// The hash of each fraction in lowest terms.

@@ -1,8 +1,8 @@
 //! Reading fractions from texts.
 ghost use Rattle.std.specs.Prelude.{◌≡◌};
-ghost use Rattle.ratio_c.specs.Calls.{IsReadAnswer, SaysText};
+ghost use Rattle.ratio_c.specs.Calls.{IsReadAnswer, IsWideRefusal, SaysText};
 
-use crate::code::{ANSWERED, NO_TEXT, PARSE_ERROR, ZERO_DENOMINATOR};
+use crate::code::{ANSWERED, NO_TEXT, NOT_HELD, PARSE_ERROR, ZERO_DENOMINATOR};
 use crate::crossing::{Digest, Reply, refused};
 use crate::each::Call;
 use num_rational::{Ratio, RatioErrorKind};
@@ -58,8 +58,22 @@ fn read<T: Digest, A: Reply<T>>(text: &str) -> A
     match Ratio::<T>::from_str(text) {
         Ok(x) => A::reply(ANSWERED, *x.numer(), *x.denom()),
         Err(refusal) => refused(match refusal.kind() {
-            RatioErrorKind::ParseError => PARSE_ERROR,
+            RatioErrorKind::ParseError => wide_refusal(text),
             RatioErrorKind::ZeroDenominator => ZERO_DENOMINATOR,
         }),
+    }
+}
+
+/// Why a text has no fraction over a narrower type: it has one over 128 bits, or it has none there either.
+#[cold]
+fn wide_refusal(text: &str) -> u32
+    ensures { IsWideRefusal text.now result }
+{
+    match Ratio::<i128>::from_str(text) {
+        Ok(_) => NOT_HELD,
+        Err(refusal) => match refusal.kind() {
+            RatioErrorKind::ParseError => PARSE_ERROR,
+            RatioErrorKind::ZeroDenominator => ZERO_DENOMINATOR,
+        },
     }
 }

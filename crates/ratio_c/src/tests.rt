@@ -1,6 +1,6 @@
 //! Worked rows. Their answers come from outside.
 use crate::code::{
-    ANSWERED, BOUND_NOT_POSITIVE, DENOMINATOR_NOT_POSITIVE, DIVISION_BY_ZERO, NOT_HELD,
+    ANSWERED, BAD_OPTION, BOUND_NOT_POSITIVE, DENOMINATOR_NOT_POSITIVE, DIVISION_BY_ZERO, NOT_HELD,
     PARSE_ERROR, ZERO_DENOMINATOR,
 };
 use crate::compare::Truth;
@@ -9,14 +9,15 @@ use crate::hash::Hash;
 use crate::key::{Key, ratio_key_i64};
 use crate::numbers32::{Answer32, Fraction32};
 use crate::numbers64::{
-    Answer64, Bounded64, Fraction64, Pair64, Power64, ROOM, ratio_abs_i64, ratio_add_i64,
-    ratio_cast_i64_to_i32, ratio_ceil_i64, ratio_equal_i64, ratio_hash_lowest_i64,
-    ratio_nearest_i64, ratio_neg_i64, ratio_pow_i64, ratio_print_i64, ratio_read_i64,
-    ratio_trunc_i64,
+    Answer64, Bounded64, Bounds64, Fraction64, Pair64, Power64, ROOM, ratio_abs_i64, ratio_add_i64,
+    ratio_between_i64, ratio_cast_i64_to_i32, ratio_ceil_i64, ratio_equal_i64,
+    ratio_from_scaled_i64, ratio_hash_lowest_i64, ratio_nearest_i64, ratio_neg_i64, ratio_pow_i64,
+    ratio_print_i64, ratio_read_i64, ratio_trunc_i64,
 };
 use crate::numbers128::Fraction128;
 use crate::printing::Text;
 use crate::reading::Span;
+use crate::scaled::Scaled;
 use crate::total_steps::{
     ratio_total_add_i64, ratio_total_mean_i64, ratio_total_merge_i64, ratio_total_subtract_i64,
     ratio_total_sum_i64,
@@ -137,6 +138,44 @@ fn nearest_fractions(rt: HostRuntime) {
 }
 
 #[test]
+fn simplest_fractions(rt: HostRuntime) {
+    let asked = [
+        Bounds64 {
+            low: fraction(1, 3),
+            high: fraction(1, 2),
+            flags: 0,
+        },
+        Bounds64 {
+            low: fraction(1, 3),
+            high: fraction(1, 2),
+            flags: 1,
+        },
+    ];
+    let mut answers = [no_answer(), no_answer()];
+    assert!(rt; ratio_between_i64(&asked, &mut answers) == DONE);
+    assert!(rt; [answers[0].value.numer, answers[0].value.denom] == [2, 5]);
+    assert!(rt; answers[1].code == BAD_OPTION);
+}
+
+#[test]
+fn decimals(rt: HostRuntime) {
+    let asked = [
+        Scaled {
+            number: Wide::of(-1250),
+            scale: 2,
+        },
+        Scaled {
+            number: Wide::of(5),
+            scale: -1,
+        },
+    ];
+    let mut answers = [no_answer(), no_answer()];
+    assert!(rt; ratio_from_scaled_i64(&asked, &mut answers) == DONE);
+    assert!(rt; [answers[0].value.numer, answers[0].value.denom] == [-25, 2]);
+    assert!(rt; answers[1].code == BAD_OPTION);
+}
+
+#[test]
 fn casts(rt: HostRuntime) {
     let asked = [fraction(-2, 4), fraction(1 << 31, 4)];
     let mut answers = [no_narrow(), no_narrow()];
@@ -193,6 +232,14 @@ fn readings(rt: HostRuntime) {
     let [first, second] = answers;
     assert!(rt; [first.value.numer, first.value.denom] == [-1, 2]);
     assert!(rt; second.code == PARSE_ERROR);
+}
+
+#[test]
+fn refusals_apart(rt: HostRuntime) {
+    let spans = [Span { start: 0, end: 19 }, Span { start: 19, end: 20 }];
+    let mut answers = [no_answer(), no_answer()];
+    assert!(rt; ratio_read_i64(b"9223372036854775808x", &spans, &mut answers) == DONE);
+    assert!(rt; [answers[0].code, answers[1].code] == [NOT_HELD, PARSE_ERROR]);
 }
 
 #[test]

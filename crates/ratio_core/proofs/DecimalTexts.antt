@@ -7,7 +7,7 @@ use Rattle.std.proofs.lemmas.Int.Digits.{digits_more}
 use Rattle.std.proofs.lemmas.List.{nil_from_length}
 use Rattle.ratio_core.specs.Decimal.{point}
 use Rattle.ratio_core.specs.DecimalCuts.{HasNoDigit, HasNoPoint, HasNoSign, IsDecimalCut, IsDigitsCut, IsPointCut, IsSignCut}
-use Rattle.ratio_core.specs.DecimalReading.{DecimalsHaveOneReading, HasDecimalParts, IsExponent, IsLetterE, IsPointed, IsSign, tens_above, tens_below}
+use Rattle.ratio_core.specs.DecimalReading.{DecimalsHaveOneReading, HasDecimalParts, IsExponent, IsLetterE, IsPointed, IsWrittenSign, tens_above, tens_below}
 use Rattle.ratio_core.specs.Floats.{with_sign}
 use Rattle.ratio_core.specs.Reading.{digits_sum, minus, plus}
 use Rattle.ratio_core.proofs.DecimalDigits.{all_split}
@@ -29,7 +29,7 @@ digits_next text at is more digit = record { inside = omega (arith, more); all =
 
 -- ---- there is one way
 
-sign_only : (text rest : List ℕ) (below : Bool) (sign tail : List ℕ) (other : Bool) → IsSignCut text below rest → text ≡ sign ++ tail → IsSign sign other → HasNoSign tail → (below ≡ other) × (rest ≡ tail)
+sign_only : (text rest : List ℕ) (below : Bool) (sign tail : List ℕ) (other : Bool) → IsSignCut text below rest → text ≡ sign ++ tail → IsWrittenSign sign other → HasNoSign tail → (below ≡ other) × (rest ≡ tail)
 sign_only text rest below sign tail true cut e is none = by cut (e ∙ ap (λ xs. xs ++ tail) is)
   where
     by : IsSignCut text below rest → text ≡ minus ∷ tail → (below ≡ true) × (rest ≡ tail)
@@ -148,10 +148,10 @@ parts_only text below whole part rest other front back down exponent cut is =
 
 -- ---- a cut makes a decimal
 
-sign_of : (text rest : List ℕ) (below : Bool) → IsSignCut text below rest → (sign : List ℕ) × IsSign sign below × (text ≡ sign ++ rest)
-sign_of text rest below (inl (e, is)) = (minus ∷ [], subst (IsSign (minus ∷ [])) (sym is) refl, e)
-sign_of text rest below (inr (inl (e, is))) = (plus ∷ [], subst (IsSign (plus ∷ [])) (sym is) (inr refl), e)
-sign_of text rest below (inr (inr (e, is, free))) = ([], subst (IsSign []) (sym is) (inl refl), e)
+sign_of : (text rest : List ℕ) (below : Bool) → IsSignCut text below rest → (sign : List ℕ) × IsWrittenSign sign below × (text ≡ sign ++ rest)
+sign_of text rest below (inl (e, is)) = (minus ∷ [], subst (IsWrittenSign (minus ∷ [])) (sym is) refl, e)
+sign_of text rest below (inr (inl (e, is))) = (plus ∷ [], subst (IsWrittenSign (plus ∷ [])) (sym is) (inr refl), e)
+sign_of text rest below (inr (inr (e, is, free))) = ([], subst (IsWrittenSign []) (sym is) (inl refl), e)
 
 point_of : (later whole part rest : List ℕ) → IsPointCut later part rest → (pointed : List ℕ) × ((pointed ≡ whole ++ point ∷ part) ⊎ ((pointed ≡ whole) × (part ≡ []))) × (whole ++ later ≡ pointed ++ rest)
 point_of later whole part rest (inl (behind, e, cut)) =
@@ -230,7 +230,7 @@ written text unsigned later digits below sign cut some letter any none =
 
 -- ---- each text has one reading
 
-sign_cut : (text rest sign : List ℕ) (below : Bool) → text ≡ sign ++ rest → IsSign sign below → HasNoSign rest → IsSignCut text below rest
+sign_cut : (text rest sign : List ℕ) (below : Bool) → text ≡ sign ++ rest → IsWrittenSign sign below → HasNoSign rest → IsSignCut text below rest
 sign_cut text rest sign true e is free = inl (e ∙ ap (λ xs. xs ++ rest) is, refl)
 sign_cut text rest sign false e (inl is) free = let whole : text ≡ rest = e ∙ ap (λ xs. xs ++ rest) is in inr (inr (whole, refl, subst HasNoSign (sym whole) free))
 sign_cut text rest sign false e (inr is) free = inr (inl (e ∙ ap (λ xs. xs ++ rest) is, refl))

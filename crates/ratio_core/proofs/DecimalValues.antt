@@ -1,5 +1,5 @@
 -- The value of all digits of a decimal, cut at the place to which its exponent moves the point.
-use Rattle.std.specs.Prelude.{◌≡◌, ◌+◌, ◌-◌, ◌*◌, ◌^◌, ◌<◌, ◌≤◌, ℕ, zero, suc, pos, Bool, true, false, List, [], ◌∷◌, ◌++◌, length, Option, Some, None}
+use Rattle.std.specs.Prelude.{◌≡◌, ◌+◌, ◌-◌, ◌*◌, ◌^◌, ◌<◌, ◌≤◌, ℕ, zero, suc, pos, Bool, true, false, List, ◌++◌, length, Option, Some, None}
 use Rattle.std.specs.Str.Parse.{AllDigits, digits_value, digits_value_after}
 use Rattle.std.proofs.Common.{refl, sym, ap, subst, arith, inr, ◌∙◌, append_assoc, drop, take, length-append, length-drop}
 use Rattle.std.proofs.lemmas.Int.Digits.{digits_value-lt}

@@ -12,6 +12,7 @@ pub mod DecimalLemmas
 pub mod DecimalTerms
 pub mod DecimalTexts
 pub mod DecimalValues
+pub mod DecimalsReadBack
 pub mod DigitGroups
 pub mod EndLemmas
 pub mod EqualityLaws

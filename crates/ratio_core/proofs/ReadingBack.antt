@@ -21,7 +21,7 @@ use Rattle.ratio_core.proofs.Numerals.{numeral_back}
 use Rattle.ratio_core.proofs.NumbersExist.{positive_fits}
 
 -- the digits that std prints of n read as n
-decimal_numeral : (n : ℕ) → n < 2 ^ 128 → IsNumeral 10 (decimal n) × (digits_sum 10 (decimal n) ≡ n)
+pub decimal_numeral : (n : ℕ) → n < 2 ^ 128 → IsNumeral 10 (decimal n) × (digits_sum 10 (decimal n) ≡ n)
 decimal_numeral n small =
     let std = decimal_is_IsNumeral_wide n (omega (arith, small)) in
     (std.0, sym (digits_value_sum 10 (decimal n)) ∙ std.1)

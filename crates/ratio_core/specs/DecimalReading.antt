@@ -1,17 +1,17 @@
 -- What a decimal text says, and what reading one returns. `-1.50e3` says -150 * 10^3 over 10^2.
-use Rattle.std.specs.Prelude.{◌≡◌, ◌⊎◌, ◌*◌, ◌^◌, ℕ, ℤ, pos, Bool, true, false, List, [], ◌∷◌, ◌++◌, length, Result, Ok, Err}
+use Rattle.std.specs.Prelude.{◌≡◌, ◌⊎◌, ◌<◌, ◌*◌, ◌/◌, ◌^◌, ℕ, ℤ, pos, unsigned_abs, Bool, true, false, List, [], ◌∷◌, ◌++◌, length, Result, Ok, Err}
 use Rattle.std.specs.Str.Parse.{IsNumeral}
 use Rattle.ratio_integer.specs.Fraction.{Fits}
-use Rattle.ratio_core.specs.Decimal.{point}
+use Rattle.ratio_core.specs.Decimal.{places_text, point}
 use Rattle.ratio_core.specs.Floats.{with_sign}
 use Rattle.ratio_core.specs.Reading.{ReadsLowest, digits_sum, minus, plus}
 use Rattle.ratio_core.specs.declared.text.decimals.DecimalRefusal.{DecimalRefusal}
 use Rattle.ratio_core.specs.declared.text.decimals.DecimalRefusal.TheVariants.{NotDecimal, NotHeld}
 
 -- a sign is a minus, or else a plus or nothing; `below` says whether it is a minus
-abbrev pub IsSign : List ℕ → Bool → Type 0
-IsSign sign true = sign ≡ minus ∷ []
-IsSign sign false = (sign ≡ []) ⊎ (sign ≡ plus ∷ [])
+abbrev pub IsWrittenSign : List ℕ → Bool → Type 0
+IsWrittenSign sign true = sign ≡ minus ∷ []
+IsWrittenSign sign false = (sign ≡ []) ⊎ (sign ≡ plus ∷ [])
 
 -- the text is digits with at most one point, and one digit at least: `12.5`, `.5`, `5.` and `5`. Some digits come before
 -- the point, and `part` comes behind it
@@ -29,7 +29,7 @@ pub record IsWrittenExponent (text : List ℕ) (below : Bool) (digits : List ℕ
   pub sign : List ℕ
   pub cut : text ≡ letter ∷ (sign ++ digits)
   pub is_e : IsLetterE letter
-  pub signed : IsSign sign below
+  pub signed : IsWrittenSign sign below
   pub numeral : IsNumeral 10 digits
 
 -- the same, or no text at all, which has no digits
@@ -42,7 +42,7 @@ pub record HasDecimalParts (text : List ℕ) (below : Bool) (whole part : List �
   pub pointed : List ℕ
   pub scale : List ℕ
   pub cut : text ≡ sign ++ (pointed ++ scale)
-  pub signed : IsSign sign below
+  pub signed : IsWrittenSign sign below
   pub number : IsPointed pointed whole part
   pub scaled : IsExponent scale down exponent
 
@@ -85,3 +85,12 @@ AnswersDecimal numer denom lo hi text (Err NotHeld) = ReadsNotHeld lo hi (IsDeci
 -- each text has at most one reading as a decimal
 abbrev pub DecimalsHaveOneReading : Type 0
 DecimalsHaveOneReading = (text : List ℕ) (n d m e : ℤ) → IsDecimalText text n d → IsDecimalText text m e → (n ≡ m) × (d ≡ e)
+
+-- a printed decimal reads as the multiple of 1/10^places that it shows
+abbrev pub PrintedDecimalsRead : Type 0
+PrintedDecimalsRead = (places : ℕ) (z : ℤ) → unsigned_abs z / 10 ^ places < 2 ^ 128 → IsDecimalText (places_text places z) z (pos (10 ^ places))
+
+-- the result has the two numbers n and d
+abbrev pub IsReadDecimal : {R : Type 0} → (R → ℤ) → (R → ℤ) → ℤ → ℤ → Result R DecimalRefusal → Type 0
+IsReadDecimal numer denom n d (Ok r) = (numer r ≡ n) × (denom r ≡ d)
+IsReadDecimal numer denom n d (Err refusal) = ⊥

@@ -1,6 +1,6 @@
 -- The laws of the nearest float.
-use Rattle.std.specs.Prelude.{◌≡◌, ◌<◌, ◌<ℤ◌, ℕ, ℤ, pos, Bool, false, T}
-use Rattle.std.specs.Float.{Format, fin}
+use Rattle.std.specs.Prelude.{◌≡◌, ◌<◌, ◌≤ℤ◌, ◌<ℤ◌, ◌*ℤ◌, ℕ, ℤ, pos, Bool, false, T}
+use Rattle.std.specs.Float.{Format, fin, ◌≤ᶠ◌}
 use Rattle.std.specs.Float.Ieee.{fits}
 use Rattle.ratio_integer.specs.Fraction.{SameValue}
 use Rattle.ratio_core.specs.Floats.{fraction_of_float, nearest_float}
@@ -12,6 +12,10 @@ NearestOfZero = (f : Format) (d : ℤ) → pos 0 <ℤ d → nearest_float f (pos
 -- fractions of one value, with positive denominators, have the same nearest float
 abbrev pub SameValueSameFloat : Type 0
 SameValueSameFloat = (f : Format) (n d m e : ℤ) → pos 0 <ℤ d → pos 0 <ℤ e → SameValue n d m e → nearest_float f n d ≡ nearest_float f m e
+
+-- a greater fraction never has a smaller float
+abbrev pub FloatsAreMonotone : Type 0
+FloatsAreMonotone = (f : Format) (n d m e : ℤ) → pos 0 <ℤ d → pos 0 <ℤ e → (n *ℤ e) ≤ℤ (m *ℤ d) → nearest_float f n d ≤ᶠ nearest_float f m e
 
 -- a finite float other than 0 is the nearest float to each fraction with exactly its value
 abbrev pub FloatsComeBack : Type 0

@@ -4,6 +4,7 @@ mod carried;
 mod casts;
 mod comparing;
 mod continued;
+mod decimal_texts;
 mod decimals;
 mod every_call;
 mod floats;

@@ -11,7 +11,7 @@ use super::simplest::bound_with;
 use crate::proved::num_rational as proved;
 use crate::proved::num_rational::{Constants, ParseRatioError};
 use crate::proved::ratio_core::rounding_rule::Rounding;
-use crate::proved::ratio_core::{BaseTenText, DecimalText};
+use crate::proved::ratio_core::{BaseTenText, DecimalRefusal, DecimalText};
 use core::cmp::Ordering;
 use core::fmt;
 use core::hash::{Hash, Hasher};
@@ -162,6 +162,27 @@ impl<T: Integer> Reduced<T> {
     #[inline]
     pub fn to_f32(&self) -> f32 {
         Float::nearest(*self.fraction.numer(), *self.fraction.denom())
+    }
+
+    /// The fraction of a decimal. The text is a sign or none, digits with at most one point, and an exponent or none. At least one
+    /// digit comes before the exponent. The value is exact for texts of any length. The call takes no memory.
+    ///
+    /// # Errors
+    ///
+    /// `NotDecimal` if the text is no decimal, and `NotHeld` if it is one whose lowest terms do not fit the type.
+    ///
+    /// ```
+    /// use bakhsney::{DecimalRefusal, Reduced};
+    ///
+    /// assert_eq!(Reduced::from_decimal("12.375").ok(), Reduced::checked_new(99, 8));
+    /// assert_eq!(Reduced::from_decimal("-1.5e-3").ok(), Reduced::checked_new(-3, 2000));
+    /// assert_eq!(Reduced::from_decimal("0.500000000000000000000000000").ok(), Reduced::checked_new(1i8, 2));
+    /// assert_eq!(Reduced::<i32>::from_decimal("1.2.3"), Err(DecimalRefusal::NotDecimal));
+    /// assert_eq!(Reduced::<i32>::from_decimal("1e1000000000"), Err(DecimalRefusal::NotHeld));
+    /// ```
+    #[inline]
+    pub fn from_decimal(text: &str) -> Result<Reduced<T>, DecimalRefusal> {
+        Proved::<T>::from_decimal(text).map(|fraction| Reduced { fraction })
     }
 
     /// The same fraction as a `Ratio`.

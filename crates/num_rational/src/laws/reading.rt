@@ -1,6 +1,6 @@
 //! What reading a printed `Reduced` returns. Each function changes nothing: its contract is the law, for the fraction that it is
 //! given.
-ghost use Rattle.num_rational.specs.ReadingLaws.{ReadsItsText, ReadsItsTextInBase, RefusesBelowZeroInBase, RefusesWholeInBase};
+ghost use Rattle.num_rational.specs.ReadingLaws.{ReadsItsDecimal, ReadsItsText, ReadsItsTextInBase, RefusesBelowZeroInBase, RefusesWholeInBase};
 
 use crate::reduced::Reduced;
 use ratio_integer::{Primitive, both_held};
@@ -19,6 +19,13 @@ pub fn in_base<T: Copy + Primitive>(x: &Reduced<T>)
     ensures back { ReadsItsTextInBase T.BITS x.now }
     ensures whole { RefusesWholeInBase T.BITS x.now }
     ensures below { RefusesBelowZeroInBase T.BITS x.now }
+{
+    both_held(*x.numer(), *x.denom());
+}
+
+/// Reading all of a fraction as a decimal gives `Ok` of the fraction: 99/8 is `12.375`, and `from_decimal` of that is 99/8.
+pub fn exact_decimal<T: Copy + Primitive>(x: &Reduced<T>)
+    ensures { ReadsItsDecimal x.now }
 {
     both_held(*x.numer(), *x.denom());
 }

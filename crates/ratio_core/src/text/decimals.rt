@@ -19,14 +19,16 @@ use ratio_integer::Primitive;
 pub enum DecimalRefusal {
     /// The text is no decimal: `1.2.3`, `1e`, `.` and the empty text.
     NotDecimal,
-    /// The text is a decimal, and the lowest terms of its value do not fit the type: `12.8` over `i8` is 64/5, but
-    /// `128` is out of range.
+    /// The text is a decimal, and the lowest terms of its value do not fit the type. Over `i8`: `128`, and
+    /// `0.0078125`, which is 1/128.
     NotHeld,
 }
 
 /// The lowest terms of a decimal: 99/8 for `12.375`. The text is a sign or none, digits with at most one point, and an
-/// exponent or none, such as `e-3`. It has one digit at least before the exponent. A value fits if its lowest terms do, however
-/// long the text is: `0.500000000000000000000000000` is 1/2.
+/// exponent or none, such as `e-3`. It has at least one digit before the exponent. The value is exact, however long the
+/// text is: `0.500000000000000000000000000` is 1/2.
+///
+/// The time grows with the length of the text, and not with the exponent. The call takes no memory.
 pub fn from_decimal<T: Primitive>(text: &str) -> Result<(T, T), DecimalRefusal>
     ensures { AnswersDecimal (λ r. T.value r.0) (λ r. T.value r.1) T.lo T.hi text.now result }
 {

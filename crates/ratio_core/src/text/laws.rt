@@ -2,7 +2,7 @@
 ghost use Rattle.std.specs.Prelude.{◌≡◌, ◌⊎◌, ◌+◌, ◌/◌, ◌%◌, ◌^◌, ◌<◌, ◌≤◌, ◌∷◌, ◌++◌, [], ℕ, ℤ, List, decimal};
 ghost use Rattle.std.specs.Char.{digit_value};
 ghost use Rattle.std.specs.Int.{IsInRange};
-ghost use Rattle.ratio_core.specs.DecimalReading.{DecimalsHaveOneReading};
+ghost use Rattle.ratio_core.specs.DecimalReading.{DecimalsHaveOneReading, PrintedDecimalsRead};
 ghost use Rattle.ratio_core.specs.Reading.{IsFractionText, IsNumberText, IsSlashedText};
 
 /// What a byte is worth as a digit: 0 to 9 for `0` to `9`, and 10 to 35 for the letters in either case. The
@@ -34,7 +34,8 @@ pub fn one_reading()
         → IsFractionText lo hi text n d → IsFractionText lo hi text m e → (n ≡ m) × (d ≡ e) }
 {}
 
-/// A text reads as at most one decimal.
-pub fn one_decimal()
-    ensures { DecimalsHaveOneReading }
+/// A text is a decimal in at most one way. A printed decimal reads as the multiple that it shows: `0.67` as 67/100.
+pub fn decimals()
+    ensures one { DecimalsHaveOneReading }
+    ensures printed { PrintedDecimalsRead }
 {}

@@ -1,6 +1,7 @@
 // Erased from crates/ratio_c/src/lib.rt by rust/erase: not to be edited.
 //! Calls of the library over slices, for programs in other languages. `include/ratio.h` declares them.
 pub mod arithmetic;
+pub mod between;
 pub mod cast;
 pub mod code;
 pub mod compare;
@@ -17,6 +18,7 @@ pub mod numbers64;
 pub mod one_fraction;
 pub mod printing;
 pub mod reading;
+pub mod scaled;
 pub mod sign;
 
 pub mod total_steps;

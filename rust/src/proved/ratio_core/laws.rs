@@ -60,7 +60,7 @@ pub fn simplest_fractions() {}
 #[inline]
 pub fn simplest_fractions_within() {}
 
-/// Laws of the nearest float, which `to_f64` and `to_f32` return. It depends only on the value of a fraction, and the
-/// fraction with exactly the value of a float gives this float back.
+/// Laws of the nearest float, which `to_f64` and `to_f32` return. It depends only on the value of a fraction, and never
+/// falls as the fraction grows. The fraction with exactly the value of a float gives this float back.
 #[inline]
 pub fn nearest_floats() {}

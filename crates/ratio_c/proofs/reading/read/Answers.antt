@@ -1,6 +1,7 @@
-use Rattle.std.proofs.Common.{◌∙◌, Err, Ok, ap, sym}
+use Rattle.std.proofs.Common.{◌∙◌, Err, Ok, ap, subst, sym}
 use Rattle.num_rational.specs.Ratio.{denominator, numerator}
-use Rattle.ratio_c.specs.Crossing.{refused, said_of_text}
+use Rattle.ratio_c.specs.Calls.{SaysRead}
+use Rattle.ratio_c.specs.Crossing.{refused}
 use Rattle.ratio_c.proofs.reading.read.Goals as goal
 use Rattle.ratio_c.proofs.reading.read.Goals.{in-ParseError, in-ZeroDenominator}
 
@@ -16,7 +17,7 @@ returns-after-kind g c = record {
   read = Err c.in-Err.refusal;
   is_read = c.in-Err.ensures;
   is_said = elim c.match-kind.branch [
-    | in-ParseError w ↦ c.refused.ensures ∙ ap refused w.refused-is ∙ ap (λ kind. said_of_text (Err kind)) (sym w.in-ParseError.is ∙ c.kind.ensures)
-    | in-ZeroDenominator w ↦ c.refused.ensures ∙ ap refused w.refused-is ∙ ap (λ kind. said_of_text (Err kind)) (sym w.in-ZeroDenominator.is ∙ c.kind.ensures)
+    | in-ParseError w ↦ subst (λ kind. SaysRead c.args.text.now (Err kind) (g.A.Reply.said c.refused.result)) (sym w.in-ParseError.is ∙ c.kind.ensures) (w.wide_refusal.result, w.wide_refusal.ensures, c.refused.ensures ∙ ap refused w.refused-is)
+    | in-ZeroDenominator w ↦ subst (λ kind. SaysRead c.args.text.now (Err kind) (g.A.Reply.said c.refused.result)) (sym w.in-ZeroDenominator.is ∙ c.kind.ensures) (c.refused.ensures ∙ ap refused w.refused-is)
   ];
 }

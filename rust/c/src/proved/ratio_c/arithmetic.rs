@@ -11,7 +11,7 @@ use bakhsney::proved::ratio_integer::Integer;
 
 /// The two fractions of a pair, if their denominators are positive.
 #[inline(always)]
-fn both<P: TwoFractions>(pair: &P) -> Option<(Ratio<P::Inside>, Ratio<P::Inside>)> {
+pub(crate) fn both<P: TwoFractions>(pair: &P) -> Option<(Ratio<P::Inside>, Ratio<P::Inside>)> {
     let (n, d) = pair.left();
     let (m, e) = pair.right();
     if P::Inside::ZERO < d && P::Inside::ZERO < e {

@@ -83,6 +83,12 @@ pub trait TwoFractions {
     fn right(&self) -> (Self::Inside, Self::Inside);
 }
 
+/// Two bounds, and flags that say which of them is taken.
+pub trait Bounds: TwoFractions {
+    /// The flags.
+    fn flags(&self) -> u32;
+}
+
 /// An answer: a code, and the two numbers of a fraction over `T`.
 pub trait Reply<T: Primitive> {
     /// The answer with this code and these numbers.

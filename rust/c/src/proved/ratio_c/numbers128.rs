@@ -3,9 +3,10 @@
 //! Fractions of `i128` and the exports over them.
 
 use crate::proved::ratio_c::arithmetic::{Difference, Product, Quotient, Remainder, Sum};
+use crate::proved::ratio_c::between::Between;
 use crate::proved::ratio_c::cast::Casting;
 use crate::proved::ratio_c::compare::{Comparison, Equality, Order, Truth};
-use crate::proved::ratio_c::crossing::{Bounded, OneFraction, Raised, Reply, TwoFractions};
+use crate::proved::ratio_c::crossing::{Bounded, Bounds, OneFraction, Raised, Reply, TwoFractions};
 use crate::proved::ratio_c::each::each;
 use crate::proved::ratio_c::hash::{Hash, Hashing};
 use crate::proved::ratio_c::nearest::Nearest;
@@ -14,6 +15,7 @@ use crate::proved::ratio_c::numbers64::Answer64;
 use crate::proved::ratio_c::one_fraction::{Ceiling, Floor, LowestTerms, Raising, Rounding, Truncation};
 use crate::proved::ratio_c::printing::{Text, print};
 use crate::proved::ratio_c::reading::{Reading, Span};
+use crate::proved::ratio_c::scaled::{Scaled, Scaling};
 use crate::proved::ratio_c::sign::{Absolute, Negation};
 use crate::proved::ratio_c::wide::Wide;
 
@@ -46,6 +48,14 @@ pub struct Power128 {
 pub struct Bounded128 {
     pub value: Fraction128,
     pub most: Wide,
+}
+
+/// The bounds of a fraction, and flags that say which of them is taken.
+#[repr(C)]
+pub struct Bounds128 {
+    pub low: Fraction128,
+    pub high: Fraction128,
+    pub flags: u32,
 }
 
 /// A fraction. If there is none, the code says why, and the value is 0 over 0.
@@ -93,6 +103,27 @@ impl Bounded for Bounded128 {
     #[inline(always)]
     fn most(&self) -> i128 {
         self.most.number()
+    }
+}
+
+impl TwoFractions for Bounds128 {
+    type Inside = i128;
+
+    #[inline(always)]
+    fn left(&self) -> (i128, i128) {
+        (self.low.numer.number(), self.low.denom.number())
+    }
+
+    #[inline(always)]
+    fn right(&self) -> (i128, i128) {
+        (self.high.numer.number(), self.high.denom.number())
+    }
+}
+
+impl Bounds for Bounds128 {
+    #[inline(always)]
+    fn flags(&self) -> u32 {
+        self.flags
     }
 }
 
@@ -272,6 +303,24 @@ pub unsafe extern "C" fn ratio_nearest_i128(asked: *const Bounded128, asked_len:
     let asked = core::slice::from_raw_parts(asked, asked_len);
     let answers = core::slice::from_raw_parts_mut(answers, answers_len);
     each(&Nearest, asked, answers)
+}
+
+/// The simplest fraction strictly between the bounds.
+#[no_mangle]
+pub unsafe extern "C" fn ratio_between_i128(asked: *const Bounds128, asked_len: usize, answers: *mut Answer128, answers_len: usize) -> u32 {
+    // SAFETY: the header says what the caller owes for each pointer and its length.
+    let asked = core::slice::from_raw_parts(asked, asked_len);
+    let answers = core::slice::from_raw_parts_mut(answers, answers_len);
+    each(&Between, asked, answers)
+}
+
+/// The lowest terms of each number by 10^scale.
+#[no_mangle]
+pub unsafe extern "C" fn ratio_from_scaled_i128(asked: *const Scaled, asked_len: usize, answers: *mut Answer128, answers_len: usize) -> u32 {
+    // SAFETY: the header says what the caller owes for each pointer and its length.
+    let asked = core::slice::from_raw_parts(asked, asked_len);
+    let answers = core::slice::from_raw_parts_mut(answers, answers_len);
+    each(&Scaling::<i128>::new(), asked, answers)
 }
 
 /// Each fraction over `i32`, not reduced.

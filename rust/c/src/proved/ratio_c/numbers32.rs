@@ -3,9 +3,10 @@
 //! Fractions of `i32` and the exports over them.
 
 use crate::proved::ratio_c::arithmetic::{Difference, Product, Quotient, Remainder, Sum};
+use crate::proved::ratio_c::between::Between;
 use crate::proved::ratio_c::cast::Casting;
 use crate::proved::ratio_c::compare::{Comparison, Equality, Order, Truth};
-use crate::proved::ratio_c::crossing::{Bounded, OneFraction, Raised, Reply, TwoFractions};
+use crate::proved::ratio_c::crossing::{Bounded, Bounds, OneFraction, Raised, Reply, TwoFractions};
 use crate::proved::ratio_c::each::each;
 use crate::proved::ratio_c::hash::{Hash, Hashing};
 use crate::proved::ratio_c::lowest_hash::LowestHashing;
@@ -15,6 +16,7 @@ use crate::proved::ratio_c::numbers128::Answer128;
 use crate::proved::ratio_c::one_fraction::{Ceiling, Floor, LowestTerms, Raising, Rounding, Truncation};
 use crate::proved::ratio_c::printing::{Text, print};
 use crate::proved::ratio_c::reading::{Reading, Span};
+use crate::proved::ratio_c::scaled::{Scaled, Scaling};
 use crate::proved::ratio_c::sign::{Absolute, Negation};
 
 /// The room for a text: a slash, and two numbers of at most 11 bytes.
@@ -46,6 +48,14 @@ pub struct Power32 {
 pub struct Bounded32 {
     pub value: Fraction32,
     pub most: i32,
+}
+
+/// The bounds of a fraction, and flags that say which of them is taken.
+#[repr(C)]
+pub struct Bounds32 {
+    pub low: Fraction32,
+    pub high: Fraction32,
+    pub flags: u32,
 }
 
 /// A fraction. If there is none, the code says why, and the value is 0 over 0.
@@ -93,6 +103,27 @@ impl Bounded for Bounded32 {
     #[inline(always)]
     fn most(&self) -> i32 {
         self.most
+    }
+}
+
+impl TwoFractions for Bounds32 {
+    type Inside = i32;
+
+    #[inline(always)]
+    fn left(&self) -> (i32, i32) {
+        (self.low.numer, self.low.denom)
+    }
+
+    #[inline(always)]
+    fn right(&self) -> (i32, i32) {
+        (self.high.numer, self.high.denom)
+    }
+}
+
+impl Bounds for Bounds32 {
+    #[inline(always)]
+    fn flags(&self) -> u32 {
+        self.flags
     }
 }
 
@@ -269,6 +300,24 @@ pub unsafe extern "C" fn ratio_nearest_i32(asked: *const Bounded32, asked_len: u
     let asked = core::slice::from_raw_parts(asked, asked_len);
     let answers = core::slice::from_raw_parts_mut(answers, answers_len);
     each(&Nearest, asked, answers)
+}
+
+/// The simplest fraction strictly between the bounds.
+#[no_mangle]
+pub unsafe extern "C" fn ratio_between_i32(asked: *const Bounds32, asked_len: usize, answers: *mut Answer32, answers_len: usize) -> u32 {
+    // SAFETY: the header says what the caller owes for each pointer and its length.
+    let asked = core::slice::from_raw_parts(asked, asked_len);
+    let answers = core::slice::from_raw_parts_mut(answers, answers_len);
+    each(&Between, asked, answers)
+}
+
+/// The lowest terms of each number by 10^scale.
+#[no_mangle]
+pub unsafe extern "C" fn ratio_from_scaled_i32(asked: *const Scaled, asked_len: usize, answers: *mut Answer32, answers_len: usize) -> u32 {
+    // SAFETY: the header says what the caller owes for each pointer and its length.
+    let asked = core::slice::from_raw_parts(asked, asked_len);
+    let answers = core::slice::from_raw_parts_mut(answers, answers_len);
+    each(&Scaling::<i32>::new(), asked, answers)
 }
 
 /// The hash of each fraction in lowest terms.

@@ -3,9 +3,10 @@
 //! Fractions of `i64` and the exports over them.
 
 use crate::proved::ratio_c::arithmetic::{Difference, Product, Quotient, Remainder, Sum};
+use crate::proved::ratio_c::between::Between;
 use crate::proved::ratio_c::cast::Casting;
 use crate::proved::ratio_c::compare::{Comparison, Equality, Order, Truth};
-use crate::proved::ratio_c::crossing::{Bounded, OneFraction, Raised, Reply, TwoFractions};
+use crate::proved::ratio_c::crossing::{Bounded, Bounds, OneFraction, Raised, Reply, TwoFractions};
 use crate::proved::ratio_c::each::each;
 use crate::proved::ratio_c::hash::{Hash, Hashing};
 use crate::proved::ratio_c::lowest_hash::LowestHashing;
@@ -15,6 +16,7 @@ use crate::proved::ratio_c::numbers128::Answer128;
 use crate::proved::ratio_c::one_fraction::{Ceiling, Floor, LowestTerms, Raising, Rounding, Truncation};
 use crate::proved::ratio_c::printing::{Text, print};
 use crate::proved::ratio_c::reading::{Reading, Span};
+use crate::proved::ratio_c::scaled::{Scaled, Scaling};
 use crate::proved::ratio_c::sign::{Absolute, Negation};
 
 /// The room for a text: a slash, and two numbers of at most 20 bytes.
@@ -46,6 +48,14 @@ pub struct Power64 {
 pub struct Bounded64 {
     pub value: Fraction64,
     pub most: i64,
+}
+
+/// The bounds of a fraction, and flags that say which of them is taken.
+#[repr(C)]
+pub struct Bounds64 {
+    pub low: Fraction64,
+    pub high: Fraction64,
+    pub flags: u32,
 }
 
 /// A fraction. If there is none, the code says why, and the value is 0 over 0.
@@ -93,6 +103,27 @@ impl Bounded for Bounded64 {
     #[inline(always)]
     fn most(&self) -> i64 {
         self.most
+    }
+}
+
+impl TwoFractions for Bounds64 {
+    type Inside = i64;
+
+    #[inline(always)]
+    fn left(&self) -> (i64, i64) {
+        (self.low.numer, self.low.denom)
+    }
+
+    #[inline(always)]
+    fn right(&self) -> (i64, i64) {
+        (self.high.numer, self.high.denom)
+    }
+}
+
+impl Bounds for Bounds64 {
+    #[inline(always)]
+    fn flags(&self) -> u32 {
+        self.flags
     }
 }
 
@@ -269,6 +300,24 @@ pub unsafe extern "C" fn ratio_nearest_i64(asked: *const Bounded64, asked_len: u
     let asked = core::slice::from_raw_parts(asked, asked_len);
     let answers = core::slice::from_raw_parts_mut(answers, answers_len);
     each(&Nearest, asked, answers)
+}
+
+/// The simplest fraction strictly between the bounds.
+#[no_mangle]
+pub unsafe extern "C" fn ratio_between_i64(asked: *const Bounds64, asked_len: usize, answers: *mut Answer64, answers_len: usize) -> u32 {
+    // SAFETY: the header says what the caller owes for each pointer and its length.
+    let asked = core::slice::from_raw_parts(asked, asked_len);
+    let answers = core::slice::from_raw_parts_mut(answers, answers_len);
+    each(&Between, asked, answers)
+}
+
+/// The lowest terms of each number by 10^scale.
+#[no_mangle]
+pub unsafe extern "C" fn ratio_from_scaled_i64(asked: *const Scaled, asked_len: usize, answers: *mut Answer64, answers_len: usize) -> u32 {
+    // SAFETY: the header says what the caller owes for each pointer and its length.
+    let asked = core::slice::from_raw_parts(asked, asked_len);
+    let answers = core::slice::from_raw_parts_mut(answers, answers_len);
+    each(&Scaling::<i64>::new(), asked, answers)
 }
 
 /// The hash of each fraction in lowest terms.

@@ -1,7 +1,7 @@
 // Erased from crates/ratio_c/src/reading.rt by rust/erase: not to be edited.
 //! Reading fractions from texts.
 
-use crate::proved::ratio_c::code::{ANSWERED, NO_TEXT, PARSE_ERROR, ZERO_DENOMINATOR};
+use crate::proved::ratio_c::code::{ANSWERED, NO_TEXT, NOT_HELD, PARSE_ERROR, ZERO_DENOMINATOR};
 use crate::proved::ratio_c::crossing::{Digest, Reply, refused};
 use crate::proved::ratio_c::each::Call;
 use bakhsney::proved::num_rational::{Ratio, RatioErrorKind};
@@ -50,8 +50,20 @@ fn read<T: Digest, A: Reply<T>>(text: &str) -> A {
     match Ratio::<T>::from_str(text) {
         Ok(x) => A::reply(ANSWERED, *x.numer(), *x.denom()),
         Err(refusal) => refused(match refusal.kind() {
-            RatioErrorKind::ParseError => PARSE_ERROR,
+            RatioErrorKind::ParseError => wide_refusal(text),
             RatioErrorKind::ZeroDenominator => ZERO_DENOMINATOR,
         }),
+    }
+}
+
+/// Why a text has no fraction over a narrower type: it has one over 128 bits, or it has none there either.
+#[cold]
+fn wide_refusal(text: &str) -> u32 {
+    match Ratio::<i128>::from_str(text) {
+        Ok(_) => NOT_HELD,
+        Err(refusal) => match refusal.kind() {
+            RatioErrorKind::ParseError => PARSE_ERROR,
+            RatioErrorKind::ZeroDenominator => ZERO_DENOMINATOR,
+        },
     }
 }

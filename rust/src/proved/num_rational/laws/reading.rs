@@ -18,3 +18,9 @@ pub fn base_ten<T: Copy + Primitive>(x: &Reduced<T>) {
 pub fn in_base<T: Copy + Primitive>(x: &Reduced<T>) {
     both_held(*x.numer(), *x.denom());
 }
+
+/// Reading all of a fraction as a decimal gives `Ok` of the fraction: 99/8 is `12.375`, and `from_decimal` of that is 99/8.
+#[inline]
+pub fn exact_decimal<T: Copy + Primitive>(x: &Reduced<T>) {
+    both_held(*x.numer(), *x.denom());
+}

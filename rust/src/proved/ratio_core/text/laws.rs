@@ -15,6 +15,6 @@ pub fn decimal_digits() {}
 #[inline]
 pub fn one_reading() {}
 
-/// A text reads as at most one decimal.
+/// A text is a decimal in at most one way. A printed decimal reads as the multiple that it shows: `0.67` as 67/100.
 #[inline]
-pub fn one_decimal() {}
+pub fn decimals() {}

@@ -97,6 +97,7 @@ fn texts_read_back() {
     reading::base_ten(&fraction(i64::MIN, 3));
     reading::in_base(&fraction(15, 16));
     reading::in_base(&fraction(-1, 2));
+    reading::exact_decimal(&fraction(99, 8));
 }
 
 // Whether (x + y) + z and x + (y + z) are `Some`, over `i8`.

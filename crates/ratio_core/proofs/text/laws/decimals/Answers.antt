@@ -1,0 +1,9 @@
+use Rattle.ratio_core.proofs.DecimalTexts.{one_reading}
+use Rattle.ratio_core.proofs.DecimalsReadBack.{places_read}
+use Rattle.ratio_core.proofs.text.laws.decimals.Goals as goal
+
+pub returns-clause-one : goal.returns-clause-one
+returns-clause-one c = one_reading
+
+pub returns-clause-printed : goal.returns-clause-printed
+returns-clause-printed c = places_read

@@ -1,0 +1,30 @@
+// Erased from crates/ratio_c/src/between.rt by rust/erase: not to be edited.
+//! The simplest fraction between two bounds.
+
+use crate::proved::ratio_c::arithmetic::both;
+use crate::proved::ratio_c::code::{BAD_OPTION, DENOMINATOR_NOT_POSITIVE};
+use crate::proved::ratio_c::crossing::{Bounds, Reply, checked_fields, refused};
+use crate::proved::ratio_c::each::Call;
+use bakhsney::proved::ratio_core::simplest::simplest_between;
+
+/// The fraction with the smallest denominator between the bounds. Flags 0 say that neither bound is taken, and there
+/// are no others yet: 1/3 and 1/2 give 2/5.
+#[derive(Clone, Copy)]
+pub struct Between;
+
+impl<P: Bounds, A: Reply<P::Inside>> Call<P, A> for Between {
+    #[inline(always)]
+    fn answer(&self, pair: &P) -> A {
+        let flags = pair.flags();
+        match both(pair) {
+            Some((x, y)) if flags == 0 => checked_fields(simplest_between(
+                *x.numer(),
+                *x.denom(),
+                *y.numer(),
+                *y.denom(),
+            )),
+            Some(_) => refused(BAD_OPTION),
+            None => refused(DENOMINATOR_NOT_POSITIVE),
+        }
+    }
+}

@@ -67,5 +67,21 @@ CALL(ratio_nearest)
 	return new_value(answer.value);
 }
 
+/* The simplest fraction strictly between two. NULL will be no bound; until the library has that, it is an error. */
+CALL(ratio_between)
+{
+	ratio_bounds_i64 bounds = {0};
+	ratio_answer_i64 answer;
+
+	if (PG_ARGISNULL(0) || PG_ARGISNULL(1))
+		ereport(ERROR, errcode(ERRCODE_FEATURE_NOT_SUPPORTED), errmsg("ratio_between requires both bounds"));
+	bounds.low = *ARG(0);
+	bounds.high = *ARG(1);
+	ratio_between_i64(&bounds, 1, &answer, 1);
+	if (unlikely(answer.code != RATIO_ANSWERED))
+		refuse(answer.code, psprintf("ratio_between(%s, %s)", quoted(bounds.low), quoted(bounds.high)));
+	return new_value(answer.value);
+}
+
 CALL(ratio_numerator) { PG_RETURN_INT64(ARG(0)->numer); }
 CALL(ratio_denominator) { PG_RETURN_INT64(ARG(0)->denom); }

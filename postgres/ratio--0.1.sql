@@ -11,7 +11,7 @@ CREATE TYPE ratio (
     INTERNALLENGTH = 16, ALIGNMENT = double, STORAGE = plain, CATEGORY = 'N'
 );
 
--- from whole numbers, and back
+-- from numbers, and back
 CREATE FUNCTION ratio(int8, int8) RETURNS ratio AS 'MODULE_PATHNAME', 'ratio_from_two' LANGUAGE C IMMUTABLE STRICT PARALLEL SAFE;
 CREATE FUNCTION ratio(int2) RETURNS ratio AS 'MODULE_PATHNAME', 'ratio_from_int2' LANGUAGE C IMMUTABLE STRICT PARALLEL SAFE;
 CREATE CAST (int2 AS ratio) WITH FUNCTION ratio(int2) AS IMPLICIT;
@@ -19,6 +19,8 @@ CREATE FUNCTION ratio(int4) RETURNS ratio AS 'MODULE_PATHNAME', 'ratio_from_int4
 CREATE CAST (int4 AS ratio) WITH FUNCTION ratio(int4) AS IMPLICIT;
 CREATE FUNCTION ratio(int8) RETURNS ratio AS 'MODULE_PATHNAME', 'ratio_from_int8' LANGUAGE C IMMUTABLE STRICT PARALLEL SAFE;
 CREATE CAST (int8 AS ratio) WITH FUNCTION ratio(int8) AS IMPLICIT;
+CREATE FUNCTION ratio(numeric) RETURNS ratio AS 'MODULE_PATHNAME', 'ratio_from_numeric' LANGUAGE C IMMUTABLE STRICT PARALLEL SAFE;
+CREATE CAST (numeric AS ratio) WITH FUNCTION ratio(numeric) AS ASSIGNMENT;
 CREATE FUNCTION int8(ratio) RETURNS int8 AS 'MODULE_PATHNAME', 'ratio_to_int8' LANGUAGE C IMMUTABLE STRICT PARALLEL SAFE;
 CREATE CAST (ratio AS int8) WITH FUNCTION int8(ratio) AS ASSIGNMENT;
 
@@ -46,6 +48,8 @@ CREATE FUNCTION denominator(ratio) RETURNS int8 AS 'MODULE_PATHNAME', 'ratio_den
 -- Not power or ^, which exist for other types: ratio is reached from int4 by itself, and power(2, 3) would become a ratio.
 CREATE FUNCTION ratio_power(ratio, int4) RETURNS ratio AS 'MODULE_PATHNAME' LANGUAGE C IMMUTABLE STRICT PARALLEL SAFE;
 CREATE FUNCTION ratio_nearest(ratio, int8) RETURNS ratio AS 'MODULE_PATHNAME' LANGUAGE C IMMUTABLE STRICT PARALLEL SAFE;
+-- Not strict: NULL will be no bound.
+CREATE FUNCTION ratio_between(ratio, ratio) RETURNS ratio AS 'MODULE_PATHNAME' LANGUAGE C IMMUTABLE PARALLEL SAFE;
 
 -- order
 CREATE FUNCTION ratio_eq(ratio, ratio) RETURNS boolean AS 'MODULE_PATHNAME' LANGUAGE C IMMUTABLE STRICT LEAKPROOF PARALLEL SAFE;

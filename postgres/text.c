@@ -22,19 +22,6 @@ trimmed(const char *text)
 	return span;
 }
 
-/* The library reads numbers of 64 bits only. Where it refuses, numbers of 128 bits say whether the text is a fraction, and whether it fits. */
-static pg_noinline ratio_answer_i64
-read_wide(const char *text, ratio_span span)
-{
-	ratio_answer_i128 wide;
-	ratio_answer_i64 answer = {RATIO_PARSE_ERROR};
-
-	ratio_read_i128((const uint8_t *) text, span.end, &span, 1, &wide, 1);
-	if (wide.code == RATIO_ANSWERED)
-		ratio_cast_i128_to_i64(&wide.value, 1, &answer, 1);
-	return answer;
-}
-
 static pg_noinline void
 refuse_text(uint32 code, const char *text)
 {
@@ -58,8 +45,6 @@ CALL(ratio_in)
 	ratio_answer_i64 answer;
 
 	ratio_read_i64((const uint8_t *) text, span.end, &span, 1, &answer, 1);
-	if (unlikely(answer.code == RATIO_PARSE_ERROR))
-		answer = read_wide(text, span);
 	if (unlikely(answer.code != RATIO_ANSWERED))
 		refuse_text(answer.code, text);
 	return new_value(answer.value);

@@ -8,6 +8,10 @@ SELECT count(*), count(*) FILTER (WHERE ratio_cmp(a.r, b.r) <> sign(left_product
     OR (a.r >= b.r) <> (left_product >= right_product) OR (a.r > b.r) <> (left_product > right_product)) AS wrong
 FROM hard a, hard b, LATERAL (SELECT numerator(a.r)::numeric * denominator(b.r) AS left_product, numerator(b.r)::numeric * denominator(a.r) AS right_product) products
 WHERE one_in(a.r, 2) AND one_in(b.r, 3);
+-- NOT takes the negated operator
+SELECT count(*), count(*) FILTER (WHERE (NOT (a.r < b.r)) = (a.r < b.r) OR (NOT (a.r <= b.r)) = (a.r <= b.r) OR (NOT (a.r = b.r)) = (a.r = b.r)
+    OR (NOT (a.r <> b.r)) = (a.r <> b.r) OR (NOT (a.r >= b.r)) = (a.r >= b.r) OR (NOT (a.r > b.r)) = (a.r > b.r)) AS wrong
+FROM hard a, hard b WHERE one_in(a.r, 5) AND one_in(b.r, 5);
 -- an index and a scan agree on rows with each hard fraction, on small ones, and on NULL
 CREATE TABLE t (r ratio);
 INSERT INTO t SELECT r FROM hard UNION ALL SELECT ratio(i - 5000, 7) FROM generate_series(0, 10000) i UNION ALL SELECT NULL FROM generate_series(1, 10);
@@ -15,8 +19,9 @@ INSERT INTO t SELECT r FROM t WHERE one_in(r, 2);
 CREATE INDEX t_btree ON t (r);
 CREATE INDEX t_hash ON t USING hash (r);
 ANALYZE t;
-CREATE VIEW counts AS SELECT r, (SELECT count(*) FROM t WHERE t.r < p.r) AS lt, (SELECT count(*) FROM t WHERE t.r <= p.r) AS le,
-    (SELECT count(*) FROM t WHERE t.r = p.r) AS eq, (SELECT count(*) FROM t WHERE t.r >= p.r) AS ge, (SELECT count(*) FROM t WHERE t.r > p.r) AS gt FROM hard p WHERE one_in(r, 5);
+-- (the index takes the commuted operator here)
+CREATE VIEW counts AS SELECT r, (SELECT count(*) FROM t WHERE p.r > t.r) AS lt, (SELECT count(*) FROM t WHERE p.r >= t.r) AS le,
+    (SELECT count(*) FROM t WHERE p.r = t.r) AS eq, (SELECT count(*) FROM t WHERE p.r <= t.r) AS ge, (SELECT count(*) FROM t WHERE p.r < t.r) AS gt FROM hard p WHERE one_in(r, 5);
 SET enable_seqscan = off;
 EXPLAIN (COSTS OFF) SELECT count(*) FROM t WHERE r < '1/7';
 CREATE TABLE by_index AS TABLE counts;

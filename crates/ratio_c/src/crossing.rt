@@ -112,6 +112,21 @@ pub trait Bounds: TwoFractions {
         ensures { result ≡ flags self.now };
 }
 
+/// A fraction, a number of parts of 1, and the number of a rule.
+pub trait Parted: OneFraction {
+    ghost parts: { Self → ℤ };
+
+    ghost rule: { Self → ℕ };
+
+    /// The parts, as the library takes them.
+    fn parts(&self) -> Self::Inside
+        ensures { Self.Inside.value result ≡ parts self.now };
+
+    /// The number of the rule.
+    fn rule(&self) -> u32
+        ensures { result ≡ rule self.now };
+}
+
 /// An answer: a code, and the two numbers of a fraction over `T`.
 pub trait Reply<T: Primitive>: Drop {
     // What it says.

@@ -1,0 +1,29 @@
+/* Errors: each code of the library that is not an answer becomes one error of SQL, which names the call and its operands. */
+#include "glue.h"
+
+void
+refuse(uint32 code, const char *call)
+{
+	switch (code)
+	{
+		case RATIO_NOT_HELD:
+			ereport(ERROR, errcode(ERRCODE_NUMERIC_VALUE_OUT_OF_RANGE), errmsg("ratio out of range"), errdetail("The call was %s.", call));
+			break;
+		case RATIO_DIVISION_BY_ZERO:
+		case RATIO_ZERO_DENOMINATOR:
+			ereport(ERROR, errcode(ERRCODE_DIVISION_BY_ZERO), errmsg("division by zero"), errdetail("The call was %s.", call));
+			break;
+		default:
+			ereport(ERROR, errcode(ERRCODE_DATA_CORRUPTED), errmsg("a stored ratio is damaged"),
+					errdetail("The library refused %s with the code %u.", call, code));
+	}
+	pg_unreachable();
+}
+
+char *
+quoted(Ratio x)
+{
+	if (x.denom == 1)
+		return psprintf("'" INT64_FORMAT "'", x.numer);
+	return psprintf("'" INT64_FORMAT "/" INT64_FORMAT "'", x.numer, x.denom);
+}

@@ -1,0 +1,38 @@
+/* What all files of the extension use. */
+#ifndef GLUE_H
+#define GLUE_H
+
+#include "postgres.h"
+
+#include "fmgr.h"
+
+#include "ratio.h"
+
+/* A value of the type: 16 bytes, in lowest terms, the denominator positive. */
+typedef ratio_i64 Ratio;
+
+/* The head of a function that SQL calls, and one of its arguments. */
+#define CALL(name) PG_FUNCTION_INFO_V1(name); Datum name(PG_FUNCTION_ARGS)
+#define ARG(n) ((const Ratio *) PG_GETARG_POINTER(n))
+
+/* Other modules must not see these names: PostgreSQL loads each module with RTLD_GLOBAL. */
+#pragma GCC visibility push(hidden)
+
+/* Ends the statement with the error of a code that is not RATIO_ANSWERED. `call` is what SQL asked for, with its operands. */
+extern void refuse(uint32 code, const char *call) pg_attribute_noreturn();
+
+/* The text of a value, as in SQL: '3/4'. For errors. */
+extern char *quoted(Ratio x);
+
+#pragma GCC visibility pop
+
+static inline Datum
+new_value(Ratio x)
+{
+	Ratio	   *kept = palloc(sizeof(Ratio));
+
+	*kept = x;
+	return PointerGetDatum(kept);
+}
+
+#endif

@@ -1,0 +1,34 @@
+-- Arithmetic at its ends.
+SELECT '1/2'::ratio + '1/3', '1/2'::ratio - '1/3', '1/2'::ratio * '2/3', '1/2'::ratio / '-1/3', '-7/2'::ratio % '4/3', 1 / 3::ratio, 2 * '1/4'::ratio;
+SELECT '1/65536'::ratio + '1/65536', '9223372036854775807'::ratio - '1/2'::ratio * 2 + 1, -'1/2'::ratio,
+    '9223372036854775806/9223372036854775807'::ratio * '9223372036854775807/9223372036854775806';
+SELECT r, abs(r), sign(r), floor(r), ceil(r), round(r), trunc(r) FROM unnest('{7/2,-7/2,5/3,-5/3,1/2,-1/2,0,-9223372036854775807/2,4}'::ratio[]) r;
+SELECT floor(r), ceil(r), round(r), trunc(r), sign(r) FROM (SELECT '-9223372036854775808'::ratio) least(r);
+SELECT ratio_power('-2/3', 3), ratio_power('-2/3', -3), ratio_power(5, 0), ratio_power(0, 0), ratio_power(-1, -2147483648), ratio_power(-1, 2147483647),
+    ratio_power(2, 62), ratio_power(-2, 63), ratio_power('-1/2', -62);
+SELECT ratio_nearest('355/113', 10), ratio_nearest('355/113', 112), ratio_nearest('-355/113', 113), ratio_nearest('9223372036854775806/9223372036854775807', 1000),
+    ratio_nearest('1/3', 9223372036854775807), ratio_nearest('1/2', 1), ratio_nearest('-1/2', 1);
+-- each error has its code, and names the operands
+SELECT q, refusal('SELECT ' || q) FROM unnest(ARRAY['9223372036854775807::ratio + 1', '''-9223372036854775808''::ratio - ''1/2''', '''1/4294967296''::ratio * ''1/4294967296''',
+    '9223372036854775807::ratio / ''1/2''', '''1/2''::ratio / 0', '0::ratio / 0', '''1/2''::ratio % 0', '- ''-9223372036854775808''::ratio', 'abs(''-9223372036854775808''::ratio)',
+    'ratio_power(0, -1)', 'ratio_power(3, 40)', 'ratio_power(''1/2'', 64)', 'ratio_nearest(''1/2'', 0)', 'ratio_nearest(''1/2'', -1)']) q;
+-- beside numeric: each operator over pairs of hard fractions gives the lowest terms, and refuses only what does not fit
+CREATE FUNCTION got(operator text, a ratio, b ratio) RETURNS text LANGUAGE plpgsql AS $$
+BEGIN
+    RETURN CASE operator WHEN '+' THEN a + b WHEN '-' THEN a - b WHEN '*' THEN a * b WHEN '/' THEN a / b ELSE a % b END;
+EXCEPTION WHEN OTHERS THEN
+    RETURN SQLSTATE;
+END $$;
+CREATE FUNCTION wanted(operator text, a numeric, b numeric, c numeric, d numeric) RETURNS text LANGUAGE sql AS $$
+SELECT CASE operator WHEN '+' THEN lowest(a * d + c * b, b * d) WHEN '-' THEN lowest(a * d - c * b, b * d) WHEN '*' THEN lowest(a * c, b * d)
+    WHEN '/' THEN lowest(a * d, b * c) ELSE CASE WHEN c = 0 THEN '22012' ELSE lowest(a * d - c * b * div(a * d, b * c), b * d) END END $$;
+CREATE TABLE compared AS
+SELECT operator, x.r AS x, y.r AS y, got(operator, x.r, y.r), wanted(operator, numerator(x.r), denominator(x.r), numerator(y.r), denominator(y.r))
+FROM hard x, hard y, unnest('{+,-,*,/,%}'::text[]) operator WHERE one_in(x.r, 7) AND one_in(y.r, 8);
+SELECT operator, count(*), count(*) FILTER (WHERE wanted = '22003') AS refused, count(*) FILTER (WHERE got <> wanted) AS wrong FROM compared GROUP BY 1 ORDER BY 1;
+SELECT * FROM compared WHERE got <> wanted LIMIT 5;
+SELECT count(*) AS wrong FROM (SELECT r, numerator(r)::numeric AS n, denominator(r)::numeric AS d FROM hard) h
+WHERE floor(r)::text <> (div(n, d) - (n < 0 AND mod(n, d) <> 0)::int)::text OR ceil(r)::text <> (div(n, d) + (n > 0 AND mod(n, d) <> 0)::int)::text
+    OR trunc(r)::text <> div(n, d)::text OR round(r)::text <> (sign(n) * div(2 * abs(n) + d, 2 * d))::text OR sign(r)::text <> sign(n)::text;
+DROP TABLE compared;
+DROP FUNCTION got, wanted;

@@ -1,0 +1,58 @@
+-- Copies: in text, in binary, by dump and restore. Bytes that are no value are refused.
+CREATE TABLE taken (r ratio);
+\copy hard TO 'hard.copied'
+\copy taken FROM 'hard.copied'
+SELECT count(*) FROM (TABLE hard EXCEPT ALL TABLE taken) lost;
+TRUNCATE taken;
+\copy hard TO 'hard.copied' (FORMAT binary)
+\copy taken FROM 'hard.copied' (FORMAT binary)
+SELECT count(*) FROM (TABLE hard EXCEPT ALL TABLE taken) lost;
+SELECT ratio_send('-3/4');
+-- a uuid has as many bytes, and any bytes
+CREATE TABLE bytes (b uuid);
+CREATE TABLE more (b bytea);
+\set SHOW_CONTEXT never
+INSERT INTO bytes VALUES ('00000000-0000-0001-0000-000000000000');
+\copy bytes TO 'bytes.copied' (FORMAT binary)
+\set VERBOSITY sqlstate
+\copy taken FROM 'bytes.copied' (FORMAT binary)
+UPDATE bytes SET b = '00000000-0000-0002-0000-000000000004';
+\copy bytes TO 'bytes.copied' (FORMAT binary)
+\copy taken FROM 'bytes.copied' (FORMAT binary)
+UPDATE bytes SET b = '00000000-0000-0001-ffff-fffffffffffe';
+\copy bytes TO 'bytes.copied' (FORMAT binary)
+\copy taken FROM 'bytes.copied' (FORMAT binary)
+UPDATE bytes SET b = '00000000-0000-0000-0000-000000000000';
+\copy bytes TO 'bytes.copied' (FORMAT binary)
+\copy taken FROM 'bytes.copied' (FORMAT binary)
+UPDATE bytes SET b = '80000000-0000-0000-8000-000000000000';
+\copy bytes TO 'bytes.copied' (FORMAT binary)
+\copy taken FROM 'bytes.copied' (FORMAT binary)
+-- too few bytes, and too many
+INSERT INTO more VALUES ('\x0000000000000001');
+\copy more TO 'bytes.copied' (FORMAT binary)
+\copy taken FROM 'bytes.copied' (FORMAT binary)
+UPDATE more SET b = '\x0000000000000001000000000000000100';
+\copy more TO 'bytes.copied' (FORMAT binary)
+\copy taken FROM 'bytes.copied' (FORMAT binary)
+\set VERBOSITY terse
+UPDATE bytes SET b = '00000000-0000-0002-0000-000000000004';
+\copy bytes TO 'bytes.copied' (FORMAT binary)
+\copy taken FROM 'bytes.copied' (FORMAT binary)
+UPDATE bytes SET b = 'ffffffff-ffff-fffd-0000-000000000004';
+\copy bytes TO 'bytes.copied' (FORMAT binary)
+\copy taken FROM 'bytes.copied' (FORMAT binary)
+SELECT r FROM taken EXCEPT ALL TABLE hard;
+\! rm -f hard.copied bytes.copied
+DROP TABLE taken, bytes, more;
+-- dump and restore
+CREATE TABLE dumped (r ratio PRIMARY KEY, CHECK (r <> '1/7'));
+INSERT INTO dumped TABLE hard;
+CREATE INDEX ON dumped USING hash (r);
+CREATE DATABASE restored;
+\! pg_dump --table=dumped --extension=ratio regression | psql -q -v ON_ERROR_STOP=1 restored >restored.said 2>&1 || cat restored.said
+\! psql -At -c 'SELECT r FROM dumped ORDER BY r' restored >restored.rows; psql -At -c 'SELECT r FROM hard ORDER BY r' regression | diff - restored.rows && echo the same rows
+\! psql -At -v VERBOSITY=sqlstate -c "INSERT INTO dumped VALUES ('1/7')" restored
+\! rm -f restored.said restored.rows
+DROP DATABASE restored;
+DROP TABLE dumped;

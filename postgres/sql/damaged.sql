@@ -1,0 +1,14 @@
+-- A stored value with a denominator below 1 ends in an error, or in an answer: never in a crash, never in a call without end. Only a damaged
+-- disk has one. Here a point lends its bytes. The library compares and prints fractions with a denominator below 0 by their value.
+CREATE CAST (point AS ratio) WITHOUT FUNCTION;
+CREATE TABLE damaged (name text, r ratio);
+INSERT INTO damaged VALUES ('0/0', point(0, 0)::ratio), ('below 0', point(0, -1)::ratio), ('both', point(-1, -1)::ratio);
+SELECT name, call, refusal(format('SELECT %s FROM damaged WHERE name = %L', replace(call, 'r', 'damaged.r'), name)) FROM damaged,
+    unnest('{r + 1,r - 1,r * 2,r / 2,1 / r,r % 2,1 % r,- r,r < 1,r >= 1,1 > r}'::text[]) call ORDER BY name, call;
+SELECT name, call, refusal(format('SELECT %s(r) FROM damaged WHERE name = %L', call, name)) FROM damaged,
+    unnest('{abs,sign,floor,ceil,round,trunc,int8,ratio_hash}'::text[]) call ORDER BY name, call;
+SELECT name, refusal(format('SELECT r::text FROM damaged WHERE name = %L', name)) FROM damaged ORDER BY name;
+SELECT refusal('SELECT ratio_power(r, 2) FROM damaged'), refusal('SELECT ratio_nearest(r, 2) FROM damaged'), refusal('SELECT r FROM damaged ORDER BY r');
+SELECT refusal('SELECT sum(r) FROM damaged'), refusal('SELECT avg(r) FROM damaged');
+DROP TABLE damaged;
+DROP CAST (point AS ratio);

@@ -1,0 +1,22 @@
+-- The examples of README.md. The sums are those that Python's fractions give.
+SELECT '1/2'::ratio + '1/3', 1 / 3::ratio, '6/-4'::ratio;
+SELECT '9223372036854775807'::ratio + 1;
+-- a ledger of shares
+CREATE TABLE shares (owner text PRIMARY KEY, share ratio NOT NULL CHECK (share >= 0));
+INSERT INTO shares VALUES ('Ana', '1/3'), ('Ben', '1/3'), ('Cleo', '1/3');
+SELECT sum(share) FROM shares;
+BEGIN;   -- Ana sells two fifths of her share to Dora
+INSERT INTO shares SELECT 'Dora', share * '2/5' FROM shares WHERE owner = 'Ana';
+UPDATE shares SET share = share * '3/5' WHERE owner = 'Ana';
+COMMIT;
+SELECT owner, share FROM shares ORDER BY share DESC, owner;
+SELECT sum(share) FROM shares;
+DROP TABLE shares;
+-- a table of rates, summed by parallel workers
+CREATE TABLE readings AS
+SELECT i % 1000 AS meter, i % 24 AS units, ratio(i % 7 + 1, 12) AS rate FROM generate_series(1, 1000000) i;
+ANALYZE readings;
+EXPLAIN (COSTS OFF) SELECT sum(units * rate) FROM readings;
+SELECT sum(units * rate), avg(rate) FROM readings;
+SELECT meter, sum(units * rate) FROM readings WHERE meter < 3 GROUP BY meter ORDER BY meter;
+DROP TABLE readings;

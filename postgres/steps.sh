@@ -1,0 +1,101 @@
+# The steps that test, install, faults and bench share. They name themselves in $me, and work in a temporary folder $work.
+here=$(cd "$(dirname "${BASH_SOURCE[0]}")" && pwd)
+top=$(dirname "$here")
+version=${PG_VERSION:-15}
+server=/usr/lib/postgresql/$version
+
+stop() {
+  echo "$me: $1" >&2
+  exit 2
+}
+
+# Names the Debian packages that are missing. A need is 'COMMAND=PACKAGE' or 'PATH=PACKAGE'.
+require() {
+  local need packages=()
+  for need in "$server/bin/postgres=postgresql-$version" "$server/lib/pgxs/src/test/regress/pg_regress=postgresql-server-dev-$version" \
+    cc=gcc make=make "$@"; do
+    case $need in
+      /*) [ -e "${need%=*}" ] || packages+=("${need##*=}") ;;
+      *) command -v "${need%=*}" >/dev/null || packages+=("${need##*=}") ;;
+    esac
+  done
+  [ "${#packages[@]}" -eq 0 ] || stop "install what is missing: apt-get install ${packages[*]}"
+}
+
+new_folder() {
+  work=$(mktemp -d)
+  trap 'rm -rf "$work"' EXIT
+  chmod 755 "$work"
+}
+
+is_proved() {
+  [ -e "$1" ] && [ -z "$(find "$top"/crates.txt "$top"/crates/*/src "$top"/crates/*/specs "$top"/crates/*/proofs -newer "$1" -print -quit)" ]
+}
+
+# Chooses the library, and says which. The path goes to the variable library.
+choose_library() {
+  library=$top/crates/ratio_c/out/libratio_c.a
+  if [ -n "${LIBRATIO:-}" ]; then
+    library=$(realpath -e "$LIBRATIO") || stop "LIBRATIO names no file"
+    echo "$me: over the library that LIBRATIO names, $library"
+  elif is_proved "$library"; then
+    echo "$me: over the proved library, crates/ratio_c/out/libratio_c.a"
+  else
+    [ -e "$top/rust/c/build" ] || stop "there is no library: set LIBRATIO"
+    tar -C "$top" --exclude=target -cf - rust | tar -C "$work" -xf -
+    "$work/rust/c/build" || stop "cargo built no library"
+    library=$work/rust/c/target/release/libratio_c.a
+    echo "$me: over the library that cargo built of rust/c, which is not proved on this machine"
+  fi
+}
+
+# Builds the extension in $work/build, and installs it into the files of the pg_config.
+build_extension() {
+  local pg_config=$1
+  shift
+  mkdir -p "$work/build"
+  cp -a "$here"/{Makefile,ratio.control,server.conf,*--*.sql,*.c,*.h,sql,expected} "$work/build/"
+  make -s -C "$work/build" PG_CONFIG="$pg_config" LIBRATIO="$library" RATIO_H="$(realpath "${RATIO_H:-$top/include}")" "$@" install >"$work/made" 2>&1 \
+    || { cat "$work/made" >&2; stop "the extension was not built"; }
+}
+
+# Copies the files of the server, and builds the extension into the copy, whose programs are in $bin.
+build_private_server() {
+  bin=$work/usr/lib/postgresql/$version/bin
+  mkdir -p "$work/usr/lib/postgresql" "$work/usr/share/postgresql" "$work/usr/include"
+  cp -a "$server" "$work/usr/lib/postgresql/"
+  cp -a "/usr/share/postgresql/$version" "$work/usr/share/postgresql/"
+  ln -s /usr/include/postgresql "$work/usr/include/postgresql"
+  build_extension "$bin/pg_config" "$@"
+}
+
+# Runs a command in $work/build as a user who is not root, as a server requires.
+as_user() {
+  local user
+  cd "$work/build"
+  if [ "$(id -u)" = 0 ]; then
+    user=$(id -un postgres 2>/dev/null || echo nobody)
+    chown -R "$user" "$work/build"
+    runuser -u "$user" -- env PATH="$bin:$PATH" LC_ALL=C "$@"
+  else
+    PATH="$bin:$PATH" LC_ALL=C "$@"
+  fi
+}
+
+# Starts a server with the files of $bin. It ends with the script.
+start_server() {
+  trap 'stop_server; rm -rf "$work"' EXIT
+  as_user initdb -D data --no-locale -E UTF8 -A trust -U postgres >"$work/said" || { cat "$work/said" >&2; stop "initdb failed"; }
+  cat "$here/server.conf" "$@" >>data/postgresql.conf
+  printf "listen_addresses = ''\nunix_socket_directories = '%s'\n" "$work/build" >>data/postgresql.conf
+  as_user pg_ctl -w -D data -l log start >"$work/said" || { cat log >&2; stop "the server did not start"; }
+}
+
+stop_server() {
+  as_user pg_ctl -D data -m immediate stop >/dev/null || true
+}
+
+# Runs psql there.
+ask() {
+  "$bin/psql" -h "$work/build" -U postgres -X -q "$@" postgres
+}

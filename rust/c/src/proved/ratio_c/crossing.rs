@@ -89,6 +89,15 @@ pub trait Bounds: TwoFractions {
     fn flags(&self) -> u32;
 }
 
+/// A fraction, a number of parts of 1, and the number of a rule.
+pub trait Parted: OneFraction {
+    /// The parts, as the library takes them.
+    fn parts(&self) -> Self::Inside;
+
+    /// The number of the rule.
+    fn rule(&self) -> u32;
+}
+
 /// An answer: a code, and the two numbers of a fraction over `T`.
 pub trait Reply<T: Primitive> {
     /// The answer with this code and these numbers.

@@ -104,7 +104,7 @@ pub trait TwoFractions {
 }
 
 /// Two bounds, and flags that say which of them is taken.
-pub trait Bounds: TwoFractions {
+pub trait FlaggedBounds: TwoFractions {
     ghost flags: { Self → ℕ };
 
     /// The flags.

@@ -13,7 +13,7 @@ use crate::arithmetic::{Difference, Product, Quotient, Remainder, Sum};
 use crate::between::Between;
 use crate::cast::Casting;
 use crate::compare::{Comparison, Equality, Order, Truth};
-use crate::crossing::{Bounded, Bounds, OneFraction, Parted, Raised, Reply, TwoFractions};
+use crate::crossing::{Bounded, FlaggedBounds, OneFraction, Parted, Raised, Reply, TwoFractions};
 use crate::each::each;
 use crate::hash::{Hash, Hashing};
 use crate::multiple::RoundingTo;
@@ -184,7 +184,7 @@ impl TwoFractions for Bounds128 {
     }
 }
 
-impl Bounds for Bounds128 {
+impl FlaggedBounds for Bounds128 {
     ghost flags = { λ x. x.flags };
 
     #[inline(always)]

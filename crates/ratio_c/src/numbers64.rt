@@ -14,7 +14,7 @@ use crate::arithmetic::{Difference, Product, Quotient, Remainder, Sum};
 use crate::between::Between;
 use crate::cast::Casting;
 use crate::compare::{Comparison, Equality, Order, Truth};
-use crate::crossing::{Bounded, Bounds, OneFraction, Parted, Raised, Reply, TwoFractions};
+use crate::crossing::{Bounded, FlaggedBounds, OneFraction, Parted, Raised, Reply, TwoFractions};
 use crate::each::each;
 use crate::hash::{Hash, Hashing};
 use crate::lowest_hash::LowestHashing;
@@ -185,7 +185,7 @@ impl TwoFractions for Bounds64 {
     }
 }
 
-impl Bounds for Bounds64 {
+impl FlaggedBounds for Bounds64 {
     ghost flags = { λ x. x.flags };
 
     #[inline(always)]

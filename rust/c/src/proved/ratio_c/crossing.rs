@@ -84,7 +84,7 @@ pub trait TwoFractions {
 }
 
 /// Two bounds, and flags that say which of them is taken.
-pub trait Bounds: TwoFractions {
+pub trait FlaggedBounds: TwoFractions {
     /// The flags.
     fn flags(&self) -> u32;
 }

@@ -6,7 +6,7 @@ use crate::proved::ratio_c::arithmetic::{Difference, Product, Quotient, Remainde
 use crate::proved::ratio_c::between::Between;
 use crate::proved::ratio_c::cast::Casting;
 use crate::proved::ratio_c::compare::{Comparison, Equality, Order, Truth};
-use crate::proved::ratio_c::crossing::{Bounded, Bounds, OneFraction, Parted, Raised, Reply, TwoFractions};
+use crate::proved::ratio_c::crossing::{Bounded, FlaggedBounds, OneFraction, Parted, Raised, Reply, TwoFractions};
 use crate::proved::ratio_c::each::each;
 use crate::proved::ratio_c::hash::{Hash, Hashing};
 use crate::proved::ratio_c::multiple::RoundingTo;
@@ -150,7 +150,7 @@ impl TwoFractions for Bounds128 {
     }
 }
 
-impl Bounds for Bounds128 {
+impl FlaggedBounds for Bounds128 {
     #[inline(always)]
     fn flags(&self) -> u32 {
         self.flags

@@ -39,7 +39,17 @@ enum {
     RATIO_NO_TEXT = 6,                  /* of read: the span does not lie in the texts */
     RATIO_BOUND_NOT_POSITIVE = 7,       /* of nearest: no denominator lies from 1 to the bound */
     RATIO_NO_TOTAL = 8,                 /* of totals: the code is 0, but the sum is not in lowest terms */
-    RATIO_BAD_OPTION = 9                /* of between and from_scaled: the call has no such flags or scale */
+    RATIO_BAD_OPTION = 9                /* of between, from_scaled and round_to: the call has no such flags, scale, parts or rule */
+};
+
+/* The rules of round_to. */
+enum {
+    RATIO_RULE_HALF_AWAY = 0, /* to the nearer multiple, and a half away from zero: 5/2 to 3 */
+    RATIO_RULE_HALF_EVEN = 1, /* to the nearer one, and a half to the even one: 5/2 to 2 */
+    RATIO_RULE_DOWN = 2,      /* towards zero */
+    RATIO_RULE_UP = 3,        /* away from zero */
+    RATIO_RULE_FLOOR = 4,     /* to the one below */
+    RATIO_RULE_CEIL = 5       /* to the one above */
 };
 
 /* A number of 128 bits: high times 2^64, and low. */
@@ -96,6 +106,8 @@ typedef struct { ratio_wide number; int32_t scale; } ratio_scaled;
  *                        denominator, and of these the one whose numerator is nearest to 0. 1/3 and 1/2 give 2/5. If the type has no
  *                        fraction there, as between 1/2 and 1/2, it gives RATIO_NOT_HELD. The flags are for bounds that may be taken:
  *                        only 0, for neither, has a meaning yet, and others give RATIO_BAD_OPTION
+ *   ratio_round_to_i32   the multiple of 1/parts that a rule says, in lowest terms, or RATIO_NOT_HELD if they do not fit: 67/100 for
+ *                        2/3 and 100 parts by RATIO_RULE_HALF_EVEN. Parts below 1, or a rule that is none, give RATIO_BAD_OPTION
  *   ratio_from_scaled_i32  the lowest terms of a decimal, or RATIO_NOT_HELD if they do not fit: 25/2 for 1250 with the scale 2. A
  *                        scale below 0 or above 38 gives RATIO_BAD_OPTION
  *   ratio_pow_i32        each fraction to its exponent, not reduced. 0 to an exponent below 0 gives RATIO_DIVISION_BY_ZERO
@@ -106,6 +118,7 @@ typedef struct { ratio_wide number; int32_t scale; } ratio_scaled;
     typedef struct { ratio_##suffix base; int32_t exponent; } ratio_power_##suffix;        \
     typedef struct { ratio_##suffix value; number most; } ratio_bounded_##suffix;          \
     typedef struct { ratio_##suffix low, high; uint32_t flags; } ratio_bounds_##suffix;    \
+    typedef struct { ratio_##suffix value; number parts; uint32_t rule; } ratio_multiple_##suffix; \
     typedef struct { uint32_t code; ratio_##suffix value; } ratio_answer_##suffix;         \
     uint32_t ratio_compare_##suffix(const ratio_pair_##suffix *asked, size_t asked_len,    \
                                     ratio_order *answers, size_t answers_len);             \
@@ -143,6 +156,8 @@ typedef struct { ratio_wide number; int32_t scale; } ratio_scaled;
                                     ratio_answer_##suffix *answers, size_t answers_len);   \
     uint32_t ratio_between_##suffix(const ratio_bounds_##suffix *asked, size_t asked_len,  \
                                     ratio_answer_##suffix *answers, size_t answers_len);   \
+    uint32_t ratio_round_to_##suffix(const ratio_multiple_##suffix *asked, size_t asked_len, \
+                                     ratio_answer_##suffix *answers, size_t answers_len);  \
     uint32_t ratio_from_scaled_##suffix(const ratio_scaled *asked, size_t asked_len,       \
                                         ratio_answer_##suffix *answers, size_t answers_len); \
     uint32_t ratio_read_##suffix(const uint8_t *texts, size_t texts_len,                   \
@@ -173,22 +188,6 @@ RATIO_SHORT_CALLS(i32)
 RATIO_SHORT_CALLS(i64)
 
 #undef RATIO_SHORT_CALLS
-
-/* Declares the call that gives the same fractions over a type of another width, not reduced. A number that does not fit gives
- * RATIO_NOT_HELD: reduce the fraction before, if it is not in lowest terms.
- */
-#define RATIO_CAST(from, to)                                                                 \
-    uint32_t ratio_cast_##from##_to_##to(const ratio_##from *asked, size_t asked_len,        \
-                                         ratio_answer_##to *answers, size_t answers_len);
-
-RATIO_CAST(i32, i64)
-RATIO_CAST(i32, i128)
-RATIO_CAST(i64, i32)
-RATIO_CAST(i64, i128)
-RATIO_CAST(i128, i32)
-RATIO_CAST(i128, i64)
-
-#undef RATIO_CAST
 
 /* The key of each fraction, for sorting by short keys: if one value is at most another, so is its key. So equal values have equal keys.
  * A key keeps 56 binary digits of the value, and whether there are more: -1/3 has the key -4491590028364174677, and 1/2 has
@@ -221,6 +220,22 @@ uint32_t ratio_total_merge_i64(const ratio_total_i64 *asked, size_t asked_len, r
 uint32_t ratio_total_sum_i64(const ratio_total_i64 *asked, size_t asked_len, ratio_answer_i64 *answers, size_t answers_len);
 uint32_t ratio_total_mean_i64(const ratio_total_i64 *asked, size_t asked_len, ratio_answer_i64 *answers, size_t answers_len);
 
+/* Declares the call that gives the same fractions over a type of another width, not reduced. A number that does not fit gives
+ * RATIO_NOT_HELD: reduce the fraction before, if it is not in lowest terms.
+ */
+#define RATIO_CAST(from, to)                                                                 \
+    uint32_t ratio_cast_##from##_to_##to(const ratio_##from *asked, size_t asked_len,        \
+                                         ratio_answer_##to *answers, size_t answers_len);
+
+RATIO_CAST(i32, i64)
+RATIO_CAST(i32, i128)
+RATIO_CAST(i64, i32)
+RATIO_CAST(i64, i128)
+RATIO_CAST(i128, i32)
+RATIO_CAST(i128, i64)
+
+#undef RATIO_CAST
+
 #ifdef __cplusplus
 }
 #endif
@@ -239,18 +254,21 @@ static_assert(sizeof(ratio_i32) == 8, "the size of ratio_i32");
 static_assert(sizeof(ratio_pair_i32) == 16, "the size of ratio_pair_i32");
 static_assert(sizeof(ratio_power_i32) == 12, "the size of ratio_power_i32");
 static_assert(sizeof(ratio_bounded_i32) == 12, "the size of ratio_bounded_i32");
+static_assert(sizeof(ratio_multiple_i32) == 16, "the size of ratio_multiple_i32");
 static_assert(sizeof(ratio_bounds_i32) == 20, "the size of ratio_bounds_i32");
 static_assert(sizeof(ratio_answer_i32) == 12, "the size of ratio_answer_i32");
 static_assert(sizeof(ratio_i64) == 16, "the size of ratio_i64");
 static_assert(sizeof(ratio_pair_i64) == 32, "the size of ratio_pair_i64");
 static_assert(sizeof(ratio_power_i64) == 24, "the size of ratio_power_i64");
 static_assert(sizeof(ratio_bounded_i64) == 24, "the size of ratio_bounded_i64");
+static_assert(sizeof(ratio_multiple_i64) == 32, "the size of ratio_multiple_i64");
 static_assert(sizeof(ratio_bounds_i64) == 40, "the size of ratio_bounds_i64");
 static_assert(sizeof(ratio_answer_i64) == 24, "the size of ratio_answer_i64");
 static_assert(sizeof(ratio_i128) == 32, "the size of ratio_i128");
 static_assert(sizeof(ratio_pair_i128) == 64, "the size of ratio_pair_i128");
 static_assert(sizeof(ratio_power_i128) == 40, "the size of ratio_power_i128");
 static_assert(sizeof(ratio_bounded_i128) == 48, "the size of ratio_bounded_i128");
+static_assert(sizeof(ratio_multiple_i128) == 56, "the size of ratio_multiple_i128");
 static_assert(sizeof(ratio_bounds_i128) == 72, "the size of ratio_bounds_i128");
 static_assert(sizeof(ratio_answer_i128) == 40, "the size of ratio_answer_i128");
 static_assert(sizeof(ratio_total_i64) == 48, "the size of ratio_total_i64");

@@ -44,6 +44,17 @@ static void expect(int holds, const char *what) {
         static const ratio_bounds_##suffix empty = {.low = FRACTION(N, 1, 2), .high = FRACTION(N, 2, 4), .flags = 0};\
         static const ratio_bounds_##suffix flagged = {.low = FRACTION(N, 1, 3), .high = FRACTION(N, 1, 2), .flags = 1};\
         static const ratio_bounds_##suffix loose_bounds = {.low = FRACTION(N, 1, 3), .high = FRACTION(N, 1, -2), .flags = 0};\
+        static const ratio_multiple_##suffix cents = {.value = FRACTION(N, 2, 3), .parts = N(100), .rule = RATIO_RULE_HALF_EVEN},\
+            tie = {.value = FRACTION(N, 5, 2), .parts = N(1), .rule = RATIO_RULE_HALF_AWAY},         \
+            even = {.value = FRACTION(N, 5, 2), .parts = N(1), .rule = RATIO_RULE_HALF_EVEN},        \
+            down = {.value = FRACTION(N, -5, 2), .parts = N(1), .rule = RATIO_RULE_DOWN},            \
+            away = {.value = FRACTION(N, -5, 2), .parts = N(1), .rule = RATIO_RULE_UP},              \
+            lower = {.value = FRACTION(N, 5, 2), .parts = N(1), .rule = RATIO_RULE_FLOOR},           \
+            upper = {.value = FRACTION(N, 5, 2), .parts = N(1), .rule = RATIO_RULE_CEIL},            \
+            no_rule = {.value = FRACTION(N, 2, 3), .parts = N(100), .rule = 6},                      \
+            no_parts = {.value = FRACTION(N, 2, 3), .parts = N(0), .rule = RATIO_RULE_UP};           \
+        static const ratio_answer_##suffix hundredths = ANSWER(N, 67, 100), three = ANSWER(N, 3, 1), \
+            two = ANSWER(N, 2, 1), minus_two = ANSWER(N, -2, 1), minus_three = ANSWER(N, -3, 1);     \
         static const ratio_scaled price = {.number = {.low = 1250}, .scale = 2}, below = {.number = {.low = 5}, .scale = -1},\
             fine = {.number = {.low = 5}, .scale = 39};                                              \
         static const ratio_power_##suffix power = {.base = FRACTION(N, -3, 2), .exponent = -3};      \
@@ -98,6 +109,15 @@ static void expect(int holds, const char *what) {
         REFUSES(suffix, between, empty, RATIO_NOT_HELD)                                              \
         REFUSES(suffix, between, flagged, RATIO_BAD_OPTION)                                          \
         REFUSES(suffix, between, loose_bounds, RATIO_DENOMINATOR_NOT_POSITIVE)                       \
+        GIVES(suffix, round_to, cents, hundredths)                                                   \
+        GIVES(suffix, round_to, tie, three)                                                          \
+        GIVES(suffix, round_to, even, two)                                                           \
+        GIVES(suffix, round_to, down, minus_two)                                                     \
+        GIVES(suffix, round_to, away, minus_three)                                                   \
+        GIVES(suffix, round_to, lower, two)                                                          \
+        GIVES(suffix, round_to, upper, three)                                                        \
+        REFUSES(suffix, round_to, no_rule, RATIO_BAD_OPTION)                                         \
+        REFUSES(suffix, round_to, no_parts, RATIO_BAD_OPTION)                                        \
         GIVES(suffix, from_scaled, price, twelve)                                                    \
         REFUSES(suffix, from_scaled, below, RATIO_BAD_OPTION)                                        \
         REFUSES(suffix, from_scaled, fine, RATIO_BAD_OPTION)                                         \

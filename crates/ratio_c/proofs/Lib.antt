@@ -7,3 +7,4 @@ pub mod Magnitudes
 pub mod TotalSteps
 pub mod TotalLaws
 pub mod Keys
+pub mod Multiples

@@ -1,5 +1,5 @@
 -- What a call answers for fractions, which are pairs of whole numbers here, and what a call over slices does.
-use Rattle.std.specs.Prelude.{◌≡◌, ◌≢◌, ◌==◌, ◌<ℤ◌, ◌≤ℤ◌, ◌≤◌, ◌^◌, ℕ, ℤ, pos, negsuc, neg_ℤ, ◌-◌, unsigned_abs, Bool, List, length, Option, MatchBool, Result, Ok, Err, fold, slice_range}
+use Rattle.std.specs.Prelude.{◌≡◌, ◌≢◌, ◌==◌, ◌<ℤ◌, ◌≤ℤ◌, ◌<◌, ◌≤◌, ◌^◌, ℕ, ℤ, pos, negsuc, neg_ℤ, ◌-◌, unsigned_abs, Bool, List, length, Option, MatchBool, Result, Ok, Err, fold, slice_range}
 use Rattle.std.specs.List.{AllZip}
 use Rattle.std.specs.Str.{IsUtf8}
 use Rattle.ratio_core.specs.Reading.{AnswersText, IsFractionText}
@@ -12,9 +12,10 @@ use Rattle.ratio_core.specs.ContinuedFraction.{IsCodesOf}
 use Rattle.ratio_core.specs.Nearest.{IsNearest}
 use Rattle.ratio_core.specs.Order.{cross_cmp}
 use Rattle.ratio_core.specs.Power.{ChecksBoth, ChecksPower}
+use Rattle.ratio_core.specs.RoundingRules.{ChecksRounded}
 use Rattle.ratio_core.specs.Simplest.{ChecksSimplest}
 use Rattle.ratio_core.specs.Rounding.{IsCeiling, IsFloor, IsRounded, IsTruncation}
-use Rattle.ratio_c.specs.Crossing.{Said, Says, code_of_wide, mixed, order_number, refused}
+use Rattle.ratio_c.specs.Crossing.{Said, Says, code_of_wide, mixed, order_number, refused, rule_of}
 use Rattle.ratio_c.specs.Codes.{code_answered, code_bad_option, code_bound_not_positive, code_denominator_not_positive, code_division_by_zero, code_no_text, code_parse_error, code_zero_denominator, return_bad_length, return_done}
 
 -- Each answer is right for the item at its place, and the call returns 0. If the slices have unlike lengths, it returns 1 and writes nothing.
@@ -130,6 +131,15 @@ IsNearestAnswer x most answer = OfOne x answer (Tested (pos 0 <ℤ most) (SaysNe
 abbrev pub IsBetweenAnswer : ℤ → ℤ → ℤ × ℤ → ℤ × ℤ → ℕ → Said → Type 0
 IsBetweenAnswer lo hi x y flags answer =
     OfPositive x y answer (Tested (flags ≡ 0) (Says (ChecksSimplest (λ z. z) lo hi x.0 x.1 y.0 y.1) answer) (answer ≡ refused code_bad_option))
+
+-- The multiple of 1/parts that a rule says, in lowest terms, if these fit, for a positive number of parts and a rule from 0 to 5. For
+-- example, 2/3 to 100 by the rule 1 gives 67/100.
+abbrev pub IsRoundToAnswer : ℤ → ℤ → ℤ × ℤ → ℤ → ℕ → Said → Type 0
+IsRoundToAnswer lo hi x parts rule answer =
+    OfOne x answer
+    (Tested (pos 0 <ℤ parts)
+    (Tested (rule < 6) (Says (ChecksRounded (λ z. z.0) (λ z. z.1) lo hi (rule_of rule) parts x.0 x.1) answer) (answer ≡ refused code_bad_option))
+    (answer ≡ refused code_bad_option))
 
 -- The lowest terms of n by 10^scale, if these fit, for a scale from 0 to 38. For example, 1250 with the scale 2 gives 25/2.
 abbrev pub IsScaledAnswer : ℤ → ℤ → ℤ → ℤ → Said → Type 0

@@ -39,6 +39,25 @@ code_no_total = 8
 abbrev pub code_bad_option : ℕ
 code_bad_option = 9
 
+-- the numbers of the rules by which a fraction is rounded
+abbrev pub code_rule_half_away : ℕ
+code_rule_half_away = 0
+
+abbrev pub code_rule_half_even : ℕ
+code_rule_half_even = 1
+
+abbrev pub code_rule_down : ℕ
+code_rule_down = 2
+
+abbrev pub code_rule_up : ℕ
+code_rule_up = 3
+
+abbrev pub code_rule_floor : ℕ
+code_rule_floor = 4
+
+abbrev pub code_rule_ceil : ℕ
+code_rule_ceil = 5
+
 -- How many bytes a call that prints requires for each fraction of 32, 64 and 128 bits. For example, two
 -- numbers of at most 11 bytes and a slash are 23.
 abbrev pub room32 : ℕ

@@ -1,12 +1,14 @@
 -- Fractions and answers as they cross from a caller and back.
-use Rattle.std.specs.Prelude.{◌≡◌, ◌+◌, ◌*◌, ◌%◌, ◌+ℤ◌, ◌*ℤ◌, ◌^◌, unsigned_abs, ℕ, ℤ, pos, negsuc, Option, Some, None, Result, Ok, Err}
+use Rattle.std.specs.Prelude.{◌≡◌, ◌+◌, ◌*◌, ◌%◌, ◌+ℤ◌, ◌*ℤ◌, ◌^◌, ◌==◌, if◌then◌else◌, unsigned_abs, ℕ, ℤ, pos, negsuc, Option, Some, None, Result, Ok, Err}
 use Rattle.std.specs.Int.{int_rem_euclid}
 use Rattle.std.specs.declared.cmp.Ordering.{Ordering}
 use Rattle.std.specs.declared.cmp.Ordering.TheVariants.{Less, Equal, Greater}
 use Rattle.ratio_core.specs.declared.parse_error.RatioErrorKind.{RatioErrorKind}
 use Rattle.ratio_core.specs.declared.parse_error.RatioErrorKind.TheVariants.{ParseError, ZeroDenominator}
+use Rattle.ratio_core.specs.declared.rounding_rule.Rounding.{Rounding}
+use Rattle.ratio_core.specs.declared.rounding_rule.Rounding.TheVariants.{HalfAway, HalfEven, Down, Up, Floor, Ceil}
 use Rattle.ratio_c.specs.declared.wide.Wide.{Wide}
-use Rattle.ratio_c.specs.Codes.{code_answered, code_not_held, code_parse_error, code_zero_denominator, hash_multiplier}
+use Rattle.ratio_c.specs.Codes.{code_answered, code_not_held, code_parse_error, code_rule_down, code_rule_floor, code_rule_half_away, code_rule_half_even, code_rule_up, code_zero_denominator, hash_multiplier}
 
 -- what an answer says: its code and its two numbers
 abbrev pub Said : Type 0
@@ -51,3 +53,12 @@ abbrev pub code_of_wide : Result (ℤ × ℤ) RatioErrorKind → ℕ
 code_of_wide (Ok x) = code_not_held
 code_of_wide (Err ParseError) = code_parse_error
 code_of_wide (Err ZeroDenominator) = code_zero_denominator
+
+-- the rule of a number from 0 to 5
+abbrev pub rule_of : ℕ → Rounding
+rule_of number =
+    if number == code_rule_half_away then HalfAway else
+    if number == code_rule_half_even then HalfEven else
+    if number == code_rule_down then Down else
+    if number == code_rule_up then Up else
+    if number == code_rule_floor then Floor else Ceil

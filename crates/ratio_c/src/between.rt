@@ -4,7 +4,7 @@ ghost use Rattle.ratio_c.specs.Calls.{IsBetweenAnswer};
 
 use crate::arithmetic::both;
 use crate::code::{BAD_OPTION, DENOMINATOR_NOT_POSITIVE};
-use crate::crossing::{Bounds, Reply, checked_fields, refused};
+use crate::crossing::{FlaggedBounds, Reply, checked_fields, refused};
 use crate::each::Call;
 use ratio_core::simplest::simplest_between;
 
@@ -13,7 +13,7 @@ use ratio_core::simplest::simplest_between;
 #[derive(Clone, Copy)]
 pub struct Between;
 
-impl<P: Bounds, A: Reply<P::Inside>> Call<P, A> for Between {
+impl<P: FlaggedBounds, A: Reply<P::Inside>> Call<P, A> for Between {
     ghost gives = { λ _ pair answer. IsBetweenAnswer P.Inside.lo P.Inside.hi (P.left pair) (P.right pair) (P.flags pair) (A.said answer) };
 
     #[inline(always)]

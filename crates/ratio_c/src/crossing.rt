@@ -104,12 +104,27 @@ pub trait TwoFractions {
 }
 
 /// Two bounds, and flags that say which of them is taken.
-pub trait Bounds: TwoFractions {
+pub trait FlaggedBounds: TwoFractions {
     ghost flags: { Self → ℕ };
 
     /// The flags.
     fn flags(&self) -> u32
         ensures { result ≡ flags self.now };
+}
+
+/// A fraction, a number of parts of 1, and the number of a rule.
+pub trait Parted: OneFraction {
+    ghost parts: { Self → ℤ };
+
+    ghost rule: { Self → ℕ };
+
+    /// The parts, as the library takes them.
+    fn parts(&self) -> Self::Inside
+        ensures { Self.Inside.value result ≡ parts self.now };
+
+    /// The number of the rule.
+    fn rule(&self) -> u32
+        ensures { result ≡ rule self.now };
 }
 
 /// An answer: a code, and the two numbers of a fraction over `T`.

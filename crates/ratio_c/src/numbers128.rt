@@ -1,7 +1,7 @@
 // Written by templates/write from templates/numbers.rt.txt: change that file, and write this one anew.
 //! Fractions of `i128` and the exports over them.
 ghost use Rattle.std.specs.Prelude.{false};
-ghost use Rattle.ratio_c.specs.Calls.{AnswersEach, IsAbsoluteAnswer, IsBetweenAnswer, IsCastAnswer, IsCeilingAnswer, IsDifferenceAnswer, IsEqualAnswer, IsFloorAnswer, IsHashAnswer, IsLowestAnswer, IsNearestAnswer, IsNegationAnswer, IsOrderAnswer, IsPowerAnswer, IsProductAnswer, IsQuotientAnswer, IsReadAnswer, IsRemainderAnswer, IsRoundAnswer, IsScaledAnswer, IsSumAnswer, IsTruncationAnswer};
+ghost use Rattle.ratio_c.specs.Calls.{AnswersEach, IsAbsoluteAnswer, IsBetweenAnswer, IsCastAnswer, IsCeilingAnswer, IsDifferenceAnswer, IsEqualAnswer, IsFloorAnswer, IsHashAnswer, IsLowestAnswer, IsNearestAnswer, IsNegationAnswer, IsOrderAnswer, IsPowerAnswer, IsProductAnswer, IsQuotientAnswer, IsReadAnswer, IsRemainderAnswer, IsRoundAnswer, IsRoundToAnswer, IsScaledAnswer, IsSumAnswer, IsTruncationAnswer};
 ghost use Rattle.ratio_c.specs.Codes.{room128};
 ghost use Rattle.ratio_c.specs.Crossing.{wide_number};
 ghost use Rattle.ratio_c.specs.Numbers128.{fraction128, greatest128, least128, said128};
@@ -13,9 +13,10 @@ use crate::arithmetic::{Difference, Product, Quotient, Remainder, Sum};
 use crate::between::Between;
 use crate::cast::Casting;
 use crate::compare::{Comparison, Equality, Order, Truth};
-use crate::crossing::{Bounded, Bounds, OneFraction, Raised, Reply, TwoFractions};
+use crate::crossing::{Bounded, FlaggedBounds, OneFraction, Parted, Raised, Reply, TwoFractions};
 use crate::each::each;
 use crate::hash::{Hash, Hashing};
+use crate::multiple::RoundingTo;
 use crate::nearest::Nearest;
 use crate::numbers32::Answer32;
 use crate::numbers64::Answer64;
@@ -68,6 +69,15 @@ pub struct Bounds128 {
     pub low: Fraction128,
     pub high: Fraction128,
     pub flags: u32,
+}
+
+/// A fraction, a number of parts of 1, and the rule by which it is rounded to a multiple of one part.
+#[repr(C)]
+#[derive(Drop)]
+pub struct Multiple128 {
+    pub value: Fraction128,
+    pub parts: Wide,
+    pub rule: u32,
 }
 
 /// A fraction. If there is none, the code says why, and the value is 0 over 0.
@@ -129,6 +139,33 @@ impl Bounded for Bounded128 {
     }
 }
 
+impl OneFraction for Multiple128 {
+    type Inside = i128;
+
+    ghost fraction = { λ x. fraction128 x.value };
+
+    #[inline(always)]
+    fn fraction(&self) -> (i128, i128) {
+        (self.value.numer.number(), self.value.denom.number())
+    }
+}
+
+impl Parted for Multiple128 {
+    ghost parts = { λ x. (wide_number x.parts) };
+
+    ghost rule = { λ x. x.rule };
+
+    #[inline(always)]
+    fn parts(&self) -> i128 {
+        self.parts.number()
+    }
+
+    #[inline(always)]
+    fn rule(&self) -> u32 {
+        self.rule
+    }
+}
+
 impl TwoFractions for Bounds128 {
     type Inside = i128;
 
@@ -147,7 +184,7 @@ impl TwoFractions for Bounds128 {
     }
 }
 
-impl Bounds for Bounds128 {
+impl FlaggedBounds for Bounds128 {
     ghost flags = { λ x. x.flags };
 
     #[inline(always)]
@@ -329,6 +366,14 @@ pub extern "C" fn ratio_between_i128(asked: &[Bounds128], answers: &mut [Answer1
     ensures { AnswersEach (λ x answer. IsBetweenAnswer least128 greatest128 (fraction128 x.low) (fraction128 x.high) x.flags (said128 answer)) asked.now answers.old answers.new result }
 {
     each(&Between, asked, answers)
+}
+
+/// The multiple of 1/parts that the rule says.
+#[unsafe(no_mangle)]
+pub extern "C" fn ratio_round_to_i128(asked: &[Multiple128], answers: &mut [Answer128]) -> u32
+    ensures { AnswersEach (λ x answer. IsRoundToAnswer least128 greatest128 (fraction128 x.value) (wide_number x.parts) x.rule (said128 answer)) asked.now answers.old answers.new result }
+{
+    each(&RoundingTo, asked, answers)
 }
 
 /// The lowest terms of each number by 10^scale.

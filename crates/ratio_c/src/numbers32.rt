@@ -1,7 +1,7 @@
 // Written by templates/write from templates/numbers.rt.txt: change that file, and write this one anew.
 //! Fractions of `i32` and the exports over them.
 ghost use Rattle.std.specs.Prelude.{true};
-ghost use Rattle.ratio_c.specs.Calls.{AnswersEach, IsAbsoluteAnswer, IsBetweenAnswer, IsCastAnswer, IsCeilingAnswer, IsDifferenceAnswer, IsEqualAnswer, IsFloorAnswer, IsHashAnswer, IsLowestAnswer, IsNearestAnswer, IsNegationAnswer, IsOrderAnswer, IsPowerAnswer, IsProductAnswer, IsQuotientAnswer, IsReadAnswer, IsRemainderAnswer, IsRoundAnswer, IsScaledAnswer, IsSumAnswer, IsTruncationAnswer};
+ghost use Rattle.ratio_c.specs.Calls.{AnswersEach, IsAbsoluteAnswer, IsBetweenAnswer, IsCastAnswer, IsCeilingAnswer, IsDifferenceAnswer, IsEqualAnswer, IsFloorAnswer, IsHashAnswer, IsLowestAnswer, IsNearestAnswer, IsNegationAnswer, IsOrderAnswer, IsPowerAnswer, IsProductAnswer, IsQuotientAnswer, IsReadAnswer, IsRemainderAnswer, IsRoundAnswer, IsRoundToAnswer, IsScaledAnswer, IsSumAnswer, IsTruncationAnswer};
 ghost use Rattle.ratio_c.specs.Codes.{room32};
 ghost use Rattle.ratio_c.specs.Crossing.{wide_number};
 ghost use Rattle.ratio_c.specs.LowestHash.{IsLowestHashAnswer};
@@ -14,10 +14,11 @@ use crate::arithmetic::{Difference, Product, Quotient, Remainder, Sum};
 use crate::between::Between;
 use crate::cast::Casting;
 use crate::compare::{Comparison, Equality, Order, Truth};
-use crate::crossing::{Bounded, Bounds, OneFraction, Raised, Reply, TwoFractions};
+use crate::crossing::{Bounded, FlaggedBounds, OneFraction, Parted, Raised, Reply, TwoFractions};
 use crate::each::each;
 use crate::hash::{Hash, Hashing};
 use crate::lowest_hash::LowestHashing;
+use crate::multiple::RoundingTo;
 use crate::nearest::Nearest;
 use crate::numbers64::Answer64;
 use crate::numbers128::Answer128;
@@ -69,6 +70,15 @@ pub struct Bounds32 {
     pub low: Fraction32,
     pub high: Fraction32,
     pub flags: u32,
+}
+
+/// A fraction, a number of parts of 1, and the rule by which it is rounded to a multiple of one part.
+#[repr(C)]
+#[derive(Drop)]
+pub struct Multiple32 {
+    pub value: Fraction32,
+    pub parts: i32,
+    pub rule: u32,
 }
 
 /// A fraction. If there is none, the code says why, and the value is 0 over 0.
@@ -130,6 +140,33 @@ impl Bounded for Bounded32 {
     }
 }
 
+impl OneFraction for Multiple32 {
+    type Inside = i32;
+
+    ghost fraction = { λ x. fraction32 x.value };
+
+    #[inline(always)]
+    fn fraction(&self) -> (i32, i32) {
+        (self.value.numer, self.value.denom)
+    }
+}
+
+impl Parted for Multiple32 {
+    ghost parts = { λ x. x.parts };
+
+    ghost rule = { λ x. x.rule };
+
+    #[inline(always)]
+    fn parts(&self) -> i32 {
+        self.parts
+    }
+
+    #[inline(always)]
+    fn rule(&self) -> u32 {
+        self.rule
+    }
+}
+
 impl TwoFractions for Bounds32 {
     type Inside = i32;
 
@@ -148,7 +185,7 @@ impl TwoFractions for Bounds32 {
     }
 }
 
-impl Bounds for Bounds32 {
+impl FlaggedBounds for Bounds32 {
     ghost flags = { λ x. x.flags };
 
     #[inline(always)]
@@ -327,6 +364,14 @@ pub extern "C" fn ratio_between_i32(asked: &[Bounds32], answers: &mut [Answer32]
     ensures { AnswersEach (λ x answer. IsBetweenAnswer least32 greatest32 (fraction32 x.low) (fraction32 x.high) x.flags (said32 answer)) asked.now answers.old answers.new result }
 {
     each(&Between, asked, answers)
+}
+
+/// The multiple of 1/parts that the rule says.
+#[unsafe(no_mangle)]
+pub extern "C" fn ratio_round_to_i32(asked: &[Multiple32], answers: &mut [Answer32]) -> u32
+    ensures { AnswersEach (λ x answer. IsRoundToAnswer least32 greatest32 (fraction32 x.value) x.parts x.rule (said32 answer)) asked.now answers.old answers.new result }
+{
+    each(&RoundingTo, asked, answers)
 }
 
 /// The lowest terms of each number by 10^scale.

@@ -1,7 +1,7 @@
 //! Worked rows. Their answers come from outside.
 use crate::code::{
     ANSWERED, BAD_OPTION, BOUND_NOT_POSITIVE, DENOMINATOR_NOT_POSITIVE, DIVISION_BY_ZERO, NOT_HELD,
-    PARSE_ERROR, ZERO_DENOMINATOR,
+    PARSE_ERROR, RULE_HALF_EVEN, ZERO_DENOMINATOR,
 };
 use crate::compare::Truth;
 use crate::each::{BAD_LENGTH, DONE};
@@ -9,10 +9,10 @@ use crate::hash::Hash;
 use crate::key::{Key, ratio_key_i64};
 use crate::numbers32::{Answer32, Fraction32};
 use crate::numbers64::{
-    Answer64, Bounded64, Bounds64, Fraction64, Pair64, Power64, ROOM, ratio_abs_i64, ratio_add_i64,
-    ratio_between_i64, ratio_cast_i64_to_i32, ratio_ceil_i64, ratio_equal_i64,
+    Answer64, Bounded64, Bounds64, Fraction64, Multiple64, Pair64, Power64, ROOM, ratio_abs_i64,
+    ratio_add_i64, ratio_between_i64, ratio_cast_i64_to_i32, ratio_ceil_i64, ratio_equal_i64,
     ratio_from_scaled_i64, ratio_hash_lowest_i64, ratio_nearest_i64, ratio_neg_i64, ratio_pow_i64,
-    ratio_print_i64, ratio_read_i64, ratio_trunc_i64,
+    ratio_print_i64, ratio_read_i64, ratio_round_to_i64, ratio_trunc_i64,
 };
 use crate::numbers128::Fraction128;
 use crate::printing::Text;
@@ -154,6 +154,26 @@ fn simplest_fractions(rt: HostRuntime) {
     let mut answers = [no_answer(), no_answer()];
     assert!(rt; ratio_between_i64(&asked, &mut answers) == DONE);
     assert!(rt; [answers[0].value.numer, answers[0].value.denom] == [2, 5]);
+    assert!(rt; answers[1].code == BAD_OPTION);
+}
+
+#[test]
+fn multiples(rt: HostRuntime) {
+    let asked = [
+        Multiple64 {
+            value: fraction(2, 3),
+            parts: 100,
+            rule: RULE_HALF_EVEN,
+        },
+        Multiple64 {
+            value: fraction(2, 3),
+            parts: 100,
+            rule: 6,
+        },
+    ];
+    let mut answers = [no_answer(), no_answer()];
+    assert!(rt; ratio_round_to_i64(&asked, &mut answers) == DONE);
+    assert!(rt; [answers[0].value.numer, answers[0].value.denom] == [67, 100]);
     assert!(rt; answers[1].code == BAD_OPTION);
 }
 

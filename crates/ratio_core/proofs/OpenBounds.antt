@@ -1,6 +1,6 @@
 -- Ends of a type in place of open bounds. No fraction of a type is below its least number or above its greatest, so over `i8` there is
 -- none above 127/1 and none below -128/1.
-use Rattle.std.specs.Prelude.{◌≡◌, ◌<◌, ◌≤◌, ◌≤ℤ◌, ◌<ℤ◌, ◌*ℤ◌, ℤ, zero, suc, pos, negsuc, Bool, true, false}
+use Rattle.std.specs.Prelude.{◌≡◌, ◌≤ℤ◌, ◌<ℤ◌, ◌*ℤ◌, ℤ, zero, suc, pos, negsuc, Bool, true, false}
 use Rattle.std.proofs.Common.{sym, subst, arith}
 use Rattle.std.proofs.lemmas.Int.{ints}
 use Rattle.std.specs.declared.ops.Bound.{Bound}

@@ -1,12 +1,12 @@
 -- The laws of the simplest fraction within two bounds: at most one, in lowest terms, and the same for bounds of the same values.
-use Rattle.std.specs.Prelude.{◌≡◌, ◌↔◌, ◌⊎◌, ◌≤◌, ◌≤ℤ◌, ◌<ℤ◌, ◌*ℤ◌, ℤ, pos, unsigned_abs}
+use Rattle.std.specs.Prelude.{◌≡◌, ◌↔◌, ◌<ℤ◌, ◌*ℤ◌, ℤ, pos, unsigned_abs}
 use Rattle.std.proofs.Common.{sym, ap, arith, inl, inr, ◌∙◌}
 use Rattle.std.proofs.lemmas.Int.{ints}
 use Rattle.std.specs.declared.ops.Bound.{Bound}
 use Rattle.std.specs.declared.ops.Bound.TheVariants.{Included, Excluded, Unbounded}
 use Rattle.ratio_integer.proofs.CommonDivisors.{divides_multiple}
 use Rattle.ratio_integer.proofs.Whole.{mul-swap_last}
-use Rattle.ratio_integer.specs.Fraction.{IsLowestTerms, SameValue}
+use Rattle.ratio_integer.specs.Fraction.{IsLowestTerms}
 use Rattle.ratio_core.specs.Bounds.{HasPositiveDenominator, IsWithinLow, IsWithinHigh, IsWithin}
 use Rattle.ratio_core.specs.Simplest.{IsBetween, IsSimplest}
 use Rattle.ratio_core.specs.SimplestWithin.{IsSimplestWithin}

@@ -1,7 +1,7 @@
 -- The first of the held fractions within two bounds is the simplest of all fractions there. So a type that holds any fraction within
 -- the bounds holds the simplest one.
 use Rattle.std.specs.Prelude.{◌≡◌, ◌⊎◌, ◌≤◌, ◌≤ℤ◌, ◌<ℤ◌, ◌+ℤ◌, ◌-ℤ◌, ◌*ℤ◌, ℤ, zero, suc, pos, negsuc, unsigned_abs}
-use Rattle.std.proofs.Common.{refl, arith, inl, inr}
+use Rattle.std.proofs.Common.{arith, inl, inr}
 use Rattle.std.proofs.lemmas.Int.{ints}
 use Rattle.std.specs.declared.ops.Bound.{Bound}
 use Rattle.ratio_integer.specs.Range.{IsHeld, IsRange}

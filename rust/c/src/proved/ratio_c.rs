@@ -11,6 +11,7 @@ pub mod hash;
 pub mod key;
 pub mod laws;
 pub mod lowest_hash;
+pub mod multiple;
 pub mod nearest;
 pub mod numbers128;
 pub mod numbers32;

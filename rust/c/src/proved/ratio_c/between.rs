@@ -3,7 +3,7 @@
 
 use crate::proved::ratio_c::arithmetic::both;
 use crate::proved::ratio_c::code::{BAD_OPTION, DENOMINATOR_NOT_POSITIVE};
-use crate::proved::ratio_c::crossing::{Bounds, Reply, checked_fields, refused};
+use crate::proved::ratio_c::crossing::{FlaggedBounds, Reply, checked_fields, refused};
 use crate::proved::ratio_c::each::Call;
 use bakhsney::proved::ratio_core::simplest::simplest_between;
 
@@ -12,7 +12,7 @@ use bakhsney::proved::ratio_core::simplest::simplest_between;
 #[derive(Clone, Copy)]
 pub struct Between;
 
-impl<P: Bounds, A: Reply<P::Inside>> Call<P, A> for Between {
+impl<P: FlaggedBounds, A: Reply<P::Inside>> Call<P, A> for Between {
     #[inline(always)]
     fn answer(&self, pair: &P) -> A {
         let flags = pair.flags();

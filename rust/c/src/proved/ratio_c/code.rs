@@ -29,5 +29,23 @@ pub const BOUND_NOT_POSITIVE: u32 = 7;
 /// A total's code is 0, but its sum is not in lowest terms.
 pub const NO_TOTAL: u32 = 8;
 
-/// The call has no such scale or flags.
+/// The call has no such rule, number of parts, scale or flags.
 pub const BAD_OPTION: u32 = 9;
+
+/// The rule that rounds to the nearer one, and a half away from zero.
+pub const RULE_HALF_AWAY: u32 = 0;
+
+/// To the nearer one, and a half to the even one.
+pub const RULE_HALF_EVEN: u32 = 1;
+
+/// Towards zero.
+pub const RULE_DOWN: u32 = 2;
+
+/// Away from zero.
+pub const RULE_UP: u32 = 3;
+
+/// To the one below.
+pub const RULE_FLOOR: u32 = 4;
+
+/// To the one above.
+pub const RULE_CEIL: u32 = 5;

@@ -84,9 +84,18 @@ pub trait TwoFractions {
 }
 
 /// Two bounds, and flags that say which of them is taken.
-pub trait Bounds: TwoFractions {
+pub trait FlaggedBounds: TwoFractions {
     /// The flags.
     fn flags(&self) -> u32;
+}
+
+/// A fraction, a number of parts of 1, and the number of a rule.
+pub trait Parted: OneFraction {
+    /// The parts, as the library takes them.
+    fn parts(&self) -> Self::Inside;
+
+    /// The number of the rule.
+    fn rule(&self) -> u32;
 }
 
 /// An answer: a code, and the two numbers of a fraction over `T`.

@@ -6,9 +6,10 @@ use crate::proved::ratio_c::arithmetic::{Difference, Product, Quotient, Remainde
 use crate::proved::ratio_c::between::Between;
 use crate::proved::ratio_c::cast::Casting;
 use crate::proved::ratio_c::compare::{Comparison, Equality, Order, Truth};
-use crate::proved::ratio_c::crossing::{Bounded, Bounds, OneFraction, Raised, Reply, TwoFractions};
+use crate::proved::ratio_c::crossing::{Bounded, FlaggedBounds, OneFraction, Parted, Raised, Reply, TwoFractions};
 use crate::proved::ratio_c::each::each;
 use crate::proved::ratio_c::hash::{Hash, Hashing};
+use crate::proved::ratio_c::multiple::RoundingTo;
 use crate::proved::ratio_c::nearest::Nearest;
 use crate::proved::ratio_c::numbers32::Answer32;
 use crate::proved::ratio_c::numbers64::Answer64;
@@ -56,6 +57,14 @@ pub struct Bounds128 {
     pub low: Fraction128,
     pub high: Fraction128,
     pub flags: u32,
+}
+
+/// A fraction, a number of parts of 1, and the rule by which it is rounded to a multiple of one part.
+#[repr(C)]
+pub struct Multiple128 {
+    pub value: Fraction128,
+    pub parts: Wide,
+    pub rule: u32,
 }
 
 /// A fraction. If there is none, the code says why, and the value is 0 over 0.
@@ -106,6 +115,27 @@ impl Bounded for Bounded128 {
     }
 }
 
+impl OneFraction for Multiple128 {
+    type Inside = i128;
+
+    #[inline(always)]
+    fn fraction(&self) -> (i128, i128) {
+        (self.value.numer.number(), self.value.denom.number())
+    }
+}
+
+impl Parted for Multiple128 {
+    #[inline(always)]
+    fn parts(&self) -> i128 {
+        self.parts.number()
+    }
+
+    #[inline(always)]
+    fn rule(&self) -> u32 {
+        self.rule
+    }
+}
+
 impl TwoFractions for Bounds128 {
     type Inside = i128;
 
@@ -120,7 +150,7 @@ impl TwoFractions for Bounds128 {
     }
 }
 
-impl Bounds for Bounds128 {
+impl FlaggedBounds for Bounds128 {
     #[inline(always)]
     fn flags(&self) -> u32 {
         self.flags
@@ -312,6 +342,15 @@ pub unsafe extern "C" fn ratio_between_i128(asked: *const Bounds128, asked_len: 
     let asked = core::slice::from_raw_parts(asked, asked_len);
     let answers = core::slice::from_raw_parts_mut(answers, answers_len);
     each(&Between, asked, answers)
+}
+
+/// The multiple of 1/parts that the rule says.
+#[no_mangle]
+pub unsafe extern "C" fn ratio_round_to_i128(asked: *const Multiple128, asked_len: usize, answers: *mut Answer128, answers_len: usize) -> u32 {
+    // SAFETY: the header says what the caller owes for each pointer and its length.
+    let asked = core::slice::from_raw_parts(asked, asked_len);
+    let answers = core::slice::from_raw_parts_mut(answers, answers_len);
+    each(&RoundingTo, asked, answers)
 }
 
 /// The lowest terms of each number by 10^scale.

@@ -6,10 +6,11 @@ use crate::proved::ratio_c::arithmetic::{Difference, Product, Quotient, Remainde
 use crate::proved::ratio_c::between::Between;
 use crate::proved::ratio_c::cast::Casting;
 use crate::proved::ratio_c::compare::{Comparison, Equality, Order, Truth};
-use crate::proved::ratio_c::crossing::{Bounded, Bounds, OneFraction, Raised, Reply, TwoFractions};
+use crate::proved::ratio_c::crossing::{Bounded, FlaggedBounds, OneFraction, Parted, Raised, Reply, TwoFractions};
 use crate::proved::ratio_c::each::each;
 use crate::proved::ratio_c::hash::{Hash, Hashing};
 use crate::proved::ratio_c::lowest_hash::LowestHashing;
+use crate::proved::ratio_c::multiple::RoundingTo;
 use crate::proved::ratio_c::nearest::Nearest;
 use crate::proved::ratio_c::numbers64::Answer64;
 use crate::proved::ratio_c::numbers128::Answer128;
@@ -56,6 +57,14 @@ pub struct Bounds32 {
     pub low: Fraction32,
     pub high: Fraction32,
     pub flags: u32,
+}
+
+/// A fraction, a number of parts of 1, and the rule by which it is rounded to a multiple of one part.
+#[repr(C)]
+pub struct Multiple32 {
+    pub value: Fraction32,
+    pub parts: i32,
+    pub rule: u32,
 }
 
 /// A fraction. If there is none, the code says why, and the value is 0 over 0.
@@ -106,6 +115,27 @@ impl Bounded for Bounded32 {
     }
 }
 
+impl OneFraction for Multiple32 {
+    type Inside = i32;
+
+    #[inline(always)]
+    fn fraction(&self) -> (i32, i32) {
+        (self.value.numer, self.value.denom)
+    }
+}
+
+impl Parted for Multiple32 {
+    #[inline(always)]
+    fn parts(&self) -> i32 {
+        self.parts
+    }
+
+    #[inline(always)]
+    fn rule(&self) -> u32 {
+        self.rule
+    }
+}
+
 impl TwoFractions for Bounds32 {
     type Inside = i32;
 
@@ -120,7 +150,7 @@ impl TwoFractions for Bounds32 {
     }
 }
 
-impl Bounds for Bounds32 {
+impl FlaggedBounds for Bounds32 {
     #[inline(always)]
     fn flags(&self) -> u32 {
         self.flags
@@ -309,6 +339,15 @@ pub unsafe extern "C" fn ratio_between_i32(asked: *const Bounds32, asked_len: us
     let asked = core::slice::from_raw_parts(asked, asked_len);
     let answers = core::slice::from_raw_parts_mut(answers, answers_len);
     each(&Between, asked, answers)
+}
+
+/// The multiple of 1/parts that the rule says.
+#[no_mangle]
+pub unsafe extern "C" fn ratio_round_to_i32(asked: *const Multiple32, asked_len: usize, answers: *mut Answer32, answers_len: usize) -> u32 {
+    // SAFETY: the header says what the caller owes for each pointer and its length.
+    let asked = core::slice::from_raw_parts(asked, asked_len);
+    let answers = core::slice::from_raw_parts_mut(answers, answers_len);
+    each(&RoundingTo, asked, answers)
 }
 
 /// The lowest terms of each number by 10^scale.

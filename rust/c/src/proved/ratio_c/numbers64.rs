@@ -6,10 +6,11 @@ use crate::proved::ratio_c::arithmetic::{Difference, Product, Quotient, Remainde
 use crate::proved::ratio_c::between::Between;
 use crate::proved::ratio_c::cast::Casting;
 use crate::proved::ratio_c::compare::{Comparison, Equality, Order, Truth};
-use crate::proved::ratio_c::crossing::{Bounded, Bounds, OneFraction, Raised, Reply, TwoFractions};
+use crate::proved::ratio_c::crossing::{Bounded, FlaggedBounds, OneFraction, Parted, Raised, Reply, TwoFractions};
 use crate::proved::ratio_c::each::each;
 use crate::proved::ratio_c::hash::{Hash, Hashing};
 use crate::proved::ratio_c::lowest_hash::LowestHashing;
+use crate::proved::ratio_c::multiple::RoundingTo;
 use crate::proved::ratio_c::nearest::Nearest;
 use crate::proved::ratio_c::numbers32::Answer32;
 use crate::proved::ratio_c::numbers128::Answer128;
@@ -56,6 +57,14 @@ pub struct Bounds64 {
     pub low: Fraction64,
     pub high: Fraction64,
     pub flags: u32,
+}
+
+/// A fraction, a number of parts of 1, and the rule by which it is rounded to a multiple of one part.
+#[repr(C)]
+pub struct Multiple64 {
+    pub value: Fraction64,
+    pub parts: i64,
+    pub rule: u32,
 }
 
 /// A fraction. If there is none, the code says why, and the value is 0 over 0.
@@ -106,6 +115,27 @@ impl Bounded for Bounded64 {
     }
 }
 
+impl OneFraction for Multiple64 {
+    type Inside = i64;
+
+    #[inline(always)]
+    fn fraction(&self) -> (i64, i64) {
+        (self.value.numer, self.value.denom)
+    }
+}
+
+impl Parted for Multiple64 {
+    #[inline(always)]
+    fn parts(&self) -> i64 {
+        self.parts
+    }
+
+    #[inline(always)]
+    fn rule(&self) -> u32 {
+        self.rule
+    }
+}
+
 impl TwoFractions for Bounds64 {
     type Inside = i64;
 
@@ -120,7 +150,7 @@ impl TwoFractions for Bounds64 {
     }
 }
 
-impl Bounds for Bounds64 {
+impl FlaggedBounds for Bounds64 {
     #[inline(always)]
     fn flags(&self) -> u32 {
         self.flags
@@ -309,6 +339,15 @@ pub unsafe extern "C" fn ratio_between_i64(asked: *const Bounds64, asked_len: us
     let asked = core::slice::from_raw_parts(asked, asked_len);
     let answers = core::slice::from_raw_parts_mut(answers, answers_len);
     each(&Between, asked, answers)
+}
+
+/// The multiple of 1/parts that the rule says.
+#[no_mangle]
+pub unsafe extern "C" fn ratio_round_to_i64(asked: *const Multiple64, asked_len: usize, answers: *mut Answer64, answers_len: usize) -> u32 {
+    // SAFETY: the header says what the caller owes for each pointer and its length.
+    let asked = core::slice::from_raw_parts(asked, asked_len);
+    let answers = core::slice::from_raw_parts_mut(answers, answers_len);
+    each(&RoundingTo, asked, answers)
 }
 
 /// The lowest terms of each number by 10^scale.

@@ -1,4 +1,3 @@
-use Rattle.std.proofs.Common.{sym, subst, ◌∙◌, ◌≡◌}
 use Rattle.ratio_core.proofs.OpenBounds.{first_opened, none_opened}
 use Rattle.ratio_core.proofs.simplest.within.simplest_within.Goals as goal
 

@@ -1,4 +1,4 @@
-use Rattle.std.proofs.Common.{inl, inr, sym, ◌∙◌, ◌≡◌}
+use Rattle.std.proofs.Common.{inl, inr}
 use Rattle.ratio_core.proofs.EndLemmas.{end_alone, none_at_end, none_turned, order_told, with_both_ends}
 use Rattle.ratio_core.proofs.simplest.within.within_ends.Goals as goal
 use Rattle.ratio_core.proofs.simplest.within.within_ends.Goals.{else-low-via-then-low+else-high, else-low-via-else-low}

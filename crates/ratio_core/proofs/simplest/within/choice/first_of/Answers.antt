@@ -1,4 +1,3 @@
-use Rattle.std.proofs.Common.{sym, ◌∙◌, ◌≡◌}
 use Rattle.ratio_integer.specs.Comparison.{no, yes}
 use Rattle.ratio_core.proofs.AsSimple.{end_first, found_first, only_end}
 use Rattle.ratio_core.proofs.simplest.within.choice.first_of.Goals as goal

@@ -63,3 +63,28 @@ CALL(ratio_from_numeric)
 		ereport(ERROR, errcode(ERRCODE_NUMERIC_VALUE_OUT_OF_RANGE), errmsg("value \"%s\" is out of range for type %s", text, "ratio"));
 	return new_value(answer.value);
 }
+
+static Datum
+with_places(Datum numeric, int32 places)
+{
+	return DirectFunctionCall2(numeric_round, numeric, Int32GetDatum(places));
+}
+
+/* A half is rounded away from zero, as numeric does. The library gives a multiple of 1/10^places, so that the quotient has no more places. */
+CALL(ratio_round_places)
+{
+	ratio_multiple_i64 multiple = {*ARG(0), 1, RATIO_RULE_HALF_AWAY};
+	int32		places = PG_GETARG_INT32(1);
+	ratio_answer_i64 answer;
+	Datum		numer;
+
+	if (places < 0 || places > 18)
+		ereport(ERROR, errcode(ERRCODE_INVALID_PARAMETER_VALUE), errmsg("ratio_round requires 0 to 18 places, not %d", places));
+	for (int i = 0; i < places; i++)
+		multiple.parts *= 10;
+	ratio_round_to_i64(&multiple, 1, &answer, 1);
+	if (unlikely(answer.code != RATIO_ANSWERED))
+		refuse(answer.code, psprintf("ratio_round(%s, %d)", quoted(multiple.value), places));
+	numer = with_places(NumericGetDatum(int64_to_numeric(answer.value.numer)), places);
+	return with_places(DirectFunctionCall2(numeric_div, numer, NumericGetDatum(int64_to_numeric(answer.value.denom))), places);
+}

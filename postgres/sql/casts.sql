@@ -24,4 +24,24 @@ SELECT x, refusal(format('SELECT (%s)::numeric::ratio', x)) FROM unnest(ARRAY['9
 SELECT refusal('SELECT 0.0000000000000011102230246251565404236316680908203125::ratio');
 SELECT pg_typeof(0.5 + 1), refusal('SELECT 0.5 + ''1/2''::ratio');
 SELECT castsource::regtype, casttarget::regtype, castcontext, castmethod FROM pg_cast WHERE 'ratio'::regtype IN (castsource, casttarget) ORDER BY 1, 2;
+-- rounded to places, a half away from zero
+SELECT ratio_round('2/3', 2), ratio_round('-1/200', 2), ratio_round('1/8', 2), ratio_round('1/2', 0), ratio_round('1/2', 3), ratio_round('1/3', 18), ratio_round(5, 2),
+    ratio_round('922337203685477580/7', 1), ratio_round('-9223372036854775808', 18);
+SELECT q, refusal('SELECT ratio_round' || q) FROM unnest(ARRAY['(''1/3'', -1)', '(''1/3'', 19)', '(''9223372036854775807/2'', 1)', '(''1000/3'', 17)']) q;
+-- as numeric does: over hard fractions and over multiples of 1/2000, wherever the multiple fits
+CREATE FUNCTION rounded(r ratio, places int) RETURNS text LANGUAGE plpgsql AS $$
+BEGIN
+    RETURN ratio_round(r, places);
+EXCEPTION WHEN numeric_value_out_of_range THEN
+    RETURN NULL;
+END $$;
+CREATE FUNCTION numeric_rounded(n numeric, d numeric, places int) RETURNS text LANGUAGE plpgsql AS $$
+DECLARE parts numeric := ('1e' || places)::numeric; whole numeric := sign(n) * div(2 * abs(n) * parts + d, 2 * d);
+BEGIN
+    RETURN CASE WHEN lowest(whole, parts) <> '22003' THEN round(whole * ('1e-' || places)::numeric, places)::text END;
+END $$;
+SELECT count(*), count(got) AS held, count(*) FILTER (WHERE got IS DISTINCT FROM wanted) AS wrong
+FROM (SELECT rounded(r, places) AS got, numeric_rounded(numerator(r), denominator(r), places) AS wanted
+    FROM (TABLE hard UNION ALL SELECT ratio(i, 2000) FROM generate_series(-300, 300) i) f(r), unnest('{0,1,2,3,9,17,18}'::int[]) places) compared;
+DROP FUNCTION rounded, numeric_rounded;
 DROP TABLE kept;

@@ -1,6 +1,6 @@
 -- Whole numbers near a `Reduced`. A premise only says what a call returned. `floor`, `ceil`, `round` and `trunc` round by `Floor`, `Ceil`,
 -- `HalfAway` and `Down`.
-use Rattle.std.specs.Prelude.{◌≡◌, ◌≢◌, ◌*◌, ◌≤ℤ◌, ◌<ℤ◌, ℤ, pos, unsigned_abs, Option, None, Some}
+use Rattle.std.specs.Prelude.{◌≡◌, ◌≢◌, ◌*◌, ◌≤ℤ◌, ◌<ℤ◌, pos, unsigned_abs, Option, None, Some}
 use Rattle.std.specs.declared.cmp.Ordering.TheVariants.{Greater}
 use Rattle.ratio_core.specs.RoundingRules.{IsRoundedBy}
 use Rattle.ratio_core.specs.declared.rounding_rule.Rounding.{Rounding}

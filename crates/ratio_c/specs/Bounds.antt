@@ -22,11 +22,11 @@ bound_of true false x = Included x
 bound_of false false x = Excluded x
 
 -- the lower bound and the upper one, by the flags
-abbrev pub low_bound : ℕ → ℤ × ℤ → Bound (ℤ × ℤ)
-low_bound flags x = bound_of (has_flag flags code_low_included) (has_flag flags code_low_open) x
+abbrev pub flagged_low : ℕ → ℤ × ℤ → Bound (ℤ × ℤ)
+flagged_low flags x = bound_of (has_flag flags code_low_included) (has_flag flags code_low_open) x
 
-abbrev pub high_bound : ℕ → ℤ × ℤ → Bound (ℤ × ℤ)
-high_bound flags x = bound_of (has_flag flags code_high_included) (has_flag flags code_high_open) x
+abbrev pub flagged_high : ℕ → ℤ × ℤ → Bound (ℤ × ℤ)
+flagged_high flags x = bound_of (has_flag flags code_high_included) (has_flag flags code_high_open) x
 
 -- the denominator of each bound that is not open is positive
 abbrev pub HavePositiveDenominators : Bound (ℤ × ℤ) → Bound (ℤ × ℤ) → Type 0

@@ -19,7 +19,7 @@ use Rattle.ratio_core.specs.RoundingRules.{ChecksRounded}
 use Rattle.ratio_core.specs.SimplestWithin.{ChecksSimplestWithin}
 use Rattle.ratio_core.specs.declared.text.decimals.DecimalRefusal.{DecimalRefusal}
 use Rattle.num_rational.specs.ContinuedFractions.{AreConvergents}
-use Rattle.ratio_c.specs.Bounds.{AreFlags, HavePositiveDenominators, high_bound, low_bound}
+use Rattle.ratio_c.specs.Bounds.{AreFlags, HavePositiveDenominators, flagged_high, flagged_low}
 use Rattle.ratio_core.specs.Rounding.{IsCeiling, IsFloor, IsRounded, IsTruncation}
 use Rattle.ratio_c.specs.Crossing.{Said, Says, code_of_wide, mixed, order_number, refused, rule_of, said_of_decimal}
 use Rattle.ratio_c.specs.Codes.{code_answered, code_bad_option, code_bound_not_positive, code_denominator_not_positive, code_division_by_zero, code_no_text, code_parse_error, code_zero_denominator, return_bad_length, return_done}
@@ -136,8 +136,8 @@ IsNearestAnswer x most answer = OfOne x answer (Tested (pos 0 <ℤ most) (SaysNe
 -- numbers of an open one do not matter. For example, 1/3 and 1/2 give 2/5, and with both included 1/2.
 abbrev pub IsBetweenAnswer : ℤ → ℤ → ℤ × ℤ → ℤ × ℤ → ℕ → Said → Type 0
 IsBetweenAnswer lo hi x y flags answer =
-    let low = low_bound flags x in
-    let high = high_bound flags y in
+    let low = flagged_low flags x in
+    let high = flagged_high flags y in
     Tested (HavePositiveDenominators low high)
     (Tested (AreFlags flags) (Says (ChecksSimplestWithin (λ z. z) lo hi low high) answer) (answer ≡ refused code_bad_option))
     (answer ≡ refused code_denominator_not_positive)

@@ -57,9 +57,9 @@ code_of_wide (Err ParseError) = code_parse_error
 code_of_wide (Err ZeroDenominator) = code_zero_denominator
 
 -- what the answer says of a result, or of the code of a refusal
-abbrev pub said_by : Result (ℤ × ℤ) ℕ → Said
-said_by (Ok x) = (code_answered, x)
-said_by (Err code) = refused code
+abbrev pub said_by : {T : Type 0} → (T → ℤ) → Result (T × T) ℕ → Said
+said_by value (Ok x) = (code_answered, (value x.0, value x.1))
+said_by value (Err code) = refused code
 
 -- what the answer says of a decimal that was read
 abbrev pub said_of_decimal : Result (ℤ × ℤ) DecimalRefusal → Said

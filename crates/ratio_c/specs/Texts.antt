@@ -49,7 +49,7 @@ Prints Shows room asked old new places answers result =
     ((result ≡ return_bad_length) × (new ≡ old) × (answers ≡ places))
 
 -- inner: an item's text of at most `longest` bytes is written at a place, and the other bytes are unchanged
-pub record IsPut (Shows : ℕ → List ℕ → Type 0) (longest at : ℕ) (old new : List ℕ) (answer : Text) : Type 0 where
+pub record IsTextPut (Shows : ℕ → List ℕ → Type 0) (longest at : ℕ) (old new : List ℕ) (answer : Text) : Type 0 where
   pub text : List ℕ
   pub is : IsTextAnswer Shows at text answer
   pub short : length text ≤ longest

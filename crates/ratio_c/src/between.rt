@@ -1,7 +1,7 @@
 //! The simplest fraction within two bounds.
 ghost use Rattle.std.specs.Prelude.{◌≡◌, ◌↔◌, ◌<◌, IsTrue, MatchOption};
 ghost use Rattle.ratio_core.specs.Bounds.{HasPositiveDenominator, numbers_in};
-ghost use Rattle.ratio_c.specs.Bounds.{AreBounds, AreFlags, HavePositiveDenominators, bound_of, has_flag, high_bound, low_bound};
+ghost use Rattle.ratio_c.specs.Bounds.{AreBounds, AreFlags, HavePositiveDenominators, bound_of, has_flag, flagged_high, flagged_low};
 ghost use Rattle.ratio_c.specs.Calls.{IsBetweenAnswer};
 
 use crate::code::{
@@ -39,8 +39,8 @@ fn bounds<P: FlaggedBounds>(
     pair: &P,
 ) -> Option<(Bound<(P::Inside, P::Inside)>, Bound<(P::Inside, P::Inside)>)>
     ensures { MatchOption result
-        (¬ (HavePositiveDenominators (low_bound (P.flags pair.now) (P.left pair.now)) (high_bound (P.flags pair.now) (P.right pair.now))))
-        (λ both. AreBounds P.Inside.value (low_bound (P.flags pair.now) (P.left pair.now)) (high_bound (P.flags pair.now) (P.right pair.now)) both) }
+        (¬ (HavePositiveDenominators (flagged_low (P.flags pair.now) (P.left pair.now)) (flagged_high (P.flags pair.now) (P.right pair.now))))
+        (λ both. AreBounds P.Inside.value (flagged_low (P.flags pair.now) (P.left pair.now)) (flagged_high (P.flags pair.now) (P.right pair.now)) both) }
 {
     let flags = pair.flags();
     let low = bound(flags, LOW_INCLUDED, LOW_OPEN, pair.left())?;

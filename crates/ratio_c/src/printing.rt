@@ -2,7 +2,7 @@
 ghost use Rattle.std.specs.Prelude.{◌≡◌, ◌+◌, ◌*◌, ◌<◌, ◌≤◌, ◌++◌, ℕ, List, drop, length, take, MatchBool};
 ghost use Rattle.ratio_core.specs.Printing.{base_ten_room};
 ghost use Rattle.ratio_c.specs.Codes.{code_answered};
-ghost use Rattle.ratio_c.specs.Texts.{IsPut, Prints, ShowsFields};
+ghost use Rattle.ratio_c.specs.Texts.{IsTextPut, Prints, ShowsFields};
 
 use crate::code::{ANSWERED, ZERO_DENOMINATOR};
 use crate::crossing::OneFraction;
@@ -30,7 +30,7 @@ pub trait Printer<F> {
     /// Writes the text of an item at a place.
     fn put(&self, x: &F, texts: &mut [u8], at: usize) -> Text
         requires { at + longest ≤ length texts.old }
-        ensures { IsPut (shows x.now) longest at texts.old texts.new result };
+        ensures { IsTextPut (shows x.now) longest at texts.old texts.new result };
 }
 
 /// Writes the texts of items one after another, and the place of each. If there is not one answer

@@ -1,5 +1,5 @@
 //! Reading fractions from texts.
-ghost use Rattle.std.specs.Prelude.{◌≡◌, ℕ, List, result_map};
+ghost use Rattle.std.specs.Prelude.{◌≡◌, ℕ, List};
 ghost use Rattle.ratio_c.specs.Calls.{IsReadAnswer, IsWideRefusal, SaysText};
 ghost use Rattle.ratio_c.specs.Crossing.{Said, said_by};
 

@@ -1,9 +1,10 @@
 -- What the calls that print write.
 use Rattle.std.specs.Prelude.{◌≡◌, ◌+◌, ◌*◌, ◌<◌, ◌≤◌, ◌<ℤ◌, ℕ, ℤ, pos, List, [], ◌++◌, length, take, drop, get_or, max, slice_index_or, false}
+use Rattle.std.specs.Fmt.{signed_decimal}
 use Rattle.std.specs.List.{concat}
 use Rattle.ratio_core.specs.Decimal.{IsDecimalOf}
 use Rattle.ratio_core.specs.declared.text.form.Form.TheVariants.{Decimal}
-use Rattle.ratio_core.specs.Printing.{signed_decimal, text_of}
+use Rattle.ratio_core.specs.Printing.{text_of}
 use Rattle.ratio_c.specs.Calls.{Tested}
 use Rattle.ratio_c.specs.Codes.{code_answered, code_bad_option, code_denominator_not_positive, code_zero_denominator, return_bad_length, return_done}
 use Rattle.ratio_c.specs.Crossing.{rule_of}

@@ -6,7 +6,7 @@ use crate::proved::ratio_c::crossing::{Placed, Reply, checked_fields, refused};
 use crate::proved::ratio_c::each::Call;
 use crate::proved::ratio_c::one_fraction::positive;
 use bakhsney::proved::num_rational::{Ratio, Reduced};
-use bakhsney::proved::ratio_integer::Integer;
+use bakhsney::proved::ratio_integer::{Integer, both_held};
 
 /// The convergent at a place, from 0 on: 415/93 has 4/1, 9/2, 58/13 and 415/93.
 #[derive(Clone, Copy)]
@@ -16,7 +16,7 @@ impl<F: Placed, A: Reply<F::Inside>> Call<F, A> for ConvergentAt {
     #[inline(always)]
     fn answer(&self, x: &F) -> A {
         match positive(x) {
-            Some(r) => checked_fields(convergent(&r, x.place())),
+            Some(r) => checked_fields(convergent(r, x.place())),
             None => refused(DENOMINATOR_NOT_POSITIVE),
         }
     }
@@ -28,10 +28,12 @@ impl<F: Placed, A: Reply<F::Inside>> Call<F, A> for ConvergentAt {
 ///
 /// The proof requires of the caller:
 ///
-/// - `pos 0 <ℤ denominator r.now`
+/// - `pos 0 <ℤ denominator r`
 #[inline]
-fn convergent<T: Copy + Integer>(r: &Ratio<T>, place: u32) -> Option<(T, T)> {
-    let lowest = Reduced::from_ratio(r)?;
+fn convergent<T: Copy + Integer>(r: Ratio<T>, place: u32) -> Option<(T, T)> {
+    let (n, d) = r.into_raw();
+    both_held(n, d);
+    let lowest = Reduced::checked_new(n, d)?;
     let found = lowest.convergents().nth(place as usize)?;
     Some(found.into_raw())
 }

@@ -9,6 +9,7 @@ use crate::proved::ratio_c::printing::{Printer, Text, no_text, put_bytes};
 use crate::proved::ratio_c::reading::Reader;
 use bakhsney::proved::ratio_core::DecimalText;
 use bakhsney::proved::ratio_core::text::{DecimalRefusal, decimal, from_decimal};
+use bakhsney::proved::ratio_integer::both_held;
 use core::marker::PhantomData;
 
 /// Prints a fraction as a decimal, with its places and by its rule: 2/3 with 2 places by `RULE_HALF_EVEN` is `0.67`.
@@ -31,7 +32,9 @@ fn decimal_of<F: Pointed>(x: &F) -> Result<DecimalText, u32> {
     match positive(x) {
         Some(r) => match rule_of(x.rule()) {
             Some(rule) if x.places() <= 38 => {
-                Ok(decimal(*r.numer(), *r.denom(), x.places(), rule))
+                let (n, d) = r.into_raw();
+                both_held(n, d);
+                Ok(decimal(n, d, x.places(), rule))
             }
             _ => Err(BAD_OPTION),
         },
@@ -60,7 +63,7 @@ impl<T: Digest> Reader for DecimalTexts<T> {
     #[inline]
     fn read(&self, text: &str) -> Result<(T, T), u32> {
         match from_decimal::<T>(text) {
-            Ok(x) => Ok(x),
+            Ok(x) => Ok((x.0, x.1)),
             Err(DecimalRefusal::NotDecimal) => Err(PARSE_ERROR),
             Err(DecimalRefusal::NotHeld) => Err(NOT_HELD),
         }

@@ -1,10 +1,10 @@
 -- How long a decimal of at most 38 places is.
-use Rattle.std.specs.Prelude.{◌≡◌, ◌*◌, ◌+◌, ◌/◌, ◌^◌, ◌<◌, ◌≤◌, ◌*ℤ◌, ◌-ℤ◌, ◌+ℤ◌, ◌<ℤ◌, ◌≤ℤ◌, ◌∷◌, ◌++◌, ℕ, ℤ, zero, suc, pos, negsuc, unsigned_abs, Bool, true, false, List, length, max}
+use Rattle.std.specs.Prelude.{◌≡◌, ◌*◌, ◌+◌, ◌/◌, ◌^◌, ◌<◌, ◌≤◌, ◌*ℤ◌, ◌-ℤ◌, ◌+ℤ◌, ◌<ℤ◌, ◌∷◌, ℕ, ℤ, zero, suc, pos, negsuc, unsigned_abs, Bool, true, false, List, length, max}
 use Rattle.std.specs.Fmt.{decimal, signed_decimal}
 use Rattle.std.specs.Ordering.{int_eq}
 use Rattle.std.proofs.lemmas.Bool.Decides.{Decides-int_eq}
 use Rattle.std.proofs.lemmas.Fmt.{decimal_digit}
-use Rattle.std.proofs.Common.{refl, sym, ap, arith, ◌∙◌, subst, length-append, pow-suc}
+use Rattle.std.proofs.Common.{refl, ap, arith, ◌∙◌, subst, length-append}
 use Rattle.std.proofs.Math.Nat.{suc-mul, mul_comm, div-le_of_le-mul}
 use Rattle.std.proofs.lemmas.Int.{ints}
 use Rattle.ratio_integer.specs.Range.{IsHeld, IsRange}
@@ -13,7 +13,6 @@ use Rattle.ratio_core.specs.Decimal.{IsDecimalOf, last_digits, places_text, poin
 use Rattle.ratio_core.specs.Printing.{text_of}
 use Rattle.ratio_core.specs.Reading.{minus, slash}
 use Rattle.ratio_core.specs.declared.text.form.Form.TheVariants.{Decimal}
-use Rattle.ratio_core.specs.RoundingRules.{IsRoundedBy}
 use Rattle.ratio_core.specs.declared.rounding_rule.Rounding.{Rounding}
 use Rattle.ratio_c.specs.Texts.{decimal_longest}
 use Rattle.ratio_core.proofs.DigitGroups.{length_group, some_digit}

@@ -1,5 +1,5 @@
 -- The texts that were written so far, and their places.
-use Rattle.std.proofs.Common.{◌≡◌, refl, sym, ◌∙◌, ap, subst, inl, inr, arith, ℕ, suc, ◌+◌, ◌-◌, ◌*◌, ◌<◌, ◌≤◌, List, [], ◌∷◌, ◌++◌, append-nil, append_assoc, length, length-append, max, take, drop, get_or, set, ℤ, pos, negsuc, ◌^◌, eq-zero-or-pos}
+use Rattle.std.proofs.Common.{◌≡◌, refl, sym, ◌∙◌, ap, subst, inl, inr, arith, ℕ, suc, ◌+◌, ◌-◌, ◌*◌, ◌<◌, ◌≤◌, List, [], ◌∷◌, ◌++◌, append-nil, append_assoc, length, length-append, max, take, drop, get_or, set, pos, negsuc, ◌^◌, eq-zero-or-pos}
 use Rattle.std.specs.List.{concat}
 use Rattle.std.proofs.lemmas.List.{drop-drop, drop_at, get_or_append_left, get_or_at, get_or_default, get_or-set_other, get_or-set_same, take-append-drop, take-append-le, take_at}
 use Rattle.std.proofs.lemmas.List.Folds.{concat-append}

@@ -1,4 +1,4 @@
-use Rattle.std.specs.Prelude.{◌≡◌, ◌<ℤ◌, ℤ, ℕ, pos, None, option_map, slice_get}
+use Rattle.std.specs.Prelude.{◌<ℤ◌, ℤ, pos, None, option_map}
 use Rattle.std.proofs.Common.{◌∙◌, ap, refl, subst, sym}
 use Rattle.std.proofs.lemmas.Iterator.Consumers.{YieldsList-from_first, nth_from_yields_List}
 use Rattle.ratio_core.proofs.NumbersExist.{positive_fits}

@@ -76,6 +76,7 @@ pub mod Rounds
 pub mod SameValues
 pub mod ScalingLemmas
 pub mod Shares
+pub mod ShortDecimals
 pub mod SignLemmas
 pub mod SimplestBeginning
 pub mod SimplestEnclosing

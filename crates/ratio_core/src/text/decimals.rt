@@ -1,6 +1,7 @@
 //! Reading a decimal, such as `12.375` or `-1.5e-3`, as a fraction.
 mod cut;
 mod digits;
+mod short;
 mod terms;
 mod value;
 

@@ -6,6 +6,7 @@ ghost use Rattle.ratio_core.specs.DecimalReading.{tens_above, tens_below};
 ghost use Rattle.ratio_core.specs.Reading.{digits_sum};
 
 use crate::text::decimals::digits::{number_after, with_zeros};
+use crate::text::decimals::short::short_lowest;
 use crate::text::decimals::terms::{NOTHING, Terms, digits_before, whole_before, zeros_before};
 
 /// The lowest terms of the digits before and behind a point, times 10 to an exponent, which is negated if `down`. `None` if
@@ -20,6 +21,9 @@ pub(crate) fn lowest(whole: &[u8], part: &[u8], down: bool, exponent: &[u8]) -> 
     match number_after(0, exponent) {
         None => only_zero(whole, part),
         Some(tens) => {
+            if let Some(terms) = short_lowest(whole, part, down, tens) {
+                return Some(terms);
+            }
             if down {
                 point_moved_left(whole, part, tens)
             } else {

@@ -13,6 +13,7 @@ pub mod DecimalTerms
 pub mod DecimalTexts
 pub mod DecimalValues
 pub mod DecimalsReadBack
+pub mod DecimalsReadNear
 pub mod DigitGroups
 pub mod EndLemmas
 pub mod EqualityLaws

@@ -2,6 +2,7 @@
 ghost use Rattle.std.specs.Prelude.{◌≡◌, ◌⊎◌, ◌+◌, ◌/◌, ◌%◌, ◌^◌, ◌<◌, ◌≤◌, ◌∷◌, ◌++◌, [], ℕ, ℤ, List, decimal};
 ghost use Rattle.std.specs.Char.{digit_value};
 ghost use Rattle.std.specs.Int.{IsInRange};
+ghost use Rattle.ratio_core.specs.DecimalLaws.{ReadDecimalsAreNear};
 ghost use Rattle.ratio_core.specs.DecimalReading.{DecimalsHaveOneReading, PrintedDecimalsRead};
 ghost use Rattle.ratio_core.specs.Reading.{IsFractionText, IsNumberText, IsSlashedText};
 
@@ -34,8 +35,10 @@ pub fn one_reading()
         → IsFractionText lo hi text n d → IsFractionText lo hi text m e → (n ≡ m) × (d ≡ e) }
 {}
 
-/// A text is a decimal in at most one way. A printed decimal reads as the multiple that it shows: `0.67` as 67/100.
+/// A text is a decimal in at most one way. A printed decimal reads as the multiple that it shows: `0.67` as 67/100. So what
+/// is read is as near to the fraction that was printed as the rule says: 67/100 is 1/300 away from 2/3.
 pub fn decimals()
     ensures one { DecimalsHaveOneReading }
     ensures printed { PrintedDecimalsRead }
+    ensures near { ReadDecimalsAreNear }
 {}

@@ -39,6 +39,7 @@ pub mod LeadingDigits
 pub mod LongLemmas
 pub mod LowestPowers
 pub mod MixedLemmas
+pub mod MultipleLemmas
 pub mod NearerZero
 pub mod NearestChoice
 pub mod NearestCounting

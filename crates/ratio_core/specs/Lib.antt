@@ -32,3 +32,5 @@ pub mod Simplest
 pub mod SimplestLaws
 pub mod SimplestWithin
 pub mod SimplestWithinLaws
+pub mod TypedTerms
+pub mod TypedText

@@ -1,0 +1,55 @@
+//! The lowest terms of a decimal or a fraction, or of their 100th parts.
+ghost use Rattle.std.specs.Prelude.{◌*◌, ◌^◌, ◌++◌, length};
+ghost use Rattle.std.specs.Str.Parse.{AllDigits};
+ghost use Rattle.ratio_core.specs.DecimalCuts.{ChecksTerms};
+ghost use Rattle.ratio_core.specs.DecimalReading.{HasDecimalParts, tens_above, tens_below};
+ghost use Rattle.ratio_core.specs.Reading.{digits_sum};
+ghost use Rattle.ratio_core.specs.TypedTerms.{AnswersTerms};
+ghost use Rattle.ratio_core.specs.TypedText.{IsShareText, share};
+
+use crate::text::decimals::cut::{DecimalParts, decimal_parts};
+use crate::text::decimals::terms::Terms;
+use crate::text::decimals::value::{lowest, lowest_hundredth};
+use crate::text::typed::TextRefusal;
+use crate::text::typed::cut::quotient_parts;
+use crate::text::typed::terms::{SignedTerms, quotient_terms};
+
+/// The lowest terms of the text, or of its 100th part if `percent`.
+pub(crate) fn plain_terms(text: &[u8], percent: bool) -> Result<SignedTerms, TextRefusal>
+    ensures { AnswersTerms (IsShareText percent text.now) result }
+{
+    match quotient_parts(text) {
+        None => match decimal_parts(text) {
+            None => Err(TextRefusal::NotNumber),
+            Some(parts) => match decimal_terms(parts, percent) {
+                None => Err(TextRefusal::NotHeld),
+                Some(terms) => Ok(SignedTerms {
+                    below: parts.below,
+                    terms,
+                }),
+            },
+        },
+        Some(parts) => match quotient_terms(parts.numer, parts.denom, percent) {
+            Err(refusal) => Err(refusal),
+            Ok(terms) => Ok(SignedTerms {
+                below: parts.below != parts.under,
+                terms,
+            }),
+        },
+    }
+}
+
+// The lowest terms of the parts of a decimal, or of its 100th part if `percent`.
+fn decimal_terms(parts: DecimalParts<'_>, percent: bool) -> Option<Terms>
+    requires whole { AllDigits 10 parts.whole.now }
+    requires part { AllDigits 10 parts.part.now }
+    requires exponent { AllDigits 10 parts.exponent.now }
+    ensures { ChecksTerms (digits_sum 10 (parts.whole.now ++ parts.part.now) * tens_above parts.down (digits_sum 10 parts.exponent.now))
+        (share percent * (10 ^ length parts.part.now * tens_below parts.down (digits_sum 10 parts.exponent.now))) result }
+{
+    if percent {
+        lowest_hundredth(parts.whole, parts.part, parts.down, parts.exponent)
+    } else {
+        lowest(parts.whole, parts.part, parts.down, parts.exponent)
+    }
+}

@@ -92,6 +92,7 @@ pub mod TextLengths
 pub mod Ticks
 pub mod TwoNearest
 pub mod TwosComplement
+pub mod TypedCuts
 pub mod WideRemainders
 pub mod WidthLemmas
 pub mod WithinLemmas

@@ -7,7 +7,7 @@ ghost use Rattle.ratio_core.specs.Reading.{digits_sum};
 ghost use Rattle.ratio_core.specs.TypedTerms.{AnswersTerms};
 ghost use Rattle.ratio_core.specs.TypedText.{IsShareText, share};
 
-use crate::text::decimals::cut::{DecimalParts, decimal_parts};
+use crate::text::decimals::cut::decimal_parts;
 use crate::text::decimals::terms::Terms;
 use crate::text::decimals::value::{lowest, lowest_hundredth};
 use crate::text::typed::TextRefusal;
@@ -21,7 +21,13 @@ pub(crate) fn plain_terms(text: &[u8], percent: bool) -> Result<SignedTerms, Tex
     match quotient_parts(text) {
         None => match decimal_parts(text) {
             None => Err(TextRefusal::NotNumber),
-            Some(parts) => match decimal_terms(parts, percent) {
+            Some(parts) => match decimal_terms(
+                parts.whole,
+                parts.part,
+                parts.down,
+                parts.exponent,
+                percent,
+            ) {
                 None => Err(TextRefusal::NotHeld),
                 Some(terms) => Ok(SignedTerms {
                     below: parts.below,
@@ -39,17 +45,23 @@ pub(crate) fn plain_terms(text: &[u8], percent: bool) -> Result<SignedTerms, Tex
     }
 }
 
-// The lowest terms of the parts of a decimal, or of its 100th part if `percent`.
-fn decimal_terms(parts: DecimalParts<'_>, percent: bool) -> Option<Terms>
-    requires whole { AllDigits 10 parts.whole.now }
-    requires part { AllDigits 10 parts.part.now }
-    requires exponent { AllDigits 10 parts.exponent.now }
-    ensures { ChecksTerms (digits_sum 10 (parts.whole.now ++ parts.part.now) * tens_above parts.down (digits_sum 10 parts.exponent.now))
-        (share percent * (10 ^ length parts.part.now * tens_below parts.down (digits_sum 10 parts.exponent.now))) result }
+// The lowest terms of the digits and the exponent of a decimal, or of its 100th part if `percent`.
+fn decimal_terms(
+    whole: &[u8],
+    part: &[u8],
+    down: bool,
+    exponent: &[u8],
+    percent: bool,
+) -> Option<Terms>
+    requires whole { AllDigits 10 whole.now }
+    requires part { AllDigits 10 part.now }
+    requires exponent { AllDigits 10 exponent.now }
+    ensures { ChecksTerms (digits_sum 10 (whole.now ++ part.now) * tens_above down (digits_sum 10 exponent.now))
+        (share percent * (10 ^ length part.now * tens_below down (digits_sum 10 exponent.now))) result }
 {
     if percent {
-        lowest_hundredth(parts.whole, parts.part, parts.down, parts.exponent)
+        lowest_hundredth(whole, part, down, exponent)
     } else {
-        lowest(parts.whole, parts.part, parts.down, parts.exponent)
+        lowest(whole, part, down, exponent)
     }
 }

@@ -93,6 +93,7 @@ pub mod Ticks
 pub mod TwoNearest
 pub mod TwosComplement
 pub mod TypedCuts
+pub mod TypedValues
 pub mod WideRemainders
 pub mod WidthLemmas
 pub mod WithinLemmas

@@ -75,11 +75,15 @@ fn part_terms(numer: &[u8], denom: &[u8]) -> Result<Terms, TextRefusal>
 {
     match number_after(0, denom) {
         None => Err(TextRefusal::NotHeld),
-        Some(0) => Err(TextRefusal::ZeroDenominator),
-        Some(d) => match number_after(0, numer) {
-            None => Err(TextRefusal::NotHeld),
-            Some(n) => Ok(reduced(n, d)),
-        },
+        Some(d) => {
+            if d == 0 {
+                return Err(TextRefusal::ZeroDenominator);
+            }
+            match number_after(0, numer) {
+                None => Err(TextRefusal::NotHeld),
+                Some(n) => Ok(reduced(n, d)),
+            }
+        }
     }
 }
 

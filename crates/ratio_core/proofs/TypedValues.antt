@@ -13,7 +13,7 @@ use Rattle.ratio_integer.proofs.LowestTerms.{over_one}
 use Rattle.ratio_core.specs.DecimalCuts.{ChecksTerms, ChecksZero, IsWide}
 use Rattle.ratio_core.specs.DecimalReading.{tens_above, tens_below}
 use Rattle.ratio_core.specs.Reading.{digits_sum}
-use Rattle.ratio_core.specs.TypedText.{AreSmall}
+use Rattle.ratio_core.specs.TypedText.{share}
 use Rattle.ratio_core.specs.declared.text.decimals.terms.Terms.{Terms}
 use Rattle.ratio_core.proofs.DecimalDigits.{power_some}
 use Rattle.ratio_core.proofs.DecimalTerms.{denom_least, denom_some, lowest_of, same_products, terms_moved, wide_moved}
@@ -131,3 +131,37 @@ hundredth_wide n d p h lowest is wide = record {
       let least = denom_least n (100 * d) p (d * h) a b (let some = denom_some n d lowest in omega arith) more (hundredth_terms n d p h (d * h) lowest is refl) e in
       omega arith);
 }
+
+-- ---- fractions and mixed numbers
+
+fraction_some : (n d : ℕ) (a b : ℤ) → IsLowestTermsOf (pos n) (pos d) a b → 0 < d
+fraction_some n zero a b is = absurd (is.fraction refl)
+fraction_some n (suc d) a b is = omega arith
+
+hundred_same : (b c p q : ℕ) → b * q ≡ p * c → b * (100 * q) ≡ p * (100 * c)
+hundred_same b c p q same = (let turn : b * (100 * q) ≡ 100 * (b * q) = omega arith in turn) ∙ ap (λ x. 100 * x) same ∙ (omega arith)
+
+pub quotient_wide : (b c p q : ℕ) (percent : Bool) → percent ≡ true → IsLowestTermsOf (pos b) (pos c) (pos p) (pos q) → IsWide p (100 * q) → (0 < share percent * c) × IsWide b (share percent * c)
+quotient_wide b c p q percent true-is is wide =
+    let some = fraction_some b c (pos p) (pos q) is in
+    rw true-is ((omega arith), wide_moved p (100 * q) b (100 * c) (omega arith) (hundred_same b c p q (same_products b c p q is)) wide)
+
+pub quotient_terms : (b c p q u v : ℕ) (percent : Bool) → percent ≡ true → IsLowestTermsOf (pos b) (pos c) (pos p) (pos q) → IsLowestTermsOf (pos p) (pos (100 * q)) (pos u) (pos v)
+    → IsLowestTermsOf (pos b) (pos (share percent * c)) (pos u) (pos v)
+quotient_terms b c p q u v percent true-is is more =
+    let some = fraction_some b c (pos p) (pos q) is in
+    rw true-is (terms_moved p (100 * q) b (100 * c) u v (omega arith) (hundred_same b c p q (same_products b c p q is)) more)
+
+mixed_same : (a b c p q : ℕ) → b * q ≡ p * c → (a * c + b) * q ≡ (a * q + p) * c
+mixed_same a b c p q same = (let spread : (a * c + b) * q ≡ a * q * c + b * q = omega arith in spread) ∙ ap (λ x. a * q * c + x) same ∙ (omega arith)
+
+pub mixed_some : (b c p q : ℕ) → IsLowestTermsOf (pos b) (pos c) (pos p) (pos q) → 0 < c
+mixed_some b c p q is = fraction_some b c (pos p) (pos q) is
+
+pub mixed_wide : (a b c p q number : ℕ) → number ≡ a → IsLowestTermsOf (pos b) (pos c) (pos p) (pos q) → IsWide (number * q + p) q → IsWide (a * c + b) c
+mixed_wide a b c p q number number-is is wide =
+    wide_moved (a * q + p) q (a * c + b) c (fraction_some b c (pos p) (pos q) is) (mixed_same a b c p q (same_products b c p q is)) (rw (← number-is) wide)
+
+pub mixed_terms : (a b c p q number u v : ℕ) → number ≡ a → IsLowestTermsOf (pos b) (pos c) (pos p) (pos q) → IsLowestTermsOf (pos (number * q + p)) (pos q) (pos u) (pos v) → IsLowestTermsOf (pos (a * c + b)) (pos c) (pos u) (pos v)
+mixed_terms a b c p q number u v number-is is more =
+    terms_moved (a * q + p) q (a * c + b) c u v (fraction_some b c (pos p) (pos q) is) (mixed_same a b c p q (same_products b c p q is)) (rw (← number-is) more)

@@ -1,5 +1,5 @@
 -- inner: How a typed text is cut from the left, and the lowest terms of what it says in 128 bits.
-use Rattle.std.specs.Prelude.{◌≡◌, ◌≢◌, ◌<◌, ℕ, ℤ, pos, unsigned_abs, Bool, false, List, length, Option, Some, None, Result, Ok, Err}
+use Rattle.std.specs.Prelude.{◌≡◌, ◌≢◌, ◌<◌, ℕ, ℤ, pos, unsigned_abs, Bool, true, false, not, List, length, Option, Some, None, Result, Ok, Err}
 use Rattle.ratio_integer.specs.Fraction.{IsLowestTermsOf}
 use Rattle.ratio_core.specs.DecimalCuts.{HasNoDigit, IsDigitsCut, IsWide}
 use Rattle.ratio_core.specs.Floats.{with_sign}
@@ -20,6 +20,11 @@ ChecksTyped numbers n d (Ok r) = AreSmall numbers × IsLowestTermsOf (pos n) (po
 ChecksTyped numbers n d (Err NotNumber) = ⊥
 ChecksTyped numbers n d (Err ZeroDenominator) = d ≡ 0
 ChecksTyped numbers n d (Err NotHeld) = (0 < d) × (AreSmall numbers → IsWide n d)
+
+-- one of the two is true, and the other is false
+abbrev pub differ : Bool → Bool → Bool
+differ false other = other
+differ true other = not other
 
 -- some n/d is read, its `numbers` are below 2^128, and a/b is its lowest terms
 pub record ReadsTerms (Reads : ℤ → ℤ → List ℕ → Type 0) (a b : ℤ) : Type 0 where

@@ -1,10 +1,10 @@
 //! The lowest terms of a decimal or a fraction, or of their 100th parts.
-ghost use Rattle.std.specs.Prelude.{◌*◌, ◌^◌, ◌++◌, length};
+ghost use Rattle.std.specs.Prelude.{◌≡◌, ◌*◌, ◌^◌, ◌++◌, length};
 ghost use Rattle.std.specs.Str.Parse.{AllDigits};
 ghost use Rattle.ratio_core.specs.DecimalCuts.{ChecksTerms};
 ghost use Rattle.ratio_core.specs.DecimalReading.{HasDecimalParts, tens_above, tens_below};
 ghost use Rattle.ratio_core.specs.Reading.{digits_sum};
-ghost use Rattle.ratio_core.specs.TypedTerms.{AnswersTerms};
+ghost use Rattle.ratio_core.specs.TypedTerms.{AnswersTerms, differ};
 ghost use Rattle.ratio_core.specs.TypedText.{IsShareText, share};
 
 use crate::text::decimals::cut::decimal_parts;
@@ -38,7 +38,7 @@ pub(crate) fn plain_terms(text: &[u8], percent: bool) -> Result<SignedTerms, Tex
         Some(parts) => match quotient_terms(parts.numer, parts.denom, percent) {
             Err(refusal) => Err(refusal),
             Ok(terms) => Ok(SignedTerms {
-                below: parts.below != parts.under,
+                below: differ(parts.below, parts.under),
                 terms,
             }),
         },
@@ -64,4 +64,11 @@ fn decimal_terms(
     } else {
         lowest(whole, part, down, exponent)
     }
+}
+
+// Whether one of the two is true, and the other is false.
+fn differ(one: bool, other: bool) -> bool
+    ensures { result ≡ differ one other }
+{
+    if one { !other } else { other }
 }

@@ -95,6 +95,7 @@ pub mod TwosComplement
 pub mod TypedAnswers
 pub mod TypedCuts
 pub mod TypedFree
+pub mod TypedLawLemmas
 pub mod TypedValues
 pub mod WideRemainders
 pub mod WidthLemmas

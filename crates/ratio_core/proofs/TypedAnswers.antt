@@ -1,5 +1,5 @@
 -- What reading a typed text returns, from the lowest terms of its parts in 128 bits.
-use Rattle.std.specs.Prelude.{◌≡◌, ◌≢◌, ◌⊎◌, ◌+◌, ◌*◌, ◌^◌, ◌<◌, ◌≤◌, ◌<ℤ◌, ◌+ℤ◌, ◌*ℤ◌, ℕ, ℤ, zero, suc, pos, negsuc, neg_ℤ, unsigned_abs, Bool, true, false, List, [], ◌∷◌, ◌++◌, length, Result, Ok, Err}
+use Rattle.std.specs.Prelude.{◌≡◌, ◌≢◌, ◌+◌, ◌*◌, ◌^◌, ◌<◌, ◌<ℤ◌, ◌*ℤ◌, ℕ, ℤ, zero, suc, pos, negsuc, unsigned_abs, Bool, true, false, List, [], ◌∷◌, ◌++◌, length, Result, Ok, Err}
 use Rattle.std.proofs.Common.{refl, sym, ap, subst, arith, inl, inr, ◌∙◌}
 use Rattle.std.proofs.lemmas.Int.{ints}
 use Rattle.ratio_integer.specs.Fraction.{Fits, IsLowestTermsOf}
@@ -90,9 +90,11 @@ pub quotient_refused : (text : List ℕ) (s : Bool) (ns : List ℕ) (t : Bool) (
     → ChecksTyped (digits_sum 10 ns ∷ digits_sum 10 ds ∷ []) (digits_sum 10 ns) (share percent * digits_sum 10 ds) (Err refusal) → AnswersTerms (IsShareText percent text) (Err refusal)
 quotient_refused text s ns t ds percent NotNumber parts h = absurd h
 quotient_refused text s ns t ds percent ZeroDenominator parts none =
-    let zero_is : pos (share percent) *ℤ with_sign t (digits_sum 10 ds) ≡ pos 0 = base_is (share percent) t (digits_sum 10 ds) ∙ sign_none t (share percent * digits_sum 10 ds) none in
-    (with_sign s (digits_sum 10 ns), digits_sum 10 ns ∷ digits_sum 10 ds ∷ [],
-    subst (λ d. IsShareText percent text (with_sign s (digits_sum 10 ns)) d (digits_sum 10 ns ∷ digits_sum 10 ds ∷ [])) zero_is (quotient_read text s ns t ds percent parts))
+    let zero_is : pos (share percent) *ℤ with_sign t (digits_sum 10 ds) ≡ pos 0 = base_is (share percent) t (digits_sum 10 ds) ∙ sign_none t (share percent * digits_sum 10 ds) none in (
+      with_sign s (digits_sum 10 ns),
+      digits_sum 10 ns ∷ digits_sum 10 ds ∷ [],
+      subst (λ d. IsShareText percent text (with_sign s (digits_sum 10 ns)) d (digits_sum 10 ns ∷ digits_sum 10 ds ∷ [])) zero_is (quotient_read text s ns t ds percent parts),
+    )
 quotient_refused text s ns t ds percent NotHeld parts h =
     let c = share percent * digits_sum 10 ds in
     let size : unsigned_abs (pos (share percent) *ℤ with_sign t (digits_sum 10 ds)) ≡ c = ap unsigned_abs (base_is (share percent) t (digits_sum 10 ds)) ∙ size_is t c in
@@ -115,6 +117,10 @@ scale_some k false false e = let h = power_some k in omega arith
 scale_some k false true e = let h = product_power_some k e in omega arith
 scale_some k true false e = let h = power_some k in omega arith
 scale_some k true true e = let h = product_power_some k e in omega arith
+
+pub decimal_some : (text : List ℕ) (n d : ℤ) → IsDecimalText text n d → d ≢ pos 0
+decimal_some text n d is e =
+    some_not_zero (10 ^ length is.part * tens_below is.down (digits_sum 10 is.exponent)) (let h = scale_some (length is.part) false is.down (digits_sum 10 is.exponent) in omega arith) (sym is.denom ∙ e)
 
 pub decimal_terms_read : (text : List ℕ) (below : Bool) (whole part : List ℕ) (down : Bool) (exponent : List ℕ) (percent : Bool) (p q : ℕ) → HasDecimalParts text below whole part down exponent
     → IsLowestTermsOf (pos (digits_sum 10 (whole ++ part) * tens_above down (digits_sum 10 exponent))) (pos (share percent * (10 ^ length part * tens_below down (digits_sum 10 exponent)))) (pos p) (pos q)
@@ -197,7 +203,7 @@ into Reads Other more less (Err NotNumber) none = less none
 into Reads Other more less (Err ZeroDenominator) is = (is.0, is.1, more is.0 (pos 0) is.1 is.2)
 into Reads Other more less (Err NotHeld) is = record { n = is.n; d = is.d; numbers = is.numbers; reads = more is.n is.d is.numbers is.reads; some = is.some; out = is.out }
 
-last_same : (xs ys : List ℕ) (c : ℕ) → xs ++ c ∷ [] ≡ ys ++ c ∷ [] → xs ≡ ys
+pub last_same : (xs ys : List ℕ) (c : ℕ) → xs ++ c ∷ [] ≡ ys ++ c ∷ [] → xs ≡ ys
 last_same [] [] c e = refl
 last_same [] (y ∷ []) c e = absurd (let h = ap length e in omega arith)
 last_same [] (y ∷ z ∷ ys) c e = absurd (let h = ap length e in omega arith)

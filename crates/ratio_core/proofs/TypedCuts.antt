@@ -1,14 +1,13 @@
 -- A typed text is cut into whole numbers in at most one way.
-use Rattle.std.specs.Prelude.{◌≡◌, ◌<◌, ◌≤◌, ℕ, Bool, List, [], ◌∷◌, ◌++◌, length}
-use Rattle.std.specs.Char.{digit_value}
-use Rattle.std.specs.Str.Parse.{AllDigits, IsNumeral}
+use Rattle.std.specs.Prelude.{◌≡◌, ◌<◌, ℕ, Bool, List, [], ◌∷◌, ◌++◌, length}
+use Rattle.std.specs.Str.Parse.{IsNumeral}
 use Rattle.std.proofs.Common.{refl, sym, ap, subst, arith, ◌∙◌, append-nil, append_assoc}
 use Rattle.std.proofs.lemmas.List.{nil_from_length}
-use Rattle.ratio_core.specs.DecimalCuts.{HasNoDigit, HasNoSign, IsDigitsCut, IsSignCut}
+use Rattle.ratio_core.specs.DecimalCuts.{HasNoDigit, IsDigitsCut, IsSignCut}
 use Rattle.ratio_core.specs.Reading.{slash}
 use Rattle.ratio_core.specs.TypedTerms.{IsSomeDigitsCut}
 use Rattle.ratio_core.specs.TypedText.{HasMixedParts, HasQuotientParts, IsWholeText, space}
-use Rattle.ratio_core.proofs.DecimalTexts.{digits_only, numeral_no_sign, sign_cut, sign_of, sign_only}
+use Rattle.ratio_core.proofs.DecimalTexts.{digits_only, numeral_no_sign, sign_of, sign_only}
 
 -- ---- digits alone
 

@@ -1,8 +1,8 @@
 -- The lowest terms of typed fractions, mixed numbers and percentages in 128 bits.
-use Rattle.std.specs.Prelude.{◌≡◌, ◌+◌, ◌-◌, ◌*◌, ◌^◌, ◌<◌, ◌≤◌, ◌≤ℤ◌, ◌*ℤ◌, ℕ, ℤ, zero, suc, pos, negsuc, unsigned_abs, Bool, true, false, List, [], ◌∷◌, ◌++◌, length, Option, Some, None}
+use Rattle.std.specs.Prelude.{◌≡◌, ◌+◌, ◌-◌, ◌*◌, ◌^◌, ◌<◌, ◌≤◌, ◌≤ℤ◌, ◌*ℤ◌, ℕ, ℤ, zero, suc, pos, negsuc, unsigned_abs, Bool, true, false, List, ◌++◌, length, Option, Some, None}
 use Rattle.std.specs.Int.{◌∣◌, IsGcd}
-use Rattle.std.specs.Str.Parse.{AllDigits, digits_value_after}
-use Rattle.std.proofs.Common.{refl, sym, ap, arith, inl, inr, subst, ◌∙◌}
+use Rattle.std.specs.Str.Parse.{AllDigits}
+use Rattle.std.proofs.Common.{refl, sym, ap, arith, inr, ◌∙◌}
 use Rattle.std.proofs.lemmas.Int.{ints}
 use Rattle.std.proofs.lemmas.Nat.{pow-add}
 use Rattle.std.proofs.Math.Nat.{dvd-mul_right, dvd_trans}
@@ -18,7 +18,6 @@ use Rattle.ratio_core.specs.declared.text.decimals.terms.Terms.{Terms}
 use Rattle.ratio_core.proofs.DecimalDigits.{power_some}
 use Rattle.ratio_core.proofs.DecimalTerms.{denom_least, denom_some, lowest_of, same_products, terms_moved, wide_moved}
 use Rattle.ratio_core.proofs.DecimalValues.{checks_moved, far_left, far_right, product_power_some, sum_small}
-use Rattle.ratio_core.proofs.NumberLemmas.{digits_value_sum}
 
 -- ---- the 100th part of a decimal
 

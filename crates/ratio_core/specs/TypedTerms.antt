@@ -1,7 +1,7 @@
 -- inner: How a typed text is cut from the left, and the lowest terms of what it says in 128 bits.
-use Rattle.std.specs.Prelude.{◌≡◌, ◌≢◌, ◌<◌, ℕ, ℤ, pos, unsigned_abs, Bool, true, false, not, List, length, Option, Some, None, Result, Ok, Err}
+use Rattle.std.specs.Prelude.{◌≡◌, ◌≢◌, ◌<◌, ℕ, ℤ, pos, unsigned_abs, Bool, true, false, not, List, length, Result, Ok, Err}
 use Rattle.ratio_integer.specs.Fraction.{IsLowestTermsOf}
-use Rattle.ratio_core.specs.DecimalCuts.{HasNoDigit, IsDigitsCut, IsWide}
+use Rattle.ratio_core.specs.DecimalCuts.{IsDigitsCut, IsWide}
 use Rattle.ratio_core.specs.Floats.{with_sign}
 use Rattle.ratio_core.specs.TypedText.{AreSmall}
 use Rattle.ratio_core.specs.declared.text.decimals.terms.Terms.{Terms}

@@ -115,7 +115,3 @@ AnswersTyped numer denom lo hi text (Ok r) = ReadsTyped lo hi text (numer r) (de
 AnswersTyped numer denom lo hi text (Err NotNumber) = (n d : ℤ) (numbers : List ℕ) → ¬ (IsTypedText text n d numbers)
 AnswersTyped numer denom lo hi text (Err ZeroDenominator) = (n : ℤ) × (numbers : List ℕ) × IsTypedText text n (pos 0) numbers
 AnswersTyped numer denom lo hi text (Err NotHeld) = TypedNotHeld lo hi text
-
--- each text is read in at most one way
-abbrev pub TypedTextsHaveOneReading : Type 0
-TypedTextsHaveOneReading = (text : List ℕ) (n d m e : ℤ) (numbers others : List ℕ) → IsTypedText text n d numbers → IsTypedText text m e others → (n ≡ m) × (d ≡ e) × (numbers ≡ others)

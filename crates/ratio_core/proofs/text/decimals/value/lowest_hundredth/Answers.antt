@@ -1,5 +1,5 @@
 use Rattle.std.specs.Prelude.{◌-◌, ◌^◌, ◌++◌, length}
-use Rattle.std.proofs.Common.{arith, subst, sym, ◌∙◌}
+use Rattle.std.proofs.Common.{arith}
 use Rattle.ratio_core.specs.Reading.{digits_sum}
 use Rattle.ratio_core.proofs.DecimalDigits.{power_some}
 use Rattle.ratio_core.proofs.DecimalValues.{product_power_some}

@@ -1,4 +1,3 @@
-use Rattle.std.proofs.Common.{arith}
 use Rattle.ratio_core.specs.Reading.{digits_sum}
 use Rattle.ratio_core.proofs.TypedValues.{quotient_terms, quotient_wide}
 use Rattle.ratio_core.proofs.text.typed.terms.quotient_terms.Goals as goal

@@ -95,6 +95,11 @@ pub mod TextLengths
 pub mod Ticks
 pub mod TwoNearest
 pub mod TwosComplement
+pub mod TypedAnswers
+pub mod TypedCuts
+pub mod TypedFree
+pub mod TypedLawLemmas
+pub mod TypedValues
 pub mod WideRemainders
 pub mod WidthLemmas
 pub mod WithinLemmas

@@ -32,3 +32,6 @@ pub mod Simplest
 pub mod SimplestLaws
 pub mod SimplestWithin
 pub mod SimplestWithinLaws
+pub mod TypedLaws
+pub mod TypedTerms
+pub mod TypedText

@@ -5,6 +5,7 @@ ghost use Rattle.std.specs.Int.{IsInRange};
 ghost use Rattle.ratio_core.specs.DecimalLaws.{ReadDecimalsAreNear};
 ghost use Rattle.ratio_core.specs.DecimalReading.{DecimalsHaveOneReading, PrintedDecimalsRead};
 ghost use Rattle.ratio_core.specs.Reading.{IsFractionText, IsNumberText, IsSlashedText};
+ghost use Rattle.ratio_core.specs.TypedLaws.{DecimalsAreTyped, FractionsAreTyped, TypedTextsHaveOneReading, WideDecimalsAreTyped};
 
 /// What a byte is worth as a digit: 0 to 9 for `0` to `9`, and 10 to 35 for the letters in either case. The
 /// value of any other byte is not below 36. No radix is above 36, so such a byte is no digit.
@@ -41,4 +42,13 @@ pub fn decimals()
     ensures one { DecimalsHaveOneReading }
     ensures printed { PrintedDecimalsRead }
     ensures near { ReadDecimalsAreNear }
+{}
+
+/// A typed text is read in at most one way. `from_text` agrees with `from_decimal` on every decimal, and with `from_str` on
+/// every text from which this returns a fraction.
+pub fn typed_texts()
+    ensures one { TypedTextsHaveOneReading }
+    ensures decimals { DecimalsAreTyped }
+    ensures wide_decimals { WideDecimalsAreTyped }
+    ensures fractions { FractionsAreTyped }
 {}

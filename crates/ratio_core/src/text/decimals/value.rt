@@ -33,7 +33,37 @@ pub(crate) fn lowest(whole: &[u8], part: &[u8], down: bool, exponent: &[u8]) -> 
     }
 }
 
-// The same for an exponent of 2^128 or more. No number but 0 has one that fits.
+/// The same, divided by 100: the exponent is 2 lower.
+pub(crate) fn lowest_hundredth(
+    whole: &[u8],
+    part: &[u8],
+    down: bool,
+    exponent: &[u8],
+) -> Option<Terms>
+    requires whole { AllDigits 10 whole.now }
+    requires part { AllDigits 10 part.now }
+    requires exponent { AllDigits 10 exponent.now }
+    ensures { ChecksTerms (digits_sum 10 (whole.now ++ part.now) * tens_above down (digits_sum 10 exponent.now))
+        (100 * (10 ^ length part.now * tens_below down (digits_sum 10 exponent.now))) result }
+{
+    match number_after(0, exponent) {
+        None => only_zero(whole, part),
+        Some(tens) => {
+            if down {
+                match tens.checked_add(2) {
+                    None => only_zero(whole, part),
+                    Some(more) => point_moved_left(whole, part, more),
+                }
+            } else if tens < 2 {
+                point_moved_left(whole, part, 2 - tens)
+            } else {
+                point_moved_right(whole, part, tens - 2)
+            }
+        }
+    }
+}
+
+// The lowest terms of the digits for an exponent of 2^128 or more. No number but 0 has one that fits.
 fn only_zero(whole: &[u8], part: &[u8]) -> Option<Terms>
     requires whole { AllDigits 10 whole.now }
     requires part { AllDigits 10 part.now }

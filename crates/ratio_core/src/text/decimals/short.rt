@@ -12,8 +12,8 @@ ghost use Rattle.ratio_core.specs.Reading.{digits_sum};
 use crate::text::decimals::digits::digit_at;
 use crate::text::decimals::terms::Terms;
 
-/// The lowest terms of the digits before and behind a point, times 10 to `tens`, or over it if `down`. It is `None` if the number of
-/// the digits does not fit 64 bits, or if the moved point has more than 19 digits behind it, or is behind the last digit.
+/// The lowest terms of the digits before and behind a point, times 10 to `tens`, or over it if `down`. `None` says nothing about the
+/// digits: their number may not fit 64 bits, or the moved point may have more than 19 digits behind it, or zeros before it.
 pub(crate) fn short_lowest(whole: &[u8], part: &[u8], down: bool, tens: u128) -> Option<Terms>
     requires whole { AllDigits 10 whole.now }
     requires part { AllDigits 10 part.now }
@@ -26,7 +26,7 @@ pub(crate) fn short_lowest(whole: &[u8], part: &[u8], down: bool, tens: u128) ->
     Some(short_terms(number, places))
 }
 
-// How many digits there are behind a point that is moved by `tens`, if these are at most 19 and the point stays among the digits.
+// How many digits are behind a point that is moved by `tens`. `None` says nothing: there may be more than 19, or zeros before it.
 fn places_behind(places: usize, down: bool, tens: u128) -> Option<u32>
     ensures few { IfSome result (λ k. k ≤ 19) }
     ensures power { IfSome result (λ k. 10 ^ places * tens_below down tens ≡ 10 ^ k * tens_above down tens) }

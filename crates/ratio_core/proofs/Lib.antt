@@ -29,6 +29,7 @@ pub mod Floored
 pub mod Following
 pub mod FractionOrder
 pub mod FromQuotientsLemmas
+pub mod GapLemmas
 pub mod HalfEvenLemmas
 pub mod HashLaws
 pub mod Hashing
@@ -63,6 +64,7 @@ pub mod PrintingLemmas
 pub mod ProductLemmas
 pub mod ProductOrder
 pub mod Quotients
+pub mod RationalizeLemmas
 pub mod ReadingBack
 pub mod ReadingExists
 pub mod ReciprocalLemmas

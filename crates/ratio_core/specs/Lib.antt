@@ -22,6 +22,8 @@ pub mod Power
 pub mod PowerLaws
 pub mod Precision
 pub mod Printing
+pub mod Rationalize
+pub mod Rationalizing
 pub mod Reading
 pub mod Refusal
 pub mod Rounding

@@ -30,19 +30,29 @@ enum { RATIO_DONE = 0, RATIO_BAD_LENGTH = 1 };
  */
 enum {
     RATIO_ANSWERED = 0,
-    RATIO_NOT_HELD = 1,                 /* the answer does not fit in the type */
+    RATIO_NOT_HELD = 1,                 /* the answer does not fit in the type, or there is none: no fraction within the bounds of
+                                           between, or no convergent at the place */
     RATIO_DIVISION_BY_ZERO = 2,         /* of div and rem, and of pow for 0 to an exponent below 0 */
     RATIO_DENOMINATOR_NOT_POSITIVE = 3, /* of all others */
     RATIO_ZERO_DENOMINATOR = 4,         /* of compare, equal, hash, reduce and print, which take negative ones, and of read */
     RATIO_PARSE_ERROR = 5,              /* of read: no fraction, or not even 128 bits are enough for it. If 128 bits are enough, but
-                                           not those of the type, the code is RATIO_NOT_HELD */
-    RATIO_NO_TEXT = 6,                  /* of read: the span does not lie in the texts */
+                                           not those of the type, the code is RATIO_NOT_HELD. Of read_decimal: no decimal */
+    RATIO_NO_TEXT = 6,                  /* of read and read_decimal: the span does not lie in the texts */
     RATIO_BOUND_NOT_POSITIVE = 7,       /* of nearest: no denominator lies from 1 to the bound */
     RATIO_NO_TOTAL = 8,                 /* of totals: the code is 0, but the sum is not in lowest terms */
-    RATIO_BAD_OPTION = 9                /* of between, from_scaled and round_to: the call has no such flags, scale, parts or rule */
+    RATIO_BAD_OPTION = 9                /* of between, from_scaled, round_to and print_decimal: the call has no such flags, scale,
+                                           parts, places or rule */
 };
 
-/* The rules of round_to. */
+/* The flags of between, which are added. Without flags both bounds are excluded. */
+enum {
+    RATIO_LOW_INCLUDED = 1,  /* the lower bound may be the answer */
+    RATIO_HIGH_INCLUDED = 2, /* the upper bound may be the answer */
+    RATIO_LOW_OPEN = 4,      /* there is no lower bound: its fields are not read */
+    RATIO_HIGH_OPEN = 8      /* there is no upper bound: its fields are not read */
+};
+
+/* The rules of round_to and print_decimal. */
 enum {
     RATIO_RULE_HALF_AWAY = 0, /* to the nearer multiple, and a half away from zero: 5/2 to 3 */
     RATIO_RULE_HALF_EVEN = 1, /* to the nearer one, and a half to the even one: 5/2 to 2 */
@@ -64,6 +74,9 @@ typedef struct { uint32_t code; uint32_t holds; } ratio_truth;
 /* A hash: the same for fractions of one value. */
 typedef struct { uint32_t code; uint64_t hash; } ratio_hash;
 
+/* A float. */
+typedef struct { uint32_t code; double value; } ratio_float;
+
 /* A key for sorting: 64 bits. */
 typedef struct { uint32_t code; int64_t key; } ratio_key;
 
@@ -75,6 +88,9 @@ typedef struct { uint32_t code; ratio_span span; } ratio_text;
 
 /* How many bytes print requires for each fraction of a type. */
 enum { RATIO_ROOM_I32 = 23, RATIO_ROOM_I64 = 41, RATIO_ROOM_I128 = 81 };
+
+/* How many bytes print_decimal requires for each: a number, a point and 38 places. */
+enum { RATIO_DECIMAL_ROOM_I32 = 50, RATIO_DECIMAL_ROOM_I64 = 59, RATIO_DECIMAL_ROOM_I128 = 79 };
 
 /* A decimal as databases keep it: the value is the number by 10^scale. 1250 with the scale 2 is 12.50. */
 typedef struct { ratio_wide number; int32_t scale; } ratio_scaled;
@@ -102,10 +118,23 @@ typedef struct { ratio_wide number; int32_t scale; } ratio_scaled;
  *                        RATIO_PARSE_ERROR, and 2147483648/3, which needs more than 32 bits, gives RATIO_NOT_HELD
  *   ratio_print_i32      each fraction as it is, N/D, or N if D is 1, one text after another. With fewer than RATIO_ROOM_I32 bytes
  *                        for each fraction it returns RATIO_BAD_LENGTH. Nothing is written behind the last text
- *   ratio_between_i32    the simplest fraction between two bounds: of all fractions strictly between, the one with the smallest
- *                        denominator, and of these the one whose numerator is nearest to 0. 1/3 and 1/2 give 2/5. If the type has no
- *                        fraction there, as between 1/2 and 1/2, it gives RATIO_NOT_HELD. The flags are for bounds that may be taken:
- *                        only 0, for neither, has a meaning yet, and others give RATIO_BAD_OPTION
+ *   ratio_between_i32    the simplest fraction between two bounds: of all fractions there, the one with the smallest denominator, and
+ *                        of these the one whose numerator is nearest to 0. 1/3 and 1/2 give 2/5. A bound may be included or open, by
+ *                        a flag: with RATIO_HIGH_INCLUDED they give 1/2, and from 1/3 with RATIO_HIGH_OPEN it is 1/1. If the type
+ *                        has no fraction there, as between 1/2 and 1/2, it gives RATIO_NOT_HELD. A bound that is both included and
+ *                        open, or any other flag, gives RATIO_BAD_OPTION
+ *   ratio_convergent_i32  the convergent at a place: the fraction of the first quotients of the continued fraction, one at place 0.
+ *                        415/93 has 4/1, 9/2, 58/13 and 415/93. At place 4 and above it gives RATIO_NOT_HELD
+ *   ratio_from_f64_i32   the lowest terms of exactly the value of a float: 3/4 for 0.75. They give RATIO_NOT_HELD if they do not fit, as
+ *                        those of 0.1, and so does an infinity or a NaN
+ *   ratio_to_f64_i32     the float nearest to each fraction: 0.3333333333333333 for 1/3. Of two that are as near, it is the one whose
+ *                        last bit is 0
+ *   ratio_read_decimal_i32   the fraction of each decimal of the bytes that a span names, in lowest terms: 99/8 for 12.375, and -3/2000
+ *                        for -1.5e-3. 1.2.3 gives RATIO_PARSE_ERROR, and 1e10, which needs more than 32 bits, RATIO_NOT_HELD
+ *   ratio_print_decimal_i32  each fraction as a decimal with exactly so many places, rounded by a rule, one text after another: 0.67 for
+ *                        2/3 with 2 places by RATIO_RULE_HALF_EVEN. More than 38 places, or a rule that is none, give
+ *                        RATIO_BAD_OPTION. With fewer than RATIO_DECIMAL_ROOM_I32 bytes for each fraction the call returns
+ *                        RATIO_BAD_LENGTH. Nothing is written behind the last text
  *   ratio_round_to_i32   the multiple of 1/parts that a rule says, in lowest terms, or RATIO_NOT_HELD if they do not fit: 67/100 for
  *                        2/3 and 100 parts by RATIO_RULE_HALF_EVEN. Parts below 1, or a rule that is none, give RATIO_BAD_OPTION
  *   ratio_from_scaled_i32  the lowest terms of a decimal, or RATIO_NOT_HELD if they do not fit: 25/2 for 1250 with the scale 2. A
@@ -117,8 +146,10 @@ typedef struct { ratio_wide number; int32_t scale; } ratio_scaled;
     typedef struct { ratio_##suffix left, right; } ratio_pair_##suffix;                    \
     typedef struct { ratio_##suffix base; int32_t exponent; } ratio_power_##suffix;        \
     typedef struct { ratio_##suffix value; number most; } ratio_bounded_##suffix;          \
+    typedef struct { ratio_##suffix value; uint32_t place; } ratio_place_##suffix;         \
     typedef struct { ratio_##suffix low, high; uint32_t flags; } ratio_bounds_##suffix;    \
     typedef struct { ratio_##suffix value; number parts; uint32_t rule; } ratio_multiple_##suffix; \
+    typedef struct { ratio_##suffix value; uint32_t places, rule; } ratio_decimal_##suffix; \
     typedef struct { uint32_t code; ratio_##suffix value; } ratio_answer_##suffix;         \
     uint32_t ratio_compare_##suffix(const ratio_pair_##suffix *asked, size_t asked_len,    \
                                     ratio_order *answers, size_t answers_len);             \
@@ -156,6 +187,12 @@ typedef struct { ratio_wide number; int32_t scale; } ratio_scaled;
                                     ratio_answer_##suffix *answers, size_t answers_len);   \
     uint32_t ratio_between_##suffix(const ratio_bounds_##suffix *asked, size_t asked_len,  \
                                     ratio_answer_##suffix *answers, size_t answers_len);   \
+    uint32_t ratio_convergent_##suffix(const ratio_place_##suffix *asked, size_t asked_len, \
+                                       ratio_answer_##suffix *answers, size_t answers_len); \
+    uint32_t ratio_from_f64_##suffix(const double *asked, size_t asked_len,                \
+                                     ratio_answer_##suffix *answers, size_t answers_len);  \
+    uint32_t ratio_to_f64_##suffix(const ratio_##suffix *asked, size_t asked_len,          \
+                                   ratio_float *answers, size_t answers_len);              \
     uint32_t ratio_round_to_##suffix(const ratio_multiple_##suffix *asked, size_t asked_len, \
                                      ratio_answer_##suffix *answers, size_t answers_len);  \
     uint32_t ratio_from_scaled_##suffix(const ratio_scaled *asked, size_t asked_len,       \
@@ -163,9 +200,15 @@ typedef struct { ratio_wide number; int32_t scale; } ratio_scaled;
     uint32_t ratio_read_##suffix(const uint8_t *texts, size_t texts_len,                   \
                                  const ratio_span *spans, size_t spans_len,                \
                                  ratio_answer_##suffix *answers, size_t answers_len);      \
+    uint32_t ratio_read_decimal_##suffix(const uint8_t *texts, size_t texts_len,           \
+                                         const ratio_span *spans, size_t spans_len,        \
+                                         ratio_answer_##suffix *answers, size_t answers_len); \
     uint32_t ratio_print_##suffix(const ratio_##suffix *asked, size_t asked_len,           \
                                   uint8_t *texts, size_t texts_len,                        \
-                                  ratio_text *answers, size_t answers_len);
+                                  ratio_text *answers, size_t answers_len);                \
+    uint32_t ratio_print_decimal_##suffix(const ratio_decimal_##suffix *asked, size_t asked_len, \
+                                          uint8_t *texts, size_t texts_len,                \
+                                          ratio_text *answers, size_t answers_len);
 
 RATIO_CALLS(i32, int32_t)
 RATIO_CALLS(i64, int64_t)
@@ -247,6 +290,7 @@ static_assert(sizeof(ratio_wide) == 16, "the size of ratio_wide");
 static_assert(sizeof(ratio_order) == 8, "the size of ratio_order");
 static_assert(sizeof(ratio_truth) == 8, "the size of ratio_truth");
 static_assert(sizeof(ratio_hash) == 16, "the size of ratio_hash");
+static_assert(sizeof(ratio_float) == 16, "the size of ratio_float");
 static_assert(sizeof(ratio_key) == 16, "the size of ratio_key");
 static_assert(sizeof(ratio_span) == 16, "the size of ratio_span");
 static_assert(sizeof(ratio_text) == 24, "the size of ratio_text");
@@ -256,6 +300,8 @@ static_assert(sizeof(ratio_pair_i32) == 16, "the size of ratio_pair_i32");
 static_assert(sizeof(ratio_power_i32) == 12, "the size of ratio_power_i32");
 static_assert(sizeof(ratio_bounded_i32) == 12, "the size of ratio_bounded_i32");
 static_assert(sizeof(ratio_multiple_i32) == 16, "the size of ratio_multiple_i32");
+static_assert(sizeof(ratio_decimal_i32) == 16, "the size of ratio_decimal_i32");
+static_assert(sizeof(ratio_place_i32) == 12, "the size of ratio_place_i32");
 static_assert(sizeof(ratio_bounds_i32) == 20, "the size of ratio_bounds_i32");
 static_assert(sizeof(ratio_answer_i32) == 12, "the size of ratio_answer_i32");
 static_assert(sizeof(ratio_i64) == 16, "the size of ratio_i64");
@@ -263,6 +309,8 @@ static_assert(sizeof(ratio_pair_i64) == 32, "the size of ratio_pair_i64");
 static_assert(sizeof(ratio_power_i64) == 24, "the size of ratio_power_i64");
 static_assert(sizeof(ratio_bounded_i64) == 24, "the size of ratio_bounded_i64");
 static_assert(sizeof(ratio_multiple_i64) == 32, "the size of ratio_multiple_i64");
+static_assert(sizeof(ratio_decimal_i64) == 24, "the size of ratio_decimal_i64");
+static_assert(sizeof(ratio_place_i64) == 24, "the size of ratio_place_i64");
 static_assert(sizeof(ratio_bounds_i64) == 40, "the size of ratio_bounds_i64");
 static_assert(sizeof(ratio_answer_i64) == 24, "the size of ratio_answer_i64");
 static_assert(sizeof(ratio_i128) == 32, "the size of ratio_i128");
@@ -270,6 +318,8 @@ static_assert(sizeof(ratio_pair_i128) == 64, "the size of ratio_pair_i128");
 static_assert(sizeof(ratio_power_i128) == 40, "the size of ratio_power_i128");
 static_assert(sizeof(ratio_bounded_i128) == 48, "the size of ratio_bounded_i128");
 static_assert(sizeof(ratio_multiple_i128) == 56, "the size of ratio_multiple_i128");
+static_assert(sizeof(ratio_decimal_i128) == 40, "the size of ratio_decimal_i128");
+static_assert(sizeof(ratio_place_i128) == 40, "the size of ratio_place_i128");
 static_assert(sizeof(ratio_bounds_i128) == 72, "the size of ratio_bounds_i128");
 static_assert(sizeof(ratio_answer_i128) == 40, "the size of ratio_answer_i128");
 static_assert(sizeof(ratio_total_i64) == 48, "the size of ratio_total_i64");

@@ -12,6 +12,12 @@ static const ratio_span spans[4] = {
     {.start = 0, .end = 3}, {.start = 3, .end = 4}, {.start = 4, .end = 7}, {.start = 7, .end = 9},
 };
 
+/* A decimal, a text that is none, one that fits no type, and a span behind them. */
+static const uint8_t decimals[] = "12.3751.2.3-1e99";
+static const ratio_span decimal_spans[4] = {
+    {.start = 0, .end = 6}, {.start = 6, .end = 11}, {.start = 11, .end = 16}, {.start = 16, .end = 17},
+};
+
 static void expect(int holds, const char *what) {
     if (!holds) {
         printf("wrong: %s\n", what);
@@ -30,7 +36,7 @@ static void expect(int holds, const char *what) {
 #define ANSWER(N, n, d) {.code = RATIO_ANSWERED, .value = FRACTION(N, n, d)}
 
 /* Each call on 3/2 and -1/4, and on fractions that are refused. */
-#define EVERY_CALL(suffix, N, IS_BELOW_0, room)                                                      \
+#define EVERY_CALL(suffix, N, IS_BELOW_0, room, decimal_room)                                        \
     static void every_call_##suffix(void) {                                                          \
         static const ratio_pair_##suffix pair = PAIR(N, 3, 2, -1, 4);                                \
         static const ratio_pair_##suffix turned = PAIR(N, -1, 4, 3, 2);                              \
@@ -42,7 +48,19 @@ static void expect(int holds, const char *what) {
         static const ratio_pair_##suffix same = PAIR(N, 2, 4, -1, -2);                               \
         static const ratio_bounds_##suffix inside = {.low = FRACTION(N, 1, 3), .high = FRACTION(N, 1, 2), .flags = 0};\
         static const ratio_bounds_##suffix empty = {.low = FRACTION(N, 1, 2), .high = FRACTION(N, 2, 4), .flags = 0};\
-        static const ratio_bounds_##suffix flagged = {.low = FRACTION(N, 1, 3), .high = FRACTION(N, 1, 2), .flags = 1};\
+        static const ratio_bounds_##suffix high_taken = {.low = FRACTION(N, 1, 3), .high = FRACTION(N, 1, 2), .flags = RATIO_HIGH_INCLUDED},\
+            low_taken = {.low = FRACTION(N, 1, 2), .high = FRACTION(N, 3, 5), .flags = RATIO_LOW_INCLUDED},\
+            no_high = {.low = FRACTION(N, 5, 2), .high = FRACTION(N, 0, 0), .flags = RATIO_HIGH_OPEN},\
+            no_low = {.low = FRACTION(N, 0, 0), .high = FRACTION(N, -5, 2), .flags = RATIO_LOW_OPEN | RATIO_HIGH_INCLUDED},\
+            both_ways = {.low = FRACTION(N, 1, 3), .high = FRACTION(N, 1, 2), .flags = RATIO_LOW_OPEN | RATIO_LOW_INCLUDED},\
+            flagged = {.low = FRACTION(N, 1, 3), .high = FRACTION(N, 1, 2), .flags = 16};            \
+        static const ratio_place_##suffix second = {.value = FRACTION(N, 830, 186), .place = 1},     \
+            fourth = {.value = FRACTION(N, 415, 93), .place = 3}, fifth = {.value = FRACTION(N, 415, 93), .place = 4},\
+            nothing = {.value = FRACTION(N, 1, -2), .place = 0};                                     \
+        static const ratio_answer_##suffix second_is = ANSWER(N, 9, 2), fourth_is = ANSWER(N, 415, 93);\
+        static const double exact = -0.75, huge = 1e300;                                             \
+        static const ratio_answer_##suffix exact_is = ANSWER(N, -3, 4), eighths = ANSWER(N, 99, 8);  \
+        ratio_float real[2];                                                                         \
         static const ratio_bounds_##suffix loose_bounds = {.low = FRACTION(N, 1, 3), .high = FRACTION(N, 1, -2), .flags = 0};\
         static const ratio_multiple_##suffix cents = {.value = FRACTION(N, 2, 3), .parts = N(100), .rule = RATIO_RULE_HALF_EVEN},\
             tie = {.value = FRACTION(N, 5, 2), .parts = N(1), .rule = RATIO_RULE_HALF_AWAY},         \
@@ -53,6 +71,13 @@ static void expect(int holds, const char *what) {
             upper = {.value = FRACTION(N, 5, 2), .parts = N(1), .rule = RATIO_RULE_CEIL},            \
             no_rule = {.value = FRACTION(N, 2, 3), .parts = N(100), .rule = 6},                      \
             no_parts = {.value = FRACTION(N, 2, 3), .parts = N(0), .rule = RATIO_RULE_UP};           \
+        static const ratio_decimal_##suffix prices[5] = {{.value = FRACTION(N, 2, 3), .places = 2, .rule = RATIO_RULE_HALF_EVEN},\
+            {.value = FRACTION(N, 1, -2), .places = 2, .rule = RATIO_RULE_UP},                       \
+            {.value = FRACTION(N, -1, 8), .places = 1, .rule = RATIO_RULE_DOWN},                     \
+            {.value = FRACTION(N, 1, 8), .places = 39, .rule = RATIO_RULE_DOWN},                     \
+            {.value = FRACTION(N, 1, 8), .places = 1, .rule = 6}};                                   \
+        uint8_t written[5 * RATIO_DECIMAL_ROOM_I128];                                                \
+        ratio_text price_at[5];                                                                      \
         static const ratio_answer_##suffix hundredths = ANSWER(N, 67, 100), three = ANSWER(N, 3, 1), \
             two = ANSWER(N, 2, 1), minus_two = ANSWER(N, -2, 1), minus_three = ANSWER(N, -3, 1);     \
         static const ratio_scaled price = {.number = {.low = 1250}, .scale = 2}, below = {.number = {.low = 5}, .scale = -1},\
@@ -107,8 +132,22 @@ static void expect(int holds, const char *what) {
         REFUSES(suffix, nearest, nowhere, RATIO_BOUND_NOT_POSITIVE)                                  \
         GIVES(suffix, between, inside, simplest)                                                     \
         REFUSES(suffix, between, empty, RATIO_NOT_HELD)                                              \
+        GIVES(suffix, between, high_taken, half)                                                     \
+        GIVES(suffix, between, low_taken, half)                                                      \
+        GIVES(suffix, between, no_high, three)                                                       \
+        GIVES(suffix, between, no_low, minus_three)                                                  \
+        REFUSES(suffix, between, both_ways, RATIO_BAD_OPTION)                                        \
         REFUSES(suffix, between, flagged, RATIO_BAD_OPTION)                                          \
         REFUSES(suffix, between, loose_bounds, RATIO_DENOMINATOR_NOT_POSITIVE)                       \
+        GIVES(suffix, convergent, second, second_is)                                                 \
+        GIVES(suffix, convergent, fourth, fourth_is)                                                 \
+        REFUSES(suffix, convergent, fifth, RATIO_NOT_HELD)                                           \
+        REFUSES(suffix, convergent, nothing, RATIO_DENOMINATOR_NOT_POSITIVE)                         \
+        GIVES(suffix, from_f64, exact, exact_is)                                                     \
+        REFUSES(suffix, from_f64, huge, RATIO_NOT_HELD)                                              \
+        expect(ratio_to_f64_##suffix(loose, 2, real, 2) == RATIO_DONE, "to_f64 " #suffix);           \
+        expect(real[0].code == RATIO_DENOMINATOR_NOT_POSITIVE && real[0].value == 0, "no float " #suffix);\
+        expect(real[1].code == RATIO_ANSWERED && real[1].value == -1.5, "float " #suffix);           \
         GIVES(suffix, round_to, cents, hundredths)                                                   \
         GIVES(suffix, round_to, tie, three)                                                          \
         GIVES(suffix, round_to, even, two)                                                           \
@@ -134,6 +173,18 @@ static void expect(int holds, const char *what) {
         expect(text[0].code == RATIO_ANSWERED && text[0].span.start == 0 && text[0].span.end == 4, "first " #suffix);\
         expect(text[1].code == RATIO_ZERO_DENOMINATOR && text[1].span.start == text[1].span.end, "second " #suffix);\
         expect(text[2].code == RATIO_ANSWERED && text[2].span.start == 4 && text[2].span.end == 6, "third " #suffix);\
+        expect(ratio_print_decimal_##suffix(prices, 5, written, 5 * (decimal_room) - 1, price_at, 5) == RATIO_BAD_LENGTH, "decimal room " #suffix);\
+        expect(ratio_print_decimal_##suffix(prices, 5, written, 5 * (decimal_room), price_at, 5) == RATIO_DONE, "print_decimal " #suffix);\
+        expect(memcmp(written, "0.67-0.1", 8) == 0, "printed decimals " #suffix);                    \
+        expect(price_at[0].code == RATIO_ANSWERED && price_at[0].span.end == 4, "first decimal " #suffix);\
+        expect(price_at[1].code == RATIO_DENOMINATOR_NOT_POSITIVE && price_at[1].span.end == 4, "second decimal " #suffix);\
+        expect(price_at[2].code == RATIO_ANSWERED && price_at[2].span.start == 4 && price_at[2].span.end == 8, "third decimal " #suffix);\
+        expect(price_at[3].code == RATIO_BAD_OPTION && price_at[3].span.start == 8, "fourth decimal " #suffix);\
+        expect(price_at[4].code == RATIO_BAD_OPTION && price_at[4].span.end == 8, "fifth decimal " #suffix);\
+        expect(ratio_read_decimal_##suffix(decimals, sizeof decimals - 1, decimal_spans, 4, read, 4) == RATIO_DONE, "read_decimal " #suffix);\
+        expect(SAME(read[0], eighths), "read decimal " #suffix);                                     \
+        expect(read[1].code == RATIO_PARSE_ERROR && read[2].code == RATIO_NOT_HELD, "no decimals " #suffix);\
+        expect(read[3].code == RATIO_NO_TEXT, "no decimal text " #suffix);                           \
         GIVES(suffix, pow, power, raised)                                                            \
         REFUSES(suffix, pow, zero, RATIO_DIVISION_BY_ZERO)                                           \
         expect(ratio_add_##suffix(&pair, 1, answer, 2) == RATIO_BAD_LENGTH, "length " #suffix);      \
@@ -152,9 +203,9 @@ static void expect(int holds, const char *what) {
     expect(ratio_##name##_##suffix(&asked, 1, answer, 1) == RATIO_DONE, #name " " #suffix);          \
     expect(answer[0].code == wanted, #name " code " #suffix);
 
-EVERY_CALL(i32, PLAIN, IS_PLAIN_BELOW_0, RATIO_ROOM_I32)
-EVERY_CALL(i64, PLAIN, IS_PLAIN_BELOW_0, RATIO_ROOM_I64)
-EVERY_CALL(i128, WIDE, IS_WIDE_BELOW_0, RATIO_ROOM_I128)
+EVERY_CALL(i32, PLAIN, IS_PLAIN_BELOW_0, RATIO_ROOM_I32, RATIO_DECIMAL_ROOM_I32)
+EVERY_CALL(i64, PLAIN, IS_PLAIN_BELOW_0, RATIO_ROOM_I64, RATIO_DECIMAL_ROOM_I64)
+EVERY_CALL(i128, WIDE, IS_WIDE_BELOW_0, RATIO_ROOM_I128, RATIO_DECIMAL_ROOM_I128)
 
 /* The numerator is -2^64-1: the upper half is -2, and the lower half 2^64-1. */
 static void wide_halves(void) {
@@ -214,6 +265,20 @@ static void casts(void) {
     expect(ratio_cast_i128_to_i64(&wide, 1, answer, 1) == RATIO_DONE && SAME(answer[0], low), "cast 128 to 64 bits");
     expect(ratio_cast_i32_to_i128(&narrow, 1, widened, 1) == RATIO_DONE && SAME(widened[0], wide_low), "cast 32 to 128 bits");
     expect(ratio_cast_i64_to_i128(&half, 1, widened, 1) == RATIO_DONE && SAME(widened[0], wide_low), "cast 64 to 128 bits");
+}
+
+/* A tenth as a float is not 1/10, and needs more than 32 bits. */
+static void floats(void) {
+    static const double tenth = 0.1;
+    static const ratio_i64 third = {1, 3}, most = {INT64_MAX, 1};
+    static const ratio_answer_i64 near = {RATIO_ANSWERED, {INT64_C(3602879701896397), INT64_C(36028797018963968)}};
+    ratio_answer_i64 answer[1];
+    ratio_answer_i32 narrow;
+    ratio_float real;
+    GIVES(i64, from_f64, tenth, near)
+    expect(ratio_from_f64_i32(&tenth, 1, &narrow, 1) == RATIO_DONE && narrow.code == RATIO_NOT_HELD, "tenth of 32 bits");
+    expect(ratio_to_f64_i64(&third, 1, &real, 1) == RATIO_DONE && real.value == 1.0 / 3, "float of a third");
+    expect(ratio_to_f64_i64(&most, 1, &real, 1) == RATIO_DONE && real.value == 9223372036854775808.0, "float of 2^63-1");
 }
 
 /* Three shares of a whole: in two parts, merged, and without the last one again. */
@@ -283,6 +348,7 @@ int main(void) {
     wide_halves();
     sums_that_fit();
     casts();
+    floats();
     lowest_hashes();
     totals();
     keys();

@@ -1,5 +1,8 @@
 pub mod Places
 pub mod PrintedTexts
+pub mod DecimalRooms
+pub mod Convergents
+pub mod SimplestSaid
 pub mod Hashes
 pub mod LowestHashes
 pub mod Cases

@@ -1,6 +1,7 @@
 -- What a call answers for fractions, which are pairs of whole numbers here, and what a call over slices does.
-use Rattle.std.specs.Prelude.{◌≡◌, ◌≢◌, ◌==◌, ◌<ℤ◌, ◌≤ℤ◌, ◌<◌, ◌≤◌, ◌^◌, ℕ, ℤ, pos, negsuc, neg_ℤ, ◌-◌, unsigned_abs, Bool, List, length, Option, MatchBool, Result, Ok, Err, fold, slice_range}
+use Rattle.std.specs.Prelude.{◌≡◌, ◌≢◌, ◌==◌, ◌<ℤ◌, ◌≤ℤ◌, ◌<◌, ◌≤◌, ◌^◌, ℕ, ℤ, pos, negsuc, neg_ℤ, ◌-◌, unsigned_abs, Bool, List, length, Option, MatchBool, Result, Ok, Err, fold, slice_get, slice_range}
 use Rattle.std.specs.List.{AllZip}
+use Rattle.std.specs.Float.{Float, binary64, float_zero}
 use Rattle.std.specs.Str.{IsUtf8}
 use Rattle.ratio_core.specs.Reading.{AnswersText, IsFractionText}
 use Rattle.ratio_core.specs.declared.parse_error.RatioErrorKind.{RatioErrorKind}
@@ -9,13 +10,18 @@ use Rattle.ratio_integer.specs.Arithmetic.{difference_of, product_of, quotient_o
 use Rattle.ratio_integer.specs.Fraction.{AnswersLowest, ChecksLowest, SameValue}
 use Rattle.ratio_core.specs.Conditions.{RemainderCondition}
 use Rattle.ratio_core.specs.ContinuedFraction.{IsCodesOf}
+use Rattle.ratio_core.specs.DecimalReading.{AnswersDecimal}
+use Rattle.ratio_core.specs.Floats.{fraction_of_float, nearest_float}
 use Rattle.ratio_core.specs.Nearest.{IsNearest}
 use Rattle.ratio_core.specs.Order.{cross_cmp}
 use Rattle.ratio_core.specs.Power.{ChecksBoth, ChecksPower}
 use Rattle.ratio_core.specs.RoundingRules.{ChecksRounded}
-use Rattle.ratio_core.specs.Simplest.{ChecksSimplest}
+use Rattle.ratio_core.specs.SimplestWithin.{ChecksSimplestWithin}
+use Rattle.ratio_core.specs.declared.text.decimals.DecimalRefusal.{DecimalRefusal}
+use Rattle.num_rational.specs.ContinuedFractions.{AreConvergents}
+use Rattle.ratio_c.specs.Bounds.{AreFlags, HavePositiveDenominators, flagged_high, flagged_low}
 use Rattle.ratio_core.specs.Rounding.{IsCeiling, IsFloor, IsRounded, IsTruncation}
-use Rattle.ratio_c.specs.Crossing.{Said, Says, code_of_wide, mixed, order_number, refused, rule_of}
+use Rattle.ratio_c.specs.Crossing.{Said, Says, code_of_wide, mixed, order_number, refused, rule_of, said_of_decimal}
 use Rattle.ratio_c.specs.Codes.{code_answered, code_bad_option, code_bound_not_positive, code_denominator_not_positive, code_division_by_zero, code_no_text, code_parse_error, code_zero_denominator, return_bad_length, return_done}
 
 -- Each answer is right for the item at its place, and the call returns 0. If the slices have unlike lengths, it returns 1 and writes nothing.
@@ -126,11 +132,34 @@ pub record SaysNearest (x : ℤ × ℤ) (most : ℤ) (answer : Said) : Type 0 wh
 abbrev pub IsNearestAnswer : ℤ × ℤ → ℤ → Said → Type 0
 IsNearestAnswer x most answer = OfOne x answer (Tested (pos 0 <ℤ most) (SaysNearest x most answer) (answer ≡ refused code_bound_not_positive))
 
--- The simplest fraction strictly between two bounds, if the type has one between them. Flags other than 0 are no option yet. For example,
--- 1/3 and 1/2 give 2/5.
+-- The simplest fraction within two bounds, if the type has one there. The flags say which bounds are included, and which are open. The
+-- numbers of an open one do not matter. For example, 1/3 and 1/2 give 2/5, and with both included 1/2.
 abbrev pub IsBetweenAnswer : ℤ → ℤ → ℤ × ℤ → ℤ × ℤ → ℕ → Said → Type 0
 IsBetweenAnswer lo hi x y flags answer =
-    OfPositive x y answer (Tested (flags ≡ 0) (Says (ChecksSimplest (λ z. z) lo hi x.0 x.1 y.0 y.1) answer) (answer ≡ refused code_bad_option))
+    let low = flagged_low flags x in
+    let high = flagged_high flags y in
+    Tested (HavePositiveDenominators low high)
+    (Tested (AreFlags flags) (Says (ChecksSimplestWithin (λ z. z) lo hi low high) answer) (answer ≡ refused code_bad_option))
+    (answer ≡ refused code_denominator_not_positive)
+
+-- the convergent of x at a place, from 0 on, and `None` if there are not so many. For example, 415/93 has 4/1, 9/2, 58/13 and 415/93
+pub record ChecksConvergent (x : ℤ × ℤ) (place : ℕ) (result : Option (ℤ × ℤ)) : Type 0 where
+  pub convergents : List (ℤ × ℤ)
+  pub are : AreConvergents x.0 x.1 convergents
+  pub is : result ≡ slice_get convergents place
+
+-- The convergent at a place, if there are so many.
+abbrev pub IsConvergentAnswer : ℤ × ℤ → ℕ → Said → Type 0
+IsConvergentAnswer x place answer = OfOne x answer (Says (ChecksConvergent x place) answer)
+
+-- The lowest terms of exactly the value of a float, if these fit. For example, 0.75 gives 3/4, and 1/0 has none.
+abbrev pub IsFromFloatAnswer : ℤ → ℤ → Float → Said → Type 0
+IsFromFloatAnswer lo hi value answer = Says (ChecksLowest (λ z. z.0) (λ z. z.1) lo hi (fraction_of_float value)) answer
+
+-- The float nearest to a fraction with a positive denominator. For example, 1/3 gives 0.3333333333333333.
+abbrev pub IsToFloatAnswer : ℤ × ℤ → ℕ → Float → Type 0
+IsToFloatAnswer x code value =
+    Tested (pos 0 <ℤ x.1) ((code ≡ code_answered) × (value ≡ nearest_float binary64 x.0 x.1)) ((code ≡ code_denominator_not_positive) × (value ≡ float_zero))
 
 -- The multiple of 1/parts that a rule says, in lowest terms, if these fit, for a positive number of parts and a rule from 0 to 5. For
 -- example, 2/3 to 100 by the rule 1 gives 67/100.
@@ -188,8 +217,15 @@ pub record SaysText (lo hi : ℤ) (text : List ℕ) (answer : Said) : Type 0 whe
   pub is_read : AnswersText (λ z. z.0) (λ z. z.1) lo hi (IsFractionText lo hi text) read
   pub is_said : SaysRead text read answer
 
+-- The answer says what a text reads as a decimal: its fraction in lowest terms, or the code of its refusal. For example, `12.375` gives
+-- 99/8, `1.2.3` has the code `code_parse_error`, and over 32 bits `1e10` has the code `code_not_held`.
+pub record SaysDecimal (lo hi : ℤ) (text : List ℕ) (answer : Said) : Type 0 where
+  pub read : Result (ℤ × ℤ) DecimalRefusal
+  pub is_read : AnswersDecimal (λ z. z.0) (λ z. z.1) lo hi text read
+  pub is_said : answer ≡ said_of_decimal read
+
 -- The text from `start` to `end` is read, if it lies in `texts`. Otherwise the code is `code_no_text`. A text that is not UTF-8 is a parse error.
-abbrev pub IsReadAnswer : ℤ → ℤ → List ℕ → ℕ → ℕ → Said → Type 0
-IsReadAnswer lo hi texts start end answer =
+abbrev pub IsReadAnswer : (List ℕ → Said → Type 0) → List ℕ → ℕ → ℕ → Said → Type 0
+IsReadAnswer SaysText texts start end answer =
     let text = slice_range texts start end in
-    Tested ((start ≤ end) × (end ≤ length texts)) (Tested (IsUtf8 text) (SaysText lo hi text answer) (answer ≡ refused code_parse_error)) (answer ≡ refused code_no_text)
+    Tested ((start ≤ end) × (end ≤ length texts)) (Tested (IsUtf8 text) (SaysText text answer) (answer ≡ refused code_parse_error)) (answer ≡ refused code_no_text)

@@ -39,6 +39,19 @@ code_no_total = 8
 abbrev pub code_bad_option : ℕ
 code_bad_option = 9
 
+-- the flags of two bounds, each a power of two
+abbrev pub code_low_included : ℕ
+code_low_included = 1
+
+abbrev pub code_high_included : ℕ
+code_high_included = 2
+
+abbrev pub code_low_open : ℕ
+code_low_open = 4
+
+abbrev pub code_high_open : ℕ
+code_high_open = 8
+
 -- the numbers of the rules by which a fraction is rounded
 abbrev pub code_rule_half_away : ℕ
 code_rule_half_away = 0
@@ -68,6 +81,16 @@ room64 = 41
 
 abbrev pub room128 : ℕ
 room128 = 81
+
+-- the same for a call that prints decimals with at most 38 places: `-2147483648.` and 38 digits are 50 bytes
+abbrev pub decimal_room32 : ℕ
+decimal_room32 = 50
+
+abbrev pub decimal_room64 : ℕ
+decimal_room64 = 59
+
+abbrev pub decimal_room128 : ℕ
+decimal_room128 = 79
 
 -- a hash is multiplied by this before it takes the next code
 abbrev pub hash_multiplier : ℕ

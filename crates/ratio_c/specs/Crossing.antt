@@ -5,6 +5,8 @@ use Rattle.std.specs.declared.cmp.Ordering.{Ordering}
 use Rattle.std.specs.declared.cmp.Ordering.TheVariants.{Less, Equal, Greater}
 use Rattle.ratio_core.specs.declared.parse_error.RatioErrorKind.{RatioErrorKind}
 use Rattle.ratio_core.specs.declared.parse_error.RatioErrorKind.TheVariants.{ParseError, ZeroDenominator}
+use Rattle.ratio_core.specs.declared.text.decimals.DecimalRefusal.{DecimalRefusal}
+use Rattle.ratio_core.specs.declared.text.decimals.DecimalRefusal.TheVariants.{NotDecimal, NotHeld}
 use Rattle.ratio_core.specs.declared.rounding_rule.Rounding.{Rounding}
 use Rattle.ratio_core.specs.declared.rounding_rule.Rounding.TheVariants.{HalfAway, HalfEven, Down, Up, Floor, Ceil}
 use Rattle.ratio_c.specs.declared.wide.Wide.{Wide}
@@ -53,6 +55,17 @@ abbrev pub code_of_wide : Result (ℤ × ℤ) RatioErrorKind → ℕ
 code_of_wide (Ok x) = code_not_held
 code_of_wide (Err ParseError) = code_parse_error
 code_of_wide (Err ZeroDenominator) = code_zero_denominator
+
+-- what the answer says of a result, or of the code of a refusal
+abbrev pub said_by : {T : Type 0} → (T → ℤ) → Result (T × T) ℕ → Said
+said_by value (Ok x) = (code_answered, (value x.0, value x.1))
+said_by value (Err code) = refused code
+
+-- what the answer says of a decimal that was read
+abbrev pub said_of_decimal : Result (ℤ × ℤ) DecimalRefusal → Said
+said_of_decimal (Ok x) = (code_answered, x)
+said_of_decimal (Err NotDecimal) = refused code_parse_error
+said_of_decimal (Err NotHeld) = refused code_not_held
 
 -- the rule of a number from 0 to 5
 abbrev pub rule_of : ℕ → Rounding

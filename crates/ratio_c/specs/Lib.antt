@@ -1,5 +1,6 @@
 pub mod Codes
 pub mod Crossing
+pub mod Bounds
 pub mod Calls
 pub mod Texts
 pub mod Numbers32

@@ -1,41 +1,57 @@
 -- What the calls that print write.
-use Rattle.std.specs.Prelude.{◌≡◌, ◌+◌, ◌*◌, ◌<◌, ◌≤◌, ℕ, ℤ, pos, List, [], ◌++◌, length, take, drop, slice_index_or, if◌then◌else◌, false}
-use Rattle.std.specs.List.{flat_map}
-use Rattle.std.specs.Ordering.{int_eq}
+use Rattle.std.specs.Prelude.{◌≡◌, ◌+◌, ◌*◌, ◌<◌, ◌≤◌, ◌<ℤ◌, ℕ, ℤ, pos, List, [], ◌++◌, length, take, drop, get_or, max, slice_index_or, false}
+use Rattle.std.specs.Fmt.{signed_decimal}
+use Rattle.std.specs.List.{concat}
+use Rattle.ratio_core.specs.Decimal.{IsDecimalOf}
 use Rattle.ratio_core.specs.declared.text.form.Form.TheVariants.{Decimal}
 use Rattle.ratio_core.specs.Printing.{text_of}
 use Rattle.ratio_c.specs.Calls.{Tested}
-use Rattle.ratio_c.specs.Codes.{code_answered, code_zero_denominator, return_bad_length, return_done}
+use Rattle.ratio_c.specs.Codes.{code_answered, code_bad_option, code_denominator_not_positive, code_zero_denominator, return_bad_length, return_done}
+use Rattle.ratio_c.specs.Crossing.{rule_of}
 use Rattle.ratio_c.specs.declared.printing.Text.{Text}
 
--- What is printed of a fraction: its two numbers, not reduced, and nothing if the denominator is 0. For example, 2/4 is printed as `2/4`.
-abbrev pub shown : ℕ → ℤ × ℤ → List ℕ
-shown bits x = if int_eq x.1 (pos 0) then [] else text_of bits Decimal false x.0 x.1
+-- The code and the text of a fraction: its two numbers, not reduced, if the denominator is not 0. For example, 2/4 is printed as `2/4`.
+abbrev pub ShowsFields : ℕ → ℤ × ℤ → ℕ → List ℕ → Type 0
+ShowsFields bits x code text =
+    Tested (x.1 ≡ pos 0) ((code ≡ code_zero_denominator) × (text ≡ [])) ((code ≡ code_answered) × (text ≡ text_of bits Decimal false x.0 x.1))
 
--- the code says whether the denominator is 0
-abbrev pub shown_code : ℤ × ℤ → ℕ
-shown_code x = if int_eq x.1 (pos 0) then code_zero_denominator else code_answered
+-- The code and the text of a fraction as a decimal, with a positive denominator, at most 38 places and a rule from 0 to 5. For example, 2/3
+-- with two places by the rule 1 is printed as `0.67`.
+abbrev pub ShowsDecimal : ℤ × ℤ → ℕ → ℕ → ℕ → List ℕ → Type 0
+ShowsDecimal x places rule code text =
+    Tested (pos 0 <ℤ x.1)
+    (Tested ((places ≤ 38) × (rule < 6)) ((code ≡ code_answered) × IsDecimalOf (rule_of rule) places x.0 x.1 text) ((code ≡ code_bad_option) × (text ≡ [])))
+    ((code ≡ code_denominator_not_positive) × (text ≡ []))
 
--- the answer has this code, and the places where the text of the fraction starts and ends
-pub record IsTextAnswer (bits at : ℕ) (x : ℤ × ℤ) (answer : Text) : Type 0 where
-  pub code : answer.code ≡ shown_code x
+-- The length of the longest decimal of a type: the longer one of its least and its greatest number, a point and 38 digits. For 32 bits it is 50.
+abbrev pub decimal_longest : ℤ → ℤ → ℕ
+decimal_longest lo hi = max (length (signed_decimal lo)) (length (signed_decimal hi)) + 39
+
+-- the answer's code and this text are right for an item, and its span begins at a place and has the text's length
+pub record IsTextAnswer (Shows : ℕ → List ℕ → Type 0) (at : ℕ) (text : List ℕ) (answer : Text) : Type 0 where
+  pub shows : Shows answer.code text
   pub start : answer.span.start ≡ at
-  pub end : answer.span.end ≡ at + length (shown bits x)
+  pub end : answer.span.end ≡ at + length text
 
--- the texts of all fractions, one after another
-abbrev pub all_shown : {A : Type 0} → ℕ → (A → ℤ × ℤ) → List A → List ℕ
-all_shown bits fraction asked = flat_map (λ x. shown bits (fraction x)) asked
+-- Each item has a text. All are written from the first byte on, one after another, and the bytes behind them are unchanged. Each answer's
+-- span starts behind the texts before its own. So the bytes in it are its item's text.
+pub record ArePrinted {A : Type 0} (Shows : A → ℕ → List ℕ → Type 0) (asked : List A) (old new : List ℕ) (answers : List Text) : Type 0 where
+  pub texts : List (List ℕ)
+  pub written : new ≡ concat texts ++ drop (length (concat texts)) old
+  pub as_many : (length texts ≡ length asked) × (length asked ≡ length answers)
+  pub each : (k : ℕ) → k < length asked → (x : A) (answer : Text)
+      → IsTextAnswer (Shows (slice_index_or asked k x)) (length (concat (take k texts))) (get_or texts k []) (slice_index_or answers k answer)
 
--- All texts are written from the first byte on, and the bytes behind them are unchanged. Each answer's span starts behind the texts of all fractions
--- before its own. So the bytes in it are its fraction's text.
-pub record ArePrinted {A : Type 0} (bits : ℕ) (fraction : A → ℤ × ℤ) (asked : List A) (old new : List ℕ) (answers : List Text) : Type 0 where
-  pub texts : new ≡ all_shown bits fraction asked ++ drop (length (all_shown bits fraction asked)) old
-  pub as_many : length asked ≡ length answers
-  pub each : (k : ℕ) → k < length asked → (x : A) (answer : Text) → IsTextAnswer bits (length (all_shown bits fraction (take k asked))) (fraction (slice_index_or asked k x)) (slice_index_or answers k answer)
-
--- If there is one answer for each fraction, and `room` bytes for each, the texts are printed and the call returns 0.
--- Otherwise it returns 1 and writes nothing.
-abbrev pub Prints : {A : Type 0} → ℕ → ℕ → (A → ℤ × ℤ) → List A → List ℕ → List ℕ → List Text → List Text → ℕ → Type 0
-Prints bits room fraction asked old new places answers result =
-    Tested ((length asked ≡ length places) × (length asked * room ≤ length old)) ((result ≡ return_done) × ArePrinted bits fraction asked old new answers)
+-- If there is one answer for each item, and `room` bytes for each, the texts are printed and the call returns 0. Otherwise it
+-- returns 1 and writes nothing.
+abbrev pub Prints : {A : Type 0} → (A → ℕ → List ℕ → Type 0) → ℕ → List A → List ℕ → List ℕ → List Text → List Text → ℕ → Type 0
+Prints Shows room asked old new places answers result =
+    Tested ((length asked ≡ length places) × (length asked * room ≤ length old)) ((result ≡ return_done) × ArePrinted Shows asked old new answers)
     ((result ≡ return_bad_length) × (new ≡ old) × (answers ≡ places))
+
+-- inner: an item's text of at most `longest` bytes is written at a place, and the other bytes are unchanged
+pub record IsTextPut (Shows : ℕ → List ℕ → Type 0) (longest at : ℕ) (old new : List ℕ) (answer : Text) : Type 0 where
+  pub text : List ℕ
+  pub is : IsTextAnswer Shows at text answer
+  pub short : length text ≤ longest
+  pub written : new ≡ take at old ++ (text ++ drop answer.span.end old)

@@ -28,8 +28,20 @@ pub const BOUND_NOT_POSITIVE: u32 = 7;
 /// A total's code is 0, but its sum is not in lowest terms.
 pub const NO_TOTAL: u32 = 8;
 
-/// The call has no such rule, number of parts, scale or flags.
+/// The call has no such rule, number of parts or of places, scale or flags.
 pub const BAD_OPTION: u32 = 9;
+
+/// The lower bound is included.
+pub const LOW_INCLUDED: u32 = 1;
+
+/// The upper bound is included.
+pub const HIGH_INCLUDED: u32 = 2;
+
+/// There is no lower bound.
+pub const LOW_OPEN: u32 = 4;
+
+/// There is no upper bound.
+pub const HIGH_OPEN: u32 = 8;
 
 /// The rule that rounds to the nearer one, and a half away from zero.
 pub const RULE_HALF_AWAY: u32 = 0;

@@ -76,6 +76,15 @@ pub trait Raised: OneFraction {
         ensures { result ≡ exponent self.now };
 }
 
+/// A fraction and the place of one of its convergents.
+pub trait Placed: OneFraction {
+    ghost place: { Self → ℕ };
+
+    /// The place.
+    fn place(&self) -> u32
+        ensures { result ≡ place self.now };
+}
+
 /// A fraction and a bound of denominators.
 pub trait Bounded: OneFraction {
     ghost most: { Self → ℤ };
@@ -103,7 +112,7 @@ pub trait TwoFractions {
         ensures { (Self.Inside.value result.0, Self.Inside.value result.1) ≡ right self.now };
 }
 
-/// Two bounds, and flags that say which of them is taken.
+/// Two bounds, and flags that say which of them is included, and which is open.
 pub trait FlaggedBounds: TwoFractions {
     ghost flags: { Self → ℕ };
 
@@ -112,19 +121,31 @@ pub trait FlaggedBounds: TwoFractions {
         ensures { result ≡ flags self.now };
 }
 
-/// A fraction, a number of parts of 1, and the number of a rule.
-pub trait Parted: OneFraction {
-    ghost parts: { Self → ℤ };
-
+/// A fraction and the number of a rule by which it is rounded.
+pub trait Ruled: OneFraction {
     ghost rule: { Self → ℕ };
-
-    /// The parts, as the library takes them.
-    fn parts(&self) -> Self::Inside
-        ensures { Self.Inside.value result ≡ parts self.now };
 
     /// The number of the rule.
     fn rule(&self) -> u32
         ensures { result ≡ rule self.now };
+}
+
+/// The same with a number of parts of 1.
+pub trait Parted: Ruled {
+    ghost parts: { Self → ℤ };
+
+    /// The parts, as the library takes them.
+    fn parts(&self) -> Self::Inside
+        ensures { Self.Inside.value result ≡ parts self.now };
+}
+
+/// The same with a number of decimal places.
+pub trait Pointed: Ruled {
+    ghost places: { Self → ℕ };
+
+    /// The places.
+    fn places(&self) -> u32
+        ensures { result ≡ places self.now };
 }
 
 /// An answer: a code, and the two numbers of a fraction over `T`.

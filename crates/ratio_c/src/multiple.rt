@@ -36,7 +36,7 @@ impl<F: Parted, A: Reply<F::Inside>> Call<F, A> for RoundingTo {
 }
 
 /// The rule of a number, or `None` if there is no such rule.
-fn rule_of(number: u32) -> Option<Rounding>
+pub fn rule_of(number: u32) -> Option<Rounding>
     ensures { MatchOption result (6 ≤ number) (λ rule. (number < 6) × (rule ≡ rule_of number)) }
 {
     match number {

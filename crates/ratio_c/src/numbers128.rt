@@ -1,34 +1,43 @@
 // Written by templates/write from templates/numbers.rt.txt: change that file, and write this one anew.
 //! Fractions of `i128` and the exports over them.
 ghost use Rattle.std.specs.Prelude.{false};
-ghost use Rattle.ratio_c.specs.Calls.{AnswersEach, IsAbsoluteAnswer, IsBetweenAnswer, IsCastAnswer, IsCeilingAnswer, IsDifferenceAnswer, IsEqualAnswer, IsFloorAnswer, IsHashAnswer, IsLowestAnswer, IsNearestAnswer, IsNegationAnswer, IsOrderAnswer, IsPowerAnswer, IsProductAnswer, IsQuotientAnswer, IsReadAnswer, IsRemainderAnswer, IsRoundAnswer, IsRoundToAnswer, IsScaledAnswer, IsSumAnswer, IsTruncationAnswer};
-ghost use Rattle.ratio_c.specs.Codes.{room128};
+ghost use Rattle.ratio_c.specs.Calls.{AnswersEach, IsAbsoluteAnswer, IsBetweenAnswer, IsCastAnswer, IsCeilingAnswer, IsConvergentAnswer, IsDifferenceAnswer, IsEqualAnswer, IsFloorAnswer, IsFromFloatAnswer, IsHashAnswer, IsLowestAnswer, IsNearestAnswer, IsNegationAnswer, IsOrderAnswer, IsPowerAnswer, IsProductAnswer, IsQuotientAnswer, IsReadAnswer, IsRemainderAnswer, IsRoundAnswer, IsRoundToAnswer, IsScaledAnswer, IsSumAnswer, IsToFloatAnswer, IsTruncationAnswer, SaysDecimal, SaysText};
+ghost use Rattle.ratio_c.specs.Codes.{decimal_room128, room128};
 ghost use Rattle.ratio_c.specs.Crossing.{wide_number};
 ghost use Rattle.ratio_c.specs.Numbers128.{fraction128, greatest128, least128, said128};
 ghost use Rattle.ratio_c.specs.Numbers32.{greatest32, least32, said32};
 ghost use Rattle.ratio_c.specs.Numbers64.{greatest64, least64, said64};
-ghost use Rattle.ratio_c.specs.Texts.{Prints};
+ghost use Rattle.ratio_c.specs.Texts.{Prints, ShowsDecimal, ShowsFields};
 
 use crate::arithmetic::{Difference, Product, Quotient, Remainder, Sum};
 use crate::between::Between;
 use crate::cast::Casting;
 use crate::compare::{Comparison, Equality, Order, Truth};
-use crate::crossing::{Bounded, FlaggedBounds, OneFraction, Parted, Raised, Reply, TwoFractions};
+use crate::convergent::ConvergentAt;
+use crate::crossing::{
+    Bounded, FlaggedBounds, OneFraction, Parted, Placed, Pointed, Raised, Reply, Ruled,
+    TwoFractions,
+};
+use crate::decimal::{DecimalTexts, Decimals};
 use crate::each::each;
+use crate::floats::{Float, FromFloat, ToFloat};
 use crate::hash::{Hash, Hashing};
 use crate::multiple::RoundingTo;
 use crate::nearest::Nearest;
 use crate::numbers32::Answer32;
 use crate::numbers64::Answer64;
 use crate::one_fraction::{Ceiling, Floor, LowestTerms, Raising, Rounding, Truncation};
-use crate::printing::{Text, print};
-use crate::reading::{Reading, Span};
+use crate::printing::{Fields, Text, print};
+use crate::reading::{Fractions, Reading, Span};
 use crate::scaled::{Scaled, Scaling};
 use crate::sign::{Absolute, Negation};
 use crate::wide::Wide;
 
 /// The room for a text: a slash, and two numbers of at most 40 bytes.
 pub const ROOM: usize = 81;
+
+/// The room for a decimal: a number of at most 40 bytes, a point and 38 digits.
+pub const DECIMAL_ROOM: usize = 79;
 
 /// A fraction as its two numbers.
 #[repr(C)]
@@ -62,7 +71,15 @@ pub struct Bounded128 {
     pub most: Wide,
 }
 
-/// The bounds of a fraction, and flags that say which of them is taken.
+/// A fraction and the place of one of its convergents.
+#[repr(C)]
+#[derive(Drop)]
+pub struct Place128 {
+    pub value: Fraction128,
+    pub place: u32,
+}
+
+/// The bounds of a fraction, and flags that say which of them is included, and which is open.
 #[repr(C)]
 #[derive(Drop)]
 pub struct Bounds128 {
@@ -77,6 +94,15 @@ pub struct Bounds128 {
 pub struct Multiple128 {
     pub value: Fraction128,
     pub parts: Wide,
+    pub rule: u32,
+}
+
+/// A fraction, a number of decimal places, and the rule by which it is rounded to so many.
+#[repr(C)]
+#[derive(Drop)]
+pub struct Decimal128 {
+    pub value: Fraction128,
+    pub places: u32,
     pub rule: u32,
 }
 
@@ -139,6 +165,26 @@ impl Bounded for Bounded128 {
     }
 }
 
+impl OneFraction for Place128 {
+    type Inside = i128;
+
+    ghost fraction = { λ x. fraction128 x.value };
+
+    #[inline(always)]
+    fn fraction(&self) -> (i128, i128) {
+        (self.value.numer.number(), self.value.denom.number())
+    }
+}
+
+impl Placed for Place128 {
+    ghost place = { λ x. x.place };
+
+    #[inline(always)]
+    fn place(&self) -> u32 {
+        self.place
+    }
+}
+
 impl OneFraction for Multiple128 {
     type Inside = i128;
 
@@ -150,19 +196,50 @@ impl OneFraction for Multiple128 {
     }
 }
 
+impl Ruled for Multiple128 {
+    ghost rule = { λ x. x.rule };
+
+    #[inline(always)]
+    fn rule(&self) -> u32 {
+        self.rule
+    }
+}
+
 impl Parted for Multiple128 {
     ghost parts = { λ x. (wide_number x.parts) };
-
-    ghost rule = { λ x. x.rule };
 
     #[inline(always)]
     fn parts(&self) -> i128 {
         self.parts.number()
     }
+}
+
+impl OneFraction for Decimal128 {
+    type Inside = i128;
+
+    ghost fraction = { λ x. fraction128 x.value };
+
+    #[inline(always)]
+    fn fraction(&self) -> (i128, i128) {
+        (self.value.numer.number(), self.value.denom.number())
+    }
+}
+
+impl Ruled for Decimal128 {
+    ghost rule = { λ x. x.rule };
 
     #[inline(always)]
     fn rule(&self) -> u32 {
         self.rule
+    }
+}
+
+impl Pointed for Decimal128 {
+    ghost places = { λ x. x.places };
+
+    #[inline(always)]
+    fn places(&self) -> u32 {
+        self.places
     }
 }
 
@@ -360,7 +437,7 @@ pub extern "C" fn ratio_nearest_i128(asked: &[Bounded128], answers: &mut [Answer
     each(&Nearest, asked, answers)
 }
 
-/// The simplest fraction strictly between the bounds.
+/// The simplest fraction within the bounds.
 #[unsafe(no_mangle)]
 pub extern "C" fn ratio_between_i128(asked: &[Bounds128], answers: &mut [Answer128]) -> u32
     ensures { AnswersEach (λ x answer. IsBetweenAnswer least128 greatest128 (fraction128 x.low) (fraction128 x.high) x.flags (said128 answer)) asked.now answers.old answers.new result }
@@ -384,6 +461,30 @@ pub extern "C" fn ratio_from_scaled_i128(asked: &[Scaled], answers: &mut [Answer
     each(&Scaling::<i128>::new(), asked, answers)
 }
 
+/// The convergent of each fraction at its place, from 0 on.
+#[unsafe(no_mangle)]
+pub extern "C" fn ratio_convergent_i128(asked: &[Place128], answers: &mut [Answer128]) -> u32
+    ensures { AnswersEach (λ x answer. IsConvergentAnswer (fraction128 x.value) x.place (said128 answer)) asked.now answers.old answers.new result }
+{
+    each(&ConvergentAt, asked, answers)
+}
+
+/// The lowest terms of exactly the value of each float.
+#[unsafe(no_mangle)]
+pub extern "C" fn ratio_from_f64_i128(asked: &[f64], answers: &mut [Answer128]) -> u32
+    ensures { AnswersEach (λ x answer. IsFromFloatAnswer least128 greatest128 x (said128 answer)) asked.now answers.old answers.new result }
+{
+    each(&FromFloat::<i128>::new(), asked, answers)
+}
+
+/// The float nearest to each fraction.
+#[unsafe(no_mangle)]
+pub extern "C" fn ratio_to_f64_i128(asked: &[Fraction128], answers: &mut [Float]) -> u32
+    ensures { AnswersEach (λ x answer. IsToFloatAnswer (fraction128 x) answer.code answer.value) asked.now answers.old answers.new result }
+{
+    each(&ToFloat, asked, answers)
+}
+
 /// Each fraction over `i32`, not reduced.
 #[unsafe(no_mangle)]
 pub extern "C" fn ratio_cast_i128_to_i32(asked: &[Fraction128], answers: &mut [Answer32]) -> u32
@@ -403,9 +504,23 @@ pub extern "C" fn ratio_cast_i128_to_i64(asked: &[Fraction128], answers: &mut [A
 /// The fraction of each text in `texts`. The spans name the texts.
 #[unsafe(no_mangle)]
 pub extern "C" fn ratio_read_i128(texts: &[u8], spans: &[Span], answers: &mut [Answer128]) -> u32
-    ensures { AnswersEach (λ span answer. IsReadAnswer least128 greatest128 texts.now span.start span.end (said128 answer)) spans.now answers.old answers.new result }
+    ensures { AnswersEach (λ span answer. IsReadAnswer (SaysText least128 greatest128) texts.now span.start span.end (said128 answer)) spans.now answers.old answers.new result }
 {
-    each(&Reading::<i128>::of(texts), spans, answers)
+    let reader = Fractions::<i128>::new();
+    each(&Reading { texts, reader }, spans, answers)
+}
+
+/// The same for texts that are decimals, such as `-1.5e-3`.
+#[unsafe(no_mangle)]
+pub extern "C" fn ratio_read_decimal_i128(
+    texts: &[u8],
+    spans: &[Span],
+    answers: &mut [Answer128],
+) -> u32
+    ensures { AnswersEach (λ span answer. IsReadAnswer (SaysDecimal least128 greatest128) texts.now span.start span.end (said128 answer)) spans.now answers.old answers.new result }
+{
+    let reader = DecimalTexts::<i128>::new();
+    each(&Reading { texts, reader }, spans, answers)
 }
 
 /// The text of each fraction, not reduced, one after another in `texts`, which has `ROOM` bytes for each.
@@ -415,7 +530,19 @@ pub extern "C" fn ratio_print_i128(
     texts: &mut [u8],
     answers: &mut [Text],
 ) -> u32
-    ensures { Prints 128 room128 fraction128 asked.now texts.old texts.new answers.old answers.new result }
+    ensures { Prints (λ x. ShowsFields 128 (fraction128 x)) room128 asked.now texts.old texts.new answers.old answers.new result }
 {
-    print(asked, ROOM, texts, answers)
+    print(&Fields, asked, ROOM, texts, answers)
+}
+
+/// The text of each fraction as a decimal, one after another in `texts`, which has `DECIMAL_ROOM` bytes for each.
+#[unsafe(no_mangle)]
+pub extern "C" fn ratio_print_decimal_i128(
+    asked: &[Decimal128],
+    texts: &mut [u8],
+    answers: &mut [Text],
+) -> u32
+    ensures { Prints (λ x. ShowsDecimal (fraction128 x.value) x.places x.rule) decimal_room128 asked.now texts.old texts.new answers.old answers.new result }
+{
+    print(&Decimals, asked, DECIMAL_ROOM, texts, answers)
 }

@@ -1,21 +1,27 @@
 // Written by templates/write from templates/numbers.rt.txt: change that file, and write this one anew.
 //! Fractions of `i32` and the exports over them.
 ghost use Rattle.std.specs.Prelude.{true};
-ghost use Rattle.ratio_c.specs.Calls.{AnswersEach, IsAbsoluteAnswer, IsBetweenAnswer, IsCastAnswer, IsCeilingAnswer, IsDifferenceAnswer, IsEqualAnswer, IsFloorAnswer, IsHashAnswer, IsLowestAnswer, IsNearestAnswer, IsNegationAnswer, IsOrderAnswer, IsPowerAnswer, IsProductAnswer, IsQuotientAnswer, IsReadAnswer, IsRemainderAnswer, IsRoundAnswer, IsRoundToAnswer, IsScaledAnswer, IsSumAnswer, IsTruncationAnswer};
-ghost use Rattle.ratio_c.specs.Codes.{room32};
+ghost use Rattle.ratio_c.specs.Calls.{AnswersEach, IsAbsoluteAnswer, IsBetweenAnswer, IsCastAnswer, IsCeilingAnswer, IsConvergentAnswer, IsDifferenceAnswer, IsEqualAnswer, IsFloorAnswer, IsFromFloatAnswer, IsHashAnswer, IsLowestAnswer, IsNearestAnswer, IsNegationAnswer, IsOrderAnswer, IsPowerAnswer, IsProductAnswer, IsQuotientAnswer, IsReadAnswer, IsRemainderAnswer, IsRoundAnswer, IsRoundToAnswer, IsScaledAnswer, IsSumAnswer, IsToFloatAnswer, IsTruncationAnswer, SaysDecimal, SaysText};
+ghost use Rattle.ratio_c.specs.Codes.{decimal_room32, room32};
 ghost use Rattle.ratio_c.specs.Crossing.{wide_number};
 ghost use Rattle.ratio_c.specs.LowestHash.{IsLowestHashAnswer};
 ghost use Rattle.ratio_c.specs.Numbers32.{fraction32, greatest32, least32, said32};
 ghost use Rattle.ratio_c.specs.Numbers64.{greatest64, least64, said64};
 ghost use Rattle.ratio_c.specs.Numbers128.{greatest128, least128, said128};
-ghost use Rattle.ratio_c.specs.Texts.{Prints};
+ghost use Rattle.ratio_c.specs.Texts.{Prints, ShowsDecimal, ShowsFields};
 
 use crate::arithmetic::{Difference, Product, Quotient, Remainder, Sum};
 use crate::between::Between;
 use crate::cast::Casting;
 use crate::compare::{Comparison, Equality, Order, Truth};
-use crate::crossing::{Bounded, FlaggedBounds, OneFraction, Parted, Raised, Reply, TwoFractions};
+use crate::convergent::ConvergentAt;
+use crate::crossing::{
+    Bounded, FlaggedBounds, OneFraction, Parted, Placed, Pointed, Raised, Reply, Ruled,
+    TwoFractions,
+};
+use crate::decimal::{DecimalTexts, Decimals};
 use crate::each::each;
+use crate::floats::{Float, FromFloat, ToFloat};
 use crate::hash::{Hash, Hashing};
 use crate::lowest_hash::LowestHashing;
 use crate::multiple::RoundingTo;
@@ -23,13 +29,16 @@ use crate::nearest::Nearest;
 use crate::numbers64::Answer64;
 use crate::numbers128::Answer128;
 use crate::one_fraction::{Ceiling, Floor, LowestTerms, Raising, Rounding, Truncation};
-use crate::printing::{Text, print};
-use crate::reading::{Reading, Span};
+use crate::printing::{Fields, Text, print};
+use crate::reading::{Fractions, Reading, Span};
 use crate::scaled::{Scaled, Scaling};
 use crate::sign::{Absolute, Negation};
 
 /// The room for a text: a slash, and two numbers of at most 11 bytes.
 pub const ROOM: usize = 23;
+
+/// The room for a decimal: a number of at most 11 bytes, a point and 38 digits.
+pub const DECIMAL_ROOM: usize = 50;
 
 /// A fraction as its two numbers.
 #[repr(C)]
@@ -63,7 +72,15 @@ pub struct Bounded32 {
     pub most: i32,
 }
 
-/// The bounds of a fraction, and flags that say which of them is taken.
+/// A fraction and the place of one of its convergents.
+#[repr(C)]
+#[derive(Drop)]
+pub struct Place32 {
+    pub value: Fraction32,
+    pub place: u32,
+}
+
+/// The bounds of a fraction, and flags that say which of them is included, and which is open.
 #[repr(C)]
 #[derive(Drop)]
 pub struct Bounds32 {
@@ -78,6 +95,15 @@ pub struct Bounds32 {
 pub struct Multiple32 {
     pub value: Fraction32,
     pub parts: i32,
+    pub rule: u32,
+}
+
+/// A fraction, a number of decimal places, and the rule by which it is rounded to so many.
+#[repr(C)]
+#[derive(Drop)]
+pub struct Decimal32 {
+    pub value: Fraction32,
+    pub places: u32,
     pub rule: u32,
 }
 
@@ -140,6 +166,26 @@ impl Bounded for Bounded32 {
     }
 }
 
+impl OneFraction for Place32 {
+    type Inside = i32;
+
+    ghost fraction = { λ x. fraction32 x.value };
+
+    #[inline(always)]
+    fn fraction(&self) -> (i32, i32) {
+        (self.value.numer, self.value.denom)
+    }
+}
+
+impl Placed for Place32 {
+    ghost place = { λ x. x.place };
+
+    #[inline(always)]
+    fn place(&self) -> u32 {
+        self.place
+    }
+}
+
 impl OneFraction for Multiple32 {
     type Inside = i32;
 
@@ -151,19 +197,50 @@ impl OneFraction for Multiple32 {
     }
 }
 
+impl Ruled for Multiple32 {
+    ghost rule = { λ x. x.rule };
+
+    #[inline(always)]
+    fn rule(&self) -> u32 {
+        self.rule
+    }
+}
+
 impl Parted for Multiple32 {
     ghost parts = { λ x. x.parts };
-
-    ghost rule = { λ x. x.rule };
 
     #[inline(always)]
     fn parts(&self) -> i32 {
         self.parts
     }
+}
+
+impl OneFraction for Decimal32 {
+    type Inside = i32;
+
+    ghost fraction = { λ x. fraction32 x.value };
+
+    #[inline(always)]
+    fn fraction(&self) -> (i32, i32) {
+        (self.value.numer, self.value.denom)
+    }
+}
+
+impl Ruled for Decimal32 {
+    ghost rule = { λ x. x.rule };
 
     #[inline(always)]
     fn rule(&self) -> u32 {
         self.rule
+    }
+}
+
+impl Pointed for Decimal32 {
+    ghost places = { λ x. x.places };
+
+    #[inline(always)]
+    fn places(&self) -> u32 {
+        self.places
     }
 }
 
@@ -358,7 +435,7 @@ pub extern "C" fn ratio_nearest_i32(asked: &[Bounded32], answers: &mut [Answer32
     each(&Nearest, asked, answers)
 }
 
-/// The simplest fraction strictly between the bounds.
+/// The simplest fraction within the bounds.
 #[unsafe(no_mangle)]
 pub extern "C" fn ratio_between_i32(asked: &[Bounds32], answers: &mut [Answer32]) -> u32
     ensures { AnswersEach (λ x answer. IsBetweenAnswer least32 greatest32 (fraction32 x.low) (fraction32 x.high) x.flags (said32 answer)) asked.now answers.old answers.new result }
@@ -380,6 +457,30 @@ pub extern "C" fn ratio_from_scaled_i32(asked: &[Scaled], answers: &mut [Answer3
     ensures { AnswersEach (λ x answer. IsScaledAnswer least32 greatest32 (wide_number x.number) x.scale (said32 answer)) asked.now answers.old answers.new result }
 {
     each(&Scaling::<i32>::new(), asked, answers)
+}
+
+/// The convergent of each fraction at its place, from 0 on.
+#[unsafe(no_mangle)]
+pub extern "C" fn ratio_convergent_i32(asked: &[Place32], answers: &mut [Answer32]) -> u32
+    ensures { AnswersEach (λ x answer. IsConvergentAnswer (fraction32 x.value) x.place (said32 answer)) asked.now answers.old answers.new result }
+{
+    each(&ConvergentAt, asked, answers)
+}
+
+/// The lowest terms of exactly the value of each float.
+#[unsafe(no_mangle)]
+pub extern "C" fn ratio_from_f64_i32(asked: &[f64], answers: &mut [Answer32]) -> u32
+    ensures { AnswersEach (λ x answer. IsFromFloatAnswer least32 greatest32 x (said32 answer)) asked.now answers.old answers.new result }
+{
+    each(&FromFloat::<i32>::new(), asked, answers)
+}
+
+/// The float nearest to each fraction.
+#[unsafe(no_mangle)]
+pub extern "C" fn ratio_to_f64_i32(asked: &[Fraction32], answers: &mut [Float]) -> u32
+    ensures { AnswersEach (λ x answer. IsToFloatAnswer (fraction32 x) answer.code answer.value) asked.now answers.old answers.new result }
+{
+    each(&ToFloat, asked, answers)
 }
 
 /// The hash of each fraction in lowest terms.
@@ -409,9 +510,23 @@ pub extern "C" fn ratio_cast_i32_to_i128(asked: &[Fraction32], answers: &mut [An
 /// The fraction of each text in `texts`. The spans name the texts.
 #[unsafe(no_mangle)]
 pub extern "C" fn ratio_read_i32(texts: &[u8], spans: &[Span], answers: &mut [Answer32]) -> u32
-    ensures { AnswersEach (λ span answer. IsReadAnswer least32 greatest32 texts.now span.start span.end (said32 answer)) spans.now answers.old answers.new result }
+    ensures { AnswersEach (λ span answer. IsReadAnswer (SaysText least32 greatest32) texts.now span.start span.end (said32 answer)) spans.now answers.old answers.new result }
 {
-    each(&Reading::<i32>::of(texts), spans, answers)
+    let reader = Fractions::<i32>::new();
+    each(&Reading { texts, reader }, spans, answers)
+}
+
+/// The same for texts that are decimals, such as `-1.5e-3`.
+#[unsafe(no_mangle)]
+pub extern "C" fn ratio_read_decimal_i32(
+    texts: &[u8],
+    spans: &[Span],
+    answers: &mut [Answer32],
+) -> u32
+    ensures { AnswersEach (λ span answer. IsReadAnswer (SaysDecimal least32 greatest32) texts.now span.start span.end (said32 answer)) spans.now answers.old answers.new result }
+{
+    let reader = DecimalTexts::<i32>::new();
+    each(&Reading { texts, reader }, spans, answers)
 }
 
 /// The text of each fraction, not reduced, one after another in `texts`, which has `ROOM` bytes for each.
@@ -421,7 +536,19 @@ pub extern "C" fn ratio_print_i32(
     texts: &mut [u8],
     answers: &mut [Text],
 ) -> u32
-    ensures { Prints 32 room32 fraction32 asked.now texts.old texts.new answers.old answers.new result }
+    ensures { Prints (λ x. ShowsFields 32 (fraction32 x)) room32 asked.now texts.old texts.new answers.old answers.new result }
 {
-    print(asked, ROOM, texts, answers)
+    print(&Fields, asked, ROOM, texts, answers)
+}
+
+/// The text of each fraction as a decimal, one after another in `texts`, which has `DECIMAL_ROOM` bytes for each.
+#[unsafe(no_mangle)]
+pub extern "C" fn ratio_print_decimal_i32(
+    asked: &[Decimal32],
+    texts: &mut [u8],
+    answers: &mut [Text],
+) -> u32
+    ensures { Prints (λ x. ShowsDecimal (fraction32 x.value) x.places x.rule) decimal_room32 asked.now texts.old texts.new answers.old answers.new result }
+{
+    print(&Decimals, asked, DECIMAL_ROOM, texts, answers)
 }

@@ -1,21 +1,27 @@
 // Written by templates/write from templates/numbers.rt.txt: change that file, and write this one anew.
 //! Fractions of `i64` and the exports over them.
 ghost use Rattle.std.specs.Prelude.{true};
-ghost use Rattle.ratio_c.specs.Calls.{AnswersEach, IsAbsoluteAnswer, IsBetweenAnswer, IsCastAnswer, IsCeilingAnswer, IsDifferenceAnswer, IsEqualAnswer, IsFloorAnswer, IsHashAnswer, IsLowestAnswer, IsNearestAnswer, IsNegationAnswer, IsOrderAnswer, IsPowerAnswer, IsProductAnswer, IsQuotientAnswer, IsReadAnswer, IsRemainderAnswer, IsRoundAnswer, IsRoundToAnswer, IsScaledAnswer, IsSumAnswer, IsTruncationAnswer};
-ghost use Rattle.ratio_c.specs.Codes.{room64};
+ghost use Rattle.ratio_c.specs.Calls.{AnswersEach, IsAbsoluteAnswer, IsBetweenAnswer, IsCastAnswer, IsCeilingAnswer, IsConvergentAnswer, IsDifferenceAnswer, IsEqualAnswer, IsFloorAnswer, IsFromFloatAnswer, IsHashAnswer, IsLowestAnswer, IsNearestAnswer, IsNegationAnswer, IsOrderAnswer, IsPowerAnswer, IsProductAnswer, IsQuotientAnswer, IsReadAnswer, IsRemainderAnswer, IsRoundAnswer, IsRoundToAnswer, IsScaledAnswer, IsSumAnswer, IsToFloatAnswer, IsTruncationAnswer, SaysDecimal, SaysText};
+ghost use Rattle.ratio_c.specs.Codes.{decimal_room64, room64};
 ghost use Rattle.ratio_c.specs.Crossing.{wide_number};
 ghost use Rattle.ratio_c.specs.LowestHash.{IsLowestHashAnswer};
 ghost use Rattle.ratio_c.specs.Numbers64.{fraction64, greatest64, least64, said64};
 ghost use Rattle.ratio_c.specs.Numbers32.{greatest32, least32, said32};
 ghost use Rattle.ratio_c.specs.Numbers128.{greatest128, least128, said128};
-ghost use Rattle.ratio_c.specs.Texts.{Prints};
+ghost use Rattle.ratio_c.specs.Texts.{Prints, ShowsDecimal, ShowsFields};
 
 use crate::arithmetic::{Difference, Product, Quotient, Remainder, Sum};
 use crate::between::Between;
 use crate::cast::Casting;
 use crate::compare::{Comparison, Equality, Order, Truth};
-use crate::crossing::{Bounded, FlaggedBounds, OneFraction, Parted, Raised, Reply, TwoFractions};
+use crate::convergent::ConvergentAt;
+use crate::crossing::{
+    Bounded, FlaggedBounds, OneFraction, Parted, Placed, Pointed, Raised, Reply, Ruled,
+    TwoFractions,
+};
+use crate::decimal::{DecimalTexts, Decimals};
 use crate::each::each;
+use crate::floats::{Float, FromFloat, ToFloat};
 use crate::hash::{Hash, Hashing};
 use crate::lowest_hash::LowestHashing;
 use crate::multiple::RoundingTo;
@@ -23,13 +29,16 @@ use crate::nearest::Nearest;
 use crate::numbers32::Answer32;
 use crate::numbers128::Answer128;
 use crate::one_fraction::{Ceiling, Floor, LowestTerms, Raising, Rounding, Truncation};
-use crate::printing::{Text, print};
-use crate::reading::{Reading, Span};
+use crate::printing::{Fields, Text, print};
+use crate::reading::{Fractions, Reading, Span};
 use crate::scaled::{Scaled, Scaling};
 use crate::sign::{Absolute, Negation};
 
 /// The room for a text: a slash, and two numbers of at most 20 bytes.
 pub const ROOM: usize = 41;
+
+/// The room for a decimal: a number of at most 20 bytes, a point and 38 digits.
+pub const DECIMAL_ROOM: usize = 59;
 
 /// A fraction as its two numbers.
 #[repr(C)]
@@ -63,7 +72,15 @@ pub struct Bounded64 {
     pub most: i64,
 }
 
-/// The bounds of a fraction, and flags that say which of them is taken.
+/// A fraction and the place of one of its convergents.
+#[repr(C)]
+#[derive(Drop)]
+pub struct Place64 {
+    pub value: Fraction64,
+    pub place: u32,
+}
+
+/// The bounds of a fraction, and flags that say which of them is included, and which is open.
 #[repr(C)]
 #[derive(Drop)]
 pub struct Bounds64 {
@@ -78,6 +95,15 @@ pub struct Bounds64 {
 pub struct Multiple64 {
     pub value: Fraction64,
     pub parts: i64,
+    pub rule: u32,
+}
+
+/// A fraction, a number of decimal places, and the rule by which it is rounded to so many.
+#[repr(C)]
+#[derive(Drop)]
+pub struct Decimal64 {
+    pub value: Fraction64,
+    pub places: u32,
     pub rule: u32,
 }
 
@@ -140,6 +166,26 @@ impl Bounded for Bounded64 {
     }
 }
 
+impl OneFraction for Place64 {
+    type Inside = i64;
+
+    ghost fraction = { λ x. fraction64 x.value };
+
+    #[inline(always)]
+    fn fraction(&self) -> (i64, i64) {
+        (self.value.numer, self.value.denom)
+    }
+}
+
+impl Placed for Place64 {
+    ghost place = { λ x. x.place };
+
+    #[inline(always)]
+    fn place(&self) -> u32 {
+        self.place
+    }
+}
+
 impl OneFraction for Multiple64 {
     type Inside = i64;
 
@@ -151,19 +197,50 @@ impl OneFraction for Multiple64 {
     }
 }
 
+impl Ruled for Multiple64 {
+    ghost rule = { λ x. x.rule };
+
+    #[inline(always)]
+    fn rule(&self) -> u32 {
+        self.rule
+    }
+}
+
 impl Parted for Multiple64 {
     ghost parts = { λ x. x.parts };
-
-    ghost rule = { λ x. x.rule };
 
     #[inline(always)]
     fn parts(&self) -> i64 {
         self.parts
     }
+}
+
+impl OneFraction for Decimal64 {
+    type Inside = i64;
+
+    ghost fraction = { λ x. fraction64 x.value };
+
+    #[inline(always)]
+    fn fraction(&self) -> (i64, i64) {
+        (self.value.numer, self.value.denom)
+    }
+}
+
+impl Ruled for Decimal64 {
+    ghost rule = { λ x. x.rule };
 
     #[inline(always)]
     fn rule(&self) -> u32 {
         self.rule
+    }
+}
+
+impl Pointed for Decimal64 {
+    ghost places = { λ x. x.places };
+
+    #[inline(always)]
+    fn places(&self) -> u32 {
+        self.places
     }
 }
 
@@ -358,7 +435,7 @@ pub extern "C" fn ratio_nearest_i64(asked: &[Bounded64], answers: &mut [Answer64
     each(&Nearest, asked, answers)
 }
 
-/// The simplest fraction strictly between the bounds.
+/// The simplest fraction within the bounds.
 #[unsafe(no_mangle)]
 pub extern "C" fn ratio_between_i64(asked: &[Bounds64], answers: &mut [Answer64]) -> u32
     ensures { AnswersEach (λ x answer. IsBetweenAnswer least64 greatest64 (fraction64 x.low) (fraction64 x.high) x.flags (said64 answer)) asked.now answers.old answers.new result }
@@ -380,6 +457,30 @@ pub extern "C" fn ratio_from_scaled_i64(asked: &[Scaled], answers: &mut [Answer6
     ensures { AnswersEach (λ x answer. IsScaledAnswer least64 greatest64 (wide_number x.number) x.scale (said64 answer)) asked.now answers.old answers.new result }
 {
     each(&Scaling::<i64>::new(), asked, answers)
+}
+
+/// The convergent of each fraction at its place, from 0 on.
+#[unsafe(no_mangle)]
+pub extern "C" fn ratio_convergent_i64(asked: &[Place64], answers: &mut [Answer64]) -> u32
+    ensures { AnswersEach (λ x answer. IsConvergentAnswer (fraction64 x.value) x.place (said64 answer)) asked.now answers.old answers.new result }
+{
+    each(&ConvergentAt, asked, answers)
+}
+
+/// The lowest terms of exactly the value of each float.
+#[unsafe(no_mangle)]
+pub extern "C" fn ratio_from_f64_i64(asked: &[f64], answers: &mut [Answer64]) -> u32
+    ensures { AnswersEach (λ x answer. IsFromFloatAnswer least64 greatest64 x (said64 answer)) asked.now answers.old answers.new result }
+{
+    each(&FromFloat::<i64>::new(), asked, answers)
+}
+
+/// The float nearest to each fraction.
+#[unsafe(no_mangle)]
+pub extern "C" fn ratio_to_f64_i64(asked: &[Fraction64], answers: &mut [Float]) -> u32
+    ensures { AnswersEach (λ x answer. IsToFloatAnswer (fraction64 x) answer.code answer.value) asked.now answers.old answers.new result }
+{
+    each(&ToFloat, asked, answers)
 }
 
 /// The hash of each fraction in lowest terms.
@@ -409,9 +510,23 @@ pub extern "C" fn ratio_cast_i64_to_i128(asked: &[Fraction64], answers: &mut [An
 /// The fraction of each text in `texts`. The spans name the texts.
 #[unsafe(no_mangle)]
 pub extern "C" fn ratio_read_i64(texts: &[u8], spans: &[Span], answers: &mut [Answer64]) -> u32
-    ensures { AnswersEach (λ span answer. IsReadAnswer least64 greatest64 texts.now span.start span.end (said64 answer)) spans.now answers.old answers.new result }
+    ensures { AnswersEach (λ span answer. IsReadAnswer (SaysText least64 greatest64) texts.now span.start span.end (said64 answer)) spans.now answers.old answers.new result }
 {
-    each(&Reading::<i64>::of(texts), spans, answers)
+    let reader = Fractions::<i64>::new();
+    each(&Reading { texts, reader }, spans, answers)
+}
+
+/// The same for texts that are decimals, such as `-1.5e-3`.
+#[unsafe(no_mangle)]
+pub extern "C" fn ratio_read_decimal_i64(
+    texts: &[u8],
+    spans: &[Span],
+    answers: &mut [Answer64],
+) -> u32
+    ensures { AnswersEach (λ span answer. IsReadAnswer (SaysDecimal least64 greatest64) texts.now span.start span.end (said64 answer)) spans.now answers.old answers.new result }
+{
+    let reader = DecimalTexts::<i64>::new();
+    each(&Reading { texts, reader }, spans, answers)
 }
 
 /// The text of each fraction, not reduced, one after another in `texts`, which has `ROOM` bytes for each.
@@ -421,7 +536,19 @@ pub extern "C" fn ratio_print_i64(
     texts: &mut [u8],
     answers: &mut [Text],
 ) -> u32
-    ensures { Prints 64 room64 fraction64 asked.now texts.old texts.new answers.old answers.new result }
+    ensures { Prints (λ x. ShowsFields 64 (fraction64 x)) room64 asked.now texts.old texts.new answers.old answers.new result }
 {
-    print(asked, ROOM, texts, answers)
+    print(&Fields, asked, ROOM, texts, answers)
+}
+
+/// The text of each fraction as a decimal, one after another in `texts`, which has `DECIMAL_ROOM` bytes for each.
+#[unsafe(no_mangle)]
+pub extern "C" fn ratio_print_decimal_i64(
+    asked: &[Decimal64],
+    texts: &mut [u8],
+    answers: &mut [Text],
+) -> u32
+    ensures { Prints (λ x. ShowsDecimal (fraction64 x.value) x.places x.rule) decimal_room64 asked.now texts.old texts.new answers.old answers.new result }
+{
+    print(&Decimals, asked, DECIMAL_ROOM, texts, answers)
 }

@@ -1,6 +1,7 @@
 //! Reading fractions from texts.
-ghost use Rattle.std.specs.Prelude.{◌≡◌};
+ghost use Rattle.std.specs.Prelude.{◌≡◌, ℕ, List};
 ghost use Rattle.ratio_c.specs.Calls.{IsReadAnswer, IsWideRefusal, SaysText};
+ghost use Rattle.ratio_c.specs.Crossing.{Said, said_by};
 
 use crate::code::{ANSWERED, NO_TEXT, NOT_HELD, PARSE_ERROR, ZERO_DENOMINATOR};
 use crate::crossing::{Digest, Reply, refused};
@@ -16,28 +17,28 @@ pub struct Span {
     pub end: usize,
 }
 
+/// A way to read a text as a fraction.
+pub trait Reader {
+    /// The type of its two numbers in the library.
+    type Inside: Digest;
+
+    // The answers that are right for a text.
+    ghost says: { List ℕ → Said → Type 0 };
+
+    /// The two numbers of the fraction, or the code of the refusal.
+    fn read(&self, text: &str) -> Result<(Self::Inside, Self::Inside), u32>
+        ensures { says text.now (said_by Self.Inside.value result) };
+}
+
 /// The call that reads one of several texts.
 #[derive(Drop)]
-pub struct Reading<'a, T> {
+pub struct Reading<'a, R> {
     pub texts: &'a [u8],
-    marker: PhantomData<T>,
+    pub reader: R,
 }
 
-impl<'a, T> Reading<'a, T> {
-    /// The call over these texts.
-    #[inline(always)]
-    pub fn of(texts: &'a [u8]) -> Reading<'a, T>
-        ensures { result.texts.now ≡ texts.now }
-    {
-        Reading {
-            texts,
-            marker: PhantomData,
-        }
-    }
-}
-
-impl<'a, T: Digest, A: Reply<T>> Call<Span, A> for Reading<'a, T> {
-    ghost gives = { λ reading span answer. IsReadAnswer T.lo T.hi reading.texts.now span.start span.end (A.said answer) };
+impl<'a, R: Reader, A: Reply<R::Inside>> Call<Span, A> for Reading<'a, R> {
+    ghost gives = { λ reading span answer. IsReadAnswer R.says reading.texts.now span.start span.end (A.said answer) };
 
     #[inline(always)]
     fn answer(&self, span: &Span) -> A {
@@ -45,22 +46,44 @@ impl<'a, T: Digest, A: Reply<T>> Call<Span, A> for Reading<'a, T> {
             return refused(NO_TEXT);
         }
         match str::from_utf8(&self.texts[span.start..span.end]) {
-            Ok(text) => read(text),
+            Ok(text) => match self.reader.read(text) {
+                Ok((numer, denom)) => A::reply(ANSWERED, numer, denom),
+                Err(code) => refused(code),
+            },
             Err(_) => refused(PARSE_ERROR),
         }
     }
 }
 
-/// The fraction of a text, or the code of its refusal.
-fn read<T: Digest, A: Reply<T>>(text: &str) -> A
-    ensures { SaysText T.lo T.hi text.now (A.said result) }
-{
-    match Ratio::<T>::from_str(text) {
-        Ok(x) => A::reply(ANSWERED, *x.numer(), *x.denom()),
-        Err(refusal) => refused(match refusal.kind() {
-            RatioErrorKind::ParseError => wide_refusal(text),
-            RatioErrorKind::ZeroDenominator => ZERO_DENOMINATOR,
-        }),
+/// The reader of texts such as `-2/4`, over the type `T`.
+#[derive(Drop)]
+pub struct Fractions<T> {
+    marker: PhantomData<T>,
+}
+
+impl<T> Fractions<T> {
+    /// The reader over the type `T`.
+    #[inline(always)]
+    pub fn new() -> Fractions<T> {
+        Fractions {
+            marker: PhantomData,
+        }
+    }
+}
+
+impl<T: Digest> Reader for Fractions<T> {
+    type Inside = T;
+
+    ghost says = { SaysText T.lo T.hi };
+
+    fn read(&self, text: &str) -> Result<(T, T), u32> {
+        match Ratio::<T>::from_str(text) {
+            Ok(x) => Ok(x.into_raw()),
+            Err(refusal) => Err(match refusal.kind() {
+                RatioErrorKind::ParseError => wide_refusal(text),
+                RatioErrorKind::ZeroDenominator => ZERO_DENOMINATOR,
+            }),
+        }
     }
 }
 

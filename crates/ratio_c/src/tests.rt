@@ -1,18 +1,21 @@
 //! Worked rows. Their answers come from outside.
 use crate::code::{
-    ANSWERED, BAD_OPTION, BOUND_NOT_POSITIVE, DENOMINATOR_NOT_POSITIVE, DIVISION_BY_ZERO, NOT_HELD,
-    PARSE_ERROR, RULE_HALF_EVEN, ZERO_DENOMINATOR,
+    ANSWERED, BAD_OPTION, BOUND_NOT_POSITIVE, DENOMINATOR_NOT_POSITIVE, DIVISION_BY_ZERO,
+    HIGH_OPEN, LOW_INCLUDED, NOT_HELD, PARSE_ERROR, RULE_HALF_EVEN, ZERO_DENOMINATOR,
 };
 use crate::compare::Truth;
 use crate::each::{BAD_LENGTH, DONE};
+use crate::floats::Float;
 use crate::hash::Hash;
 use crate::key::{Key, ratio_key_i64};
 use crate::numbers32::{Answer32, Fraction32};
 use crate::numbers64::{
-    Answer64, Bounded64, Bounds64, Fraction64, Multiple64, Pair64, Power64, ROOM, ratio_abs_i64,
-    ratio_add_i64, ratio_between_i64, ratio_cast_i64_to_i32, ratio_ceil_i64, ratio_equal_i64,
+    Answer64, Bounded64, Bounds64, DECIMAL_ROOM, Decimal64, Fraction64, Multiple64, Pair64,
+    Place64, Power64, ROOM, ratio_abs_i64, ratio_add_i64, ratio_between_i64, ratio_cast_i64_to_i32,
+    ratio_ceil_i64, ratio_convergent_i64, ratio_equal_i64, ratio_from_f64_i64,
     ratio_from_scaled_i64, ratio_hash_lowest_i64, ratio_nearest_i64, ratio_neg_i64, ratio_pow_i64,
-    ratio_print_i64, ratio_read_i64, ratio_round_to_i64, ratio_trunc_i64,
+    ratio_print_decimal_i64, ratio_print_i64, ratio_read_decimal_i64, ratio_read_i64,
+    ratio_round_to_i64, ratio_to_f64_i64, ratio_trunc_i64,
 };
 use crate::numbers128::Fraction128;
 use crate::printing::Text;
@@ -47,6 +50,13 @@ fn no_truth() -> Truth {
 
 fn no_hash() -> Hash {
     Hash { code: 9, hash: 9 }
+}
+
+fn no_float() -> Float {
+    Float {
+        code: 9,
+        value: 9.0,
+    }
 }
 
 fn no_key() -> Key {
@@ -139,22 +149,61 @@ fn nearest_fractions(rt: HostRuntime) {
 
 #[test]
 fn simplest_fractions(rt: HostRuntime) {
+    // The flags, and the answer's code and numbers.
+    let rows = [
+        (0, ANSWERED, 2, 5),
+        (LOW_INCLUDED, ANSWERED, 1, 3),
+        (HIGH_OPEN, ANSWERED, 1, 1),
+        (LOW_INCLUDED + 4, BAD_OPTION, 0, 0),
+        (16, BAD_OPTION, 0, 0),
+    ];
+    for (flags, code, numer, denom) in rows {
+        let asked = [Bounds64 {
+            low: fraction(1, 3),
+            high: fraction(1, 2),
+            flags,
+        }];
+        let mut answers = [no_answer()];
+        assert!(rt; ratio_between_i64(&asked, &mut answers) == DONE);
+        let [first] = answers;
+        assert!(rt; first.code == code, "flags {flags}");
+        assert!(rt;
+            [first.value.numer, first.value.denom] == [numer, denom],
+            "flags {flags}"
+        );
+    }
+}
+
+#[test]
+fn convergents(rt: HostRuntime) {
     let asked = [
-        Bounds64 {
-            low: fraction(1, 3),
-            high: fraction(1, 2),
-            flags: 0,
+        Place64 {
+            value: fraction(830, 186),
+            place: 2,
         },
-        Bounds64 {
-            low: fraction(1, 3),
-            high: fraction(1, 2),
-            flags: 1,
+        Place64 {
+            value: fraction(830, 186),
+            place: 4,
         },
     ];
     let mut answers = [no_answer(), no_answer()];
-    assert!(rt; ratio_between_i64(&asked, &mut answers) == DONE);
-    assert!(rt; [answers[0].value.numer, answers[0].value.denom] == [2, 5]);
-    assert!(rt; answers[1].code == BAD_OPTION);
+    assert!(rt; ratio_convergent_i64(&asked, &mut answers) == DONE);
+    assert!(rt; [answers[0].value.numer, answers[0].value.denom] == [58, 13]);
+    assert!(rt; answers[1].code == NOT_HELD);
+}
+
+#[test]
+fn floats(rt: HostRuntime) {
+    let mut answers = [no_answer(), no_answer()];
+    assert!(rt; ratio_from_f64_i64(&[-0.75, 1e300], &mut answers) == DONE);
+    assert!(rt; [answers[0].value.numer, answers[0].value.denom] == [-3, 4]);
+    assert!(rt; answers[1].code == NOT_HELD);
+    let asked = [fraction(1, 3), fraction(1, 0)];
+    let mut floats = [no_float(), no_float()];
+    assert!(rt; ratio_to_f64_i64(&asked, &mut floats) == DONE);
+    let [first, second] = floats;
+    assert!(rt; first.value == 0.3333333333333333);
+    assert!(rt; [first.code, second.code] == [ANSWERED, DENOMINATOR_NOT_POSITIVE]);
 }
 
 #[test]
@@ -280,6 +329,44 @@ fn texts(rt: HostRuntime) {
         third.span.end,
     ];
     assert!(rt; places == [4, 4, 4, 24]);
+}
+
+#[test]
+fn decimal_texts(rt: HostRuntime) {
+    let asked = [
+        Decimal64 {
+            value: fraction(2, 3),
+            places: 2,
+            rule: RULE_HALF_EVEN,
+        },
+        Decimal64 {
+            value: fraction(2, 3),
+            places: 39,
+            rule: RULE_HALF_EVEN,
+        },
+    ];
+    let mut bytes = [b'x'; 2 * DECIMAL_ROOM];
+    let mut answers = [no_text(), no_text()];
+    assert!(rt; ratio_print_decimal_i64(&asked, &mut bytes[1..], &mut answers) == BAD_LENGTH);
+    assert!(rt; ratio_print_decimal_i64(&asked, &mut bytes, &mut answers) == DONE);
+    assert!(rt; bytes.starts_with(b"0.67x"));
+    let [first, second] = answers;
+    assert!(rt; [first.code, second.code] == [ANSWERED, BAD_OPTION]);
+    assert!(rt; [first.span.end, second.span.start, second.span.end] == [4, 4, 4]);
+}
+
+#[test]
+fn decimal_readings(rt: HostRuntime) {
+    let spans = [
+        Span { start: 0, end: 7 },
+        Span { start: 4, end: 8 },
+        Span { start: 8, end: 12 },
+    ];
+    let mut answers = [no_answer(), no_answer(), no_answer()];
+    assert!(rt; ratio_read_decimal_i64(b"-1.5e-3x1e99", &spans, &mut answers) == DONE);
+    let [first, second, third] = answers;
+    assert!(rt; [first.value.numer, first.value.denom] == [-3, 2000]);
+    assert!(rt; [second.code, third.code] == [PARSE_ERROR, NOT_HELD]);
 }
 
 fn empty() -> Total64 {

@@ -1,30 +1,88 @@
 // Erased from crates/ratio_c/src/between.rt by rust/erase: not to be edited.
-//! The simplest fraction between two bounds.
+//! The simplest fraction within two bounds.
 
-use crate::proved::ratio_c::arithmetic::both;
-use crate::proved::ratio_c::code::{BAD_OPTION, DENOMINATOR_NOT_POSITIVE};
+use crate::proved::ratio_c::code::{
+    BAD_OPTION, DENOMINATOR_NOT_POSITIVE, HIGH_INCLUDED, HIGH_OPEN, LOW_INCLUDED, LOW_OPEN,
+};
 use crate::proved::ratio_c::crossing::{FlaggedBounds, Reply, checked_fields, refused};
 use crate::proved::ratio_c::each::Call;
-use bakhsney::proved::ratio_core::simplest::simplest_between;
+use bakhsney::proved::ratio_core::simplest::simplest_within;
+use bakhsney::proved::ratio_integer::Integer;
+use core::ops::Bound;
 
-/// The fraction with the smallest denominator between the bounds. Flags 0 say that neither bound is taken, and there
-/// are no others yet: 1/3 and 1/2 give 2/5.
+/// The fraction with the smallest denominator within the bounds. Without flags neither bound is included: 1/3 and 1/2 give
+/// 2/5. With both included they give 1/2.
 #[derive(Clone, Copy)]
 pub struct Between;
 
 impl<P: FlaggedBounds, A: Reply<P::Inside>> Call<P, A> for Between {
     #[inline(always)]
     fn answer(&self, pair: &P) -> A {
-        let flags = pair.flags();
-        match both(pair) {
-            Some((x, y)) if flags == 0 => checked_fields(simplest_between(
-                *x.numer(),
-                *x.denom(),
-                *y.numer(),
-                *y.denom(),
-            )),
+        match bounds(pair) {
+            Some((low, high)) if are_flags(pair.flags()) => {
+                checked_fields(simplest_within(low, high))
+            }
             Some(_) => refused(BAD_OPTION),
             None => refused(DENOMINATOR_NOT_POSITIVE),
         }
     }
+}
+
+/// Both bounds, or `None` if the denominator of one is not positive.
+#[inline(always)]
+fn bounds<P: FlaggedBounds>(
+    pair: &P,
+) -> Option<(Bound<(P::Inside, P::Inside)>, Bound<(P::Inside, P::Inside)>)> {
+    let flags = pair.flags();
+    let low = bound(flags, LOW_INCLUDED, LOW_OPEN, pair.left())?;
+    let high = bound(flags, HIGH_INCLUDED, HIGH_OPEN, pair.right())?;
+    Some((low, high))
+}
+
+/// The bound that two flags say, or `None` if its denominator is not positive. The numbers of an open bound are not used.
+///
+/// # Conditions
+///
+/// The proof requires of the caller:
+///
+/// - `included`: `0 < included`
+/// - `unbounded`: `0 < unbounded`
+#[inline]
+fn bound<T: Copy + Integer>(
+    flags: u32,
+    included: u32,
+    unbounded: u32,
+    x: (T, T),
+) -> Option<Bound<(T, T)>> {
+    if has_flag(flags, unbounded) {
+        return Some(Bound::Unbounded);
+    }
+    if x.1 <= T::ZERO {
+        return None;
+    }
+    if has_flag(flags, included) {
+        Some(Bound::Included(x))
+    } else {
+        Some(Bound::Excluded(x))
+    }
+}
+
+/// Whether the flag is one of these.
+///
+/// # Conditions
+///
+/// The proof requires of the caller:
+///
+/// - `0 < flag`
+#[inline]
+fn has_flag(flags: u32, flag: u32) -> bool {
+    flags / flag % 2 == 1
+}
+
+/// Whether there is no other flag, and no bound is both included and open.
+#[inline]
+fn are_flags(flags: u32) -> bool {
+    let low = has_flag(flags, LOW_INCLUDED) && has_flag(flags, LOW_OPEN);
+    let high = has_flag(flags, HIGH_INCLUDED) && has_flag(flags, HIGH_OPEN);
+    flags < 16 && !low && !high
 }

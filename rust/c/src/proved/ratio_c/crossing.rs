@@ -65,6 +65,12 @@ pub trait Raised: OneFraction {
     fn exponent(&self) -> i32;
 }
 
+/// A fraction and the place of one of its convergents.
+pub trait Placed: OneFraction {
+    /// The place.
+    fn place(&self) -> u32;
+}
+
 /// A fraction and a bound of denominators.
 pub trait Bounded: OneFraction {
     /// The bound, as the library takes it.
@@ -83,19 +89,28 @@ pub trait TwoFractions {
     fn right(&self) -> (Self::Inside, Self::Inside);
 }
 
-/// Two bounds, and flags that say which of them is taken.
+/// Two bounds, and flags that say which of them is included, and which is open.
 pub trait FlaggedBounds: TwoFractions {
     /// The flags.
     fn flags(&self) -> u32;
 }
 
-/// A fraction, a number of parts of 1, and the number of a rule.
-pub trait Parted: OneFraction {
-    /// The parts, as the library takes them.
-    fn parts(&self) -> Self::Inside;
-
+/// A fraction and the number of a rule by which it is rounded.
+pub trait Ruled: OneFraction {
     /// The number of the rule.
     fn rule(&self) -> u32;
+}
+
+/// The same with a number of parts of 1.
+pub trait Parted: Ruled {
+    /// The parts, as the library takes them.
+    fn parts(&self) -> Self::Inside;
+}
+
+/// The same with a number of decimal places.
+pub trait Pointed: Ruled {
+    /// The places.
+    fn places(&self) -> u32;
 }
 
 /// An answer: a code, and the two numbers of a fraction over `T`.

@@ -33,7 +33,7 @@ impl<F: Parted, A: Reply<F::Inside>> Call<F, A> for RoundingTo {
 
 /// The rule of a number, or `None` if there is no such rule.
 #[inline]
-fn rule_of(number: u32) -> Option<Rounding> {
+pub fn rule_of(number: u32) -> Option<Rounding> {
     match number {
         RULE_HALF_AWAY => Some(Rounding::HalfAway),
         RULE_HALF_EVEN => Some(Rounding::HalfEven),

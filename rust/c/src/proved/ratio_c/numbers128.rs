@@ -6,22 +6,31 @@ use crate::proved::ratio_c::arithmetic::{Difference, Product, Quotient, Remainde
 use crate::proved::ratio_c::between::Between;
 use crate::proved::ratio_c::cast::Casting;
 use crate::proved::ratio_c::compare::{Comparison, Equality, Order, Truth};
-use crate::proved::ratio_c::crossing::{Bounded, FlaggedBounds, OneFraction, Parted, Raised, Reply, TwoFractions};
+use crate::proved::ratio_c::convergent::ConvergentAt;
+use crate::proved::ratio_c::crossing::{
+    Bounded, FlaggedBounds, OneFraction, Parted, Placed, Pointed, Raised, Reply, Ruled,
+    TwoFractions,
+};
+use crate::proved::ratio_c::decimal::{DecimalTexts, Decimals};
 use crate::proved::ratio_c::each::each;
+use crate::proved::ratio_c::floats::{Float, FromFloat, ToFloat};
 use crate::proved::ratio_c::hash::{Hash, Hashing};
 use crate::proved::ratio_c::multiple::RoundingTo;
 use crate::proved::ratio_c::nearest::Nearest;
 use crate::proved::ratio_c::numbers32::Answer32;
 use crate::proved::ratio_c::numbers64::Answer64;
 use crate::proved::ratio_c::one_fraction::{Ceiling, Floor, LowestTerms, Raising, Rounding, Truncation};
-use crate::proved::ratio_c::printing::{Text, print};
-use crate::proved::ratio_c::reading::{Reading, Span};
+use crate::proved::ratio_c::printing::{Fields, Text, print};
+use crate::proved::ratio_c::reading::{Fractions, Reading, Span};
 use crate::proved::ratio_c::scaled::{Scaled, Scaling};
 use crate::proved::ratio_c::sign::{Absolute, Negation};
 use crate::proved::ratio_c::wide::Wide;
 
 /// The room for a text: a slash, and two numbers of at most 40 bytes.
 pub const ROOM: usize = 81;
+
+/// The room for a decimal: a number of at most 40 bytes, a point and 38 digits.
+pub const DECIMAL_ROOM: usize = 79;
 
 /// A fraction as its two numbers.
 #[repr(C)]
@@ -51,7 +60,14 @@ pub struct Bounded128 {
     pub most: Wide,
 }
 
-/// The bounds of a fraction, and flags that say which of them is taken.
+/// A fraction and the place of one of its convergents.
+#[repr(C)]
+pub struct Place128 {
+    pub value: Fraction128,
+    pub place: u32,
+}
+
+/// The bounds of a fraction, and flags that say which of them is included, and which is open.
 #[repr(C)]
 pub struct Bounds128 {
     pub low: Fraction128,
@@ -64,6 +80,14 @@ pub struct Bounds128 {
 pub struct Multiple128 {
     pub value: Fraction128,
     pub parts: Wide,
+    pub rule: u32,
+}
+
+/// A fraction, a number of decimal places, and the rule by which it is rounded to so many.
+#[repr(C)]
+pub struct Decimal128 {
+    pub value: Fraction128,
+    pub places: u32,
     pub rule: u32,
 }
 
@@ -115,6 +139,22 @@ impl Bounded for Bounded128 {
     }
 }
 
+impl OneFraction for Place128 {
+    type Inside = i128;
+
+    #[inline(always)]
+    fn fraction(&self) -> (i128, i128) {
+        (self.value.numer.number(), self.value.denom.number())
+    }
+}
+
+impl Placed for Place128 {
+    #[inline(always)]
+    fn place(&self) -> u32 {
+        self.place
+    }
+}
+
 impl OneFraction for Multiple128 {
     type Inside = i128;
 
@@ -124,15 +164,40 @@ impl OneFraction for Multiple128 {
     }
 }
 
+impl Ruled for Multiple128 {
+    #[inline(always)]
+    fn rule(&self) -> u32 {
+        self.rule
+    }
+}
+
 impl Parted for Multiple128 {
     #[inline(always)]
     fn parts(&self) -> i128 {
         self.parts.number()
     }
+}
 
+impl OneFraction for Decimal128 {
+    type Inside = i128;
+
+    #[inline(always)]
+    fn fraction(&self) -> (i128, i128) {
+        (self.value.numer.number(), self.value.denom.number())
+    }
+}
+
+impl Ruled for Decimal128 {
     #[inline(always)]
     fn rule(&self) -> u32 {
         self.rule
+    }
+}
+
+impl Pointed for Decimal128 {
+    #[inline(always)]
+    fn places(&self) -> u32 {
+        self.places
     }
 }
 
@@ -335,7 +400,7 @@ pub unsafe extern "C" fn ratio_nearest_i128(asked: *const Bounded128, asked_len:
     each(&Nearest, asked, answers)
 }
 
-/// The simplest fraction strictly between the bounds.
+/// The simplest fraction within the bounds.
 #[no_mangle]
 pub unsafe extern "C" fn ratio_between_i128(asked: *const Bounds128, asked_len: usize, answers: *mut Answer128, answers_len: usize) -> u32 {
     // SAFETY: the header says what the caller owes for each pointer and its length.
@@ -360,6 +425,33 @@ pub unsafe extern "C" fn ratio_from_scaled_i128(asked: *const Scaled, asked_len:
     let asked = core::slice::from_raw_parts(asked, asked_len);
     let answers = core::slice::from_raw_parts_mut(answers, answers_len);
     each(&Scaling::<i128>::new(), asked, answers)
+}
+
+/// The convergent of each fraction at its place, from 0 on.
+#[no_mangle]
+pub unsafe extern "C" fn ratio_convergent_i128(asked: *const Place128, asked_len: usize, answers: *mut Answer128, answers_len: usize) -> u32 {
+    // SAFETY: the header says what the caller owes for each pointer and its length.
+    let asked = core::slice::from_raw_parts(asked, asked_len);
+    let answers = core::slice::from_raw_parts_mut(answers, answers_len);
+    each(&ConvergentAt, asked, answers)
+}
+
+/// The lowest terms of exactly the value of each float.
+#[no_mangle]
+pub unsafe extern "C" fn ratio_from_f64_i128(asked: *const f64, asked_len: usize, answers: *mut Answer128, answers_len: usize) -> u32 {
+    // SAFETY: the header says what the caller owes for each pointer and its length.
+    let asked = core::slice::from_raw_parts(asked, asked_len);
+    let answers = core::slice::from_raw_parts_mut(answers, answers_len);
+    each(&FromFloat::<i128>::new(), asked, answers)
+}
+
+/// The float nearest to each fraction.
+#[no_mangle]
+pub unsafe extern "C" fn ratio_to_f64_i128(asked: *const Fraction128, asked_len: usize, answers: *mut Float, answers_len: usize) -> u32 {
+    // SAFETY: the header says what the caller owes for each pointer and its length.
+    let asked = core::slice::from_raw_parts(asked, asked_len);
+    let answers = core::slice::from_raw_parts_mut(answers, answers_len);
+    each(&ToFloat, asked, answers)
 }
 
 /// Each fraction over `i32`, not reduced.
@@ -387,7 +479,19 @@ pub unsafe extern "C" fn ratio_read_i128(texts: *const u8, texts_len: usize, spa
     let texts = core::slice::from_raw_parts(texts, texts_len);
     let spans = core::slice::from_raw_parts(spans, spans_len);
     let answers = core::slice::from_raw_parts_mut(answers, answers_len);
-    each(&Reading::<i128>::of(texts), spans, answers)
+    let reader = Fractions::<i128>::new();
+    each(&Reading { texts, reader }, spans, answers)
+}
+
+/// The same for texts that are decimals, such as `-1.5e-3`.
+#[no_mangle]
+pub unsafe extern "C" fn ratio_read_decimal_i128(texts: *const u8, texts_len: usize, spans: *const Span, spans_len: usize, answers: *mut Answer128, answers_len: usize) -> u32 {
+    // SAFETY: the header says what the caller owes for each pointer and its length.
+    let texts = core::slice::from_raw_parts(texts, texts_len);
+    let spans = core::slice::from_raw_parts(spans, spans_len);
+    let answers = core::slice::from_raw_parts_mut(answers, answers_len);
+    let reader = DecimalTexts::<i128>::new();
+    each(&Reading { texts, reader }, spans, answers)
 }
 
 /// The text of each fraction, not reduced, one after another in `texts`, which has `ROOM` bytes for each.
@@ -397,5 +501,15 @@ pub unsafe extern "C" fn ratio_print_i128(asked: *const Fraction128, asked_len: 
     let asked = core::slice::from_raw_parts(asked, asked_len);
     let texts = core::slice::from_raw_parts_mut(texts, texts_len);
     let answers = core::slice::from_raw_parts_mut(answers, answers_len);
-    print(asked, ROOM, texts, answers)
+    print(&Fields, asked, ROOM, texts, answers)
+}
+
+/// The text of each fraction as a decimal, one after another in `texts`, which has `DECIMAL_ROOM` bytes for each.
+#[no_mangle]
+pub unsafe extern "C" fn ratio_print_decimal_i128(asked: *const Decimal128, asked_len: usize, texts: *mut u8, texts_len: usize, answers: *mut Text, answers_len: usize) -> u32 {
+    // SAFETY: the header says what the caller owes for each pointer and its length.
+    let asked = core::slice::from_raw_parts(asked, asked_len);
+    let texts = core::slice::from_raw_parts_mut(texts, texts_len);
+    let answers = core::slice::from_raw_parts_mut(answers, answers_len);
+    print(&Decimals, asked, DECIMAL_ROOM, texts, answers)
 }

@@ -6,8 +6,14 @@ use crate::proved::ratio_c::arithmetic::{Difference, Product, Quotient, Remainde
 use crate::proved::ratio_c::between::Between;
 use crate::proved::ratio_c::cast::Casting;
 use crate::proved::ratio_c::compare::{Comparison, Equality, Order, Truth};
-use crate::proved::ratio_c::crossing::{Bounded, FlaggedBounds, OneFraction, Parted, Raised, Reply, TwoFractions};
+use crate::proved::ratio_c::convergent::ConvergentAt;
+use crate::proved::ratio_c::crossing::{
+    Bounded, FlaggedBounds, OneFraction, Parted, Placed, Pointed, Raised, Reply, Ruled,
+    TwoFractions,
+};
+use crate::proved::ratio_c::decimal::{DecimalTexts, Decimals};
 use crate::proved::ratio_c::each::each;
+use crate::proved::ratio_c::floats::{Float, FromFloat, ToFloat};
 use crate::proved::ratio_c::hash::{Hash, Hashing};
 use crate::proved::ratio_c::lowest_hash::LowestHashing;
 use crate::proved::ratio_c::multiple::RoundingTo;
@@ -15,13 +21,16 @@ use crate::proved::ratio_c::nearest::Nearest;
 use crate::proved::ratio_c::numbers64::Answer64;
 use crate::proved::ratio_c::numbers128::Answer128;
 use crate::proved::ratio_c::one_fraction::{Ceiling, Floor, LowestTerms, Raising, Rounding, Truncation};
-use crate::proved::ratio_c::printing::{Text, print};
-use crate::proved::ratio_c::reading::{Reading, Span};
+use crate::proved::ratio_c::printing::{Fields, Text, print};
+use crate::proved::ratio_c::reading::{Fractions, Reading, Span};
 use crate::proved::ratio_c::scaled::{Scaled, Scaling};
 use crate::proved::ratio_c::sign::{Absolute, Negation};
 
 /// The room for a text: a slash, and two numbers of at most 11 bytes.
 pub const ROOM: usize = 23;
+
+/// The room for a decimal: a number of at most 11 bytes, a point and 38 digits.
+pub const DECIMAL_ROOM: usize = 50;
 
 /// A fraction as its two numbers.
 #[repr(C)]
@@ -51,7 +60,14 @@ pub struct Bounded32 {
     pub most: i32,
 }
 
-/// The bounds of a fraction, and flags that say which of them is taken.
+/// A fraction and the place of one of its convergents.
+#[repr(C)]
+pub struct Place32 {
+    pub value: Fraction32,
+    pub place: u32,
+}
+
+/// The bounds of a fraction, and flags that say which of them is included, and which is open.
 #[repr(C)]
 pub struct Bounds32 {
     pub low: Fraction32,
@@ -64,6 +80,14 @@ pub struct Bounds32 {
 pub struct Multiple32 {
     pub value: Fraction32,
     pub parts: i32,
+    pub rule: u32,
+}
+
+/// A fraction, a number of decimal places, and the rule by which it is rounded to so many.
+#[repr(C)]
+pub struct Decimal32 {
+    pub value: Fraction32,
+    pub places: u32,
     pub rule: u32,
 }
 
@@ -115,6 +139,22 @@ impl Bounded for Bounded32 {
     }
 }
 
+impl OneFraction for Place32 {
+    type Inside = i32;
+
+    #[inline(always)]
+    fn fraction(&self) -> (i32, i32) {
+        (self.value.numer, self.value.denom)
+    }
+}
+
+impl Placed for Place32 {
+    #[inline(always)]
+    fn place(&self) -> u32 {
+        self.place
+    }
+}
+
 impl OneFraction for Multiple32 {
     type Inside = i32;
 
@@ -124,15 +164,40 @@ impl OneFraction for Multiple32 {
     }
 }
 
+impl Ruled for Multiple32 {
+    #[inline(always)]
+    fn rule(&self) -> u32 {
+        self.rule
+    }
+}
+
 impl Parted for Multiple32 {
     #[inline(always)]
     fn parts(&self) -> i32 {
         self.parts
     }
+}
 
+impl OneFraction for Decimal32 {
+    type Inside = i32;
+
+    #[inline(always)]
+    fn fraction(&self) -> (i32, i32) {
+        (self.value.numer, self.value.denom)
+    }
+}
+
+impl Ruled for Decimal32 {
     #[inline(always)]
     fn rule(&self) -> u32 {
         self.rule
+    }
+}
+
+impl Pointed for Decimal32 {
+    #[inline(always)]
+    fn places(&self) -> u32 {
+        self.places
     }
 }
 
@@ -332,7 +397,7 @@ pub unsafe extern "C" fn ratio_nearest_i32(asked: *const Bounded32, asked_len: u
     each(&Nearest, asked, answers)
 }
 
-/// The simplest fraction strictly between the bounds.
+/// The simplest fraction within the bounds.
 #[no_mangle]
 pub unsafe extern "C" fn ratio_between_i32(asked: *const Bounds32, asked_len: usize, answers: *mut Answer32, answers_len: usize) -> u32 {
     // SAFETY: the header says what the caller owes for each pointer and its length.
@@ -357,6 +422,33 @@ pub unsafe extern "C" fn ratio_from_scaled_i32(asked: *const Scaled, asked_len: 
     let asked = core::slice::from_raw_parts(asked, asked_len);
     let answers = core::slice::from_raw_parts_mut(answers, answers_len);
     each(&Scaling::<i32>::new(), asked, answers)
+}
+
+/// The convergent of each fraction at its place, from 0 on.
+#[no_mangle]
+pub unsafe extern "C" fn ratio_convergent_i32(asked: *const Place32, asked_len: usize, answers: *mut Answer32, answers_len: usize) -> u32 {
+    // SAFETY: the header says what the caller owes for each pointer and its length.
+    let asked = core::slice::from_raw_parts(asked, asked_len);
+    let answers = core::slice::from_raw_parts_mut(answers, answers_len);
+    each(&ConvergentAt, asked, answers)
+}
+
+/// The lowest terms of exactly the value of each float.
+#[no_mangle]
+pub unsafe extern "C" fn ratio_from_f64_i32(asked: *const f64, asked_len: usize, answers: *mut Answer32, answers_len: usize) -> u32 {
+    // SAFETY: the header says what the caller owes for each pointer and its length.
+    let asked = core::slice::from_raw_parts(asked, asked_len);
+    let answers = core::slice::from_raw_parts_mut(answers, answers_len);
+    each(&FromFloat::<i32>::new(), asked, answers)
+}
+
+/// The float nearest to each fraction.
+#[no_mangle]
+pub unsafe extern "C" fn ratio_to_f64_i32(asked: *const Fraction32, asked_len: usize, answers: *mut Float, answers_len: usize) -> u32 {
+    // SAFETY: the header says what the caller owes for each pointer and its length.
+    let asked = core::slice::from_raw_parts(asked, asked_len);
+    let answers = core::slice::from_raw_parts_mut(answers, answers_len);
+    each(&ToFloat, asked, answers)
 }
 
 /// The hash of each fraction in lowest terms.
@@ -393,7 +485,19 @@ pub unsafe extern "C" fn ratio_read_i32(texts: *const u8, texts_len: usize, span
     let texts = core::slice::from_raw_parts(texts, texts_len);
     let spans = core::slice::from_raw_parts(spans, spans_len);
     let answers = core::slice::from_raw_parts_mut(answers, answers_len);
-    each(&Reading::<i32>::of(texts), spans, answers)
+    let reader = Fractions::<i32>::new();
+    each(&Reading { texts, reader }, spans, answers)
+}
+
+/// The same for texts that are decimals, such as `-1.5e-3`.
+#[no_mangle]
+pub unsafe extern "C" fn ratio_read_decimal_i32(texts: *const u8, texts_len: usize, spans: *const Span, spans_len: usize, answers: *mut Answer32, answers_len: usize) -> u32 {
+    // SAFETY: the header says what the caller owes for each pointer and its length.
+    let texts = core::slice::from_raw_parts(texts, texts_len);
+    let spans = core::slice::from_raw_parts(spans, spans_len);
+    let answers = core::slice::from_raw_parts_mut(answers, answers_len);
+    let reader = DecimalTexts::<i32>::new();
+    each(&Reading { texts, reader }, spans, answers)
 }
 
 /// The text of each fraction, not reduced, one after another in `texts`, which has `ROOM` bytes for each.
@@ -403,5 +507,15 @@ pub unsafe extern "C" fn ratio_print_i32(asked: *const Fraction32, asked_len: us
     let asked = core::slice::from_raw_parts(asked, asked_len);
     let texts = core::slice::from_raw_parts_mut(texts, texts_len);
     let answers = core::slice::from_raw_parts_mut(answers, answers_len);
-    print(asked, ROOM, texts, answers)
+    print(&Fields, asked, ROOM, texts, answers)
+}
+
+/// The text of each fraction as a decimal, one after another in `texts`, which has `DECIMAL_ROOM` bytes for each.
+#[no_mangle]
+pub unsafe extern "C" fn ratio_print_decimal_i32(asked: *const Decimal32, asked_len: usize, texts: *mut u8, texts_len: usize, answers: *mut Text, answers_len: usize) -> u32 {
+    // SAFETY: the header says what the caller owes for each pointer and its length.
+    let asked = core::slice::from_raw_parts(asked, asked_len);
+    let texts = core::slice::from_raw_parts_mut(texts, texts_len);
+    let answers = core::slice::from_raw_parts_mut(answers, answers_len);
+    print(&Decimals, asked, DECIMAL_ROOM, texts, answers)
 }

@@ -1,5 +1,5 @@
 // Erased from crates/ratio_c/src/printing.rt by rust/erase: not to be edited.
-//! Printing fractions as texts.
+//! Printing texts, one after another.
 
 use crate::proved::ratio_c::code::{ANSWERED, ZERO_DENOMINATOR};
 use crate::proved::ratio_c::crossing::OneFraction;
@@ -8,23 +8,36 @@ use crate::proved::ratio_c::reading::Span;
 use bakhsney::proved::ratio_core::text::base_ten_text;
 use bakhsney::proved::ratio_integer::Integer;
 
-/// The place of a fraction's text. If there is none, the code says why, and the span is empty.
+/// The place of an item's text. If there is none, the code says why, and the span is empty.
 #[repr(C)]
 pub struct Text {
     pub code: u32,
     pub span: Span,
 }
 
-/// Writes the texts of fractions one after another, and the place of each. If there is not one answer
-/// for each fraction, or not `room` bytes for each text, it returns `BAD_LENGTH` and writes nothing.
+/// A way to print an item.
+pub trait Printer<F> {
+    /// Writes the text of an item at a place.
+    ///
+    /// # Conditions
+    ///
+    /// The proof requires of the caller:
+    ///
+    /// - `at + longest ≤ length texts.old`
+    fn put(&self, x: &F, texts: &mut [u8], at: usize) -> Text;
+}
+
+/// Writes the texts of items one after another, and the place of each. If there is not one answer
+/// for each item, or not `room` bytes for each text, it returns `BAD_LENGTH` and writes nothing.
 ///
 /// # Conditions
 ///
 /// The proof requires of the caller:
 ///
-/// - `base_ten_room F.Inside.lo F.Inside.hi ≤ room`
+/// - `P.longest ≤ room`
 #[inline(always)]
-pub fn print<F: OneFraction>(
+pub fn print<P: Printer<F>, F>(
+    printer: &P,
     asked: &[F],
     room: usize,
     texts: &mut [u8],
@@ -35,7 +48,7 @@ pub fn print<F: OneFraction>(
     }
     let mut at = 0;
     for i in 0..asked.len() {
-        let text = put(&asked[i], texts, at);
+        let text = printer.put(&asked[i], texts, at);
         at = text.span.end;
         answers[i] = text;
     }
@@ -51,25 +64,31 @@ fn has_room(count: usize, room: usize, len: usize) -> bool {
     }
 }
 
-/// Writes the text of a fraction at a place.
+/// Prints the two numbers of a fraction, `N/D`, or `N` if D is 1.
+#[derive(Clone, Copy)]
+pub struct Fields;
+
+impl<F: OneFraction> Printer<F> for Fields {
+    #[inline]
+    fn put(&self, x: &F, texts: &mut [u8], at: usize) -> Text {
+        let (n, d) = x.fraction();
+        if d.is_zero() {
+            return no_text(ZERO_DENOMINATOR, at);
+        }
+        let text = base_ten_text(n, d);
+        put_bytes(text.as_str().as_bytes(), texts, at)
+    }
+}
+
+/// Writes the bytes of a text at a place.
 ///
 /// # Conditions
 ///
 /// The proof requires of the caller:
 ///
-/// - `at + base_ten_room F.Inside.lo F.Inside.hi ≤ length texts.old`
+/// - `at + length bytes.now ≤ length texts.old`
 #[inline]
-fn put<F: OneFraction>(x: &F, texts: &mut [u8], at: usize) -> Text {
-    let (n, d) = x.fraction();
-    if d.is_zero() {
-        let span = Span { start: at, end: at };
-        return Text {
-            code: ZERO_DENOMINATOR,
-            span,
-        };
-    }
-    let text = base_ten_text(n, d);
-    let bytes = text.as_str().as_bytes();
+pub fn put_bytes(bytes: &[u8], texts: &mut [u8], at: usize) -> Text {
     let end = at + bytes.len();
     texts[at..end].copy_from_slice(bytes);
     let span = Span { start: at, end };
@@ -77,4 +96,11 @@ fn put<F: OneFraction>(x: &F, texts: &mut [u8], at: usize) -> Text {
         code: ANSWERED,
         span,
     }
+}
+
+/// An empty span at a place, with the code that says why there is no text.
+#[inline]
+pub fn no_text(code: u32, at: usize) -> Text {
+    let span = Span { start: at, end: at };
+    Text { code, span }
 }

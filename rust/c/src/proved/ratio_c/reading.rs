@@ -14,45 +14,64 @@ pub struct Span {
     pub end: usize,
 }
 
+/// A way to read a text as a fraction.
+pub trait Reader {
+    /// The type of its two numbers in the library.
+    type Inside: Digest;
+
+    /// The two numbers of the fraction, or the code of the refusal.
+    fn read(&self, text: &str) -> Result<(Self::Inside, Self::Inside), u32>;
+}
+
 /// The call that reads one of several texts.
-pub struct Reading<'a, T> {
+pub struct Reading<'a, R> {
     pub texts: &'a [u8],
-    marker: PhantomData<T>,
+    pub reader: R,
 }
 
-impl<'a, T> Reading<'a, T> {
-    /// The call over these texts.
-    #[inline(always)]
-    pub fn of(texts: &'a [u8]) -> Reading<'a, T> {
-        Reading {
-            texts,
-            marker: PhantomData,
-        }
-    }
-}
-
-impl<'a, T: Digest, A: Reply<T>> Call<Span, A> for Reading<'a, T> {
+impl<'a, R: Reader, A: Reply<R::Inside>> Call<Span, A> for Reading<'a, R> {
     #[inline(always)]
     fn answer(&self, span: &Span) -> A {
         if span.end < span.start || self.texts.len() < span.end {
             return refused(NO_TEXT);
         }
         match core::str::from_utf8(&self.texts[span.start..span.end]) {
-            Ok(text) => read(text),
+            Ok(text) => match self.reader.read(text) {
+                Ok((numer, denom)) => A::reply(ANSWERED, numer, denom),
+                Err(code) => refused(code),
+            },
             Err(_) => refused(PARSE_ERROR),
         }
     }
 }
 
-/// The fraction of a text, or the code of its refusal.
-#[inline]
-fn read<T: Digest, A: Reply<T>>(text: &str) -> A {
-    match Ratio::<T>::from_str(text) {
-        Ok(x) => A::reply(ANSWERED, *x.numer(), *x.denom()),
-        Err(refusal) => refused(match refusal.kind() {
-            RatioErrorKind::ParseError => wide_refusal(text),
-            RatioErrorKind::ZeroDenominator => ZERO_DENOMINATOR,
-        }),
+/// The reader of texts such as `-2/4`, over the type `T`.
+pub struct Fractions<T> {
+    marker: PhantomData<T>,
+}
+
+impl<T> Fractions<T> {
+    /// The reader over the type `T`.
+    #[inline(always)]
+    pub fn new() -> Fractions<T> {
+        Fractions {
+            marker: PhantomData,
+        }
+    }
+}
+
+impl<T: Digest> Reader for Fractions<T> {
+    type Inside = T;
+
+    #[inline]
+    fn read(&self, text: &str) -> Result<(T, T), u32> {
+        match Ratio::<T>::from_str(text) {
+            Ok(x) => Ok(x.into_raw()),
+            Err(refusal) => Err(match refusal.kind() {
+                RatioErrorKind::ParseError => wide_refusal(text),
+                RatioErrorKind::ZeroDenominator => ZERO_DENOMINATOR,
+            }),
+        }
     }
 }
 

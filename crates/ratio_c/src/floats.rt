@@ -1,0 +1,65 @@
+//! Fractions with the values of floats, and the floats nearest to fractions.
+ghost use Rattle.std.specs.Prelude.{◌≡◌};
+ghost use Rattle.ratio_c.specs.Calls.{IsFromFloatAnswer, IsToFloatAnswer};
+
+use crate::code::{ANSWERED, DENOMINATOR_NOT_POSITIVE};
+use crate::crossing::{Digest, OneFraction, Reply, checked_fields};
+use crate::each::Call;
+use crate::one_fraction::positive;
+use ratio_core::floats::exact::from_float;
+use std::marker::PhantomData;
+
+/// A float. If there is none, the code says why, and the value is 0.
+#[repr(C)]
+#[derive(Drop)]
+pub struct Float {
+    pub code: u32,
+    pub value: f64,
+}
+
+/// The call that gives a fraction of the type `T` with exactly the value of a float: 0.75 gives 3/4.
+#[derive(Drop)]
+pub struct FromFloat<T> {
+    marker: PhantomData<T>,
+}
+
+impl<T> FromFloat<T> {
+    /// The call for the type `T`.
+    #[inline(always)]
+    pub fn new() -> FromFloat<T> {
+        FromFloat {
+            marker: PhantomData,
+        }
+    }
+}
+
+impl<T: Digest, A: Reply<T>> Call<f64, A> for FromFloat<T> {
+    ghost gives = { λ _ x answer. IsFromFloatAnswer T.lo T.hi x (A.said answer) };
+
+    #[inline(always)]
+    fn answer(&self, x: &f64) -> A {
+        checked_fields(from_float::<T>(*x))
+    }
+}
+
+/// The float nearest to a fraction: 1/3 gives 0.3333333333333333.
+#[derive(Clone, Copy)]
+pub struct ToFloat;
+
+impl<F: OneFraction> Call<F, Float> for ToFloat {
+    ghost gives = { λ _ x answer. IsToFloatAnswer (F.fraction x) answer.code answer.value };
+
+    #[inline(always)]
+    fn answer(&self, x: &F) -> Float {
+        match positive(x) {
+            Some(r) => Float {
+                code: ANSWERED,
+                value: r.to_f64(),
+            },
+            None => Float {
+                code: DENOMINATOR_NOT_POSITIVE,
+                value: 0.0,
+            },
+        }
+    }
+}

@@ -19,10 +19,13 @@ static ratio_bounded_i64 bounded[LEN];
 static ratio_bounds_i64 bounds[LEN];
 static ratio_multiple_i64 multiples[LEN];
 static ratio_scaled scaled[LEN];
+static ratio_place_i64 steps[LEN];
+static ratio_decimal_i64 decimals[LEN];
+static double doubles[LEN];
 static ratio_total_i64 totals[LEN], total;
-static uint8_t texts[LEN * RATIO_ROOM_I64], printed[LEN * RATIO_ROOM_I64];
-static size_t texts_len;
-static ratio_span spans[LEN];
+static uint8_t texts[LEN * RATIO_ROOM_I64], decimal_texts[LEN * RATIO_DECIMAL_ROOM_I64], printed[LEN * RATIO_DECIMAL_ROOM_I64];
+static size_t texts_len, decimal_texts_len;
+static ratio_span spans[LEN], decimal_spans[LEN];
 
 static ratio_answer_i64 answers[LEN];
 static ratio_answer_i32 narrow[LEN];
@@ -31,6 +34,7 @@ static ratio_order orders[LEN];
 static ratio_truth truths[LEN];
 static ratio_hash hashes[LEN];
 static ratio_key keys[LEN];
+static ratio_float floats[LEN];
 static ratio_text places[LEN];
 
 static void done(uint32_t returned) {
@@ -50,6 +54,7 @@ static void done(uint32_t returned) {
     X(floor_i64, halves, answers, "half") X(ceil_i64, halves, answers, "half") X(trunc_i64, halves, answers, "half") \
     X(round_i64, halves, answers, "half") X(round_to_i64, multiples, answers, "half")                       \
     X(nearest_i64, bounded, answers, "half") X(between_i64, bounds, answers, "half")                        \
+    X(convergent_i64, steps, answers, "half") X(to_f64_i64, halves, floats, "half") X(from_f64_i64, doubles, answers, "half") \
     X(from_scaled_i64, scaled, answers, "half") X(cast_i64_to_i32, halves, narrow, "half")                  \
     X(cast_i64_to_i128, halves, wide, "half") X(total_sum_i64, totals, answers, "small")                    \
     X(total_mean_i64, totals, answers, "small")
@@ -58,6 +63,8 @@ static void done(uint32_t returned) {
 #define OTHERS(X)                                                                                           \
     X(read_i64, (texts, texts_len, spans, LEN, answers, LEN), "half")                                       \
     X(print_i64, (halves, LEN, printed, sizeof printed, places, LEN), "half")                               \
+    X(read_decimal_i64, (decimal_texts, decimal_texts_len, decimal_spans, LEN, answers, LEN), "half")       \
+    X(print_decimal_i64, (decimals, LEN, printed, sizeof printed, places, LEN), "half")                     \
     X(total_add_i64, (smalls, LEN, empty(), 1), "small") X(total_subtract_i64, (smalls, LEN, full(), 1), "small") \
     X(total_merge_i64, (totals, LEN, empty(), 1), "small")
 
@@ -119,6 +126,12 @@ static void fill(void) {
         multiples[i].rule = RATIO_RULE_HALF_EVEN;
         scaled[i].number.low = (uint64_t) random_below(half);
         scaled[i].scale = (int32_t) random_below(5);
+        steps[i].value = x;
+        steps[i].place = 4;
+        decimals[i].value = x;
+        decimals[i].places = 2;
+        decimals[i].rule = RATIO_RULE_HALF_EVEN;
+        doubles[i] = (double) random_below(half) / 256;
         memset(&totals[i], 0, sizeof totals[i]);
         done(ratio_total_add_i64(&smalls[i], 1, &totals[i], 1));
     }
@@ -126,6 +139,9 @@ static void fill(void) {
     done(ratio_print_i64(halves, LEN, texts, sizeof texts, places, LEN));
     for (int i = 0; i < LEN; i++) spans[i] = places[i].span;
     texts_len = spans[LEN - 1].end;
+    done(ratio_print_decimal_i64(decimals, LEN, decimal_texts, sizeof decimal_texts, places, LEN));
+    for (int i = 0; i < LEN; i++) decimal_spans[i] = places[i].span;
+    decimal_texts_len = decimal_spans[LEN - 1].end;
 }
 
 static double now(void) {

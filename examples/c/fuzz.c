@@ -23,8 +23,10 @@ enum { ASKED, TEXTS, ANSWERS, ARRAYS };
 typedef uint32_t plain(const void *asked, size_t asked_len, void *answers, size_t answers_len);
 typedef uint32_t with_texts(const void *asked, size_t asked_len, uint8_t *texts, size_t texts_len, void *answers, size_t answers_len);
 
-/* A call: the bytes of what it is asked, how many numbers of how many bytes begin it, and the bytes of an answer. */
-typedef struct { plain *plain; with_texts *reads, *prints; size_t asked, numbers, number, answer; } call;
+/* A call: the bytes of what it is asked, how many numbers of how many bytes begin it, the bytes of an answer and those of a printed text. */
+typedef struct { plain *plain; with_texts *reads, *prints; size_t asked, numbers, number, answer, room; } call;
+
+typedef double ratio_double;
 
 /* Each call by its name, with what it is asked, how many numbers of which type begin that, and its answer. Options are behind the numbers.
  * A total has no such numbers.
@@ -39,7 +41,9 @@ typedef struct { plain *plain; with_texts *reads, *prints; size_t asked, numbers
     X(floor_##s, s, 2, number, answer_##s) X(ceil_##s, s, 2, number, answer_##s)                              \
     X(trunc_##s, s, 2, number, answer_##s) X(round_##s, s, 2, number, answer_##s)                             \
     X(nearest_##s, bounded_##s, 3, number, answer_##s) X(between_##s, bounds_##s, 4, number, answer_##s)      \
-    X(round_to_##s, multiple_##s, 3, number, answer_##s) X(from_scaled_##s, scaled, 1, ratio_wide, answer_##s)
+    X(round_to_##s, multiple_##s, 3, number, answer_##s) X(from_scaled_##s, scaled, 1, ratio_wide, answer_##s) \
+    X(convergent_##s, place_##s, 2, number, answer_##s) X(to_f64_##s, s, 2, number, float)                    \
+    X(from_f64_##s, double, 1, double, answer_##s)
 
 #define ALL_PLAIN(X)                                                                                          \
     PLAIN(X, i32, int32_t) PLAIN(X, i64, int64_t) PLAIN(X, i128, ratio_wide)                                  \
@@ -52,14 +56,16 @@ typedef struct { plain *plain; with_texts *reads, *prints; size_t asked, numbers
     X(total_merge_i64, total_i64, 0, ratio_wide, total_i64)                                                   \
     X(total_sum_i64, total_i64, 0, ratio_wide, answer_i64) X(total_mean_i64, total_i64, 0, ratio_wide, answer_i64)
 
-#define WITH_TEXTS(X, s, number) X(read_##s, print_##s, s, number, answer_##s)
-#define ALL_WITH_TEXTS(X) WITH_TEXTS(X, i32, int32_t) WITH_TEXTS(X, i64, int64_t) WITH_TEXTS(X, i128, ratio_wide)
+#define WITH_TEXTS(X, s, number, SIZE)                                                                        \
+    X(read_##s, print_##s, s, number, answer_##s, RATIO_ROOM_##SIZE)                                          \
+    X(read_decimal_##s, print_decimal_##s, decimal_##s, number, answer_##s, RATIO_DECIMAL_ROOM_##SIZE)
+#define ALL_WITH_TEXTS(X) WITH_TEXTS(X, i32, int32_t, I32) WITH_TEXTS(X, i64, int64_t, I64) WITH_TEXTS(X, i128, ratio_wide, I128)
 
 #define DEFINE_PLAIN(name, asked_type, count, number, answer_type)                                            \
     static uint32_t name(const void *asked, size_t asked_len, void *answers, size_t answers_len) {            \
         return ratio_##name(asked, asked_len, answers, answers_len);                                          \
     }
-#define DEFINE_WITH_TEXTS(reads, prints, s, number, answer_type)                                              \
+#define DEFINE_WITH_TEXTS(reads, prints, asked_type, number, answer_type, room)                               \
     static uint32_t reads(const void *asked, size_t n, uint8_t *texts, size_t len, void *answers, size_t m) { \
         return ratio_##reads(texts, len, asked, n, answers, m);                                               \
     }                                                                                                         \
@@ -70,10 +76,10 @@ ALL_PLAIN(DEFINE_PLAIN)
 ALL_WITH_TEXTS(DEFINE_WITH_TEXTS)
 
 #define ROW_PLAIN(name, asked, count, number, answer) \
-    {name, NULL, NULL, sizeof(ratio_##asked), count, sizeof(number), sizeof(ratio_##answer)},
-#define ROWS_WITH_TEXTS(reads, prints, asked, number, answer)                                                 \
-    {NULL, reads, NULL, sizeof(ratio_span), 2, sizeof(size_t), sizeof(ratio_##answer)},                       \
-    {NULL, NULL, prints, sizeof(ratio_##asked), 2, sizeof(number), sizeof(ratio_text)},
+    {name, NULL, NULL, sizeof(ratio_##asked), count, sizeof(number), sizeof(ratio_##answer), 0},
+#define ROWS_WITH_TEXTS(reads, prints, asked, number, answer, room)                                           \
+    {NULL, reads, NULL, sizeof(ratio_span), 2, sizeof(size_t), sizeof(ratio_##answer), 0},                    \
+    {NULL, NULL, prints, sizeof(ratio_##asked), 2, sizeof(number), sizeof(ratio_text), room},
 static const call calls[] = {ALL_PLAIN(ROW_PLAIN) ALL_WITH_TEXTS(ROWS_WITH_TEXTS)};
 
 static uint64_t state, checksum, codes[CODES];
@@ -129,7 +135,13 @@ static void put_number(uint8_t *at, size_t size, int is_positive) {
     memcpy(at, half, size);
 }
 
-/* Writes what a call is asked: random bytes, a total, or numbers and options. Each second number is a denominator, and mostly above 0. */
+/* Writes a float that fits or nearly fits the types. */
+static void put_double(uint8_t *at) {
+    const double x = (double) (int64_t) (next() >> below(64)) / (double) (UINT64_C(1) << below(64));
+    memcpy(at, &x, sizeof x);
+}
+
+/* Writes what a call is asked: random bytes, a total, a float, or numbers and options. Each second number is a denominator, and mostly above 0. */
 static void put_item(uint8_t *at, const call *c) {
     const size_t size = c->number;
     if (below(16) == 0) {
@@ -139,6 +151,10 @@ static void put_item(uint8_t *at, const call *c) {
     if (c->numbers == 0) {
         memcpy(at, &totals[below(MOST)], c->asked);
         if (below(16) == 0) put_number(at + offsetof(ratio_total_i64, sum), size, 0);
+        return;
+    }
+    if (c->numbers == 1 && size == sizeof(double)) {
+        put_double(at);
         return;
     }
     for (size_t i = 0; i < c->numbers; i++) put_number(at + i * size, size, i % 2 == 1 || below(2));
@@ -193,8 +209,7 @@ static void test_before(const uint8_t *array) {
 static void one_call(const call *c) {
     const int changes = c->plain != NULL && c->answer == sizeof(ratio_total_i64);
     const size_t n = below(MOST + 1), m = changes ? 1 + (below(16) == 0) : below(8) > 0 ? n : below(MOST + 1);
-    const size_t room = c->number == 4 ? RATIO_ROOM_I32 : c->number == 8 ? RATIO_ROOM_I64 : RATIO_ROOM_I128;
-    const size_t size = c->prints != NULL ? n * room + below(3) - (n > 0 && below(4) == 0) : below(TEXT);
+    const size_t size = c->prints != NULL ? n * c->room + below(3) - (n > 0 && below(4) == 0) : below(TEXT);
     uint8_t *asked = place(ASKED, n * c->asked), *texts = place(TEXTS, size), *answers = place(ANSWERS, m * c->answer);
     const size_t chosen = below(MOST);
     uint32_t returned;

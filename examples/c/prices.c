@@ -5,14 +5,14 @@ enum { LINES = 5 };
 
 /* For each line its name, the price of one unit, and how many units. */
 static const char *const bill[LINES][3] = {
-    {"flour", "89/100", "3/2"}, {"rice", "21/10", "1/3"}, {"deposit", "-1/4", "6"}, {"salt", "1/2", "two"}, {"gold", "9223372036854775807", "2"},
+    {"flour", "0.89", "1.5"}, {"rice", "2.10", "0.333"}, {"deposit", "-0.25", "6"}, {"salt", "0.50", "two"}, {"gold", "9223372036854775807", "2"},
 };
 
-/* The fraction of a text. */
+/* The fraction of a decimal. */
 static ratio_answer_i64 number_of(const char *text) {
     const ratio_span span = {0, strlen(text)};
     ratio_answer_i64 answer;
-    done(ratio_read_i64((const uint8_t *) text, strlen(text), &span, 1, &answer, 1));
+    done(ratio_read_decimal_i64((const uint8_t *) text, strlen(text), &span, 1, &answer, 1));
     return answer;
 }
 
@@ -27,17 +27,15 @@ static ratio_answer_i64 cost(const char *price, const char *amount) {
     return answer;
 }
 
-/* Prints a sum of money, and what it is in cents. */
+/* Prints a sum of money as a fraction, and with two places. */
 static void print_money(ratio_i64 money) {
-    const ratio_multiple_i64 cents = {money, 100, RATIO_RULE_HALF_EVEN};
-    ratio_answer_i64 rounded;
-    done(ratio_round_to_i64(&cents, 1, &rounded, 1));
+    const ratio_decimal_i64 cents = {money, 2, RATIO_RULE_HALF_EVEN};
+    uint8_t bytes[RATIO_DECIMAL_ROOM_I64];
+    ratio_text text;
+    done(ratio_print_decimal_i64(&cents, 1, bytes, sizeof bytes, &text, 1));
     print(money);
-    printf(", in cents ");
-    print_answer(rounded);
-    printf("\n");
+    printf(", in cents %.*s\n", (int) text.span.end, (const char *) bytes);
 }
-
 int main(void) {
     ratio_total_i64 total = {0};
     ratio_answer_i64 sum;

@@ -233,8 +233,9 @@ RATIO_SHORT_CALLS(i64)
 #undef RATIO_SHORT_CALLS
 
 /* The key of each fraction, for sorting by short keys: if one value is at most another, so is its key. So equal values have equal keys.
- * A key keeps 56 binary digits of the value, and whether there are more: -1/3 has the key -4491590028364174677, and 1/2 has
- * 4539628424389459968. Values with the same key can be unlike: `ratio_compare_i64` tells which is greater.
+ * If the nearest `double` of one value is below that of another, so is its key. A key is the bits of the `double` nearest to the size of
+ * the fraction, with its sign: -1/3 has the key -4599676419421066581, and 1/2 has 4602678819172646912. Values with the same key can be
+ * unlike: `ratio_compare_i64` tells which is greater.
  */
 uint32_t ratio_key_i64(const ratio_i64 *asked, size_t asked_len, ratio_key *answers, size_t answers_len);
 

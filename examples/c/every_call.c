@@ -310,14 +310,14 @@ static void totals(void) {
     expect(ratio_total_add_i64(shares, 1, pair, 2) == RATIO_BAD_LENGTH && pair[0].count == 0, "two totals");
 }
 
-/* A script of Python computed the keys, by the definition. */
+/* Python's division, which gives the nearest float, computed the keys. */
 static void keys(void) {
     static const ratio_i64 x[6] = {{INT64_MIN, 1}, {-1, 3}, {0, 7}, {2, 4}, {INT64_MAX, 1}, {1, 0}};
     ratio_key key[6];
     int i;
     expect(ratio_key_i64(x, 6, key, 6) == RATIO_DONE, "keys");
-    expect(key[0].key == -INT64_C(9151314442816847872) && key[1].key == -INT64_C(4491590028364174677), "keys below 0");
-    expect(key[2].code == RATIO_ANSWERED && key[2].key == 0 && key[3].key == INT64_C(4539628424389459968), "keys of 0 and 1/2");
+    expect(key[0].key == -INT64_C(4890909195324358656) && key[1].key == -INT64_C(4599676419421066581), "keys below 0");
+    expect(key[2].code == RATIO_ANSWERED && key[2].key == 0 && key[3].key == INT64_C(4602678819172646912), "keys of 0 and 1/2");
     for (i = 0; i < 4; i++) expect(key[i].key < key[i + 1].key, "order of keys");
     expect(key[5].code == RATIO_DENOMINATOR_NOT_POSITIVE && key[5].key == 0, "no key");
 }

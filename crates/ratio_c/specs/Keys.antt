@@ -1,36 +1,31 @@
 -- Keys of 64 bits, whose order never contradicts that of the values.
-use Rattle.std.specs.Prelude.{◌≡◌, ◌+◌, ◌*◌, ◌/◌, ◌%◌, ◌^◌, ◌==◌, ◌<◌, ◌≤◌, ◌<ℤ◌, ◌≤ℤ◌, ◌*ℤ◌, ℕ, ℤ, pos, negsuc, neg_ℤ, unsigned_abs, if◌then◌else◌}
+use Rattle.std.specs.Prelude.{◌≡◌, ◌<ℤ◌, ◌≤ℤ◌, ◌*ℤ◌, ℕ, ℤ, pos, negsuc, neg_ℤ, to_bits, unsigned_abs}
+use Rattle.std.specs.Float.{binary64, ◌<ᶠ◌}
+use Rattle.ratio_core.specs.Floats.{nearest_float}
 use Rattle.ratio_c.specs.Calls.{Tested}
 use Rattle.ratio_c.specs.Codes.{code_answered, code_denominator_not_positive}
 
--- 0 if a is a multiple of b, and 1 if a rest is left
-abbrev pub rest_mark : ℕ → ℕ → ℕ
-rest_mark a b = if a % b == 0 then 0 else 1
-
--- The key of n/d. It is written in binary, as a float is: `shift` is the least number for which n/d, times 2^118 and divided by 2^shift,
--- is below 2^56, and the floor of that is kept. So 56 bits of n/d are kept, and a last bit says whether more are left. For example, 1/1
--- has the shift 63, and the key 2 * (63 * 2^55 + 2^55).
-pub record IsMagnitudeKey (n d key : ℕ) : Type 0 where
-  pub shift : ℕ
-  pub below : n * 2 ^ 118 < 2 ^ 56 * (d * 2 ^ shift)
-  pub least : 0 < shift → 2 ^ 55 * (d * 2 ^ shift) ≤ n * 2 ^ 118
-  pub is_key : key ≡ 2 * (shift * 2 ^ 55 + (n * 2 ^ 118) / (d * 2 ^ shift)) + rest_mark (n * 2 ^ 118) (d * 2 ^ shift)
+-- the bits of the float of 64 bits nearest to n/d: 1023 * 2^52 for 1/1, which is 1.0
+abbrev pub nearest_bits : ℕ → ℤ → ℕ
+nearest_bits n d = to_bits binary64 (nearest_float binary64 (pos n) d)
 
 -- a number with the sign of another: -5 for 5 and -2
 abbrev pub with_sign_of : ℤ → ℕ → ℤ
 with_sign_of (pos n) size = pos size
 with_sign_of (negsuc n) size = neg_ℤ (pos size)
 
--- the key of a fraction is that of its magnitude, with its sign
-pub record IsKeyOf (x : ℤ × ℤ) (key : ℤ) : Type 0 where
-  pub size : ℕ
-  pub is_size : IsMagnitudeKey (unsigned_abs x.0) (unsigned_abs x.1) size
-  pub is_key : key ≡ with_sign_of x.0 size
+-- the key of a fraction: the bits of the float nearest to its size, with its sign
+abbrev pub key_of : ℤ × ℤ → ℤ
+key_of x = with_sign_of x.0 (nearest_bits (unsigned_abs x.0) x.1)
 
 -- The key, if the denominator is positive.
 abbrev pub IsKeyAnswer : ℤ × ℤ → ℕ → ℤ → Type 0
-IsKeyAnswer x code key = Tested (pos 0 <ℤ x.1) ((code ≡ code_answered) × IsKeyOf x key) ((code ≡ code_denominator_not_positive) × (key ≡ pos 0))
+IsKeyAnswer x code key = Tested (pos 0 <ℤ x.1) ((code ≡ code_answered) × (key ≡ key_of x)) ((code ≡ code_denominator_not_positive) × (key ≡ pos 0))
 
 -- If one value is at most another, so is its key. So equal values have equal keys.
 abbrev pub KeysKeepOrder : Type 0
-KeysKeepOrder = (x y : ℤ × ℤ) (k l : ℤ) → pos 0 <ℤ x.1 → pos 0 <ℤ y.1 → (x.0 *ℤ y.1) ≤ℤ (y.0 *ℤ x.1) → IsKeyOf x k → IsKeyOf y l → k ≤ℤ l
+KeysKeepOrder = (x y : ℤ × ℤ) → pos 0 <ℤ x.1 → pos 0 <ℤ y.1 → (x.0 *ℤ y.1) ≤ℤ (y.0 *ℤ x.1) → key_of x ≤ℤ key_of y
+
+-- If the nearest float of one value is below that of another, so is its key. So values whose nearest floats differ have unlike keys.
+abbrev pub KeysTellFloats : Type 0
+KeysTellFloats = (x y : ℤ × ℤ) → pos 0 <ℤ x.1 → pos 0 <ℤ y.1 → nearest_float binary64 x.0 x.1 <ᶠ nearest_float binary64 y.0 y.1 → key_of x <ℤ key_of y

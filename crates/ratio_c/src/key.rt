@@ -1,12 +1,13 @@
 //! Keys for sorting: 64 bits whose order never contradicts that of the values.
-ghost use Rattle.std.specs.Prelude.{◌≡◌, ◌+◌, ◌*◌, ◌^◌, ◌<◌, ◌≤◌};
+ghost use Rattle.std.specs.Prelude.{◌≡◌, ◌<◌, pos};
 ghost use Rattle.ratio_c.specs.Calls.{AnswersEach};
-ghost use Rattle.ratio_c.specs.Keys.{IsKeyAnswer, IsMagnitudeKey};
+ghost use Rattle.ratio_c.specs.Keys.{IsKeyAnswer, nearest_bits};
 ghost use Rattle.ratio_c.specs.Numbers64.{fraction64};
 
 use crate::code::{ANSWERED, DENOMINATOR_NOT_POSITIVE};
 use crate::each::{Call, each};
 use crate::numbers64::Fraction64;
+use ratio_core::floats::nearest::to_f64;
 
 /// A key. If there is none, the code says why, and the key is 0.
 #[repr(C)]
@@ -16,7 +17,7 @@ pub struct Key {
     pub key: i64,
 }
 
-/// The key of a fraction: 56 bits of its value, where they begin, and whether more are left.
+/// The key of a fraction: the bits of the float nearest to its size, with its sign.
 #[derive(Clone, Copy)]
 pub struct Keying;
 
@@ -31,7 +32,7 @@ impl Call<Fraction64, Key> for Keying {
                 key: 0,
             };
         }
-        let size = magnitude_key(x.numer.unsigned_abs(), x.denom as u64) as i64;
+        let size = size_key(x.numer.unsigned_abs(), x.denom as u64);
         let key = if x.numer < 0 { -size } else { size };
         Key {
             code: ANSWERED,
@@ -40,25 +41,13 @@ impl Call<Fraction64, Key> for Keying {
     }
 }
 
-/// The key of `n/d`, from the quotient of `n/d` by the power of 2 that leaves 56 bits of it.
-fn magnitude_key(n: u64, d: u64) -> u64
-    requires numer { n ≤ 2 ^ 63 }
-    requires positive { 0 < d }
-    requires denom { d < 2 ^ 63 }
-    ensures key { IsMagnitudeKey n d result }
-    ensures short { result < 2 ^ 63 }
+/// The bits of the float nearest to `n/d`. Of two floats that are not below 0, the greater one has the greater bits.
+#[inline(always)]
+fn size_key(n: u64, d: u64) -> i64
+    requires { 0 < d }
+    ensures { result ≡ pos (nearest_bits n (pos d)) }
 {
-    let unit = d as u128 * 256;
-    let least = unit * (1 << 55);
-    let mut top = n as u128;
-    let mut shift: u64 = 126;
-    'halvings: while shift > 0 && top < least {
-        top *= 2;
-        shift -= 1;
-    }
-    let kept = (top / unit) as u64;
-    let rest = if top % unit == 0 { 0 } else { 1 };
-    2 * (shift * (1 << 55) + kept) + rest
+    to_f64(n, d).to_bits() as i64
 }
 
 /// The key of each fraction.

@@ -1,6 +1,6 @@
 //! The laws of this crate. Each function does nothing: its contract is the law.
 ghost use Rattle.ratio_c.specs.Calls.{EqualValuesHaveOneHash};
-ghost use Rattle.ratio_c.specs.Keys.{KeysKeepOrder};
+ghost use Rattle.ratio_c.specs.Keys.{KeysKeepOrder, KeysTellFloats};
 ghost use Rattle.ratio_c.specs.LowestHash.{DenominatorsHaveUnlikeHashes, EqualHaveOneHash, NumeratorsHaveUnlikeHashes};
 ghost use Rattle.ratio_c.specs.TotalLaws.{CallsFollow, LostStaysLost, TotalsInAnyOrder, OutUndoesIn, PartsMerge};
 
@@ -25,7 +25,8 @@ pub fn totals()
     ensures lost { LostStaysLost }
 {}
 
-/// If one value is at most another, so is its key.
+/// If one value is at most another, so is its key. If the nearest float of one value is below that of another, so is its key.
 pub fn keys()
-    ensures { KeysKeepOrder }
+    ensures order { KeysKeepOrder }
+    ensures floats { KeysTellFloats }
 {}

@@ -288,7 +288,7 @@ fn keys(rt: HostRuntime) {
     assert!(rt; ratio_key_i64(&asked, &mut answers) == DONE);
     let [first, second, third] = answers;
     assert!(rt;
-        [first.key, second.key, third.key] == [-4491590028364174677, 4539628424389459968, 0]
+        [first.key, second.key, third.key] == [-4599676419421066581, 4602678819172646912, 0]
     );
     assert!(rt; third.code == DENOMINATOR_NOT_POSITIVE);
 }

@@ -1,0 +1,181 @@
+/* Times each call for C over fractions of 64 bits, on arrays of 1000. It prints a line for each: its name, the kind of its input and the
+ * nanoseconds of one fraction, with tabs between. With an argument it prints the names alone.
+ */
+#define _POSIX_C_SOURCE 199309L
+#include "ratio.h"
+
+#include <stdio.h>
+#include <stdlib.h>
+#include <string.h>
+#include <time.h>
+
+/* Each call is timed so often, for so many nanoseconds at least, and the median is printed. */
+enum { LEN = 1000, ROUNDS = 101, LEAST = 100000 };
+
+static ratio_i64 halves[LEN], smalls[LEN];
+static ratio_pair_i64 pairs[LEN];
+static ratio_power_i64 powers[LEN];
+static ratio_bounded_i64 bounded[LEN];
+static ratio_bounds_i64 bounds[LEN];
+static ratio_multiple_i64 multiples[LEN];
+static ratio_scaled scaled[LEN];
+static ratio_place_i64 steps[LEN];
+static ratio_decimal_i64 decimals[LEN];
+static double doubles[LEN];
+static ratio_total_i64 totals[LEN], total;
+static uint8_t texts[LEN * RATIO_ROOM_I64], decimal_texts[LEN * RATIO_DECIMAL_ROOM_I64], printed[LEN * RATIO_DECIMAL_ROOM_I64];
+static size_t texts_len, decimal_texts_len;
+static ratio_span spans[LEN], decimal_spans[LEN];
+
+static ratio_answer_i64 answers[LEN];
+static ratio_answer_i32 narrow[LEN];
+static ratio_answer_i128 wide[LEN];
+static ratio_order orders[LEN];
+static ratio_truth truths[LEN];
+static ratio_hash hashes[LEN];
+static ratio_key keys[LEN];
+static ratio_float floats[LEN];
+static ratio_text places[LEN];
+
+static void done(uint32_t returned) {
+    if (returned != RATIO_DONE) {
+        fputs("bench: a call got arrays of other lengths than it requires\n", stderr);
+        exit(1);
+    }
+}
+
+/* Each call, what it is asked, where its answers go, and the kind of its input. */
+#define CALLS(X)                                                                                            \
+    X(compare_i64, pairs, orders, "half") X(equal_i64, pairs, truths, "half") X(hash_i64, halves, hashes, "half") \
+    X(hash_lowest_i64, halves, hashes, "half") X(key_i64, halves, keys, "half")                             \
+    X(add_i64, pairs, answers, "half") X(sub_i64, pairs, answers, "half") X(mul_i64, pairs, answers, "half") \
+    X(div_i64, pairs, answers, "half") X(rem_i64, pairs, answers, "half") X(pow_i64, powers, answers, "half") \
+    X(reduce_i64, halves, answers, "half") X(neg_i64, halves, answers, "half") X(abs_i64, halves, answers, "half") \
+    X(floor_i64, halves, answers, "half") X(ceil_i64, halves, answers, "half") X(trunc_i64, halves, answers, "half") \
+    X(round_i64, halves, answers, "half") X(round_to_i64, multiples, answers, "half")                       \
+    X(nearest_i64, bounded, answers, "half") X(between_i64, bounds, answers, "half")                        \
+    X(convergent_i64, steps, answers, "half") X(to_f64_i64, halves, floats, "half") X(from_f64_i64, doubles, answers, "half") \
+    X(from_scaled_i64, scaled, answers, "half") X(cast_i64_to_i32, halves, narrow, "half")                  \
+    X(cast_i64_to_i128, halves, wide, "half") X(total_sum_i64, totals, answers, "small")                    \
+    X(total_mean_i64, totals, answers, "small")
+
+/* Those with texts or with one total. */
+#define OTHERS(X)                                                                                           \
+    X(read_i64, (texts, texts_len, spans, LEN, answers, LEN), "half")                                       \
+    X(print_i64, (halves, LEN, printed, sizeof printed, places, LEN), "half")                               \
+    X(read_decimal_i64, (decimal_texts, decimal_texts_len, decimal_spans, LEN, answers, LEN), "half")       \
+    X(print_decimal_i64, (decimals, LEN, printed, sizeof printed, places, LEN), "half")                     \
+    X(total_add_i64, (smalls, LEN, empty(), 1), "small") X(total_subtract_i64, (smalls, LEN, full(), 1), "small") \
+    X(total_merge_i64, (totals, LEN, empty(), 1), "small")
+
+static ratio_total_i64 *empty(void) {
+    return memset(&total, 0, sizeof total);
+}
+
+/* The total of all small fractions, which was made before. */
+static ratio_total_i64 all;
+static ratio_total_i64 *full(void) {
+    return memcpy(&total, &all, sizeof total);
+}
+
+#define DEFINE(name, asked, results, kind) static void name(void) { done(ratio_##name(asked, LEN, results, LEN)); }
+#define DEFINE_OTHER(name, arguments, kind) static void name(void) { done(ratio_##name arguments); }
+CALLS(DEFINE)
+OTHERS(DEFINE_OTHER)
+
+#define ROW(name, asked, results, kind) {"ratio_" #name, kind, name},
+#define ROW_OTHER(name, arguments, kind) {"ratio_" #name, kind, name},
+static const struct { const char *name, *kind; void (*run)(void); } calls[] = {CALLS(ROW) OTHERS(ROW_OTHER)};
+
+static uint64_t state = 1;
+
+static int64_t random_below(int64_t most) {
+    state = state * UINT64_C(6364136223846793005) + UINT64_C(1442695040888963407);
+    return (int64_t) ((state >> 33) % (uint64_t) most);
+}
+
+/* A fraction in lowest terms whose numbers are below a bound. */
+static ratio_i64 fraction(int64_t most_numer, int64_t most_denom) {
+    const ratio_i64 x = {random_below(2 * most_numer) - most_numer, random_below(most_denom) + 1};
+    ratio_answer_i64 answer;
+    done(ratio_reduce_i64(&x, 1, &answer, 1));
+    return answer.value;
+}
+
+/* Half inputs have numbers of 31 bits. Small ones have denominators up to 16, so that the total of all is held. */
+static void fill(void) {
+    for (int i = 0; i < LEN; i++) {
+        const int64_t half = INT64_C(1) << 31;
+        const ratio_i64 x = fraction(half, half), y = fraction(half, half);
+        const ratio_pair_i64 pair = {x, y};
+        ratio_order order;
+        done(ratio_compare_i64(&pair, 1, &order, 1));
+        halves[i] = x;
+        pairs[i] = pair;
+        if (y.numer == 0) pairs[i].right.numer = 1;
+        smalls[i] = fraction(1000000, 16);
+        powers[i].base = fraction(1 << 15, 1 << 15);
+        powers[i].exponent = (int32_t) random_below(4) - 1;
+        if (powers[i].base.numer == 0) powers[i].base.numer = 1;
+        bounded[i].value = x;
+        bounded[i].most = 1000;
+        bounds[i].low = order.order < 0 ? x : y;
+        bounds[i].high = order.order < 0 ? y : x;
+        multiples[i].value = x;
+        multiples[i].parts = 100;
+        multiples[i].rule = RATIO_RULE_HALF_EVEN;
+        scaled[i].number.low = (uint64_t) random_below(half);
+        scaled[i].scale = (int32_t) random_below(5);
+        steps[i].value = x;
+        steps[i].place = 4;
+        decimals[i].value = x;
+        decimals[i].places = 2;
+        decimals[i].rule = RATIO_RULE_HALF_EVEN;
+        doubles[i] = (double) random_below(half) / 256;
+        memset(&totals[i], 0, sizeof totals[i]);
+        done(ratio_total_add_i64(&smalls[i], 1, &totals[i], 1));
+    }
+    done(ratio_total_add_i64(smalls, LEN, &all, 1));
+    done(ratio_print_i64(halves, LEN, texts, sizeof texts, places, LEN));
+    for (int i = 0; i < LEN; i++) spans[i] = places[i].span;
+    texts_len = spans[LEN - 1].end;
+    done(ratio_print_decimal_i64(decimals, LEN, decimal_texts, sizeof decimal_texts, places, LEN));
+    for (int i = 0; i < LEN; i++) decimal_spans[i] = places[i].span;
+    decimal_texts_len = decimal_spans[LEN - 1].end;
+}
+
+static double now(void) {
+    struct timespec time;
+    clock_gettime(CLOCK_MONOTONIC, &time);
+    return (double) time.tv_sec * 1e9 + (double) time.tv_nsec;
+}
+
+static double of_turns(void (*run)(void), int turns) {
+    const double start = now();
+    for (int i = 0; i < turns; i++) run();
+    return (now() - start) / turns / LEN;
+}
+
+static int order_of_times(const void *left, const void *right) {
+    const double x = *(const double *) left, y = *(const double *) right;
+    return x < y ? -1 : x > y;
+}
+
+static double median_time(void (*run)(void)) {
+    double times[ROUNDS];
+    run();
+    const int turns = (int) (LEAST / LEN / (of_turns(run, 1) + 1e-9)) + 1;
+    for (int round = 0; round < ROUNDS; round++) times[round] = of_turns(run, turns);
+    qsort(times, ROUNDS, sizeof *times, order_of_times);
+    return times[ROUNDS / 2];
+}
+
+int main(int argc, char **argv) {
+    (void) argv;
+    fill();
+    for (size_t i = 0; i < sizeof calls / sizeof *calls; i++) {
+        if (argc > 1) printf("%s\n", calls[i].name);
+        else printf("%s\t%s\t%.1f\n", calls[i].name, calls[i].kind, median_time(calls[i].run));
+    }
+    return all.code == RATIO_ANSWERED ? 0 : 1;
+}

@@ -17,6 +17,7 @@ pub mod PowerLaws
 pub mod Powers
 pub mod Ratio
 pub mod ReadingLaws
+pub mod Rationalized
 pub mod Reduced
 pub mod ReducedLaws
 pub mod RemainderLaws

@@ -1,17 +1,19 @@
 -- The simplest fraction in the gap around a float.
-use Rattle.std.specs.Prelude.{◌≡◌, ◌⊎◌, ◌+◌, ◌-◌, ◌*◌, ◌/◌, ◌%◌, ◌^◌, ◌<◌, ◌≤◌, ◌≤ℤ◌, ◌<ℤ◌, ◌+ℤ◌, ◌-ℤ◌, ◌*ℤ◌, ℕ, ℤ, zero, suc, pos, negsuc, neg_ℤ, unsigned_abs, Bool, true, false, Option, Some, None, SomeIff}
+use Rattle.std.specs.Prelude.{◌≡◌, ◌⊎◌, ◌+◌, ◌-◌, ◌*◌, ◌/◌, ◌%◌, ◌^◌, ◌<◌, ◌≤◌, ◌≤ℤ◌, ◌<ℤ◌, ◌+ℤ◌, ◌-ℤ◌, ◌*ℤ◌, ℕ, ℤ, zero, suc, pos, negsuc, neg_ℤ, unsigned_abs, Bool, true, false, Option, Some, None, SomeIff, IfSome}
 use Rattle.std.proofs.Common.{refl, sym, ap, arith, inl, inr, ◌∙◌}
 use Rattle.std.proofs.lemmas.Bool.{cases_lt}
 use Rattle.std.proofs.lemmas.Int.{ints}
 use Rattle.std.proofs.lemmas.Nat.{pow-add}
 use Rattle.std.proofs.Math.Nat.{div-add-mod', div-mul-le_self, lt-div-mul-add, mod-eq_of_lt, mod-lt, mul-le-mul_right, mul-lt-mul_of_pos_right}
 use lib.Pow.{pow_mono}
+use Rattle.ratio_integer.specs.Fraction.{ChecksLowest, IsLowestTerms}
 use Rattle.ratio_integer.specs.Range.{IsHeld, IsRange}
 use Rattle.ratio_integer.proofs.Whole.{neg-mul, unsigned_abs-neg}
 use Rattle.ratio_core.specs.Floats.{with_sign}
 use Rattle.ratio_core.specs.Rationalizing.{ChecksFirstOver, ChecksInside, ChecksSize, IsFirstOver}
 use Rattle.ratio_core.specs.Simplest.{ChecksSimplest, HoldsNoneBetween, IsBetween, IsSimplest}
 use Rattle.ratio_core.proofs.HeldAround.{between_held}
+use Rattle.ratio_core.proofs.SimplestLawLemmas.{simplest_lowest}
 
 -- ---- the least number whose product with h is above a power of 2
 
@@ -265,3 +267,18 @@ most_of lo hi bits range short is = by range.low
     by (inl e) = omega (arith, ints, power, is, e)
     by (inr (inl e)) = (let up = range.high in omega (arith, ints, power, is, e, up))
     by (inr (inr e)) = (let up = range.high in omega (arith, ints, power, is, e, up))
+
+-- ---- the result is in lowest terms
+
+some_positive : (d : ℕ) → 0 < d → pos 0 <ℤ pos d
+some_positive d up = omega (arith, ints, up)
+
+pub inside_lowest : {T : Type 0} (value : T → ℤ) (lo hi : ℤ) (s : Bool) (low high d : ℕ) (r : Option (T × T)) → 0 < d → ChecksInside value lo hi s low high d r
+    → IfSome r (λ p. IsLowestTerms (value p.0) (value p.1))
+inside_lowest value lo hi s low high d None d_up checked = tt
+inside_lowest value lo hi false low high d (Some r) d_up is = simplest_lowest _ _ _ _ _ _ (some_positive d d_up) (some_positive d d_up) is
+inside_lowest value lo hi true low high d (Some r) d_up is = simplest_lowest _ _ _ _ _ _ (some_positive d d_up) (some_positive d d_up) is
+
+pub checked_lowest : {R : Type 0} (numer denom : R → ℤ) (lo hi : ℤ) (x : ℤ × ℤ) (r : Option R) → ChecksLowest numer denom lo hi x r → IfSome r (λ p. IsLowestTerms (numer p) (denom p))
+checked_lowest numer denom lo hi x None checked = tt
+checked_lowest numer denom lo hi x (Some r) is = is.terms.lowest

@@ -1,13 +1,15 @@
-//! Fractions with exactly the value of a float, and the float nearest to a fraction.
+//! Fractions with exactly the value of a float, the simplest ones that round to it, and the float nearest to a fraction.
 ghost use Rattle.std.specs.Prelude.{◌≡◌};
 ghost use Rattle.std.specs.Float.{binary32, binary64};
 ghost use Rattle.num_rational.specs.Ratio.{ChecksRatio, denominator, numerator};
+ghost use Rattle.num_rational.specs.Rationalized.{fields_in};
 ghost use Rattle.num_rational.specs.Reduced.{ratio_in, ratio_of};
 ghost use Rattle.ratio_core.specs.Floats.{fraction_of_float, nearest_float};
+ghost use Rattle.ratio_core.specs.Rationalize.{ChecksRationalized};
 
 use super::Reduced;
 use crate::ratio::Ratio;
-use ratio_core::floats::exact;
+use ratio_core::floats::{exact, rationalize};
 use ratio_integer::{Integer, Primitive};
 
 impl<T: Copy + Integer> Reduced<T> {
@@ -48,5 +50,28 @@ impl<T: Primitive> Reduced<T> {
         ensures { result ≡ nearest_float binary32 (numerator (ratio_of self.now)) (denominator (ratio_of self.now)) }
     {
         self.ratio.to_f32()
+    }
+
+    /// The simplest fraction that rounds to the float: 1/10 for 0.1, and 1/3 for 0.3333333333333333. A whole
+    /// float gives itself. For any other one it is the simplest fraction strictly between the two points
+    /// that are halfway to its neighbours. Both 0.0 and -0.0 give 0/1. `None` exactly if the float is
+    /// infinite or no number, or if that fraction does not fit the type.
+    pub fn rationalize(x: f64) -> Option<Reduced<T>>
+        ensures { ChecksRationalized T.value T.lo T.hi binary64 x (fields_in result) }
+    {
+        let (numer, denom) = rationalize::rationalize(x)?;
+        Some(Reduced {
+            ratio: Ratio::new_raw(numer, denom),
+        })
+    }
+
+    /// The same for a float of 32 bits, whose neighbours are further away: 1/3 for 0.33333334.
+    pub fn rationalize32(x: f32) -> Option<Reduced<T>>
+        ensures { ChecksRationalized T.value T.lo T.hi binary32 x (fields_in result) }
+    {
+        let (numer, denom) = rationalize::rationalize32(x)?;
+        Some(Reduced {
+            ratio: Ratio::new_raw(numer, denom),
+        })
     }
 }

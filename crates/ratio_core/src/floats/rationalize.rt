@@ -1,8 +1,9 @@
 //! The simplest fraction that rounds to a float.
-ghost use Rattle.std.specs.Prelude.{◌≡◌, ◌+◌, ◌*◌, ◌%◌, ◌^◌, ◌<◌, ◌≤◌, ◌↔◌, IsTrue};
+ghost use Rattle.std.specs.Prelude.{◌≡◌, ◌+◌, ◌*◌, ◌%◌, ◌^◌, ◌<◌, ◌≤◌, ◌↔◌, IfSome, IsTrue};
 ghost use Rattle.std.specs.Float.{binary32, binary64};
 ghost use Rattle.std.specs.Float.Ieee.{hid};
 ghost use Rattle.core.specs.Dec2flt.Rounding.{IsSignificand};
+ghost use Rattle.ratio_integer.specs.Fraction.{IsLowestTerms};
 ghost use Rattle.ratio_core.specs.Rationalize.{ChecksRationalized};
 ghost use Rattle.ratio_core.specs.Rationalizing.{IsGap};
 
@@ -13,23 +14,26 @@ use ratio_integer::Primitive;
 
 /// The simplest fraction that rounds to the float: 1/10 for 0.1, and 1/3 for 0.3333333333333333. A whole float
 /// gives itself. For any other one it is the simplest fraction strictly between the two points that are halfway
-/// to its neighbours. Both 0.0 and -0.0 give 0/1. The call returns `None` exactly if the float is infinite or no
+/// to its neighbours. It is in lowest terms. Both 0.0 and -0.0 give 0/1. The call returns `None` exactly if the float is infinite or no
 /// number, or if that fraction does not fit the type.
 pub fn rationalize<T: Primitive>(x: f64) -> Option<(T, T)>
-    ensures { ChecksRationalized T.value T.lo T.hi binary64 x result }
+    ensures rational { ChecksRationalized T.value T.lo T.hi binary64 x result }
+    ensures lowest { IfSome result (λ r. IsLowestTerms (T.value r.0) (T.value r.1)) }
 {
     rationalized::<T, f64>(x)
 }
 
 /// The same for a float of 32 bits, whose neighbours are further away: 1/3 for 0.33333334.
 pub fn rationalize32<T: Primitive>(x: f32) -> Option<(T, T)>
-    ensures { ChecksRationalized T.value T.lo T.hi binary32 x result }
+    ensures rational { ChecksRationalized T.value T.lo T.hi binary32 x result }
+    ensures lowest { IfSome result (λ r. IsLowestTerms (T.value r.0) (T.value r.1)) }
 {
     rationalized::<T, f32>(x)
 }
 
 fn rationalized<T: Primitive, F: FloatType>(x: F) -> Option<(T, T)>
-    ensures { ChecksRationalized T.value T.lo T.hi F.format (F.value x) result }
+    ensures rational { ChecksRationalized T.value T.lo T.hi F.format (F.value x) result }
+    ensures lowest { IfSome result (λ r. IsLowestTerms (T.value r.0) (T.value r.1)) }
 {
     if x.is_no_number() {
         return None;

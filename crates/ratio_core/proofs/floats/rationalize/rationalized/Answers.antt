@@ -4,14 +4,15 @@ use Rattle.std.proofs.Common.{arith, sym, ap, ◌∙◌}
 use Rattle.std.proofs.lemmas.Bool.{iff_false}
 use Rattle.std.proofs.lemmas.Nat.{pow_pos}
 use Rattle.ratio_core.proofs.FloatFields.{value_moved}
+use Rattle.ratio_core.proofs.GapLemmas.{checked_lowest, inside_lowest}
 use Rattle.ratio_core.proofs.RationalizeLemmas.{gap_checks, high_end, infinite_checks, low_end, nan_checks, part_checks, part_place, part_some, value_is, whole_checks}
 use Rattle.ratio_core.proofs.floats.rationalize.rationalized.Goals as goal
 
-pub returns-then-is_no_number : goal.returns-then-is_no_number
-returns-then-is_no_number g c = nan_checks g.T.Integer.value _ _ _ _ (sym c.is_no_number.ensures ∙ c.if-is_no_number.true)
+pub returns-then-is_no_number-clause-rational : goal.returns-then-is_no_number-clause-rational
+returns-then-is_no_number-clause-rational g c = nan_checks g.T.Integer.value _ _ _ _ (sym c.is_no_number.ensures ∙ c.if-is_no_number.true)
 
-pub returns-then-INFINITY-size : goal.returns-then-INFINITY-size
-returns-then-INFINITY-size g c =
+pub returns-then-INFINITY-size-clause-rational : goal.returns-then-INFINITY-size-clause-rational
+returns-then-INFINITY-size-clause-rational g c =
     let f = g.F.FloatType.format in
     let laws = g.met.F.FloatType in
     let x = g.F.FloatType.value c.args.x in
@@ -22,8 +23,8 @@ returns-then-INFINITY-size g c =
     let far : ones f * hid f ≤ to_bits f x % top f = rw (← bits, ← size_is, ← infinity) c.if-INFINITY-size.true in
     infinite_checks g.T.Integer.value _ _ f x fit far
 
-pub returns-then-is_whole : goal.returns-then-is_whole
-returns-then-is_whole g c =
+pub returns-then-is_whole-clause-rational : goal.returns-then-is_whole-clause-rational
+returns-then-is_whole-clause-rational g c =
     let f = g.F.FloatType.format in
     let laws = g.met.F.FloatType in
     let x = g.F.FloatType.value c.args.x in
@@ -50,8 +51,8 @@ overflow_sub-LEAST g c =
     let least = c.LEAST-2.ensures in
     omega (arith, less, least)
 
-pub returns : goal.returns
-returns g c =
+pub returns-clause-rational : goal.returns-clause-rational
+returns-clause-rational g c =
     let f = g.F.FloatType.format in
     let laws = g.met.F.FloatType in
     let x = g.F.FloatType.value c.args.x in
@@ -76,3 +77,9 @@ returns g c =
     let above = high_end f (to_bits f x % top f) m k b-is near some place _ _ c.gap-low.ensures in
     let checked = rw (sign, bits, least) at c.simplest_inside.ensures in
     part_checks v _ _ f x _ (m * 2 ^ k) (low f) c.simplest_inside.result is part (gap_checks v _ _ f _ (to_bits f x % top f) _ _ (2 ^ (low f - k + 2)) c.simplest_inside.result (pow_pos (low f - k + 2)) below above checked)
+
+pub returns-then-is_whole-clause-lowest : goal.returns-then-is_whole-clause-lowest
+returns-then-is_whole-clause-lowest g c = checked_lowest (λ p. g.T.Integer.value p.0) (λ p. g.T.Integer.value p.1) _ _ _ c.scaled_by_powers.result c.scaled_by_powers.ensures
+
+pub returns-clause-lowest : goal.returns-clause-lowest
+returns-clause-lowest g c = inside_lowest g.T.Integer.value _ _ _ _ _ _ c.simplest_inside.result (pow_pos _) c.simplest_inside.ensures

@@ -4,6 +4,7 @@
 use crate::proved::ratio_c::code::{ANSWERED, DENOMINATOR_NOT_POSITIVE};
 use crate::proved::ratio_c::each::{Call, each};
 use crate::proved::ratio_c::numbers64::Fraction64;
+use bakhsney::proved::ratio_core::floats::nearest::to_f64;
 
 /// A key. If there is none, the code says why, and the key is 0.
 #[repr(C)]
@@ -12,7 +13,7 @@ pub struct Key {
     pub key: i64,
 }
 
-/// The key of a fraction: 56 bits of its value, where they begin, and whether more are left.
+/// The key of a fraction: the bits of the float nearest to its size, with its sign.
 #[derive(Clone, Copy)]
 pub struct Keying;
 
@@ -25,7 +26,7 @@ impl Call<Fraction64, Key> for Keying {
                 key: 0,
             };
         }
-        let size = magnitude_key(x.numer.unsigned_abs(), x.denom as u64) as i64;
+        let size = size_key(x.numer.unsigned_abs(), x.denom as u64);
         let key = if x.numer < 0 { -size } else { size };
         Key {
             code: ANSWERED,
@@ -34,28 +35,16 @@ impl Call<Fraction64, Key> for Keying {
     }
 }
 
-/// The key of `n/d`, from the quotient of `n/d` by the power of 2 that leaves 56 bits of it.
+/// The bits of the float nearest to `n/d`. Of two floats that are not below 0, the greater one has the greater bits.
 ///
 /// # Conditions
 ///
 /// The proof requires of the caller:
 ///
-/// - `numer`: `n ≤ 2 ^ 63`
-/// - `positive`: `0 < d`
-/// - `denom`: `d < 2 ^ 63`
-#[inline]
-fn magnitude_key(n: u64, d: u64) -> u64 {
-    let unit = d as u128 * 256;
-    let least = unit * (1 << 55);
-    let mut top = n as u128;
-    let mut shift: u64 = 126;
-    while shift > 0 && top < least {
-        top *= 2;
-        shift -= 1;
-    }
-    let kept = (top / unit) as u64;
-    let rest = if top % unit == 0 { 0 } else { 1 };
-    2 * (shift * (1 << 55) + kept) + rest
+/// - `0 < d`
+#[inline(always)]
+fn size_key(n: u64, d: u64) -> i64 {
+    to_f64(n, d).to_bits() as i64
 }
 
 /// The key of each fraction.

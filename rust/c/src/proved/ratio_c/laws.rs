@@ -13,6 +13,6 @@ pub fn hashes() {}
 #[inline]
 pub fn totals() {}
 
-/// If one value is at most another, so is its key.
+/// If one value is at most another, so is its key. If the nearest float of one value is below that of another, so is its key.
 #[inline]
 pub fn keys() {}

@@ -1,9 +1,9 @@
 // Erased from crates/num_rational/src/reduced/floats.rt by rust/erase: not to be edited.
-//! Fractions with exactly the value of a float, and the float nearest to a fraction.
+//! Fractions with exactly the value of a float, the simplest ones that round to it, and the float nearest to a fraction.
 
 use super::Reduced;
 use crate::proved::num_rational::ratio::Ratio;
-use crate::proved::ratio_core::floats::exact;
+use crate::proved::ratio_core::floats::{exact, rationalize};
 use crate::proved::ratio_integer::{Integer, Primitive};
 
 impl<T: Copy + Integer> Reduced<T> {
@@ -40,5 +40,26 @@ impl<T: Primitive> Reduced<T> {
     #[inline]
     pub fn to_f32(&self) -> f32 {
         self.ratio.to_f32()
+    }
+
+    /// The simplest fraction that rounds to the float: 1/10 for 0.1, and 1/3 for 0.3333333333333333. A whole
+    /// float gives itself. For any other one it is the simplest fraction strictly between the two points
+    /// that are halfway to its neighbours. Both 0.0 and -0.0 give 0/1. `None` exactly if the float is
+    /// infinite or no number, or if that fraction does not fit the type.
+    #[inline]
+    pub fn rationalize(x: f64) -> Option<Reduced<T>> {
+        let (numer, denom) = rationalize::rationalize(x)?;
+        Some(Reduced {
+            ratio: Ratio::new_raw(numer, denom),
+        })
+    }
+
+    /// The same for a float of 32 bits, whose neighbours are further away: 1/3 for 0.33333334.
+    #[inline]
+    pub fn rationalize32(x: f32) -> Option<Reduced<T>> {
+        let (numer, denom) = rationalize::rationalize32(x)?;
+        Some(Reduced {
+            ratio: Ratio::new_raw(numer, denom),
+        })
     }
 }

@@ -96,4 +96,28 @@ impl<T: Integer> Ratio<T> {
     pub fn from_float32(float: f32) -> Option<Ratio<T>> {
         Reduced::from_float32(float).map(Ratio::from)
     }
+
+    /// The simplest fraction that rounds to the float, as `Reduced::rationalize` returns it.
+    ///
+    /// ```
+    /// use bakhsney::Ratio;
+    ///
+    /// assert_eq!(Ratio::rationalize(0.1), Some(Ratio::new(1, 10)));
+    /// ```
+    #[inline]
+    pub fn rationalize(float: f64) -> Option<Ratio<T>> {
+        Reduced::rationalize(float).map(Ratio::from)
+    }
+
+    /// The same for a float of 32 bits.
+    ///
+    /// ```
+    /// use bakhsney::Ratio;
+    ///
+    /// assert_eq!(Ratio::rationalize32(0.1), Some(Ratio::new(1, 10)));
+    /// ```
+    #[inline]
+    pub fn rationalize32(float: f32) -> Option<Ratio<T>> {
+        Reduced::rationalize32(float).map(Ratio::from)
+    }
 }

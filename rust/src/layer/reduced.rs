@@ -138,6 +138,34 @@ impl<T: Integer> Reduced<T> {
         Reduced::of(Proved::<T>::from_float32(float))
     }
 
+    /// The simplest fraction that rounds to the float. A whole float gives itself. `None` if the float is infinite or no number,
+    /// or if that fraction does not fit the type.
+    ///
+    /// ```
+    /// use bakhsney::Reduced;
+    ///
+    /// assert_eq!(Reduced::rationalize(0.1), Reduced::checked_new(1, 10));
+    /// assert_eq!(Reduced::rationalize(1.0 / 3.0), Reduced::checked_new(1, 3));
+    /// assert_eq!(Reduced::rationalize(1e16), Some(Reduced::from(10000000000000000i64)));
+    /// assert_eq!(Reduced::<i64>::rationalize(f64::NAN), None);
+    /// ```
+    #[inline]
+    pub fn rationalize(float: f64) -> Option<Reduced<T>> {
+        Reduced::of(Proved::<T>::rationalize(float))
+    }
+
+    /// The same for a float of 32 bits.
+    ///
+    /// ```
+    /// use bakhsney::Reduced;
+    ///
+    /// assert_eq!(Reduced::rationalize32(0.1), Reduced::checked_new(1, 10));
+    /// ```
+    #[inline]
+    pub fn rationalize32(float: f32) -> Option<Reduced<T>> {
+        Reduced::of(Proved::<T>::rationalize32(float))
+    }
+
     /// The nearest float. If two are as near, it is the one whose last binary digit is 0. num-traits' `ToPrimitive` has a call of
     /// this name that returns an `Option`.
     ///

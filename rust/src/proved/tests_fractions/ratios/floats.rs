@@ -51,6 +51,56 @@ fn exact_values_of_32_bits() {
     each_holds(&facts);
 }
 
+// The fields of the simplest fraction that rounds to the float.
+#[inline]
+fn simplest<T: Primitive>(x: f64) -> Option<(T, T)> {
+    Some(Reduced::rationalize(x)?.into_raw())
+}
+
+// The same for a float of 32 bits.
+#[inline]
+fn simplest32<T: Primitive>(x: f32) -> Option<(T, T)> {
+    Some(Reduced::rationalize32(x)?.into_raw())
+}
+
+#[test]
+fn simplest_fractions() {
+    let facts = [
+        simplest(0.1) == Some((1i64, 10)),
+        simplest(0.3333333333333333) == Some((1i64, 3)),
+        simplest(3.141592653589793) == Some((245850922i64, 78256779)),
+        simplest(1e16) == Some((10000000000000000i64, 1)),
+        simplest(1e17) == Some((100000000000000000i64, 1)),
+        simplest(0.5) == Some((1i64, 2)),
+        simplest(-2.5) == Some((-5i64, 2)),
+        simplest(1e-5) == Some((1i64, 100000)),
+        // Between its neighbours lies 3/10, which rounds to 0.3.
+        simplest(0.30000000000000004) == Some((415716888680356i64, 1385722962267853)),
+        simplest::<i64>(f64::NAN).is_none(),
+        simplest::<i64>(f64::INFINITY).is_none(),
+        simplest(-0.0) == Some((0i64, 1)),
+        simplest::<i64>(5e-324).is_none(),
+        simplest::<i64>(9223372036854775808.0).is_none(),
+        // 10^30 rounds to it, too, but this denominator is smaller.
+        simplest(1e-30) == Some((1u128, 999999999999999829082425372113)),
+        simplest::<u8>(-0.5).is_none(),
+    ];
+    each_holds(&facts);
+}
+
+#[test]
+fn simplest_fractions_of_32_bits() {
+    let facts = [
+        simplest32(0.1) == Some((1i8, 10)),
+        simplest32(0.33333334) == Some((1i32, 3)),
+        simplest32(-0.75) == Some((-3i8, 4)),
+        simplest32(16777216.0) == Some((16777216i32, 1)),
+        simplest32::<u8>(256.0).is_none(),
+        simplest32::<i64>(f32::NAN).is_none(),
+    ];
+    each_holds(&facts);
+}
+
 // The bits of two floats that are numbers or infinite.
 #[inline]
 fn bits_of(x: f64, y: f32) -> Option<(u64, u32)> {

@@ -34,10 +34,12 @@ enum {
                                            between, or no convergent at the place */
     RATIO_DIVISION_BY_ZERO = 2,         /* of div and rem, and of pow for 0 to an exponent below 0 */
     RATIO_DENOMINATOR_NOT_POSITIVE = 3, /* of all others */
-    RATIO_ZERO_DENOMINATOR = 4,         /* of compare, equal, hash, reduce and print, which take negative ones, and of read */
+    RATIO_ZERO_DENOMINATOR = 4,         /* of compare, equal, hash, reduce and print, which take negative ones, and of read and
+                                           read_text */
     RATIO_PARSE_ERROR = 5,              /* of read: no fraction, or not even 128 bits are enough for it. If 128 bits are enough, but
-                                           not those of the type, the code is RATIO_NOT_HELD. Of read_decimal: no decimal */
-    RATIO_NO_TEXT = 6,                  /* of read and read_decimal: the span does not lie in the texts */
+                                           not those of the type, the code is RATIO_NOT_HELD. Of read_decimal and read_text:
+                                           no such text */
+    RATIO_NO_TEXT = 6,                  /* of read, read_decimal and read_text: the span does not lie in the texts */
     RATIO_BOUND_NOT_POSITIVE = 7,       /* of nearest: no denominator lies from 1 to the bound */
     RATIO_NO_TOTAL = 8,                 /* of totals: the code is 0, but the sum is not in lowest terms */
     RATIO_BAD_OPTION = 9                /* of between, from_scaled, round_to and print_decimal: the call has no such flags, scale,
@@ -127,10 +129,15 @@ typedef struct { ratio_wide number; int32_t scale; } ratio_scaled;
  *                        415/93 has 4/1, 9/2, 58/13 and 415/93. At place 4 and above it gives RATIO_NOT_HELD
  *   ratio_from_f64_i32   the lowest terms of exactly the value of a float: 3/4 for 0.75. They give RATIO_NOT_HELD if they do not fit, as
  *                        those of 0.1, and so does an infinity or a NaN
+ *   ratio_rationalize_i32  the simplest fraction that rounds to a float: 1/10 for 0.1, and 1/3 for 0.3333333333333333. A whole float
+ *                        gives itself. It gives RATIO_NOT_HELD if the fraction does not fit, and for an infinity or a NaN
  *   ratio_to_f64_i32     the float nearest to each fraction: 0.3333333333333333 for 1/3. Of two that are as near, it is the one whose
  *                        last bit is 0
  *   ratio_read_decimal_i32   the fraction of each decimal of the bytes that a span names, in lowest terms: 99/8 for 12.375, and -3/2000
  *                        for -1.5e-3. 1.2.3 gives RATIO_PARSE_ERROR, and 1e10, which needs more than 32 bits, RATIO_NOT_HELD
+ *   ratio_read_text_i32  the fraction of what a person types: a decimal, a fraction, a mixed number such as -1 1/2 for -3/2, or a decimal or
+ *                        a fraction with a percent sign, such as 12.5% for 1/8. 1/0 gives RATIO_ZERO_DENOMINATOR, any other text
+ *                        RATIO_PARSE_ERROR, and what does not fit RATIO_NOT_HELD
  *   ratio_print_decimal_i32  each fraction as a decimal with exactly so many places, rounded by a rule, one text after another: 0.67 for
  *                        2/3 with 2 places by RATIO_RULE_HALF_EVEN. More than 38 places, or a rule that is none, give
  *                        RATIO_BAD_OPTION. With fewer than RATIO_DECIMAL_ROOM_I32 bytes for each fraction the call returns
@@ -191,6 +198,8 @@ typedef struct { ratio_wide number; int32_t scale; } ratio_scaled;
                                        ratio_answer_##suffix *answers, size_t answers_len); \
     uint32_t ratio_from_f64_##suffix(const double *asked, size_t asked_len,                \
                                      ratio_answer_##suffix *answers, size_t answers_len);  \
+    uint32_t ratio_rationalize_##suffix(const double *asked, size_t asked_len,             \
+                                        ratio_answer_##suffix *answers, size_t answers_len); \
     uint32_t ratio_to_f64_##suffix(const ratio_##suffix *asked, size_t asked_len,          \
                                    ratio_float *answers, size_t answers_len);              \
     uint32_t ratio_round_to_##suffix(const ratio_multiple_##suffix *asked, size_t asked_len, \
@@ -203,6 +212,9 @@ typedef struct { ratio_wide number; int32_t scale; } ratio_scaled;
     uint32_t ratio_read_decimal_##suffix(const uint8_t *texts, size_t texts_len,           \
                                          const ratio_span *spans, size_t spans_len,        \
                                          ratio_answer_##suffix *answers, size_t answers_len); \
+    uint32_t ratio_read_text_##suffix(const uint8_t *texts, size_t texts_len,              \
+                                      const ratio_span *spans, size_t spans_len,           \
+                                      ratio_answer_##suffix *answers, size_t answers_len); \
     uint32_t ratio_print_##suffix(const ratio_##suffix *asked, size_t asked_len,           \
                                   uint8_t *texts, size_t texts_len,                        \
                                   ratio_text *answers, size_t answers_len);                \

@@ -18,6 +18,12 @@ static const ratio_span decimal_spans[4] = {
     {.start = 0, .end = 6}, {.start = 6, .end = 11}, {.start = 11, .end = 16}, {.start = 16, .end = 17},
 };
 
+/* A mixed number, a percentage, a fraction over 0, a text that is none of these, and a number that fits no type. */
+static const uint8_t typed[] = "-1 1/212.5%1/01.5/21e40";
+static const ratio_span typed_spans[5] = {
+    {.start = 0, .end = 6}, {.start = 6, .end = 11}, {.start = 11, .end = 14}, {.start = 14, .end = 19}, {.start = 19, .end = 23},
+};
+
 static void expect(int holds, const char *what) {
     if (!holds) {
         printf("wrong: %s\n", what);
@@ -58,8 +64,10 @@ static void expect(int holds, const char *what) {
             fourth = {.value = FRACTION(N, 415, 93), .place = 3}, fifth = {.value = FRACTION(N, 415, 93), .place = 4},\
             nothing = {.value = FRACTION(N, 1, -2), .place = 0};                                     \
         static const ratio_answer_##suffix second_is = ANSWER(N, 9, 2), fourth_is = ANSWER(N, 415, 93);\
-        static const double exact = -0.75, huge = 1e300;                                             \
+        static const double exact = -0.75, huge = 1e300, tenth = 0.1;                                \
+        static const ratio_answer_##suffix tenth_is = ANSWER(N, 1, 10), eighth = ANSWER(N, 1, 8);    \
         static const ratio_answer_##suffix exact_is = ANSWER(N, -3, 4), eighths = ANSWER(N, 99, 8);  \
+        ratio_answer_##suffix typed_read[5];                                                         \
         ratio_float real[2];                                                                         \
         static const ratio_bounds_##suffix loose_bounds = {.low = FRACTION(N, 1, 3), .high = FRACTION(N, 1, -2), .flags = 0};\
         static const ratio_multiple_##suffix cents = {.value = FRACTION(N, 2, 3), .parts = N(100), .rule = RATIO_RULE_HALF_EVEN},\
@@ -145,6 +153,8 @@ static void expect(int holds, const char *what) {
         REFUSES(suffix, convergent, nothing, RATIO_DENOMINATOR_NOT_POSITIVE)                         \
         GIVES(suffix, from_f64, exact, exact_is)                                                     \
         REFUSES(suffix, from_f64, huge, RATIO_NOT_HELD)                                              \
+        GIVES(suffix, rationalize, tenth, tenth_is)                                                  \
+        REFUSES(suffix, rationalize, huge, RATIO_NOT_HELD)                                           \
         expect(ratio_to_f64_##suffix(loose, 2, real, 2) == RATIO_DONE, "to_f64 " #suffix);           \
         expect(real[0].code == RATIO_DENOMINATOR_NOT_POSITIVE && real[0].value == 0, "no float " #suffix);\
         expect(real[1].code == RATIO_ANSWERED && real[1].value == -1.5, "float " #suffix);           \
@@ -185,6 +195,10 @@ static void expect(int holds, const char *what) {
         expect(SAME(read[0], eighths), "read decimal " #suffix);                                     \
         expect(read[1].code == RATIO_PARSE_ERROR && read[2].code == RATIO_NOT_HELD, "no decimals " #suffix);\
         expect(read[3].code == RATIO_NO_TEXT, "no decimal text " #suffix);                           \
+        expect(ratio_read_text_##suffix(typed, sizeof typed - 1, typed_spans, 5, typed_read, 5) == RATIO_DONE, "read_text " #suffix);\
+        expect(SAME(typed_read[0], low) && SAME(typed_read[1], eighth), "typed texts " #suffix);     \
+        expect(typed_read[2].code == RATIO_ZERO_DENOMINATOR && typed_read[3].code == RATIO_PARSE_ERROR, "no typed texts " #suffix);\
+        expect(typed_read[4].code == RATIO_NOT_HELD, "typed text of 41 digits " #suffix);            \
         GIVES(suffix, pow, power, raised)                                                            \
         REFUSES(suffix, pow, zero, RATIO_DIVISION_BY_ZERO)                                           \
         expect(ratio_add_##suffix(&pair, 1, answer, 2) == RATIO_BAD_LENGTH, "length " #suffix);      \

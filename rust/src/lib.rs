@@ -93,6 +93,17 @@ pub use proved::ratio_core::DecimalRefusal;
 /// ```
 #[doc(inline)]
 pub use proved::ratio_core::DecimalText;
+/// Why `from_text` of a `Reduced` takes no fraction from a text.
+///
+/// ```
+/// use bakhsney::{Reduced, TextRefusal};
+///
+/// assert_eq!(Reduced::<i8>::from_text("1.5/2"), Err(TextRefusal::NotNumber));
+/// assert_eq!(Reduced::<i8>::from_text("1/0"), Err(TextRefusal::ZeroDenominator));
+/// assert_eq!(Reduced::<i8>::from_text("200/3"), Err(TextRefusal::NotHeld));
+/// ```
+#[doc(inline)]
+pub use proved::ratio_core::TextRefusal;
 /// How a fraction is rounded to a multiple, such as cents.
 ///
 /// ```

@@ -1,4 +1,5 @@
-//! The cases that num-rational's own tests have, written anew as rows, except those of big integers. Each row runs with both crates.
+//! The cases that num-rational's own tests have, written anew as rows, except those of its private functions and those that need big
+//! integers. Each row runs with both crates. `exact_floats.rs` has those of `from_float`, which is for big integers there.
 
 // The rows are about these forms.
 #![allow(clippy::eq_op, clippy::op_ref, clippy::nonminimal_bool, clippy::redundant_clone, clippy::clone_on_copy)]
@@ -348,6 +349,8 @@ macro_rules! rows {
             }
             assert_eq!(Ratio::new(1u8, 2).to_f64(), Some(0.5));
             assert_eq!([1, -1, 0].map(|numer| Ratio::<i32>::new_raw(numer, 0).to_f64()), [Some(f64::INFINITY), Some(f64::NEG_INFINITY), None]);
+            assert_eq!([1, -1, 0].map(|numer| Ratio::<i128>::new_raw(numer, 0).to_f64()), [Some(f64::INFINITY), Some(f64::NEG_INFINITY), None]);
+            assert_eq!(Ratio::new(1234567890987654321234567890i128, 987654321234567890987654321).to_f64(), Some(1.2499999893125));
         }
     };
 }

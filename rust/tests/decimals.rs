@@ -141,6 +141,72 @@ fn any_characters() {
     assert!(decimals > 5000, "{decimals} decimals");
 }
 
+/// The value of a text, by big integers, or why it has none. An exponent of 1000 or more is too far for any type and any text here.
+fn model(text: &str) -> Result<BigRational, DecimalRefusal> {
+    if !is_decimal(text) {
+        return Err(DecimalRefusal::NotDecimal);
+    }
+    let sign = if text.starts_with('-') { "-" } else { "" };
+    let unsigned = text.strip_prefix(['+', '-']).unwrap_or(text);
+    let (number, exponent) = unsigned.split_once(['e', 'E']).map_or((unsigned, "0"), |(number, exponent)| (number, exponent));
+    let (whole, part) = number.split_once('.').unwrap_or((number, ""));
+    let mantissa = Decimal { sign, whole: whole.into(), part: part.into(), has_point: true, exponent: None };
+    if mantissa.value().is_zero() {
+        return Ok(BigRational::zero());
+    }
+    match exponent.parse() {
+        Ok(near) if (-1000..1000).contains(&near) => Ok(Decimal { exponent: Some(near), ..mantissa }.value()),
+        _ => Err(DecimalRefusal::NotHeld),
+    }
+}
+
+/// Characters of decimals, and some that are none.
+const CHARACTERS: [&str; 24] = [
+    "0", "0", "1", "2", "5", "5", "9", ".", ".", "e", "E", "+", "-", "-", " ", "_", "/", "%", ",", "x", "\0", "\u{663}", "\u{ff15}", "\u{1f600}",
+];
+
+/// A decimal with a few changes: characters that are left out, put in or repeated.
+fn changed(numbers: &mut Numbers) -> String {
+    let mut characters: Vec<String> = decimal(numbers).text().chars().map(String::from).collect();
+    for _ in 0..numbers.below(4) {
+        let at = numbers.below(characters.len() as u64 + 1) as usize;
+        let new = CHARACTERS[numbers.below(CHARACTERS.len() as u64) as usize];
+        match (numbers.below(4), characters.get(at).cloned()) {
+            (0, Some(_)) => drop(characters.remove(at)),
+            (1, Some(_)) => characters[at] = new.into(),
+            (2, Some(old)) => characters.extend((0..numbers.below(30)).map(|_| old.clone())),
+            _ => characters.insert(at, new.into()),
+        }
+    }
+    characters.concat()
+}
+
+/// A text of any bytes, or of bytes near to those of decimals. What is not UTF-8 becomes the character U+FFFD.
+fn any_bytes(numbers: &mut Numbers) -> String {
+    let most = [6, 12, 40][numbers.below(3) as usize];
+    let count = numbers.below(most);
+    let near = numbers.below(2) == 0;
+    let bytes: Vec<u8> = (0..count).map(|_| if near { b'*' + numbers.below(18) as u8 } else { numbers.below(256) as u8 }).collect();
+    String::from_utf8_lossy(&bytes).into_owned()
+}
+
+/// Over each type, any text is read as the model reads it, and nothing panics.
+#[test]
+fn any_texts() {
+    let mut numbers = Numbers(8);
+    let (mut decimals, mut others) = (0, 0);
+    for turn in 0..10 * texts() {
+        let text = if turn % 3 == 0 { any_bytes(&mut numbers) } else { changed(&mut numbers) };
+        let value = model(&text);
+        macro_rules! agrees {
+            ($($T:ty)*) => {$( assert_eq!(read::<$T>(&text), value.as_ref().map_err(|refusal| *refusal).and_then(fields), "{text:?}"); )*};
+        }
+        agrees!(i8 i16 i32 i64 i128 isize u8 u16 u32 u64 u128 usize);
+        *(if value == Err(DecimalRefusal::NotDecimal) { &mut others } else { &mut decimals }) += 1;
+    }
+    assert!(decimals > texts() && others > texts(), "{decimals} decimals and {others} other texts");
+}
+
 #[test]
 fn rows() {
     let rows = [

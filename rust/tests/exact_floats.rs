@@ -25,6 +25,38 @@ fn float(numbers: &mut Numbers) -> f64 {
     f64::from_bits(numbers.below(2) << 63 | exponent << 52 | (digits & ((1 << 52) - 1)))
 }
 
+/// The floats that num-rational's own tests of `from_float` have. There the fields are big integers.
+#[test]
+fn rows() {
+    const P100: i128 = 1 << 100;
+    let doubles = [
+        (std::f64::consts::PI, (884279719003555, 281474976710656)),
+        (684729.48391, (367611342500051, 536870912)),
+        (-8573.5918555, (-4713381968463931, 549755813888)),
+        (2f64.powi(100), (P100, 1)),
+        (-2f64.powi(100), (-P100, 1)),
+        (2f64.powi(-100), (1, P100)),
+    ];
+    for (double, want) in doubles {
+        assert_eq!(Reduced::from_float(double).map(Reduced::into_raw), Some(want), "{double}");
+        assert_eq!(fields(double), Some(want), "{double}");
+    }
+    let singles = [
+        (std::f32::consts::PI, (13176795, 4194304)),
+        (684729.5, (1369459, 2)),
+        (-8573.592, (-4389679, 512)),
+        (2f32.powi(100), (P100, 1)),
+        (-2f32.powi(100), (-P100, 1)),
+        (2f32.powi(-100), (1, P100)),
+    ];
+    for (single, want) in singles {
+        assert_eq!(Reduced::from_float32(single).map(Reduced::into_raw), Some(want), "{single}");
+        assert_eq!(fields(single.into()), Some(want), "{single}");
+    }
+    assert_eq!([f64::NAN, f64::INFINITY, f64::NEG_INFINITY].map(Reduced::<i128>::from_float), [None; 3]);
+    assert_eq!([f32::NAN, f32::INFINITY, f32::NEG_INFINITY].map(Reduced::<i128>::from_float32), [None; 3]);
+}
+
 macro_rules! sweeps {
     ($($name:ident $T:ty;)*) => {$(
         #[test]

@@ -2,10 +2,12 @@
 use Rattle.std.specs.Prelude.{◌≡◌, ◌≢◌, ◌≤ℤ◌, ◌<ℤ◌, ℕ, pos, Bool, false, List, Result, Ok, Err}
 use Rattle.ratio_core.specs.declared.parse_error.RatioErrorKind.{RatioErrorKind}
 use Rattle.ratio_core.specs.declared.parse_error.RatioErrorKind.TheVariants.{ParseError}
+use Rattle.ratio_core.specs.declared.rounding_rule.Rounding.{Rounding}
 use Rattle.ratio_core.specs.declared.text.form.Form.{Form}
 use Rattle.ratio_core.specs.declared.text.form.Form.TheVariants.{Decimal}
 use Rattle.ratio_core.specs.declared.text.decimals.DecimalRefusal.{DecimalRefusal}
-use Rattle.ratio_core.specs.Decimal.{IsExactDecimal}
+use Rattle.ratio_core.specs.Decimal.{IsDecimalOf, IsExactDecimal}
+use Rattle.ratio_core.specs.DecimalLaws.{IsReadNear}
 use Rattle.ratio_core.specs.DecimalReading.{AnswersDecimal, IsReadDecimal}
 use Rattle.ratio_core.specs.Printing.{base_of, text_of}
 use Rattle.ratio_core.specs.Reading.{AnswersText, IsSlashedText}
@@ -65,3 +67,11 @@ ReadsItsDecimal {T} {i} {o} {e} {p} {h} x =
     → IsExactDecimal (numerator (ratio_of x)) (denominator (ratio_of x)) text
     → AnswersDecimal (λ y. numerator (ratio_of y)) (λ y. denominator (ratio_of y)) i.lo i.hi text result
     → IsReadDecimal (λ y. numerator (ratio_of y)) (λ y. denominator (ratio_of y)) (numerator (ratio_of x)) (denominator (ratio_of x)) result
+
+-- reading a decimal of x to so many places gives a fraction that is as near to x as the rule says, where it fits the type
+abbrev pub ReadsItsRoundedDecimal : {T : _} {i : _} {o : _} {e : _} {p : _} {h : _} → Reduced T i o e p h → Type 0
+ReadsItsRoundedDecimal {T} {i} {o} {e} {p} {h} x =
+    (rule : Rounding) (places : ℕ) (text : List ℕ) (result : Result (Reduced T i o e p h) DecimalRefusal)
+    → IsDecimalOf rule places (numerator (ratio_of x)) (denominator (ratio_of x)) text
+    → AnswersDecimal (λ y. numerator (ratio_of y)) (λ y. denominator (ratio_of y)) i.lo i.hi text result
+    → IsReadNear (λ y. numerator (ratio_of y)) (λ y. denominator (ratio_of y)) rule places (numerator (ratio_of x)) (denominator (ratio_of x)) result

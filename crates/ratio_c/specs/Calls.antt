@@ -15,13 +15,16 @@ use Rattle.ratio_core.specs.Floats.{fraction_of_float, nearest_float}
 use Rattle.ratio_core.specs.Nearest.{IsNearest}
 use Rattle.ratio_core.specs.Order.{cross_cmp}
 use Rattle.ratio_core.specs.Power.{ChecksBoth, ChecksPower}
+use Rattle.ratio_core.specs.Rationalize.{ChecksRationalized}
 use Rattle.ratio_core.specs.RoundingRules.{ChecksRounded}
 use Rattle.ratio_core.specs.SimplestWithin.{ChecksSimplestWithin}
+use Rattle.ratio_core.specs.TypedText.{AnswersTyped}
+use Rattle.ratio_core.specs.declared.text.typed.TextRefusal.{TextRefusal}
 use Rattle.ratio_core.specs.declared.text.decimals.DecimalRefusal.{DecimalRefusal}
 use Rattle.num_rational.specs.ContinuedFractions.{AreConvergents}
 use Rattle.ratio_c.specs.Bounds.{AreFlags, HavePositiveDenominators, flagged_high, flagged_low}
 use Rattle.ratio_core.specs.Rounding.{IsCeiling, IsFloor, IsRounded, IsTruncation}
-use Rattle.ratio_c.specs.Crossing.{Said, Says, code_of_wide, mixed, order_number, refused, rule_of, said_of_decimal}
+use Rattle.ratio_c.specs.Crossing.{Said, Says, code_of_wide, mixed, order_number, refused, rule_of, said_of_decimal, said_of_typed}
 use Rattle.ratio_c.specs.Codes.{code_answered, code_bad_option, code_bound_not_positive, code_denominator_not_positive, code_division_by_zero, code_no_text, code_parse_error, code_zero_denominator, return_bad_length, return_done}
 
 -- Each answer is right for the item at its place, and the call returns 0. If the slices have unlike lengths, it returns 1 and writes nothing.
@@ -156,6 +159,10 @@ IsConvergentAnswer x place answer = OfOne x answer (Says (ChecksConvergent x pla
 abbrev pub IsFromFloatAnswer : ℤ → ℤ → Float → Said → Type 0
 IsFromFloatAnswer lo hi value answer = Says (ChecksLowest (λ z. z.0) (λ z. z.1) lo hi (fraction_of_float value)) answer
 
+-- The simplest fraction that rounds to a float, if it fits. For example, 0.1 gives 1/10, and 1/0 has none.
+abbrev pub IsRationalAnswer : ℤ → ℤ → Float → Said → Type 0
+IsRationalAnswer lo hi value answer = Says (ChecksRationalized (λ z. z) lo hi binary64 value) answer
+
 -- The float nearest to a fraction with a positive denominator. For example, 1/3 gives 0.3333333333333333.
 abbrev pub IsToFloatAnswer : ℤ × ℤ → ℕ → Float → Type 0
 IsToFloatAnswer x code value =
@@ -223,6 +230,13 @@ pub record SaysDecimal (lo hi : ℤ) (text : List ℕ) (answer : Said) : Type 0 
   pub read : Result (ℤ × ℤ) DecimalRefusal
   pub is_read : AnswersDecimal (λ z. z.0) (λ z. z.1) lo hi text read
   pub is_said : answer ≡ said_of_decimal read
+
+-- The answer says what a typed text reads as: its fraction in lowest terms, or the code of its refusal. For example, `-1 1/2` gives -3/2,
+-- `12.5%` gives 1/8, `1/0` has the code `code_zero_denominator`, and `1.5/2` has the code `code_parse_error`.
+pub record SaysTyped (lo hi : ℤ) (text : List ℕ) (answer : Said) : Type 0 where
+  pub read : Result (ℤ × ℤ) TextRefusal
+  pub is_read : AnswersTyped (λ z. z.0) (λ z. z.1) lo hi text read
+  pub is_said : answer ≡ said_of_typed read
 
 -- The text from `start` to `end` is read, if it lies in `texts`. Otherwise the code is `code_no_text`. A text that is not UTF-8 is a parse error.
 abbrev pub IsReadAnswer : (List ℕ → Said → Type 0) → List ℕ → ℕ → ℕ → Said → Type 0

@@ -7,6 +7,8 @@ use Rattle.ratio_core.specs.declared.parse_error.RatioErrorKind.{RatioErrorKind}
 use Rattle.ratio_core.specs.declared.parse_error.RatioErrorKind.TheVariants.{ParseError, ZeroDenominator}
 use Rattle.ratio_core.specs.declared.text.decimals.DecimalRefusal.{DecimalRefusal}
 use Rattle.ratio_core.specs.declared.text.decimals.DecimalRefusal.TheVariants.{NotDecimal, NotHeld}
+use Rattle.ratio_core.specs.declared.text.typed.TextRefusal.{TextRefusal}
+use Rattle.ratio_core.specs.declared.text.typed.TextRefusal.TheVariants.{NotNumber, ZeroDenominator, NotHeld}
 use Rattle.ratio_core.specs.declared.rounding_rule.Rounding.{Rounding}
 use Rattle.ratio_core.specs.declared.rounding_rule.Rounding.TheVariants.{HalfAway, HalfEven, Down, Up, Floor, Ceil}
 use Rattle.ratio_c.specs.declared.wide.Wide.{Wide}
@@ -66,6 +68,13 @@ abbrev pub said_of_decimal : Result (ℤ × ℤ) DecimalRefusal → Said
 said_of_decimal (Ok x) = (code_answered, x)
 said_of_decimal (Err NotDecimal) = refused code_parse_error
 said_of_decimal (Err NotHeld) = refused code_not_held
+
+-- what the answer says of a typed text that was read
+abbrev pub said_of_typed : Result (ℤ × ℤ) TextRefusal → Said
+said_of_typed (Ok x) = (code_answered, x)
+said_of_typed (Err NotNumber) = refused code_parse_error
+said_of_typed (Err ZeroDenominator) = refused code_zero_denominator
+said_of_typed (Err NotHeld) = refused code_not_held
 
 -- the rule of a number from 0 to 5
 abbrev pub rule_of : ℕ → Rounding

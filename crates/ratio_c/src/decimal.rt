@@ -39,12 +39,13 @@ fn decimal_of<F: Pointed>(x: &F) -> Result<DecimalText, u32>
         (λ code. ShowsDecimal (F.fraction x.now) (F.places x.now) (F.rule x.now) code []) }
     ensures short { IfOk result (λ text. length text ≤ decimal_longest F.Inside.lo F.Inside.hi) }
 {
+    let places = x.places();
     match positive(x) {
         Some(r) => match rule_of(x.rule()) {
-            Some(rule) if x.places() <= 38 => {
+            Some(rule) if places <= 38 => {
                 let (n, d) = r.into_raw();
                 both_held(n, d);
-                Ok(decimal(n, d, x.places(), rule))
+                Ok(decimal(n, d, places, rule))
             }
             _ => Err(BAD_OPTION),
         },

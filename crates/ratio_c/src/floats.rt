@@ -1,12 +1,13 @@
 //! Fractions with the values of floats, and the floats nearest to fractions.
 ghost use Rattle.std.specs.Prelude.{◌≡◌};
-ghost use Rattle.ratio_c.specs.Calls.{IsFromFloatAnswer, IsToFloatAnswer};
+ghost use Rattle.ratio_c.specs.Calls.{IsFromFloatAnswer, IsRationalAnswer, IsToFloatAnswer};
 
 use crate::code::{ANSWERED, DENOMINATOR_NOT_POSITIVE};
 use crate::crossing::{Digest, OneFraction, Reply, checked_fields};
 use crate::each::Call;
 use crate::one_fraction::positive;
 use ratio_core::floats::exact::from_float;
+use ratio_core::floats::rationalize::rationalize;
 use std::marker::PhantomData;
 
 /// A float. If there is none, the code says why, and the value is 0.
@@ -39,6 +40,31 @@ impl<T: Digest, A: Reply<T>> Call<f64, A> for FromFloat<T> {
     #[inline(always)]
     fn answer(&self, x: &f64) -> A {
         checked_fields(from_float::<T>(*x))
+    }
+}
+
+/// The call that gives the simplest fraction that rounds to a float: 0.1 gives 1/10.
+#[derive(Drop)]
+pub struct Rationalizing<T> {
+    marker: PhantomData<T>,
+}
+
+impl<T> Rationalizing<T> {
+    /// The call for the type `T`.
+    #[inline(always)]
+    pub fn new() -> Rationalizing<T> {
+        Rationalizing {
+            marker: PhantomData,
+        }
+    }
+}
+
+impl<T: Digest, A: Reply<T>> Call<f64, A> for Rationalizing<T> {
+    ghost gives = { λ _ x answer. IsRationalAnswer T.lo T.hi x (A.said answer) };
+
+    #[inline(always)]
+    fn answer(&self, x: &f64) -> A {
+        checked_fields(rationalize::<T>(*x))
     }
 }
 

@@ -29,4 +29,5 @@ pub mod sign;
 mod tests;
 pub mod total_steps;
 pub mod totals;
+pub mod typed;
 pub mod wide;

@@ -1,7 +1,7 @@
 // Written by templates/write from templates/numbers.rt.txt: change that file, and write this one anew.
 //! Fractions of `i128` and the exports over them.
 ghost use Rattle.std.specs.Prelude.{false};
-ghost use Rattle.ratio_c.specs.Calls.{AnswersEach, IsAbsoluteAnswer, IsBetweenAnswer, IsCastAnswer, IsCeilingAnswer, IsConvergentAnswer, IsDifferenceAnswer, IsEqualAnswer, IsFloorAnswer, IsFromFloatAnswer, IsHashAnswer, IsLowestAnswer, IsNearestAnswer, IsNegationAnswer, IsOrderAnswer, IsPowerAnswer, IsProductAnswer, IsQuotientAnswer, IsReadAnswer, IsRemainderAnswer, IsRoundAnswer, IsRoundToAnswer, IsScaledAnswer, IsSumAnswer, IsToFloatAnswer, IsTruncationAnswer, SaysDecimal, SaysText};
+ghost use Rattle.ratio_c.specs.Calls.{AnswersEach, IsAbsoluteAnswer, IsBetweenAnswer, IsCastAnswer, IsCeilingAnswer, IsConvergentAnswer, IsDifferenceAnswer, IsEqualAnswer, IsFloorAnswer, IsFromFloatAnswer, IsHashAnswer, IsLowestAnswer, IsNearestAnswer, IsNegationAnswer, IsOrderAnswer, IsPowerAnswer, IsProductAnswer, IsQuotientAnswer, IsRationalAnswer, IsReadAnswer, IsRemainderAnswer, IsRoundAnswer, IsRoundToAnswer, IsScaledAnswer, IsSumAnswer, IsToFloatAnswer, IsTruncationAnswer, SaysDecimal, SaysText, SaysTyped};
 ghost use Rattle.ratio_c.specs.Codes.{decimal_room128, room128};
 ghost use Rattle.ratio_c.specs.Crossing.{wide_number};
 ghost use Rattle.ratio_c.specs.Numbers128.{fraction128, greatest128, least128, said128};
@@ -20,7 +20,7 @@ use crate::crossing::{
 };
 use crate::decimal::{DecimalTexts, Decimals};
 use crate::each::each;
-use crate::floats::{Float, FromFloat, ToFloat};
+use crate::floats::{Float, FromFloat, Rationalizing, ToFloat};
 use crate::hash::{Hash, Hashing};
 use crate::multiple::RoundingTo;
 use crate::nearest::Nearest;
@@ -31,6 +31,7 @@ use crate::printing::{Fields, Text, print};
 use crate::reading::{Fractions, Reading, Span};
 use crate::scaled::{Scaled, Scaling};
 use crate::sign::{Absolute, Negation};
+use crate::typed::TypedTexts;
 use crate::wide::Wide;
 
 /// The room for a text: a slash, and two numbers of at most 40 bytes.
@@ -477,6 +478,14 @@ pub extern "C" fn ratio_from_f64_i128(asked: &[f64], answers: &mut [Answer128]) 
     each(&FromFloat::<i128>::new(), asked, answers)
 }
 
+/// The simplest fraction that rounds to each float.
+#[unsafe(no_mangle)]
+pub extern "C" fn ratio_rationalize_i128(asked: &[f64], answers: &mut [Answer128]) -> u32
+    ensures { AnswersEach (λ x answer. IsRationalAnswer least128 greatest128 x (said128 answer)) asked.now answers.old answers.new result }
+{
+    each(&Rationalizing::<i128>::new(), asked, answers)
+}
+
 /// The float nearest to each fraction.
 #[unsafe(no_mangle)]
 pub extern "C" fn ratio_to_f64_i128(asked: &[Fraction128], answers: &mut [Float]) -> u32
@@ -520,6 +529,19 @@ pub extern "C" fn ratio_read_decimal_i128(
     ensures { AnswersEach (λ span answer. IsReadAnswer (SaysDecimal least128 greatest128) texts.now span.start span.end (said128 answer)) spans.now answers.old answers.new result }
 {
     let reader = DecimalTexts::<i128>::new();
+    each(&Reading { texts, reader }, spans, answers)
+}
+
+/// The same for texts that a person typed, such as `-1 1/2` and `12.5%`.
+#[unsafe(no_mangle)]
+pub extern "C" fn ratio_read_text_i128(
+    texts: &[u8],
+    spans: &[Span],
+    answers: &mut [Answer128],
+) -> u32
+    ensures { AnswersEach (λ span answer. IsReadAnswer (SaysTyped least128 greatest128) texts.now span.start span.end (said128 answer)) spans.now answers.old answers.new result }
+{
+    let reader = TypedTexts::<i128>::new();
     each(&Reading { texts, reader }, spans, answers)
 }
 

@@ -1,7 +1,7 @@
 // Written by templates/write from templates/numbers.rt.txt: change that file, and write this one anew.
 //! Fractions of `i32` and the exports over them.
 ghost use Rattle.std.specs.Prelude.{true};
-ghost use Rattle.ratio_c.specs.Calls.{AnswersEach, IsAbsoluteAnswer, IsBetweenAnswer, IsCastAnswer, IsCeilingAnswer, IsConvergentAnswer, IsDifferenceAnswer, IsEqualAnswer, IsFloorAnswer, IsFromFloatAnswer, IsHashAnswer, IsLowestAnswer, IsNearestAnswer, IsNegationAnswer, IsOrderAnswer, IsPowerAnswer, IsProductAnswer, IsQuotientAnswer, IsReadAnswer, IsRemainderAnswer, IsRoundAnswer, IsRoundToAnswer, IsScaledAnswer, IsSumAnswer, IsToFloatAnswer, IsTruncationAnswer, SaysDecimal, SaysText};
+ghost use Rattle.ratio_c.specs.Calls.{AnswersEach, IsAbsoluteAnswer, IsBetweenAnswer, IsCastAnswer, IsCeilingAnswer, IsConvergentAnswer, IsDifferenceAnswer, IsEqualAnswer, IsFloorAnswer, IsFromFloatAnswer, IsHashAnswer, IsLowestAnswer, IsNearestAnswer, IsNegationAnswer, IsOrderAnswer, IsPowerAnswer, IsProductAnswer, IsQuotientAnswer, IsRationalAnswer, IsReadAnswer, IsRemainderAnswer, IsRoundAnswer, IsRoundToAnswer, IsScaledAnswer, IsSumAnswer, IsToFloatAnswer, IsTruncationAnswer, SaysDecimal, SaysText, SaysTyped};
 ghost use Rattle.ratio_c.specs.Codes.{decimal_room32, room32};
 ghost use Rattle.ratio_c.specs.Crossing.{wide_number};
 ghost use Rattle.ratio_c.specs.LowestHash.{IsLowestHashAnswer};
@@ -21,7 +21,7 @@ use crate::crossing::{
 };
 use crate::decimal::{DecimalTexts, Decimals};
 use crate::each::each;
-use crate::floats::{Float, FromFloat, ToFloat};
+use crate::floats::{Float, FromFloat, Rationalizing, ToFloat};
 use crate::hash::{Hash, Hashing};
 use crate::lowest_hash::LowestHashing;
 use crate::multiple::RoundingTo;
@@ -33,6 +33,7 @@ use crate::printing::{Fields, Text, print};
 use crate::reading::{Fractions, Reading, Span};
 use crate::scaled::{Scaled, Scaling};
 use crate::sign::{Absolute, Negation};
+use crate::typed::TypedTexts;
 
 /// The room for a text: a slash, and two numbers of at most 11 bytes.
 pub const ROOM: usize = 23;
@@ -475,6 +476,14 @@ pub extern "C" fn ratio_from_f64_i32(asked: &[f64], answers: &mut [Answer32]) ->
     each(&FromFloat::<i32>::new(), asked, answers)
 }
 
+/// The simplest fraction that rounds to each float.
+#[unsafe(no_mangle)]
+pub extern "C" fn ratio_rationalize_i32(asked: &[f64], answers: &mut [Answer32]) -> u32
+    ensures { AnswersEach (λ x answer. IsRationalAnswer least32 greatest32 x (said32 answer)) asked.now answers.old answers.new result }
+{
+    each(&Rationalizing::<i32>::new(), asked, answers)
+}
+
 /// The float nearest to each fraction.
 #[unsafe(no_mangle)]
 pub extern "C" fn ratio_to_f64_i32(asked: &[Fraction32], answers: &mut [Float]) -> u32
@@ -526,6 +535,15 @@ pub extern "C" fn ratio_read_decimal_i32(
     ensures { AnswersEach (λ span answer. IsReadAnswer (SaysDecimal least32 greatest32) texts.now span.start span.end (said32 answer)) spans.now answers.old answers.new result }
 {
     let reader = DecimalTexts::<i32>::new();
+    each(&Reading { texts, reader }, spans, answers)
+}
+
+/// The same for texts that a person typed, such as `-1 1/2` and `12.5%`.
+#[unsafe(no_mangle)]
+pub extern "C" fn ratio_read_text_i32(texts: &[u8], spans: &[Span], answers: &mut [Answer32]) -> u32
+    ensures { AnswersEach (λ span answer. IsReadAnswer (SaysTyped least32 greatest32) texts.now span.start span.end (said32 answer)) spans.now answers.old answers.new result }
+{
+    let reader = TypedTexts::<i32>::new();
     each(&Reading { texts, reader }, spans, answers)
 }
 

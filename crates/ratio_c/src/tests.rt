@@ -14,8 +14,8 @@ use crate::numbers64::{
     Place64, Power64, ROOM, ratio_abs_i64, ratio_add_i64, ratio_between_i64, ratio_cast_i64_to_i32,
     ratio_ceil_i64, ratio_convergent_i64, ratio_equal_i64, ratio_from_f64_i64,
     ratio_from_scaled_i64, ratio_hash_lowest_i64, ratio_nearest_i64, ratio_neg_i64, ratio_pow_i64,
-    ratio_print_decimal_i64, ratio_print_i64, ratio_read_decimal_i64, ratio_read_i64,
-    ratio_round_to_i64, ratio_to_f64_i64, ratio_trunc_i64,
+    ratio_print_decimal_i64, ratio_print_i64, ratio_rationalize_i64, ratio_read_decimal_i64,
+    ratio_read_i64, ratio_read_text_i64, ratio_round_to_i64, ratio_to_f64_i64, ratio_trunc_i64,
 };
 use crate::numbers128::Fraction128;
 use crate::printing::Text;
@@ -198,6 +198,9 @@ fn floats(rt: HostRuntime) {
     assert!(rt; ratio_from_f64_i64(&[-0.75, 1e300], &mut answers) == DONE);
     assert!(rt; [answers[0].value.numer, answers[0].value.denom] == [-3, 4]);
     assert!(rt; answers[1].code == NOT_HELD);
+    assert!(rt; ratio_rationalize_i64(&[0.1, 1e300], &mut answers) == DONE);
+    assert!(rt; [answers[0].value.numer, answers[0].value.denom] == [1, 10]);
+    assert!(rt; answers[1].code == NOT_HELD);
     let asked = [fraction(1, 3), fraction(1, 0)];
     let mut floats = [no_float(), no_float()];
     assert!(rt; ratio_to_f64_i64(&asked, &mut floats) == DONE);
@@ -367,6 +370,21 @@ fn decimal_readings(rt: HostRuntime) {
     let [first, second, third] = answers;
     assert!(rt; [first.value.numer, first.value.denom] == [-3, 2000]);
     assert!(rt; [second.code, third.code] == [PARSE_ERROR, NOT_HELD]);
+}
+
+#[test]
+fn typed_texts(rt: HostRuntime) {
+    let spans = [
+        Span { start: 0, end: 6 },
+        Span { start: 6, end: 11 },
+        Span { start: 11, end: 14 },
+    ];
+    let mut answers = [no_answer(), no_answer(), no_answer()];
+    assert!(rt; ratio_read_text_i64(b"-1 1/212.5%1/0", &spans, &mut answers) == DONE);
+    let [first, second, third] = answers;
+    assert!(rt; [first.value.numer, first.value.denom] == [-3, 2]);
+    assert!(rt; [second.value.numer, second.value.denom] == [1, 8]);
+    assert!(rt; third.code == ZERO_DENOMINATOR);
 }
 
 fn empty() -> Total64 {

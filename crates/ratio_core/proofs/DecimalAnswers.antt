@@ -19,7 +19,7 @@ use Rattle.ratio_core.proofs.WidthLemmas.{wide_signed}
 
 -- ---- what a type of at most 128 bits has
 
-abbrev HasWidth : ℤ → ℤ → ℕ → Type 0
+abbrev pub HasWidth : ℤ → ℤ → ℕ → Type 0
 HasWidth lo hi bits = (bits ≤ 128) × (hi +ℤ pos 1 ≡ lo +ℤ pos (2 ^ bits))
 
 -- a number that is not above 0, and is in range, fits `i128`

@@ -1,12 +1,12 @@
 -- The lowest terms of a digit and of what is behind it, and what fractions of equal values share.
 use Rattle.std.specs.Prelude.{◌≡◌, ◌≢◌, ◌+◌, ◌-◌, ◌*◌, ◌/◌, ◌%◌, ◌^◌, ◌<◌, ◌≤◌, ◌==◌, ℕ, zero, suc, pos, cond}
 use Rattle.std.specs.Int.{◌∣◌, IsGcd}
-use Rattle.std.proofs.Common.{refl, sym, ap, arith, ◌∙◌, inl, inr}
+use Rattle.std.proofs.Common.{refl, sym, ap, subst, arith, ◌∙◌, inl, inr}
 use Rattle.std.proofs.lemmas.Bool.Decides.{nat_tests}
 use Rattle.std.proofs.lemmas.Int.{ints}
 use Rattle.std.proofs.lemmas.Nat.{mul-mod_second}
 use Rattle.std.proofs.lemmas.Nat.Gcd.{IsGcd-from_mod, IsGcd-from_zero}
-use Rattle.std.proofs.Math.Nat.{add-mod, div-add-mod, div-lt_iff_lt-mul, div-mul_cancel, dvd-add_iff_right, dvd-mul_left, dvd-mul_left_of_dvd, dvd-mul_right, dvd_trans, eq_of_mul-eq-mul_right, le_of_dvd, le_of_mul-le-mul_right, mul-add-div, mod-lt, mul_comm, mul-le-mul, mul-le-mul_left, mul-le-mul_right, mul-sub, pos_of_dvd_of_pos}
+use Rattle.std.proofs.Math.Nat.{add-mod, div-add-mod, div-lt_iff_lt-mul, div-mul_cancel, div-one, dvd-add_iff_right, dvd-mul_left, dvd-mul_left_of_dvd, dvd-mul_right, dvd_trans, eq_of_mul-eq-mul_right, le_of_dvd, le_of_mul-le-mul_right, mul-add-div, mod-lt, mul_comm, mul-le-mul, mul-le-mul_left, mul-le-mul_right, mul-sub, pos_of_dvd_of_pos}
 use Rattle.ratio_integer.specs.Fraction.{IsLowestTerms, IsLowestTermsOf}
 use Rattle.ratio_integer.proofs.CommonDivisors.{IsCoprime, coprime_gcd, coprime_product, coprime_turned, gcd_coprime}
 use Rattle.ratio_integer.proofs.GcdLemmas.{coprime-dvd, parts-coprime}
@@ -232,6 +232,30 @@ pub digit_terms : (d p q g n m : ℕ) → d < 10 → p < q → IsLowestTerms (po
 digit_terms d p q g n m digit below lowest is n-is m-is =
     let some = divisor_some (d * q + p) g is in
     rw (n-is, m-is, numer_is d p q g some) (record { terms = tenth_terms d p q g (denom_some p q lowest) lowest.only_one is; below = numer_small d p q g digit below is })
+
+-- the same by the last digit of d * q + p
+number_gcd : (n : ℕ) → IsGcd n 10 (divisor_of (n % 10))
+number_gcd n = IsGcd-from_mod n 10 (divisor_of (n % 10)) (last_gcd (n % 10) (mod-lt n (omega arith)))
+
+by_gcd : (d p q g : ℕ) → d < 10 → p < q → IsLowestTerms (pos p) (pos q) → divisor_of ((d * q + p) % 10) ≡ g → IsPartTerms (d * q + p) (10 * q) ((d * q + p) / g) (q * (10 / g))
+by_gcd d p q g digit below lowest divisor =
+    let is : IsGcd (d * q + p) 10 g = rw (← divisor) (number_gcd (d * q + p)) in
+    record { terms = tenth_terms d p q g (denom_some p q lowest) lowest.only_one is; below = numer_small d p q g digit below is }
+
+pub by_ten : (d p q : ℕ) → d < 10 → p < q → IsLowestTerms (pos p) (pos q) → (d * q + p) % 10 ≡ 0 → IsPartTerms (d * q + p) (10 * q) ((d * q + p) / 10) q
+by_ten d p q digit below lowest last =
+    let whole : q * 1 ≡ q = omega arith in
+    subst (λ x. IsPartTerms (d * q + p) (10 * q) ((d * q + p) / 10) x) whole (by_gcd d p q 10 digit below lowest (ap divisor_of last))
+
+pub by_five : (d p q : ℕ) → d < 10 → p < q → IsLowestTerms (pos p) (pos q) → (d * q + p) % 10 ≡ 5 → IsPartTerms (d * q + p) (10 * q) ((d * q + p) / 5) (q * 2)
+by_five d p q digit below lowest last = by_gcd d p q 5 digit below lowest (ap divisor_of last)
+
+pub by_two : (d p q : ℕ) → d < 10 → p < q → IsLowestTerms (pos p) (pos q) → (d * q + p) % 10 ≢ 0 → (d * q + p) % 10 ≢ 5 → (d * q + p) % 10 % 2 ≡ 0 → IsPartTerms (d * q + p) (10 * q) ((d * q + p) / 2) (q * 5)
+by_two d p q digit below lowest some other even = by_gcd d p q 2 digit below lowest (divisor_two _ some other even)
+
+pub by_one : (d p q : ℕ) → d < 10 → p < q → IsLowestTerms (pos p) (pos q) → (d * q + p) % 10 ≢ 0 → (d * q + p) % 10 ≢ 5 → (d * q + p) % 10 % 2 ≢ 0 → IsPartTerms (d * q + p) (10 * q) (d * q + p) (q * 10)
+by_one d p q digit below lowest some other odd =
+    subst (λ x. IsPartTerms (d * q + p) (10 * q) x (q * 10)) (div-one (d * q + p)) (by_gcd d p q 1 digit below lowest (divisor_one _ some other odd))
 
 -- and where their denominator does not fit
 pub digit_fine : (d p q g : ℕ) → IsLowestTerms (pos p) (pos q) → IsGcd (d * q + p) 10 g → 2 ^ 128 ≤ q * (10 / g) → IsFine (d * q + p) (10 * q)

@@ -29,7 +29,7 @@ digits_next text at is more digit = record { inside = omega (arith, more); all =
 
 -- ---- there is one way
 
-sign_only : (text rest : List ℕ) (below : Bool) (sign tail : List ℕ) (other : Bool) → IsSignCut text below rest → text ≡ sign ++ tail → IsWrittenSign sign other → HasNoSign tail → (below ≡ other) × (rest ≡ tail)
+pub sign_only : (text rest : List ℕ) (below : Bool) (sign tail : List ℕ) (other : Bool) → IsSignCut text below rest → text ≡ sign ++ tail → IsWrittenSign sign other → HasNoSign tail → (below ≡ other) × (rest ≡ tail)
 sign_only text rest below sign tail true cut e is none = by cut (e ∙ ap (λ xs. xs ++ tail) is)
   where
     by : IsSignCut text below rest → text ≡ minus ∷ tail → (below ≡ true) × (rest ≡ tail)
@@ -59,19 +59,19 @@ digits_same (c ∷ cs) (d ∷ ds) rest tail e all others end last =
     let same = digits_same cs ds rest tail later all.1 others.1 end last in
     ((let front : cs ≡ ds = same.0 in cc), same.1)
 
-digits_only : (text ds rest es tail : List ℕ) → IsDigitsCut text ds rest → text ≡ es ++ tail → AllDigits 10 es → HasNoDigit tail → (ds ≡ es) × (rest ≡ tail)
+pub digits_only : (text ds rest es tail : List ℕ) → IsDigitsCut text ds rest → text ≡ es ++ tail → AllDigits 10 es → HasNoDigit tail → (ds ≡ es) × (rest ≡ tail)
 digits_only text ds rest es tail cut e others last = digits_same ds es rest tail (sym cut.cut ∙ e) cut.all others cut.end last
 
 -- ---- what the parts of a decimal begin with
 
-digit_no_sign : (c : ℕ) → digit_value c < 10 → (c ≢ minus) × (c ≢ plus)
+pub digit_no_sign : (c : ℕ) → digit_value c < 10 → (c ≢ minus) × (c ≢ plus)
 digit_no_sign c digit = ((λ e. let value : digit_value c ≡ 36 = ap digit_value e in omega (arith, digit, value)), (λ e. let value : digit_value c ≡ 36 = ap digit_value e in omega (arith, digit, value)))
 
-numeral_no_sign : (ds tail : List ℕ) → IsNumeral 10 ds → HasNoSign (ds ++ tail)
+pub numeral_no_sign : (ds tail : List ℕ) → IsNumeral 10 ds → HasNoSign (ds ++ tail)
 numeral_no_sign [] tail is = absurd (omega (arith, is.0))
 numeral_no_sign (c ∷ cs) tail is = digit_no_sign c is.1.0
 
-letter_end : (c : ℕ) → IsLetterE c → (10 ≤ digit_value c) × (c ≢ point)
+pub letter_end : (c : ℕ) → IsLetterE c → (10 ≤ digit_value c) × (c ≢ point)
 letter_end c (inl is) = (let value : digit_value c ≡ 14 = ap digit_value is in omega (arith, value), λ e. omega (arith, is, e))
 letter_end c (inr is) = (let value : digit_value c ≡ 14 = ap digit_value is in omega (arith, value), λ e. omega (arith, is, e))
 
@@ -148,7 +148,7 @@ parts_only text below whole part rest other front back down exponent cut is =
 
 -- ---- a cut makes a decimal
 
-sign_of : (text rest : List ℕ) (below : Bool) → IsSignCut text below rest → (sign : List ℕ) × IsWrittenSign sign below × (text ≡ sign ++ rest)
+pub sign_of : (text rest : List ℕ) (below : Bool) → IsSignCut text below rest → (sign : List ℕ) × IsWrittenSign sign below × (text ≡ sign ++ rest)
 sign_of text rest below (inl (e, is)) = (minus ∷ [], subst (IsWrittenSign (minus ∷ [])) (sym is) refl, e)
 sign_of text rest below (inr (inl (e, is))) = (plus ∷ [], subst (IsWrittenSign (plus ∷ [])) (sym is) (inr refl), e)
 sign_of text rest below (inr (inr (e, is, free))) = ([], subst (IsWrittenSign []) (sym is) (inl refl), e)
@@ -230,7 +230,7 @@ written text unsigned later digits below sign cut some letter any none =
 
 -- ---- each text has one reading
 
-sign_cut : (text rest sign : List ℕ) (below : Bool) → text ≡ sign ++ rest → IsWrittenSign sign below → HasNoSign rest → IsSignCut text below rest
+pub sign_cut : (text rest sign : List ℕ) (below : Bool) → text ≡ sign ++ rest → IsWrittenSign sign below → HasNoSign rest → IsSignCut text below rest
 sign_cut text rest sign true e is free = inl (e ∙ ap (λ xs. xs ++ rest) is, refl)
 sign_cut text rest sign false e (inl is) free = let whole : text ≡ rest = e ∙ ap (λ xs. xs ++ rest) is in inr (inr (whole, refl, subst HasNoSign (sym whole) free))
 sign_cut text rest sign false e (inr is) free = inr (inl (e ∙ ap (λ xs. xs ++ rest) is, refl))

@@ -248,16 +248,16 @@ left_all_fine whole part tens p q less behind fine =
 
 -- ---- exponents of 2^128 or more
 
-far_power : (e k : ℕ) → 2 ^ 128 ≤ e → k < 2 ^ 64 → 2 ^ 128 ≤ 10 ^ (e - k)
+far_power : (e k : ℕ) → 2 ^ 127 ≤ e → k < 2 ^ 64 → 2 ^ 128 ≤ 10 ^ (e - k)
 far_power e k far short = omega (arith, pow-le-pow_right {n = 10} (omega arith) {i = 39} {j = e - k} (omega arith))
 
-far_right : (m k e : ℕ) → 2 ^ 128 ≤ e → k < 2 ^ 64 → 0 < m → IsWide (m * 10 ^ e) (10 ^ k * 1)
+pub far_right : (m k e : ℕ) → 2 ^ 127 ≤ e → k < 2 ^ 64 → 0 < m → IsWide (m * 10 ^ e) (10 ^ k * 1)
 far_right m k e far short some =
     let less : 1 * 10 ^ e ≤ m * 10 ^ e = mul-le-mul_right (10 ^ e) some in
     let power = power_cut k e (omega arith) in
     wide_above (10 ^ (e - k)) (m * 10 ^ e) (10 ^ k * 1) (let h = power_some k in omega arith) (omega (arith, power)) (far_power e k far short)
 
-far_left : (m w k e : ℕ) → 2 ^ 128 ≤ e → w < 2 ^ 64 → 0 < m → m < 10 ^ (w + k) → IsWide (m * 1) (10 ^ k * 10 ^ e)
+pub far_left : (m w k e : ℕ) → 2 ^ 127 ≤ e → w < 2 ^ 64 → 0 < m → m < 10 ^ (w + k) → IsWide (m * 1) (10 ^ k * 10 ^ e)
 far_left m w k e far short some small = record { each = λ a b more h. inr (enough a b more h) }
   where
     power : 10 ^ k * 10 ^ e ≡ 10 ^ (e - w) * 10 ^ (w + k)
@@ -275,15 +275,15 @@ far_left m w k e far short some small = record { each = λ a b more h. inr (enou
         let least : 10 ^ (e - w) ≤ b = le_of_mul-le-mul_right {m = 10 ^ (e - w)} {n = b} {k = 10 ^ (w + k)} turned (power_some (w + k)) in
         omega (arith, far_power e w far short)
 
-sum_small : (whole part : List ℕ) → AllDigits 10 whole → AllDigits 10 part → digits_sum 10 (whole ++ part) < 10 ^ (length whole + length part)
+pub sum_small : (whole part : List ℕ) → AllDigits 10 whole → AllDigits 10 part → digits_sum 10 (whole ++ part) < 10 ^ (length whole + length part)
 sum_small whole part first second =
     subst (λ x. x < 10 ^ (length whole + length part)) (digits_value_sum 10 (whole ++ part))
     (subst (λ k. digits_value 10 (whole ++ part) < 10 ^ k) (length-append whole part) (digits_value-lt 10 (whole ++ part) (append_digits 10 whole part first second)))
 
 far_wide : (whole part : List ℕ) (down : Bool) (e : ℕ) → AllDigits 10 whole → AllDigits 10 part → length whole < 2 ^ 64 → length part < 2 ^ 64 → 2 ^ 128 ≤ e → 0 < digits_sum 10 (whole ++ part)
     → IsWide (digits_sum 10 (whole ++ part) * tens_above down e) (10 ^ length part * tens_below down e)
-far_wide whole part false e first second short brief far some = far_right (digits_sum 10 (whole ++ part)) (length part) e far brief some
-far_wide whole part true e first second short brief far some = far_left (digits_sum 10 (whole ++ part)) (length whole) (length part) e far short some (sum_small whole part first second)
+far_wide whole part false e first second short brief far some = far_right (digits_sum 10 (whole ++ part)) (length part) e (omega arith) brief some
+far_wide whole part true e first second short brief far some = far_left (digits_sum 10 (whole ++ part)) (length whole) (length part) e (omega arith) short some (sum_small whole part first second)
 
 scale_some : (k : ℕ) (down : Bool) (e : ℕ) → 0 < 10 ^ k * tens_below down e
 scale_some k false e = let h = power_some k in omega arith

@@ -39,7 +39,7 @@ nan_out lo hi (fin s m e) is = absurd (let e : false ≡ true = is in cc)
 
 -- ---- the three fields of the bits: the sign, the exponent e and the digits t
 
-kept : (f : Format) (x : Float) → T (fits f x) → x ≡ of_fields f (leb (top f) (to_bits f x)) (to_bits f x % top f / hid f) (to_bits f x % hid f)
+pub kept : (f : Format) (x : Float) → T (fits f x) → x ≡ of_fields f (leb (top f) (to_bits f x)) (to_bits f x % top f / hid f) (to_bits f x % hid f)
 unfolding of_bits
 kept f x fit = sym (of_bits-to_bits f x fit)
 
@@ -54,12 +54,12 @@ none_there lo hi f s (suc e) t top above = rw (eq-eqb (suc e) (ones f) top) (eit
     either false = no_fraction lo hi
 
 -- the exponent of the least floats: there is no leading digit beside those of the field
-low_there : (f : Format) (s : Bool) (e t : ℕ) → e ≡ 0 → HasValue (of_fields f s e t) s (t * 2 ^ 0) (2 ^ low f)
+pub low_there : (f : Format) (s : Bool) (e t : ℕ) → e ≡ 0 → HasValue (of_fields f s e t) s (t * 2 ^ 0) (2 ^ low f)
 unfolding of_fields
 low_there f s zero t none = odd_sign (prec f) s t 0 (low f)
 low_there f s (suc e) t none = absurd (omega arith)
 
-leading_there : (f : Format) (s : Bool) (e t : ℕ) → e ≢ 0 → e ≢ ones f → HasValue (of_fields f s e t) s ((hid f + t) * 2 ^ (e - 1)) (2 ^ low f)
+pub leading_there : (f : Format) (s : Bool) (e t : ℕ) → e ≢ 0 → e ≢ ones f → HasValue (of_fields f s e t) s ((hid f + t) * 2 ^ (e - 1)) (2 ^ low f)
 unfolding of_fields
 leading_there f s zero t some other = absurd (some refl)
 leading_there f s (suc e) t some other =

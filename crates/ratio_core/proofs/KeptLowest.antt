@@ -37,7 +37,7 @@ reciprocal_lowest (negsuc n) d a b lowest nonzero is =
 
 -- ---- powers
 
-coprime_power : (x y m : ℕ) → IsCoprime y x → IsCoprime y (x ^ m)
+pub coprime_power : (x y m : ℕ) → IsCoprime y x → IsCoprime y (x ^ m)
 coprime_power x y zero apart = λ k p q. eq-one_of_dvd-one (rw (pow-zero x) at q)
 coprime_power x y (suc m) apart = rw (pow-suc x m) (coprime_product y (x ^ m) x (coprime_power x y m apart) apart)
 

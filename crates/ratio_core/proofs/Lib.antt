@@ -13,6 +13,7 @@ pub mod DecimalTerms
 pub mod DecimalTexts
 pub mod DecimalValues
 pub mod DecimalsReadBack
+pub mod DecimalsReadNear
 pub mod DigitGroups
 pub mod EndLemmas
 pub mod EqualityLaws
@@ -28,6 +29,7 @@ pub mod Floored
 pub mod Following
 pub mod FractionOrder
 pub mod FromQuotientsLemmas
+pub mod GapLemmas
 pub mod HalfEvenLemmas
 pub mod HashLaws
 pub mod Hashing
@@ -38,6 +40,7 @@ pub mod LeadingDigits
 pub mod LongLemmas
 pub mod LowestPowers
 pub mod MixedLemmas
+pub mod MultipleLemmas
 pub mod NearerZero
 pub mod NearestChoice
 pub mod NearestCounting
@@ -61,6 +64,7 @@ pub mod PrintingLemmas
 pub mod ProductLemmas
 pub mod ProductOrder
 pub mod Quotients
+pub mod RationalizeLemmas
 pub mod ReadingBack
 pub mod ReadingExists
 pub mod ReciprocalLemmas
@@ -76,6 +80,7 @@ pub mod Rounds
 pub mod SameValues
 pub mod ScalingLemmas
 pub mod Shares
+pub mod ShortDecimals
 pub mod SignLemmas
 pub mod SimplestBeginning
 pub mod SimplestEnclosing
@@ -92,6 +97,11 @@ pub mod TextLengths
 pub mod Ticks
 pub mod TwoNearest
 pub mod TwosComplement
+pub mod TypedAnswers
+pub mod TypedCuts
+pub mod TypedFree
+pub mod TypedLawLemmas
+pub mod TypedValues
 pub mod WideRemainders
 pub mod WidthLemmas
 pub mod WithinLemmas

@@ -5,7 +5,7 @@ use Rattle.std.proofs.Common.{refl, sym, ap, subst, inl, inr, arith, ◌∙◌}
 use Rattle.std.proofs.lemmas.Int.{ints, unsigned_abs-mul}
 use Rattle.std.proofs.Math.Nat.{dvd_refl}
 use borrow.Author.Differences.{up, down, same_in, product_is}
-use lib.IntN.{*ℤ-one, one, zero-*ℤ}
+use lib.IntN.{*ℤ_comm, *ℤ-one, one, zero-*ℤ}
 use Rattle.ratio_integer.specs.Division.{IsGcdAboveMax, IsGcdOf, IsMultiple}
 use Rattle.ratio_integer.specs.Fraction.{IsCancelledOf, IsLowestTerms, IsLowestTermsOf}
 use Rattle.ratio_integer.specs.Range.{IsHeld, IsRange}
@@ -205,6 +205,9 @@ rest_part s g h m f rest positive s-is g-is =
 
 pub share_positive : (x g b : ℤ) → pos 0 <ℤ g → pos 0 <ℤ b → x *ℤ g ≡ b → pos 0 <ℤ x
 share_positive x g b divisor positive is = positive_factor x g divisor (rw is positive)
+
+pub share_fits : (hi x g b : ℤ) → x *ℤ g ≡ b → b ≤ℤ hi → (g *ℤ x) ≤ℤ hi
+share_fits hi x g b is most = omega (arith, ints, *ℤ_comm g x)
 
 -- if p/b is a part, then p*y is below x*y*g
 pub scaled_below : (p b x y g common : ℤ) → IsPart p b → pos 0 <ℤ y → x *ℤ g ≡ b → common ≡ x *ℤ y → (p *ℤ y) <ℤ (common *ℤ g)

@@ -112,7 +112,7 @@ between_moved n d m e p q a b d_up e_up b_up same is = record {
 
 -- ---- ends of the same values
 
-between_same : (n d m e n' d' m' e' a b : ℤ) → pos 0 <ℤ d → pos 0 <ℤ e → pos 0 <ℤ d' → pos 0 <ℤ e' → SameValue n d n' d' → SameValue m e m' e' → IsBetween n d m e a b → IsBetween n' d' m' e' a b
+pub between_same : (n d m e n' d' m' e' a b : ℤ) → pos 0 <ℤ d → pos 0 <ℤ e → pos 0 <ℤ d' → pos 0 <ℤ e' → SameValue n d n' d' → SameValue m e m' e' → IsBetween n d m e a b → IsBetween n' d' m' e' a b
 between_same n d m e n' d' m' e' a b d_up e_up d'_up e'_up low high is = record {
   positive = is.positive;
   above = kept_below a b n d n' d' is.positive d_up d'_up low is.above;

@@ -1,5 +1,5 @@
 -- inner: How a decimal text is cut from the left, and the lowest terms of its digits in 128 bits.
-use Rattle.std.specs.Prelude.{◌≡◌, ◌≢◌, ◌⊎◌, ◌<◌, ◌≤◌, ◌*◌, ◌^◌, ℕ, ℤ, pos, Bool, true, false, List, [], ◌∷◌, ◌++◌, Option, Some, None}
+use Rattle.std.specs.Prelude.{◌≡◌, ◌≢◌, ◌⊎◌, ◌<◌, ◌≤◌, ◌-◌, ◌*◌, ◌%◌, ◌^◌, ℕ, ℤ, pos, Bool, true, false, List, [], ◌∷◌, ◌++◌, Option, Some, None}
 use Rattle.std.specs.Char.{digit_value}
 use Rattle.std.specs.Str.Parse.{AllDigits}
 use Rattle.ratio_integer.specs.Fraction.{IsLowestTermsOf}
@@ -51,6 +51,12 @@ pub record IsDecimalCut (text : List ℕ) (below : Bool) (whole part rest : List
 pub record IsPartTerms (n d p q : ℕ) : Type 0 where
   pub terms : IsLowestTermsOf (pos n) (pos d) (pos p) (pos q)
   pub below : p < q
+
+-- the number is `rest` times a power of the prime, of at most `most`. `left` more could be taken out, but there are none in `rest`
+pub record IsWithout (prime number most rest left : ℕ) : Type 0 where
+  pub few : left ≤ most
+  pub same : number ≡ rest * prime ^ (most - left)
+  pub done : (left ≡ 0) ⊎ (rest % prime ≢ 0)
 
 -- each denominator with which n/d can be written is 2^128 or more
 pub record IsFine (n d : ℕ) : Type 0 where

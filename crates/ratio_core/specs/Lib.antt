@@ -22,6 +22,8 @@ pub mod Power
 pub mod PowerLaws
 pub mod Precision
 pub mod Printing
+pub mod Rationalize
+pub mod Rationalizing
 pub mod Reading
 pub mod Refusal
 pub mod Rounding
@@ -32,3 +34,6 @@ pub mod Simplest
 pub mod SimplestLaws
 pub mod SimplestWithin
 pub mod SimplestWithinLaws
+pub mod TypedLaws
+pub mod TypedTerms
+pub mod TypedText

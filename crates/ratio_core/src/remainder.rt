@@ -5,7 +5,7 @@ ghost use Rattle.ratio_integer.specs.Fraction.{AnswersLowest};
 ghost use Rattle.ratio_core.specs.Conditions.{IsHeldLowestOf};
 
 pub mod lowest;
-mod wide;
+pub(crate) mod wide;
 
 use crate::scaling::scaled;
 use ratio_integer::{Integer, lowest_terms};

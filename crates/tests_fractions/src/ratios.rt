@@ -28,3 +28,4 @@ mod simplest;
 mod simplest_within;
 mod texts;
 mod twelve_types;
+mod typed_texts;

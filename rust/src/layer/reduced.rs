@@ -11,7 +11,7 @@ use super::simplest::bound_with;
 use crate::proved::num_rational as proved;
 use crate::proved::num_rational::{Constants, ParseRatioError};
 use crate::proved::ratio_core::rounding_rule::Rounding;
-use crate::proved::ratio_core::{BaseTenText, DecimalRefusal, DecimalText};
+use crate::proved::ratio_core::{BaseTenText, DecimalRefusal, DecimalText, TextRefusal};
 use core::cmp::Ordering;
 use core::fmt;
 use core::hash::{Hash, Hasher};
@@ -183,6 +183,29 @@ impl<T: Integer> Reduced<T> {
     #[inline]
     pub fn from_decimal(text: &str) -> Result<Reduced<T>, DecimalRefusal> {
         Proved::<T>::from_decimal(text).map(|fraction| Reduced { fraction })
+    }
+
+    /// The fraction of what a person types into one field. The text is a decimal, as `from_decimal` reads it, a fraction `a/b` of two
+    /// whole numbers, or a mixed number `a b/c`, whose sign counts for the whole. A decimal or a fraction with a percent sign right
+    /// behind it is divided by 100. The call takes no memory.
+    ///
+    /// # Errors
+    ///
+    /// `NotNumber` if the text is none of these, `ZeroDenominator` if a fraction or a mixed number is over 0, and `NotHeld` if the lowest
+    /// terms do not fit the type. The whole numbers in a fraction or a mixed number must be below 2^128, else it is `NotHeld`, too.
+    ///
+    /// ```
+    /// use bakhsney::{Reduced, TextRefusal};
+    ///
+    /// assert_eq!(Reduced::from_text("200/400").ok(), Reduced::checked_new(1i8, 2));
+    /// assert_eq!(Reduced::from_text("-1 1/2").ok(), Reduced::checked_new(-3, 2));
+    /// assert_eq!(Reduced::from_text("12.5%").ok(), Reduced::checked_new(1, 8));
+    /// assert_eq!(Reduced::<i32>::from_text("50 %"), Err(TextRefusal::NotNumber));
+    /// assert_eq!(Reduced::<i32>::from_text("1 1/0"), Err(TextRefusal::ZeroDenominator));
+    /// ```
+    #[inline]
+    pub fn from_text(text: &str) -> Result<Reduced<T>, TextRefusal> {
+        Proved::<T>::from_text(text).map(|fraction| Reduced { fraction })
     }
 
     /// The same fraction as a `Ratio`.

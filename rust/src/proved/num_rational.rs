@@ -35,6 +35,6 @@ pub use ratio::{Constants, Ratio, Rational, Rational32, Rational64};
 pub use crate::proved::ratio_core::rounding_rule::Rounding;
 pub use crate::proved::ratio_core::{
     BaseTenText, CodeList, DecimalRefusal, DecimalText, Exponent, Form, ParseRatioError,
-    RatioErrorKind, RatioText, Steps, Taken,
+    RatioErrorKind, RatioText, Steps, Taken, TextRefusal,
 };
 pub use reduced::{Reduced, Reduced32, Reduced64, ReducedOperand};

@@ -36,4 +36,4 @@ pub use parse_error::{ParseRatioError, RatioErrorKind};
 pub use rounded::round_to;
 pub use steps::Steps;
 pub use taken::Taken;
-pub use text::{BaseTenText, DecimalRefusal, DecimalText, Form, RatioText};
+pub use text::{BaseTenText, DecimalRefusal, DecimalText, Form, RatioText, TextRefusal};

@@ -42,6 +42,7 @@ fn goal(call: &str, kind: &str) -> Option<f64> {
         "eq" | "hash" => Some(0.2),
         "checked_mul" if kind == "full" || kind == "near" => Some(0.8),
         "decimal" => Some(0.4),
+        "from_decimal" => Some(2.0),
         _ => None,
     }
 }
@@ -198,12 +199,57 @@ fn decimal_row(filter: &str) -> usize {
     lowest.iter().zip(&floats).filter(|(x, float)| differs(x, float)).count()
 }
 
+/// A decimal, the fraction that it is as a text, and its float.
+struct Written {
+    decimal: String,
+    fraction: String,
+    float: f64,
+}
+
+/// Thousandths, as `12.375`.
+fn thousandths(n: i64) -> Written {
+    let (sign, size) = (if n < 0 { "-" } else { "" }, n.abs());
+    Written {
+        decimal: format!("{sign}{}.{:03}", size / 1_000, size % 1_000),
+        fraction: format!("{n}/1000"),
+        float: n as f64 / 1_000.0,
+    }
+}
+
+/// Reads the one text `12.375`, and others with three places. The program times the float in place of num-rational, which reads no
+/// decimals, and the fraction in place of `Ratio`, which reads none either.
+fn reading_rows(filter: &str) -> usize {
+    let mut random = Random::new(20_240_229);
+    let one = vec![12_375; COUNT];
+    let many: Vec<_> = std::iter::repeat_with(|| random.signed(100_000) as i64).take(COUNT).collect();
+    let rows = [("12.375", one), ("three places", many)];
+    rows.iter().filter(|row| format!("i64/lowest_from_decimal/{}", row.0).contains(filter)).map(|row| reading_row(row.0, &row.1)).sum()
+}
+
+fn reading_row(kind: &str, numers: &[i64]) -> usize {
+    let texts: Vec<_> = numers.iter().map(|n| thousandths(*n)).collect();
+    run(
+        (&texts, &texts, &texts),
+        |x| Reduced::<i64>::from_decimal(&x.decimal),
+        |x| x.fraction.parse::<bakhsney::Ratio<i64>>(),
+        |x| x.decimal.parse::<f64>(),
+        &format!("i64\tfrom_decimal\t{kind}"),
+        goal("from_decimal", kind),
+    );
+    let differs = |x: &Written| {
+        let fields = Reduced::<i64>::from_decimal(&x.decimal).map(|read| read.into_raw()).ok();
+        fields != x.fraction.parse().ok().map(bakhsney::Ratio::into_raw) || x.decimal.parse() != Ok(x.float)
+    };
+    texts.iter().filter(|x| differs(x)).count()
+}
+
 fn main() {
     let filter = std::env::args().nth(1).unwrap_or_default();
     let differing = rows!(i32, &filter)
         + rows!(i64, &filter)
         + rows!(i128, &filter)
         + decimal_row(&filter)
+        + reading_rows(&filter)
         + fitting_rows!(&filter, i8 i16 i32 i64 i128 isize u8 u16 u32 u64 u128 usize);
     if differing > 0 {
         eprintln!("{differing} results differ");

@@ -1,6 +1,6 @@
 //! What reading a printed `Reduced` returns. Each function changes nothing: its contract is the law, for the fraction that it is
 //! given.
-ghost use Rattle.num_rational.specs.ReadingLaws.{ReadsItsDecimal, ReadsItsText, ReadsItsTextInBase, RefusesBelowZeroInBase, RefusesWholeInBase};
+ghost use Rattle.num_rational.specs.ReadingLaws.{ReadsItsDecimal, ReadsItsRoundedDecimal, ReadsItsText, ReadsItsTextInBase, RefusesBelowZeroInBase, RefusesWholeInBase};
 
 use crate::reduced::Reduced;
 use ratio_integer::{Primitive, both_held};
@@ -26,6 +26,15 @@ pub fn in_base<T: Copy + Primitive>(x: &Reduced<T>)
 /// Reading all of a fraction as a decimal gives `Ok` of the fraction: 99/8 is `12.375`, and `from_decimal` of that is 99/8.
 pub fn exact_decimal<T: Copy + Primitive>(x: &Reduced<T>)
     ensures { ReadsItsDecimal x.now }
+{
+    both_held(*x.numer(), *x.denom());
+}
+
+/// Reading a decimal to so many places gives a fraction that is less than one unit of the last place away, and at most half a
+/// unit by `HalfAway` and `HalfEven`: 2/3 to two places is `0.67`, and 67/100 is 1/300 away. It gives `NotHeld` where that
+/// fraction does not fit the type, as 333/1000 over `i8`.
+pub fn rounded_decimal<T: Copy + Primitive>(x: &Reduced<T>)
+    ensures { ReadsItsRoundedDecimal x.now }
 {
     both_held(*x.numer(), *x.denom());
 }

@@ -1,11 +1,12 @@
-//! Reading decimals as fractions in lowest terms.
+//! Reading decimals, and what a person types, as fractions in lowest terms.
 ghost use Rattle.num_rational.specs.Ratio.{denominator, numerator};
 ghost use Rattle.num_rational.specs.Reduced.{ratio_of};
 ghost use Rattle.ratio_core.specs.DecimalReading.{AnswersDecimal};
+ghost use Rattle.ratio_core.specs.TypedText.{AnswersTyped};
 
 use super::Reduced;
 use crate::ratio::Ratio;
-use ratio_core::{DecimalRefusal, text};
+use ratio_core::{DecimalRefusal, TextRefusal, text};
 use ratio_integer::Primitive;
 
 impl<T: Primitive> Reduced<T> {
@@ -19,6 +20,27 @@ impl<T: Primitive> Reduced<T> {
         ensures { AnswersDecimal (λ x. numerator (ratio_of x)) (λ x. denominator (ratio_of x)) T.lo T.hi text.now result }
     {
         match text::from_decimal::<T>(text) {
+            Ok((numer, denom)) => Ok(Reduced {
+                ratio: Ratio::new_raw(numer, denom),
+            }),
+            Err(refusal) => Err(refusal),
+        }
+    }
+
+    /// The fraction of what a person types into one field. The text is one of these:
+    ///
+    /// - a decimal, as `from_decimal` reads it: `-0.5` is -1/2;
+    /// - a fraction of two whole numbers, which may have signs: `3/4`, and `1/-2` is -1/2;
+    /// - a mixed number with one space, whose sign counts for the whole: `-1 1/2` is -3/2, and `1 3/2` is 5/2;
+    /// - a decimal or a fraction with a percent sign right behind it: `12.5%` is 1/8, and `1/2%` is 1/200.
+    ///
+    /// `NotNumber` means that the text is none of these, `ZeroDenominator` that a fraction or a mixed number is over 0, and
+    /// `NotHeld` that the lowest terms do not fit the type. A fraction is read by its value: `200/400` over `i8` is 1/2. The
+    /// whole numbers in a fraction or a mixed number must be below 2^128, else the call returns `NotHeld`, too.
+    pub fn from_text(text: &str) -> Result<Reduced<T>, TextRefusal>
+        ensures { AnswersTyped (λ x. numerator (ratio_of x)) (λ x. denominator (ratio_of x)) T.lo T.hi text.now result }
+    {
+        match text::from_text::<T>(text) {
             Ok((numer, denom)) => Ok(Reduced {
                 ratio: Ratio::new_raw(numer, denom),
             }),

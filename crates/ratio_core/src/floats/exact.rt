@@ -35,7 +35,12 @@ pub fn from_float<T: Integer>(x: f64) -> Option<(T, T)>
 }
 
 /// The lowest terms of `whole * 2^up / 2^down`, negated if `is_negative`, or `None` if they do not fit the type.
-fn scaled_by_powers<T: Integer>(is_negative: bool, whole: u64, up: u64, down: u64) -> Option<(T, T)>
+pub(crate) fn scaled_by_powers<T: Integer>(
+    is_negative: bool,
+    whole: u64,
+    up: u64,
+    down: u64,
+) -> Option<(T, T)>
     requires up { up < 2 ^ 32 }
     requires down { down < 2 ^ 32 }
     ensures { ChecksLowest (λ r. T.value r.0) (λ r. T.value r.1) T.lo T.hi
@@ -65,7 +70,7 @@ fn doubled<T: Integer>(is_negative: bool, size: u64, times: u64) -> Option<T>
 }
 
 /// The number, negated if `is_negative`.
-fn signed(is_negative: bool, size: u64) -> i128
+pub(crate) fn signed(is_negative: bool, size: u64) -> i128
     ensures { result ≡ with_sign is_negative size }
 {
     let number = size as i128;

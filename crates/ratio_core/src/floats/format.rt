@@ -1,7 +1,7 @@
 //! The two types of floats, as the rounding needs them.
-ghost use Rattle.std.specs.Prelude.{◌≡◌, ◌*◌, ◌^◌, ◌<◌, ◌≤◌, ℕ, false, from_bits};
+ghost use Rattle.std.specs.Prelude.{◌≡◌, ◌*◌, ◌^◌, ◌<◌, ◌≤◌, ℕ, T, false, from_bits, is_nan, to_bits};
 ghost use Rattle.std.specs.Float.{Float, Format, binary32, binary64};
-ghost use Rattle.std.specs.Float.Ieee.{hid, low, neg, ones, prec, round};
+ghost use Rattle.std.specs.Float.Ieee.{fits, hid, low, neg, ones, prec, round, top};
 ghost use Rattle.std.proofs.Common.{refl};
 
 /// A type of floats.
@@ -16,6 +16,8 @@ pub(crate) trait FloatType: Copy {
 
     ghost INFINITY: { ℕ };
 
+    ghost SIGN: { ℕ };
+
     /// How many binary digits a float has, with the leading one.
     const DIGITS: u64;
 
@@ -24,6 +26,19 @@ pub(crate) trait FloatType: Copy {
 
     /// The bits of infinity. Those of a finite float without a sign are less.
     const INFINITY: u64;
+
+    /// The bit of the sign, above all others.
+    const SIGN: u64;
+
+    /// Whether the float is no number.
+    fn is_no_number(self) -> bool
+        ensures { result ≡ is_nan (value self) };
+
+    /// The bits of the float.
+    fn bits(self) -> u64
+        requires { is_nan (value self) ≡ false }
+        ensures bits { result ≡ to_bits format (value self) }
+        ensures fits { T (fits format (value self)) };
 
     /// The float of these bits.
     fn of_bits(bits: u64) -> Self
@@ -46,6 +61,8 @@ pub(crate) trait FloatType: Copy {
     ghost least_law: { LEAST ≡ low format };
 
     ghost infinity_law: { INFINITY ≡ ones format * hid format };
+
+    ghost sign_law: { SIGN ≡ top format };
 }
 
 impl FloatType for f64 {
@@ -59,11 +76,23 @@ impl FloatType for f64 {
 
     ghost INFINITY = { 0x7ff0_0000_0000_0000 };
 
+    ghost SIGN = { 0x8000_0000_0000_0000 };
+
     const DIGITS: u64 = 53;
 
     const LEAST: u64 = 1074;
 
     const INFINITY: u64 = 0x7ff0_0000_0000_0000;
+
+    const SIGN: u64 = 0x8000_0000_0000_0000;
+
+    fn is_no_number(self) -> bool {
+        self.is_nan()
+    }
+
+    fn bits(self) -> u64 {
+        self.to_bits()
+    }
 
     fn of_bits(bits: u64) -> f64 {
         f64::from_bits(bits)
@@ -82,6 +111,8 @@ impl FloatType for f64 {
     ghost least_law = { refl };
 
     ghost infinity_law = { refl };
+
+    ghost sign_law = { refl };
 }
 
 impl FloatType for f32 {
@@ -95,11 +126,23 @@ impl FloatType for f32 {
 
     ghost INFINITY = { 0x7f80_0000 };
 
+    ghost SIGN = { 0x8000_0000 };
+
     const DIGITS: u64 = 24;
 
     const LEAST: u64 = 149;
 
     const INFINITY: u64 = 0x7f80_0000;
+
+    const SIGN: u64 = 0x8000_0000;
+
+    fn is_no_number(self) -> bool {
+        self.is_nan()
+    }
+
+    fn bits(self) -> u64 {
+        self.to_bits() as u64
+    }
 
     fn of_bits(bits: u64) -> f32 {
         f32::from_bits(bits as u32)
@@ -118,4 +161,6 @@ impl FloatType for f32 {
     ghost least_law = { refl };
 
     ghost infinity_law = { refl };
+
+    ghost sign_law = { refl };
 }

@@ -1,8 +1,9 @@
 //! Reading a decimal, such as `12.375` or `-1.5e-3`, as a fraction.
-mod cut;
-mod digits;
-mod terms;
-mod value;
+pub(crate) mod cut;
+pub(crate) mod digits;
+mod short;
+pub(crate) mod terms;
+pub(crate) mod value;
 
 ghost use Rattle.ratio_integer.specs.Range.{Checks};
 ghost use Rattle.ratio_core.specs.DecimalCuts.{ChecksSigned};
@@ -44,8 +45,8 @@ pub fn from_decimal<T: Primitive>(text: &str) -> Result<(T, T), DecimalRefusal>
     }
 }
 
-// The two numbers in the type, the first one negated if `below`.
-fn held<T: Primitive>(below: bool, terms: Terms) -> Option<(T, T)>
+/// The two numbers in the type, the first one negated if `below`.
+pub(crate) fn held<T: Primitive>(below: bool, terms: Terms) -> Option<(T, T)>
     ensures { ChecksSigned T.value T.lo T.hi below terms.numer terms.denom result }
 {
     let numer = signed::<T>(below, terms.numer)?;

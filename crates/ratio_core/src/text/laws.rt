@@ -2,8 +2,10 @@
 ghost use Rattle.std.specs.Prelude.{◌≡◌, ◌⊎◌, ◌+◌, ◌/◌, ◌%◌, ◌^◌, ◌<◌, ◌≤◌, ◌∷◌, ◌++◌, [], ℕ, ℤ, List, decimal};
 ghost use Rattle.std.specs.Char.{digit_value};
 ghost use Rattle.std.specs.Int.{IsInRange};
+ghost use Rattle.ratio_core.specs.DecimalLaws.{ReadDecimalsAreNear};
 ghost use Rattle.ratio_core.specs.DecimalReading.{DecimalsHaveOneReading, PrintedDecimalsRead};
 ghost use Rattle.ratio_core.specs.Reading.{IsFractionText, IsNumberText, IsSlashedText};
+ghost use Rattle.ratio_core.specs.TypedLaws.{DecimalsAreTyped, FractionsAreTyped, TypedTextsHaveOneReading, WideDecimalsAreTyped};
 
 /// What a byte is worth as a digit: 0 to 9 for `0` to `9`, and 10 to 35 for the letters in either case. The
 /// value of any other byte is not below 36. No radix is above 36, so such a byte is no digit.
@@ -34,8 +36,19 @@ pub fn one_reading()
         → IsFractionText lo hi text n d → IsFractionText lo hi text m e → (n ≡ m) × (d ≡ e) }
 {}
 
-/// A text is a decimal in at most one way. A printed decimal reads as the multiple that it shows: `0.67` as 67/100.
+/// A text is a decimal in at most one way. A printed decimal reads as the multiple that it shows: `0.67` as 67/100. So what
+/// is read is as near to the fraction that was printed as the rule says: 67/100 is 1/300 away from 2/3.
 pub fn decimals()
     ensures one { DecimalsHaveOneReading }
     ensures printed { PrintedDecimalsRead }
+    ensures near { ReadDecimalsAreNear }
+{}
+
+/// A typed text is read in at most one way. `from_text` agrees with `from_decimal` on every decimal, and with `from_str` on
+/// every text from which this returns a fraction.
+pub fn typed_texts()
+    ensures one { TypedTextsHaveOneReading }
+    ensures decimals { DecimalsAreTyped }
+    ensures wide_decimals { WideDecimalsAreTyped }
+    ensures fractions { FractionsAreTyped }
 {}

@@ -10,7 +10,8 @@ use ratio_core::rounding_rule::Rounding;
 use ratio_core::sign::{abs, abs_sub, is_negative, is_positive, neg, signum};
 use ratio_core::sums::checked_sub;
 use ratio_core::text::{
-    base_ten_text, decimal, from_decimal, from_str, from_str_radix, put_base_ten_text, put_text,
+    base_ten_text, decimal, from_decimal, from_str, from_str_radix, from_text, put_base_ten_text,
+    put_text,
 };
 use ratio_core::{BaseTenText, Form, RatioText, round_to};
 use ratio_integer::{cancelled, lowest_terms};
@@ -96,6 +97,7 @@ fn signs(rt: HostRuntime) {
 fn texts(rt: HostRuntime) {
     let facts = [
         from_decimal::<i64>("-1.5").ok() == Some((-3, 2)),
+        from_text::<i64>("-1 1/2").ok() == Some((-3, 2)),
         from_str::<i64>("6/-4").ok() == Some((-3, 2)),
         from_str_radix::<i64>("f/A", 16).ok() == Some((3, 2)),
     ];

@@ -96,6 +96,7 @@ fn texts_read_back(_rt: HostRuntime) {
     reading::in_base(&fraction(15, 16));
     reading::in_base(&fraction(-1, 2));
     reading::exact_decimal(&fraction(99, 8));
+    reading::rounded_decimal(&fraction(2, 3));
 }
 
 // Whether (x + y) + z and x + (y + z) are `Some`, over `i8`.

@@ -27,4 +27,5 @@ pub mod sign;
 
 pub mod total_steps;
 pub mod totals;
+pub mod typed;
 pub mod wide;

@@ -2,7 +2,7 @@
 //! The remainder of one fraction by another, in lowest terms.
 
 pub mod lowest;
-mod wide;
+pub(crate) mod wide;
 
 use crate::proved::ratio_core::scaling::scaled;
 use crate::proved::ratio_integer::{Integer, lowest_terms};

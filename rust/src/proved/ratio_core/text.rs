@@ -12,6 +12,7 @@ mod places;
 pub(crate) mod printing;
 mod quick_fields;
 mod reading;
+mod typed;
 
 pub use decimals::{DecimalRefusal, from_decimal};
 pub use exact::exact_decimal;
@@ -21,3 +22,4 @@ pub use long::write_places;
 pub use places::decimal;
 pub use printing::{base_ten_text, put_base_ten_text, put_text, text};
 pub use reading::{from_str, from_str_radix};
+pub use typed::{TextRefusal, from_text};

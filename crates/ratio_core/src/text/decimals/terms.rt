@@ -8,7 +8,7 @@ ghost use Rattle.std.specs.Prelude.{◌≡◌, ◌+◌, ◌*◌, ◌^◌, ◌<�
 ghost use Rattle.std.specs.Int.{IsGcd};
 ghost use Rattle.std.specs.Str.Parse.{AllDigits};
 ghost use Rattle.ratio_integer.specs.Fraction.{IsLowestTerms};
-ghost use Rattle.ratio_core.specs.DecimalCuts.{ChecksPart, ChecksTerms};
+ghost use Rattle.ratio_core.specs.DecimalCuts.{ChecksPart, ChecksTerms, IsPartTerms};
 ghost use Rattle.ratio_core.specs.Reading.{digits_sum};
 
 use crate::text::decimals::digits::digit_at;
@@ -80,12 +80,42 @@ fn digit_before(digit: u128, behind: Terms) -> Option<Terms>
     requires lowest { IsLowestTerms (pos behind.numer) (pos behind.denom) }
     ensures { ChecksPart (digit * behind.denom + behind.numer) (10 * behind.denom) result }
 {
+    if behind.denom < 1_000_000_000_000_000_000 {
+        return Some(short_digit_before(digit as u64, behind.numer as u64, behind.denom as u64));
+    }
     let divisor = divisor_with_ten(digit, behind);
     let denom = behind.denom.checked_mul(10 / divisor)?;
     let numer = digit * (behind.denom / divisor)
         + behind.numer / divisor
         + (digit * (behind.denom % divisor) + behind.numer % divisor) / divisor;
     Some(Terms { numer, denom })
+}
+
+// The same for a part whose denominator has at most 18 digits, so that all numbers fit 64 bits. Each divisor is a constant, and the
+// compiler divides by a constant with a product.
+#[inline(always)]
+fn short_digit_before(digit: u64, numer: u64, denom: u64) -> Terms
+    requires digit { digit < 10 }
+    requires below { numer < denom }
+    requires lowest { IsLowestTerms (pos numer) (pos denom) }
+    requires short { denom < 10 ^ 18 }
+    ensures { IsPartTerms (digit * denom + numer) (10 * denom) result.numer result.denom }
+{
+    let all = digit * denom + numer;
+    let last = all % 10;
+    let (numer, denom) = if last == 0 {
+        (all / 10, denom)
+    } else if last == 5 {
+        (all / 5, denom * 2)
+    } else if last % 2 == 0 {
+        (all / 2, denom * 5)
+    } else {
+        (all, denom * 10)
+    };
+    Terms {
+        numer: numer as u128,
+        denom: denom as u128,
+    }
 }
 
 // The greatest common divisor of `digit * denom + numer` and 10, from the last digit of the first.

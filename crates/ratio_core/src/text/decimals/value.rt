@@ -6,6 +6,7 @@ ghost use Rattle.ratio_core.specs.DecimalReading.{tens_above, tens_below};
 ghost use Rattle.ratio_core.specs.Reading.{digits_sum};
 
 use crate::text::decimals::digits::{number_after, with_zeros};
+use crate::text::decimals::short::short_lowest;
 use crate::text::decimals::terms::{NOTHING, Terms, digits_before, whole_before, zeros_before};
 
 /// The lowest terms of the digits before and behind a point, times 10 to an exponent, which is negated if `down`. `None` if
@@ -20,6 +21,9 @@ pub(crate) fn lowest(whole: &[u8], part: &[u8], down: bool, exponent: &[u8]) -> 
     match number_after(0, exponent) {
         None => only_zero(whole, part),
         Some(tens) => {
+            if let Some(terms) = short_lowest(whole, part, down, tens) {
+                return Some(terms);
+            }
             if down {
                 point_moved_left(whole, part, tens)
             } else {
@@ -29,7 +33,37 @@ pub(crate) fn lowest(whole: &[u8], part: &[u8], down: bool, exponent: &[u8]) -> 
     }
 }
 
-// The same for an exponent of 2^128 or more. No number but 0 has one that fits.
+/// The same, divided by 100: the exponent is 2 lower.
+pub(crate) fn lowest_hundredth(
+    whole: &[u8],
+    part: &[u8],
+    down: bool,
+    exponent: &[u8],
+) -> Option<Terms>
+    requires whole { AllDigits 10 whole.now }
+    requires part { AllDigits 10 part.now }
+    requires exponent { AllDigits 10 exponent.now }
+    ensures { ChecksTerms (digits_sum 10 (whole.now ++ part.now) * tens_above down (digits_sum 10 exponent.now))
+        (100 * (10 ^ length part.now * tens_below down (digits_sum 10 exponent.now))) result }
+{
+    match number_after(0, exponent) {
+        None => only_zero(whole, part),
+        Some(tens) => {
+            if down {
+                match tens.checked_add(2) {
+                    None => only_zero(whole, part),
+                    Some(more) => point_moved_left(whole, part, more),
+                }
+            } else if tens < 2 {
+                point_moved_left(whole, part, 2 - tens)
+            } else {
+                point_moved_right(whole, part, tens - 2)
+            }
+        }
+    }
+}
+
+// The lowest terms of the digits for an exponent of 2^128 or more. No number but 0 has one that fits.
 fn only_zero(whole: &[u8], part: &[u8]) -> Option<Terms>
     requires whole { AllDigits 10 whole.now }
     requires part { AllDigits 10 part.now }

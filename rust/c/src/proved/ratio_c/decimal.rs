@@ -29,12 +29,13 @@ impl<F: Pointed> Printer<F> for Decimals {
 /// The text of a fraction as a decimal, or the code that says why there is none.
 #[inline]
 fn decimal_of<F: Pointed>(x: &F) -> Result<DecimalText, u32> {
+    let places = x.places();
     match positive(x) {
         Some(r) => match rule_of(x.rule()) {
-            Some(rule) if x.places() <= 38 => {
+            Some(rule) if places <= 38 => {
                 let (n, d) = r.into_raw();
                 both_held(n, d);
-                Ok(decimal(n, d, x.places(), rule))
+                Ok(decimal(n, d, places, rule))
             }
             _ => Err(BAD_OPTION),
         },

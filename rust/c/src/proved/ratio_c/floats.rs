@@ -6,6 +6,7 @@ use crate::proved::ratio_c::crossing::{Digest, OneFraction, Reply, checked_field
 use crate::proved::ratio_c::each::Call;
 use crate::proved::ratio_c::one_fraction::positive;
 use bakhsney::proved::ratio_core::floats::exact::from_float;
+use bakhsney::proved::ratio_core::floats::rationalize::rationalize;
 use core::marker::PhantomData;
 
 /// A float. If there is none, the code says why, and the value is 0.
@@ -34,6 +35,28 @@ impl<T: Digest, A: Reply<T>> Call<f64, A> for FromFloat<T> {
     #[inline(always)]
     fn answer(&self, x: &f64) -> A {
         checked_fields(from_float::<T>(*x))
+    }
+}
+
+/// The call that gives the simplest fraction that rounds to a float: 0.1 gives 1/10.
+pub struct Rationalizing<T> {
+    marker: PhantomData<T>,
+}
+
+impl<T> Rationalizing<T> {
+    /// The call for the type `T`.
+    #[inline(always)]
+    pub fn new() -> Rationalizing<T> {
+        Rationalizing {
+            marker: PhantomData,
+        }
+    }
+}
+
+impl<T: Digest, A: Reply<T>> Call<f64, A> for Rationalizing<T> {
+    #[inline(always)]
+    fn answer(&self, x: &f64) -> A {
+        checked_fields(rationalize::<T>(*x))
     }
 }
 

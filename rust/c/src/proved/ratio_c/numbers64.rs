@@ -13,7 +13,7 @@ use crate::proved::ratio_c::crossing::{
 };
 use crate::proved::ratio_c::decimal::{DecimalTexts, Decimals};
 use crate::proved::ratio_c::each::each;
-use crate::proved::ratio_c::floats::{Float, FromFloat, ToFloat};
+use crate::proved::ratio_c::floats::{Float, FromFloat, Rationalizing, ToFloat};
 use crate::proved::ratio_c::hash::{Hash, Hashing};
 use crate::proved::ratio_c::lowest_hash::LowestHashing;
 use crate::proved::ratio_c::multiple::RoundingTo;
@@ -25,6 +25,7 @@ use crate::proved::ratio_c::printing::{Fields, Text, print};
 use crate::proved::ratio_c::reading::{Fractions, Reading, Span};
 use crate::proved::ratio_c::scaled::{Scaled, Scaling};
 use crate::proved::ratio_c::sign::{Absolute, Negation};
+use crate::proved::ratio_c::typed::TypedTexts;
 
 /// The room for a text: a slash, and two numbers of at most 20 bytes.
 pub const ROOM: usize = 41;
@@ -442,6 +443,15 @@ pub unsafe extern "C" fn ratio_from_f64_i64(asked: *const f64, asked_len: usize,
     each(&FromFloat::<i64>::new(), asked, answers)
 }
 
+/// The simplest fraction that rounds to each float.
+#[no_mangle]
+pub unsafe extern "C" fn ratio_rationalize_i64(asked: *const f64, asked_len: usize, answers: *mut Answer64, answers_len: usize) -> u32 {
+    // SAFETY: the header says what the caller owes for each pointer and its length.
+    let asked = core::slice::from_raw_parts(asked, asked_len);
+    let answers = core::slice::from_raw_parts_mut(answers, answers_len);
+    each(&Rationalizing::<i64>::new(), asked, answers)
+}
+
 /// The float nearest to each fraction.
 #[no_mangle]
 pub unsafe extern "C" fn ratio_to_f64_i64(asked: *const Fraction64, asked_len: usize, answers: *mut Float, answers_len: usize) -> u32 {
@@ -497,6 +507,17 @@ pub unsafe extern "C" fn ratio_read_decimal_i64(texts: *const u8, texts_len: usi
     let spans = core::slice::from_raw_parts(spans, spans_len);
     let answers = core::slice::from_raw_parts_mut(answers, answers_len);
     let reader = DecimalTexts::<i64>::new();
+    each(&Reading { texts, reader }, spans, answers)
+}
+
+/// The same for texts that a person typed, such as `-1 1/2` and `12.5%`.
+#[no_mangle]
+pub unsafe extern "C" fn ratio_read_text_i64(texts: *const u8, texts_len: usize, spans: *const Span, spans_len: usize, answers: *mut Answer64, answers_len: usize) -> u32 {
+    // SAFETY: the header says what the caller owes for each pointer and its length.
+    let texts = core::slice::from_raw_parts(texts, texts_len);
+    let spans = core::slice::from_raw_parts(spans, spans_len);
+    let answers = core::slice::from_raw_parts_mut(answers, answers_len);
+    let reader = TypedTexts::<i64>::new();
     each(&Reading { texts, reader }, spans, answers)
 }
 

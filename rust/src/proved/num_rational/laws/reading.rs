@@ -24,3 +24,11 @@ pub fn in_base<T: Copy + Primitive>(x: &Reduced<T>) {
 pub fn exact_decimal<T: Copy + Primitive>(x: &Reduced<T>) {
     both_held(*x.numer(), *x.denom());
 }
+
+/// Reading a decimal to so many places gives a fraction that is less than one unit of the last place away, and at most half a
+/// unit by `HalfAway` and `HalfEven`: 2/3 to two places is `0.67`, and 67/100 is 1/300 away. It gives `NotHeld` where that
+/// fraction does not fit the type, as 333/1000 over `i8`.
+#[inline]
+pub fn rounded_decimal<T: Copy + Primitive>(x: &Reduced<T>) {
+    both_held(*x.numer(), *x.denom());
+}

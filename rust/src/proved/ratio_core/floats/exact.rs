@@ -39,7 +39,12 @@ pub fn from_float<T: Integer>(x: f64) -> Option<(T, T)> {
 /// - `up`: `up < 2 ^ 32`
 /// - `down`: `down < 2 ^ 32`
 #[inline]
-fn scaled_by_powers<T: Integer>(is_negative: bool, whole: u64, up: u64, down: u64) -> Option<(T, T)> {
+pub(crate) fn scaled_by_powers<T: Integer>(
+    is_negative: bool,
+    whole: u64,
+    up: u64,
+    down: u64,
+) -> Option<(T, T)> {
     if whole == 0 {
         return Some((T::ZERO, T::ONE));
     }
@@ -64,7 +69,7 @@ fn doubled<T: Integer>(is_negative: bool, size: u64, times: u64) -> Option<T> {
 
 /// The number, negated if `is_negative`.
 #[inline]
-fn signed(is_negative: bool, size: u64) -> i128 {
+pub(crate) fn signed(is_negative: bool, size: u64) -> i128 {
     let number = size as i128;
     if is_negative { -number } else { number }
 }

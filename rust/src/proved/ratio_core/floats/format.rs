@@ -12,6 +12,21 @@ pub(crate) trait FloatType: Copy {
     /// The bits of infinity. Those of a finite float without a sign are less.
     const INFINITY: u64;
 
+    /// The bit of the sign, above all others.
+    const SIGN: u64;
+
+    /// Whether the float is no number.
+    fn is_no_number(self) -> bool;
+
+    /// The bits of the float.
+    ///
+    /// # Conditions
+    ///
+    /// The proof requires of the caller:
+    ///
+    /// - `is_nan (value self) ≡ false`
+    fn bits(self) -> u64;
+
     /// The float of these bits.
     ///
     /// # Conditions
@@ -43,6 +58,18 @@ impl FloatType for f64 {
 
     const INFINITY: u64 = 0x7ff0_0000_0000_0000;
 
+    const SIGN: u64 = 0x8000_0000_0000_0000;
+
+    #[inline]
+    fn is_no_number(self) -> bool {
+        self.is_nan()
+    }
+
+    #[inline]
+    fn bits(self) -> u64 {
+        self.to_bits()
+    }
+
     #[inline]
     fn of_bits(bits: u64) -> f64 {
         f64::from_bits(bits)
@@ -65,6 +92,18 @@ impl FloatType for f32 {
     const LEAST: u64 = 149;
 
     const INFINITY: u64 = 0x7f80_0000;
+
+    const SIGN: u64 = 0x8000_0000;
+
+    #[inline]
+    fn is_no_number(self) -> bool {
+        self.is_nan()
+    }
+
+    #[inline]
+    fn bits(self) -> u64 {
+        self.to_bits() as u64
+    }
 
     #[inline]
     fn of_bits(bits: u64) -> f32 {

@@ -3,10 +3,11 @@
 //!
 //! Let `g` be the greatest common divisor of the denominators `b` and `d`. The sum of `p/b` and `r/d` is `t`
 //! over `b/g * d/g * g`, where `t` is `p * d/g + r * b/g`. Both products are formed as a quotient and a rest
-//! by `g`, so `t` is never formed as one number. What divides `t` and the denominator divides the rest and `g`.
+//! by `g`, so `t` is never formed as one number. The rest of `p` is below `g`, so times `d/g` it is below `d`, and
+//! in range. What divides `t` and the denominator divides the rest and `g`.
 
-use crate::proved::ratio_core::sums::multiple::{carried_on, multiple_over, sum_over};
-use crate::proved::ratio_integer::{Integer, cancelled};
+use crate::proved::ratio_core::sums::multiple::{carried_on, product_over, sum_over};
+use crate::proved::ratio_integer::{Integer, both_held, cancelled};
 
 /// `p/b + r/d`: whether it is 1 or more, and the part below 1 in lowest terms. `None` if their denominator
 /// does not fit. So 1/36 and 1/28 give 4/63, and 5/6 and 1/2 give 1/3 and a carry.
@@ -21,6 +22,7 @@ use crate::proved::ratio_integer::{Integer, cancelled};
 /// - `right_lowest`: `IsLowestTerms (T.value r) (T.value d)`
 #[inline]
 pub(crate) fn parts_sum<T: Integer>(p: T, b: T, r: T, d: T) -> Option<(bool, T, T)> {
+    both_held(b, d);
     let g = b.gcd(d);
     let (for_right, _) = b.div_rem(g);
     let (for_left, _) = d.div_rem(g);
@@ -40,7 +42,7 @@ fn scaled_over<T: Integer>(number: T, factor: T, g: T) -> (T, T) {
     if factor.is_one() {
         return (quotient, rest);
     }
-    let (more, rest) = multiple_over(rest, factor, g);
+    let (more, rest) = product_over(rest, factor, g);
     (quotient.times(factor).plus(more), rest)
 }
 

@@ -1,9 +1,10 @@
 // Erased from crates/ratio_core/src/text/decimals.rt by rust/erase: not to be edited.
 //! Reading a decimal, such as `12.375` or `-1.5e-3`, as a fraction.
-mod cut;
-mod digits;
-mod terms;
-mod value;
+pub(crate) mod cut;
+pub(crate) mod digits;
+mod short;
+pub(crate) mod terms;
+pub(crate) mod value;
 
 use crate::proved::ratio_core::text::decimals::cut::decimal_parts;
 use crate::proved::ratio_core::text::decimals::terms::Terms;
@@ -39,9 +40,9 @@ pub fn from_decimal<T: Primitive>(text: &str) -> Result<(T, T), DecimalRefusal> 
     }
 }
 
-// The two numbers in the type, the first one negated if `below`.
+/// The two numbers in the type, the first one negated if `below`.
 #[inline]
-fn held<T: Primitive>(below: bool, terms: Terms) -> Option<(T, T)> {
+pub(crate) fn held<T: Primitive>(below: bool, terms: Terms) -> Option<(T, T)> {
     let numer = signed::<T>(below, terms.numer)?;
     let denom = T::from_u128(terms.denom)?;
     Some((numer, denom))

@@ -15,6 +15,12 @@ pub fn decimal_digits() {}
 #[inline]
 pub fn one_reading() {}
 
-/// A text is a decimal in at most one way. A printed decimal reads as the multiple that it shows: `0.67` as 67/100.
+/// A text is a decimal in at most one way. A printed decimal reads as the multiple that it shows: `0.67` as 67/100. So what
+/// is read is as near to the fraction that was printed as the rule says: 67/100 is 1/300 away from 2/3.
 #[inline]
 pub fn decimals() {}
+
+/// A typed text is read in at most one way. `from_text` agrees with `from_decimal` on every decimal, and with `from_str` on
+/// every text from which this returns a fraction.
+#[inline]
+pub fn typed_texts() {}

@@ -6,7 +6,7 @@ use Rattle.ratio_integer.proofs.Whole.{positive_nonzero}
 use Rattle.ratio_core.specs.Parts.{carried}
 use Rattle.ratio_core.proofs.Around.{up_product}
 use Rattle.ratio_core.proofs.PartLemmas.{from_positive, never_above_max, quotient_part}
-use Rattle.ratio_core.proofs.PartsSumLemmas.{are_shares, denominator_out, factor_positive, gcd_positive, is_sum, left_share, never_gcd_above_max, numer_held_by, quotient_held_by, rest_part, right_share, scaled_below, scaled_room, share_positive, shares_out}
+use Rattle.ratio_core.proofs.PartsSumLemmas.{are_shares, denominator_out, factor_positive, gcd_positive, is_sum, left_share, never_gcd_above_max, numer_held_by, quotient_held_by, rest_part, right_share, scaled_below, scaled_room, share_fits, share_positive, shares_out}
 use Rattle.ratio_core.proofs.sums.parts.parts_sum.Goals as goal
 
 numers_joined : (a b m n w : ℤ) → a ≡ m → b ≡ n → m +ℤ n ≡ w → a +ℤ b ≡ w
@@ -70,6 +70,12 @@ scaled_over-x-requires-clause-room g c =
     let most : v c.in_ok-common.common ≤ℤ g.T.Integer.hi = rw c.in_ok-common.ensures.1 c.in_ok-common.ensures.0.below in
     scaled_room _ _ (v c.in_ok-common.common) _ less most divisor
 
+pub scaled_over-x-requires-clause-multiple : goal.scaled_over-x-requires-clause-multiple
+scaled_over-x-requires-clause-multiple g c =
+    let v = g.T.Integer.value in
+    let share = right_share (v c.args.p) (v c.args.b) (v c.args.r) (v c.args.d) (v c.gcd-g.result) (v c.div_rem-for_right.result.0) (v c.div_rem-for_left.result.0) c.requires.left_lowest c.requires.right_lowest c.gcd-g.ensures c.div_rem-for_right.ensures.quotient c.div_rem-for_left.ensures.quotient in
+    share_fits _ (v c.div_rem-for_left.result.0) _ _ share c.both_held.ensures.second.below
+
 pub scaled_over-y-requires-clause-number : goal.scaled_over-y-requires-clause-number
 scaled_over-y-requires-clause-number g c =
     c.requires.right.above
@@ -101,6 +107,12 @@ scaled_over-y-requires-clause-room g c =
     let less = scaled_below (v c.args.r) (v c.args.d) (v c.div_rem-for_left.result.0) (v c.div_rem-for_right.result.0) (v c.gcd-g.result) (v c.in_ok-common.common) c.requires.right x_positive second (c.in_ok-common.ensures.1 ∙ *ℤ_comm (v c.div_rem-for_right.result.0) (v c.div_rem-for_left.result.0)) in
     let most : v c.in_ok-common.common ≤ℤ g.T.Integer.hi = rw c.in_ok-common.ensures.1 c.in_ok-common.ensures.0.below in
     scaled_room _ _ (v c.in_ok-common.common) _ less most divisor
+
+pub scaled_over-y-requires-clause-multiple : goal.scaled_over-y-requires-clause-multiple
+scaled_over-y-requires-clause-multiple g c =
+    let v = g.T.Integer.value in
+    let share = left_share (v c.args.p) (v c.args.b) (v c.args.r) (v c.args.d) (v c.gcd-g.result) (v c.div_rem-for_right.result.0) (v c.div_rem-for_left.result.0) c.requires.left_lowest c.requires.right_lowest c.gcd-g.ensures c.div_rem-for_right.ensures.quotient c.div_rem-for_left.ensures.quotient in
+    share_fits _ (v c.div_rem-for_right.result.0) _ _ share c.both_held.ensures.first.below
 
 pub carried_sum-carry-requires-clause-left : goal.carried_sum-carry-requires-clause-left
 carried_sum-carry-requires-clause-left g c =

@@ -1,5 +1,6 @@
 use Rattle.ratio_core.proofs.DecimalTexts.{one_reading}
 use Rattle.ratio_core.proofs.DecimalsReadBack.{places_read}
+use Rattle.ratio_core.proofs.DecimalsReadNear.{decimals_read_near}
 use Rattle.ratio_core.proofs.text.laws.decimals.Goals as goal
 
 pub returns-clause-one : goal.returns-clause-one
@@ -7,3 +8,6 @@ returns-clause-one c = one_reading
 
 pub returns-clause-printed : goal.returns-clause-printed
 returns-clause-printed c = places_read
+
+pub returns-clause-near : goal.returns-clause-near
+returns-clause-near c = decimals_read_near

@@ -83,12 +83,36 @@ pub(crate) fn whole_before(whole: u128, behind: Terms) -> Option<Terms> {
 // are multiplied, since ten times the denominator may not fit where the result does.
 #[inline]
 fn digit_before(digit: u128, behind: Terms) -> Option<Terms> {
+    if behind.denom < 1_000_000_000_000_000_000 {
+        return Some(short_digit_before(digit as u64, behind.numer as u64, behind.denom as u64));
+    }
     let divisor = divisor_with_ten(digit, behind);
     let denom = behind.denom.checked_mul(10 / divisor)?;
     let numer = digit * (behind.denom / divisor)
         + behind.numer / divisor
         + (digit * (behind.denom % divisor) + behind.numer % divisor) / divisor;
     Some(Terms { numer, denom })
+}
+
+// The same for a part whose denominator has at most 18 digits, so that all numbers fit 64 bits. Each divisor is a constant, and the
+// compiler divides by a constant with a product.
+#[inline(always)]
+fn short_digit_before(digit: u64, numer: u64, denom: u64) -> Terms {
+    let all = digit * denom + numer;
+    let last = all % 10;
+    let (numer, denom) = if last == 0 {
+        (all / 10, denom)
+    } else if last == 5 {
+        (all / 5, denom * 2)
+    } else if last % 2 == 0 {
+        (all / 2, denom * 5)
+    } else {
+        (all, denom * 10)
+    };
+    Terms {
+        numer: numer as u128,
+        denom: denom as u128,
+    }
 }
 
 // The greatest common divisor of `digit * denom + numer` and 10, from the last digit of the first.

@@ -2,6 +2,7 @@
 //! The lowest terms of the parts of a decimal.
 
 use crate::proved::ratio_core::text::decimals::digits::{number_after, with_zeros};
+use crate::proved::ratio_core::text::decimals::short::short_lowest;
 use crate::proved::ratio_core::text::decimals::terms::{NOTHING, Terms, digits_before, whole_before, zeros_before};
 
 /// The lowest terms of the digits before and behind a point, times 10 to an exponent, which is negated if `down`. `None` if
@@ -19,6 +20,9 @@ pub(crate) fn lowest(whole: &[u8], part: &[u8], down: bool, exponent: &[u8]) -> 
     match number_after(0, exponent) {
         None => only_zero(whole, part),
         Some(tens) => {
+            if let Some(terms) = short_lowest(whole, part, down, tens) {
+                return Some(terms);
+            }
             if down {
                 point_moved_left(whole, part, tens)
             } else {
@@ -28,7 +32,40 @@ pub(crate) fn lowest(whole: &[u8], part: &[u8], down: bool, exponent: &[u8]) -> 
     }
 }
 
-// The same for an exponent of 2^128 or more. No number but 0 has one that fits.
+/// The same, divided by 100: the exponent is 2 lower.
+///
+/// # Conditions
+///
+/// The proof requires of the caller:
+///
+/// - `whole`: `AllDigits 10 whole.now`
+/// - `part`: `AllDigits 10 part.now`
+/// - `exponent`: `AllDigits 10 exponent.now`
+#[inline]
+pub(crate) fn lowest_hundredth(
+    whole: &[u8],
+    part: &[u8],
+    down: bool,
+    exponent: &[u8],
+) -> Option<Terms> {
+    match number_after(0, exponent) {
+        None => only_zero(whole, part),
+        Some(tens) => {
+            if down {
+                match tens.checked_add(2) {
+                    None => only_zero(whole, part),
+                    Some(more) => point_moved_left(whole, part, more),
+                }
+            } else if tens < 2 {
+                point_moved_left(whole, part, 2 - tens)
+            } else {
+                point_moved_right(whole, part, tens - 2)
+            }
+        }
+    }
+}
+
+// The lowest terms of the digits for an exponent of 2^128 or more. No number but 0 has one that fits.
 #[inline]
 fn only_zero(whole: &[u8], part: &[u8]) -> Option<Terms> {
     let first = number_after(0, whole)?;

@@ -55,6 +55,7 @@ static void done(uint32_t returned) {
     X(round_i64, halves, answers, "half") X(round_to_i64, multiples, answers, "half")                       \
     X(nearest_i64, bounded, answers, "half") X(between_i64, bounds, answers, "half")                        \
     X(convergent_i64, steps, answers, "half") X(to_f64_i64, halves, floats, "half") X(from_f64_i64, doubles, answers, "half") \
+    X(rationalize_i64, doubles, answers, "half")                                                            \
     X(from_scaled_i64, scaled, answers, "half") X(cast_i64_to_i32, halves, narrow, "half")                  \
     X(cast_i64_to_i128, halves, wide, "half") X(total_sum_i64, totals, answers, "small")                    \
     X(total_mean_i64, totals, answers, "small")
@@ -63,6 +64,7 @@ static void done(uint32_t returned) {
 #define OTHERS(X)                                                                                           \
     X(read_i64, (texts, texts_len, spans, LEN, answers, LEN), "half")                                       \
     X(print_i64, (halves, LEN, printed, sizeof printed, places, LEN), "half")                               \
+    X(read_text_i64, (decimal_texts, decimal_texts_len, decimal_spans, LEN, answers, LEN), "half")          \
     X(read_decimal_i64, (decimal_texts, decimal_texts_len, decimal_spans, LEN, answers, LEN), "half")       \
     X(print_decimal_i64, (decimals, LEN, printed, sizeof printed, places, LEN), "half")                     \
     X(total_add_i64, (smalls, LEN, empty(), 1), "small") X(total_subtract_i64, (smalls, LEN, full(), 1), "small") \

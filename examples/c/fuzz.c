@@ -43,7 +43,7 @@ typedef double ratio_double;
     X(nearest_##s, bounded_##s, 3, number, answer_##s) X(between_##s, bounds_##s, 4, number, answer_##s)      \
     X(round_to_##s, multiple_##s, 3, number, answer_##s) X(from_scaled_##s, scaled, 1, ratio_wide, answer_##s) \
     X(convergent_##s, place_##s, 2, number, answer_##s) X(to_f64_##s, s, 2, number, float)                    \
-    X(from_f64_##s, double, 1, double, answer_##s)
+    X(from_f64_##s, double, 1, double, answer_##s) X(rationalize_##s, double, 1, double, answer_##s)
 
 #define ALL_PLAIN(X)                                                                                          \
     PLAIN(X, i32, int32_t) PLAIN(X, i64, int64_t) PLAIN(X, i128, ratio_wide)                                  \
@@ -56,31 +56,34 @@ typedef double ratio_double;
     X(total_merge_i64, total_i64, 0, ratio_wide, total_i64)                                                   \
     X(total_sum_i64, total_i64, 0, ratio_wide, answer_i64) X(total_mean_i64, total_i64, 0, ratio_wide, answer_i64)
 
-#define WITH_TEXTS(X, s, number, SIZE)                                                                        \
-    X(read_##s, print_##s, s, number, answer_##s, RATIO_ROOM_##SIZE)                                          \
-    X(read_decimal_##s, print_decimal_##s, decimal_##s, number, answer_##s, RATIO_DECIMAL_ROOM_##SIZE)
-#define ALL_WITH_TEXTS(X) WITH_TEXTS(X, i32, int32_t, I32) WITH_TEXTS(X, i64, int64_t, I64) WITH_TEXTS(X, i128, ratio_wide, I128)
+#define READS(X, s) X(read_##s, answer_##s) X(read_decimal_##s, answer_##s) X(read_text_##s, answer_##s)
+#define ALL_READS(X) READS(X, i32) READS(X, i64) READS(X, i128)
+
+#define PRINTS(X, s, number, SIZE)                                                                            \
+    X(print_##s, s, number, RATIO_ROOM_##SIZE) X(print_decimal_##s, decimal_##s, number, RATIO_DECIMAL_ROOM_##SIZE)
+#define ALL_PRINTS(X) PRINTS(X, i32, int32_t, I32) PRINTS(X, i64, int64_t, I64) PRINTS(X, i128, ratio_wide, I128)
 
 #define DEFINE_PLAIN(name, asked_type, count, number, answer_type)                                            \
     static uint32_t name(const void *asked, size_t asked_len, void *answers, size_t answers_len) {            \
         return ratio_##name(asked, asked_len, answers, answers_len);                                          \
     }
-#define DEFINE_WITH_TEXTS(reads, prints, asked_type, number, answer_type, room)                               \
-    static uint32_t reads(const void *asked, size_t n, uint8_t *texts, size_t len, void *answers, size_t m) { \
-        return ratio_##reads(texts, len, asked, n, answers, m);                                               \
-    }                                                                                                         \
-    static uint32_t prints(const void *asked, size_t n, uint8_t *texts, size_t len, void *answers, size_t m) { \
-        return ratio_##prints(asked, n, texts, len, answers, m);                                              \
+#define DEFINE_READS(name, answer_type)                                                                       \
+    static uint32_t name(const void *asked, size_t n, uint8_t *texts, size_t len, void *answers, size_t m) {  \
+        return ratio_##name(texts, len, asked, n, answers, m);                                                \
+    }
+#define DEFINE_PRINTS(name, asked_type, number, room)                                                         \
+    static uint32_t name(const void *asked, size_t n, uint8_t *texts, size_t len, void *answers, size_t m) {  \
+        return ratio_##name(asked, n, texts, len, answers, m);                                                \
     }
 ALL_PLAIN(DEFINE_PLAIN)
-ALL_WITH_TEXTS(DEFINE_WITH_TEXTS)
+ALL_READS(DEFINE_READS)
+ALL_PRINTS(DEFINE_PRINTS)
 
 #define ROW_PLAIN(name, asked, count, number, answer) \
     {name, NULL, NULL, sizeof(ratio_##asked), count, sizeof(number), sizeof(ratio_##answer), 0},
-#define ROWS_WITH_TEXTS(reads, prints, asked, number, answer, room)                                           \
-    {NULL, reads, NULL, sizeof(ratio_span), 2, sizeof(size_t), sizeof(ratio_##answer), 0},                    \
-    {NULL, NULL, prints, sizeof(ratio_##asked), 2, sizeof(number), sizeof(ratio_text), room},
-static const call calls[] = {ALL_PLAIN(ROW_PLAIN) ALL_WITH_TEXTS(ROWS_WITH_TEXTS)};
+#define ROW_READS(name, answer) {NULL, name, NULL, sizeof(ratio_span), 2, sizeof(size_t), sizeof(ratio_##answer), 0},
+#define ROW_PRINTS(name, asked, number, room) {NULL, NULL, name, sizeof(ratio_##asked), 2, sizeof(number), sizeof(ratio_text), room},
+static const call calls[] = {ALL_PLAIN(ROW_PLAIN) ALL_READS(ROW_READS) ALL_PRINTS(ROW_PRINTS)};
 
 static uint64_t state, checksum, codes[CODES];
 static uint8_t *arrays[ARRAYS];
@@ -167,7 +170,7 @@ static void put_item(uint8_t *at, const call *c) {
 
 /* Writes numbers, slashes, signs and other characters, one after another. */
 static void put_texts(uint8_t *at, size_t size) {
-    static const char marks[] = "//////--+ ..eE_x";
+    static const char marks[] = "//////--+  ..eE%_x";
     for (size_t i = 0; i < size; i++) {
         if (below(5) > 0) at[i] = (uint8_t) ('0' + below(10));
         else at[i] = below(20) > 0 ? (uint8_t) marks[below(sizeof marks - 1)] : (uint8_t) next();

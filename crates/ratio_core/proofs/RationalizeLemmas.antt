@@ -42,14 +42,14 @@ none_fields value lo hi f s (suc e) t top above = rw (eq-eqb (suc e) (ones f) to
     either true = refl
     either false = refl
 
-hid_pos : (f : Format) → 0 < hid f
+pub hid_pos : (f : Format) → 0 < hid f
 hid_pos f = pow_pos (prec f - 1)
 
-two_hid : (f : Format) → 2 ^ prec f ≡ 2 * hid f
+pub two_hid : (f : Format) → 2 ^ prec f ≡ 2 * hid f
 two_hid binary32 = refl
 two_hid binary64 = refl
 
-ones_pos : (f : Format) → 0 < ones f
+pub ones_pos : (f : Format) → 0 < ones f
 ones_pos f = omega arith
 
 pub infinite_checks : {R : Type 0} (value : R → ℤ) (lo hi : ℤ) (f : Format) (x : Float) → T (fits f x) → ones f * hid f ≤ to_bits f x % top f → ChecksRationalized value lo hi f x None
@@ -114,7 +114,7 @@ module _ (f : Format) (x : Float) (fit : T (fits f x)) (m k : ℕ) (b-is : to_bi
 
 -- ---- whole or not
 
-odd_of : (f : Format) (s : Bool) (m e : ℕ) → T (fits f (fin s m (negsuc e))) → m % 2 ≡ 1
+pub odd_of : (f : Format) (s : Bool) (m e : ℕ) → T (fits f (fin s m (negsuc e))) → m % 2 ≡ 1
 unfolding fits
 odd_of f s zero e fit = absurd (
     let h : 1 * 2 ^ suc e ≡ 1 = eqb→eq _ _ fit in
@@ -127,7 +127,7 @@ odd_of f s (suc m) e fit =
     let below = ltb (suc m * up (negsuc e)) (2 ^ suc (emax f) * down (negsuc e)) in
     eqb→eq _ _ (and_l odd short (and_l (odd && short) high (and_l (odd && short && high) below fit)))
 
-not_whole : (m e a l : ℕ) → m % 2 ≡ 1 → m * 1 * 2 ^ l ≡ a * 2 ^ suc e → a % 2 ^ l ≡ 0 → ⊥
+pub not_whole : (m e a l : ℕ) → m % 2 ≡ 1 → m * 1 * 2 ^ l ≡ a * 2 ^ suc e → a % 2 ^ l ≡ 0 → ⊥
 not_whole m e a l odd is whole =
     let split : a / 2 ^ l * 2 ^ l + a % 2 ^ l ≡ a = div-add-mod' a (2 ^ l) in
     let w : ℕ = a / 2 ^ l in

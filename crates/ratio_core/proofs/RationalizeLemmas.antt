@@ -1,5 +1,5 @@
 -- The gap of fractions that round to a float, from the bits of the float.
-use Rattle.std.specs.Prelude.{◌≡◌, ◌≢◌, ◌⊎◌, ◌+◌, ◌-◌, ◌*◌, ◌/◌, ◌%◌, ◌^◌, ◌<◌, ◌≤◌, ◌<ℤ◌, ◌*ℤ◌, ℕ, ℤ, zero, suc, pos, negsuc, neg_ℤ, Bool, true, false, cond, T, Option, Some, None, eqb, ltb, leb, ◌&&◌, from_bits, to_bits}
+use Rattle.std.specs.Prelude.{◌≡◌, ◌≢◌, ◌⊎◌, ◌+◌, ◌-◌, ◌*◌, ◌/◌, ◌%◌, ◌^◌, ◌<◌, ◌≤◌, ◌<ℤ◌, ℕ, ℤ, zero, suc, pos, negsuc, neg_ℤ, Bool, true, false, cond, T, Option, Some, None, eqb, ltb, leb, ◌&&◌, from_bits, to_bits}
 use Rattle.std.specs.Float.{Float, Format, nan, inf, fin, binary32, binary64}
 use Rattle.std.specs.Float.Ieee.{down, emax, fits, hid, is_nan, low, of_fields, ones, prec, top, up}
 use Rattle.std.proofs.Common.{refl, sym, ap, arith, inl, inr, subst, ◌∙◌}
@@ -16,7 +16,6 @@ use lib.Pow.{pow_mono}
 use Rattle.core.proofs.dec2flt.Patterns.{of_bits-scaled_bits}
 use Rattle.core.specs.Dec2flt.Rounding.{IsSignificand, scaled_bits}
 use Rattle.ratio_integer.specs.Fraction.{ChecksLowest, SameValue}
-use Rattle.ratio_integer.proofs.LowestTerms.{same_value_chained}
 use Rattle.ratio_integer.proofs.Whole.{neg-mul}
 use Rattle.ratio_core.specs.Floats.{fraction_of_float}
 use Rattle.ratio_core.specs.Rationalize.{ChecksRationalized, halfway, middle}

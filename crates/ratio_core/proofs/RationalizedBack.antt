@@ -1,12 +1,12 @@
 -- A fraction in the gap around a float has this float as its nearest one.
-use Rattle.std.specs.Prelude.{◌≡◌, ◌≢◌, ◌⊎◌, ◌+◌, ◌-◌, ◌*◌, ◌/◌, ◌%◌, ◌^◌, ◌<◌, ◌≤◌, ◌<ℤ◌, ◌*ℤ◌, ℕ, ℤ, zero, suc, pos, negsuc, neg_ℤ, unsigned_abs, Bool, true, false, cond, T, Some, None, eqb, leb, from_bits, to_bits}
+use Rattle.std.specs.Prelude.{◌≡◌, ◌≢◌, ◌⊎◌, ◌+◌, ◌-◌, ◌*◌, ◌/◌, ◌%◌, ◌^◌, ◌<◌, ◌≤◌, ◌<ℤ◌, ◌*ℤ◌, ℕ, ℤ, zero, suc, pos, negsuc, neg_ℤ, Bool, true, false, cond, T, Some, eqb, leb, to_bits}
 use Rattle.std.specs.Float.{Float, Format, nan, inf, fin}
-use Rattle.std.specs.Float.Ieee.{down, fits, hid, low, neg, of_fields, ones, prec, round, top, up}
+use Rattle.std.specs.Float.Ieee.{fits, hid, low, neg, of_fields, ones, prec, round, top, up}
 use Rattle.std.proofs.Common.{refl, sym, ap, arith, inl, inr, subst, ◌∙◌}
 use Rattle.std.proofs.lemmas.Bool.{cases_lt}
 use Rattle.std.proofs.lemmas.Int.{ints}
 use Rattle.std.proofs.lemmas.Nat.{pow-add, pow_pos}
-use Rattle.std.proofs.Math.Nat.{div-add-mod', div-mul-le_self, le-div_iff_mul-le, lt_of_mul-lt-mul_right, mod-lt, mul-le-mul_right, mul-lt-mul_of_pos_right, mul-pos}
+use Rattle.std.proofs.Math.Nat.{div-add-mod', le-div_iff_mul-le, lt_of_mul-lt-mul_right, mod-lt, mul-le-mul_right, mul-lt-mul_of_pos_right, mul-pos}
 use borrow.Author.Tests.{eq-eqb}
 use lib.Ieee.Exact.{HasValue}
 use Rattle.core.proofs.num.Values.{neg-round}

@@ -31,7 +31,7 @@ zero_first f (negsuc d) above = absurd (omega (arith, ints, above))
 same_sizes : (s : Bool) (a b : ℕ) → with_sign s a ≡ with_sign s b → a ≡ b
 same_sizes s a b is = sym (size_is s a) ∙ ap unsigned_abs is ∙ size_is s b
 
-other_signs : (a b : ℕ) → 0 < b → pos a ≢ with_sign true b
+pub other_signs : (a b : ℕ) → 0 < b → pos a ≢ with_sign true b
 other_signs a zero above is = absurd (omega (arith, above))
 other_signs a (suc b) above is = absurd (omega (arith, ints, is))
 

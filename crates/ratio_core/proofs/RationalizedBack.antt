@@ -6,19 +6,22 @@ use Rattle.std.proofs.Common.{refl, sym, ap, arith, inl, inr, subst, ◌∙◌}
 use Rattle.std.proofs.lemmas.Bool.{cases_lt}
 use Rattle.std.proofs.lemmas.Int.{ints}
 use Rattle.std.proofs.lemmas.Nat.{pow-add, pow_pos}
-use Rattle.std.proofs.Math.Nat.{div-add-mod', le-div_iff_mul-le, lt_of_mul-lt-mul_right, mod-lt, mul-le-mul_right, mul-lt-mul_of_pos_right, mul-pos}
+use Rattle.std.proofs.Math.Nat.{div-add-mod', eq_of_mul-eq-mul_right, le-div_iff_mul-le, lt_of_mul-lt-mul_right, mod-lt, mul-le-mul_right, mul-lt-mul_of_pos_right, mul-pos}
 use borrow.Author.Tests.{eq-eqb}
 use lib.Ieee.Exact.{HasValue}
 use Rattle.core.proofs.num.Values.{neg-round}
 use Rattle.core.proofs.dec2flt.RoundingLemmas.{nearest_of_near}
 use Rattle.core.specs.Dec2flt.Rounding.{IsNearestBits, IsSignificand, scaled_bits}
-use Rattle.ratio_core.specs.FloatLaws.{RationalizedComesBack}
+use Rattle.ratio_integer.specs.Fraction.{SameValue}
+use Rattle.ratio_integer.proofs.LowestTerms.{same_value_chained}
+use Rattle.ratio_core.specs.FloatLaws.{EndsHaveGreaterDenominators, RationalizedComesBack}
 use Rattle.ratio_core.specs.Floats.{nearest_float, with_sign}
 use Rattle.ratio_core.specs.Rationalize.{ChecksRationalized, halfway}
 use Rattle.ratio_core.specs.Rationalizing.{IsGap}
 use Rattle.ratio_core.specs.Simplest.{IsBetween}
 use Rattle.ratio_core.proofs.FloatFields.{kept}
-use Rattle.ratio_core.proofs.FloatLawLemmas.{come_back, exact, zero_first}
+use Rattle.ratio_core.proofs.FloatLawLemmas.{come_back, exact, other_signs, zero_first}
+use Rattle.ratio_core.proofs.FloatParts.{with_sign-mul}
 use Rattle.ratio_core.proofs.GapLemmas.{above_none, back_between}
 use Rattle.ratio_core.proofs.RationalizeLemmas.{high_end, hid_pos, low_end, IsEnd, not_whole, odd_of, ones_pos, part_place, part_some, two_hid, value_is}
 use Rattle.ratio_core.proofs.SimplestLawLemmas.{between_same}
@@ -282,3 +285,75 @@ rationalized_back f s k (pos e) lo hi n d fit is =
     zeros none = zero_back f s e n d is.terms.lowest.positive (rw none at is.terms.same)
 rationalized_back f s zero (negsuc e) lo hi n d fit is = absurd (let o = odd_of f s 0 e fit in omega (arith, o))
 rationalized_back f s (suc k) (negsuc e) lo hi n d fit is = (λ some. part_back f s (suc k) e lo hi n d fit is, λ none. absurd (omega (arith, none)))
+
+-- ---- the ends of the gap
+
+-- an odd number over 2^j has no smaller denominator
+power_least : (j a o g : ℕ) → o % 2 ≡ 1 → a * 2 ^ j ≡ o * g → 0 < g → 2 ^ j ≤ g
+power_least zero a o g odd is some = omega (arith, some)
+power_least (suc j) a o g odd is some =
+    let p : 2 ^ suc j ≡ 2 * 2 ^ j = (let q : suc j ≡ j + 1 = omega arith in ap (λ x. 2 ^ x) q ∙ pow-add 2 j 1 ∙ omega arith) in
+    let w : ℕ = o / 2 in
+    let o-is : o ≡ 2 * w + 1 = omega (arith, odd) in
+    let all : a * (2 * 2 ^ j) ≡ (2 * w + 1) * g = ap (λ x. a * x) (sym p) ∙ is ∙ ap (λ x. x * g) o-is in
+    let g' : ℕ = g / 2 in
+    let g-is : g ≡ 2 * g' = omega (arith, all) in
+    let half : a * 2 ^ j ≡ o * g' = (let h : a * 2 ^ j * 2 ≡ o * (2 * g') = omega arith ∙ ap (λ x. a * x) (sym p) ∙ is ∙ ap (λ x. o * x) g-is in omega (arith, h)) in
+    let less = power_least j a o g' odd half (omega (arith, g-is, some)) in
+    omega (arith, less, p, g-is)
+
+module _ (f : Format) (s : Bool) (c e : ℕ) (fit : T (fits f (fin s c (negsuc e)))) where
+  abbrev l : ℕ
+  l = low f - k f s c e fit
+
+  -- the denominator of the float itself
+  own_least : 2 ^ suc e ≤ 2 ^ l
+  own_least =
+      let split : 2 ^ low f ≡ 2 ^ l * 2 ^ k f s c e fit = (let q : low f ≡ l + k f s c e fit = omega (arith, place f s c e fit) in ap (λ x. 2 ^ x) q ∙ pow-add 2 l (k f s c e fit)) in
+      let is : c * 1 * 2 ^ low f ≡ m f s c e fit * 2 ^ k f s c e fit * 2 ^ suc e = (value f s c e fit).1 in
+      let first : c * 2 ^ l * 2 ^ k f s c e fit ≡ c * 1 * 2 ^ low f = omega (arith, ap (λ x. c * x) split) in
+      let last : m f s c e fit * 2 ^ k f s c e fit * 2 ^ suc e ≡ m f s c e fit * 2 ^ suc e * 2 ^ k f s c e fit = grind arith in
+      let same : c * 2 ^ l ≡ m f s c e fit * 2 ^ suc e = eq_of_mul-eq-mul_right (2 ^ k f s c e fit) (pow_pos (k f s c e fit)) _ _ (first ∙ is ∙ last) in
+      power_least (suc e) (m f s c e fit) c (2 ^ l) (odd_of f s c e fit) (sym same) (pow_pos l)
+
+  even_end : (o x g : ℕ) → o % 2 ≡ 1 → 2 * o * g ≡ x * 2 ^ (l + 2) → 0 < g → 2 ^ suc e < g
+  even_end o x g odd is some =
+      let p : 2 ^ (l + 2) ≡ 2 ^ (l + 1) * 2 = (let q : l + 2 ≡ l + 1 + 1 = omega arith in ap (λ y. 2 ^ y) q ∙ pow-add 2 (l + 1) 1) in
+      let half : x * 2 ^ (l + 1) ≡ o * g = (let h : 2 * o * g ≡ x * (2 ^ (l + 1) * 2) = is ∙ ap (λ y. x * y) p in omega (arith, h)) in
+      let least = power_least (l + 1) x o g odd half some in
+      omega (arith, least, own_least, pow-add 2 l 1, pow_pos l)
+
+  finer_end : (o x g : ℕ) → o % 2 ≡ 1 → o * g ≡ x * 2 ^ (l + 2) → 0 < g → 2 ^ suc e < g
+  finer_end o x g odd is some =
+      let least = power_least (l + 2) x o g odd (sym is) some in
+      omega (arith, least, own_least, pow-add 2 l 2, pow_pos l)
+
+  low_less : (x g : ℕ) → (gap f s c e fit).0 * g ≡ x * 2 ^ (l + 2) → 0 < g → 2 ^ suc e < g
+  low_less x g is some' = by (gap f s c e fit).0 (gap f s c e fit).2.down is
+    where
+      by : (q : ℕ) → ((q + 1 ≡ 4 * m f s c e fit) × (m f s c e fit ≡ hid f) × (0 < k f s c e fit)) ⊎ ((q + 2 ≡ 4 * m f s c e fit) × ((m f s c e fit ≢ hid f) ⊎ (k f s c e fit ≡ 0))) → q * g ≡ x * 2 ^ (l + 2) → 2 ^ suc e < g
+      by q (inl h) is = (let e' = h.0 in finer_end q x g (omega (arith, e')) is some')
+      by q (inr h) is =
+          let e' = h.0 in
+          let q-is : q ≡ 2 * (2 * m f s c e fit - 1) = omega (arith, e') in
+          even_end (2 * m f s c e fit - 1) x g (omega (arith, some f s c e fit)) (ap (λ y. y * g) (sym q-is) ∙ is) some'
+
+  high_less : (x g : ℕ) → (gap f s c e fit).1 * g ≡ x * 2 ^ (l + 2) → 0 < g → 2 ^ suc e < g
+  high_less x g is some' =
+      let q-is : (gap f s c e fit).1 ≡ 2 * (2 * m f s c e fit + 1) = (let u = (gap f s c e fit).2.up in omega (arith, u)) in
+      even_end (2 * m f s c e fit + 1) x g (omega arith) (ap (λ y. y * g) (sym q-is) ∙ is) some'
+
+  by_end : (q : ℕ) (h : ℤ × ℤ) (a d : ℤ) → IsEnd q (2 ^ (l + 2)) h → ((x g : ℕ) → q * g ≡ x * 2 ^ (l + 2) → 0 < g → 2 ^ suc e < g) → pos 0 <ℤ d → SameValue a d h.0 h.1 → pos (2 ^ suc e) <ℤ d
+  by_end q h a (negsuc g) end less above is = absurd (omega (arith, ints, above))
+  by_end q h a (pos g) end less above is = sizes a (same_value_chained (pos q) (pos (2 ^ (l + 2))) h.0 h.1 a (pos g) (nonzero h.1 end.positive) end.same (sym is))
+    where
+      nonzero : (z : ℤ) → pos 0 <ℤ z → z ≢ pos 0
+      nonzero z up is = omega (arith, ints, up, is)
+
+      sizes : (a : ℤ) → SameValue (pos q) (pos (2 ^ (l + 2))) a (pos g) → pos (2 ^ suc e) <ℤ pos g
+      sizes (pos x) same = (let some' : 0 < g = omega (arith, ints, above) in let h = less x g (let s' = same in omega (arith, ints, s')) some' in omega (arith, ints, h))
+      sizes (negsuc x) same = absurd (other_signs (q * g) (suc x * 2 ^ (l + 2)) (mul-pos (omega arith) (pow_pos (l + 2))) (same ∙ with_sign-mul true (suc x) (2 ^ (l + 2))))
+
+pub ends_greater : EndsHaveGreaterDenominators
+ends_greater f s c e a d fit above (inl is) = by_end f s c e fit _ _ a d (low_is f s c e fit) (low_less f s c e fit) above is
+ends_greater f s c e a d fit above (inr is) = by_end f s c e fit _ _ a d (high_is f s c e fit) (high_less f s c e fit) above is

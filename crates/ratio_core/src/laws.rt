@@ -1,7 +1,7 @@
 //! The laws of this crate. Each function does nothing: its contract is the law. If `checked_add` or
 //! `checked_mul` returns `Some`, that is a sum or a product as the laws mean it.
 ghost use Rattle.ratio_core.specs.DecimalLaws.{DecimalsAreMonotone, DecimalsAreNear};
-ghost use Rattle.ratio_core.specs.FloatLaws.{FloatsAreMonotone, FloatsComeBack, NearestOfZero, RationalizedComesBack, SameValueSameFloat};
+ghost use Rattle.ratio_core.specs.FloatLaws.{EndsHaveGreaterDenominators, FloatsAreMonotone, FloatsComeBack, NearestOfZero, RationalizedComesBack, SameValueSameFloat};
 ghost use Rattle.ratio_core.specs.FromQuotients.{FractionsAreLowest, QuotientsGiveBack};
 ghost use Rattle.ratio_core.specs.Laws.{FormedDifferencesFit, FormedSumsFit, ProductsAssociate, ProductsCommute, ProductsDistribute, SumConditionsCommute, SumsAssociate, SumsCommute};
 ghost use Rattle.ratio_core.specs.NearestLaws.{LowestIsNearest, NearestIsLowest, OneIsNearest, SameValueSameNearest};
@@ -116,12 +116,17 @@ pub fn simplest_fractions_within()
 {}
 
 /// Laws of the nearest float, which `to_f64` and `to_f32` return. It depends only on the value of a fraction, and never
-/// falls as the fraction grows. The fraction with exactly the value of a float gives this float back, and so does the one
-/// that `rationalize` returns for the float.
+/// falls as the fraction grows. The fraction with exactly the value of a float gives this float back.
 pub fn nearest_floats()
     ensures zero { NearestOfZero }
     ensures value { SameValueSameFloat }
     ensures monotone { FloatsAreMonotone }
     ensures back { FloatsComeBack }
-    ensures rationalized { RationalizedComesBack }
+{}
+
+/// Laws of the fraction that `rationalize` returns. Its nearest float is the one that it was found for. A fraction
+/// halfway from a float to a neighbour has a greater denominator than the float, so it is never the simplest one.
+pub fn rationalized_floats()
+    ensures back { RationalizedComesBack }
+    ensures ends { EndsHaveGreaterDenominators }
 {}

@@ -14,7 +14,7 @@ use Rattle.core.proofs.dec2flt.RoundingLemmas.{nearest_of_near}
 use Rattle.core.specs.Dec2flt.Rounding.{IsNearestBits, IsSignificand, scaled_bits}
 use Rattle.ratio_integer.specs.Fraction.{SameValue}
 use Rattle.ratio_integer.proofs.LowestTerms.{same_value_chained}
-use Rattle.ratio_core.specs.FloatLaws.{EndsHaveGreaterDenominators, RationalizedComesBack}
+use Rattle.ratio_core.specs.FloatLaws.{EndsHaveGreaterDenominators, FloatsLieBetweenEnds, RationalizedComesBack}
 use Rattle.ratio_core.specs.Floats.{nearest_float, with_sign}
 use Rattle.ratio_core.specs.Rationalize.{ChecksRationalized, halfway}
 use Rattle.ratio_core.specs.Rationalizing.{IsGap}
@@ -306,15 +306,17 @@ module _ (f : Format) (s : Bool) (c e : ℕ) (fit : T (fits f (fin s c (negsuc e
   abbrev l : ℕ
   l = low f - k f s c e fit
 
-  -- the denominator of the float itself
-  own_least : 2 ^ suc e ≤ 2 ^ l
-  own_least =
+  own_size : c * 2 ^ l ≡ m f s c e fit * 2 ^ suc e
+  own_size =
       let split : 2 ^ low f ≡ 2 ^ l * 2 ^ k f s c e fit = (let q : low f ≡ l + k f s c e fit = omega (arith, place f s c e fit) in ap (λ x. 2 ^ x) q ∙ pow-add 2 l (k f s c e fit)) in
       let is : c * 1 * 2 ^ low f ≡ m f s c e fit * 2 ^ k f s c e fit * 2 ^ suc e = (value f s c e fit).1 in
       let first : c * 2 ^ l * 2 ^ k f s c e fit ≡ c * 1 * 2 ^ low f = omega (arith, ap (λ x. c * x) split) in
       let last : m f s c e fit * 2 ^ k f s c e fit * 2 ^ suc e ≡ m f s c e fit * 2 ^ suc e * 2 ^ k f s c e fit = grind arith in
-      let same : c * 2 ^ l ≡ m f s c e fit * 2 ^ suc e = eq_of_mul-eq-mul_right (2 ^ k f s c e fit) (pow_pos (k f s c e fit)) _ _ (first ∙ is ∙ last) in
-      power_least (suc e) (m f s c e fit) c (2 ^ l) (odd_of f s c e fit) (sym same) (pow_pos l)
+      eq_of_mul-eq-mul_right (2 ^ k f s c e fit) (pow_pos (k f s c e fit)) _ _ (first ∙ is ∙ last)
+
+  -- the denominator of the float itself
+  own_least : 2 ^ suc e ≤ 2 ^ l
+  own_least = power_least (suc e) (m f s c e fit) c (2 ^ l) (odd_of f s c e fit) (sym own_size) (pow_pos l)
 
   even_end : (o x g : ℕ) → o % 2 ≡ 1 → 2 * o * g ≡ x * 2 ^ (l + 2) → 0 < g → 2 ^ suc e < g
   even_end o x g odd is some =
@@ -353,6 +355,32 @@ module _ (f : Format) (s : Bool) (c e : ℕ) (fit : T (fits f (fin s c (negsuc e
       sizes : (a : ℤ) → SameValue (pos q) (pos (2 ^ (l + 2))) a (pos g) → pos (2 ^ suc e) <ℤ pos g
       sizes (pos x) same = (let some' : 0 < g = omega (arith, ints, above) in let h = less x g (let s' = same in omega (arith, ints, s')) some' in omega (arith, ints, h))
       sizes (negsuc x) same = absurd (other_signs (q * g) (suc x * 2 ^ (l + 2)) (mul-pos (omega arith) (pow_pos (l + 2))) (same ∙ with_sign-mul true (suc x) (2 ^ (l + 2))))
+
+module _ (f : Format) (s : Bool) (c e : ℕ) (fit : T (fits f (fin s c (negsuc e)))) where
+  in_quarters : c * 2 ^ (l f s c e fit + 2) ≡ 4 * m f s c e fit * 2 ^ suc e
+  in_quarters =
+      let power : c * 2 ^ (l f s c e fit + 2) ≡ 4 * (c * 2 ^ l f s c e fit) = ap (λ y. c * y) (pow-add 2 (l f s c e fit) 2) ∙ omega arith in
+      power ∙ ap (λ y. 4 * y) (own_size f s c e fit) ∙ omega arith
+
+  own_inside : IsBetween (pos (gap f s c e fit).0) (pos (2 ^ (l f s c e fit + 2))) (pos (gap f s c e fit).1) (pos (2 ^ (l f s c e fit + 2))) (pos c) (pos (2 ^ suc e))
+  own_inside =
+      let under : (gap f s c e fit).0 * 2 ^ suc e < 4 * m f s c e fit * 2 ^ suc e = mul-lt-mul_of_pos_right (below (gap f s c e fit).0 (gap f s c e fit).2.down) (pow_pos (suc e)) in
+      let over : 4 * m f s c e fit * 2 ^ suc e < (gap f s c e fit).1 * 2 ^ suc e = mul-lt-mul_of_pos_right (let u = (gap f s c e fit).2.up in omega (arith, u)) (pow_pos (suc e)) in
+      record {
+        positive = (let p = pow_pos (suc e) in omega (arith, ints, p));
+        above = (let q = in_quarters in omega (arith, ints, under, q));
+        below = (let q = in_quarters in omega (arith, ints, over, q));
+      }
+    where
+      below : (q : ℕ) → ((q + 1 ≡ 4 * m f s c e fit) × (m f s c e fit ≡ hid f) × (0 < k f s c e fit)) ⊎ ((q + 2 ≡ 4 * m f s c e fit) × ((m f s c e fit ≢ hid f) ⊎ (k f s c e fit ≡ 0))) → q < 4 * m f s c e fit
+      below q (inl h) = (let e' = h.0 in omega (arith, e'))
+      below q (inr h) = (let e' = h.0 in omega (arith, e'))
+
+pub floats_between : FloatsLieBetweenEnds
+floats_between f s c e fit =
+    let lower = low_is f s c e fit in
+    let upper = high_is f s c e fit in
+    between_same _ _ _ _ _ _ _ _ (pos c) (pos (2 ^ suc e)) (some_power f s c e fit) (some_power f s c e fit) lower.positive upper.positive lower.same upper.same (own_inside f s c e fit)
 
 pub ends_greater : EndsHaveGreaterDenominators
 ends_greater f s c e a d fit above (inl is) = by_end f s c e fit _ _ a d (low_is f s c e fit) (low_less f s c e fit) above is

@@ -1,10 +1,11 @@
 -- The laws of the nearest float.
-use Rattle.std.specs.Prelude.{◌≡◌, ◌<◌, ◌≤ℤ◌, ◌<ℤ◌, ◌*ℤ◌, ◌-◌, ◌⊎◌, ℕ, ℤ, pos, negsuc, Bool, false, Some, T}
+use Rattle.std.specs.Prelude.{◌≡◌, ◌<◌, ◌≤ℤ◌, ◌<ℤ◌, ◌*ℤ◌, ◌-◌, ◌^◌, ◌⊎◌, ℕ, ℤ, suc, pos, negsuc, Bool, false, Some, T}
 use Rattle.std.specs.Float.{Format, fin, ◌≤ᶠ◌}
 use Rattle.std.specs.Float.Ieee.{fits}
 use Rattle.ratio_integer.specs.Fraction.{SameValue}
 use Rattle.ratio_core.specs.Floats.{fraction_of_float, nearest_float}
 use Rattle.ratio_core.specs.Rationalize.{ChecksRationalized, halfway, size_bits}
+use Rattle.ratio_core.specs.Simplest.{IsBetween}
 
 -- 0 gives 0.0, and not -0.0
 abbrev pub NearestOfZero : Type 0
@@ -29,9 +30,14 @@ RationalizedComesBack = (f : Format) (s : Bool) (k : ℕ) (e lo hi n d : ℤ) �
     → (0 < k → nearest_float f n d ≡ fin s k e) × (k ≡ 0 → nearest_float f n d ≡ fin false 0 (pos 0))
 
 -- a fraction a/d that is exactly halfway from a float, not a whole one, to a neighbour has a greater denominator than the float itself.
--- The float lies between those two points, so neither of them could be the simplest fraction
 abbrev pub EndsHaveGreaterDenominators : Type 0
 EndsHaveGreaterDenominators = (f : Format) (s : Bool) (m e : ℕ) (a d : ℤ) → T (fits f (fin s m (negsuc e))) → pos 0 <ℤ d →
     let b = size_bits f (fin s m (negsuc e)) in
     SameValue a d (halfway f (b - 1)).0 (halfway f (b - 1)).1 ⊎ SameValue a d (halfway f b).0 (halfway f b).1
     → (fraction_of_float (fin s m (negsuc e))).1 <ℤ d
+
+-- a float that is not whole, m/2^(e+1) without its sign, lies strictly between those two points
+abbrev pub FloatsLieBetweenEnds : Type 0
+FloatsLieBetweenEnds = (f : Format) (s : Bool) (m e : ℕ) → T (fits f (fin s m (negsuc e))) →
+    let b = size_bits f (fin s m (negsuc e)) in
+    IsBetween (halfway f (b - 1)).0 (halfway f (b - 1)).1 (halfway f b).0 (halfway f b).1 (pos m) (pos (2 ^ suc e))

@@ -31,7 +31,7 @@ zero_first f (negsuc d) above = absurd (omega (arith, ints, above))
 same_sizes : (s : Bool) (a b : ℕ) → with_sign s a ≡ with_sign s b → a ≡ b
 same_sizes s a b is = sym (size_is s a) ∙ ap unsigned_abs is ∙ size_is s b
 
-other_signs : (a b : ℕ) → 0 < b → pos a ≢ with_sign true b
+pub other_signs : (a b : ℕ) → 0 < b → pos a ≢ with_sign true b
 other_signs a zero above is = absurd (omega (arith, above))
 other_signs a (suc b) above is = absurd (omega (arith, ints, is))
 
@@ -79,7 +79,7 @@ moved_value (fin t m e) s n d w l D is value =
     (value.0, eq_of_mul-eq-mul_right d D _ _ (first ∙ ap (λ x. x * l) value.1 ∙ second ∙ ap (λ x. x * down e) is ∙ third))
 
 module _ (f : Format) (s : Bool) (k : ℕ) (e : ℤ) (n d : ℕ) (fit : T (fits f (fin s (suc k) e))) (D : 0 < d) (is : n * down e ≡ suc k * up e * d) where
-  exact : round f s n d ≡ fin s (suc k) e
+  pub exact : round f s n d ≡ fin s (suc k) e
   exact =
       let parts = fit_parts f s k e fit in
       let place = place_of (low f) e parts.1 in

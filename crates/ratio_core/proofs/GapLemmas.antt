@@ -92,7 +92,7 @@ short_power down less =
 
 -- ---- a fraction with the numerator 1
 
-above_none : (a : ℤ) (l d b : ℕ) → (pos l *ℤ pos b) <ℤ (a *ℤ pos d) → (n : ℕ) × (a ≡ pos (suc n))
+pub above_none : (a : ℤ) (l d b : ℕ) → (pos l *ℤ pos b) <ℤ (a *ℤ pos d) → (n : ℕ) × (a ≡ pos (suc n))
 above_none (pos (suc n)) l d b over = (n, refl)
 above_none (pos zero) l d b over = absurd (omega (arith, ints, over))
 above_none (negsuc n) l d b over = absurd (omega (arith, ints, over))
@@ -197,7 +197,7 @@ twice (negsuc n) = refl
 pub turned_between : (n d m e a b : ℤ) → IsBetween n d m e a b → IsBetween (neg_ℤ m) e (neg_ℤ n) d (neg_ℤ a) b
 turned_between n d m e a b is = record { positive = is.positive; above = turned_less a e m b is.below; below = turned_less n b a d is.above }
 
-back_between : (n d m e a b : ℤ) → IsBetween (neg_ℤ m) e (neg_ℤ n) d a b → IsBetween n d m e (neg_ℤ a) b
+pub back_between : (n d m e a b : ℤ) → IsBetween (neg_ℤ m) e (neg_ℤ n) d a b → IsBetween n d m e (neg_ℤ a) b
 back_between n d m e a b is = rw (twice n, twice m) at (turned_between _ _ _ _ _ _ is)
 
 pub turned_simplest : (n d m e p q : ℤ) → IsSimplest n d m e p q → IsSimplest (neg_ℤ m) e (neg_ℤ n) d (neg_ℤ p) q

@@ -65,6 +65,7 @@ pub mod ProductLemmas
 pub mod ProductOrder
 pub mod Quotients
 pub mod RationalizeLemmas
+pub mod RationalizedBack
 pub mod ReadingBack
 pub mod ReadingExists
 pub mod ReciprocalLemmas

@@ -1,5 +1,5 @@
 -- The gap of fractions that round to a float, from the bits of the float.
-use Rattle.std.specs.Prelude.{◌≡◌, ◌≢◌, ◌⊎◌, ◌+◌, ◌-◌, ◌*◌, ◌/◌, ◌%◌, ◌^◌, ◌<◌, ◌≤◌, ◌<ℤ◌, ◌*ℤ◌, ℕ, ℤ, zero, suc, pos, negsuc, neg_ℤ, Bool, true, false, cond, T, Option, Some, None, eqb, ltb, leb, ◌&&◌, from_bits, to_bits}
+use Rattle.std.specs.Prelude.{◌≡◌, ◌≢◌, ◌⊎◌, ◌+◌, ◌-◌, ◌*◌, ◌/◌, ◌%◌, ◌^◌, ◌<◌, ◌≤◌, ◌<ℤ◌, ℕ, ℤ, zero, suc, pos, negsuc, neg_ℤ, Bool, true, false, cond, T, Option, Some, None, eqb, ltb, leb, ◌&&◌, from_bits, to_bits}
 use Rattle.std.specs.Float.{Float, Format, nan, inf, fin, binary32, binary64}
 use Rattle.std.specs.Float.Ieee.{down, emax, fits, hid, is_nan, low, of_fields, ones, prec, top, up}
 use Rattle.std.proofs.Common.{refl, sym, ap, arith, inl, inr, subst, ◌∙◌}
@@ -16,7 +16,6 @@ use lib.Pow.{pow_mono}
 use Rattle.core.proofs.dec2flt.Patterns.{of_bits-scaled_bits}
 use Rattle.core.specs.Dec2flt.Rounding.{IsSignificand, scaled_bits}
 use Rattle.ratio_integer.specs.Fraction.{ChecksLowest, SameValue}
-use Rattle.ratio_integer.proofs.LowestTerms.{same_value_chained}
 use Rattle.ratio_integer.proofs.Whole.{neg-mul}
 use Rattle.ratio_core.specs.Floats.{fraction_of_float}
 use Rattle.ratio_core.specs.Rationalize.{ChecksRationalized, halfway, middle}
@@ -42,14 +41,14 @@ none_fields value lo hi f s (suc e) t top above = rw (eq-eqb (suc e) (ones f) to
     either true = refl
     either false = refl
 
-hid_pos : (f : Format) → 0 < hid f
+pub hid_pos : (f : Format) → 0 < hid f
 hid_pos f = pow_pos (prec f - 1)
 
-two_hid : (f : Format) → 2 ^ prec f ≡ 2 * hid f
+pub two_hid : (f : Format) → 2 ^ prec f ≡ 2 * hid f
 two_hid binary32 = refl
 two_hid binary64 = refl
 
-ones_pos : (f : Format) → 0 < ones f
+pub ones_pos : (f : Format) → 0 < ones f
 ones_pos f = omega arith
 
 pub infinite_checks : {R : Type 0} (value : R → ℤ) (lo hi : ℤ) (f : Format) (x : Float) → T (fits f x) → ones f * hid f ≤ to_bits f x % top f → ChecksRationalized value lo hi f x None
@@ -114,7 +113,7 @@ module _ (f : Format) (x : Float) (fit : T (fits f x)) (m k : ℕ) (b-is : to_bi
 
 -- ---- whole or not
 
-odd_of : (f : Format) (s : Bool) (m e : ℕ) → T (fits f (fin s m (negsuc e))) → m % 2 ≡ 1
+pub odd_of : (f : Format) (s : Bool) (m e : ℕ) → T (fits f (fin s m (negsuc e))) → m % 2 ≡ 1
 unfolding fits
 odd_of f s zero e fit = absurd (
     let h : 1 * 2 ^ suc e ≡ 1 = eqb→eq _ _ fit in
@@ -127,7 +126,7 @@ odd_of f s (suc m) e fit =
     let below = ltb (suc m * up (negsuc e)) (2 ^ suc (emax f) * down (negsuc e)) in
     eqb→eq _ _ (and_l odd short (and_l (odd && short) high (and_l (odd && short && high) below fit)))
 
-not_whole : (m e a l : ℕ) → m % 2 ≡ 1 → m * 1 * 2 ^ l ≡ a * 2 ^ suc e → a % 2 ^ l ≡ 0 → ⊥
+pub not_whole : (m e a l : ℕ) → m % 2 ≡ 1 → m * 1 * 2 ^ l ≡ a * 2 ^ suc e → a % 2 ^ l ≡ 0 → ⊥
 not_whole m e a l odd is whole =
     let split : a / 2 ^ l * 2 ^ l + a % 2 ^ l ≡ a = div-add-mod' a (2 ^ l) in
     let w : ℕ = a / 2 ^ l in

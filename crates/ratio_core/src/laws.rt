@@ -1,7 +1,7 @@
 //! The laws of this crate. Each function does nothing: its contract is the law. If `checked_add` or
 //! `checked_mul` returns `Some`, that is a sum or a product as the laws mean it.
 ghost use Rattle.ratio_core.specs.DecimalLaws.{DecimalsAreMonotone, DecimalsAreNear};
-ghost use Rattle.ratio_core.specs.FloatLaws.{FloatsAreMonotone, FloatsComeBack, NearestOfZero, SameValueSameFloat};
+ghost use Rattle.ratio_core.specs.FloatLaws.{EndsHaveGreaterDenominators, FloatsAreMonotone, FloatsComeBack, FloatsLieBetweenEnds, NearestOfZero, RationalizedComesBack, SameValueSameFloat};
 ghost use Rattle.ratio_core.specs.FromQuotients.{FractionsAreLowest, QuotientsGiveBack};
 ghost use Rattle.ratio_core.specs.Laws.{FormedDifferencesFit, FormedSumsFit, ProductsAssociate, ProductsCommute, ProductsDistribute, SumConditionsCommute, SumsAssociate, SumsCommute};
 ghost use Rattle.ratio_core.specs.NearestLaws.{LowestIsNearest, NearestIsLowest, OneIsNearest, SameValueSameNearest};
@@ -122,4 +122,13 @@ pub fn nearest_floats()
     ensures value { SameValueSameFloat }
     ensures monotone { FloatsAreMonotone }
     ensures back { FloatsComeBack }
+{}
+
+/// Laws of the fraction that `rationalize` returns. Its nearest float is the one that it was found for, or 0.0 for
+/// -0.0. A point halfway from a float to a neighbour has a greater denominator than the float, which lies between
+/// the two such points. So neither of them is the simplest fraction.
+pub fn rationalized_floats()
+    ensures back { RationalizedComesBack }
+    ensures ends { EndsHaveGreaterDenominators }
+    ensures between { FloatsLieBetweenEnds }
 {}

@@ -64,3 +64,9 @@ pub fn simplest_fractions_within() {}
 /// falls as the fraction grows. The fraction with exactly the value of a float gives this float back.
 #[inline]
 pub fn nearest_floats() {}
+
+/// Laws of the fraction that `rationalize` returns. Its nearest float is the one that it was found for, or 0.0 for
+/// -0.0. A point halfway from a float to a neighbour has a greater denominator than the float, which lies between
+/// the two such points. So neither of them is the simplest fraction.
+#[inline]
+pub fn rationalized_floats() {}

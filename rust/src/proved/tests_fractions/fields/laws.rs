@@ -19,6 +19,7 @@ fn each_law_is_called() {
     laws::parts();
     laws::nearest_fractions();
     laws::nearest_floats();
+    laws::rationalized_floats();
     laws::simplest_fractions();
     laws::simplest_fractions_within();
     laws::fractions_of_quotients();

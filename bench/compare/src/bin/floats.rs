@@ -1,5 +1,5 @@
 //! Floats of fractions, and fractions of floats, by the plain Rust crate. The program times `to_f64` and `to_f32` of `Ratio` beside
-//! those of num-rational, which has none over `i128`, and `from_float` of `Reduced` beside num-rational's `from_f64`. It compares
+//! those of num-rational, which has none over `i128`, and `from_float` and `rationalize` of `Reduced` beside num-rational's `from_f64`. It compares
 //! all results, and ends with status 1 if some differ. Its rows have the columns of the program `compare`.
 
 #[path = "../random.rs"]
@@ -20,7 +20,7 @@ const COUNT: usize = 65_536;
 /// A call may take at most this part of num-rational's time.
 const MOST: f64 = 1.2;
 
-/// `from_float` may take at most this part of the time of `Ratio`'s `from_f64`.
+/// A call of `Reduced` may take at most this part of the time of `Ratio`'s.
 const OF_RATIO: f64 = 1.1;
 
 fn goal(row: &str) -> f64 {
@@ -94,12 +94,18 @@ fn floats_of_128_bits(filter: &str) {
 }
 
 /// A fraction of a float by `Reduced`, by `Ratio`, and by num-rational.
-fn fraction_row(call: &str, filter: &str, floats: &[f64], goal: Option<f64>, lowest: impl Fn(&f64) -> Option<Reduced64>) -> usize {
+fn fraction_row(
+    call: &str,
+    filter: &str,
+    floats: &[f64],
+    goal: Option<f64>,
+    lowest: impl Fn(&f64) -> Option<Reduced64>,
+    ratio: impl Fn(&f64) -> Option<Ratio<i64>>,
+) -> usize {
     let row = format!("i64\t{call}\tfloats");
     if !wanted(&row.replace(call, &format!("lowest_{call}")), filter) {
         return 0;
     }
-    let ratio = |x: &f64| Ratio::<i64>::from_f64(*x);
     let theirs = |x: &f64| Original::<i64>::from_f64(*x);
     let beside_ratio = timed((floats, &lowest), (floats, ratio));
     let beside_theirs = timed((floats, &lowest), (floats, theirs));
@@ -123,7 +129,10 @@ fn main() {
     floats_of_128_bits(&filter);
     // Of these floats, num-rational finds exactly the value.
     let exact: Vec<f64> = fields(20).iter().map(|f| f.0 as f64 / 1_024.0).collect();
-    differing += fraction_row("from_float", &filter, &exact, None, |x| Reduced::from_float(*x));
+    differing += fraction_row("from_float", &filter, &exact, None, |x| Reduced::from_float(*x), |x| Ratio::from_f64(*x));
+    // Of these, it finds the simple fraction that was rounded.
+    let simple: Vec<f64> = fields(15).iter().map(|f| f.0 as f64 / f.1 as f64).collect();
+    differing += fraction_row("rationalize", &filter, &simple, Some(0.5), |x| Reduced::rationalize(*x), |x| Ratio::rationalize(*x));
     if differing > 0 {
         eprintln!("{differing} results differ");
         std::process::exit(1);

@@ -1,8 +1,8 @@
-/* Casts, and values from two whole numbers. */
+/* Casts, and values from numbers of other types. */
 #include "glue.h"
 
 #include "utils/builtins.h"
-#include "utils/numeric.h"
+#include "utils/float.h"
 
 static Datum
 whole(int64 n)
@@ -19,12 +19,8 @@ CALL(ratio_from_int8) { return whole(PG_GETARG_INT64(0)); }
 CALL(ratio_from_two)
 {
 	Ratio		x = {PG_GETARG_INT64(0), PG_GETARG_INT64(1)};
-	ratio_answer_i64 answer;
 
-	ratio_reduce_i64(&x, 1, &answer, 1);
-	if (unlikely(answer.code != RATIO_ANSWERED))
-		refuse(answer.code, psprintf("ratio(" INT64_FORMAT ", " INT64_FORMAT ")", x.numer, x.denom));
-	return new_value(answer.value);
+	GIVE(ratio_reduce_i64, x, "ratio(" INT64_FORMAT ", " INT64_FORMAT ")", x.numer, x.denom);
 }
 
 /* The nearest whole number, a half away from zero, as the cast of numeric. */
@@ -38,53 +34,66 @@ CALL(ratio_to_int8)
 	PG_RETURN_INT64(answer.value.numer);
 }
 
-/* Exactly, from the digits without the point and from how many of them stood behind it. NaN and infinities have no such digits. */
+/* Exactly the value of a float, and the simplest fraction that rounds to it. */
+CALL(ratio_from_float8)
+{
+	float8		x = PG_GETARG_FLOAT8(0);
+
+	GIVE(ratio_from_f64_i64, x, "ratio(%s)", float8out_internal(x));
+}
+
+CALL(ratio_rationalize)
+{
+	float8		x = PG_GETARG_FLOAT8(0);
+
+	GIVE(ratio_rationalize_i64, x, "ratio_rationalize(%s)", float8out_internal(x));
+}
+
+/* The nearest float. */
+CALL(ratio_to_float8)
+{
+	ratio_float answer;
+
+	ratio_to_f64_i64(ARG(0), 1, &answer, 1);
+	if (unlikely(answer.code != RATIO_ANSWERED))
+		refuse(answer.code, psprintf("float8(%s)", quoted(*ARG(0))));
+	PG_RETURN_FLOAT8(answer.value);
+}
+
+/* Exactly, or not at all: a text of numeric that is no decimal is NaN or an infinity. */
 CALL(ratio_from_numeric)
 {
-	Datum		trimmed = DirectFunctionCall1(numeric_trim_scale, PG_GETARG_DATUM(0));
-	char	   *text = DatumGetCString(DirectFunctionCall1(numeric_out, trimmed)),
-			   *digits = pstrdup(text),
-			   *point = strchr(digits, '.');
-	ratio_scaled decimal = {{0}};
-	ratio_answer_i128 number;
+	const char *text = DatumGetCString(DirectFunctionCall1(numeric_out, PG_GETARG_DATUM(0)));
+	ratio_span	span = {0, strlen(text)};
 	ratio_answer_i64 answer;
-	ratio_span	span = {0};
 
-	if (point != NULL)
-	{
-		decimal.scale = strlen(point + 1);
-		memmove(point, point + 1, decimal.scale + 1);
-	}
-	span.end = strlen(digits);
-	ratio_read_i128((const uint8_t *) digits, span.end, &span, 1, &number, 1);
-	decimal.number = number.value.numer;
-	ratio_from_scaled_i64(&decimal, 1, &answer, 1);
-	if (number.code != RATIO_ANSWERED || answer.code != RATIO_ANSWERED)
-		ereport(ERROR, errcode(ERRCODE_NUMERIC_VALUE_OUT_OF_RANGE), errmsg("value \"%s\" is out of range for type %s", text, "ratio"));
+	ratio_read_decimal_i64((const uint8_t *) text, span.end, &span, 1, &answer, 1);
+	if (unlikely(answer.code != RATIO_ANSWERED))
+		refuse(RATIO_NOT_HELD, psprintf("ratio(%s)", text));
 	return new_value(answer.value);
 }
 
+/* The text of a decimal with so many places, a half away from zero, as numeric rounds. */
+static char *
+decimal(FunctionCallInfo fcinfo, int32 places, const char *name)
+{
+	ratio_decimal_i64 asked = {*ARG(0), places, RATIO_RULE_HALF_AWAY};
+	char	   *text = palloc(RATIO_DECIMAL_ROOM_I64 + 1);
+	ratio_text	place;
+
+	ratio_print_decimal_i64(&asked, 1, (uint8_t *) text, RATIO_DECIMAL_ROOM_I64, &place, 1);
+	if (unlikely(place.code != RATIO_ANSWERED))
+		refuse(place.code, psprintf("%s(%s, %d)", name, quoted(asked.value), places));
+	text[place.span.end] = '\0';
+	return text;
+}
+
 static Datum
-with_places(Datum numeric, int32 places)
+decimal_number(FunctionCallInfo fcinfo, int32 places, const char *name)
 {
-	return DirectFunctionCall2(numeric_round, numeric, Int32GetDatum(places));
+	return DirectFunctionCall3(numeric_in, CStringGetDatum(decimal(fcinfo, places, name)), ObjectIdGetDatum(InvalidOid), Int32GetDatum(-1));
 }
 
-/* A half is rounded away from zero, as numeric does. The library gives a multiple of 1/10^places, so that the quotient has no more places. */
-CALL(ratio_round_places)
-{
-	ratio_multiple_i64 multiple = {*ARG(0), 1, RATIO_RULE_HALF_AWAY};
-	int32		places = PG_GETARG_INT32(1);
-	ratio_answer_i64 answer;
-	Datum		numer;
-
-	if (places < 0 || places > 18)
-		ereport(ERROR, errcode(ERRCODE_INVALID_PARAMETER_VALUE), errmsg("ratio_round requires 0 to 18 places, not %d", places));
-	for (int i = 0; i < places; i++)
-		multiple.parts *= 10;
-	ratio_round_to_i64(&multiple, 1, &answer, 1);
-	if (unlikely(answer.code != RATIO_ANSWERED))
-		refuse(answer.code, psprintf("ratio_round(%s, %d)", quoted(multiple.value), places));
-	numer = with_places(NumericGetDatum(int64_to_numeric(answer.value.numer)), places);
-	return with_places(DirectFunctionCall2(numeric_div, numer, NumericGetDatum(int64_to_numeric(answer.value.denom))), places);
-}
+CALL(ratio_decimal) { PG_RETURN_TEXT_P(cstring_to_text(decimal(fcinfo, PG_GETARG_INT32(1), "ratio_decimal"))); }
+CALL(ratio_round_places) { return decimal_number(fcinfo, PG_GETARG_INT32(1), "ratio_round"); }
+CALL(ratio_to_numeric) { return DirectFunctionCall1(numeric_trim_scale, decimal_number(fcinfo, 16, "numeric")); }

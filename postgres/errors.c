@@ -13,6 +13,13 @@ refuse(uint32 code, const char *call)
 		case RATIO_ZERO_DENOMINATOR:
 			ereport(ERROR, errcode(ERRCODE_DIVISION_BY_ZERO), errmsg("division by zero"), errdetail("The call was %s.", call));
 			break;
+		case RATIO_BOUND_NOT_POSITIVE:
+			ereport(ERROR, errcode(ERRCODE_INVALID_PARAMETER_VALUE), errmsg("the greatest denominator must be at least 1"),
+					errdetail("The call was %s.", call));
+			break;
+		case RATIO_BAD_OPTION:
+			ereport(ERROR, errcode(ERRCODE_INVALID_PARAMETER_VALUE), errmsg("there may be 0 to 38 places"), errdetail("The call was %s.", call));
+			break;
 		default:
 			ereport(ERROR, errcode(ERRCODE_DATA_CORRUPTED), errmsg("a stored ratio is damaged"),
 					errdetail("The library refused %s with the code %u.", call, code));

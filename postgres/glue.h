@@ -35,4 +35,15 @@ new_value(Ratio x)
 	return PointerGetDatum(kept);
 }
 
+/* The rest of a function: one call of the library over one input, and its value or its error. What follows the input is how SQL writes
+ * the call, a format and the operands. */
+#define GIVE(call, asked, ...) \
+	do { \
+		ratio_answer_i64 answer; \
+		call(&(asked), 1, &answer, 1); \
+		if (unlikely(answer.code != RATIO_ANSWERED)) \
+			refuse(answer.code, psprintf(__VA_ARGS__)); \
+		return new_value(answer.value); \
+	} while (0)
+
 #endif

@@ -44,7 +44,7 @@ CALL(ratio_in)
 	ratio_span	span = trimmed(text);
 	ratio_answer_i64 answer;
 
-	ratio_read_i64((const uint8_t *) text, span.end, &span, 1, &answer, 1);
+	ratio_read_text_i64((const uint8_t *) text, span.end, &span, 1, &answer, 1);
 	if (unlikely(answer.code != RATIO_ANSWERED))
 		refuse_text(answer.code, text);
 	return new_value(answer.value);

@@ -2,7 +2,10 @@
 SELECT ratio_between(1, 2), ratio_between('1/3', '1/2'), ratio_between('15/16', 1), ratio_between('-1/2', '-1/3'), ratio_between(-1, '1/9'), ratio_between(0, '1/2147483647'),
     ratio_between('9223372036854775805/9223372036854775806', 1), ratio_between(-9223372036854775808, 9223372036854775807);
 SELECT q, refusal('SELECT ratio_between' || q) FROM unnest(ARRAY['(1, 1)', '(2, 1)', '(''9223372036854775806/9223372036854775807'', 1)',
-    '(0, ''1/9223372036854775807'')', '(NULL, 1)', '(1, NULL)']) q;
+    '(0, ''1/9223372036854775807'')', '(NULL, -9223372036854775808)', '(9223372036854775807, NULL)']) q;
+-- NULL is no bound
+SELECT ratio_between(NULL, 1), ratio_between(NULL, 0), ratio_between(NULL, '-5/2'), ratio_between(1, NULL), ratio_between('5/2', NULL), ratio_between(-1, NULL),
+    ratio_between(NULL, NULL), ratio_between(NULL, -9223372036854775807), ratio_between(9223372036854775806, NULL);
 -- beside a search for the smallest denominator
 CREATE TABLE small AS SELECT DISTINCT ratio(n, d) AS r FROM generate_series(1, 6) d, generate_series(-9, 9) n;
 SELECT count(*), count(*) FILTER (WHERE ratio_between(a.r, b.r) <> found.r) AS wrong FROM small a JOIN small b ON a.r < b.r, LATERAL
@@ -13,6 +16,8 @@ CREATE TABLE tasks (name text, place ratio PRIMARY KEY);
 INSERT INTO tasks VALUES ('plan', 1), ('build', 2), ('ship', 3);
 INSERT INTO tasks VALUES ('test', ratio_between(2, 3));
 UPDATE tasks SET place = ratio_between(1, 2) WHERE name = 'ship';
+INSERT INTO tasks SELECT 'read', ratio_between(NULL, min(place)) FROM tasks;
+INSERT INTO tasks SELECT 'rest', ratio_between(max(place), NULL) FROM tasks;
 SELECT name, place FROM tasks ORDER BY place;
 -- 10,000 insertions at one end
 CREATE TABLE at_end (i int, place ratio PRIMARY KEY);

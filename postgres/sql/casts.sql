@@ -1,4 +1,4 @@
--- Casts: from the three whole types by itself, from numeric and to bigint by assignment.
+-- Casts: from the three whole types by itself, from numeric, to bigint, numeric and float8 by assignment, from float8 where it is asked for.
 CREATE TABLE kept (r ratio, whole bigint);
 INSERT INTO kept (r) VALUES (1::int2), (2::int4), (3::int8), (-9223372036854775808), (9223372036854775807);
 SELECT r FROM kept ORDER BY r;
@@ -20,28 +20,33 @@ SELECT count(*) AS wrong FROM (SELECT (i * 7919 % 100003 - 50000) / 10.0 ^ (i % 
 WHERE round(x, 9)::ratio::text <> lowest(round(x, 9) * 1000000000, 1000000000);
 SELECT x, refusal(format('SELECT (%s)::numeric::ratio', x)) FROM unnest(ARRAY['9223372036854775808', '-9223372036854775809', '1e-19', '1e-40', '1e40', '''NaN''',
     '''Infinity''', '''-Infinity''', '0.1234567890123456789']) x;
--- more than 38 digits behind the point are refused, too, though 5/2^52 would fit
-SELECT refusal('SELECT 0.0000000000000011102230246251565404236316680908203125::ratio');
-SELECT pg_typeof(0.5 + 1), refusal('SELECT 0.5 + ''1/2''::ratio');
+-- as many digits as there are: 5/2^52, and 1/2^62
+SELECT 0.0000000000000011102230246251565404236316680908203125::ratio, 0.00000000000000000021684043449710088680149056017398834228515625::ratio;
+-- from float8, exactly or not at all, and the simplest fraction that rounds to one
+SELECT x, x::ratio, ratio_rationalize(x) FROM unnest('{0.1,-0.75,0.3333333333333333,3.141592653589793,1e16,-9223372036854775808,-0,0.30000000000000004}'::float8[]) x;
+SELECT q, refusal(format(q, '''1e-5''')), refusal(format(q, 9223372036854775808)), refusal(format(q, '''NaN''')), refusal(format(q, '''Infinity''')), refusal(format(q, '''-Infinity''')),
+    refusal(format(q, '''5e-324''')) FROM unnest('{SELECT (%s)::float8::ratio,SELECT ratio_rationalize(%s)}'::text[]) q;
+SELECT refusal('INSERT INTO kept (r) VALUES (0.5::float8)'), ratio_rationalize(NULL), NULL::float8::ratio;
+-- to float8, the nearest
+SELECT r, r::float8 FROM unnest('{1/3,-1/10,0,9007199254740993,9007199254740995,-9223372036854775808,1/9223372036854775807}'::ratio[]) r;
+SELECT count(*) AS wrong FROM hard WHERE r::float8 <> (numerator(r)::numeric / denominator(r)::numeric(60, 40))::float8 AND abs(numerator(r)::numeric) < 2 ^ 53 AND denominator(r) < 2 ^ 53;
+SELECT count(*) AS wrong FROM generate_series(1, 200) n, generate_series(1, 200) d WHERE ratio_rationalize(n / d::float8) <> ratio(n, d) OR ratio(n, d)::float8 <> n / d::float8;
+-- to numeric, to 16 places, a half away from zero, without trailing zeros
+SELECT r, r::numeric FROM unnest('{3/4,-1/3,2/3,1/20000000000000000,-1/20000000000000000,1/20000000000000001,100,0,-9223372036854775808,9223372036854775807/2}'::ratio[]) r;
+SELECT count(*) AS wrong FROM hard WHERE r::numeric <> round(numerator(r)::numeric / denominator(r)::numeric(60, 40), 16);
+SELECT pg_typeof(0.5 + 1), refusal('SELECT 0.5 + ''1/2''::ratio'), refusal('SELECT 0.5::float8 + ''1/2''::ratio');
 SELECT castsource::regtype, casttarget::regtype, castcontext, castmethod FROM pg_cast WHERE 'ratio'::regtype IN (castsource, casttarget) ORDER BY 1, 2;
 -- rounded to places, a half away from zero
 SELECT ratio_round('2/3', 2), ratio_round('-1/200', 2), ratio_round('1/8', 2), ratio_round('1/2', 0), ratio_round('1/2', 3), ratio_round('1/3', 18), ratio_round(5, 2),
-    ratio_round('922337203685477580/7', 1), ratio_round('-9223372036854775808', 18);
-SELECT q, refusal('SELECT ratio_round' || q) FROM unnest(ARRAY['(''1/3'', -1)', '(''1/3'', 19)', '(''9223372036854775807/2'', 1)', '(''1000/3'', 17)']) q;
--- as numeric does: over hard fractions and over multiples of 1/2000, wherever the multiple fits
-CREATE FUNCTION rounded(r ratio, places int) RETURNS text LANGUAGE plpgsql AS $$
-BEGIN
-    RETURN ratio_round(r, places);
-EXCEPTION WHEN numeric_value_out_of_range THEN
-    RETURN NULL;
-END $$;
-CREATE FUNCTION numeric_rounded(n numeric, d numeric, places int) RETURNS text LANGUAGE plpgsql AS $$
-DECLARE parts numeric := ('1e' || places)::numeric; whole numeric := sign(n) * div(2 * abs(n) * parts + d, 2 * d);
-BEGIN
-    RETURN CASE WHEN lowest(whole, parts) <> '22003' THEN round(whole * ('1e-' || places)::numeric, places)::text END;
-END $$;
-SELECT count(*), count(got) AS held, count(*) FILTER (WHERE got IS DISTINCT FROM wanted) AS wrong
-FROM (SELECT rounded(r, places) AS got, numeric_rounded(numerator(r), denominator(r), places) AS wanted
-    FROM (TABLE hard UNION ALL SELECT ratio(i, 2000) FROM generate_series(-300, 300) i) f(r), unnest('{0,1,2,3,9,17,18}'::int[]) places) compared;
-DROP FUNCTION rounded, numeric_rounded;
+    ratio_round('922337203685477580/7', 1), ratio_round('-9223372036854775808', 18), ratio_round('9223372036854775807/2', 1), ratio_round('1000/3', 38);
+SELECT ratio_decimal('2/3', 2), ratio_decimal('-1/200', 2), ratio_decimal('-1/300', 2), ratio_decimal(5, 0), ratio_decimal('1/3', 38), ratio_decimal(NULL, 1), ratio_decimal(1, NULL);
+SELECT q, refusal('SELECT ratio_round' || q), refusal('SELECT ratio_decimal' || q) FROM unnest(ARRAY['(''1/3'', -1)', '(''1/3'', 39)']) q;
+-- as numeric does: over hard fractions and over multiples of 1/2000
+CREATE FUNCTION numeric_rounded(n numeric, d numeric, places int) RETURNS text LANGUAGE SQL AS $$
+    SELECT round(sign(n) * div(2 * abs(n) * ('1e' || places)::numeric + d, 2 * d) * ('1e-' || places)::numeric, places)::text;
+$$;
+SELECT count(*), count(*) FILTER (WHERE ratio_round(r, places)::text <> wanted) AS wrong, count(*) FILTER (WHERE ratio_decimal(r, places)::numeric <> wanted::numeric) AS other
+FROM (SELECT r, places, numeric_rounded(numerator(r), denominator(r), places) AS wanted
+    FROM (TABLE hard UNION ALL SELECT ratio(i, 2000) FROM generate_series(-300, 300) i) f(r), unnest('{0,1,2,3,9,17,18,38}'::int[]) places) compared;
+DROP FUNCTION numeric_rounded;
 DROP TABLE kept;

@@ -125,8 +125,8 @@ pub fn nearest_floats()
 {}
 
 /// Laws of the fraction that `rationalize` returns. Its nearest float is the one that it was found for, or 0.0 for
-/// -0.0. A point halfway from a float to a neighbour has a greater denominator than the float, which lies between
-/// the two such points. So neither of them is the simplest fraction.
+/// -0.0. A float that is not whole lies between the two points halfway to its neighbours, and both have greater
+/// denominators. So neither of them is the simplest fraction there.
 pub fn rationalized_floats()
     ensures back { RationalizedComesBack }
     ensures ends { EndsHaveGreaterDenominators }

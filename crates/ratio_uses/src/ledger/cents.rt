@@ -42,7 +42,7 @@ pub fn split_to(
     Ok(())
 }
 
-/// The amount in cents: `0.33` for 1/3.
+/// The amount rounded to cents: `0.33` for 1/3.
 pub fn in_cents(amount: &Reduced64) -> DecimalText
     ensures { IsDecimalOf HalfEven 2 (lowest_numbers amount.now).0 (lowest_numbers amount.now).1 result }
 {

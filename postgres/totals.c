@@ -86,18 +86,14 @@ CALL(ratio_combine)
 	PG_RETURN_POINTER(state);
 }
 
+/* A worker hands its total to another process of the same server, byte by byte. */
 CALL(ratio_serialize)
 {
 	ratio_total_i64 total = whole_total((const State *) PG_GETARG_POINTER(0));
 	StringInfoData bytes;
 
 	pq_begintypsend(&bytes);
-	pq_sendint32(&bytes, total.code);
-	pq_sendint64(&bytes, total.count);
-	pq_sendint64(&bytes, total.sum.numer.low);
-	pq_sendint64(&bytes, total.sum.numer.high);
-	pq_sendint64(&bytes, total.sum.denom.low);
-	pq_sendint64(&bytes, total.sum.denom.high);
+	pq_sendbytes(&bytes, (const char *) &total, sizeof(total));
 	PG_RETURN_BYTEA_P(pq_endtypsend(&bytes));
 }
 
@@ -109,12 +105,7 @@ CALL(ratio_deserialize)
 
 	initStringInfo(&bytes);
 	appendBinaryStringInfo(&bytes, VARDATA_ANY(sent), VARSIZE_ANY_EXHDR(sent));
-	state->total.code = pq_getmsgint(&bytes, 4);
-	state->total.count = pq_getmsgint64(&bytes);
-	state->total.sum.numer.low = pq_getmsgint64(&bytes);
-	state->total.sum.numer.high = pq_getmsgint64(&bytes);
-	state->total.sum.denom.low = pq_getmsgint64(&bytes);
-	state->total.sum.denom.high = pq_getmsgint64(&bytes);
+	pq_copymsgbytes(&bytes, (char *) &state->total, sizeof(state->total));
 	pq_getmsgend(&bytes);
 	PG_RETURN_POINTER(state);
 }

@@ -24,6 +24,7 @@ fn each_law_is_called(_rt: HostRuntime) {
     laws::fractions_of_quotients();
     text::laws::digits();
     text::laws::decimal_digits();
+    text::laws::decimals();
     text::laws::typed_texts();
     text::laws::one_reading();
     json_pairs();

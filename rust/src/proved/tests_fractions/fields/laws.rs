@@ -25,6 +25,7 @@ fn each_law_is_called() {
     laws::fractions_of_quotients();
     text::laws::digits();
     text::laws::decimal_digits();
+    text::laws::decimals();
     text::laws::typed_texts();
     text::laws::one_reading();
     json_pairs();

@@ -20,7 +20,7 @@ pub fn total(shares: &[Reduced64]) -> Option<Reduced64>
     Some(sum)
 }
 
-/// A third of the fraction that a text writes, or `None` exactly where that does not fit. An error exactly where `from_str`
+/// A third of the fraction in a text, or `None` exactly where that does not fit. An error exactly where `from_str`
 /// refuses the text.
 pub fn third_of(text: &str) -> Result<Option<Reduced64>, ParseRatioError>
     ensures { ReadsThird text.now result }

@@ -10,8 +10,8 @@ use Rattle.ratio_integer.specs.Fraction.{ChecksLowest, IsLowestTerms}
 use Rattle.ratio_integer.specs.Range.{IsHeld, IsRange}
 use Rattle.ratio_integer.proofs.Whole.{neg-mul, unsigned_abs-neg}
 use Rattle.ratio_core.specs.Floats.{with_sign}
-use Rattle.ratio_core.specs.Rationalizing.{ChecksFirstOver, ChecksInside, ChecksSize, IsFirstOver}
-use Rattle.ratio_core.specs.Simplest.{ChecksSimplest, HoldsNoneBetween, IsBetween, IsSimplest}
+use Rattle.ratio_core.specs.Rationalizing.{ChecksFirstOver, ChecksInside, IsFirstOver}
+use Rattle.ratio_core.specs.Simplest.{HoldsNoneBetween, IsBetween, IsSimplest}
 use Rattle.ratio_core.proofs.HeldAround.{between_held}
 use Rattle.ratio_core.proofs.SimplestLawLemmas.{simplest_lowest}
 
@@ -26,6 +26,20 @@ far_over down h c far short over = elim (cases_lt c (2 ^ 128)) [
   | inr more ↦ more
 ]
 
+first_over_of : (d h q : ℕ) → q * h ≤ d → d < q * h + h → IsFirstOver d h (q + 1)
+first_over_of d h q most next = record {
+  over = omega (arith, next);
+  least = λ c over. elim (cases_lt c (q + 1)) [
+    | inl less ↦
+        let under : c * h ≤ q * h = mul-le-mul_right h (omega (arith, less)) in
+        absurd (omega (arith, under, most, over))
+    | inr more ↦ more
+  ];
+}
+
+pub next_over : (d h : ℕ) → 0 < h → IsFirstOver d h (d / h + 1)
+next_over d h h_up = first_over_of d h (d / h) (div-mul-le_self d h) (lt-div-mul-add h_up)
+
 -- by long division: s is 2^127, and p is what is left of the power
 pub first_over_is : (s h p d : ℕ) → 0 < h → d ≡ s * p → IsFirstOver d h (s / h * p + s % h * p / h + 1)
 first_over_is s h p d h_up d-is =
@@ -36,15 +50,7 @@ first_over_is s h p d h_up d-is =
     let most : t * h ≤ r * p = div-mul-le_self (r * p) h in
     let next : r * p < t * h + h = lt-div-mul-add h_up in
     let whole : d ≡ q * p * h + r * p = d-is ∙ ap (λ x. x * p) (sym split) ∙ omega arith in
-    record {
-      over = omega (arith, whole, next);
-      least = λ c over. elim (cases_lt c (q * p + t + 1)) [
-        | inl less ↦
-            let under : c * h ≤ (q * p + t) * h = mul-le-mul_right h (omega (arith, less)) in
-            absurd (omega (arith, under, whole, most, over))
-        | inr more ↦ more
-      ];
-    }
+    first_over_of d h (q * p + t) (omega (arith, whole, most)) (omega (arith, whole, next))
 
 pub power_is : (down : ℕ) → 128 ≤ down → 2 ^ down ≡ 2 ^ 127 * 2 ^ (down - 127)
 power_is down far = ap (λ x. 2 ^ x) (let e : down ≡ 127 + (down - 127) = omega (arith, far) in e) ∙ pow-add 2 127 (down - 127)
@@ -97,53 +103,68 @@ above_none (pos (suc n)) l d b over = (n, refl)
 above_none (pos zero) l d b over = absurd (omega (arith, ints, over))
 above_none (negsuc n) l d b over = absurd (omega (arith, ints, over))
 
-module _ (low high d b : ℕ) (room : low + 2 ≤ high) (short : high < 2 ^ 56) (far : 2 ^ 128 ≤ d) (first : IsFirstOver d high b) where
-  many : high ≤ b
-  many = elim (cases_lt b high) [
-    | inl less ↦
-        let most : b * high ≤ 2 ^ 56 * high = mul-le-mul_right high (omega (arith, less, short)) in
-        absurd (let over = first.over in omega (arith, most, over, short, far))
-    | inr more ↦ more
-  ]
+-- 1/b is above low/d, too, if d is that long and the ends have room between them
+pub unit_over : (low high d b : ℕ) → low + 2 ≤ high → high < 2 ^ 56 → 2 ^ 128 ≤ d → IsFirstOver d high b → b * low < d
+unit_over low high d b room short far first = omega (arith, gap, expanded, before, many, room)
+  where
+    many : high ≤ b
+    many = elim (cases_lt b high) [
+      | inl less ↦
+          let most : b * high ≤ 2 ^ 56 * high = mul-le-mul_right high (omega (arith, less, short)) in
+          absurd (let over = first.over in omega (arith, most, over, short, far))
+      | inr more ↦ more
+    ]
 
-  before : (b - 1) * high ≤ d
-  before = elim (cases_lt d ((b - 1) * high)) [
-    | inl over ↦ absurd (let less = first.least (b - 1) over in omega (arith, less, many, room))
-    | inr more ↦ more
-  ]
+    before : (b - 1) * high ≤ d
+    before = elim (cases_lt d ((b - 1) * high)) [
+      | inl over ↦ absurd (let less = first.least (b - 1) over in omega (arith, less, many, room))
+      | inr more ↦ more
+    ]
 
-  expanded : b * high ≡ (b - 1) * high + high
-  expanded = (let e : b ≡ (b - 1) + 1 = omega (arith, many, room) in ap (λ x. x * high) e ∙ omega arith)
+    expanded : b * high ≡ (b - 1) * high + high
+    expanded = (let e : b ≡ (b - 1) + 1 = omega (arith, many, room) in ap (λ x. x * high) e ∙ omega arith)
 
-  low_over : b * low < d
-  low_over =
-      let gap : b * low + b * 2 ≤ b * high = let h : (low + 2) * b ≤ high * b = mul-le-mul_right b room in omega (arith, h) in
-      omega (arith, gap, expanded, before, many, room)
+    gap : b * low + b * 2 ≤ b * high
+    gap = (let h : (low + 2) * b ≤ high * b = mul-le-mul_right b room in omega (arith, h))
 
-  pub unit_simplest : IsSimplest (pos low) (pos d) (pos high) (pos d) (pos 1) (pos b)
-  unit_simplest = record {
-    between = record {
-      positive = omega (arith, ints, many, room);
+over_some : (b h d : ℕ) → d < b * h → 0 < b
+over_some zero h d over = absurd (omega (arith, over))
+over_some (suc b) h d over = omega arith
+
+-- a fraction in the gap whose numbers are the least
+least_simplest : (low high d p q : ℕ) → IsBetween (pos low) (pos d) (pos high) (pos d) (pos p) (pos q)
+    → ((n b : ℕ) → low * b < suc n * d → suc n * d < high * b → (q ≤ b) × (p ≤ suc n)) → IsSimplest (pos low) (pos d) (pos high) (pos d) (pos p) (pos q)
+least_simplest low high d p q inside least = record {
+  between = inside;
+  denom = λ a b between. denom a b between;
+  numer = λ a b between. numer a b between;
+}
+  where
+    of : (n b : ℕ) → IsBetween (pos low) (pos d) (pos high) (pos d) (pos (suc n)) (pos b) → (q ≤ b) × (p ≤ suc n)
+    of n b between = least n b (let h = between.above in omega (arith, ints, h)) (let h = between.below in omega (arith, ints, h))
+
+    denom : (a b : ℤ) → IsBetween (pos low) (pos d) (pos high) (pos d) a b → pos q ≤ℤ b
+    denom a (negsuc b) between = absurd (let up = between.positive in omega (arith, ints, up))
+    denom a (pos b) between =
+        let some = above_none a low d b between.above in
+        let few = (of some.0 b (rw some.1 at between)).0 in
+        omega (arith, ints, few)
+
+    numer : (a b : ℤ) → IsBetween (pos low) (pos d) (pos high) (pos d) a b → p ≤ unsigned_abs a
+    numer a (negsuc b) between = absurd (let up = between.positive in omega (arith, ints, up))
+    numer a (pos b) between = (let some = above_none a low d b between.above in rw some.1 ((of some.0 b (rw some.1 at between)).1))
+
+pub unit_simplest : (low high d b : ℕ) → b * low < d → IsFirstOver d high b → IsSimplest (pos low) (pos d) (pos high) (pos d) (pos 1) (pos b)
+unit_simplest low high d b low_over first =
+    let up = over_some b high d first.over in
+    let over = first.over in
+    least_simplest low high d 1 b
+    (record {
+      positive = omega (arith, ints, up);
       above = (let h : low * b < 1 * d = omega (arith, low_over) in omega (arith, ints, h));
-      below = (let h : 1 * d < high * b = let over = first.over in omega (arith, over) in omega (arith, ints, h));
-    };
-    denom = denom;
-    numer = λ a c between. numer a c between;
-  }
-    where
-      denom : (a c : ℤ) → IsBetween (pos low) (pos d) (pos high) (pos d) a c → pos b ≤ℤ c
-      denom a (negsuc c) between = absurd (let up = between.positive in omega (arith, ints, up))
-      denom a (pos c) between =
-          let some = above_none a low d c between.above in
-          let over : (pos (suc some.0) *ℤ pos d) <ℤ (pos high *ℤ pos c) = rw some.1 at between.below in
-          let over' : suc some.0 * d < high * c = omega (arith, ints, over) in
-          let h : d < c * high = omega (arith, over') in
-          let least = first.least c h in
-          omega (arith, ints, least)
-
-      numer : (a c : ℤ) → IsBetween (pos low) (pos d) (pos high) (pos d) a c → 1 ≤ unsigned_abs a
-      numer a (negsuc c) between = absurd (let up = between.positive in omega (arith, ints, up))
-      numer a (pos c) between = (let some = above_none a low d c between.above in rw some.1 (omega arith))
+      below = (let h : 1 * d < high * b = omega (arith, over) in omega (arith, ints, h));
+    })
+    (λ n c above below. (first.least c (omega (arith, below)), omega arith))
 
 pub unit_out : (low high d : ℕ) → ((c : ℕ) → d < c * high → 2 ^ 128 ≤ c) → (a b : ℤ) → IsBetween (pos low) (pos d) (pos high) (pos d) a b → pos (2 ^ 128) ≤ℤ b
 unit_out low high d none a (negsuc c) between = absurd (let up = between.positive in omega (arith, ints, up))
@@ -171,10 +192,81 @@ not_none most low high d room d_up h_fits d_fits none =
     (record { above = omega (arith, ints); below = omega (arith, ints, d_fits) })
     (one_inside low high d room d_up)
 
-pub size_checked : (most low high d : ℕ) (r : Option (ℕ × ℕ)) → low + 2 ≤ high → 0 < d → high ≤ most → d ≤ most
-    → ChecksSimplest (λ n. pos n) (pos 0) (pos most) (pos low) (pos d) (pos high) (pos d) r → ChecksSize low high d r
-size_checked most low high d None room d_up h_fits d_fits checked = absurd (not_none most low high d room d_up h_fits d_fits checked)
-size_checked most low high d (Some r) room d_up h_fits d_fits checked = checked
+-- ---- the reciprocals of the ends: w is the whole number of d/high, and d has r more than w times high, and s more than w times low
+
+pub rest_is : (d h l : ℕ) → l ≤ h → d / h * l + (d - d / h * l) ≡ d
+rest_is d h l less =
+    let most : d / h * h ≤ d = div-mul-le_self d h in
+    let fewer : l * (d / h) ≤ h * (d / h) = mul-le-mul_right (d / h) less in
+    omega (arith, most, fewer)
+
+pub rest_less : (d h : ℕ) → 0 < h → d - d / h * h < h
+rest_less d h h_up =
+    let most : d / h * h ≤ d = div-mul-le_self d h in
+    let next : d < d / h * h + h = lt-div-mul-add h_up in
+    omega (arith, most, next)
+
+module _ (low high d w r s : ℕ) (r-is : w * high + r ≡ d) (s-is : w * low + s ≡ d) where
+  under : (a b : ℕ) → a * d < high * b → w * a ≤ b
+  under a b below = elim (cases_lt b (w * a)) [
+    | inl less ↦
+        let most : b * high ≤ w * a * high = mul-le-mul_right high (omega (arith, less)) in
+        let split : (w * high + r) * a ≡ d * a = ap (λ x. x * a) r-is in
+        absurd (omega (arith, most, split, below))
+    | inr more ↦ more
+  ]
+
+  turned_over : (a b c : ℕ) → 0 < a → c + w * a ≡ b → low * b < a * d → a * d < high * b → IsBetween (pos r) (pos high) (pos s) (pos low) (pos c) (pos a)
+  turned_over a b c a_up split above below =
+      let high_split : (w * high + r) * a ≡ d * a = ap (λ x. x * a) r-is in
+      let low_split : (w * low + s) * a ≡ d * a = ap (λ x. x * a) s-is in
+      let high_b : (c + w * a) * high ≡ b * high = ap (λ x. x * high) split in
+      let low_b : (c + w * a) * low ≡ b * low = ap (λ x. x * low) split in
+      record {
+        positive = omega (arith, ints, a_up);
+        above = (let h : r * a < c * high = omega (arith, high_split, high_b, below) in omega (arith, ints, h));
+        below = (let h : c * low < s * a = omega (arith, low_split, low_b, above) in omega (arith, ints, h));
+      }
+
+  some_more : (x p : ℕ) → r * p < x * high → 0 < x
+  some_more zero p over = absurd (omega (arith, over))
+  some_more (suc n) p over = omega arith
+
+  pub reciprocal_simplest : (x p : ℕ) → IsSimplest (pos r) (pos high) (pos s) (pos low) (pos x) (pos p) → IsSimplest (pos low) (pos d) (pos high) (pos d) (pos p) (pos (w * p + x))
+  reciprocal_simplest x p is =
+      let x_above : r * p < x * high = let h = is.between.above in omega (arith, ints, h) in
+      let x_below : x * low < s * p = let h = is.between.below in omega (arith, ints, h) in
+      let up = some_more x p x_above in
+      let high_split : (w * high + r) * p ≡ d * p = ap (λ n. n * p) r-is in
+      let low_split : (w * low + s) * p ≡ d * p = ap (λ n. n * p) s-is in
+      least_simplest low high d p (w * p + x)
+      (record {
+        positive = omega (arith, ints, up);
+        above = (let h : low * (w * p + x) < p * d = omega (arith, low_split, x_below) in omega (arith, ints, h));
+        below = (let h : p * d < high * (w * p + x) = omega (arith, high_split, x_above) in omega (arith, ints, h));
+      })
+      (λ n b above below. (
+          let split : b - w * suc n + w * suc n ≡ b = omega (arith, under (suc n) b below) in
+          let turned = turned_over (suc n) b (b - w * suc n) (omega arith) split above below in
+          let fewer : p ≤ suc n = let h = is.denom _ _ turned in omega (arith, ints, h) in
+          let less : x ≤ b - w * suc n = is.numer _ _ turned in
+          let most : p * w ≤ suc n * w = mul-le-mul_right w fewer in
+          (omega (arith, split, less, most), fewer)))
+
+  -- the fraction of both sums lies between
+  pub reciprocal_held : (most : ℕ) → low < high → 0 < d → r + s ≤ most → high + low ≤ most → ¬ (HoldsNoneBetween (pos 0) (pos most) (pos r) (pos high) (pos s) (pos low))
+  reciprocal_held most less d_up sum_fits ends_fit none =
+      let low_r : (w * high + r) * low ≡ d * low = ap (λ x. x * low) r-is in
+      let high_s : (w * low + s) * high ≡ d * high = ap (λ x. x * high) s-is in
+      let apart : low * d < high * d = mul-lt-mul_of_pos_right less d_up in
+      none.each (pos (r + s)) (pos (high + low))
+      (record { above = omega (arith, ints); below = omega (arith, ints, sum_fits) })
+      (record { above = omega (arith, ints); below = omega (arith, ints, ends_fit) })
+      (record {
+        positive = omega (arith, ints, less);
+        above = (let h : r * (high + low) < (r + s) * high = omega (arith, low_r, high_s, apart) in omega (arith, ints, h));
+        below = (let h : (r + s) * low < s * (high + low) = omega (arith, low_r, high_s, apart) in omega (arith, ints, h));
+      })
 
 -- ---- the numbers of the simplest fraction fit where those of another one fit
 

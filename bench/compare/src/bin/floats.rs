@@ -96,13 +96,14 @@ fn floats_of_128_bits(filter: &str) {
 /// A fraction of a float by `Reduced`, by `Ratio`, and by num-rational.
 fn fraction_row(
     call: &str,
+    input: &str,
     filter: &str,
     floats: &[f64],
     goal: Option<f64>,
     lowest: impl Fn(&f64) -> Option<Reduced64>,
     ratio: impl Fn(&f64) -> Option<Ratio<i64>>,
 ) -> usize {
-    let row = format!("i64\t{call}\tfloats");
+    let row = format!("i64\t{call}\t{input}");
     if !wanted(&row.replace(call, &format!("lowest_{call}")), filter) {
         return 0;
     }
@@ -129,10 +130,12 @@ fn main() {
     floats_of_128_bits(&filter);
     // Of these floats, num-rational finds exactly the value.
     let exact: Vec<f64> = fields(20).iter().map(|f| f.0 as f64 / 1_024.0).collect();
-    differing += fraction_row("from_float", &filter, &exact, None, |x| Reduced::from_float(*x), |x| Ratio::from_f64(*x));
-    // Of these, it finds the simple fraction that was rounded.
-    let simple: Vec<f64> = fields(15).iter().map(|f| f.0 as f64 / f.1 as f64).collect();
-    differing += fraction_row("rationalize", &filter, &simple, Some(0.5), |x| Reduced::rationalize(*x), |x| Ratio::rationalize(*x));
+    differing += fraction_row("from_float", "floats", &filter, &exact, None, |x| Reduced::from_float(*x), |x| Ratio::from_f64(*x));
+    // Of these, it finds the simple fraction that was rounded. `rationalize` finds small ones by their reciprocals.
+    for (input, factor) in [("floats", 1.0), ("small floats", 10_000.0)] {
+        let simple: Vec<f64> = fields(15).iter().map(|f| f.0 as f64 / (f.1 as f64 * factor)).collect();
+        differing += fraction_row("rationalize", input, &filter, &simple, Some(0.5), |x| Reduced::rationalize(*x), |x| Ratio::rationalize(*x));
+    }
     if differing > 0 {
         eprintln!("{differing} results differ");
         std::process::exit(1);

@@ -34,8 +34,7 @@ fn simplest_size(low: u64, high: u64, down: u64) -> Option<(u128, u128)> {
         return over_short(low, high, 1 << down);
     }
     if down < 128 {
-        let denom = 1 << down;
-        return simplest_between::<u128>(low as u128, denom, high as u128, denom);
+        return over_long(low, high, 1 << down);
     }
     let denom = first_over(high, down)?;
     Some((1, denom))
@@ -46,6 +45,20 @@ fn simplest_size(low: u64, high: u64, down: u64) -> Option<(u128, u128)> {
 fn over_short(low: u64, high: u64, denom: u64) -> Option<(u128, u128)> {
     let (numer, denom) = simplest_between::<u64>(low, denom, high, denom)?;
     Some((numer as u128, denom as u128))
+}
+
+// The same over a number of up to 128 digits. The search is for the reciprocal of the result, which is `whole` or more. What it has above
+// `whole` is found with numbers of 64 digits, which takes less time. If `whole + 1` is below the reciprocal of the low end, it is the result's.
+#[inline]
+fn over_long(low: u64, high: u64, power: u128) -> Option<(u128, u128)> {
+    let whole = power / high as u128;
+    let high_rest = power - whole * high as u128;
+    let low_rest = power - whole * low as u128;
+    if (low as u128) < low_rest {
+        return Some((1, whole + 1));
+    }
+    let (more, numer) = simplest_between::<u64>(high_rest as u64, high, low_rest as u64, low)?;
+    Some((numer as u128, whole * numer as u128 + more as u128))
 }
 
 /// 2^127.

@@ -74,6 +74,8 @@ fn simplest_fractions() {
         simplest(0.5) == Some((1i64, 2)),
         simplest(-2.5) == Some((-5i64, 2)),
         simplest(1e-5) == Some((1i64, 100000)),
+        simplest(0.00011833266278157758) == Some((355i64, 3000017)),
+        simplest(7e-19) == Some((1i64, 1428571428571428411)),
         // Between its neighbours lies 3/10, which rounds to 0.3.
         simplest(0.30000000000000004) == Some((415716888680356i64, 1385722962267853)),
         simplest::<i64>(f64::NAN).is_none(),

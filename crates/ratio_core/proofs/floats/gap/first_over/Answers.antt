@@ -1,4 +1,4 @@
-use Rattle.std.specs.Prelude.{◌≡◌, ◌+◌, ◌-◌, ◌^◌, ◌*◌, ◌/◌, ◌%◌, ◌<◌}
+use Rattle.std.specs.Prelude.{◌-◌, ◌^◌, ◌<◌}
 use Rattle.std.proofs.Common.{arith}
 use Rattle.ratio_core.proofs.GapLemmas.{far_over, first_over_is, one_shifted, power_is, rest_shifted, sum_is, whole_past, sum_past}
 use Rattle.ratio_core.proofs.floats.gap.first_over.Goals as goal

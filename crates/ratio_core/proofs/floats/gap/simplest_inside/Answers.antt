@@ -1,10 +1,8 @@
-use Rattle.std.specs.Prelude.{◌^◌, ◌<◌, ◌≡◌}
 use Rattle.std.specs.Int.RustNames.{FitsSigned}
 use Rattle.std.proofs.Common.{arith, rules, ◌∙◌}
 use Rattle.std.proofs.lemmas.Int.{to_z-of_z}
 use Rattle.std.proofs.lemmas.Nat.{pow_pos}
 use mir.Syntax.{w128}
-use Rattle.ratio_core.specs.Floats.{with_sign}
 use Rattle.ratio_core.proofs.GapLemmas.{inside_none, inside_out, inside_some, most_of, numer_less}
 use Rattle.ratio_core.proofs.floats.gap.simplest_inside.Goals as goal
 

@@ -1,7 +1,6 @@
-use Rattle.std.specs.Prelude.{◌≡◌, ◌+◌, ◌≤◌, leb}
 use Rattle.std.specs.Bool.{passes}
 use Rattle.std.specs.Int.{w64}
-use Rattle.std.proofs.Common.{arith, sym}
+use Rattle.std.proofs.Common.{arith}
 use lib.Dec.{le→leb, leb→le}
 use lib.Ieee.Bits.{is_true}
 use Rattle.ratio_integer.proofs.Halving.{odd_part_is}

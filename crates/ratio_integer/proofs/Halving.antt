@@ -2,7 +2,7 @@
 use Rattle.std.specs.Prelude.{◌≡◌, ◌≢◌, ◌⊎◌, ◌+◌, ◌*◌, ◌-◌, ◌/◌, ◌%◌, ◌^◌, ◌<◌, ◌≤◌, ℕ, ℤ, zero, suc, pos, unsigned_abs, min}
 use Rattle.std.specs.Int.{◌∣◌, IsGcd, Width, abs_diff, bit_at, trailing_zeros}
 use Rattle.std.proofs.Common.{sym, ap, arith, ◌∙◌, inl, inr}
-use Rattle.std.proofs.Math.Nat.{dvd-mul_right, dvd-mul_right_of_dvd, mul-div_cancel, mul-div_cancel', pow-suc, add-mod_right, min-eq_left, min-eq_right, mod-eq_of_lt, mod-lt}
+use Rattle.std.proofs.Math.Nat.{dvd-mul_right, dvd-mul_right_of_dvd, mul-div_cancel, mul-div_cancel', pow-suc, add-mod_right, min-eq_left, min-eq_right, mod-eq_of_lt, mod-lt, one-dvd}
 use Rattle.std.proofs.lemmas.Nat.Gcd.{IsGcd-from_sub, IsGcd-swap, dvd_refl, le_of_dvd, same_from_IsGcd}
 use Rattle.std.proofs.lemmas.Nat.{mul-le, mod-pow-add, div-add-mod', pow-add, pow_pos}
 use Rattle.std.proofs.lemmas.Nat.Bits.{bit_at-trailing_zeros}
@@ -236,6 +236,12 @@ odd_step a b x y s d m k pair s-is d-is part = elim (cases_lt x y) [
 -- two equal numbers are their own greatest common divisor
 pub odd_ended : (a b x y : ℕ) → AreOdd a b x y → x ≡ y → IsGcd a b x
 odd_ended a b x y pair e = pair.same x (dvd_refl x, rw e (dvd_refl y), λ d p q. p)
+
+-- the greatest common divisor of 1 and another number is 1
+pub odd_one : (a b x y : ℕ) → AreOdd a b x y → x ≤ 1 → IsGcd a b 1
+odd_one a b x y pair below =
+    let one : x ≡ 1 = let odd = pair.left in omega arith in
+    pair.same 1 (one-dvd x, one-dvd y, λ d p q. rw one at p)
 
 -- ---- common factors of 2 come back at the end
 

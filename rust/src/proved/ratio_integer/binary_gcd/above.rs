@@ -4,8 +4,9 @@
 
 use crate::proved::ratio_integer::binary_gcd::odd_distance;
 
-/// The greatest common divisor of two odd numbers.
-/// It is `None` only if the divisor is at most `bound`: the divisor divides the smaller number of each step.
+/// The greatest common divisor of two odd numbers. It divides the smaller number of each step, so it is 1
+/// once that number is 1.
+/// The result is `None` only if the divisor is at most `bound`.
 ///
 /// # Conditions
 ///
@@ -15,11 +16,13 @@ use crate::proved::ratio_integer::binary_gcd::odd_distance;
 /// - `right`: `b % 2 ≡ 1`
 #[inline]
 pub(crate) fn odd_gcd_above(a: u64, b: u64, bound: u64) -> Option<u64> {
+    // One comparison a step tells both ends: `x` is at most the bound, or it is 1.
+    let limit = bound.max(1);
     let mut x = a;
     let mut y = b;
     while x != y {
-        if x <= bound {
-            return None;
+        if x <= limit {
+            return if bound == 0 { Some(1) } else { None };
         }
         let rest = odd_distance(x, y);
         x = x.min(y);

@@ -4,7 +4,8 @@
 
 use crate::proved::ratio_integer::binary_gcd::odd_distance;
 
-/// The greatest common divisor of two odd numbers.
+/// The greatest common divisor of two odd numbers. It divides the smaller number of each step, so it is 1
+/// once that number is 1.
 ///
 /// # Conditions
 ///
@@ -16,7 +17,7 @@ use crate::proved::ratio_integer::binary_gcd::odd_distance;
 pub(crate) fn odd_gcd(a: u64, b: u64) -> u64 {
     let mut x = a;
     let mut y = b;
-    while x != y {
+    while x != y && x != 1 {
         let rest = odd_distance(x, y);
         x = x.min(y);
         y = rest;

@@ -1,6 +1,6 @@
 -- Written by templates/write from templates/odd_gcd_answers.antt.txt: change that file, and write this one anew.
 use Rattle.std.proofs.Common.{arith, refl}
-use Rattle.ratio_integer.proofs.Halving.{odd_at_most, odd_bounded, odd_ended, odd_step}
+use Rattle.ratio_integer.proofs.Halving.{odd_at_most, odd_bounded, odd_ended, odd_one, odd_step}
 use Rattle.ratio_integer.proofs.binary_gcd.above_wide.odd_gcd_above_wide.Goals as goal
 use Rattle.ratio_integer.proofs.binary_gcd.above_wide.odd_gcd_above_wide.Goals.{in-None, in-Some}
 
@@ -10,8 +10,11 @@ steps-preserved c = odd_step _ _ _ _ _ _ _ _ c.steps.invariant c.min-x.ensures r
 pub returns : goal.returns
 returns c = odd_ended _ _ _ _ c.steps.invariant (omega arith)
 
-pub returns-then-x-bound : goal.returns-then-x-bound
-returns-then-x-bound c = odd_at_most _ _ _ _ _ c.steps.invariant c.if-x-bound.true
+pub returns-then-bound-eq0 : goal.returns-then-bound-eq0
+returns-then-bound-eq0 c = odd_one _ _ _ _ c.steps.invariant (omega arith)
+
+pub returns-else-bound-eq0 : goal.returns-else-bound-eq0
+returns-else-bound-eq0 c = odd_at_most _ _ _ _ _ c.steps.invariant (omega arith)
 
 pub returns-then-y : goal.returns-then-y
 returns-then-y c = elim c.match-odd_gcd_above.branch [

@@ -1,8 +1,9 @@
 //! The two types of floats, as the rounding needs them.
-ghost use Rattle.std.specs.Prelude.{◌≡◌, ◌*◌, ◌^◌, ◌<◌, ◌≤◌, ℕ, T, false, from_bits, is_nan, to_bits};
+ghost use Rattle.std.specs.Prelude.{◌≡◌, ◌*◌, ◌^◌, ◌<◌, ◌≤◌, ◌<ℤ◌, ℕ, T, false, from_bits, is_nan, pos, to_bits, unsigned_abs};
 ghost use Rattle.std.specs.Float.{Float, Format, binary32, binary64};
-ghost use Rattle.std.specs.Float.Ieee.{fits, hid, low, neg, ones, prec, round, top};
+ghost use Rattle.std.specs.Float.Ieee.{fits, hid, low, neg, ones, prec, top};
 ghost use Rattle.std.proofs.Common.{refl};
+ghost use Rattle.ratio_core.specs.Floats.{nearest_float};
 
 /// A type of floats.
 pub(crate) trait FloatType: Copy {
@@ -46,11 +47,11 @@ pub(crate) trait FloatType: Copy {
         ensures { value result ≡ from_bits format bits };
 
     /// The quotient, rounded once. Both numbers are floats, so that their conversion is exact.
-    fn quotient(n: u64, d: u64) -> Self
-        requires n_exact { n < 2 ^ DIGITS }
-        requires d_exact { d < 2 ^ DIGITS }
-        requires d_positive { 0 < d }
-        ensures { value result ≡ round format false n d };
+    fn quotient(n: i64, d: i64) -> Self
+        requires n_exact { unsigned_abs n < 2 ^ DIGITS }
+        requires d_exact { unsigned_abs d < 2 ^ DIGITS }
+        requires d_positive { pos 0 <ℤ d }
+        ensures { value result ≡ nearest_float format n d };
 
     /// The float with the other sign.
     fn negated(self) -> Self
@@ -98,7 +99,7 @@ impl FloatType for f64 {
         f64::from_bits(bits)
     }
 
-    fn quotient(n: u64, d: u64) -> f64 {
+    fn quotient(n: i64, d: i64) -> f64 {
         n as f64 / d as f64
     }
 
@@ -148,7 +149,7 @@ impl FloatType for f32 {
         f32::from_bits(bits as u32)
     }
 
-    fn quotient(n: u64, d: u64) -> f32 {
+    fn quotient(n: i64, d: i64) -> f32 {
         n as f32 / d as f32
     }
 

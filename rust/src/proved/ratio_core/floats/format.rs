@@ -42,10 +42,10 @@ pub(crate) trait FloatType: Copy {
     ///
     /// The proof requires of the caller:
     ///
-    /// - `n_exact`: `n < 2 ^ DIGITS`
-    /// - `d_exact`: `d < 2 ^ DIGITS`
-    /// - `d_positive`: `0 < d`
-    fn quotient(n: u64, d: u64) -> Self;
+    /// - `n_exact`: `unsigned_abs n < 2 ^ DIGITS`
+    /// - `d_exact`: `unsigned_abs d < 2 ^ DIGITS`
+    /// - `d_positive`: `pos 0 <ℤ d`
+    fn quotient(n: i64, d: i64) -> Self;
 
     /// The float with the other sign.
     fn negated(self) -> Self;
@@ -76,7 +76,7 @@ impl FloatType for f64 {
     }
 
     #[inline]
-    fn quotient(n: u64, d: u64) -> f64 {
+    fn quotient(n: i64, d: i64) -> f64 {
         n as f64 / d as f64
     }
 
@@ -111,7 +111,7 @@ impl FloatType for f32 {
     }
 
     #[inline]
-    fn quotient(n: u64, d: u64) -> f32 {
+    fn quotient(n: i64, d: i64) -> f32 {
         n as f32 / d as f32
     }
 

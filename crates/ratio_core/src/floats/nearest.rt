@@ -27,8 +27,7 @@ pub fn to_f32<T: Primitive>(numer: T, denom: T) -> f32
     nearest::<T, f32>(numer, denom)
 }
 
-// If both numbers are floats, one division gives the result. It takes the signs along, since a branch on a sign takes
-// more time than the division.
+// If both numbers are floats, one division gives the result. The sign decides no branch, since a processor cannot guess it.
 fn nearest<T: Primitive, F: FloatType>(numer: T, denom: T) -> F
     requires { pos 0 <ℤ T.value denom }
     ensures { F.value result ≡ nearest_float F.format (T.value numer) (T.value denom) }
@@ -57,12 +56,8 @@ pub(crate) fn by_digits<T: Primitive, F: FloatType>(numer: T, denom: T) -> F
     requires { pos 0 <ℤ T.value denom }
     ensures { F.value result ≡ nearest_float F.format (T.value numer) (T.value denom) }
 {
-    let size = F::of_bits(nearest_bits::<F>(magnitude(numer), magnitude(denom)));
-    if is_below_zero(numer) {
-        size.negated()
-    } else {
-        size
-    }
+    let bits = nearest_bits::<F>(magnitude(numer), magnitude(denom));
+    F::of_bits(bits, is_below_zero(numer))
 }
 
 // The bits of the float nearest to n/d.

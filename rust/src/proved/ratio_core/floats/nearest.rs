@@ -32,8 +32,7 @@ pub fn to_f32<T: Primitive>(numer: T, denom: T) -> f32 {
     nearest::<T, f32>(numer, denom)
 }
 
-// If both numbers are floats, one division gives the result. It takes the signs along, since a branch on a sign takes
-// more time than the division.
+// If both numbers are floats, one division gives the result. The sign decides no branch, since a processor cannot guess it.
 #[inline]
 fn nearest<T: Primitive, F: FloatType>(numer: T, denom: T) -> F {
     match (short::<T, F>(numer), short::<T, F>(denom)) {
@@ -63,12 +62,8 @@ fn short<T: Primitive, F: FloatType>(t: T) -> Option<i64> {
 /// - `pos 0 <ℤ T.value denom`
 #[inline]
 pub(crate) fn by_digits<T: Primitive, F: FloatType>(numer: T, denom: T) -> F {
-    let size = F::of_bits(nearest_bits::<F>(magnitude(numer), magnitude(denom)));
-    if is_below_zero(numer) {
-        size.negated()
-    } else {
-        size
-    }
+    let bits = nearest_bits::<F>(magnitude(numer), magnitude(denom));
+    F::of_bits(bits, is_below_zero(numer))
 }
 
 // The bits of the float nearest to n/d.

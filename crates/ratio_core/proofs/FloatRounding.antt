@@ -1,7 +1,7 @@
 -- From the leading digits of a quotient to the bits of the nearest float.
-use Rattle.std.specs.Prelude.{◌≡◌, ◌≢◌, ◌+◌, ◌-◌, ◌*◌, ◌/◌, ◌%◌, ◌^◌, ◌<◌, ◌≤◌, ◌<ℤ◌, ℕ, ℤ, zero, suc, pos, negsuc, unsigned_abs, Bool, true, false, max, nat_eq, nat_lt}
-use Rattle.std.specs.Float.{Float, Format}
-use Rattle.std.specs.Float.Ieee.{low, neg, prec, round}
+use Rattle.std.specs.Prelude.{◌≡◌, ◌≢◌, ◌+◌, ◌-◌, ◌*◌, ◌/◌, ◌%◌, ◌^◌, ◌<◌, ◌≤◌, ◌<ℤ◌, ℕ, ℤ, zero, suc, pos, negsuc, unsigned_abs, Bool, true, false, max, nat_eq, nat_lt, IsTrue, ◌↔◌}
+use Rattle.std.specs.Float.{Float, Format, float_with_sign}
+use Rattle.std.specs.Float.Ieee.{low, prec, round}
 use Rattle.std.proofs.Common.{refl, sym, ap, arith, ◌∙◌, subst}
 use Rattle.std.proofs.lemmas.Int.{ints}
 use Rattle.std.proofs.lemmas.Nat.{pow-add, pow_pos}
@@ -11,9 +11,10 @@ use lib.Pow.{shl_exact}
 use mir.Val.{bool_byte}
 use borrow.Author.Tests.{ltb-false, ltb-true}
 use Rattle.core.specs.Dec2flt.Rounding.{scaled_bits, IsCut, IsNearestBits, IsSignificand, IsWithin}
-use Rattle.core.proofs.dec2flt.Patterns.{neg-round, shape}
+use Rattle.core.proofs.dec2flt.Patterns.{shape}
 use Rattle.core.proofs.dec2flt.RoundingLemmas.{nearest_above, nearest_of_near, nearest_tie}
 use Rattle.core.proofs.dec2flt.Settle.{lies_above, rounds_down, rounds_up, significand_of}
+use Rattle.core.proofs.num.FloatSigns.{signed_round}
 use Rattle.ratio_core.specs.Floats.{IsCutQuotient, nearest_float}
 use Rattle.ratio_core.proofs.FloatQuotient.{factor_cut, without_factor}
 
@@ -122,9 +123,11 @@ nearest_zero f n d D none =
     let size : n * 2 ^ low f ≡ 0 = rw none (omega arith) in
     subst P bits (nearest_of_near f n d 0 0 D (omega arith) (λ above. absurd (omega (arith, above))) (λ above. absurd (omega (arith, above))) (omega (arith, size, one)) (omega (arith, size, one)))
 
-pub nearest_below_zero : (f : Format) (n d : ℤ) (x : Float) → n <ℤ pos 0 → x ≡ round f false (unsigned_abs n) (unsigned_abs d) → neg x ≡ nearest_float f n d
-nearest_below_zero f (pos n) d x below is = absurd (omega (arith, ints, below))
-nearest_below_zero f (negsuc n) d x below is = ap neg is ∙ neg-round f _ _
+pub nearest_with_sign : (f : Format) (n d : ℤ) (s : Bool) (x : Float) → (IsTrue s ↔ (n <ℤ pos 0)) → x ≡ round f false (unsigned_abs n) (unsigned_abs d) → float_with_sign s x ≡ nearest_float f n d
+nearest_with_sign f (pos n) d true x below is = (let less = below.0 refl in absurd (omega (arith, ints, less)))
+nearest_with_sign f (pos n) d false x below is = ap (float_with_sign false) is ∙ signed_round f false _ _
+nearest_with_sign f (negsuc n) d true x below is = ap (float_with_sign true) is ∙ signed_round f true _ _
+nearest_with_sign f (negsuc n) d false x below is = absurd (let no : false ≡ true = below.1 (omega (arith, ints)) in cc)
 
 -- ---- the zeros before a number
 

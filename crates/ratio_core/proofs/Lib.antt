@@ -25,6 +25,7 @@ pub mod FloatLawLemmas
 pub mod FloatParts
 pub mod FloatQuotient
 pub mod FloatRounding
+pub mod FloatSign
 pub mod Floored
 pub mod Following
 pub mod FractionOrder

@@ -3,9 +3,7 @@
 //! Proved calls find it. They require a positive denominator. For another one, this module passes on the magnitudes.
 use super::integer::{Element, Integer};
 use super::ratio::Ratio;
-use crate::proved::ratio_core::floats::format::FloatType;
 use crate::proved::ratio_core::floats::nearest;
-use crate::proved::ratio_core::sign::is_below_zero;
 use crate::proved::ratio_core::text::printing::magnitude;
 use crate::proved::ratio_integer::Primitive;
 use core::ops::Neg;
@@ -27,7 +25,7 @@ impl Float for f64 {
 
     #[inline]
     fn nearest<T: Primitive>(numer: T, denom: T) -> f64 {
-        if ROUNDS_ONCE { nearest::to_f64(numer, denom) } else { by_digits(numer, denom) }
+        if ROUNDS_ONCE { nearest::to_f64(numer, denom) } else { nearest::by_digits(numer, denom) }
     }
 }
 
@@ -36,14 +34,8 @@ impl Float for f32 {
 
     #[inline]
     fn nearest<T: Primitive>(numer: T, denom: T) -> f32 {
-        if ROUNDS_ONCE { nearest::to_f32(numer, denom) } else { by_digits(numer, denom) }
+        if ROUNDS_ONCE { nearest::to_f32(numer, denom) } else { nearest::by_digits(numer, denom) }
     }
-}
-
-/// The same without a division of floats.
-fn by_digits<T: Primitive, F: FloatType>(numer: T, denom: T) -> F {
-    let size = F::of_bits(nearest::nearest_bits::<F>(magnitude(numer), magnitude(denom)));
-    if is_below_zero(numer) { size.negated() } else { size }
 }
 
 impl<T: Integer> Ratio<T> {
@@ -54,7 +46,14 @@ impl<T: Integer> Ratio<T> {
         if T::NUMBER_0 < *self.denom() {
             return Some(F::nearest(numer, denom));
         }
-        let size = match (magnitude(numer), magnitude(denom)) {
+        self.nearest_float_over_others()
+    }
+
+    /// The same over a denominator that is not positive. It is a function of its own, so that the other one is short.
+    #[cold]
+    #[inline(never)]
+    fn nearest_float_over_others<F: Float>(&self) -> Option<F> {
+        let size = match (magnitude(self.numer().into_proved()), magnitude(self.denom().into_proved())) {
             (0, 0) => return None,
             (_, 0) => F::INFINITE,
             (numer, denom) => F::nearest(numer, denom),

@@ -1,8 +1,9 @@
 //! The two types of floats, as the rounding needs them.
-ghost use Rattle.std.specs.Prelude.{◌≡◌, ◌*◌, ◌^◌, ◌<◌, ◌≤◌, ℕ, T, false, from_bits, is_nan, to_bits};
-ghost use Rattle.std.specs.Float.{Float, Format, binary32, binary64};
-ghost use Rattle.std.specs.Float.Ieee.{fits, hid, low, neg, ones, prec, round, top};
+ghost use Rattle.std.specs.Prelude.{◌≡◌, ◌*◌, ◌^◌, ◌<◌, ◌≤◌, ◌<ℤ◌, ℕ, T, false, from_bits, is_nan, pos, to_bits, unsigned_abs};
+ghost use Rattle.std.specs.Float.{Float, Format, binary32, binary64, float_with_sign};
+ghost use Rattle.std.specs.Float.Ieee.{fits, hid, low, ones, prec, top};
 ghost use Rattle.std.proofs.Common.{refl};
+ghost use Rattle.ratio_core.specs.Floats.{nearest_float};
 
 /// A type of floats.
 pub(crate) trait FloatType: Copy {
@@ -40,21 +41,17 @@ pub(crate) trait FloatType: Copy {
         ensures bits { result ≡ to_bits format (value self) }
         ensures fits { T (fits format (value self)) };
 
-    /// The float of these bits.
-    fn of_bits(bits: u64) -> Self
+    /// The float of these bits and of this sign.
+    fn of_bits(bits: u64, is_negative: bool) -> Self
         requires { bits ≤ ones format * hid format }
-        ensures { value result ≡ from_bits format bits };
+        ensures { value result ≡ float_with_sign is_negative (from_bits format bits) };
 
     /// The quotient, rounded once. Both numbers are floats, so that their conversion is exact.
-    fn quotient(n: u64, d: u64) -> Self
-        requires n_exact { n < 2 ^ DIGITS }
-        requires d_exact { d < 2 ^ DIGITS }
-        requires d_positive { 0 < d }
-        ensures { value result ≡ round format false n d };
-
-    /// The float with the other sign.
-    fn negated(self) -> Self
-        ensures { value result ≡ neg (value self) };
+    fn quotient(n: i64, d: i64) -> Self
+        requires n_exact { unsigned_abs n < 2 ^ DIGITS }
+        requires d_exact { unsigned_abs d < 2 ^ DIGITS }
+        requires d_positive { pos 0 <ℤ d }
+        ensures { value result ≡ nearest_float format n d };
 
     ghost digits_law: { DIGITS ≡ prec format };
 
@@ -94,16 +91,12 @@ impl FloatType for f64 {
         self.to_bits()
     }
 
-    fn of_bits(bits: u64) -> f64 {
-        f64::from_bits(bits)
+    fn of_bits(bits: u64, is_negative: bool) -> f64 {
+        f64::from_bits(bits + ((is_negative as u64) << 63))
     }
 
-    fn quotient(n: u64, d: u64) -> f64 {
+    fn quotient(n: i64, d: i64) -> f64 {
         n as f64 / d as f64
-    }
-
-    fn negated(self) -> f64 {
-        -self
     }
 
     ghost digits_law = { refl };
@@ -144,16 +137,12 @@ impl FloatType for f32 {
         self.to_bits() as u64
     }
 
-    fn of_bits(bits: u64) -> f32 {
-        f32::from_bits(bits as u32)
+    fn of_bits(bits: u64, is_negative: bool) -> f32 {
+        f32::from_bits(bits as u32 + ((is_negative as u32) << 31))
     }
 
-    fn quotient(n: u64, d: u64) -> f32 {
+    fn quotient(n: i64, d: i64) -> f32 {
         n as f32 / d as f32
-    }
-
-    fn negated(self) -> f32 {
-        -self
     }
 
     ghost digits_law = { refl };

@@ -1,7 +1,6 @@
 //! The float nearest to a fraction.
-ghost use Rattle.std.specs.Prelude.{◌≡◌, ◌+◌, ◌*◌, ◌^◌, ◌<◌, ◌≤◌, ◌<ℤ◌, ℕ, false, pos};
+ghost use Rattle.std.specs.Prelude.{◌≡◌, ◌+◌, ◌*◌, ◌^◌, ◌<◌, ◌≤◌, ◌<ℤ◌, ℕ, IfSome, pos, unsigned_abs};
 ghost use Rattle.std.specs.Float.{binary32, binary64};
-ghost use Rattle.std.specs.Float.Ieee.{round};
 ghost use Rattle.core.specs.Dec2flt.Rounding.{IsCut, IsNearestBits, scaled_bits};
 ghost use Rattle.ratio_core.specs.Floats.{IsCutQuotient, nearest_float};
 
@@ -28,32 +27,41 @@ pub fn to_f32<T: Primitive>(numer: T, denom: T) -> f32
     nearest::<T, f32>(numer, denom)
 }
 
+// If both numbers are floats, one division gives the result. The sign decides no branch, since a processor cannot guess it.
 fn nearest<T: Primitive, F: FloatType>(numer: T, denom: T) -> F
     requires { pos 0 <ℤ T.value denom }
     ensures { F.value result ≡ nearest_float F.format (T.value numer) (T.value denom) }
 {
-    let size = nearest_size::<F>(magnitude(numer), magnitude(denom));
-    if is_below_zero(numer) {
-        size.negated()
-    } else {
-        size
+    match (short::<T, F>(numer), short::<T, F>(denom)) {
+        (Some(n), Some(d)) => F::quotient(n, d),
+        _ => by_digits(numer, denom),
     }
 }
 
-// The float nearest to n/d. If both numbers are floats, one division gives it, which takes less time.
-fn nearest_size<F: FloatType>(n: u128, d: u128) -> F
-    requires { 0 < d }
-    ensures { F.value result ≡ round F.format false n d }
+// The number, if it has at most the digits of a float.
+fn short<T: Primitive, F: FloatType>(t: T) -> Option<i64>
+    ensures { IfSome result (λ n. (n ≡ T.value t) × (unsigned_abs n < 2 ^ F.DIGITS)) }
 {
-    if n >> F::DIGITS == 0 && d >> F::DIGITS == 0 {
-        F::quotient(n as u64, d as u64)
+    let n = t.to_i128()?;
+    let end = 1 << F::DIGITS;
+    if -end < n && n < end {
+        Some(n as i64)
     } else {
-        F::of_bits(nearest_bits::<F>(n, d))
+        None
     }
 }
 
-/// The bits of the float nearest to n/d.
-pub(crate) fn nearest_bits<F: FloatType>(n: u128, d: u128) -> u64
+/// The float nearest to the fraction, without a division of floats.
+pub(crate) fn by_digits<T: Primitive, F: FloatType>(numer: T, denom: T) -> F
+    requires { pos 0 <ℤ T.value denom }
+    ensures { F.value result ≡ nearest_float F.format (T.value numer) (T.value denom) }
+{
+    let bits = nearest_bits::<F>(magnitude(numer), magnitude(denom));
+    F::of_bits(bits, is_below_zero(numer))
+}
+
+// The bits of the float nearest to n/d.
+fn nearest_bits<F: FloatType>(n: u128, d: u128) -> u64
     requires { 0 < d }
     ensures { IsNearestBits F.format n d result }
 {

@@ -27,14 +27,14 @@ pub(crate) trait FloatType: Copy {
     /// - `is_nan (value self) ≡ false`
     fn bits(self) -> u64;
 
-    /// The float of these bits.
+    /// The float of these bits and of this sign.
     ///
     /// # Conditions
     ///
     /// The proof requires of the caller:
     ///
     /// - `bits ≤ ones format * hid format`
-    fn of_bits(bits: u64) -> Self;
+    fn of_bits(bits: u64, is_negative: bool) -> Self;
 
     /// The quotient, rounded once. Both numbers are floats, so that their conversion is exact.
     ///
@@ -42,13 +42,10 @@ pub(crate) trait FloatType: Copy {
     ///
     /// The proof requires of the caller:
     ///
-    /// - `n_exact`: `n < 2 ^ DIGITS`
-    /// - `d_exact`: `d < 2 ^ DIGITS`
-    /// - `d_positive`: `0 < d`
-    fn quotient(n: u64, d: u64) -> Self;
-
-    /// The float with the other sign.
-    fn negated(self) -> Self;
+    /// - `n_exact`: `unsigned_abs n < 2 ^ DIGITS`
+    /// - `d_exact`: `unsigned_abs d < 2 ^ DIGITS`
+    /// - `d_positive`: `pos 0 <ℤ d`
+    fn quotient(n: i64, d: i64) -> Self;
 }
 
 impl FloatType for f64 {
@@ -71,18 +68,13 @@ impl FloatType for f64 {
     }
 
     #[inline]
-    fn of_bits(bits: u64) -> f64 {
-        f64::from_bits(bits)
+    fn of_bits(bits: u64, is_negative: bool) -> f64 {
+        f64::from_bits(bits + ((is_negative as u64) << 63))
     }
 
     #[inline]
-    fn quotient(n: u64, d: u64) -> f64 {
+    fn quotient(n: i64, d: i64) -> f64 {
         n as f64 / d as f64
-    }
-
-    #[inline]
-    fn negated(self) -> f64 {
-        -self
     }
 }
 
@@ -106,17 +98,12 @@ impl FloatType for f32 {
     }
 
     #[inline]
-    fn of_bits(bits: u64) -> f32 {
-        f32::from_bits(bits as u32)
+    fn of_bits(bits: u64, is_negative: bool) -> f32 {
+        f32::from_bits(bits as u32 + ((is_negative as u32) << 31))
     }
 
     #[inline]
-    fn quotient(n: u64, d: u64) -> f32 {
+    fn quotient(n: i64, d: i64) -> f32 {
         n as f32 / d as f32
-    }
-
-    #[inline]
-    fn negated(self) -> f32 {
-        -self
     }
 }

@@ -32,35 +32,43 @@ pub fn to_f32<T: Primitive>(numer: T, denom: T) -> f32 {
     nearest::<T, f32>(numer, denom)
 }
 
+// If both numbers are floats, one division gives the result. The sign decides no branch, since a processor cannot guess it.
 #[inline]
 fn nearest<T: Primitive, F: FloatType>(numer: T, denom: T) -> F {
-    let size = nearest_size::<F>(magnitude(numer), magnitude(denom));
-    if is_below_zero(numer) {
-        size.negated()
-    } else {
-        size
+    match (short::<T, F>(numer), short::<T, F>(denom)) {
+        (Some(n), Some(d)) => F::quotient(n, d),
+        _ => by_digits(numer, denom),
     }
 }
 
-// The float nearest to n/d. If both numbers are floats, one division gives it, which takes less time.
+// The number, if it has at most the digits of a float.
 #[inline]
-fn nearest_size<F: FloatType>(n: u128, d: u128) -> F {
-    if n >> F::DIGITS == 0 && d >> F::DIGITS == 0 {
-        F::quotient(n as u64, d as u64)
+fn short<T: Primitive, F: FloatType>(t: T) -> Option<i64> {
+    let n = t.to_i128()?;
+    let end = 1 << F::DIGITS;
+    if -end < n && n < end {
+        Some(n as i64)
     } else {
-        F::of_bits(nearest_bits::<F>(n, d))
+        None
     }
 }
 
-/// The bits of the float nearest to n/d.
+/// The float nearest to the fraction, without a division of floats.
 ///
 /// # Conditions
 ///
 /// The proof requires of the caller:
 ///
-/// - `0 < d`
+/// - `pos 0 <ℤ T.value denom`
 #[inline]
-pub(crate) fn nearest_bits<F: FloatType>(n: u128, d: u128) -> u64 {
+pub(crate) fn by_digits<T: Primitive, F: FloatType>(numer: T, denom: T) -> F {
+    let bits = nearest_bits::<F>(magnitude(numer), magnitude(denom));
+    F::of_bits(bits, is_below_zero(numer))
+}
+
+// The bits of the float nearest to n/d.
+#[inline]
+fn nearest_bits<F: FloatType>(n: u128, d: u128) -> u64 {
     if n == 0 {
         return 0;
     }

@@ -246,12 +246,12 @@ module _ (low high d w r s : ℕ) (r-is : w * high + r ≡ d) (s-is : w * low + 
         below = (let h : p * d < high * (w * p + x) = omega (arith, high_split, x_above) in omega (arith, ints, h));
       })
       (λ n b above below. (
-          let split : b - w * suc n + w * suc n ≡ b = omega (arith, under (suc n) b below) in
-          let turned = turned_over (suc n) b (b - w * suc n) (omega arith) split above below in
-          let fewer : p ≤ suc n = let h = is.denom _ _ turned in omega (arith, ints, h) in
-          let less : x ≤ b - w * suc n = is.numer _ _ turned in
-          let most : p * w ≤ suc n * w = mul-le-mul_right w fewer in
-          (omega (arith, split, less, most), fewer)))
+      let split : b - w * suc n + w * suc n ≡ b = omega (arith, under (suc n) b below) in
+      let turned = turned_over (suc n) b (b - w * suc n) (omega arith) split above below in
+      let fewer : p ≤ suc n = let h = is.denom _ _ turned in omega (arith, ints, h) in
+      let less : x ≤ b - w * suc n = is.numer _ _ turned in
+      let most : p * w ≤ suc n * w = mul-le-mul_right w fewer in
+      (omega (arith, split, less, most), fewer)))
 
   -- the fraction of both sums lies between
   pub reciprocal_held : (most : ℕ) → low < high → 0 < d → r + s ≤ most → high + low ≤ most → ¬ (HoldsNoneBetween (pos 0) (pos most) (pos r) (pos high) (pos s) (pos low))

@@ -14,10 +14,10 @@ returns-in_err-more c =
     let low_rest = rest_is c.args.power c.args.high c.args.low (omega (arith, c.requires.room)) in
     let less = rest_less c.args.power c.args.high (omega (arith, c.requires.room)) in
     absurd (reciprocal_held _ _ _ _ _ _ high_rest low_rest (2 ^ 64 - 1)
-        (omega (arith, c.requires.room)) c.requires.power
-        (omega (arith, less, c.requires.short, c.requires.room, c.if-low-low_rest.false))
-        (omega (arith, c.requires.short, c.requires.room))
-        c.in_err-more.ensures)
+    (omega (arith, c.requires.room)) c.requires.power
+    (omega (arith, less, c.requires.short, c.requires.room, c.if-low-low_rest.false))
+    (omega (arith, c.requires.short, c.requires.room))
+    c.in_err-more.ensures)
 
 pub returns : goal.returns
 returns c =

@@ -12,7 +12,8 @@
 //! The code that computes was proved in Rattle. `src/proved/` holds this code without its contracts. A layer written by hand,
 //! in `src/layer/`, tests what the proved calls require.
 //!
-//! Floats and the forms `{:e}` and `{:E}` are not proved. The layer computes them, and tests compare them with num-rational.
+//! `from_f64`, `from_f32`, `approximate_float` and the forms `{:e}` and `{:E}` are not proved. The layer computes them, and tests
+//! compare them with num-rational.
 #![cfg_attr(not(feature = "std"), no_std)]
 #![warn(missing_docs)]
 

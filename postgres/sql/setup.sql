@@ -1,4 +1,5 @@
--- What the tests below share.
+-- What the tests below share. The data of the server and its socket are in the folder of the tests.
+SELECT starts_with(current_setting('unix_socket_directories'), regexp_replace(current_setting('data_directory'), 'build/instance/data$', '')) AS in_the_folder;
 CREATE EXTENSION ratio;
 -- what a query refuses: the code, the message and the detail
 CREATE FUNCTION refusal(query text) RETURNS text LANGUAGE plpgsql AS $$

@@ -10,6 +10,7 @@ SET max_parallel_workers_per_gather = 0;
 SELECT min(r), max(r) FROM big WHERE r % 2 < 1;
 CREATE TABLE by_one AS TABLE answers;
 SET jit = on; SET jit_above_cost = 0; SET jit_inline_above_cost = 0; SET jit_optimize_above_cost = 0;
+SELECT pg_jit_available(), plan_has('TABLE answers', '^JIT:') AS by_jit;
 CREATE TABLE by_jit AS TABLE answers;
 RESET ALL;
 TABLE by_workers UNION TABLE by_one UNION TABLE by_jit;

@@ -32,3 +32,12 @@ UNION SELECT ratio(-9223372036854775808, n) FROM numbers WHERE n > 0;
 SELECT count(*) FROM hard;
 -- one of so many, the same ones in each run
 CREATE FUNCTION one_in(r ratio, many int) RETURNS boolean LANGUAGE sql IMMUTABLE AS $$ SELECT ('x' || substr(md5(r::text), 1, 7))::bit(28)::int % many = 0 $$;
+-- whether a plan has such a line, once its query has run
+CREATE FUNCTION plan_has(query text, such text) RETURNS boolean LANGUAGE plpgsql AS $$
+DECLARE line text;
+BEGIN
+    FOR line IN EXECUTE 'EXPLAIN ANALYZE ' || query LOOP
+        IF line ~ such THEN RETURN true; END IF;
+    END LOOP;
+    RETURN false;
+END $$;

@@ -26,6 +26,12 @@ SELECT sum(r), avg(r) FROM big;
 CREATE TABLE by_workers AS TABLE answers;
 SELECT count(*) FROM (TABLE by_one EXCEPT TABLE by_workers) other;
 SELECT refusal('SELECT sum(ratio(1, i)) FROM big WHERE i <= 1000');
+-- so does the JIT compiler, in each worker
+SET jit = on; SET jit_above_cost = 0; SET jit_inline_above_cost = 0; SET jit_optimize_above_cost = 0;
+SELECT plan_has('TABLE answers', '^JIT:') AS by_jit, plan_has('TABLE answers', 'Partial .*Aggregate') AS by_workers;
+CREATE TABLE by_jit AS TABLE answers;
+SELECT count(*) FROM (TABLE by_one EXCEPT TABLE by_jit) other;
+RESET ALL;
 -- so do partial sums of partitions
 SET max_parallel_workers_per_gather = 0; SET enable_partitionwise_aggregate = on;
 CREATE TABLE parted (i int, part int, r ratio) PARTITION BY HASH (r);
@@ -56,4 +62,4 @@ SELECT account, ratio(account + 1, 100) * part / 1000 AS share FROM generate_ser
 SELECT count(*), sum(share) FROM ledger;
 SELECT count(*) AS accounts, bool_and(total = ratio(account + 1, 100)) AS each_is_whole FROM (SELECT account, sum(share) AS total FROM ledger GROUP BY account) sums;
 DROP VIEW answers;
-DROP TABLE big, by_one, by_workers, parted, pairs, ledger;
+DROP TABLE big, by_one, by_workers, by_jit, parted, pairs, ledger;

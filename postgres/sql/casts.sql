@@ -47,6 +47,7 @@ UPDATE prices SET price = '-1/3'::ratio WHERE price = 5;
 TABLE prices;
 DROP TABLE prices;
 SELECT pg_typeof(0.5 + 1), refusal('SELECT 0.5 + ''1/2''::ratio'), refusal('SELECT 0.5::float8 + ''1/2''::ratio');
+SELECT '1/2'::ratio > '0.5' AS gt, ratio_between('0.5', 1), refusal('SELECT ''1/2''::ratio > 0.5'), refusal('SELECT ratio_between(0.5, 1)');
 SELECT castsource::regtype, casttarget::regtype, castcontext, castmethod FROM pg_cast WHERE 'ratio'::regtype IN (castsource, casttarget) ORDER BY 1, 2;
 -- rounded to places, a half away from zero
 SELECT ratio_round('2/3', 2), ratio_round('-1/200', 2), ratio_round('1/8', 2), ratio_round('1/2', 0), ratio_round('1/2', 3), ratio_round('1/3', 18), ratio_round(5, 2),

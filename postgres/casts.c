@@ -67,7 +67,7 @@ CALL(ratio_from_numeric)
 
 	ratio_read_decimal_i64((const uint8_t *) text, span.end, &span, 1, &answer, 1);
 	if (unlikely(answer.code != RATIO_ANSWERED))
-		refuse(RATIO_NOT_HELD, psprintf("ratio(%s)", text));
+		refuse(RATIO_NOT_HELD, psprintf("ratio(%.60s%s)", text, strlen(text) > 60 ? ".." : ""));
 	return new_value(answer.value);
 }
 

@@ -20,6 +20,8 @@ SELECT count(*) AS wrong FROM (SELECT (i * 7919 % 100003 - 50000) / 10.0 ^ (i % 
 WHERE round(x, 9)::ratio::text <> lowest(round(x, 9) * 1000000000, 1000000000);
 SELECT x, refusal(format('SELECT (%s)::numeric::ratio', x)) FROM unnest(ARRAY['9223372036854775808', '-9223372036854775809', '1e-19', '1e-40', '1e40', '''NaN''',
     '''Infinity''', '''-Infinity''', '0.1234567890123456789']) x;
+-- the error shows at most 60 characters
+SELECT x, refusal(format('SELECT (%s)::ratio', x)) FROM unnest(ARRAY['1e59', '1e60', '-1e100000']) x;
 -- as many digits as there are: 5/2^52, and 1/2^62
 SELECT 0.0000000000000011102230246251565404236316680908203125::ratio, 0.00000000000000000021684043449710088680149056017398834228515625::ratio;
 -- from float8, exactly or not at all, and the simplest fraction that rounds to one

@@ -50,6 +50,9 @@ SELECT i, sum(r) OVER w, avg(r) OVER w FROM (VALUES (1, '1/2'::ratio), (2, NULL)
 SELECT count(*), count(*) FILTER (WHERE moving <> (SELECT sum(b.r) FROM big b WHERE b.i BETWEEN m.i - 9 AND m.i)
     OR mean <> (SELECT avg(b.r) FROM big b WHERE b.i BETWEEN m.i - 9 AND m.i)) AS wrong
 FROM (SELECT i, sum(r) OVER w AS moving, avg(r) OVER w AS mean FROM big WHERE i <= 300 WINDOW w AS (ORDER BY i ROWS 9 PRECEDING)) m;
+-- not by a distance in values; by a number of groups
+SELECT refusal('SELECT sum(r) OVER (ORDER BY r RANGE ''1/2'' PRECEDING) FROM hard');
+SELECT r, sum(r) OVER (ORDER BY r GROUPS 1 PRECEDING) FROM unnest('{1/2,1/3,1/2,1/6}'::ratio[]) r;
 -- Whether a sum of many unlike denominators is held may depend on the order of the rows, and its value never does. The fractions below
 -- are 1/p for large primes p, and their negatives: in pairs each sum on the way is small, and in the other order it leaves 128 bits.
 CREATE TABLE pairs AS SELECT p, s, ratio(s, p) AS r FROM unnest('{9223372036854775783,9223372036854775643,9223372036854775549,9223372036854775507}'::int8[]) p, unnest('{1,-1}'::int[]) s;

@@ -7,9 +7,7 @@
 static Datum
 whole(int64 n)
 {
-	Ratio		x = {n, 1};
-
-	return new_value(x);
+	return new_value((Ratio) {n, 1});
 }
 
 CALL(ratio_from_int2) { return whole(PG_GETARG_INT16(0)); }
@@ -69,15 +67,15 @@ CALL(ratio_from_numeric)
 
 	ratio_read_decimal_i64((const uint8_t *) text, span.end, &span, 1, &answer, 1);
 	if (unlikely(answer.code != RATIO_ANSWERED))
-		refuse(RATIO_NOT_HELD, psprintf("ratio(%s)", text));
+		refuse(RATIO_NOT_HELD, psprintf("ratio(%.60s%s)", text, strlen(text) > 60 ? ".." : ""));
 	return new_value(answer.value);
 }
 
-/* The text of a decimal with so many places, a half away from zero, as numeric rounds. */
+/* The text of a decimal with so many places. */
 static char *
-decimal(FunctionCallInfo fcinfo, int32 places, const char *name)
+decimal(FunctionCallInfo fcinfo, int32 places, uint32 rule, const char *name)
 {
-	ratio_decimal_i64 asked = {*ARG(0), places, RATIO_RULE_HALF_AWAY};
+	ratio_decimal_i64 asked = {*ARG(0), places, rule};
 	char	   *text = palloc(RATIO_DECIMAL_ROOM_I64 + 1);
 	ratio_text	place;
 
@@ -88,12 +86,25 @@ decimal(FunctionCallInfo fcinfo, int32 places, const char *name)
 	return text;
 }
 
+/* The numeric that a text writes. The typmod of numeric(p, s) rounds it to s places and refuses more than p digits; with -1 it stays as it is. */
 static Datum
-decimal_number(FunctionCallInfo fcinfo, int32 places, const char *name)
+number(const char *text, int32 typmod)
 {
-	return DirectFunctionCall3(numeric_in, CStringGetDatum(decimal(fcinfo, places, name)), ObjectIdGetDatum(InvalidOid), Int32GetDatum(-1));
+	return DirectFunctionCall3(numeric_in, CStringGetDatum(text), ObjectIdGetDatum(InvalidOid), Int32GetDatum(typmod));
 }
 
-CALL(ratio_decimal) { PG_RETURN_TEXT_P(cstring_to_text(decimal(fcinfo, PG_GETARG_INT32(1), "ratio_decimal"))); }
-CALL(ratio_round_places) { return decimal_number(fcinfo, PG_GETARG_INT32(1), "ratio_round"); }
-CALL(ratio_to_numeric) { return DirectFunctionCall1(numeric_trim_scale, decimal_number(fcinfo, 16, "numeric")); }
+/* A half away from zero, as numeric rounds. */
+CALL(ratio_decimal) { PG_RETURN_TEXT_P(cstring_to_text(decimal(fcinfo, PG_GETARG_INT32(1), RATIO_RULE_HALF_AWAY, "ratio_decimal"))); }
+CALL(ratio_round_places) { return number(decimal(fcinfo, PG_GETARG_INT32(1), RATIO_RULE_HALF_AWAY, "ratio_round"), -1); }
+
+/* The cast to numeric, to 16 places, and to numeric(p, s), rounded once, to s places: the lower 11 bits of the typmod. If s is below 0, the
+ * library cuts to a whole number, and numeric_in rounds that. To tens, 14.9 is cut to 14 and gives 10, and 15.2 is cut to 15 and gives 20. */
+CALL(ratio_to_numeric)
+{
+	int32		typmod = PG_GETARG_INT32(1);
+	bool		is_plain = typmod < VARHDRSZ;
+	int32		places = is_plain ? 16 : (((typmod - VARHDRSZ) & 0x7ff) ^ 1024) - 1024;
+	char	   *text = decimal(fcinfo, Max(places, 0), places < 0 ? RATIO_RULE_DOWN : RATIO_RULE_HALF_AWAY, "numeric");
+
+	return is_plain ? DirectFunctionCall1(numeric_trim_scale, number(text, -1)) : number(text, typmod);
+}

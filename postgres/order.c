@@ -1,15 +1,9 @@
-/* Order, equality and hashes: for operators, indexes, joins and partitions. */
+/* Order, equality and hashes: for operators, indexes, joins and partitions. Only a damaged value is refused here. The error names no
+ * value, since these functions are leakproof. */
 #include "glue.h"
 
 #include "common/hashfn.h"
 #include "utils/sortsupport.h"
-
-/* Only a damaged value is refused here. The error names no value: these functions are leakproof. */
-static pg_noinline void
-refuse_damaged(const char *call)
-{
-	refuse(RATIO_DENOMINATOR_NOT_POSITIVE, call);
-}
 
 static inline int
 order_of(const Ratio *x, const Ratio *y)
@@ -19,7 +13,7 @@ order_of(const Ratio *x, const Ratio *y)
 
 	ratio_compare_i64(&pair, 1, &order, 1);
 	if (unlikely(order.code != RATIO_ANSWERED))
-		refuse_damaged("a comparison");
+		refuse(RATIO_DENOMINATOR_NOT_POSITIVE, "a comparison");
 	return order.order;
 }
 
@@ -62,7 +56,7 @@ short_key(Datum x, SortSupport sort)
 
 	ratio_key_i64((const Ratio *) DatumGetPointer(x), 1, &key, 1);
 	if (unlikely(key.code != RATIO_ANSWERED))
-		refuse_damaged("a key");
+		refuse(RATIO_DENOMINATOR_NOT_POSITIVE, "a key");
 	return Int64GetDatum(key.key);
 }
 
@@ -96,7 +90,7 @@ hash_of(const Ratio *x)
 
 	ratio_hash_lowest_i64(x, 1, &hash, 1);
 	if (unlikely(hash.code != RATIO_ANSWERED))
-		refuse_damaged("a hash");
+		refuse(RATIO_DENOMINATOR_NOT_POSITIVE, "a hash");
 	return hash.hash;
 }
 

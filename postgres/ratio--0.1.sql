@@ -21,8 +21,9 @@ CREATE FUNCTION ratio(int8) RETURNS ratio AS 'MODULE_PATHNAME', 'ratio_from_int8
 CREATE CAST (int8 AS ratio) WITH FUNCTION ratio(int8) AS IMPLICIT;
 CREATE FUNCTION ratio(numeric) RETURNS ratio AS 'MODULE_PATHNAME', 'ratio_from_numeric' LANGUAGE C IMMUTABLE STRICT PARALLEL SAFE;
 CREATE CAST (numeric AS ratio) WITH FUNCTION ratio(numeric) AS ASSIGNMENT;
-CREATE FUNCTION "numeric"(ratio) RETURNS numeric AS 'MODULE_PATHNAME', 'ratio_to_numeric' LANGUAGE C IMMUTABLE STRICT PARALLEL SAFE;
-CREATE CAST (ratio AS numeric) WITH FUNCTION "numeric"(ratio) AS ASSIGNMENT;
+-- PostgreSQL hands over the typmod, so that numeric(p, s) rounds once. Not "numeric", which takes (numeric, int4): "numeric"(1, 2) would be ambiguous.
+CREATE FUNCTION ratio_to_numeric(ratio, int4) RETURNS numeric AS 'MODULE_PATHNAME' LANGUAGE C IMMUTABLE STRICT PARALLEL SAFE;
+CREATE CAST (ratio AS numeric) WITH FUNCTION ratio_to_numeric(ratio, int4) AS ASSIGNMENT;
 CREATE FUNCTION ratio(float8) RETURNS ratio AS 'MODULE_PATHNAME', 'ratio_from_float8' LANGUAGE C IMMUTABLE STRICT PARALLEL SAFE;
 CREATE CAST (float8 AS ratio) WITH FUNCTION ratio(float8);
 CREATE FUNCTION float8(ratio) RETURNS float8 AS 'MODULE_PATHNAME', 'ratio_to_float8' LANGUAGE C IMMUTABLE STRICT PARALLEL SAFE;

@@ -26,6 +26,9 @@ new_folder() {
   work=$(mktemp -d)
   trap 'rm -rf "$work"' EXIT
   chmod 755 "$work"
+  # The compiler's temporary files and the socket of pg_regress go there.
+  mkdir -m 1777 "$work/tmp"
+  export TMPDIR=$work/tmp
 }
 
 is_proved() {
@@ -43,7 +46,10 @@ choose_library() {
   else
     [ -e "$top/rust/c/build" ] || stop "there is no library: set LIBRATIO"
     tar -C "$top" --exclude=target -cf - rust | tar -C "$work" -xf -
-    "$work/rust/c/build" || stop "cargo built no library"
+    # cargo writes into its own folder, too. Its settings, such as a mirror of crates.io, come along.
+    mkdir "$work/cargo"
+    cp "${CARGO_HOME:-${HOME:-}/.cargo}"/config{,.toml} "$work/cargo/" 2>/dev/null || true
+    CARGO_HOME=$work/cargo "$work/rust/c/build" || stop "cargo built no library"
     library=$work/rust/c/target/release/libratio_c.a
     echo "$me: over the library that cargo built of rust/c, which is not proved on this machine"
   fi

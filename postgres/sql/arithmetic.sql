@@ -11,7 +11,7 @@ SELECT ratio_nearest('355/113', 10), ratio_nearest('355/113', 112), ratio_neares
 -- each error has its code, and names the operands
 SELECT q, refusal('SELECT ' || q) FROM unnest(ARRAY['9223372036854775807::ratio + 1', '''-9223372036854775808''::ratio - ''1/2''', '''1/4294967296''::ratio * ''1/4294967296''',
     '9223372036854775807::ratio / ''1/2''', '''1/2''::ratio / 0', '0::ratio / 0', '''1/2''::ratio % 0', '- ''-9223372036854775808''::ratio', 'abs(''-9223372036854775808''::ratio)',
-    'ratio_power(0, -1)', 'ratio_power(3, 40)', 'ratio_power(''1/2'', 64)', 'ratio_nearest(''1/2'', 0)', 'ratio_nearest(''1/2'', -1)']) q;
+    'ratio_power(0, -1)', 'ratio_power(3, 40)', 'ratio_power(''1/2'', 64)', 'ratio_nearest(''1/2'', 0)', 'ratio_nearest(''1/2'', -1)', 'ceiling(''1/2''::ratio)']) q;
 -- beside numeric: each operator over pairs of hard fractions gives the lowest terms, and refuses only what does not fit
 CREATE FUNCTION got(operator text, a ratio, b ratio) RETURNS text LANGUAGE plpgsql AS $$
 BEGIN

@@ -28,6 +28,10 @@ DO $$ BEGIN
     END LOOP;
 END $$;
 SELECT count(*), min(place) FILTER (WHERE place > 0), bool_and(place = ratio(1, i)) FILTER (WHERE i > 0) AS as_simple FROM at_end;
+-- PostgreSQL's own check of an index that grew row by row
+CREATE EXTENSION amcheck;
+SELECT bt_index_parent_check('at_end_pkey', true, true);
+DROP EXTENSION amcheck;
 -- always between the last two: each place is the simplest one, and at last none fits
 CREATE FUNCTION zigzag() RETURNS text LANGUAGE plpgsql AS $$
 DECLARE low ratio := 0; high ratio := 1; middle ratio; steps int := 0;

@@ -20,6 +20,8 @@ SELECT count(*) AS wrong FROM (SELECT (i * 7919 % 100003 - 50000) / 10.0 ^ (i % 
 WHERE round(x, 9)::ratio::text <> lowest(round(x, 9) * 1000000000, 1000000000);
 SELECT x, refusal(format('SELECT (%s)::numeric::ratio', x)) FROM unnest(ARRAY['9223372036854775808', '-9223372036854775809', '1e-19', '1e-40', '1e40', '''NaN''',
     '''Infinity''', '''-Infinity''', '0.1234567890123456789']) x;
+-- the error shows at most 60 characters
+SELECT x, refusal(format('SELECT (%s)::ratio', x)) FROM unnest(ARRAY['1e59', '1e60', '-1e100000']) x;
 -- as many digits as there are: 5/2^52, and 1/2^62
 SELECT 0.0000000000000011102230246251565404236316680908203125::ratio, 0.00000000000000000021684043449710088680149056017398834228515625::ratio;
 -- from float8, exactly or not at all, and the simplest fraction that rounds to one
@@ -31,10 +33,23 @@ SELECT refusal('INSERT INTO kept (r) VALUES (0.5::float8)'), ratio_rationalize(N
 SELECT r, r::float8 FROM unnest('{1/3,-1/10,0,9007199254740993,9007199254740995,-9223372036854775808,1/9223372036854775807}'::ratio[]) r;
 SELECT count(*) AS wrong FROM hard WHERE r::float8 <> (numerator(r)::numeric / denominator(r)::numeric(60, 40))::float8 AND abs(numerator(r)::numeric) < 2 ^ 53 AND denominator(r) < 2 ^ 53;
 SELECT count(*) AS wrong FROM generate_series(1, 200) n, generate_series(1, 200) d WHERE ratio_rationalize(n / d::float8) <> ratio(n, d) OR ratio(n, d)::float8 <> n / d::float8;
--- to numeric, to 16 places, a half away from zero, without trailing zeros
+-- to numeric, to 16 places, a half away from zero, without zeros at the end
 SELECT r, r::numeric FROM unnest('{3/4,-1/3,2/3,1/20000000000000000,-1/20000000000000000,1/20000000000000001,100,0,-9223372036854775808,9223372036854775807/2}'::ratio[]) r;
 SELECT count(*) AS wrong FROM hard WHERE r::numeric <> round(numerator(r)::numeric / denominator(r)::numeric(60, 40), 16);
+-- to numeric(p, s), rounded once, to s places. Rounded to 16 places first, 0.004999999999999999 would become 0.01
+SELECT '4999999999999999/1000000000000000000'::ratio::numeric(5,2), '-4999999999999999/1000000000000000000'::ratio::numeric(5,2), '1/200'::ratio::numeric(5,2), '-1/200'::ratio::numeric(5,2);
+SELECT r::numeric(3,0), ratio_round(r, 0), r::int8 FROM (SELECT '99999999999999999/200000000000000000'::ratio) x(r);
+SELECT r, r::numeric(3,-2) FROM unnest('{9223372036854775799/184467440737095516,50,-9223372036854775799/184467440737095516,-50,299/2,150}'::ratio[]) r;
+SELECT '1/3'::ratio::numeric(30,20), '2/3'::ratio::numeric(38,38), '1/3'::ratio::numeric(3), '3/4'::ratio::numeric(5,4), '{1/3,-2/3}'::ratio[]::numeric(5,2)[];
+SELECT q, refusal('SELECT ' || q) FROM unnest(ARRAY['''1999/2''::ratio::numeric(3,0)', '''9994/10''::ratio::numeric(3,0)', '1000::ratio::numeric(5,2)', '''1/3''::ratio::numeric(50,39)',
+    '''1/3''::ratio::numeric(50,38)']) q;
+CREATE TABLE prices (price numeric(5,2));
+INSERT INTO prices VALUES ('4999999999999999/1000000000000000000'::ratio), ('2/3'::ratio), (5::ratio);
+UPDATE prices SET price = '-1/3'::ratio WHERE price = 5;
+TABLE prices;
+DROP TABLE prices;
 SELECT pg_typeof(0.5 + 1), refusal('SELECT 0.5 + ''1/2''::ratio'), refusal('SELECT 0.5::float8 + ''1/2''::ratio');
+SELECT '1/2'::ratio > '0.5' AS gt, ratio_between('0.5', 1), refusal('SELECT ''1/2''::ratio > 0.5'), refusal('SELECT ratio_between(0.5, 1)');
 SELECT castsource::regtype, casttarget::regtype, castcontext, castmethod FROM pg_cast WHERE 'ratio'::regtype IN (castsource, casttarget) ORDER BY 1, 2;
 -- rounded to places, a half away from zero
 SELECT ratio_round('2/3', 2), ratio_round('-1/200', 2), ratio_round('1/8', 2), ratio_round('1/2', 0), ratio_round('1/2', 3), ratio_round('1/3', 18), ratio_round(5, 2),
@@ -43,10 +58,13 @@ SELECT ratio_decimal('2/3', 2), ratio_decimal('-1/200', 2), ratio_decimal('-1/30
 SELECT q, refusal('SELECT ratio_round' || q), refusal('SELECT ratio_decimal' || q) FROM unnest(ARRAY['(''1/3'', -1)', '(''1/3'', 39)']) q;
 -- as numeric does: over hard fractions and over multiples of 1/2000
 CREATE FUNCTION numeric_rounded(n numeric, d numeric, places int) RETURNS text LANGUAGE SQL AS $$
-    SELECT round(sign(n) * div(2 * abs(n) * ('1e' || places)::numeric + d, 2 * d) * ('1e-' || places)::numeric, places)::text;
+    SELECT round(sign(n) * div(2 * abs(n) * ('1e' || places)::numeric + d, 2 * d) * ('1e' || -places)::numeric, places)::text;
 $$;
 SELECT count(*), count(*) FILTER (WHERE ratio_round(r, places)::text <> wanted) AS wrong, count(*) FILTER (WHERE ratio_decimal(r, places)::numeric <> wanted::numeric) AS other
 FROM (SELECT r, places, numeric_rounded(numerator(r), denominator(r), places) AS wanted
     FROM (TABLE hard UNION ALL SELECT ratio(i, 2000) FROM generate_series(-300, 300) i) f(r), unnest('{0,1,2,3,9,17,18,38}'::int[]) places) compared;
+SELECT count(*), count(*) FILTER (WHERE ratio_to_numeric(r, typmod)::text <> numeric_rounded(numerator(r), denominator(r), places)) AS wrong
+FROM (TABLE hard UNION ALL SELECT ratio(i, 2) FROM generate_series(-300, 300) i) f(r), unnest('{-20,-18,-2,-1,0,1,2,3,9,17,18,38}'::int[]) places,
+    LATERAL (SELECT (60 << 16) + (places & 2047) + 4) t(typmod);
 DROP FUNCTION numeric_rounded;
 DROP TABLE kept;

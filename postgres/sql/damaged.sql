@@ -4,9 +4,9 @@ CREATE CAST (point AS ratio) WITHOUT FUNCTION;
 CREATE TABLE damaged (name text, r ratio);
 INSERT INTO damaged VALUES ('0/0', point(0, 0)::ratio), ('below 0', point(0, -1)::ratio), ('both', point(-1, -1)::ratio);
 SELECT name, call, refusal(format('SELECT %s FROM damaged WHERE name = %L', replace(call, 'r', 'damaged.r'), name)) FROM damaged,
-    unnest('{r + 1,r - 1,r * 2,r / 2,1 / r,r % 2,1 % r,- r,r < 1,r >= 1,1 > r}'::text[]) call ORDER BY name, call;
+    unnest('{r + 1,r - 1,r * 2,r / 2,1 / r,r % 2,1 % r,- r,r < 1,r >= 1,1 > r,r = 1,r <> 1}'::text[]) call ORDER BY name, call;
 SELECT name, call, refusal(format('SELECT %s(r) FROM damaged WHERE name = %L', call, name)) FROM damaged,
-    unnest('{abs,sign,floor,ceil,round,trunc,int8,float8,ratio_hash}'::text[]) call ORDER BY name, call;
+    unnest('{abs,sign,floor,ceil,round,trunc,int8,float8,ratio_hash,numerator,denominator,ratio_send}'::text[]) call ORDER BY name, call;
 SELECT name, refusal(format('SELECT r::text FROM damaged WHERE name = %L', name)) FROM damaged ORDER BY name;
 SELECT refusal('SELECT ratio_power(r, 2) FROM damaged'), refusal('SELECT ratio_nearest(r, 2) FROM damaged'), refusal('SELECT r FROM damaged ORDER BY r');
 SELECT refusal('SELECT sum(r) FROM damaged'), refusal('SELECT avg(r) FROM damaged');

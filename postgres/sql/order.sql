@@ -47,6 +47,12 @@ SELECT count(*) AS wrong FROM (SELECT r, lag(r) OVER (ORDER BY r) AS before FROM
 WHERE numerator(before)::numeric * denominator(r) > numerator(r)::numeric * denominator(before);
 SELECT count(*) AS wrong FROM (SELECT r, lag(r) OVER (ORDER BY r DESC NULLS LAST) AS before FROM t) sorted
 WHERE numerator(before)::numeric * denominator(r) < numerator(r)::numeric * denominator(before);
+-- so are those of a sort that goes to disk
+SET work_mem = '64kB'; SET enable_indexscan = off; SET enable_indexonlyscan = off;
+SELECT plan_has('SELECT r FROM t ORDER BY r', 'Sort Method: external merge') AS on_disk;
+SELECT count(*), count(*) FILTER (WHERE numerator(before)::numeric * denominator(r) > numerator(r)::numeric * denominator(before)) AS wrong
+FROM (SELECT r, lag(r) OVER () AS before FROM (SELECT r FROM t ORDER BY r) s) sorted;
+RESET ALL;
 -- fractions so near to one another that the first 56 digits of their values are the same
 SELECT count(*), count(*) FILTER (WHERE i <> place) AS wrong FROM (SELECT i, row_number() OVER (ORDER BY ratio(9223372036854775807 - 1000 + i, 9223372036854775807 - 999 + i)) AS place
     FROM generate_series(1, 999) i) sorted;

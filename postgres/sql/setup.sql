@@ -1,4 +1,6 @@
--- What the tests below share.
+-- What the tests below share. The data of the server and its socket are in the folder of the tests, and no table is vacuumed meanwhile.
+SELECT starts_with(current_setting('unix_socket_directories'), regexp_replace(current_setting('data_directory'), 'build/instance/data$', '')) AS in_the_folder,
+    current_setting('autovacuum') AS autovacuum;
 CREATE EXTENSION ratio;
 -- what a query refuses: the code, the message and the detail
 CREATE FUNCTION refusal(query text) RETURNS text LANGUAGE plpgsql AS $$
@@ -30,3 +32,12 @@ UNION SELECT ratio(-9223372036854775808, n) FROM numbers WHERE n > 0;
 SELECT count(*) FROM hard;
 -- one of so many, the same ones in each run
 CREATE FUNCTION one_in(r ratio, many int) RETURNS boolean LANGUAGE sql IMMUTABLE AS $$ SELECT ('x' || substr(md5(r::text), 1, 7))::bit(28)::int % many = 0 $$;
+-- whether a plan has such a line, once its query has run
+CREATE FUNCTION plan_has(query text, such text) RETURNS boolean LANGUAGE plpgsql AS $$
+DECLARE line text;
+BEGIN
+    FOR line IN EXECUTE 'EXPLAIN ANALYZE ' || query LOOP
+        IF line ~ such THEN RETURN true; END IF;
+    END LOOP;
+    RETURN false;
+END $$;

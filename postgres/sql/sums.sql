@@ -26,6 +26,12 @@ SELECT sum(r), avg(r) FROM big;
 CREATE TABLE by_workers AS TABLE answers;
 SELECT count(*) FROM (TABLE by_one EXCEPT TABLE by_workers) other;
 SELECT refusal('SELECT sum(ratio(1, i)) FROM big WHERE i <= 1000');
+-- so does the JIT compiler, in each worker
+SET jit = on; SET jit_above_cost = 0; SET jit_inline_above_cost = 0; SET jit_optimize_above_cost = 0;
+SELECT plan_has('TABLE answers', '^JIT:') AS by_jit, plan_has('TABLE answers', 'Partial .*Aggregate') AS by_workers;
+CREATE TABLE by_jit AS TABLE answers;
+SELECT count(*) FROM (TABLE by_one EXCEPT TABLE by_jit) other;
+RESET ALL;
 -- so do partial sums of partitions
 SET max_parallel_workers_per_gather = 0; SET enable_partitionwise_aggregate = on;
 CREATE TABLE parted (i int, part int, r ratio) PARTITION BY HASH (r);
@@ -39,21 +45,30 @@ RESET ALL;
 -- windows that move: each gives the sum and the mean of its rows
 SELECT i, sum(ratio(1, i)) OVER w, avg(ratio(1, i)) OVER w FROM generate_series(1, 6) i WINDOW w AS (ORDER BY i ROWS 1 PRECEDING);
 SELECT i, sum(CASE WHEN i % 3 > 0 THEN ratio(1, i) END) OVER w FROM generate_series(1, 7) i WINDOW w AS (ORDER BY i ROWS BETWEEN CURRENT ROW AND 1 FOLLOWING);
+-- a window whose rows are all NULL, once its value has left, and a window that gets a value again
+SELECT i, sum(r) OVER w, avg(r) OVER w FROM (VALUES (1, '1/2'::ratio), (2, NULL), (3, NULL), (4, '1/3')) rows(i, r) WINDOW w AS (ORDER BY i ROWS BETWEEN CURRENT ROW AND 1 FOLLOWING);
 SELECT count(*), count(*) FILTER (WHERE moving <> (SELECT sum(b.r) FROM big b WHERE b.i BETWEEN m.i - 9 AND m.i)
     OR mean <> (SELECT avg(b.r) FROM big b WHERE b.i BETWEEN m.i - 9 AND m.i)) AS wrong
 FROM (SELECT i, sum(r) OVER w AS moving, avg(r) OVER w AS mean FROM big WHERE i <= 300 WINDOW w AS (ORDER BY i ROWS 9 PRECEDING)) m;
+-- not by a distance in values; by a number of groups
+SELECT refusal('SELECT sum(r) OVER (ORDER BY r RANGE ''1/2'' PRECEDING) FROM hard');
+SELECT r, sum(r) OVER (ORDER BY r GROUPS 1 PRECEDING) FROM unnest('{1/2,1/3,1/2,1/6}'::ratio[]) r;
 -- Whether a sum of many unlike denominators is held may depend on the order of the rows, and its value never does. The fractions below
 -- are 1/p for large primes p, and their negatives: in pairs each sum on the way is small, and in the other order it leaves 128 bits.
 CREATE TABLE pairs AS SELECT p, s, ratio(s, p) AS r FROM unnest('{9223372036854775783,9223372036854775643,9223372036854775549,9223372036854775507}'::int8[]) p, unnest('{1,-1}'::int[]) s;
 SELECT sum(r ORDER BY p, s) FROM pairs;
 SELECT refusal('SELECT sum(r ORDER BY s, p) FROM pairs');
+-- so it is in windows, whole and moving
+SELECT refusal('SELECT sum(r) OVER (ORDER BY s, p ROWS BETWEEN UNBOUNDED PRECEDING AND UNBOUNDED FOLLOWING) FROM pairs'),
+    refusal('SELECT avg(r) OVER (ORDER BY s, p ROWS BETWEEN CURRENT ROW AND 7 FOLLOWING) FROM pairs');
 -- In a window, taking out 1/p and then 1/q loses the sum, since the rest needs three large denominators. Then the window is added up anew.
-SELECT i, sum(r) OVER (ORDER BY i RANGE BETWEEN 46 PRECEDING AND 46 FOLLOWING) FROM (VALUES (1, '1/9223372036854775783'::ratio), (2, '1/9223372036854775643'),
-    (3, '-1/9223372036854775783'), (4, '-1/9223372036854775643'), (10, '1/9223372036854775549'), (56, '1')) rows(i, r);
+SELECT i, sum(r) OVER w, avg(r) OVER w FROM (VALUES (1, '1/9223372036854775783'::ratio), (2, '1/9223372036854775643'),
+    (3, '-1/9223372036854775783'), (4, '-1/9223372036854775643'), (10, '30/9223372036854775549'), (56, '30/9223372036854775549')) rows(i, r)
+WINDOW w AS (ORDER BY i RANGE BETWEEN 46 PRECEDING AND 46 FOLLOWING);
 -- a ledger: a million shares add up to the whole, account by account
 CREATE TABLE ledger AS
 SELECT account, ratio(account + 1, 100) * part / 1000 AS share FROM generate_series(0, 999) account, (SELECT i AS k, ratio(2 * i, 1001) AS part FROM generate_series(1, 1000) i) parts;
 SELECT count(*), sum(share) FROM ledger;
 SELECT count(*) AS accounts, bool_and(total = ratio(account + 1, 100)) AS each_is_whole FROM (SELECT account, sum(share) AS total FROM ledger GROUP BY account) sums;
 DROP VIEW answers;
-DROP TABLE big, by_one, by_workers, parted, pairs, ledger;
+DROP TABLE big, by_one, by_workers, by_jit, parted, pairs, ledger;

@@ -1,4 +1,4 @@
--- The extension changes the type of no call and of no operator over the types that are there without it.
+-- Beside the extension, each call and each operator over the types that are there without it means the same.
 \set QUIET on
 CREATE EXTENSION ratio;
 -- the names that the extension adds to: those of its functions and operators which exist without it, too
@@ -16,41 +16,47 @@ DROP EXTENSION ratio;
 \set QUIET off
 SELECT name FROM shared_calls ORDER BY name COLLATE "C";
 SELECT name FROM shared_operators ORDER BY name COLLATE "C";
--- numbers, texts, times and truth, and literals without a type
+-- operands: numbers and literals without a type, which meet all others, and the other types, each of which meets its own kind
 CREATE TABLE operands AS
-SELECT 'NULL::' || typname AS operand, typname::text FROM pg_type
-WHERE typnamespace = 'pg_catalog'::regnamespace AND typtype = 'b' AND typcategory IN ('N', 'S', 'T', 'D', 'B', 'V')
-    AND typname !~ '^reg|^pg_|^name$|^char$|^money$'
-UNION ALL VALUES ('NULL', 'no type'), ('''1''', 'text without a type');
+SELECT 'NULL::' || oid::regtype AS operand, CASE typcategory::text WHEN 'T' THEN 'D' WHEN 'U' THEN typname ELSE typcategory::text END AS kind FROM pg_type
+WHERE typnamespace = 'pg_catalog'::regnamespace AND (typcategory IN ('N', 'S', 'T', 'D', 'B', 'V', 'I') AND typname !~ '^reg|^name$' OR typname IN ('bytea', 'jsonb', 'macaddr',
+    'pg_lsn', 'uuid', 'xid', 'point', 'daterange', 'int4range', 'int8range', 'numrange', 'int8multirange', '_int4', '_int8', '_numeric', '_text'))
+UNION ALL VALUES ('NULL', 'N'), ('''1''', 'N');
+CREATE VIEW pairs AS SELECT a.operand AS a, b.operand AS b FROM operands a, operands b WHERE a.kind = b.kind OR 'N' IN (a.kind, b.kind);
 CREATE VIEW calls AS
-SELECT a.operand || ' ' || o.name || ' ' || b.operand AS call FROM operands a, shared_operators o, operands b
-UNION ALL SELECT o.name || ' ' || a.operand FROM operands a, shared_operators o
-UNION ALL SELECT format('%I(%s)', f.name, a.operand) FROM operands a, shared_calls f
-UNION ALL SELECT format('%I(%s, %s)', f.name, a.operand, b.operand) FROM operands a, shared_calls f, operands b
-UNION ALL SELECT format(f, a.operand) FROM operands a, (VALUES ('power(%s, 2)'), ('power(2, %s)'), ('%s ^ 2'), ('2 ^ %s'), ('mod(%s, 2)'),
+SELECT a || ' ' || name || ' ' || b AS call FROM pairs, shared_operators
+UNION ALL SELECT name || ' ' || operand FROM operands, shared_operators WHERE name IN ('+', '-')
+UNION ALL SELECT format('%I(%s)', name, operand) FROM operands, shared_calls
+UNION ALL SELECT format('%I(%s, %s)', name, a, b) FROM pairs, shared_calls
+UNION ALL SELECT format(f, operand) FROM operands, (VALUES ('power(%s, 2)'), ('power(2, %s)'), ('%s ^ 2'), ('2 ^ %s'), ('mod(%s, 2)'),
     ('greatest(%s, 1.5)'), ('coalesce(%s, 2)'), ('%s BETWEEN 0 AND 2'), ('%s IN (1, 2)'), ('ARRAY[%s, 1.5]'), ('sum(%s) OVER ()'),
     ('generate_series(1, %s)'), ('CASE WHEN true THEN %s ELSE 2 END'), ('to_char(%s, ''9'')'), ('sqrt(%s)')) other(f);
-CREATE FUNCTION type_of(call text) RETURNS text LANGUAGE plpgsql AS $$
-DECLARE found text;
+-- what PostgreSQL takes a call for, as a view keeps it: with the numbers of its operators, functions and types. Or the code of its error
+CREATE FUNCTION meaning(call text) RETURNS text LANGUAGE plpgsql AS $$
+DECLARE kept text;
 BEGIN
-    EXECUTE 'SELECT pg_typeof(' || call || ')' INTO found;
-    RETURN found;
-EXCEPTION WHEN OTHERS THEN
+    EXECUTE 'CREATE TEMP VIEW meant AS SELECT ' || call || ' AS result';
+    SELECT regexp_replace(ev_action, ':relid \d+', '', 'g') INTO kept FROM pg_rewrite WHERE ev_class = to_regclass('meant');
+    RAISE 'drop the view';
+EXCEPTION WHEN raise_exception THEN
+    RETURN kept;
+WHEN OTHERS THEN
     RETURN SQLSTATE;
 END $$;
-CREATE TABLE types_without AS SELECT call, type_of(call) FROM calls;
+SELECT meaning('2 + 3') = meaning('2 + 3') AS same, meaning('2 + 3') ~ 'opno 551 :opfuncid 177 ' AS is_int4pl, meaning('2 + date ''today''') ~ 'opno 2555 ' AS is_integer_pl_date,
+    meaning('2 + true');
+CREATE TABLE without AS SELECT call, meaning(call) FROM calls;
 CREATE EXTENSION ratio;
-CREATE TABLE types_beside AS SELECT call, type_of(call) FROM calls;
-SELECT count(*) > 5000 AS are_many, count(*) FILTER (WHERE type_of !~ '^[0-9]') > 1000 AS many_have_a_type FROM types_without;
-TABLE types_without EXCEPT TABLE types_beside;
-TABLE types_beside EXCEPT TABLE types_without;
+CREATE TABLE beside AS SELECT call, meaning(call) FROM calls;
+SELECT count(*) > 15000 AS are_many, count(*) FILTER (WHERE length(meaning) > 5) > 1500 AS many_have_a_meaning FROM without;
+SELECT call FROM without w FULL JOIN beside b USING (call) WHERE w.meaning IS DISTINCT FROM b.meaning ORDER BY call LIMIT 20;
 -- every function of the extension is immutable and safe for parallel workers, and its classes of operators are whole
 SELECT p.oid::regprocedure FROM pg_proc p JOIN pg_depend d ON d.classid = 'pg_proc'::regclass AND d.objid = p.oid AND d.deptype = 'e'
 JOIN pg_extension e ON e.oid = d.refobjid AND e.extname = 'ratio' WHERE p.provolatile <> 'i' OR p.proparallel <> 's';
 SELECT amname, amvalidate(c.oid) FROM pg_opclass c JOIN pg_am m ON m.oid = opcmethod WHERE opcname = 'ratio_ops' ORDER BY 1;
 -- and it goes away without a trace
 DROP EXTENSION ratio;
-DROP VIEW calls;
-DROP TABLE operands, shared_calls, shared_operators, types_without, types_beside;
-DROP FUNCTION type_of;
+DROP VIEW calls, pairs;
+DROP TABLE operands, shared_calls, shared_operators, without, beside;
+DROP FUNCTION meaning;
 SELECT count(*) FROM pg_type WHERE typname = 'ratio';

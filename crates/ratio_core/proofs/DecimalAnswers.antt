@@ -9,10 +9,10 @@ use Rattle.ratio_integer.specs.Range.{IsHeld, IsRange}
 use Rattle.ratio_integer.proofs.Whole.{unsigned_abs-products}
 use Rattle.ratio_core.specs.DecimalCuts.{IsWide}
 use Rattle.ratio_core.specs.DecimalReading.{HasDecimalParts, IsDecimalText, tens_above, tens_below}
-use Rattle.ratio_core.specs.Floats.{with_sign}
+use Rattle.ratio_core.specs.Signs.{with_sign}
 use Rattle.ratio_core.specs.Reading.{ReadsLowest, digits_sum}
 use Rattle.ratio_core.proofs.DecimalTerms.{same_products}
-use Rattle.ratio_core.proofs.FloatParts.{size_is, with_sign-mul}
+use Rattle.ratio_core.proofs.SignedNumbers.{size_is, with_sign-mul}
 use Rattle.ratio_core.proofs.PrintingLemmas.{small_magnitude}
 use Rattle.ratio_core.proofs.RoundingRuleLemmas.{sides}
 use Rattle.ratio_core.proofs.WidthLemmas.{wide_signed}

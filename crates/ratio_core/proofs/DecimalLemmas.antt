@@ -9,7 +9,8 @@ use Rattle.std.proofs.lemmas.Nat.{div-mul-add}
 use Rattle.std.proofs.lemmas.Str.{IsAscii-append}
 use Rattle.std.proofs.lemmas.Str.Ascii.{IsAscii-cons, IsAscii-nil}
 use Rattle.ratio_integer.proofs.Whole.{neg-mul}
-use Rattle.ratio_core.specs.Decimal.{last_digits, places_text, point, unsigned_places}
+use Rattle.ratio_core.specs.Decimal.{places_text, point, unsigned_places}
+use Rattle.ratio_core.specs.Printing.{last_digits}
 use Rattle.ratio_core.specs.Reading.{minus}
 use Rattle.ratio_core.specs.RoundingRules.{IsRoundedBy, mirrored, signed}
 use Rattle.ratio_core.specs.declared.rounding_rule.Rounding.{Rounding}

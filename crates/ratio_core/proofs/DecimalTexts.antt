@@ -8,7 +8,7 @@ use Rattle.std.proofs.lemmas.List.{nil_from_length}
 use Rattle.ratio_core.specs.Decimal.{point}
 use Rattle.ratio_core.specs.DecimalCuts.{HasNoDigit, HasNoPoint, HasNoSign, IsDecimalCut, IsDigitsCut, IsPointCut, IsSignCut}
 use Rattle.ratio_core.specs.DecimalReading.{DecimalsHaveOneReading, HasDecimalParts, IsExponent, IsLetterE, IsPointed, IsWrittenSign, tens_above, tens_below}
-use Rattle.ratio_core.specs.Floats.{with_sign}
+use Rattle.ratio_core.specs.Signs.{with_sign}
 use Rattle.ratio_core.specs.Reading.{digits_sum, minus, plus}
 use Rattle.ratio_core.proofs.DecimalDigits.{all_split}
 use Rattle.ratio_core.proofs.LeadingDigits.{append_digits}

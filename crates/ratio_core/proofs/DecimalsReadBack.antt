@@ -11,7 +11,8 @@ use Rattle.ratio_integer.specs.Fraction.{Fits, IsHeldLowest, IsLowestTerms}
 use Rattle.ratio_integer.specs.Range.{IsHeld}
 use Rattle.ratio_integer.proofs.LowestTerms.{held_lowest_moved, lowest_equal, lowest_own}
 use Rattle.ratio_integer.proofs.Whole.{unsigned_abs-products}
-use Rattle.ratio_core.specs.Decimal.{IsExactDecimal, last_digits, unsigned_places}
+use Rattle.ratio_core.specs.Decimal.{IsExactDecimal, unsigned_places}
+use Rattle.ratio_core.specs.Printing.{last_digits}
 use Rattle.ratio_core.specs.DecimalReading.{AnswersDecimal, IsDecimalText, IsExponent, IsPointed, IsReadDecimal, PrintedDecimalsRead}
 use Rattle.ratio_core.specs.Reading.{digits_sum, minus}
 use Rattle.ratio_core.specs.declared.text.decimals.DecimalRefusal.{DecimalRefusal}

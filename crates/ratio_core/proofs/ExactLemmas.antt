@@ -11,7 +11,8 @@ use Rattle.ratio_integer.specs.Fraction.{IsLowestTerms}
 use Rattle.ratio_integer.proofs.CommonDivisors.{coprime_gcd}
 use Rattle.ratio_integer.proofs.GcdLemmas.{coprime-dvd}
 use Rattle.ratio_integer.proofs.Whole.{neg-mul}
-use Rattle.ratio_core.specs.Decimal.{IsExactDecimal, IsPlacesOf, last_digits, places_text, point, unsigned_places}
+use Rattle.ratio_core.specs.Decimal.{IsExactDecimal, IsPlacesOf, places_text, point, unsigned_places}
+use Rattle.ratio_core.specs.Printing.{last_digits}
 use Rattle.ratio_core.specs.Parts.{IsDivided}
 use Rattle.ratio_core.specs.RoundingRules.{signed}
 use Rattle.ratio_core.proofs.DecimalLemmas.{power_positive, unsigned_ascii, whole_digits, whole_of}

@@ -10,8 +10,9 @@ use lib.Ieee.Exact.{HasValue, odd_sign}
 use lib.Ieee.Fits.{down_pos}
 use Rattle.ratio_integer.specs.Fraction.{ChecksLowest, Fits}
 use Rattle.ratio_integer.proofs.LowestTerms.{checks_lowest_moved}
-use Rattle.ratio_core.specs.Floats.{fraction_of_float, with_sign}
-use Rattle.ratio_core.proofs.FloatParts.{with_sign-mul}
+use Rattle.ratio_core.specs.Floats.{fraction_of_float}
+use Rattle.ratio_core.specs.Signs.{with_sign}
+use Rattle.ratio_core.proofs.SignedNumbers.{with_sign-mul}
 
 -- ---- a float with a value, and a float without one
 

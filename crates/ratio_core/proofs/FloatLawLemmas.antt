@@ -16,8 +16,8 @@ use lib.Pow.{pow_mono}
 use Rattle.core.proofs.num.Values.{neg-round, round-zero, same_value}
 use Rattle.core.specs.Float.Order.{le_trans}
 use Rattle.ratio_core.specs.FloatLaws.{FloatsAreMonotone, FloatsComeBack, NearestOfZero, SameValueSameFloat}
-use Rattle.ratio_core.specs.Floats.{with_sign}
-use Rattle.ratio_core.proofs.FloatParts.{size_is, with_sign-mul}
+use Rattle.ratio_core.specs.Signs.{with_sign}
+use Rattle.ratio_core.proofs.SignedNumbers.{size_is, with_sign-mul}
 
 -- ---- a fraction with a positive denominator, by its sign and its size
 

@@ -12,7 +12,8 @@ use Rattle.ratio_integer.proofs.CommonDivisors.{gcd_coprime}
 use Rattle.ratio_integer.proofs.Halving.{odd_beside}
 use Rattle.ratio_integer.proofs.LowestTerms.{lowest_unique, over_one}
 use Rattle.ratio_core.proofs.HeldAround.{between_held}
-use Rattle.ratio_core.specs.Floats.{with_sign}
+use Rattle.ratio_core.proofs.SignedNumbers.{size_is, with_sign-mul}
+use Rattle.ratio_core.specs.Signs.{with_sign}
 
 -- ---- signs
 
@@ -57,11 +58,6 @@ doubled_out lo hi s n i times x range less x-is out held =
 
 -- ---- an odd number and a power of 2
 
-pub size_is : (s : Bool) (n : ℕ) → unsigned_abs (with_sign s n) ≡ n
-size_is false n = refl
-size_is true zero = refl
-size_is true (suc n) = refl
-
 power_positive : (down : ℕ) → pos 0 <ℤ pos (1 * 2 ^ down)
 power_positive down = (let h = pow_pos down in omega (arith, ints))
 
@@ -77,12 +73,6 @@ odd_lowest s odd up down is (inl none) =
     let size : unsigned_abs (with_sign s (odd * 2 ^ up)) ≡ odd = size_is s (odd * 2 ^ up) ∙ (rw none (let h : odd * 2 ^ 0 ≡ odd = omega arith in h)) in
     record { positive = power_positive down; only_one = λ k x y. odd_only odd down is k (rw size at x) y }
 odd_lowest s odd up down is (inr none) = over_one _ _ (rw none refl)
-
-pub with_sign-mul : (s : Bool) (x y : ℕ) → with_sign s x *ℤ pos y ≡ with_sign s (x * y)
-with_sign-mul false x y = refl
-with_sign-mul true zero y = omega (arith, ints)
-with_sign-mul true (suc x) zero = omega (arith, ints)
-with_sign-mul true (suc x) (suc y) = omega (arith, ints)
 
 one_none : (x y : ℕ) → ((x - y ≡ 0) ⊎ (y - x ≡ 0))
 one_none zero y = inl (omega arith)
@@ -124,10 +114,3 @@ zero_lowest lo hi s whole up down a b range none a-is b-is =
       numer_held = (let high = range.high in let low = range.low in grind (arith, ints));
       denom_held = (let high = range.high in let low = range.low in grind (arith, ints));
     })
-
--- ---- the answers
-
-pub lowest_out : {R : Type 0} (numer denom : R → ℤ) (lo hi n d a b : ℤ) → IsLowestTermsOf n d a b → ¬ (IsHeld lo hi a × IsHeld lo hi b) → ChecksLowest {R = R} numer denom lo hi (n, d) None
-lowest_out numer denom lo hi n d a b is out = λ fits. (
-    let same = lowest_unique n d a b fits.numer fits.denom is fits.low.terms in
-    out (rw same.0 fits.low.numer_held, rw same.1 fits.low.denom_held))

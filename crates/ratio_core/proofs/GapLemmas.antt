@@ -9,7 +9,7 @@ use lib.Pow.{pow_mono}
 use Rattle.ratio_integer.specs.Fraction.{ChecksLowest, IsLowestTerms}
 use Rattle.ratio_integer.specs.Range.{IsHeld, IsRange}
 use Rattle.ratio_integer.proofs.Whole.{neg-mul, unsigned_abs-neg}
-use Rattle.ratio_core.specs.Floats.{with_sign}
+use Rattle.ratio_core.specs.Signs.{with_sign}
 use Rattle.ratio_core.specs.Rationalizing.{ChecksFirstOver, ChecksInside, IsFirstOver}
 use Rattle.ratio_core.specs.Simplest.{HoldsNoneBetween, IsBetween, IsSimplest}
 use Rattle.ratio_core.proofs.HeldAround.{between_held}

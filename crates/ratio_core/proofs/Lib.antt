@@ -84,6 +84,7 @@ pub mod ScalingLemmas
 pub mod Shares
 pub mod ShortDecimals
 pub mod SignLemmas
+pub mod SignedNumbers
 pub mod SimplestBeginning
 pub mod SimplestEnclosing
 pub mod SimplestHalving

@@ -15,7 +15,8 @@ use Rattle.core.specs.declared.fmt.formatter.Formatter.{Formatter}
 use Rattle.core.proofs.fmt.Output.{has_written_styled_append, has_written_styled_nil, has_written_styled_of_eq}
 use Rattle.core.proofs.fmt.Padding.{char_count-nil, integral_written, repeat_ascii}
 use Rattle.core.proofs.str.Laws.{one}
-use Rattle.ratio_core.specs.Decimal.{last_digits, point, unsigned_places}
+use Rattle.ratio_core.specs.Decimal.{point, unsigned_places}
+use Rattle.ratio_core.specs.Printing.{last_digits}
 use Rattle.ratio_core.specs.Parts.{IsDivided, IsPart}
 use Rattle.ratio_core.specs.Precision.{half_even}
 use Rattle.ratio_core.specs.RoundingRules.{IsRoundedBy}

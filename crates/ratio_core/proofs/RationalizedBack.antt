@@ -15,13 +15,14 @@ use Rattle.core.specs.Dec2flt.Rounding.{IsNearestBits, IsSignificand, scaled_bit
 use Rattle.ratio_integer.specs.Fraction.{SameValue}
 use Rattle.ratio_integer.proofs.LowestTerms.{same_value_chained}
 use Rattle.ratio_core.specs.FloatLaws.{EndsHaveGreaterDenominators, FloatsLieBetweenEnds, RationalizedComesBack}
-use Rattle.ratio_core.specs.Floats.{nearest_float, with_sign}
+use Rattle.ratio_core.specs.Floats.{nearest_float}
+use Rattle.ratio_core.specs.Signs.{with_sign}
 use Rattle.ratio_core.specs.Rationalize.{ChecksRationalized, halfway}
 use Rattle.ratio_core.specs.Rationalizing.{IsGap}
 use Rattle.ratio_core.specs.Simplest.{IsBetween}
 use Rattle.ratio_core.proofs.FloatFields.{kept}
 use Rattle.ratio_core.proofs.FloatLawLemmas.{come_back, exact, other_signs, zero_first}
-use Rattle.ratio_core.proofs.FloatParts.{with_sign-mul}
+use Rattle.ratio_core.proofs.SignedNumbers.{with_sign-mul}
 use Rattle.ratio_core.proofs.GapLemmas.{above_none, back_between}
 use Rattle.ratio_core.proofs.RationalizeLemmas.{high_end, hid_pos, low_end, IsEnd, not_whole, odd_of, ones_pos, part_place, part_some, two_hid, value_is}
 use Rattle.ratio_core.proofs.SimplestLawLemmas.{between_same}

@@ -8,7 +8,7 @@ use Rattle.ratio_integer.proofs.LowestTerms.{lowest_moved}
 use Rattle.ratio_integer.proofs.Whole.{unsigned_abs-products}
 use Rattle.ratio_core.specs.DecimalCuts.{IsWide}
 use Rattle.ratio_core.specs.DecimalReading.{HasDecimalParts, IsDecimalText, tens_above, tens_below}
-use Rattle.ratio_core.specs.Floats.{with_sign}
+use Rattle.ratio_core.specs.Signs.{with_sign}
 use Rattle.ratio_core.specs.Reading.{digits_sum}
 use Rattle.ratio_core.specs.TypedTerms.{AnswersTerms, ChecksTyped, ReadsTerms, ReadsWide, differ}
 use Rattle.ratio_core.specs.TypedText.{AnswersTyped, AreSmall, HasMixedParts, HasQuotientParts, IsMixedText, IsPlainText, IsShareText, IsTypedText, TypedNotHeld, percent_sign, share}
@@ -19,7 +19,7 @@ use Rattle.ratio_core.proofs.DecimalAnswers.{HasWidth, reading, signed_terms}
 use Rattle.ratio_core.proofs.DecimalDigits.{power_some}
 use Rattle.ratio_core.proofs.DecimalTerms.{some_not_zero}
 use Rattle.ratio_core.proofs.DecimalValues.{product_power_some}
-use Rattle.ratio_core.proofs.FloatParts.{lowest_out, size_is, with_sign-mul}
+use Rattle.ratio_core.proofs.SignedNumbers.{lowest_out, size_is, with_sign-mul}
 use Rattle.ratio_core.proofs.PrintingLemmas.{small_magnitude}
 use Rattle.ratio_core.proofs.TypedFree.{no_mixed_percent, no_plain_percent}
 

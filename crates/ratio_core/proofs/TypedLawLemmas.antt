@@ -6,12 +6,12 @@ use Rattle.std.proofs.lemmas.Int.{ints}
 use Rattle.ratio_integer.specs.Range.{IsHeld}
 use Rattle.ratio_core.specs.DecimalCuts.{HasNoDigit, HasNoSign, IsSignCut}
 use Rattle.ratio_core.specs.DecimalReading.{IsDecimalText}
-use Rattle.ratio_core.specs.Floats.{with_sign}
+use Rattle.ratio_core.specs.Signs.{with_sign}
 use Rattle.ratio_core.specs.Reading.{IsFractionText, IsNumberText, IsSlashedText, digits_sum, plus, minus, slash}
 use Rattle.ratio_core.specs.TypedLaws.{DecimalsAreTyped, FractionsAreTyped, IsBelowPower, TypedTextsHaveOneReading, WideDecimalsAreTyped}
 use Rattle.ratio_core.specs.TypedText.{AreSmall, IsMixedText, IsPlainText, IsQuotientText, IsShareText, IsTypedText, IsWholeText, ReadsTyped, percent_sign, share, space}
 use Rattle.ratio_core.proofs.DecimalTexts.{numeral_no_sign, one_reading, sign_cut}
-use Rattle.ratio_core.proofs.FloatParts.{size_is}
+use Rattle.ratio_core.proofs.SignedNumbers.{size_is}
 use Rattle.ratio_core.proofs.TypedAnswers.{decimal_some, last_same}
 use Rattle.ratio_core.proofs.TypedCuts.{IsWholeFront, mixed_only, quotient_only}
 use Rattle.ratio_core.proofs.TypedFree.{no_decimal_quotient, no_mixed_percent, no_plain_mixed, no_plain_percent}

@@ -1,6 +1,7 @@
 -- What text a fraction n/d has as a decimal, where d is above 0.
 use Rattle.std.specs.Prelude.{◌≡◌, ◌≢◌, ◌⊎◌, ◌≤◌, ◌+◌, ◌*◌, ◌/◌, ◌%◌, ◌^◌, ◌*ℤ◌, ℕ, zero, suc, ℤ, pos, negsuc, List, [], ◌∷◌, ◌++◌, decimal, Option, Some, None}
 use Rattle.std.specs.Int.{◌∣◌}
+use Rattle.ratio_core.specs.Printing.{last_digits}
 use Rattle.ratio_core.specs.Reading.{minus}
 use Rattle.ratio_core.specs.RoundingRules.{IsRoundedBy}
 use Rattle.ratio_core.specs.declared.rounding_rule.Rounding.{Rounding}
@@ -8,11 +9,6 @@ use Rattle.ratio_core.specs.declared.rounding_rule.Rounding.{Rounding}
 -- a point is the byte 46
 abbrev pub point : ℕ
 point = 46
-
--- the last k digits of n, with leading zeros: `07` for two digits of 507
-abbrev pub last_digits : ℕ → ℕ → List ℕ
-last_digits zero n = []
-last_digits (suc k) n = last_digits k (n / 10) ++ (48 + n % 10) ∷ []
 
 -- n/10^places with all its places, and a point before them if there are any: `5.07` for 507 and two places
 abbrev pub unsigned_places : ℕ → ℕ → List ℕ

@@ -5,7 +5,7 @@ use Rattle.std.specs.Str.Parse.{AllDigits}
 use Rattle.ratio_integer.specs.Fraction.{IsLowestTermsOf}
 use Rattle.ratio_integer.specs.Range.{Checks, IsHeld}
 use Rattle.ratio_core.specs.Decimal.{point}
-use Rattle.ratio_core.specs.Floats.{with_sign}
+use Rattle.ratio_core.specs.Signs.{with_sign}
 use Rattle.ratio_core.specs.Reading.{minus, plus}
 use Rattle.ratio_core.specs.declared.text.decimals.terms.Terms.{Terms}
 

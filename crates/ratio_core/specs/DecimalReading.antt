@@ -3,7 +3,7 @@ use Rattle.std.specs.Prelude.{◌≡◌, ◌⊎◌, ◌<◌, ◌*◌, ◌/◌, �
 use Rattle.std.specs.Str.Parse.{IsNumeral}
 use Rattle.ratio_integer.specs.Fraction.{Fits}
 use Rattle.ratio_core.specs.Decimal.{places_text, point}
-use Rattle.ratio_core.specs.Floats.{with_sign}
+use Rattle.ratio_core.specs.Signs.{with_sign}
 use Rattle.ratio_core.specs.Reading.{ReadsLowest, digits_sum, minus, plus}
 use Rattle.ratio_core.specs.declared.text.decimals.DecimalRefusal.{DecimalRefusal}
 use Rattle.ratio_core.specs.declared.text.decimals.DecimalRefusal.TheVariants.{NotDecimal, NotHeld}

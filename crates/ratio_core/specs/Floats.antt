@@ -3,11 +3,7 @@ use Rattle.std.specs.Prelude.{◌≡◌, ◌+◌, ◌*◌, ◌<◌, ℕ, suc, �
 use Rattle.std.specs.Bool.{OnFalse, OnTrue}
 use Rattle.std.specs.Float.{Float, Format, nan, inf, fin}
 use Rattle.std.specs.Float.Ieee.{down, round, up}
-
--- n, negated if s is true
-abbrev pub with_sign : Bool → ℕ → ℤ
-with_sign false n = pos n
-with_sign true n = neg_ℤ (pos n)
+use Rattle.ratio_core.specs.Signs.{with_sign}
 
 -- the value of a float as a fraction: 3/4 for 0.75. An infinity and a NaN have the denominator 0, so no lowest terms
 abbrev pub fraction_of_float : Float → ℤ × ℤ

@@ -1,9 +1,14 @@
 -- Signs of n/d, where d may have either sign, and differences that are not below 0.
-use Rattle.std.specs.Prelude.{◌≡◌, ◌≢◌, ◌<ℤ◌, ◌*ℤ◌, ℤ, Bool, pos, negsuc, neg_ℤ}
+use Rattle.std.specs.Prelude.{◌≡◌, ◌≢◌, ◌<ℤ◌, ◌*ℤ◌, ℕ, ℤ, Bool, false, true, pos, negsuc, neg_ℤ}
 use Rattle.std.specs.declared.cmp.Ordering.TheVariants.{Greater}
 use Rattle.ratio_integer.specs.Arithmetic.{difference_of}
 use Rattle.ratio_core.specs.Conditions.{DifferenceCondition, IsHeldLowestOf}
 use Rattle.ratio_core.specs.Order.{cross_cmp}
+
+-- n, negated if s is true
+abbrev pub with_sign : Bool → ℕ → ℤ
+with_sign false n = pos n
+with_sign true n = neg_ℤ (pos n)
 
 -- the value of n/d is below 0
 abbrev pub IsNegative : ℤ → ℤ → Type 0

@@ -2,7 +2,7 @@
 use Rattle.std.specs.Prelude.{◌≡◌, ◌≢◌, ◌<◌, ℕ, ℤ, pos, unsigned_abs, Bool, true, false, not, List, length, Result, Ok, Err}
 use Rattle.ratio_integer.specs.Fraction.{IsLowestTermsOf}
 use Rattle.ratio_core.specs.DecimalCuts.{IsDigitsCut, IsWide}
-use Rattle.ratio_core.specs.Floats.{with_sign}
+use Rattle.ratio_core.specs.Signs.{with_sign}
 use Rattle.ratio_core.specs.TypedText.{AreSmall}
 use Rattle.ratio_core.specs.declared.text.decimals.terms.Terms.{Terms}
 use Rattle.ratio_core.specs.declared.text.typed.TextRefusal.{TextRefusal}

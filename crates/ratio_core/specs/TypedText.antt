@@ -3,7 +3,7 @@ use Rattle.std.specs.Prelude.{◌≡◌, ◌≢◌, ◌⊎◌, ◌<◌, ◌+◌,
 use Rattle.std.specs.Str.Parse.{IsNumeral}
 use Rattle.ratio_integer.specs.Fraction.{Fits, IsHeldLowest}
 use Rattle.ratio_core.specs.DecimalReading.{IsDecimalText, IsWrittenSign}
-use Rattle.ratio_core.specs.Floats.{with_sign}
+use Rattle.ratio_core.specs.Signs.{with_sign}
 use Rattle.ratio_core.specs.Reading.{digits_sum, slash}
 use Rattle.ratio_core.specs.declared.text.typed.TextRefusal.{TextRefusal}
 use Rattle.ratio_core.specs.declared.text.typed.TextRefusal.TheVariants.{NotNumber, ZeroDenominator, NotHeld}

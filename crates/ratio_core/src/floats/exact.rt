@@ -2,7 +2,8 @@
 ghost use Rattle.std.specs.Prelude.{◌≡◌, ◌≢◌, ◌*◌, ◌^◌, ◌<◌, ◌≤◌, pos};
 ghost use Rattle.ratio_integer.specs.Fraction.{ChecksLowest};
 ghost use Rattle.ratio_integer.specs.Range.{Checks};
-ghost use Rattle.ratio_core.specs.Floats.{fraction_of_float, with_sign};
+ghost use Rattle.ratio_core.specs.Floats.{fraction_of_float};
+ghost use Rattle.ratio_core.specs.Signs.{with_sign};
 
 use ratio_integer::Integer;
 

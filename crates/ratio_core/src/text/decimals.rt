@@ -8,7 +8,7 @@ pub(crate) mod value;
 ghost use Rattle.ratio_integer.specs.Range.{Checks};
 ghost use Rattle.ratio_core.specs.DecimalCuts.{ChecksSigned};
 ghost use Rattle.ratio_core.specs.DecimalReading.{AnswersDecimal};
-ghost use Rattle.ratio_core.specs.Floats.{with_sign};
+ghost use Rattle.ratio_core.specs.Signs.{with_sign};
 
 use crate::text::decimals::cut::decimal_parts;
 use crate::text::decimals::terms::Terms;

@@ -1,7 +1,8 @@
 //! Printing a fraction as a decimal with all its places, if they end.
 ghost use Rattle.std.specs.Prelude.{◌≡◌, ◌+◌, ◌-◌, ◌*◌, ◌/◌, ◌^◌, ◌<◌, ◌≤◌, ◌++◌, decimal, drop, length, true, IsAscii};
 ghost use Rattle.ratio_integer.specs.Fraction.{IsLowestTerms};
-ghost use Rattle.ratio_core.specs.Decimal.{ChecksExactDecimal, ChecksLessTen, ChecksPlaces, last_digits, places_text, unsigned_places};
+ghost use Rattle.ratio_core.specs.Decimal.{ChecksExactDecimal, ChecksLessTen, ChecksPlaces, places_text, unsigned_places};
+ghost use Rattle.ratio_core.specs.Printing.{last_digits};
 ghost use Rattle.ratio_core.specs.RoundingRules.{signed};
 
 use crate::sign::is_below_zero;

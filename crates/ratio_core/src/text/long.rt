@@ -5,7 +5,8 @@
 ghost use Rattle.std.specs.Prelude.{◌≡◌, ◌*◌, ◌+◌, ◌^◌, ◌<◌, ◌≤◌, ◌<ℤ◌, ◌∷◌, ◌++◌, [], Bool, IfOk, OnOk, decimal, drop, encode_utf8, int_lt, length, pos, unsigned_abs, IsAscii, if◌then◌else◌};
 ghost use Rattle.std.specs.Fmt.{HasWrittenStyled, IsFlush, WritesStyledOnOk, before_digits, fill_after_digits, formatter_spec, number_padding, padded_integral, padding_before, sign_text_with, spec_sign_plus, spec_zero_pad};
 ghost use Rattle.core.specs.List.{repeat};
-ghost use Rattle.ratio_core.specs.Decimal.{last_digits, point, unsigned_places};
+ghost use Rattle.ratio_core.specs.Decimal.{point, unsigned_places};
+ghost use Rattle.ratio_core.specs.Printing.{last_digits};
 ghost use Rattle.ratio_core.specs.Precision.{half_even};
 
 use crate::rounded::rounded;

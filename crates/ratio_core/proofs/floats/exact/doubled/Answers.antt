@@ -3,7 +3,7 @@ use Rattle.std.proofs.Common.{arith, rules, ◌∙◌, ap}
 use Rattle.std.proofs.lemmas.Int.{to_z-of_z}
 use Rattle.std.specs.Int.RustNames.{FitsSigned}
 use mir.Syntax.{w128}
-use Rattle.ratio_core.specs.Floats.{with_sign}
+use Rattle.ratio_core.specs.Signs.{with_sign}
 use Rattle.ratio_core.proofs.FloatParts.{begun_is, begun_out, doubled_is, doubled_out}
 use Rattle.ratio_core.proofs.floats.exact.doubled.Goals as goal
 

@@ -1,5 +1,5 @@
 use Rattle.std.specs.Prelude.{◌≡◌, ◌*◌, ◌^◌}
-use Rattle.ratio_core.specs.Floats.{with_sign}
+use Rattle.ratio_core.specs.Signs.{with_sign}
 use Rattle.ratio_core.proofs.floats.exact.doubled.Given as goal
 
 abbrev pub invariant-loop-done : goal.invariant-loop-done

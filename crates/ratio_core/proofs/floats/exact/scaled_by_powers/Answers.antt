@@ -1,7 +1,8 @@
 use Rattle.std.specs.Int.{w64}
 use Rattle.std.proofs.Common.{arith, ◌∙◌, ap, refl}
 use Rattle.ratio_integer.proofs.Halving.{odd_part_is}
-use Rattle.ratio_core.proofs.FloatParts.{lowest_out, parts_lowest, zero_lowest}
+use Rattle.ratio_core.proofs.FloatParts.{parts_lowest, zero_lowest}
+use Rattle.ratio_core.proofs.SignedNumbers.{lowest_out}
 use Rattle.ratio_core.proofs.floats.exact.scaled_by_powers.Goals as goal
 
 pub returns-then-whole-eq0 : goal.returns-then-whole-eq0

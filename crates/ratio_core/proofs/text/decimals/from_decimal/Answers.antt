@@ -4,7 +4,7 @@ use Rattle.ratio_core.specs.DecimalReading.{HasDecimalParts, tens_above, tens_be
 use Rattle.ratio_core.specs.Reading.{digits_sum}
 use Rattle.ratio_core.proofs.DecimalAnswers.{held_reading, no_reading, reading, signed_terms, wide_out}
 use Rattle.ratio_core.proofs.DecimalDigits.{all_split}
-use Rattle.ratio_core.proofs.FloatParts.{lowest_out}
+use Rattle.ratio_core.proofs.SignedNumbers.{lowest_out}
 use Rattle.ratio_core.proofs.text.decimals.from_decimal.Goals as goal
 
 pub lowest-requires-clause-whole : goal.lowest-requires-clause-whole

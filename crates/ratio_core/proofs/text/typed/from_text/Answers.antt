@@ -1,6 +1,6 @@
 use Rattle.std.specs.Prelude.{pos, Err}
 use Rattle.std.proofs.Common.{subst}
-use Rattle.ratio_core.specs.Floats.{with_sign}
+use Rattle.ratio_core.specs.Signs.{with_sign}
 use Rattle.ratio_core.specs.TypedTerms.{AnswersTerms, ReadsTerms}
 use Rattle.ratio_core.specs.TypedText.{IsTypedText}
 use Rattle.ratio_core.proofs.TypedAnswers.{not_held, refused}

@@ -12,7 +12,7 @@ use crate::crossing::{checked_fields, refused};
 use crate::each::{Call, each};
 use crate::numbers64::{Answer64, Fraction64};
 use crate::totals::{Step, Total64, TotalSaid, gather, total_of};
-use ratio_core::products::lowest;
+use ratio_core::products::lowest_products;
 use ratio_core::sums::{lowest as lowest_sums, reducing};
 
 /// A fraction goes into a total.

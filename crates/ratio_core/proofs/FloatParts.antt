@@ -1,16 +1,16 @@
 -- The value of a float: a number of at most 53 binary digits, times or over a power of 2, in lowest terms.
-use Rattle.std.specs.Prelude.{◌≡◌, ◌≢◌, ◌⊎◌, ◌+◌, ◌-◌, ◌*◌, ◌%◌, ◌^◌, ◌<◌, ◌≤◌, ◌≤ℤ◌, ◌<ℤ◌, ◌+ℤ◌, ◌*ℤ◌, ℕ, ℤ, zero, suc, pos, negsuc, neg_ℤ, unsigned_abs, Bool, true, false, None}
+use Rattle.std.specs.Prelude.{◌≡◌, ◌≢◌, ◌⊎◌, ◌+◌, ◌-◌, ◌*◌, ◌%◌, ◌^◌, ◌<◌, ◌≤◌, ◌≤ℤ◌, ◌<ℤ◌, ◌+ℤ◌, ℕ, ℤ, zero, suc, pos, negsuc, neg_ℤ, unsigned_abs, Bool, true, false}
 use Rattle.std.specs.Int.{◌∣◌}
 use Rattle.std.proofs.Common.{refl, sym, ap, arith, inl, inr, ◌∙◌}
 use Rattle.std.proofs.lemmas.Int.{ints}
 use Rattle.std.proofs.lemmas.Nat.{pow-add, pow_pos}
 use Rattle.std.proofs.Math.Nat.{mul-le-mul_left, one-dvd, pow-le-pow_right}
-use Rattle.ratio_integer.specs.Fraction.{ChecksLowest, IsHeldLowest, IsLowestTerms, IsLowestTermsOf}
+use Rattle.ratio_integer.specs.Fraction.{IsHeldLowest, IsLowestTerms, IsLowestTermsOf}
 use Rattle.ratio_integer.specs.OddPart.{IsOddPart}
 use Rattle.ratio_integer.specs.Range.{IsHeld, IsRange}
 use Rattle.ratio_integer.proofs.CommonDivisors.{gcd_coprime}
 use Rattle.ratio_integer.proofs.Halving.{odd_beside}
-use Rattle.ratio_integer.proofs.LowestTerms.{lowest_unique, over_one}
+use Rattle.ratio_integer.proofs.LowestTerms.{over_one}
 use Rattle.ratio_core.proofs.HeldAround.{between_held}
 use Rattle.ratio_core.proofs.SignedNumbers.{size_is, with_sign-mul}
 use Rattle.ratio_core.specs.Signs.{with_sign}

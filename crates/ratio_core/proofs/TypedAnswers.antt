@@ -14,7 +14,7 @@ use Rattle.ratio_core.specs.TypedTerms.{AnswersTerms, ChecksTyped, ReadsTerms, R
 use Rattle.ratio_core.specs.TypedText.{AnswersTyped, AreSmall, HasMixedParts, HasQuotientParts, IsMixedText, IsPlainText, IsShareText, IsTypedText, TypedNotHeld, percent_sign, share}
 use Rattle.ratio_core.specs.declared.text.typed.TextRefusal.{TextRefusal}
 use Rattle.ratio_core.specs.declared.text.typed.TextRefusal.TheVariants.{NotNumber, ZeroDenominator, NotHeld}
-use Rattle.ratio_core.specs.declared.text.typed.terms.SignedTerms.{SignedTerms}
+use Rattle.ratio_core.specs.declared.text.typed.signed.SignedTerms.{SignedTerms}
 use Rattle.ratio_core.proofs.DecimalAnswers.{HasWidth, reading, signed_terms}
 use Rattle.ratio_core.proofs.DecimalDigits.{power_some}
 use Rattle.ratio_core.proofs.DecimalTerms.{some_not_zero}

@@ -1,5 +1,5 @@
 -- What text a fraction n/d has as a decimal, where d is above 0.
-use Rattle.std.specs.Prelude.{◌≡◌, ◌≢◌, ◌⊎◌, ◌≤◌, ◌+◌, ◌*◌, ◌/◌, ◌%◌, ◌^◌, ◌*ℤ◌, ℕ, zero, suc, ℤ, pos, negsuc, List, [], ◌∷◌, ◌++◌, decimal, Option, Some, None}
+use Rattle.std.specs.Prelude.{◌≡◌, ◌≢◌, ◌⊎◌, ◌≤◌, ◌*◌, ◌/◌, ◌%◌, ◌^◌, ◌*ℤ◌, ℕ, zero, suc, ℤ, pos, negsuc, List, ◌∷◌, ◌++◌, decimal, Option, Some, None}
 use Rattle.std.specs.Int.{◌∣◌}
 use Rattle.ratio_core.specs.Printing.{last_digits}
 use Rattle.ratio_core.specs.Reading.{minus}

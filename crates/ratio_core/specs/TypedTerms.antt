@@ -7,7 +7,7 @@ use Rattle.ratio_core.specs.TypedText.{AreSmall}
 use Rattle.ratio_core.specs.declared.text.decimals.terms.Terms.{Terms}
 use Rattle.ratio_core.specs.declared.text.typed.TextRefusal.{TextRefusal}
 use Rattle.ratio_core.specs.declared.text.typed.TextRefusal.TheVariants.{NotNumber, ZeroDenominator, NotHeld}
-use Rattle.ratio_core.specs.declared.text.typed.terms.SignedTerms.{SignedTerms}
+use Rattle.ratio_core.specs.declared.text.typed.signed.SignedTerms.{SignedTerms}
 
 -- all digits that the text begins with are taken off, and there is one at least
 pub record IsSomeDigitsCut (text digits rest : List ℕ) : Type 0 where

@@ -3,7 +3,7 @@
 //! If both products of the fields fit, one gcd reduces them. Else the operands are reduced and cancelled
 //! across, and a sign is moved, before anything is multiplied. The products are then the lowest terms, so
 //! only these must fit. Over `i8`, 100/3 times 3/100 is 1/1.
-pub mod lowest;
+pub mod lowest_products;
 
 ghost use Rattle.std.specs.Prelude.{◌<ℤ◌, pos};
 ghost use Rattle.ratio_integer.specs.Arithmetic.{product_of, quotient_of};
@@ -11,7 +11,7 @@ ghost use Rattle.ratio_integer.specs.Fraction.{ChecksLowest};
 ghost use Rattle.ratio_core.specs.Conditions.{IsHeldLowestOf, ProductCondition, QuotientCondition};
 
 use crate::checked_new::checked_new;
-use crate::products::lowest::{crossed_product, crossed_quotient};
+use crate::products::lowest_products::{crossed_product, crossed_quotient};
 use ratio_integer::{Integer, lowest_terms};
 
 /// The lowest terms of `a/b * c/d`, or `None` if they do not fit the type. The fractions need not be reduced.

@@ -1,6 +1,6 @@
 //! The simplest fraction strictly between two fractions, and within two bounds.
-mod neighbour;
 mod search;
+mod side;
 mod wholes;
 mod within;
 
@@ -9,8 +9,8 @@ ghost use Rattle.ratio_core.specs.ContinuedFraction.{IsWithinBits};
 ghost use Rattle.ratio_core.specs.Simplest.{ChecksSimplest};
 
 use crate::order::dividing::divide_left;
-use crate::simplest::neighbour::Neighbour;
 use crate::simplest::search::search;
+use crate::simplest::side::Side;
 use crate::simplest::wholes::{last_below, nearest_zero};
 use crate::steps::Steps;
 use ratio_integer::{Integer, both_held};
@@ -56,13 +56,13 @@ pub fn simplest_between_counted<T: Integer>(
     if low < last {
         return Some((nearest_zero(next, last), T::ONE));
     }
-    let left = Neighbour {
+    let left = Side {
         numer: low,
         denom: T::ONE,
         own: low_rest,
         other: last_rest,
     };
-    let right = Neighbour {
+    let right = Side {
         numer: next,
         denom: T::ONE,
         own: e.minus(last_rest),

@@ -4,7 +4,7 @@
 //! denominator, and return `None` where a number on the way does not fit. `lowest` has the calls on fractions in lowest terms, and `reducing` those on any fractions:
 //! they are exact for every type.
 mod difference;
-pub mod lowest;
+pub mod lowest_sums;
 mod mixed;
 mod multiple;
 mod parts;

@@ -16,7 +16,7 @@ impl<T: Copy + Integer> Reduced<T> {
         ensures { ChecksExactSum (numbers (ratio_of self.now)) (O.two_numbers other) (ratio_in result) }
     {
         let (numer, denom) = other.reduced().into_raw();
-        match sums::lowest::checked_add(*self.numer(), *self.denom(), numer, denom) {
+        match sums::lowest_sums::checked_add(*self.numer(), *self.denom(), numer, denom) {
             Some((numer, denom)) => Some(Reduced {
                 ratio: Ratio::new_raw(numer, denom),
             }),
@@ -30,7 +30,7 @@ impl<T: Copy + Integer> Reduced<T> {
         ensures { ChecksExactDifference (numbers (ratio_of self.now)) (O.two_numbers other) (ratio_in result) }
     {
         let (numer, denom) = other.reduced().into_raw();
-        match sums::lowest::checked_sub(*self.numer(), *self.denom(), numer, denom) {
+        match sums::lowest_sums::checked_sub(*self.numer(), *self.denom(), numer, denom) {
             Some((numer, denom)) => Some(Reduced {
                 ratio: Ratio::new_raw(numer, denom),
             }),
@@ -43,7 +43,7 @@ impl<T: Copy + Integer> Reduced<T> {
         ensures { ChecksProduct (numbers (ratio_of self.now)) (O.two_numbers other) (ratio_in result) }
     {
         let (numer, denom) = other.reduced().into_raw();
-        match products::lowest::checked_mul(*self.numer(), *self.denom(), numer, denom) {
+        match products::lowest_products::checked_mul(*self.numer(), *self.denom(), numer, denom) {
             Some((numer, denom)) => Some(Reduced {
                 ratio: Ratio::new_raw(numer, denom),
             }),
@@ -56,7 +56,7 @@ impl<T: Copy + Integer> Reduced<T> {
         ensures { ChecksQuotient (numbers (ratio_of self.now)) (O.two_numbers other) (ratio_in result) }
     {
         let (numer, denom) = other.reduced().into_raw();
-        match products::lowest::checked_div(*self.numer(), *self.denom(), numer, denom) {
+        match products::lowest_products::checked_div(*self.numer(), *self.denom(), numer, denom) {
             Some((numer, denom)) => Some(Reduced {
                 ratio: Ratio::new_raw(numer, denom),
             }),
@@ -73,7 +73,7 @@ impl<T: Copy + Integer> Reduced<T> {
         ensures { ChecksLowestRemainder (numbers (ratio_of self.now)) (O.two_numbers other) (ratio_in result) }
     {
         let (numer, denom) = other.reduced().into_raw();
-        match remainder::lowest::checked_rem(*self.numer(), *self.denom(), numer, denom) {
+        match remainder::lowest_remainder::checked_rem(*self.numer(), *self.denom(), numer, denom) {
             Some((numer, denom)) => Some(Reduced {
                 ratio: Ratio::new_raw(numer, denom),
             }),

@@ -40,7 +40,7 @@ impl<T: Copy + Integer> Reduced<T> {
     pub fn checked_pow_with<E: Exponent>(&self, exponent: E) -> Option<Reduced<T>>
         ensures { ChecksExactPower (ratio_of self.now) (E.number exponent) (ratio_in result) }
     {
-        match pow::lowest::checked_pow_with(*self.numer(), *self.denom(), exponent) {
+        match pow::lowest_powers::checked_pow_with(*self.numer(), *self.denom(), exponent) {
             Some((numer, denom)) => Some(Reduced {
                 ratio: Ratio::new_raw(numer, denom),
             }),

@@ -5,7 +5,7 @@ ghost use Rattle.ratio_core.specs.Enclosing.{Encloses};
 ghost use Rattle.ratio_core.specs.Simplest.{ChecksSimplest};
 
 use crate::order::dividing::divide_left;
-use crate::simplest::neighbour::{Neighbour, beyond, moved, times_within};
+use crate::simplest::side::{Side, beyond, stepped, times_within};
 use crate::steps::Steps;
 use ratio_integer::{Integer, both_held};
 
@@ -17,8 +17,8 @@ pub(crate) fn search<T: Integer>(
     d: T,
     m: T,
     e: T,
-    left: Neighbour<T>,
-    right: Neighbour<T>,
+    left: Side<T>,
+    right: Side<T>,
     steps: &mut Steps,
 ) -> Option<(T, T)>
     requires low { pos 0 <ℤ T.value d }
@@ -50,7 +50,7 @@ pub(crate) fn search<T: Integer>(
         if room < whole {
             return None;
         }
-        let next = moved(moving, fixed, whole, rest);
+        let next = stepped(moving, fixed, whole, rest);
         moving = fixed;
         fixed = next;
     }

@@ -37,7 +37,7 @@ pub fn from_decimal<T: Primitive>(text: &str) -> Result<(T, T), DecimalRefusal>
         None => Err(DecimalRefusal::NotDecimal),
         Some(parts) => match lowest(parts.whole, parts.part, parts.down, parts.exponent) {
             None => Err(DecimalRefusal::NotHeld),
-            Some(terms) => match held::<T>(parts.below, terms) {
+            Some(terms) => match held_terms::<T>(parts.below, terms) {
                 None => Err(DecimalRefusal::NotHeld),
                 Some(fraction) => Ok(fraction),
             },
@@ -46,7 +46,7 @@ pub fn from_decimal<T: Primitive>(text: &str) -> Result<(T, T), DecimalRefusal>
 }
 
 /// The two numbers in the type, the first one negated if `below`.
-pub(crate) fn held<T: Primitive>(below: bool, terms: Terms) -> Option<(T, T)>
+pub(crate) fn held_terms<T: Primitive>(below: bool, terms: Terms) -> Option<(T, T)>
     ensures { ChecksSigned T.value T.lo T.hi below terms.numer terms.denom result }
 {
     let numer = signed::<T>(below, terms.numer)?;

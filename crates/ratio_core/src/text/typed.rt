@@ -1,15 +1,15 @@
 //! Reading what a person types into one field as a fraction: `-0.5`, `3/4`, `-1 1/2` or `12.5%`.
-mod cut;
+mod parts;
 mod plain;
-mod terms;
+mod signed;
 
 ghost use Rattle.ratio_core.specs.TypedTerms.{AnswersTerms};
 ghost use Rattle.ratio_core.specs.TypedText.{AnswersTyped, IsTypedText};
 
-use crate::text::decimals::held;
-use crate::text::typed::cut::{before_percent, mixed_parts};
+use crate::text::decimals::held_terms;
+use crate::text::typed::parts::{before_percent, mixed_parts};
 use crate::text::typed::plain::plain_terms;
-use crate::text::typed::terms::{SignedTerms, mixed_terms};
+use crate::text::typed::signed::{SignedTerms, mixed_terms};
 use ratio_integer::Primitive;
 
 /// Why a typed text has no fraction.
@@ -38,7 +38,7 @@ pub fn from_text<T: Primitive>(text: &str) -> Result<(T, T), TextRefusal>
 {
     match typed_terms(text.as_bytes()) {
         Err(refusal) => Err(refusal),
-        Ok(read) => match held::<T>(read.below, read.terms) {
+        Ok(read) => match held_terms::<T>(read.below, read.terms) {
             None => Err(TextRefusal::NotHeld),
             Some(fraction) => Ok(fraction),
         },

@@ -14,14 +14,14 @@ pub(crate) fn with_end<T: Integer>(found: Option<(T, T)>, end: &End<T>) -> Optio
     ensures { ChecksWithEnd T.value T.lo T.hi end.now.included found (T.value end.now.numer) (T.value end.now.denom) result }
 {
     if end.included {
-        Some(first_of(found, end.numer, end.denom))
+        Some(simpler_of(found, end.numer, end.denom))
     } else {
         found
     }
 }
 
 /// The simpler one of what was found and of `n/d` in lowest terms.
-fn first_of<T: Integer>(found: Option<(T, T)>, n: T, d: T) -> (T, T)
+fn simpler_of<T: Integer>(found: Option<(T, T)>, n: T, d: T) -> (T, T)
     requires { pos 0 <ℤ T.value d }
     ensures { IsFirstOfTwo T.value T.lo T.hi found (T.value n) (T.value d) (T.value result.0) (T.value result.1) }
 {

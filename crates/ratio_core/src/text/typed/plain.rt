@@ -11,8 +11,8 @@ use crate::text::decimals::cut::decimal_parts;
 use crate::text::decimals::terms::Terms;
 use crate::text::decimals::value::{lowest, lowest_hundredth};
 use crate::text::typed::TextRefusal;
-use crate::text::typed::cut::quotient_parts;
-use crate::text::typed::terms::{SignedTerms, quotient_terms};
+use crate::text::typed::parts::quotient_parts;
+use crate::text::typed::signed::{SignedTerms, quotient_terms};
 
 /// The lowest terms of the text, or of its 100th part if `percent`.
 pub(crate) fn plain_terms(text: &[u8], percent: bool) -> Result<SignedTerms, TextRefusal>

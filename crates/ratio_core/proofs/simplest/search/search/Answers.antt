@@ -84,8 +84,8 @@ returns-then-lt-3-clause-left g c = left_ended c.rounds.invariant _ (c.times_wit
 pub returns-then-lt-3-clause-right : goal.returns-then-lt-3-clause-right
 returns-then-lt-3-clause-right g c = right_ended c.rounds.invariant _ (let a = c.times_within-room.ensures.right in let b = c.divide_left.ensures.right in omega arith)
 
-pub moved-next-requires : goal.moved-next-requires
-moved-next-requires g c =
+pub stepped-next-requires : goal.stepped-next-requires
+stepped-next-requires g c =
     let at = c.rounds.invariant in
     let known = facts at.inside in
     let law = g.met.T.Integer.lt_law in
@@ -102,7 +102,7 @@ rounds-smaller g c =
     let some = above_zero _ known.c_up (iff_false c.is_zero.ensures c.if-is_zero.false) in
     let more = no _ (law c.divide_left.result.0 c.times_within-room.result) (sym c.lt-in-rounds.ensures ∙ c.if-lt-2.false) in
     let less = no _ (law c.times_within-room.result c.divide_left.result.0) (sym c.lt-in-rounds-2.ensures ∙ c.if-lt-3.false) in
-    next_smaller at _ _ _ some c.divide_left.ensures.floored c.times_within-room.ensures.room more less _ _ c.moved-next.ensures.own c.moved-next.ensures.other
+    next_smaller at _ _ _ some c.divide_left.ensures.floored c.times_within-room.ensures.room more less _ _ c.stepped-next.ensures.own c.stepped-next.ensures.other
 
 pub rounds-preserved : goal.rounds-preserved
 rounds-preserved g c =
@@ -112,5 +112,5 @@ rounds-preserved g c =
     let some = above_zero _ known.c_up (iff_false c.is_zero.ensures c.if-is_zero.false) in
     let more = no _ (law c.divide_left.result.0 c.times_within-room.result) (sym c.lt-in-rounds.ensures ∙ c.if-lt-2.false) in
     let less = no _ (law c.times_within-room.result c.divide_left.result.0) (sym c.lt-in-rounds-2.ensures ∙ c.if-lt-3.false) in
-    let next = c.moved-next.ensures in
+    let next = c.stepped-next.ensures in
     next_searches at _ _ _ some c.divide_left.ensures.floored c.times_within-room.ensures.room more less _ _ _ _ _ _ next.numer next.denom next.own next.other (c.times_within-room.ensures.left ∙ c.divide_left.ensures.left) (let a = c.times_within-room.ensures.right in let b = c.divide_left.ensures.right in omega arith)

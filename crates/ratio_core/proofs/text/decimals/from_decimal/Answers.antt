@@ -32,8 +32,8 @@ returns-in-None-lowest g c =
           g.met.T.Integer.range_law g.met.T.Primitive.width_law c.in-None-lowest.ensures;
     }
 
-pub returns-in-None-held : goal.returns-in-None-held
-returns-in-None-held g c =
+pub returns-in-None-held_terms : goal.returns-in-None-held_terms
+returns-in-None-held_terms g c =
     let t = g.T.Integer in
     let p = c.in-Some.parts in
     let parts = subst (λ xs. HasDecimalParts xs p.below p.whole.now p.part.now p.down p.exponent.now) c.as_bytes.ensures.value c.in-Some.ensures in
@@ -43,14 +43,14 @@ returns-in-None-held g c =
       reads = reading c.args.text.now p.below p.whole.now p.part.now p.down p.exponent.now parts;
       out = lowest_out {R = g.row.T.Denot × g.row.T.Denot} (λ r. t.value r.0) (λ r. t.value r.1) t.lo t.hi _ _ _ _
           (signed_terms p.below (digits_sum 10 (p.whole.now ++ p.part.now) * tens_above p.down (digits_sum 10 p.exponent.now)) (10 ^ length p.part.now * tens_below p.down (digits_sum 10 p.exponent.now))
-          c.in-Some-lowest.terms.numer c.in-Some-lowest.terms.denom c.in-Some-lowest.ensures) c.in-None-held.ensures;
+          c.in-Some-lowest.terms.numer c.in-Some-lowest.terms.denom c.in-Some-lowest.ensures) c.in-None-held_terms.ensures;
     }
 
-pub returns-in-Some-held : goal.returns-in-Some-held
-returns-in-Some-held g c =
+pub returns-in-Some-held_terms : goal.returns-in-Some-held_terms
+returns-in-Some-held_terms g c =
     let t = g.T.Integer in
     let p = c.in-Some.parts in
     let parts = subst (λ xs. HasDecimalParts xs p.below p.whole.now p.part.now p.down p.exponent.now) c.as_bytes.ensures.value c.in-Some.ensures in
     held_reading t.value t.lo t.hi c.args.text.now p.below (digits_sum 10 (p.whole.now ++ p.part.now) * tens_above p.down (digits_sum 10 p.exponent.now)) (10 ^ length p.part.now * tens_below p.down (digits_sum 10 p.exponent.now))
-    c.in-Some-lowest.terms.numer c.in-Some-lowest.terms.denom c.in-Some-held.fraction.0 c.in-Some-held.fraction.1
-    (reading c.args.text.now p.below p.whole.now p.part.now p.down p.exponent.now parts) c.in-Some-lowest.ensures c.in-Some-held.ensures.0 c.in-Some-held.ensures.1
+    c.in-Some-lowest.terms.numer c.in-Some-lowest.terms.denom c.in-Some-held_terms.fraction.0 c.in-Some-held_terms.fraction.1
+    (reading c.args.text.now p.below p.whole.now p.part.now p.down p.exponent.now parts) c.in-Some-lowest.ensures c.in-Some-held_terms.ensures.0 c.in-Some-held_terms.ensures.1

@@ -83,7 +83,7 @@ pub use proved::ratio_core::BaseTenText;
 /// assert_eq!(Reduced::<i8>::from_decimal("128"), Err(DecimalRefusal::NotHeld));
 /// ```
 #[doc(inline)]
-pub use proved::ratio_core::DecimalRefusal;
+pub use proved::ratio_decimal::DecimalRefusal;
 /// The text that `decimal` and `exact_decimal` of a `Reduced` return.
 ///
 /// ```
@@ -104,7 +104,7 @@ pub use proved::ratio_core::DecimalText;
 /// assert_eq!(Reduced::<i8>::from_text("200/3"), Err(TextRefusal::NotHeld));
 /// ```
 #[doc(inline)]
-pub use proved::ratio_core::TextRefusal;
+pub use proved::ratio_decimal::TextRefusal;
 /// How a fraction is rounded to a multiple, such as cents.
 ///
 /// ```
@@ -115,4 +115,4 @@ pub use proved::ratio_core::TextRefusal;
 /// assert_eq!([by(Rounding::Up), by(Rounding::Floor), by(Rounding::Ceil)], ["-3", "-3", "-2"]);
 /// ```
 #[doc(inline)]
-pub use proved::ratio_core::rounding_rule::Rounding;
+pub use proved::ratio_decimal::rounding_rule::Rounding;

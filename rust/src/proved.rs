@@ -10,7 +10,11 @@
 
 pub mod itoa;
 pub mod num_rational;
+pub mod ratio_approximation;
 pub mod ratio_core;
+pub mod ratio_decimal;
+pub mod ratio_float;
 pub mod ratio_integer;
+pub mod ratio_laws;
 #[cfg(all(test, target_pointer_width = "64"))]
 mod tests_fractions;

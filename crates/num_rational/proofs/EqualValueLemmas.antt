@@ -8,7 +8,7 @@ use Rattle.ratio_integer.proofs.LowestTerms.{checks_lowest_moved, lowest_unique,
 use Rattle.ratio_integer.proofs.Whole.{mul_nonzero}
 use Rattle.ratio_core.specs.Conditions.{DifferenceCondition, SumCondition}
 use Rattle.ratio_core.proofs.LawLemmas.{same_value_sums}
-use Rattle.ratio_core.proofs.NearestLawLemmas.{nearest_moved, nearest_unique}
+use Rattle.ratio_approximation.proofs.NearestLawLemmas.{nearest_moved, nearest_unique}
 use Rattle.num_rational.specs.declared.ratio.Ratio.{Ratio}
 use Rattle.num_rational.specs.Operators.{ChecksDifference, ChecksSum, numbers}
 use Rattle.num_rational.specs.Ratio.{ChecksRatio, denominator, numerator}

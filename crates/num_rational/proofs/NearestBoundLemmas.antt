@@ -3,8 +3,8 @@ use Rattle.std.specs.Prelude.{◌*◌, ◌≤◌, ℕ, ℤ, unsigned_abs, None, 
 use Rattle.std.proofs.Common.{arith, rules, inl, inr}
 use Rattle.std.proofs.lemmas.Int.{ints}
 use Rattle.ratio_integer.proofs.LowestTerms.{lowest_own}
-use Rattle.ratio_core.specs.Nearest.{ComesFirst, gap}
-use Rattle.ratio_core.proofs.NearestLawLemmas.{lowest_nearest, nearest_unique}
+use Rattle.ratio_approximation.specs.Nearest.{ComesFirst, gap}
+use Rattle.ratio_approximation.proofs.NearestLawLemmas.{lowest_nearest, nearest_unique}
 use Rattle.num_rational.specs.declared.reduced.Reduced.{Reduced}
 use Rattle.num_rational.specs.NearestLaws.{HasNearest, KeepsNearest, NearsWithBound}
 use Rattle.num_rational.specs.Ratio.{denominator, numerator}

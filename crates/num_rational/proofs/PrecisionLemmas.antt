@@ -6,12 +6,12 @@ use Rattle.std.proofs.Math.Nat.{div-le_self, div-lt_iff_lt-mul, pow-le-pow_right
 use Rattle.std.proofs.lemmas.Fmt.{decimal_by_steps_wide}
 use Rattle.std.proofs.lemmas.Int.{ints}
 use Rattle.num_rational.specs.Padding.{padded_base_ten}
-use Rattle.ratio_core.specs.Decimal.{places_text, point, unsigned_places}
-use Rattle.ratio_core.specs.Precision.{half_even, half_even_text}
-use Rattle.ratio_core.specs.RoundingRules.{signed}
+use Rattle.ratio_decimal.specs.Decimal.{places_text, point, unsigned_places}
+use Rattle.ratio_decimal.specs.Precision.{half_even, half_even_text}
+use Rattle.ratio_decimal.specs.RoundingRules.{signed}
 use Rattle.ratio_core.proofs.DigitGroups.{at_least}
-use Rattle.ratio_core.proofs.HalfEvenLemmas.{least_half_even}
-use Rattle.ratio_core.proofs.LongLemmas.{whole_and_places}
+use Rattle.ratio_decimal.proofs.HalfEvenLemmas.{least_half_even}
+use Rattle.ratio_decimal.proofs.LongLemmas.{whole_and_places}
 
 no_minus : (n : ℕ) → n < 10 ^ 64 → (rest : List ℕ) → starts_with_minus (decimal n ++ rest) ≡ false
 no_minus = decimal_by_steps_wide (λ n ds. (rest : List ℕ) → starts_with_minus (ds ++ rest) ≡ false)

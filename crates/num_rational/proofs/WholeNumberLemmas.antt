@@ -13,12 +13,12 @@ use Rattle.ratio_integer.proofs.DivisionLemmas.{low_below}
 use Rattle.ratio_integer.proofs.Whole.{add-mul, mul_positive, neg-mul}
 use Rattle.ratio_core.specs.Order.{cross_cmp}
 use Rattle.ratio_core.specs.Rounding.{IsCeiling, IsFloor, IsWithinHalf}
-use Rattle.ratio_core.specs.declared.rounding_rule.Rounding.TheVariants.{Floor, Ceil}
+use Rattle.ratio_decimal.specs.declared.rounding_rule.Rounding.TheVariants.{Floor, Ceil}
 use Rattle.ratio_core.proofs.CancellingLemmas.{one_held}
 use Rattle.ratio_core.proofs.NumbersExist.{positive_fits}
 use Rattle.ratio_core.proofs.ProductOrder.{down_times, up_times, whole_at_most}
 use Rattle.ratio_core.proofs.RoundingLawLemmas.{one_ceiling, one_floor, same_ceiling, same_floor, same_half}
-use Rattle.ratio_core.proofs.RoundingRuleLaws.{rounded_monotone, rounded_near}
+use Rattle.ratio_decimal.proofs.RoundingRuleLaws.{rounded_monotone, rounded_near}
 use Rattle.num_rational.specs.declared.reduced.Reduced.{Reduced}
 use Rattle.num_rational.specs.Ratio.{denominator, numerator}
 use Rattle.num_rational.specs.RoundingLaws.{AddsWhole, IsCeilingOfNegative, IsNearFloor, IsNearRounded, KeepsWhole, RoundsInOrder}

@@ -2,7 +2,7 @@
 use Rattle.std.specs.Prelude.{ℤ, Option, None, Some}
 use Rattle.std.specs.declared.ops.Bound.{Bound}
 use Rattle.std.specs.declared.ops.Bound.TheVariants.{Included, Excluded, Unbounded}
-use Rattle.ratio_core.specs.SimplestWithin.{HoldsNoneWithin, IsSimplestWithin}
+use Rattle.ratio_approximation.specs.SimplestWithin.{HoldsNoneWithin, IsSimplestWithin}
 use Rattle.num_rational.specs.declared.reduced.Reduced.{Reduced}
 use Rattle.num_rational.specs.Ratio.{denominator, numerator}
 

@@ -1,6 +1,6 @@
 -- The nearest fraction with a bounded denominator, of `Reduced`. A premise only says what a call returned.
 use Rattle.std.specs.Prelude.{◌*◌, ◌≤◌, ◌≤ℤ◌, ◌<ℤ◌, ℕ, ℤ, pos, unsigned_abs, IsSome, Option, Some}
-use Rattle.ratio_core.specs.Nearest.{gap}
+use Rattle.ratio_approximation.specs.Nearest.{gap}
 use Rattle.num_rational.specs.declared.reduced.Reduced.{Reduced}
 use Rattle.num_rational.specs.Ratio.{denominator, numerator}
 use Rattle.num_rational.specs.Reduced.{ChecksNearest, ratio_of}

@@ -3,7 +3,7 @@ use Rattle.std.specs.Prelude.{ℕ, ℤ, Bool, true, false, List, [], Option, Non
 use Rattle.std.specs.Str.Parse.{starts_with_minus}
 use Rattle.ratio_core.specs.declared.text.form.Form.{Form}
 use Rattle.ratio_core.specs.declared.text.form.Form.TheVariants.{Decimal}
-use Rattle.ratio_core.specs.Precision.{half_even_text}
+use Rattle.ratio_decimal.specs.Precision.{half_even_text}
 use Rattle.ratio_core.specs.Printing.{body_of, prefix_of, text_of}
 
 -- The text of a `Reduced` in base 10: the fraction itself without a precision, and else a decimal with so many places. 7/2 in

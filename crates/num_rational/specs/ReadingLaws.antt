@@ -2,13 +2,13 @@
 use Rattle.std.specs.Prelude.{◌≡◌, ◌≢◌, ◌≤ℤ◌, ◌<ℤ◌, ℕ, pos, Bool, false, List, Result, Ok, Err}
 use Rattle.ratio_core.specs.declared.parse_error.RatioErrorKind.{RatioErrorKind}
 use Rattle.ratio_core.specs.declared.parse_error.RatioErrorKind.TheVariants.{ParseError}
-use Rattle.ratio_core.specs.declared.rounding_rule.Rounding.{Rounding}
+use Rattle.ratio_decimal.specs.declared.rounding_rule.Rounding.{Rounding}
 use Rattle.ratio_core.specs.declared.text.form.Form.{Form}
 use Rattle.ratio_core.specs.declared.text.form.Form.TheVariants.{Decimal}
-use Rattle.ratio_core.specs.declared.text.decimals.DecimalRefusal.{DecimalRefusal}
-use Rattle.ratio_core.specs.Decimal.{IsDecimalOf, IsExactDecimal}
-use Rattle.ratio_core.specs.DecimalLaws.{IsReadNear}
-use Rattle.ratio_core.specs.DecimalReading.{AnswersDecimal, IsReadDecimal}
+use Rattle.ratio_decimal.specs.declared.reading.DecimalRefusal.{DecimalRefusal}
+use Rattle.ratio_decimal.specs.Decimal.{IsDecimalOf, IsExactDecimal}
+use Rattle.ratio_laws.specs.DecimalLaws.{IsReadNear}
+use Rattle.ratio_decimal.specs.DecimalReading.{AnswersDecimal, IsReadDecimal}
 use Rattle.ratio_core.specs.Printing.{base_of, text_of}
 use Rattle.ratio_core.specs.Reading.{AnswersText, IsSlashedText}
 use Rattle.num_rational.specs.declared.reduced.Reduced.{Reduced}

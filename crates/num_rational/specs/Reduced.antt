@@ -3,9 +3,9 @@ use Rattle.std.specs.Prelude.{◌≡◌, ◌≤ℤ◌, ◌++◌, ℕ, ℤ, pos, 
 use Rattle.ratio_integer.specs.Range.{IsHeld}
 use Rattle.ratio_integer.proofs.LowestTerms.{over_one}
 use Rattle.ratio_core.specs.declared.parse_error.RatioErrorKind.{RatioErrorKind}
-use Rattle.ratio_core.specs.Nearest.{IsNearest}
+use Rattle.ratio_approximation.specs.Nearest.{IsNearest}
 use Rattle.ratio_core.specs.Reading.{AnswersText, IsFractionText}
-use Rattle.ratio_core.specs.Simplest.{HoldsNoneBetween, IsSimplest}
+use Rattle.ratio_approximation.specs.Simplest.{HoldsNoneBetween, IsSimplest}
 use Rattle.num_rational.specs.declared.ratio.Ratio.{Ratio}
 use Rattle.num_rational.specs.declared.reduced.Reduced.{Reduced}
 use Rattle.num_rational.specs.Ratio.{denominator, from_integer, numerator}

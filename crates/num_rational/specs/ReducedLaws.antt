@@ -1,7 +1,7 @@
 -- The laws of fractions that are always in lowest terms. A premise only says what a call returned.
 use Rattle.std.specs.Prelude.{◌≡◌, ◌+ℤ◌, ℤ, pos, neg_ℤ, unsigned_abs, List, Option, None, Some, ⊤}
 use Rattle.ratio_core.specs.ContinuedFraction.{IsPartialQuotients}
-use Rattle.ratio_core.specs.FromQuotients.{ChecksFraction}
+use Rattle.ratio_approximation.specs.FromQuotients.{ChecksFraction}
 use Rattle.ratio_core.specs.Power.{ChecksReciprocal}
 use Rattle.ratio_core.specs.Rounding.{IsFractionalPart, IsTruncation}
 use Rattle.num_rational.specs.declared.reduced.Reduced.{Reduced}

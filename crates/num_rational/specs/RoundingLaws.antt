@@ -2,9 +2,9 @@
 -- `HalfAway` and `Down`.
 use Rattle.std.specs.Prelude.{◌≡◌, ◌≢◌, ◌*◌, ◌≤ℤ◌, ◌<ℤ◌, pos, unsigned_abs, Option, None, Some}
 use Rattle.std.specs.declared.cmp.Ordering.TheVariants.{Greater}
-use Rattle.ratio_core.specs.RoundingRules.{IsRoundedBy}
-use Rattle.ratio_core.specs.declared.rounding_rule.Rounding.{Rounding}
-use Rattle.ratio_core.specs.declared.rounding_rule.Rounding.TheVariants.{HalfAway, Floor, Ceil}
+use Rattle.ratio_decimal.specs.RoundingRules.{IsRoundedBy}
+use Rattle.ratio_decimal.specs.declared.rounding_rule.Rounding.{Rounding}
+use Rattle.ratio_decimal.specs.declared.rounding_rule.Rounding.TheVariants.{HalfAway, Floor, Ceil}
 use Rattle.num_rational.specs.declared.reduced.Reduced.{Reduced}
 use Rattle.num_rational.specs.Comparison.{HaveSameFields, order_of}
 use Rattle.num_rational.specs.Ratio.{denominator, numerator}

@@ -1,6 +1,6 @@
 -- Fractions as `Ratio` with equal values, whatever their fields. A premise only says what a call returned.
 use Rattle.std.specs.Prelude.{◌≡◌, ◌<ℤ◌, ℤ, pos, true, Option, None, Some, ⊤}
-use Rattle.ratio_core.specs.Nearest.{IsNearest}
+use Rattle.ratio_approximation.specs.Nearest.{IsNearest}
 use Rattle.num_rational.specs.declared.ratio.Ratio.{Ratio}
 use Rattle.num_rational.specs.Comparison.{AreEqual, HaveSameFields}
 use Rattle.num_rational.specs.Operators.{ChecksDifference, ChecksProduct, ChecksQuotient, ChecksSum, numbers}

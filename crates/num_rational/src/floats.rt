@@ -2,10 +2,10 @@
 ghost use Rattle.std.specs.Prelude.{◌≡◌, ◌<ℤ◌, pos};
 ghost use Rattle.std.specs.Float.{binary32, binary64};
 ghost use Rattle.num_rational.specs.Ratio.{denominator, numerator};
-ghost use Rattle.ratio_core.specs.Floats.{nearest_float};
+ghost use Rattle.ratio_float.specs.Floats.{nearest_float};
 
 use crate::ratio::Ratio;
-use ratio_core::floats::nearest;
+use ratio_float::nearest;
 use ratio_integer::Primitive;
 
 impl<T: Primitive> Ratio<T> {

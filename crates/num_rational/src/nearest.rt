@@ -1,7 +1,7 @@
 //! The nearest fraction with a bounded denominator.
 ghost use Rattle.std.specs.Prelude.{◌<ℤ◌, pos};
 ghost use Rattle.ratio_integer.specs.Fraction.{IsLowestTerms};
-ghost use Rattle.ratio_core.specs.Nearest.{IsNearest};
+ghost use Rattle.ratio_approximation.specs.Nearest.{IsNearest};
 ghost use Rattle.num_rational.specs.Ratio.{denominator, numerator};
 
 use crate::ratio::Ratio;
@@ -18,7 +18,7 @@ impl<T: Copy + Integer> Ratio<T> {
         ensures nearest { IsNearest (numerator self.now) (denominator self.now) (T.value most) (numerator result) (denominator result) }
         ensures lowest { IsLowestTerms (numerator result) (denominator result) }
     {
-        let (numer, denom) = ratio_core::nearest::nearest(self.numer, self.denom, most);
+        let (numer, denom) = ratio_approximation::nearest::nearest(self.numer, self.denom, most);
         Ratio::new_raw(numer, denom)
     }
 }

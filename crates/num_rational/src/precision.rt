@@ -2,11 +2,10 @@
 ghost use Rattle.std.specs.Prelude.{◌<ℤ◌, pos};
 ghost use Rattle.std.specs.Fmt.{WritesStyledOnOk, formatter_spec, padded_integral};
 ghost use Rattle.num_rational.specs.Padding.{padded_base_ten};
-ghost use Rattle.ratio_core.specs.Precision.{half_even_text};
+ghost use Rattle.ratio_decimal.specs.Precision.{half_even_text};
 
 use crate::printing::write_base_ten;
-use ratio_core::rounding_rule::Rounding;
-use ratio_core::text;
+use ratio_decimal::rounding_rule::Rounding;
 use ratio_integer::{Primitive, both_held};
 use std::fmt;
 use std::fmt::{Formatter, Write};
@@ -25,9 +24,9 @@ pub(crate) fn write_with_places<T: Primitive, W: Write>(
 {
     both_held(numer, denom);
     if places < 39 {
-        let text = text::decimal(numer, denom, places as u32, Rounding::HalfEven);
+        let text = ratio_decimal::decimal(numer, denom, places as u32, Rounding::HalfEven);
         write_base_ten(text.as_str(), f)
     } else {
-        text::write_places(numer, denom, places, f)
+        ratio_decimal::write_places(numer, denom, places, f)
     }
 }

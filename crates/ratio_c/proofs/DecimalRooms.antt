@@ -9,15 +9,15 @@ use Rattle.std.proofs.Math.Nat.{suc-mul, mul_comm, div-le_of_le-mul}
 use Rattle.std.proofs.lemmas.Int.{ints}
 use Rattle.ratio_integer.specs.Range.{IsHeld, IsRange}
 use Rattle.ratio_integer.proofs.DivisionLemmas.{low_below}
-use Rattle.ratio_core.specs.Decimal.{IsDecimalOf, last_digits, places_text, point, unsigned_places}
+use Rattle.ratio_decimal.specs.Decimal.{IsDecimalOf, last_digits, places_text, point, unsigned_places}
 use Rattle.ratio_core.specs.Printing.{text_of}
 use Rattle.ratio_core.specs.Reading.{minus, slash}
 use Rattle.ratio_core.specs.declared.text.form.Form.TheVariants.{Decimal}
-use Rattle.ratio_core.specs.declared.rounding_rule.Rounding.{Rounding}
+use Rattle.ratio_decimal.specs.declared.rounding_rule.Rounding.{Rounding}
 use Rattle.ratio_c.specs.Texts.{decimal_longest}
 use Rattle.ratio_core.proofs.DigitGroups.{length_group, some_digit}
 use Rattle.ratio_core.proofs.PrintingLemmas.{small_magnitude}
-use Rattle.ratio_core.proofs.RoundingRuleLaws.{rounded_near}
+use Rattle.ratio_decimal.proofs.RoundingRuleLaws.{rounded_near}
 use Rattle.ratio_core.proofs.TextLengths.{text_short}
 
 -- ---- a rounded fraction is no further from 0 than its numerator, in parts of 1

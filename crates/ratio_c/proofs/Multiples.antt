@@ -1,8 +1,8 @@
 -- Multiples, as answers say them.
 use Rattle.std.specs.Prelude.{◌≡◌, ℤ, Option, Some, None, option_map}
 use Rattle.std.proofs.Common.{subst}
-use Rattle.ratio_core.specs.RoundingRules.{ChecksRounded}
-use Rattle.ratio_core.specs.declared.rounding_rule.Rounding.{Rounding}
+use Rattle.ratio_decimal.specs.RoundingRules.{ChecksRounded}
+use Rattle.ratio_decimal.specs.declared.rounding_rule.Rounding.{Rounding}
 use Rattle.ratio_c.specs.Crossing.{Said, Says, said_of}
 
 -- the same multiple, by the numbers of the input

@@ -2,7 +2,7 @@
 use Rattle.std.specs.Prelude.{◌≡◌, ℤ, Option, Some, None, option_map}
 use Rattle.std.proofs.Common.{subst}
 use Rattle.std.specs.declared.ops.Bound.{Bound}
-use Rattle.ratio_core.specs.SimplestWithin.{ChecksSimplestWithin}
+use Rattle.ratio_approximation.specs.SimplestWithin.{ChecksSimplestWithin}
 use Rattle.ratio_c.specs.Crossing.{Said, Says, said_of}
 
 -- the same fraction, by the bounds of the input

@@ -2,7 +2,7 @@
 use Rattle.std.specs.Prelude.{◌≡◌, ◌==◌, ◌/◌, ◌%◌, ◌<◌, ℕ, ℤ, Bool, true, false, ◌&&◌}
 use Rattle.std.specs.declared.ops.Bound.{Bound}
 use Rattle.std.specs.declared.ops.Bound.TheVariants.{Included, Excluded, Unbounded}
-use Rattle.ratio_core.specs.Bounds.{HasPositiveDenominator, numbers_in}
+use Rattle.ratio_approximation.specs.Bounds.{HasPositiveDenominator, numbers_in}
 use Rattle.ratio_c.specs.Codes.{code_high_included, code_high_open, code_low_included, code_low_open}
 
 -- whether a flag, which is a power of two, is one of these: 4 is one of 6

@@ -10,17 +10,17 @@ use Rattle.ratio_integer.specs.Arithmetic.{difference_of, product_of, quotient_o
 use Rattle.ratio_integer.specs.Fraction.{AnswersLowest, ChecksLowest, SameValue}
 use Rattle.ratio_core.specs.Conditions.{RemainderCondition}
 use Rattle.ratio_core.specs.ContinuedFraction.{IsCodesOf}
-use Rattle.ratio_core.specs.DecimalReading.{AnswersDecimal}
-use Rattle.ratio_core.specs.Floats.{fraction_of_float, nearest_float}
-use Rattle.ratio_core.specs.Nearest.{IsNearest}
+use Rattle.ratio_decimal.specs.DecimalReading.{AnswersDecimal}
+use Rattle.ratio_float.specs.Floats.{fraction_of_float, nearest_float}
+use Rattle.ratio_approximation.specs.Nearest.{IsNearest}
 use Rattle.ratio_core.specs.Order.{cross_cmp}
 use Rattle.ratio_core.specs.Power.{ChecksBoth, ChecksPower}
-use Rattle.ratio_core.specs.Rationalize.{ChecksRationalized}
-use Rattle.ratio_core.specs.RoundingRules.{ChecksRounded}
-use Rattle.ratio_core.specs.SimplestWithin.{ChecksSimplestWithin}
-use Rattle.ratio_core.specs.TypedText.{AnswersTyped}
-use Rattle.ratio_core.specs.declared.text.typed.TextRefusal.{TextRefusal}
-use Rattle.ratio_core.specs.declared.text.decimals.DecimalRefusal.{DecimalRefusal}
+use Rattle.ratio_float.specs.Rationalize.{ChecksRationalized}
+use Rattle.ratio_decimal.specs.RoundingRules.{ChecksRounded}
+use Rattle.ratio_approximation.specs.SimplestWithin.{ChecksSimplestWithin}
+use Rattle.ratio_decimal.specs.TypedText.{AnswersTyped}
+use Rattle.ratio_decimal.specs.declared.typed.TextRefusal.{TextRefusal}
+use Rattle.ratio_decimal.specs.declared.reading.DecimalRefusal.{DecimalRefusal}
 use Rattle.num_rational.specs.ContinuedFractions.{AreConvergents}
 use Rattle.ratio_c.specs.Bounds.{AreFlags, HavePositiveDenominators, flagged_high, flagged_low}
 use Rattle.ratio_core.specs.Rounding.{IsCeiling, IsFloor, IsRounded, IsTruncation}

@@ -5,12 +5,12 @@ use Rattle.std.specs.declared.cmp.Ordering.{Ordering}
 use Rattle.std.specs.declared.cmp.Ordering.TheVariants.{Less, Equal, Greater}
 use Rattle.ratio_core.specs.declared.parse_error.RatioErrorKind.{RatioErrorKind}
 use Rattle.ratio_core.specs.declared.parse_error.RatioErrorKind.TheVariants.{ParseError, ZeroDenominator}
-use Rattle.ratio_core.specs.declared.text.decimals.DecimalRefusal.{DecimalRefusal}
-use Rattle.ratio_core.specs.declared.text.decimals.DecimalRefusal.TheVariants.{NotDecimal, NotHeld}
-use Rattle.ratio_core.specs.declared.text.typed.TextRefusal.{TextRefusal}
-use Rattle.ratio_core.specs.declared.text.typed.TextRefusal.TheVariants.{NotNumber, ZeroDenominator, NotHeld}
-use Rattle.ratio_core.specs.declared.rounding_rule.Rounding.{Rounding}
-use Rattle.ratio_core.specs.declared.rounding_rule.Rounding.TheVariants.{HalfAway, HalfEven, Down, Up, Floor, Ceil}
+use Rattle.ratio_decimal.specs.declared.reading.DecimalRefusal.{DecimalRefusal}
+use Rattle.ratio_decimal.specs.declared.reading.DecimalRefusal.TheVariants.{NotDecimal, NotHeld}
+use Rattle.ratio_decimal.specs.declared.typed.TextRefusal.{TextRefusal}
+use Rattle.ratio_decimal.specs.declared.typed.TextRefusal.TheVariants.{NotNumber, ZeroDenominator, NotHeld}
+use Rattle.ratio_decimal.specs.declared.rounding_rule.Rounding.{Rounding}
+use Rattle.ratio_decimal.specs.declared.rounding_rule.Rounding.TheVariants.{HalfAway, HalfEven, Down, Up, Floor, Ceil}
 use Rattle.ratio_c.specs.declared.wide.Wide.{Wide}
 use Rattle.ratio_c.specs.Codes.{code_answered, code_not_held, code_parse_error, code_rule_down, code_rule_floor, code_rule_half_away, code_rule_half_even, code_rule_up, code_zero_denominator, hash_multiplier}
 

@@ -1,7 +1,7 @@
 -- Keys of 64 bits, whose order never contradicts that of the values.
 use Rattle.std.specs.Prelude.{◌≡◌, ◌<ℤ◌, ◌≤ℤ◌, ◌*ℤ◌, ℕ, ℤ, pos, negsuc, neg_ℤ, to_bits, unsigned_abs}
 use Rattle.std.specs.Float.{binary64, ◌<ᶠ◌}
-use Rattle.ratio_core.specs.Floats.{nearest_float}
+use Rattle.ratio_float.specs.Floats.{nearest_float}
 use Rattle.ratio_c.specs.Calls.{Tested}
 use Rattle.ratio_c.specs.Codes.{code_answered, code_denominator_not_positive}
 

@@ -2,7 +2,7 @@
 use Rattle.std.specs.Prelude.{◌≡◌, ◌+◌, ◌*◌, ◌<◌, ◌≤◌, ◌<ℤ◌, ℕ, ℤ, pos, List, [], ◌++◌, length, take, drop, get_or, max, slice_index_or, false}
 use Rattle.std.specs.Fmt.{signed_decimal}
 use Rattle.std.specs.List.{concat}
-use Rattle.ratio_core.specs.Decimal.{IsDecimalOf}
+use Rattle.ratio_decimal.specs.Decimal.{IsDecimalOf}
 use Rattle.ratio_core.specs.declared.text.form.Form.TheVariants.{Decimal}
 use Rattle.ratio_core.specs.Printing.{text_of}
 use Rattle.ratio_c.specs.Calls.{Tested}

@@ -1,6 +1,6 @@
 //! The simplest fraction within two bounds.
 ghost use Rattle.std.specs.Prelude.{◌≡◌, ◌↔◌, ◌<◌, IsTrue, MatchOption};
-ghost use Rattle.ratio_core.specs.Bounds.{HasPositiveDenominator, numbers_in};
+ghost use Rattle.ratio_approximation.specs.Bounds.{HasPositiveDenominator, numbers_in};
 ghost use Rattle.ratio_c.specs.Bounds.{AreBounds, AreFlags, HavePositiveDenominators, bound_of, has_flag, flagged_high, flagged_low};
 ghost use Rattle.ratio_c.specs.Calls.{IsBetweenAnswer};
 
@@ -9,7 +9,7 @@ use crate::code::{
 };
 use crate::crossing::{FlaggedBounds, Reply, checked_fields, refused};
 use crate::each::Call;
-use ratio_core::simplest::simplest_within;
+use ratio_approximation::simplest::simplest_within;
 use ratio_integer::Integer;
 use std::ops::Bound;
 

@@ -11,7 +11,7 @@ use crate::one_fraction::positive;
 use crate::printing::{Printer, Text, no_text, put_bytes};
 use crate::reading::Reader;
 use ratio_core::DecimalText;
-use ratio_core::text::{DecimalRefusal, decimal, from_decimal};
+use ratio_decimal::{DecimalRefusal, decimal, from_decimal};
 use ratio_integer::both_held;
 use std::marker::PhantomData;
 

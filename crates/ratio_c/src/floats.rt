@@ -6,8 +6,8 @@ use crate::code::{ANSWERED, DENOMINATOR_NOT_POSITIVE};
 use crate::crossing::{Digest, OneFraction, Reply, checked_fields};
 use crate::each::Call;
 use crate::one_fraction::positive;
-use ratio_core::floats::exact::from_float;
-use ratio_core::floats::rationalize::rationalize;
+use ratio_float::exact::from_float;
+use ratio_float::rationalize::rationalize;
 use std::marker::PhantomData;
 
 /// A float. If there is none, the code says why, and the value is 0.

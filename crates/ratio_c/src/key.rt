@@ -7,7 +7,7 @@ ghost use Rattle.ratio_c.specs.Numbers64.{fraction64};
 use crate::code::{ANSWERED, DENOMINATOR_NOT_POSITIVE};
 use crate::each::{Call, each};
 use crate::numbers64::Fraction64;
-use ratio_core::floats::nearest::to_f64;
+use ratio_float::nearest::to_f64;
 
 /// A key. If there is none, the code says why, and the key is 0.
 #[repr(C)]

@@ -10,8 +10,8 @@ use crate::code::{
 use crate::crossing::{Parted, Reply, checked_fields, refused};
 use crate::each::Call;
 use crate::one_fraction::positive;
-use ratio_core::round_to;
-use ratio_core::rounding_rule::Rounding;
+use ratio_decimal::round_to;
+use ratio_decimal::rounding_rule::Rounding;
 use ratio_integer::Integer;
 
 /// The multiple of `1/parts` that the rule says: 2/3 to 100 by `RULE_HALF_EVEN` gives 67/100.

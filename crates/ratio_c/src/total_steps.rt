@@ -13,7 +13,7 @@ use crate::each::{Call, each};
 use crate::numbers64::{Answer64, Fraction64};
 use crate::totals::{Step, Total64, TotalSaid, gather, total_of};
 use ratio_core::products::lowest_products;
-use ratio_core::sums::{lowest as lowest_sums, reducing};
+use ratio_core::sums::{lowest_sums, reducing};
 
 /// A fraction goes into a total.
 #[derive(Clone, Copy)]
@@ -131,7 +131,7 @@ fn mean(n: i128, d: i128, count: u64) -> Option<(i64, i64)>
     requires { IsLowestTerms n d }
     ensures { ChecksLowest (λ r. r.0) (λ r. r.1) least64 greatest64 (quotient_of n d (pos count) (pos 1)) result }
 {
-    match lowest::checked_div(n, d, count as i128, 1) {
+    match lowest_products::checked_div(n, d, count as i128, 1) {
         Some((numer, denom)) => cast::<i128, i64>(numer, denom),
         None => None,
     }

@@ -4,7 +4,7 @@ ghost use Rattle.ratio_c.specs.Calls.{SaysTyped};
 use crate::code::{NOT_HELD, PARSE_ERROR, ZERO_DENOMINATOR};
 use crate::crossing::Digest;
 use crate::reading::Reader;
-use ratio_core::text::{TextRefusal, from_text};
+use ratio_decimal::{TextRefusal, from_text};
 use std::marker::PhantomData;
 
 /// The reader of texts such as `3/4`, `-0.5`, `-1 1/2` and `12.5%`, over the type `T`.

@@ -79,14 +79,14 @@ pub fn is_negative<T: SignedInteger>(n: T, d: T) -> bool
 }
 
 /// Whether the number is below 0.
-pub(crate) fn is_below_zero<T: Integer>(a: T) -> bool
+pub fn is_below_zero<T: Integer>(a: T) -> bool
     ensures { IsTrue result ↔ (T.value a <ℤ pos 0) }
 {
     a < T::ZERO
 }
 
 /// Whether the number is above 0.
-pub(crate) fn is_above_zero<T: Integer>(a: T) -> bool
+pub fn is_above_zero<T: Integer>(a: T) -> bool
     ensures { IsTrue result ↔ (pos 0 <ℤ T.value a) }
 {
     T::ZERO < a

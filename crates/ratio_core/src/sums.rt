@@ -12,6 +12,6 @@ pub mod reducing;
 mod sum;
 
 pub use difference::{checked_sub, sub};
-pub(crate) use mixed::numerator_of;
-pub(crate) use multiple::multiple_over;
+pub use mixed::numerator_of;
+pub use multiple::multiple_over;
 pub use sum::{add, checked_add};

@@ -6,7 +6,7 @@ use Rattle.std.proofs.lemmas.Int.{ints}
 use Rattle.ratio_integer.specs.Fraction.{ChecksLowest, Fits, IsHeldLowest, IsLowestTermsOf}
 use Rattle.ratio_integer.specs.Range.{IsHeld}
 use Rattle.ratio_integer.proofs.LowestTerms.{lowest_own, lowest_unique}
-use Rattle.ratio_core.specs.Nearest.{ComesFirst, IsNearest, gap}
+use Rattle.ratio_approximation.specs.Nearest.{ComesFirst, IsNearest, gap}
 use Rattle.ratio_core.proofs.ProductOrder.{times_le}
 use Rattle.num_rational.specs.Ratio.{denominator, numerator}
 use Rattle.num_rational.specs.Reduced.{ratio_in}

@@ -1,6 +1,6 @@
 -- Two wheels whose ratio of teeth is near a wanted one. The ratio is a pair of whole numbers here.
 use Rattle.std.specs.Prelude.{◌⊎◌, ◌≤ℤ◌, ◌<ℤ◌, ℤ, pos, Option, Some, None}
-use Rattle.ratio_core.specs.Nearest.{ComesFirst, gap}
+use Rattle.ratio_approximation.specs.Nearest.{ComesFirst, gap}
 use Rattle.num_rational.specs.Operators.{ChecksExactDifference}
 use Rattle.num_rational.specs.Reduced.{ratio_in}
 use Rattle.num_rational.specs.declared.reduced.Reduced.{Reduced}

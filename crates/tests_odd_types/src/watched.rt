@@ -3,7 +3,7 @@
 use crate::fractions::{looked_at, raw};
 use crate::plain::{self, Euclid, Plain};
 use num_rational::Ratio;
-use ratio_core::nearest::nearest;
+use ratio_approximation::nearest::nearest;
 use ratio_integer::Integer;
 use ratio_odd::Watch8;
 use std::cell::Cell;

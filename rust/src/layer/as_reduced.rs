@@ -4,7 +4,7 @@
 use super::integer::Integer;
 use super::ratio::Ratio;
 use super::reduced::Reduced;
-use crate::proved::ratio_core::rounding_rule::Rounding;
+use crate::proved::ratio_decimal::rounding_rule::Rounding;
 use crate::proved::ratio_core::DecimalText;
 
 impl<T: Integer> Ratio<T> {

@@ -3,7 +3,7 @@
 //! Proved calls find it. They require a positive denominator. For another one, this module passes on the magnitudes.
 use super::integer::{Element, Integer};
 use super::ratio::Ratio;
-use crate::proved::ratio_core::floats::nearest;
+use crate::proved::ratio_float::nearest;
 use crate::proved::ratio_core::text::printing::magnitude;
 use crate::proved::ratio_integer::Primitive;
 use core::ops::Neg;

@@ -1,7 +1,7 @@
 //! The simplest fraction between two, and within two bounds.
 use super::integer::{Element, Integer};
 use super::ratio::Ratio;
-use crate::proved::ratio_core::simplest;
+use crate::proved::ratio_approximation::simplest;
 use core::ops::Bound;
 
 /// The bound with what `then` makes of its fraction. `None` if that is `None`.

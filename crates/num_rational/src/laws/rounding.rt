@@ -1,6 +1,6 @@
 //! Whole numbers near a `Reduced`. Each function changes nothing: its contract is the law, for the fractions that it is given.
 ghost use Rattle.num_rational.specs.RoundingLaws.{AddsWhole, IsCeilingOfNegative, IsNearFloor, IsNearRounded, KeepsWhole, RoundsInOrder};
-ghost use Rattle.ratio_core.specs.declared.rounding_rule.Rounding.TheVariants.{Floor, Ceil};
+ghost use Rattle.ratio_decimal.specs.declared.rounding_rule.Rounding.TheVariants.{Floor, Ceil};
 
 use crate::reduced::Reduced;
 use ratio_integer::{Integer, SignedInteger, both_held};

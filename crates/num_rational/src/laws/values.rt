@@ -1,5 +1,5 @@
 //! Fractions as `Ratio` with equal values: 1/2 and 2/4. Each function does nothing: its contract is the law, for the fractions that it is
-//! given. So a caller may replace a fraction by its `reduced`. `ratio_core::laws::roundings_by_value` has the whole numbers near them.
+//! given. So a caller may replace a fraction by its `reduced`. `ratio_laws::laws::roundings_by_value` has the whole numbers near them.
 ghost use Rattle.num_rational.specs.ValueLaws.{AddsByValue, DividesByValue, IsNearestByValue, MultipliesByValue, SubtractsByValue};
 
 use crate::ratio::Ratio;

@@ -2,11 +2,11 @@
 ghost use Rattle.std.specs.Prelude.{◌≤◌};
 ghost use Rattle.num_rational.specs.Ratio.{denominator, numerator};
 ghost use Rattle.num_rational.specs.Reduced.{ratio_of};
-ghost use Rattle.ratio_core.specs.Decimal.{ChecksExactDecimal, IsDecimalOf};
+ghost use Rattle.ratio_decimal.specs.Decimal.{ChecksExactDecimal, IsDecimalOf};
 
 use super::Reduced;
-use ratio_core::rounding_rule::Rounding;
-use ratio_core::{DecimalText, text};
+use ratio_core::DecimalText;
+use ratio_decimal::rounding_rule::Rounding;
 use ratio_integer::Primitive;
 
 impl<T: Primitive> Reduced<T> {
@@ -17,13 +17,13 @@ impl<T: Primitive> Reduced<T> {
         requires { places ≤ 38 }
         ensures { IsDecimalOf rule places (numerator (ratio_of self.now)) (denominator (ratio_of self.now)) result }
     {
-        text::decimal(*self.numer(), *self.denom(), places, rule)
+        ratio_decimal::decimal(*self.numer(), *self.denom(), places, rule)
     }
     /// All of the fraction as a decimal: `12.375` for 99/8, and `5` for 5/1. It is `None` exactly if the digits do not
     /// end, as those of 1/3. They end if the denominator has no prime factor but 2 and 5.
     pub fn exact_decimal(&self) -> Option<DecimalText>
         ensures { ChecksExactDecimal (numerator (ratio_of self.now)) (denominator (ratio_of self.now)) result }
     {
-        text::exact_decimal(*self.numer(), *self.denom())
+        ratio_decimal::exact_decimal(*self.numer(), *self.denom())
     }
 }

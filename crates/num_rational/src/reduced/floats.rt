@@ -4,12 +4,12 @@ ghost use Rattle.std.specs.Float.{binary32, binary64};
 ghost use Rattle.num_rational.specs.Ratio.{ChecksRatio, denominator, numerator};
 ghost use Rattle.num_rational.specs.Rationalized.{fields_in};
 ghost use Rattle.num_rational.specs.Reduced.{ratio_in, ratio_of};
-ghost use Rattle.ratio_core.specs.Floats.{fraction_of_float, nearest_float};
-ghost use Rattle.ratio_core.specs.Rationalize.{ChecksRationalized};
+ghost use Rattle.ratio_float.specs.Floats.{fraction_of_float, nearest_float};
+ghost use Rattle.ratio_float.specs.Rationalize.{ChecksRationalized};
 
 use super::Reduced;
 use crate::ratio::Ratio;
-use ratio_core::floats::{exact, rationalize};
+use ratio_float::{exact, rationalize};
 use ratio_integer::{Integer, Primitive};
 
 impl<T: Copy + Integer> Reduced<T> {

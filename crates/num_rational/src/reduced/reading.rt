@@ -1,12 +1,12 @@
 //! Reading decimals, and what a person types, as fractions in lowest terms.
 ghost use Rattle.num_rational.specs.Ratio.{denominator, numerator};
 ghost use Rattle.num_rational.specs.Reduced.{ratio_of};
-ghost use Rattle.ratio_core.specs.DecimalReading.{AnswersDecimal};
-ghost use Rattle.ratio_core.specs.TypedText.{AnswersTyped};
+ghost use Rattle.ratio_decimal.specs.DecimalReading.{AnswersDecimal};
+ghost use Rattle.ratio_decimal.specs.TypedText.{AnswersTyped};
 
 use super::Reduced;
 use crate::ratio::Ratio;
-use ratio_core::{DecimalRefusal, TextRefusal, text};
+use ratio_decimal::{DecimalRefusal, TextRefusal};
 use ratio_integer::Primitive;
 
 impl<T: Primitive> Reduced<T> {
@@ -19,7 +19,7 @@ impl<T: Primitive> Reduced<T> {
     pub fn from_decimal(text: &str) -> Result<Reduced<T>, DecimalRefusal>
         ensures { AnswersDecimal (λ x. numerator (ratio_of x)) (λ x. denominator (ratio_of x)) T.lo T.hi text.now result }
     {
-        match text::from_decimal::<T>(text) {
+        match ratio_decimal::from_decimal::<T>(text) {
             Ok((numer, denom)) => Ok(Reduced {
                 ratio: Ratio::new_raw(numer, denom),
             }),
@@ -40,7 +40,7 @@ impl<T: Primitive> Reduced<T> {
     pub fn from_text(text: &str) -> Result<Reduced<T>, TextRefusal>
         ensures { AnswersTyped (λ x. numerator (ratio_of x)) (λ x. denominator (ratio_of x)) T.lo T.hi text.now result }
     {
-        match text::from_text::<T>(text) {
+        match ratio_decimal::from_text::<T>(text) {
             Ok((numer, denom)) => Ok(Reduced {
                 ratio: Ratio::new_raw(numer, denom),
             }),

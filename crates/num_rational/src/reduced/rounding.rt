@@ -1,14 +1,14 @@
 //! Whole numbers and multiples near a fraction, its fractional part, and the nearest fraction with a bounded denominator.
 ghost use Rattle.std.specs.Prelude.{◌≡◌, ◌-◌, ◌^◌, ◌<ℤ◌, pos, negsuc};
 ghost use Rattle.ratio_core.specs.Rounding.{ChecksTruncation, IsCeiling, IsFloor, IsFractionalPart, IsRounded, IsTruncation};
-ghost use Rattle.ratio_core.specs.RoundingRules.{ChecksRounded};
+ghost use Rattle.ratio_decimal.specs.RoundingRules.{ChecksRounded};
 ghost use Rattle.num_rational.specs.Ratio.{denominator, numerator};
 ghost use Rattle.num_rational.specs.Reduced.{ChecksNearest, ratio_of};
 
 use super::Reduced;
 use crate::ratio::Ratio;
-use ratio_core::round_to;
-use ratio_core::rounding_rule::Rounding;
+use ratio_decimal::round_to;
+use ratio_decimal::rounding_rule::Rounding;
 use ratio_integer::Integer;
 
 impl<T: Copy + Integer> Reduced<T> {

@@ -1,12 +1,12 @@
 //! The simplest fraction between two, and within two bounds.
 ghost use Rattle.std.specs.Prelude.{◌≡◌};
-ghost use Rattle.ratio_core.specs.Bounds.{HasPositiveDenominator, numbers_in};
+ghost use Rattle.ratio_approximation.specs.Bounds.{HasPositiveDenominator, numbers_in};
 ghost use Rattle.num_rational.specs.Bounds.{ChecksSimplestWithinBounds, bound_numbers};
 ghost use Rattle.num_rational.specs.Reduced.{ChecksSimplestBetween};
 
 use super::Reduced;
 use crate::ratio::Ratio;
-use ratio_core::simplest;
+use ratio_approximation::simplest;
 use ratio_integer::Integer;
 use std::ops::Bound;
 

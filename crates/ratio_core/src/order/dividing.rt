@@ -8,7 +8,7 @@ use crate::steps::Steps;
 use ratio_integer::{Integer, both_held};
 
 /// A step of the left side: the floored quotient and the rest. For -7 by 2 they are -4 and 1.
-pub(crate) fn divide_left<T: Integer>(n: T, d: T, steps: &mut Steps) -> (T, T)
+pub fn divide_left<T: Integer>(n: T, d: T, steps: &mut Steps) -> (T, T)
     requires nonzero { T.value d ≢ pos 0 }
     requires held { ¬ (IsAboveMax T.hi (T.value n) (T.value d)) }
     ensures floored { IsFloored (T.value n) (T.value d) (T.value result.0) (T.value result.1) }
@@ -23,7 +23,7 @@ pub(crate) fn divide_left<T: Integer>(n: T, d: T, steps: &mut Steps) -> (T, T)
 }
 
 /// A step of the right side: the floored quotient and the rest.
-pub(crate) fn divide_right<T: Integer>(n: T, d: T, steps: &mut Steps) -> (T, T)
+pub fn divide_right<T: Integer>(n: T, d: T, steps: &mut Steps) -> (T, T)
     requires nonzero { T.value d ≢ pos 0 }
     requires held { ¬ (IsAboveMax T.hi (T.value n) (T.value d)) }
     ensures floored { IsFloored (T.value n) (T.value d) (T.value result.0) (T.value result.1) }

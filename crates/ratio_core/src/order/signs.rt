@@ -6,7 +6,7 @@ use crate::sign::is_below_zero;
 use ratio_integer::Integer;
 
 /// Whether exactly one of the two is below 0.
-pub(crate) fn have_unlike_signs<T: Integer>(d: T, e: T) -> bool
+pub fn have_unlike_signs<T: Integer>(d: T, e: T) -> bool
     ensures { IsTrue result ↔ HaveUnlikeSigns (T.value d) (T.value e) }
 {
     is_below_zero(d) != is_below_zero(e)

@@ -64,7 +64,7 @@ fn ceiling<T: Integer>(c: T, d: T) -> (T, T)
 
 /// The numerator of `whole + part/denom`, or `None` if it does not fit. If `whole` is below 0, the next whole
 /// number is multiplied: `whole * denom` may be out of range where the numerator is not.
-pub(crate) fn numerator_of<T: Integer>(whole: T, part: T, denom: T) -> Option<T>
+pub fn numerator_of<T: Integer>(whole: T, part: T, denom: T) -> Option<T>
     requires above { pos 0 ≤ℤ T.value part }
     requires at_most { T.value part ≤ℤ T.value denom }
     ensures { Checks T.value T.lo T.hi (T.value whole *ℤ T.value denom +ℤ T.value part) result }

@@ -7,8 +7,8 @@ use std::marker::Model;
 #[derive(Drop)]
 pub struct FixedText<const ROOM: usize> {
     // The text ends where the array does.
-    pub(crate) bytes: [u8; ROOM],
-    pub(crate) start: usize,
+    pub bytes: [u8; ROOM],
+    pub start: usize,
 }
 
 /// The text of a fraction in base 10, of at most 81 bytes: a slash, and two numbers of 39 digits with a minus each.

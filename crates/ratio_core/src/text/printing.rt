@@ -173,7 +173,7 @@ fn put_decimal<T: Primitive>(t: T, buf: &mut [u8], end: usize) -> usize
 }
 
 /// The distance of the number from 0.
-pub(crate) fn magnitude<T: Primitive>(t: T) -> u128
+pub fn magnitude<T: Primitive>(t: T) -> u128
     ensures { result ≡ unsigned_abs (T.value t) }
 {
     match t.to_u128() {

@@ -1,7 +1,7 @@
 //! An amount split by shares into multiples of a unit, such as cents, so that no cent is lost.
 ghost use Rattle.std.specs.Prelude.{◌≡◌, ◌↔◌, ◌<ℤ◌, ℤ, length, pos, IfErr, IsTrue, MatchResult, OnErr, OnOk};
-ghost use Rattle.ratio_core.specs.Decimal.{IsDecimalOf};
-ghost use Rattle.ratio_core.specs.declared.rounding_rule.Rounding.TheVariants.{HalfEven};
+ghost use Rattle.ratio_decimal.specs.Decimal.{IsDecimalOf};
+ghost use Rattle.ratio_decimal.specs.declared.rounding_rule.Rounding.TheVariants.{HalfEven};
 ghost use Rattle.ratio_integer.specs.Arithmetic.{sum_of};
 ghost use Rattle.ratio_uses.specs.Cents.{CanSplitTo, ChecksNextPart, IsCount, IsSplitTo, PartsFit, RefusesSplitTo, StepsRefuse};
 ghost use Rattle.ratio_uses.specs.Held.{lowest_numbers};

@@ -1,19 +1,17 @@
 //! The calls on fields that the calls of fractions pass on to, each once at a concrete type.
 use crate::asserting::{each_holds, reads};
 use ratio_core::checked_new::checked_new;
-use ratio_core::floats::nearest::{to_f32, to_f64};
 use ratio_core::pow::{checked_pow, checked_pow_with, checked_recip, pow, pow_with, recip};
 use ratio_core::rounding::{
     ceil, floor, fract, round, to_i64, to_i128, to_integer, to_u64, to_u128, trunc,
 };
-use ratio_core::rounding_rule::Rounding;
 use ratio_core::sign::{abs, abs_sub, is_negative, is_positive, neg, signum};
 use ratio_core::sums::checked_sub;
-use ratio_core::text::{
-    base_ten_text, decimal, from_decimal, from_str, from_str_radix, from_text, put_base_ten_text,
-    put_text,
-};
-use ratio_core::{BaseTenText, Form, RatioText, round_to};
+use ratio_core::text::{base_ten_text, from_str, from_str_radix, put_base_ten_text, put_text};
+use ratio_core::{BaseTenText, Form, RatioText};
+use ratio_decimal::rounding_rule::Rounding;
+use ratio_decimal::{decimal, from_decimal, from_text, round_to};
+use ratio_float::nearest::{to_f32, to_f64};
 use ratio_integer::{cancelled, lowest_terms};
 
 #[test]

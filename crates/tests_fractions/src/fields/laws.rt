@@ -1,7 +1,7 @@
 //! The laws can be called like any function.
 use num_rational::laws::json_pairs;
-use ratio_core::{laws, text};
 use ratio_integer::laws as integers;
+use ratio_laws::laws;
 
 #[test]
 fn each_law_is_called(_rt: HostRuntime) {
@@ -22,10 +22,10 @@ fn each_law_is_called(_rt: HostRuntime) {
     laws::simplest_fractions();
     laws::simplest_fractions_within();
     laws::fractions_of_quotients();
-    text::laws::digits();
-    text::laws::decimal_digits();
-    text::laws::decimals();
-    text::laws::typed_texts();
-    text::laws::one_reading();
+    laws::texts::digits();
+    laws::texts::decimal_digits();
+    laws::texts::decimals();
+    laws::texts::typed_texts();
+    laws::texts::one_reading();
     json_pairs();
 }

@@ -1,7 +1,7 @@
 //! Rows of the nearest fraction. The expected values come from outside.
 use crate::asserting::all_hold;
+use ratio_approximation::nearest::{nearest, nearest_counted};
 use ratio_core::Steps;
-use ratio_core::nearest::{nearest, nearest_counted};
 
 // A row: n, d and the bound, and the two numbers of the result.
 type Row<T> = (T, T, T, T, T);

@@ -1,7 +1,7 @@
 //! Rows of the simplest fraction strictly between two, and within two bounds. The expected values come from outside.
 use crate::asserting::{all_hold, each_holds};
+use ratio_approximation::simplest::{simplest_between, simplest_between_counted, simplest_within};
 use ratio_core::Steps;
-use ratio_core::simplest::{simplest_between, simplest_between_counted, simplest_within};
 use std::ops::Bound;
 
 // A row: the two ends, and the two numbers of the result.

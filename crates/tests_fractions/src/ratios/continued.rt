@@ -1,7 +1,7 @@
 //! Rows of continued fractions, from outside.
 use crate::asserting::each_holds;
 use num_rational::Reduced;
-use ratio_core::continued::from_quotients;
+use ratio_approximation::continued::from_quotients;
 use ratio_integer::Integer;
 use std::process::Abort;
 

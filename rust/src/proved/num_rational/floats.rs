@@ -2,7 +2,7 @@
 //! The float nearest to a fraction.
 
 use crate::proved::num_rational::ratio::Ratio;
-use crate::proved::ratio_core::floats::nearest;
+use crate::proved::ratio_float::nearest;
 use crate::proved::ratio_integer::Primitive;
 
 impl<T: Primitive> Ratio<T> {

@@ -18,7 +18,7 @@ impl<T: Copy + Integer> Ratio<T> {
     /// - `room`: `pos 0 <ℤ T.value most`
     #[inline]
     pub fn nearest(&self, most: T) -> Ratio<T> {
-        let (numer, denom) = crate::proved::ratio_core::nearest::nearest(self.numer, self.denom, most);
+        let (numer, denom) = crate::proved::ratio_approximation::nearest::nearest(self.numer, self.denom, most);
         Ratio::new_raw(numer, denom)
     }
 }

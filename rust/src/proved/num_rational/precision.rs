@@ -2,8 +2,7 @@
 //! Printing with a precision, as `{:.2}`: a decimal with so many places.
 
 use crate::proved::num_rational::printing::write_base_ten;
-use crate::proved::ratio_core::rounding_rule::Rounding;
-use crate::proved::ratio_core::text;
+use crate::proved::ratio_decimal::rounding_rule::Rounding;
 use crate::proved::ratio_integer::{Primitive, both_held};
 use core::fmt;
 use core::fmt::{Formatter, Write};
@@ -23,9 +22,9 @@ pub(crate) fn write_with_places<T: Primitive>(
 ) -> fmt::Result {
     both_held(numer, denom);
     if places < 39 {
-        let text = text::decimal(numer, denom, places as u32, Rounding::HalfEven);
+        let text = crate::proved::ratio_decimal::decimal(numer, denom, places as u32, Rounding::HalfEven);
         write_base_ten(text.as_str(), f)
     } else {
-        text::write_places(numer, denom, places, f)
+        crate::proved::ratio_decimal::write_places(numer, denom, places, f)
     }
 }

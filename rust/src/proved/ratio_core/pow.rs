@@ -4,7 +4,7 @@
 //! A power is computed by squaring, for both numbers in one loop: it takes one turn for each binary digit of the
 //! exponent but the last. It computes no square that it does not use. So over `i8`, 10 to the 2 is `Some`, though the
 //! next square, 10 to the 4, does not fit. All powers of 0, 1 and -1 fit, but a negative power of 0 does not exist.
-pub mod lowest;
+pub mod lowest_powers;
 
 use crate::proved::ratio_core::exponent::Exponent;
 use crate::proved::ratio_core::sign::is_below_zero;

@@ -4,10 +4,10 @@
 //! If both products of the fields fit, one gcd reduces them. Else the operands are reduced and cancelled
 //! across, and a sign is moved, before anything is multiplied. The products are then the lowest terms, so
 //! only these must fit. Over `i8`, 100/3 times 3/100 is 1/1.
-pub mod lowest;
+pub mod lowest_products;
 
 use crate::proved::ratio_core::checked_new::checked_new;
-use crate::proved::ratio_core::products::lowest::{crossed_product, crossed_quotient};
+use crate::proved::ratio_core::products::lowest_products::{crossed_product, crossed_quotient};
 use crate::proved::ratio_integer::{Integer, lowest_terms};
 
 /// The lowest terms of `a/b * c/d`, or `None` if they do not fit the type. The fractions need not be reduced.

@@ -1,7 +1,7 @@
 // Erased from crates/ratio_core/src/remainder.rt by rust/erase: not to be edited.
 //! The remainder of one fraction by another, in lowest terms.
 
-pub mod lowest;
+pub mod lowest_remainder;
 pub(crate) mod wide;
 
 use crate::proved::ratio_core::scaling::scaled;

@@ -102,12 +102,12 @@ pub fn is_negative<T: SignedInteger>(n: T, d: T) -> bool {
 
 /// Whether the number is below 0.
 #[inline]
-pub(crate) fn is_below_zero<T: Integer>(a: T) -> bool {
+pub fn is_below_zero<T: Integer>(a: T) -> bool {
     a < T::ZERO
 }
 
 /// Whether the number is above 0.
 #[inline]
-pub(crate) fn is_above_zero<T: Integer>(a: T) -> bool {
+pub fn is_above_zero<T: Integer>(a: T) -> bool {
     T::ZERO < a
 }

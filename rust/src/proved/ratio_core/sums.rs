@@ -5,7 +5,7 @@
 //! denominator, and return `None` where a number on the way does not fit. `lowest` has the calls on fractions in lowest terms, and `reducing` those on any fractions:
 //! they are exact for every type.
 mod difference;
-pub mod lowest;
+pub mod lowest_sums;
 mod mixed;
 mod multiple;
 mod parts;
@@ -13,6 +13,6 @@ pub mod reducing;
 mod sum;
 
 pub use difference::{checked_sub, sub};
-pub(crate) use mixed::numerator_of;
-pub(crate) use multiple::multiple_over;
+pub use mixed::numerator_of;
+pub use multiple::multiple_over;
 pub use sum::{add, checked_add};

@@ -2,7 +2,7 @@ use Rattle.std.specs.Fmt.{WritesStyledOnOk, formatter_spec, padded_integral}
 use Rattle.std.proofs.Common.{◌∙◌, subst}
 use Rattle.num_rational.specs.Padding.{padded_base_ten}
 use Rattle.num_rational.proofs.PrecisionLemmas.{long_padded}
-use Rattle.ratio_core.proofs.PrecisionLemmas.{only_half_even}
+use Rattle.ratio_decimal.proofs.PrecisionLemmas.{only_half_even}
 use Rattle.ratio_core.proofs.PrintingLemmas.{small_magnitude}
 use Rattle.num_rational.proofs.precision.write_with_places.Goals as goal
 

@@ -3,7 +3,7 @@ use Rattle.std.proofs.lemmas.Int.{ints}
 use mir.Val.{to_z, of_z}
 use mir.Syntax.{w128}
 use Rattle.ratio_core.specs.Power.{ChecksBoth}
-use Rattle.ratio_core.proofs.DecimalLemmas.{power_positive, power_small}
+use Rattle.ratio_decimal.proofs.DecimalLemmas.{power_positive, power_small}
 use Rattle.ratio_c.proofs.TotalSteps.{narrow_some, same_terms}
 use Rattle.ratio_c.proofs.scaled.from_scaled.Goals as goal
 

@@ -97,7 +97,7 @@ impl<P: TwoFractions, A: Reply<P::Inside>> Call<P, A> for Remainder {
     fn answer(&self, pair: &P) -> A {
         match both(pair) {
             Some((_, right)) if right.is_zero() => refused(DIVISION_BY_ZERO),
-            Some((x, y)) => checked_fields(remainder::lowest::checked_rem(
+            Some((x, y)) => checked_fields(remainder::lowest_remainder::checked_rem(
                 *x.numer(),
                 *x.denom(),
                 *y.numer(),

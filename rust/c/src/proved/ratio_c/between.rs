@@ -6,7 +6,7 @@ use crate::proved::ratio_c::code::{
 };
 use crate::proved::ratio_c::crossing::{FlaggedBounds, Reply, checked_fields, refused};
 use crate::proved::ratio_c::each::Call;
-use bakhsney::proved::ratio_core::simplest::simplest_within;
+use bakhsney::proved::ratio_approximation::simplest::simplest_within;
 use bakhsney::proved::ratio_integer::Integer;
 use core::ops::Bound;
 

@@ -8,7 +8,7 @@ use crate::proved::ratio_c::one_fraction::positive;
 use crate::proved::ratio_c::printing::{Printer, Text, no_text, put_bytes};
 use crate::proved::ratio_c::reading::Reader;
 use bakhsney::proved::ratio_core::DecimalText;
-use bakhsney::proved::ratio_core::text::{DecimalRefusal, decimal, from_decimal};
+use bakhsney::proved::ratio_decimal::{DecimalRefusal, decimal, from_decimal};
 use bakhsney::proved::ratio_integer::both_held;
 use core::marker::PhantomData;
 

@@ -5,8 +5,8 @@ use crate::proved::ratio_c::code::{ANSWERED, DENOMINATOR_NOT_POSITIVE};
 use crate::proved::ratio_c::crossing::{Digest, OneFraction, Reply, checked_fields};
 use crate::proved::ratio_c::each::Call;
 use crate::proved::ratio_c::one_fraction::positive;
-use bakhsney::proved::ratio_core::floats::exact::from_float;
-use bakhsney::proved::ratio_core::floats::rationalize::rationalize;
+use bakhsney::proved::ratio_float::exact::from_float;
+use bakhsney::proved::ratio_float::rationalize::rationalize;
 use core::marker::PhantomData;
 
 /// A float. If there is none, the code says why, and the value is 0.

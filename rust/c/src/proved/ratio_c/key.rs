@@ -4,7 +4,7 @@
 use crate::proved::ratio_c::code::{ANSWERED, DENOMINATOR_NOT_POSITIVE};
 use crate::proved::ratio_c::each::{Call, each};
 use crate::proved::ratio_c::numbers64::Fraction64;
-use bakhsney::proved::ratio_core::floats::nearest::to_f64;
+use bakhsney::proved::ratio_float::nearest::to_f64;
 
 /// A key. If there is none, the code says why, and the key is 0.
 #[repr(C)]

@@ -8,8 +8,8 @@ use crate::proved::ratio_c::code::{
 use crate::proved::ratio_c::crossing::{Parted, Reply, checked_fields, refused};
 use crate::proved::ratio_c::each::Call;
 use crate::proved::ratio_c::one_fraction::positive;
-use bakhsney::proved::ratio_core::round_to;
-use bakhsney::proved::ratio_core::rounding_rule::Rounding;
+use bakhsney::proved::ratio_decimal::round_to;
+use bakhsney::proved::ratio_decimal::rounding_rule::Rounding;
 use bakhsney::proved::ratio_integer::Integer;
 
 /// The multiple of `1/parts` that the rule says: 2/3 to 100 by `RULE_HALF_EVEN` gives 67/100.

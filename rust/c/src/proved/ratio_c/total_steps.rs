@@ -7,8 +7,8 @@ use crate::proved::ratio_c::crossing::{checked_fields, refused};
 use crate::proved::ratio_c::each::{Call, each};
 use crate::proved::ratio_c::numbers64::{Answer64, Fraction64};
 use crate::proved::ratio_c::totals::{Step, Total64, TotalSaid, gather, total_of};
-use bakhsney::proved::ratio_core::products::lowest;
-use bakhsney::proved::ratio_core::sums::{lowest as lowest_sums, reducing};
+use bakhsney::proved::ratio_core::products::lowest_products;
+use bakhsney::proved::ratio_core::sums::{lowest_sums, reducing};
 
 /// A fraction goes into a total.
 #[derive(Clone, Copy)]
@@ -123,7 +123,7 @@ impl Call<Total64, Answer64> for MeanOfTotal {
 /// - `IsLowestTerms n d`
 #[inline]
 fn mean(n: i128, d: i128, count: u64) -> Option<(i64, i64)> {
-    match lowest::checked_div(n, d, count as i128, 1) {
+    match lowest_products::checked_div(n, d, count as i128, 1) {
         Some((numer, denom)) => cast::<i128, i64>(numer, denom),
         None => None,
     }

@@ -4,7 +4,7 @@
 use crate::proved::ratio_c::code::{NOT_HELD, PARSE_ERROR, ZERO_DENOMINATOR};
 use crate::proved::ratio_c::crossing::Digest;
 use crate::proved::ratio_c::reading::Reader;
-use bakhsney::proved::ratio_core::text::{TextRefusal, from_text};
+use bakhsney::proved::ratio_decimal::{TextRefusal, from_text};
 use core::marker::PhantomData;
 
 /// The reader of texts such as `3/4`, `-0.5`, `-1 1/2` and `12.5%`, over the type `T`.

@@ -1,6 +1,6 @@
 // Erased from crates/num_rational/src/laws/values.rt by rust/erase: not to be edited.
 //! Fractions as `Ratio` with equal values: 1/2 and 2/4. Each function does nothing: its contract is the law, for the fractions that it is
-//! given. So a caller may replace a fraction by its `reduced`. `ratio_core::laws::roundings_by_value` has the whole numbers near them.
+//! given. So a caller may replace a fraction by its `reduced`. `ratio_laws::laws::roundings_by_value` has the whole numbers near them.
 
 use crate::proved::num_rational::ratio::Ratio;
 use crate::proved::ratio_integer::Integer;

@@ -13,7 +13,7 @@ impl<T: Copy + Integer> Reduced<T> {
     #[inline(always)]
     pub fn checked_add<O: ReducedOperand<T>>(&self, other: O) -> Option<Reduced<T>> {
         let (numer, denom) = other.reduced().into_raw();
-        match sums::lowest::checked_add(*self.numer(), *self.denom(), numer, denom) {
+        match sums::lowest_sums::checked_add(*self.numer(), *self.denom(), numer, denom) {
             Some((numer, denom)) => Some(Reduced {
                 ratio: Ratio::new_raw(numer, denom),
             }),
@@ -25,7 +25,7 @@ impl<T: Copy + Integer> Reduced<T> {
     #[inline(always)]
     pub fn checked_sub<O: ReducedOperand<T>>(&self, other: O) -> Option<Reduced<T>> {
         let (numer, denom) = other.reduced().into_raw();
-        match sums::lowest::checked_sub(*self.numer(), *self.denom(), numer, denom) {
+        match sums::lowest_sums::checked_sub(*self.numer(), *self.denom(), numer, denom) {
             Some((numer, denom)) => Some(Reduced {
                 ratio: Ratio::new_raw(numer, denom),
             }),
@@ -37,7 +37,7 @@ impl<T: Copy + Integer> Reduced<T> {
     #[inline]
     pub fn checked_mul<O: ReducedOperand<T>>(&self, other: O) -> Option<Reduced<T>> {
         let (numer, denom) = other.reduced().into_raw();
-        match products::lowest::checked_mul(*self.numer(), *self.denom(), numer, denom) {
+        match products::lowest_products::checked_mul(*self.numer(), *self.denom(), numer, denom) {
             Some((numer, denom)) => Some(Reduced {
                 ratio: Ratio::new_raw(numer, denom),
             }),
@@ -49,7 +49,7 @@ impl<T: Copy + Integer> Reduced<T> {
     #[inline]
     pub fn checked_div<O: ReducedOperand<T>>(&self, other: O) -> Option<Reduced<T>> {
         let (numer, denom) = other.reduced().into_raw();
-        match products::lowest::checked_div(*self.numer(), *self.denom(), numer, denom) {
+        match products::lowest_products::checked_div(*self.numer(), *self.denom(), numer, denom) {
             Some((numer, denom)) => Some(Reduced {
                 ratio: Ratio::new_raw(numer, denom),
             }),
@@ -64,7 +64,7 @@ impl<T: Copy + Integer> Reduced<T> {
     #[inline(always)]
     pub fn checked_rem<O: ReducedOperand<T>>(&self, other: O) -> Option<Reduced<T>> {
         let (numer, denom) = other.reduced().into_raw();
-        match remainder::lowest::checked_rem(*self.numer(), *self.denom(), numer, denom) {
+        match remainder::lowest_remainder::checked_rem(*self.numer(), *self.denom(), numer, denom) {
             Some((numer, denom)) => Some(Reduced {
                 ratio: Ratio::new_raw(numer, denom),
             }),

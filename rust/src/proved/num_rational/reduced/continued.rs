@@ -5,7 +5,7 @@ use super::Reduced;
 use crate::proved::num_rational::convergents::Convergents;
 use crate::proved::num_rational::quotients::Quotients;
 use crate::proved::num_rational::ratio::Ratio;
-use crate::proved::ratio_core::continued::from_quotients;
+use crate::proved::ratio_approximation::continued::from_quotients;
 use crate::proved::ratio_integer::{Integer, both_held};
 
 impl<T: Copy + Integer> Reduced<T> {

@@ -2,8 +2,8 @@
 //! Printing fractions in lowest terms as decimals.
 
 use super::Reduced;
-use crate::proved::ratio_core::rounding_rule::Rounding;
-use crate::proved::ratio_core::{DecimalText, text};
+use crate::proved::ratio_decimal::rounding_rule::Rounding;
+use crate::proved::ratio_core::DecimalText;
 use crate::proved::ratio_integer::Primitive;
 
 impl<T: Primitive> Reduced<T> {
@@ -18,12 +18,12 @@ impl<T: Primitive> Reduced<T> {
     /// - `places ≤ 38`
     #[inline]
     pub fn decimal(&self, places: u32, rule: Rounding) -> DecimalText {
-        text::decimal(*self.numer(), *self.denom(), places, rule)
+        crate::proved::ratio_decimal::decimal(*self.numer(), *self.denom(), places, rule)
     }
     /// All of the fraction as a decimal: `12.375` for 99/8, and `5` for 5/1. It is `None` exactly if the digits do not
     /// end, as those of 1/3. They end if the denominator has no prime factor but 2 and 5.
     #[inline]
     pub fn exact_decimal(&self) -> Option<DecimalText> {
-        text::exact_decimal(*self.numer(), *self.denom())
+        crate::proved::ratio_decimal::exact_decimal(*self.numer(), *self.denom())
     }
 }

@@ -3,7 +3,7 @@
 
 use super::Reduced;
 use crate::proved::num_rational::ratio::Ratio;
-use crate::proved::ratio_core::floats::{exact, rationalize};
+use crate::proved::ratio_float::{exact, rationalize};
 use crate::proved::ratio_integer::{Integer, Primitive};
 
 impl<T: Copy + Integer> Reduced<T> {

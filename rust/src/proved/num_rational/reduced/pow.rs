@@ -33,7 +33,7 @@ impl<T: Copy + Integer> Reduced<T> {
     /// fit. -1/2 to the 7 would be -1/128, so it is `None`.
     #[inline]
     pub fn checked_pow_with<E: Exponent>(&self, exponent: E) -> Option<Reduced<T>> {
-        match pow::lowest::checked_pow_with(*self.numer(), *self.denom(), exponent) {
+        match pow::lowest_powers::checked_pow_with(*self.numer(), *self.denom(), exponent) {
             Some((numer, denom)) => Some(Reduced {
                 ratio: Ratio::new_raw(numer, denom),
             }),

@@ -3,7 +3,7 @@
 
 use super::Reduced;
 use crate::proved::num_rational::ratio::Ratio;
-use crate::proved::ratio_core::{DecimalRefusal, TextRefusal, text};
+use crate::proved::ratio_decimal::{DecimalRefusal, TextRefusal};
 use crate::proved::ratio_integer::Primitive;
 
 impl<T: Primitive> Reduced<T> {
@@ -15,7 +15,7 @@ impl<T: Primitive> Reduced<T> {
     /// returns `NotDecimal` exactly if the text is no decimal, and `NotHeld` exactly if it is one whose lowest terms do not fit the type.
     #[inline]
     pub fn from_decimal(text: &str) -> Result<Reduced<T>, DecimalRefusal> {
-        match text::from_decimal::<T>(text) {
+        match crate::proved::ratio_decimal::from_decimal::<T>(text) {
             Ok((numer, denom)) => Ok(Reduced {
                 ratio: Ratio::new_raw(numer, denom),
             }),
@@ -35,7 +35,7 @@ impl<T: Primitive> Reduced<T> {
     /// whole numbers in a fraction or a mixed number must be below 2^128, else the call returns `NotHeld`, too.
     #[inline]
     pub fn from_text(text: &str) -> Result<Reduced<T>, TextRefusal> {
-        match text::from_text::<T>(text) {
+        match crate::proved::ratio_decimal::from_text::<T>(text) {
             Ok((numer, denom)) => Ok(Reduced {
                 ratio: Ratio::new_raw(numer, denom),
             }),

@@ -3,8 +3,8 @@
 
 use super::Reduced;
 use crate::proved::num_rational::ratio::Ratio;
-use crate::proved::ratio_core::round_to;
-use crate::proved::ratio_core::rounding_rule::Rounding;
+use crate::proved::ratio_decimal::round_to;
+use crate::proved::ratio_decimal::rounding_rule::Rounding;
 use crate::proved::ratio_integer::Integer;
 
 impl<T: Copy + Integer> Reduced<T> {

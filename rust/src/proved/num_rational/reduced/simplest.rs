@@ -3,7 +3,7 @@
 
 use super::Reduced;
 use crate::proved::num_rational::ratio::Ratio;
-use crate::proved::ratio_core::simplest;
+use crate::proved::ratio_approximation::simplest;
 use crate::proved::ratio_integer::Integer;
 use core::ops::Bound;
 

@@ -14,7 +14,7 @@ use crate::proved::ratio_integer::{Integer, both_held};
 /// - `nonzero`: `T.value d ≢ pos 0`
 /// - `held`: `¬ (IsAboveMax T.hi (T.value n) (T.value d))`
 #[inline]
-pub(crate) fn divide_left<T: Integer>(n: T, d: T, steps: &mut Steps) -> (T, T) {
+pub fn divide_left<T: Integer>(n: T, d: T, steps: &mut Steps) -> (T, T) {
     let division = n.div_mod_floor(d);
     let _ = division.0.held();
     steps.tick_left();
@@ -30,7 +30,7 @@ pub(crate) fn divide_left<T: Integer>(n: T, d: T, steps: &mut Steps) -> (T, T) {
 /// - `nonzero`: `T.value d ≢ pos 0`
 /// - `held`: `¬ (IsAboveMax T.hi (T.value n) (T.value d))`
 #[inline]
-pub(crate) fn divide_right<T: Integer>(n: T, d: T, steps: &mut Steps) -> (T, T) {
+pub fn divide_right<T: Integer>(n: T, d: T, steps: &mut Steps) -> (T, T) {
     let division = n.div_mod_floor(d);
     let _ = division.0.held();
     steps.tick_right();

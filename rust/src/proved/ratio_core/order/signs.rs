@@ -6,6 +6,6 @@ use crate::proved::ratio_integer::Integer;
 
 /// Whether exactly one of the two is below 0.
 #[inline]
-pub(crate) fn have_unlike_signs<T: Integer>(d: T, e: T) -> bool {
+pub fn have_unlike_signs<T: Integer>(d: T, e: T) -> bool {
     is_below_zero(d) != is_below_zero(e)
 }

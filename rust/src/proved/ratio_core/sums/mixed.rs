@@ -70,7 +70,7 @@ fn ceiling<T: Integer>(c: T, d: T) -> (T, T) {
 /// - `above`: `pos 0 ≤ℤ T.value part`
 /// - `at_most`: `T.value part ≤ℤ T.value denom`
 #[inline]
-pub(crate) fn numerator_of<T: Integer>(whole: T, part: T, denom: T) -> Option<T> {
+pub fn numerator_of<T: Integer>(whole: T, part: T, denom: T) -> Option<T> {
     let _ = whole.held();
     let _ = denom.held();
     if whole < T::ZERO {

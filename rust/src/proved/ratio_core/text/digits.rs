@@ -21,7 +21,7 @@ const RECIPROCAL: u128 = 17_014_118_346_046_923_173;
 /// - `room`: `39 ≤ end`
 /// - `inside`: `end ≤ length buf.old`
 #[inline]
-pub(crate) fn put_digits(n: u128, buf: &mut [u8], end: usize) -> usize {
+pub fn put_digits(n: u128, buf: &mut [u8], end: usize) -> usize {
     let mut left = n;
     let mut at = end;
     while left > u64::MAX as u128 {
@@ -53,7 +53,7 @@ fn groups(n: u128) -> u128 {
 /// - `room`: `length (decimal n) ≤ end`
 /// - `inside`: `end ≤ length buf.old`
 #[inline]
-pub(crate) fn put_word(n: u64, buf: &mut [u8], end: usize) -> usize {
+pub fn put_word(n: u64, buf: &mut [u8], end: usize) -> usize {
     let mut left = n;
     let mut at = end;
     while left >= 10_000 {

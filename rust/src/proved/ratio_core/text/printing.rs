@@ -128,7 +128,7 @@ fn put_decimal<T: Primitive>(t: T, buf: &mut [u8], end: usize) -> usize {
 
 /// The distance of the number from 0.
 #[inline]
-pub(crate) fn magnitude<T: Primitive>(t: T) -> u128 {
+pub fn magnitude<T: Primitive>(t: T) -> u128 {
     match t.to_u128() {
         Some(n) => n,
         None => t.to_i128().unwrap().unsigned_abs(),

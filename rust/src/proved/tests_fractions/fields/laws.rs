@@ -1,7 +1,7 @@
 // Erased from crates/tests_fractions/src/fields/laws.rt by rust/erase: not to be edited.
 //! The laws can be called like any function.
 use crate::proved::num_rational::laws::json_pairs;
-use crate::proved::ratio_core::{laws, text};
+use crate::proved::ratio_laws::laws;
 use crate::proved::ratio_integer::laws as integers;
 
 #[test]
@@ -23,10 +23,10 @@ fn each_law_is_called() {
     laws::simplest_fractions();
     laws::simplest_fractions_within();
     laws::fractions_of_quotients();
-    text::laws::digits();
-    text::laws::decimal_digits();
-    text::laws::decimals();
-    text::laws::typed_texts();
-    text::laws::one_reading();
+    laws::texts::digits();
+    laws::texts::decimal_digits();
+    laws::texts::decimals();
+    laws::texts::typed_texts();
+    laws::texts::one_reading();
     json_pairs();
 }

@@ -2,7 +2,7 @@
 //! Rows of the nearest fraction. The expected values come from outside.
 use crate::proved::tests_fractions::asserting::all_hold;
 use crate::proved::ratio_core::Steps;
-use crate::proved::ratio_core::nearest::{nearest, nearest_counted};
+use crate::proved::ratio_approximation::nearest::{nearest, nearest_counted};
 
 // A row: n, d and the bound, and the two numbers of the result.
 type Row<T> = (T, T, T, T, T);

@@ -2,7 +2,7 @@
 //! Rows of continued fractions, from outside.
 use crate::proved::tests_fractions::asserting::each_holds;
 use crate::proved::num_rational::Reduced;
-use crate::proved::ratio_core::continued::from_quotients;
+use crate::proved::ratio_approximation::continued::from_quotients;
 use crate::proved::ratio_integer::Integer;
 
 // Whether the fraction with these quotients has these fields, or both are `None`.

@@ -1,4 +1,4 @@
-use Rattle.ratio_core.proofs.DecimalsReadBack.{exact_read}
+use Rattle.ratio_laws.proofs.DecimalsReadBack.{exact_read}
 use Rattle.ratio_core.proofs.PrintingLemmas.{small_magnitude}
 use Rattle.num_rational.specs.Ratio.{denominator, numerator}
 use Rattle.num_rational.specs.Reduced.{ratio_of}

@@ -1,5 +1,5 @@
 use Rattle.std.proofs.Common.{Err, Ok, refl}
-use Rattle.ratio_core.specs.declared.text.decimals.DecimalRefusal.TheVariants.{NotDecimal, NotHeld}
+use Rattle.ratio_decimal.specs.declared.reading.DecimalRefusal.TheVariants.{NotDecimal, NotHeld}
 use Rattle.ratio_c.proofs.decimal.DecimalTextsReader.read.Goals as goal
 
 pub returns-in-Ok : goal.returns-in-Ok

@@ -1,5 +1,5 @@
 use Rattle.std.proofs.Common.{Err, Ok, refl}
-use Rattle.ratio_core.specs.declared.text.typed.TextRefusal.TheVariants.{NotHeld, NotNumber, ZeroDenominator}
+use Rattle.ratio_decimal.specs.declared.typed.TextRefusal.TheVariants.{NotHeld, NotNumber, ZeroDenominator}
 use Rattle.ratio_c.proofs.typed.TypedTextsReader.read.Goals as goal
 
 pub returns-in-Ok : goal.returns-in-Ok

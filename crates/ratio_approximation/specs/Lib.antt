@@ -1,0 +1,10 @@
+pub mod Bounds
+pub mod Convergents
+pub mod Enclosing
+pub mod EndChoice
+pub mod FromQuotients
+pub mod Moving
+pub mod Nearest
+pub mod Simplest
+pub mod SimplestWithin
+pub mod SimplestWithinLaws

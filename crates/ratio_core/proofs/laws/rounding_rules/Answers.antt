@@ -1,5 +1,0 @@
-use Rattle.ratio_core.proofs.RoundingRuleLaws.{each_by, halves_differ, rounded_monotone, rounded_near, same_by}
-use Rattle.ratio_core.proofs.laws.rounding_rules.Goals as goal
-
-pub returns : goal.returns
-returns c = record { one = each_by; value = same_by; halves = halves_differ; near = rounded_near; monotone = rounded_monotone }

@@ -1,8 +1,0 @@
-use Rattle.ratio_core.proofs.DecimalDigits.{AreZerosRead}
-use Rattle.ratio_core.proofs.text.decimals.terms.zeros_before.Given as goal
-
-abbrev pub invariant-zeros : goal.invariant-zeros
-invariant-zeros l = AreZerosRead l.zeros l.fn.behind.numer l.fn.behind.denom l.left l.terms.numer l.terms.denom
-
-abbrev pub decreases-zeros : goal.decreases-zeros
-decreases-zeros l = l.left

@@ -1,4 +1,0 @@
-use Rattle.ratio_core.proofs.text.exact.+put_rest.Given as goal
-
-abbrev pub decreases-put_rest : goal.decreases-put_rest
-decreases-put_rest l = l.places

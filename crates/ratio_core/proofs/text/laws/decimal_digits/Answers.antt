@@ -1,8 +1,0 @@
-use Rattle.std.proofs.lemmas.Fmt.{decimal_digit, decimal_step_wide}
-use Rattle.ratio_core.proofs.text.laws.decimal_digits.Goals as goal
-
-pub returns-clause-one : goal.returns-clause-one
-returns-clause-one c = decimal_digit
-
-pub returns-clause-more : goal.returns-clause-more
-returns-clause-more c = decimal_step_wide

@@ -1,0 +1,96 @@
+-- What a decimal text says, and what reading one returns. `-1.50e3` says -150 * 10^3 over 10^2.
+use Rattle.std.specs.Prelude.{◌≡◌, ◌⊎◌, ◌<◌, ◌*◌, ◌/◌, ◌^◌, ℕ, ℤ, pos, unsigned_abs, Bool, true, false, List, [], ◌∷◌, ◌++◌, length, Result, Ok, Err}
+use Rattle.std.specs.Str.Parse.{IsNumeral}
+use Rattle.ratio_integer.specs.Fraction.{Fits}
+use Rattle.ratio_decimal.specs.Decimal.{places_text, point}
+use Rattle.ratio_core.specs.Signs.{with_sign}
+use Rattle.ratio_core.specs.Reading.{ReadsLowest, digits_sum, minus, plus}
+use Rattle.ratio_decimal.specs.declared.reading.DecimalRefusal.{DecimalRefusal}
+use Rattle.ratio_decimal.specs.declared.reading.DecimalRefusal.TheVariants.{NotDecimal, NotHeld}
+
+-- a sign is a minus, or else a plus or nothing; `below` says whether it is a minus
+abbrev pub IsWrittenSign : List ℕ → Bool → Type 0
+IsWrittenSign sign true = sign ≡ minus ∷ []
+IsWrittenSign sign false = (sign ≡ []) ⊎ (sign ≡ plus ∷ [])
+
+-- the text is digits with at most one point, and one digit at least: `12.5`, `.5`, `5.` and `5`. Some digits come before
+-- the point, and `part` comes behind it
+pub record IsPointed (text whole part : List ℕ) : Type 0 where
+  pub cut : (text ≡ whole ++ point ∷ part) ⊎ ((text ≡ whole) × (part ≡ []))
+  pub digits : IsNumeral 10 (whole ++ part)
+
+-- the byte of an e in either case
+abbrev pub IsLetterE : ℕ → Type 0
+IsLetterE c = (c ≡ 101) ⊎ (c ≡ 69)
+
+-- the text is an e, a sign, and one digit or more: `e-3`
+pub record IsWrittenExponent (text : List ℕ) (below : Bool) (digits : List ℕ) : Type 0 where
+  pub letter : ℕ
+  pub sign : List ℕ
+  pub cut : text ≡ letter ∷ (sign ++ digits)
+  pub is_e : IsLetterE letter
+  pub signed : IsWrittenSign sign below
+  pub numeral : IsNumeral 10 digits
+
+-- the same, or no text at all, which has no digits
+abbrev pub IsExponent : List ℕ → Bool → List ℕ → Type 0
+IsExponent text below digits = IsWrittenExponent text below digits ⊎ ((text ≡ []) × (below ≡ false) × (digits ≡ []))
+
+-- the text is a sign, digits with at most one point, and an exponent or nothing: `-12.5e3`
+pub record HasDecimalParts (text : List ℕ) (below : Bool) (whole part : List ℕ) (down : Bool) (exponent : List ℕ) : Type 0 where
+  pub sign : List ℕ
+  pub pointed : List ℕ
+  pub scale : List ℕ
+  pub cut : text ≡ sign ++ (pointed ++ scale)
+  pub signed : IsWrittenSign sign below
+  pub number : IsPointed pointed whole part
+  pub scaled : IsExponent scale down exponent
+
+-- 10 to the exponent e or -e, as a numerator: 1000 for 3, and 1 for -3
+abbrev pub tens_above : Bool → ℕ → ℕ
+tens_above false e = 10 ^ e
+tens_above true e = 1
+
+-- and as the denominator: 1 for 3, and 1000 for -3
+abbrev pub tens_below : Bool → ℕ → ℕ
+tens_below false e = 1
+tens_below true e = 10 ^ e
+
+-- the text is a decimal, and its value is n/d: all of its digits as one number, over 10 to the count of those behind the
+-- point, times 10 to the exponent
+pub record IsDecimalText (text : List ℕ) (n d : ℤ) : Type 0 where
+  pub below : Bool
+  pub whole : List ℕ
+  pub part : List ℕ
+  pub down : Bool
+  pub exponent : List ℕ
+  pub parts : HasDecimalParts text below whole part down exponent
+  pub numer : n ≡ with_sign below (digits_sum 10 (whole ++ part) * tens_above down (digits_sum 10 exponent))
+  pub denom : d ≡ pos (10 ^ length part * tens_below down (digits_sum 10 exponent))
+
+-- some n/d is read, and its lowest terms are not in range
+pub record ReadsNotHeld (lo hi : ℤ) (Reads : ℤ → ℤ → Type 0) : Type 0 where
+  pub n : ℤ
+  pub d : ℤ
+  pub reads : Reads n d
+  pub out : ¬ (Fits lo hi n d)
+
+-- the result is the lowest terms of what the text says. Or the text is no decimal. Or it is one, and its lowest terms are not
+-- in range
+abbrev pub AnswersDecimal : {R : Type 0} → (R → ℤ) → (R → ℤ) → ℤ → ℤ → List ℕ → Result R DecimalRefusal → Type 0
+AnswersDecimal numer denom lo hi text (Ok r) = ReadsLowest lo hi (IsDecimalText text) (numer r) (denom r)
+AnswersDecimal numer denom lo hi text (Err NotDecimal) = (n d : ℤ) → ¬ (IsDecimalText text n d)
+AnswersDecimal numer denom lo hi text (Err NotHeld) = ReadsNotHeld lo hi (IsDecimalText text)
+
+-- each text has at most one reading as a decimal
+abbrev pub DecimalsHaveOneReading : Type 0
+DecimalsHaveOneReading = (text : List ℕ) (n d m e : ℤ) → IsDecimalText text n d → IsDecimalText text m e → (n ≡ m) × (d ≡ e)
+
+-- a printed decimal reads as the multiple of 1/10^places that it shows
+abbrev pub PrintedDecimalsRead : Type 0
+PrintedDecimalsRead = (places : ℕ) (z : ℤ) → unsigned_abs z / 10 ^ places < 2 ^ 128 → IsDecimalText (places_text places z) z (pos (10 ^ places))
+
+-- the result has the two numbers n and d
+abbrev pub IsReadDecimal : {R : Type 0} → (R → ℤ) → (R → ℤ) → ℤ → ℤ → Result R DecimalRefusal → Type 0
+IsReadDecimal numer denom n d (Ok r) = (numer r ≡ n) × (denom r ≡ d)
+IsReadDecimal numer denom n d (Err refusal) = ⊥

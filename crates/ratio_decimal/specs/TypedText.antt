@@ -1,0 +1,117 @@
+-- What a person types into one field, and what reading it returns: `-0.5`, `3/4`, `-1 1/2`, `12.5%` and `1/2%`.
+use Rattle.std.specs.Prelude.{◌≡◌, ◌≢◌, ◌⊎◌, ◌<◌, ◌+◌, ◌*◌, ◌^◌, ◌*ℤ◌, ℕ, ℤ, pos, Bool, true, false, List, [], ◌∷◌, ◌++◌, Result, Ok, Err}
+use Rattle.std.specs.Str.Parse.{IsNumeral}
+use Rattle.ratio_integer.specs.Fraction.{Fits, IsHeldLowest}
+use Rattle.ratio_decimal.specs.DecimalReading.{IsDecimalText, IsWrittenSign}
+use Rattle.ratio_core.specs.Signs.{with_sign}
+use Rattle.ratio_core.specs.Reading.{digits_sum, slash}
+use Rattle.ratio_decimal.specs.declared.typed.TextRefusal.{TextRefusal}
+use Rattle.ratio_decimal.specs.declared.typed.TextRefusal.TheVariants.{NotNumber, ZeroDenominator, NotHeld}
+
+-- the byte of a space
+abbrev pub space : ℕ
+space = 32
+
+-- the byte of a percent sign
+abbrev pub percent_sign : ℕ
+percent_sign = 37
+
+-- the text is a sign, and one digit or more: `-12`
+pub record IsWholeText (text : List ℕ) (below : Bool) (digits : List ℕ) : Type 0 where
+  pub sign : List ℕ
+  pub cut : text ≡ sign ++ digits
+  pub signed : IsWrittenSign sign below
+  pub numeral : IsNumeral 10 digits
+
+-- the text is two whole numbers with a slash between them: `3/-4`
+pub record HasQuotientParts (text : List ℕ) (below : Bool) (numer : List ℕ) (under : Bool) (denom : List ℕ) : Type 0 where
+  pub front : List ℕ
+  pub back : List ℕ
+  pub cut : text ≡ front ++ slash ∷ back
+  pub first : IsWholeText front below numer
+  pub second : IsWholeText back under denom
+
+-- the text is a whole number, one space, and two numbers without a sign with a slash between them: `-1 1/2`
+pub record HasMixedParts (text : List ℕ) (below : Bool) (whole numer denom : List ℕ) : Type 0 where
+  pub front : List ℕ
+  pub cut : text ≡ front ++ space ∷ (numer ++ slash ∷ denom)
+  pub first : IsWholeText front below whole
+  pub second : IsNumeral 10 numer
+  pub third : IsNumeral 10 denom
+
+-- the text is a fraction, n over d: -3 over 4 for `-3/4`. `numbers` are 3 and 4
+pub record IsQuotientText (text : List ℕ) (n d : ℤ) (numbers : List ℕ) : Type 0 where
+  pub below : Bool
+  pub over : List ℕ
+  pub under : Bool
+  pub base : List ℕ
+  pub parts : HasQuotientParts text below over under base
+  pub numer : n ≡ with_sign below (digits_sum 10 over)
+  pub denom : d ≡ with_sign under (digits_sum 10 base)
+  pub written : numbers ≡ digits_sum 10 over ∷ digits_sum 10 base ∷ []
+
+-- the text is a mixed number, n over d: -3 over 2 for `-1 1/2`, since the sign counts for the whole. `numbers` are 1, 1 and 2
+pub record IsMixedText (text : List ℕ) (n d : ℤ) (numbers : List ℕ) : Type 0 where
+  pub below : Bool
+  pub whole : List ℕ
+  pub over : List ℕ
+  pub base : List ℕ
+  pub parts : HasMixedParts text below whole over base
+  pub numer : n ≡ with_sign below (digits_sum 10 whole * digits_sum 10 base + digits_sum 10 over)
+  pub denom : d ≡ pos (digits_sum 10 base)
+  pub written : numbers ≡ digits_sum 10 whole ∷ digits_sum 10 over ∷ digits_sum 10 base ∷ []
+
+-- the text is a decimal or a fraction, n over d. A decimal has no `numbers`
+abbrev pub IsPlainText : List ℕ → ℤ → ℤ → List ℕ → Type 0
+IsPlainText text n d numbers = (IsDecimalText text n d × (numbers ≡ [])) ⊎ IsQuotientText text n d numbers
+
+-- what a number is divided by: 100 if it is a percentage
+abbrev pub share : Bool → ℕ
+share false = 1
+share true = 100
+
+-- the text is a decimal or a fraction, and n over d is its value, or its 100th part if `percent`
+pub record IsShareText (percent : Bool) (text : List ℕ) (n d : ℤ) (numbers : List ℕ) : Type 0 where
+  pub base : ℤ
+  pub plain : IsPlainText text n base numbers
+  pub denom : d ≡ pos (share percent) *ℤ base
+
+-- the text is a decimal or a fraction with a percent sign behind it: `12.5%`
+pub record IsPercentText (text : List ℕ) (n d : ℤ) (numbers : List ℕ) : Type 0 where
+  pub front : List ℕ
+  pub cut : text ≡ front ++ percent_sign ∷ []
+  pub value : IsShareText true front n d numbers
+
+-- the text is any of these, n over d
+abbrev pub IsTypedText : List ℕ → ℤ → ℤ → List ℕ → Type 0
+IsTypedText text n d numbers = IsShareText false text n d numbers ⊎ (IsMixedText text n d numbers ⊎ IsPercentText text n d numbers)
+
+-- each of the numbers is below 2^128
+abbrev pub AreSmall : List ℕ → Type 0
+AreSmall [] = Unit {0}
+AreSmall (n ∷ ns) = (n < 2 ^ 128) × AreSmall ns
+
+-- some n/d is read, its `numbers` are below 2^128, and a/b is its lowest terms, which are in range
+pub record ReadsTyped (lo hi : ℤ) (text : List ℕ) (a b : ℤ) : Type 0 where
+  pub n : ℤ
+  pub d : ℤ
+  pub numbers : List ℕ
+  pub reads : IsTypedText text n d numbers
+  pub small : AreSmall numbers
+  pub low : IsHeldLowest lo hi n d a b
+
+-- some n/d is read, and d is not 0. One of its `numbers` is 2^128 or more, or its lowest terms are not in range
+pub record TypedNotHeld (lo hi : ℤ) (text : List ℕ) : Type 0 where
+  pub n : ℤ
+  pub d : ℤ
+  pub numbers : List ℕ
+  pub reads : IsTypedText text n d numbers
+  pub some : d ≢ pos 0
+  pub out : ¬ (AreSmall numbers × Fits lo hi n d)
+
+-- the result is the lowest terms of what the text says. Or the text says nothing. Or it says n over 0. Or what it says is not in range
+abbrev pub AnswersTyped : {R : Type 0} → (R → ℤ) → (R → ℤ) → ℤ → ℤ → List ℕ → Result R TextRefusal → Type 0
+AnswersTyped numer denom lo hi text (Ok r) = ReadsTyped lo hi text (numer r) (denom r)
+AnswersTyped numer denom lo hi text (Err NotNumber) = (n d : ℤ) (numbers : List ℕ) → ¬ (IsTypedText text n d numbers)
+AnswersTyped numer denom lo hi text (Err ZeroDenominator) = (n : ℤ) × (numbers : List ℕ) × IsTypedText text n (pos 0) numbers
+AnswersTyped numer denom lo hi text (Err NotHeld) = TypedNotHeld lo hi text

@@ -1,0 +1,101 @@
+//! Printing a fraction as a decimal with a given number of places.
+ghost use Rattle.std.specs.Prelude.{◌≡◌, ◌↔◌, ◌+◌, ◌*◌, ◌^◌, ◌<◌, ◌≤◌, ◌<ℤ◌, drop, length, pos, true, IsAscii, IsTrue, if◌then◌else◌};
+ghost use Rattle.ratio_decimal.specs.Decimal.{IsDecimalOf, places_text, unsigned_places};
+ghost use Rattle.ratio_decimal.specs.RoundingRules.{mirrored, signed};
+
+use crate::rounded::rounded;
+use crate::rounding_rule::Rounding;
+use ratio_core::sign::is_below_zero;
+use ratio_core::text::digits::put_digits;
+use ratio_core::text::fixed_text::DecimalText;
+use ratio_core::text::printing::magnitude;
+use ratio_integer::{Primitive, both_held};
+
+/// The fraction as a decimal: the multiple of `1/10^places` that the rule says, with all its places. A fraction that
+/// is rounded to 0 has no minus.
+pub fn decimal<T: Primitive>(numer: T, denom: T, places: u32, rule: Rounding) -> DecimalText
+    requires positive { pos 0 <ℤ T.value denom }
+    requires few { places ≤ 38 }
+    ensures { IsDecimalOf rule places (T.value numer) (T.value denom) result }
+{
+    both_held(numer, denom);
+    let below = is_below_zero(numer);
+    let power = 10u128.pow(places);
+    let (whole, part) = rounded(
+        magnitude(numer),
+        magnitude(denom),
+        power,
+        for_magnitude(rule, below),
+    );
+    let mut text = DecimalText::empty();
+    text.start = put_places(whole, part, power, places, below, &mut text.bytes);
+    text
+}
+
+// The rule by which the magnitude is rounded.
+fn for_magnitude(rule: Rounding, below: bool) -> Rounding
+    ensures { result ≡ (if below then mirrored rule else rule) }
+{
+    if !below {
+        return rule;
+    }
+    match rule {
+        Rounding::Floor => Rounding::Ceil,
+        Rounding::Ceil => Rounding::Floor,
+        Rounding::HalfAway => Rounding::HalfAway,
+        Rounding::HalfEven => Rounding::HalfEven,
+        Rounding::Down => Rounding::Down,
+        Rounding::Up => Rounding::Up,
+    }
+}
+
+// Writes the number at the end of the buffer, and returns where it starts.
+fn put_places(
+    whole: u128,
+    part: u128,
+    power: u128,
+    places: u32,
+    below: bool,
+    buf: &mut [u8],
+) -> usize
+    requires few { places ≤ 38 }
+    requires power { power ≡ 10 ^ places }
+    requires part { part < power }
+    requires room { length buf.old ≡ 130 }
+    ensures written { drop result buf.new ≡ places_text places (signed below (whole * 10 ^ places + part)) }
+    ensures ascii { IsAscii (drop result buf.new) }
+    ensures inside { result ≤ 130 }
+{
+    let start = put_unsigned(whole, part, power, places, buf);
+    if has_minus(whole, part, below) {
+        buf[start - 1] = b'-';
+        return start - 1;
+    }
+    start
+}
+
+// Whether the number is below 0, once it is rounded.
+fn has_minus(whole: u128, part: u128, below: bool) -> bool
+    ensures { IsTrue result ↔ ((below ≡ true) × (0 < whole + part)) }
+{
+    below && (whole != 0 || part != 0)
+}
+
+// The same without a sign. The places are written after a 1, which keeps their leading zeros. The point overwrites it.
+fn put_unsigned(whole: u128, part: u128, power: u128, places: u32, buf: &mut [u8]) -> usize
+    requires few { places ≤ 38 }
+    requires power { power ≡ 10 ^ places }
+    requires part { part < power }
+    requires room { length buf.old ≡ 130 }
+    ensures written { drop result buf.new ≡ unsigned_places places (whole * 10 ^ places + part) }
+    ensures ascii { IsAscii (drop result buf.new) }
+    ensures inside { result ≤ 130 }
+    ensures some { 1 ≤ result }
+{
+    if places == 0 {
+        return put_digits(whole, buf, 130);
+    }
+    let point = put_digits(power + part, buf, 130);
+    buf[point] = b'.';
+    put_digits(whole, buf, point)
+}

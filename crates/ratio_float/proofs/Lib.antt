@@ -1,0 +1,9 @@
+pub mod FloatDivision
+pub mod FloatFields
+pub mod FloatLawLemmas
+pub mod FloatParts
+pub mod FloatQuotient
+pub mod FloatRounding
+pub mod FloatSign
+pub mod GapLemmas
+pub mod RationalizeLemmas

@@ -1,0 +1,4 @@
+pub mod FloatLaws
+pub mod Floats
+pub mod Rationalize
+pub mod Rationalizing

@@ -1,0 +1,5 @@
+use Rattle.ratio_float.proofs.FloatLawLemmas.{come_back, monotone, value_only, zero_first}
+use Rattle.ratio_laws.proofs.laws.nearest_floats.Goals as goal
+
+pub returns : goal.returns
+returns c = record { zero = zero_first; value = value_only; monotone = monotone; back = come_back }

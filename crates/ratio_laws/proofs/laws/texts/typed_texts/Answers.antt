@@ -1,0 +1,14 @@
+use Rattle.ratio_laws.proofs.TypedLawLemmas.{decimals_typed, fractions_typed, typed_one, wide_decimals_typed}
+use Rattle.ratio_laws.proofs.laws.texts.typed_texts.Goals as goal
+
+pub returns-clause-one : goal.returns-clause-one
+returns-clause-one c = typed_one
+
+pub returns-clause-decimals : goal.returns-clause-decimals
+returns-clause-decimals c = decimals_typed
+
+pub returns-clause-wide_decimals : goal.returns-clause-wide_decimals
+returns-clause-wide_decimals c = wide_decimals_typed
+
+pub returns-clause-fractions : goal.returns-clause-fractions
+returns-clause-fractions c = fractions_typed

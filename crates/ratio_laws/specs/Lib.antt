@@ -1,0 +1,4 @@
+pub mod DecimalLaws
+pub mod NearestLaws
+pub mod SimplestLaws
+pub mod TypedLaws

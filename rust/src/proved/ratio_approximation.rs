@@ -1,0 +1,6 @@
+// Erased from crates/ratio_approximation/src/lib.rt by rust/erase: not to be edited.
+//! The fractions near others, over the two numbers of each: the nearest one with a bounded denominator, the simplest one between two others,
+//! and the fraction with given quotients.
+pub mod continued;
+pub mod nearest;
+pub mod simplest;

@@ -1,0 +1,75 @@
+// Erased from crates/ratio_approximation/src/simplest.rt by rust/erase: not to be edited.
+//! The simplest fraction strictly between two fractions, and within two bounds.
+mod search;
+mod side;
+mod wholes;
+mod within;
+
+use crate::proved::ratio_approximation::simplest::search::search;
+use crate::proved::ratio_approximation::simplest::side::Side;
+use crate::proved::ratio_approximation::simplest::wholes::{last_below, nearest_zero};
+use crate::proved::ratio_core::order::dividing::divide_left;
+use crate::proved::ratio_core::Steps;
+use crate::proved::ratio_integer::{Integer, both_held};
+pub use within::simplest_within;
+
+/// Of all fractions strictly between `n/d` and `m/e`, the one with the smallest denominator. Of these
+/// it is the one whose numerator is nearest to 0. Between 1/3 and 1/2 it is 2/5, and between -1/2 and
+/// 5/2 it is 0/1. It is in lowest terms. `None` exactly if the type has no fraction between them. So
+/// it is `None` if `n/d` is not below `m/e`, and over `i8` it is `None` between 0/1 and 1/127.
+///
+/// # Conditions
+///
+/// The proof requires of the caller:
+///
+/// - `low`: `pos 0 <ℤ T.value d`
+/// - `high`: `pos 0 <ℤ T.value e`
+#[inline]
+pub fn simplest_between<T: Integer>(n: T, d: T, m: T, e: T) -> Option<(T, T)> {
+    simplest_between_counted(n, d, m, e, &mut Steps::new())
+}
+
+/// The same, counting each division. Each side divides at most twice for each binary digit of the
+/// smaller one of `d` and `e`.
+///
+/// # Conditions
+///
+/// The proof requires of the caller:
+///
+/// - `low`: `pos 0 <ℤ T.value d`
+/// - `high`: `pos 0 <ℤ T.value e`
+#[inline]
+pub fn simplest_between_counted<T: Integer>(
+    n: T,
+    d: T,
+    m: T,
+    e: T,
+    steps: &mut Steps,
+) -> Option<(T, T)> {
+    both_held(n, d);
+    both_held(m, e);
+    let (low, low_rest) = divide_left(n, d, steps);
+    let _ = low.held();
+    let (last, last_rest) = last_below(m, e, steps)?;
+    let _ = last.held();
+    if last < low {
+        return None;
+    }
+    let next = low.plus(T::ONE);
+    if low < last {
+        return Some((nearest_zero(next, last), T::ONE));
+    }
+    let left = Side {
+        numer: low,
+        denom: T::ONE,
+        own: low_rest,
+        other: last_rest,
+    };
+    let right = Side {
+        numer: next,
+        denom: T::ONE,
+        own: e.minus(last_rest),
+        other: d.minus(low_rest),
+    };
+    search(n, d, m, e, left, right, steps)
+}

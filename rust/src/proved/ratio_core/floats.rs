@@ -1,8 +1,0 @@
-// Erased from crates/ratio_core/src/floats.rt by rust/erase: not to be edited.
-//! Floats as fractions, the floats nearest to fractions, and the simplest fractions that round to floats.
-pub mod exact;
-pub(crate) mod format;
-mod gap;
-pub mod nearest;
-mod quotient;
-pub mod rationalize;

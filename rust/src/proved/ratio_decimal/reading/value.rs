@@ -1,0 +1,105 @@
+// Erased from crates/ratio_decimal/src/reading/value.rt by rust/erase: not to be edited.
+//! The lowest terms of the parts of a decimal.
+
+use crate::proved::ratio_decimal::reading::digits::{number_after, with_zeros};
+use crate::proved::ratio_decimal::reading::short::short_lowest;
+use crate::proved::ratio_decimal::reading::terms::{NOTHING, Terms, digits_before, whole_before, zeros_before};
+
+/// The lowest terms of the digits before and behind a point, times 10 to an exponent, which is negated if `down`. `None` if
+/// one of them is 2^128 or more.
+///
+/// # Conditions
+///
+/// The proof requires of the caller:
+///
+/// - `whole`: `AllDigits 10 whole.now`
+/// - `part`: `AllDigits 10 part.now`
+/// - `exponent`: `AllDigits 10 exponent.now`
+#[inline]
+pub(crate) fn lowest(whole: &[u8], part: &[u8], down: bool, exponent: &[u8]) -> Option<Terms> {
+    match number_after(0, exponent) {
+        None => only_zero(whole, part),
+        Some(tens) => {
+            if let Some(terms) = short_lowest(whole, part, down, tens) {
+                return Some(terms);
+            }
+            if down {
+                point_moved_left(whole, part, tens)
+            } else {
+                point_moved_right(whole, part, tens)
+            }
+        }
+    }
+}
+
+/// The same, divided by 100: the exponent is 2 lower.
+///
+/// # Conditions
+///
+/// The proof requires of the caller:
+///
+/// - `whole`: `AllDigits 10 whole.now`
+/// - `part`: `AllDigits 10 part.now`
+/// - `exponent`: `AllDigits 10 exponent.now`
+#[inline]
+pub(crate) fn lowest_hundredth(
+    whole: &[u8],
+    part: &[u8],
+    down: bool,
+    exponent: &[u8],
+) -> Option<Terms> {
+    match number_after(0, exponent) {
+        None => only_zero(whole, part),
+        Some(tens) => {
+            if down {
+                match tens.checked_add(2) {
+                    None => only_zero(whole, part),
+                    Some(more) => point_moved_left(whole, part, more),
+                }
+            } else if tens < 2 {
+                point_moved_left(whole, part, 2 - tens)
+            } else {
+                point_moved_right(whole, part, tens - 2)
+            }
+        }
+    }
+}
+
+// The lowest terms of the digits for an exponent of 2^128 or more. No number but 0 has one that fits.
+#[inline]
+fn only_zero(whole: &[u8], part: &[u8]) -> Option<Terms> {
+    let first = number_after(0, whole)?;
+    let all = number_after(first, part)?;
+    if all == 0 { Some(NOTHING) } else { None }
+}
+
+// The lowest terms of the digits, times 10 to `tens`.
+#[inline]
+fn point_moved_right(whole: &[u8], part: &[u8], tens: u128) -> Option<Terms> {
+    let first = number_after(0, whole)?;
+    if tens < part.len() as u128 {
+        let (moved, rest) = part.split_at(tens as usize);
+        let number = number_after(first, moved)?;
+        let behind = digits_before(rest, NOTHING)?;
+        whole_before(number, behind)
+    } else {
+        let all = number_after(first, part)?;
+        let numer = with_zeros(all, tens - part.len() as u128)?;
+        Some(Terms { numer, denom: 1 })
+    }
+}
+
+// The lowest terms of the digits, over 10 to `tens`.
+#[inline]
+fn point_moved_left(whole: &[u8], part: &[u8], tens: u128) -> Option<Terms> {
+    let behind = digits_before(part, NOTHING)?;
+    if tens < whole.len() as u128 {
+        let (rest, moved) = whole.split_at(whole.len() - tens as usize);
+        let number = number_after(0, rest)?;
+        let more = digits_before(moved, behind)?;
+        whole_before(number, more)
+    } else {
+        let all = digits_before(whole, behind)?;
+        zeros_before(tens - whole.len() as u128, all)
+    }
+}

@@ -1,0 +1,94 @@
+// Erased from crates/ratio_decimal/src/rounded.rt by rust/erase: not to be edited.
+//! A fraction rounded to a multiple of `1/parts`, such as cents or quarters.
+
+use crate::proved::ratio_decimal::rounding_rule::Rounding;
+use crate::proved::ratio_core::sign::{is_above_zero, is_below_zero};
+use crate::proved::ratio_core::sums::{multiple_over, numerator_of};
+use crate::proved::ratio_integer::{Integer, both_held, lowest_terms};
+
+/// The multiple of `1/parts` that the rule says, in lowest terms, or `None` if they do not fit the type. Over `i8`,
+/// 100/3 in hundredths does not fit.
+///
+/// # Conditions
+///
+/// The proof requires of the caller:
+///
+/// - `positive`: `pos 0 <ℤ T.value d`
+/// - `some`: `pos 0 <ℤ T.value parts`
+#[inline]
+pub fn round_to<T: Integer>(n: T, d: T, parts: T, rule: Rounding) -> Option<(T, T)> {
+    let (whole, part) = rounded(n, d, parts, rule);
+    let (part, denom) = lowest_terms(part, parts);
+    Some((numerator_of(whole, part, denom)?, denom))
+}
+
+/// The multiple of `1/parts` that the rule says, as a whole number and how many `1/parts` more.
+///
+/// # Conditions
+///
+/// The proof requires of the caller:
+///
+/// - `positive`: `pos 0 <ℤ T.value d`
+/// - `some`: `pos 0 <ℤ T.value parts`
+#[inline]
+pub(crate) fn rounded<T: Integer>(n: T, d: T, parts: T, rule: Rounding) -> (T, T) {
+    both_held(n, d);
+    let _ = parts.held();
+    let (floor, rest) = n.div_mod_floor(d);
+    let _ = floor.held();
+    let (part, left) = multiple_over(rest, parts, d);
+    if goes_up(rule, (floor, part), parts, left, d) {
+        next((floor, part), parts)
+    } else {
+        (floor, part)
+    }
+}
+
+// One `1/parts` more.
+#[inline]
+fn next<T: Integer>(x: (T, T), parts: T) -> (T, T) {
+    let _ = parts.held();
+    let part = x.1.plus(T::ONE);
+    if part == parts {
+        (x.0.plus(T::ONE), T::ZERO)
+    } else {
+        (x.0, part)
+    }
+}
+
+// Whether the rule takes the multiple above. The fraction is the multiple x and `left/d` more, in `1/parts`.
+#[inline]
+fn goes_up<T: Integer>(rule: Rounding, x: (T, T), parts: T, left: T, d: T) -> bool {
+    match rule {
+        Rounding::HalfAway => is_past_half(left, d) || is_half(left, d) && !is_below_zero(x.0),
+        Rounding::HalfEven => is_past_half(left, d) || is_half(left, d) && is_odd(x, parts),
+        Rounding::Down => is_below_zero(x.0) && is_above_zero(left),
+        Rounding::Up => !is_below_zero(x.0) && is_above_zero(left),
+        Rounding::Floor => false,
+        Rounding::Ceil => is_above_zero(left),
+    }
+}
+
+// Whether `left/d` is above a half.
+#[inline]
+fn is_past_half<T: Integer>(left: T, d: T) -> bool {
+    let _ = d.held();
+    d.minus(left) < left
+}
+
+// Whether `left/d` is a half.
+#[inline]
+fn is_half<T: Integer>(left: T, d: T) -> bool {
+    let _ = d.held();
+    d.minus(left) == left
+}
+
+// Whether a multiple is an odd number of `1/parts`.
+#[inline]
+fn is_odd<T: Integer>(x: (T, T), parts: T) -> bool {
+    if x.0.is_even() || parts.is_even() {
+        x.1.is_odd()
+    } else {
+        x.1.is_even()
+    }
+}

@@ -1,0 +1,8 @@
+// Erased from crates/ratio_float/src/lib.rt by rust/erase: not to be edited.
+//! Floats as fractions, the floats nearest to fractions, and the simplest fractions that round to floats.
+pub mod exact;
+mod format;
+mod gap;
+pub mod nearest;
+mod quotient;
+pub mod rationalize;

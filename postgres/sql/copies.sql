@@ -43,6 +43,31 @@ UPDATE bytes SET b = 'ffffffff-ffff-fffd-0000-000000000004';
 \copy bytes TO 'bytes.copied' (FORMAT binary)
 \copy taken FROM 'bytes.copied' (FORMAT binary)
 SELECT r FROM taken EXCEPT ALL TABLE hard;
+-- each pair of these numbers is taken in binary exactly if `ratio(n, d)` has these two numbers
+CREATE FUNCTION received(n int8, d int8) RETURNS text LANGUAGE plpgsql AS $$
+DECLARE path text := current_setting('data_directory') || '/pair.copied'; r ratio;
+BEGIN
+    EXECUTE format('COPY (SELECT int8send(%L) || int8send(%L)) TO %L (FORMAT binary)', n, d, path);
+    TRUNCATE taken;
+    EXECUTE format('COPY taken FROM %L (FORMAT binary)', path);
+    SELECT taken.r INTO STRICT r FROM taken;
+    RETURN numerator(r) || '/' || denominator(r);
+EXCEPTION WHEN OTHERS THEN
+    RETURN SQLSTATE;
+END $$;
+CREATE FUNCTION made(n int8, d int8) RETURNS text LANGUAGE plpgsql AS $$
+BEGIN
+    RETURN CASE WHEN (numerator(ratio(n, d)), denominator(ratio(n, d))) = (n, d) THEN n || '/' || d ELSE '22P03' END;
+EXCEPTION WHEN OTHERS THEN
+    RETURN '22P03';
+END $$;
+CREATE TABLE pairs AS SELECT n, d, received(n, d), made(n, d) FROM
+    unnest('{-9223372036854775808,-9223372036854775807,-6,-5,-1,0,1,2,5,6,4294967296,9223372036854775806,9223372036854775807}'::int8[]) n,
+    unnest('{-9223372036854775808,-9223372036854775807,-6,-5,-1,0,1,2,5,6,4294967296,9223372036854775806,9223372036854775807}'::int8[]) d;
+SELECT count(*), count(*) FILTER (WHERE made <> '22P03') AS taken, count(*) FILTER (WHERE received <> made) AS wrong FROM pairs;
+SELECT * FROM pairs WHERE received <> made ORDER BY n, d LIMIT 5;
+DROP TABLE pairs;
+DROP FUNCTION received, made;
 \! rm -f hard.copied bytes.copied
 DROP TABLE taken, bytes, more;
 -- dump and restore

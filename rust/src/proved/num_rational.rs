@@ -32,7 +32,10 @@ pub use main_statement::{HeadlineResult, headline};
 pub use operand::Operand;
 pub use quotients::Quotients;
 pub use ratio::{Constants, Ratio, Rational, Rational32, Rational64};
+pub use crate::proved::ratio_core::{
+    BaseTenText, CodeList, DecimalText, Exponent, Form, ParseRatioError, RatioErrorKind, RatioText,
+    Steps, Taken,
+};
 pub use crate::proved::ratio_decimal::rounding_rule::Rounding;
-pub use crate::proved::ratio_core::{BaseTenText, CodeList, DecimalText, Exponent, Form, ParseRatioError, RatioErrorKind, RatioText, Steps, Taken};
 pub use crate::proved::ratio_decimal::{DecimalRefusal, TextRefusal};
 pub use reduced::{Reduced, Reduced32, Reduced64, ReducedOperand};

@@ -3,8 +3,8 @@
 mod neighbour;
 
 use crate::proved::ratio_approximation::nearest::neighbour::{Neighbour, first_of, moved, steps_towards};
-use crate::proved::ratio_core::order::dividing::divide_left;
 use crate::proved::ratio_core::Steps;
+use crate::proved::ratio_core::order::dividing::divide_left;
 use crate::proved::ratio_integer::{Integer, both_held};
 
 /// The nearest fraction to `n/d` with a denominator from 1 to `most`, in lowest terms.

@@ -8,8 +8,8 @@ mod within;
 use crate::proved::ratio_approximation::simplest::search::search;
 use crate::proved::ratio_approximation::simplest::side::Side;
 use crate::proved::ratio_approximation::simplest::wholes::{last_below, nearest_zero};
-use crate::proved::ratio_core::order::dividing::divide_left;
 use crate::proved::ratio_core::Steps;
+use crate::proved::ratio_core::order::dividing::divide_left;
 use crate::proved::ratio_integer::{Integer, both_held};
 pub use within::simplest_within;
 

@@ -2,8 +2,8 @@
 //! Printing fractions in lowest terms as decimals.
 
 use super::Reduced;
-use crate::proved::ratio_decimal::rounding_rule::Rounding;
 use crate::proved::ratio_core::DecimalText;
+use crate::proved::ratio_decimal::rounding_rule::Rounding;
 use crate::proved::ratio_integer::Primitive;
 
 impl<T: Primitive> Reduced<T> {

@@ -1,8 +1,8 @@
 // Erased from crates/ratio_approximation/src/nearest/neighbour.rt by rust/erase: not to be edited.
 //! A fraction near the one that is sought, and the steps that bring two of them nearer.
 
-use crate::proved::ratio_core::order::dividing::{divide_left, divide_right};
 use crate::proved::ratio_core::Steps;
+use crate::proved::ratio_core::order::dividing::{divide_left, divide_right};
 use crate::proved::ratio_integer::Integer;
 
 /// The fraction `numer/denom`, and its distance from the fraction `n/d` that is sought: `gap` is this

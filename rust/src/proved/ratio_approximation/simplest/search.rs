@@ -2,8 +2,8 @@
 //! The search between two neighbours around both ends.
 
 use crate::proved::ratio_approximation::simplest::side::{Side, beyond, stepped, times_within};
-use crate::proved::ratio_core::order::dividing::divide_left;
 use crate::proved::ratio_core::Steps;
+use crate::proved::ratio_core::order::dividing::divide_left;
 use crate::proved::ratio_integer::{Integer, both_held};
 
 /// The simplest fraction strictly between `n/d` and `m/e`, from two neighbours around both. One of them

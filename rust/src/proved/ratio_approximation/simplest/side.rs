@@ -1,8 +1,8 @@
 // Erased from crates/ratio_approximation/src/simplest/side.rt by rust/erase: not to be edited.
 //! A fraction on one side of both ends, and the steps that bring two of them nearer.
 
-use crate::proved::ratio_core::order::dividing::divide_right;
 use crate::proved::ratio_core::Steps;
+use crate::proved::ratio_core::order::dividing::divide_right;
 use crate::proved::ratio_integer::Integer;
 
 /// The fraction `numer/denom`, and its distances from both ends. `own` is its distance from the end on

@@ -1,8 +1,8 @@
 // Erased from crates/ratio_approximation/src/simplest/wholes.rt by rust/erase: not to be edited.
 //! Whole numbers between two ends.
 
-use crate::proved::ratio_core::order::dividing::divide_right;
 use crate::proved::ratio_core::Steps;
+use crate::proved::ratio_core::order::dividing::divide_right;
 use crate::proved::ratio_integer::Integer;
 
 /// The greatest whole number below `m/e`, and what `m` is above it times `e`. For 7/3 they are 2 and

@@ -2,16 +2,17 @@
 //! The calls on fields that the calls of fractions pass on to, each once at a concrete type.
 use crate::proved::tests_fractions::asserting::{each_holds, reads};
 use crate::proved::ratio_core::checked_new::checked_new;
-use crate::proved::ratio_float::nearest::{to_f32, to_f64};
 use crate::proved::ratio_core::pow::{checked_pow, checked_pow_with, checked_recip, pow, pow_with, recip};
-use crate::proved::ratio_core::rounding::{ceil, floor, fract, round, to_i128, to_i64, to_integer, to_u128, to_u64, trunc};
-use crate::proved::ratio_decimal::rounding_rule::Rounding;
+use crate::proved::ratio_core::rounding::{
+    ceil, floor, fract, round, to_i64, to_i128, to_integer, to_u64, to_u128, trunc,
+};
 use crate::proved::ratio_core::sign::{abs, abs_sub, is_negative, is_positive, neg, signum};
 use crate::proved::ratio_core::sums::checked_sub;
 use crate::proved::ratio_core::text::{base_ten_text, from_str, from_str_radix, put_base_ten_text, put_text};
-use crate::proved::ratio_decimal::{decimal, from_decimal, from_text};
 use crate::proved::ratio_core::{BaseTenText, Form, RatioText};
-use crate::proved::ratio_decimal::round_to;
+use crate::proved::ratio_decimal::rounding_rule::Rounding;
+use crate::proved::ratio_decimal::{decimal, from_decimal, from_text, round_to};
+use crate::proved::ratio_float::nearest::{to_f32, to_f64};
 use crate::proved::ratio_integer::{cancelled, lowest_terms};
 
 #[test]

@@ -1,8 +1,8 @@
 // Erased from crates/tests_fractions/src/fields/nearest.rt by rust/erase: not to be edited.
 //! Rows of the nearest fraction. The expected values come from outside.
 use crate::proved::tests_fractions::asserting::all_hold;
-use crate::proved::ratio_core::Steps;
 use crate::proved::ratio_approximation::nearest::{nearest, nearest_counted};
+use crate::proved::ratio_core::Steps;
 
 // A row: n, d and the bound, and the two numbers of the result.
 type Row<T> = (T, T, T, T, T);

@@ -1,8 +1,8 @@
 // Erased from crates/tests_fractions/src/fields/simplest.rt by rust/erase: not to be edited.
 //! Rows of the simplest fraction strictly between two, and within two bounds. The expected values come from outside.
 use crate::proved::tests_fractions::asserting::{all_hold, each_holds};
-use crate::proved::ratio_core::Steps;
 use crate::proved::ratio_approximation::simplest::{simplest_between, simplest_between_counted, simplest_within};
+use crate::proved::ratio_core::Steps;
 use core::ops::Bound;
 
 // A row: the two ends, and the two numbers of the result.

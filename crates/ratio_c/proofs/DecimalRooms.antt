@@ -9,7 +9,8 @@ use Rattle.std.proofs.Math.Nat.{suc-mul, mul_comm, div-le_of_le-mul}
 use Rattle.std.proofs.lemmas.Int.{ints}
 use Rattle.ratio_integer.specs.Range.{IsHeld, IsRange}
 use Rattle.ratio_integer.proofs.DivisionLemmas.{low_below}
-use Rattle.ratio_decimal.specs.Decimal.{IsDecimalOf, last_digits, places_text, point, unsigned_places}
+use Rattle.ratio_core.specs.Printing.{last_digits}
+use Rattle.ratio_decimal.specs.Decimal.{IsDecimalOf, places_text, point, unsigned_places}
 use Rattle.ratio_core.specs.Printing.{text_of}
 use Rattle.ratio_core.specs.Reading.{minus, slash}
 use Rattle.ratio_core.specs.declared.text.form.Form.TheVariants.{Decimal}

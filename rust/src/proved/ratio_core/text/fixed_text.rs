@@ -4,8 +4,8 @@
 /// The text of a fraction, of at most `ROOM` bytes. Contracts see its bytes.
 pub struct FixedText<const ROOM: usize> {
     // The text ends where the array does.
-    pub bytes: [u8; ROOM],
-    pub start: usize,
+    pub(crate) bytes: [u8; ROOM],
+    pub(crate) start: usize,
 }
 
 /// The text of a fraction in base 10, of at most 81 bytes: a slash, and two numbers of 39 digits with a minus each.

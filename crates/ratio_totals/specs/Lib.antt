@@ -1,0 +1,5 @@
+pub mod Slots
+pub mod Sums
+pub mod Totals
+pub mod Merging
+pub mod TotalLaws

@@ -1,0 +1,20 @@
+//! The laws of totals. Each function does nothing: its contract is the law.
+ghost use Rattle.ratio_totals.specs.TotalLaws.{AdditionsCommute, DenominatorsDiffer, MergesAddEach, TableMergesAssociate, TableMergesCommute, TakingOutUndoes};
+
+/// The order of additions does not matter, and taking out undoes an addition.
+pub fn additions()
+    ensures commute { AdditionsCommute }
+    ensures undo { TakingOutUndoes }
+{}
+
+/// The order and the grouping of merges do not matter. A merge is one addition after another.
+pub fn merges()
+    ensures commute { TableMergesCommute }
+    ensures associate { TableMergesAssociate }
+    ensures add_each { MergesAddEach }
+{}
+
+/// Each denominator has one slot.
+pub fn tables()
+    ensures { DenominatorsDiffer }
+{}

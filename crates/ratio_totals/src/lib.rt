@@ -1,0 +1,25 @@
+//! Totals of fractions that lose nothing: a table with one slot for each denominator, in room that the caller gives.
+//!
+//! 1/36 + 1/28 takes two slots, one for the denominator 36 and one for 28. Adding 5/36 changes one number: the first slot
+//! then says 6/36. No gcd is computed, and no addition overflows.
+#![tactic(auto)]
+
+mod clearing;
+mod counting;
+pub mod laws;
+mod merging;
+mod pouring;
+mod refusal;
+mod searching;
+mod slots;
+mod steps;
+mod tally;
+#[cfg(test)]
+mod tests;
+mod total;
+
+pub use refusal::Refusal;
+pub use searching::find;
+pub use slots::Slot;
+pub use tally::{MOST_WEIGHT, Tally};
+pub use total::Total;

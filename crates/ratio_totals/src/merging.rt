@@ -1,0 +1,42 @@
+//! Two totals as one.
+ghost use Rattle.std.specs.Prelude.{◌≡◌, ◌+◌, ◌+ℤ◌, IfErr, OnErr, OnOk};
+ghost use Rattle.ratio_totals.specs.Merging.{AddsEach, CanMerge, HoldsBoth, IsMergeRefusedFor, SumAdds};
+ghost use Rattle.ratio_totals.specs.Totals.{IsKept};
+
+use crate::counting::{count_free, count_new};
+use crate::pouring::pour;
+use crate::refusal::Refusal;
+use crate::slots::Slot;
+use crate::tally::{MOST_WEIGHT, Tally};
+
+/// Adds each fraction of the other total. It counts first, so that a refusal changes nothing.
+pub(crate) fn merge_slots(
+    slots: &mut [Slot],
+    tally: &mut Tally,
+    other: &[Slot],
+    more: Tally,
+) -> Result<(), Refusal>
+    requires kept { IsKept slots.old tally.old.weight tally.old.count }
+    requires other { IsKept other.now more.weight more.count }
+    ensures kept { IsKept slots.new tally.new.weight tally.new.count }
+    ensures numerators { OnOk result (AddsEach slots.old other.now slots.new) }
+    ensures sum { OnOk result (SumAdds slots.old other.now slots.new) }
+    ensures held { OnOk result (HoldsBoth slots.old other.now slots.new) }
+    ensures count { OnOk result (tally.new.count ≡ tally.old.count +ℤ more.count) }
+    ensures weight { OnOk result (tally.new.weight ≡ tally.old.weight + more.weight) }
+    ensures accepted { OnOk result (CanMerge slots.old tally.old.weight other.now more.weight) }
+    ensures refused { IfErr result (IsMergeRefusedFor slots.old tally.old.weight other.now more.weight) }
+    ensures slots_unchanged { OnErr result (slots.new ≡ slots.old) }
+    ensures tally_unchanged { OnErr result (tally.new ≡ tally.old) }
+{
+    if MOST_WEIGHT - more.weight < tally.weight {
+        return Err(Refusal::TooMany);
+    }
+    if count_free(slots) < count_new(slots, other) {
+        return Err(Refusal::MoreRoom);
+    }
+    pour(slots, *tally, other, more);
+    tally.weight += more.weight;
+    tally.count += more.count;
+    Ok(())
+}

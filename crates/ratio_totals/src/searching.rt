@@ -1,0 +1,58 @@
+//! Where a denominator is in a table, or where it goes.
+ghost use Rattle.std.specs.Prelude.{◌≡◌, ◌≢◌, ◌↔◌, ◌≤◌, IsTrue, MatchOption};
+ghost use Rattle.ratio_totals.specs.Slots.{HasNoPlaceFor, IsOpenTo, IsPlaceOf, IsTable, home_of};
+ghost use Rattle.ratio_totals.specs.Sums.{numerator_at};
+
+use crate::slots::Slot;
+
+/// An odd number near 2^64 divided by the golden ratio: its multiples are spread evenly.
+pub const SPREAD: u64 = 0x9e37_79b9_7f4a_7c15;
+
+/// The place of a denominator: the slot that holds it, or else the empty slot where it goes. If all slots hold other
+/// denominators, this is `None`.
+pub fn find(slots: &[Slot], denom: u64) -> Option<usize>
+    ensures { MatchOption result (HasNoPlaceFor slots.now denom) (IsPlaceOf slots.now denom) }
+{
+    let start = home(denom, slots.len());
+    'upper: for i in start..slots.len() {
+        if is_open(&slots[i], denom) {
+            return Some(i);
+        }
+    }
+    'lower: for i in 0..start {
+        if is_open(&slots[i], denom) {
+            return Some(i);
+        }
+    }
+    None
+}
+
+/// The numerator over a denominator; 0 if no slot holds it.
+pub(crate) fn numerator_in(slots: &[Slot], denom: u64) -> i128
+    requires table { IsTable slots.now }
+    requires denom { denom ≢ 0 }
+    ensures { result ≡ numerator_at denom slots.now }
+{
+    match find(slots, denom) {
+        Some(place) => slots[place].numer,
+        None => 0,
+    }
+}
+
+/// Whether the slot is empty or holds this denominator.
+#[inline(always)]
+fn is_open(slot: &Slot, denom: u64) -> bool
+    ensures { IsTrue result ↔ IsOpenTo denom slot.now }
+{
+    slot.denom == 0 || slot.denom == denom
+}
+
+/// Where the search for a denominator begins. It is a pure function of both numbers, and at most the length.
+#[inline(always)]
+fn home(denom: u64, length: usize) -> usize
+    ensures same { result ≡ home_of denom length }
+    ensures within { result ≤ length }
+{
+    let spread = denom.wrapping_mul(SPREAD);
+    ((spread as u128 * length as u128) / (1 << 64)) as usize
+}

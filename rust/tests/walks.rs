@@ -7,6 +7,7 @@
 //! A test takes a quarter of the left fractions, beside each right one. An optimized run with `BAKHSNEY_WALK=all` takes all of the
 //! quarter. Else it is eight of them, which `BAKHSNEY_WALK=SEED` chooses.
 
+#[macro_use]
 mod support;
 
 use bakhsney::{Ratio, Reduced};
@@ -126,16 +127,7 @@ fn walk(rest: usize) {
     }
 }
 
-macro_rules! walks {
-    ($($name:ident $rest:literal;)*) => {$(
-        #[test]
-        fn $name() {
-            walk($rest);
-        }
-    )*};
-}
-
-walks! { first_quarter 0; second_quarter 1; third_quarter 2; fourth_quarter 3; }
+quarters! { walk first_quarter 0; second_quarter 1; third_quarter 2; fourth_quarter 3; }
 
 /// Each fraction as the only bound, on either side.
 #[test]

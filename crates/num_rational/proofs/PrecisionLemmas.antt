@@ -13,8 +13,8 @@ use Rattle.ratio_core.proofs.DigitGroups.{at_least}
 use Rattle.ratio_decimal.proofs.HalfEvenLemmas.{least_half_even}
 use Rattle.ratio_decimal.proofs.LongLemmas.{whole_and_places}
 
-no_minus : (n : ℕ) → n < 10 ^ 64 → (rest : List ℕ) → starts_with_minus (decimal n ++ rest) ≡ false
-no_minus = decimal_by_steps_wide (λ n ds. (rest : List ℕ) → starts_with_minus (ds ++ rest) ≡ false)
+decimal_no_minus : (n : ℕ) → n < 10 ^ 64 → (rest : List ℕ) → starts_with_minus (decimal n ++ rest) ≡ false
+decimal_no_minus = decimal_by_steps_wide (λ n ds. (rest : List ℕ) → starts_with_minus (ds ++ rest) ≡ false)
     (λ n small rest. ne_eqb (48 + n) 45 (omega arith))
     (λ n ds many so_far rest. ap starts_with_minus (append_assoc ds ((48 + n % 10) ∷ []) rest) ∙ so_far ((48 + n % 10) ∷ rest))
 
@@ -33,7 +33,7 @@ module _ (pad : Bool → List ℕ → List ℕ → List ℕ) (places d : ℕ) (s
   front : (n : ℕ) → n < 2 ^ 128 → starts_with_minus (unsigned_places places (half_even (n * 10 ^ places) d)) ≡ false
   front n small =
       ap starts_with_minus (sym (whole_and_places n d places some fits many) ∙ append_assoc (decimal (n / d)) (point ∷ []) _)
-      ∙ no_minus (n / d) (let h = div-le_self n d in omega arith) _
+      ∙ decimal_no_minus (n / d) (let h = div-le_self n d in omega arith) _
 
   padded : (n : ℤ) → unsigned_abs n < 2 ^ 128
       → pad (int_lt n (pos 0)) [] (unsigned_places places (half_even (unsigned_abs n * 10 ^ places) d))

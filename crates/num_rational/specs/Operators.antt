@@ -7,14 +7,17 @@ use Rattle.num_rational.specs.declared.ratio.Ratio.{Ratio}
 use Rattle.num_rational.specs.Ratio.{ChecksRatio, IsLowestOf, denominator, numerator}
 
 -- the two numbers of a fraction
+-- Example: 2/4: (2, 4)
 abbrev pub numbers : {T : _} {i : _} {o : _} {e : _} {p : _} {h : _} → Ratio T i o e p h → ℤ × ℤ
 numbers r = (numerator r, denominator r)
 
 -- the two numbers of c over 1
+-- Example: 5: (5, 1)
 abbrev pub whole : ℤ → ℤ × ℤ
 whole c = (c, pos 1)
 
--- what x + y requires over a type with the numbers from lo to hi, whose sums are exact or not
+-- what x + y requires over a type with the numbers from lo to hi, whose sums are exact or not: positive denominators and `SumCondition`
+-- Example: not 127/1 + 1/1
 pub record CanAdd (exact : Bool) (lo hi : ℤ) (x y : ℤ × ℤ) : Type 0 where
   pub left_positive : pos 0 <ℤ x.1
   pub right_positive : pos 0 <ℤ y.1
@@ -24,15 +27,17 @@ pub record CanAdd (exact : Bool) (lo hi : ℤ) (x y : ℤ × ℤ) : Type 0 where
 abbrev pub GivesSum : {T : _} {i : _} {o : _} {e : _} {p : _} {h : _} → ℤ × ℤ → ℤ × ℤ → Ratio T i o e p h → Type 0
 GivesSum x y r = IsLowestOf (sum_of x.0 x.1 y.0 y.1) r
 
--- the result is x + y in lowest terms if its condition holds, and else `None`
+-- the result is x + y in lowest terms if its condition holds (`SumCondition`), and else `None`
+-- Example: 127/1 + 1/1: `None`
 abbrev pub ChecksSum : {T : _} {i : _} {o : _} {e : _} {p : _} {h : _} → ℤ × ℤ → ℤ × ℤ → Option (Ratio T i o e p h) → Type 0
 ChecksSum {i = i} x y result = AnswersLowest numerator denominator i.lo i.hi (SumCondition i.EXACT_SUMS i.lo i.hi x.0 x.1 y.0 y.1) (sum_of x.0 x.1 y.0 y.1) result
 
--- the result is x + y in lowest terms if these are in range, and else `None`, whether the type's sums are exact or not
+-- for `Reduced`: the result is x + y in lowest terms if these are in range, and else `None`, whether the type's sums are exact or not
+-- Example: 1/36 + 1/28: `Some(4/63)`
 abbrev pub ChecksExactSum : {T : _} {i : _} {o : _} {e : _} {p : _} {h : _} → ℤ × ℤ → ℤ × ℤ → Option (Ratio T i o e p h) → Type 0
 ChecksExactSum x y result = ChecksRatio (sum_of x.0 x.1 y.0 y.1) result
 
--- what x - y requires
+-- what x - y requires: positive denominators and `DifferenceCondition`
 pub record CanSubtract (exact : Bool) (lo hi : ℤ) (x y : ℤ × ℤ) : Type 0 where
   pub left_positive : pos 0 <ℤ x.1
   pub right_positive : pos 0 <ℤ y.1
@@ -42,15 +47,15 @@ pub record CanSubtract (exact : Bool) (lo hi : ℤ) (x y : ℤ × ℤ) : Type 0 
 abbrev pub GivesDifference : {T : _} {i : _} {o : _} {e : _} {p : _} {h : _} → ℤ × ℤ → ℤ × ℤ → Ratio T i o e p h → Type 0
 GivesDifference x y r = IsLowestOf (difference_of x.0 x.1 y.0 y.1) r
 
--- the result is x - y in lowest terms if its condition holds, and else `None`
+-- the result is x - y in lowest terms if its condition holds (`DifferenceCondition`), and else `None`
 abbrev pub ChecksDifference : {T : _} {i : _} {o : _} {e : _} {p : _} {h : _} → ℤ × ℤ → ℤ × ℤ → Option (Ratio T i o e p h) → Type 0
 ChecksDifference {i = i} x y result = AnswersLowest numerator denominator i.lo i.hi (DifferenceCondition i.EXACT_SUMS i.lo i.hi x.0 x.1 y.0 y.1) (difference_of x.0 x.1 y.0 y.1) result
 
--- the result is x - y in lowest terms if these are in range, and else `None`
+-- for `Reduced`: the result is x - y in lowest terms if these are in range, and else `None`, whether the type's sums are exact or not
 abbrev pub ChecksExactDifference : {T : _} {i : _} {o : _} {e : _} {p : _} {h : _} → ℤ × ℤ → ℤ × ℤ → Option (Ratio T i o e p h) → Type 0
 ChecksExactDifference x y result = ChecksRatio (difference_of x.0 x.1 y.0 y.1) result
 
--- what x * y requires
+-- what x * y requires: positive denominators and `ProductCondition`
 pub record CanMultiply (lo hi : ℤ) (x y : ℤ × ℤ) : Type 0 where
   pub left_positive : pos 0 <ℤ x.1
   pub right_positive : pos 0 <ℤ y.1
@@ -64,7 +69,7 @@ GivesProduct x y r = IsLowestOf (product_of x.0 x.1 y.0 y.1) r
 abbrev pub ChecksProduct : {T : _} {i : _} {o : _} {e : _} {p : _} {h : _} → ℤ × ℤ → ℤ × ℤ → Option (Ratio T i o e p h) → Type 0
 ChecksProduct x y result = ChecksRatio (product_of x.0 x.1 y.0 y.1) result
 
--- what x / y requires
+-- what x / y requires: positive denominators and `QuotientCondition`
 pub record CanDivide (lo hi : ℤ) (x y : ℤ × ℤ) : Type 0 where
   pub left_positive : pos 0 <ℤ x.1
   pub right_positive : pos 0 <ℤ y.1
@@ -78,7 +83,7 @@ GivesQuotient x y r = IsLowestOf (quotient_of x.0 x.1 y.0 y.1) r
 abbrev pub ChecksQuotient : {T : _} {i : _} {o : _} {e : _} {p : _} {h : _} → ℤ × ℤ → ℤ × ℤ → Option (Ratio T i o e p h) → Type 0
 ChecksQuotient x y result = ChecksRatio (quotient_of x.0 x.1 y.0 y.1) result
 
--- what x % y requires
+-- what x % y requires: positive denominators and `RemainderHeld`
 pub record CanTakeRemainder (lo hi : ℤ) (x y : ℤ × ℤ) : Type 0 where
   pub left_positive : pos 0 <ℤ x.1
   pub right_positive : pos 0 <ℤ y.1
@@ -88,10 +93,12 @@ pub record CanTakeRemainder (lo hi : ℤ) (x y : ℤ × ℤ) : Type 0 where
 abbrev pub GivesRemainder : {T : _} {i : _} {o : _} {e : _} {p : _} {h : _} → ℤ × ℤ → ℤ × ℤ → Ratio T i o e p h → Type 0
 GivesRemainder x y r = IsLowestOf (remainder_of x.0 x.1 y.0 y.1) r
 
--- the result is x % y in lowest terms if its condition holds, and else `None`
+-- the result is x % y in lowest terms if its condition holds (`RemainderHeld`), and else `None`
 abbrev pub ChecksRemainder : {T : _} {i : _} {o : _} {e : _} {p : _} {h : _} → ℤ × ℤ → ℤ × ℤ → Option (Ratio T i o e p h) → Type 0
 ChecksRemainder {i = i} x y result = AnswersLowest numerator denominator i.lo i.hi (RemainderHeld i.lo i.hi x.0 x.1 y.0 y.1) (remainder_of x.0 x.1 y.0 y.1) result
 
--- the result is x % y in lowest terms if `RemainderCondition` holds, and else `None`: over a type of exact remainders, if y is not 0 and the lowest terms are in range
+-- for `Reduced`: the result is x % y in lowest terms if `RemainderCondition` holds, and else `None`: over a type of exact remainders, if y
+-- is not 0 and the lowest terms are in range
+-- Example: 127/1 % 1/127: `Some(0/1)`
 abbrev pub ChecksLowestRemainder : {T : _} {i : _} {o : _} {e : _} {p : _} {h : _} → ℤ × ℤ → ℤ × ℤ → Option (Ratio T i o e p h) → Type 0
 ChecksLowestRemainder {i = i} x y result = AnswersLowest numerator denominator i.lo i.hi (RemainderCondition i.EXACT_REMAINDERS i.lo i.hi x.0 x.1 y.0 y.1) (remainder_of x.0 x.1 y.0 y.1) result

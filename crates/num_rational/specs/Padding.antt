@@ -6,18 +6,19 @@ use Rattle.ratio_core.specs.declared.text.form.Form.TheVariants.{Decimal}
 use Rattle.ratio_decimal.specs.Precision.{half_even_text}
 use Rattle.ratio_core.specs.Printing.{body_of, prefix_of, text_of}
 
--- The text of a `Reduced` in base 10: the fraction itself without a precision, and else a decimal with so many places. 7/2 in
--- `{}` is `7/2`, and in `{:.2}` `3.50`.
+-- the text of a `Reduced` in base 10: the fraction itself without a precision, and else a decimal with so many places
+-- Example: 7/2 in `{}`: `7/2`; in `{:.2}`: `3.50`
 abbrev pub text_under : Option ℕ → ℕ → ℤ → ℤ → List ℕ
 text_under None bits n d = text_of bits Decimal false n d
 text_under (Some places) bits n d = half_even_text places n d
 
--- A text in base 10, padded as a number: -1/2 in `{:06}` is `-001/2`. `pad` writes a number from its sign, its prefix and its
--- digits. A minus at the text's beginning is the sign, and the rest counts as the digits.
+-- a text in base 10, padded as a number. `pad` writes a number from its sign, its prefix and its digits. A minus at the text's beginning is
+-- the sign, and the rest counts as the digits
+-- Example: -1/2 in `{:06}`: `-001/2`
 abbrev pub padded_base_ten : (Bool → List ℕ → List ℕ → List ℕ) → List ℕ → List ℕ
 padded_base_ten pad text = if starts_with_minus text then pad true [] (drop 1 text) else pad false [] text
 
--- A fraction in base 2, 8 or 16, padded as a number not below 0: 1/2 in `{:#08x}` is `0x01/0x2`. The numerator's prefix is the
--- prefix, and the rest counts as the digits.
+-- a fraction in base 2, 8 or 16, padded as a number not below 0. The numerator's prefix is the prefix, and the rest counts as the digits
+-- Example: 1/2 in `{:#08x}`: `0x01/0x2`
 abbrev pub padded_in_base : (Bool → List ℕ → List ℕ → List ℕ) → Bool → ℕ → Form → ℤ → ℤ → List ℕ
 padded_in_base pad alternate bits form n d = pad false (prefix_of form) (body_of bits form alternate n d)

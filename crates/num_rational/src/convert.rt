@@ -1,4 +1,4 @@
-//! Conversions between fractions, pairs and whole numbers, and the default.
+//! Conversions from and to whole numbers and pairs, and the default fraction.
 ghost use Rattle.std.specs.Prelude.{◌≡◌, pos};
 ghost use Rattle.num_rational.specs.Ratio.{ChecksWhole, IsWhole, denominator, fields, numerator};
 

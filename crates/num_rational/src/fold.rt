@@ -1,3 +1,3 @@
-//! Sums and products of the items of an iterator.
+//! Sums and products of the items of an iterator, in two files.
 mod product;
 mod sum;

@@ -11,7 +11,6 @@ mod floats;
 mod fold;
 mod hash;
 mod json;
-pub mod laws;
 mod main_statement;
 mod nearest;
 mod operand;

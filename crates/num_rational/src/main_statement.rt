@@ -1,4 +1,4 @@
-//! The main promise of the library as one call: its contract is one definition.
+//! The main promise of the library as one call, `headline`: its contract is one definition.
 ghost use Rattle.std.specs.Prelude.{◌↔◌, ◌<ℤ◌, pos, IsTrue};
 ghost use Rattle.num_rational.specs.Headline.{IsHeadline};
 ghost use Rattle.num_rational.specs.Ratio.{denominator};
@@ -29,7 +29,7 @@ fn is_upright<T: Copy + Integer>(x: &Ratio<T>) -> bool
 }
 
 /// Calls what the main promise is about, on any two fractions over any integer type. The codes of each fraction go into its own list.
-/// Each count of steps rises: `compared` by what the comparison takes, the others by what hashing takes.
+/// Each count of steps rises by exactly what its call takes: `compared` for the comparison, the others for hashing.
 ///
 /// Its contract is the whole promise, in one definition.
 pub fn headline<T: Copy + Integer, L: CodeList<T>>(

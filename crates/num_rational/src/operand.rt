@@ -1,4 +1,4 @@
-//! The right operand of an operator's symbol.
+//! The trait `Operand`: the right operand of an operator's symbol, a `Ratio` or a whole number.
 ghost use Rattle.std.specs.Prelude.{◌≡◌, ℤ};
 ghost use Rattle.num_rational.specs.Operators.{numbers, whole};
 

@@ -1,4 +1,4 @@
-//! Printing fractions through the traits of std.
+//! Printing fractions through the traits of std, such as `Display` and `LowerHex`.
 ghost use Rattle.std.specs.Prelude.{◌≡◌, ◌++◌, [], ℕ, List, Some, false, if◌then◌else◌};
 ghost use Rattle.std.specs.Fmt.{WritesOnOk, WritesStyledOnOk, formatter_spec, padded_integral, spec_alternate};
 ghost use Rattle.num_rational.specs.Padding.{padded_base_ten, padded_in_base};

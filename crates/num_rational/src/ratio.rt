@@ -1,4 +1,4 @@
-//! The fraction type, the ways to make a fraction, and its fields.
+//! `Ratio`, the fraction type: the ways to make a fraction, its fields, its constants, and tests of these.
 ghost use Rattle.std.specs.Prelude.{◌≡◌, ◌≢◌, ◌↔◌, pos, IsTrue};
 ghost use Rattle.ratio_integer.specs.Fraction.{Fits};
 

@@ -1,4 +1,4 @@
-//! Signs of fractions, and the symbol `-`. A denominator may have either sign, except in `abs_sub`.
+//! Signs, negatives and absolute values of fractions, and the symbol `-`. A denominator may have either sign, except in `abs_sub`.
 ghost use Rattle.std.specs.Prelude.{◌≡◌, ◌↔◌, ◌<ℤ◌, pos, neg_ℤ, IsTrue};
 ghost use Rattle.ratio_integer.specs.Range.{IsHeld};
 ghost use Rattle.ratio_core.specs.Signs.{IsAbsolute, IsNegative, IsPositive, IsPositiveDifference, IsSign, PositiveDifferenceCondition};

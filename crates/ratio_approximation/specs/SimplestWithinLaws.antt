@@ -7,17 +7,18 @@ use Rattle.ratio_approximation.specs.Bounds.{HasPositiveDenominator}
 use Rattle.ratio_approximation.specs.Simplest.{IsSimplest}
 use Rattle.ratio_approximation.specs.SimplestWithin.{IsSimplestWithin}
 
--- at most one fraction is the simplest within the bounds
+-- Law: at most one fraction is the simplest within the bounds
 abbrev pub OneIsSimplestWithin : Type 0
 OneIsSimplestWithin =
     (low high : Bound (ℤ × ℤ)) (p q a b : ℤ) → HasPositiveDenominator low → HasPositiveDenominator high → IsSimplestWithin low high p q → IsSimplestWithin low high a b
     → (p ≡ a) × (q ≡ b)
 
--- the simplest fraction within the bounds is in lowest terms
+-- Law: the simplest fraction within the bounds is in lowest terms
 abbrev pub SimplestWithinIsLowest : Type 0
 SimplestWithinIsLowest = (low high : Bound (ℤ × ℤ)) (p q : ℤ) → HasPositiveDenominator low → HasPositiveDenominator high → IsSimplestWithin low high p q → IsLowestTerms p q
 
 -- both bounds are included, both are excluded, or both are open, and their fractions have the same value
+-- Example: above 1/2 and above 2/4
 abbrev pub AreSameBounds : Bound (ℤ × ℤ) → Bound (ℤ × ℤ) → Type 0
 AreSameBounds (Included x) (Included y) = SameValue x.0 x.1 y.0 y.1
 AreSameBounds (Excluded x) (Excluded y) = SameValue x.0 x.1 y.0 y.1
@@ -29,12 +30,12 @@ AreSameBounds (Excluded x) Unbounded = ⊥
 AreSameBounds Unbounded (Included y) = ⊥
 AreSameBounds Unbounded (Excluded y) = ⊥
 
--- bounds of the same values have the same simplest fraction within them
+-- Law: bounds of the same values have the same simplest fraction within them
 abbrev pub SameBoundsSameSimplest : Type 0
 SameBoundsSameSimplest =
     (low high low' high' : Bound (ℤ × ℤ)) (p q : ℤ) → HasPositiveDenominator low → HasPositiveDenominator high → HasPositiveDenominator low' → HasPositiveDenominator high'
     → AreSameBounds low low' → AreSameBounds high high' → IsSimplestWithin low high p q → IsSimplestWithin low' high' p q
 
--- within two excluded bounds it is the simplest fraction strictly between them
+-- Law: within two excluded bounds, the simplest fraction is the simplest one strictly between them
 abbrev pub ExcludedIsBetween : Type 0
 ExcludedIsBetween = (n d m e p q : ℤ) → IsSimplestWithin (Excluded (n, d)) (Excluded (m, e)) p q ↔ IsSimplest n d m e p q

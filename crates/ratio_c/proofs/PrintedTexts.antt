@@ -25,8 +25,8 @@ module _ {A : Type 0} (Shows : A → ℕ → List ℕ → Type 0) (room : ℕ) (
   pub none_printed : (answers : List Text) → ArePrintedTo old answers 0 0
   none_printed answers = record { texts = []; many = refl; counted = refl; roomy = omega arith; written = refl; each = λ k within d e. absurd (omega arith) }
 
-  one_more : (texts : List (List ℕ)) (bytes : List ℕ) → concat (texts ++ bytes ∷ []) ≡ concat texts ++ bytes
-  one_more texts bytes = concat-append texts (bytes ∷ []) ∙ ap (λ xs. concat texts ++ xs) (append-nil bytes)
+  one_text_more : (texts : List (List ℕ)) (bytes : List ℕ) → concat (texts ++ bytes ∷ []) ≡ concat texts ++ bytes
+  one_text_more texts bytes = concat-append texts (bytes ∷ []) ∙ ap (λ xs. concat texts ++ xs) (append-nil bytes)
 
   pub printed_next : (mid new : List ℕ) (answers : List Text) (longest n at : ℕ) (x : A) (text : Text) → ArePrintedTo mid answers n at → n < length asked → n < length answers
       → x ≡ get_or asked n x → IsTextPut (Shows x) longest at mid new text → longest ≤ room → ArePrintedTo new (set answers n text) (n + 1) text.span.end
@@ -41,10 +41,10 @@ module _ {A : Type 0} (Shows : A → ℕ → List ℕ → Type 0) (room : ℕ) (
       record {
         texts = texts ++ bytes ∷ [];
         many = length-append texts (bytes ∷ []) ∙ ap (λ k. k + 1) so_far.many;
-        counted = put.is.end ∙ ap (λ k. k + length bytes) so_far.counted ∙ sym (length-append (concat texts) bytes) ∙ ap length (sym (one_more texts bytes));
+        counted = put.is.end ∙ ap (λ k. k + length bytes) so_far.counted ∙ sym (length-append (concat texts) bytes) ∙ ap length (sym (one_text_more texts bytes));
         roomy = omega (arith, so_far.roomy, put.is.end, put.short, fits, suc-mul n room, ap (λ k. k * room) next);
         written = put.written ∙ ap (λ xs. xs ++ (bytes ++ drop text.span.end mid)) front ∙ ap (λ xs. concat texts ++ (bytes ++ xs)) back
-            ∙ sym (append_assoc (concat texts) bytes (drop text.span.end old)) ∙ ap (λ xs. xs ++ drop text.span.end old) (sym (one_more texts bytes));
+            ∙ sym (append_assoc (concat texts) bytes (drop text.span.end old)) ∙ ap (λ xs. xs ++ drop text.span.end old) (sym (one_text_more texts bytes));
         each = λ k within d e.
             elim (eq-zero-or-pos (n - k)) [
               | inl last ↦ let same : k ≡ n = omega (arith, last, within) in

@@ -7,31 +7,32 @@ use Rattle.ratio_c.specs.Codes.{code_answered, code_denominator_not_positive, ha
 use Rattle.ratio_c.specs.Crossing.{residue}
 use Rattle.ratio_c.specs.Numbers64.{greatest64, least64}
 
--- the upper and the lower half of a number of 64 bits, exchanged: 2^32 for 1
+-- the upper and the lower 32 bits of a number of 64 bits, exchanged
+-- Example: 1: 2^32
 abbrev pub halves_exchanged : ℕ → ℕ
 halves_exchanged n = (n % 2 ^ 32) * 2 ^ 32 + n / 2 ^ 32
 
--- a number times the multiplier, modulo 2^64, with its halves exchanged
+-- a number times `hash_multiplier`, modulo 2^64, with its halves exchanged
 abbrev pub stirred : ℕ → ℕ
 stirred n = halves_exchanged ((n * hash_multiplier) % 2 ^ 64)
 
--- the numerator, stirred, plus the denominator, and this stirred
+-- the numerator, stirred, plus the denominator, modulo 2^64, and this stirred
 abbrev pub lowest_hash : ℤ × ℤ → ℕ
 lowest_hash x = stirred ((stirred (residue x.0) + residue x.1) % 2 ^ 64)
 
--- The hash of the two numbers as they are, if the denominator is positive.
+-- the hash of the two numbers as they are (`lowest_hash`), or the code 3 where the denominator is not positive
 abbrev pub IsLowestHashAnswer : ℤ × ℤ → ℕ → ℕ → Type 0
 IsLowestHashAnswer x code hash =
     Tested (pos 0 <ℤ x.1) ((code ≡ code_answered) × (hash ≡ lowest_hash x)) ((code ≡ code_denominator_not_positive) × (hash ≡ 0))
 
--- two fractions in lowest terms with one value have one hash
+-- Law: two fractions in lowest terms with one value have one hash
 abbrev pub EqualHaveOneHash : Type 0
 EqualHaveOneHash = (x y : ℤ × ℤ) → IsLowestTerms x.0 x.1 → IsLowestTerms y.0 y.1 → SameValue x.0 x.1 y.0 y.1 → lowest_hash x ≡ lowest_hash y
 
--- over one denominator, unlike numerators of at most 64 bits have unlike hashes
+-- Law: over one denominator, unlike numerators of at most 64 bits have unlike hashes
 abbrev pub NumeratorsHaveUnlikeHashes : Type 0
 NumeratorsHaveUnlikeHashes = (n m d : ℤ) → IsHeld least64 greatest64 n → IsHeld least64 greatest64 m → lowest_hash (n, d) ≡ lowest_hash (m, d) → n ≡ m
 
--- and under one numerator, unlike denominators
+-- Law: under one numerator, unlike denominators of at most 64 bits have unlike hashes
 abbrev pub DenominatorsHaveUnlikeHashes : Type 0
 DenominatorsHaveUnlikeHashes = (n d e : ℤ) → IsHeld least64 greatest64 d → IsHeld least64 greatest64 e → lowest_hash (n, d) ≡ lowest_hash (n, e) → d ≡ e

@@ -5,17 +5,18 @@ use Rattle.ratio_c.specs.Crossing.{Said, wide_number}
 use Rattle.ratio_c.specs.declared.numbers128.Fraction128.{Fraction128}
 use Rattle.ratio_c.specs.declared.numbers128.Answer128.{Answer128}
 
--- the least and the greatest number
+-- the least number of 128 bits
 abbrev pub least128 : ℤ
 least128 = negsuc (2 ^ 127 - 1)
 
+-- the greatest number of 128 bits
 abbrev pub greatest128 : ℤ
 greatest128 = pos (2 ^ 127 - 1)
 
--- the two numbers of a fraction
+-- the two numbers of a fraction of 128 bits
 abbrev pub fraction128 : Fraction128 → ℤ × ℤ
 fraction128 x = (wide_number x.numer, wide_number x.denom)
 
--- the code and the two numbers of an answer
+-- the code and the two numbers of an answer of 128 bits
 abbrev pub said128 : Answer128 → Said
 said128 answer = (answer.code, fraction128 answer.value)

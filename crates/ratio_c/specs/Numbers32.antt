@@ -5,17 +5,18 @@ use Rattle.ratio_c.specs.Crossing.{Said}
 use Rattle.ratio_c.specs.declared.numbers32.Fraction32.{Fraction32}
 use Rattle.ratio_c.specs.declared.numbers32.Answer32.{Answer32}
 
--- the least and the greatest number
+-- the least number of 32 bits
 abbrev pub least32 : ℤ
 least32 = negsuc (2 ^ 31 - 1)
 
+-- the greatest number of 32 bits
 abbrev pub greatest32 : ℤ
 greatest32 = pos (2 ^ 31 - 1)
 
--- the two numbers of a fraction
+-- the two numbers of a fraction of 32 bits
 abbrev pub fraction32 : Fraction32 → ℤ × ℤ
 fraction32 x = (x.numer, x.denom)
 
--- the code and the two numbers of an answer
+-- the code and the two numbers of an answer of 32 bits
 abbrev pub said32 : Answer32 → Said
 said32 answer = (answer.code, fraction32 answer.value)

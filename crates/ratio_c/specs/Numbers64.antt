@@ -5,17 +5,18 @@ use Rattle.ratio_c.specs.Crossing.{Said}
 use Rattle.ratio_c.specs.declared.numbers64.Fraction64.{Fraction64}
 use Rattle.ratio_c.specs.declared.numbers64.Answer64.{Answer64}
 
--- the least and the greatest number
+-- the least number of 64 bits
 abbrev pub least64 : ℤ
 least64 = negsuc (2 ^ 63 - 1)
 
+-- the greatest number of 64 bits
 abbrev pub greatest64 : ℤ
 greatest64 = pos (2 ^ 63 - 1)
 
--- the two numbers of a fraction
+-- the two numbers of a fraction of 64 bits
 abbrev pub fraction64 : Fraction64 → ℤ × ℤ
 fraction64 x = (x.numer, x.denom)
 
--- the code and the two numbers of an answer
+-- the code and the two numbers of an answer of 64 bits
 abbrev pub said64 : Answer64 → Said
 said64 answer = (answer.code, fraction64 answer.value)

@@ -10,20 +10,23 @@ use Rattle.ratio_c.specs.Codes.{code_answered, code_bad_option, code_denominator
 use Rattle.ratio_c.specs.Crossing.{rule_of}
 use Rattle.ratio_c.specs.declared.printing.Text.{Text}
 
--- The code and the text of a fraction: its two numbers, not reduced, if the denominator is not 0. For example, 2/4 is printed as `2/4`.
+-- the code and the text of a fraction: the code 0 and its two numbers, not reduced, or the code 4 where the denominator is 0
+-- Example: 2/4: `2/4`
 abbrev pub ShowsFields : ℕ → ℤ × ℤ → ℕ → List ℕ → Type 0
 ShowsFields bits x code text =
     Tested (x.1 ≡ pos 0) ((code ≡ code_zero_denominator) × (text ≡ [])) ((code ≡ code_answered) × (text ≡ text_of bits Decimal false x.0 x.1))
 
--- The code and the text of a fraction as a decimal, with a positive denominator, at most 38 places and a rule from 0 to 5. For example, 2/3
--- with two places by the rule 1 is printed as `0.67`.
+-- the code and the text of a fraction as a decimal. The code is 3 where the denominator is not positive, and 9 for more than 38 places or a
+-- rule above 5
+-- Example: 2/3 with two places by the rule 1: `0.67`
 abbrev pub ShowsDecimal : ℤ × ℤ → ℕ → ℕ → ℕ → List ℕ → Type 0
 ShowsDecimal x places rule code text =
     Tested (pos 0 <ℤ x.1)
     (Tested ((places ≤ 38) × (rule < 6)) ((code ≡ code_answered) × IsDecimalOf (rule_of rule) places x.0 x.1 text) ((code ≡ code_bad_option) × (text ≡ [])))
     ((code ≡ code_denominator_not_positive) × (text ≡ []))
 
--- The length of the longest decimal of a type: the longer one of its least and its greatest number, a point and 38 digits. For 32 bits it is 50.
+-- the length of the longest decimal of a type: the longer one of its least and its greatest number, a point and 38 digits
+-- Example: for 32 bits: 50
 abbrev pub decimal_longest : ℤ → ℤ → ℕ
 decimal_longest lo hi = max (length (signed_decimal lo)) (length (signed_decimal hi)) + 39
 
@@ -33,8 +36,8 @@ pub record IsTextAnswer (Shows : ℕ → List ℕ → Type 0) (at : ℕ) (text :
   pub start : answer.span.start ≡ at
   pub end : answer.span.end ≡ at + length text
 
--- Each item has a text. All are written from the first byte on, one after another, and the bytes behind them are unchanged. Each answer's
--- span starts behind the texts before its own. So the bytes in it are its item's text.
+-- each item has a text. All are written from the first byte on, one after another, and the bytes behind them are unchanged. Each answer's
+-- span starts behind the texts before its own. So the bytes in it are its item's text
 pub record ArePrinted {A : Type 0} (Shows : A → ℕ → List ℕ → Type 0) (asked : List A) (old new : List ℕ) (answers : List Text) : Type 0 where
   pub texts : List (List ℕ)
   pub written : new ≡ concat texts ++ drop (length (concat texts)) old
@@ -42,14 +45,14 @@ pub record ArePrinted {A : Type 0} (Shows : A → ℕ → List ℕ → Type 0) (
   pub each : (k : ℕ) → k < length asked → (x : A) (answer : Text)
       → IsTextAnswer (Shows (slice_index_or asked k x)) (length (concat (take k texts))) (get_or texts k []) (slice_index_or answers k answer)
 
--- If there is one answer for each item, and `room` bytes for each, the texts are printed and the call returns 0. Otherwise it
--- returns 1 and writes nothing.
+-- if there is one answer for each item, and `room` bytes for each, the texts are printed (`ArePrinted`) and the call returns 0. Otherwise
+-- it returns 1 and writes nothing
 abbrev pub Prints : {A : Type 0} → (A → ℕ → List ℕ → Type 0) → ℕ → List A → List ℕ → List ℕ → List Text → List Text → ℕ → Type 0
 Prints Shows room asked old new places answers result =
     Tested ((length asked ≡ length places) × (length asked * room ≤ length old)) ((result ≡ return_done) × ArePrinted Shows asked old new answers)
     ((result ≡ return_bad_length) × (new ≡ old) × (answers ≡ places))
 
--- inner: an item's text of at most `longest` bytes is written at a place, and the other bytes are unchanged
+-- Inner: an item's text of at most `longest` bytes is written at a place, and the other bytes are unchanged
 pub record IsTextPut (Shows : ℕ → List ℕ → Type 0) (longest at : ℕ) (old new : List ℕ) (answer : Text) : Type 0 where
   pub text : List ℕ
   pub is : IsTextAnswer Shows at text answer

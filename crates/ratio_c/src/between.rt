@@ -1,4 +1,4 @@
-//! The simplest fraction within two bounds.
+//! The simplest fraction within two bounds, which flags describe.
 ghost use Rattle.std.specs.Prelude.{◌≡◌, ◌↔◌, ◌<◌, IsTrue, MatchOption};
 ghost use Rattle.ratio_approximation.specs.Bounds.{HasPositiveDenominator, numbers_in};
 ghost use Rattle.ratio_c.specs.Bounds.{AreBounds, AreFlags, HavePositiveDenominators, bound_of, has_flag, flagged_high, flagged_low};

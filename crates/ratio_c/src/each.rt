@@ -1,4 +1,4 @@
-//! One call for each item of a slice.
+//! The trait `Call`, and `each`: one call for each item of a slice.
 ghost use Rattle.ratio_c.specs.Calls.{AnswersEach};
 
 /// A call that gives an answer for one item.

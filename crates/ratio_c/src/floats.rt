@@ -1,4 +1,5 @@
-//! Fractions with the values of floats, and the floats nearest to fractions.
+//! Fractions with the values of floats, the simplest ones that round to floats, and the floats
+//! nearest to fractions.
 ghost use Rattle.std.specs.Prelude.{◌≡◌};
 ghost use Rattle.ratio_c.specs.Calls.{IsFromFloatAnswer, IsRationalAnswer, IsToFloatAnswer};
 

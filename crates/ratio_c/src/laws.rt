@@ -1,4 +1,4 @@
-//! The laws of this crate. Each function does nothing: its contract is the law.
+//! The laws of hashes, of keys and of totals. Each function does nothing: its contract is the law.
 ghost use Rattle.ratio_c.specs.Calls.{EqualValuesHaveOneHash};
 ghost use Rattle.ratio_c.specs.Keys.{KeysKeepOrder, KeysTellFloats};
 ghost use Rattle.ratio_c.specs.LowestHash.{DenominatorsHaveUnlikeHashes, EqualHaveOneHash, NumeratorsHaveUnlikeHashes};

@@ -1,5 +1,5 @@
 // Written by templates/write from templates/numbers.rt.txt: change that file, and write this one anew.
-//! Fractions of `i128` and the exports over them.
+//! The structs of C with fractions of `i128`, and the exported calls over slices of them.
 ghost use Rattle.std.specs.Prelude.{false};
 ghost use Rattle.ratio_c.specs.Calls.{AnswersEach, IsAbsoluteAnswer, IsBetweenAnswer, IsCastAnswer, IsCeilingAnswer, IsConvergentAnswer, IsDifferenceAnswer, IsEqualAnswer, IsFloorAnswer, IsFromFloatAnswer, IsHashAnswer, IsLowestAnswer, IsNearestAnswer, IsNegationAnswer, IsOrderAnswer, IsPowerAnswer, IsProductAnswer, IsQuotientAnswer, IsRationalAnswer, IsReadAnswer, IsRemainderAnswer, IsRoundAnswer, IsRoundToAnswer, IsScaledAnswer, IsSumAnswer, IsToFloatAnswer, IsTruncationAnswer, SaysDecimal, SaysText, SaysTyped};
 ghost use Rattle.ratio_c.specs.Codes.{decimal_room128, room128};
@@ -26,7 +26,7 @@ use crate::multiple::RoundingTo;
 use crate::nearest::Nearest;
 use crate::numbers32::Answer32;
 use crate::numbers64::Answer64;
-use crate::one_fraction::{Ceiling, Floor, LowestTerms, Raising, Rounding, Truncation};
+use crate::one_fraction::{Ceiling, Floor, LowestTerms, Raising, RoundingToWhole, Truncation};
 use crate::printing::{Fields, Text, print};
 use crate::reading::{Fractions, Reading, Span};
 use crate::scaled::{Scaled, Scaling};
@@ -419,7 +419,7 @@ pub extern "C" fn ratio_trunc_i128(asked: &[Fraction128], answers: &mut [Answer1
 pub extern "C" fn ratio_round_i128(asked: &[Fraction128], answers: &mut [Answer128]) -> u32
     ensures { AnswersEach (λ x answer. IsRoundAnswer (fraction128 x) (said128 answer)) asked.now answers.old answers.new result }
 {
-    each(&Rounding, asked, answers)
+    each(&RoundingToWhole, asked, answers)
 }
 
 /// The power of each fraction, not reduced.

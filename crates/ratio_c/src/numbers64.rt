@@ -1,5 +1,5 @@
 // Written by templates/write from templates/numbers.rt.txt: change that file, and write this one anew.
-//! Fractions of `i64` and the exports over them.
+//! The structs of C with fractions of `i64`, and the exported calls over slices of them.
 ghost use Rattle.std.specs.Prelude.{true};
 ghost use Rattle.ratio_c.specs.Calls.{AnswersEach, IsAbsoluteAnswer, IsBetweenAnswer, IsCastAnswer, IsCeilingAnswer, IsConvergentAnswer, IsDifferenceAnswer, IsEqualAnswer, IsFloorAnswer, IsFromFloatAnswer, IsHashAnswer, IsLowestAnswer, IsNearestAnswer, IsNegationAnswer, IsOrderAnswer, IsPowerAnswer, IsProductAnswer, IsQuotientAnswer, IsRationalAnswer, IsReadAnswer, IsRemainderAnswer, IsRoundAnswer, IsRoundToAnswer, IsScaledAnswer, IsSumAnswer, IsToFloatAnswer, IsTruncationAnswer, SaysDecimal, SaysText, SaysTyped};
 ghost use Rattle.ratio_c.specs.Codes.{decimal_room64, room64};
@@ -28,7 +28,7 @@ use crate::multiple::RoundingTo;
 use crate::nearest::Nearest;
 use crate::numbers32::Answer32;
 use crate::numbers128::Answer128;
-use crate::one_fraction::{Ceiling, Floor, LowestTerms, Raising, Rounding, Truncation};
+use crate::one_fraction::{Ceiling, Floor, LowestTerms, Raising, RoundingToWhole, Truncation};
 use crate::printing::{Fields, Text, print};
 use crate::reading::{Fractions, Reading, Span};
 use crate::scaled::{Scaled, Scaling};
@@ -417,7 +417,7 @@ pub extern "C" fn ratio_trunc_i64(asked: &[Fraction64], answers: &mut [Answer64]
 pub extern "C" fn ratio_round_i64(asked: &[Fraction64], answers: &mut [Answer64]) -> u32
     ensures { AnswersEach (λ x answer. IsRoundAnswer (fraction64 x) (said64 answer)) asked.now answers.old answers.new result }
 {
-    each(&Rounding, asked, answers)
+    each(&RoundingToWhole, asked, answers)
 }
 
 /// The power of each fraction, not reduced.

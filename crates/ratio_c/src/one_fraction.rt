@@ -1,4 +1,4 @@
-//! The calls on one fraction.
+//! Lowest terms, floor, ceiling, truncation, rounding to a whole number, and powers of one fraction.
 ghost use Rattle.std.specs.Prelude.{◌≡◌, ◌<ℤ◌, pos, MatchOption};
 ghost use Rattle.num_rational.specs.Operators.{numbers};
 ghost use Rattle.ratio_c.specs.Calls.{IsCeilingAnswer, IsFloorAnswer, IsLowestAnswer, IsPowerAnswer, IsRoundAnswer, IsTruncationAnswer};
@@ -92,9 +92,9 @@ impl<F: OneFraction, A: Reply<F::Inside>> Call<F, A> for Truncation {
 
 /// A fraction rounded, over 1: 7/2 gives 4/1.
 #[derive(Clone, Copy)]
-pub struct Rounding;
+pub struct RoundingToWhole;
 
-impl<F: OneFraction, A: Reply<F::Inside>> Call<F, A> for Rounding {
+impl<F: OneFraction, A: Reply<F::Inside>> Call<F, A> for RoundingToWhole {
     ghost gives = { λ _ x answer. IsRoundAnswer (F.fraction x) (A.said answer) };
 
     #[inline(always)]

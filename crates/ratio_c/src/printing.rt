@@ -1,4 +1,4 @@
-//! Printing texts, one after another.
+//! Printing fractions as texts, one after another into one piece of memory.
 ghost use Rattle.std.specs.Prelude.{◌≡◌, ◌+◌, ◌*◌, ◌<◌, ◌≤◌, ◌++◌, ℕ, List, drop, length, take, MatchBool};
 ghost use Rattle.ratio_core.specs.Printing.{base_ten_room};
 ghost use Rattle.ratio_c.specs.Codes.{code_answered};

@@ -1,4 +1,4 @@
-//! Reading fractions from texts.
+//! Reading fractions from texts, each from a span of bytes.
 ghost use Rattle.std.specs.Prelude.{◌≡◌, ℕ, List};
 ghost use Rattle.ratio_c.specs.Calls.{IsReadAnswer, IsWideRefusal, SaysText};
 ghost use Rattle.ratio_c.specs.Crossing.{Said, said_by};

@@ -1,4 +1,4 @@
-//! Worked rows. Their answers come from outside.
+//! Tests of all calls over slices: worked rows. Their answers come from outside.
 use crate::code::{
     ANSWERED, BAD_OPTION, BOUND_NOT_POSITIVE, DENOMINATOR_NOT_POSITIVE, DIVISION_BY_ZERO,
     HIGH_OPEN, LOW_INCLUDED, NOT_HELD, PARSE_ERROR, RULE_HALF_EVEN, ZERO_DENOMINATOR,

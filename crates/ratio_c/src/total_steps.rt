@@ -1,4 +1,4 @@
-//! The steps of totals, and what a total gives.
+//! The steps of totals (a fraction goes in or out, a total is merged), and the sum and the mean of a total.
 ghost use Rattle.std.specs.Prelude.{◌≡◌, ℤ, pos};
 ghost use Rattle.ratio_integer.specs.Arithmetic.{quotient_of};
 ghost use Rattle.ratio_integer.specs.Fraction.{ChecksLowest, IsLowestTerms};

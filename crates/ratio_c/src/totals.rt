@@ -1,4 +1,4 @@
-//! Totals: how many fractions a program has added, and their sum, for columns and their parts.
+//! The struct `Total64`: what a total says and keeps, and how items are gathered into it.
 ghost use Rattle.std.specs.Prelude.{◌≡◌, ◌↔◌, ℤ, IsTrue};
 ghost use Rattle.ratio_integer.specs.Fraction.{ChecksLowest, IsLowestTerms};
 ghost use Rattle.ratio_c.specs.Numbers128.{greatest128, least128};

@@ -1,4 +1,4 @@
-//! An `i128` as it crosses.
+//! `Wide`: an `i128` as it crosses, in two halves.
 ghost use Rattle.std.specs.Prelude.{◌≡◌};
 ghost use Rattle.ratio_c.specs.Crossing.{wide_number};
 

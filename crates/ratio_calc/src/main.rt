@@ -1,4 +1,4 @@
-//! The calculator on standard input and standard output.
+//! The program: the calculator on standard input and standard output, and its status.
 #![tactic(auto)]
 
 ghost use Rattle.std.specs.Prelude.{◌≡◌, MatchResult};

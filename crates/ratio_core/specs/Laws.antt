@@ -6,32 +6,34 @@ use Rattle.ratio_integer.specs.Range.{IsRange}
 use Rattle.ratio_core.specs.Conditions.{SumCondition}
 
 -- z is x + y in lowest terms
+-- Example: 1/2 and 1/6: 2/3
 abbrev pub IsSum : ℤ × ℤ → ℤ × ℤ → ℤ × ℤ → Type 0
 IsSum x y z = IsLowestTermsOf (sum_of x.0 x.1 y.0 y.1).0 (sum_of x.0 x.1 y.0 y.1).1 z.0 z.1
 
 -- z is x * y in lowest terms
+-- Example: 1/2 and 1/6: 1/12
 abbrev pub IsProduct : ℤ × ℤ → ℤ × ℤ → ℤ × ℤ → Type 0
 IsProduct x y z = IsLowestTermsOf (product_of x.0 x.1 y.0 y.1).0 (product_of x.0 x.1 y.0 y.1).1 z.0 z.1
 
--- x + y is y + x
+-- Law: x + y is y + x, in lowest terms
 abbrev pub SumsCommute : Type 0
 SumsCommute = (x y left right : ℤ × ℤ) → IsSum x y left → IsSum y x right → left ≡ right
 
--- (x + y) + z is x + (y + z), if all four sums are `Some`
+-- Law: (x + y) + z is x + (y + z) in lowest terms, if all four sums are `Some`
 abbrev pub SumsAssociate : Type 0
 SumsAssociate =
     (x y z xy yz left right : ℤ × ℤ) → IsSum x y xy → IsSum xy z left → IsSum y z yz → IsSum x yz right → left ≡ right
 
--- x * y is y * x
+-- Law: x * y is y * x, in lowest terms
 abbrev pub ProductsCommute : Type 0
 ProductsCommute = (x y left right : ℤ × ℤ) → IsProduct x y left → IsProduct y x right → left ≡ right
 
--- (x * y) * z is x * (y * z)
+-- Law: (x * y) * z is x * (y * z), in lowest terms
 abbrev pub ProductsAssociate : Type 0
 ProductsAssociate =
     (x y z xy yz left right : ℤ × ℤ) → IsProduct x y xy → IsProduct xy z left → IsProduct y z yz → IsProduct x yz right → left ≡ right
 
--- x * (y + z) is x * y + x * z
+-- Law: x * (y + z) is x * y + x * z, in lowest terms
 abbrev pub ProductsDistribute : Type 0
 ProductsDistribute =
     (x y z yz left xy xz right : ℤ × ℤ)
@@ -42,11 +44,11 @@ ProductsDistribute =
     → IsSum xy xz right
     → left ≡ right
 
--- if `SumCondition` holds of x and y, it holds of y and x
+-- Law: if `SumCondition` holds of x and y, it holds of y and x
 abbrev pub SumConditionsCommute : Type 0
 SumConditionsCommute = (exact : Bool) (lo hi a b c d : ℤ) → SumCondition exact lo hi a b c d → SumCondition exact lo hi c d a b
 
--- a sum computed over the least common denominator fits, so a type of exact sums loses no result
+-- Law: a sum computed over the least common denominator (`SumHeld`) of positive denominators fits, so a type of exact sums loses no result
 abbrev pub FormedSumsFit : Type 0
 FormedSumsFit =
     (lo hi a b c d : ℤ)
@@ -56,7 +58,7 @@ FormedSumsFit =
     → SumHeld lo hi a b c d
     → Fits lo hi (sum_of a b c d).0 (sum_of a b c d).1
 
--- a difference computed over the least common denominator fits
+-- Law: a difference computed over the least common denominator (`DifferenceHeld`) of positive denominators fits
 abbrev pub FormedDifferencesFit : Type 0
 FormedDifferencesFit =
     (lo hi a b c d : ℤ)

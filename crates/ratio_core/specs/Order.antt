@@ -6,28 +6,34 @@ use Rattle.ratio_integer.specs.Division.{IsFloored}
 use Rattle.ratio_integer.specs.Range.{IsHeld}
 
 -- -1 for a number below 0, and else 1
+-- Example: 0: 1
 abbrev pub sign : ℤ → ℤ
 sign (pos n) = pos 1
 sign (negsuc n) = negsuc 0
 
--- the order of n*e and m*d, for n/d and m/e; it is reversed where d*e is below 0. For 1/2 and 2/3 it is the order of 3 and 4
+-- the order of n*e and m*d, for n/d and m/e; it is reversed where d*e is below 0
+-- Example: 1/2 and 2/3: 3 < 4, so `Less`
 unfoldable pub cross_cmp : ℤ → ℤ → ℤ → ℤ → Ordering
 cross_cmp n d m e = int_cmp (sign (d *ℤ e) *ℤ (n *ℤ e)) (sign (d *ℤ e) *ℤ (m *ℤ d))
 
 -- one of two numbers is below 0, and the other is not
+-- Example: -1 and 0
 abbrev pub HaveUnlikeSigns : ℤ → ℤ → Type 0
 HaveUnlikeSigns d e = ((d <ℤ pos 0) × (pos 0 ≤ℤ e)) ⊎ ((pos 0 ≤ℤ d) × (e <ℤ pos 0))
 
--- both cross products of n/d and m/e are in range
+-- both cross products of n/d and m/e, n·e and m·d, are in range
+-- Example: not 100/3 and 99/2
 pub record AreProductsHeld (lo hi n d m e : ℤ) : Type 0 where
   pub left : IsHeld lo hi (n *ℤ e)
   pub right : IsHeld lo hi (m *ℤ d)
 
--- both denominators are positive, and they are equal or exactly one numerator is below 0; then the numerators have the order of the fractions
+-- both denominators are positive, and the denominators are equal or exactly one numerator is below 0; then the numerators have the order of the
+-- fractions
+-- Example: -1/2 and 1/3
 abbrev pub DoNumeratorsDecide : ℤ → ℤ → ℤ → ℤ → Type 0
 DoNumeratorsDecide n d m e = (pos 0 <ℤ d) × (pos 0 <ℤ e) × ((d ≡ e) ⊎ HaveUnlikeSigns n m)
 
--- the order of q and the floored quotient of n/d; the two differ, and the quotient is at most hi
+-- Inner: the order of q and the floored quotient of n/d, which is at most hi, and not q
 pub record IsOrderOfQuotients (hi q n d : ℤ) (order : Ordering) : Type 0 where
   pub quotient : ℤ
   pub rest : ℤ
@@ -35,13 +41,13 @@ pub record IsOrderOfQuotients (hi q n d : ℤ) (order : Ordering) : Type 0 where
   pub below : quotient ≤ℤ hi
   pub apart : MatchOrdering order (q <ℤ quotient) ⊥ (quotient <ℤ q)
 
--- the result is the rest of n/d if q is its floored quotient, and else the order of q and that quotient
+-- Inner: the result is the rest of n/d if q is its floored quotient, and else the order of q and that quotient
 abbrev pub FollowsQuotient : {T : Type 0} → (T → ℤ) → ℤ → ℤ → ℤ → ℤ → Result T Ordering → Type 0
 FollowsQuotient value hi q n d (Ok rest) = IsFloored n d q (value rest)
 FollowsQuotient value hi q n d (Err order) = IsOrderOfQuotients hi q n d order
 
--- o is the order of the whole parts p and q. If these are equal, a fraction without a rest is
--- below one with a rest, and two without a rest are equal; r and s are the rests
+-- Inner: o is the order of the whole parts p and q. If these are equal, a fraction without a rest is below one with a rest, and two without
+-- a rest are equal; r and s are the rests
 abbrev pub IsOrderOfParts : ℤ → ℤ → ℤ → ℤ → Ordering → Type 0
 IsOrderOfParts p r q s o =
     MatchOrdering o

@@ -9,11 +9,12 @@ use Rattle.ratio_core.specs.Laws.{IsProduct, IsSum}
 use Rattle.ratio_core.specs.Power.{IsPower, IsReciprocal, PowerCondition}
 use Rattle.ratio_core.specs.Rounding.{IsFractionalPart, IsTruncation}
 
--- z to the 0 is 1, and z to the m + 1 is z to the m times z
+-- Law: z to the 0 is 1, and z to the m + 1 is z to the m times z
+-- Example: 2^3 is 2^2·2
 abbrev pub PowersAreProducts : Type 0
 PowersAreProducts = (z : ℤ) → (int_pow z 0 ≡ pos 1) × ((m : ℕ) → int_pow z (m + 1) ≡ int_pow z m *ℤ z)
 
--- x to the e + f has the value of x to the e times x to the f, if all three are `Some`
+-- Law: x to the e + f has the value of x to the e times x to the f, if `PowerCondition` holds of all three
 abbrev pub PowersAdd : Type 0
 PowersAdd =
     (lo hi n d e f : ℤ) (x y z : ℤ × ℤ)
@@ -26,15 +27,16 @@ PowersAdd =
     → IsPower n d (e +ℤ f) z.0 z.1
     → SameValue (product_of x.0 x.1 y.0 y.1).0 (product_of x.0 x.1 y.0 y.1).1 z.0 z.1
 
--- x times its reciprocal is 1/1
+-- Law: x times its reciprocal is 1/1, for x not 0
 abbrev pub ReciprocalsInvert : Type 0
 ReciprocalsInvert = (n d a b : ℤ) → pos 0 <ℤ d → n ≢ pos 0 → IsReciprocal n d a b → IsProduct (n, d) (a, b) (pos 1, pos 1)
 
--- x is its truncation plus its fractional part
+-- Law: x, which is n/d, is its truncation plus its fractional part over d
+-- Example: -3 + -1/2 is -7/2
 abbrev pub PartsAddUp : Type 0
 PartsAddUp = (n d t f : ℤ) (z : ℤ × ℤ) → pos 0 <ℤ d → IsTruncation n d t → IsFractionalPart n d f → IsSum (t, pos 1) (f, d) z → SameValue n d z.0 z.1
 
--- this sum is always `Some`, if both numbers of x are in range
+-- Law: this sum is always `Some` (`SumCondition` holds), if both numbers of x are in range
 abbrev pub PartsAreAnswered : Type 0
 PartsAreAnswered =
     (exact : Bool) (lo hi n d t f : ℤ)

@@ -1,4 +1,4 @@
-//! The lowest terms of a fraction, if they fit the type.
+//! The lowest terms of a fraction, with its sign moved to the numerator, if they fit the type.
 ghost use Rattle.std.specs.Prelude.{pos};
 ghost use Rattle.ratio_integer.specs.Fraction.{ChecksLowest};
 ghost use Rattle.ratio_core.specs.Cancelling.{IsCancelled};

@@ -1,4 +1,4 @@
-//! A list that takes the codes of a fraction, one after another.
+//! The trait `CodeList`: a list that takes the codes of a fraction, one after another.
 ghost use Rattle.std.specs.Prelude.{◌≡◌, ℤ, List, [], ◌∷◌, ◌++◌};
 
 use ratio_integer::Integer;

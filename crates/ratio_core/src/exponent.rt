@@ -1,5 +1,5 @@
 // Written by templates/write from templates/exponent.rt.txt: change that file, and write this one anew.
-//! Whole numbers that may be an exponent.
+//! The trait `Exponent`: whole numbers of any primitive type that may be an exponent, by sign and magnitude.
 ghost use Rattle.std.specs.Prelude.{◌≡◌, ◌↔◌, ◌<ℤ◌, ℤ, pos, unsigned_abs, IsTrue};
 
 /// A whole number that may be an exponent, of a magnitude below 2^128. The

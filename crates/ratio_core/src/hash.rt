@@ -1,4 +1,4 @@
-//! The codes by which a fraction is hashed.
+//! The codes by which a fraction is hashed, handed to a list while the steps are counted.
 ghost use Rattle.std.specs.Prelude.{◌≡◌, ◌≢◌, ◌+◌, ℕ, ℤ, pos, fold, List, ◌++◌};
 ghost use Rattle.ratio_core.specs.ContinuedFraction.{AreCodesCounted, IsCodeCount, IsCodesOf, TellsApart};
 

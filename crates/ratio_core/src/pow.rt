@@ -1,4 +1,4 @@
-//! Reciprocals and powers.
+//! Reciprocals and powers of fractions, not reduced.
 //!
 //! A power is computed by squaring, for both numbers in one loop: it takes one turn for each binary digit of the
 //! exponent but the last. It computes no square that it does not use. So over `i8`, 10 to the 2 is `Some`, though the

@@ -1,4 +1,4 @@
-//! Products and quotients in lowest terms, which are `Some` exactly if these fit the type.
+//! Products and quotients of any fractions in lowest terms, which are `Some` exactly if these fit the type.
 //!
 //! If both products of the fields fit, one gcd reduces them. Else the operands are reduced and cancelled
 //! across, and a sign is moved, before anything is multiplied. The products are then the lowest terms, so

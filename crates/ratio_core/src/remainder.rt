@@ -1,4 +1,4 @@
-//! The remainder of one fraction by another, in lowest terms.
+//! The remainder of one fraction by another in lowest terms, over any type.
 ghost use Rattle.std.specs.Prelude.{◌≡◌, ◌≢◌, ◌<ℤ◌, pos, int_rem};
 ghost use Rattle.ratio_integer.specs.Arithmetic.{RemainderHeld, remainder_of};
 ghost use Rattle.ratio_integer.specs.Fraction.{AnswersLowest};

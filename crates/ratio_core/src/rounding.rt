@@ -1,4 +1,4 @@
-//! Whole numbers near a fraction, and its whole part as a machine integer.
+//! Whole numbers near a fraction (floor, ceiling, truncation, rounded), its fractional part, and its whole part as a machine integer.
 //!
 //! Each call requires only a positive denominator. It divides once, and no step overflows: nothing is
 //! doubled, and nothing is added before the division.

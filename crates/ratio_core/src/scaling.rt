@@ -1,4 +1,4 @@
-//! Two fractions over their least common denominator.
+//! Two fractions over their least common denominator: the numerators and it.
 ghost use Rattle.std.specs.Prelude.{◌<ℤ◌, pos};
 ghost use Rattle.ratio_core.specs.Conditions.{ChecksScaled};
 

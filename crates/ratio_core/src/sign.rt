@@ -1,4 +1,4 @@
-//! Signs of fractions and of numbers. A denominator may have either sign.
+//! Signs, negatives, absolute values and positive differences of fractions, and signs of numbers. A denominator may have either sign.
 ghost use Rattle.std.specs.Prelude.{◌≡◌, ◌≢◌, ◌↔◌, ◌<ℤ◌, pos, neg_ℤ, IsTrue};
 ghost use Rattle.ratio_integer.specs.Range.{IsHeld};
 ghost use Rattle.ratio_core.specs.Signs.{IsAbsolute, IsNegative, IsPositive, IsPositiveDifference, IsSign, PositiveDifferenceCondition};

@@ -1,4 +1,4 @@
-//! The codes that a list has taken, which only contracts see.
+//! `Taken`: the codes that a list has taken, which only contracts see.
 ghost use Rattle.std.specs.Prelude.{◌≡◌, ℤ, List, [], ◌∷◌, ◌++◌};
 ghost use Rattle.std.specs.Borrow.{ftrue};
 

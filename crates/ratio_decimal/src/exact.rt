@@ -1,4 +1,4 @@
-//! Printing a fraction as a decimal with all its places, if they end.
+//! Printing a fraction as a decimal with all its places, if they end, and finding how many these are.
 ghost use Rattle.std.specs.Prelude.{◌≡◌, ◌+◌, ◌-◌, ◌*◌, ◌/◌, ◌^◌, ◌<◌, ◌≤◌, ◌++◌, decimal, drop, length, true, IsAscii};
 ghost use Rattle.ratio_integer.specs.Fraction.{IsLowestTerms};
 ghost use Rattle.ratio_decimal.specs.Decimal.{ChecksExactDecimal, ChecksLessTen, ChecksPlaces, places_text, unsigned_places};

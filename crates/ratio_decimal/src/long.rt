@@ -1,4 +1,4 @@
-//! Writing a fraction with more places than `decimal` has.
+//! Writing a fraction to a formatter with more places than `decimal` has: its sign, the digits before and in the last places, and fill.
 //!
 //! A denominator of 128 bits is below 2 * 10^39. So no fraction is less than half of 1/10^39 below a whole number, and
 //! a carry passes at most 38 nines. All but the last 39 digits are written before the fraction is rounded.

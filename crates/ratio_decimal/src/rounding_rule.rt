@@ -1,4 +1,4 @@
-//! The rules by which a fraction is rounded.
+//! The enum `Rounding`: the six rules by which a fraction is rounded.
 
 /// How a number between two neighbours is rounded to one of them. The neighbours are whole numbers, or multiples of
 /// 1/100 for two decimal places.

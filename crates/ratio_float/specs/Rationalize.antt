@@ -6,7 +6,8 @@ use Rattle.ratio_integer.specs.Fraction.{ChecksLowest}
 use Rattle.ratio_float.specs.Floats.{fraction_of_float}
 use Rattle.ratio_approximation.specs.Simplest.{ChecksSimplest}
 
--- halfway between two fractions: 5/12 between 1/3 and 1/2
+-- the fraction halfway between two, not reduced
+-- Example: 1/3 and 1/2: 10/24
 abbrev pub middle : ℤ × ℤ → ℤ × ℤ → ℤ × ℤ
 middle x y = (x.0 *ℤ y.1 +ℤ y.0 *ℤ x.1, pos 2 *ℤ (x.1 *ℤ y.1))
 
@@ -18,8 +19,9 @@ halfway f b = middle (fraction_of_float (from_bits f b)) (fraction_of_float (fro
 abbrev pub size_bits : Format → Float → ℕ
 size_bits f x = to_bits f x % top f
 
--- the result for a float. An infinity and a NaN have none. A whole float, such as 1e16, is the result itself. For any other one it is
--- the simplest fraction strictly between the two points that are halfway to its neighbours
+-- the result for a float. An infinity and a NaN have none. A whole float, such as 1e16, is the result itself. For any other one it is the
+-- simplest fraction strictly between the two points that are halfway to its neighbours
+-- Example: 0.1: 1/10; 1e16: itself
 abbrev pub ChecksRationalized : {T : Type 0} → (T → ℤ) → ℤ → ℤ → Format → Float → Option (T × T) → Type 0
 ChecksRationalized value lo hi f nan r = r ≡ None
 ChecksRationalized value lo hi f (inf s) r = r ≡ None

@@ -1,4 +1,4 @@
-//! The two types of floats, as the rounding needs them.
+//! The trait `FloatType`: the bits, the limits and the quotients of `f64` and `f32`, as the rounding needs them.
 ghost use Rattle.std.specs.Prelude.{◌≡◌, ◌*◌, ◌^◌, ◌<◌, ◌≤◌, ◌<ℤ◌, ℕ, T, false, from_bits, is_nan, pos, to_bits, unsigned_abs};
 ghost use Rattle.std.specs.Float.{Float, Format, binary32, binary64, float_with_sign};
 ghost use Rattle.std.specs.Float.Ieee.{fits, hid, low, ones, prec, top};

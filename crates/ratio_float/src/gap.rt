@@ -1,4 +1,4 @@
-//! The simplest fraction in the gap around a float.
+//! The search for the simplest fraction in the gap around a float, between two ends over one denominator.
 ghost use Rattle.std.specs.Prelude.{◌≡◌, ◌+◌, ◌*◌, ◌^◌, ◌<◌, ◌≤◌};
 ghost use Rattle.ratio_float.specs.Rationalizing.{ChecksFirstOver, ChecksInside, ChecksSize};
 

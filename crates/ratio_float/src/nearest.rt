@@ -1,4 +1,4 @@
-//! The float nearest to a fraction.
+//! The float nearest to a fraction: its leading digits, cut and rounded at the last one, and its bits.
 ghost use Rattle.std.specs.Prelude.{◌≡◌, ◌+◌, ◌*◌, ◌^◌, ◌<◌, ◌≤◌, ◌<ℤ◌, ℕ, IfSome, pos, unsigned_abs};
 ghost use Rattle.std.specs.Float.{binary32, binary64};
 ghost use Rattle.core.specs.Dec2flt.Rounding.{IsCut, IsNearestBits, scaled_bits};

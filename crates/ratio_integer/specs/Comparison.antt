@@ -8,6 +8,7 @@ use Rattle.std.proofs.lemmas.Int.{ints}
 use Rattle.std.proofs.lemmas.Cmp.{int_ranked}
 
 -- the test b is true and P holds, or it is false and Q holds
+-- Example: `3 < 5`: true
 abbrev pub Tells : Bool → Type 0 → Type 0 → Type 0
 Tells b P Q = ((b ≡ true) × P) ⊎ ((b ≡ false) × Q)
 
@@ -33,23 +34,28 @@ ge_rank x y Greater m b e = inl (e, omega (arith, ints))
 
 -- the four operators, if R orders the values by their numbers
 module _ {A : Type 0} (R : A → A → Option Ordering) (v : A → ℤ) (law : (a b : A) → R a b ≡ Some (int_cmp (v a) (v b))) (a b : A) where
+  -- Law: if R orders values by their numbers, `a < b` tells whether the number of a is below that of b, or not
   pub lt_tells : Tells (partial_lt R a b) (v a <ℤ v b) (v b ≤ℤ v a)
   lt_tells = lt_rank (v a) (v b) (int_cmp (v a) (v b)) (int_ranked (v a) (v b) _ refl) (partial_lt R a b) (rw (law a b))
 
+  -- Law: if R orders values by their numbers, `a <= b` tells whether the number of a is at most that of b, or above it
   pub le_tells : Tells (partial_le R a b) (v a ≤ℤ v b) (v b <ℤ v a)
   le_tells = le_rank (v a) (v b) (int_cmp (v a) (v b)) (int_ranked (v a) (v b) _ refl) (partial_le R a b) (rw (law a b))
 
+  -- Law: if R orders values by their numbers, `a > b` tells whether the number of a is above that of b, or not
   pub gt_tells : Tells (partial_gt R a b) (v b <ℤ v a) (v a ≤ℤ v b)
   gt_tells = gt_rank (v a) (v b) (int_cmp (v a) (v b)) (int_ranked (v a) (v b) _ refl) (partial_gt R a b) (rw (law a b))
 
+  -- Law: if R orders values by their numbers, `a >= b` tells whether the number of a is at least that of b, or below it
   pub ge_tells : Tells (partial_ge R a b) (v b ≤ℤ v a) (v a <ℤ v b)
   ge_tells = ge_rank (v a) (v b) (int_cmp (v a) (v b)) (int_ranked (v a) (v b) _ refl) (partial_ge R a b) (rw (law a b))
 
--- the fact that holds if a test is true, and the fact that holds if it is false
+-- the fact P that holds if a test is true
 pub yes : {P Q : Type 0} (b : Bool) → Tells b P Q → b ≡ true → P
 yes b (inl t) e = t.1
 yes b (inr t) e = absurd (let h : true ≡ false = sym e ∙ t.0 in cc)
 
+-- the fact Q that holds if a test is false
 pub no : {P Q : Type 0} (b : Bool) → Tells b P Q → b ≡ false → Q
 no b (inl t) e = absurd (let h : true ≡ false = sym t.0 ∙ e in cc)
 no b (inr t) e = t.1

@@ -4,8 +4,9 @@ use Rattle.std.specs.Ordering.{int_cmp}
 use Rattle.std.specs.declared.cmp.Ordering.{Ordering}
 use Rattle.ratio_integer.specs.Range.{IsHeld, IsRange}
 
--- lo to hi is a range, and each number in range is the number of some value. The four constants are 0, 1, lo and hi. Values are
--- equal, ordered and hashed by their numbers
+-- lo to hi is an `IsRange`, and each number in range is the number of some value. The constants `ZERO`, `ONE`, `MIN` and `MAX` have the
+-- numbers 0, 1, lo and hi. Values are equal, ordered and hashed by their numbers
+-- Example: `i8`
 pub record IsLawful (T : Type 0) (lo hi : ℤ) (value : T → ℤ) (zero one min max : T) (eq : T → T → Bool) (cmp : T → T → Ordering) (partial_cmp : T → T → Option Ordering) (hash_input : T → List (List ℕ)) (number_hash_input : ℤ → List (List ℕ)) : Type 0 where
   pub range : IsRange lo hi
   pub every : (z : ℤ) → IsHeld lo hi z → (x : T) × (value x ≡ z)

@@ -8,7 +8,8 @@ use Rattle.num_traits.specs.Ints.{unsigned-eq}
 use Rattle.ratio_integer.specs.Laws.{IsLawful}
 use Rattle.ratio_integer.specs.Range.{IsHeld}
 
--- the whole numbers from -h-1 to h are lawful; each is its own value
+-- Law: the whole numbers from -h-1 to h are lawful, if h is at least 2; each is its own value
+-- Example: h = 127: `i8`
 pub signed_laws : (h : ℕ) (hash : ℤ → List (List ℕ)) → 2 ≤ h → IsLawful ℤ (negsuc h) (pos h) (λ x. x) (pos 0) (pos 1) (negsuc h) (pos h) int_eq int_cmp (λ a b. Some (int_cmp a b)) hash hash
 signed_laws h hash up = record {
   range = record { high = omega (arith, ints); low = inr (inr (omega (arith, ints))) };
@@ -30,7 +31,8 @@ number_of_held hi (negsuc n) is = absurd (omega (arith, ints))
 natural_cmp : (a b : ℕ) → nat_cmp a b ≡ int_cmp (pos a) (pos b)
 natural_cmp a b = grind (arith, ints)
 
--- the whole numbers from 0 to h are lawful; each is its own value, as a natural number
+-- Law: the whole numbers from 0 to h are lawful, if h is at least 2; each is its own value, as a natural number
+-- Example: h = 255: `u8`
 pub unsigned_laws : (h : ℕ) (hash : ℕ → List (List ℕ)) → 2 ≤ h → IsLawful ℕ (pos 0) (pos h) (λ x. pos x) 0 1 0 h nat_eq nat_cmp (λ a b. Some (nat_cmp a b)) hash (λ z. hash (unsigned_abs z))
 unsigned_laws h hash up = record {
   range = record { high = omega (arith, ints); low = inl refl };

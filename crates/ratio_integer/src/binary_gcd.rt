@@ -1,4 +1,5 @@
-//! The greatest common divisor of magnitudes by halving and subtracting, without a division.
+//! The greatest common divisor of two magnitudes (`u64` or `u128`) by halving and subtracting, without a
+//! division, and its steps.
 //!
 //! This is Stein's algorithm (1967). It uses three rules. A factor of 2 of both numbers is a factor of
 //! the result. A factor of 2 of only one number is not. Of two odd numbers, their difference may replace

@@ -1,4 +1,4 @@
-//! That numbers in hand lie in the range of their type.
+//! `both_held`: two numbers in hand lie in the range of their type.
 ghost use Rattle.ratio_integer.specs.Range.{IsHeld};
 
 use crate::integer::Integer;

@@ -1,4 +1,4 @@
-//! The interface of an integer type: its range, its constants, its arithmetic and its laws.
+//! The trait `Integer`: range, constants, arithmetic, divisors, conversions and laws of an integer type.
 ghost use Rattle.std.specs.Prelude.{◌≡◌, ◌≢◌, ◌↔◌, ◌≤ℤ◌, ◌<ℤ◌, ◌+ℤ◌, ◌-ℤ◌, ◌*ℤ◌, ◌-◌, ◌^◌, ℕ, ℤ, pos, negsuc, Bool, List, Some, IsNone, IsTrue, int_div, int_rem};
 ghost use Rattle.std.specs.Bool.{OnFalse, OnTrue};
 ghost use Rattle.std.specs.Ordering.{int_cmp, partial_lt};

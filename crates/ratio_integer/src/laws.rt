@@ -1,4 +1,5 @@
-//! When a quotient and a greatest common divisor fit the type. Each function does nothing: its contract is the law.
+//! The laws of when a quotient and a greatest common divisor fit the type. Each function does nothing: its contract
+//! is the law.
 ghost use Rattle.ratio_integer.specs.HeldResults.{FlooredHeldButOne, GcdHeldButThree, QuotientHeldButOne};
 
 /// What a division requires of its two numbers is exactly what its result needs to fit.

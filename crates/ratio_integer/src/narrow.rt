@@ -1,4 +1,4 @@
-//! Signed types of at most 64 bits, converted to `i128` and back.
+//! The trait `Narrow`: signed types of at most 64 bits, converted to `i128` and back.
 ghost use Rattle.std.specs.Prelude.{◌≡◌, ◌≤◌, ◌-◌, ◌^◌, ℕ, ℤ, negsuc, pos};
 ghost use Rattle.std.proofs.Common.{lit≤, refl};
 ghost use Rattle.ratio_integer.specs.Range.{Checks, IsHeld};

@@ -1,4 +1,4 @@
-//! Types of all whole numbers of a fixed number of bits.
+//! The trait `Primitive`: types of all whole numbers of a fixed number of bits.
 ghost use Rattle.std.specs.Prelude.{◌≡◌, ◌≤◌, ◌+ℤ◌, ◌^◌, ℕ, pos};
 
 use crate::integer::Integer;

@@ -1,4 +1,4 @@
-//! Types that have numbers below 0.
+//! The trait `SignedInteger`: types that have numbers below 0, and their negatives.
 ghost use Rattle.std.specs.Prelude.{◌≡◌, ◌<ℤ◌, pos, neg_ℤ};
 ghost use Rattle.ratio_integer.specs.Range.{Checks, IsHeld};
 

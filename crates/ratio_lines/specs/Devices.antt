@@ -1,4 +1,7 @@
--- What the calls of a reader and of a writer do.
+-- What the calls of a reader and of a writer do. The `Calls` of `src/calls.rt` say what the calls of a device (a reader or a writer) did:
+-- the bytes moved; how many calls failed, flushed, or said that the reader ended; and how many bytes had moved at the last flush, the
+-- *mark*. For example, a reader gives 4 bytes of `1 + 1\n`, then 2, then `Ok(0)`. Its `Calls` say that 6 bytes moved, no call failed, and
+-- one read said that the reader has ended. A word that ends in `For` says this of some bytes with a given property.
 use Rattle.std.specs.Prelude.{◌≡◌, ℕ, ◌+◌, ◌<◌, ◌≤◌, List, [], ◌++◌, ◌==◌, ◌&&◌, not, length, take, Option, Result, Ok, Err, if◌then◌else◌, MatchBool}
 use Rattle.std.specs.Io.KnownBytes.{Appends, Consumes, IsAtEnd, Keeps}
 use Rattle.ratio_lines.specs.declared.fault.CalcFault.{CalcFault}
@@ -25,21 +28,23 @@ after_ending calls = record calls { ends = calls.ends + 1 }
 abbrev pub after_flushing : Calls → Calls
 after_flushing calls = record calls { flushes = calls.flushes + 1; mark = length calls.moved }
 
--- `Ok n` gave the first n bytes of the buffer. But `Ok 0` with room in the buffer says that the reader has ended. An `Err` is a failure.
+-- what a reader's call did. `Ok(n)` gave the first n bytes of the buffer. But `Ok(0)` with room in the buffer says that the reader has
+-- ended. An error is a failure
 abbrev pub after_read : {E : Type 0} → Calls → Result ℕ E → List ℕ → Calls
 after_read calls (Ok n) buffer = if (n == 0) && not (length buffer == 0) then after_ending calls else after_moving calls (take n buffer)
 after_read calls (Err e) buffer = after_failing calls
 
--- `Ok n` took the first n bytes. But `Ok 0` for at least one byte is a failure, as an `Err` is.
+-- what a writer's call did. `Ok(n)` took the first n bytes. But `Ok(0)` for at least one byte is a failure, as an error is
 abbrev pub after_write : {E : Type 0} → Calls → Result ℕ E → List ℕ → Calls
 after_write calls (Ok n) bytes = if (n == 0) && not (length bytes == 0) then after_failing calls else after_moving calls (take n bytes)
 after_write calls (Err e) bytes = after_failing calls
 
+-- what a flush did. `Ok` sets the mark to the bytes that moved so far. An error is a failure
 abbrev pub after_flush : {T E : Type 0} → Calls → Result T E → Calls
 after_flush calls (Ok x) = after_flushing calls
 after_flush calls (Err e) = after_failing calls
 
--- what a contract sees of a device: the bytes that a reader has left or a writer holds, if they are known, and its calls
+-- what a contract sees of a device: the bytes that a reader has left or a writer holds, if they are known, and its `Calls`
 abbrev pub Device : Type 0
 Device = Option (List ℕ) × Calls
 
@@ -48,7 +53,7 @@ pub record Change : Type 0 where
   pub old : Device
   pub new : Device
 
--- How a device changed. `bytes` says what a reader has left or a writer holds, and `calls` says what its calls did.
+-- how a device changed. `bytes` says what a reader has left or a writer holds, and `calls` says what its calls did
 abbrev pub change_of : {D : Type 0} → (D → Option (List ℕ)) → (D → Calls) → D → D → Change
 change_of bytes calls old new = record { old = (bytes old, calls old); new = (bytes new, calls new) }
 
@@ -92,7 +97,8 @@ pub record Flushed (old new : Device) : Type 0 where
   pub known : Keeps old.0 new.0
   pub calls : new.1 ≡ after_flushing old.1
 
--- For `Ok n` the reader gave the first n bytes of its buffer, or for n = 0 said that it has ended. For `Err` it failed.
+-- for `Ok(n)` the reader gave the first n bytes of its buffer, or for n = 0 said that it has ended. For an error it failed
+-- Example: `Ok(0)`: `Ended`
 abbrev pub GivesPiece : Change → List ℕ → Result ℕ CalcFault → Type 0
 GivesPiece reader buffer (Ok n) = (n ≤ length buffer) × MatchBool (n == 0) (Ended reader.old reader.new) (Gave reader.old reader.new (take n buffer))
 GivesPiece reader buffer (Err fault) = (fault ≡ Read) × Failed reader.old reader.new
@@ -113,13 +119,15 @@ pub record WritesFor {T : Type 0} (Is : List ℕ → Type 0) (writer : Change) (
   pub are : Is bytes
   pub writes : Writes writer bytes result
 
--- `bytes` come after those that waited. The writer took a beginning of all these, and the rest waits now. Or a call failed after a beginning.
+-- `bytes` come after those that waited. The writer took a beginning of all these, and the rest waits now. Or a call failed after a
+-- beginning
 abbrev pub Gathers : {T : Type 0} → Change → List ℕ → List ℕ → List ℕ → Result T CalcFault → Type 0
 Gathers writer waited waits bytes (Ok x) = (written : List ℕ) × Took writer.old writer.new written × (waited ++ bytes ≡ written ++ waits)
 Gathers writer waited waits bytes (Err fault) = (fault ≡ Write) × TookSome writer.old writer.new (waited ++ bytes)
 
--- If the bytes that waited and `bytes` are at most 1,024 together, nothing is written, and all of them wait. A call fails only if
--- they are more. For example, 1,000 and 24 wait.
+-- if the bytes that waited and `bytes` are at most 1,024 together, nothing is written, and all of them wait. A call fails only if they are
+-- more
+-- Example: 1,000 and 24 wait
 abbrev pub Waits : {T : Type 0} → Change → List ℕ → List ℕ → List ℕ → Result T CalcFault → Type 0
 Waits writer waited waits bytes (Ok x) = length waited + length bytes ≤ 1024 → (writer.new ≡ writer.old) × (waits ≡ waited ++ bytes)
 Waits writer waited waits bytes (Err fault) = 1024 < length waited + length bytes

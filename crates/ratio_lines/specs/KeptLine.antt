@@ -3,7 +3,7 @@ use Rattle.std.specs.Prelude.{◌≡◌, ℕ, List, [], ◌∷◌, ◌++◌, len
 use Rattle.ratio_lines.specs.Answers.{IsAnswer}
 use Rattle.ratio_lines.specs.Lines.{is_line_end, longest_line}
 
--- what is kept of a line: all of it, or `None` if it is too long
+-- what is kept of a line: all of it, or `None` if it is longer than `longest_line`
 abbrev pub kept : List ℕ → Option (List ℕ)
 kept line = if nat_lt longest_line (length line) then None else Some line
 
@@ -17,6 +17,7 @@ abbrev pub extended : Option (List ℕ) → List ℕ → Option (List ℕ)
 extended line [] = line
 extended line (byte ∷ more) = extended (pushed line byte) more
 
+-- the line is kept and has no byte yet
 abbrev pub is_empty : Option (List ℕ) → Bool
 is_empty None = false
 is_empty (Some line) = length line == 0
@@ -26,7 +27,7 @@ abbrev pub IsKeptAnswer : Option (List ℕ) → List ℕ → Type 0
 IsKeptAnswer None answer = answer ≡ codes "error: line too long"
 IsKeptAnswer (Some line) answer = IsAnswer line answer
 
--- the same with a line end
+-- the answer to the kept line, with a line end
 pub record IsAnswerLine (line : Option (List ℕ)) (bytes : List ℕ) : Type 0 where
   pub answer : List ℕ
   pub is_answer : IsKeptAnswer line answer

@@ -8,14 +8,17 @@ use Rattle.num_rational.specs.declared.ratio.Ratio.{Ratio}
 use Rattle.ratio_lines.specs.declared.operator.Operator.{Operator}
 use Rattle.ratio_lines.specs.declared.operator.Operator.TheVariants.{Add, Sub, Mul, Div, Rem, Cmp}
 
--- the least and the greatest number of an operand
+-- the least number of an operand: -2^63
 abbrev pub least : ℤ
 least = negsuc (2 ^ 63 - 1)
 
+-- the greatest number of an operand: 2^63-1
 abbrev pub greatest : ℤ
 greatest = pos (2 ^ 63 - 1)
 
--- What a text gives as an operand: the two numbers of its fraction in lowest terms, or its first refusal. For example, `6/4` gives 3 and 2.
+-- what a text gives as an operand: the two numbers of its fraction in lowest terms, or a refusal that applies (`AnswersText`, from `least`
+-- to `greatest`)
+-- Example: `6/4`: 3 and 2
 abbrev pub IsOperand : List ℕ → Result (ℤ × ℤ) RatioErrorKind → Type 0
 IsOperand text operand = AnswersText (λ x. x.0) (λ x. x.1) least greatest (IsFractionText least greatest text) operand
 
@@ -29,6 +32,7 @@ abbrev pub is_text : List ℕ → List ℕ → Bool
 is_text text other = pointwise (λ a b. a == b) text other
 
 -- the operator that a part names: `+`, `-`, `*`, `/`, `%` or `cmp`
+-- Example: none for `^`
 abbrev pub operator_of : List ℕ → Option Operator
 operator_of part =
     if is_text part (codes "+") then Some Add

@@ -14,6 +14,7 @@ use Rattle.ratio_lines.specs.declared.operator.Operator.{Operator}
 use Rattle.ratio_lines.specs.Lines.{longest_line}
 
 -- each byte is a graphic character, from `!` to `~`
+-- Example: `1/2`; not `1 2`
 abbrev pub IsGraphic : List ℕ → Type 0
 IsGraphic text = list_all is_ascii_graphic text ≡ true
 
@@ -24,8 +25,9 @@ pub record EndsPart (bytes : List ℕ) (from byte end : ℕ) : Type 0 where
   pub graphic : IsGraphic (take (end - from) (drop from bytes))
   pub split : drop from bytes ≡ take (end - from) (drop from bytes) ++ byte ∷ drop (end + 1) bytes
 
--- The bytes begin with a line that is not too long: two operands of graphic characters and an operator between them, with single spaces. `after`
--- follows its line end: in `1/2 + 1/3`, a line end and `4`, it is `4`.
+-- the bytes begin with a line that is not too long: two operands of graphic characters (`IsGraphic`) and an operator between them, with
+-- single spaces. `after` follows its line end
+-- Example: `1/2 + 1/3\n4`: `4` follows
 pub record BeginsPlain (bytes left : List ℕ) (operator : Operator) (right after : List ℕ) : Type 0 where
   pub name : List ℕ
   pub split : bytes ≡ left ++ 32 ∷ (name ++ 32 ∷ (right ++ 10 ∷ after))
@@ -44,7 +46,8 @@ pub record IsFirstAnswer (line : Option (List ℕ)) (bytes after answer : List �
   pub split : bytes ≡ ended ++ 10 ∷ after
   pub answers : IsKeptAnswer (extended line ended) answer
 
--- the answer to the line that the first line end ends, and the bytes after it, or there is no line end
+-- the result is the answer to the line that the first line end ends, and the bytes after it (`IsFirstAnswer`), or `None` where there is no
+-- line end
 abbrev pub IsNextAnswer : {T : _} {i : _} {o : _} {e : _} {p : _} {h : _} → Option (List ℕ) → List ℕ → Option (Either (Bor (List ℕ)) (Ratio T i o e p h) × Bor (List ℕ)) → Type 0
 IsNextAnswer line bytes None = HasNone 10 bytes
 IsNextAnswer line bytes (Some next) = IsFirstAnswer line bytes next.1.now (bytes_of next.0)

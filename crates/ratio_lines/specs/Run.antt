@@ -9,23 +9,24 @@ use Rattle.ratio_lines.specs.declared.fault.CalcFault.{CalcFault}
 use Rattle.ratio_lines.specs.declared.fault.CalcFault.TheVariants.{Read, Write, Endless}
 
 -- what the program prints at a fault
+-- Example: `ratio_calc: read failed`
 abbrev pub fault_text : CalcFault → List ℕ
 fault_text Read = codes "ratio_calc: read failed"
 fault_text Write = codes "ratio_calc: write failed"
 fault_text Endless = codes "ratio_calc: input too long"
 
--- What was written when a run stopped.
--- At `Read`: the answers to the whole lines that were read.
--- At `Write`: a beginning of the answers to what was read.
--- At `Endless`: the answers to the whole lines of at least 2^64-1 bytes.
+-- what was written when a run stopped. At `Read`: the answers to the whole lines that were read. At `Write`: a beginning of the answers to
+-- what was read. At `Endless`: the answers to the whole lines of at least 2^64-1 bytes
+-- Example: `1 + 1\n2`, then `Read`: `2\n`
 abbrev pub StopsAt : List ℕ → List ℕ → CalcFault → Type 0
 StopsAt read written Read = AreWholeAnswers read written
 StopsAt read written Write = (rest : List ℕ) × AreAnswersOf read (written ++ rest)
 StopsAt read written Endless = AreWholeAnswers read written × (2 ^ 64 - 1 ≤ length read)
 
--- A run read the bytes that calls of the reader gave: they come off what the reader had left. It wrote the bytes that calls of the
--- writer took: they are added to what the writer held. At `Ok` these are all answers to what was read, and the reader is at its
--- end. At a fault they are as `StopsAt` says.
+-- a run read the bytes that calls of the reader gave: they come off what the reader had left. It wrote the bytes that calls of the writer
+-- took: they are added to what the writer held. At `Ok` these are exactly all answers to what was read, and the reader is at its end. At a
+-- fault they are as `StopsAt` says
+-- Example: `1 + 1\n`: `2\n`
 pub record Ran {T : Type 0} (reader writer : Change) (result : Result T CalcFault) : Type 0 where
   pub read : List ℕ
   pub written : List ℕ
@@ -49,10 +50,10 @@ write_failures (Err Read) = 0
 write_failures (Err Write) = 1
 write_failures (Err Endless) = 0
 
--- At `Ok`: the reader gave `read` and then ended, the writer took the answers to the whole lines of `read`, and the begun line is kept.
--- At `Read`: the reader gave `read` and then failed, and the writer took those answers.
--- At `Write`: the reader gave `read`, and the writer failed after a beginning of the answers to it.
--- At `Endless`: the reader gave at least 2^64-1 bytes, and the writer took the answers to their whole lines.
+-- Inner: at `Ok`, the reader gave `read` and then ended, the writer took the answers to the whole lines of `read`, and the begun line is
+-- kept. At `Read`: the reader gave `read` and then failed, and the writer took those answers. At `Write`: the reader gave `read`, and the
+-- writer failed after a beginning of the answers to it. At `Endless`: the reader gave at least 2^64-1 bytes, and the writer took the
+-- answers to their whole lines
 abbrev pub LinesAre : List ℕ → List ℕ → Change → Change → Result (Option (List ℕ)) CalcFault → Type 0
 LinesAre read answers reader writer (Ok line) =
     ((middle : Device) × Gave reader.old middle read × Ended middle reader.new)
@@ -65,7 +66,7 @@ LinesAre read answers reader writer (Err Write) = Gave reader.old reader.new rea
 LinesAre read answers reader writer (Err Endless) =
     Gave reader.old reader.new read × AreWholeAnswers read answers × Took writer.old writer.new answers × (2 ^ 64 - 1 ≤ length read)
 
--- the reader gave bytes, and the writer took answers to lines of them, as `LinesAre` says
+-- Inner: the reader gave bytes, and the writer took answers to lines of them, as `LinesAre` says
 pub record ReadsLines (reader writer : Change) (result : Result (Option (List ℕ)) CalcFault) : Type 0 where
   pub read : List ℕ
   pub answers : List ℕ

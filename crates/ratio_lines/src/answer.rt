@@ -1,4 +1,4 @@
-//! The answer to one line.
+//! The answer to one line: its operands are read, its operators are applied, or it is refused.
 ghost use Rattle.std.specs.Prelude.{◌≡◌, ◌++◌, ◌∷◌, [], ◌≤◌, ◌<ℤ◌, ℕ, List, MatchOption, codes, length, pos, unwrap_or, MatchResult, ⊤};
 ghost use Rattle.std.specs.List.{slice_split};
 ghost use Rattle.either.specs.Either.{MatchEither};

@@ -1,4 +1,4 @@
-//! The calculator, from the bytes read to the bytes written.
+//! The calculator, from the bytes read to the bytes written: `run` and its steps, each for one piece of the input.
 ghost use Rattle.std.specs.Prelude.{◌≡◌, ◌+◌, [], length, OnOk};
 ghost use Rattle.ratio_lines.specs.KeptLine.{ArePieceAnswers, IsLastAnswer, line_after};
 ghost use Rattle.ratio_lines.specs.Devices.{GathersFor, GivesPiece, WritesFor, Flushes, change_of};

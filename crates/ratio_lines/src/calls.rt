@@ -1,4 +1,4 @@
-//! What the calls of a device did so far. Only contracts see it.
+//! `Calls`: what the calls of a device did so far. Only contracts see it.
 ghost use Rattle.std.specs.Prelude.{◌≡◌, ℕ, ◌+◌, List, [], ◌++◌, length};
 ghost use Rattle.std.specs.Borrow.{ftrue};
 

@@ -1,4 +1,4 @@
-//! Readers and writers whose calls a contract can follow.
+//! `Counted`: readers and writers whose calls a contract can follow, and the traits `CalcRead` and `CalcWrite`.
 ghost use Rattle.std.specs.Prelude.{◌≡◌, ℕ};
 ghost use Rattle.std.specs.Io.{ReadsAtMost, WritesAtMost};
 ghost use Rattle.std.specs.Io.KnownBytes.{ReadConsumes, WriteAppends, Keeps};

@@ -1,4 +1,4 @@
-//! Bytes that wait to be written, so that one call writes many answers.
+//! `Gathered`: bytes that wait to be written, so that one call writes many answers.
 ghost use Rattle.std.specs.Prelude.{◌≡◌, ℕ, List, [], OnOk};
 ghost use Rattle.ratio_lines.specs.Devices.{Gathers, Waits, Writes, change_of};
 

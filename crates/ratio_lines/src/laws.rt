@@ -1,4 +1,5 @@
-//! The laws of answers. Each function does nothing: its contract is the law.
+//! The laws of answers: inputs one after another, and that each input has answers. Each function does
+//! nothing: its contract is the law.
 ghost use Rattle.ratio_lines.specs.SideBySide.{AnswersJoin, AnswersPart, EachIsAnswered};
 
 /// An input may be cut after any line end and answered in parts, on as many machines as there are. The

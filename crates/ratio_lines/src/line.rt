@@ -1,4 +1,4 @@
-//! The line that is being read.
+//! `Line`: the line that is being read, as far as it is kept.
 ghost use Rattle.std.specs.Prelude.{◌≡◌, ℕ, ◌≤◌, List, [], length, Option, Some, None, if◌then◌else◌};
 ghost use Rattle.ratio_lines.specs.AnswerText.{bytes_of};
 ghost use Rattle.ratio_lines.specs.KeptLine.{IsKeptAnswer, extended, is_empty};

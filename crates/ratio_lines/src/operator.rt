@@ -1,4 +1,4 @@
-//! The operators of the calculator.
+//! The enum `Operator`: the operators of the calculator, by their names.
 ghost use Rattle.std.specs.Prelude.{◌≡◌, ◌∷◌, []};
 ghost use Rattle.ratio_lines.specs.Operands.{operator_of};
 

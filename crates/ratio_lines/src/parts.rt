@@ -1,4 +1,5 @@
-//! The parts of a text, with single spaces between them.
+//! The parts of a text, with single spaces between them: the first one, and whether they come in
+//! pairs.
 ghost use Rattle.std.specs.Prelude.{◌≡◌, ◌∷◌};
 ghost use Rattle.std.specs.List.{slice_split};
 ghost use Rattle.ratio_lines.specs.Answers.{is_space};

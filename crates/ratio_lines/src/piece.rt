@@ -1,4 +1,4 @@
-//! The answers to the lines that end in one piece of the input.
+//! The answers to the lines that end in one piece of the input, put one after another.
 ghost use Rattle.std.specs.Prelude.{◌≡◌, ◌++◌, ◌∷◌, [], Some, OnOk, if◌then◌else◌, is_some};
 ghost use Rattle.ratio_lines.specs.AnswerText.{bytes_of};
 ghost use Rattle.ratio_lines.specs.Devices.{Gathers, GathersFor, Waits, WaitsFor, change_of};

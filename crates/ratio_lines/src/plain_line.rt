@@ -1,5 +1,5 @@
-//! A plain line: two operands of graphic ASCII characters and an operator between them. It is cut
-//! into its parts while its end is looked for.
+//! A plain line, two operands of graphic ASCII characters and an operator between them, and where each of these parts
+//! ends. It is cut into its parts while its end is looked for.
 ghost use Rattle.std.specs.Prelude.{◌≡◌, ◌≤◌, IfSome, length};
 ghost use Rattle.ratio_lines.specs.PlainLine.{BeginsPlain, EndsPart, IsGraphic};
 

@@ -6,7 +6,8 @@ use Rattle.std.proofs.lemmas.Bool.Decides.{Decides-int_eq}
 use Rattle.ratio_integer.specs.Laws.{IsLawful}
 use Rattle.ratio_integer.specs.Range.{IsRange}
 
--- a type T with the numbers from lo to hi is lawful, if `number` of `of z` is z, and the numbers compare and hash the values
+-- Law: a type T with the numbers from lo to hi is lawful, if `number` of `of z` is z, and the numbers compare and hash the values
+-- Example: -5 to 5
 pub laws_of_numbers : {T : Type 0} (lo hi : ℤ) (number : T → ℤ) (of : ℤ → T) (hash : ℤ → List (List ℕ)) →
     IsRange lo hi → ((z : ℤ) → number (of z) ≡ z) →
     IsLawful T lo hi number (of (pos 0)) (of (pos 1)) (of lo) (of hi)

@@ -1,5 +1,5 @@
 // Written by templates/write from templates/odd.rt.txt: change that file, and write this one anew.
-//! The smallest lawful type.
+//! `Nat2`, the smallest lawful type.
 ghost use Rattle.std.specs.Prelude.{◌≡◌, ℤ, pos, false};
 ghost use Rattle.std.specs.Hash as hash;
 ghost use Rattle.std.proofs.Common.{inl, refl};

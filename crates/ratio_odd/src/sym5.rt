@@ -1,5 +1,5 @@
 // Written by templates/write from templates/odd.rt.txt: change that file, and write this one anew.
-//! A type whose least number is the negative of its greatest one. No machine type is like that.
+//! `Sym5`, a type whose least number is the negative of its greatest one. No machine type is like that.
 ghost use Rattle.std.specs.Prelude.{◌≡◌, ℤ, pos, negsuc, false};
 ghost use Rattle.std.specs.Hash as hash;
 ghost use Rattle.std.proofs.Common.{inl, inr, refl};

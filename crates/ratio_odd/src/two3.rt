@@ -1,5 +1,5 @@
 // Written by templates/write from templates/odd.rt.txt: change that file, and write this one anew.
-//! The smallest type whose least number has no negative.
+//! `Two3`, the smallest type whose least number has no negative.
 ghost use Rattle.std.specs.Prelude.{◌≡◌, ℤ, pos, negsuc, false};
 ghost use Rattle.std.specs.Hash as hash;
 ghost use Rattle.std.proofs.Common.{inl, inr, refl};

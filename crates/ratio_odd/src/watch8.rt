@@ -1,4 +1,4 @@
-//! A type that counts how often its numbers are divided, and how often they are added or subtracted.
+//! `Watched`, a type that counts how often its numbers are divided, and how often they are added or subtracted.
 ghost use Rattle.std.specs.Prelude.{◌≡◌, ◌-◌, ◌^◌, pos, negsuc, false};
 ghost use Rattle.std.specs.Hash as hash;
 ghost use Rattle.std.specs.Cmp.{partial_order_from_own_ties};

@@ -2,12 +2,13 @@
 use Rattle.std.specs.Prelude.{◌≡◌, ◌⊎◌, ◌<◌, ◌≤◌, ◌+◌, ◌-◌, ◌^◌, ℕ, List, [], ◌∷◌, ◌++◌, length, take, drop, Option, Some, None}
 use Rattle.ratio_lines.specs.Answers.{AreAnswersOf, IsAnswer}
 
--- The room begins with all answers, and is unchanged behind them. The count is their length.
+-- the room begins with all answers, and is unchanged behind them. The count is their length
+-- Example: `1 + 1\n`: `2\n`, and 2
 pub record HasAll (answers old new : List ℕ) (count : ℕ) : Type 0 where
   pub counted : count ≡ length answers
   pub filled : new ≡ answers ++ drop count old
 
--- The answers are longer than the room, which holds the first part of them. The count is 2^64-1.
+-- the answers are longer than the room, which holds the first part of them. The count is 2^64-1
 pub record HasBeginning (answers old new : List ℕ) (count : ℕ) : Type 0 where
   pub longer : length old < length answers
   pub filled : new ≡ take (length old) answers
@@ -19,13 +20,13 @@ pub record Shows (input old new : List ℕ) (count : ℕ) : Type 0 where
   pub are : AreAnswersOf input answers
   pub shown : HasAll answers old new count ⊎ HasBeginning answers old new count
 
--- The bytes were put at a place of the room, which is otherwise unchanged, and the result is where they end. Or they do not fit, and
--- their first part fills the room to its end.
+-- Inner: the bytes were put at a place of the room, which is otherwise unchanged, and the result is where they end. Or they do not fit, and
+-- their first part fills the room to its end
 abbrev pub IsPut : List ℕ → ℕ → List ℕ → List ℕ → Option ℕ → Type 0
 IsPut bytes at old new (Some end) = (end ≡ at + length bytes) × (end ≤ length old) × (new ≡ take at old ++ bytes ++ drop end old)
 IsPut bytes at old new None = (length old < at + length bytes) × (new ≡ take at old ++ take (length old - at) bytes)
 
--- the answer to a line and a line end were put there, as `IsPut` says
+-- Inner: the answer to a line and a line end were put there, as `IsPut` says
 pub record IsAnswerPut (line : List ℕ) (at : ℕ) (old new : List ℕ) (result : Option ℕ) : Type 0 where
   pub answer : List ℕ
   pub is_answer : IsAnswer line answer

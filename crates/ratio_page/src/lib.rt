@@ -1,4 +1,5 @@
-//! The calculator over memory. The lines of a text go in, and their answers come out.
+//! The calculator over memory, as one exported call. The lines of a text go in, and their answers come
+//! out.
 #![tactic(auto)]
 
 ghost use Rattle.ratio_page.specs.Page.{Shows};

@@ -1,4 +1,4 @@
-//! Putting answers into a piece of memory, one after another.
+//! Putting answers into a piece of memory, the room, one after another.
 ghost use Rattle.std.specs.Prelude.{◌≡◌, ◌≤◌, length};
 ghost use Rattle.ratio_lines.specs.AnswerText.{bytes_of};
 ghost use Rattle.ratio_page.specs.Page.{IsAnswerPut, IsPut};

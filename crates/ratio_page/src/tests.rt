@@ -1,5 +1,5 @@
-//! What a room holds after a call. Some rooms are shorter than
-//! the answers, some as long and some longer.
+//! Tests of what a room holds after a call. Some rooms are shorter than the answers, some as long
+//! and some longer.
 
 use crate::ratio_page_answers;
 use std::process::Abort;

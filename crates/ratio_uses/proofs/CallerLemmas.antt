@@ -13,10 +13,10 @@ use Rattle.num_rational.specs.Folds.{ArePositive, ChecksExactSumOf, ChecksProduc
 use Rattle.num_rational.specs.Operators.{CanAdd, CanMultiply, ChecksExactSum, ChecksProduct, numbers}
 use Rattle.num_rational.specs.Ratio.{denominator, numerator}
 use Rattle.num_rational.specs.Reduced.{ratio_in, ratio_of}
-use Rattle.num_rational.specs.ReducedLaws.{AnswersSum, AreOneAnswer}
 use Rattle.num_rational.specs.declared.ratio.Ratio.{Ratio}
 use Rattle.num_rational.specs.declared.reduced.Reduced.{Reduced}
 use Rattle.num_rational.proofs.FoldLemmas.{StepsSoFar, list_more, list_refused, one_product, one_sum}
+use Rattle.fraction_laws.specs.ReducedLaws.{AnswersSum, AreOneAnswer}
 use Rattle.ratio_uses.specs.Callers.{ChecksMean, sum_of_two}
 use Rattle.ratio_uses.specs.Held.{lowest_numbers}
 use Rattle.ratio_uses.proofs.ConversionLemmas.{product_held, product_out}

@@ -6,6 +6,7 @@ use Rattle.ratio_uses.specs.declared.beats.Beat.{Beat}
 use Rattle.ratio_uses.specs.declared.beats.Beats.{Beats}
 
 -- the result is two voices with these periods and no beat yet, or `None` if a period is not above 0
+-- Example: 0/1 and 1/3: `None`
 abbrev pub StartsBeats : ℤ × ℤ → ℤ × ℤ → Option Beats → Type 0
 StartsBeats first second None = ¬ ((pos 0 <ℤ first.0) × (pos 0 <ℤ second.0))
 StartsBeats first second (Some beats) =
@@ -15,8 +16,8 @@ StartsBeats first second (Some beats) =
 abbrev pub BothAreHeld : Beats → Type 0
 BothAreHeld beats = BeatIsHeld (lowest_numbers beats.first) beats.first_count × BeatIsHeld (lowest_numbers beats.second) beats.second_count
 
--- The result is the next beat, and the counts have risen by it. It is `None` exactly if the next beat of a voice does
--- not fit in 64 bits. Then nothing has changed.
+-- the result is the next beat, and the counts have risen by it. It is `None` exactly if the next beat of a voice does not fit in 64 bits
+-- (not `BothAreHeld`). Then nothing has changed
 abbrev pub ChecksNext : Beats → Beats → Option Beat → Type 0
 ChecksNext old new None =
     (new.first ≡ old.first) × (new.second ≡ old.second) × (new.first_count ≡ old.first_count) × (new.second_count ≡ old.second_count)

@@ -1,4 +1,4 @@
-//! More callers over fractions in lowest terms.
+//! Callers of `Reduced`: the greatest amount, the mean of two, and places between, before and after others.
 ghost use Rattle.std.specs.Prelude.{◌≡◌, ◌≢◌, ◌↔◌, [], All, IfSome};
 ghost use Rattle.std.specs.List.{Contains};
 ghost use Rattle.std.specs.declared.cmp.Ordering.TheVariants.{Greater};

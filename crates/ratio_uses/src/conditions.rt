@@ -1,4 +1,4 @@
-//! Callers of `Ratio`. They show what its calls require.
+//! Callers of `Ratio`: the sum of two shares and the product of rates, with what these require. They show what its calls require.
 ghost use Rattle.std.specs.Prelude.{◌≡◌, ◌⊎◌, ◌≤ℤ◌, ◌<ℤ◌, pos, IfSome};
 ghost use Rattle.num_rational.specs.Folds.{ArePositive, ChecksProductOf};
 ghost use Rattle.num_rational.specs.Operators.{ChecksSum, numbers};

@@ -1,4 +1,5 @@
-//! The functions that `CALLING.md` shows first, over fractions that are always in lowest terms.
+//! The functions that `CALLING.md` shows first: the total of shares, a third of a text's fraction, and the faster
+//! rate.
 ghost use Rattle.std.specs.Prelude.{◌≡◌};
 ghost use Rattle.num_rational.specs.Comparison.{order_of};
 ghost use Rattle.num_rational.specs.Folds.{ChecksExactSumOf};

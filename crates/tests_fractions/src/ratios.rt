@@ -26,6 +26,7 @@ mod rows;
 mod signs;
 mod simplest;
 mod simplest_within;
+mod succeeding;
 mod texts;
 mod twelve_types;
 mod typed_texts;

@@ -1,7 +1,7 @@
 //! The laws of `Reduced`, called once over the numbers from -5 to 5 each.
 use crate::fractions;
 use crate::plain::Plain;
-use num_rational::laws::{
+use fraction_laws::{
     folds, nearest, neutral, order, powers, remainder, rounding, signs, undoing, values,
 };
 use num_rational::{Ratio, Reduced};

@@ -10,7 +10,6 @@ mod floats;
 mod fold;
 mod hash;
 
-pub mod laws;
 mod main_statement;
 mod nearest;
 mod operand;

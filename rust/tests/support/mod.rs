@@ -32,3 +32,14 @@ impl Numbers {
         }
     }
 }
+
+/// A test for each quarter of the rows, so that the quarters run side by side: it walks the rows whose place leaves this rest.
+#[allow(unused_macros)]
+macro_rules! quarters {
+    ($walk:ident $($name:ident $rest:literal;)*) => {$(
+        #[test]
+        fn $name() {
+            $walk($rest);
+        }
+    )*};
+}

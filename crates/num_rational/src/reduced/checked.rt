@@ -1,4 +1,4 @@
-//! The five checked calls.
+//! The five checked calls: sum, difference, product, quotient and remainder.
 ghost use Rattle.num_rational.specs.Operators.{ChecksExactDifference, ChecksExactSum, ChecksLowestRemainder, ChecksProduct, ChecksQuotient, numbers};
 ghost use Rattle.num_rational.specs.Reduced.{ratio_in, ratio_of};
 

@@ -1,3 +1,3 @@
-//! Sums and products of the items of a list.
+//! Sums and products of the items of a list, in two files.
 mod product;
 mod sum;

@@ -1,4 +1,4 @@
-//! The right operand of a checked call.
+//! The trait `ReducedOperand`: the right operand of a checked call, a `Reduced` or a whole number.
 ghost use Rattle.std.specs.Prelude.{◌≡◌, ℤ};
 ghost use Rattle.num_rational.specs.Operators.{numbers, whole};
 ghost use Rattle.num_rational.specs.Reduced.{ratio_of};

@@ -1,4 +1,4 @@
-//! Signs, negatives and absolute values.
+//! Signs, negatives and absolute values of fractions in lowest terms.
 ghost use Rattle.std.specs.Prelude.{◌≡◌, ◌↔◌, ◌<ℤ◌, pos, neg_ℤ, unsigned_abs, IsTrue};
 ghost use Rattle.ratio_core.specs.Signs.{IsSign};
 ghost use Rattle.num_rational.specs.Ratio.{ChecksRatio, denominator, numerator};

@@ -1,4 +1,4 @@
-//! The simplest fraction between two, and within two bounds.
+//! The simplest fraction between two fractions, and within two bounds.
 ghost use Rattle.std.specs.Prelude.{◌≡◌};
 ghost use Rattle.ratio_approximation.specs.Bounds.{HasPositiveDenominator, numbers_in};
 ghost use Rattle.num_rational.specs.Bounds.{ChecksSimplestWithinBounds, bound_numbers};

@@ -1,4 +1,5 @@
-//! A fraction near the one that is sought, and the steps that bring two of them nearer.
+//! A `Neighbour`: in the search for the nearest fraction, one close to it, and the steps that bring two of them
+//! nearer.
 ghost use Rattle.std.specs.Prelude.{◌≡◌, ◌⊎◌, ◌<ℤ◌, ◌+ℤ◌, ◌-ℤ◌, ◌*ℤ◌, ◌+◌, pos, unsigned_abs};
 ghost use Rattle.ratio_integer.specs.Division.{IsFlooredQuotient};
 ghost use Rattle.ratio_integer.specs.Range.{IsHeld};

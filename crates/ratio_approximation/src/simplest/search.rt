@@ -1,4 +1,4 @@
-//! The search between two neighbours around both ends.
+//! The search for the simplest fraction, between two neighbours around both ends.
 ghost use Rattle.std.specs.Prelude.{◌≡◌, ◌<ℤ◌, ◌+◌, ℕ, pos, min, unsigned_abs};
 ghost use Rattle.ratio_core.specs.ContinuedFraction.{IsWithinBits};
 ghost use Rattle.ratio_approximation.specs.Enclosing.{Encloses};

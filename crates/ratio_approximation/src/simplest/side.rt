@@ -1,4 +1,5 @@
-//! A fraction on one side of both ends, and the steps that bring two of them nearer.
+//! A `Side`: in the search for the simplest fraction, one on one side of both ends, and the steps that
+//! bring two of them nearer.
 ghost use Rattle.std.specs.Prelude.{◌≡◌, ◌≤ℤ◌, ◌<ℤ◌, ◌+ℤ◌, ◌-ℤ◌, ◌*ℤ◌, ◌+◌, pos};
 ghost use Rattle.ratio_approximation.specs.Enclosing.{ChecksStep, IsOnOneSide, IsRoom};
 ghost use Rattle.ratio_approximation.specs.Moving.{CanMove};

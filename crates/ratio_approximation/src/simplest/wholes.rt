@@ -1,4 +1,4 @@
-//! Whole numbers between two ends.
+//! Whole numbers between two ends: the last one below an end, and the one nearest to 0.
 ghost use Rattle.std.specs.Prelude.{◌≡◌, ◌≤ℤ◌, ◌<ℤ◌, ◌+◌, pos};
 ghost use Rattle.ratio_approximation.specs.Enclosing.{ChecksLastBelow, IsNearestZero};
 

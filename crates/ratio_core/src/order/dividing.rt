@@ -1,4 +1,5 @@
-//! The floored divisions of comparing and hashing. Each is one step of its side.
+//! The floored divisions of comparing and hashing: each is one counted step of the left or the right side.
+//! Each is one step of its side.
 ghost use Rattle.std.specs.Prelude.{◌≡◌, ◌≢◌, ◌↔◌, ◌≤ℤ◌, ◌+◌, pos, IsTrue};
 ghost use Rattle.ratio_integer.specs.Division.{IsAboveMax, IsFloored};
 ghost use Rattle.ratio_integer.specs.Range.{IsHeld};

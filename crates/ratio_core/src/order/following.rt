@@ -1,4 +1,4 @@
-//! A step of the right side after one of the left side. Most quotients are the same, and a product shows that.
+//! A counted step of the right side after one of the left side. Most quotients are the same, and a product shows that.
 ghost use Rattle.std.specs.Prelude.{◌≡◌, ◌≢◌, ◌<ℤ◌, ◌+◌, pos, IfSome};
 ghost use Rattle.ratio_integer.specs.Division.{IsAboveMax};
 ghost use Rattle.ratio_core.specs.Order.{FollowsQuotient};

@@ -1,4 +1,4 @@
-//! Tests of signs.
+//! Whether just one of two numbers is below 0.
 ghost use Rattle.std.specs.Prelude.{◌↔◌, IsTrue};
 ghost use Rattle.ratio_core.specs.Order.{HaveUnlikeSigns};
 

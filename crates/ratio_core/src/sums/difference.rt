@@ -1,5 +1,5 @@
 // Written by templates/write from templates/sums.rt.txt: change that file, and write this one anew.
-//! The difference in lowest terms.
+//! The difference of two fractions in lowest terms, formed over their least common denominator.
 ghost use Rattle.std.specs.Prelude.{◌<ℤ◌, pos};
 ghost use Rattle.ratio_integer.specs.Arithmetic.{DifferenceHeld, difference_of};
 ghost use Rattle.ratio_integer.specs.Fraction.{AnswersLowest};

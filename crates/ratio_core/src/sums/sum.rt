@@ -1,5 +1,5 @@
 // Written by templates/write from templates/sums.rt.txt: change that file, and write this one anew.
-//! The sum in lowest terms.
+//! The sum of two fractions in lowest terms, formed over their least common denominator.
 ghost use Rattle.std.specs.Prelude.{◌<ℤ◌, pos};
 ghost use Rattle.ratio_integer.specs.Arithmetic.{SumHeld, sum_of};
 ghost use Rattle.ratio_integer.specs.Fraction.{AnswersLowest};

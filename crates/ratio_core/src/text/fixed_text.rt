@@ -1,4 +1,4 @@
-//! The text of a fraction, in an array of a fixed length.
+//! `FixedText`: the text of a fraction, in an array of a fixed length.
 ghost use Rattle.std.specs.Prelude.{◌≡◌, ◌≤◌, ℕ, List, [], drop, IsAscii};
 
 use std::marker::Model;

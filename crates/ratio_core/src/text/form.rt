@@ -1,4 +1,4 @@
-//! The forms in which numbers are printed.
+//! The enum `Form`: the forms in which numbers are printed.
 
 /// How the numbers of a fraction are printed.
 #[derive(Clone, Copy, PartialEq, Debug)]

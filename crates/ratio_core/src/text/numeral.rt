@@ -1,4 +1,4 @@
-//! A number in base 2, 8 or 16, written from the last digit to the first.
+//! A number in base 2, 8 or 16, and its two's complement, written from the last digit to the first.
 ghost use Rattle.std.specs.Prelude.{◌≡◌, ◌+◌, ◌*◌, ◌^◌, ◌<◌, ◌≤◌, ◌++◌, drop, length, map, ℕ};
 ghost use Rattle.std.specs.Fmt.{digit_glyph};
 ghost use Rattle.std.specs.Int.Digits.{digits_of};

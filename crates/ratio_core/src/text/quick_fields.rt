@@ -1,4 +1,4 @@
-//! Reading a fraction in one pass over its bytes, as many digits at a time as a `u64` holds.
+//! Reading the two numbers of a text in one pass over its bytes, with each digit, as many at a time as a `u64` holds.
 ghost use Rattle.std.specs.Prelude.{◌≡◌, ◌+◌, ◌^◌, ◌<◌, ◌≤◌, drop, get_or, length, take, IfSome};
 ghost use Rattle.std.specs.Char.{digit_value};
 ghost use Rattle.std.specs.Str.Parse.{AllDigits, digits_value, starts_with_minus};

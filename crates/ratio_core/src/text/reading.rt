@@ -1,4 +1,4 @@
-//! Reading a fraction from a text.
+//! Reading a fraction from a text in any base: its two sides, the number of each, and the lowest terms.
 ghost use Rattle.std.specs.Prelude.{◌≡◌, ◌≤◌};
 ghost use Rattle.ratio_core.specs.Reading.{AnswersFraction, AnswersFields, AnswersText, IsFractionText, IsSlashedText, ReadsNumber, SidesReadAs};
 

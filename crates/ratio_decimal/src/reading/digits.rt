@@ -1,4 +1,4 @@
-//! Single digits, and the numbers of many.
+//! Digits of a text: whether a byte is one, its value, and the number that many of them write.
 ghost use Rattle.std.specs.Prelude.{◌≡◌, ◌+◌, ◌*◌, ◌^◌, ◌<◌, ◌↔◌, IsTrue, get_or, length};
 ghost use Rattle.std.specs.Char.{digit_value};
 ghost use Rattle.std.specs.Str.Parse.{AllDigits, digits_value_after};

@@ -1,4 +1,4 @@
-//! The lowest terms of a short decimal, with one number of 64 bits for all of its digits.
+//! The lowest terms of a short decimal, from one number of 64 bits for all of its digits and how many places are behind its point.
 //!
 //! The digits are a number over a power of 10. What divides both is a product of twos and fives, and there are at most 19 of each. So
 //! they are taken out by divisions by 2 and by 5, which the compiler turns into products.

@@ -1,4 +1,4 @@
-//! The lowest terms of digits behind a point, from the last digit on.
+//! The lowest terms of digits behind a point, and of those of a whole number, from the last digit on.
 //!
 //! Let p/q be the lowest terms of the digits behind a digit `d`. Then the digit and those behind it are
 //! `d * q + p` over `10 * q`. What divides both divides 10, since nothing divides `d * q + p` and `q`. So the

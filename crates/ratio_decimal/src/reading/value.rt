@@ -1,4 +1,4 @@
-//! The lowest terms of the parts of a decimal.
+//! The lowest terms of a decimal whose parts are cut, or of its 100th part, after its point has moved.
 ghost use Rattle.std.specs.Prelude.{◌*◌, ◌^◌, ◌<◌, ◌++◌, length};
 ghost use Rattle.std.specs.Str.Parse.{AllDigits};
 ghost use Rattle.ratio_decimal.specs.DecimalCuts.{ChecksTerms, ChecksZero};

@@ -1,5 +1,5 @@
 // Written by templates/write from templates/odd_gcd.rt.txt: change that file, and write this one anew.
-//! The greatest common divisor of two odd numbers.
+//! The greatest common divisor of two odd numbers of type `u64`, if it is above a bound.
 ghost use Rattle.std.specs.Prelude.{◌≡◌, ◌≤◌, ◌%◌, ℕ, MatchOption};
 ghost use Rattle.std.specs.Int.{IsGcd};
 

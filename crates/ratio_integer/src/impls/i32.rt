@@ -1,5 +1,5 @@
 // Written by templates/write from templates/integer.rt.txt: change that file, and write this one anew.
-//! The type `i32`.
+//! The traits `Integer` and `SignedInteger` for the type `i32`.
 ghost use Rattle.std.specs.Prelude.{◌-◌, ◌^◌, pos, negsuc, true};
 ghost use Rattle.std.specs.Hash as hash;
 ghost use Rattle.std.proofs.Common.{lit≤, refl};

@@ -1,5 +1,5 @@
 // Written by templates/write from templates/integer.rt.txt: change that file, and write this one anew.
-//! The type `i8`.
+//! The traits `Integer` and `SignedInteger` for the type `i8`.
 ghost use Rattle.std.specs.Prelude.{◌-◌, ◌^◌, pos, negsuc, false, true};
 ghost use Rattle.std.specs.Hash as hash;
 ghost use Rattle.std.proofs.Common.{lit≤, refl};

@@ -1,5 +1,5 @@
 // Written by templates/write from templates/integer.rt.txt: change that file, and write this one anew.
-//! The type `isize`.
+//! The traits `Integer` and `SignedInteger` for the type `isize`.
 ghost use Rattle.std.specs.Prelude.{◌-◌, ◌^◌, pos, negsuc, false, true};
 ghost use Rattle.std.specs.Hash as hash;
 ghost use Rattle.std.proofs.Common.{lit≤, refl};

@@ -1,5 +1,5 @@
 // Written by templates/write from templates/integer.rt.txt: change that file, and write this one anew.
-//! The type `u64`.
+//! The trait `Integer` for the type `u64`.
 ghost use Rattle.std.specs.Prelude.{◌-◌, ◌^◌, pos, unsigned_abs, false, true};
 ghost use Rattle.std.specs.Hash as hash;
 ghost use Rattle.std.proofs.Common.{lit≤, refl};

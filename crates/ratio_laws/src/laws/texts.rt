@@ -1,4 +1,5 @@
-//! What the words for texts mean. Each function does nothing: its contract is the law.
+//! The laws of digits, of decimals and of typed texts: what the words for texts mean. Each function does nothing: its contract is
+//! the law.
 ghost use Rattle.std.specs.Prelude.{◌≡◌, ◌⊎◌, ◌+◌, ◌/◌, ◌%◌, ◌^◌, ◌<◌, ◌≤◌, ◌∷◌, ◌++◌, [], ℕ, ℤ, List, decimal};
 ghost use Rattle.std.specs.Char.{digit_value};
 ghost use Rattle.std.specs.Int.{IsInRange};

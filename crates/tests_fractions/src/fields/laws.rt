@@ -1,5 +1,5 @@
 //! The laws can be called like any function.
-use num_rational::laws::json_pairs;
+use fraction_laws::json_pairs;
 use ratio_integer::laws as integers;
 use ratio_laws::laws;
 

@@ -69,6 +69,26 @@ fn fractions_are_written(rt: HostRuntime) -> Result<(), Fail> {
     Ok(())
 }
 
+// The first of a thousand fractions over each of two types that is not written, or that is not given back by its value.
+fn first_lost(alloc: Global) -> Result<Option<usize>, Fail> {
+    for row in 0..1000usize {
+        let short = Rational32::new_raw(row as i32 * 1_000_003 - 500_000_000, 999 - row as i32 * 2);
+        let long = Rational64::new_raw(i64::MIN + row as i64, i64::MAX - row as i64);
+        if Ratio::from_json(&short.to_json(alloc)?).ok() != Some(short)
+            || Ratio::from_json(&long.to_json(alloc)?).ok() != Some(long)
+        {
+            return Ok(Some(row));
+        }
+    }
+    Ok(None)
+}
+
+#[test]
+fn fractions_come_back(rt: HostRuntime) -> Result<(), Fail> {
+    all_hold(&rt, "written and read", first_lost(rt.alloc())?);
+    Ok(())
+}
+
 #[test]
 fn refusals_of_json_are_printed(rt: HostRuntime) {
     let row = InlineText::<120>::of(format_args!(

@@ -1,7 +1,7 @@
 //! The laws of `Reduced`, called once over `i64` each, with fractions for which they say something. And sums where two ways to add
 //! differ.
 use crate::asserting::each_holds;
-use num_rational::laws::{
+use fraction_laws::{
     folds, nearest, neutral, order, powers, reading, remainder, rounding, signs, undoing, values,
 };
 use num_rational::{Ratio, Reduced, Reduced64};

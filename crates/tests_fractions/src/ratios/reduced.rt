@@ -2,8 +2,8 @@
 use crate::asserting::{all_hold, each_holds, reads};
 use crate::ratios::forms::{has, raw};
 use crate::ratios::texts::{Shown, first_misprinted};
-use num_rational::laws::reduced;
-use num_rational::laws::told_apart::told_apart;
+use fraction_laws::reduced;
+use fraction_laws::told_apart::told_apart;
 use num_rational::{BaseTenText, Constants, Form, RatioText, Reduced, Reduced32, Reduced64};
 use ratio_integer::Integer;
 use std::cmp::Ordering;
@@ -250,6 +250,7 @@ fn has_laws(_rt: HostRuntime) {
     reduced::products(&x, &y, &z);
     reduced::powers(&x);
     reduced::parts(&x);
+    reduced::continued_fractions(&x);
     reduced::orders(&x, &y);
     reduced::hashes(&x, &y);
     told_apart();

@@ -1,5 +1,5 @@
 // Erased from crates/ratio_calc/src/main.rt by rust/erase: not to be edited.
-//! The calculator on standard input and standard output.
+//! The program: the calculator on standard input and standard output, and its status.
 
 use crate::proved::ratio_lines::calculator::run;
 use crate::proved::ratio_lines::counted::Counted;

@@ -1,5 +1,5 @@
 // Erased from crates/num_rational/src/convert.rt by rust/erase: not to be edited.
-//! Conversions between fractions, pairs and whole numbers, and the default.
+//! Conversions from and to whole numbers and pairs, and the default fraction.
 
 use crate::proved::num_rational::ratio::Ratio;
 use crate::proved::ratio_integer::Integer;

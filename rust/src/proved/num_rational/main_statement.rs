@@ -1,5 +1,5 @@
 // Erased from crates/num_rational/src/main_statement.rt by rust/erase: not to be edited.
-//! The main promise of the library as one call: its contract is one definition.
+//! The main promise of the library as one call, `headline`: its contract is one definition.
 
 use crate::proved::num_rational::ratio::Ratio;
 use crate::proved::ratio_core::{CodeList, Steps};
@@ -25,7 +25,7 @@ fn is_upright<T: Copy + Integer>(x: &Ratio<T>) -> bool {
 }
 
 /// Calls what the main promise is about, on any two fractions over any integer type. The codes of each fraction go into its own list.
-/// Each count of steps rises: `compared` by what the comparison takes, the others by what hashing takes.
+/// Each count of steps rises by exactly what its call takes: `compared` for the comparison, the others for hashing.
 ///
 /// Its contract is the whole promise, in one definition.
 #[inline]

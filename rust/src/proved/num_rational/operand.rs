@@ -1,5 +1,5 @@
 // Erased from crates/num_rational/src/operand.rt by rust/erase: not to be edited.
-//! The right operand of an operator's symbol.
+//! The trait `Operand`: the right operand of an operator's symbol, a `Ratio` or a whole number.
 
 use crate::proved::num_rational::ratio::Ratio;
 use crate::proved::ratio_integer::Integer;

@@ -1,5 +1,5 @@
 // Erased from crates/num_rational/src/printing.rt by rust/erase: not to be edited.
-//! Printing fractions through the traits of std.
+//! Printing fractions through the traits of std, such as `Display` and `LowerHex`.
 
 use crate::proved::num_rational::ratio::Ratio;
 use crate::proved::ratio_core::{BaseTenText, Form, RatioText};

@@ -1,5 +1,5 @@
 // Erased from crates/num_rational/src/ratio.rt by rust/erase: not to be edited.
-//! The fraction type, the ways to make a fraction, and its fields.
+//! `Ratio`, the fraction type: the ways to make a fraction, its fields, its constants, and tests of these.
 
 use crate::proved::ratio_core::checked_new;
 use crate::proved::ratio_integer::Integer;

@@ -1,5 +1,5 @@
 // Erased from crates/num_rational/src/sign.rt by rust/erase: not to be edited.
-//! Signs of fractions, and the symbol `-`. A denominator may have either sign, except in `abs_sub`.
+//! Signs, negatives and absolute values of fractions, and the symbol `-`. A denominator may have either sign, except in `abs_sub`.
 
 use crate::proved::num_rational::ratio::Ratio;
 use crate::proved::ratio_core::sign;

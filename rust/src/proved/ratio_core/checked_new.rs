@@ -1,5 +1,5 @@
 // Erased from crates/ratio_core/src/checked_new.rt by rust/erase: not to be edited.
-//! The lowest terms of a fraction, if they fit the type.
+//! The lowest terms of a fraction, with its sign moved to the numerator, if they fit the type.
 
 use crate::proved::ratio_integer::{Integer, both_held, cancelled};
 

@@ -1,5 +1,5 @@
 // Erased from crates/ratio_core/src/code_list.rt by rust/erase: not to be edited.
-//! A list that takes the codes of a fraction, one after another.
+//! The trait `CodeList`: a list that takes the codes of a fraction, one after another.
 
 use crate::proved::ratio_integer::Integer;
 

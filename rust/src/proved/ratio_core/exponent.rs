@@ -1,6 +1,6 @@
 // Erased from crates/ratio_core/src/exponent.rt by rust/erase: not to be edited.
 // Written by templates/write from templates/exponent.rt.txt: change that file, and write this one anew.
-//! Whole numbers that may be an exponent.
+//! The trait `Exponent`: whole numbers of any primitive type that may be an exponent, by sign and magnitude.
 
 /// A whole number that may be an exponent, of a magnitude below 2^128. The
 /// twelve primitive integer types and references to them implement it.

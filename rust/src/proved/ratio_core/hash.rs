@@ -1,5 +1,5 @@
 // Erased from crates/ratio_core/src/hash.rt by rust/erase: not to be edited.
-//! The codes by which a fraction is hashed.
+//! The codes by which a fraction is hashed, handed to a list while the steps are counted.
 
 use crate::proved::ratio_core::code_list::CodeList;
 use crate::proved::ratio_core::order::dividing::{divide_left, is_above_max};

@@ -1,5 +1,5 @@
 // Erased from crates/ratio_core/src/remainder.rt by rust/erase: not to be edited.
-//! The remainder of one fraction by another, in lowest terms.
+//! The remainder of one fraction by another in lowest terms, over any type.
 
 pub mod lowest_remainder;
 pub(crate) mod wide;

@@ -1,5 +1,5 @@
 // Erased from crates/ratio_core/src/rounding.rt by rust/erase: not to be edited.
-//! Whole numbers near a fraction, and its whole part as a machine integer.
+//! Whole numbers near a fraction (floor, ceiling, truncation, rounded), its fractional part, and its whole part as a machine integer.
 //!
 //! Each call requires only a positive denominator. It divides once, and no step overflows: nothing is
 //! doubled, and nothing is added before the division.

@@ -1,5 +1,5 @@
 // Erased from crates/ratio_core/src/scaling.rt by rust/erase: not to be edited.
-//! Two fractions over their least common denominator.
+//! Two fractions over their least common denominator: the numerators and it.
 
 use crate::proved::ratio_integer::{Integer, both_held, lowest_terms};
 

@@ -1,5 +1,5 @@
 // Erased from crates/ratio_core/src/sign.rt by rust/erase: not to be edited.
-//! Signs of fractions and of numbers. A denominator may have either sign.
+//! Signs, negatives, absolute values and positive differences of fractions, and signs of numbers. A denominator may have either sign.
 
 use crate::proved::ratio_core::order::compare;
 use crate::proved::ratio_core::steps::Steps;

@@ -1,5 +1,5 @@
 // Erased from crates/ratio_core/src/steps.rt by rust/erase: not to be edited.
-//! A count of steps that only contracts see.
+//! `Steps`: how many steps each side of a comparison took, a count that only contracts see.
 
 /// How many steps each side of a comparison has taken. A list of codes counts on the left side. A step finds one quotient,
 /// with at most one division. Both counts are unbounded: only clauses and proofs see them, and they take no memory.

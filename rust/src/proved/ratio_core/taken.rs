@@ -1,5 +1,5 @@
 // Erased from crates/ratio_core/src/taken.rt by rust/erase: not to be edited.
-//! The codes that a list has taken, which only contracts see.
+//! `Taken`: the codes that a list has taken, which only contracts see.
 
 use crate::proved::ratio_integer::Integer;
 

@@ -1,5 +1,5 @@
 // Erased from crates/ratio_decimal/src/exact.rt by rust/erase: not to be edited.
-//! Printing a fraction as a decimal with all its places, if they end.
+//! Printing a fraction as a decimal with all its places, if they end, and finding how many these are.
 
 use crate::proved::ratio_core::sign::is_below_zero;
 use crate::proved::ratio_core::sums::multiple_over;

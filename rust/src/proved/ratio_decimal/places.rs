@@ -1,5 +1,5 @@
 // Erased from crates/ratio_decimal/src/places.rt by rust/erase: not to be edited.
-//! Printing a fraction as a decimal with a given number of places.
+//! Printing a fraction as a decimal with a given number of places, at most 38.
 
 use crate::proved::ratio_decimal::rounded::rounded;
 use crate::proved::ratio_decimal::rounding_rule::Rounding;

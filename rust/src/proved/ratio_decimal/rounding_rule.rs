@@ -1,5 +1,5 @@
 // Erased from crates/ratio_decimal/src/rounding_rule.rt by rust/erase: not to be edited.
-//! The rules by which a fraction is rounded.
+//! The enum `Rounding`: the six rules by which a fraction is rounded.
 
 /// How a number between two neighbours is rounded to one of them. The neighbours are whole numbers, or multiples of
 /// 1/100 for two decimal places.

@@ -1,5 +1,5 @@
 // Erased from crates/ratio_float/src/format.rt by rust/erase: not to be edited.
-//! The two types of floats, as the rounding needs them.
+//! The trait `FloatType`: the bits, the limits and the quotients of `f64` and `f32`, as the rounding needs them.
 
 /// A type of floats.
 pub(crate) trait FloatType: Copy {

@@ -1,5 +1,5 @@
 // Erased from crates/ratio_float/src/nearest.rt by rust/erase: not to be edited.
-//! The float nearest to a fraction.
+//! The float nearest to a fraction: its leading digits, cut and rounded at the last one, and its bits.
 
 use crate::proved::ratio_float::format::FloatType;
 use crate::proved::ratio_float::quotient::leading_digits;

@@ -1,6 +1,6 @@
 // Erased from crates/ratio_integer/src/exact_sum.rt by rust/erase: not to be edited.
-//! Exact sums for types of at most 64 bits. They are computed in `i128`, where no product and no sum of two
-//! products overflows, and are reduced there.
+//! Exact sums and differences of fractions, for types of at most 64 bits. They are computed in `i128`, where no
+//! product and no sum of two products overflows, and are reduced there.
 //!
 //! So a sum requires only that its lowest terms fit the type. A sum over the least common denominator requires
 //! more, since that denominator may overflow before the sum is reduced: for 1/30 + 1/70, which is 1/21, it is 210.

@@ -1,5 +1,5 @@
 // Erased from crates/ratio_integer/src/held.rt by rust/erase: not to be edited.
-//! That numbers in hand lie in the range of their type.
+//! `both_held`: two numbers in hand lie in the range of their type.
 
 use crate::proved::ratio_integer::integer::Integer;
 

@@ -1,5 +1,5 @@
 // Erased from crates/ratio_integer/src/integer.rt by rust/erase: not to be edited.
-//! The interface of an integer type: its range, its constants, its arithmetic and its laws.
+//! The trait `Integer`: range, constants, arithmetic, divisors, conversions and laws of an integer type.
 
 use core::hash::Hash;
 

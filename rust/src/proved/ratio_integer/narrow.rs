@@ -1,5 +1,5 @@
 // Erased from crates/ratio_integer/src/narrow.rt by rust/erase: not to be edited.
-//! Signed types of at most 64 bits, converted to `i128` and back.
+//! The trait `Narrow`: signed types of at most 64 bits, converted to `i128` and back.
 
 use num_traits::cast;
 

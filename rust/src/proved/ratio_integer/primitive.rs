@@ -1,5 +1,5 @@
 // Erased from crates/ratio_integer/src/primitive.rt by rust/erase: not to be edited.
-//! Types of all whole numbers of a fixed number of bits.
+//! The trait `Primitive`: types of all whole numbers of a fixed number of bits.
 
 use crate::proved::ratio_integer::integer::Integer;
 

@@ -1,5 +1,5 @@
 // Erased from crates/ratio_integer/src/signed.rt by rust/erase: not to be edited.
-//! Types that have numbers below 0.
+//! The trait `SignedInteger`: types that have numbers below 0, and their negatives.
 
 use crate::proved::ratio_integer::integer::Integer;
 

@@ -27,6 +27,7 @@ mod rows;
 mod signs;
 mod simplest;
 mod simplest_within;
+
 mod texts;
 mod twelve_types;
 mod typed_texts;

@@ -1,4 +1,4 @@
-use Rattle.std.specs.Prelude.{◌≡◌, ◌↔◌, Bool, true, false, IsTrue}
+use Rattle.std.specs.Prelude.{◌≡◌, ◌↔◌, Bool, true, false, refl, IsTrue}
 use Rattle.ratio_core.proofs.EqualityLaws.{told_same}
 use Rattle.num_rational.specs.Ratio.{denominator, numerator}
 use Rattle.num_rational.proofs.HeadlineLemmas.{codes_alike}
@@ -28,11 +28,11 @@ returns g c =
       hashed_alike = codes_alike g.T.Integer.lo g.T.Integer.hi (numerator x) (denominator x) (numerator y) (denominator y) xs.0 ys.0 (rw c.numer.ensures.value at c.both_held.ensures.first) (rw c.denom.ensures.value at c.both_held.ensures.second) c.denom.ensures.nonzero xs.2 ys.1;
       compare_steps = taken.0;
       compared_by = (taken.1, taken.2);
-      compare_bound = taken.3.bound;
+      compare_count = taken.3;
       x_steps = x_taken.0;
       y_steps = y_taken.0;
       hashed_by = (x_taken.1, y_taken.1);
-      hash_bounds = (x_taken.2.bound, y_taken.2.bound);
+      hash_counts = (x_taken.2, y_taken.2);
       multiplied =
           elim c.if-is_upright.branch [
             | then-is_upright+then-is_upright-2 w ↦ rw w.product-is (λ left right. w.checked_mul.ensures)
@@ -48,5 +48,10 @@ returns g c =
               | else-is_upright-via-then-is_upright+else-is_upright-2 v ↦ λ left right. denied v.is_upright-then-is_upright.result v.is_upright-then-is_upright.ensures v.if-is_upright-2.false right
               | else-is_upright-via-else-is_upright v ↦ λ left right. denied c.is_upright.result c.is_upright.ensures v.if-is_upright.false left
             ]
+          ];
+      refused =
+          elim c.if-is_upright.branch [
+            | then-is_upright+then-is_upright-2 w ↦ λ either. absurd (either (c.is_upright.ensures.0 w.if-is_upright.true, w.is_upright-then-is_upright.ensures.0 w.if-is_upright-2.true))
+            | else-is_upright w ↦ rw w.product-is (λ _. (refl, refl))
           ];
     }

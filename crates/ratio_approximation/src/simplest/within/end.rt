@@ -1,4 +1,4 @@
-//! An end of a range of fractions.
+//! An `End` of a range of fractions: a bound, or the type's least or greatest number in place of an open one.
 ghost use Rattle.std.specs.Prelude.{◌≡◌};
 ghost use Rattle.ratio_approximation.specs.Bounds.{numbers_in};
 ghost use Rattle.ratio_approximation.specs.EndChoice.{end_bound, high_bound, low_bound};

@@ -1,5 +1,5 @@
 // Erased from crates/ratio_c/src/between.rt by rust/erase: not to be edited.
-//! The simplest fraction within two bounds.
+//! The simplest fraction within two bounds, which flags describe.
 
 use crate::proved::ratio_c::code::{
     BAD_OPTION, DENOMINATOR_NOT_POSITIVE, HIGH_INCLUDED, HIGH_OPEN, LOW_INCLUDED, LOW_OPEN,

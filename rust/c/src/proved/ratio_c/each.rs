@@ -1,5 +1,5 @@
 // Erased from crates/ratio_c/src/each.rt by rust/erase: not to be edited.
-//! One call for each item of a slice.
+//! The trait `Call`, and `each`: one call for each item of a slice.
 
 /// A call that gives an answer for one item.
 pub trait Call<A, B> {

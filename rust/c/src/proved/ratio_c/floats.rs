@@ -1,5 +1,6 @@
 // Erased from crates/ratio_c/src/floats.rt by rust/erase: not to be edited.
-//! Fractions with the values of floats, and the floats nearest to fractions.
+//! Fractions with the values of floats, the simplest ones that round to floats, and the floats
+//! nearest to fractions.
 
 use crate::proved::ratio_c::code::{ANSWERED, DENOMINATOR_NOT_POSITIVE};
 use crate::proved::ratio_c::crossing::{Digest, OneFraction, Reply, checked_fields};

@@ -1,5 +1,5 @@
 // Erased from crates/ratio_c/src/laws.rt by rust/erase: not to be edited.
-//! The laws of this crate. Each function does nothing: its contract is the law.
+//! The laws of hashes, of keys and of totals. Each function does nothing: its contract is the law.
 
 /// Which fractions have the same hash in lowest terms.
 #[inline]

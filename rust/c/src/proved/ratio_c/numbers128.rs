@@ -1,6 +1,6 @@
 // Erased from crates/ratio_c/src/numbers128.rt by rust/erase: not to be edited.
 // Written by templates/write from templates/numbers.rt.txt: change that file, and write this one anew.
-//! Fractions of `i128` and the exports over them.
+//! The structs of C with fractions of `i128`, and the exported calls over slices of them.
 
 use crate::proved::ratio_c::arithmetic::{Difference, Product, Quotient, Remainder, Sum};
 use crate::proved::ratio_c::between::Between;
@@ -19,7 +19,7 @@ use crate::proved::ratio_c::multiple::RoundingTo;
 use crate::proved::ratio_c::nearest::Nearest;
 use crate::proved::ratio_c::numbers32::Answer32;
 use crate::proved::ratio_c::numbers64::Answer64;
-use crate::proved::ratio_c::one_fraction::{Ceiling, Floor, LowestTerms, Raising, Rounding, Truncation};
+use crate::proved::ratio_c::one_fraction::{Ceiling, Floor, LowestTerms, Raising, RoundingToWhole, Truncation};
 use crate::proved::ratio_c::printing::{Fields, Text, print};
 use crate::proved::ratio_c::reading::{Fractions, Reading, Span};
 use crate::proved::ratio_c::scaled::{Scaled, Scaling};
@@ -380,7 +380,7 @@ pub unsafe extern "C" fn ratio_round_i128(asked: *const Fraction128, asked_len: 
     // SAFETY: the header says what the caller owes for each pointer and its length.
     let asked = core::slice::from_raw_parts(asked, asked_len);
     let answers = core::slice::from_raw_parts_mut(answers, answers_len);
-    each(&Rounding, asked, answers)
+    each(&RoundingToWhole, asked, answers)
 }
 
 /// The power of each fraction, not reduced.

@@ -1,5 +1,5 @@
 // Erased from crates/ratio_c/src/one_fraction.rt by rust/erase: not to be edited.
-//! The calls on one fraction.
+//! Lowest terms, floor, ceiling, truncation, rounding to a whole number, and powers of one fraction.
 
 use crate::proved::ratio_c::code::{DENOMINATOR_NOT_POSITIVE, DIVISION_BY_ZERO, ZERO_DENOMINATOR};
 use crate::proved::ratio_c::crossing::{OneFraction, Raised, Reply, checked, refused};
@@ -78,9 +78,9 @@ impl<F: OneFraction, A: Reply<F::Inside>> Call<F, A> for Truncation {
 
 /// A fraction rounded, over 1: 7/2 gives 4/1.
 #[derive(Clone, Copy)]
-pub struct Rounding;
+pub struct RoundingToWhole;
 
-impl<F: OneFraction, A: Reply<F::Inside>> Call<F, A> for Rounding {
+impl<F: OneFraction, A: Reply<F::Inside>> Call<F, A> for RoundingToWhole {
     #[inline(always)]
     fn answer(&self, x: &F) -> A {
         match positive(x) {

@@ -1,5 +1,5 @@
 // Erased from crates/ratio_c/src/printing.rt by rust/erase: not to be edited.
-//! Printing texts, one after another.
+//! Printing fractions as texts, one after another into one piece of memory.
 
 use crate::proved::ratio_c::code::{ANSWERED, ZERO_DENOMINATOR};
 use crate::proved::ratio_c::crossing::OneFraction;

@@ -1,5 +1,5 @@
 // Erased from crates/ratio_c/src/reading.rt by rust/erase: not to be edited.
-//! Reading fractions from texts.
+//! Reading fractions from texts, each from a span of bytes.
 
 use crate::proved::ratio_c::code::{ANSWERED, NO_TEXT, NOT_HELD, PARSE_ERROR, ZERO_DENOMINATOR};
 use crate::proved::ratio_c::crossing::{Digest, Reply, refused};

@@ -1,5 +1,5 @@
 // Erased from crates/ratio_c/src/total_steps.rt by rust/erase: not to be edited.
-//! The steps of totals, and what a total gives.
+//! The steps of totals (a fraction goes in or out, a total is merged), and the sum and the mean of a total.
 
 use crate::proved::ratio_c::cast::cast;
 use crate::proved::ratio_c::code::{DENOMINATOR_NOT_POSITIVE, DIVISION_BY_ZERO};

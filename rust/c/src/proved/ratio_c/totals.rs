@@ -1,5 +1,5 @@
 // Erased from crates/ratio_c/src/totals.rt by rust/erase: not to be edited.
-//! Totals: how many fractions a program has added, and their sum, for columns and their parts.
+//! The struct `Total64`: what a total says and keeps, and how items are gathered into it.
 
 use crate::proved::ratio_c::code::{ANSWERED, NO_TOTAL, NOT_HELD};
 use crate::proved::ratio_c::each::{BAD_LENGTH, DONE};

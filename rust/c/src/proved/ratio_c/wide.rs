@@ -1,5 +1,5 @@
 // Erased from crates/ratio_c/src/wide.rt by rust/erase: not to be edited.
-//! An `i128` as it crosses.
+//! `Wide`: an `i128` as it crosses, in two halves.
 
 /// An `i128` as its two halves: the number is `high` times 2^64, plus `low`.
 #[repr(C)]

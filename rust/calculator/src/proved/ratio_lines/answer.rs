@@ -1,5 +1,5 @@
 // Erased from crates/ratio_lines/src/answer.rt by rust/erase: not to be edited.
-//! The answer to one line.
+//! The answer to one line: its operands are read, its operators are applied, or it is refused.
 
 use crate::proved::ratio_lines::answer_text::AnswerText;
 use crate::proved::ratio_lines::limits::LONGEST_LINE;

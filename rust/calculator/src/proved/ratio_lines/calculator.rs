@@ -1,5 +1,5 @@
 // Erased from crates/ratio_lines/src/calculator.rt by rust/erase: not to be edited.
-//! The calculator, from the bytes read to the bytes written.
+//! The calculator, from the bytes read to the bytes written: `run` and its steps, each for one piece of the input.
 
 use crate::proved::ratio_lines::counted::{CalcRead, CalcWrite};
 use crate::proved::ratio_lines::fault::CalcFault;

@@ -1,5 +1,5 @@
 // Erased from crates/ratio_lines/src/calls.rt by rust/erase: not to be edited.
-//! What the calls of a device did so far. Only contracts see it.
+//! `Calls`: what the calls of a device did so far. Only contracts see it.
 
 /// What the calls of a reader or a writer did so far. The fields are unbounded numbers and lists. They
 /// exist only in contracts and proofs, and take no memory. Only the functions here change them.

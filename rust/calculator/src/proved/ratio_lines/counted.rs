@@ -1,5 +1,5 @@
 // Erased from crates/ratio_lines/src/counted.rt by rust/erase: not to be edited.
-//! Readers and writers whose calls a contract can follow.
+//! `Counted`: readers and writers whose calls a contract can follow, and the traits `CalcRead` and `CalcWrite`.
 
 use crate::proved::ratio_lines::calls::Calls;
 use std::io;

@@ -1,5 +1,5 @@
 // Erased from crates/ratio_lines/src/gathered.rt by rust/erase: not to be edited.
-//! Bytes that wait to be written, so that one call writes many answers.
+//! `Gathered`: bytes that wait to be written, so that one call writes many answers.
 
 use crate::proved::ratio_lines::counted::CalcWrite;
 use crate::proved::ratio_lines::fault::CalcFault;

@@ -1,5 +1,6 @@
 // Erased from crates/ratio_lines/src/laws.rt by rust/erase: not to be edited.
-//! The laws of answers. Each function does nothing: its contract is the law.
+//! The laws of answers: inputs one after another, and that each input has answers. Each function does
+//! nothing: its contract is the law.
 
 /// An input may be cut after any line end and answered in parts, on as many machines as there are. The
 /// answers to the parts, joined in order, are the answers to the whole.

@@ -1,5 +1,5 @@
 // Erased from crates/ratio_lines/src/line.rt by rust/erase: not to be edited.
-//! The line that is being read.
+//! `Line`: the line that is being read, as far as it is kept.
 
 use crate::proved::ratio_lines::answer::{TOO_LONG, answer};
 use crate::proved::ratio_lines::answer_text::AnswerText;

@@ -1,5 +1,5 @@
 // Erased from crates/ratio_lines/src/operator.rt by rust/erase: not to be edited.
-//! The operators of the calculator.
+//! The enum `Operator`: the operators of the calculator, by their names.
 
 /// An operator between two operands.
 #[derive(Clone, Copy, PartialEq, Debug)]

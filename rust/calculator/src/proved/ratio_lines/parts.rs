@@ -1,5 +1,6 @@
 // Erased from crates/ratio_lines/src/parts.rt by rust/erase: not to be edited.
-//! The parts of a text, with single spaces between them.
+//! The parts of a text, with single spaces between them: the first one, and whether they come in
+//! pairs.
 
 use crate::proved::ratio_lines::cut::cut_text;
 

@@ -1,5 +1,5 @@
 // Erased from crates/ratio_lines/src/piece.rt by rust/erase: not to be edited.
-//! The answers to the lines that end in one piece of the input.
+//! The answers to the lines that end in one piece of the input, put one after another.
 
 use crate::proved::ratio_lines::answer::{answer, answer_two};
 use crate::proved::ratio_lines::answer_text::AnswerText;

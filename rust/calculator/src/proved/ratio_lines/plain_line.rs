@@ -1,6 +1,6 @@
 // Erased from crates/ratio_lines/src/plain_line.rt by rust/erase: not to be edited.
-//! A plain line: two operands of graphic ASCII characters and an operator between them. It is cut
-//! into its parts while its end is looked for.
+//! A plain line, two operands of graphic ASCII characters and an operator between them, and where each of these parts
+//! ends. It is cut into its parts while its end is looked for.
 
 use crate::proved::ratio_lines::limits::LONGEST_LINE;
 use crate::proved::ratio_lines::operator::{Operator, operator_named};

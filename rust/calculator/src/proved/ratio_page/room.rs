@@ -1,5 +1,5 @@
 // Erased from crates/ratio_page/src/room.rt by rust/erase: not to be edited.
-//! Putting answers into a piece of memory, one after another.
+//! Putting answers into a piece of memory, the room, one after another.
 
 use either::Either;
 use crate::proved::ratio_lines::answer::answer;

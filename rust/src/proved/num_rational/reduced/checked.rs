@@ -1,5 +1,5 @@
 // Erased from crates/num_rational/src/reduced/checked.rt by rust/erase: not to be edited.
-//! The five checked calls.
+//! The five checked calls: sum, difference, product, quotient and remainder.
 
 use super::Reduced;
 use super::operand::ReducedOperand;

@@ -1,5 +1,5 @@
 // Erased from crates/num_rational/src/reduced/continued.rt by rust/erase: not to be edited.
-//! Continued fractions: the quotients of a fraction, and the fraction of some quotients.
+//! Continued fractions: the quotients and the convergents of a fraction, and the fraction of some quotients.
 
 use super::Reduced;
 use crate::proved::num_rational::convergents::Convergents;

@@ -1,5 +1,5 @@
 // Erased from crates/num_rational/src/reduced/operand.rt by rust/erase: not to be edited.
-//! The right operand of a checked call.
+//! The trait `ReducedOperand`: the right operand of a checked call, a `Reduced` or a whole number.
 
 use super::Reduced;
 use crate::proved::ratio_integer::Integer;

@@ -1,5 +1,5 @@
 // Erased from crates/num_rational/src/reduced/sign.rt by rust/erase: not to be edited.
-//! Signs, negatives and absolute values.
+//! Signs, negatives and absolute values of fractions in lowest terms.
 
 use super::Reduced;
 use crate::proved::num_rational::ratio::Ratio;

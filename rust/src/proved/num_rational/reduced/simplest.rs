@@ -1,5 +1,5 @@
 // Erased from crates/num_rational/src/reduced/simplest.rt by rust/erase: not to be edited.
-//! The simplest fraction between two, and within two bounds.
+//! The simplest fraction between two fractions, and within two bounds.
 
 use super::Reduced;
 use crate::proved::num_rational::ratio::Ratio;

@@ -1,5 +1,6 @@
 // Erased from crates/ratio_approximation/src/nearest/neighbour.rt by rust/erase: not to be edited.
-//! A fraction near the one that is sought, and the steps that bring two of them nearer.
+//! A `Neighbour`: in the search for the nearest fraction, one close to it, and the steps that bring two of them
+//! nearer.
 
 use crate::proved::ratio_core::Steps;
 use crate::proved::ratio_core::order::dividing::{divide_left, divide_right};

@@ -1,5 +1,5 @@
 // Erased from crates/ratio_approximation/src/simplest/search.rt by rust/erase: not to be edited.
-//! The search between two neighbours around both ends.
+//! The search for the simplest fraction, between two neighbours around both ends.
 
 use crate::proved::ratio_approximation::simplest::side::{Side, beyond, stepped, times_within};
 use crate::proved::ratio_core::Steps;

@@ -1,5 +1,5 @@
 // Erased from crates/ratio_approximation/src/simplest/wholes.rt by rust/erase: not to be edited.
-//! Whole numbers between two ends.
+//! Whole numbers between two ends: the last one below an end, and the one nearest to 0.
 
 use crate::proved::ratio_core::Steps;
 use crate::proved::ratio_core::order::dividing::divide_right;

@@ -1,5 +1,6 @@
 // Erased from crates/ratio_core/src/order/dividing.rt by rust/erase: not to be edited.
-//! The floored divisions of comparing and hashing. Each is one step of its side.
+//! The floored divisions of comparing and hashing: each is one counted step of the left or the right side.
+//! Each is one step of its side.
 
 use crate::proved::ratio_core::sign::is_below_zero;
 use crate::proved::ratio_core::steps::Steps;

@@ -1,5 +1,5 @@
 // Erased from crates/ratio_core/src/order/following.rt by rust/erase: not to be edited.
-//! A step of the right side after one of the left side. Most quotients are the same, and a product shows that.
+//! A counted step of the right side after one of the left side. Most quotients are the same, and a product shows that.
 
 use crate::proved::ratio_core::order::dividing::divide_right;
 use crate::proved::ratio_core::steps::Steps;

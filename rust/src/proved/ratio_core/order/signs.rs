@@ -1,5 +1,5 @@
 // Erased from crates/ratio_core/src/order/signs.rt by rust/erase: not to be edited.
-//! Tests of signs.
+//! Whether just one of two numbers is below 0.
 
 use crate::proved::ratio_core::sign::is_below_zero;
 use crate::proved::ratio_integer::Integer;

@@ -1,6 +1,6 @@
 // Erased from crates/ratio_core/src/sums/difference.rt by rust/erase: not to be edited.
 // Written by templates/write from templates/sums.rt.txt: change that file, and write this one anew.
-//! The difference in lowest terms.
+//! The difference of two fractions in lowest terms, formed over their least common denominator.
 
 use crate::proved::ratio_core::scaling::scaled;
 use crate::proved::ratio_integer::{Integer, lowest_terms};

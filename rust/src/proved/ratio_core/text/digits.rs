@@ -1,5 +1,5 @@
 // Erased from crates/ratio_core/src/text/digits.rt by rust/erase: not to be edited.
-//! The decimal digits of a number, written from the last to the first.
+//! The decimal digits of a number, written into an array from the last to the first.
 
 use crate::proved::itoa::write_digits;
 
@@ -11,9 +11,10 @@ const ONE_BEFORE: u64 = 1_000_000_000_000_000_000;
 // The quotient of 2^127 by 10^19.
 const RECIPROCAL: u128 = 17_014_118_346_046_923_173;
 
-// Writes the decimal digits so that they end at `end`, and returns where they start. A number above 64 bits
-// is written in groups of 19 digits: the last digit, and the 18 before it after a 1, which keeps their
-// leading zeros. The digits before the group then overwrite the 1.
+/// Writes the decimal digits so that they end at `end`, and returns where they start. A number above 64 bits
+/// is written in groups of 19 digits: the last digit, and the 18 before it after a 1, which keeps their
+/// leading zeros. The digits before the group then overwrite the 1.
+///
 /// # Conditions
 ///
 /// The proof requires of the caller:

@@ -1,5 +1,5 @@
 // Erased from crates/ratio_core/src/text/fixed_text.rt by rust/erase: not to be edited.
-//! The text of a fraction, in an array of a fixed length.
+//! `FixedText`: the text of a fraction, in an array of a fixed length.
 
 /// The text of a fraction, of at most `ROOM` bytes. Contracts see its bytes.
 pub struct FixedText<const ROOM: usize> {

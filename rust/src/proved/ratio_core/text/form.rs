@@ -1,5 +1,5 @@
 // Erased from crates/ratio_core/src/text/form.rt by rust/erase: not to be edited.
-//! The forms in which numbers are printed.
+//! The enum `Form`: the forms in which numbers are printed.
 
 /// How the numbers of a fraction are printed.
 #[derive(Clone, Copy, PartialEq, Debug)]

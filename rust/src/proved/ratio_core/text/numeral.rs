@@ -1,5 +1,5 @@
 // Erased from crates/ratio_core/src/text/numeral.rt by rust/erase: not to be edited.
-//! A number in base 2, 8 or 16, written from the last digit to the first.
+//! A number in base 2, 8 or 16, and its two's complement, written from the last digit to the first.
 
 use crate::proved::ratio_integer::Primitive;
 

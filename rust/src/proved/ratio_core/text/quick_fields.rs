@@ -1,5 +1,5 @@
 // Erased from crates/ratio_core/src/text/quick_fields.rt by rust/erase: not to be edited.
-//! Reading a fraction in one pass over its bytes, as many digits at a time as a `u64` holds.
+//! Reading the two numbers of a text in one pass over its bytes, with each digit, as many at a time as a `u64` holds.
 
 use crate::proved::ratio_integer::Primitive;
 

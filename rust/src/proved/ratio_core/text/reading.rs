@@ -1,5 +1,5 @@
 // Erased from crates/ratio_core/src/text/reading.rt by rust/erase: not to be edited.
-//! Reading a fraction from a text.
+//! Reading a fraction from a text in any base: its two sides, the number of each, and the lowest terms.
 
 use crate::proved::ratio_core::checked_new::checked_new;
 use crate::proved::ratio_core::parse_error::{ParseRatioError, RatioErrorKind};

@@ -1,5 +1,5 @@
 // Erased from crates/ratio_decimal/src/reading/digits.rt by rust/erase: not to be edited.
-//! Single digits, and the numbers of many.
+//! Digits of a text: whether a byte is one, its value, and the number that many of them write.
 
 /// Whether the byte is a digit from 0 to 9.
 #[inline]

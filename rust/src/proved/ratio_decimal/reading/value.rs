@@ -1,5 +1,5 @@
 // Erased from crates/ratio_decimal/src/reading/value.rt by rust/erase: not to be edited.
-//! The lowest terms of the parts of a decimal.
+//! The lowest terms of a decimal whose parts are cut, or of its 100th part, after its point has moved.
 
 use crate::proved::ratio_decimal::reading::digits::{number_after, with_zeros};
 use crate::proved::ratio_decimal::reading::short::short_lowest;

@@ -1,6 +1,6 @@
 // Erased from crates/ratio_integer/src/binary_gcd/above_wide.rt by rust/erase: not to be edited.
 // Written by templates/write from templates/odd_gcd.rt.txt: change that file, and write this one anew.
-//! The greatest common divisor of two odd numbers.
+//! The greatest common divisor of two odd numbers of type `u128`, if it is above a bound.
 
 use crate::proved::ratio_integer::binary_gcd::above::odd_gcd_above;
 use crate::proved::ratio_integer::binary_gcd::odd_distance_wide;

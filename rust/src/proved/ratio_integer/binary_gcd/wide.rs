@@ -1,6 +1,6 @@
 // Erased from crates/ratio_integer/src/binary_gcd/wide.rt by rust/erase: not to be edited.
 // Written by templates/write from templates/odd_gcd.rt.txt: change that file, and write this one anew.
-//! The greatest common divisor of two odd numbers.
+//! The greatest common divisor of two odd numbers of type `u128`.
 
 use crate::proved::ratio_integer::binary_gcd::odd_distance_wide;
 use crate::proved::ratio_integer::binary_gcd::plain::odd_gcd;

@@ -1,6 +1,6 @@
 // Erased from crates/ratio_integer/src/impls/u128.rt by rust/erase: not to be edited.
 // Written by templates/write from templates/integer.rt.txt: change that file, and write this one anew.
-//! The type `u128`.
+//! The trait `Integer` for the type `u128`.
 
 use crate::proved::ratio_integer::binary_gcd::binary_gcd_wide;
 use crate::proved::ratio_integer::half_width;

@@ -1,6 +1,6 @@
 // Erased from crates/ratio_integer/src/impls/u8.rt by rust/erase: not to be edited.
 // Written by templates/write from templates/integer.rt.txt: change that file, and write this one anew.
-//! The type `u8`.
+//! The trait `Integer` for the type `u8`.
 
 use crate::proved::ratio_integer::binary_gcd::binary_gcd;
 use crate::proved::ratio_integer::integer::Integer;

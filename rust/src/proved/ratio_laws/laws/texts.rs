@@ -1,5 +1,6 @@
 // Erased from crates/ratio_laws/src/laws/texts.rt by rust/erase: not to be edited.
-//! What the words for texts mean. Each function does nothing: its contract is the law.
+//! The laws of digits, of decimals and of typed texts: what the words for texts mean. Each function does nothing: its contract is
+//! the law.
 
 /// What a byte is worth as a digit: 0 to 9 for `0` to `9`, and 10 to 35 for the letters in either case. The
 /// value of any other byte is not below 36. No radix is above 36, so such a byte is no digit.

@@ -2,14 +2,17 @@
 //! The calls on fields that the calls of fractions pass on to, each once at a concrete type.
 use crate::proved::tests_fractions::asserting::{each_holds, reads};
 use crate::proved::ratio_core::checked_new::checked_new;
+use crate::proved::ratio_core::order::dividing::{divide_left, divide_right};
+use crate::proved::ratio_core::order::signs::have_unlike_signs;
 use crate::proved::ratio_core::pow::{checked_pow, checked_pow_with, checked_recip, pow, pow_with, recip};
 use crate::proved::ratio_core::rounding::{
     ceil, floor, fract, round, to_i64, to_i128, to_integer, to_u64, to_u128, trunc,
 };
-use crate::proved::ratio_core::sign::{abs, abs_sub, is_negative, is_positive, neg, signum};
-use crate::proved::ratio_core::sums::checked_sub;
+use crate::proved::ratio_core::sign::{abs, abs_sub, is_above_zero, is_negative, is_positive, neg, signum};
+use crate::proved::ratio_core::sums::{checked_sub, multiple_over, numerator_of};
+use crate::proved::ratio_core::text::digits::{put_digits, put_word};
 use crate::proved::ratio_core::text::{base_ten_text, from_str, from_str_radix, put_base_ten_text, put_text};
-use crate::proved::ratio_core::{BaseTenText, Form, RatioText};
+use crate::proved::ratio_core::{BaseTenText, Form, RatioText, Steps};
 use crate::proved::ratio_decimal::rounding_rule::Rounding;
 use crate::proved::ratio_decimal::{decimal, from_decimal, from_text, round_to};
 use crate::proved::ratio_float::nearest::{to_f32, to_f64};
@@ -114,4 +117,22 @@ fn texts() {
     let mut text = RatioText::empty();
     put_text(15i64, 2, Form::LowerHex, true, &mut text);
     reads(text.as_str(), "0xf/0x2");
+}
+
+#[test]
+fn parts_of_calls() {
+    let facts = [
+        divide_left(-7i64, 2, &mut Steps::new()) == (-4, 1),
+        divide_right(-7i64, 2, &mut Steps::new()) == (-4, 1),
+        have_unlike_signs(-7i64, 2),
+        is_above_zero(7i64),
+        numerator_of(-4i64, 1, 2) == Some(-7),
+        multiple_over(3i64, 5, 4) == (3, 3),
+    ];
+    each_holds(&facts);
+    let mut digits = [b' '; 40];
+    assert!(put_digits(1234, &mut digits, 40) == 36);
+    assert!(&digits[36..] == b"1234".as_slice());
+    assert!(put_word(56, &mut digits, 36) == 34);
+    assert!(&digits[34..] == b"561234".as_slice());
 }

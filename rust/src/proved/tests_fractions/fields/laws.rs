@@ -1,6 +1,6 @@
 // Erased from crates/tests_fractions/src/fields/laws.rt by rust/erase: not to be edited.
 //! The laws can be called like any function.
-use crate::proved::num_rational::laws::json_pairs;
+use crate::proved::fraction_laws::json_pairs;
 use crate::proved::ratio_integer::laws as integers;
 use crate::proved::ratio_laws::laws;
 

@@ -2,7 +2,7 @@
 //! The laws of `Reduced`, called once over `i64` each, with fractions for which they say something. And sums where two ways to add
 //! differ.
 use crate::proved::tests_fractions::asserting::each_holds;
-use crate::proved::num_rational::laws::{
+use crate::proved::fraction_laws::{
     folds, nearest, neutral, order, powers, reading, remainder, rounding, signs, undoing, values,
 };
 use crate::proved::num_rational::{Ratio, Reduced, Reduced64};

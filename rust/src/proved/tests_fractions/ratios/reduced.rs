@@ -3,8 +3,8 @@
 use crate::proved::tests_fractions::asserting::{all_hold, each_holds, reads};
 use crate::proved::tests_fractions::ratios::forms::{has, raw};
 use crate::proved::tests_fractions::ratios::texts::{Shown, first_misprinted};
-use crate::proved::num_rational::laws::reduced;
-use crate::proved::num_rational::laws::told_apart::told_apart;
+use crate::proved::fraction_laws::reduced;
+use crate::proved::fraction_laws::told_apart::told_apart;
 use crate::proved::num_rational::{BaseTenText, Constants, Form, RatioText, Reduced, Reduced32, Reduced64};
 use crate::proved::ratio_integer::Integer;
 use core::cmp::Ordering;
@@ -244,6 +244,7 @@ fn has_laws() {
     reduced::products(&x, &y, &z);
     reduced::powers(&x);
     reduced::parts(&x);
+    reduced::continued_fractions(&x);
     reduced::orders(&x, &y);
     reduced::hashes(&x, &y);
     told_apart();

@@ -1,5 +1,5 @@
 // Erased from crates/ratio_approximation/src/simplest/within/choice.rt by rust/erase: not to be edited.
-//! The choice between two fractions by how simple they are.
+//! The choice between two fractions within bounds by how simple they are.
 
 use crate::proved::ratio_approximation::simplest::within::end::End;
 use crate::proved::ratio_core::order::signs::have_unlike_signs;

@@ -1,5 +1,5 @@
 // Erased from crates/ratio_approximation/src/simplest/within/end.rt by rust/erase: not to be edited.
-//! An end of a range of fractions.
+//! An `End` of a range of fractions: a bound, or the type's least or greatest number in place of an open one.
 
 use crate::proved::ratio_integer::Integer;
 use core::ops::Bound;

@@ -1,0 +1,16 @@
+pub mod EqualValueLemmas
+pub mod FoldLawLemmas
+pub mod HashWriteLemmas
+pub mod JsonLawLemmas
+pub mod NearestBoundLemmas
+pub mod NeutralLemmas
+pub mod OrderLawLemmas
+pub mod PowerLawLemmas
+pub mod QuotientLawLemmas
+pub mod ReadingLawLemmas
+pub mod ReducedLemmas
+pub mod RemainderLawLemmas
+pub mod ResultLemmas
+pub mod SignLawLemmas
+pub mod UndoingLemmas
+pub mod WholeNumberLemmas

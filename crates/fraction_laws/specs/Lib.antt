@@ -1,0 +1,13 @@
+pub mod FoldLaws
+pub mod NearestLaws
+pub mod NeutralLaws
+pub mod OrderLaws
+pub mod PowerLaws
+pub mod ReadingLaws
+pub mod ReducedLaws
+pub mod RemainderLaws
+pub mod RoundingLaws
+pub mod SignLaws
+pub mod ToldApart
+pub mod UndoingLaws
+pub mod ValueLaws

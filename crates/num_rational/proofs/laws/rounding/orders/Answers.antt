@@ -1,5 +1,0 @@
-use Rattle.num_rational.proofs.WholeNumberLemmas.{rounds_in_order}
-use Rattle.num_rational.proofs.laws.rounding.orders.Goals as goal
-
-pub returns : goal.returns
-returns g c = rounds_in_order c.args.x.now c.args.y.now

@@ -1,0 +1,19 @@
+// Erased from crates/fraction_laws/src/lib.rt by rust/erase: not to be edited.
+//! Laws of the calls of `Reduced` and `Ratio`, for the proofs of callers. Each function changes nothing: its contract is the law.
+pub mod folds;
+pub mod nearest;
+pub mod neutral;
+pub mod order;
+pub mod powers;
+pub mod reading;
+pub mod reduced;
+pub mod remainder;
+pub mod rounding;
+pub mod signs;
+pub mod told_apart;
+pub mod undoing;
+pub mod values;
+
+/// Reading the JSON list of a fraction's two fields gives these fields, and nothing else.
+#[inline]
+pub fn json_pairs() {}

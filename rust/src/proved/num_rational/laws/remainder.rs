@@ -1,9 +1,0 @@
-// Erased from crates/num_rational/src/laws/remainder.rt by rust/erase: not to be edited.
-//! The remainder of `Reduced`. Each function does nothing: its contract is the law, for the fractions that it is given.
-
-use crate::proved::num_rational::reduced::Reduced;
-use crate::proved::ratio_integer::Integer;
-
-/// x is q * y + x % y, where q is x / y cut towards 0. |x % y| is below |y|, and x % y is 0 or has the sign of x.
-#[inline]
-pub fn parts<T: Copy + Integer>(x: &Reduced<T>, y: &Reduced<T>) {}

@@ -9,7 +9,7 @@ use ratio_core::rounding::{
 };
 use ratio_core::sign::{abs, abs_sub, is_above_zero, is_negative, is_positive, neg, signum};
 use ratio_core::sums::{checked_sub, multiple_over, numerator_of};
-use ratio_core::text::digits::{put_digits, put_word};
+use ratio_core::text::digits::put_digits;
 use ratio_core::text::{base_ten_text, from_str, from_str_radix, put_base_ten_text, put_text};
 use ratio_core::{BaseTenText, Form, RatioText, Steps};
 use ratio_decimal::rounding_rule::Rounding;
@@ -131,6 +131,4 @@ fn parts_of_calls(rt: HostRuntime) {
     let mut digits = [b' '; 40];
     assert!(rt; put_digits(1234, &mut digits, 40) == 36);
     assert!(rt; &digits[36..] == b"1234".as_slice());
-    assert!(rt; put_word(56, &mut digits, 36) == 34);
-    assert!(rt; &digits[34..] == b"561234".as_slice());
 }

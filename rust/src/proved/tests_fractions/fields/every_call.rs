@@ -10,7 +10,7 @@ use crate::proved::ratio_core::rounding::{
 };
 use crate::proved::ratio_core::sign::{abs, abs_sub, is_above_zero, is_negative, is_positive, neg, signum};
 use crate::proved::ratio_core::sums::{checked_sub, multiple_over, numerator_of};
-use crate::proved::ratio_core::text::digits::{put_digits, put_word};
+use crate::proved::ratio_core::text::digits::put_digits;
 use crate::proved::ratio_core::text::{base_ten_text, from_str, from_str_radix, put_base_ten_text, put_text};
 use crate::proved::ratio_core::{BaseTenText, Form, RatioText, Steps};
 use crate::proved::ratio_decimal::rounding_rule::Rounding;
@@ -133,6 +133,4 @@ fn parts_of_calls() {
     let mut digits = [b' '; 40];
     assert!(put_digits(1234, &mut digits, 40) == 36);
     assert!(&digits[36..] == b"1234".as_slice());
-    assert!(put_word(56, &mut digits, 36) == 34);
-    assert!(&digits[34..] == b"561234".as_slice());
 }

@@ -353,6 +353,7 @@ of_both! { x, c:
 }
 
 const RATIO: &[Row<Ratio<i8>>] = rows! { x, c:
+    Ratio::new_raw(c.narrow().0, c.narrow().1) => (c.numer, c.denom);
     Ratio::new(c.narrow().0, c.narrow().1) => or_panic(c.lowest());
     Ratio::from(c.narrow()) => or_panic(c.lowest());
     Ratio::checked_new(c.narrow().0, c.narrow().1) => c.lowest();

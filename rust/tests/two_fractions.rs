@@ -17,7 +17,7 @@ use num_traits::{CheckedAdd, CheckedDiv, CheckedMul, CheckedRem, CheckedSub, Sig
 use std::cmp::Ordering;
 use std::collections::hash_map::DefaultHasher;
 use std::hash::{Hash, Hasher};
-use std::ops::Bound::{Excluded, Included, Unbounded};
+use std::ops::Bound::{self, Excluded, Included, Unbounded};
 use support::Numbers;
 
 /// How many pairs a short run draws in each test.
@@ -112,11 +112,29 @@ fn folded(pair: Pair, start: Fields, step: fn(Pair) -> Option<Fields>) -> Option
     [pair.left, pair.right, pair.left].iter().try_fold(start, |left, &right| step(Pair { left, right }))
 }
 
-/// The fraction strictly between the two with the smallest denominator, and of these the one whose numerator is nearest to 0.
-fn between(pair: Pair) -> Option<Fields> {
-    let ((a, b), (c, d)) = (positive(pair.left)?, positive(pair.right)?);
+/// The bound with the fraction over a positive denominator, if there is one.
+fn upright(bound: Bound<Fields>) -> Option<Bound<Fields>> {
+    match bound {
+        Included(fields) => positive(fields).map(Included),
+        Excluded(fields) => positive(fields).map(Excluded),
+        Unbounded => Some(Unbounded),
+    }
+}
+
+/// The fraction within the bounds with the smallest denominator, and of these the one whose numerator is nearest to 0.
+fn within(low: Bound<Fields>, high: Bound<Fields>) -> Option<Fields> {
+    let (low, high) = (upright(low)?, upright(high)?);
     (1..=127).find_map(|denom| {
-        let (first, last) = ((a * denom).div_euclid(b) + 1, -(-c * denom).div_euclid(d) - 1);
+        let first = match low {
+            Included((a, b)) => -(-a * denom).div_euclid(b),
+            Excluded((a, b)) => (a * denom).div_euclid(b) + 1,
+            Unbounded => -128,
+        };
+        let last = match high {
+            Included((c, d)) => (c * denom).div_euclid(d),
+            Excluded((c, d)) => -(-c * denom).div_euclid(d) - 1,
+            Unbounded => 127,
+        };
         let numer = 0.clamp(first.min(last), last.max(first));
         Some((numer, denom)).filter(|_| first <= last && fits(numer))
     })
@@ -214,13 +232,6 @@ const OTHERS: &[Row<Ratio<i8>>] = rows! { x, y, p:
     [x, y, x].iter().copied().product::<Ratio<i8>>() => or_panic(folded(p, (1, 1), product));
     [x].iter().sum::<Ratio<i8>>() => or_panic(sum(Pair { left: (0, 1), right: p.left }));
     [y].iter().product::<Ratio<i8>>() => or_panic(product(Pair { left: (1, 1), right: p.right }));
-
-    Ratio::simplest_between(&x, &y) => between(p);
-    Ratio::simplest_within(Excluded(x), Excluded(y)) => between(p);
-    Ratio::simplest_within(Included(x), Included(x)) => lowest(p.left.0, p.left.1);
-    Ratio::simplest_within(Included(x), Excluded(x)) => None::<Fields>;
-    Ratio::simplest_within(Unbounded, Excluded(y)).map(|found| found < y) => positive(p.right).filter(|(n, d)| n + 128 * d > 0).map(|_| true);
-    Ratio::simplest_within(Included(x), Unbounded).map(|found| found >= x) => positive(p.left).filter(|(n, d)| *n <= 127 * d).map(|_| true);
 };
 
 // A checked call of `Reduced` with each kind of operand.
@@ -270,10 +281,29 @@ const REDUCED: &[Row<Reduced<i8>>] = rows! { x, y, p:
     [x, y, x].iter().copied().sum::<Option<Reduced<i8>>>() => folded(p, (0, 1), |p| exact(p, |p, q| Some(p + q)));
     [x, y, x].iter().product::<Option<Reduced<i8>>>() => folded(p, (1, 1), product);
     [x, y, x].iter().copied().product::<Option<Reduced<i8>>>() => folded(p, (1, 1), product);
-
-    Reduced::simplest_between(&x, &y) => between(p);
-    Reduced::simplest_within(Excluded(x), Excluded(y)) => between(p);
 };
+
+// The simplest fraction, with each kind of bound on each side.
+macro_rules! simplest {
+    ($name:ident: $Type:ident) => {
+        const $name: &[Row<$Type<i8>>] = rows! { x, y, p:
+            $Type::simplest_between(&x, &y) => within(Excluded(p.left), Excluded(p.right));
+            $Type::simplest_within(Excluded(x), Excluded(y)) => within(Excluded(p.left), Excluded(p.right));
+            $Type::simplest_within(Excluded(x), Included(y)) => within(Excluded(p.left), Included(p.right));
+            $Type::simplest_within(Included(x), Excluded(y)) => within(Included(p.left), Excluded(p.right));
+            $Type::simplest_within(Included(x), Included(y)) => within(Included(p.left), Included(p.right));
+            $Type::simplest_within(Included(x), Included(x)) => within(Included(p.left), Included(p.left));
+            $Type::simplest_within(Excluded(x), Unbounded) => within(Excluded(p.left), Unbounded);
+            $Type::simplest_within(Included(x), Unbounded) => within(Included(p.left), Unbounded);
+            $Type::simplest_within(Unbounded, Excluded(y)) => within(Unbounded, Excluded(p.right));
+            $Type::simplest_within(Unbounded, Included(y)) => within(Unbounded, Included(p.right));
+            $Type::<i8>::simplest_within(Unbounded, Unbounded) => (0i8, 1);
+        };
+    };
+}
+
+simplest! { RATIO_SIMPLEST: Ratio }
+simplest! { REDUCED_SIMPLEST: Reduced }
 
 // ---- the walks
 
@@ -318,7 +348,7 @@ fn operators_of_ratio() {
 
 #[test]
 fn other_calls_of_ratio() {
-    walk(1, |pair| compared(OTHERS, ratio(pair.left), ratio(pair.right), pair));
+    walk(1, |pair| [OTHERS, RATIO_SIMPLEST].iter().for_each(|rows| compared(rows, ratio(pair.left), ratio(pair.right), pair)));
 }
 
 #[test]
@@ -326,7 +356,7 @@ fn calls_of_reduced() {
     walk(2, |pair| {
         if let (Some(left), Some(right)) = (lowest(pair.left.0, pair.left.1), lowest(pair.right.0, pair.right.1)) {
             let pair = Pair { left, right };
-            [REDUCED_SUM, REDUCED_DIFFERENCE, REDUCED_REMAINDER, REDUCED].iter().for_each(|rows| compared(rows, reduced(left), reduced(right), pair));
+            [REDUCED_SUM, REDUCED_DIFFERENCE, REDUCED_REMAINDER, REDUCED, REDUCED_SIMPLEST].iter().for_each(|rows| compared(rows, reduced(left), reduced(right), pair));
         }
     });
 }

@@ -202,6 +202,16 @@ fn rows() {
     assert_eq!(read::<i8>("200/3"), Err(TextRefusal::NotHeld));
 }
 
+/// A call that reads two numbers by themselves refuses one that does not fit. This call goes by the value, but for a number that 128
+/// bits do not hold.
+#[test]
+fn numbers_that_do_not_fit() {
+    assert!(["200/400".parse::<Reduced<i8>>(), Reduced::from_str_radix("200/400", 10)].iter().all(|read| read.is_err()));
+    assert_eq!(read::<i8>("0/340282366920938463463374607431768211455"), Ok((0, 1)));
+    assert_eq!(read::<i8>("0/340282366920938463463374607431768211456"), Err(TextRefusal::NotHeld));
+    assert_eq!(Reduced::<i8>::from_decimal("0e340282366920938463463374607431768211456").map(Reduced::into_raw), Ok((0, 1)));
+}
+
 /// Texts of many digits, whose values have short terms.
 #[test]
 fn long_texts() {

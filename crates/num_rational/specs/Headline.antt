@@ -9,9 +9,9 @@ use Rattle.num_rational.specs.Operators.{ChecksProduct, ChecksQuotient, numbers}
 use Rattle.num_rational.specs.Ratio.{denominator, numerator}
 
 -- what `headline` gives for two fractions: order and equality by the cross products; their own codes, equal exactly if the fractions are;
--- counts of steps that rise by at most twice the binary digits of the smaller denominator (for hashing, of the fraction's own); for
--- positive denominators, product and quotient in lowest terms exactly where these fit. A list or a count is given twice: before the call
--- (.0) and after it (.1). A step is at most one division
+-- how many steps each call counts, which is at most twice the binary digits of the smaller denominator (for hashing, of the fraction's own);
+-- for positive denominators, product and quotient in lowest terms exactly where these fit, and for others none. A list or a count is given
+-- twice: before the call (.0) and after it (.1). A step is at most one division
 pub record IsHeadline {T : _} {i : _} {o : _} {e : _} {p : _} {h : _} (x y : Ratio T i o e p h) (told : HeadlineResult T i o e p h) (xs ys : List ℤ × List ℤ) (compared x_hashed y_hashed : Steps × Steps) : Type 0 where
   -- they are ordered as their unbounded cross products say
   pub ordered : told.order ≡ order_of x y

@@ -57,8 +57,8 @@ impl JsonInteger for i64 {
 }
 
 impl<T: JsonInteger> Ratio<T> {
-    /// The list of the two fields as they are, the numerator first: `[2,4]` for 2/4. It fails only if
-    /// there is no memory.
+    /// The list of the two fields as they are, the numerator first: `[2,4]` for 2/4. The error means
+    /// that an allocation failed. Tests show this, since no contract can say so.
     pub fn to_json(&self, alloc: Global) -> Result<Value, AllocError>
         ensures { IfOk result (λ v. view v ≡ json_pair (numerator self.now) (denominator self.now)) }
     {

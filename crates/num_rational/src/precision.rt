@@ -1,4 +1,6 @@
 //! Printing with a precision, as `{:.2}`: a decimal with so many places.
+//!
+//! The clause holds for a call that returns `Ok`, with a formatter that indents nothing (`IsFlush`).
 ghost use Rattle.std.specs.Prelude.{◌<ℤ◌, pos};
 ghost use Rattle.std.specs.Fmt.{WritesStyledOnOk, formatter_spec, padded_integral};
 ghost use Rattle.num_rational.specs.Padding.{padded_base_ten};

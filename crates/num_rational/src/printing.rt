@@ -1,4 +1,7 @@
 //! Printing fractions through the traits of std, such as `Display` and `LowerHex`.
+//!
+//! The clauses hold for a call that returns `Ok`, with a formatter that indents nothing (`IsFlush`): inside a `{:#?}` of
+//! another value nothing is promised.
 ghost use Rattle.std.specs.Prelude.{◌≡◌, ◌++◌, [], ℕ, List, Some, false, if◌then◌else◌};
 ghost use Rattle.std.specs.Fmt.{WritesOnOk, WritesStyledOnOk, formatter_spec, padded_integral, spec_alternate};
 ghost use Rattle.num_rational.specs.Padding.{padded_base_ten, padded_in_base};

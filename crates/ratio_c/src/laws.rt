@@ -16,7 +16,8 @@ pub fn hashes()
     ensures { EqualValuesHaveOneHash }
 {}
 
-/// Totals of parts make up the total of the whole, in any order. What goes in and out again leaves no trace, and a lost total stays lost.
+/// Where no total is lost, totals of parts make up the total of the whole, in any order, and what goes in and out again leaves no trace. A
+/// lost total stays lost.
 pub fn totals()
     ensures parts { PartsMerge }
     ensures order { TotalsInAnyOrder }

@@ -24,7 +24,8 @@ use std::fmt::{Alignment, Formatter, Write};
 const POWER: u128 = 100_000_000_000_000_000_000_000_000_000_000_000_000;
 
 /// Writes the fraction with so many places, at least 39, a half to the even digit. A width, a fill, a plus and zeros
-/// work as for an integer: 1/3 has 102 bytes with 100 places.
+/// work as for an integer: 1/3 has 102 bytes with 100 places. This is promised for a call that returns `Ok`, with a
+/// formatter that indents nothing (`IsFlush`).
 pub fn write_places<T: Primitive, W: Write>(
     numer: T,
     denom: T,

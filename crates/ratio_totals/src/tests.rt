@@ -1,6 +1,6 @@
 //! Tests of totals: worked rows.
 
-use crate::{Refusal, Slot, Total, find};
+use crate::{Refusal, Slot, Total, find, laws};
 use std::process::Abort;
 use std::test::Fail;
 
@@ -123,4 +123,11 @@ fn a_full_table_has_no_place_for_another(rt: HostRuntime) -> Result<(), Fail> {
     assert_eq!(rt; find(&table, 28), Some(1));
     assert_eq!(rt; find(&table, 12), None);
     Ok(())
+}
+
+#[test]
+fn each_law_is_called(_rt: HostRuntime) {
+    laws::additions();
+    laws::merges();
+    laws::tables();
 }

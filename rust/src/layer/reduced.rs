@@ -140,7 +140,8 @@ impl<T: Integer> Reduced<T> {
     }
 
     /// The simplest fraction that rounds to the float. A whole float gives itself. `None` if the float is infinite or no number,
-    /// or if that fraction does not fit the type.
+    /// or if that fraction does not fit the type. For money, read the text by `from_decimal`: from some 10^11 on, a float may have a
+    /// simpler fraction than its cents.
     ///
     /// ```
     /// use bakhsney::Reduced;
@@ -148,6 +149,7 @@ impl<T: Integer> Reduced<T> {
     /// assert_eq!(Reduced::rationalize(0.1), Reduced::checked_new(1, 10));
     /// assert_eq!(Reduced::rationalize(1.0 / 3.0), Reduced::checked_new(1, 3));
     /// assert_eq!(Reduced::rationalize(1e16), Some(Reduced::from(10000000000000000i64)));
+    /// assert_eq!(Reduced::rationalize(692706350382.67), Reduced::checked_new(67192515987119i64, 97));
     /// assert_eq!(Reduced::<i64>::rationalize(f64::NAN), None);
     /// ```
     #[inline]

@@ -56,6 +56,9 @@ impl<T: Primitive> Reduced<T> {
     /// float gives itself. For any other one it is the simplest fraction strictly between the two points
     /// that are halfway to its neighbours. Both 0.0 and -0.0 give 0/1. `None` exactly if the float is
     /// infinite or no number, or if that fraction does not fit the type.
+    ///
+    /// For money, read the text by `from_decimal`: from some 10^11 on, a float may have a simpler fraction than
+    /// its cents.
     pub fn rationalize(x: f64) -> Option<Reduced<T>>
         ensures { ChecksRationalized T.value T.lo T.hi binary64 x (fields_in result) }
     {

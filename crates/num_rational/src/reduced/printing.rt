@@ -1,5 +1,8 @@
 //! Printing fractions in lowest terms through the traits of std, as the `Ratio` of their fields, or with a precision as
 //! decimals.
+//!
+//! The clauses hold for a call that returns `Ok`, with a formatter that indents nothing (`IsFlush`): inside a `{:#?}` of
+//! another value nothing is promised.
 ghost use Rattle.std.specs.Prelude.{Some, false};
 ghost use Rattle.std.specs.Fmt.{WritesOnOk, WritesStyledOnOk, formatter_spec, padded_integral, spec_alternate, spec_precision};
 ghost use Rattle.num_rational.specs.Padding.{padded_base_ten, padded_in_base, text_under};

@@ -1,5 +1,7 @@
 // Erased from crates/num_rational/src/precision.rt by rust/erase: not to be edited.
 //! Printing with a precision, as `{:.2}`: a decimal with so many places.
+//!
+//! The clause holds for a call that returns `Ok`, with a formatter that indents nothing (`IsFlush`).
 
 use crate::proved::num_rational::printing::write_base_ten;
 use crate::proved::ratio_decimal::rounding_rule::Rounding;

@@ -1,5 +1,8 @@
 // Erased from crates/num_rational/src/printing.rt by rust/erase: not to be edited.
 //! Printing fractions through the traits of std, such as `Display` and `LowerHex`.
+//!
+//! The clauses hold for a call that returns `Ok`, with a formatter that indents nothing (`IsFlush`): inside a `{:#?}` of
+//! another value nothing is promised.
 
 use crate::proved::num_rational::ratio::Ratio;
 use crate::proved::ratio_core::{BaseTenText, Form, RatioText};

@@ -9,7 +9,8 @@ pub fn lowest_hashes() {}
 #[inline]
 pub fn hashes() {}
 
-/// Totals of parts make up the total of the whole, in any order. What goes in and out again leaves no trace, and a lost total stays lost.
+/// Where no total is lost, totals of parts make up the total of the whole, in any order, and what goes in and out again leaves no trace. A
+/// lost total stays lost.
 #[inline]
 pub fn totals() {}
 

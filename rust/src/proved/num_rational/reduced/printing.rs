@@ -1,6 +1,9 @@
 // Erased from crates/num_rational/src/reduced/printing.rt by rust/erase: not to be edited.
 //! Printing fractions in lowest terms through the traits of std, as the `Ratio` of their fields, or with a precision as
 //! decimals.
+//!
+//! The clauses hold for a call that returns `Ok`, with a formatter that indents nothing (`IsFlush`): inside a `{:#?}` of
+//! another value nothing is promised.
 
 use super::Reduced;
 use crate::proved::num_rational::precision::write_with_places;

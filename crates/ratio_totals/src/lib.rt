@@ -5,10 +5,12 @@
 #![tactic(auto)]
 
 mod clearing;
+mod common;
 mod counting;
 pub mod laws;
 mod merging;
 mod pouring;
+mod reading;
 mod refusal;
 mod searching;
 mod slots;
@@ -18,6 +20,7 @@ mod tally;
 mod tests;
 mod total;
 
+pub use reading::{MOST_DIGITS, OverCommon, ReadRefusal};
 pub use refusal::Refusal;
 pub use searching::find;
 pub use slots::Slot;

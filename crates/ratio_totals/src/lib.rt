@@ -2,6 +2,8 @@
 //!
 //! 1/36 + 1/28 takes two slots, one for the denominator 36 and one for 28. Adding 5/36 changes one number: the first slot
 //! then says 6/36. No gcd is computed, and no addition overflows.
+//!
+//! A read puts the total over its common denominator: `Total::over_common`.
 #![tactic(auto)]
 
 mod clearing;

@@ -131,7 +131,8 @@ impl<'a> Total<'a> {
         self.tally.count
     }
     /// The total over its common denominator, which is the least common multiple of the denominators: 1/36 + 1/28 is 16/252.
-    /// It writes both numbers into the room, as `OverCommon` says. If it refuses, the room may have any digits.
+    /// It writes both numbers into the room, as `OverCommon` says, and needs `read_digits` digits there. If it refuses, the
+    /// room may have any digits. Its time grows with the square of the number of denominators.
     pub fn over_common(&self, room: &mut [u64]) -> Result<OverCommon, ReadRefusal>
         ensures value { IfOk result (λ read. IsOverCommon self.now.slots.now read.negative (natural_of (take read.numer_digits room.new)) (natural_of (take read.denom_digits (drop read.numer_digits room.new)))) }
         ensures below { IfOk result (λ read. natural_of (take read.denom_digits (drop read.numer_digits room.new)) < most_common) }

@@ -6,3 +6,8 @@ pub mod MergeSums
 pub mod PourLemmas
 pub mod LawLemmas
 pub mod ReadLemmas
+pub mod ScaleLemmas
+pub mod CommonLemmas
+pub mod JoinLemmas
+pub mod DigitLemmas
+pub mod ReadingLemmas

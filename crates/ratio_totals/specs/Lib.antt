@@ -3,3 +3,4 @@ pub mod Sums
 pub mod Totals
 pub mod Merging
 pub mod TotalLaws
+pub mod Common

@@ -1,4 +1,5 @@
 //! The laws of totals. Each function does nothing: its contract is the law.
+ghost use Rattle.ratio_totals.specs.Common.{CommonExists, CommonsAgree, ReadsAgree};
 ghost use Rattle.ratio_totals.specs.TotalLaws.{AdditionsCommute, DenominatorsDiffer, MergesAddEach, TableMergesAssociate, TableMergesCommute, TakingOutUndoes};
 
 /// The order of additions does not matter, and taking out undoes an addition.
@@ -17,4 +18,11 @@ pub fn merges()
 /// Each denominator has one slot.
 pub fn tables()
     ensures { DenominatorsDiffer }
+{}
+
+/// Each table has one common denominator, and one sum over it.
+pub fn reads()
+    ensures common { CommonExists }
+    ensures one_common { CommonsAgree }
+    ensures one_read { ReadsAgree }
 {}

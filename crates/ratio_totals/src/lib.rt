@@ -2,13 +2,17 @@
 //!
 //! 1/36 + 1/28 takes two slots, one for the denominator 36 and one for 28. Adding 5/36 changes one number: the first slot
 //! then says 6/36. No gcd is computed, and no addition overflows.
+//!
+//! A read puts the total over its common denominator: `Total::over_common`.
 #![tactic(auto)]
 
 mod clearing;
+mod common;
 mod counting;
 pub mod laws;
 mod merging;
 mod pouring;
+mod reading;
 mod refusal;
 mod searching;
 mod slots;
@@ -18,6 +22,7 @@ mod tally;
 mod tests;
 mod total;
 
+pub use reading::{MOST_DIGITS, OverCommon, ReadRefusal};
 pub use refusal::Refusal;
 pub use searching::find;
 pub use slots::Slot;

@@ -242,4 +242,5 @@ fn each_law_is_called(_rt: HostRuntime) {
     laws::additions();
     laws::merges();
     laws::tables();
+    laws::reads();
 }

@@ -11,3 +11,4 @@ pub mod CommonLemmas
 pub mod JoinLemmas
 pub mod DigitLemmas
 pub mod ReadingLemmas
+pub mod LowestSumLemmas

@@ -4,3 +4,4 @@ pub mod Totals
 pub mod Merging
 pub mod TotalLaws
 pub mod Common
+pub mod LowestSum

@@ -3,13 +3,15 @@
 //! 1/36 + 1/28 takes two slots, one for the denominator 36 and one for 28. Adding 5/36 changes one number: the first slot
 //! then says 6/36. No gcd is computed, and no addition overflows.
 //!
-//! A read puts the total over its common denominator: `Total::over_common`.
+//! A read puts the total over its common denominator: `Total::over_common`. `Total::sum` returns it in lowest terms where
+//! these fit 64 bits, and `Total::mean` returns the mean.
 #![tactic(auto)]
 
 mod clearing;
 mod common;
 mod counting;
 pub mod laws;
+mod lowest;
 mod merging;
 mod pouring;
 mod reading;

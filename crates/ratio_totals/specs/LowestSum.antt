@@ -1,0 +1,39 @@
+-- The sum of a table, and its mean, in lowest terms.
+use Rattle.std.specs.Prelude.{◌*◌, ◌<◌, ◌≤◌, ◌⊎◌, ◌<ℤ◌, ◌≤ℤ◌, ℕ, ℤ, pos, unsigned_abs, List, Option, Some, None}
+use Rattle.ratio_integer.specs.Fraction.{IsLowestTermsOf}
+use Rattle.ratio_natural.specs.Number.{base}
+use Rattle.ratio_totals.specs.Common.{above_zero}
+use Rattle.ratio_totals.specs.Sums.{sum_of_slots}
+use Rattle.ratio_totals.specs.declared.slots.Slot.{Slot}
+
+-- p/q is the fraction x in lowest terms, and both numbers are below 2^64, the numerator without its sign
+-- Example: -16/252: -4/63
+pub record IsShortPair (x : ℤ × ℕ) (p : ℤ) (q : ℕ) : Type 0 where
+  pub terms : IsLowestTermsOf x.0 (pos x.1) p (pos q)
+  pub numer_short : unsigned_abs p < base
+  pub denom_short : q < base
+
+-- in the lowest terms of the fraction x, one of the numbers is 2^64 or more, the numerator without its sign
+-- Example: 1/2^64; not 2/2^64
+pub record HasLongPair (x : ℤ × ℕ) : Type 0 where
+  pub numer : ℤ
+  pub denom : ℕ
+  pub terms : IsLowestTermsOf x.0 (pos x.1) numer (pos denom)
+  pub long : (base ≤ unsigned_abs numer) ⊎ (base ≤ denom)
+
+-- the result is the fraction x in lowest terms, where both numbers are below 2^64; elsewhere it is `None`
+-- Example: -16/252: `Some((-4, 63))`
+abbrev pub ChecksShortPair : ℤ × ℕ → Option (ℤ × ℕ) → Type 0
+ChecksShortPair x None = HasLongPair x
+ChecksShortPair x (Some t) = IsShortPair x t.0 t.1
+
+-- the mean of the table: its sum divided by the count of its fractions, not reduced
+-- Example: 64/2016 in the table 1/36, 1/28
+abbrev pub mean_of_slots : List Slot → ℤ → ℤ × ℕ
+mean_of_slots slots count = ((sum_of_slots slots).0, (sum_of_slots slots).1 * above_zero count)
+
+-- the result is the mean of the table in lowest terms, where the count is above 0 and both numbers are below 2^64; elsewhere it is `None`
+-- Example: `Some((2, 63))` in the table 1/36, 1/28
+abbrev pub ChecksMeanOfSlots : List Slot → ℤ → Option (ℤ × ℕ) → Type 0
+ChecksMeanOfSlots slots count None = (count ≤ℤ pos 0) ⊎ HasLongPair (mean_of_slots slots count)
+ChecksMeanOfSlots slots count (Some t) = (pos 0 <ℤ count) × IsShortPair (mean_of_slots slots count) t.0 t.1

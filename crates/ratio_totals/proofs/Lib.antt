@@ -1,3 +1,4 @@
+pub mod DecimalLemmas
 pub mod Places
 pub mod SumLemmas
 pub mod KeptLemmas

@@ -1,3 +1,4 @@
+pub mod DecimalRoom
 pub mod Slots
 pub mod Sums
 pub mod Totals

@@ -10,6 +10,7 @@
 mod clearing;
 mod common;
 mod counting;
+mod decimal;
 pub mod laws;
 mod lowest;
 mod merging;

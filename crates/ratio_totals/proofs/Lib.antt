@@ -12,3 +12,4 @@ pub mod JoinLemmas
 pub mod DigitLemmas
 pub mod ReadingLemmas
 pub mod LowestSumLemmas
+pub mod SumsAgree

@@ -13,3 +13,4 @@ pub mod JoinLemmas
 pub mod DigitLemmas
 pub mod ReadingLemmas
 pub mod LowestSumLemmas
+pub mod SumsAgree

@@ -27,7 +27,7 @@ same_through a m x b k y positive h g =
     ∙ sym (scaled_twice x b k)
     )
 
-equal_sums : (p q x y : ℤ) → p ≡ x → q ≡ y → p +ℤ q ≡ x +ℤ y
+pub equal_sums : (p q x y : ℤ) → p ≡ x → q ≡ y → p +ℤ q ≡ x +ℤ y
 equal_sums p q x y e f = omega (arith, ints, e, f)
 
 -- if a/b has the value of c/f, then c/f + t/u has that of a/b + t/u

@@ -16,19 +16,19 @@ use Rattle.ratio_totals.specs.declared.slots.Slot.{Slot}
 
 -- ---- the numerator over a denominator
 
-over_other : (e d : ℕ) (n : ℤ) → d ≢ e → numerator_over e d n ≡ pos 0
+pub over_other : (e d : ℕ) (n : ℤ) → d ≢ e → numerator_over e d n ≡ pos 0
 over_other e d n ne = grind (arith, nat_tests)
 
-over_itself : (e d : ℕ) (n : ℤ) → d ≡ e → numerator_over e d n ≡ n
+pub over_itself : (e d : ℕ) (n : ℤ) → d ≡ e → numerator_over e d n ≡ n
 over_itself e d n same = grind (arith, nat_tests)
 
 first_zero : (a b : ℤ) → a ≡ pos 0 → b ≡ pos 0 → a +ℤ b ≡ pos 0
 first_zero a b e f = omega (arith, ints, e, f)
 
-first_alone : (a b n : ℤ) → a ≡ n → b ≡ pos 0 → a +ℤ b ≡ n
+pub first_alone : (a b n : ℤ) → a ≡ n → b ≡ pos 0 → a +ℤ b ≡ n
 first_alone a b n e f = omega (arith, ints, e, f)
 
-second_alone : (a b n : ℤ) → a ≡ pos 0 → b ≡ n → a +ℤ b ≡ n
+pub second_alone : (a b n : ℤ) → a ≡ pos 0 → b ≡ n → a +ℤ b ≡ n
 second_alone a b n e f = omega (arith, ints, e, f)
 
 true_false : true ≡ false → ⊥

@@ -1,9 +1,10 @@
 -- The sum of a table, and its mean, in lowest terms.
-use Rattle.std.specs.Prelude.{◌*◌, ◌<◌, ◌≤◌, ◌⊎◌, ◌<ℤ◌, ◌≤ℤ◌, ℕ, ℤ, pos, unsigned_abs, List, Option, Some, None}
+use Rattle.std.specs.Prelude.{◌≡◌, ◌*◌, ◌<◌, ◌≤◌, ◌⊎◌, ◌<ℤ◌, ◌≤ℤ◌, ℕ, ℤ, pos, unsigned_abs, List, Option, Some, None}
 use Rattle.ratio_integer.specs.Fraction.{IsLowestTermsOf}
 use Rattle.ratio_natural.specs.Number.{base}
 use Rattle.ratio_totals.specs.Common.{above_zero}
-use Rattle.ratio_totals.specs.Sums.{sum_of_slots}
+use Rattle.ratio_totals.specs.Sums.{SameSum, sum_of_slots}
+use Rattle.ratio_totals.specs.TotalLaws.{SameNumerators}
 use Rattle.ratio_totals.specs.declared.slots.Slot.{Slot}
 
 -- p/q is the fraction x in lowest terms, and both numbers are below 2^64, the numerator without its sign
@@ -37,3 +38,20 @@ mean_of_slots slots count = ((sum_of_slots slots).0, (sum_of_slots slots).1 * ab
 abbrev pub ChecksMeanOfSlots : List Slot → ℤ → Option (ℤ × ℕ) → Type 0
 ChecksMeanOfSlots slots count None = (count ≤ℤ pos 0) ⊎ HasLongPair (mean_of_slots slots count)
 ChecksMeanOfSlots slots count (Some t) = (pos 0 <ℤ count) × IsShortPair (mean_of_slots slots count) t.0 t.1
+
+-- ---- laws
+
+-- two tables with the same numerators have the same sum
+-- Example: 1/36, 1/28 and 1/28, empty, 1/36
+abbrev pub SumsAgree : Type 0
+SumsAgree = (left right : List Slot) → SameNumerators left right → SameSum (sum_of_slots left) (sum_of_slots right)
+
+-- two tables with the same numerators have the same result of `sum`
+abbrev pub SumResultsAgree : Type 0
+SumResultsAgree = (left right : List Slot) (r s : Option (ℤ × ℕ)) → SameNumerators left right
+    → ChecksShortPair (sum_of_slots left) r → ChecksShortPair (sum_of_slots right) s → r ≡ s
+
+-- two tables with the same numerators have the same result of `mean` for each count
+abbrev pub MeanResultsAgree : Type 0
+MeanResultsAgree = (left right : List Slot) (count : ℤ) (r s : Option (ℤ × ℕ)) → SameNumerators left right
+    → ChecksMeanOfSlots left count r → ChecksMeanOfSlots right count s → r ≡ s

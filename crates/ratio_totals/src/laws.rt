@@ -1,5 +1,6 @@
 //! The laws of totals. Each function does nothing: its contract is the law.
 ghost use Rattle.ratio_totals.specs.Common.{CommonExists, CommonsAgree, ReadsAgree};
+ghost use Rattle.ratio_totals.specs.LowestSum.{MeanResultsAgree, SumResultsAgree, SumsAgree};
 ghost use Rattle.ratio_totals.specs.TotalLaws.{AdditionsCommute, DenominatorsDiffer, MergesAddEach, TableMergesAssociate, TableMergesCommute, TakingOutUndoes};
 
 /// The order of additions does not matter, and taking out undoes an addition.
@@ -25,4 +26,12 @@ pub fn reads()
     ensures common { CommonExists }
     ensures one_common { CommonsAgree }
     ensures one_read { ReadsAgree }
+{}
+
+/// The sum and the mean depend on the numerators and the count alone, and not on the slots or the order of additions.
+/// `Total::sum` and `Total::mean` have one result.
+pub fn sums()
+    ensures value { SumsAgree }
+    ensures one_result { SumResultsAgree }
+    ensures one_mean { MeanResultsAgree }
 {}

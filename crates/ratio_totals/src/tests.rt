@@ -243,6 +243,7 @@ fn each_law_is_called(_rt: HostRuntime) {
     laws::merges();
     laws::tables();
     laws::reads();
+    laws::sums();
 }
 
 /// Reads the sum, in room that was used before. Expected numbers are from Python's `fractions`.

@@ -1,6 +1,7 @@
 //! Tests of totals: worked rows.
 
 use crate::{ReadRefusal, Refusal, Slot, Total, find, laws};
+use ratio_decimal::rounding_rule::Rounding;
 use ratio_natural::compare;
 use std::cmp::Ordering;
 use std::process::Abort;
@@ -374,5 +375,79 @@ fn a_long_mean_is_none(rt: HostRuntime) -> Result<(), Fail> {
     assert_eq!(rt; total.add(2, 1 << 63), Ok(()));
     assert_eq!(rt; total.subtract(0, 1), Ok(()));
     mean_is(&rt, &total, Some((1, 1 << 63)));
+    Ok(())
+}
+
+/// Writes the total as a decimal, in room that was used before. Expected texts are from Python's `fractions`.
+fn decimal_is(rt: &impl Abort, total: &Total<'_>, places: u32, rule: Rounding, expected: &[u8]) {
+    let mut room = [7; 64];
+    let mut buf = [b'x'; 400];
+    match total.put_decimal(places, rule, &mut room, &mut buf) {
+        Ok(start) => assert!(rt; &buf[start..] == expected),
+        Err(_) => assert!(rt; false, "there is room"),
+    }
+}
+
+#[test]
+fn a_total_is_rounded_once(rt: HostRuntime) -> Result<(), Fail> {
+    let mut room = [Slot::EMPTY; 4];
+    let mut total = Total::new(&mut room);
+    decimal_is(&rt, &total, 2, Rounding::HalfEven, b"0.00");
+    assert_eq!(rt; total.add(1, 36), Ok(()));
+    assert_eq!(rt; total.add(1, 28), Ok(()));
+    // 4/63
+    decimal_is(&rt, &total, 4, Rounding::HalfEven, b"0.0635");
+    decimal_is(&rt, &total, 4, Rounding::Down, b"0.0634");
+    decimal_is(&rt, &total, 0, Rounding::Ceil, b"1");
+    decimal_is(
+        &rt,
+        &total,
+        25,
+        Rounding::Up,
+        b"0.0634920634920634920634921",
+    );
+    assert_eq!(rt; total.subtract(5, 2), Ok(()));
+    // -307/126
+    decimal_is(&rt, &total, 0, Rounding::HalfEven, b"-2");
+    decimal_is(&rt, &total, 3, Rounding::Floor, b"-2.437");
+    decimal_is(&rt, &total, 3, Rounding::Ceil, b"-2.436");
+    Ok(())
+}
+
+#[test]
+fn a_total_that_does_not_fit_is_rounded(rt: HostRuntime) -> Result<(), Fail> {
+    let mut room = [Slot::EMPTY; 1024];
+    let mut total = Total::new(&mut room);
+    for denom in 1..=1000 {
+        assert_eq!(rt; total.add(1, denom), Ok(()));
+    }
+    let mut digits = [7; 4014];
+    assert_eq!(rt; total.sum(&mut digits), Ok(None));
+    let mut buf = [b'x'; 20143];
+    assert_eq!(rt; total.decimal_digits(20), 4014);
+    assert_eq!(rt; total.decimal_bytes(20), 20143);
+    match total.put_decimal(20, Rounding::HalfEven, &mut digits, &mut buf) {
+        Ok(start) => assert!(rt; &buf[start..] == b"7.48547086055034491266".as_slice()),
+        Err(_) => assert!(rt; false, "there is room"),
+    }
+    Ok(())
+}
+
+/// Whether this is enough room for 20 places.
+fn has_decimal_room(total: &Total<'_>, digits: &mut [u64], bytes: &mut [u8]) -> bool {
+    total.put_decimal(20, Rounding::Up, digits, bytes).is_ok()
+}
+
+#[test]
+fn a_decimal_needs_its_room(rt: HostRuntime) -> Result<(), Fail> {
+    let mut room = [Slot::EMPTY; 4];
+    let mut total = Total::new(&mut room);
+    assert_eq!(rt; total.add(1, 36), Ok(()));
+    assert_eq!(rt; total.add(1, 28), Ok(()));
+    assert_eq!(rt; total.decimal_digits(20), 22);
+    assert_eq!(rt; total.decimal_bytes(20), 183);
+    assert!(rt; has_decimal_room(&total, &mut [0; 22], &mut [0; 183]));
+    assert!(rt; !has_decimal_room(&total, &mut [0; 21], &mut [0; 183]));
+    assert!(rt; !has_decimal_room(&total, &mut [0; 22], &mut [0; 182]));
     Ok(())
 }

@@ -15,7 +15,7 @@ mod support;
 #[path = "support/answers.rs"]
 mod answers;
 
-use answers::{or_panic, run, Answer, Answered};
+use answers::{or_panic, run, Answer, Answered, Fields};
 use bakhsney::{BaseTenText, Ratio, RatioErrorKind, Reduced, Rounding};
 use num_traits::{CheckedNeg, FromPrimitive, Inv, Num, One, Pow, Signed, ToPrimitive, Zero};
 use std::collections::hash_map::DefaultHasher;
@@ -26,8 +26,6 @@ const RULES: [Rounding; 6] = [Rounding::HalfAway, Rounding::HalfEven, Rounding::
 
 /// A short run tries one of so many rows with each fraction.
 const PART: usize = 8;
-
-type Fields = (i64, i64);
 
 /// The fields of a fraction, and the other arguments of its calls.
 #[derive(Clone, Copy, Debug)]

@@ -11,7 +11,7 @@ mod support;
 #[path = "support/answers.rs"]
 mod answers;
 
-use answers::{or_panic, run, Answer, Answered};
+use answers::{or_panic, run, Answer, Answered, Fields};
 use bakhsney::{Ratio, Reduced};
 use num_traits::{CheckedAdd, CheckedDiv, CheckedMul, CheckedRem, CheckedSub, Signed};
 use std::cmp::Ordering;
@@ -22,8 +22,6 @@ use support::Numbers;
 
 /// How many pairs a short run draws in each test.
 const FEW: usize = 600;
-
-type Fields = (i64, i64);
 
 /// The fields of two fractions.
 #[derive(Clone, Copy, Debug)]

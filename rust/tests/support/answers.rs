@@ -6,6 +6,9 @@ use std::cell::Cell;
 use std::panic::{catch_unwind, set_hook, take_hook, AssertUnwindSafe};
 use std::sync::Once;
 
+/// The two fields of a fraction.
+pub type Fields = (i64, i64);
+
 #[derive(Clone, Debug, PartialEq)]
 pub enum Answer {
     Panics,

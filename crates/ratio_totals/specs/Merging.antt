@@ -45,7 +45,8 @@ one_holds e left right = if holds e left then true else holds e right
 pub record HoldsBoth (old other new : List Slot) : Type 0 where
   pub each : (e : ℕ) → e ≢ 0 → holds e new ≡ one_holds e old other
 
--- the sum of the table is that of both, in value
+-- the sum of the new table has the value of both sums together
+-- Example: 1/36 merged with 5/36: 6/36
 pub record SumAdds (old other new : List Slot) : Type 0 where
   pub same : SameSum (pair_sum (sum_of_slots old) (sum_of_slots other)) (sum_of_slots new)
 
@@ -59,7 +60,8 @@ abbrev pub IsMergeRefusedFor : List Slot → ℕ → List Slot → ℕ → Refus
 IsMergeRefusedFor slots weight other more MoreRoom = free_of slots < new_of slots other
 IsMergeRefusedFor slots weight other more TooMany = most_weight < weight + more
 
--- no denominator stands in two slots
+-- no denominator is in two slots
+-- Example: the table 36, empty, 28
 abbrev pub AreApart : List Slot → Type 0
 AreApart [] = Unit {0}
 AreApart (slot ∷ rest) = (slot.denom ≢ 0 → holds slot.denom rest ≡ false) × AreApart rest

@@ -46,7 +46,7 @@ pub record Puts (d : ℕ) (n : ℤ) (old new : List Slot) : Type 0 where
 pub record GrowsAt (d : ℕ) (n : ℤ) (old new : List Slot) : Type 0 where
   pub each : (e : ℕ) → e ≢ 0 → numerator_at e new ≡ numerator_at e old +ℤ numerator_over e d n
 
--- the sum of the table is that of the old one plus n/d, in value
+-- the sum of the new table has the value of the old sum plus n/d
 -- Example: 1/36 added to 5/36, 1/28: 6/36 + 1/28
 pub record SumGrows (d : ℕ) (n : ℤ) (old new : List Slot) : Type 0 where
   pub same : SameSum (pair_sum (sum_of_slots old) (n, d)) (sum_of_slots new)

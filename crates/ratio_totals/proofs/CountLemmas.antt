@@ -1,5 +1,5 @@
 -- What a table holds, how many slots are free, and how many denominators of another table are new.
-use Rattle.std.specs.Prelude.{◌≡◌, ◌≢◌, ◌≤◌, ◌<◌, ◌+◌, ◌==◌, ◌⊎◌, Bool, true, false, ℕ, zero, suc, List, [], ◌∷◌, length, slice_set, drop, if◌then◌else◌}
+use Rattle.std.specs.Prelude.{ℤ, ◌≡◌, ◌≢◌, ◌≤◌, ◌<◌, ◌+◌, ◌==◌, ◌⊎◌, Bool, true, false, ℕ, zero, suc, List, [], ◌∷◌, length, slice_set, drop, if◌then◌else◌}
 use Rattle.std.proofs.Common.{sym, ap, subst, ◌∙◌, inl, inr, arith, refl}
 use Rattle.std.proofs.Common.{add-one, drop-cons}
 use Rattle.std.proofs.lemmas.Bool.{cases_eq}
@@ -222,3 +222,8 @@ new_counted slots other i count one h before here =
 
 pub held_place : (slots : List Slot) (d p : ℕ) → IsPlaceOf slots d p → (slot_at slots p).denom ≢ 0 → holds d slots ≡ true
 held_place slots d p place full = index_holds d slots p place.within (place.here full)
+
+-- ---- a slot as it was read
+
+pub slot_is : (slot : Slot) (d : ℕ) (n : ℤ) → d ≡ slot.denom → n ≡ slot.numer → record { denom = d; numer = n } ≡ slot
+slot_is slot d n denom_is numer_is = rw (denom_is, numer_is) refl

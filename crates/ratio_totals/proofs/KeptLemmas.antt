@@ -1,15 +1,15 @@
 -- What holds of a total after a fraction went in.
-use Rattle.std.specs.Prelude.{◌≡◌, ◌≢◌, ◌≤◌, ◌<◌, ◌+◌, ◌-◌, ◌*◌, ◌^◌, ◌+ℤ◌, ℕ, ℤ, List, slice_set, unsigned_abs}
+use Rattle.std.specs.Prelude.{◌≡◌, ◌≢◌, ◌≤◌, ◌<◌, ◌+◌, ◌-◌, ◌*◌, ◌^◌, ◌+ℤ◌, ℕ, ℤ, pos, negsuc, List, slice_set, unsigned_abs}
 use Rattle.std.proofs.Common.{sym, subst, inl, inr, arith, refl}
 use Rattle.std.proofs.lemmas.Bool.{cases_eq}
 use Rattle.std.proofs.lemmas.Int.{fits_signed_from_abs, ints}
-use mir.Syntax.{Width, w64, w128}
+use mir.Syntax.{Width, w64}
 use mir.Val.{hbits, of_z, to_z}
 use mir.Facts.{to_z-of_z}
 use Rattle.std.proofs.lemmas.List.{get_or-set_other, get_or-set_same}
 use Rattle.ratio_totals.proofs.Places.{table_written}
 use Rattle.ratio_totals.specs.Slots.{IsPlaceOf, empty_slot, slot_at}
-use Rattle.ratio_totals.specs.Sums.{grown}
+use Rattle.ratio_totals.specs.Sums.{Has128Bits, grown}
 use Rattle.ratio_totals.specs.Totals.{IsKept, most_weight}
 use Rattle.ratio_totals.specs.declared.slots.Slot.{Slot}
 
@@ -41,6 +41,10 @@ kept_written slots w d i c n step kept taken p light small one = record {
 
 -- ---- machine numbers
 
+pub held_of : (n : ℤ) → unsigned_abs n < 2 ^ 127 → Has128Bits n
+held_of (pos n) small = record { least = omega (arith, ints); greatest = omega (arith, ints, small) }
+held_of (negsuc n) small = record { least = omega (arith, ints, small); greatest = omega (arith, ints) }
+
 -- a sum of two numbers that fit, computed by the machine, is their sum where it fits
 pub machine_sum : (w : Width) (a b : ℤ) → unsigned_abs a < 2 ^ hbits w → unsigned_abs b < 2 ^ hbits w → unsigned_abs (a +ℤ b) < 2 ^ hbits w
     → to_z w (of_z w (to_z w (of_z w a) +ℤ to_z w (of_z w b))) ≡ a +ℤ b
@@ -48,11 +52,9 @@ machine_sum w a b f g h =
     rw (to_z-of_z (fits_signed_from_abs w a f), to_z-of_z (fits_signed_from_abs w b g)) (to_z-of_z (fits_signed_from_abs w (a +ℤ b) h))
 
 -- the new numerator of a slot that a fraction goes into
-pub machine_numer : (slots : List Slot) (w i : ℕ) (c n : ℤ) → IsKept slots w c → w ≢ most_weight → unsigned_abs n < 2 ^ 64
-    → to_z w128 (of_z w128 (to_z w128 (of_z w128 (slot_at slots i).numer) +ℤ to_z w128 (of_z w128 n))) ≡ (slot_at slots i).numer +ℤ n
-machine_numer slots w i c n kept light small =
-    machine_sum w128 (slot_at slots i).numer n (omega (arith, kept.bounded i, kept.light)) (omega (arith, small))
-    (omega (arith, next_weight w (slot_at slots i).numer n (kept.bounded i) small, kept.light, light))
+pub numer_held : (slots : List Slot) (w i : ℕ) (c n : ℤ) → IsKept slots w c → w ≢ most_weight → unsigned_abs n < 2 ^ 64 → Has128Bits ((slot_at slots i).numer +ℤ n)
+numer_held slots w i c n kept light small =
+    held_of _ (omega (arith, next_weight w (slot_at slots i).numer n (kept.bounded i) small, kept.light, light))
 
 -- the new count
 pub machine_count : (slots : List Slot) (w : ℕ) (c step : ℤ) → IsKept slots w c → w ≢ most_weight → unsigned_abs step ≤ 1

@@ -3,20 +3,16 @@ use Rattle.std.specs.Prelude.{◌≡◌, ◌≢◌, ◌≤◌, ◌<◌, ◌+◌,
 use Rattle.std.proofs.Common.{sym, subst, ◌∙◌, inl, inr, arith, refl, ap}
 use Rattle.std.proofs.lemmas.Bool.{cases_eq}
 use Rattle.std.proofs.lemmas.Bool.Decides.{nat_tests}
-use Rattle.std.proofs.lemmas.Int.{fits_signed_from_abs, ints}
-use Rattle.std.specs.Int.RustNames.{FitsSigned}
-use mir.Syntax.{w128}
-use mir.Val.{of_z, to_z}
-use mir.Facts.{to_z-of_z}
-use Rattle.ratio_totals.proofs.KeptLemmas.{abs_sum, machine_sum}
+use Rattle.std.proofs.lemmas.Int.{ints}
+use Rattle.ratio_totals.proofs.KeptLemmas.{abs_sum, held_of}
 use Rattle.std.proofs.lemmas.List.{length-set, drop_all, get_or-set_other, get_or-set_same}
-use Rattle.ratio_totals.proofs.CountLemmas.{HoldsAtIndex, holds_index, bool_differ, bool_equal, empty_place, free_same, free_taken, full_free, holds_kept, new_at_least, new_fewer, new_one, new_skip, no_place, rest_at, table_apart, index_holds}
+use Rattle.ratio_totals.proofs.CountLemmas.{HoldsAtIndex, holds_index, bool_differ, bool_equal, empty_place, free_same, free_taken, full_free, holds_kept, new_at_least, new_fewer, new_one, new_skip, no_place, rest_at, slot_is, table_apart, index_holds}
 use Rattle.ratio_totals.proofs.Places.{table_written}
 use Rattle.ratio_totals.proofs.MergeSums.{sum_all_came, sum_pours, sum_skips}
 use Rattle.ratio_totals.proofs.SumLemmas.{grows_at, sum_grows}
 use Rattle.ratio_totals.specs.Merging.{AddsEach, HoldsBoth, one_holds, CanMerge, IsPouring, SumAdds, free_of, holds, new_of}
 use Rattle.ratio_totals.specs.Slots.{HasNoPlaceFor, IsPlaceOf, IsTable, empty_slot, slot_at}
-use Rattle.ratio_totals.specs.Sums.{grown, numerator_at, numerator_over}
+use Rattle.ratio_totals.specs.Sums.{Has128Bits, grown, numerator_at, numerator_over}
 use Rattle.ratio_totals.specs.Totals.{IsKept}
 use Rattle.ratio_totals.specs.declared.slots.Slot.{Slot}
 
@@ -189,7 +185,7 @@ pouring_steps start other now slot rest w m p pouring taken place =
 
 -- ---- the loop
 
-pub slot_to_come : (start other now : List Slot) (w m i : ℕ) → i < length other → IsPouring start other now (drop i other) w m → IsPouring start other now (slot_at other i ∷ drop (i + 1) other) w m
+slot_to_come : (start other now : List Slot) (w m i : ℕ) → i < length other → IsPouring start other now (drop i other) w m → IsPouring start other now (slot_at other i ∷ drop (i + 1) other) w m
 slot_to_come start other now w m i h p = subst (λ (rest : List Slot). IsPouring start other now rest w m) (rest_at other i h) p
 
 -- ---- the end
@@ -217,24 +213,16 @@ poured_kept start other now w m i c d h p kept more can = record {
   light = can.light;
 }
 
--- ---- machine numbers
+-- ---- the numbers of 128 bits
 
-pub machine_pour : (start other now : List Slot) (w m i p : ℕ) (c d : ℤ) → i < length other → IsPouring start other now (drop i other) w m → IsKept start w c → IsKept other m d → CanMerge start w other m
-    → IsPlaceOf now (slot_at other i).denom p
-    → to_z w128 (of_z w128 (to_z w128 (of_z w128 (slot_at now p).numer) +ℤ to_z w128 (of_z w128 (slot_at other i).numer))) ≡ (slot_at now p).numer +ℤ (slot_at other i).numer
-machine_pour start other now w m i p c d h pouring kept more can place =
-    machine_sum w128 (slot_at now p).numer (slot_at other i).numer
-    (omega (arith, pouring.bounded p, can.light))
-    (omega (arith, more.bounded i, more.light))
-    (omega (arith, pouring_sum_small start other now (slot_at other i) (drop (i + 1) other) w m p (slot_to_come start other now w m i h pouring) place, can.light))
+pub pour_held : (start other now : List Slot) (slot : Slot) (rest : List Slot) (w m p : ℕ) → IsPouring start other now (slot ∷ rest) w m → CanMerge start w other m → IsPlaceOf now slot.denom p
+    → Has128Bits ((slot_at now p).numer +ℤ slot.numer)
+pour_held start other now slot rest w m p pouring can place =
+    held_of _ (omega (arith, pouring_sum_small start other now slot rest w m p pouring place, can.light))
 
-pub pour_fits : (start other now : List Slot) (w m i p : ℕ) (c d : ℤ) → i < length other → IsPouring start other now (drop i other) w m → IsKept start w c → IsKept other m d → CanMerge start w other m
-    → IsPlaceOf now (slot_at other i).denom p
-    → FitsSigned w128 (to_z w128 (of_z w128 (slot_at now p).numer) +ℤ to_z w128 (of_z w128 (slot_at other i).numer))
-pour_fits start other now w m i p c d h pouring kept more can place =
-    rw (
-      to_z-of_z (fits_signed_from_abs w128 (slot_at now p).numer (omega (arith, pouring.bounded p, can.light))),
-      to_z-of_z (fits_signed_from_abs w128 (slot_at other i).numer (omega (arith, more.bounded i, more.light))),
-    )
-    (fits_signed_from_abs w128 ((slot_at now p).numer +ℤ (slot_at other i).numer)
-    (omega (arith, pouring_sum_small start other now (slot_at other i) (drop (i + 1) other) w m p (slot_to_come start other now w m i h pouring) place, can.light)))
+-- ---- the slot to come, as it was read
+
+pub slot_read : (start other now : List Slot) (w m i d : ℕ) (n : ℤ) → d ≡ (slot_at other i).denom → n ≡ (slot_at other i).numer → i < length other → IsPouring start other now (drop i other) w m
+    → IsPouring start other now (record { denom = d; numer = n } ∷ drop (i + 1) other) w m
+slot_read start other now w m i d n denom_is numer_is h p =
+    subst (λ (slot : Slot). IsPouring start other now (slot ∷ drop (i + 1) other) w m) (sym (slot_is (slot_at other i) d n denom_is numer_is)) (slot_to_come start other now w m i h p)

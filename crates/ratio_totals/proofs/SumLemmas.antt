@@ -7,6 +7,7 @@ use Rattle.std.proofs.lemmas.Int.{ints}
 use borrow.Author.Differences.{up, down, product_is, same_in}
 use Rattle.ratio_integer.proofs.Whole.{add-mul, mul_assoc}
 use Rattle.ratio_totals.proofs.Places.{open_cases}
+use Rattle.ratio_totals.specs.Loose.{IsClean}
 use Rattle.ratio_totals.specs.Slots.{IsOpenTo, IsPlaceOf, IsTable, slot_at}
 use Rattle.ratio_totals.specs.Sums.{GrowsAt, SumGrows, grown, numerator_at, numerator_over, sum_of_slots}
 use Rattle.ratio_totals.specs.declared.slots.Slot.{Slot}
@@ -41,8 +42,11 @@ numerator_written (slot ∷ rest) zero d e n h here empty =
 numerator_written (slot ∷ rest) (suc i) d e n h here empty =
     sum-tail _ _ _ _ (numerator_written rest i d e n (omega arith) here empty)
 
+pub grows_clean : (slots : List Slot) (i d : ℕ) (n : ℤ) → IsPlaceOf slots d i → IsClean (slot_at slots i) → GrowsAt d n slots (slice_set slots i (grown d n (slot_at slots i)))
+grows_clean slots i d n p clean = record { each = λ e ne. numerator_written slots i d e n p.within p.here clean }
+
 pub grows_at : (slots : List Slot) (i d : ℕ) (n : ℤ) → IsTable slots → IsPlaceOf slots d i → GrowsAt d n slots (slice_set slots i (grown d n (slot_at slots i)))
-grows_at slots i d n table p = record { each = λ e ne. numerator_written slots i d e n p.within p.here (table.empty i p.within) }
+grows_at slots i d n table p = grows_clean slots i d n p (table.empty i p.within)
 
 -- ---- sums. Products with natural numbers, as differences
 
@@ -175,7 +179,8 @@ sum_written (slot ∷ rest) zero d n taken h here empty = sum_written_first slot
 sum_written (slot ∷ rest) (suc i) d n taken h here empty =
     sum_written_behind slot rest (slice_set rest i (grown d n (slot_at rest i))) n d (sum_written rest i d n taken (omega arith) here empty)
 
+pub sum_clean : (slots : List Slot) (i d : ℕ) (n : ℤ) → d ≢ 0 → IsPlaceOf slots d i → IsClean (slot_at slots i) → SumGrows d n slots (slice_set slots i (grown d n (slot_at slots i)))
+sum_clean slots i d n taken p clean = record { same = sum_written slots i d n taken p.within p.here clean }
+
 pub sum_grows : (slots : List Slot) (i d : ℕ) (n : ℤ) → d ≢ 0 → IsTable slots → IsPlaceOf slots d i → SumGrows d n slots (slice_set slots i (grown d n (slot_at slots i)))
-sum_grows slots i d n taken table p = record {
-  same = sum_written slots i d n taken p.within p.here (table.empty i p.within);
-}
+sum_grows slots i d n taken table p = sum_clean slots i d n taken p (table.empty i p.within)

@@ -1,3 +1,6 @@
+pub mod Entry
+pub mod Halves
+pub mod Loose
 pub mod DecimalRoom
 pub mod Slots
 pub mod Sums

@@ -1,5 +1,5 @@
 -- What a table means: a numerator for each denominator, and the sum of its fractions.
-use Rattle.std.specs.Prelude.{◌≡◌, ◌≢◌, ◌*◌, ◌==◌, ◌+ℤ◌, ◌*ℤ◌, ℕ, ℤ, pos, List, [], ◌∷◌, if◌then◌else◌, slice_set}
+use Rattle.std.specs.Prelude.{◌≡◌, ◌≢◌, ◌*◌, ◌-◌, ◌^◌, ◌==◌, ◌+ℤ◌, ◌*ℤ◌, ◌≤ℤ◌, ℕ, ℤ, pos, negsuc, List, [], ◌∷◌, if◌then◌else◌, slice_set}
 use Rattle.ratio_integer.specs.Fraction.{SameValue}
 use Rattle.ratio_totals.specs.Slots.{IsPlaceOf, slot_at}
 use Rattle.ratio_totals.specs.declared.slots.Slot.{Slot}
@@ -30,6 +30,12 @@ abbrev pub sum_of_slots : List Slot → ℤ × ℕ
 sum_of_slots [] = (pos 0, 1)
 sum_of_slots (slot ∷ rest) =
     if slot.denom == 0 then sum_of_slots rest else pair_sum (slot.numer, slot.denom) (sum_of_slots rest)
+
+-- the number is one of 128 bits
+-- Example: -2^127; not 2^127
+pub record Has128Bits (n : ℤ) : Type 0 where
+  pub least : negsuc (2 ^ 127 - 1) ≤ℤ n
+  pub greatest : n ≤ℤ pos (2 ^ 127 - 1)
 
 -- the slot with n added over d
 abbrev pub grown : ℕ → ℤ → Slot → Slot

@@ -4,10 +4,10 @@ ghost use Rattle.ratio_totals.specs.Merging.{free_of, new_of};
 ghost use Rattle.ratio_totals.specs.Slots.{IsTable};
 
 use crate::searching::find;
-use crate::slots::Slot;
+use crate::slots::{Slot, denom_at};
 
 /// How many slots are empty.
-pub(crate) fn count_free(slots: &[Slot]) -> usize
+pub fn count_free(slots: &[Slot]) -> usize
     ensures { result ≡ free_of slots.now }
 {
     let mut count = 0;
@@ -22,7 +22,7 @@ fn free_here(slot: &Slot) -> usize
     ensures one { result ≤ 1 }
     ensures same { free_of (slot.now ∷ []) ≡ result }
 {
-    if slot.denom == 0 { 1 } else { 0 }
+    if slot.denom() == 0 { 1 } else { 0 }
 }
 
 /// How many slots of the other table hold a denominator that the first one does not.
@@ -43,11 +43,12 @@ fn new_here(slots: &[Slot], slot: &Slot) -> usize
     ensures one { result ≤ 1 }
     ensures same { new_of slots.now (slot.now ∷ []) ≡ result }
 {
-    if slot.denom == 0 {
+    let denom = slot.denom();
+    if denom == 0 {
         return 0;
     }
-    match find(slots, slot.denom) {
-        Some(place) => { if slots[place].denom == 0 { 1 } else { 0 } }
+    match find(slots, denom) {
+        Some(place) => { if denom_at(slots, place) == 0 { 1 } else { 0 } }
         None => 1,
     }
 }

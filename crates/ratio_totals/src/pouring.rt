@@ -4,7 +4,7 @@ ghost use Rattle.ratio_totals.specs.Merging.{AddsEach, CanMerge, HoldsBoth, SumA
 ghost use Rattle.ratio_totals.specs.Totals.{IsKept};
 
 use crate::searching::find;
-use crate::slots::Slot;
+use crate::slots::{Slot, denom_at, grow_at, numer_at};
 use crate::tally::Tally;
 
 /// Adds each numerator of the other table. The tallies are those of both tables before.
@@ -18,18 +18,14 @@ pub(crate) fn pour(slots: &mut [Slot], tally: Tally, other: &[Slot], more: Tally
     ensures held { HoldsBoth slots.old other.now slots.new }
 {
     'pouring: for i in 0..other.len() {
-        let denom = other[i].denom;
-        let numer = other[i].numer;
+        let denom = denom_at(other, i);
+        let numer = numer_at(other, i);
         if denom == 0 {
             continue;
         }
         let Some(place) = find(slots, denom) else {
             continue;
         };
-        let numerator = slots[place].numer + numer;
-        slots[place] = Slot {
-            denom,
-            numer: numerator,
-        };
+        grow_at(slots, place, denom, numer);
     }
 }

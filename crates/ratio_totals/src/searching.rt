@@ -1,9 +1,9 @@
 //! Where a denominator is in a table, or where it goes.
-ghost use Rattle.std.specs.Prelude.{◌≡◌, ◌≢◌, ◌↔◌, ◌≤◌, IsTrue, MatchOption};
-ghost use Rattle.ratio_totals.specs.Slots.{HasNoPlaceFor, IsOpenTo, IsPlaceOf, IsTable, home_of};
+ghost use Rattle.std.specs.Prelude.{◌≡◌, ◌≢◌, ◌↔◌, ◌<◌, ◌≤◌, length, IsTrue, MatchOption};
+ghost use Rattle.ratio_totals.specs.Slots.{HasNoPlaceFor, IsOpenTo, IsPlaceOf, IsTable, home_of, slot_at};
 ghost use Rattle.ratio_totals.specs.Sums.{numerator_at};
 
-use crate::slots::Slot;
+use crate::slots::{Slot, denom_at, numer_at};
 
 /// An odd number near 2^64 divided by the golden ratio: its multiples are spread evenly.
 pub const SPREAD: u64 = 0x9e37_79b9_7f4a_7c15;
@@ -15,12 +15,12 @@ pub fn find(slots: &[Slot], denom: u64) -> Option<usize>
 {
     let start = home(denom, slots.len());
     'upper: for i in start..slots.len() {
-        if is_open(&slots[i], denom) {
+        if is_open(slots, i, denom) {
             return Some(i);
         }
     }
     'lower: for i in 0..start {
-        if is_open(&slots[i], denom) {
+        if is_open(slots, i, denom) {
             return Some(i);
         }
     }
@@ -34,17 +34,19 @@ pub(crate) fn numerator_in(slots: &[Slot], denom: u64) -> i128
     ensures { result ≡ numerator_at denom slots.now }
 {
     match find(slots, denom) {
-        Some(place) => slots[place].numer,
+        Some(place) => numer_at(slots, place),
         None => 0,
     }
 }
 
-/// Whether the slot is empty or holds this denominator.
+/// Whether the slot at this index is empty or holds this denominator.
 #[inline(always)]
-fn is_open(slot: &Slot, denom: u64) -> bool
-    ensures { IsTrue result ↔ IsOpenTo denom slot.now }
+fn is_open(slots: &[Slot], i: usize, denom: u64) -> bool
+    requires { i < length slots.now }
+    ensures { IsTrue result ↔ IsOpenTo denom (slot_at slots.now i) }
 {
-    slot.denom == 0 || slot.denom == denom
+    let held = denom_at(slots, i);
+    held == 0 || held == denom
 }
 
 /// Where the search for a denominator begins. It is a pure function of both numbers, and at most the length.

@@ -5,7 +5,7 @@ ghost use Rattle.ratio_totals.specs.Totals.{IsKept, IsRefusedFor, PutsOne};
 
 use crate::refusal::Refusal;
 use crate::searching::find;
-use crate::slots::Slot;
+use crate::slots::{Slot, grow_at};
 use crate::tally::{MOST_WEIGHT, Tally};
 
 /// The fraction `numer/denom` goes into its slot, and the count changes by `step`.
@@ -32,11 +32,7 @@ pub(crate) fn put(
     }
     match find(slots, denom) {
         Some(place) => {
-            let numerator = slots[place].numer + numer;
-            slots[place] = Slot {
-                denom,
-                numer: numerator,
-            };
+            grow_at(slots, place, denom, numer);
             tally.weight += 1;
             tally.count += step;
             Ok(())

@@ -112,16 +112,7 @@ fn a_merge_without_room_changes_nothing(rt: HostRuntime) -> Result<(), Fail> {
 
 #[test]
 fn a_full_table_has_no_place_for_another(rt: HostRuntime) -> Result<(), Fail> {
-    let table = [
-        Slot {
-            denom: 36,
-            numer: 1,
-        },
-        Slot {
-            denom: 28,
-            numer: 1,
-        },
-    ];
+    let table = [Slot::new(36, 1), Slot::new(28, 1)];
     assert_eq!(rt; find(&table, 36), Some(0));
     assert_eq!(rt; find(&table, 28), Some(1));
     assert_eq!(rt; find(&table, 12), None);

@@ -1,4 +1,8 @@
-use Rattle.ratio_totals.proofs.PourLemmas.{held_ends, machine_pour, pour_fits, poured_kept, pouring_begins, pouring_ends, pouring_has_place, pouring_skips, pouring_steps, slot_to_come, sum_ends}
+use Rattle.std.proofs.Common.{rules}
+use mir.Facts.{to_z-of_z}
+use mir.Syntax.{w128}
+use mir.Val.{SFits}
+use Rattle.ratio_totals.proofs.PourLemmas.{held_ends, pour_held, poured_kept, pouring_begins, pouring_ends, pouring_has_place, pouring_skips, pouring_steps, slot_read, sum_ends}
 use Rattle.ratio_totals.proofs.pouring.pour.Goals as goal
 
 pub pouring-init : goal.pouring-init
@@ -6,20 +10,22 @@ pouring-init c = pouring_begins _ _ _ _ c.args.tally.count c.args.more.count c.r
 
 pub pouring-preserved-then-denom-eq0 : goal.pouring-preserved-then-denom-eq0
 pouring-preserved-then-denom-eq0 c =
-    pouring_skips _ _ _ _ _ _ _ (slot_to_come _ _ _ _ _ c.pouring.i c.pouring-test.true c.pouring.invariant) c.if-denom-eq0.true
+    pouring_skips _ _ _ _ _ _ _ (slot_read _ _ _ _ _ c.pouring.i _ _ c.denom_at-denom.ensures c.numer_at-numer.ensures c.pouring-test.true c.pouring.invariant) c.if-denom-eq0.true
 
 pub pouring-preserved-in_default : goal.pouring-preserved-in_default
 pouring-preserved-in_default c =
-    absurd (pouring_has_place _ _ _ _ _ _ _ (slot_to_come _ _ _ _ _ c.pouring.i c.pouring-test.true c.pouring.invariant) c.if-denom-eq0.false c.in_default.ensures)
+    absurd (pouring_has_place _ _ _ _ _ _ _ (slot_read _ _ _ _ _ c.pouring.i _ _ c.denom_at-denom.ensures c.numer_at-numer.ensures c.pouring-test.true c.pouring.invariant) c.if-denom-eq0.false c.in_default.ensures)
 
-pub overflow_add-numerator : goal.overflow_add-numerator
-overflow_add-numerator c =
-    pour_fits _ _ _ _ _ c.pouring.i c.in-Some.place _ _ c.pouring-test.true c.pouring.invariant c.requires.kept c.requires.other c.requires.room c.in-Some.ensures
+pub grow_at-requires-clause-held : goal.grow_at-requires-clause-held
+grow_at-requires-clause-held c =
+    let held : SFits w128 c.numer_at-numer.result = search rules in
+    rw (to_z-of_z held) (pour_held _ _ _ _ _ _ _ c.in-Some.place (slot_read _ _ _ _ _ c.pouring.i _ _ c.denom_at-denom.ensures c.numer_at-numer.ensures c.pouring-test.true c.pouring.invariant) c.requires.room c.in-Some.ensures)
 
 pub pouring-preserved : goal.pouring-preserved
 pouring-preserved c =
-    rw (machine_pour c.args.slots.now c.args.other.now c.pouring.slots c.args.tally.weight c.args.more.weight c.pouring.i c.in-Some.place c.args.tally.count c.args.more.count c.pouring-test.true c.pouring.invariant c.requires.kept c.requires.other c.requires.room c.in-Some.ensures)
-    (pouring_steps _ _ _ _ _ _ _ c.in-Some.place (slot_to_come _ _ _ _ _ c.pouring.i c.pouring-test.true c.pouring.invariant) c.if-denom-eq0.false c.in-Some.ensures)
+    let held : SFits w128 c.numer_at-numer.result = search rules in
+    rw (c.grow_at.ensures, to_z-of_z held)
+    (pouring_steps _ _ _ _ _ _ _ c.in-Some.place (slot_read _ _ _ _ _ c.pouring.i _ _ c.denom_at-denom.ensures c.numer_at-numer.ensures c.pouring-test.true c.pouring.invariant) c.if-denom-eq0.false c.in-Some.ensures)
 
 pub returns-clause-kept : goal.returns-clause-kept
 returns-clause-kept c = poured_kept _ _ _ _ _ c.pouring.i _ _ c.pouring-test.false c.pouring.invariant c.requires.kept c.requires.other c.requires.room

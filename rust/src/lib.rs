@@ -33,7 +33,7 @@ mod proved;
 #[cfg(feature = "proved-calls")]
 #[doc(hidden)]
 pub mod proved;
-#[cfg(all(test, target_pointer_width = "64"))]
+#[cfg(test)]
 mod test_support;
 
 /// The trait of the element types, for generic code.

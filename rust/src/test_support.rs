@@ -5,9 +5,11 @@ use std::string::{String, ToString};
 /// The error of a test that ends with `?`.
 pub type Fail = std::boxed::Box<dyn std::error::Error>;
 
-/// A printed text. Rattle's has an array of `N` bytes.
+/// A printed text. Rattle's has an array of `N` bytes. Only tests for 64 bits print one.
+#[cfg_attr(not(target_pointer_width = "64"), allow(dead_code))]
 pub struct InlineText<const N: usize>(String);
 
+#[cfg_attr(not(target_pointer_width = "64"), allow(dead_code))]
 impl<const N: usize> InlineText<N> {
     pub fn of(text: fmt::Arguments<'_>) -> Self {
         InlineText(text.to_string())

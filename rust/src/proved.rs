@@ -17,5 +17,8 @@ pub mod ratio_decimal;
 pub mod ratio_float;
 pub mod ratio_integer;
 pub mod ratio_laws;
+pub mod ratio_long;
+pub mod ratio_natural;
+pub mod ratio_totals;
 #[cfg(all(test, target_pointer_width = "64"))]
 mod tests_fractions;

@@ -1,0 +1,13 @@
+// Erased from crates/ratio_long/src/lib.rt by rust/erase: not to be edited.
+//! Fractions of natural numbers of any length: their rounded values, and their texts as decimals. The numbers are digits of
+//! `ratio_natural`, in room that the caller gives.
+mod decimal;
+pub mod laws;
+mod places;
+mod rounding;
+#[cfg(test)]
+mod tests;
+
+pub use decimal::put_decimal;
+pub use places::put_places;
+pub use rounding::round_quotient;

@@ -1,0 +1,37 @@
+// Erased from crates/ratio_totals/src/lib.rt by rust/erase: not to be edited.
+//! Totals of fractions that lose nothing: a table with one slot for each denominator, in room that the caller gives.
+//!
+//! 1/36 + 1/28 takes two slots, one for the denominator 36 and one for 28. Adding 5/36 changes one number: the first slot
+//! then says 6/36. No gcd is computed, and no addition overflows.
+//!
+//! A read puts the total over its common denominator: `Total::over_common`. `Total::sum` returns it in lowest terms where
+//! these fit 64 bits, and `Total::mean` returns the mean.
+mod clearing;
+mod common;
+mod counting;
+mod decimal;
+pub mod laws;
+mod loose;
+mod lowest;
+mod merging;
+mod pouring;
+mod reading;
+mod refusal;
+mod searching;
+mod slots;
+mod steps;
+mod tally;
+#[cfg(test)]
+mod tests;
+mod total;
+
+pub use counting::count_free;
+pub use decimal::{decimal_bytes_of, decimal_digits_of, put_decimal_of};
+pub use loose::{LooseRefusal, put_loose};
+pub use lowest::{mean_of, sum_of};
+pub use reading::{MOST_DIGITS, OverCommon, ReadRefusal, digits_of_read};
+pub use refusal::Refusal;
+pub use searching::find;
+pub use slots::Slot;
+pub use tally::{MOST_WEIGHT, Tally};
+pub use total::Total;

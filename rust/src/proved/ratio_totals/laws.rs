@@ -1,0 +1,23 @@
+// Erased from crates/ratio_totals/src/laws.rt by rust/erase: not to be edited.
+//! The laws of totals. Each function does nothing: its contract is the law.
+
+/// The order of additions does not matter, and taking out undoes an addition.
+#[inline]
+pub fn additions() {}
+
+/// The order and the grouping of merges do not matter. A merge is one addition after another.
+#[inline]
+pub fn merges() {}
+
+/// Each denominator has one slot.
+#[inline]
+pub fn tables() {}
+
+/// Each table has one common denominator, and one sum over it.
+#[inline]
+pub fn reads() {}
+
+/// The sum and the mean depend on the numerators and the count alone, and not on the slots or the order of additions.
+/// `Total::sum` and `Total::mean` have one result.
+#[inline]
+pub fn sums() {}

@@ -1,0 +1,106 @@
+// Erased from crates/ratio_totals/src/total.rt by rust/erase: not to be edited.
+//! The struct `Total`: fractions go in and out, and nothing is lost.
+
+use crate::proved::ratio_totals::clearing::clear;
+use crate::proved::ratio_totals::merging::merge_slots;
+use crate::proved::ratio_totals::reading::{OverCommon, ReadRefusal, digits_of_read, read_slots};
+use crate::proved::ratio_totals::refusal::Refusal;
+use crate::proved::ratio_totals::searching::numerator_in;
+use crate::proved::ratio_totals::slots::Slot;
+use crate::proved::ratio_totals::steps::put;
+use crate::proved::ratio_totals::tally::Tally;
+
+/// A total of fractions, in slots that the caller gives. Each denominator has one slot.
+pub struct Total<'a> {
+    pub slots: &'a mut [Slot],
+    pub tally: Tally,
+}
+
+impl<'a> Total<'a> {
+    /// The total of no fractions. It empties the slots.
+    #[inline]
+    pub fn new(slots: &'a mut [Slot]) -> Total<'a> {
+        clear(slots);
+        Total {
+            slots,
+            tally: Tally {
+                weight: 0,
+                count: 0,
+            },
+        }
+    }
+
+    /// Adds the fraction `numer/denom`. If the total refuses it, nothing has changed.
+    ///
+    /// # Conditions
+    ///
+    /// The proof requires of the caller:
+    ///
+    /// - `denom`: `denom ≢ 0`
+    /// - `small`: `unsigned_abs numer < 2 ^ 64`
+    #[inline]
+    pub fn add(&mut self, numer: i128, denom: u64) -> Result<(), Refusal> {
+        put(self.slots, &mut self.tally, numer, denom, 1)
+    }
+
+    /// Takes the fraction `numer/denom` out again. If the total refuses it, nothing has changed.
+    ///
+    /// # Conditions
+    ///
+    /// The proof requires of the caller:
+    ///
+    /// - `denom`: `denom ≢ 0`
+    /// - `small`: `unsigned_abs numer < 2 ^ 64`
+    #[inline]
+    pub fn subtract(&mut self, numer: i128, denom: u64) -> Result<(), Refusal> {
+        put(self.slots, &mut self.tally, -numer, denom, -1)
+    }
+
+    /// Adds each fraction of the other total. If the total refuses it, nothing has changed.
+    #[inline]
+    pub fn merge(&mut self, other: &Total<'_>) -> Result<(), Refusal> {
+        merge_slots(self.slots, &mut self.tally, other.slots, other.tally)
+    }
+
+    /// The same total in other slots, such as more of them. It empties these slots first. If they are fewer than the
+    /// denominators, it returns `MoreRoom`.
+    #[inline]
+    pub fn moved_to<'b>(&self, slots: &'b mut [Slot]) -> Result<Total<'b>, Refusal> {
+        let mut total = Total::new(slots);
+        match total.merge(self) {
+            Ok(()) => Ok(total),
+            Err(why) => Err(why),
+        }
+    }
+
+    /// The numerator over this denominator; 0 if no slot holds it.
+    ///
+    /// # Conditions
+    ///
+    /// The proof requires of the caller:
+    ///
+    /// - `denom ≢ 0`
+    #[inline]
+    pub fn numerator(&self, denom: u64) -> i128 {
+        numerator_in(self.slots, denom)
+    }
+
+    /// How many fractions went in, less those that went out.
+    #[inline]
+    pub fn count(&self) -> i64 {
+        self.tally.count
+    }
+    /// The total over its common denominator, which is the least common multiple of the denominators: 1/36 + 1/28 is 16/252.
+    /// It writes both numbers into the room, as `OverCommon` says, and needs `read_digits` digits there. If it refuses, the
+    /// room may have any digits. Its time grows with the square of the number of denominators.
+    #[inline]
+    pub fn over_common(&self, room: &mut [u64]) -> Result<OverCommon, ReadRefusal> {
+        read_slots(self.slots, room)
+    }
+
+    /// How many digits of room `over_common` needs.
+    #[inline]
+    pub fn read_digits(&self) -> usize {
+        digits_of_read(self.slots)
+    }
+}

@@ -29,10 +29,14 @@ mod serialized;
 mod sign;
 mod simplest;
 mod text;
+#[cfg(feature = "alloc")]
+mod total;
 
 pub use casts::CastError;
 pub use continued::{Convergents, Quotients};
-pub use integer::Integer;
+pub use integer::{Integer, UpTo64};
 pub use ratio::{Ratio, Rational, Rational32, Rational64};
 pub use reduced::{Reduced, Reduced32, Reduced64};
 pub use reduced_conversions::ReducedError;
+#[cfg(feature = "alloc")]
+pub use total::{TooLong, Total};

@@ -23,6 +23,8 @@ compile_error!("bakhsney has no fractions of big integers: leave out the feature
 #[cfg(not(any(target_pointer_width = "64", target_pointer_width = "32")))]
 compile_error!("isize and usize have proofs of 64 and of 32 bits, and this target has another width");
 
+#[cfg(feature = "alloc")]
+extern crate alloc;
 #[cfg(all(test, not(feature = "std")))]
 extern crate std;
 
@@ -36,14 +38,16 @@ pub mod proved;
 #[cfg(test)]
 mod test_support;
 
-/// The trait of the element types, for generic code.
+/// The traits of the element types, for generic code.
 ///
 /// It is a module of its own. So `use num_rational::*` beside `use num_integer::*` brings one `Integer`, that of num-integer.
 pub mod integer {
-    pub use crate::layer::Integer;
+    pub use crate::layer::{Integer, UpTo64};
 }
 
 pub use layer::{CastError, Convergents, Quotients, Ratio, Rational, Rational32, Rational64, Reduced, Reduced32, Reduced64, ReducedError};
+#[cfg(feature = "alloc")]
+pub use layer::{TooLong, Total};
 /// The error of `parse`: the text is not a fraction, or its lowest terms do not fit the type.
 ///
 /// ```

@@ -1,0 +1,428 @@
+//! `Total`: a sum of any number of fractions that loses nothing, and takes more memory by itself.
+//!
+//! The proved total works in slots that its caller gives, with one slot for each denominator. Here the slots are in a `Vec`. The
+//! proved calls require a denominator above 0 and a numerator below 2^64 in magnitude. Each `Reduced` of at most 64 bits has these.
+use super::integer::UpTo64;
+use super::reduced::Reduced;
+use crate::proved::ratio_decimal::rounding_rule::Rounding;
+use crate::proved::ratio_totals as proved;
+use crate::proved::ratio_totals::{ReadRefusal, Refusal, Slot, Tally};
+use alloc::string::String;
+use alloc::vec;
+use alloc::vec::Vec;
+use core::fmt;
+use core::iter::Sum;
+use core::marker::PhantomData;
+use core::ops::{AddAssign, SubAssign};
+
+/// A total of any number of fractions. It loses nothing: each addition is exact, in any order, though a sum on the way may fit no
+/// integer type. The fractions are over an integer type of at most 64 bits. num-rational has no such type.
+///
+/// A total has one slot for each denominator that it was given, and takes more memory by itself. `add` takes a few nanoseconds,
+/// and computes no greatest common divisor. `sum`, `mean` and `decimal` take longer: their time grows with the square of the
+/// number of denominators. Someone who chooses the denominators can make additions slow, but not wrong.
+///
+/// ```
+/// use bakhsney::{Reduced, Rounding, Total};
+///
+/// let mut total = Total::new();
+/// for denom in 1..=127 {
+///     total.add(Reduced::checked_new(1i8, denom).unwrap());
+/// }
+/// assert_eq!(total.sum(), Ok(None)); // does not fit
+/// assert_eq!(total.decimal(10, Rounding::HalfEven).unwrap(), "5.4253345926");
+/// for denom in 3..=127 {
+///     total -= Reduced::checked_new(1, denom).unwrap();
+/// }
+/// assert_eq!(total.sum(), Ok(Reduced::checked_new(3, 2)));
+/// ```
+///
+/// Threads may share the work, since the order changes nothing: each takes a total of its part, and `merge` or `sum` joins them.
+///
+/// ```
+/// use bakhsney::{Reduced64, Total};
+///
+/// let cents: Vec<Reduced64> = (0..1000).map(|n| Reduced64::checked_new(n, 100).unwrap()).collect();
+/// let total: Total<i64> = std::thread::scope(|scope| {
+///     let parts: Vec<_> = cents.chunks(250).map(|part| scope.spawn(|| part.iter().sum::<Total<i64>>())).collect();
+///     parts.into_iter().map(|part| part.join().unwrap()).sum()
+/// });
+/// assert_eq!(total.sum(), Ok(Some(4995.into())));
+/// ```
+#[derive(Clone)]
+pub struct Total<T> {
+    slots: Vec<Slot>,
+    tally: Tally,
+    /// How many slots were empty at the last count.
+    empty: usize,
+    /// How many additions came, or will come, between the last count and the next one.
+    pause: u64,
+    /// The weight at which the next count comes.
+    next_count: u64,
+    of: PhantomData<fn() -> T>,
+}
+
+/// The error of `sum`, `mean` and `decimal` of a `Total`: the least common multiple of the denominators is not below 2^(2^20).
+///
+/// ```
+/// use bakhsney::{Reduced, TooLong, Total};
+///
+/// let sum: Result<Option<Reduced<i8>>, TooLong> = Total::new().sum();
+/// assert_eq!(sum, Ok(Some(Reduced::ZERO)));
+/// ```
+#[derive(Clone, Copy, Debug, PartialEq, Eq)]
+pub struct TooLong(());
+
+impl fmt::Display for TooLong {
+    fn fmt(&self, f: &mut fmt::Formatter<'_>) -> fmt::Result {
+        f.pad("the common denominator is too long")
+    }
+}
+
+#[cfg(feature = "std")]
+impl std::error::Error for TooLong {}
+
+/// The slots of the smallest table.
+const FEWEST: usize = 8;
+
+/// The additions between two counts in a small table. A full one makes no search long.
+const SHORTEST_PAUSE: usize = 64;
+
+impl<T> Total<T> {
+    /// The total of no fractions. It takes no memory before the first addition.
+    ///
+    /// ```
+    /// use bakhsney::{Reduced64, Total};
+    ///
+    /// assert_eq!(Total::new().sum(), Ok(Some(Reduced64::ZERO)));
+    /// ```
+    #[inline]
+    pub const fn new() -> Total<T> {
+        Total { slots: Vec::new(), tally: Tally { weight: 0, count: 0 }, empty: 0, pause: 0, next_count: 0, of: PhantomData }
+    }
+
+    /// How many fractions went in, less those that went out.
+    ///
+    /// ```
+    /// use bakhsney::{Reduced, Total};
+    ///
+    /// let mut total: Total<i64> = [1, 2, 3].map(Reduced::from).iter().collect();
+    /// total.subtract(Reduced::from(2));
+    /// assert_eq!(total.count(), 2);
+    /// ```
+    #[inline]
+    pub fn count(&self) -> i64 {
+        self.tally.count
+    }
+
+    /// The proved total over these slots.
+    #[inline]
+    fn proved(&mut self) -> proved::Total<'_> {
+        proved::Total { slots: &mut self.slots, tally: self.tally }
+    }
+
+    /// Counts the empty slots, and takes twice the slots if no more than half are empty. So a search is short.
+    ///
+    /// A quarter of the slots may fill up before the next count. It comes later if no denominator was new since the last one: a
+    /// count then costs nothing much for each addition.
+    #[cold]
+    fn count_empty(&mut self) {
+        let before = self.empty;
+        self.empty = proved::count_free(&self.slots);
+        if 2 * self.empty <= self.slots.len() {
+            self.grow();
+        }
+        let quarter = (self.slots.len() / 4).max(SHORTEST_PAUSE) as u64;
+        self.pause = if self.empty == before { (2 * self.pause).min(8 * quarter) } else { quarter };
+        self.next_count = self.tally.weight + self.pause;
+    }
+
+    /// Moves the total into twice the slots.
+    fn grow(&mut self) {
+        let mut slots = vec![Slot::EMPTY; (2 * self.slots.len()).max(FEWEST)];
+        match self.proved().moved_to(&mut slots) {
+            Ok(moved) => self.tally = moved.tally,
+            Err(_) => unreachable!("these are more slots"),
+        }
+        self.empty += slots.len() - self.slots.len();
+        self.slots = slots;
+    }
+}
+
+impl<T: UpTo64> Total<T> {
+    /// Adds the fraction. `+=` does the same.
+    ///
+    /// # Panics
+    ///
+    /// If the total has had 2^63-1 additions. Only merges of merged totals get there.
+    ///
+    /// ```
+    /// use bakhsney::{Reduced, Total};
+    ///
+    /// let mut total = Total::new();
+    /// total.add(Reduced::checked_new(1i8, 36).unwrap());
+    /// total.add(Reduced::checked_new(1i8, 28).unwrap());
+    /// assert_eq!(total.sum(), Ok(Reduced::checked_new(4, 63)));
+    /// ```
+    #[inline]
+    #[track_caller]
+    pub fn add(&mut self, fraction: Reduced<T>) {
+        self.put(fraction, |total, numer, denom| total.add(numer, denom));
+    }
+
+    /// Takes the fraction out again, whether it was added or not. `-=` does the same.
+    ///
+    /// # Panics
+    ///
+    /// If the total has had 2^63-1 additions, as `add` does. Taking out counts as an addition, too.
+    ///
+    /// ```
+    /// use bakhsney::{Reduced, Total};
+    ///
+    /// let mut total: Total<i8> = Reduced::checked_new(1, 127).into_iter().collect();
+    /// total.subtract(Reduced::from(127));
+    /// total.subtract(Reduced::checked_new(1, 127).unwrap());
+    /// assert_eq!(total.sum(), Ok(Some(Reduced::from(-127))));
+    /// ```
+    #[inline]
+    #[track_caller]
+    pub fn subtract(&mut self, fraction: Reduced<T>) {
+        self.put(fraction, |total, numer, denom| total.subtract(numer, denom));
+    }
+
+    /// Adds each fraction of the other total. `+=` does the same. The order of merges changes nothing.
+    ///
+    /// # Panics
+    ///
+    /// If both totals together have had more than 2^63-1 additions. Only merges of merged totals get there.
+    ///
+    /// ```
+    /// use bakhsney::{Reduced, Total};
+    ///
+    /// let [mut left, right] = [36, 28].map(|denom| Reduced::checked_new(1i8, denom).into_iter().collect::<Total<i8>>());
+    /// left.merge(&right);
+    /// assert_eq!((left.sum(), left.count()), (Ok(Reduced::checked_new(4, 63)), 2));
+    /// ```
+    #[track_caller]
+    pub fn merge(&mut self, other: &Total<T>) {
+        // The proved merge takes another `Total`, which borrows its slots as its own.
+        let mut other = other.clone();
+        loop {
+            let mut total = self.proved();
+            match total.merge(&other.proved()) {
+                Ok(()) => {
+                    self.tally = total.tally;
+                    break;
+                }
+                Err(Refusal::MoreRoom) => self.grow(),
+                Err(Refusal::TooMany) => too_many(),
+            }
+        }
+        self.count_empty();
+    }
+
+    /// The sum in lowest terms, or `None` if they do not fit the type. The sum of no fractions is 0.
+    ///
+    /// # Errors
+    ///
+    /// `TooLong` if the least common multiple of the denominators is not below 2^(2^20). With at most 16,384 different denominators
+    /// it always is.
+    ///
+    /// ```
+    /// use bakhsney::{Reduced, Total};
+    ///
+    /// let mut total = Total::new();
+    /// total.add(Reduced::from(127i8));
+    /// total.add(Reduced::checked_new(1i8, 127).unwrap());
+    /// assert_eq!(total.sum(), Ok(None));
+    /// total.subtract(Reduced::checked_new(1i8, 127).unwrap());
+    /// assert_eq!(total.sum(), Ok(Some(Reduced::from(127))));
+    /// ```
+    pub fn sum(&self) -> Result<Option<Reduced<T>>, TooLong> {
+        self.read(proved::sum_of)
+    }
+
+    /// The mean, which is the sum divided by the count, in lowest terms. `None` if they do not fit the type, or if the count is not
+    /// above 0.
+    ///
+    /// # Errors
+    ///
+    /// `TooLong` where `sum` returns it.
+    ///
+    /// ```
+    /// use bakhsney::{Reduced, Total};
+    ///
+    /// let total: Total<i8> = [100, 127, 127].map(Reduced::from).iter().sum();
+    /// assert_eq!(total.sum(), Ok(None)); // 354
+    /// assert_eq!(total.mean(), Ok(Some(Reduced::from(118))));
+    /// assert_eq!(Total::<i8>::new().mean(), Ok(None));
+    /// ```
+    pub fn mean(&self) -> Result<Option<Reduced<T>>, TooLong> {
+        self.read(|slots, room| proved::mean_of(slots, self.tally.count, room))
+    }
+
+    /// The sum as a decimal with so many places, rounded once by the rule, whether it fits the type or not. There are always as
+    /// many digits behind the point, and without places no point. A sum that is rounded to 0 has no minus.
+    ///
+    /// # Errors
+    ///
+    /// `TooLong` where `sum` returns it.
+    ///
+    /// # Panics
+    ///
+    /// If the text may be too long for the memory of the machine.
+    ///
+    /// ```
+    /// use bakhsney::{Reduced64, Rounding, Total};
+    ///
+    /// let total: Total<i64> = (1..=1000).map(|denom| Reduced64::checked_new(1, denom).unwrap()).sum();
+    /// assert_eq!(total.sum(), Ok(None));
+    /// assert_eq!(total.decimal(20, Rounding::HalfEven).unwrap(), "7.48547086055034491266");
+    /// ```
+    #[track_caller]
+    pub fn decimal(&self, places: u32, rule: Rounding) -> Result<String, TooLong> {
+        // With 32 bits for a pointer, the proved call could not count so many bytes.
+        assert!(u64::from(places) <= (isize::MAX / 4) as u64, "too many places");
+        let mut room = vec![0; proved::decimal_digits_of(&self.slots, places)];
+        let mut text = vec![0; proved::decimal_bytes_of(&self.slots, places)];
+        let start = proved::put_decimal_of(&self.slots, places, rule, &mut room, &mut text).map_err(refused)?;
+        text.drain(..start);
+        Ok(String::from_utf8(text).expect("a decimal is ASCII"))
+    }
+
+    /// Calls `read` with room for its digits. The numbers that it returns become a fraction, if they fit the type.
+    fn read(&self, read: impl FnOnce(&[Slot], &mut [u64]) -> Result<Option<(i128, u64)>, ReadRefusal>) -> Result<Option<Reduced<T>>, TooLong> {
+        let mut room = vec![0; proved::digits_of_read(&self.slots)];
+        let lowest = read(&self.slots, &mut room).map_err(refused)?;
+        Ok(lowest.and_then(|(numer, denom)| Reduced::checked_new(T::from(numer)?, T::from(denom)?)))
+    }
+
+    /// Takes one step of the proved total, and more slots where it needs them.
+    #[inline]
+    #[track_caller]
+    fn put(&mut self, fraction: Reduced<T>, step: impl Fn(&mut proved::Total<'_>, i128, u64) -> Result<(), Refusal>) {
+        let (numer, denom) = fields(fraction);
+        if self.tally.weight >= self.next_count {
+            self.count_empty();
+        }
+        loop {
+            let mut total = self.proved();
+            match step(&mut total, numer, denom) {
+                Ok(()) => {
+                    self.tally = total.tally;
+                    return;
+                }
+                Err(Refusal::MoreRoom) => self.count_empty(), // none is empty
+                Err(Refusal::TooMany) => too_many(),
+            }
+        }
+    }
+}
+
+/// The numbers of a fraction as the proved calls take them.
+#[inline]
+fn fields<T: UpTo64>(fraction: Reduced<T>) -> (i128, u64) {
+    let (numer, denom) = fraction.into_raw();
+    match (numer.to_i128(), denom.to_u64()) {
+        (Some(numer), Some(denom)) => (numer, denom),
+        _ => unreachable!("the type has at most 64 bits, and the denominator is above 0"),
+    }
+}
+
+#[cold]
+#[track_caller]
+fn too_many() -> ! {
+    panic!("a total of more than 2^63-1 additions")
+}
+
+/// The error of a read that had enough room.
+fn refused(refusal: ReadRefusal) -> TooLong {
+    debug_assert_eq!(refusal, ReadRefusal::TooLong);
+    TooLong(())
+}
+
+impl<T> Default for Total<T> {
+    #[inline]
+    fn default() -> Total<T> {
+        Total::new()
+    }
+}
+
+impl<T> fmt::Debug for Total<T> {
+    fn fmt(&self, f: &mut fmt::Formatter<'_>) -> fmt::Result {
+        f.debug_struct("Total").field("count", &self.count()).finish_non_exhaustive()
+    }
+}
+
+impl<T: UpTo64> AddAssign<Reduced<T>> for Total<T> {
+    #[inline]
+    #[track_caller]
+    fn add_assign(&mut self, fraction: Reduced<T>) {
+        self.add(fraction);
+    }
+}
+
+impl<T: UpTo64> SubAssign<Reduced<T>> for Total<T> {
+    #[inline]
+    #[track_caller]
+    fn sub_assign(&mut self, fraction: Reduced<T>) {
+        self.subtract(fraction);
+    }
+}
+
+impl<T: UpTo64> AddAssign<&Total<T>> for Total<T> {
+    #[track_caller]
+    fn add_assign(&mut self, other: &Total<T>) {
+        self.merge(other);
+    }
+}
+
+impl<T: UpTo64> Extend<Reduced<T>> for Total<T> {
+    #[inline]
+    fn extend<I: IntoIterator<Item = Reduced<T>>>(&mut self, items: I) {
+        items.into_iter().for_each(|item| self.add(item));
+    }
+}
+
+impl<'a, T: UpTo64> Extend<&'a Reduced<T>> for Total<T> {
+    #[inline]
+    fn extend<I: IntoIterator<Item = &'a Reduced<T>>>(&mut self, items: I) {
+        self.extend(items.into_iter().copied());
+    }
+}
+
+/// The total of the items, by `collect` and by `sum`.
+macro_rules! totals {
+    ($([$($a:lifetime)?] $Item:ty;)*) => {$(
+        impl<$($a,)? T: UpTo64> FromIterator<$Item> for Total<T> {
+            #[inline]
+            fn from_iter<I: IntoIterator<Item = $Item>>(items: I) -> Total<T> {
+                let mut total = Total::new();
+                total.extend(items);
+                total
+            }
+        }
+
+        impl<$($a,)? T: UpTo64> Sum<$Item> for Total<T> {
+            #[inline]
+            fn sum<I: Iterator<Item = $Item>>(items: I) -> Total<T> {
+                items.collect()
+            }
+        }
+    )*};
+}
+
+totals! {
+    [] Reduced<T>;
+    ['a] &'a Reduced<T>;
+}
+
+/// The total of all parts, as threads that share the work need it.
+impl<T: UpTo64> Sum for Total<T> {
+    fn sum<I: Iterator<Item = Total<T>>>(parts: I) -> Total<T> {
+        parts.fold(Total::new(), |mut total, part| {
+            total.merge(&part);
+            total
+        })
+    }
+}

@@ -3,7 +3,7 @@
 // The tests are about these forms. A function instead of a closure would be called through a pointer, which has no caller.
 #![allow(clippy::op_ref, clippy::redundant_closure)]
 
-use bakhsney::{Ratio, Reduced, Rounding};
+use bakhsney::{Ratio, Reduced, Rounding, Total};
 use num_traits::{Inv, Num, Pow, Signed};
 use std::cell::RefCell;
 use std::collections::hash_map::DefaultHasher;
@@ -44,6 +44,28 @@ fn least() -> Fraction {
 /// A fraction whose lowest terms do not fit.
 fn refused() -> Fraction {
     Ratio::new_raw(1, i32::MIN)
+}
+
+/// A total of 2^62 additions. Twice as many are too many.
+fn half_full() -> Total<i8> {
+    let mut total: Total<i8> = [Reduced::ONE].iter().sum();
+    for _ in 0..62 {
+        total.merge(&total.clone());
+    }
+    total
+}
+
+/// A total of 2^63-1 additions.
+fn full() -> Total<i8> {
+    let mut total = Total::new();
+    let mut part: Total<i8> = [Reduced::ONE].iter().sum();
+    for _ in 0..63 {
+        total.merge(&part);
+        if total.count() < 1 << 62 {
+            part.merge(&part.clone());
+        }
+    }
+    total
 }
 
 /// The file and the line that the panic of this call names.
@@ -137,15 +159,27 @@ const ROUNDING: &[Row] = &[
     ("decimal of no lowest terms", line!(), || done(refused().decimal(2, Rounding::Up))),
 ];
 
+const TOTALS: &[Row] = &[
+    ("Total::add", line!(), || full().add(Reduced::ONE)),
+    ("Total::subtract", line!(), || full().subtract(Reduced::ONE)),
+    ("Total::merge", line!(), || half_full().merge(&half_full())),
+    ("+= of a total", line!(), || done({ let mut x = full(); x += Reduced::ONE; x })),
+    ("-= of a total", line!(), || done({ let mut x = full(); x -= Reduced::ONE; x })),
+    ("+= of two totals", line!(), || done({ let mut x = half_full(); x += &half_full(); x })),
+    ("extend", line!(), || full().extend([Reduced::ONE])),
+    ("extend by references", line!(), || full().extend(&[Reduced::ONE])),
+    ("sum of totals", line!(), || done(<Total<i8> as Sum>::sum([half_full(), half_full()].into_iter()))),
+];
+
 #[test]
 fn the_callers_line_is_named() {
-    for (name, line, call) in [MAKING, ARITHMETIC, POWERS_AND_SIGNS, COMPARING, ROUNDING].concat() {
+    for (name, line, call) in [MAKING, ARITHMETIC, POWERS_AND_SIGNS, COMPARING, ROUNDING, TOTALS].concat() {
         assert_eq!(place_of(call), (file!().to_owned(), line), "{name}");
     }
 }
 
 /// The layer's functions that only the layer calls.
-const OWN: [&str; 4] = ["pub(super) fn ", "fn recip_of_any(", "fn refuse", "fn power<"];
+const OWN: [&str; 5] = ["pub(super) fn ", "fn recip_of_any(", "fn refuse", "fn power<", "fn put("];
 
 /// A call that can panic has `#[track_caller]` and says when it panics. A call that returns an `Option` never panics.
 #[test]

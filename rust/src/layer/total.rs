@@ -215,7 +215,7 @@ impl<T: UpTo64> Total<T> {
                     break;
                 }
                 Err(Refusal::MoreRoom) => self.grow(),
-                Err(Refusal::TooMany) => too_many(),
+                Err(Refusal::TooMany) => refuse_more(),
             }
         }
         self.count_empty();
@@ -313,7 +313,7 @@ impl<T: UpTo64> Total<T> {
                     return;
                 }
                 Err(Refusal::MoreRoom) => self.count_empty(), // none is empty
-                Err(Refusal::TooMany) => too_many(),
+                Err(Refusal::TooMany) => refuse_more(),
             }
         }
     }
@@ -331,7 +331,7 @@ fn fields<T: UpTo64>(fraction: Reduced<T>) -> (i128, u64) {
 
 #[cold]
 #[track_caller]
-fn too_many() -> ! {
+fn refuse_more() -> ! {
     panic!("a total of more than 2^63-1 additions")
 }
 
@@ -355,6 +355,9 @@ impl<T> fmt::Debug for Total<T> {
 }
 
 impl<T: UpTo64> AddAssign<Reduced<T>> for Total<T> {
+    /// # Panics
+    ///
+    /// If `add` panics.
     #[inline]
     #[track_caller]
     fn add_assign(&mut self, fraction: Reduced<T>) {
@@ -363,6 +366,9 @@ impl<T: UpTo64> AddAssign<Reduced<T>> for Total<T> {
 }
 
 impl<T: UpTo64> SubAssign<Reduced<T>> for Total<T> {
+    /// # Panics
+    ///
+    /// If `subtract` panics.
     #[inline]
     #[track_caller]
     fn sub_assign(&mut self, fraction: Reduced<T>) {
@@ -371,29 +377,31 @@ impl<T: UpTo64> SubAssign<Reduced<T>> for Total<T> {
 }
 
 impl<T: UpTo64> AddAssign<&Total<T>> for Total<T> {
+    /// # Panics
+    ///
+    /// If `merge` panics.
     #[track_caller]
     fn add_assign(&mut self, other: &Total<T>) {
         self.merge(other);
     }
 }
 
-impl<T: UpTo64> Extend<Reduced<T>> for Total<T> {
-    #[inline]
-    fn extend<I: IntoIterator<Item = Reduced<T>>>(&mut self, items: I) {
-        items.into_iter().for_each(|item| self.add(item));
-    }
-}
+/// The items are added by `extend`, and make a total by `collect` and by `sum`.
+macro_rules! adds {
+    ($([$($a:lifetime)?] $Item:ty: $item:ident => $fraction:expr;)*) => {$(
+        impl<$($a,)? T: UpTo64> Extend<$Item> for Total<T> {
+            /// # Panics
+            ///
+            /// If `add` panics.
+            #[inline]
+            #[track_caller]
+            fn extend<I: IntoIterator<Item = $Item>>(&mut self, items: I) {
+                for $item in items {
+                    self.add($fraction);
+                }
+            }
+        }
 
-impl<'a, T: UpTo64> Extend<&'a Reduced<T>> for Total<T> {
-    #[inline]
-    fn extend<I: IntoIterator<Item = &'a Reduced<T>>>(&mut self, items: I) {
-        self.extend(items.into_iter().copied());
-    }
-}
-
-/// The total of the items, by `collect` and by `sum`.
-macro_rules! totals {
-    ($([$($a:lifetime)?] $Item:ty;)*) => {$(
         impl<$($a,)? T: UpTo64> FromIterator<$Item> for Total<T> {
             #[inline]
             fn from_iter<I: IntoIterator<Item = $Item>>(items: I) -> Total<T> {
@@ -412,17 +420,22 @@ macro_rules! totals {
     )*};
 }
 
-totals! {
-    [] Reduced<T>;
-    ['a] &'a Reduced<T>;
+adds! {
+    [] Reduced<T>: item => item;
+    ['a] &'a Reduced<T>: item => *item;
 }
 
 /// The total of all parts, as threads that share the work need it.
 impl<T: UpTo64> Sum for Total<T> {
+    /// # Panics
+    ///
+    /// If `merge` panics.
+    #[track_caller]
     fn sum<I: Iterator<Item = Total<T>>>(parts: I) -> Total<T> {
-        parts.fold(Total::new(), |mut total, part| {
+        let mut total = Total::new();
+        for part in parts {
             total.merge(&part);
-            total
-        })
+        }
+        total
     }
 }

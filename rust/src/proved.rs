@@ -22,3 +22,5 @@ pub mod ratio_natural;
 pub mod ratio_totals;
 #[cfg(all(test, target_pointer_width = "64"))]
 mod tests_fractions;
+#[cfg(all(test, target_pointer_width = "64"))]
+mod tests_totals;

@@ -5,8 +5,6 @@ mod decimal;
 pub mod laws;
 mod places;
 mod rounding;
-#[cfg(test)]
-mod tests;
 
 pub use decimal::put_decimal;
 pub use places::put_places;

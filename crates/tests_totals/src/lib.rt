@@ -1,0 +1,7 @@
+//! Tests of natural numbers of any length, of fractions of them, and of totals: rows from outside, and each call once.
+#![tactic(auto)]
+
+#[cfg(test)]
+mod long_fractions;
+#[cfg(test)]
+mod naturals;

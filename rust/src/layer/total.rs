@@ -439,3 +439,33 @@ impl<T: UpTo64> Sum for Total<T> {
         total
     }
 }
+
+#[cfg(test)]
+mod tests {
+    use super::{proved, Total, SHORTEST_PAUSE};
+    use crate::Reduced64;
+
+    /// Each denominator is new. A large table is never fuller than three quarters, and never emptier than a quarter.
+    #[test]
+    fn a_large_table_is_neither_full_nor_empty() {
+        let mut total = Total::new();
+        for denom in 1..=20_000 {
+            total.add(Reduced64::checked_new(1, denom).unwrap());
+            let (slots, taken) = (total.slots.len(), denom as usize);
+            if slots > 4 * SHORTEST_PAUSE {
+                assert!(4 * taken <= 3 * slots && slots <= 4 * taken, "{taken} in {slots}");
+            }
+        }
+        assert_eq!(proved::count_free(&total.slots), total.slots.len() - 20_000);
+    }
+
+    /// 12 are more than half of 16 slots.
+    #[test]
+    fn a_few_denominators_take_few_slots() {
+        let mut total = Total::new();
+        for n in 0..10_000 {
+            total.add(Reduced64::checked_new(1, 1 + n % 12).unwrap());
+        }
+        assert_eq!(total.slots.len(), 32);
+    }
+}

@@ -4,4 +4,6 @@
 #[cfg(test)]
 mod long_fractions;
 #[cfg(test)]
+mod loose;
+#[cfg(test)]
 mod naturals;

@@ -3,4 +3,6 @@
 #[cfg(test)]
 mod long_fractions;
 #[cfg(test)]
+mod loose;
+#[cfg(test)]
 mod naturals;

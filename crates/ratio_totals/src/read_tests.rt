@@ -1,6 +1,6 @@
 //! Tests of the reads of a total: worked rows. Expected values are from Python's `fractions`.
 
-use crate::{ReadRefusal, Slot, Total, sign_of};
+use crate::{ReadRefusal, Refusal, Slot, Total, laws, sign_of};
 use std::cmp::Ordering;
 use std::process::Abort;
 use std::test::Fail;
@@ -44,5 +44,50 @@ fn a_sign_needs_the_room_of_a_read(rt: HostRuntime) -> Result<(), Fail> {
     let slots = [Slot::new(36, 1), Slot::EMPTY, Slot::new(28, -1)];
     assert_eq!(rt; sign_of(&slots, &mut [0; 13]), Err(ReadRefusal::MoreRoom));
     assert_eq!(rt; sign_of(&slots, &mut [0; 14]), Ok(Ordering::Less));
+    Ok(())
+}
+
+#[test]
+fn what_was_merged_is_taken_out(rt: HostRuntime) -> Result<(), Fail> {
+    let mut room = [Slot::EMPTY; 4];
+    let mut total = Total::new(&mut room);
+    assert_eq!(rt; total.add(1, 36), Ok(()));
+    assert_eq!(rt; total.add(1, 28), Ok(()));
+    let mut other_room = [Slot::EMPTY; 4];
+    let mut other = Total::new(&mut other_room);
+    assert_eq!(rt; other.add(5, 12), Ok(()));
+    assert_eq!(rt; other.add(1, 28), Ok(()));
+    assert_eq!(rt; other.subtract(1, 7), Ok(()));
+    assert_eq!(rt; total.merge(&other), Ok(()));
+    assert_eq!(rt; total.numerator(28), 2);
+    assert_eq!(rt; total.count(), 3);
+    assert_eq!(rt; total.take_out(&other), Ok(()));
+    for (denom, numer) in [(36, 1), (28, 1), (12, 0), (7, 0), (3, 0)] {
+        assert_eq!(rt; total.numerator(denom), numer, "over {denom}");
+    }
+    assert_eq!(rt; total.count(), 2);
+    assert_eq!(rt; total.take_out(&other), Ok(()));
+    for (denom, numer) in [(36, 1), (28, 0), (12, -5), (7, 1), (3, 0)] {
+        assert_eq!(rt; total.numerator(denom), numer, "over {denom}");
+    }
+    assert_eq!(rt; total.count(), 1);
+    laws::takings_out();
+    Ok(())
+}
+
+#[test]
+fn a_total_without_room_takes_nothing_out(rt: HostRuntime) -> Result<(), Fail> {
+    let mut room = [Slot::EMPTY; 2];
+    let mut total = Total::new(&mut room);
+    assert_eq!(rt; total.add(1, 36), Ok(()));
+    let mut other_room = [Slot::EMPTY; 4];
+    let mut other = Total::new(&mut other_room);
+    assert_eq!(rt; other.add(5, 12), Ok(()));
+    assert_eq!(rt; total.take_out(&other), Ok(()));
+    assert_eq!(rt; other.add(1, 28), Ok(()));
+    assert_eq!(rt; total.take_out(&other), Err(Refusal::MoreRoom));
+    assert_eq!(rt; total.numerator(12), -5);
+    assert_eq!(rt; total.numerator(36), 1);
+    assert_eq!(rt; total.count(), 0);
     Ok(())
 }

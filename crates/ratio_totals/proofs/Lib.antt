@@ -14,3 +14,5 @@ pub mod DigitLemmas
 pub mod ReadingLemmas
 pub mod LowestSumLemmas
 pub mod SumsAgree
+pub mod SignLemmas
+pub mod TurnLemmas

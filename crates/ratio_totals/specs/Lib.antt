@@ -9,3 +9,5 @@ pub mod Merging
 pub mod TotalLaws
 pub mod Common
 pub mod LowestSum
+pub mod SumOrder
+pub mod Turning

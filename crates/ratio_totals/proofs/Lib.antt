@@ -13,4 +13,5 @@ pub mod JoinLemmas
 pub mod DigitLemmas
 pub mod ReadingLemmas
 pub mod LowestSumLemmas
+pub mod ShortSumLemmas
 pub mod SumsAgree

@@ -19,6 +19,7 @@ mod pouring;
 mod reading;
 mod refusal;
 mod searching;
+mod short_sums;
 mod slots;
 mod steps;
 mod tally;

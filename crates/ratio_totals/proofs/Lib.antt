@@ -13,6 +13,7 @@ pub mod JoinLemmas
 pub mod DigitLemmas
 pub mod ReadingLemmas
 pub mod LowestSumLemmas
+pub mod ShortSumLemmas
 pub mod SumsAgree
 pub mod SignLemmas
 pub mod TurnLemmas

@@ -22,6 +22,7 @@ mod reading;
 mod refusal;
 mod searching;
 mod signs;
+mod short_sums;
 mod slots;
 mod steps;
 mod tally;

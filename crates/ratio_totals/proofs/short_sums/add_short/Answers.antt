@@ -1,0 +1,26 @@
+use Rattle.std.proofs.Common.{rules, arith}
+use mir.Facts.{to_z-of_z, to_z_pos}
+use mir.Syntax.{w128}
+use mir.Val.{SFits}
+use Rattle.ratio_totals.proofs.ShortSumLemmas.{added_is}
+use Rattle.ratio_totals.proofs.short_sums.add_short.Goals as goal
+
+pub returns : goal.returns
+returns c =
+    let sum : SFits w128 c.args.sum = search rules in
+    let numer : SFits w128 c.args.numer = search rules in
+    let scale : SFits w128 c.in_ok-from_u128.field-0 = search rules in
+    let old : SFits w128 c.in_ok-old.old = search rules in
+    let part : SFits w128 c.in_ok-part.part = search rules in
+    let new : SFits w128 c.in_ok-try_plus.field-0 = search rules in
+    let more = to_z_pos w128 {n = c.parts_of-share.result.1} (omega arith) in
+    record {
+      share = c.parts_of-share.result.0;
+      more = c.parts_of-share.result.1;
+      parts = c.parts_of-share.ensures;
+      numer_is = rw (to_z-of_z new)
+          (added_is c.args.sum c.args.numer _ _ _ _ c.parts_of-share.result.1 c.parts_of-share.result.0 (rw (to_z-of_z sum, more) at c.in_ok-old.ensures.1) c.in_ok-from_u128.ensures.1 (rw (to_z-of_z numer, to_z-of_z scale) at c.in_ok-part.ensures.1)
+          (rw (to_z-of_z old, to_z-of_z part) at c.in_ok-try_plus.ensures.1));
+      denom_is = c.in_ok-next.ensures.1;
+      below = omega arith;
+    }

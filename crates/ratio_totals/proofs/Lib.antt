@@ -14,4 +14,5 @@ pub mod DigitLemmas
 pub mod ReadingLemmas
 pub mod LowestSumLemmas
 pub mod ShortSumLemmas
+pub mod SizeLemmas
 pub mod SumsAgree

@@ -14,6 +14,7 @@ pub mod DigitLemmas
 pub mod ReadingLemmas
 pub mod LowestSumLemmas
 pub mod ShortSumLemmas
+pub mod SizeLemmas
 pub mod SumsAgree
 pub mod SignLemmas
 pub mod TurnLemmas

@@ -15,3 +15,4 @@ pub mod ReadingLemmas
 pub mod LowestSumLemmas
 pub mod SumsAgree
 pub mod SignLemmas
+pub mod TurnLemmas

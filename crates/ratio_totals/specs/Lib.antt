@@ -10,3 +10,4 @@ pub mod TotalLaws
 pub mod Common
 pub mod LowestSum
 pub mod SumOrder
+pub mod Turning

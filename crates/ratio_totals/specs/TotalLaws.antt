@@ -2,7 +2,8 @@
 use Rattle.std.specs.Prelude.{◌≡◌, ◌≢◌, ◌<◌, ℕ, ℤ, List, length, neg_ℤ}
 use Rattle.ratio_totals.specs.Merging.{AddsEach}
 use Rattle.ratio_totals.specs.Slots.{IsTable, slot_at}
-use Rattle.ratio_totals.specs.Sums.{GrowsAt, numerator_at}
+use Rattle.ratio_totals.specs.Sums.{GrowsAt, numerator_at, sum_of_slots}
+use Rattle.ratio_totals.specs.Turning.{negated}
 use Rattle.ratio_totals.specs.declared.slots.Slot.{Slot}
 
 -- both tables have the same numerator over each denominator
@@ -35,6 +36,21 @@ TableMergesAssociate = (a b c ab ab_c bc a_bc : List Slot)
 abbrev pub MergesAddEach : Type 0
 MergesAddEach = (d : ℕ) (n : ℤ) (start other more merged merged_more : List Slot)
     → GrowsAt d n other more → AddsEach start other merged → AddsEach start more merged_more → GrowsAt d n merged merged_more
+
+-- a total that is merged and then taken out leaves each numerator as it was
+-- Example: 1/36 and 1/28, and then -1/36 and -1/28
+abbrev pub MergesUndone : Type 0
+MergesUndone = (start other merged after : List Slot) → AddsEach start other merged → AddsEach merged (negated other) after → SameNumerators start after
+
+-- a negated table has each numerator with its sign turned
+-- Example: over 36, 1/36 negated: -1
+abbrev pub NegatedNumerators : Type 0
+NegatedNumerators = (e : ℕ) (slots : List Slot) → numerator_at e (negated slots) ≡ neg_ℤ (numerator_at e slots)
+
+-- the sum of a negated table is its sum with the sign turned
+-- Example: 1/36, 1/28: -64/1008
+abbrev pub NegatedSums : Type 0
+NegatedSums = (slots : List Slot) → sum_of_slots (negated slots) ≡ (neg_ℤ (sum_of_slots slots).0, (sum_of_slots slots).1)
 
 -- no denominator is in two slots of a table
 abbrev pub DenominatorsDiffer : Type 0

@@ -1,7 +1,7 @@
 //! The laws of totals. Each function does nothing: its contract is the law.
 ghost use Rattle.ratio_totals.specs.Common.{CommonExists, CommonsAgree, ReadsAgree};
 ghost use Rattle.ratio_totals.specs.LowestSum.{MeanResultsAgree, SumResultsAgree, SumsAgree};
-ghost use Rattle.ratio_totals.specs.TotalLaws.{AdditionsCommute, DenominatorsDiffer, MergesAddEach, TableMergesAssociate, TableMergesCommute, TakingOutUndoes};
+ghost use Rattle.ratio_totals.specs.TotalLaws.{AdditionsCommute, DenominatorsDiffer, MergesAddEach, MergesUndone, NegatedNumerators, NegatedSums, TableMergesAssociate, TableMergesCommute, TakingOutUndoes};
 
 /// The order of additions does not matter, and taking out undoes an addition.
 pub fn additions()
@@ -14,6 +14,13 @@ pub fn merges()
     ensures commute { TableMergesCommute }
     ensures associate { TableMergesAssociate }
     ensures add_each { MergesAddEach }
+{}
+
+/// Taking out a total adds its negative, and undoes its merge.
+pub fn takings_out()
+    ensures undo { MergesUndone }
+    ensures numerators { NegatedNumerators }
+    ensures sum { NegatedSums }
 {}
 
 /// Each denominator has one slot.

@@ -6,6 +6,7 @@ ghost use Rattle.ratio_totals.specs.Merging.{AddsEach, CanMerge, HoldsBoth, IsMe
 ghost use Rattle.ratio_totals.specs.Sums.{GrowsAt, Puts, SumGrows, numerator_at};
 ghost use Rattle.ratio_totals.specs.TotalLaws.{SameNumerators};
 ghost use Rattle.ratio_totals.specs.Totals.{HasNoFraction, IsAccepted, IsKept, IsRefusedFor};
+ghost use Rattle.ratio_totals.specs.Turning.{negated};
 
 use crate::clearing::clear;
 use crate::merging::merge_slots;
@@ -95,7 +96,25 @@ impl<'a> Total<'a> {
         ensures slots_unchanged { OnErr result (self.new.slots.now ≡ self.old.slots.now) }
         ensures tally_unchanged { OnErr result (self.new.tally ≡ self.old.tally) }
     {
-        merge_slots(self.slots, &mut self.tally, other.slots, other.tally)
+        merge_slots(self.slots, &mut self.tally, other.slots, other.tally, false)
+    }
+
+    /// Takes out each fraction of the other total. If the total refuses it, nothing has changed. The other total may have
+    /// fractions that this one does not: 1/28 taken out of 1/36 leaves 1/36 and -1/28, and so a slot for each of both.
+    pub fn take_out(&mut self, other: &Total<'_>) -> Result<(), Refusal>
+        ensures same_slots { self.new.slots.ghost_name ≡ self.old.slots.ghost_name }
+        ensures room { length self.new.slots.now ≡ length self.old.slots.now }
+        ensures numerators { OnOk result (AddsEach self.old.slots.now (negated other.now.slots.now) self.new.slots.now) }
+        ensures sum { OnOk result (SumAdds self.old.slots.now (negated other.now.slots.now) self.new.slots.now) }
+        ensures held { OnOk result (HoldsBoth self.old.slots.now other.now.slots.now self.new.slots.now) }
+        ensures count { OnOk result (self.new.tally.count ≡ self.old.tally.count -ℤ other.now.tally.count) }
+        ensures weight { OnOk result (self.new.tally.weight ≡ self.old.tally.weight + other.now.tally.weight) }
+        ensures accepted { OnOk result (CanMerge self.old.slots.now self.old.tally.weight other.now.slots.now other.now.tally.weight) }
+        ensures refused { IfErr result (IsMergeRefusedFor self.old.slots.now self.old.tally.weight other.now.slots.now other.now.tally.weight) }
+        ensures slots_unchanged { OnErr result (self.new.slots.now ≡ self.old.slots.now) }
+        ensures tally_unchanged { OnErr result (self.new.tally ≡ self.old.tally) }
+    {
+        merge_slots(self.slots, &mut self.tally, other.slots, other.tally, true)
     }
 
     /// The same total in other slots, such as more of them. It empties these slots first. If they are fewer than the

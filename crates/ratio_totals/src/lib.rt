@@ -16,8 +16,6 @@ mod loose;
 mod lowest;
 mod merging;
 mod pouring;
-#[cfg(test)]
-mod read_tests;
 mod reading;
 mod refusal;
 mod searching;

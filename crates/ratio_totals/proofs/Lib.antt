@@ -14,3 +14,4 @@ pub mod DigitLemmas
 pub mod ReadingLemmas
 pub mod LowestSumLemmas
 pub mod SumsAgree
+pub mod SignLemmas

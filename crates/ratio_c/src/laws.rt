@@ -2,7 +2,6 @@
 ghost use Rattle.ratio_c.specs.Calls.{EqualValuesHaveOneHash};
 ghost use Rattle.ratio_c.specs.Keys.{KeysKeepOrder, KeysTellFloats};
 ghost use Rattle.ratio_c.specs.LowestHash.{DenominatorsHaveUnlikeHashes, EqualHaveOneHash, NumeratorsHaveUnlikeHashes};
-ghost use Rattle.ratio_c.specs.TotalLaws.{CallsFollow, LostStaysLost, TotalsInAnyOrder, OutUndoesIn, PartsMerge};
 
 /// Which fractions have the same hash in lowest terms.
 pub fn lowest_hashes()
@@ -14,16 +13,6 @@ pub fn lowest_hashes()
 /// The hash by value is one for all fractions of a value.
 pub fn hashes()
     ensures { EqualValuesHaveOneHash }
-{}
-
-/// Where no total is lost, totals of parts make up the total of the whole, in any order, and what goes in and out again leaves no trace. A
-/// lost total stays lost.
-pub fn totals()
-    ensures parts { PartsMerge }
-    ensures order { TotalsInAnyOrder }
-    ensures calls { CallsFollow }
-    ensures undone { OutUndoesIn }
-    ensures lost { LostStaysLost }
 {}
 
 /// If one value is at most another, so is its key. If the nearest float of one value is below that of another, so is its key.

@@ -7,7 +7,5 @@ pub mod Hashes
 pub mod LowestHashes
 pub mod Cases
 pub mod Magnitudes
-pub mod TotalSteps
-pub mod TotalLaws
 pub mod Keys
 pub mod Multiples

@@ -7,5 +7,8 @@ pub mod Hashes
 pub mod LowestHashes
 pub mod Cases
 pub mod Magnitudes
+pub mod Narrowing
+pub mod TotalSteps
+pub mod TotalLaws
 pub mod Keys
 pub mod Multiples

@@ -57,6 +57,10 @@ abbrev pub GoesOver : Way → Option Piece → Held → Held → Type 0
 GoesOver way (Some piece) old new = Tested (piece.denom ≡ 0) (new ≡ old) (Goes way piece old new)
 GoesOver way None old new = ⊥
 
+-- all items of a list go in, or out, one after another (`GoesOver`)
+abbrev pub AllGo : {A : Type 0} → (A → Option Piece) → Way → List A → Held → Held → Type 0
+AllGo brings way xs old new = FoldsTo (λ held x next. GoesOver way (brings x) held next) old xs new
+
 -- a number leaves its type: the piece's numerator or the sum with it leaves 128 bits, or the count leaves 64
 abbrev pub LeavesType : Way → Piece → Held → Type 0
 LeavesType way piece held =
@@ -96,7 +100,7 @@ pub record IsStoppedAt {A : Type 0} (brings : A → Option Piece) (way : Way) (a
 -- the next one is stopped for what the code says, and the slots and the count are those after the items before it
 -- Example: 1/2, 1/3 and 1/5 into two empty slots: `done` is 2, and the code is 10
 pub record GoUntil {A : Type 0} (brings : A → Option Piece) (way : Way) (asked : List A) (old : Held) (slots : List Slot) (header : Total64) : Type 0 where
-  pub went : FoldsTo (λ held x new. GoesOver way (brings x) held new) old (take header.done asked) (slots, header.count)
+  pub went : AllGo brings way (take header.done asked) old (slots, header.count)
   pub ended : Tested (header.code ≡ code_answered) (header.done ≡ length asked) (IsStoppedAt brings way asked (slots, header.count) header.done header.code)
 
 -- a header after the count of another total: if all its slots are done, that count is added, or taken off. If the new count does not fit 64

@@ -50,6 +50,8 @@ pub enum Stop {
 
 /// An item of a call on totals: a fraction, or a slot of another total.
 pub trait Item {
+    ghost use Rattle.ratio_c.specs.declared.totals.Piece.{Piece};
+
     // What it brings; none if its denominator is not positive.
     ghost brings: { Self → Option Piece };
 

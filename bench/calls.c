@@ -1,5 +1,5 @@
 /* Times each call for C over fractions of 64 bits, on arrays of 1000. It prints a line for each: its name, the kind of its input and the
- * nanoseconds of one fraction, with tabs between. With an argument it prints the names alone.
+ * nanoseconds of one fraction, or of one read of a total, with tabs between. With an argument it prints the names alone.
  */
 #define _POSIX_C_SOURCE 199309L
 #include "ratio.h"
@@ -12,6 +12,9 @@
 /* Each call is timed so often, for so many nanoseconds at least, and the median is printed. */
 enum { LEN = 1000, ROUNDS = 101, LEAST = 100000 };
 
+/* The slots of the total of small fractions, which have as many denominators. A read is of this total. */
+enum { SLOTS = 16 };
+
 static ratio_i64 halves[LEN], smalls[LEN];
 static ratio_pair_i64 pairs[LEN];
 static ratio_power_i64 powers[LEN];
@@ -22,7 +25,9 @@ static ratio_scaled scaled[LEN];
 static ratio_place_i64 steps[LEN];
 static ratio_decimal_i64 decimals[LEN];
 static double doubles[LEN];
-static ratio_total_i64 totals[LEN], total;
+static ratio_total_i64 total;
+static ratio_slot_i64 slots[SLOTS], parts[LEN];
+static uint64_t room[4 * SLOTS + 12], sizes[LEN];
 static uint8_t texts[LEN * RATIO_ROOM_I64], decimal_texts[LEN * RATIO_DECIMAL_ROOM_I64], printed[LEN * RATIO_DECIMAL_ROOM_I64];
 static size_t texts_len, decimal_texts_len;
 static ratio_span spans[LEN], decimal_spans[LEN];
@@ -57,8 +62,7 @@ static void done(uint32_t returned) {
     X(convergent_i64, steps, answers, "half") X(to_f64_i64, halves, floats, "half") X(from_f64_i64, doubles, answers, "half") \
     X(rationalize_i64, doubles, answers, "half")                                                            \
     X(from_scaled_i64, scaled, answers, "half") X(cast_i64_to_i32, halves, narrow, "half")                  \
-    X(cast_i64_to_i128, halves, wide, "half") X(total_sum_i64, totals, answers, "small")                    \
-    X(total_mean_i64, totals, answers, "small")
+    X(cast_i64_to_i128, halves, wide, "half")
 
 /* Those with texts or with one total. */
 #define OTHERS(X)                                                                                           \
@@ -67,27 +71,36 @@ static void done(uint32_t returned) {
     X(read_text_i64, (decimal_texts, decimal_texts_len, decimal_spans, LEN, answers, LEN), "half")          \
     X(read_decimal_i64, (decimal_texts, decimal_texts_len, decimal_spans, LEN, answers, LEN), "half")       \
     X(print_decimal_i64, (decimals, LEN, printed, sizeof printed, places, LEN), "half")                     \
-    X(total_add_i64, (smalls, LEN, empty(), 1), "small") X(total_subtract_i64, (smalls, LEN, full(), 1), "small") \
-    X(total_merge_i64, (totals, LEN, empty(), 1), "small")
+    X(total_add_i64, (smalls, LEN, &total, 1, slots, SLOTS), "small")                                       \
+    X(total_subtract_i64, (smalls, LEN, &total, 1, slots, SLOTS), "small")                                  \
+    X(total_merge_i64, (parts, LEN, 0, &total, 1, slots, SLOTS), "small")                                   \
+    X(total_unmerge_i64, (parts, LEN, 0, &total, 1, slots, SLOTS), "small")
 
-static ratio_total_i64 *empty(void) {
-    return memset(&total, 0, sizeof total);
-}
+/* Those that read a total, each with one answer. */
+#define ROOM room, sizeof room / sizeof *room
+#define READS(X)                                                                                            \
+    X(total_sum_i64, (slots, SLOTS, ROOM, answers, 1)) X(total_mean_i64, (slots, SLOTS, LEN, ROOM, answers, 1)) \
+    X(total_sign_i64, (slots, SLOTS, ROOM, orders, 1))                                                      \
+    X(total_print_i64, (slots, SLOTS, 2, RATIO_RULE_HALF_EVEN, ROOM, printed, sizeof printed, places, 1))
 
-/* The total of all small fractions, which was made before. */
-static ratio_total_i64 all;
-static ratio_total_i64 *full(void) {
-    return memcpy(&total, &all, sizeof total);
-}
+/* Those that say how much room a total has or needs. */
+#define SIZES(X)                                                                                            \
+    X(total_free_i64, (slots, SLOTS)) X(total_digits_i64, (slots, SLOTS))                                   \
+    X(total_print_digits_i64, (slots, SLOTS, 2)) X(total_print_bytes_i64, (slots, SLOTS, 2))
 
 #define DEFINE(name, asked, results, kind) static void name(void) { done(ratio_##name(asked, LEN, results, LEN)); }
 #define DEFINE_OTHER(name, arguments, kind) static void name(void) { done(ratio_##name arguments); }
+#define DEFINE_READ(name, arguments) static void name(void) { for (int i = 0; i < LEN; i++) done(ratio_##name arguments); }
+#define DEFINE_SIZE(name, arguments) static void name(void) { for (int i = 0; i < LEN; i++) sizes[i] = ratio_##name arguments; }
 CALLS(DEFINE)
 OTHERS(DEFINE_OTHER)
+READS(DEFINE_READ)
+SIZES(DEFINE_SIZE)
 
 #define ROW(name, asked, results, kind) {"ratio_" #name, kind, name},
 #define ROW_OTHER(name, arguments, kind) {"ratio_" #name, kind, name},
-static const struct { const char *name, *kind; void (*run)(void); } calls[] = {CALLS(ROW) OTHERS(ROW_OTHER)};
+#define ROW_READ(name, arguments) {"ratio_" #name, "total", name},
+static const struct { const char *name, *kind; void (*run)(void); } calls[] = {CALLS(ROW) OTHERS(ROW_OTHER) READS(ROW_READ) SIZES(ROW_READ)};
 
 static uint64_t state = 1;
 
@@ -104,7 +117,7 @@ static ratio_i64 fraction(int64_t most_numer, int64_t most_denom) {
     return answer.value;
 }
 
-/* Half inputs have numbers of 31 bits. Small ones have denominators up to 16, so that the total of all is held. */
+/* Half inputs have numbers of 31 bits. Small ones have denominators up to 16, so that 16 slots take them. */
 static void fill(void) {
     for (int i = 0; i < LEN; i++) {
         const int64_t half = INT64_C(1) << 31;
@@ -134,10 +147,11 @@ static void fill(void) {
         decimals[i].places = 2;
         decimals[i].rule = RATIO_RULE_HALF_EVEN;
         doubles[i] = (double) random_below(half) / 256;
-        memset(&totals[i], 0, sizeof totals[i]);
-        done(ratio_total_add_i64(&smalls[i], 1, &totals[i], 1));
+        parts[i].denom = (uint64_t) smalls[i].denom;
+        parts[i].numer.low = (uint64_t) smalls[i].numer;
+        parts[i].numer.high = smalls[i].numer < 0 ? -1 : 0;
     }
-    done(ratio_total_add_i64(smalls, LEN, &all, 1));
+    done(ratio_total_add_i64(smalls, LEN, &total, 1, slots, SLOTS));
     done(ratio_print_i64(halves, LEN, texts, sizeof texts, places, LEN));
     for (int i = 0; i < LEN; i++) spans[i] = places[i].span;
     texts_len = spans[LEN - 1].end;
@@ -179,5 +193,5 @@ int main(int argc, char **argv) {
         if (argc > 1) printf("%s\n", calls[i].name);
         else printf("%s\t%s\t%.1f\n", calls[i].name, calls[i].kind, median_time(calls[i].run));
     }
-    return all.code == RATIO_ANSWERED ? 0 : 1;
+    return total.code == RATIO_ANSWERED ? 0 : 1;
 }

@@ -41,9 +41,11 @@ enum {
                                            no such text */
     RATIO_NO_TEXT = 6,                  /* of read, read_decimal and read_text: the span does not lie in the texts */
     RATIO_BOUND_NOT_POSITIVE = 7,       /* of nearest: no denominator lies from 1 to the bound */
-    RATIO_NO_TOTAL = 8,                 /* of totals: the code is 0, but the sum is not in lowest terms */
-    RATIO_BAD_OPTION = 9                /* of between, from_scaled, round_to and print_decimal: the call has no such flags, scale,
-                                           parts, places or rule */
+    RATIO_NO_TOTAL = 8,                 /* of totals: an empty slot has a numerator that is not 0 */
+    RATIO_BAD_OPTION = 9,               /* of between, from_scaled, round_to, print_decimal and total_print: the call has no such
+                                           flags, scale, parts, places or rule */
+    RATIO_MORE_ROOM = 10,               /* of totals: each slot holds another denominator, or a read has too little room */
+    RATIO_TOO_LONG = 11                 /* of reads of totals: the common denominator is not below 2^(2^20) */
 };
 
 /* The flags of between, which are added. Without flags both bounds are excluded. */
@@ -54,7 +56,7 @@ enum {
     RATIO_HIGH_OPEN = 8      /* there is no upper bound: its fields are not read */
 };
 
-/* The rules of round_to and print_decimal. */
+/* The rules of round_to, print_decimal and total_print. */
 enum {
     RATIO_RULE_HALF_AWAY = 0, /* to the nearer multiple, and a half away from zero: 5/2 to 3 */
     RATIO_RULE_HALF_EVEN = 1, /* to the nearer one, and a half to the even one: 5/2 to 2 */
@@ -251,30 +253,89 @@ RATIO_SHORT_CALLS(i64)
  */
 uint32_t ratio_key_i64(const ratio_i64 *asked, size_t asked_len, ratio_key *answers, size_t answers_len);
 
-/* A total: how many fractions were added, and their exact sum in lowest terms. Made all zero, as by `ratio_total_i64 total = {0};`, it
- * is the total of no fraction. The code is RATIO_ANSWERED, or it says why the total is lost: RATIO_NOT_HELD if a sum on the way, or the
- * count, did not fit, RATIO_DENOMINATOR_NOT_POSITIVE for such a fraction, or RATIO_NO_TOTAL if the sum was not in lowest terms. A lost
- * total stays lost, with its code, and its numbers are 0.
+/* A total adds fractions and loses nothing, however many there are. It has a slot for each denominator, with the sum of the numerators over
+ * it: 1/36, 1/28 and 5/36 take two slots, 6/36 and 1/28. Adding computes no greatest common divisor, and no sum on the way overflows
+ * where a running sum in lowest terms would. You give the slots, as many as there are unlike denominators:
+ *
+ *   ratio_total_i64 total = {0};
+ *   ratio_slot_i64 slots[8] = {{0}};
+ *   ratio_total_add_i64(prices, 3, &total, 1, slots, 8);
+ *   if (total.code != RATIO_ANSWERED) ..         prices[total.done] did not go in
+ *
+ * Made all zero, as here, it is the total of no fraction.
  */
-typedef struct { uint32_t code; uint64_t count; ratio_i128 sum; } ratio_total_i64;
 
-/* The calls over totals. The first three change one total: if `total_len` is not 1, they return RATIO_BAD_LENGTH and write nothing.
+/* A slot: the fraction numer/denom. It is empty if denom is 0. */
+typedef struct { uint64_t denom; ratio_wide numer; } ratio_slot_i64;
+
+/* The header of a total: how many fractions are in it, and what the last call did. The calls read only the count. */
+typedef struct { uint32_t code; uint64_t done; int64_t count; } ratio_total_i64;
+
+/* The calls that change a total. The items go one after another, until one is refused. `done` says how many went, and `code` why the next
+ * one did not:
  *
- *   ratio_total_add_i64        the fractions go into the total: 1/2, 1/3 and 1/6 give the count 3 and the sum 1/1
- *   ratio_total_subtract_i64   the fractions go out of it, as from a window that moves: 1/3 out of these gives 2 and 2/3
- *   ratio_total_merge_i64      the other totals go into it, as those of workers
- *   ratio_total_sum_i64        the sum of each total, or RATIO_NOT_HELD if it does not fit 64 bits. A lost total gives its code
- *   ratio_total_mean_i64       the sum divided by the count, in lowest terms, or RATIO_NOT_HELD if these do not fit 64 bits. The
- *                              total of no fraction gives RATIO_DIVISION_BY_ZERO
+ *   RATIO_ANSWERED                   all went
+ *   RATIO_MORE_ROOM                  each slot holds another denominator
+ *   RATIO_DENOMINATOR_NOT_POSITIVE   the fraction's denominator is 0 or below it
+ *   RATIO_NOT_HELD                   a numerator would leave 128 bits, or the count 64
+ *   RATIO_NO_TOTAL                   the slot where it goes is empty, and has a numerator that is not 0
  *
- * A total that is not lost is the same in any order, and however its fractions were cut into parts. Whether it is lost may depend on
- * the order, since each sum on the way must fit 128 bits.
+ * What went stays: to go on, hand in the items from `done` on. If `total_len` is not 1, a call returns RATIO_BAD_LENGTH and writes nothing.
+ *
+ *   ratio_total_add_i64        the fractions go into the total, and each makes the count 1 greater
+ *   ratio_total_subtract_i64   the fractions go out of it, as from a window that moves, and each makes the count 1 less
+ *   ratio_total_merge_i64      the slots of another total go into it, as those of workers. An empty slot is done and changes nothing.
+ *                              Once all are done, that total's count is added. If `done` is `asked_len` and the code is
+ *                              RATIO_NOT_HELD, only the count did not fit
+ *   ratio_total_unmerge_i64    the slots of another total go out of it, and once all are done, so does that total's count
+ *
+ * For more slots, merge the total into slots that are all zero, with a header that is all zero: that moves it. Then go on there.
+ *
+ * The order of the fractions and how they are cut into calls and parts do not matter: if all went, each denominator has the same
+ * numerator. Which slot it has may differ.
  */
-uint32_t ratio_total_add_i64(const ratio_i64 *asked, size_t asked_len, ratio_total_i64 *total, size_t total_len);
-uint32_t ratio_total_subtract_i64(const ratio_i64 *asked, size_t asked_len, ratio_total_i64 *total, size_t total_len);
-uint32_t ratio_total_merge_i64(const ratio_total_i64 *asked, size_t asked_len, ratio_total_i64 *total, size_t total_len);
-uint32_t ratio_total_sum_i64(const ratio_total_i64 *asked, size_t asked_len, ratio_answer_i64 *answers, size_t answers_len);
-uint32_t ratio_total_mean_i64(const ratio_total_i64 *asked, size_t asked_len, ratio_answer_i64 *answers, size_t answers_len);
+uint32_t ratio_total_add_i64(const ratio_i64 *asked, size_t asked_len, ratio_total_i64 *total, size_t total_len,
+                             ratio_slot_i64 *slots, size_t slots_len);
+uint32_t ratio_total_subtract_i64(const ratio_i64 *asked, size_t asked_len, ratio_total_i64 *total, size_t total_len,
+                                  ratio_slot_i64 *slots, size_t slots_len);
+uint32_t ratio_total_merge_i64(const ratio_slot_i64 *asked, size_t asked_len, int64_t count, ratio_total_i64 *total, size_t total_len,
+                               ratio_slot_i64 *slots, size_t slots_len);
+uint32_t ratio_total_unmerge_i64(const ratio_slot_i64 *asked, size_t asked_len, int64_t count, ratio_total_i64 *total, size_t total_len,
+                                 ratio_slot_i64 *slots, size_t slots_len);
+
+/* The calls that read a total. They read any slots, and never refuse because of what is in an empty one. The result may be much longer than
+ * 64 bits on the way, so you give room: an array of digits of 64 bits, which may have anything before the call and after it.
+ *
+ *   ratio_total_free_i64           how many slots are empty
+ *   ratio_total_digits_i64         how many digits of room the sum, the mean and the sign need
+ *   ratio_total_sum_i64            the sum in lowest terms, or RATIO_NOT_HELD if they do not fit 64 bits: 4/63 for 1/36 and 1/28
+ *   ratio_total_mean_i64           the sum divided by the count, in lowest terms, or RATIO_NOT_HELD if they do not fit 64 bits. If the
+ *                                  count is 0 or less, it gives RATIO_DIVISION_BY_ZERO
+ *   ratio_total_sign_i64           -1, 0 or 1: the order of the sum and 0
+ *   ratio_total_print_digits_i64   how many digits of room the decimal with so many places needs,
+ *   ratio_total_print_bytes_i64    and how many bytes
+ *   ratio_total_print_i64          the sum as a decimal with exactly so many places, rounded by a rule, however long it is: 0.0635 for
+ *                                  1/36 and 1/28 with 4 places by RATIO_RULE_HALF_EVEN. It ends where `texts` ends, and the answer's
+ *                                  span says where it starts. The bytes before it may change. A rule that is none gives
+ *                                  RATIO_BAD_OPTION
+ *
+ * With too little room they give RATIO_MORE_ROOM. They give RATIO_TOO_LONG if the common denominator, which is the least common multiple
+ * of the denominators, is not below 2^(2^20). The time of a read grows with the square of the number of denominators. If `answers_len` is
+ * not 1, a call returns RATIO_BAD_LENGTH and writes nothing.
+ */
+uint64_t ratio_total_free_i64(const ratio_slot_i64 *slots, size_t slots_len);
+uint64_t ratio_total_digits_i64(const ratio_slot_i64 *slots, size_t slots_len);
+uint32_t ratio_total_sum_i64(const ratio_slot_i64 *slots, size_t slots_len, uint64_t *room, size_t room_len,
+                             ratio_answer_i64 *answers, size_t answers_len);
+uint32_t ratio_total_mean_i64(const ratio_slot_i64 *slots, size_t slots_len, int64_t count, uint64_t *room, size_t room_len,
+                              ratio_answer_i64 *answers, size_t answers_len);
+uint32_t ratio_total_sign_i64(const ratio_slot_i64 *slots, size_t slots_len, uint64_t *room, size_t room_len,
+                              ratio_order *answers, size_t answers_len);
+uint64_t ratio_total_print_digits_i64(const ratio_slot_i64 *slots, size_t slots_len, uint32_t places);
+uint64_t ratio_total_print_bytes_i64(const ratio_slot_i64 *slots, size_t slots_len, uint32_t places);
+uint32_t ratio_total_print_i64(const ratio_slot_i64 *slots, size_t slots_len, uint32_t places, uint32_t rule,
+                               uint64_t *room, size_t room_len, uint8_t *texts, size_t texts_len,
+                               ratio_text *answers, size_t answers_len);
 
 /* Declares the call that gives the same fractions over a type of another width, not reduced. A number that does not fit gives
  * RATIO_NOT_HELD: reduce the fraction before, if it is not in lowest terms.
@@ -334,7 +395,8 @@ static_assert(sizeof(ratio_decimal_i128) == 40, "the size of ratio_decimal_i128"
 static_assert(sizeof(ratio_place_i128) == 40, "the size of ratio_place_i128");
 static_assert(sizeof(ratio_bounds_i128) == 72, "the size of ratio_bounds_i128");
 static_assert(sizeof(ratio_answer_i128) == 40, "the size of ratio_answer_i128");
-static_assert(sizeof(ratio_total_i64) == 48, "the size of ratio_total_i64");
+static_assert(sizeof(ratio_slot_i64) == 24, "the size of ratio_slot_i64");
+static_assert(sizeof(ratio_total_i64) == 24, "the size of ratio_total_i64");
 #endif
 
 #endif

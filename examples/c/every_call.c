@@ -295,33 +295,68 @@ static void floats(void) {
     expect(ratio_to_f64_i64(&most, 1, &real, 1) == RATIO_DONE && real.value == 9223372036854775808.0, "float of 2^63-1");
 }
 
+/* Whether the last call on a total ended with this code, after so many items. */
+#define STOPPED(total, why, items) ((total).code == (why) && (total).done == (items))
+
 /* Three shares of a whole: in two parts, merged, and without the last one again. */
 static void totals(void) {
-    static const ratio_i64 shares[3] = {{1, 2}, {2, 6}, {1, 6}}, loose = {1, 0}, most = {INT64_MAX, 1};
-    static const ratio_answer_i64 whole = {RATIO_ANSWERED, {1, 1}}, third = {RATIO_ANSWERED, {1, 3}}, rest = {RATIO_ANSWERED, {5, 6}};
-    static const ratio_total_i64 empty;
-    ratio_total_i64 total = empty, other = empty, lost = empty, wide = empty, none = empty, pair[2];
+    static const ratio_i64 shares[3] = {{1, 2}, {2, 6}, {1, 6}};
+    ratio_total_i64 total = {0}, other = {0}, pair[2] = {{0}, {0}};
+    ratio_slot_i64 slots[4] = {{0}}, others[2] = {{0}};
+    uint64_t room[64];
     ratio_answer_i64 answer[1];
-    expect(ratio_total_add_i64(shares, 2, &total, 1) == RATIO_DONE && ratio_total_add_i64(shares + 2, 1, &other, 1) == RATIO_DONE, "add to totals");
-    expect(total.code == RATIO_ANSWERED && total.count == 2 && total.sum.numer.low == 5 && total.sum.denom.low == 6, "total of a part");
-    expect(ratio_total_merge_i64(&other, 1, &total, 1) == RATIO_DONE && total.count == 3, "merge of totals");
-    GIVES(i64, total_sum, total, whole)
-    GIVES(i64, total_mean, total, third)
-    expect(ratio_total_subtract_i64(shares + 2, 1, &total, 1) == RATIO_DONE && total.count == 2, "subtract from a total");
-    GIVES(i64, total_sum, total, rest)
-    REFUSES(i64, total_mean, none, RATIO_DIVISION_BY_ZERO)
-    expect(ratio_total_add_i64(&loose, 1, &lost, 1) == RATIO_DONE && ratio_total_add_i64(shares, 3, &lost, 1) == RATIO_DONE, "add to a lost total");
-    expect(lost.code == RATIO_DENOMINATOR_NOT_POSITIVE && lost.count == 0, "lost total");
-    REFUSES(i64, total_sum, lost, RATIO_DENOMINATOR_NOT_POSITIVE)
-    REFUSES(i64, total_mean, lost, RATIO_DENOMINATOR_NOT_POSITIVE)
-    expect(ratio_total_merge_i64(&lost, 1, &other, 1) == RATIO_DONE && other.code == RATIO_DENOMINATOR_NOT_POSITIVE, "merge of a lost total");
-    expect(ratio_total_add_i64(&most, 1, &wide, 1) == RATIO_DONE && ratio_total_add_i64(&most, 1, &wide, 1) == RATIO_DONE, "add of 2^63-1");
-    REFUSES(i64, total_sum, wide, RATIO_NOT_HELD)
-    expect(ratio_total_subtract_i64(shares, 1, &none, 1) == RATIO_DONE && none.code == RATIO_NOT_HELD, "count below 0");
-    total.sum.numer.low = 10, total.sum.denom.low = 12;
-    REFUSES(i64, total_sum, total, RATIO_NO_TOTAL)
-    pair[0] = pair[1] = empty;
-    expect(ratio_total_add_i64(shares, 1, pair, 2) == RATIO_BAD_LENGTH && pair[0].count == 0, "two totals");
+    expect(ratio_total_add_i64(shares, 2, &total, 1, slots, 4) == RATIO_DONE && STOPPED(total, RATIO_ANSWERED, 2), "add to a total");
+    expect(ratio_total_add_i64(shares + 2, 1, &other, 1, others, 2) == RATIO_DONE && other.count == 1, "add to another total");
+    expect(ratio_total_merge_i64(others, 2, other.count, &total, 1, slots, 4) == RATIO_DONE && STOPPED(total, RATIO_ANSWERED, 2), "merge of totals");
+    expect(total.count == 3 && ratio_total_free_i64(slots, 4) == 2 && ratio_total_digits_i64(slots, 4) == 14, "room of a total");
+    expect(ratio_total_sum_i64(slots, 4, room, 14, answer, 1) == RATIO_DONE && answer->code == RATIO_ANSWERED, "sum of a total");
+    expect(answer->value.numer == 1 && answer->value.denom == 1, "sum of a total");
+    expect(ratio_total_mean_i64(slots, 4, total.count, room, 14, answer, 1) == RATIO_DONE && answer->code == RATIO_ANSWERED, "mean of a total");
+    expect(answer->value.numer == 1 && answer->value.denom == 3, "mean of a total");
+    expect(ratio_total_mean_i64(slots, 4, 0, room, 14, answer, 1) == RATIO_DONE && answer->code == RATIO_DIVISION_BY_ZERO, "mean of no fraction");
+    expect(ratio_total_unmerge_i64(others, 2, other.count, &total, 1, slots, 4) == RATIO_DONE && total.count == 2, "unmerge of a total");
+    expect(ratio_total_subtract_i64(shares, 1, &total, 1, slots, 4) == RATIO_DONE && total.count == 1, "subtract from a total");
+    expect(ratio_total_sum_i64(slots, 4, room, 64, answer, 1) == RATIO_DONE && answer->value.numer == 1 && answer->value.denom == 3, "sum of the rest");
+    expect(ratio_total_add_i64(shares, 1, pair, 2, slots, 4) == RATIO_BAD_LENGTH && pair[0].count == 0, "two totals");
+    expect(ratio_total_sum_i64(slots, 4, room, 64, answer, 0) == RATIO_BAD_LENGTH, "no answer");
+}
+
+/* Items that are refused, and a total that moves to more slots. */
+static void stops_of_totals(void) {
+    static const ratio_i64 asked[4] = {{1, 2}, {1, 3}, {1, 5}, {1, 0}};
+    static const ratio_slot_i64 great[1] = {{2, {UINT64_MAX, INT64_MAX}}}, unclean[1] = {{0, {1, 0}}};
+    ratio_total_i64 total = {0}, moved = {0}, full = {0};
+    ratio_slot_i64 slots[2] = {{0}}, more[4] = {{0}}, one[1];
+    expect(ratio_total_add_i64(asked, 4, &total, 1, slots, 2) == RATIO_DONE && STOPPED(total, RATIO_MORE_ROOM, 2), "a third denominator");
+    expect(ratio_total_merge_i64(slots, 2, total.count, &moved, 1, more, 4) == RATIO_DONE && moved.count == 2, "move of a total");
+    expect(ratio_total_add_i64(asked + 2, 2, &moved, 1, more, 4) == RATIO_DONE, "add to a total that moved");
+    expect(STOPPED(moved, RATIO_DENOMINATOR_NOT_POSITIVE, 1) && moved.count == 3, "a denominator of 0");
+    *one = *great;
+    expect(ratio_total_add_i64(asked, 1, &total, 1, one, 1) == RATIO_DONE && STOPPED(total, RATIO_NOT_HELD, 0), "a numerator above 128 bits");
+    *one = *unclean;
+    expect(ratio_total_add_i64(asked, 1, &total, 1, one, 1) == RATIO_DONE && STOPPED(total, RATIO_NO_TOTAL, 0), "an empty slot with a numerator");
+    full.count = INT64_MAX;
+    expect(ratio_total_merge_i64(slots, 2, 1, &full, 1, more, 4) == RATIO_DONE && STOPPED(full, RATIO_NOT_HELD, 2), "a count above 64 bits");
+    expect(full.count == INT64_MAX, "a count that stays");
+}
+
+/* The sign of 1/36 - 1/28, and the decimal of 1/36 + 1/28. Python's `fractions` computed them. */
+static void reads_of_totals(void) {
+    static const ratio_slot_i64 unlike[2] = {{36, {1, 0}}, {28, {UINT64_MAX, -1}}}, like[2] = {{36, {1, 0}}, {28, {1, 0}}};
+    uint64_t room[64];
+    uint8_t bytes[256];
+    ratio_order order[1];
+    ratio_text text[1];
+    const uint64_t digits = ratio_total_print_digits_i64(like, 2, 4), size = ratio_total_print_bytes_i64(like, 2, 4);
+    expect(ratio_total_sign_i64(unlike, 2, room, 64, order, 1) == RATIO_DONE && order->code == RATIO_ANSWERED && order->order == -1, "sign of a total");
+    expect(ratio_total_sign_i64(unlike, 2, room, 13, order, 1) == RATIO_DONE && order->code == RATIO_MORE_ROOM, "sign without room");
+    expect(digits == 20 && size == 147, "room for a decimal of a total");
+    expect(ratio_total_print_i64(like, 2, 4, RATIO_RULE_HALF_EVEN, room, digits, bytes, size, text, 1) == RATIO_DONE, "decimal of a total");
+    expect(text->code == RATIO_ANSWERED && text->span.end == size && text->span.start == size - 6, "place of a decimal of a total");
+    expect(memcmp(bytes + text->span.start, "0.0635", 6) == 0, "text of a decimal of a total");
+    expect(ratio_total_print_i64(like, 2, 4, 6, room, digits, bytes, size, text, 1) == RATIO_DONE && text->code == RATIO_BAD_OPTION, "no rule");
+    expect(ratio_total_print_i64(like, 2, 4, 0, room, digits, bytes, size - 1, text, 1) == RATIO_DONE && text->code == RATIO_MORE_ROOM, "no room");
+    expect(text->span.start == text->span.end, "span of no text");
 }
 
 /* Python's division, which gives the nearest float, computed the keys. */
@@ -365,6 +400,8 @@ int main(void) {
     floats();
     lowest_hashes();
     totals();
+    stops_of_totals();
+    reads_of_totals();
     keys();
     refusals();
     return wrong;

@@ -17,8 +17,8 @@
 #include <sys/mman.h>
 #include <unistd.h>
 
-enum { MOST = 6, BEFORE = 64, CODES = 10, TEXT = 200 };
-enum { ASKED, TEXTS, ANSWERS, ARRAYS };
+enum { MOST = 6, BEFORE = 64, CODES = 12, TEXT = 200, SLOTS = 5, ROOM = 40 };
+enum { ASKED, TEXTS, ANSWERS, SLOTS_OF_TOTAL, ROOM_OF_TOTAL, ARRAYS };
 
 typedef uint32_t plain(const void *asked, size_t asked_len, void *answers, size_t answers_len);
 typedef uint32_t with_texts(const void *asked, size_t asked_len, uint8_t *texts, size_t texts_len, void *answers, size_t answers_len);
@@ -29,7 +29,7 @@ typedef struct { plain *plain; with_texts *reads, *prints; size_t asked, numbers
 typedef double ratio_double;
 
 /* Each call by its name, with what it is asked, how many numbers of which type begin that, and its answer. Options are behind the numbers.
- * A total has no such numbers.
+ * The calls on totals are in `one_total`.
  */
 #define PLAIN(X, s, number)                                                                                   \
     X(compare_##s, pair_##s, 4, number, order) X(equal_##s, pair_##s, 4, number, truth)                       \
@@ -51,10 +51,7 @@ typedef double ratio_double;
     X(key_i64, i64, 2, int64_t, key)                                                                          \
     X(cast_i32_to_i64, i32, 2, int32_t, answer_i64) X(cast_i32_to_i128, i32, 2, int32_t, answer_i128)         \
     X(cast_i64_to_i32, i64, 2, int64_t, answer_i32) X(cast_i64_to_i128, i64, 2, int64_t, answer_i128)         \
-    X(cast_i128_to_i32, i128, 2, ratio_wide, answer_i32) X(cast_i128_to_i64, i128, 2, ratio_wide, answer_i64) \
-    X(total_add_i64, i64, 2, int64_t, total_i64) X(total_subtract_i64, i64, 2, int64_t, total_i64)            \
-    X(total_merge_i64, total_i64, 0, ratio_wide, total_i64)                                                   \
-    X(total_sum_i64, total_i64, 0, ratio_wide, answer_i64) X(total_mean_i64, total_i64, 0, ratio_wide, answer_i64)
+    X(cast_i128_to_i32, i128, 2, ratio_wide, answer_i32) X(cast_i128_to_i64, i128, 2, ratio_wide, answer_i64)
 
 #define READS(X, s) X(read_##s, answer_##s) X(read_decimal_##s, answer_##s) X(read_text_##s, answer_##s)
 #define ALL_READS(X) READS(X, i32) READS(X, i64) READS(X, i128)
@@ -87,7 +84,7 @@ static const call calls[] = {ALL_PLAIN(ROW_PLAIN) ALL_READS(ROW_READS) ALL_PRINT
 
 static uint64_t state, checksum, codes[CODES];
 static uint8_t *arrays[ARRAYS];
-static ratio_total_i64 totals[MOST];
+static struct { ratio_total_i64 header; ratio_slot_i64 slots[SLOTS]; } totals[MOST];
 static int is_short; /* whether the numbers of a call are short, so that more sums fit */
 
 /* The next random number, by the generator splitmix64. */
@@ -144,16 +141,11 @@ static void put_double(uint8_t *at) {
     memcpy(at, &x, sizeof x);
 }
 
-/* Writes what a call is asked: random bytes, a total, a float, or numbers and options. Each second number is a denominator, and mostly above 0. */
+/* Writes what a call is asked: random bytes, a float, or numbers and options. Each second number is a denominator, and mostly above 0. */
 static void put_item(uint8_t *at, const call *c) {
     const size_t size = c->number;
     if (below(16) == 0) {
         for (size_t i = 0; i < c->asked; i++) at[i] = (uint8_t) next();
-        return;
-    }
-    if (c->numbers == 0) {
-        memcpy(at, &totals[below(MOST)], c->asked);
-        if (below(16) == 0) put_number(at + offsetof(ratio_total_i64, sum), size, 0);
         return;
     }
     if (c->numbers == 1 && size == sizeof(double)) {
@@ -210,11 +202,9 @@ static void test_before(const uint8_t *array) {
 }
 
 static void one_call(const call *c) {
-    const int changes = c->plain != NULL && c->answer == sizeof(ratio_total_i64);
-    const size_t n = below(MOST + 1), m = changes ? 1 + (below(16) == 0) : below(8) > 0 ? n : below(MOST + 1);
+    const size_t n = below(MOST + 1), m = below(8) > 0 ? n : below(MOST + 1);
     const size_t size = c->prints != NULL ? n * c->room + below(3) - (n > 0 && below(4) == 0) : below(TEXT);
     uint8_t *asked = place(ASKED, n * c->asked), *texts = place(TEXTS, size), *answers = place(ANSWERS, m * c->answer);
-    const size_t chosen = below(MOST);
     uint32_t returned;
     is_short = below(2) == 0;
     put_texts(texts, c->reads != NULL ? size : 0);
@@ -222,18 +212,78 @@ static void one_call(const call *c) {
         if (c->reads != NULL) put_span(asked + i * c->asked, size);
         else put_item(asked + i * c->asked, c);
     }
-    if (changes) {
-        if (below(totals[chosen].code != RATIO_ANSWERED ? 2 : 32) == 0) memset(&totals[chosen], 0, sizeof totals[chosen]);
-        for (size_t i = 0; i < m; i++) memcpy(answers + i * c->answer, &totals[chosen], c->answer);
-    }
     if (c->plain != NULL) returned = c->plain(asked, n, answers, m);
     else returned = (c->reads != NULL ? c->reads : c->prints)(asked, n, texts, size, answers, m);
     test_before(asked), test_before(texts), test_before(answers);
     if (returned == RATIO_DONE) take(answers, c->answer, m);
     else mix(answers, m * c->answer);
-    if (changes) memcpy(&totals[chosen], answers, c->answer);
     mix((const uint8_t *) &returned, sizeof returned);
     mix(texts, size);
+}
+
+/* Writes a fraction with one of few denominators, so that a table has slots for most of them. */
+static void put_share(uint8_t *at) {
+    ratio_i64 x;
+    put_number((uint8_t *) &x.numer, sizeof x.numer, 0);
+    x.denom = (int64_t) below(below(8) == 0 ? 40 : 6) - (below(16) == 0);
+    if (below(64) == 0) put_number((uint8_t *) &x.denom, sizeof x.denom, 0);
+    memcpy(at, &x, sizeof x);
+}
+
+/* Changes a total or reads it, over its slots or some of them, which now and then have random bytes. */
+static void one_total(void) {
+    const size_t chosen = below(MOST), len = below(4) > 0 ? SLOTS : below(SLOTS + 1), n = below(MOST), m = 1 + (below(16) == 0);
+    const size_t digits = below(ROOM), size = below(TEXT), kind = below(12);
+    const int64_t count = below(32) == 0 ? (int64_t) next() : (int64_t) below(9) - 2;
+    const uint32_t places = (uint32_t) below(below(8) == 0 ? 200 : 12), rule = (uint32_t) below(7);
+    uint8_t *slots = place(SLOTS_OF_TOTAL, len * sizeof(ratio_slot_i64)), *room = place(ROOM_OF_TOTAL, digits * sizeof(uint64_t));
+    uint8_t *texts = place(TEXTS, size), *header = place(ANSWERS, m * sizeof(ratio_total_i64)), *asked;
+    const ratio_slot_i64 *from = (const ratio_slot_i64 *) slots;
+    ratio_slot_i64 *to = (ratio_slot_i64 *) slots;
+    ratio_total_i64 *total = (ratio_total_i64 *) header;
+    ratio_answer_i64 answer = {0};
+    ratio_order order = {0};
+    ratio_text text = {0};
+    uint64_t returned = RATIO_DONE;
+    is_short = below(2) == 0;
+    if (below(48) == 0) memset(&totals[chosen], 0, sizeof totals[chosen]);
+    if (below(64) == 0) put_number((uint8_t *) &totals[chosen].slots[below(SLOTS)].numer, sizeof(ratio_wide), 0);
+    memcpy(slots, totals[chosen].slots, len * sizeof(ratio_slot_i64));
+    for (size_t i = 0; i < m; i++) memcpy(header + i * sizeof(ratio_total_i64), &totals[chosen].header, sizeof(ratio_total_i64));
+    if (kind < 6) {
+        asked = place(ASKED, n * sizeof(ratio_i64));
+        for (size_t i = 0; i < n; i++) put_share(asked + i * sizeof(ratio_i64));
+    } else {
+        asked = place(ASKED, SLOTS * sizeof(ratio_slot_i64));
+        memcpy(asked, totals[below(MOST)].slots, SLOTS * sizeof(ratio_slot_i64));
+    }
+    switch (kind) {
+    case 0: case 1: case 2: returned = ratio_total_add_i64((const ratio_i64 *) asked, n, total, m, to, len); break;
+    case 3: returned = ratio_total_subtract_i64((const ratio_i64 *) asked, n, total, m, to, len); break;
+    case 4: returned = ratio_total_free_i64(from, len); break;
+    case 5: returned = ratio_total_digits_i64(from, len) + ratio_total_print_digits_i64(from, len, places) + ratio_total_print_bytes_i64(from, len, places); break;
+    case 6: returned = ratio_total_merge_i64((const ratio_slot_i64 *) asked, SLOTS, count, total, m, to, len); break;
+    case 7: returned = ratio_total_unmerge_i64((const ratio_slot_i64 *) asked, SLOTS, count, total, m, to, len); break;
+    case 8: returned = ratio_total_sum_i64(from, len, (uint64_t *) room, digits, &answer, 1); break;
+    case 9: returned = ratio_total_mean_i64(from, len, count, (uint64_t *) room, digits, &answer, 1); break;
+    case 10: returned = ratio_total_sign_i64(from, len, (uint64_t *) room, digits, &order, 1); break;
+    default: returned = ratio_total_print_i64(from, len, places, rule, (uint64_t *) room, digits, texts, size, &text, 1);
+    }
+    test_before(slots), test_before(room), test_before(texts), test_before(header), test_before(asked);
+    if (m == 1) memcpy(&totals[chosen].header, header, sizeof(ratio_total_i64));
+    memcpy(totals[chosen].slots, slots, len * sizeof(ratio_slot_i64));
+    mix(slots, len * sizeof(ratio_slot_i64));
+    if (kind < 4 || kind == 6 || kind == 7) {
+        if (m == 1) take(header, sizeof(ratio_total_i64), m);
+    } else if (kind == 8 || kind == 9) {
+        take((uint8_t *) &answer, sizeof answer, 1);
+    } else if (kind == 10) {
+        take((uint8_t *) &order, sizeof order, 1);
+    } else if (kind == 11) {
+        take((uint8_t *) &text, sizeof text, 1);
+        mix(texts + text.span.start, text.span.end - text.span.start);
+    }
+    mix((const uint8_t *) &returned, sizeof returned);
 }
 
 int main(int argc, char **argv) {
@@ -246,7 +296,8 @@ int main(int argc, char **argv) {
     state = seed;
     for (int i = 0; i < ARRAYS; i++) arrays[i] = reserve();
     for (uint64_t i = 1; i <= count; i++) {
-        one_call(&calls[below(sizeof calls / sizeof *calls)]);
+        if (below(12) == 0) one_total();
+        else one_call(&calls[below(sizeof calls / sizeof *calls)]);
         if (i % every == 0) printf("%" PRIu64 " %016" PRIx64 "\n", i, checksum);
     }
     for (int code = 0; code < CODES; code++) printf("code %d: %" PRIu64 "\n", code, codes[code]);

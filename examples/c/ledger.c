@@ -1,5 +1,9 @@
-/* Keeps the totals of two shops, joins them, and takes a refund out. A total is exact, or its code says why it is lost. */
+/* Keeps the totals of two shops, joins them, and takes a refund out. A total is exact, and an entry that is refused changes nothing. */
 #include "shared.h"
+
+/* Each shop has few denominators, so a few slots are enough for its total. */
+enum { SLOTS = 8 };
+typedef struct { ratio_total_i64 header; ratio_slot_i64 slots[SLOTS]; } shop;
 
 static const ratio_i64 north[3] = {{1999, 100}, {5, 2}, {1, 3}};
 static const ratio_i64 south[2] = {{9, 2}, {7, 4}};
@@ -7,36 +11,47 @@ static const ratio_i64 refund[1] = {{5, 2}};
 static const ratio_i64 damaged[2] = {{1, 2}, {3, 0}};
 
 /* Prints a line of the ledger: the count, the sum and the mean. */
-static void show(const char *name, const ratio_total_i64 *total) {
+static void show(const char *name, const shop *total) {
+    uint64_t room[4 * SLOTS + 6];
     ratio_answer_i64 sum, mean;
-    done(ratio_total_sum_i64(total, 1, &sum, 1));
-    done(ratio_total_mean_i64(total, 1, &mean, 1));
-    printf("%-12s%2" PRIu64 "  sum ", name, total->count);
+    done(ratio_total_sum_i64(total->slots, SLOTS, room, 4 * SLOTS + 6, &sum, 1));
+    done(ratio_total_mean_i64(total->slots, SLOTS, total->header.count, room, 4 * SLOTS + 6, &mean, 1));
+    printf("%-12s%2" PRId64 "  sum ", name, total->header.count);
     print_answer(sum);
     printf(", mean ");
     print_answer(mean);
     printf("\n");
 }
 
+static void add(shop *total, const ratio_i64 *entries, size_t count) {
+    done(ratio_total_add_i64(entries, count, &total->header, 1, total->slots, SLOTS));
+    if (total->header.code == RATIO_ANSWERED) return;
+    printf("entry %" PRIu64 " not added: %s\n", total->header.done + 1, reason(total->header.code));
+}
+
+static void join(shop *total, const shop *other) {
+    done(ratio_total_merge_i64(other->slots, SLOTS, other->header.count, &total->header, 1, total->slots, SLOTS));
+}
+
 int main(void) {
-    ratio_total_i64 shops[2] = {{0}, {0}}, both = {0};
+    shop shops[2] = {0}, both = {0};
     show("empty", &both);
 
-    done(ratio_total_add_i64(north, 3, &shops[0], 1));
-    done(ratio_total_add_i64(south, 2, &shops[1], 1));
-    done(ratio_total_merge_i64(shops, 2, &both, 1));
+    add(&shops[0], north, 3);
+    add(&shops[1], south, 2);
+    join(&both, &shops[0]);
+    join(&both, &shops[1]);
     show("north", &shops[0]);
     show("south", &shops[1]);
     show("both", &both);
 
-    done(ratio_total_subtract_i64(refund, 1, &both, 1));
+    done(ratio_total_subtract_i64(refund, 1, &both.header, 1, both.slots, SLOTS));
     show("less refund", &both);
 
-    /* A wrong entry makes the total lost, and it stays lost. So test its code before you store it, and keep the one before. */
-    ratio_total_i64 next = both;
-    done(ratio_total_add_i64(damaged, 2, &next, 1));
-    if (next.code == RATIO_ANSWERED) both = next;
-    else printf("not added: %s\n", reason(next.code));
+    /* The entries before a refused one stay. Keep a copy of the total if you want all of them or none. */
+    shop next = both;
+    add(&next, damaged, 2);
+    if (next.header.code == RATIO_ANSWERED) both = next;
     show("at the end", &both);
     return 0;
 }

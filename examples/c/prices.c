@@ -38,18 +38,20 @@ static void print_money(ratio_i64 money) {
 }
 int main(void) {
     ratio_total_i64 total = {0};
+    ratio_slot_i64 slots[LINES] = {{0}};
+    uint64_t room[4 * LINES + 6];
     ratio_answer_i64 sum;
     for (int i = 0; i < LINES; i++) {
         const ratio_answer_i64 answer = cost(bill[i][1], bill[i][2]);
         printf("%s %s * %s: ", bill[i][0], bill[i][1], bill[i][2]);
         if (answer.code == RATIO_ANSWERED) {
             print_money(answer.value);
-            done(ratio_total_add_i64(&answer.value, 1, &total, 1));
+            done(ratio_total_add_i64(&answer.value, 1, &total, 1, slots, LINES));
         } else {
             printf("%s\n", reason(answer.code));
         }
     }
-    done(ratio_total_sum_i64(&total, 1, &sum, 1));
+    done(ratio_total_sum_i64(slots, LINES, room, 4 * LINES + 6, &sum, 1));
     printf("sum: ");
     if (sum.code != RATIO_ANSWERED) {
         printf("%s\n", reason(sum.code));

@@ -18,6 +18,7 @@ static inline const char *reason(uint32_t code) {
     case RATIO_DENOMINATOR_NOT_POSITIVE: return "denominator not positive";
     case RATIO_ZERO_DENOMINATOR: return "zero denominator";
     case RATIO_PARSE_ERROR: return "no fraction";
+    case RATIO_MORE_ROOM: return "more room needed";
     default: return "refused";
     }
 }

@@ -7,6 +7,7 @@ pub mod Hashes
 pub mod LowestHashes
 pub mod Cases
 pub mod Magnitudes
+pub mod Narrowing
 pub mod TotalSteps
 pub mod TotalLaws
 pub mod Keys

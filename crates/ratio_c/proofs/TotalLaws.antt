@@ -1,113 +1,204 @@
--- The laws of totals, from those of sums.
-use Rattle.std.specs.Prelude.{◌≡◌, ◌⊎◌, ◌<ℤ◌, ◌+◌, ◌+ℤ◌, ◌-ℤ◌, ◌*ℤ◌, ◌++◌, ℕ, ℤ, zero, suc, pos, negsuc, List, [], ◌∷◌, length, Ok, Err}
-use Rattle.std.specs.List.{FoldsTo}
-use Rattle.std.proofs.Common.{ap, arith, inl, inr, length-append, refl, subst, sym}
+-- The laws of totals, from what each step does to a numerator.
+use Rattle.std.specs.Prelude.{◌≡◌, ◌≢◌, ◌==◌, ◌<◌, ◌≤◌, ◌⊎◌, ◌+◌, ◌-◌, ◌+ℤ◌, ◌-ℤ◌, ◌++◌, zero, suc, ℕ, ℤ, pos, negsuc, neg_ℤ, Bool, true, false, List, [], ◌∷◌, take, length, get_or, slice_index_or, Option, Some, None, if◌then◌else◌, IsPermutation}
+use Rattle.std.specs.List.{FoldsTo, sum_by}
+use Rattle.std.proofs.Common.{ap, arith, inl, inr, length-append, refl, subst, sym, ◌∙◌}
+use Rattle.std.proofs.Math.Seq.{take-append-add, take-length}
 use Rattle.std.proofs.lemmas.Int.{ints}
-use Rattle.ratio_integer.specs.Fraction.{IsLowestTerms}
-use Rattle.std.proofs.lemmas.List.Sorted.{length_permutation}
-use Rattle.ratio_integer.proofs.LowestTerms.{lowest_unique, over_one}
-use Rattle.ratio_integer.proofs.Whole.{mul_nonzero, positive_nonzero}
-use Rattle.ratio_core.specs.Laws.{IsSum}
-use Rattle.num_rational.proofs.TotalLemmas.{in_any_order, moved, one_of_list, sums_are_commutative}
-use Rattle.num_rational.proofs.ValueLemmas.{plus_zero, sum_undone}
+use Rattle.std.proofs.lemmas.List.{get_or-append-add}
+use Rattle.std.proofs.lemmas.List.Sorted.{length_permutation, sum_by-IsPermutation}
+use Rattle.std.proofs.lemmas.List.Sums.{sum_by-cons}
+use Rattle.ratio_totals.proofs.ReadLemmas.{empty_numerators, over_other}
+use Rattle.ratio_totals.specs.Common.{above_zero, below_zero}
+use Rattle.ratio_totals.specs.Sums.{numerator_at, numerator_over}
+use Rattle.ratio_totals.specs.declared.slots.Slot.{Slot}
 use Rattle.ratio_c.specs.declared.numbers64.Fraction64.{Fraction64}
-use Rattle.ratio_c.specs.Numbers64.{fraction64}
-use Rattle.ratio_c.specs.TotalLaws.{CallsFollow, LostStaysLost, TotalsInAnyOrder, OutUndoesIn, PartsMerge, TakesAllIn, TakesAllOut}
-use Rattle.ratio_c.specs.Totals.{IsTotalOf, TakesIn, TakesOut, TotalSaid}
+use Rattle.ratio_c.specs.declared.totals.Piece.{Piece}
+use Rattle.ratio_c.specs.declared.totals.Total64.{Total64}
+use Rattle.ratio_c.specs.declared.totals.Way.{Way}
+use Rattle.ratio_c.specs.declared.totals.Way.TheVariants.{In, Out}
+use Rattle.ratio_c.specs.Codes.{code_answered}
+use Rattle.ratio_c.specs.Totals.{AllGo, GoesOver, GoUntil, Held, IsStoppedAt, IsStoppedFor, piece_of_fraction, piece_of_slot, piece_over, turned}
+use Rattle.ratio_c.specs.TotalLaws.{AreSame, CallsFollow, EachIsBrought, EachIsCounted, MergeAddsEach, MergeMoves, OutUndoesIn, PartsMerge, TotalsInAnyOrder, UnmergeUndoes, all_brought, brought_over}
 
-positive_or_not : (z : ℤ) → (pos 0 <ℤ z) ⊎ (¬ (pos 0 <ℤ z))
-positive_or_not (pos zero) = inr (λ positive. absurd (omega (arith, ints)))
-positive_or_not (pos (suc n)) = inl (omega (arith, ints))
-positive_or_not (negsuc n) = inr (λ positive. absurd (omega (arith, ints)))
+-- ---- numbers
 
-not_lost : (total : ℕ × (ℤ × ℤ)) (code : ℕ) → ¬ (Ok total ≡ Err code)
-not_lost total code same = cc
+turned_zero : (way : Way) → turned way (pos 0) ≡ pos 0
+turned_zero In = refl
+turned_zero Out = refl
 
--- a step that does not lose the total
-fraction_in : (total new : ℕ × (ℤ × ℤ)) (x : ℤ × ℤ) → TakesIn (Ok total) x (Ok new) → (pos 0 <ℤ x.1) × IsTotalOf (pos total.0 +ℤ pos 1) (total.1.0 *ℤ x.1 +ℤ x.0 *ℤ total.1.1, total.1.1 *ℤ x.1) (Ok new)
-fraction_in total new x takes = elim (positive_or_not x.1) [ inl positive ↦ (positive, takes.yes positive) | inr not ↦ absurd (not_lost new _ (takes.no not)) ]
+turned_sum : (way : Way) (a b : ℤ) → turned way (a +ℤ b) ≡ turned way a +ℤ turned way b
+turned_sum In a b = refl
+turned_sum Out a b = omega (arith, ints)
 
-fraction_out : (total new : ℕ × (ℤ × ℤ)) (x : ℤ × ℤ) → TakesOut (Ok total) x (Ok new) → (pos 0 <ℤ x.1) × IsTotalOf (pos total.0 -ℤ pos 1) (total.1.0 *ℤ x.1 -ℤ x.0 *ℤ total.1.1, total.1.1 *ℤ x.1) (Ok new)
-fraction_out total new x takes = elim (positive_or_not x.1) [ inl positive ↦ (positive, takes.yes positive) | inr not ↦ absurd (not_lost new _ (takes.no not)) ]
+over_turned : (e d : ℕ) (way : Way) (n : ℤ) → numerator_over e d (turned way n) ≡ turned way (numerator_over e d n)
+over_turned e d In n = refl
+over_turned e d Out n = elim (d == e) as (λ (t : Bool). (if t then neg_ℤ n else pos 0) ≡ neg_ℤ (if t then n else pos 0)) [ true ↦ refl | false ↦ refl ]
 
--- ---- a lost total
+is_zero_or_not : (d : ℕ) → (d ≡ 0) ⊎ (d ≢ 0)
+is_zero_or_not zero = inl refl
+is_zero_or_not (suc d) = inr (λ e. absurd (omega (arith, e)))
 
-lost_in : (xs : List Fraction64) (code : ℕ) (to : TotalSaid) → TakesAllIn (Err code) xs to → to ≡ Err code
-lost_in [] code to all = sym all
-lost_in (x ∷ xs) code to all = lost_in xs code to (subst (λ from. TakesAllIn from xs to) all.1 all.2)
+two_steps : (a b c p q r : ℤ) → b ≡ a +ℤ p → c ≡ b +ℤ q → r ≡ p +ℤ q → c ≡ a +ℤ r
+two_steps a b c p q r first second both = omega (arith, ints, first, second, both)
 
-lost_out : (xs : List Fraction64) (code : ℕ) (to : TotalSaid) → TakesAllOut (Err code) xs to → to ≡ Err code
-lost_out [] code to all = sym all
-lost_out (x ∷ xs) code to all = lost_out xs code to (subst (λ from. TakesAllOut from xs to) all.1 all.2)
+nothing_more : (a b p : ℤ) → b ≡ a → p ≡ pos 0 → b ≡ a +ℤ p
+nothing_more a b p same none = omega (arith, ints, same, none)
 
-pub lost_stays_lost : LostStaysLost
-lost_stays_lost xs code to = (lost_in xs code to, lost_out xs code to)
+-- ---- the numerators after items went
 
--- ---- a total that is not lost
+one_step : (way : Way) (piece : Option Piece) (old new : Held) (e : ℕ) → e ≢ 0 → GoesOver way piece old new
+    → numerator_at e new.0 ≡ numerator_at e old.0 +ℤ turned way (brought_over e piece)
+one_step way None old new e some goes = absurd goes
+one_step way (Some piece) old new e some goes = elim (is_zero_or_not piece.denom) [
+  | inl none ↦
+      nothing_more _ _ _ (ap (λ (t : Held). numerator_at e t.0) (goes.yes none))
+      (ap (turned way) (over_other e piece.denom piece.numer (λ same. some (sym same ∙ none))) ∙ turned_zero way)
+  | inr taken ↦ (goes.no taken).numerators.each e some ∙ ap (λ z. numerator_at e old.0 +ℤ z) (over_turned e piece.denom way piece.numer)
+]
 
--- the sums on the way, and the count
-record Adds (total new : ℕ × (ℤ × ℤ)) (xs : List Fraction64) : Type 0 where
-  sums : FoldsTo (λ p x q. IsSum p (fraction64 x) q) total.1 xs new.1
-  count : new.0 ≡ total.0 + length xs
+pub grown : {A : Type 0} (brings : A → Option Piece) (way : Way) (xs : List A) (old new : Held) (e : ℕ) → e ≢ 0 → AllGo brings way xs old new
+    → numerator_at e new.0 ≡ numerator_at e old.0 +ℤ turned way (all_brought brings e xs)
+grown brings way [] old new e some all = nothing_more _ _ _ (ap (λ (t : Held). numerator_at e t.0) (sym all)) (turned_zero way)
+grown brings way (x ∷ xs) old new e some all =
+    two_steps _ _ _ _ _ _ (one_step way (brings x) old all.0 e some all.1) (grown brings way xs all.0 new e some all.2) (turned_sum way (brought_over e (brings x)) (all_brought brings e xs))
 
-adds_all : (xs : List Fraction64) (total new : ℕ × (ℤ × ℤ)) → TakesAllIn (Ok total) xs (Ok new) → Adds total new xs
-adds_all [] total new all =
-    let same : total ≡ new = cc in
-    record { sums = ap (λ t. t.1) same; count = omega (arith, ap (λ t. t.0) same) }
-adds_all (x ∷ xs) total new all = adds_on all.0 all.1 all.2 (λ middle rest. adds_all xs middle new rest)
-  where
-    adds_on : (middle : TotalSaid) → TakesIn (Ok total) (fraction64 x) middle → TakesAllIn middle xs (Ok new) → ((next : ℕ × (ℤ × ℤ)) → TakesAllIn (Ok next) xs (Ok new) → Adds next new xs) → Adds total new (x ∷ xs)
-    adds_on (Ok middle) step rest later =
-        let first = (fraction_in total middle (fraction64 x) step).1 in
-        let more = later middle rest in
-        record { sums = (middle.1, first.1.terms, more.sums); count = omega (arith, ints, first.0, more.count) }
-    adds_on (Err code) step rest later = absurd (not_lost new code (lost_in xs code (Ok new) rest))
+pub each_is_brought : EachIsBrought
+each_is_brought xs way old new all e some = grown piece_of_fraction way xs old new e some all
 
--- the sum of fractions is in lowest terms
-lowest_sum : (xs : List Fraction64) (p q : ℤ × ℤ) → IsLowestTerms p.0 p.1 → FoldsTo (λ p x q. IsSum p (fraction64 x) q) p xs q → IsLowestTerms q.0 q.1
-lowest_sum [] p q lowest same = subst (λ r. IsLowestTerms r.0 r.1) same lowest
-lowest_sum (x ∷ xs) p q lowest sums = lowest_sum xs sums.0 q sums.1.lowest sums.2
+-- ---- the count
 
-joined : {P A : Type 0} (Step : P → A → P → Type 0) (xs ys : List A) (from middle to : P) → FoldsTo Step from xs middle → FoldsTo Step middle ys to → FoldsTo Step from (xs ++ ys) to
-joined Step [] ys from middle to first second = subst (λ p. FoldsTo Step p ys to) (sym first) second
-joined Step (x ∷ xs) ys from middle to first second = (first.0, first.1, joined Step xs ys first.0 middle to first.2 second)
+one_counted : (way : Way) (n d : ℤ) (old new : Held) → GoesOver way (piece_over n d) old new → new.1 ≡ old.1 +ℤ turned way (pos 1)
+one_counted way n (pos zero) old new goes = absurd goes
+one_counted way n (pos (suc d)) old new goes = (goes.no (λ e. absurd (omega (arith, e)))).count
+one_counted way n (negsuc d) old new goes = absurd goes
 
-pub calls_follow : CallsFollow
-calls_follow xs ys from middle to first second = joined _ xs ys from middle to first second
+one_longer : (n : ℕ) → pos (suc n) ≡ pos 1 +ℤ pos n
+one_longer n = omega (arith, ints)
 
-plus_nothing : (p : ℤ × ℤ) → IsLowestTerms p.0 p.1 → IsSum p (pos 0, pos 1) p
-plus_nothing p lowest = record {
-  fraction = mul_nonzero p.1 (pos 1) (positive_nonzero p.1 lowest.positive) (λ same. absurd (omega (arith, ints)));
-  same = plus_zero p.0 p.1;
-  lowest = lowest;
+pub each_is_counted : EachIsCounted
+each_is_counted [] way old new all = nothing_more _ _ _ (ap (λ (t : Held). t.1) (sym all)) (turned_zero way)
+each_is_counted (x ∷ xs) way old new all =
+    two_steps _ _ _ _ _ _ (one_counted way x.numer x.denom old all.0 all.1) (each_is_counted xs way all.0 new all.2)
+    (ap (turned way) (one_longer (length xs)) ∙ turned_sum way (pos 1) (pos (length xs)))
+
+-- ---- the order of fractions
+
+two_parts : (z : ℤ) → z ≡ pos (above_zero z) -ℤ pos (below_zero z)
+two_parts (pos n) = omega (arith, ints)
+two_parts (negsuc n) = omega (arith, ints)
+
+parts_sum : (a b : ℕ) (c d : ℕ) (y z : ℤ) (f g : ℕ) → y ≡ pos a -ℤ pos b → z ≡ pos c -ℤ pos d → f ≡ a + c → g ≡ b + d → y +ℤ z ≡ pos f -ℤ pos g
+parts_sum a b c d y z f g p q r s = omega (arith, ints, p, q, r, s)
+
+brought_parts : {A : Type 0} (brings : A → Option Piece) (e : ℕ) (xs : List A)
+    → all_brought brings e xs ≡ pos (sum_by (λ x. above_zero (brought_over e (brings x))) xs) -ℤ pos (sum_by (λ x. below_zero (brought_over e (brings x))) xs)
+brought_parts brings e [] = refl
+brought_parts brings e (x ∷ xs) =
+    parts_sum _ _ _ _ _ _ _ _ (two_parts (brought_over e (brings x))) (brought_parts brings e xs)
+    (sum_by-cons (λ x. above_zero (brought_over e (brings x))) x xs) (sum_by-cons (λ x. below_zero (brought_over e (brings x))) x xs)
+
+same_parts : (a b c d : ℕ) (y z : ℤ) → y ≡ pos a -ℤ pos b → z ≡ pos c -ℤ pos d → c ≡ a → d ≡ b → z ≡ y
+same_parts a b c d y z p q r s = omega (arith, ints, p, q, r, s)
+
+brought_permuted : {A : Type 0} (brings : A → Option Piece) (e : ℕ) (xs ys : List A) → IsPermutation xs ys → all_brought brings e ys ≡ all_brought brings e xs
+brought_permuted brings e xs ys order =
+    same_parts _ _ _ _ _ _ (brought_parts brings e xs) (brought_parts brings e ys)
+    (sum_by-IsPermutation (λ x. above_zero (brought_over e (brings x))) xs ys order) (sum_by-IsPermutation (λ x. below_zero (brought_over e (brings x))) xs ys order)
+
+same_end : (a b c d p q : ℤ) → a ≡ b → c ≡ a +ℤ p → d ≡ b +ℤ q → q ≡ p → c ≡ d
+same_end a b c d p q start first second same = omega (arith, ints, start, first, second, same)
+
+pub any_order : TotalsInAnyOrder
+any_order xs ys way old other first second order start one two = record {
+  numerators = record {
+    each = λ e some. same_end _ _ _ _ _ _ (start.numerators.each e some) (each_is_brought xs way old first one e some) (each_is_brought ys way other second two e some)
+        (ap (turned way) (brought_permuted piece_of_fraction e xs ys order));
+  };
+  count = same_end _ _ _ _ _ _ start.count (each_is_counted xs way old first one) (each_is_counted ys way other second two)
+      (ap (λ n. turned way (pos n)) (length_permutation xs ys order));
 }
 
-pub parts_merge : PartsMerge
-parts_merge xs ys first second merged whole in_first in_second merges in_whole =
-    let one = adds_all xs (0, (pos 0, pos 1)) first in_first in
-    let two = adds_all ys (0, (pos 0, pos 1)) second in_second in
-    let all = adds_all (xs ++ ys) (0, (pos 0, pos 1)) whole in_whole in
-    let nothing : ℤ × ℤ = (pos 0, pos 1) in
-    let lowest = lowest_sum xs nothing first.1 (over_one (pos 0) (pos 1) refl) one.sums in
-    let rest = moved fraction64 IsSum sums_are_commutative first.1 nothing first.1 second.1 merged.1 ys (plus_nothing first.1 lowest) two.sums merges.1.terms in
-    let sums = one_of_list fraction64 IsSum sums_are_commutative (xs ++ ys) nothing merged.1 whole.1 (joined _ xs ys nothing first.1 merged.1 one.sums rest) all.sums in
-    let count : merged.0 ≡ whole.0 = omega (arith, ints, merges.0, one.count, two.count, all.count, length-append xs ys) in
-    λ k. (count k, sums k)
-
-pub order_is_free : TotalsInAnyOrder
-order_is_free xs ys first second order in_first in_second =
-    let one = adds_all xs (0, (pos 0, pos 1)) first in_first in
-    let two = adds_all ys (0, (pos 0, pos 1)) second in_second in
-    let nothing : ℤ × ℤ = (pos 0, pos 1) in
-    let sums = one_of_list fraction64 IsSum sums_are_commutative ys nothing first.1 second.1 (in_any_order fraction64 IsSum sums_are_commutative nothing first.1 xs ys order one.sums) two.sums in
-    let count : first.0 ≡ second.0 = omega (arith, ints, one.count, two.count, length_permutation xs ys order) in
-    λ k. (count k, sums k)
+in_and_out : (a b c p q : ℤ) → b ≡ a +ℤ p → c ≡ b +ℤ neg_ℤ q → q ≡ p → a ≡ c
+in_and_out a b c p q first second same = omega (arith, ints, first, second, same)
 
 pub out_undoes_in : OutUndoesIn
-out_undoes_in total with back x sound takes_in takes_out =
-    let in_step = fraction_in total with x takes_in in
-    let out_step = (fraction_out with back x takes_out).1 in
-    let undone = sum_undone total.1.0 total.1.1 x.0 x.1 with.1.0 with.1.1 (positive_nonzero total.1.1 sound.positive) (positive_nonzero x.1 in_step.0) in_step.1.1.terms.same in
-    let same = lowest_unique _ _ back.1.0 back.1.1 total.1.0 total.1.1 out_step.1.terms (record { fraction = out_step.1.terms.fraction; same = undone; lowest = sound }) in
-    let count : back.0 ≡ total.0 = omega (arith, ints, in_step.1.0, out_step.0) in
-    λ k. (count k, (same.0 k, same.1 k))
+out_undoes_in xs ys old with back order one two = record {
+  numerators = record {
+    each = λ e some. in_and_out _ _ _ _ _ (each_is_brought xs In old with one e some) (each_is_brought ys Out with back two e some) (brought_permuted piece_of_fraction e xs ys order);
+  };
+  count = in_and_out _ _ _ _ _ (each_is_counted xs In old with one) (each_is_counted ys Out with back two) (ap pos (length_permutation xs ys order));
+}
+
+-- ---- two calls as one
+
+follows : {P A : Type 0} (Step : P → A → P → Type 0) (xs ys : List A) (from middle to : P) → FoldsTo Step from xs middle → FoldsTo Step middle ys to → FoldsTo Step from (xs ++ ys) to
+follows Step [] ys from middle to first second = subst (λ p. FoldsTo Step p ys to) (sym first) second
+follows Step (x ∷ xs) ys from middle to first second = (first.0, first.1, follows Step xs ys first.0 middle to first.2 second)
+
+all_taken : {A : Type 0} (n : ℕ) (xs : List A) → n ≡ length xs → take n xs ≡ xs
+all_taken n xs same = ap (λ i. take i xs) same ∙ take-length xs
+
+later_stop : {A : Type 0} (brings : A → Option Piece) (way : Way) (xs ys : List A) (held : Held) (i code : ℕ)
+    → IsStoppedAt brings way ys held i code → IsStoppedAt brings way (xs ++ ys) held (length xs + i) code
+later_stop brings way xs ys held i code stop = record {
+  why = stop.why;
+  code_is = stop.code_is;
+  within = omega (arith, length-append xs ys, stop.within);
+  stopped = λ x. subst (λ y. IsStoppedFor way (brings y) held stop.why) (sym (get_or-append-add xs ys i x)) (stop.stopped x);
+}
+
+pub calls_follow : CallsFollow
+calls_follow xs ys way old slots new_slots first second one answered two =
+    let whole : AllGo piece_of_fraction way xs old (slots, first.count)
+        = subst (λ zs. AllGo piece_of_fraction way zs old (slots, first.count)) (all_taken first.done xs (one.ended.yes answered)) one.went in
+    record {
+      went = subst (λ zs. AllGo piece_of_fraction way zs old (new_slots, second.count)) (sym (take-append-add xs ys second.done)) (follows _ xs (take second.done ys) old (slots, first.count) (new_slots, second.count) whole two.went);
+      ended = record {
+        yes = λ done. omega (arith, length-append xs ys, two.ended.yes done);
+        no = λ not. later_stop piece_of_fraction way xs ys (new_slots, second.count) second.done second.code (two.ended.no not);
+      };
+    }
+
+-- ---- totals that are merged
+
+slots_brought : (e : ℕ) (slots : List Slot) → all_brought piece_of_slot e slots ≡ numerator_at e slots
+slots_brought e [] = refl
+slots_brought e (slot ∷ slots) = ap (λ z. numerator_over e slot.denom slot.numer +ℤ z) (slots_brought e slots)
+
+pub merge_adds_each : MergeAddsEach
+merge_adds_each slots old new all = record { each = λ e some. grown piece_of_slot In slots old new e some all ∙ ap (λ z. numerator_at e old.0 +ℤ z) (slots_brought e slots) }
+
+pub unmerge_undoes : UnmergeUndoes
+unmerge_undoes slots old with back one two = record {
+  each = λ e some. in_and_out _ _ _ _ _ (grown piece_of_slot In slots old with e some one) (grown piece_of_slot Out slots with back e some two) refl;
+}
+
+brought_append : {A : Type 0} (brings : A → Option Piece) (e : ℕ) (xs ys : List A) → all_brought brings e (xs ++ ys) ≡ all_brought brings e xs +ℤ all_brought brings e ys
+brought_append brings e [] ys = nothing_before _
+  where
+    nothing_before : (z : ℤ) → z ≡ pos 0 +ℤ z
+    nothing_before z = omega (arith, ints)
+brought_append brings e (x ∷ xs) ys = regrouped _ _ _ _ (brought_append brings e xs ys)
+  where
+    regrouped : (a b c d : ℤ) → b ≡ c +ℤ d → a +ℤ b ≡ (a +ℤ c) +ℤ d
+    regrouped a b c d e = omega (arith, ints, e)
+
+made_up : (none other again first second merged whole p q r : ℤ) → none ≡ pos 0 → other ≡ pos 0 → again ≡ pos 0
+    → first ≡ none +ℤ p → second ≡ other +ℤ q → merged ≡ first +ℤ second → whole ≡ again +ℤ r → r ≡ p +ℤ q → merged ≡ whole
+made_up none other again first second merged whole p q r a b c d e f g h = omega (arith, ints, a, b, c, d, e, f, g, h)
+
+pub parts_merge : PartsMerge
+parts_merge xs ys none other again first second merged whole empty empty_other empty_again one two merge all = record {
+  each = λ e some. made_up _ _ _ _ _ _ _ _ _ _
+      (empty_numerators none.0 e empty some) (empty_numerators other.0 e empty_other some) (empty_numerators again.0 e empty_again some)
+      (each_is_brought xs In none first one e some) (each_is_brought ys In other second two e some) ((merge_adds_each second.0 first merged merge).each e some)
+      (each_is_brought (xs ++ ys) In again whole all e some) (brought_append piece_of_fraction e xs ys);
+}
+
+from_nothing : (a b c : ℤ) → a ≡ pos 0 → c ≡ a +ℤ b → b ≡ c
+from_nothing a b c none same = omega (arith, ints, none, same)
+
+pub merge_moves : MergeMoves
+merge_moves slots none new empty all = record {
+  each = λ e some. from_nothing _ _ _ (empty_numerators none.0 e empty some) ((merge_adds_each slots none new all).each e some);
+}

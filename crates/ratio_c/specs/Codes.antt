@@ -10,7 +10,7 @@ return_done = 0
 abbrev pub return_bad_length : ℕ
 return_bad_length = 1
 
--- the code of an answer with its numbers: 0. The codes 1 to 9 say why there are none
+-- the code of an answer with its numbers: 0. The codes 1 to 11 say why there are none
 abbrev pub code_answered : ℕ
 code_answered = 0
 
@@ -43,13 +43,21 @@ code_no_text = 6
 abbrev pub code_bound_not_positive : ℕ
 code_bound_not_positive = 7
 
--- the code 8: the sum of a total is not in lowest terms
+-- the code 8: an empty slot of a total has a numerator that is not 0
 abbrev pub code_no_total : ℕ
 code_no_total = 8
 
 -- the code 9: an option, such as a flag, a rule or a number of places, is not one of those that the call takes
 abbrev pub code_bad_option : ℕ
 code_bad_option = 9
+
+-- the code 10: a total has no slot for another denominator, or a read has too little room
+abbrev pub code_more_room : ℕ
+code_more_room = 10
+
+-- the code 11: the common denominator of a total is not below 2^(2^20)
+abbrev pub code_too_long : ℕ
+code_too_long = 11
 
 -- the flag 1: the lower bound is included
 abbrev pub code_low_included : ℕ

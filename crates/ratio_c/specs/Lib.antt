@@ -8,5 +8,6 @@ pub mod Numbers64
 pub mod Numbers128
 pub mod LowestHash
 pub mod Totals
+pub mod TotalReads
 pub mod TotalLaws
 pub mod Keys

@@ -1,44 +1,84 @@
 -- The laws of totals.
-use Rattle.std.specs.Prelude.{◌≡◌, ◌++◌, ℕ, ℤ, List, Ok, Err, IsPermutation}
-use Rattle.std.specs.List.{FoldsTo}
+use Rattle.std.specs.Prelude.{◌≡◌, ◌≢◌, ◌+◌, ◌++◌, ◌+ℤ◌, ℕ, ℤ, pos, List, [], ◌∷◌, length, Option, Some, None, IsPermutation}
+use Rattle.ratio_totals.specs.Merging.{AddsEach}
+use Rattle.ratio_totals.specs.Sums.{numerator_at, numerator_over}
+use Rattle.ratio_totals.specs.TotalLaws.{SameNumerators}
+use Rattle.ratio_totals.specs.Totals.{HasNoFraction}
+use Rattle.ratio_totals.specs.declared.slots.Slot.{Slot}
 use Rattle.ratio_c.specs.declared.numbers64.Fraction64.{Fraction64}
-use Rattle.ratio_c.specs.Numbers64.{fraction64}
-use Rattle.ratio_c.specs.Totals.{IsSound, Merges, TakesIn, TakesOut, TotalSaid, none_added}
+use Rattle.ratio_c.specs.declared.totals.Piece.{Piece}
+use Rattle.ratio_c.specs.declared.totals.Total64.{Total64}
+use Rattle.ratio_c.specs.declared.totals.Way.{Way}
+use Rattle.ratio_c.specs.declared.totals.Way.TheVariants.{In, Out}
+use Rattle.ratio_c.specs.Codes.{code_answered}
+use Rattle.ratio_c.specs.Totals.{AllGo, GoUntil, Held, piece_of_fraction, piece_of_slot, turned}
 
--- all fractions of a list go into a total, one after another (`TakesIn`)
-abbrev pub TakesAllIn : TotalSaid → List Fraction64 → TotalSaid → Type 0
-TakesAllIn from xs to = FoldsTo (λ total x new. TakesIn total (fraction64 x) new) from xs to
+-- what an item brings over the denominator e: its numerator if it is over e; elsewhere 0
+-- Example: 5/36 over 36: 5; over 28: 0
+abbrev pub brought_over : ℕ → Option Piece → ℤ
+brought_over e (Some piece) = numerator_over e piece.denom piece.numer
+brought_over e None = pos 0
 
--- all fractions of a list go out of a total, one after another (`TakesOut`)
-abbrev pub TakesAllOut : TotalSaid → List Fraction64 → TotalSaid → Type 0
-TakesAllOut from xs to = FoldsTo (λ total x new. TakesOut total (fraction64 x) new) from xs to
+-- what items bring over the denominator e, together
+-- Example: 1/36, 1/28 and 5/36 over 36: 6
+abbrev pub all_brought : {A : Type 0} → (A → Option Piece) → ℕ → List A → ℤ
+all_brought brings e [] = pos 0
+all_brought brings e (x ∷ xs) = brought_over e (brings x) +ℤ all_brought brings e xs
 
--- Law: the totals of two parts, merged, are the total of the whole, if none of the four is lost
--- Example: 1/2 and 1/3 have the sum 5/6, and merged with the total of 1/6 that is the total of all three: the count 3 and the sum 1/1
-abbrev pub PartsMerge : Type 0
-PartsMerge =
-    (xs ys : List Fraction64) (first second merged whole : ℕ × (ℤ × ℤ))
-    → TakesAllIn none_added xs (Ok first)
-    → TakesAllIn none_added ys (Ok second)
-    → Merges (Ok first) (Ok second) (Ok merged)
-    → TakesAllIn none_added (xs ++ ys) (Ok whole)
-    → merged ≡ whole
+-- two totals are the same: each denominator has the same numerator, and the counts are equal
+pub record AreSame (left right : Held) : Type 0 where
+  pub numerators : SameNumerators left.0 right.0
+  pub count : left.1 ≡ right.1
 
--- Law: fractions in another order have the same total, if neither is lost
+-- Law: the numerator over each denominator grew by what the items brought over it, or fell by that if they went out
+-- Example: 1/36, 1/28 and 5/36 into no fraction: 6 over 36
+abbrev pub EachIsBrought : Type 0
+EachIsBrought =
+    (xs : List Fraction64) (way : Way) (old new : Held)
+    → AllGo piece_of_fraction way xs old new → (e : ℕ) → e ≢ 0 → numerator_at e new.0 ≡ numerator_at e old.0 +ℤ turned way (all_brought piece_of_fraction e xs)
+
+-- Law: the count grew by the number of the fractions, or fell by it if they went out
+abbrev pub EachIsCounted : Type 0
+EachIsCounted = (xs : List Fraction64) (way : Way) (old new : Held) → AllGo piece_of_fraction way xs old new → new.1 ≡ old.1 +ℤ turned way (pos (length xs))
+
+-- Law: fractions in any order give the same total, whatever slots they are in
 abbrev pub TotalsInAnyOrder : Type 0
 TotalsInAnyOrder =
-    (xs ys : List Fraction64) (first second : ℕ × (ℤ × ℤ))
-    → IsPermutation xs ys → TakesAllIn none_added xs (Ok first) → TakesAllIn none_added ys (Ok second) → first ≡ second
+    (xs ys : List Fraction64) (way : Way) (old other first second : Held)
+    → IsPermutation xs ys → AreSame old other → AllGo piece_of_fraction way xs old first → AllGo piece_of_fraction way ys other second → AreSame first second
 
--- Law: a total is the same whether its fractions go in by one call or by two
+-- Law: two calls one after another, the first of which was done, are one call
 abbrev pub CallsFollow : Type 0
-CallsFollow = (xs ys : List Fraction64) (from middle to : TotalSaid) → TakesAllIn from xs middle → TakesAllIn middle ys to → TakesAllIn from (xs ++ ys) to
+CallsFollow =
+    (xs ys : List Fraction64) (way : Way) (old : Held) (slots new_slots : List Slot) (first second : Total64)
+    → GoUntil piece_of_fraction way xs old slots first → first.code ≡ code_answered → GoUntil piece_of_fraction way ys (slots, first.count) new_slots second
+    → GoUntil piece_of_fraction way (xs ++ ys) old new_slots (record { code = second.code; done = length xs + second.done; count = second.count })
 
--- Law: a fraction that goes in and out again leaves the total as it was, if none of the totals is lost
+-- Law: fractions that go in, and out again in any order, leave the total as it was
 abbrev pub OutUndoesIn : Type 0
-OutUndoesIn = (total with back : ℕ × (ℤ × ℤ)) (x : ℤ × ℤ) → IsSound (Ok total) → TakesIn (Ok total) x (Ok with) → TakesOut (Ok with) x (Ok back) → back ≡ total
+OutUndoesIn =
+    (xs ys : List Fraction64) (old with back : Held)
+    → IsPermutation xs ys → AllGo piece_of_fraction In xs old with → AllGo piece_of_fraction Out ys with back → AreSame old back
 
--- Law: a lost total stays lost, with its code, whatever goes in or out
-abbrev pub LostStaysLost : Type 0
-LostStaysLost =
-    (xs : List Fraction64) (code : ℕ) (to : TotalSaid) → ((TakesAllIn (Err code) xs to → to ≡ Err code) × (TakesAllOut (Err code) xs to → to ≡ Err code))
+-- Law: a merge adds each numerator of the other total
+abbrev pub MergeAddsEach : Type 0
+MergeAddsEach = (slots : List Slot) (old new : Held) → AllGo piece_of_slot In slots old new → AddsEach old.0 slots new.0
+
+-- Law: what is merged and then goes out again leaves each numerator as it was
+abbrev pub UnmergeUndoes : Type 0
+UnmergeUndoes =
+    (slots : List Slot) (old with back : Held) → AllGo piece_of_slot In slots old with → AllGo piece_of_slot Out slots with back → SameNumerators old.0 back.0
+
+-- Law: the totals of two parts, merged, have the numerators of the total of the whole. Each begins with empty slots
+-- Example: 1/2 and 1/3, merged with the total of 1/6: 1/2, 1/3 and 1/6
+abbrev pub PartsMerge : Type 0
+PartsMerge =
+    (xs ys : List Fraction64) (none other again first second merged whole : Held)
+    → HasNoFraction none.0 → HasNoFraction other.0 → HasNoFraction again.0
+    → AllGo piece_of_fraction In xs none first → AllGo piece_of_fraction In ys other second
+    → AllGo piece_of_slot In second.0 first merged → AllGo piece_of_fraction In (xs ++ ys) again whole
+    → SameNumerators merged.0 whole.0
+
+-- Law: a merge into empty slots moves a total: each numerator is the same there
+abbrev pub MergeMoves : Type 0
+MergeMoves = (slots : List Slot) (none new : Held) → HasNoFraction none.0 → AllGo piece_of_slot In slots none new → SameNumerators slots new.0

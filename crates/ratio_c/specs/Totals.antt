@@ -1,131 +1,128 @@
--- Totals: how many fractions a program has added, and their sum. A *total* is a struct of the header: a code, a count, and a sum of two
--- 128-bit numbers.
-use Rattle.std.specs.Prelude.{◌≡◌, ◌≢◌, ◌-◌, ◌^◌, ◌+ℤ◌, ◌-ℤ◌, ◌<ℤ◌, ℕ, ℤ, pos, List, length, Result, Ok, Err}
+-- Totals that lose nothing. A *total* is a table of slots, each with a denominator and the sum of the numerators over it, and a count of
+-- fractions. The caller has the slots. The header's struct, `Total64`, has the count, and what the last call did.
+use Rattle.std.specs.Prelude.{suc, ◌≡◌, ◌≢◌, ◌<◌, ◌⊎◌, ◌+ℤ◌, ℕ, zero, ℤ, pos, negsuc, neg_ℤ, List, length, take, slice_index_or, Option, Some, None}
 use Rattle.std.specs.List.{AllZip, FoldsTo}
-use Rattle.ratio_integer.specs.Arithmetic.{difference_of, quotient_of, sum_of}
-use Rattle.ratio_integer.specs.Fraction.{ChecksLowest, Fits, IsHeldLowest, IsLowestTerms}
 use Rattle.ratio_integer.specs.Range.{IsHeld}
+use Rattle.ratio_totals.specs.Loose.{HasDirtyPlace, HasFullPlace}
+use Rattle.ratio_totals.specs.Slots.{HasNoPlaceFor}
+use Rattle.ratio_totals.specs.Sums.{GrowsAt, Has128Bits, Puts, SumGrows}
+use Rattle.ratio_totals.specs.declared.slots.Slot.{Slot}
+use Rattle.ratio_c.specs.declared.numbers64.Fraction64.{Fraction64}
+use Rattle.ratio_c.specs.declared.totals.Piece.{Piece}
+use Rattle.ratio_c.specs.declared.totals.Stop.{Stop}
+use Rattle.ratio_c.specs.declared.totals.Stop.TheVariants.{NotPositive, MoreRoom, NotEmpty, NotHeld}
 use Rattle.ratio_c.specs.declared.totals.Total64.{Total64}
-use Rattle.ratio_c.specs.Calls.{SaysPair, Tested}
-use Rattle.ratio_c.specs.Codes.{code_answered, code_denominator_not_positive, code_division_by_zero, code_no_total, code_not_held, return_bad_length, return_done}
-use Rattle.ratio_c.specs.Crossing.{Said, Says, refused}
+use Rattle.ratio_c.specs.declared.totals.Way.{Way}
+use Rattle.ratio_c.specs.declared.totals.Way.TheVariants.{In, Out}
+use Rattle.ratio_c.specs.Calls.{Tested}
+use Rattle.ratio_c.specs.Codes.{code_answered, code_denominator_not_positive, code_more_room, code_no_total, code_not_held, return_bad_length, return_done}
 use Rattle.ratio_c.specs.Numbers64.{greatest64, least64}
-use Rattle.ratio_c.specs.Numbers128.{fraction128, greatest128, least128}
 
--- what a total says: how many fractions are in it, and their sum. If it is lost, the code says why
-abbrev pub TotalSaid : Type 0
-TotalSaid = Result (ℕ × (ℤ × ℤ)) ℕ
+-- a total: its slots, and its count
+abbrev pub Held : Type 0
+Held = List Slot × ℤ
 
--- the total of no fraction: 0 of them, and the sum 0/1
-abbrev pub none_added : TotalSaid
-none_added = Ok (0, (pos 0, pos 1))
+-- a number as it goes in, or its negative as it goes out
+-- Example: 5 in: 5; 5 out: -5
+abbrev pub turned : Way → ℤ → ℤ
+turned In n = n
+turned Out n = neg_ℤ n
 
--- the sum is in lowest terms, or the code, which is not 0, says that the total is lost
-abbrev pub IsSound : TotalSaid → Type 0
-IsSound (Ok total) = IsLowestTerms total.1.0 total.1.1
-IsSound (Err code) = code ≢ code_answered
+-- what the fraction n/d brings: n over d, and it is one fraction. If d is not positive, it is stopped
+abbrev pub piece_over : ℤ → ℤ → Option Piece
+piece_over n (pos zero) = None
+piece_over n (pos (suc d)) = Some (record { numer = n; denom = suc d; count = pos 1 })
+piece_over n (negsuc d) = None
 
--- the count is 0 and the sum 0/0, as C makes a total
-abbrev pub IsAllZero : Total64 → Type 0
-IsAllZero total = (total.count ≡ 0) × ((fraction128 total.sum).0 ≡ pos 0) × ((fraction128 total.sum).1 ≡ pos 0)
+-- what a fraction of 64 bits brings to a total: `piece_over` of its two numbers
+-- Example: 5/36: 5 over 36, as one fraction
+abbrev pub piece_of_fraction : Fraction64 → Option Piece
+piece_of_fraction x = piece_over x.numer x.denom
 
--- what the numbers of C say. A code other than 0 says that the total is lost. All zero (`IsAllZero`) is `none_added`. A sum that is not in
--- lowest terms is no total: a lost one with the code 8
--- Example: the code 0, the count 2 and the sum 5/6: two fractions have the sum 5/6; the sum 10/12: code 8
-abbrev pub SaysTotal : Total64 → TotalSaid → Type 0
-SaysTotal total said =
-    Tested (total.code ≡ code_answered)
-    (Tested (IsAllZero total) (said ≡ none_added)
-    (Tested (IsLowestTerms (fraction128 total.sum).0 (fraction128 total.sum).1) (said ≡ Ok (total.count, fraction128 total.sum)) (said ≡ Err code_no_total)))
-    (said ≡ Err total.code)
+-- what a slot brings to another total: its numerator over its denominator. That total's count is added apart
+-- Example: 6/36: 6 over 36, as no fraction
+abbrev pub piece_of_slot : Slot → Option Piece
+piece_of_slot slot = Some (record { numer = slot.numer; denom = slot.denom; count = pos 0 })
 
--- the numbers that C keeps of a total: those of a lost one are 0
-abbrev pub kept_total : TotalSaid → ℕ × (ℕ × (ℤ × ℤ))
-kept_total (Ok total) = (code_answered, total)
-kept_total (Err code) = (code, (0, (pos 0, pos 0)))
+-- a piece n/d goes in, or out: the numerator over d grows by n, or by -n, no other one changes, and the count changes by that of the piece
+-- Example: 5/36 into 1/36, 1/28 with the count 2: 6/36, 1/28 with the count 3
+pub record Goes (way : Way) (piece : Piece) (old new : Held) : Type 0 where
+  pub slot : Puts piece.denom (turned way piece.numer) old.0 new.0
+  pub numerators : GrowsAt piece.denom (turned way piece.numer) old.0 new.0
+  pub sum : SumGrows piece.denom (turned way piece.numer) old.0 new.0
+  pub count : new.1 ≡ old.1 +ℤ turned way piece.count
 
--- the numbers of the struct: the code, the count, and the two numbers of the sum
-abbrev pub numbers_of_total : Total64 → ℕ × (ℕ × (ℤ × ℤ))
-numbers_of_total total = (total.code, (total.count, fraction128 total.sum))
+-- what an item brings goes in, or out (`Goes`). A slot with the denominator 0 is done and changes nothing
+abbrev pub GoesOver : Way → Option Piece → Held → Held → Type 0
+GoesOver way (Some piece) old new = Tested (piece.denom ≡ 0) (new ≡ old) (Goes way piece old new)
+GoesOver way None old new = ⊥
 
--- the greatest count: 2^64-1
-abbrev pub greatest_count : ℤ
-greatest_count = pos (2 ^ 64 - 1)
+-- all items of a list go in, or out, one after another (`GoesOver`)
+abbrev pub AllGo : {A : Type 0} → (A → Option Piece) → Way → List A → Held → Held → Type 0
+AllGo brings way xs old new = FoldsTo (λ held x next. GoesOver way (brings x) held next) old xs new
 
--- the total of so many fractions with this sum, which need not be reduced: its lowest terms have numbers of 128 bits. If the count or these
--- do not fit, the total is lost, with the code 1
--- Example: 2 and 10/12: 2 and 5/6
-abbrev pub IsTotalOf : ℤ → ℤ × ℤ → TotalSaid → Type 0
-IsTotalOf count sum (Ok total) = (pos total.0 ≡ count) × IsHeldLowest least128 greatest128 sum.0 sum.1 total.1.0 total.1.1
-IsTotalOf count sum (Err code) = (code ≡ code_not_held) × (¬ (IsHeld (pos 0) greatest_count count × Fits least128 greatest128 sum.0 sum.1))
+-- a number leaves its type: the piece's numerator or the sum with it leaves 128 bits, or the count leaves 64
+abbrev pub LeavesType : Way → Piece → Held → Type 0
+LeavesType way piece held =
+    (¬ (Has128Bits (turned way piece.numer)))
+    ⊎ ((¬ (IsHeld least64 greatest64 (held.1 +ℤ turned way piece.count))) ⊎ HasFullPlace held.0 piece.denom (turned way piece.numer))
 
--- a total after a fraction went in. A denominator that is not positive loses the total, with the code 3. A lost one stays lost, as it is
--- Example: 1/3 into 1 and 1/2: 2 and 5/6
-abbrev pub TakesIn : TotalSaid → ℤ × ℤ → TotalSaid → Type 0
-TakesIn (Ok total) x new =
-    Tested (pos 0 <ℤ x.1) (IsTotalOf (pos total.0 +ℤ pos 1) (sum_of total.1.0 total.1.1 x.0 x.1) new) (new ≡ Err code_denominator_not_positive)
-TakesIn (Err code) x new = new ≡ Err code
+-- why a piece does not go in or out: all slots are taken by other denominators, the empty slot where it goes has a numerator that is not 0,
+-- or a number leaves its type
+-- Example: 1/12 into 1/36, 1/28 without an empty slot: `MoreRoom`
+abbrev pub IsPieceStoppedFor : Way → Piece → Held → Stop → Type 0
+IsPieceStoppedFor way piece held NotPositive = ⊥
+IsPieceStoppedFor way piece held MoreRoom = HasNoPlaceFor held.0 piece.denom
+IsPieceStoppedFor way piece held NotEmpty = HasDirtyPlace held.0 piece.denom
+IsPieceStoppedFor way piece held NotHeld = LeavesType way piece held
 
--- a total after a fraction went out of it. A denominator that is not positive loses the total, with the code 3. A lost one stays lost, as
--- it is
--- Example: 1/3 out of 2 and 5/6: 1 and 1/2
-abbrev pub TakesOut : TotalSaid → ℤ × ℤ → TotalSaid → Type 0
-TakesOut (Ok total) x new =
-    Tested (pos 0 <ℤ x.1) (IsTotalOf (pos total.0 -ℤ pos 1) (difference_of total.1.0 total.1.1 x.0 x.1) new) (new ≡ Err code_denominator_not_positive)
-TakesOut (Err code) x new = new ≡ Err code
+-- why an item does not go in or out: its denominator is not positive, or what it brings is stopped (`IsPieceStoppedFor`)
+abbrev pub IsStoppedFor : Way → Option Piece → Held → Stop → Type 0
+IsStoppedFor way (Some piece) held why = (piece.denom ≢ 0) × IsPieceStoppedFor way piece held why
+IsStoppedFor way None held why = why ≡ NotPositive
 
--- two totals become one. If one of them is lost, so is the new one
--- Example: 2 and 5/6, 1 and 1/6: 3 and 1/1
-abbrev pub Merges : TotalSaid → TotalSaid → TotalSaid → Type 0
-Merges (Ok total) (Ok other) new = IsTotalOf (pos total.0 +ℤ pos other.0) (sum_of total.1.0 total.1.1 other.1.0 other.1.1) new
-Merges (Ok total) (Err code) new = new ≡ Err code
-Merges (Err code) other new = new ≡ Err code
+-- the code of a stop: 3, 10, 8 or 1
+-- Example: `MoreRoom`: 10
+abbrev pub code_of_stop : Stop → ℕ
+code_of_stop NotPositive = code_denominator_not_positive
+code_of_stop MoreRoom = code_more_room
+code_of_stop NotEmpty = code_no_total
+code_of_stop NotHeld = code_not_held
 
--- two totals become one (`Merges`), where the second is given by the numbers of C
-pub record MergesTotal (total : TotalSaid) (other : Total64) (new : TotalSaid) : Type 0 where
-  pub said : TotalSaid
-  pub is_said : SaysTotal other said
-  pub merges : Merges total said new
+-- the item at this index is stopped, for what the code says, by the total as it then is
+pub record IsStoppedAt {A : Type 0} (brings : A → Option Piece) (way : Way) (asked : List A) (held : Held) (index code : ℕ) : Type 0 where
+  pub why : Stop
+  pub code_is : code ≡ code_of_stop why
+  pub within : index < length asked
+  pub stopped : (x : A) → IsStoppedFor way (brings (slice_index_or asked index x)) held why
 
--- all items go, one after another, by one kind of step, into the total that the old numbers say. The new numbers keep what that gives
-pub record GathersAll {A : Type 0} (Step : TotalSaid → A → TotalSaid → Type 0) (asked : List A) (old new : Total64) : Type 0 where
-  pub from : TotalSaid
-  pub to : TotalSaid
-  pub is_from : SaysTotal old from
-  pub each : FoldsTo Step from asked to
-  pub is_kept : numbers_of_total new ≡ kept_total to
-  pub is_to : SaysTotal new to
+-- items go into a total, or out of it, one after another: as many as the new header's `done` says. If its code is 0, these are all. If not,
+-- the next one is stopped for what the code says, and the slots and the count are those after the items before it
+-- Example: 1/2, 1/3 and 1/5 into two empty slots: `done` is 2, and the code is 10
+pub record GoUntil {A : Type 0} (brings : A → Option Piece) (way : Way) (asked : List A) (old : Held) (slots : List Slot) (header : Total64) : Type 0 where
+  pub went : AllGo brings way (take header.done asked) old (slots, header.count)
+  pub ended : Tested (header.code ≡ code_answered) (header.done ≡ length asked) (IsStoppedAt brings way asked (slots, header.count) header.done header.code)
 
--- the call gathers into the one total that it is given, as `GathersAll` says. If it is not given just one, it returns 1 and writes nothing
-abbrev pub GathersIntoOne : {A : Type 0} → (TotalSaid → A → TotalSaid → Type 0) → List A → List Total64 → List Total64 → ℕ → Type 0
-GathersIntoOne Step asked old new result =
-    Tested (length old ≡ 1) ((result ≡ return_done) × AllZip (GathersAll Step asked) old new) ((result ≡ return_bad_length) × (new ≡ old))
+-- a header after the count of another total: if all its slots are done, that count is added, or taken off. If the new count does not fit 64
+-- bits, the code is 1 and the count is as it was
+-- Example: 2 and 3: 5
+abbrev pub AddsCount : Way → ℤ → Total64 → Total64 → Type 0
+AddsCount way more old new =
+    Tested (old.code ≡ code_answered)
+    (Tested (IsHeld least64 greatest64 (old.count +ℤ turned way more))
+        (new ≡ record { code = code_answered; done = old.done; count = old.count +ℤ turned way more })
+        (new ≡ record { code = code_not_held; done = old.done; count = old.count }))
+    (new ≡ old)
 
--- the sum of a total over 64 bits, or the code 1 where a number does not fit, or the code of a lost total
--- Example: 2 and 5/6: 5/6
-abbrev pub SaysSum : TotalSaid → Said → Type 0
-SaysSum (Ok total) answer = SaysPair least64 greatest64 total.1 answer
-SaysSum (Err code) answer = answer ≡ refused code
+-- the slots of another total go into a total, or out of it (`GoUntil`), and then its count (`AddsCount`)
+pub record Merges (way : Way) (asked : List Slot) (more : ℤ) (old : Held) (slots : List Slot) (header : Total64) : Type 0 where
+  pub through : Total64
+  pub each : GoUntil piece_of_slot way asked old slots through
+  pub counted : AddsCount way more through header
 
--- the mean: the sum divided by the count, in lowest terms, or the code 1 where these do not fit 64 bits, or the code of a lost total. The
--- mean of no fraction is a division by 0: the code 2
--- Example: 3 and 1/1: 1/3
-abbrev pub SaysMean : TotalSaid → Said → Type 0
-SaysMean (Ok total) answer =
-    Tested (total.0 ≡ 0) (answer ≡ refused code_division_by_zero)
-    (Says (ChecksLowest (λ z. z.0) (λ z. z.1) least64 greatest64 (quotient_of total.1.0 total.1.1 (pos total.0) (pos 1))) answer)
-SaysMean (Err code) answer = answer ≡ refused code
-
--- the sum (`SaysSum`) of the total that the numbers of C say
--- Example: 2 and 5/6: 5/6
-pub record IsSumOfTotal (total : Total64) (answer : Said) : Type 0 where
-  pub said : TotalSaid
-  pub is_said : SaysTotal total said
-  pub sum : SaysSum said answer
-
--- the mean (`SaysMean`) of the total that the numbers of C say
--- Example: 3 and 1/1: 1/3
-pub record IsMeanOfTotal (total : Total64) (answer : Said) : Type 0 where
-  pub said : TotalSaid
-  pub is_said : SaysTotal total said
-  pub mean : SaysMean said answer
+-- the call changes the one total that it is given, as `Changes` says of its slots and count before, its slots after and its header after. If
+-- it is not given just one header, it returns 1 and writes nothing
+abbrev pub ChangesOne : (Held → List Slot → Total64 → Type 0) → List Total64 → List Total64 → List Slot → List Slot → ℕ → Type 0
+ChangesOne Changes old new slots new_slots result =
+    Tested (length old ≡ 1) ((result ≡ return_done) × AllZip (λ from to. Changes (slots, from.count) new_slots to) old new)
+    ((result ≡ return_bad_length) × (new ≡ old) × (new_slots ≡ slots))

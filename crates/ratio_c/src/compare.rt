@@ -45,7 +45,7 @@ impl<P: TwoFractions> Call<P, Order> for Comparison {
 
 /// An order as a number: -1, 0 or 1.
 #[inline(always)]
-fn number_of(order: Ordering) -> i32
+pub fn number_of(order: Ordering) -> i32
     ensures { result ≡ order_number order }
 {
     match order {

@@ -2,7 +2,7 @@
 ghost use Rattle.ratio_c.specs.Calls.{EqualValuesHaveOneHash};
 ghost use Rattle.ratio_c.specs.Keys.{KeysKeepOrder, KeysTellFloats};
 ghost use Rattle.ratio_c.specs.LowestHash.{DenominatorsHaveUnlikeHashes, EqualHaveOneHash, NumeratorsHaveUnlikeHashes};
-ghost use Rattle.ratio_c.specs.TotalLaws.{CallsFollow, LostStaysLost, TotalsInAnyOrder, OutUndoesIn, PartsMerge};
+ghost use Rattle.ratio_c.specs.TotalLaws.{CallsFollow, EachIsBrought, EachIsCounted, MergeAddsEach, MergeMoves, OutUndoesIn, PartsMerge, TotalsInAnyOrder, UnmergeUndoes};
 
 /// Which fractions have the same hash in lowest terms.
 pub fn lowest_hashes()
@@ -16,14 +16,21 @@ pub fn hashes()
     ensures { EqualValuesHaveOneHash }
 {}
 
-/// Where no total is lost, totals of parts make up the total of the whole, in any order, and what goes in and out again leaves no trace. A
-/// lost total stays lost.
+/// A total has exactly what its fractions brought, in any order and in any calls. What goes in and out again leaves no trace.
 pub fn totals()
-    ensures parts { PartsMerge }
+    ensures brought { EachIsBrought }
+    ensures counted { EachIsCounted }
     ensures order { TotalsInAnyOrder }
     ensures calls { CallsFollow }
     ensures undone { OutUndoesIn }
-    ensures lost { LostStaysLost }
+{}
+
+/// A merge adds each numerator of the other total, and so the totals of parts make up the total of the whole.
+pub fn merged_totals()
+    ensures adds { MergeAddsEach }
+    ensures undone { UnmergeUndoes }
+    ensures parts { PartsMerge }
+    ensures moves { MergeMoves }
 {}
 
 /// If one value is at most another, so is its key. If the nearest float of one value is below that of another, so is its key.

@@ -27,6 +27,7 @@ pub mod scaled;
 pub mod sign;
 #[cfg(test)]
 mod tests;
+pub mod total_reads;
 pub mod total_steps;
 pub mod totals;
 pub mod typed;

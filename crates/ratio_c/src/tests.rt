@@ -1,9 +1,10 @@
 //! Tests of all calls over slices: worked rows. Their answers come from outside.
 use crate::code::{
     ANSWERED, BAD_OPTION, BOUND_NOT_POSITIVE, DENOMINATOR_NOT_POSITIVE, DIVISION_BY_ZERO,
-    HIGH_OPEN, LOW_INCLUDED, NOT_HELD, PARSE_ERROR, RULE_HALF_EVEN, ZERO_DENOMINATOR,
+    HIGH_OPEN, LOW_INCLUDED, MORE_ROOM, NO_TOTAL, NOT_HELD, PARSE_ERROR, RULE_HALF_EVEN,
+    ZERO_DENOMINATOR,
 };
-use crate::compare::Truth;
+use crate::compare::{Order, Truth};
 use crate::each::{BAD_LENGTH, DONE};
 use crate::floats::Float;
 use crate::hash::Hash;
@@ -17,16 +18,20 @@ use crate::numbers64::{
     ratio_print_decimal_i64, ratio_print_i64, ratio_rationalize_i64, ratio_read_decimal_i64,
     ratio_read_i64, ratio_read_text_i64, ratio_round_to_i64, ratio_to_f64_i64, ratio_trunc_i64,
 };
-use crate::numbers128::Fraction128;
 use crate::printing::Text;
 use crate::reading::Span;
 use crate::scaled::Scaled;
+use crate::total_reads::{
+    ratio_total_digits_i64, ratio_total_free_i64, ratio_total_mean_i64,
+    ratio_total_print_bytes_i64, ratio_total_print_digits_i64, ratio_total_print_i64,
+    ratio_total_sign_i64, ratio_total_sum_i64,
+};
 use crate::total_steps::{
-    ratio_total_add_i64, ratio_total_mean_i64, ratio_total_merge_i64, ratio_total_subtract_i64,
-    ratio_total_sum_i64,
+    ratio_total_add_i64, ratio_total_merge_i64, ratio_total_subtract_i64, ratio_total_unmerge_i64,
 };
 use crate::totals::Total64;
 use crate::wide::Wide;
+use ratio_totals::Slot;
 
 fn fraction(numer: i64, denom: i64) -> Fraction64 {
     Fraction64 { numer, denom }
@@ -388,34 +393,106 @@ fn typed_texts(rt: HostRuntime) {
 }
 
 fn empty() -> Total64 {
-    let sum = Fraction128 {
-        numer: Wide { low: 0, high: 0 },
-        denom: Wide { low: 0, high: 0 },
-    };
     Total64 {
         code: ANSWERED,
+        done: 0,
         count: 0,
-        sum,
     }
 }
 
 #[test]
 fn totals(rt: HostRuntime) {
     let shares = [fraction(1, 2), fraction(2, 6), fraction(1, 6)];
+    let mut slots = [Slot::EMPTY; 4];
+    let mut others = [Slot::EMPTY; 2];
     let mut total = [empty()];
     let mut other = [empty()];
+    let mut room = [7; 32];
     let mut answers = [no_answer()];
-    assert!(rt; ratio_total_add_i64(&shares[..2], &mut total) == DONE);
-    assert!(rt; ratio_total_add_i64(&shares[2..], &mut other) == DONE);
-    assert!(rt; ratio_total_merge_i64(&other, &mut total) == DONE);
-    assert!(rt; ratio_total_mean_i64(&total, &mut answers) == DONE);
+    assert!(rt; ratio_total_add_i64(&shares[..2], &mut total, &mut slots) == DONE);
+    assert!(rt; ratio_total_add_i64(&shares[2..], &mut other, &mut others) == DONE);
+    assert!(rt; total[0].done == 2 && total[0].count == 2);
+    assert!(rt; ratio_total_merge_i64(&others, 1, &mut total, &mut slots) == DONE);
+    assert!(rt; total[0].code == ANSWERED && total[0].done == 2 && total[0].count == 3);
+    assert!(rt; ratio_total_free_i64(&slots) == 2);
+    assert!(rt; ratio_total_digits_i64(&slots) == 14);
+    assert!(rt; ratio_total_mean_i64(&slots, 3, &mut room, &mut answers) == DONE);
     assert!(rt; [answers[0].value.numer, answers[0].value.denom] == [1, 3]);
-    assert!(rt; ratio_total_subtract_i64(&shares[2..], &mut total) == DONE);
-    assert!(rt; ratio_total_sum_i64(&total, &mut answers) == DONE);
+    assert!(rt; ratio_total_unmerge_i64(&others, 1, &mut total, &mut slots) == DONE);
+    assert!(rt; ratio_total_sum_i64(&slots, &mut room, &mut answers) == DONE);
     assert!(rt; [answers[0].value.numer, answers[0].value.denom] == [5, 6]);
     assert!(rt; total[0].count == 2);
-    let none = [fraction(1, 0)];
-    assert!(rt; ratio_total_add_i64(&none, &mut total) == DONE);
-    assert!(rt; ratio_total_add_i64(&shares, &mut total) == DONE);
-    assert!(rt; total[0].code == DENOMINATOR_NOT_POSITIVE);
+    assert!(rt; ratio_total_subtract_i64(&shares[..1], &mut total, &mut slots) == DONE);
+    assert!(rt; ratio_total_sum_i64(&slots, &mut room, &mut answers) == DONE);
+    assert!(rt; [answers[0].value.numer, answers[0].value.denom] == [1, 3]);
+    assert!(rt; ratio_total_mean_i64(&slots, 0, &mut room, &mut answers) == DONE);
+    assert!(rt; answers[0].code == DIVISION_BY_ZERO);
+    assert!(rt; ratio_total_sum_i64(&slots, &mut room[..4], &mut answers) == DONE);
+    assert!(rt; answers[0].code == MORE_ROOM);
+}
+
+#[test]
+fn signs_of_totals(rt: HostRuntime) {
+    let slots = [Slot::new(36, 1), Slot::new(28, -1)];
+    let mut answers = [Order { code: 9, order: 9 }];
+    let mut room = [7; 14];
+    assert!(rt; ratio_total_sign_i64(&slots, &mut room, &mut answers) == DONE);
+    assert!(rt; answers[0].code == ANSWERED && answers[0].order == -1);
+    assert!(rt; ratio_total_sign_i64(&slots[..1], &mut room, &mut answers) == DONE);
+    assert!(rt; answers[0].code == ANSWERED && answers[0].order == 1);
+    assert!(rt; ratio_total_sign_i64(&slots, &mut room[1..], &mut answers) == DONE);
+    assert!(rt; answers[0].code == MORE_ROOM && answers[0].order == 0);
+}
+
+#[test]
+fn totals_stop(rt: HostRuntime) {
+    let asked = [
+        fraction(1, 2),
+        fraction(1, 3),
+        fraction(1, 5),
+        fraction(1, 0),
+    ];
+    let mut slots = [Slot::EMPTY; 2];
+    let mut larger = [Slot::EMPTY; 4];
+    let mut total = [empty()];
+    let mut moved = [empty()];
+    assert!(rt; ratio_total_add_i64(&asked, &mut total, &mut slots) == DONE);
+    assert!(rt; total[0].code == MORE_ROOM && total[0].done == 2 && total[0].count == 2);
+    assert!(rt; ratio_total_merge_i64(&slots, 2, &mut moved, &mut larger) == DONE);
+    assert!(rt; moved[0].code == ANSWERED && moved[0].count == 2);
+    assert!(rt; ratio_total_add_i64(&asked[2..], &mut moved, &mut larger) == DONE);
+    assert!(rt; moved[0].code == DENOMINATOR_NOT_POSITIVE && moved[0].done == 1);
+    assert!(rt; moved[0].count == 3);
+    let mut most = [Slot::new(2, i128::MAX)];
+    assert!(rt; ratio_total_add_i64(&asked, &mut total, &mut most) == DONE);
+    assert!(rt; total[0].code == NOT_HELD && total[0].done == 0 && total[0].count == 2);
+    let mut dirty = [Slot::new(0, 1)];
+    assert!(rt; ratio_total_add_i64(&asked, &mut total, &mut dirty) == DONE);
+    assert!(rt; total[0].code == NO_TOTAL && total[0].done == 0 && total[0].count == 2);
+    let mut full = [Total64 {
+        code: ANSWERED,
+        done: 0,
+        count: i64::MAX,
+    }];
+    assert!(rt; ratio_total_merge_i64(&slots, 1, &mut full, &mut larger) == DONE);
+    assert!(rt; full[0].code == NOT_HELD && full[0].done == 2 && full[0].count == i64::MAX);
+    let mut two = [empty(), empty()];
+    assert!(rt; ratio_total_add_i64(&asked, &mut two, &mut larger) == BAD_LENGTH);
+}
+
+#[test]
+fn decimals_of_totals(rt: HostRuntime) {
+    let slots = [Slot::new(36, 1), Slot::new(28, 1)];
+    assert!(rt; ratio_total_print_digits_i64(&slots, 4) == 20);
+    assert!(rt; ratio_total_print_bytes_i64(&slots, 4) == 147);
+    let mut room = [7; 20];
+    let mut texts = [b'x'; 147];
+    let mut answers = [no_text()];
+    assert!(rt; ratio_total_print_i64(&slots, 4, RULE_HALF_EVEN, &mut room, &mut texts, &mut answers) == DONE);
+    assert!(rt; answers[0].code == ANSWERED && answers[0].span.end == 147);
+    assert!(rt; texts.ends_with(b"0.0635") && answers[0].span.start == 141);
+    assert!(rt; ratio_total_print_i64(&slots, 4, 6, &mut room, &mut texts, &mut answers) == DONE);
+    assert!(rt; answers[0].code == BAD_OPTION && answers[0].span.start == 147);
+    assert!(rt; ratio_total_print_i64(&slots, 4, 0, &mut room[1..], &mut texts, &mut answers) == DONE);
+    assert!(rt; answers[0].code == MORE_ROOM);
 }

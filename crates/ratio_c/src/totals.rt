@@ -1,129 +1,234 @@
-//! The struct `Total64`: what a total says and keeps, and how items are gathered into it.
-ghost use Rattle.std.specs.Prelude.{◌≡◌, ◌↔◌, ℤ, IsTrue};
-ghost use Rattle.ratio_integer.specs.Fraction.{ChecksLowest, IsLowestTerms};
-ghost use Rattle.ratio_c.specs.Numbers128.{greatest128, least128};
-ghost use Rattle.ratio_c.specs.Totals.{GathersIntoOne, IsSound, IsTotalOf, SaysTotal, TotalSaid, kept_total, numbers_of_total};
+//! The struct `Total64`, the header of a total, and how items go into its slots one after another, until one is stopped.
+ghost use Rattle.std.specs.Prelude.{◌≡◌, ◌+ℤ◌, ℤ, Option, IfErr, IfOk, MatchOption, OnErr};
+ghost use Rattle.ratio_integer.specs.Range.{IsHeld};
+ghost use Rattle.ratio_totals.specs.Sums.{Has128Bits};
+ghost use Rattle.ratio_c.specs.Numbers64.{greatest64, least64};
+ghost use Rattle.ratio_c.specs.Totals.{AddsCount, ChangesOne, GoesOver, GoUntil, IsStoppedFor, Merges, code_of_stop, piece_of_fraction, piece_of_slot, turned};
 
-use crate::code::{ANSWERED, NO_TOTAL, NOT_HELD};
+use crate::code::{ANSWERED, DENOMINATOR_NOT_POSITIVE, MORE_ROOM, NO_TOTAL, NOT_HELD};
 use crate::each::{BAD_LENGTH, DONE};
-use crate::numbers128::Fraction128;
-use crate::wide::Wide;
-use ratio_integer::{Integer, lowest_terms};
+use crate::numbers64::Fraction64;
+use ratio_integer::Integer;
+use ratio_totals::{LooseRefusal, Slot, put_loose};
 
-/// How many fractions were added, and their sum. The code is 0, or it says why the total is lost.
+/// What the last call did to a total, and how many fractions are in it. Its fractions are in its slots.
 #[repr(C)]
 #[derive(Drop)]
 pub struct Total64 {
     pub code: u32,
-    pub count: u64,
-    pub sum: Fraction128,
+    pub done: u64,
+    pub count: i64,
 }
 
-/// The count and the sum of a total, or the code that says why it is lost.
-pub type TotalSaid = Result<(u64, (i128, i128)), u32>;
+/// Whether items go into a total, or out of it.
+#[derive(Clone, Copy)]
+pub enum Way {
+    In,
+    Out,
+}
 
-impl Total64 {
-    /// What the numbers of C say. A sum that is not in lowest terms is no total.
-    pub fn said(&self) -> TotalSaid
-        ensures says { SaysTotal self.now result }
-        ensures sound { IsSound result }
-    {
-        if self.code != ANSWERED {
-            return Err(self.code);
+/// What an item brings: `numer/denom`, and how many fractions that is. If `denom` is 0, it brings nothing.
+#[derive(Clone, Copy)]
+pub struct Piece {
+    pub numer: i128,
+    pub denom: u64,
+    pub count: i64,
+}
+
+/// Why an item did not go in or out.
+#[derive(Clone, Copy)]
+pub enum Stop {
+    /// Its denominator is not positive.
+    NotPositive,
+    /// Each slot holds another denominator.
+    MoreRoom,
+    /// The empty slot where it goes has a numerator that is not 0.
+    NotEmpty,
+    /// The numerator does not fit in 128 bits, or the count does not fit in 64.
+    NotHeld,
+}
+
+/// An item of a call on totals: a fraction, or a slot of another total.
+pub trait Item {
+    ghost use Rattle.ratio_c.specs.declared.totals.Piece.{Piece};
+
+    // What it brings; none if its denominator is not positive.
+    ghost brings: { Self → Option Piece };
+
+    fn brings(&self) -> Option<Piece>
+        ensures { result ≡ brings self.now };
+}
+
+impl Item for Fraction64 {
+    ghost brings = { piece_of_fraction };
+
+    #[inline(always)]
+    fn brings(&self) -> Option<Piece> {
+        if self.denom <= 0 {
+            return None;
         }
-        let n = self.sum.numer.number();
-        let d = self.sum.denom.number();
-        if self.count == 0 && n == 0 && d == 0 {
-            return Ok((0, (0, 1)));
-        }
-        if are_lowest(n, d) {
-            Ok((self.count, (n, d)))
-        } else {
-            Err(NO_TOTAL)
-        }
-    }
-
-    /// The numbers that keep a total.
-    pub fn keeping(total: TotalSaid) -> Total64
-        requires { IsSound total }
-        ensures kept { numbers_of_total result ≡ kept_total total }
-        ensures says { SaysTotal result total }
-    {
-        match total {
-            Ok((count, (n, d))) => Total64 {
-                code: ANSWERED,
-                count,
-                sum: Fraction128 {
-                    numer: Wide::of(n),
-                    denom: Wide::of(d),
-                },
-            },
-            Err(code) => Total64 {
-                code,
-                count: 0,
-                sum: Fraction128 {
-                    numer: Wide::of(0),
-                    denom: Wide::of(0),
-                },
-            },
-        }
+        Some(Piece {
+            numer: self.numer as i128,
+            denom: self.denom as u64,
+            count: 1,
+        })
     }
 }
 
-/// Whether the denominator is positive, and no number above 1 divides both.
-fn are_lowest(n: i128, d: i128) -> bool
-    ensures { IsTrue result ↔ IsLowestTerms n d }
-{
-    if d <= 0 {
-        return false;
-    }
-    let (numer, denom) = lowest_terms(n, d);
-    if numer != n {
-        return false;
-    }
-    if denom != d {
-        return false;
-    }
-    true
-}
+impl Item for Slot {
+    ghost brings = { piece_of_slot };
 
-/// A total of so many fractions with this sum. It is lost if one of the two does not fit.
-pub fn total_of(count: i128, sum: Option<(i128, i128)>) -> TotalSaid
-    ensures total { (x : ℤ × ℤ) → ChecksLowest (λ r. r.0) (λ r. r.1) least128 greatest128 x sum → IsTotalOf count x result }
-{
-    match sum {
-        Some(lowest) => match u64::from_i128(count) {
-            Some(fractions) => Ok((fractions, lowest)),
-            None => Err(NOT_HELD),
-        },
-        None => Err(NOT_HELD),
+    #[inline(always)]
+    fn brings(&self) -> Option<Piece> {
+        Some(Piece {
+            numer: self.numer(),
+            denom: self.denom(),
+            count: 0,
+        })
     }
 }
 
-/// One kind of step: an item goes into a total, or out of it.
-pub trait Step<A> {
-    // The totals that a step gives.
-    ghost gives: { Self → TotalSaid → A → TotalSaid → Type 0 };
-
-    /// The total after one more item.
-    fn step(&self, total: TotalSaid, item: &A) -> TotalSaid
-        requires { IsSound total }
-        ensures total { gives self.now total item.now result }
-        ensures sound { IsSound result };
-}
-
-/// Steps over all items, from the one total of the slice on. If it has not just one, it returns `BAD_LENGTH` and writes nothing.
+/// The number as it goes in, or its negative as it goes out; `None` if that does not fit.
 #[inline(always)]
-pub fn gather<S: Step<A>, A>(step: &S, asked: &[A], totals: &mut [Total64]) -> u32
-    ensures { GathersIntoOne (S.gives step.now) asked.now totals.old totals.new result }
+fn way_of(way: Way, n: i128) -> Option<i128>
+    ensures { MatchOption result (¬ (Has128Bits (turned way n))) (λ m. m ≡ turned way n) }
 {
-    if totals.len() != 1 {
+    match way {
+        Way::In => Some(n),
+        Way::Out => 0i128.checked_sub(n),
+    }
+}
+
+/// The count after so many more fractions went in, or went out; `None` if it does not fit.
+#[inline(always)]
+fn counted(way: Way, count: i64, more: i64) -> Option<i64>
+    ensures { MatchOption result (¬ (IsHeld least64 greatest64 (count +ℤ turned way more))) (λ new. new ≡ count +ℤ turned way more) }
+{
+    let sum = match way {
+        Way::In => count as i128 + more as i128,
+        Way::Out => count as i128 - more as i128,
+    };
+    i64::from_i128(sum)
+}
+
+/// One item goes into the slots, or out of them. The result is the new count.
+#[inline(always)]
+fn step<I: Item>(way: Way, item: &I, count: i64, slots: &mut [Slot]) -> Result<i64, Stop>
+    ensures goes { IfOk result (λ new. GoesOver way (I.brings item.now) (slots.old, count) (slots.new, new)) }
+    ensures stopped { IfErr result (IsStoppedFor way (I.brings item.now) (slots.old, count)) }
+    ensures unchanged { OnErr result (slots.new ≡ slots.old) }
+{
+    let Some(piece) = item.brings() else {
+        return Err(Stop::NotPositive);
+    };
+    if piece.denom == 0 {
+        return Ok(count);
+    }
+    let Some(numer) = way_of(way, piece.numer) else {
+        return Err(Stop::NotHeld);
+    };
+    let Some(next) = counted(way, count, piece.count) else {
+        return Err(Stop::NotHeld);
+    };
+    match put_loose(slots, numer, piece.denom) {
+        Ok(()) => Ok(next),
+        Err(LooseRefusal::MoreRoom) => Err(Stop::MoreRoom),
+        Err(LooseRefusal::NotEmpty) => Err(Stop::NotEmpty),
+        Err(LooseRefusal::TooGreat) => Err(Stop::NotHeld),
+    }
+}
+
+/// The code of a stop.
+fn code_of(why: Stop) -> u32
+    ensures { result ≡ code_of_stop why }
+{
+    match why {
+        Stop::NotPositive => DENOMINATOR_NOT_POSITIVE,
+        Stop::MoreRoom => MORE_ROOM,
+        Stop::NotEmpty => NO_TOTAL,
+        Stop::NotHeld => NOT_HELD,
+    }
+}
+
+/// The items go one after another, until one is stopped. The result is the new header.
+#[inline(always)]
+fn go<I: Item>(way: Way, asked: &[I], count: i64, slots: &mut [Slot]) -> Total64
+    ensures { GoUntil I.brings way asked.now (slots.old, count) slots.new result }
+{
+    let mut count = count;
+    for i in 0..asked.len() {
+        match step(way, &asked[i], count, slots) {
+            Ok(next) => {
+                count = next;
+            }
+            Err(why) => {
+                return Total64 {
+                    code: code_of(why),
+                    done: i as u64,
+                    count,
+                };
+            }
+        }
+    }
+    Total64 {
+        code: ANSWERED,
+        done: asked.len() as u64,
+        count,
+    }
+}
+
+/// The header with the count of another total, if all its slots are done.
+fn with_count(way: Way, total: Total64, more: i64) -> Total64
+    ensures { AddsCount way more total result }
+{
+    if total.code != ANSWERED {
+        return total;
+    }
+    match counted(way, total.count, more) {
+        Some(count) => Total64 {
+            code: ANSWERED,
+            done: total.done,
+            count,
+        },
+        None => Total64 {
+            code: NOT_HELD,
+            done: total.done,
+            count: total.count,
+        },
+    }
+}
+
+/// The items go into the one total of the slice, or out of it. If the slice has not just one, it returns `BAD_LENGTH` and writes nothing.
+#[inline(always)]
+pub fn gather<I: Item>(
+    way: Way,
+    asked: &[I],
+    total: &mut [Total64],
+    slots: &mut [Slot],
+) -> u32
+    ensures { ChangesOne (GoUntil I.brings way asked.now) total.old total.new slots.old slots.new result }
+{
+    if total.len() != 1 {
         return BAD_LENGTH;
     }
-    let mut total = totals[0].said();
-    for i in 0..asked.len() {
-        total = step.step(total, &asked[i]);
+    total[0] = go(way, asked, total[0].count, slots);
+    DONE
+}
+
+/// The slots of another total, and then its count, go into the one total of the slice, or out of it.
+#[inline(always)]
+pub fn pour(
+    way: Way,
+    asked: &[Slot],
+    more: i64,
+    total: &mut [Total64],
+    slots: &mut [Slot],
+) -> u32
+    ensures { ChangesOne (Merges way asked.now more) total.old total.new slots.old slots.new result }
+{
+    if total.len() != 1 {
+        return BAD_LENGTH;
     }
-    totals[0] = Total64::keeping(total);
+    total[0] = with_count(way, go(way, asked, total[0].count, slots), more);
     DONE
 }

@@ -25,6 +25,7 @@ pub mod reading;
 pub mod scaled;
 pub mod sign;
 
+pub mod total_reads;
 pub mod total_steps;
 pub mod totals;
 pub mod typed;

@@ -4,7 +4,7 @@ use mir.Val.{to_z, of_z}
 use mir.Syntax.{w128}
 use Rattle.ratio_core.specs.Power.{ChecksBoth}
 use Rattle.ratio_decimal.proofs.DecimalLemmas.{power_positive, power_small}
-use Rattle.ratio_c.proofs.TotalSteps.{narrow_some, same_terms}
+use Rattle.ratio_c.proofs.Narrowing.{narrow_some, same_terms}
 use Rattle.ratio_c.proofs.scaled.from_scaled.Goals as goal
 
 pub pow-power-requires : goal.pow-power-requires

@@ -26,11 +26,17 @@ pub const NO_TEXT: u32 = 6;
 /// The bound of a denominator is 0 or below it, so no fraction has such a denominator.
 pub const BOUND_NOT_POSITIVE: u32 = 7;
 
-/// A total's code is 0, but its sum is not in lowest terms.
+/// An empty slot of a total has a numerator that is not 0.
 pub const NO_TOTAL: u32 = 8;
 
 /// The call has no such rule, number of parts or of places, scale or flags.
 pub const BAD_OPTION: u32 = 9;
+
+/// A total has no slot for another denominator, or the room of a read is too short.
+pub const MORE_ROOM: u32 = 10;
+
+/// The common denominator of a total is not below 2^(2^20).
+pub const TOO_LONG: u32 = 11;
 
 /// The lower bound is included.
 pub const LOW_INCLUDED: u32 = 1;

@@ -40,7 +40,7 @@ impl<P: TwoFractions> Call<P, Order> for Comparison {
 
 /// An order as a number: -1, 0 or 1.
 #[inline(always)]
-fn number_of(order: Ordering) -> i32 {
+pub fn number_of(order: Ordering) -> i32 {
     match order {
         Ordering::Less => -1,
         Ordering::Equal => 0,

@@ -9,11 +9,6 @@ pub fn lowest_hashes() {}
 #[inline]
 pub fn hashes() {}
 
-/// Where no total is lost, totals of parts make up the total of the whole, in any order, and what goes in and out again leaves no trace. A
-/// lost total stays lost.
-#[inline]
-pub fn totals() {}
-
 /// If one value is at most another, so is its key. If the nearest float of one value is below that of another, so is its key.
 #[inline]
 pub fn keys() {}

@@ -1,122 +1,212 @@
 // Erased from crates/ratio_c/src/totals.rt by rust/erase: not to be edited.
-//! The struct `Total64`: what a total says and keeps, and how items are gathered into it.
+//! The struct `Total64`, the header of a total, and how items go into its slots one after another, until one is stopped.
 
-use crate::proved::ratio_c::code::{ANSWERED, NO_TOTAL, NOT_HELD};
+use crate::proved::ratio_c::code::{ANSWERED, DENOMINATOR_NOT_POSITIVE, MORE_ROOM, NO_TOTAL, NOT_HELD};
 use crate::proved::ratio_c::each::{BAD_LENGTH, DONE};
-use crate::proved::ratio_c::numbers128::Fraction128;
-use crate::proved::ratio_c::wide::Wide;
-use bakhsney::proved::ratio_integer::{Integer, lowest_terms};
+use crate::proved::ratio_c::numbers64::Fraction64;
+use bakhsney::proved::ratio_integer::Integer;
+use bakhsney::proved::ratio_totals::{LooseRefusal, Slot, put_loose};
 
-/// How many fractions were added, and their sum. The code is 0, or it says why the total is lost.
+/// What the last call did to a total, and how many fractions are in it. Its fractions are in its slots.
 #[repr(C)]
 pub struct Total64 {
     pub code: u32,
-    pub count: u64,
-    pub sum: Fraction128,
+    pub done: u64,
+    pub count: i64,
 }
 
-/// The count and the sum of a total, or the code that says why it is lost.
-pub type TotalSaid = Result<(u64, (i128, i128)), u32>;
+/// Whether items go into a total, or out of it.
+#[derive(Clone, Copy)]
+pub enum Way {
+    In,
+    Out,
+}
 
-impl Total64 {
-    /// What the numbers of C say. A sum that is not in lowest terms is no total.
-    #[inline]
-    pub fn said(&self) -> TotalSaid {
-        if self.code != ANSWERED {
-            return Err(self.code);
+/// What an item brings: `numer/denom`, and how many fractions that is. If `denom` is 0, it brings nothing.
+#[derive(Clone, Copy)]
+pub struct Piece {
+    pub numer: i128,
+    pub denom: u64,
+    pub count: i64,
+}
+
+/// Why an item did not go in or out.
+#[derive(Clone, Copy)]
+pub enum Stop {
+    /// Its denominator is not positive.
+    NotPositive,
+    /// Each slot holds another denominator.
+    MoreRoom,
+    /// The empty slot where it goes has a numerator that is not 0.
+    NotEmpty,
+    /// The numerator does not fit in 128 bits, or the count does not fit in 64.
+    NotHeld,
+}
+
+/// An item of a call on totals: a fraction, or a slot of another total.
+pub trait Item {
+    fn brings(&self) -> Option<Piece>;
+}
+
+impl Item for Fraction64 {
+    #[inline(always)]
+    fn brings(&self) -> Option<Piece> {
+        if self.denom <= 0 {
+            return None;
         }
-        let n = self.sum.numer.number();
-        let d = self.sum.denom.number();
-        if self.count == 0 && n == 0 && d == 0 {
-            return Ok((0, (0, 1)));
-        }
-        if are_lowest(n, d) {
-            Ok((self.count, (n, d)))
-        } else {
-            Err(NO_TOTAL)
-        }
-    }
-
-    /// The numbers that keep a total.
-    ///
-    /// # Conditions
-    ///
-    /// The proof requires of the caller:
-    ///
-    /// - `IsSound total`
-    #[inline]
-    pub fn keeping(total: TotalSaid) -> Total64 {
-        match total {
-            Ok((count, (n, d))) => Total64 {
-                code: ANSWERED,
-                count,
-                sum: Fraction128 {
-                    numer: Wide::of(n),
-                    denom: Wide::of(d),
-                },
-            },
-            Err(code) => Total64 {
-                code,
-                count: 0,
-                sum: Fraction128 {
-                    numer: Wide::of(0),
-                    denom: Wide::of(0),
-                },
-            },
-        }
+        Some(Piece {
+            numer: self.numer as i128,
+            denom: self.denom as u64,
+            count: 1,
+        })
     }
 }
 
-/// Whether the denominator is positive, and no number above 1 divides both.
-#[inline]
-fn are_lowest(n: i128, d: i128) -> bool {
-    if d <= 0 {
-        return false;
-    }
-    let (numer, denom) = lowest_terms(n, d);
-    if numer != n {
-        return false;
-    }
-    if denom != d {
-        return false;
-    }
-    true
-}
-
-/// A total of so many fractions with this sum. It is lost if one of the two does not fit.
-#[inline]
-pub fn total_of(count: i128, sum: Option<(i128, i128)>) -> TotalSaid {
-    match sum {
-        Some(lowest) => match u64::from_i128(count) {
-            Some(fractions) => Ok((fractions, lowest)),
-            None => Err(NOT_HELD),
-        },
-        None => Err(NOT_HELD),
+impl Item for Slot {
+    #[inline(always)]
+    fn brings(&self) -> Option<Piece> {
+        Some(Piece {
+            numer: self.numer(),
+            denom: self.denom(),
+            count: 0,
+        })
     }
 }
 
-/// One kind of step: an item goes into a total, or out of it.
-pub trait Step<A> {
-    /// The total after one more item.
-    ///
-    /// # Conditions
-    ///
-    /// The proof requires of the caller:
-    ///
-    /// - `IsSound total`
-    fn step(&self, total: TotalSaid, item: &A) -> TotalSaid;
-}
-
-/// Steps over all items, from the one total of the slice on. If it has not just one, it returns `BAD_LENGTH` and writes nothing.
+/// The number as it goes in, or its negative as it goes out; `None` if that does not fit.
 #[inline(always)]
-pub fn gather<S: Step<A>, A>(step: &S, asked: &[A], totals: &mut [Total64]) -> u32 {
-    if totals.len() != 1 {
+fn way_of(way: Way, n: i128) -> Option<i128> {
+    match way {
+        Way::In => Some(n),
+        Way::Out => 0i128.checked_sub(n),
+    }
+}
+
+/// The count after so many more fractions went in, or went out; `None` if it does not fit.
+#[inline(always)]
+fn counted(way: Way, count: i64, more: i64) -> Option<i64> {
+    let sum = match way {
+        Way::In => count as i128 + more as i128,
+        Way::Out => count as i128 - more as i128,
+    };
+    i64::from_i128(sum)
+}
+
+/// One item goes into the slots, or out of them. The result is the new count.
+#[inline(always)]
+fn step<I: Item>(way: Way, item: &I, count: i64, slots: &mut [Slot]) -> Result<i64, Stop> {
+    let piece = match item.brings() {
+        Some(piece) => piece,
+        _ => {
+            return Err(Stop::NotPositive);
+        }
+    };
+    if piece.denom == 0 {
+        return Ok(count);
+    }
+    let numer = match way_of(way, piece.numer) {
+        Some(numer) => numer,
+        _ => {
+            return Err(Stop::NotHeld);
+        }
+    };
+    let next = match counted(way, count, piece.count) {
+        Some(next) => next,
+        _ => {
+            return Err(Stop::NotHeld);
+        }
+    };
+    match put_loose(slots, numer, piece.denom) {
+        Ok(()) => Ok(next),
+        Err(LooseRefusal::MoreRoom) => Err(Stop::MoreRoom),
+        Err(LooseRefusal::NotEmpty) => Err(Stop::NotEmpty),
+        Err(LooseRefusal::TooGreat) => Err(Stop::NotHeld),
+    }
+}
+
+/// The code of a stop.
+#[inline]
+fn code_of(why: Stop) -> u32 {
+    match why {
+        Stop::NotPositive => DENOMINATOR_NOT_POSITIVE,
+        Stop::MoreRoom => MORE_ROOM,
+        Stop::NotEmpty => NO_TOTAL,
+        Stop::NotHeld => NOT_HELD,
+    }
+}
+
+/// The items go one after another, until one is stopped. The result is the new header.
+#[inline(always)]
+fn go<I: Item>(way: Way, asked: &[I], count: i64, slots: &mut [Slot]) -> Total64 {
+    let mut count = count;
+    for i in 0..asked.len() {
+        match step(way, &asked[i], count, slots) {
+            Ok(next) => {
+                count = next;
+            }
+            Err(why) => {
+                return Total64 {
+                    code: code_of(why),
+                    done: i as u64,
+                    count,
+                };
+            }
+        }
+    }
+    Total64 {
+        code: ANSWERED,
+        done: asked.len() as u64,
+        count,
+    }
+}
+
+/// The header with the count of another total, if all its slots are done.
+#[inline]
+fn with_count(way: Way, total: Total64, more: i64) -> Total64 {
+    if total.code != ANSWERED {
+        return total;
+    }
+    match counted(way, total.count, more) {
+        Some(count) => Total64 {
+            code: ANSWERED,
+            done: total.done,
+            count,
+        },
+        None => Total64 {
+            code: NOT_HELD,
+            done: total.done,
+            count: total.count,
+        },
+    }
+}
+
+/// The items go into the one total of the slice, or out of it. If the slice has not just one, it returns `BAD_LENGTH` and writes nothing.
+#[inline(always)]
+pub fn gather<I: Item>(
+    way: Way,
+    asked: &[I],
+    total: &mut [Total64],
+    slots: &mut [Slot],
+) -> u32 {
+    if total.len() != 1 {
         return BAD_LENGTH;
     }
-    let mut total = totals[0].said();
-    for i in 0..asked.len() {
-        total = step.step(total, &asked[i]);
+    total[0] = go(way, asked, total[0].count, slots);
+    DONE
+}
+
+/// The slots of another total, and then its count, go into the one total of the slice, or out of it.
+#[inline(always)]
+pub fn pour(
+    way: Way,
+    asked: &[Slot],
+    more: i64,
+    total: &mut [Total64],
+    slots: &mut [Slot],
+) -> u32 {
+    if total.len() != 1 {
+        return BAD_LENGTH;
     }
-    totals[0] = Total64::keeping(total);
+    total[0] = with_count(way, go(way, asked, total[0].count, slots), more);
     DONE
 }

@@ -3,7 +3,7 @@ use Rattle.std.proofs.lemmas.Int.{ints}
 use mir.Val.{to_z, of_z}
 use mir.Syntax.{w32, w128}
 use Rattle.ratio_c.proofs.Cases.{where_held}
-use Rattle.ratio_c.proofs.TotalSteps.{lowest_said}
+use Rattle.ratio_c.proofs.Narrowing.{lowest_said}
 use Rattle.ratio_c.proofs.scaled.ScalingCallScaled.answer.Goals as goal
 
 pub returns : goal.returns

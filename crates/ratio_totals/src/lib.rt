@@ -19,13 +19,11 @@ mod pouring;
 mod reading;
 mod refusal;
 mod searching;
-mod signs;
 mod short_sums;
+mod signs;
 mod slots;
 mod steps;
 mod tally;
-#[cfg(test)]
-mod tests;
 mod total;
 
 pub use counting::count_free;

@@ -15,17 +15,14 @@ mod loose;
 mod lowest;
 mod merging;
 mod pouring;
-#[cfg(test)]
-mod read_tests;
 mod reading;
 mod refusal;
 mod searching;
+mod short_sums;
 mod signs;
 mod slots;
 mod steps;
 mod tally;
-#[cfg(test)]
-mod tests;
 mod total;
 
 pub use counting::count_free;

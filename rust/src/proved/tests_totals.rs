@@ -6,3 +6,5 @@ mod long_fractions;
 mod loose;
 #[cfg(test)]
 mod naturals;
+#[cfg(test)]
+mod totals;

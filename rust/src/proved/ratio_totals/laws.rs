@@ -9,6 +9,10 @@ pub fn additions() {}
 #[inline]
 pub fn merges() {}
 
+/// Taking out a total adds its negative, and undoes its merge.
+#[inline]
+pub fn takings_out() {}
+
 /// Each denominator has one slot.
 #[inline]
 pub fn tables() {}

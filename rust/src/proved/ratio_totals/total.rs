@@ -59,7 +59,14 @@ impl<'a> Total<'a> {
     /// Adds each fraction of the other total. If the total refuses it, nothing has changed.
     #[inline]
     pub fn merge(&mut self, other: &Total<'_>) -> Result<(), Refusal> {
-        merge_slots(self.slots, &mut self.tally, other.slots, other.tally)
+        merge_slots(self.slots, &mut self.tally, other.slots, other.tally, false)
+    }
+
+    /// Takes out each fraction of the other total. If the total refuses it, nothing has changed. The other total may have
+    /// fractions that this one does not: 1/28 taken out of 1/36 leaves 1/36 and -1/28, and so a slot for each of both.
+    #[inline]
+    pub fn take_out(&mut self, other: &Total<'_>) -> Result<(), Refusal> {
+        merge_slots(self.slots, &mut self.tally, other.slots, other.tally, true)
     }
 
     /// The same total in other slots, such as more of them. It empties these slots first. If they are fewer than the

@@ -1,9 +1,8 @@
 //! Tests of totals: worked rows.
 
-use crate::{ReadRefusal, Refusal, Slot, Total, find, laws, mean_of, sum_of};
-use crate::{ReadRefusal, Refusal, Slot, Total, find, laws, sign_of};
 use ratio_decimal::rounding_rule::Rounding;
 use ratio_natural::compare;
+use ratio_totals::{ReadRefusal, Refusal, Slot, Total, find, laws, mean_of, sign_of, sum_of};
 use std::cmp::Ordering;
 use std::process::Abort;
 use std::test::Fail;

@@ -1,9 +1,9 @@
-// Erased from crates/ratio_totals/src/tests.rt by rust/erase: not to be edited.
+// Erased from crates/tests_totals/src/totals.rt by rust/erase: not to be edited.
 //! Tests of totals: worked rows.
 
-use crate::proved::ratio_totals::{ReadRefusal, Refusal, Slot, Total, find, laws};
 use crate::proved::ratio_decimal::rounding_rule::Rounding;
 use crate::proved::ratio_natural::compare;
+use crate::proved::ratio_totals::{ReadRefusal, Refusal, Slot, Total, find, laws, mean_of, sign_of, sum_of};
 use core::cmp::Ordering;
 
 use crate::test_support::Fail;
@@ -371,6 +371,93 @@ fn a_long_mean_is_none() -> Result<(), Fail> {
     Ok(())
 }
 
+/// Reads the sum of slots and their mean, in room that was used before. Expected numbers are from Python's `fractions`.
+#[inline]
+fn reads_are(
+    slots: &[Slot],
+    count: i64,
+    sum: Option<(i128, u64)>,
+    mean: Option<(i128, u64)>,
+) {
+    let mut room = [7; 64];
+    assert_eq!(sum_of(slots, &mut room), Ok(sum));
+    assert_eq!(mean_of(slots, count, &mut room), Ok(mean));
+}
+
+#[test]
+fn short_sums_have_signs_and_cancel() -> Result<(), Fail> {
+    let slots = [
+        Slot::new(6, -5),
+        Slot::EMPTY,
+        Slot::new(4, 1),
+        Slot::new(9, -1),
+    ];
+    reads_are(&slots, 3, Some((-25, 36)), Some((-25, 108)));
+    let slots = [Slot::new(6, 1), Slot::new(10, 1), Slot::new(15, -4)];
+    reads_are(&slots, 3, Some((0, 1)), Some((0, 1)));
+    let slots = [Slot::new(6, 1), Slot::new(10, 1), Slot::new(15, 1)];
+    reads_are(&slots, 3, Some((1, 3)), Some((1, 9)));
+    reads_are(&slots, 0, Some((1, 3)), None);
+    reads_are(&[], 1, Some((0, 1)), Some((0, 1)));
+    let slots = [
+        Slot::new(1, 18_446_744_073_709_551_615),
+        Slot::EMPTY,
+        Slot::new(1, 1),
+    ];
+    reads_are(&slots, 2, None, Some((1 << 63, 1)));
+    Ok(())
+}
+
+#[test]
+fn denominators_around_127_bits() -> Result<(), Fail> {
+    // The common denominators are products of two primes: the first times 3 is below 2^127, the second is just below it, and
+    // the third just above.
+    let long = 18_446_744_073_709_551_557;
+    for other in [
+        2_305_843_009_213_693_951,
+        9_223_372_036_854_775_783,
+        9_223_372_036_854_775_909,
+    ] {
+        let slots = [
+            Slot::new(long, 3),
+            Slot::new(other, 1),
+            Slot::new(other, -1),
+        ];
+        reads_are(&slots, 3, Some((3, long)), Some((1, long)));
+        let slots = [
+            Slot::new(other, -1),
+            Slot::new(long, -3),
+            Slot::new(other, 1),
+        ];
+        reads_are(&slots, 3, Some((-3, long)), Some((-1, long)));
+    }
+    Ok(())
+}
+
+#[test]
+fn numerators_around_127_bits() -> Result<(), Fail> {
+    // 2^64 - 1 times twice the last denominator is just below 2^127, and then above.
+    const MAX: i128 = 18_446_744_073_709_551_615;
+    let low = 4_611_686_018_427_387_847;
+    let slots = [Slot::new(2, -2 * MAX), Slot::new(low, 1), Slot::new(1, MAX)];
+    reads_are(
+        &slots,
+        4,
+        Some((1, low)),
+        Some((1, 18_446_744_073_709_551_388)),
+    );
+    let high = 9_223_372_036_854_775_783;
+    let slots = [
+        Slot::new(high, -7),
+        Slot::new(2, 2 * MAX),
+        Slot::new(1, -MAX),
+    ];
+    reads_are(&slots, 4, Some((-7, high)), None);
+    let slots = [Slot::new(1, i128::MIN), Slot::new(2, i128::MAX)];
+    reads_are(&slots, 1, None, None);
+    Ok(())
+}
+
 /// Writes the total as a decimal, in room that was used before. Expected texts are from Python's `fractions`.
 #[inline]
 fn decimal_is(total: &Total<'_>, places: u32, rule: Rounding, expected: &[u8]) {
@@ -443,5 +530,93 @@ fn a_decimal_needs_its_room() -> Result<(), Fail> {
     assert!(has_decimal_room(&total, &mut [0; 22], &mut [0; 183]));
     assert!(!has_decimal_room(&total, &mut [0; 21], &mut [0; 183]));
     assert!(!has_decimal_room(&total, &mut [0; 22], &mut [0; 182]));
+    Ok(())
+}
+
+/// Reads the sign, in room that was used before. Expected signs are from Python's `fractions`.
+#[inline]
+fn sign_is(total: &Total<'_>, expected: Ordering) {
+    let mut room = [7; 64];
+    assert_eq!(total.sign(&mut room), Ok(expected));
+}
+
+#[test]
+fn a_sign_is_exact() -> Result<(), Fail> {
+    let mut room = [Slot::EMPTY; 4];
+    let mut total = Total::new(&mut room);
+    sign_is(&total, Ordering::Equal);
+    assert_eq!(total.add(1, 36), Ok(()));
+    sign_is(&total, Ordering::Greater);
+    assert_eq!(total.subtract(1, 28), Ok(()));
+    sign_is(&total, Ordering::Less);
+    // 1/126 is 1/28 - 1/36
+    assert_eq!(total.add(1, 126), Ok(()));
+    sign_is(&total, Ordering::Equal);
+    Ok(())
+}
+
+#[test]
+fn the_least_difference_has_a_sign() -> Result<(), Fail> {
+    let mut room = [Slot::EMPTY; 2];
+    let mut total = Total::new(&mut room);
+    assert_eq!(total.add(1, u64::MAX), Ok(()));
+    assert_eq!(total.subtract(1, u64::MAX - 1), Ok(()));
+    sign_is(&total, Ordering::Less);
+    assert_eq!(total.subtract(2, u64::MAX), Ok(()));
+    assert_eq!(total.add(2, u64::MAX - 1), Ok(()));
+    sign_is(&total, Ordering::Greater);
+    Ok(())
+}
+
+#[test]
+fn a_sign_needs_the_room_of_a_read() -> Result<(), Fail> {
+    let slots = [Slot::new(36, 1), Slot::EMPTY, Slot::new(28, -1)];
+    assert_eq!(sign_of(&slots, &mut [0; 13]), Err(ReadRefusal::MoreRoom));
+    assert_eq!(sign_of(&slots, &mut [0; 14]), Ok(Ordering::Less));
+    Ok(())
+}
+
+#[test]
+fn what_was_merged_is_taken_out() -> Result<(), Fail> {
+    let mut room = [Slot::EMPTY; 4];
+    let mut total = Total::new(&mut room);
+    assert_eq!(total.add(1, 36), Ok(()));
+    assert_eq!(total.add(1, 28), Ok(()));
+    let mut other_room = [Slot::EMPTY; 4];
+    let mut other = Total::new(&mut other_room);
+    assert_eq!(other.add(5, 12), Ok(()));
+    assert_eq!(other.add(1, 28), Ok(()));
+    assert_eq!(other.subtract(1, 7), Ok(()));
+    assert_eq!(total.merge(&other), Ok(()));
+    assert_eq!(total.numerator(28), 2);
+    assert_eq!(total.count(), 3);
+    assert_eq!(total.take_out(&other), Ok(()));
+    for (denom, numer) in [(36, 1), (28, 1), (12, 0), (7, 0), (3, 0)] {
+        assert_eq!(total.numerator(denom), numer, "over {denom}");
+    }
+    assert_eq!(total.count(), 2);
+    assert_eq!(total.take_out(&other), Ok(()));
+    for (denom, numer) in [(36, 1), (28, 0), (12, -5), (7, 1), (3, 0)] {
+        assert_eq!(total.numerator(denom), numer, "over {denom}");
+    }
+    assert_eq!(total.count(), 1);
+    laws::takings_out();
+    Ok(())
+}
+
+#[test]
+fn a_total_without_room_takes_nothing_out() -> Result<(), Fail> {
+    let mut room = [Slot::EMPTY; 2];
+    let mut total = Total::new(&mut room);
+    assert_eq!(total.add(1, 36), Ok(()));
+    let mut other_room = [Slot::EMPTY; 4];
+    let mut other = Total::new(&mut other_room);
+    assert_eq!(other.add(5, 12), Ok(()));
+    assert_eq!(total.take_out(&other), Ok(()));
+    assert_eq!(other.add(1, 28), Ok(()));
+    assert_eq!(total.take_out(&other), Err(Refusal::MoreRoom));
+    assert_eq!(total.numerator(12), -5);
+    assert_eq!(total.numerator(36), 1);
+    assert_eq!(total.count(), 0);
     Ok(())
 }

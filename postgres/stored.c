@@ -5,6 +5,8 @@
 #include "libpq/pqformat.h"
 #include "utils/builtins.h"
 
+extern Datum ratio_in(PG_FUNCTION_ARGS);
+
 static pg_noinline void
 refuse_stored(void)
 {
@@ -57,6 +59,16 @@ finished(State *state)
 
 	discard(state);
 	return value;
+}
+
+CALL(ratio_total_from_ratio)
+{
+	State		state;
+
+	start(&state, CurrentMemoryContext);
+	state.values[state.waiting++] = *ARG(0);
+	settle(&state);
+	return finished(&state);
 }
 
 /* The text: {count; numerator/denominator, ..}, as {3; 5, 1/2}. A whole numerator has no denominator. */
@@ -173,7 +185,7 @@ read_slot(Reader *reader)
 	return slot;
 }
 
-/* The slots may come in any order, and a denominator may come again. */
+/* The slots may come in any order, and a denominator may come again. The text of a ratio is the total of this one fraction. */
 CALL(ratio_total_in)
 {
 	Reader		reader = {PG_GETARG_CSTRING(0), PG_GETARG_CSTRING(0)};
@@ -181,9 +193,9 @@ CALL(ratio_total_in)
 	int64		count;
 	ratio_slot_i64 slot;
 
-	start(&state, CurrentMemoryContext);
 	if (!takes(&reader, '{'))
-		refuse_text(reader.text);
+		return DirectFunctionCall1(ratio_total_from_ratio, DirectFunctionCall1(ratio_in, CStringGetDatum(reader.text)));
+	start(&state, CurrentMemoryContext);
 	count = read_short(&reader);
 	pour_in(&state, NULL, 0, count);
 	if (takes(&reader, ';'))
@@ -305,16 +317,6 @@ CALL(ratio_total_lt) { PG_RETURN_BOOL(order_of(fcinfo) < 0); }
 CALL(ratio_total_le) { PG_RETURN_BOOL(order_of(fcinfo) <= 0); }
 CALL(ratio_total_gt) { PG_RETURN_BOOL(order_of(fcinfo) > 0); }
 CALL(ratio_total_ge) { PG_RETURN_BOOL(order_of(fcinfo) >= 0); }
-
-CALL(ratio_total_from_ratio)
-{
-	State		state;
-
-	start(&state, CurrentMemoryContext);
-	state.values[state.waiting++] = *ARG(0);
-	settle(&state);
-	return finished(&state);
-}
 
 CALL(ratio_from_total)
 {

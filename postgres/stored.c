@@ -190,14 +190,12 @@ CALL(ratio_total_in)
 {
 	Reader		reader = {PG_GETARG_CSTRING(0), PG_GETARG_CSTRING(0)};
 	State		state;
-	int64		count;
-	ratio_slot_i64 slot;
+	ratio_slot_i64 slot = {0};
 
 	if (!takes(&reader, '{'))
 		return DirectFunctionCall1(ratio_total_from_ratio, DirectFunctionCall1(ratio_in, CStringGetDatum(reader.text)));
 	start(&state, CurrentMemoryContext);
-	count = read_short(&reader);
-	pour_in(&state, NULL, 0, count);
+	pour_in(&state, &slot, 0, read_short(&reader));
 	if (takes(&reader, ';'))
 		do
 		{

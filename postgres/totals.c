@@ -85,12 +85,14 @@ move(State *state)
 static pg_noinline void
 count(State *state)
 {
-	size_t		taken = state->length - ratio_total_free_i64(state->slots, state->length);
+	size_t		taken = state->length - ratio_total_free_i64(state->slots, state->length),
+				limit = limit_of(state->length);
+	uint64		longer = Min(2 * (uint64) state->interval, 16 * (uint64) state->length);
 
-	if (taken > limit_of(state->length))
+	if (taken > limit)
 		move(state);
 	else
-		state->due = state->interval = Max(limit_of(state->length) - taken, Min(2 * (uint64) state->interval, 16 * (uint64) state->length));
+		state->due = state->interval = Max(limit - taken, Min(longer, PG_UINT32_MAX));
 }
 
 static inline void

@@ -13,16 +13,30 @@ refuse_stored(void)
 	ereport(ERROR, errcode(ERRCODE_DATA_CORRUPTED), errmsg("a stored ratio_total is damaged"));
 }
 
-/* The library looks at each slot. Here only the size is checked. */
+/* Whether the denominators are above 0 and grow, and no numerator is 0. */
+static bool
+are_ordered(const ratio_slot_i64 *slots, size_t many)
+{
+	int64		before = 0;
+
+	for (size_t i = 0; i < many; i++)
+	{
+		if ((int64) slots[i].denom <= before || (slots[i].numer.low == 0 && slots[i].numer.high == 0))
+			return false;
+		before = slots[i].denom;
+	}
+	return true;
+}
+
 Stored *
 stored_argument(FunctionCallInfo fcinfo, int n, size_t *many)
 {
 	Stored	   *stored = (Stored *) PG_GETARG_VARLENA_P(n);
-	size_t		size = VARSIZE(stored);
+	size_t		size = VARSIZE(stored) - sizeof(Stored);
 
-	if (size < sizeof(Stored) || (size - sizeof(Stored)) % sizeof(ratio_slot_i64) != 0)
+	*many = size / sizeof(ratio_slot_i64);
+	if (VARSIZE(stored) < sizeof(Stored) || size % sizeof(ratio_slot_i64) != 0 || !are_ordered(stored->slots, *many))
 		refuse_stored();
-	*many = (size - sizeof(Stored)) / sizeof(ratio_slot_i64);
 	return stored;
 }
 
@@ -80,8 +94,6 @@ append_slot(StringInfo text, const ratio_slot_i64 *slot)
 
 	enlargeStringInfo(text, RATIO_ROOM_I128);
 	ratio_print_i128(&fraction, 1, (uint8_t *) text->data + text->len, RATIO_ROOM_I128, &place, 1);
-	if (place.code != RATIO_ANSWERED)
-		refuse_stored();
 	text->len += place.span.end;
 	text->data[text->len] = '\0';
 }
@@ -240,8 +252,7 @@ CALL(ratio_total_recv)
 {
 	StringInfo	bytes = (StringInfo) PG_GETARG_POINTER(0);
 	int64		count = pq_getmsgint64(bytes),
-				many = pq_getmsgint64(bytes),
-				before = 0;
+				many = pq_getmsgint64(bytes);
 	Stored	   *stored;
 
 	if (many < 0 || many > (bytes->len - bytes->cursor) / (int64) sizeof(ratio_slot_i64))
@@ -256,10 +267,9 @@ CALL(ratio_total_recv)
 		slot->denom = pq_getmsgint64(bytes);
 		slot->numer.high = pq_getmsgint64(bytes);
 		slot->numer.low = pq_getmsgint64(bytes);
-		if ((int64) slot->denom <= before || (slot->numer.high == 0 && slot->numer.low == 0))
-			refuse_bytes();
-		before = slot->denom;
 	}
+	if (!are_ordered(stored->slots, many))
+		refuse_bytes();
 	PG_RETURN_POINTER(stored);
 }
 

@@ -7,19 +7,19 @@
 /* How many values wait, so that one call of the library takes all of them, and how many slots a total has before it takes memory. */
 enum { MOST = 6, FEW = 4 };
 
-/* A total, with slots that grow. It may not move: `slots` may be `few`. */
+/* A total, with slots that grow. It may not move: `slots` may be `few`. What each row uses comes first, for the caches. */
 typedef struct
 {
-	MemoryContext context;		/* for more slots */
-	ratio_total_i64 total;
-	ratio_slot_i64 *slots;
+	uint32		waiting;
 	uint32		length;			/* of `slots` */
+	Ratio		values[MOST];
+	ratio_slot_i64 *slots;
 	uint32		due;			/* so many fractions may go in before the empty slots are counted */
 	uint32		interval;		/* what `due` was at the last count */
-	uint32		waiting;
-	int64		totals;			/* how many values of the type ratio_total went in */
-	Ratio		values[MOST];
+	ratio_total_i64 total;
 	ratio_slot_i64 few[FEW];
+	int64		totals;			/* how many values of the type ratio_total went in */
+	MemoryContext context;		/* for more slots */
 } State;
 
 /* A value of the type ratio_total: a varlena with the slots that are not 0, the smaller denominator first. `unused` is 0. So equal contents

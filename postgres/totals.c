@@ -83,7 +83,7 @@ move(State *state)
 /* Counts the empty slots. If few new denominators come, it does so ever more rarely, so that it costs a row nothing. A table may become
  * fuller than its limit meanwhile. If it becomes full, the library says RATIO_MORE_ROOM. */
 static pg_noinline void
-count(State *state)
+count_empty(State *state)
 {
 	size_t		taken = state->length - ratio_total_free_i64(state->slots, state->length),
 				limit = limit_of(state->length);
@@ -103,7 +103,7 @@ count_if_due(State *state, uint32 done)
 	if (likely(state->due > done))
 		state->due -= done;
 	else
-		count(state);
+		count_empty(state);
 }
 
 /* The fractions go in or out. */

@@ -53,6 +53,11 @@ SELECT ratio_round(t, 100) = 7.4854708605503449126565182043339001765216791697088
 SELECT ratio_round(total(r), 30) = -13988921672567883922.037532104500503016527987971675 AS is_right,
     ratio_round(total(r) FILTER (WHERE r > 0), 38) = 77502532105522579752.53812012635364995106823871430867672402 AS is_right_too FROM hard;
 SELECT ratio_round(total(ratio(1, i)), 40) = 10.4807282172293275728144600302160318614309 AS is_right, ratio_count(total(ratio(1, i))) FROM generate_series(1, 20000) i;
+-- a common denominator of more than 2^20 bits: the total is kept, and a difference is read
+CREATE TABLE long AS SELECT total(ratio(1, 9223372036854775807 - i)) AS t FROM generate_series(1, 25000) i;
+SELECT refusal('SELECT ratio_round(t, 2) FROM long');
+SELECT t = t AS same, (t - (SELECT total(ratio(1, 9223372036854775807 - i)) FROM generate_series(1, 24999) i))::ratio, ratio_count(t) FROM long;
+DROP TABLE long;
 -- totals that leave 64 bits: stored, compared, added again
 CREATE TABLE days AS SELECT i % 10 AS day, total(ratio(1, i)) AS t FROM generate_series(1, 1000) i GROUP BY 1;
 SELECT count(*) FILTER (WHERE refusal(format('SELECT t::ratio FROM days WHERE day = %s', day)) LIKE '22003%') AS too_long FROM days;

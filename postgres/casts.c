@@ -87,7 +87,7 @@ decimal(FunctionCallInfo fcinfo, int32 places, uint32 rule, const char *name)
 }
 
 /* The numeric that a text writes. The typmod of numeric(p, s) rounds it to s places and refuses more than p digits; with -1 it stays as it is. */
-static Datum
+Datum
 number(const char *text, int32 typmod)
 {
 	return DirectFunctionCall3(numeric_in, CStringGetDatum(text), ObjectIdGetDatum(InvalidOid), Int32GetDatum(typmod));
@@ -99,12 +99,28 @@ CALL(ratio_round_places) { return number(decimal(fcinfo, PG_GETARG_INT32(1), RAT
 
 /* The cast to numeric, to 16 places, and to numeric(p, s), rounded once, to s places: the lower 11 bits of the typmod. If s is below 0, the
  * library cuts to a whole number, and numeric_in rounds that. To tens, 14.9 is cut to 14 and gives 10, and 15.2 is cut to 15 and gives 20. */
+static bool
+is_plain(int32 typmod)
+{
+	return typmod < VARHDRSZ;
+}
+
+int32
+places_of(int32 typmod)
+{
+	return is_plain(typmod) ? 16 : (((typmod - VARHDRSZ) & 0x7ff) ^ 1024) - 1024;
+}
+
+Datum
+cast_number(const char *text, int32 typmod)
+{
+	return is_plain(typmod) ? DirectFunctionCall1(numeric_trim_scale, number(text, -1)) : number(text, typmod);
+}
+
 CALL(ratio_to_numeric)
 {
-	int32		typmod = PG_GETARG_INT32(1);
-	bool		is_plain = typmod < VARHDRSZ;
-	int32		places = is_plain ? 16 : (((typmod - VARHDRSZ) & 0x7ff) ^ 1024) - 1024;
-	char	   *text = decimal(fcinfo, Max(places, 0), places < 0 ? RATIO_RULE_DOWN : RATIO_RULE_HALF_AWAY, "numeric");
+	int32		typmod = PG_GETARG_INT32(1),
+				places = places_of(typmod);
 
-	return is_plain ? DirectFunctionCall1(numeric_trim_scale, number(text, -1)) : number(text, typmod);
+	return cast_number(decimal(fcinfo, Max(places, 0), places < 0 ? RATIO_RULE_DOWN : RATIO_RULE_HALF_AWAY, "numeric"), typmod);
 }

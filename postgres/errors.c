@@ -20,6 +20,10 @@ refuse(uint32 code, const char *call)
 		case RATIO_BAD_OPTION:
 			ereport(ERROR, errcode(ERRCODE_INVALID_PARAMETER_VALUE), errmsg("there may be 0 to 38 places"), errdetail("The call was %s.", call));
 			break;
+		case RATIO_TOO_LONG:
+			ereport(ERROR, errcode(ERRCODE_PROGRAM_LIMIT_EXCEEDED), errmsg("the common denominator of a total has more than 2^20 bits"),
+					errdetail("The call was %s. The exact total is kept: total(..) gives it.", call));
+			break;
 		default:
 			ereport(ERROR, errcode(ERRCODE_DATA_CORRUPTED), errmsg("a stored ratio is damaged"),
 					errdetail("The library refused %s with the code %u.", call, code));

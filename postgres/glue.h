@@ -24,6 +24,11 @@ extern void refuse(uint32 code, const char *call) pg_attribute_noreturn();
 /* The text of a value, as in SQL: '3/4'. For errors. */
 extern char *quoted(Ratio x);
 
+/* The numeric that a text writes, one for a cast with this typmod, and how many places that cast needs. */
+extern Datum number(const char *text, int32 typmod);
+extern Datum cast_number(const char *text, int32 typmod);
+extern int32 places_of(int32 typmod);
+
 #pragma GCC visibility pop
 
 static inline Datum

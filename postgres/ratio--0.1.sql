@@ -106,7 +106,65 @@ CREATE AGGREGATE min(ratio) (SFUNC = ratio_smaller, STYPE = ratio, COMBINEFUNC =
 CREATE FUNCTION ratio_larger(ratio, ratio) RETURNS ratio AS 'MODULE_PATHNAME' LANGUAGE C IMMUTABLE STRICT PARALLEL SAFE;
 CREATE AGGREGATE max(ratio) (SFUNC = ratio_larger, STYPE = ratio, COMBINEFUNC = ratio_larger, SORTOP = >, PARALLEL = SAFE);
 
--- sum and avg
+-- totals: a count, and an exact numerator for each denominator
+CREATE TYPE ratio_total;
+CREATE FUNCTION ratio_total_in(cstring) RETURNS ratio_total AS 'MODULE_PATHNAME' LANGUAGE C IMMUTABLE STRICT PARALLEL SAFE;
+CREATE FUNCTION ratio_total_out(ratio_total) RETURNS cstring AS 'MODULE_PATHNAME' LANGUAGE C IMMUTABLE STRICT PARALLEL SAFE;
+CREATE FUNCTION ratio_total_recv(internal) RETURNS ratio_total AS 'MODULE_PATHNAME' LANGUAGE C IMMUTABLE STRICT PARALLEL SAFE;
+CREATE FUNCTION ratio_total_send(ratio_total) RETURNS bytea AS 'MODULE_PATHNAME' LANGUAGE C IMMUTABLE STRICT PARALLEL SAFE;
+CREATE TYPE ratio_total (
+    INPUT = ratio_total_in, OUTPUT = ratio_total_out, RECEIVE = ratio_total_recv, SEND = ratio_total_send,
+    INTERNALLENGTH = VARIABLE, ALIGNMENT = double, STORAGE = extended
+);
+-- from fractions, and back
+CREATE FUNCTION ratio_total(ratio) RETURNS ratio_total AS 'MODULE_PATHNAME', 'ratio_total_from_ratio' LANGUAGE C IMMUTABLE STRICT PARALLEL SAFE;
+CREATE CAST (ratio AS ratio_total) WITH FUNCTION ratio_total(ratio) AS IMPLICIT;
+CREATE FUNCTION ratio(ratio_total) RETURNS ratio AS 'MODULE_PATHNAME', 'ratio_from_total' LANGUAGE C IMMUTABLE STRICT PARALLEL SAFE;
+CREATE CAST (ratio_total AS ratio) WITH FUNCTION ratio(ratio_total) AS ASSIGNMENT;
+CREATE FUNCTION ratio_to_numeric(ratio_total, int4) RETURNS numeric AS 'MODULE_PATHNAME', 'ratio_total_to_numeric' LANGUAGE C IMMUTABLE STRICT PARALLEL SAFE;
+CREATE CAST (ratio_total AS numeric) WITH FUNCTION ratio_to_numeric(ratio_total, int4) AS ASSIGNMENT;
+CREATE FUNCTION ratio_round(ratio_total, int4) RETURNS numeric AS 'MODULE_PATHNAME', 'ratio_total_round' LANGUAGE C IMMUTABLE STRICT PARALLEL SAFE;
+CREATE FUNCTION ratio_count(ratio_total) RETURNS int8 AS 'MODULE_PATHNAME', 'ratio_total_count' LANGUAGE C IMMUTABLE STRICT PARALLEL SAFE;
+CREATE FUNCTION ratio_total_add(ratio_total, ratio_total) RETURNS ratio_total AS 'MODULE_PATHNAME' LANGUAGE C IMMUTABLE STRICT PARALLEL SAFE;
+CREATE OPERATOR + (LEFTARG = ratio_total, RIGHTARG = ratio_total, FUNCTION = ratio_total_add, COMMUTATOR = +);
+CREATE FUNCTION ratio_total_sub(ratio_total, ratio_total) RETURNS ratio_total AS 'MODULE_PATHNAME' LANGUAGE C IMMUTABLE STRICT PARALLEL SAFE;
+CREATE OPERATOR - (LEFTARG = ratio_total, RIGHTARG = ratio_total, FUNCTION = ratio_total_sub);
+-- order by value. Equal totals may have unlike slots, so there is no hash.
+CREATE FUNCTION ratio_total_eq(ratio_total, ratio_total) RETURNS boolean AS 'MODULE_PATHNAME' LANGUAGE C IMMUTABLE STRICT PARALLEL SAFE;
+CREATE OPERATOR = (
+    LEFTARG = ratio_total, RIGHTARG = ratio_total, FUNCTION = ratio_total_eq, COMMUTATOR = =, NEGATOR = <>,
+    RESTRICT = eqsel, JOIN = eqjoinsel, MERGES
+);
+CREATE FUNCTION ratio_total_ne(ratio_total, ratio_total) RETURNS boolean AS 'MODULE_PATHNAME' LANGUAGE C IMMUTABLE STRICT PARALLEL SAFE;
+CREATE OPERATOR <> (
+    LEFTARG = ratio_total, RIGHTARG = ratio_total, FUNCTION = ratio_total_ne, COMMUTATOR = <>, NEGATOR = =,
+    RESTRICT = neqsel, JOIN = neqjoinsel
+);
+CREATE FUNCTION ratio_total_lt(ratio_total, ratio_total) RETURNS boolean AS 'MODULE_PATHNAME' LANGUAGE C IMMUTABLE STRICT PARALLEL SAFE;
+CREATE OPERATOR < (
+    LEFTARG = ratio_total, RIGHTARG = ratio_total, FUNCTION = ratio_total_lt, COMMUTATOR = >, NEGATOR = >=,
+    RESTRICT = scalarltsel, JOIN = scalarltjoinsel
+);
+CREATE FUNCTION ratio_total_le(ratio_total, ratio_total) RETURNS boolean AS 'MODULE_PATHNAME' LANGUAGE C IMMUTABLE STRICT PARALLEL SAFE;
+CREATE OPERATOR <= (
+    LEFTARG = ratio_total, RIGHTARG = ratio_total, FUNCTION = ratio_total_le, COMMUTATOR = >=, NEGATOR = >,
+    RESTRICT = scalarlesel, JOIN = scalarlejoinsel
+);
+CREATE FUNCTION ratio_total_gt(ratio_total, ratio_total) RETURNS boolean AS 'MODULE_PATHNAME' LANGUAGE C IMMUTABLE STRICT PARALLEL SAFE;
+CREATE OPERATOR > (
+    LEFTARG = ratio_total, RIGHTARG = ratio_total, FUNCTION = ratio_total_gt, COMMUTATOR = <, NEGATOR = <=,
+    RESTRICT = scalargtsel, JOIN = scalargtjoinsel
+);
+CREATE FUNCTION ratio_total_ge(ratio_total, ratio_total) RETURNS boolean AS 'MODULE_PATHNAME' LANGUAGE C IMMUTABLE STRICT PARALLEL SAFE;
+CREATE OPERATOR >= (
+    LEFTARG = ratio_total, RIGHTARG = ratio_total, FUNCTION = ratio_total_ge, COMMUTATOR = <=, NEGATOR = <,
+    RESTRICT = scalargesel, JOIN = scalargejoinsel
+);
+CREATE FUNCTION ratio_total_cmp(ratio_total, ratio_total) RETURNS int4 AS 'MODULE_PATHNAME' LANGUAGE C IMMUTABLE STRICT PARALLEL SAFE;
+CREATE OPERATOR CLASS ratio_total_ops DEFAULT FOR TYPE ratio_total USING btree AS
+    OPERATOR 1 <, OPERATOR 2 <=, OPERATOR 3 =, OPERATOR 4 >=, OPERATOR 5 >, FUNCTION 1 ratio_total_cmp(ratio_total, ratio_total);
+
+-- sum, avg and total
 CREATE FUNCTION ratio_accum(internal, ratio) RETURNS internal AS 'MODULE_PATHNAME' LANGUAGE C IMMUTABLE PARALLEL SAFE;
 CREATE FUNCTION ratio_unaccum(internal, ratio) RETURNS internal AS 'MODULE_PATHNAME' LANGUAGE C IMMUTABLE PARALLEL SAFE;
 CREATE FUNCTION ratio_combine(internal, internal) RETURNS internal AS 'MODULE_PATHNAME' LANGUAGE C IMMUTABLE PARALLEL SAFE;
@@ -114,13 +172,32 @@ CREATE FUNCTION ratio_serialize(internal) RETURNS bytea AS 'MODULE_PATHNAME' LAN
 CREATE FUNCTION ratio_deserialize(bytea, internal) RETURNS internal AS 'MODULE_PATHNAME' LANGUAGE C IMMUTABLE STRICT PARALLEL SAFE;
 CREATE FUNCTION ratio_sum_final(internal) RETURNS ratio AS 'MODULE_PATHNAME' LANGUAGE C IMMUTABLE PARALLEL SAFE;
 CREATE AGGREGATE sum(ratio) (
-    SFUNC = ratio_accum, STYPE = internal, SSPACE = 192, FINALFUNC = ratio_sum_final,
+    SFUNC = ratio_accum, STYPE = internal, SSPACE = 256, FINALFUNC = ratio_sum_final,
     COMBINEFUNC = ratio_combine, SERIALFUNC = ratio_serialize, DESERIALFUNC = ratio_deserialize, PARALLEL = SAFE,
-    MSFUNC = ratio_accum, MINVFUNC = ratio_unaccum, MSTYPE = internal, MSSPACE = 192, MFINALFUNC = ratio_sum_final
+    MSFUNC = ratio_accum, MINVFUNC = ratio_unaccum, MSTYPE = internal, MSSPACE = 256, MFINALFUNC = ratio_sum_final
 );
 CREATE FUNCTION ratio_avg_final(internal) RETURNS ratio AS 'MODULE_PATHNAME' LANGUAGE C IMMUTABLE PARALLEL SAFE;
 CREATE AGGREGATE avg(ratio) (
-    SFUNC = ratio_accum, STYPE = internal, SSPACE = 192, FINALFUNC = ratio_avg_final,
+    SFUNC = ratio_accum, STYPE = internal, SSPACE = 256, FINALFUNC = ratio_avg_final,
     COMBINEFUNC = ratio_combine, SERIALFUNC = ratio_serialize, DESERIALFUNC = ratio_deserialize, PARALLEL = SAFE,
-    MSFUNC = ratio_accum, MINVFUNC = ratio_unaccum, MSTYPE = internal, MSSPACE = 192, MFINALFUNC = ratio_avg_final
+    MSFUNC = ratio_accum, MINVFUNC = ratio_unaccum, MSTYPE = internal, MSSPACE = 256, MFINALFUNC = ratio_avg_final
+);
+CREATE FUNCTION ratio_total_final(internal) RETURNS ratio_total AS 'MODULE_PATHNAME' LANGUAGE C IMMUTABLE PARALLEL SAFE;
+CREATE AGGREGATE total(ratio) (
+    SFUNC = ratio_accum, STYPE = internal, SSPACE = 256, FINALFUNC = ratio_total_final,
+    COMBINEFUNC = ratio_combine, SERIALFUNC = ratio_serialize, DESERIALFUNC = ratio_deserialize, PARALLEL = SAFE,
+    MSFUNC = ratio_accum, MINVFUNC = ratio_unaccum, MSTYPE = internal, MSSPACE = 256, MFINALFUNC = ratio_total_final
+);
+CREATE FUNCTION ratio_total_accum(internal, ratio_total) RETURNS internal AS 'MODULE_PATHNAME' LANGUAGE C IMMUTABLE PARALLEL SAFE;
+CREATE FUNCTION ratio_total_unaccum(internal, ratio_total) RETURNS internal AS 'MODULE_PATHNAME' LANGUAGE C IMMUTABLE PARALLEL SAFE;
+CREATE AGGREGATE sum(ratio_total) (
+    SFUNC = ratio_total_accum, STYPE = internal, SSPACE = 256, FINALFUNC = ratio_total_final,
+    COMBINEFUNC = ratio_combine, SERIALFUNC = ratio_serialize, DESERIALFUNC = ratio_deserialize, PARALLEL = SAFE,
+    MSFUNC = ratio_total_accum, MINVFUNC = ratio_total_unaccum, MSTYPE = internal, MSSPACE = 256, MFINALFUNC = ratio_total_final
+);
+CREATE FUNCTION ratio_total_avg_final(internal) RETURNS ratio AS 'MODULE_PATHNAME' LANGUAGE C IMMUTABLE PARALLEL SAFE;
+CREATE AGGREGATE avg(ratio_total) (
+    SFUNC = ratio_total_accum, STYPE = internal, SSPACE = 256, FINALFUNC = ratio_total_avg_final,
+    COMBINEFUNC = ratio_combine, SERIALFUNC = ratio_serialize, DESERIALFUNC = ratio_deserialize, PARALLEL = SAFE,
+    MSFUNC = ratio_total_accum, MINVFUNC = ratio_total_unaccum, MSTYPE = internal, MSSPACE = 256, MFINALFUNC = ratio_total_avg_final
 );

@@ -70,13 +70,43 @@ DROP TABLE pairs;
 DROP FUNCTION received, made;
 \! rm -f hard.copied bytes.copied
 DROP TABLE taken, bytes, more;
+-- totals, in both ways
+CREATE TABLE totals AS SELECT numerator(r) % 7 AS k, total(r) AS t FROM hard GROUP BY 1;
+CREATE TABLE totals_taken (k int8, t ratio_total);
+\copy totals TO 'totals.copied'
+\copy totals_taken FROM 'totals.copied'
+\copy totals TO 'totals.copied' (FORMAT binary)
+\copy totals_taken FROM 'totals.copied' (FORMAT binary)
+SELECT count(DISTINCT t::text) = count(DISTINCT k) AS same, count(*) = 2 * count(DISTINCT k) AS as_many, count(DISTINCT k) FROM (TABLE totals_taken UNION ALL SELECT * FROM totals WHERE false) all_of_them;
+SELECT count(*) FROM totals a JOIN totals_taken b USING (k) WHERE a.t::text <> b.t::text;
+SELECT ratio_total_send('{3; 5, -1/2}');
+-- bytes that are no total: a denominator 0, one that comes again, one that falls, a numerator 0, too few slots and too many, a number of slots below 0
+CREATE FUNCTION total_received(bytes bytea) RETURNS text LANGUAGE plpgsql AS $$
+DECLARE path text := current_setting('data_directory') || '/total.copied'; t ratio_total;
+BEGIN
+    EXECUTE format('COPY (SELECT %L::bytea) TO %L (FORMAT binary)', bytes, path);
+    CREATE TEMP TABLE received (t ratio_total) ON COMMIT DROP;
+    EXECUTE format('COPY received FROM %L (FORMAT binary)', path);
+    SELECT received.t INTO STRICT t FROM received;
+    DROP TABLE received;
+    RETURN t;
+EXCEPTION WHEN OTHERS THEN
+    RETURN SQLSTATE;
+END $$;
+CREATE FUNCTION numbers(VARIADIC n int8[]) RETURNS bytea LANGUAGE sql AS $$ SELECT string_agg(int8send(x), '' ORDER BY i) FROM unnest(n) WITH ORDINALITY u(x, i) $$;
+SELECT n, total_received(b) FROM (VALUES (1, numbers(3, 0)), (2, numbers(-3, 2, 1, 0, 5, 2, -1, -1)), (3, numbers(1, 1, 0, 0, 5)), (4, numbers(1, 2, 2, 0, 5, 2, 0, 5)),
+    (5, numbers(1, 2, 2, 0, 5, 1, 0, 5)), (6, numbers(1, 1, 2, 0, 0)), (7, numbers(1, 2, 2, 0, 5)), (8, numbers(1, 1, 2, 0, 5, 3)), (9, numbers(1, -1)),
+    (10, numbers(1, 9223372036854775807)), (11, numbers(1, 1, -9223372036854775808, 0, 1)), (12, numbers(1)), (13, ''::bytea)) rows(n, b) ORDER BY n;
+DROP FUNCTION total_received, numbers;
+\! rm -f totals.copied
+DROP TABLE totals, totals_taken;
 -- dump and restore
-CREATE TABLE dumped (r ratio PRIMARY KEY, CHECK (r <> '1/7'));
-INSERT INTO dumped TABLE hard;
+CREATE TABLE dumped (r ratio PRIMARY KEY, t ratio_total, CHECK (r <> '1/7'));
+INSERT INTO dumped SELECT r, r + ratio_total('2/3') FROM hard;
 CREATE INDEX ON dumped USING hash (r);
 CREATE DATABASE restored;
 \! pg_dump --table=dumped --extension=ratio regression | psql -q -v ON_ERROR_STOP=1 restored >restored.said 2>&1 || cat restored.said
-\! psql -At -c 'SELECT r FROM dumped ORDER BY r' restored >restored.rows; psql -At -c 'SELECT r FROM hard ORDER BY r' regression | diff - restored.rows && echo the same rows
+\! psql -At -c 'SELECT r, t FROM dumped ORDER BY r' restored >restored.rows; psql -At -c 'SELECT r, t FROM dumped ORDER BY r' regression | diff - restored.rows && echo the same rows
 \! psql -At -v VERBOSITY=sqlstate -c "INSERT INTO dumped VALUES ('1/7')" restored
 \! rm -f restored.said restored.rows
 DROP DATABASE restored;

@@ -20,3 +20,13 @@ EXPLAIN (COSTS OFF) SELECT sum(units * rate) FROM readings;
 SELECT sum(units * rate), avg(rate) FROM readings;
 SELECT meter, sum(units * rate) FROM readings WHERE meter < 3 GROUP BY meter ORDER BY meter;
 DROP TABLE readings;
+-- totals that do not fit 64 bits
+SELECT ratio_round(total(ratio(1, i)), 20) FROM generate_series(1, 1000) i;
+CREATE TABLE months AS
+SELECT i % 12 + 1 AS month, total(ratio(1, i)) AS costs FROM generate_series(1, 1000) i GROUP BY 1;
+SELECT ratio_round(sum(costs), 20), ratio_count(sum(costs)) FROM months;
+SELECT month, costs::numeric(10, 4) FROM months ORDER BY costs DESC LIMIT 2;
+UPDATE months SET costs = costs + '1/3' WHERE month = 1;
+SELECT ratio_round(costs, 10), ratio_count(costs) FROM months WHERE month = 1;
+DROP TABLE months;
+SELECT '{2; 2/2}'::ratio_total = '{1; 1}', '{3; 5, 1/2}'::ratio_total::ratio, total(r) FROM unnest('{1/2,1/2}'::ratio[]) r;

@@ -4,7 +4,7 @@ SELECT sum(r), avg(r) FROM unnest('{NULL,NULL}'::ratio[]) r;
 SELECT sum(r), avg(r) FROM hard WHERE false;
 SELECT sum(ratio(1, i)), avg(ratio(1, i)) FROM generate_series(1, 40) i;
 SELECT sum(DISTINCT r), avg(r) FILTER (WHERE r > 1), sum(r ORDER BY r DESC) FROM unnest('{1/2,1/2,5/3,7/3}'::ratio[]) r;
--- a result that fits is given, whatever the sums on the way are, up to 128 bits
+-- a result that fits is given, whatever the sums on the way are
 SELECT sum(r), avg(r) FROM unnest('{9223372036854775807,1/3,-9223372036854775807,9223372036854775807,-9223372036854775807}'::ratio[]) r;
 SELECT avg(r) FROM unnest('{9223372036854775807,9223372036854775805}'::ratio[]) r;
 SELECT avg(r) FROM unnest('{-9223372036854775808,-9223372036854775808}'::ratio[]) r;
@@ -53,15 +53,15 @@ FROM (SELECT i, sum(r) OVER w AS moving, avg(r) OVER w AS mean FROM big WHERE i 
 -- not by a distance in values; by a number of groups
 SELECT refusal('SELECT sum(r) OVER (ORDER BY r RANGE ''1/2'' PRECEDING) FROM hard');
 SELECT r, sum(r) OVER (ORDER BY r GROUPS 1 PRECEDING) FROM unnest('{1/2,1/3,1/2,1/6}'::ratio[]) r;
--- Whether a sum of many unlike denominators is held may depend on the order of the rows, and its value never does. The fractions below
--- are 1/p for large primes p, and their negatives: in pairs each sum on the way is small, and in the other order it leaves 128 bits.
+-- No order of the rows loses a sum. The fractions below are 1/p for large primes p, and their negatives. In pairs each sum on the way is
+-- small. In the other order it has a denominator of 252 bits.
 CREATE TABLE pairs AS SELECT p, s, ratio(s, p) AS r FROM unnest('{9223372036854775783,9223372036854775643,9223372036854775549,9223372036854775507}'::int8[]) p, unnest('{1,-1}'::int[]) s;
-SELECT sum(r ORDER BY p, s) FROM pairs;
-SELECT refusal('SELECT sum(r ORDER BY s, p) FROM pairs');
+SELECT sum(r ORDER BY p, s), sum(r ORDER BY s, p), sum(r ORDER BY s DESC, p) FROM pairs;
 -- so it is in windows, whole and moving
-SELECT refusal('SELECT sum(r) OVER (ORDER BY s, p ROWS BETWEEN UNBOUNDED PRECEDING AND UNBOUNDED FOLLOWING) FROM pairs'),
-    refusal('SELECT avg(r) OVER (ORDER BY s, p ROWS BETWEEN CURRENT ROW AND 7 FOLLOWING) FROM pairs');
--- In a window, taking out 1/p and then 1/q loses the sum, since the rest needs three large denominators. Then the window is added up anew.
+SELECT DISTINCT sum(r) OVER (ORDER BY s, p ROWS BETWEEN UNBOUNDED PRECEDING AND UNBOUNDED FOLLOWING) FROM pairs;
+SELECT count(*), bool_and(falls = grows) AS same FROM (SELECT total(r) OVER (ORDER BY s, p ROWS BETWEEN CURRENT ROW AND 7 FOLLOWING) AS falls,
+    total(r) OVER (ORDER BY s DESC, p DESC) AS grows FROM pairs) both_ways;
+-- a window where the rest of its rows needs three large denominators on the way
 SELECT i, sum(r) OVER w, avg(r) OVER w FROM (VALUES (1, '1/9223372036854775783'::ratio), (2, '1/9223372036854775643'),
     (3, '-1/9223372036854775783'), (4, '-1/9223372036854775643'), (10, '30/9223372036854775549'), (56, '30/9223372036854775549')) rows(i, r)
 WINDOW w AS (ORDER BY i RANGE BETWEEN 46 PRECEDING AND 46 FOLLOWING);

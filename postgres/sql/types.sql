@@ -53,10 +53,10 @@ SELECT call FROM without w FULL JOIN beside b USING (call) WHERE w.meaning IS DI
 -- every function of the extension is immutable and safe for parallel workers, and its classes of operators are whole
 SELECT p.oid::regprocedure FROM pg_proc p JOIN pg_depend d ON d.classid = 'pg_proc'::regclass AND d.objid = p.oid AND d.deptype = 'e'
 JOIN pg_extension e ON e.oid = d.refobjid AND e.extname = 'ratio' WHERE p.provolatile <> 'i' OR p.proparallel <> 's';
-SELECT amname, amvalidate(c.oid) FROM pg_opclass c JOIN pg_am m ON m.oid = opcmethod WHERE opcname = 'ratio_ops' ORDER BY 1;
+SELECT opcname, amname, amvalidate(c.oid) FROM pg_opclass c JOIN pg_am m ON m.oid = opcmethod WHERE opcname IN ('ratio_ops', 'ratio_total_ops') ORDER BY 1, 2;
 -- and it goes away without a trace
 DROP EXTENSION ratio;
 DROP VIEW calls, pairs;
 DROP TABLE operands, shared_calls, shared_operators, without, beside;
 DROP FUNCTION meaning;
-SELECT count(*) FROM pg_type WHERE typname = 'ratio';
+SELECT count(*) FROM pg_type WHERE typname ~ '^_?ratio';

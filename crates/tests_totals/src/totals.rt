@@ -2,7 +2,9 @@
 
 use ratio_decimal::rounding_rule::Rounding;
 use ratio_natural::compare;
-use ratio_totals::{ReadRefusal, Refusal, Slot, Total, find, laws, mean_of, sign_of, sum_of};
+use ratio_totals::{
+    ReadRefusal, Refusal, Slot, Total, find, laws, mean_of, put_decimal_of, sign_of, sum_of,
+};
 use std::cmp::Ordering;
 use std::process::Abort;
 use std::test::Fail;
@@ -509,6 +511,68 @@ fn a_total_that_does_not_fit_is_rounded(rt: HostRuntime) -> Result<(), Fail> {
         Ok(start) => assert!(rt; &buf[start..] == b"7.48547086055034491266".as_slice()),
         Err(_) => assert!(rt; false, "there is room"),
     }
+    Ok(())
+}
+
+/// Writes the sum of slots as a decimal, rounded half to even. Expected texts are from Python's `fractions`.
+fn slots_are(rt: &impl Abort, slots: &[Slot], places: u32, expected: &[u8]) {
+    let mut room = [7; 64];
+    let mut buf = [b'x'; 400];
+    match put_decimal_of(slots, places, Rounding::HalfEven, &mut room, &mut buf) {
+        Ok(start) => assert!(rt; &buf[start..] == expected),
+        Err(_) => assert!(rt; false, "there is room"),
+    }
+}
+
+#[test]
+fn decimals_around_127_bits(rt: HostRuntime) -> Result<(), Fail> {
+    // The common denominator is just below 2^127, and then just above.
+    let long = 18_446_744_073_709_551_557;
+    let below = [
+        Slot::new(long, -27_670_116_110_564_327_424),
+        Slot::EMPTY,
+        Slot::new(9_223_372_036_854_775_783, -1_000_000_000_000_000_000),
+    ];
+    slots_are(
+        &rt,
+        &below,
+        38,
+        b"-1.60842021724855044849221348104092318476",
+    );
+    slots_are(&rt, &below, 19, b"-1.6084202172485504485");
+    let above = [
+        Slot::new(long, -27_670_116_110_564_327_424),
+        Slot::EMPTY,
+        Slot::new(9_223_372_036_854_775_909, -1_000_000_000_000_000_000),
+    ];
+    slots_are(
+        &rt,
+        &above,
+        38,
+        b"-1.60842021724855044701109059900484093692",
+    );
+    slots_are(&rt, &above, 19, b"-1.6084202172485504470");
+    // Numerators of 128 bits. The first two sums do not fit on the way, and the last one does.
+    let slots = [Slot::new(3, i128::MIN), Slot::new(7, 1)];
+    slots_are(
+        &rt,
+        &slots,
+        20,
+        b"-56713727820156410577229101238628035242.52380952380952380952",
+    );
+    let slots = [Slot::new(2, i128::MAX), Slot::new(1, i128::MAX)];
+    slots_are(
+        &rt,
+        &slots,
+        19,
+        b"255211775190703847597530955573826158590.5000000000000000000",
+    );
+    slots_are(
+        &rt,
+        &[Slot::new(3, i128::MIN)],
+        0,
+        b"-56713727820156410577229101238628035243",
+    );
     Ok(())
 }
 

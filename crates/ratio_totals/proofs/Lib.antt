@@ -16,3 +16,4 @@ pub mod LowestSumLemmas
 pub mod SumsAgree
 pub mod SignLemmas
 pub mod TurnLemmas
+pub mod DifferenceLemmas

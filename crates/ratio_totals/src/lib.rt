@@ -9,6 +9,7 @@
 
 mod clearing;
 mod common;
+mod comparing;
 mod counting;
 mod decimal;
 pub mod laws;
@@ -27,6 +28,7 @@ mod tally;
 mod tests;
 mod total;
 
+pub use comparing::CompareRefusal;
 pub use counting::count_free;
 pub use decimal::{decimal_bytes_of, decimal_digits_of, put_decimal_of};
 pub use loose::{LooseRefusal, put_loose};

@@ -11,3 +11,4 @@ pub mod Common
 pub mod LowestSum
 pub mod SumOrder
 pub mod Turning
+pub mod Integers

@@ -167,6 +167,28 @@ new_fewer old new (slot ∷ rest) more =
       ]
     ]
 
+-- two tables that hold the same of the rest have the same new denominators there
+pub new_alike : (a b rest : List Slot) → ((e : ℕ) → e ≢ 0 → holds e rest ≡ true → holds e a ≡ holds e b) → new_of a rest ≡ new_of b rest
+new_alike a b [] same = refl
+new_alike a b (slot ∷ rest) same =
+    let ih : new_of a rest ≡ new_of b rest = new_alike a b rest (λ e ne h. same e ne (held_behind e slot rest h)) in
+    elim (cases_eq slot.denom 0) [
+      | inl z ↦ new_skip a slot rest z ∙ ih ∙ sym (new_skip b slot rest z)
+      | inr taken ↦
+          let here : holds slot.denom a ≡ holds slot.denom b = same slot.denom taken (bool_equal slot.denom slot.denom true (holds slot.denom rest) refl) in
+          elim (bool_cases (holds slot.denom a)) [
+            | inl t ↦ new_held a slot rest taken t ∙ ih ∙ sym (new_held b slot rest taken (sym here ∙ t))
+            | inr f ↦ new_one a slot rest taken f ∙ ap (λ (n : ℕ). n + 1) ih ∙ sym (new_one b slot rest taken (sym here ∙ f))
+          ]
+    ]
+  where
+    held_behind : (e : ℕ) (first : Slot) (others : List Slot) → holds e others ≡ true → holds e (first ∷ others) ≡ true
+    held_behind e first others h =
+        elim (cases_eq first.denom e) [
+          | inl is ↦ bool_equal first.denom e true (holds e others) is
+          | inr ne ↦ bool_differ first.denom e true (holds e others) ne ∙ h
+        ]
+
 -- ---- the denominators of a table are apart
 
 first_again : (slot : Slot) (rest : List Slot)

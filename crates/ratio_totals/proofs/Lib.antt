@@ -18,3 +18,4 @@ pub mod SizeLemmas
 pub mod SumsAgree
 pub mod SignLemmas
 pub mod TurnLemmas
+pub mod DifferenceLemmas

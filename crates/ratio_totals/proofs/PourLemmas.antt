@@ -6,11 +6,11 @@ use Rattle.std.proofs.lemmas.Bool.Decides.{nat_tests}
 use Rattle.std.proofs.lemmas.Int.{ints}
 use Rattle.ratio_totals.proofs.KeptLemmas.{abs_sum, held_of}
 use Rattle.std.proofs.lemmas.List.{length-set, drop_all, get_or-set_other, get_or-set_same}
-use Rattle.ratio_totals.proofs.CountLemmas.{HoldsAtIndex, holds_index, bool_differ, bool_equal, empty_place, free_same, free_taken, full_free, holds_kept, new_at_least, new_fewer, new_one, new_skip, no_place, rest_at, slot_is, table_apart, index_holds}
+use Rattle.ratio_totals.proofs.CountLemmas.{HoldsAtIndex, holds_index, bool_differ, bool_equal, empty_place, free_same, free_taken, full_free, holds_kept, held_place, new_alike, new_at_least, new_fewer, new_held, new_one, new_skip, no_place, rest_at, slot_is, table_apart, index_holds}
 use Rattle.ratio_totals.proofs.Places.{table_written}
 use Rattle.ratio_totals.proofs.MergeSums.{sum_all_came, sum_pours, sum_skips}
 use Rattle.ratio_totals.proofs.SumLemmas.{grows_at, sum_grows}
-use Rattle.ratio_totals.specs.Merging.{AddsEach, HoldsBoth, one_holds, CanMerge, IsPouring, SumAdds, free_of, holds, new_of}
+use Rattle.ratio_totals.specs.Merging.{AddsEach, HoldsBoth, one_holds, CanMerge, IsPouring, SumAdds, TakesSlots, free_of, holds, new_of}
 use Rattle.ratio_totals.specs.Slots.{HasNoPlaceFor, IsPlaceOf, IsTable, empty_slot, slot_at}
 use Rattle.ratio_totals.specs.Sums.{Has128Bits, grown, numerator_at, numerator_over}
 use Rattle.ratio_totals.specs.Totals.{IsKept}
@@ -28,6 +28,7 @@ pouring_begins slots other w m c d kept more can = record {
   sum = refl;
   held = λ e ne. refl;
   room = can.room;
+  free = refl;
   bounded = λ k. more_weight w m (slot_at slots k).numer (kept.bounded k);
   fresh = λ k h. kept.bounded k;
   apart = table_apart other more.table;
@@ -101,6 +102,7 @@ pouring_skips start other now slot rest w m p z = record {
   sum = sum_skips start other now slot rest z p.sum;
   held = λ e ne. skip_held now slot rest e ne z ∙ p.held e ne;
   room = omega (arith, p.room, new_skip now slot rest z);
+  free = omega (arith, p.free, new_skip now slot rest z);
   bounded = p.bounded;
   fresh = λ k h. p.fresh k (rest_holds (slot_at now k).denom slot rest h);
   apart = p.apart.1;
@@ -135,6 +137,26 @@ room_step now slot rest p n table taken place room =
       | inr full ↦ omega (arith, fewer, room, new_at_least now slot rest, free_same now p s place.within full taken)
     ]
 
+held_after : (now : List Slot) (d p e : ℕ) (s : Slot) → s.denom ≡ d → d ≢ e → e ≢ 0 → IsPlaceOf now d p → holds e (slice_set now p s) ≡ holds e now
+held_after now d p e s is apart ne place =
+    same_bool (holds e (slice_set now p s)) (holds e now) (λ h. held_before_at now d p e s is apart place.within (holds_index e (slice_set now p s) h))
+    (λ h. holds_kept now d p e s is place.within place.here ne h)
+
+absent_differs : (rest : List Slot) (d e : ℕ) → holds d rest ≡ false → holds e rest ≡ true → d ≢ e
+absent_differs rest d e absent held same = let f : false ≡ true = sym absent ∙ ap (λ (x : ℕ). holds x rest) same ∙ held in cc
+
+free_step : (now : List Slot) (slot : Slot) (rest : List Slot) (p : ℕ) (n : ℤ) → IsTable now → slot.denom ≢ 0 → IsPlaceOf now slot.denom p → holds slot.denom rest ≡ false
+    → (more all : ℕ) → free_of now + more ≡ all + new_of now (slot ∷ rest)
+    → free_of (slice_set now p (grown slot.denom n (slot_at now p))) + more ≡ all + new_of (slice_set now p (grown slot.denom n (slot_at now p))) rest
+free_step now slot rest p n table taken place absent more all before =
+    let s : Slot = grown slot.denom n (slot_at now p) in
+    let same : new_of (slice_set now p s) rest ≡ new_of now rest =
+    new_alike (slice_set now p s) now rest (λ e ne h. held_after now slot.denom p e s refl (absent_differs rest slot.denom e absent h) ne place) in
+    elim (cases_eq (slot_at now p).denom 0) [
+      | inl z ↦ omega (arith, same, before, new_one now slot rest taken (empty_place now slot.denom p table taken place z), free_taken now p s place.within z taken)
+      | inr full ↦ omega (arith, same, before, new_held now slot rest taken (held_place now slot.denom p place full), free_same now p s place.within full taken)
+    ]
+
 -- the numerator at the place is not yet larger than before the pouring
 fresh_here : (start other now : List Slot) (slot : Slot) (rest : List Slot) (w m p : ℕ) → IsPouring start other now (slot ∷ rest) w m → IsPlaceOf now slot.denom p → unsigned_abs (slot_at now p).numer ≤ w * (2 ^ 64 - 1)
 fresh_here start other now slot rest w m p pouring place =
@@ -165,6 +187,7 @@ pouring_steps start other now slot rest w m p pouring taken place =
       sum = sum_pours start other now (slice_set now p s) slot rest taken pouring.sum (sum_grows now p slot.denom slot.numer taken pouring.table place);
       held = λ e ne. step_held now slot rest slot.numer p e taken ne place ∙ pouring.held e ne;
       room = room_step now slot rest p slot.numer pouring.table taken place pouring.room;
+      free = free_step now slot rest p slot.numer pouring.table taken place (pouring.apart.0 taken) (new_of start other) (free_of start) pouring.free;
       bounded = λ k. elim (cases_eq k p) [
         | inl e ↦ subst (λ (x : Slot). unsigned_abs x.numer ≤ (w + m) * (2 ^ 64 - 1)) (sym (subst (λ (x : ℕ). slot_at (slice_set now p s) x ≡ s) (sym e) there))
             (pouring_sum_small start other now slot rest w m p pouring place)
@@ -201,6 +224,9 @@ pouring_ends start other now w m i h p = record { each = λ e ne. end_sum _ _ ((
 
 pub sum_ends : (start other now : List Slot) (w m i : ℕ) → length other ≤ i → IsPouring start other now (drop i other) w m → SumAdds start other now
 sum_ends start other now w m i h p = record { same = sum_all_came start other now (all_came start other now w m i h p).sum }
+
+pub free_ends : (start other now : List Slot) (w m i : ℕ) → length other ≤ i → IsPouring start other now (drop i other) w m → TakesSlots start other now
+free_ends start other now w m i h p = record { free = omega (arith, (all_came start other now w m i h p).free) }
 
 pub held_ends : (start other now : List Slot) (w m i : ℕ) → length other ≤ i → IsPouring start other now (drop i other) w m → HoldsBoth start other now
 held_ends start other now w m i h p = record { each = λ e ne. end_held (holds e now) ∙ (all_came start other now w m i h p).held e ne }

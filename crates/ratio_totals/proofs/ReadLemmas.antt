@@ -72,7 +72,7 @@ numerator_no_place slots d none = sym (numerator_absent slots d (no_place slots 
 none_held : (slots : List Slot) (d : ℕ) → HasNoFraction slots → d ≢ 0 → HoldsAtIndex d slots → ⊥
 none_held slots d none taken h = taken (sym h.is ∙ ap (λ (s : Slot). s.denom) (none.each h.index h.within))
 
-empty_holds : (slots : List Slot) (d : ℕ) → HasNoFraction slots → d ≢ 0 → holds d slots ≡ false
+pub empty_holds : (slots : List Slot) (d : ℕ) → HasNoFraction slots → d ≢ 0 → holds d slots ≡ false
 empty_holds slots d none taken =
     elim (bool_cases (holds d slots)) [ inl t ↦ absurd (none_held slots d none taken (holds_index d slots t)) | inr f ↦ f ]
 

@@ -10,7 +10,7 @@ use Rattle.ratio_integer.proofs.Whole.{neg-mul, unsigned_abs-neg}
 use Rattle.ratio_totals.proofs.KeptLemmas.{abs_sum, held_of, machine_sum}
 use Rattle.ratio_totals.proofs.PourLemmas.{slot_read}
 use Rattle.ratio_totals.proofs.SumLemmas.{sum_empty, sum_taken, with_slot}
-use Rattle.ratio_totals.specs.Merging.{CanMerge, HoldsBoth, IsPouring, holds, new_of}
+use Rattle.ratio_totals.specs.Merging.{CanMerge, HoldsBoth, IsPouring, TakesSlots, holds, new_of}
 use Rattle.ratio_totals.specs.Slots.{ComesBefore, IsPlaceOf, IsTable, home_of, slot_at}
 use Rattle.ratio_totals.specs.Sums.{Has128Bits, numerator_at, numerator_over, sum_of_slots}
 use Rattle.ratio_totals.specs.TotalLaws.{MergesUndone, NegatedNumerators, NegatedSums}
@@ -141,6 +141,9 @@ can_turned out slots other w m can = record { light = can.light; room = omega (a
 
 pub holds_turned : (out : Bool) (old other new : List Slot) → HoldsBoth old (turned_slots out other) new → HoldsBoth old other new
 holds_turned out old other new h = record { each = λ e ne. h.each e ne ∙ ap (λ (b : Bool). if holds e old then true else b) (turned_holds out e other) }
+
+pub takes_turned : (out : Bool) (old other new : List Slot) → TakesSlots old (turned_slots out other) new → TakesSlots old other new
+takes_turned out old other new h = record { free = omega (arith, h.free, turned_new out old other) }
 
 -- the negative of a numerator has 128 bits
 pub turned_held : (slots : List Slot) (w k : ℕ) (c : ℤ) (out : Bool) → IsKept slots w c → Has128Bits (turned out (slot_at slots k).numer)

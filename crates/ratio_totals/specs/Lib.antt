@@ -12,3 +12,4 @@ pub mod LowestSum
 pub mod SumOrder
 pub mod Turning
 pub mod ShortSum
+pub mod Integers

@@ -50,6 +50,11 @@ pub record HoldsBoth (old other new : List Slot) : Type 0 where
 pub record SumAdds (old other new : List Slot) : Type 0 where
   pub same : SameSum (pair_sum (sum_of_slots old) (sum_of_slots other)) (sum_of_slots new)
 
+-- each denominator that is new takes an empty slot, and no more of these are taken
+-- Example: 36, 28, empty, empty merged with 36, 12: one slot is empty afterwards
+pub record TakesSlots (old other new : List Slot) : Type 0 where
+  pub free : free_of new + new_of old other ≡ free_of old
+
 -- the weights leave room for each other, and there is an empty slot for each denominator that is new
 pub record CanMerge (slots : List Slot) (weight : ℕ) (other : List Slot) (more : ℕ) : Type 0 where
   pub light : weight + more ≤ most_weight
@@ -73,6 +78,7 @@ pub record IsPouring (start other now rest : List Slot) (weight more : ℕ) : Ty
   pub sum : SameSum (pair_sum (sum_of_slots now) (sum_of_slots rest)) (pair_sum (sum_of_slots start) (sum_of_slots other))
   pub held : (e : ℕ) → e ≢ 0 → one_holds e now rest ≡ one_holds e start other
   pub room : new_of now rest ≤ free_of now
+  pub free : free_of now + new_of start other ≡ free_of start + new_of now rest
   pub bounded : (k : ℕ) → unsigned_abs (slot_at now k).numer ≤ (weight + more) * (2 ^ 64 - 1)
   pub fresh : (k : ℕ) → holds (slot_at now k).denom rest ≡ true → unsigned_abs (slot_at now k).numer ≤ weight * (2 ^ 64 - 1)
   pub apart : AreApart rest

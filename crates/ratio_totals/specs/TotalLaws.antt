@@ -1,6 +1,6 @@
 -- Laws of totals, over what their calls promise.
 use Rattle.std.specs.Prelude.{◌≡◌, ◌≢◌, ◌<◌, ℕ, ℤ, List, length, neg_ℤ}
-use Rattle.ratio_totals.specs.Merging.{AddsEach}
+use Rattle.ratio_totals.specs.Merging.{AddsEach, holds}
 use Rattle.ratio_totals.specs.Slots.{IsTable, slot_at}
 use Rattle.ratio_totals.specs.Sums.{GrowsAt, numerator_at, sum_of_slots}
 use Rattle.ratio_totals.specs.Turning.{negated}
@@ -10,6 +10,11 @@ use Rattle.ratio_totals.specs.declared.slots.Slot.{Slot}
 -- Example: 1/36, 1/28 and 1/28, empty, 1/36
 pub record SameNumerators (left right : List Slot) : Type 0 where
   pub each : (e : ℕ) → e ≢ 0 → numerator_at e left ≡ numerator_at e right
+
+-- both tables hold the same denominators
+-- Example: 1/36, 1/28 and 1/28, empty, 5/36
+pub record SameDenominators (left right : List Slot) : Type 0 where
+  pub each : (e : ℕ) → e ≢ 0 → holds e left ≡ holds e right
 
 -- two fractions, added in both orders, give the same numerators
 -- Example: 1/36 and then 1/28; 1/28 and then 1/36

@@ -1,6 +1,6 @@
 //! Two totals as one, and a total taken out of another.
 ghost use Rattle.std.specs.Prelude.{◌≡◌, ◌+◌, ◌^◌, ◌<◌, ◌+ℤ◌, unsigned_abs, IfErr, OnErr, OnOk};
-ghost use Rattle.ratio_totals.specs.Merging.{AddsEach, CanMerge, HoldsBoth, IsMergeRefusedFor, SumAdds};
+ghost use Rattle.ratio_totals.specs.Merging.{AddsEach, CanMerge, HoldsBoth, IsMergeRefusedFor, SumAdds, TakesSlots};
 ghost use Rattle.ratio_totals.specs.Totals.{IsKept};
 ghost use Rattle.ratio_totals.specs.Turning.{turned, turned_slots};
 
@@ -24,6 +24,7 @@ pub(crate) fn merge_slots(
     ensures numerators { OnOk result (AddsEach slots.old (turned_slots out other.now) slots.new) }
     ensures sum { OnOk result (SumAdds slots.old (turned_slots out other.now) slots.new) }
     ensures held { OnOk result (HoldsBoth slots.old other.now slots.new) }
+    ensures free { OnOk result (TakesSlots slots.old other.now slots.new) }
     ensures count { OnOk result (tally.new.count ≡ tally.old.count +ℤ turned out more.count) }
     ensures weight { OnOk result (tally.new.weight ≡ tally.old.weight + more.weight) }
     ensures accepted { OnOk result (CanMerge slots.old tally.old.weight other.now more.weight) }

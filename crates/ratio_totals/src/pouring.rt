@@ -1,6 +1,6 @@
 //! One table poured into another: each numerator is added in the slot of its denominator, or taken out there.
 ghost use Rattle.std.specs.Prelude.{◌≡◌, ◌+◌, ◌<◌, ◌+ℤ◌, length};
-ghost use Rattle.ratio_totals.specs.Merging.{AddsEach, CanMerge, HoldsBoth, SumAdds};
+ghost use Rattle.ratio_totals.specs.Merging.{AddsEach, CanMerge, HoldsBoth, SumAdds, TakesSlots};
 ghost use Rattle.ratio_totals.specs.Slots.{slot_at};
 ghost use Rattle.ratio_totals.specs.Sums.{Has128Bits};
 ghost use Rattle.ratio_totals.specs.Totals.{IsKept};
@@ -19,6 +19,7 @@ pub(crate) fn pour(slots: &mut [Slot], tally: Tally, other: &[Slot], more: Tally
     ensures numerators { AddsEach slots.old (turned_slots out other.now) slots.new }
     ensures sum { SumAdds slots.old (turned_slots out other.now) slots.new }
     ensures held { HoldsBoth slots.old other.now slots.new }
+    ensures free { TakesSlots slots.old other.now slots.new }
 {
     'pouring: for i in 0..other.len() {
         let denom = denom_at(other, i);

@@ -2,9 +2,9 @@
 ghost use Rattle.std.specs.Prelude.{◌≡◌, ◌≢◌, ◌+◌, ◌<◌, ◌+ℤ◌, ◌-ℤ◌, ◌^◌, neg_ℤ, pos, unsigned_abs, length, take, drop, ◌≤◌, IfErr, IfOk, OnErr, OnOk};
 ghost use Rattle.ratio_natural.specs.Number.{natural_of};
 ghost use Rattle.ratio_totals.specs.Common.{IsOverCommon, IsReadRefusedFor, common_digits, most_common, read_digits};
-ghost use Rattle.ratio_totals.specs.Merging.{AddsEach, CanMerge, HoldsBoth, IsMergeRefusedFor, SumAdds, taken_of};
+ghost use Rattle.ratio_totals.specs.Merging.{AddsEach, CanMerge, HoldsBoth, IsMergeRefusedFor, SumAdds, TakesSlots, free_of, taken_of};
 ghost use Rattle.ratio_totals.specs.Sums.{GrowsAt, Puts, SumGrows, numerator_at};
-ghost use Rattle.ratio_totals.specs.TotalLaws.{SameNumerators};
+ghost use Rattle.ratio_totals.specs.TotalLaws.{SameDenominators, SameNumerators};
 ghost use Rattle.ratio_totals.specs.Totals.{HasNoFraction, IsAccepted, IsKept, IsRefusedFor};
 ghost use Rattle.ratio_totals.specs.Turning.{negated};
 
@@ -89,6 +89,7 @@ impl<'a> Total<'a> {
         ensures numerators { OnOk result (AddsEach self.old.slots.now other.now.slots.now self.new.slots.now) }
         ensures sum { OnOk result (SumAdds self.old.slots.now other.now.slots.now self.new.slots.now) }
         ensures held { OnOk result (HoldsBoth self.old.slots.now other.now.slots.now self.new.slots.now) }
+        ensures free { OnOk result (TakesSlots self.old.slots.now other.now.slots.now self.new.slots.now) }
         ensures count { OnOk result (self.new.tally.count ≡ self.old.tally.count +ℤ other.now.tally.count) }
         ensures weight { OnOk result (self.new.tally.weight ≡ self.old.tally.weight + other.now.tally.weight) }
         ensures accepted { OnOk result (CanMerge self.old.slots.now self.old.tally.weight other.now.slots.now other.now.tally.weight) }
@@ -107,6 +108,7 @@ impl<'a> Total<'a> {
         ensures numerators { OnOk result (AddsEach self.old.slots.now (negated other.now.slots.now) self.new.slots.now) }
         ensures sum { OnOk result (SumAdds self.old.slots.now (negated other.now.slots.now) self.new.slots.now) }
         ensures held { OnOk result (HoldsBoth self.old.slots.now other.now.slots.now self.new.slots.now) }
+        ensures free { OnOk result (TakesSlots self.old.slots.now other.now.slots.now self.new.slots.now) }
         ensures count { OnOk result (self.new.tally.count ≡ self.old.tally.count -ℤ other.now.tally.count) }
         ensures weight { OnOk result (self.new.tally.weight ≡ self.old.tally.weight + other.now.tally.weight) }
         ensures accepted { OnOk result (CanMerge self.old.slots.now self.old.tally.weight other.now.slots.now other.now.tally.weight) }
@@ -122,6 +124,9 @@ impl<'a> Total<'a> {
     pub fn moved_to<'b>(&self, slots: &'b mut [Slot]) -> Result<Total<'b>, Refusal>
         ensures same_slots { IfOk result (λ total. total.slots.ghost_name ≡ slots.entry.ghost_name) }
         ensures numerators { IfOk result (λ total. SameNumerators self.now.slots.now total.slots.now) }
+        ensures held { IfOk result (λ total. SameDenominators self.now.slots.now total.slots.now) }
+        ensures free { IfOk result (λ total. free_of total.slots.now + taken_of self.now.slots.now ≡ length slots.old) }
+        ensures length { IfOk result (λ total. length total.slots.now ≡ length slots.old) }
         ensures count { IfOk result (λ total. total.tally.count ≡ self.now.tally.count) }
         ensures weight { IfOk result (λ total. total.tally.weight ≡ self.now.tally.weight) }
         ensures room { OnOk result (taken_of self.now.slots.now ≤ length slots.old) }

@@ -3,7 +3,8 @@
 use ratio_decimal::rounding_rule::Rounding;
 use ratio_natural::compare;
 use ratio_totals::{
-    ReadRefusal, Refusal, Slot, Total, find, laws, mean_of, put_decimal_of, sign_of, sum_of,
+    CompareRefusal, ReadRefusal, Refusal, Slot, Total, find, integer_of, laws, mean_of,
+    put_decimal_of, sign_of, sum_of,
 };
 use std::cmp::Ordering;
 use std::process::Abort;
@@ -679,5 +680,157 @@ fn a_total_without_room_takes_nothing_out(rt: HostRuntime) -> Result<(), Fail> {
     assert_eq!(rt; total.numerator(12), -5);
     assert_eq!(rt; total.numerator(36), 1);
     assert_eq!(rt; total.count(), 0);
+    Ok(())
+}
+
+/// Compares by a difference in slots and in room that were used before. Expected orders are from Python's `fractions`.
+fn order_is(rt: &impl Abort, left: &Total<'_>, right: &Total<'_>, expected: Ordering) {
+    let mut slots = [Slot::new(5, 3); 8];
+    let mut room = [7; 64];
+    assert_eq!(rt; left.compare(right, &mut slots, &mut room), Ok(expected));
+}
+
+/// The same with a fraction.
+fn order_with_is(rt: &impl Abort, total: &Total<'_>, numer: i128, denom: u64, expected: Ordering) {
+    let mut slots = [Slot::new(5, 3); 8];
+    let mut room = [7; 64];
+    if denom == 0 || numer.unsigned_abs() >= 1 << 64 {
+        assert!(rt; false, "no fraction of a total");
+        return;
+    }
+    let order = total.compare_with(numer, denom, &mut slots, &mut room);
+    assert_eq!(rt; order, Ok(expected), "with {numer}/{denom}");
+}
+
+#[test]
+fn totals_are_compared_exactly(rt: HostRuntime) -> Result<(), Fail> {
+    let mut left_room = [Slot::EMPTY; 4];
+    let mut left = Total::new(&mut left_room);
+    let mut right_room = [Slot::EMPTY; 2];
+    let mut right = Total::new(&mut right_room);
+    order_is(&rt, &left, &right, Ordering::Equal);
+    assert_eq!(rt; left.add(1, 36), Ok(()));
+    order_is(&rt, &left, &right, Ordering::Greater);
+    order_is(&rt, &right, &left, Ordering::Less);
+    assert_eq!(rt; left.add(1, 28), Ok(()));
+    // 1/36 + 1/28 is 4/63
+    assert_eq!(rt; right.add(4, 63), Ok(()));
+    order_is(&rt, &left, &right, Ordering::Equal);
+    assert_eq!(rt; right.add(1, u64::MAX), Ok(()));
+    order_is(&rt, &left, &right, Ordering::Less);
+    order_is(&rt, &right, &left, Ordering::Greater);
+    assert_eq!(rt; right.subtract(2, u64::MAX), Ok(()));
+    order_is(&rt, &left, &right, Ordering::Greater);
+    Ok(())
+}
+
+#[test]
+fn a_total_is_compared_with_a_fraction(rt: HostRuntime) -> Result<(), Fail> {
+    let mut room = [Slot::EMPTY; 4];
+    let mut total = Total::new(&mut room);
+    order_with_is(&rt, &total, 0, 7, Ordering::Equal);
+    assert_eq!(rt; total.add(1, 36), Ok(()));
+    assert_eq!(rt; total.add(1, 28), Ok(()));
+    order_with_is(&rt, &total, 4, 63, Ordering::Equal);
+    order_with_is(&rt, &total, 1, 15, Ordering::Less);
+    order_with_is(&rt, &total, 1, 16, Ordering::Greater);
+    order_with_is(&rt, &total, -1, 16, Ordering::Greater);
+    order_with_is(&rt, &total, 1, 1, Ordering::Less);
+    Ok(())
+}
+
+#[test]
+fn a_comparison_needs_its_room(rt: HostRuntime) -> Result<(), Fail> {
+    let mut left_room = [Slot::EMPTY; 4];
+    let mut left = Total::new(&mut left_room);
+    assert_eq!(rt; left.add(1, 36), Ok(()));
+    assert_eq!(rt; left.add(1, 28), Ok(()));
+    let mut right_room = [Slot::EMPTY; 4];
+    let mut right = Total::new(&mut right_room);
+    assert_eq!(rt; right.add(1, 28), Ok(()));
+    assert_eq!(rt; right.add(5, 12), Ok(()));
+    // three denominators: 36, 28 and 12
+    let mut one = [Slot::EMPTY; 1];
+    let mut two = [Slot::EMPTY; 2];
+    let mut three = [Slot::EMPTY; 3];
+    let mut digits = [0; 18];
+    let few = Err(CompareRefusal::MoreSlots);
+    assert_eq!(rt; left.compare(&right, &mut one, &mut digits), few);
+    assert_eq!(rt; left.compare(&right, &mut two, &mut digits), few);
+    let order = left.compare(&right, &mut three, &mut digits[..17]);
+    assert_eq!(rt; order, Err(CompareRefusal::MoreRoom));
+    // 4/63 and 19/42
+    let order = left.compare(&right, &mut three, &mut digits);
+    assert_eq!(rt; order, Ok(Ordering::Less));
+    Ok(())
+}
+
+/// Rounds the sum of slots by each rule, in the order of `Rounding`. The room was used before. Expected numbers are from Python's
+/// `fractions`.
+fn integers_are(rt: &impl Abort, slots: &[Slot], expected: [Option<i128>; 6]) {
+    let rules = [
+        Rounding::HalfAway,
+        Rounding::HalfEven,
+        Rounding::Down,
+        Rounding::Up,
+        Rounding::Floor,
+        Rounding::Ceil,
+    ];
+    for (i, &rule) in rules.iter().enumerate() {
+        let mut room = [7; 64];
+        assert_eq!(rt;
+            integer_of(slots, rule, &mut room),
+            Ok(expected[i]),
+            "rule {i}"
+        );
+    }
+}
+
+#[test]
+fn a_total_is_rounded_to_a_whole_number(rt: HostRuntime) -> Result<(), Fail> {
+    integers_are(&rt, &[], [Some(0); 6]);
+    let half = [Slot::new(2, 1), Slot::EMPTY, Slot::new(3, 6)];
+    integers_are(&rt, &half, [3, 2, 2, 3, 2, 3].map(Some));
+    let below = [Slot::new(2, -1), Slot::new(3, -6)];
+    integers_are(&rt, &below, [-3, -2, -2, -3, -3, -2].map(Some));
+    // 4/63, and -4/63
+    let small = [Slot::new(36, 1), Slot::new(28, 1)];
+    integers_are(&rt, &small, [0, 0, 0, 1, 0, 1].map(Some));
+    let small_below = [Slot::new(36, -1), Slot::new(28, -1)];
+    integers_are(&rt, &small_below, [0, 0, 0, -1, -1, 0].map(Some));
+    let mut room = [Slot::EMPTY; 2];
+    let mut total = Total::new(&mut room);
+    assert_eq!(rt; total.add(7, 2), Ok(()));
+    let few = total.to_integer(Rounding::HalfEven, &mut [0; 9]);
+    assert_eq!(rt; few, Err(ReadRefusal::MoreRoom));
+    let number = total.to_integer(Rounding::HalfEven, &mut [0; 10]);
+    assert_eq!(rt; number, Ok(Some(4)));
+    Ok(())
+}
+
+#[test]
+fn a_whole_number_has_128_bits_or_is_none(rt: HostRuntime) -> Result<(), Fail> {
+    let most = Some(i128::MAX);
+    let least = Some(i128::MIN);
+    // 2^127 - 1/2 and 2^127 - 2/3
+    let above = [Slot::new(1, i128::MAX), Slot::new(2, 1)];
+    integers_are(&rt, &above, [None, None, most, None, most, None]);
+    let above = [Slot::new(1, i128::MAX), Slot::new(3, 1)];
+    integers_are(&rt, &above, [most, most, most, None, most, None]);
+    // -2^127, -2^127 - 1/2 and -2^127 - 1/3
+    integers_are(&rt, &[Slot::new(1, i128::MIN)], [least; 6]);
+    let below = [Slot::new(1, i128::MIN), Slot::new(2, -1)];
+    integers_are(&rt, &below, [None, least, least, None, None, least]);
+    let below = [Slot::new(1, i128::MIN), Slot::new(3, -1)];
+    integers_are(&rt, &below, [least, least, least, None, None, least]);
+    // twice 2^127 - 1, and 3 times
+    let twice = [Slot::new(1, i128::MAX), Slot::new(1, i128::MAX)];
+    integers_are(&rt, &twice, [None; 6]);
+    let thrice = [
+        Slot::new(1, i128::MAX),
+        Slot::new(1, i128::MAX),
+        Slot::new(1, i128::MAX),
+    ];
+    integers_are(&rt, &thrice, [None; 6]);
     Ok(())
 }

@@ -2,8 +2,8 @@ use Rattle.std.proofs.Common.{arith, rules}
 use mir.Facts.{to_z-of_z}
 use mir.Syntax.{w128}
 use mir.Val.{SFits}
-use Rattle.ratio_totals.proofs.PourLemmas.{held_ends, pour_held, poured_kept, pouring_begins, pouring_ends, pouring_has_place, pouring_skips, pouring_steps, sum_ends}
-use Rattle.ratio_totals.proofs.TurnLemmas.{can_turned, holds_turned, kept_turned, turned_length, turned_read}
+use Rattle.ratio_totals.proofs.PourLemmas.{free_ends, held_ends, pour_held, poured_kept, pouring_begins, pouring_ends, pouring_has_place, pouring_skips, pouring_steps, sum_ends}
+use Rattle.ratio_totals.proofs.TurnLemmas.{can_turned, holds_turned, kept_turned, takes_turned, turned_length, turned_read}
 use Rattle.ratio_totals.proofs.pouring.pour.Goals as goal
 
 pub pouring-init : goal.pouring-init
@@ -45,3 +45,8 @@ pub returns-clause-held : goal.returns-clause-held
 returns-clause-held c =
     let out = c.args.out in
     holds_turned out _ _ _ (held_ends _ _ _ _ _ c.pouring.i (omega (arith, turned_length out c.args.other.now, c.pouring-test.false)) c.pouring.invariant)
+
+pub returns-clause-free : goal.returns-clause-free
+returns-clause-free c =
+    let out = c.args.out in
+    takes_turned out _ _ _ (free_ends _ _ _ _ _ c.pouring.i (omega (arith, turned_length out c.args.other.now, c.pouring-test.false)) c.pouring.invariant)

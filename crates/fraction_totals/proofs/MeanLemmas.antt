@@ -9,11 +9,11 @@ use Rattle.ratio_totals.specs.declared.slots.Slot.{Slot}
 use Rattle.num_rational.specs.Ratio.{ChecksRatio, denominator, numerator}
 use Rattle.num_rational.specs.Reduced.{ratio_in, ratio_of}
 use Rattle.num_rational.specs.declared.reduced.Reduced.{Reduced}
-use Rattle.fraction_totals.specs.Values.{ChecksMean, mean_of}
+use Rattle.fraction_totals.specs.Values.{ChecksReducedMean, mean_of}
 use Rattle.fraction_totals.proofs.NumberLemmas.{long_out, terms_moved}
 
 pub mean_some : {T : _} {i : _} {o : _} {e : _} {p : _} {h : _} (slots : List Slot) (count : ℤ) (read : Option (ℤ × ℕ)) (n : ℤ) (d : ℕ) (r : Option (Reduced T i o e p h)) → read ≡ Some (n, d)
-    → ChecksMeanOfSlots slots count read → ChecksRatio (n, pos d) (ratio_in r) → ChecksMean (sum_of_slots slots) count r
+    → ChecksMeanOfSlots slots count read → ChecksRatio (n, pos d) (ratio_in r) → ChecksReducedMean (sum_of_slots slots) count r
 mean_some {i = i} slots count read n d None is mean checks =
     let short = subst (ChecksMeanOfSlots slots count) is mean in
     inr (terms_moved {R = ℤ × ℤ} (λ r. r.0) (λ r. r.1) i.lo i.hi (mean_of (sum_of_slots slots) count) n d None short.1 checks)

@@ -5,14 +5,19 @@
 //! 127/1 + 1/127 - 1/127 is 127/1.
 #![tactic(auto)]
 
+mod crossing;
 mod decimal;
+mod items;
 mod lowest;
 mod numbers;
+mod products;
 mod short;
 #[cfg(test)]
 mod tests;
 mod total;
 
+pub use items::total_of;
+pub use products::ProductRefusal;
 pub use ratio_totals::{ReadRefusal, Refusal, Slot};
 pub use short::Short;
 pub use total::Total;

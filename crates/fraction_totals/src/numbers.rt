@@ -14,11 +14,18 @@ pub(crate) fn parts<T: Short>(x: &Reduced<T>) -> (i128, u64)
     ensures numer { unsigned_abs result.0 < 2 ^ 64 }
     ensures denom { 0 < result.1 }
 {
-    (wide(*x.numer()), wide(*x.denom()).unsigned_abs() as u64)
+    (wide(*x.numer()), size(*x.denom()))
+}
+
+/// The number without its sign.
+pub(crate) fn size<T: Short>(t: T) -> u64
+    ensures { result ≡ unsigned_abs (T.value t) }
+{
+    wide(t).unsigned_abs() as u64
 }
 
 /// The number as an `i128`.
-fn wide<T: Short>(t: T) -> i128
+pub(crate) fn wide<T: Short>(t: T) -> i128
     ensures number { result ≡ T.value t }
     ensures short { unsigned_abs (T.value t) < 2 ^ 64 }
 {

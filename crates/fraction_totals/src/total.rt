@@ -1,7 +1,7 @@
 //! The struct `Total`: fractions go in and out, and nothing is lost.
 ghost use Rattle.std.specs.Prelude.{◌≡◌, ◌+◌, ◌<◌, ◌≤◌, ◌+ℤ◌, ◌-ℤ◌, pos, length, IfErr, IfOk, OnErr, OnOk};
 ghost use Rattle.ratio_totals.specs.Merging.{AddsEach, CanMerge, HoldsBoth, IsMergeRefusedFor, taken_of};
-ghost use Rattle.ratio_totals.specs.Sums.{GrowsAt, SameSum};
+ghost use Rattle.ratio_totals.specs.Sums.{GrowsAt, Puts, SameSum};
 ghost use Rattle.ratio_totals.specs.TotalLaws.{SameNumerators};
 ghost use Rattle.ratio_totals.specs.Totals.{HasNoFraction, IsAccepted, IsRefusedFor};
 ghost use Rattle.fraction_totals.specs.Values.{GrowsBy, opposite_of, pair_of, slots_of, value_of};
@@ -39,6 +39,7 @@ impl<'a, T: Short> Total<'a, T> {
         ensures same_slots { self.new.table.slots.ghost_name ≡ self.old.table.slots.ghost_name }
         ensures room { length (slots_of self.new) ≡ length (slots_of self.old) }
         ensures sum { OnOk result (GrowsBy (pair_of x.now) (value_of self.old) (value_of self.new)) }
+        ensures slot { OnOk result (Puts (pair_of x.now).1 (pair_of x.now).0 (slots_of self.old) (slots_of self.new)) }
         ensures numerators { OnOk result (GrowsAt (pair_of x.now).1 (pair_of x.now).0 (slots_of self.old) (slots_of self.new)) }
         ensures count { OnOk result (self.new.table.tally.count ≡ self.old.table.tally.count +ℤ pos 1) }
         ensures weight { OnOk result (self.new.table.tally.weight ≡ self.old.table.tally.weight + 1) }
@@ -56,6 +57,7 @@ impl<'a, T: Short> Total<'a, T> {
         ensures same_slots { self.new.table.slots.ghost_name ≡ self.old.table.slots.ghost_name }
         ensures room { length (slots_of self.new) ≡ length (slots_of self.old) }
         ensures sum { OnOk result (GrowsBy (opposite_of (pair_of x.now)) (value_of self.old) (value_of self.new)) }
+        ensures slot { OnOk result (Puts (pair_of x.now).1 (opposite_of (pair_of x.now)).0 (slots_of self.old) (slots_of self.new)) }
         ensures numerators { OnOk result (GrowsAt (pair_of x.now).1 (opposite_of (pair_of x.now)).0 (slots_of self.old) (slots_of self.new)) }
         ensures count { OnOk result (self.new.table.tally.count ≡ self.old.table.tally.count -ℤ pos 1) }
         ensures weight { OnOk result (self.new.table.tally.weight ≡ self.old.table.tally.weight + 1) }

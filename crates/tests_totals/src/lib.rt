@@ -2,6 +2,8 @@
 #![tactic(auto)]
 
 #[cfg(test)]
+mod fractions;
+#[cfg(test)]
 mod long_fractions;
 #[cfg(test)]
 mod loose;

@@ -1,5 +1,5 @@
 -- The laws of totals, from what each step does to a numerator.
-use Rattle.std.specs.Prelude.{◌≡◌, ◌≢◌, ◌==◌, ◌<◌, ◌≤◌, ◌⊎◌, ◌+◌, ◌-◌, ◌+ℤ◌, ◌-ℤ◌, ◌++◌, zero, suc, ℕ, ℤ, pos, negsuc, neg_ℤ, Bool, true, false, List, [], ◌∷◌, take, length, get_or, slice_index_or, Option, Some, None, if◌then◌else◌, IsPermutation}
+use Rattle.std.specs.Prelude.{◌≡◌, ◌≢◌, ◌==◌, ◌⊎◌, ◌+◌, ◌+ℤ◌, ◌-ℤ◌, ◌++◌, zero, suc, ℕ, ℤ, pos, negsuc, neg_ℤ, Bool, true, false, List, [], ◌∷◌, take, length, Option, Some, None, if◌then◌else◌, IsPermutation}
 use Rattle.std.specs.List.{FoldsTo, sum_by}
 use Rattle.std.proofs.Common.{ap, arith, inl, inr, length-append, refl, subst, sym, ◌∙◌}
 use Rattle.std.proofs.Math.Seq.{take-append-add, take-length}
@@ -11,14 +11,11 @@ use Rattle.ratio_totals.proofs.ReadLemmas.{empty_numerators, over_other}
 use Rattle.ratio_totals.specs.Common.{above_zero, below_zero}
 use Rattle.ratio_totals.specs.Sums.{numerator_at, numerator_over}
 use Rattle.ratio_totals.specs.declared.slots.Slot.{Slot}
-use Rattle.ratio_c.specs.declared.numbers64.Fraction64.{Fraction64}
 use Rattle.ratio_c.specs.declared.totals.Piece.{Piece}
-use Rattle.ratio_c.specs.declared.totals.Total64.{Total64}
 use Rattle.ratio_c.specs.declared.totals.Way.{Way}
 use Rattle.ratio_c.specs.declared.totals.Way.TheVariants.{In, Out}
-use Rattle.ratio_c.specs.Codes.{code_answered}
-use Rattle.ratio_c.specs.Totals.{AllGo, GoesOver, GoUntil, Held, IsStoppedAt, IsStoppedFor, piece_of_fraction, piece_of_slot, piece_over, turned}
-use Rattle.ratio_c.specs.TotalLaws.{AreSame, CallsFollow, EachIsBrought, EachIsCounted, MergeAddsEach, MergeMoves, OutUndoesIn, PartsMerge, TotalsInAnyOrder, UnmergeUndoes, all_brought, brought_over}
+use Rattle.ratio_c.specs.Totals.{AllGo, GoesOver, Held, IsStoppedAt, IsStoppedFor, piece_of_fraction, piece_of_slot, piece_over, turned}
+use Rattle.ratio_c.specs.TotalLaws.{CallsFollow, EachIsBrought, EachIsCounted, MergeAddsEach, MergeMoves, OutUndoesIn, PartsMerge, TotalsInAnyOrder, UnmergeUndoes, all_brought, brought_over}
 
 -- ---- numbers
 
@@ -150,7 +147,7 @@ later_stop brings way xs ys held i code stop = record {
 pub calls_follow : CallsFollow
 calls_follow xs ys way old slots new_slots first second one answered two =
     let whole : AllGo piece_of_fraction way xs old (slots, first.count)
-        = subst (λ zs. AllGo piece_of_fraction way zs old (slots, first.count)) (all_taken first.done xs (one.ended.yes answered)) one.went in
+    = subst (λ zs. AllGo piece_of_fraction way zs old (slots, first.count)) (all_taken first.done xs (one.ended.yes answered)) one.went in
     record {
       went = subst (λ zs. AllGo piece_of_fraction way zs old (new_slots, second.count)) (sym (take-append-add xs ys second.done)) (follows _ xs (take second.done ys) old (slots, first.count) (new_slots, second.count) whole two.went);
       ended = record {

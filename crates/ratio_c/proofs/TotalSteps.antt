@@ -1,6 +1,6 @@
 -- How items go into a total one after another, and the one item of a slice that a call writes.
 use Rattle.std.specs.Prelude.{◌≡◌, ◌≢◌, ◌+◌, ◌<◌, ◌+ℤ◌, ◌-ℤ◌, neg_ℤ, ◌++◌, ℕ, ℤ, List, [], ◌∷◌, take, length, get_or, set, Option, Some, None, MatchOption}
-use Rattle.std.specs.List.{AllZip, FoldsTo}
+use Rattle.std.specs.List.{AllZip}
 use Rattle.std.proofs.Common.{ap, arith, inl, inr, subst, sym, ◌∙◌}
 use Rattle.std.proofs.lemmas.Fn.{FoldsTo-push}
 use Rattle.std.proofs.lemmas.Int.{ints}

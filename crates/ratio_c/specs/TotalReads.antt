@@ -4,7 +4,7 @@ use Rattle.std.specs.List.{AllZip}
 use Rattle.ratio_core.specs.Power.{ChecksBoth}
 use Rattle.ratio_integer.specs.Fraction.{ChecksLowest}
 use Rattle.ratio_long.specs.Decimals.{IsLongDecimalOf}
-use Rattle.ratio_totals.specs.Common.{HasLongCommon, IsReadRefusedFor, most_common, read_digits}
+use Rattle.ratio_totals.specs.Common.{IsReadRefusedFor, read_digits}
 use Rattle.ratio_totals.specs.DecimalRoom.{HasDecimalRoom, IsDecimalRefusedFor}
 use Rattle.ratio_totals.specs.LowestSum.{mean_of_slots}
 use Rattle.ratio_totals.specs.SumOrder.{sign_of_slots}
@@ -58,7 +58,7 @@ Narrows None result = result ≡ None
 
 -- the order of the sum of the slots and 0, as -1, 0 or 1
 -- Example: 1/36, -1/28: -1
-pub record IsSign (slots : List Slot) (room : ℕ) (answer : Order) : Type 0 where
+pub record SaysSign (slots : List Slot) (room : ℕ) (answer : Order) : Type 0 where
   pub code_is : answer.code ≡ code_answered
   pub order_is : answer.order ≡ order_number (sign_of_slots slots)
   pub room_is : read_digits slots ≤ room
@@ -70,9 +70,9 @@ pub record IsRefusedSign (slots : List Slot) (room : ℕ) (answer : Order) : Typ
   pub code_is : answer.code ≡ code_of_read why
   pub order_is : answer.order ≡ pos 0
 
--- the order of the sum and 0 (`IsSign`), or a refusal (`IsRefusedSign`)
+-- the order of the sum and 0 (`SaysSign`), or a refusal (`IsRefusedSign`)
 abbrev pub IsSignOfTotal : List Slot → ℕ → Order → Type 0
-IsSignOfTotal slots room answer = IsSign slots room answer ⊎ IsRefusedSign slots room answer
+IsSignOfTotal slots room answer = SaysSign slots room answer ⊎ IsRefusedSign slots room answer
 
 -- there is no text, for what the code says, and the span at the end is empty
 pub record HasNoText (code end : ℕ) (answer : Text) : Type 0 where

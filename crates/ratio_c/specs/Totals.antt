@@ -110,8 +110,8 @@ abbrev pub AddsCount : Way → ℤ → Total64 → Total64 → Type 0
 AddsCount way more old new =
     Tested (old.code ≡ code_answered)
     (Tested (IsHeld least64 greatest64 (old.count +ℤ turned way more))
-        (new ≡ record { code = code_answered; done = old.done; count = old.count +ℤ turned way more })
-        (new ≡ record { code = code_not_held; done = old.done; count = old.count }))
+    (new ≡ record { code = code_answered; done = old.done; count = old.count +ℤ turned way more })
+    (new ≡ record { code = code_not_held; done = old.done; count = old.count }))
     (new ≡ old)
 
 -- the slots of another total go into a total, or out of it (`GoUntil`), and then its count (`AddsCount`)

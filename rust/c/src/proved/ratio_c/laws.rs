@@ -9,6 +9,14 @@ pub fn lowest_hashes() {}
 #[inline]
 pub fn hashes() {}
 
+/// A total has exactly what its fractions brought, in any order and in any calls. What goes in and out again leaves no trace.
+#[inline]
+pub fn totals() {}
+
+/// A merge adds each numerator of the other total, and so the totals of parts make up the total of the whole.
+#[inline]
+pub fn merged_totals() {}
+
 /// If one value is at most another, so is its key. If the nearest float of one value is below that of another, so is its key.
 #[inline]
 pub fn keys() {}

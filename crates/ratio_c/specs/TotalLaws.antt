@@ -1,7 +1,9 @@
 -- The laws of totals.
-use Rattle.std.specs.Prelude.{◌≡◌, ◌≢◌, ◌+◌, ◌++◌, ◌+ℤ◌, ℕ, ℤ, pos, List, [], ◌∷◌, length, Option, Some, None, IsPermutation}
+use Rattle.std.specs.Prelude.{◌≡◌, ◌≢◌, ◌+◌, ◌++◌, ◌<ℤ◌, ◌+ℤ◌, ℕ, ℤ, pos, List, [], ◌∷◌, length, Option, Some, None, IsPermutation}
 use Rattle.ratio_totals.specs.Merging.{AddsEach}
-use Rattle.ratio_totals.specs.Sums.{numerator_at, numerator_over}
+use Rattle.ratio_totals.specs.LowestSum.{mean_of_slots}
+use Rattle.ratio_totals.specs.SumOrder.{sign_of_slots}
+use Rattle.ratio_totals.specs.Sums.{numerator_at, numerator_over, sum_of_slots}
 use Rattle.ratio_totals.specs.TotalLaws.{SameNumerators}
 use Rattle.ratio_totals.specs.Totals.{HasNoFraction}
 use Rattle.ratio_totals.specs.declared.slots.Slot.{Slot}
@@ -11,6 +13,8 @@ use Rattle.ratio_c.specs.declared.totals.Total64.{Total64}
 use Rattle.ratio_c.specs.declared.totals.Way.{Way}
 use Rattle.ratio_c.specs.declared.totals.Way.TheVariants.{In, Out}
 use Rattle.ratio_c.specs.Codes.{code_answered}
+use Rattle.ratio_c.specs.Crossing.{Said}
+use Rattle.ratio_c.specs.TotalReads.{SaysLowest}
 use Rattle.ratio_c.specs.Totals.{AllGo, GoUntil, Held, piece_of_fraction, piece_of_slot, turned}
 
 -- what an item brings over the denominator e: its numerator if it is over e; elsewhere 0
@@ -90,3 +94,22 @@ PartsMerge =
 -- Example: 6/36, 1/28 into eight empty slots: 6/36, 1/28
 abbrev pub MergeMoves : Type 0
 MergeMoves = (slots : List Slot) (none new : Held) → HasNoFraction none.0 → AllGo piece_of_slot In slots none new → SameNumerators slots new.0
+
+-- Law: totals with the same numerators have the same sum in lowest terms, and the same code where it does not fit
+-- Example: 1/36, 1/28 and 1/28, empty, 1/36: 4/63
+abbrev pub SumsReadAlike : Type 0
+SumsReadAlike =
+    (left right : List Slot) (first second : Said)
+    → SameNumerators left right → SaysLowest (sum_of_slots left) first → SaysLowest (sum_of_slots right) second → first ≡ second
+
+-- Law: with the same count they also have the same mean
+-- Example: 1/36, 1/28 and 1/28, empty, 1/36 with the count 2: 2/63
+abbrev pub MeansReadAlike : Type 0
+MeansReadAlike =
+    (left right : List Slot) (count : ℤ) (first second : Said)
+    → SameNumerators left right → pos 0 <ℤ count → SaysLowest (mean_of_slots left count) first → SaysLowest (mean_of_slots right count) second → first ≡ second
+
+-- Law: they have the same sign
+-- Example: 1/36, -1/28 and -1/28, empty, 1/36: `Less`
+abbrev pub SignsAgree : Type 0
+SignsAgree = (left right : List Slot) → SameNumerators left right → sign_of_slots left ≡ sign_of_slots right

@@ -2,9 +2,11 @@
  *
  * Each call takes an array of inputs and an array for the answers, and the length of each. It returns
  * RATIO_DONE, and each answer has a code. If the lengths differ, or if there is too little room for texts,
- * it returns RATIO_BAD_LENGTH and writes nothing. No call overflows, stops the program or allocates
- * memory, whatever the numbers are. The arrays that a call writes may not overlap any other array, and no
- * pointer may be null.
+ * it returns RATIO_BAD_LENGTH and writes nothing. The calls on totals, near the end, take one total or give
+ * one answer.
+ *
+ * No call overflows, stops the program or allocates memory, whatever the numbers are. The arrays that a call
+ * writes may not overlap any other array, and no pointer may be null.
  *
  * From C and from C++, with libratio_c.a, which `rt lib` makes in crates/ratio_c/out. Without rt, rust/c/build makes it in
  * rust/c/target/release:
@@ -253,16 +255,17 @@ RATIO_SHORT_CALLS(i64)
  */
 uint32_t ratio_key_i64(const ratio_i64 *asked, size_t asked_len, ratio_key *answers, size_t answers_len);
 
-/* A total adds fractions and loses nothing, however many there are. It has a slot for each denominator, with the sum of the numerators over
- * it: 1/36, 1/28 and 5/36 take two slots, 6/36 and 1/28. Adding computes no greatest common divisor, and no sum on the way overflows
- * where a running sum in lowest terms would. You give the slots, as many as there are unlike denominators:
+/* A total adds fractions and loses nothing on the way, however many there are. It has a slot for each denominator, with the sum of the
+ * numerators over it: 1/36, 1/28 and 5/36 take two slots, 6/36 and 1/28. So adding a fraction is one addition of 128 bits, without a greatest
+ * common divisor. You give the slots:
  *
  *   ratio_total_i64 total = {0};
  *   ratio_slot_i64 slots[8] = {{0}};
  *   ratio_total_add_i64(prices, 3, &total, 1, slots, 8);
  *   if (total.code != RATIO_ANSWERED) ..         prices[total.done] did not go in
  *
- * Made all zero, as here, it is the total of no fraction.
+ * Made all zero, as here, it is the total of no fraction. As many slots as unlike denominators are enough. With twice as many, a slot is found
+ * sooner. A slot whose numerator falls to 0 stays taken. To copy a total, copy its header and its slots.
  */
 
 /* A slot: the fraction numer/denom. It is empty if denom is 0. */
@@ -277,7 +280,7 @@ typedef struct { uint32_t code; uint64_t done; int64_t count; } ratio_total_i64;
  *   RATIO_ANSWERED                   all went
  *   RATIO_MORE_ROOM                  each slot holds another denominator
  *   RATIO_DENOMINATOR_NOT_POSITIVE   the fraction's denominator is 0 or below it
- *   RATIO_NOT_HELD                   a numerator would leave 128 bits, or the count 64
+ *   RATIO_NOT_HELD                   a numerator would not fit 128 bits, or the count 64
  *   RATIO_NO_TOTAL                   the slot where it goes is empty, and has a numerator that is not 0
  *
  * What went stays: to go on, hand in the items from `done` on. If `total_len` is not 1, a call returns RATIO_BAD_LENGTH and writes nothing.
@@ -289,7 +292,8 @@ typedef struct { uint32_t code; uint64_t done; int64_t count; } ratio_total_i64;
  *                              RATIO_NOT_HELD, only the count did not fit
  *   ratio_total_unmerge_i64    the slots of another total go out of it, and once all are done, so does that total's count
  *
- * For more slots, merge the total into slots that are all zero, with a header that is all zero: that moves it. Then go on there.
+ * For more slots, merge the total into slots that are all zero, with a header that is all zero: that moves it. Then go on there. To merge a
+ * total into itself, merge a copy of its slots.
  *
  * The order of the fractions and how they are cut into calls and parts do not matter: if all went, each denominator has the same
  * numerator. Which slot it has may differ.
@@ -303,8 +307,8 @@ uint32_t ratio_total_merge_i64(const ratio_slot_i64 *asked, size_t asked_len, in
 uint32_t ratio_total_unmerge_i64(const ratio_slot_i64 *asked, size_t asked_len, int64_t count, ratio_total_i64 *total, size_t total_len,
                                  ratio_slot_i64 *slots, size_t slots_len);
 
-/* The calls that read a total. They read any slots, and never refuse because of what is in an empty one. The result may be much longer than
- * 64 bits on the way, so you give room: an array of digits of 64 bits, which may have anything before the call and after it.
+/* The calls that read a total. They read any slots, and an empty one counts nothing, whatever its numerator is. The numbers on the way may be
+ * much longer than 64 bits, so you give room: an array of digits of 64 bits, which may have anything before the call and after it.
  *
  *   ratio_total_free_i64           how many slots are empty
  *   ratio_total_digits_i64         how many digits of room the sum, the mean and the sign need

@@ -10,5 +10,6 @@ pub mod Magnitudes
 pub mod Narrowing
 pub mod TotalSteps
 pub mod TotalLaws
+pub mod ReadsAgree
 pub mod Keys
 pub mod Multiples

@@ -1,5 +1,5 @@
 -- Lowest terms over a narrower type, and what an answer says of them.
-use Rattle.std.specs.Prelude.{◌≡◌, ◌⊎◌, ◌^◌, ◌-◌, ◌≤◌, ◌<◌, ◌≤ℤ◌, ◌<ℤ◌, ℕ, ℤ, zero, suc, pos, negsuc, unsigned_abs, List, Option, Some, None, option_map}
+use Rattle.std.specs.Prelude.{◌≡◌, ◌≤◌, ◌<ℤ◌, ℕ, ℤ, pos, negsuc, unsigned_abs, List, Option, Some, None, option_map}
 use Rattle.std.proofs.Common.{arith, inl, inr, refl, subst, sym}
 use Rattle.std.proofs.lemmas.Int.{ints}
 use Rattle.ratio_core.specs.Power.{ChecksBoth}
@@ -36,7 +36,6 @@ lowest_said {R = R} first second lo hi n d m e r answer numer denom told said =
     mapped : (r : Option R) → ChecksLowest first second lo hi (n, d) r → ChecksLowest (λ (z : ℤ × ℤ). z.0) (λ (z : ℤ × ℤ). z.1) lo hi (n, d) (option_map (λ z. (first z, second z)) r)
     mapped None out = out
     mapped (Some z) low = low
-
 
 -- ---- lowest terms whose numbers are below 2^64, over 64 bits
 

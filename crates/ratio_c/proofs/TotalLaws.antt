@@ -1,5 +1,5 @@
 -- The laws of totals, from what each step does to a numerator.
-use Rattle.std.specs.Prelude.{◌≡◌, ◌≢◌, ◌==◌, ◌<◌, ◌≤◌, ◌⊎◌, ◌+◌, ◌-◌, ◌+ℤ◌, ◌-ℤ◌, ◌++◌, zero, suc, ℕ, ℤ, pos, negsuc, neg_ℤ, Bool, true, false, List, [], ◌∷◌, take, length, get_or, slice_index_or, Option, Some, None, if◌then◌else◌, IsPermutation}
+use Rattle.std.specs.Prelude.{◌≡◌, ◌≢◌, ◌==◌, ◌⊎◌, ◌+◌, ◌+ℤ◌, ◌-ℤ◌, ◌++◌, zero, suc, ℕ, ℤ, pos, negsuc, neg_ℤ, Bool, true, false, List, [], ◌∷◌, take, length, Option, Some, None, if◌then◌else◌, IsPermutation}
 use Rattle.std.specs.List.{FoldsTo, sum_by}
 use Rattle.std.proofs.Common.{ap, arith, inl, inr, length-append, refl, subst, sym, ◌∙◌}
 use Rattle.std.proofs.Math.Seq.{take-append-add, take-length}
@@ -11,26 +11,23 @@ use Rattle.ratio_totals.proofs.ReadLemmas.{empty_numerators, over_other}
 use Rattle.ratio_totals.specs.Common.{above_zero, below_zero}
 use Rattle.ratio_totals.specs.Sums.{numerator_at, numerator_over}
 use Rattle.ratio_totals.specs.declared.slots.Slot.{Slot}
-use Rattle.ratio_c.specs.declared.numbers64.Fraction64.{Fraction64}
 use Rattle.ratio_c.specs.declared.totals.Piece.{Piece}
-use Rattle.ratio_c.specs.declared.totals.Total64.{Total64}
 use Rattle.ratio_c.specs.declared.totals.Way.{Way}
 use Rattle.ratio_c.specs.declared.totals.Way.TheVariants.{In, Out}
-use Rattle.ratio_c.specs.Codes.{code_answered}
-use Rattle.ratio_c.specs.Totals.{AllGo, GoesOver, GoUntil, Held, IsStoppedAt, IsStoppedFor, piece_of_fraction, piece_of_slot, piece_over, turned}
-use Rattle.ratio_c.specs.TotalLaws.{AreSame, CallsFollow, EachIsBrought, EachIsCounted, MergeAddsEach, MergeMoves, OutUndoesIn, PartsMerge, TotalsInAnyOrder, UnmergeUndoes, all_brought, brought_over}
+use Rattle.ratio_c.specs.Totals.{AllGo, GoesOver, Held, IsStoppedAt, IsStoppedFor, piece_of_fraction, piece_of_slot, piece_over, directed}
+use Rattle.ratio_c.specs.TotalLaws.{CallsFollow, EachIsBrought, EachIsCounted, MergeAddsEach, MergeMoves, OutUndoesIn, PartsMerge, TotalsInAnyOrder, UnmergeUndoes, all_brought, brought_over}
 
 -- ---- numbers
 
-turned_zero : (way : Way) → turned way (pos 0) ≡ pos 0
+turned_zero : (way : Way) → directed way (pos 0) ≡ pos 0
 turned_zero In = refl
 turned_zero Out = refl
 
-turned_sum : (way : Way) (a b : ℤ) → turned way (a +ℤ b) ≡ turned way a +ℤ turned way b
+turned_sum : (way : Way) (a b : ℤ) → directed way (a +ℤ b) ≡ directed way a +ℤ directed way b
 turned_sum In a b = refl
 turned_sum Out a b = omega (arith, ints)
 
-over_turned : (e d : ℕ) (way : Way) (n : ℤ) → numerator_over e d (turned way n) ≡ turned way (numerator_over e d n)
+over_turned : (e d : ℕ) (way : Way) (n : ℤ) → numerator_over e d (directed way n) ≡ directed way (numerator_over e d n)
 over_turned e d In n = refl
 over_turned e d Out n = elim (d == e) as (λ (t : Bool). (if t then neg_ℤ n else pos 0) ≡ neg_ℤ (if t then n else pos 0)) [ true ↦ refl | false ↦ refl ]
 
@@ -47,17 +44,17 @@ nothing_more a b p same none = omega (arith, ints, same, none)
 -- ---- the numerators after items went
 
 one_step : (way : Way) (piece : Option Piece) (old new : Held) (e : ℕ) → e ≢ 0 → GoesOver way piece old new
-    → numerator_at e new.0 ≡ numerator_at e old.0 +ℤ turned way (brought_over e piece)
+    → numerator_at e new.0 ≡ numerator_at e old.0 +ℤ directed way (brought_over e piece)
 one_step way None old new e some goes = absurd goes
 one_step way (Some piece) old new e some goes = elim (is_zero_or_not piece.denom) [
   | inl none ↦
       nothing_more _ _ _ (ap (λ (t : Held). numerator_at e t.0) (goes.yes none))
-      (ap (turned way) (over_other e piece.denom piece.numer (λ same. some (sym same ∙ none))) ∙ turned_zero way)
+      (ap (directed way) (over_other e piece.denom piece.numer (λ same. some (sym same ∙ none))) ∙ turned_zero way)
   | inr taken ↦ (goes.no taken).numerators.each e some ∙ ap (λ z. numerator_at e old.0 +ℤ z) (over_turned e piece.denom way piece.numer)
 ]
 
 pub grown : {A : Type 0} (brings : A → Option Piece) (way : Way) (xs : List A) (old new : Held) (e : ℕ) → e ≢ 0 → AllGo brings way xs old new
-    → numerator_at e new.0 ≡ numerator_at e old.0 +ℤ turned way (all_brought brings e xs)
+    → numerator_at e new.0 ≡ numerator_at e old.0 +ℤ directed way (all_brought brings e xs)
 grown brings way [] old new e some all = nothing_more _ _ _ (ap (λ (t : Held). numerator_at e t.0) (sym all)) (turned_zero way)
 grown brings way (x ∷ xs) old new e some all =
     two_steps _ _ _ _ _ _ (one_step way (brings x) old all.0 e some all.1) (grown brings way xs all.0 new e some all.2) (turned_sum way (brought_over e (brings x)) (all_brought brings e xs))
@@ -67,7 +64,7 @@ each_is_brought xs way old new all e some = grown piece_of_fraction way xs old n
 
 -- ---- the count
 
-one_counted : (way : Way) (n d : ℤ) (old new : Held) → GoesOver way (piece_over n d) old new → new.1 ≡ old.1 +ℤ turned way (pos 1)
+one_counted : (way : Way) (n d : ℤ) (old new : Held) → GoesOver way (piece_over n d) old new → new.1 ≡ old.1 +ℤ directed way (pos 1)
 one_counted way n (pos zero) old new goes = absurd goes
 one_counted way n (pos (suc d)) old new goes = (goes.no (λ e. absurd (omega (arith, e)))).count
 one_counted way n (negsuc d) old new goes = absurd goes
@@ -79,7 +76,7 @@ pub each_is_counted : EachIsCounted
 each_is_counted [] way old new all = nothing_more _ _ _ (ap (λ (t : Held). t.1) (sym all)) (turned_zero way)
 each_is_counted (x ∷ xs) way old new all =
     two_steps _ _ _ _ _ _ (one_counted way x.numer x.denom old all.0 all.1) (each_is_counted xs way all.0 new all.2)
-    (ap (turned way) (one_longer (length xs)) ∙ turned_sum way (pos 1) (pos (length xs)))
+    (ap (directed way) (one_longer (length xs)) ∙ turned_sum way (pos 1) (pos (length xs)))
 
 -- ---- the order of fractions
 
@@ -112,10 +109,10 @@ pub any_order : TotalsInAnyOrder
 any_order xs ys way old other first second order start one two = record {
   numerators = record {
     each = λ e some. same_end _ _ _ _ _ _ (start.numerators.each e some) (each_is_brought xs way old first one e some) (each_is_brought ys way other second two e some)
-        (ap (turned way) (brought_permuted piece_of_fraction e xs ys order));
+        (ap (directed way) (brought_permuted piece_of_fraction e xs ys order));
   };
   count = same_end _ _ _ _ _ _ start.count (each_is_counted xs way old first one) (each_is_counted ys way other second two)
-      (ap (λ n. turned way (pos n)) (length_permutation xs ys order));
+      (ap (λ n. directed way (pos n)) (length_permutation xs ys order));
 }
 
 in_and_out : (a b c p q : ℤ) → b ≡ a +ℤ p → c ≡ b +ℤ neg_ℤ q → q ≡ p → a ≡ c
@@ -150,7 +147,7 @@ later_stop brings way xs ys held i code stop = record {
 pub calls_follow : CallsFollow
 calls_follow xs ys way old slots new_slots first second one answered two =
     let whole : AllGo piece_of_fraction way xs old (slots, first.count)
-        = subst (λ zs. AllGo piece_of_fraction way zs old (slots, first.count)) (all_taken first.done xs (one.ended.yes answered)) one.went in
+    = subst (λ zs. AllGo piece_of_fraction way zs old (slots, first.count)) (all_taken first.done xs (one.ended.yes answered)) one.went in
     record {
       went = subst (λ zs. AllGo piece_of_fraction way zs old (new_slots, second.count)) (sym (take-append-add xs ys second.done)) (follows _ xs (take second.done ys) old (slots, first.count) (new_slots, second.count) whole two.went);
       ended = record {

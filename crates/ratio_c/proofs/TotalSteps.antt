@@ -1,6 +1,6 @@
 -- How items go into a total one after another, and the one item of a slice that a call writes.
 use Rattle.std.specs.Prelude.{◌≡◌, ◌≢◌, ◌+◌, ◌<◌, ◌+ℤ◌, ◌-ℤ◌, neg_ℤ, ◌++◌, ℕ, ℤ, List, [], ◌∷◌, take, length, get_or, set, Option, Some, None, MatchOption}
-use Rattle.std.specs.List.{AllZip, FoldsTo}
+use Rattle.std.specs.List.{AllZip}
 use Rattle.std.proofs.Common.{ap, arith, inl, inr, subst, sym, ◌∙◌}
 use Rattle.std.proofs.lemmas.Fn.{FoldsTo-push}
 use Rattle.std.proofs.lemmas.Int.{ints}
@@ -12,7 +12,7 @@ use Rattle.ratio_c.specs.Numbers64.{greatest64, least64}
 use Rattle.ratio_c.specs.declared.totals.Piece.{Piece}
 use Rattle.ratio_c.specs.declared.totals.Stop.TheVariants.{NotHeld}
 use Rattle.ratio_c.specs.declared.totals.Way.{Way}
-use Rattle.ratio_c.specs.Totals.{AllGo, GoesOver, Held, IsStoppedFor, turned}
+use Rattle.ratio_c.specs.Totals.{AllGo, GoesOver, Held, IsStoppedFor, directed}
 use Rattle.ratio_c.proofs.Cases.{where_not}
 
 -- the only item of a list, and what is written in its place
@@ -37,11 +37,11 @@ minus_is_turned a b r counts = subst (λ (t : ℤ). MatchOption r (¬ (IsHeld le
 
 -- a piece went, from numbers that are equal to those of the machine
 pub piece_went : (way : Way) (brings : Option Piece) (piece : Piece) (old : Held) (slots : List Slot) (n m k count next : ℤ)
-    → Some piece ≡ brings → piece.denom ≢ 0 → n ≡ turned way m → m ≡ piece.numer → next ≡ count +ℤ turned way k → count ≡ old.1 → k ≡ piece.count
+    → Some piece ≡ brings → piece.denom ≢ 0 → n ≡ directed way m → m ≡ piece.numer → next ≡ count +ℤ directed way k → count ≡ old.1 → k ≡ piece.count
     → Puts piece.denom n old.0 slots → GrowsAt piece.denom n old.0 slots → SumGrows piece.denom n old.0 slots → GoesOver way brings old (slots, next)
 piece_went way brings piece old slots n m k count next is some numer numer_is next_is count_is more_is slot numerators sum =
-    let same : n ≡ turned way piece.numer = numer ∙ ap (turned way) numer_is in
-    let counted : next ≡ old.1 +ℤ turned way piece.count = next_is ∙ ap (λ t. t +ℤ turned way k) count_is ∙ ap (λ t. old.1 +ℤ turned way t) more_is in
+    let same : n ≡ directed way piece.numer = numer ∙ ap (directed way) numer_is in
+    let counted : next ≡ old.1 +ℤ directed way piece.count = next_is ∙ ap (λ t. t +ℤ directed way k) count_is ∙ ap (λ t. old.1 +ℤ directed way t) more_is in
     subst (λ b. GoesOver way b old (slots, next)) is (where_not some (record {
       slot = subst (λ (t : ℤ). Puts piece.denom t old.0 slots) same slot;
       numerators = subst (λ (t : ℤ). GrowsAt piece.denom t old.0 slots) same numerators;
@@ -51,9 +51,9 @@ piece_went way brings piece old slots n m k count next is some numer numer_is ne
 
 -- a piece is stopped by the count
 pub count_stops : (way : Way) (brings : Option Piece) (piece : Piece) (old : Held) (k count : ℤ)
-    → Some piece ≡ brings → piece.denom ≢ 0 → count ≡ old.1 → k ≡ piece.count → ¬ (IsHeld least64 greatest64 (count +ℤ turned way k)) → IsStoppedFor way brings old NotHeld
+    → Some piece ≡ brings → piece.denom ≢ 0 → count ≡ old.1 → k ≡ piece.count → ¬ (IsHeld least64 greatest64 (count +ℤ directed way k)) → IsStoppedFor way brings old NotHeld
 count_stops way brings piece old k count is some count_is more_is out =
-    let same : count +ℤ turned way k ≡ old.1 +ℤ turned way piece.count = ap (λ t. t +ℤ turned way k) count_is ∙ ap (λ t. old.1 +ℤ turned way t) more_is in
+    let same : count +ℤ directed way k ≡ old.1 +ℤ directed way piece.count = ap (λ t. t +ℤ directed way k) count_is ∙ ap (λ t. old.1 +ℤ directed way t) more_is in
     subst (λ b. IsStoppedFor way b old NotHeld) is (some, inr (inl (λ held. out (subst (IsHeld least64 greatest64) (sym same) held))))
 
 -- one more item went

@@ -4,7 +4,7 @@ use Rattle.std.specs.List.{AllZip}
 use Rattle.ratio_core.specs.Power.{ChecksBoth}
 use Rattle.ratio_integer.specs.Fraction.{ChecksLowest}
 use Rattle.ratio_long.specs.Decimals.{IsLongDecimalOf}
-use Rattle.ratio_totals.specs.Common.{HasLongCommon, IsReadRefusedFor, most_common, read_digits}
+use Rattle.ratio_totals.specs.Common.{IsReadRefusedFor, read_digits}
 use Rattle.ratio_totals.specs.DecimalRoom.{HasDecimalRoom, IsDecimalRefusedFor}
 use Rattle.ratio_totals.specs.LowestSum.{mean_of_slots}
 use Rattle.ratio_totals.specs.SumOrder.{sign_of_slots}
@@ -20,17 +20,20 @@ use Rattle.ratio_c.specs.Crossing.{Said, Says, order_number, refused, rule_of}
 use Rattle.ratio_c.specs.Numbers64.{greatest64, least64}
 
 -- the code of a read that was refused: 10 or 11
+-- Example: `TooLong`: 11
 abbrev pub code_of_read : ReadRefusal → ℕ
 code_of_read MoreRoom = code_more_room
 code_of_read TooLong = code_too_long
 
 -- a read was refused: the code 10 if the room is too short, or 11 if the common denominator is not below 2^(2^20)
+-- Example: 1/36, 1/28 with 13 digits of room: code 10
 pub record IsRefusedRead (slots : List Slot) (room : ℕ) (answer : Said) : Type 0 where
   pub why : ReadRefusal
   pub reason : IsReadRefusedFor slots room why
   pub says : answer ≡ refused (code_of_read why)
 
 -- the answer of a read: what `Is` says, with enough room, or a refusal (`IsRefusedRead`)
+-- Example: with 14 digits of room: what `Is` says
 abbrev pub IsRead : List Slot → ℕ → (Said → Type 0) → Said → Type 0
 IsRead slots room Is answer = ((read_digits slots ≤ room) × Is answer) ⊎ IsRefusedRead slots room answer
 
@@ -58,29 +61,33 @@ Narrows None result = result ≡ None
 
 -- the order of the sum of the slots and 0, as -1, 0 or 1
 -- Example: 1/36, -1/28: -1
-pub record IsSign (slots : List Slot) (room : ℕ) (answer : Order) : Type 0 where
+pub record SaysSign (slots : List Slot) (room : ℕ) (answer : Order) : Type 0 where
   pub code_is : answer.code ≡ code_answered
   pub order_is : answer.order ≡ order_number (sign_of_slots slots)
   pub room_is : read_digits slots ≤ room
 
 -- a sign was refused, for what `IsReadRefusedFor` says
+-- Example: 1/36, 1/28 with 13 digits of room: code 10
 pub record IsRefusedSign (slots : List Slot) (room : ℕ) (answer : Order) : Type 0 where
   pub why : ReadRefusal
   pub reason : IsReadRefusedFor slots room why
   pub code_is : answer.code ≡ code_of_read why
   pub order_is : answer.order ≡ pos 0
 
--- the order of the sum and 0 (`IsSign`), or a refusal (`IsRefusedSign`)
+-- the order of the sum and 0 (`SaysSign`), or a refusal (`IsRefusedSign`)
+-- Example: 1/36, -1/28 with 14 digits of room: -1
 abbrev pub IsSignOfTotal : List Slot → ℕ → Order → Type 0
-IsSignOfTotal slots room answer = IsSign slots room answer ⊎ IsRefusedSign slots room answer
+IsSignOfTotal slots room answer = SaysSign slots room answer ⊎ IsRefusedSign slots room answer
 
 -- there is no text, for what the code says, and the span at the end is empty
+-- Example: a buffer of 8 bytes: the span from 8 to 8
 pub record HasNoText (code end : ℕ) (answer : Text) : Type 0 where
   pub code_is : answer.code ≡ code
   pub start : answer.span.start ≡ end
   pub stop : answer.span.end ≡ end
 
 -- the text from the answer's start to the end is the decimal of the sum with so many places, by a rule
+-- Example: `0.0635` in a buffer of 147 bytes: from 141 on
 pub record IsLongText (slots : List Slot) (places rule room end : ℕ) (texts : List ℕ) (answer : Text) : Type 0 where
   pub code_is : answer.code ≡ code_answered
   pub text : IsLongDecimalOf (rule_of rule) places (sum_of_slots slots).0 (pos (sum_of_slots slots).1) (drop answer.span.start texts)
@@ -89,6 +96,7 @@ pub record IsLongText (slots : List Slot) (places rule room end : ℕ) (texts : 
   pub room_is : HasDecimalRoom slots places room end
 
 -- a decimal was refused: the code 10 if there are too few digits or bytes, or 11 if the common denominator is not below 2^(2^20)
+-- Example: 1/36, 1/28 with four places and 19 digits: code 10
 pub record IsRefusedText (slots : List Slot) (places room end : ℕ) (answer : Text) : Type 0 where
   pub why : ReadRefusal
   pub reason : IsDecimalRefusedFor slots places room end why
@@ -102,12 +110,14 @@ IsDecimalOfTotal slots places rule room end texts answer =
     (HasNoText code_bad_option end answer)
 
 -- the call writes the one answer that it is given room for. If it is not given just one, it returns 1 and writes nothing
+-- Example: no answer: 1
 abbrev pub AnswersOne : {B : Type 0} → (B → Type 0) → List ℕ → List ℕ → List B → List B → ℕ → Type 0
 AnswersOne Is room new_room old new result =
     Tested (length old ≡ 1) ((result ≡ return_done) × AllZip (λ _ answer. Is answer) old new)
     ((result ≡ return_bad_length) × (new ≡ old) × (new_room ≡ room))
 
 -- the same for a call that writes a text
+-- Example: no answer: 1
 abbrev pub PrintsOne : (List ℕ → Text → Type 0) → List ℕ → List ℕ → List ℕ → List ℕ → List Text → List Text → ℕ → Type 0
 PrintsOne Is room new_room texts new_texts old new result =
     Tested (length old ≡ 1) ((result ≡ return_done) × AllZip (λ _ answer. Is new_texts answer) old new)

@@ -19,16 +19,18 @@ use Rattle.ratio_c.specs.Codes.{code_answered, code_denominator_not_positive, co
 use Rattle.ratio_c.specs.Numbers64.{greatest64, least64}
 
 -- a total: its slots, and its count
+-- Example: 36, 28 with the numerators 6 and 1, and the count 3
 abbrev pub Held : Type 0
 Held = List Slot × ℤ
 
 -- a number as it goes in, or its negative as it goes out
 -- Example: 5 in: 5; 5 out: -5
-abbrev pub turned : Way → ℤ → ℤ
-turned In n = n
-turned Out n = neg_ℤ n
+abbrev pub directed : Way → ℤ → ℤ
+directed In n = n
+directed Out n = neg_ℤ n
 
 -- what the fraction n/d brings: n over d, and it is one fraction. If d is not positive, it is stopped
+-- Example: 5/36: 5 over 36, as one fraction; 5/0: none
 abbrev pub piece_over : ℤ → ℤ → Option Piece
 piece_over n (pos zero) = None
 piece_over n (pos (suc d)) = Some (record { numer = n; denom = suc d; count = pos 1 })
@@ -47,25 +49,28 @@ piece_of_slot slot = Some (record { numer = slot.numer; denom = slot.denom; coun
 -- a piece n/d goes in, or out: the numerator over d grows by n, or by -n, no other one changes, and the count changes by that of the piece
 -- Example: 5/36 into 1/36, 1/28 with the count 2: 6/36, 1/28 with the count 3
 pub record Goes (way : Way) (piece : Piece) (old new : Held) : Type 0 where
-  pub slot : Puts piece.denom (turned way piece.numer) old.0 new.0
-  pub numerators : GrowsAt piece.denom (turned way piece.numer) old.0 new.0
-  pub sum : SumGrows piece.denom (turned way piece.numer) old.0 new.0
-  pub count : new.1 ≡ old.1 +ℤ turned way piece.count
+  pub slot : Puts piece.denom (directed way piece.numer) old.0 new.0
+  pub numerators : GrowsAt piece.denom (directed way piece.numer) old.0 new.0
+  pub sum : SumGrows piece.denom (directed way piece.numer) old.0 new.0
+  pub count : new.1 ≡ old.1 +ℤ directed way piece.count
 
 -- what an item brings goes in, or out (`Goes`). A slot with the denominator 0 is done and changes nothing
+-- Example: a slot 0/0: nothing changes
 abbrev pub GoesOver : Way → Option Piece → Held → Held → Type 0
 GoesOver way (Some piece) old new = Tested (piece.denom ≡ 0) (new ≡ old) (Goes way piece old new)
 GoesOver way None old new = ⊥
 
 -- all items of a list go in, or out, one after another (`GoesOver`)
+-- Example: 1/36, 1/28 and 5/36 into no fraction: 6/36, 1/28 with the count 3
 abbrev pub AllGo : {A : Type 0} → (A → Option Piece) → Way → List A → Held → Held → Type 0
 AllGo brings way xs old new = FoldsTo (λ held x next. GoesOver way (brings x) held next) old xs new
 
 -- a number leaves its type: the piece's numerator or the sum with it leaves 128 bits, or the count leaves 64
+-- Example: 1/2 into a slot with 2^127 - 1 over 2
 abbrev pub LeavesType : Way → Piece → Held → Type 0
 LeavesType way piece held =
-    (¬ (Has128Bits (turned way piece.numer)))
-    ⊎ ((¬ (IsHeld least64 greatest64 (held.1 +ℤ turned way piece.count))) ⊎ HasFullPlace held.0 piece.denom (turned way piece.numer))
+    (¬ (Has128Bits (directed way piece.numer)))
+    ⊎ ((¬ (IsHeld least64 greatest64 (held.1 +ℤ directed way piece.count))) ⊎ HasFullPlace held.0 piece.denom (directed way piece.numer))
 
 -- why a piece does not go in or out: all slots are taken by other denominators, the empty slot where it goes has a numerator that is not 0,
 -- or a number leaves its type
@@ -77,6 +82,7 @@ IsPieceStoppedFor way piece held NotEmpty = HasDirtyPlace held.0 piece.denom
 IsPieceStoppedFor way piece held NotHeld = LeavesType way piece held
 
 -- why an item does not go in or out: its denominator is not positive, or what it brings is stopped (`IsPieceStoppedFor`)
+-- Example: 1/0: `NotPositive`
 abbrev pub IsStoppedFor : Way → Option Piece → Held → Stop → Type 0
 IsStoppedFor way (Some piece) held why = (piece.denom ≢ 0) × IsPieceStoppedFor way piece held why
 IsStoppedFor way None held why = why ≡ NotPositive
@@ -90,6 +96,7 @@ code_of_stop NotEmpty = code_no_total
 code_of_stop NotHeld = code_not_held
 
 -- the item at this index is stopped, for what the code says, by the total as it then is
+-- Example: 1/2, 1/3 and 1/5 into two empty slots: index 2, code 10
 pub record IsStoppedAt {A : Type 0} (brings : A → Option Piece) (way : Way) (asked : List A) (held : Held) (index code : ℕ) : Type 0 where
   pub why : Stop
   pub code_is : code ≡ code_of_stop why
@@ -109,12 +116,13 @@ pub record GoUntil {A : Type 0} (brings : A → Option Piece) (way : Way) (asked
 abbrev pub AddsCount : Way → ℤ → Total64 → Total64 → Type 0
 AddsCount way more old new =
     Tested (old.code ≡ code_answered)
-    (Tested (IsHeld least64 greatest64 (old.count +ℤ turned way more))
-        (new ≡ record { code = code_answered; done = old.done; count = old.count +ℤ turned way more })
-        (new ≡ record { code = code_not_held; done = old.done; count = old.count }))
+    (Tested (IsHeld least64 greatest64 (old.count +ℤ directed way more))
+    (new ≡ record { code = code_answered; done = old.done; count = old.count +ℤ directed way more })
+    (new ≡ record { code = code_not_held; done = old.done; count = old.count }))
     (new ≡ old)
 
 -- the slots of another total go into a total, or out of it (`GoUntil`), and then its count (`AddsCount`)
+-- Example: 6/36, 1/28 of 3 fractions into 1/28 of 1: 6/36, 2/28 with the count 4
 pub record Merges (way : Way) (asked : List Slot) (more : ℤ) (old : Held) (slots : List Slot) (header : Total64) : Type 0 where
   pub through : Total64
   pub each : GoUntil piece_of_slot way asked old slots through
@@ -122,6 +130,7 @@ pub record Merges (way : Way) (asked : List Slot) (more : ℤ) (old : Held) (slo
 
 -- the call changes the one total that it is given, as `Changes` says of its slots and count before, its slots after and its header after. If
 -- it is not given just one header, it returns 1 and writes nothing
+-- Example: two headers: 1
 abbrev pub ChangesOne : (Held → List Slot → Total64 → Type 0) → List Total64 → List Total64 → List Slot → List Slot → ℕ → Type 0
 ChangesOne Changes old new slots new_slots result =
     Tested (length old ≡ 1) ((result ≡ return_done) × AllZip (λ from to. Changes (slots, from.count) new_slots to) old new)

@@ -2,7 +2,7 @@
 ghost use Rattle.ratio_c.specs.Calls.{EqualValuesHaveOneHash};
 ghost use Rattle.ratio_c.specs.Keys.{KeysKeepOrder, KeysTellFloats};
 ghost use Rattle.ratio_c.specs.LowestHash.{DenominatorsHaveUnlikeHashes, EqualHaveOneHash, NumeratorsHaveUnlikeHashes};
-ghost use Rattle.ratio_c.specs.TotalLaws.{CallsFollow, EachIsBrought, EachIsCounted, MergeAddsEach, MergeMoves, OutUndoesIn, PartsMerge, TotalsInAnyOrder, UnmergeUndoes};
+ghost use Rattle.ratio_c.specs.TotalLaws.{CallsFollow, EachIsBrought, EachIsCounted, MergeAddsEach, MeansReadAlike, MergeMoves, OutUndoesIn, PartsMerge, SignsAgree, SumsReadAlike, TotalsInAnyOrder, UnmergeUndoes};
 
 /// Which fractions have the same hash in lowest terms.
 pub fn lowest_hashes()
@@ -31,6 +31,13 @@ pub fn merged_totals()
     ensures undone { UnmergeUndoes }
     ensures parts { PartsMerge }
     ensures moves { MergeMoves }
+{}
+
+/// Totals with the same numerators have the same sum and the same sign, and with the same count the same mean.
+pub fn total_reads()
+    ensures sums { SumsReadAlike }
+    ensures means { MeansReadAlike }
+    ensures signs { SignsAgree }
 {}
 
 /// If one value is at most another, so is its key. If the nearest float of one value is below that of another, so is its key.

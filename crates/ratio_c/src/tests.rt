@@ -488,11 +488,22 @@ fn decimals_of_totals(rt: HostRuntime) {
     let mut room = [7; 20];
     let mut texts = [b'x'; 147];
     let mut answers = [no_text()];
-    assert!(rt; ratio_total_print_i64(&slots, 4, RULE_HALF_EVEN, &mut room, &mut texts, &mut answers) == DONE);
+    assert!(rt;
+        ratio_total_print_i64(
+            &slots,
+            4,
+            RULE_HALF_EVEN,
+            &mut room,
+            &mut texts,
+            &mut answers
+        ) == DONE
+    );
     assert!(rt; answers[0].code == ANSWERED && answers[0].span.end == 147);
     assert!(rt; texts.ends_with(b"0.0635") && answers[0].span.start == 141);
     assert!(rt; ratio_total_print_i64(&slots, 4, 6, &mut room, &mut texts, &mut answers) == DONE);
     assert!(rt; answers[0].code == BAD_OPTION && answers[0].span.start == 147);
-    assert!(rt; ratio_total_print_i64(&slots, 4, 0, &mut room[1..], &mut texts, &mut answers) == DONE);
+    assert!(rt;
+        ratio_total_print_i64(&slots, 4, 0, &mut room[1..], &mut texts, &mut answers) == DONE
+    );
     assert!(rt; answers[0].code == MORE_ROOM);
 }

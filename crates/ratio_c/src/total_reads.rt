@@ -81,13 +81,7 @@ fn sign_answer(slots: &[Slot], room: &mut [u64]) -> Order
 }
 
 /// The sum of the slots as a decimal, which ends where `texts` ends.
-fn print_answer(
-    slots: &[Slot],
-    places: u32,
-    rule: u32,
-    room: &mut [u64],
-    texts: &mut [u8],
-) -> Text
+fn print_answer(slots: &[Slot], places: u32, rule: u32, room: &mut [u64], texts: &mut [u8]) -> Text
     ensures { IsDecimalOfTotal slots.now places rule (length room.old) (length texts.old) texts.new result }
 {
     let end = texts.len();

@@ -3,7 +3,7 @@ ghost use Rattle.std.specs.Prelude.{◌≡◌, ◌+ℤ◌, ℤ, Option, IfErr, I
 ghost use Rattle.ratio_integer.specs.Range.{IsHeld};
 ghost use Rattle.ratio_totals.specs.Sums.{Has128Bits};
 ghost use Rattle.ratio_c.specs.Numbers64.{greatest64, least64};
-ghost use Rattle.ratio_c.specs.Totals.{AddsCount, ChangesOne, GoesOver, GoUntil, IsStoppedFor, Merges, code_of_stop, piece_of_fraction, piece_of_slot, turned};
+ghost use Rattle.ratio_c.specs.Totals.{AddsCount, ChangesOne, GoesOver, GoUntil, IsStoppedFor, Merges, code_of_stop, piece_of_fraction, piece_of_slot, directed};
 
 use crate::code::{ANSWERED, DENOMINATOR_NOT_POSITIVE, MORE_ROOM, NO_TOTAL, NOT_HELD};
 use crate::each::{BAD_LENGTH, DONE};
@@ -49,7 +49,7 @@ pub enum Stop {
 }
 
 /// An item of a call on totals: a fraction, or a slot of another total.
-pub trait Item {
+pub trait Brings {
     ghost use Rattle.ratio_c.specs.declared.totals.Piece.{Piece};
 
     // What it brings; none if its denominator is not positive.
@@ -59,7 +59,7 @@ pub trait Item {
         ensures { result ≡ brings self.now };
 }
 
-impl Item for Fraction64 {
+impl Brings for Fraction64 {
     ghost brings = { piece_of_fraction };
 
     #[inline(always)]
@@ -75,7 +75,7 @@ impl Item for Fraction64 {
     }
 }
 
-impl Item for Slot {
+impl Brings for Slot {
     ghost brings = { piece_of_slot };
 
     #[inline(always)]
@@ -91,7 +91,7 @@ impl Item for Slot {
 /// The number as it goes in, or its negative as it goes out; `None` if that does not fit.
 #[inline(always)]
 fn way_of(way: Way, n: i128) -> Option<i128>
-    ensures { MatchOption result (¬ (Has128Bits (turned way n))) (λ m. m ≡ turned way n) }
+    ensures { MatchOption result (¬ (Has128Bits (directed way n))) (λ m. m ≡ directed way n) }
 {
     match way {
         Way::In => Some(n),
@@ -102,7 +102,7 @@ fn way_of(way: Way, n: i128) -> Option<i128>
 /// The count after so many more fractions went in, or went out; `None` if it does not fit.
 #[inline(always)]
 fn counted(way: Way, count: i64, more: i64) -> Option<i64>
-    ensures { MatchOption result (¬ (IsHeld least64 greatest64 (count +ℤ turned way more))) (λ new. new ≡ count +ℤ turned way more) }
+    ensures { MatchOption result (¬ (IsHeld least64 greatest64 (count +ℤ directed way more))) (λ new. new ≡ count +ℤ directed way more) }
 {
     let sum = match way {
         Way::In => count as i128 + more as i128,
@@ -113,7 +113,7 @@ fn counted(way: Way, count: i64, more: i64) -> Option<i64>
 
 /// One item goes into the slots, or out of them. The result is the new count.
 #[inline(always)]
-fn step<I: Item>(way: Way, item: &I, count: i64, slots: &mut [Slot]) -> Result<i64, Stop>
+fn step<I: Brings>(way: Way, item: &I, count: i64, slots: &mut [Slot]) -> Result<i64, Stop>
     ensures goes { IfOk result (λ new. GoesOver way (I.brings item.now) (slots.old, count) (slots.new, new)) }
     ensures stopped { IfErr result (IsStoppedFor way (I.brings item.now) (slots.old, count)) }
     ensures unchanged { OnErr result (slots.new ≡ slots.old) }
@@ -152,7 +152,7 @@ fn code_of(why: Stop) -> u32
 
 /// The items go one after another, until one is stopped. The result is the new header.
 #[inline(always)]
-fn go<I: Item>(way: Way, asked: &[I], count: i64, slots: &mut [Slot]) -> Total64
+fn go<I: Brings>(way: Way, asked: &[I], count: i64, slots: &mut [Slot]) -> Total64
     ensures { GoUntil I.brings way asked.now (slots.old, count) slots.new result }
 {
     let mut count = count;
@@ -200,12 +200,7 @@ fn with_count(way: Way, total: Total64, more: i64) -> Total64
 
 /// The items go into the one total of the slice, or out of it. If the slice has not just one, it returns `BAD_LENGTH` and writes nothing.
 #[inline(always)]
-pub fn gather<I: Item>(
-    way: Way,
-    asked: &[I],
-    total: &mut [Total64],
-    slots: &mut [Slot],
-) -> u32
+pub fn gather<I: Brings>(way: Way, asked: &[I], total: &mut [Total64], slots: &mut [Slot]) -> u32
     ensures { ChangesOne (GoUntil I.brings way asked.now) total.old total.new slots.old slots.new result }
 {
     if total.len() != 1 {
@@ -217,13 +212,7 @@ pub fn gather<I: Item>(
 
 /// The slots of another total, and then its count, go into the one total of the slice, or out of it.
 #[inline(always)]
-pub fn pour(
-    way: Way,
-    asked: &[Slot],
-    more: i64,
-    total: &mut [Total64],
-    slots: &mut [Slot],
-) -> u32
+pub fn pour(way: Way, asked: &[Slot], more: i64, total: &mut [Total64], slots: &mut [Slot]) -> u32
     ensures { ChangesOne (Merges way asked.now more) total.old total.new slots.old slots.new result }
 {
     if total.len() != 1 {

@@ -17,6 +17,10 @@ pub fn totals() {}
 #[inline]
 pub fn merged_totals() {}
 
+/// Totals with the same numerators have the same sum and the same sign, and with the same count the same mean.
+#[inline]
+pub fn total_reads() {}
+
 /// If one value is at most another, so is its key. If the nearest float of one value is below that of another, so is its key.
 #[inline]
 pub fn keys() {}

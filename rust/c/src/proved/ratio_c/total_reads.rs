@@ -71,13 +71,7 @@ fn sign_answer(slots: &[Slot], room: &mut [u64]) -> Order {
 
 /// The sum of the slots as a decimal, which ends where `texts` ends.
 #[inline]
-fn print_answer(
-    slots: &[Slot],
-    places: u32,
-    rule: u32,
-    room: &mut [u64],
-    texts: &mut [u8],
-) -> Text {
+fn print_answer(slots: &[Slot], places: u32, rule: u32, room: &mut [u64], texts: &mut [u8]) -> Text {
     let end = texts.len();
     let rounding = match rule_of(rule) {
         Some(rounding) => rounding,

@@ -44,11 +44,11 @@ pub enum Stop {
 }
 
 /// An item of a call on totals: a fraction, or a slot of another total.
-pub trait Item {
+pub trait Brings {
     fn brings(&self) -> Option<Piece>;
 }
 
-impl Item for Fraction64 {
+impl Brings for Fraction64 {
     #[inline(always)]
     fn brings(&self) -> Option<Piece> {
         if self.denom <= 0 {
@@ -62,7 +62,7 @@ impl Item for Fraction64 {
     }
 }
 
-impl Item for Slot {
+impl Brings for Slot {
     #[inline(always)]
     fn brings(&self) -> Option<Piece> {
         Some(Piece {
@@ -94,7 +94,7 @@ fn counted(way: Way, count: i64, more: i64) -> Option<i64> {
 
 /// One item goes into the slots, or out of them. The result is the new count.
 #[inline(always)]
-fn step<I: Item>(way: Way, item: &I, count: i64, slots: &mut [Slot]) -> Result<i64, Stop> {
+fn step<I: Brings>(way: Way, item: &I, count: i64, slots: &mut [Slot]) -> Result<i64, Stop> {
     let piece = match item.brings() {
         Some(piece) => piece,
         _ => {
@@ -137,7 +137,7 @@ fn code_of(why: Stop) -> u32 {
 
 /// The items go one after another, until one is stopped. The result is the new header.
 #[inline(always)]
-fn go<I: Item>(way: Way, asked: &[I], count: i64, slots: &mut [Slot]) -> Total64 {
+fn go<I: Brings>(way: Way, asked: &[I], count: i64, slots: &mut [Slot]) -> Total64 {
     let mut count = count;
     for i in 0..asked.len() {
         match step(way, &asked[i], count, slots) {
@@ -182,12 +182,7 @@ fn with_count(way: Way, total: Total64, more: i64) -> Total64 {
 
 /// The items go into the one total of the slice, or out of it. If the slice has not just one, it returns `BAD_LENGTH` and writes nothing.
 #[inline(always)]
-pub fn gather<I: Item>(
-    way: Way,
-    asked: &[I],
-    total: &mut [Total64],
-    slots: &mut [Slot],
-) -> u32 {
+pub fn gather<I: Brings>(way: Way, asked: &[I], total: &mut [Total64], slots: &mut [Slot]) -> u32 {
     if total.len() != 1 {
         return BAD_LENGTH;
     }
@@ -197,13 +192,7 @@ pub fn gather<I: Item>(
 
 /// The slots of another total, and then its count, go into the one total of the slice, or out of it.
 #[inline(always)]
-pub fn pour(
-    way: Way,
-    asked: &[Slot],
-    more: i64,
-    total: &mut [Total64],
-    slots: &mut [Slot],
-) -> u32 {
+pub fn pour(way: Way, asked: &[Slot], more: i64, total: &mut [Total64], slots: &mut [Slot]) -> u32 {
     if total.len() != 1 {
         return BAD_LENGTH;
     }

@@ -9,6 +9,7 @@
 #![warn(clippy::incompatible_msrv)]
 
 pub mod fraction_laws;
+pub mod fraction_totals;
 pub mod itoa;
 pub mod num_rational;
 pub mod ratio_approximation;

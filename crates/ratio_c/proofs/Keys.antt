@@ -104,8 +104,8 @@ sizes_ordered n d m e D E ordered = elim (eq-zero-or-pos (nearest_bits n (pos d)
   | inl most ↦ omega arith
   | inr more ↦
       let floats = monotone binary64 (pos n) (pos d) (pos m) (pos e) (omega (arith, ints, D)) (omega (arith, ints, E)) (omega (arith, ints, ordered)) in
-      let directed = rw (back m e E, back n d D) at (floats_ordered (nearest_bits m (pos e)) (nearest_bits n (pos d)) (short n d D) (omega arith)) in
-      absurd (lt_irrefl _ (lt_of_le_of_lt _ _ _ floats directed))
+      let turned = rw (back m e E, back n d D) at (floats_ordered (nearest_bits m (pos e)) (nearest_bits n (pos d)) (short n d D) (omega arith)) in
+      absurd (lt_irrefl _ (lt_of_le_of_lt _ _ _ floats turned))
 ]
 
 same_bits : (n d m e : ℕ) → 0 < d → 0 < e → nearest_bits n (pos d) ≡ nearest_bits m (pos e) → round binary64 false n d ≡ round binary64 false m e
@@ -169,6 +169,6 @@ pub keys_tell_floats : KeysTellFloats
 keys_tell_floats x y D E less =
     let ordered : (x.0 *ℤ y.1) ≤ℤ (y.0 *ℤ x.1) = elim (at_most_or_above (x.0 *ℤ y.1) (y.0 *ℤ x.1)) [
       | inl most ↦ most
-      | inr directed ↦ absurd (lt_irrefl _ (lt_of_lt_of_le _ _ _ less (monotone binary64 y.0 y.1 x.0 x.1 E D (omega (arith, ints, directed)))))
+      | inr turned ↦ absurd (lt_irrefl _ (lt_of_lt_of_le _ _ _ less (monotone binary64 y.0 y.1 x.0 x.1 E D (omega (arith, ints, turned)))))
     ] in
     unlike_below (key_of x) (key_of y) (keys_keep_order x y D E ordered) (λ same. same_key x.0 x.1 y.0 y.1 D E same less)

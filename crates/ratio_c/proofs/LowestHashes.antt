@@ -68,5 +68,5 @@ pub denominator_hashes : DenominatorsHaveUnlikeHashes
 denominator_hashes n d e d_held e_held same =
     let first = stirred (residue n) in
     let sums : (first + residue d) % 2 ^ 64 ≡ (first + residue e) % 2 ^ 64 = stirred_same _ _ (omega arith) (omega arith) same in
-    let directed : (residue d + first) % 2 ^ 64 ≡ (residue e + first) % 2 ^ 64 = omega arith in
-    residue_same d e d_held e_held (sum_same (residue d) (residue e) first (residue_below d) (residue_below e) directed)
+    let turned : (residue d + first) % 2 ^ 64 ≡ (residue e + first) % 2 ^ 64 = omega arith in
+    residue_same d e d_held e_held (sum_same (residue d) (residue e) first (residue_below d) (residue_below e) turned)

@@ -5,7 +5,9 @@ mod decimal;
 pub mod laws;
 mod places;
 mod rounding;
+mod whole;
 
 pub use decimal::put_decimal;
 pub use places::put_places;
 pub use rounding::round_quotient;
+pub use whole::round_fraction;

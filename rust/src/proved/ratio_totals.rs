@@ -8,8 +8,10 @@
 //! these fit 64 bits, and `Total::mean` returns the mean.
 mod clearing;
 mod common;
+mod comparing;
 mod counting;
 mod decimal;
+mod integer;
 pub mod laws;
 mod loose;
 mod lowest;
@@ -25,8 +27,10 @@ mod steps;
 mod tally;
 mod total;
 
+pub use comparing::CompareRefusal;
 pub use counting::count_free;
 pub use decimal::{decimal_bytes_of, decimal_digits_of, put_decimal_of};
+pub use integer::integer_of;
 pub use loose::{LooseRefusal, put_loose};
 pub use lowest::{mean_of, sum_of};
 pub use reading::{MOST_DIGITS, OverCommon, ReadRefusal, digits_of_read};

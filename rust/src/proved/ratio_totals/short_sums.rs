@@ -75,6 +75,9 @@ fn parts_of(common: u128, denom: u64) -> (u128, u64) {
         return (quotient, 1);
     }
     let divisor = denom.gcd(rest);
+    if divisor == 1 {
+        return (common, denom);
+    }
     let (share, _) = divide_short(common, divisor);
     (share, denom / divisor)
 }
@@ -86,6 +89,8 @@ fn divide_short(n: u128, d: u64) -> (u128, u64) {
         let short = n as u64;
         ((short / d) as u128, short % d)
     } else {
-        (n / d as u128, (n % d as u128) as u64)
+        // A remainder would take another division.
+        let quotient = n / d as u128;
+        (quotient, (n - quotient * d as u128) as u64)
     }
 }

@@ -3,7 +3,10 @@
 
 use crate::proved::ratio_decimal::rounding_rule::Rounding;
 use crate::proved::ratio_natural::compare;
-use crate::proved::ratio_totals::{ReadRefusal, Refusal, Slot, Total, find, laws, mean_of, sign_of, sum_of};
+use crate::proved::ratio_totals::{
+    CompareRefusal, ReadRefusal, Refusal, Slot, Total, find, integer_of, laws, mean_of,
+    put_decimal_of, sign_of, sum_of,
+};
 use core::cmp::Ordering;
 
 use crate::test_support::Fail;
@@ -513,6 +516,64 @@ fn a_total_that_does_not_fit_is_rounded() -> Result<(), Fail> {
     Ok(())
 }
 
+/// Writes the sum of slots as a decimal, rounded half to even. Expected texts are from Python's `fractions`.
+#[inline]
+fn slots_are(slots: &[Slot], places: u32, expected: &[u8]) {
+    let mut room = [7; 64];
+    let mut buf = [b'x'; 400];
+    match put_decimal_of(slots, places, Rounding::HalfEven, &mut room, &mut buf) {
+        Ok(start) => assert!(&buf[start..] == expected),
+        Err(_) => assert!(false, "there is room"),
+    }
+}
+
+#[test]
+fn decimals_around_127_bits() -> Result<(), Fail> {
+    // The common denominator is just below 2^127, and then just above.
+    let long = 18_446_744_073_709_551_557;
+    let below = [
+        Slot::new(long, -27_670_116_110_564_327_424),
+        Slot::EMPTY,
+        Slot::new(9_223_372_036_854_775_783, -1_000_000_000_000_000_000),
+    ];
+    slots_are(
+        &below,
+        38,
+        b"-1.60842021724855044849221348104092318476",
+    );
+    slots_are(&below, 19, b"-1.6084202172485504485");
+    let above = [
+        Slot::new(long, -27_670_116_110_564_327_424),
+        Slot::EMPTY,
+        Slot::new(9_223_372_036_854_775_909, -1_000_000_000_000_000_000),
+    ];
+    slots_are(
+        &above,
+        38,
+        b"-1.60842021724855044701109059900484093692",
+    );
+    slots_are(&above, 19, b"-1.6084202172485504470");
+    // Numerators of 128 bits. The first two sums do not fit on the way, and the last one does.
+    let slots = [Slot::new(3, i128::MIN), Slot::new(7, 1)];
+    slots_are(
+        &slots,
+        20,
+        b"-56713727820156410577229101238628035242.52380952380952380952",
+    );
+    let slots = [Slot::new(2, i128::MAX), Slot::new(1, i128::MAX)];
+    slots_are(
+        &slots,
+        19,
+        b"255211775190703847597530955573826158590.5000000000000000000",
+    );
+    slots_are(
+        &[Slot::new(3, i128::MIN)],
+        0,
+        b"-56713727820156410577229101238628035243",
+    );
+    Ok(())
+}
+
 /// Whether this is enough room for 20 places.
 #[inline]
 fn has_decimal_room(total: &Total<'_>, digits: &mut [u64], bytes: &mut [u8]) -> bool {
@@ -618,5 +679,160 @@ fn a_total_without_room_takes_nothing_out() -> Result<(), Fail> {
     assert_eq!(total.numerator(12), -5);
     assert_eq!(total.numerator(36), 1);
     assert_eq!(total.count(), 0);
+    Ok(())
+}
+
+/// Compares by a difference in slots and in room that were used before. Expected orders are from Python's `fractions`.
+#[inline]
+fn order_is(left: &Total<'_>, right: &Total<'_>, expected: Ordering) {
+    let mut slots = [Slot::new(5, 3); 8];
+    let mut room = [7; 64];
+    assert_eq!(left.compare(right, &mut slots, &mut room), Ok(expected));
+}
+
+/// The same with a fraction.
+#[inline]
+fn order_with_is(total: &Total<'_>, numer: i128, denom: u64, expected: Ordering) {
+    let mut slots = [Slot::new(5, 3); 8];
+    let mut room = [7; 64];
+    if denom == 0 || numer.unsigned_abs() >= 1 << 64 {
+        assert!(false, "no fraction of a total");
+        return;
+    }
+    let order = total.compare_with(numer, denom, &mut slots, &mut room);
+    assert_eq!(order, Ok(expected), "with {numer}/{denom}");
+}
+
+#[test]
+fn totals_are_compared_exactly() -> Result<(), Fail> {
+    let mut left_room = [Slot::EMPTY; 4];
+    let mut left = Total::new(&mut left_room);
+    let mut right_room = [Slot::EMPTY; 2];
+    let mut right = Total::new(&mut right_room);
+    order_is(&left, &right, Ordering::Equal);
+    assert_eq!(left.add(1, 36), Ok(()));
+    order_is(&left, &right, Ordering::Greater);
+    order_is(&right, &left, Ordering::Less);
+    assert_eq!(left.add(1, 28), Ok(()));
+    // 1/36 + 1/28 is 4/63
+    assert_eq!(right.add(4, 63), Ok(()));
+    order_is(&left, &right, Ordering::Equal);
+    assert_eq!(right.add(1, u64::MAX), Ok(()));
+    order_is(&left, &right, Ordering::Less);
+    order_is(&right, &left, Ordering::Greater);
+    assert_eq!(right.subtract(2, u64::MAX), Ok(()));
+    order_is(&left, &right, Ordering::Greater);
+    Ok(())
+}
+
+#[test]
+fn a_total_is_compared_with_a_fraction() -> Result<(), Fail> {
+    let mut room = [Slot::EMPTY; 4];
+    let mut total = Total::new(&mut room);
+    order_with_is(&total, 0, 7, Ordering::Equal);
+    assert_eq!(total.add(1, 36), Ok(()));
+    assert_eq!(total.add(1, 28), Ok(()));
+    order_with_is(&total, 4, 63, Ordering::Equal);
+    order_with_is(&total, 1, 15, Ordering::Less);
+    order_with_is(&total, 1, 16, Ordering::Greater);
+    order_with_is(&total, -1, 16, Ordering::Greater);
+    order_with_is(&total, 1, 1, Ordering::Less);
+    Ok(())
+}
+
+#[test]
+fn a_comparison_needs_its_room() -> Result<(), Fail> {
+    let mut left_room = [Slot::EMPTY; 4];
+    let mut left = Total::new(&mut left_room);
+    assert_eq!(left.add(1, 36), Ok(()));
+    assert_eq!(left.add(1, 28), Ok(()));
+    let mut right_room = [Slot::EMPTY; 4];
+    let mut right = Total::new(&mut right_room);
+    assert_eq!(right.add(1, 28), Ok(()));
+    assert_eq!(right.add(5, 12), Ok(()));
+    // three denominators: 36, 28 and 12
+    let mut one = [Slot::EMPTY; 1];
+    let mut two = [Slot::EMPTY; 2];
+    let mut three = [Slot::EMPTY; 3];
+    let mut digits = [0; 18];
+    let few = Err(CompareRefusal::MoreSlots);
+    assert_eq!(left.compare(&right, &mut one, &mut digits), few);
+    assert_eq!(left.compare(&right, &mut two, &mut digits), few);
+    let order = left.compare(&right, &mut three, &mut digits[..17]);
+    assert_eq!(order, Err(CompareRefusal::MoreRoom));
+    // 4/63 and 19/42
+    let order = left.compare(&right, &mut three, &mut digits);
+    assert_eq!(order, Ok(Ordering::Less));
+    Ok(())
+}
+
+/// Rounds the sum of slots by each rule, in the order of `Rounding`. The room was used before. Expected numbers are from Python's
+/// `fractions`.
+#[inline]
+fn integers_are(slots: &[Slot], expected: [Option<i128>; 6]) {
+    let rules = [
+        Rounding::HalfAway,
+        Rounding::HalfEven,
+        Rounding::Down,
+        Rounding::Up,
+        Rounding::Floor,
+        Rounding::Ceil,
+    ];
+    for (i, &rule) in rules.iter().enumerate() {
+        let mut room = [7; 64];
+        assert_eq!(
+            integer_of(slots, rule, &mut room),
+            Ok(expected[i]),
+            "rule {i}"
+        );
+    }
+}
+
+#[test]
+fn a_total_is_rounded_to_a_whole_number() -> Result<(), Fail> {
+    integers_are(&[], [Some(0); 6]);
+    let half = [Slot::new(2, 1), Slot::EMPTY, Slot::new(3, 6)];
+    integers_are(&half, [3, 2, 2, 3, 2, 3].map(Some));
+    let below = [Slot::new(2, -1), Slot::new(3, -6)];
+    integers_are(&below, [-3, -2, -2, -3, -3, -2].map(Some));
+    // 4/63, and -4/63
+    let small = [Slot::new(36, 1), Slot::new(28, 1)];
+    integers_are(&small, [0, 0, 0, 1, 0, 1].map(Some));
+    let small_below = [Slot::new(36, -1), Slot::new(28, -1)];
+    integers_are(&small_below, [0, 0, 0, -1, -1, 0].map(Some));
+    let mut room = [Slot::EMPTY; 2];
+    let mut total = Total::new(&mut room);
+    assert_eq!(total.add(7, 2), Ok(()));
+    let few = total.to_integer(Rounding::HalfEven, &mut [0; 9]);
+    assert_eq!(few, Err(ReadRefusal::MoreRoom));
+    let number = total.to_integer(Rounding::HalfEven, &mut [0; 10]);
+    assert_eq!(number, Ok(Some(4)));
+    Ok(())
+}
+
+#[test]
+fn a_whole_number_has_128_bits_or_is_none() -> Result<(), Fail> {
+    let most = Some(i128::MAX);
+    let least = Some(i128::MIN);
+    // 2^127 - 1/2 and 2^127 - 2/3
+    let above = [Slot::new(1, i128::MAX), Slot::new(2, 1)];
+    integers_are(&above, [None, None, most, None, most, None]);
+    let above = [Slot::new(1, i128::MAX), Slot::new(3, 1)];
+    integers_are(&above, [most, most, most, None, most, None]);
+    // -2^127, -2^127 - 1/2 and -2^127 - 1/3
+    integers_are(&[Slot::new(1, i128::MIN)], [least; 6]);
+    let below = [Slot::new(1, i128::MIN), Slot::new(2, -1)];
+    integers_are(&below, [None, least, least, None, None, least]);
+    let below = [Slot::new(1, i128::MIN), Slot::new(3, -1)];
+    integers_are(&below, [least, least, least, None, None, least]);
+    // twice 2^127 - 1, and 3 times
+    let twice = [Slot::new(1, i128::MAX), Slot::new(1, i128::MAX)];
+    integers_are(&twice, [None; 6]);
+    let thrice = [
+        Slot::new(1, i128::MAX),
+        Slot::new(1, i128::MAX),
+        Slot::new(1, i128::MAX),
+    ];
+    integers_are(&thrice, [None; 6]);
     Ok(())
 }

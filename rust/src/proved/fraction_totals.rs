@@ -1,0 +1,20 @@
+// Erased from crates/fraction_totals/src/lib.rt by rust/erase: not to be edited.
+//! Totals of the library's own fractions that lose nothing, in slots that the caller gives.
+//!
+//! A `Total<T>` takes fractions `Reduced<T>` over a type of at most 64 bits, and no step of it can fail to fit.
+//! `Total::sum` returns a `Reduced<T>` where the sum fits, however large the totals on the way were: over `i8`,
+//! 127/1 + 1/127 - 1/127 is 127/1.
+mod crossing;
+mod decimal;
+mod items;
+mod lowest;
+mod numbers;
+mod products;
+mod short;
+mod total;
+
+pub use items::total_of;
+pub use products::ProductRefusal;
+pub use crate::proved::ratio_totals::{ReadRefusal, Refusal, Slot};
+pub use short::Short;
+pub use total::Total;

@@ -359,6 +359,29 @@ static void reads_of_totals(void) {
     expect(text->span.start == text->span.end, "span of no text");
 }
 
+/* A total whose common denominator, the product of all primes below 730000, has more than 2^20 bits. Three primes make a denominator. */
+static void long_total(void) {
+    enum { PRIMES = 730000, SLOTS = 20000, DIGITS = 4 * 16384 + 6 };
+    static uint8_t is_composite[PRIMES];
+    static ratio_slot_i64 slots[SLOTS];
+    static uint64_t room[DIGITS];
+    uint64_t product = 1;
+    size_t slot = 0;
+    int factors = 0;
+    ratio_answer_i64 answer[1];
+    for (uint64_t p = 2; p < PRIMES; p++) {
+        if (is_composite[p]) continue;
+        for (uint64_t multiple = p * p; multiple < PRIMES; multiple += p) is_composite[multiple] = 1;
+        product *= p;
+        if (++factors % 3 != 0) continue;
+        slots[slot].denom = product, slots[slot].numer.low = 1;
+        slot++, product = 1;
+    }
+    expect(slot > 16384 && slot < SLOTS && ratio_total_digits_i64(slots, slot) == DIGITS, "digits of a long total");
+    expect(ratio_total_sum_i64(slots, slot, room, DIGITS, answer, 1) == RATIO_DONE && answer->code == RATIO_TOO_LONG, "sum of a long total");
+    expect(ratio_total_mean_i64(slots, slot, 1, room, DIGITS - 1, answer, 1) == RATIO_DONE && answer->code == RATIO_MORE_ROOM, "room of a long total");
+}
+
 /* Python's division, which gives the nearest float, computed the keys. */
 static void keys(void) {
     static const ratio_i64 x[6] = {{INT64_MIN, 1}, {-1, 3}, {0, 7}, {2, 4}, {INT64_MAX, 1}, {1, 0}};
@@ -402,6 +425,7 @@ int main(void) {
     totals();
     stops_of_totals();
     reads_of_totals();
+    long_total();
     keys();
     refusals();
     return wrong;

@@ -5,7 +5,7 @@
 //! then says 6/36. No gcd is computed, and no addition overflows.
 //!
 //! A read puts the total over its common denominator: `Total::over_common`. `Total::sum` returns it in lowest terms where
-//! these fit 64 bits, and `Total::mean` returns the mean.
+//! these fit 64 bits, and `Total::mean` returns the mean. `Total::compare` and `Total::sign` are exact where these do not fit.
 mod clearing;
 mod common;
 mod comparing;

@@ -1,8 +1,7 @@
 //! The calls for C that read a total: its sum, its mean, its sign, its decimal, and the room that these need.
-ghost use Rattle.std.specs.Prelude.{◌≡◌, ◌≤◌, length, Option, ℤ, ℕ};
+ghost use Rattle.std.specs.Prelude.{◌≡◌, length};
 ghost use Rattle.ratio_totals.specs.Common.{read_digits};
 ghost use Rattle.ratio_totals.specs.DecimalRoom.{decimal_bytes, decimal_digits};
-ghost use Rattle.ratio_totals.specs.LowestSum.{ChecksShortPair};
 ghost use Rattle.ratio_totals.specs.Merging.{free_of};
 ghost use Rattle.ratio_c.specs.Numbers64.{said64};
 ghost use Rattle.ratio_c.specs.TotalReads.{AnswersOne, IsDecimalOfTotal, IsMeanOfTotal, IsSignOfTotal, IsSumOfTotal, Narrows, PrintsOne, code_of_read};

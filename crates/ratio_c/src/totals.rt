@@ -1,5 +1,5 @@
 //! The struct `Total64`, the header of a total, and how items go into its slots one after another, until one is stopped.
-ghost use Rattle.std.specs.Prelude.{◌≡◌, ◌+ℤ◌, ℤ, Option, IfErr, IfOk, MatchOption, OnErr};
+ghost use Rattle.std.specs.Prelude.{◌≡◌, ◌+ℤ◌, Option, IfErr, IfOk, MatchOption, OnErr};
 ghost use Rattle.ratio_integer.specs.Range.{IsHeld};
 ghost use Rattle.ratio_totals.specs.Sums.{Has128Bits};
 ghost use Rattle.ratio_c.specs.Numbers64.{greatest64, least64};

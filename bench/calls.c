@@ -26,8 +26,8 @@ static ratio_place_i64 steps[LEN];
 static ratio_decimal_i64 decimals[LEN];
 static double doubles[LEN];
 static ratio_total_i64 total;
-static ratio_slot_i64 slots[SLOTS], parts[LEN];
-static uint64_t room[4 * SLOTS + 12], sizes[LEN];
+static ratio_slot_i64 slots[SLOTS], both[2 * SLOTS], parts[LEN];
+static uint64_t room[8 * SLOTS + 6], sizes[LEN];
 static uint8_t texts[LEN * RATIO_ROOM_I64], decimal_texts[LEN * RATIO_DECIMAL_ROOM_I64], printed[LEN * RATIO_DECIMAL_ROOM_I64];
 static size_t texts_len, decimal_texts_len;
 static ratio_span spans[LEN], decimal_spans[LEN];
@@ -80,13 +80,16 @@ static void done(uint32_t returned) {
 #define ROOM room, sizeof room / sizeof *room
 #define READS(X)                                                                                            \
     X(total_sum_i64, (slots, SLOTS, ROOM, answers, 1)) X(total_mean_i64, (slots, SLOTS, LEN, ROOM, answers, 1)) \
-    X(total_sign_i64, (slots, SLOTS, ROOM, orders, 1))                                                      \
+    X(total_sign_i64, (slots, SLOTS, ROOM, orders, 1)) X(total_to_f64_i64, (slots, SLOTS, ROOM, floats, 1))   \
+    X(total_round_to_i64, (slots, SLOTS, 100, RATIO_RULE_HALF_EVEN, ROOM, answers, 1))                      \
+    X(total_compare_i64, (slots, SLOTS, slots, SLOTS, both, 2 * SLOTS, ROOM, orders, 1))                    \
     X(total_print_i64, (slots, SLOTS, 2, RATIO_RULE_HALF_EVEN, ROOM, printed, sizeof printed, places, 1))
 
 /* Those that say how much room a total has or needs. */
 #define SIZES(X)                                                                                            \
     X(total_free_i64, (slots, SLOTS)) X(total_digits_i64, (slots, SLOTS))                                   \
-    X(total_print_digits_i64, (slots, SLOTS, 2)) X(total_print_bytes_i64, (slots, SLOTS, 2))
+    X(total_print_digits_i64, (slots, SLOTS, 2)) X(total_print_bytes_i64, (slots, SLOTS, 2))                \
+    X(total_round_to_digits_i64, (slots, SLOTS)) X(total_compare_digits_i64, (slots, SLOTS, slots, SLOTS))
 
 #define DEFINE(name, asked, results, kind) static void name(void) { done(ratio_##name(asked, LEN, results, LEN)); }
 #define DEFINE_OTHER(name, arguments, kind) static void name(void) { done(ratio_##name arguments); }

@@ -44,8 +44,8 @@ enum {
     RATIO_NO_TEXT = 6,                  /* of read, read_decimal and read_text: the span does not lie in the texts */
     RATIO_BOUND_NOT_POSITIVE = 7,       /* of nearest: no denominator lies from 1 to the bound */
     RATIO_NO_TOTAL = 8,                 /* of totals: an empty slot has a numerator that is not 0 */
-    RATIO_BAD_OPTION = 9,               /* of between, from_scaled, round_to, print_decimal and total_print: the call has no such
-                                           flags, scale, parts, places or rule */
+    RATIO_BAD_OPTION = 9,               /* of between, from_scaled, round_to, print_decimal, total_print and total_round_to: the call
+                                           has no such flags, scale, parts, places or rule */
     RATIO_MORE_ROOM = 10,               /* of totals: each slot holds another denominator, or a read has too little room */
     RATIO_TOO_LONG = 11                 /* of reads of totals: the common denominator is not below 2^(2^20) */
 };
@@ -58,7 +58,7 @@ enum {
     RATIO_HIGH_OPEN = 8      /* there is no upper bound: its fields are not read */
 };
 
-/* The rules of round_to, print_decimal and total_print. */
+/* The rules of round_to, print_decimal, total_print and total_round_to. */
 enum {
     RATIO_RULE_HALF_AWAY = 0, /* to the nearer multiple, and a half away from zero: 5/2 to 3 */
     RATIO_RULE_HALF_EVEN = 1, /* to the nearer one, and a half to the even one: 5/2 to 2 */
@@ -107,9 +107,8 @@ typedef struct { ratio_wide number; int32_t scale; } ratio_scaled;
  *   ratio_equal_i32      whether both fractions have the same value, reduced or not
  *   ratio_hash_i32       a hash of each fraction, by its value: the same for 1/2, 2/4 and -1/-2. It keeps no secret.
  *   ratio_add_i32 ..     the sum, difference, product, quotient and remainder of each pair, in lowest terms. They give
- *                        RATIO_NOT_HELD only if these do not fit. ratio_rem_i128 gives it also if the least common denominator
- *                        or a numerator over it does not fit. The remainder is left - right * t, where t is the quotient cut
- *                        towards zero
+ *                        RATIO_NOT_HELD only if these do not fit. The remainder is left - right * t, where t is the quotient
+ *                        cut towards zero
  *   ratio_reduce_i32     the lowest terms, with the sign in the numerator
  *   ratio_neg_i32        the negative, and the absolute value, over the same denominator, not reduced. If the numerator is the
  *   ratio_abs_i32        least number of the type, its negative gives RATIO_NOT_HELD
@@ -311,21 +310,34 @@ uint32_t ratio_total_unmerge_i64(const ratio_slot_i64 *asked, size_t asked_len, 
  * much longer than 64 bits, so you give room: an array of digits of 64 bits, which may have anything before the call and after it.
  *
  *   ratio_total_free_i64           how many slots are empty
- *   ratio_total_digits_i64         how many digits of room the sum, the mean and the sign need
+ *   ratio_total_digits_i64         how many digits of room the sum, the mean, the sign and the float need
  *   ratio_total_sum_i64            the sum in lowest terms, or RATIO_NOT_HELD if they do not fit 64 bits: 4/63 for 1/36 and 1/28
  *   ratio_total_mean_i64           the sum divided by the count, in lowest terms, or RATIO_NOT_HELD if they do not fit 64 bits. If the
  *                                  count is 0 or less, it gives RATIO_DIVISION_BY_ZERO
  *   ratio_total_sign_i64           -1, 0 or 1: the order of the sum and 0
+ *   ratio_total_to_f64_i64         the float nearest to the sum, rounded once: 0.06349206349206349 for 1/36 and 1/28. Of two that are
+ *                                  as near, it is the one whose last bit is 0. If there is none, the value is 0
  *   ratio_total_print_digits_i64   how many digits of room the decimal with so many places needs,
  *   ratio_total_print_bytes_i64    and how many bytes
  *   ratio_total_print_i64          the sum as a decimal with exactly so many places, rounded by a rule, however long it is: 0.0635 for
  *                                  1/36 and 1/28 with 4 places by RATIO_RULE_HALF_EVEN. It ends where `texts` ends, and the answer's
  *                                  span says where it starts. The bytes before it may change. A rule that is none gives
  *                                  RATIO_BAD_OPTION
+ *   ratio_total_round_to_digits_i64  how many digits of room the next call needs
+ *   ratio_total_round_to_i64       the multiple of 1/parts that a rule says of the sum, rounded once, in lowest terms: 3/50 for 1/36 and
+ *                                  1/28 with 100 parts by RATIO_RULE_HALF_EVEN. With 1 part it is a whole number over 1. It is
+ *                                  RATIO_NOT_HELD if the lowest terms do not fit 64 bits. If `parts` is 0 or below it, or the rule is
+ *                                  none, it gives RATIO_BAD_OPTION
+ *   ratio_total_compare_digits_i64  how many digits of room the next call needs
+ *   ratio_total_compare_i64        -1, 0 or 1: the order of the sums of two totals, `left` first, as of what was spent and a budget. The
+ *                                  slots are for their difference, and may have anything before the call and after it. They are at least
+ *                                  as many as those of both totals. If a numerator of `right` is -2^127, it gives RATIO_NOT_HELD. To
+ *                                  compare with a fraction, give a slot with it
  *
  * With too little room they give RATIO_MORE_ROOM. They give RATIO_TOO_LONG if the common denominator, which is the least common multiple
- * of the denominators, is not below 2^(2^20). The time of a read grows with the square of the number of denominators. If `answers_len` is
- * not 1, a call returns RATIO_BAD_LENGTH and writes nothing.
+ * of the denominators, is not below 2^(2^20). The time of a read grows with the square of the number of denominators. A decimal over many
+ * of them takes one pass and needs no common denominator, unless the sum is a tie or very near to one. If `answers_len` is not 1, a call
+ * returns RATIO_BAD_LENGTH and writes nothing.
  */
 uint64_t ratio_total_free_i64(const ratio_slot_i64 *slots, size_t slots_len);
 uint64_t ratio_total_digits_i64(const ratio_slot_i64 *slots, size_t slots_len);
@@ -335,11 +347,20 @@ uint32_t ratio_total_mean_i64(const ratio_slot_i64 *slots, size_t slots_len, int
                               ratio_answer_i64 *answers, size_t answers_len);
 uint32_t ratio_total_sign_i64(const ratio_slot_i64 *slots, size_t slots_len, uint64_t *room, size_t room_len,
                               ratio_order *answers, size_t answers_len);
+uint32_t ratio_total_to_f64_i64(const ratio_slot_i64 *slots, size_t slots_len, uint64_t *room, size_t room_len,
+                                ratio_float *answers, size_t answers_len);
 uint64_t ratio_total_print_digits_i64(const ratio_slot_i64 *slots, size_t slots_len, uint32_t places);
 uint64_t ratio_total_print_bytes_i64(const ratio_slot_i64 *slots, size_t slots_len, uint32_t places);
 uint32_t ratio_total_print_i64(const ratio_slot_i64 *slots, size_t slots_len, uint32_t places, uint32_t rule,
                                uint64_t *room, size_t room_len, uint8_t *texts, size_t texts_len,
                                ratio_text *answers, size_t answers_len);
+uint64_t ratio_total_round_to_digits_i64(const ratio_slot_i64 *slots, size_t slots_len);
+uint32_t ratio_total_round_to_i64(const ratio_slot_i64 *slots, size_t slots_len, int64_t parts, uint32_t rule,
+                                  uint64_t *room, size_t room_len, ratio_answer_i64 *answers, size_t answers_len);
+uint64_t ratio_total_compare_digits_i64(const ratio_slot_i64 *left, size_t left_len, const ratio_slot_i64 *right, size_t right_len);
+uint32_t ratio_total_compare_i64(const ratio_slot_i64 *left, size_t left_len, const ratio_slot_i64 *right, size_t right_len,
+                                 ratio_slot_i64 *slots, size_t slots_len, uint64_t *room, size_t room_len,
+                                 ratio_order *answers, size_t answers_len);
 
 /* Declares the call that gives the same fractions over a type of another width, not reduced. A number that does not fit gives
  * RATIO_NOT_HELD: reduce the fraction before, if it is not in lowest terms.

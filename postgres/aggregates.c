@@ -7,13 +7,10 @@ static pg_noinline State *
 first_state(FunctionCallInfo fcinfo)
 {
 	MemoryContext context;
-	State	   *state;
 
 	if (!AggCheckCallContext(fcinfo, &context))
 		elog(ERROR, "a call for aggregates alone");
-	state = MemoryContextAlloc(context, sizeof(State));
-	start(state, context);
-	return state;
+	return new_state(context);
 }
 
 /* The state of the first argument, or a new one. */
@@ -27,7 +24,11 @@ CALL(ratio_accum)
 {
 	State	   *state = state_of(fcinfo);
 
-	if (!PG_ARGISNULL(1))
+	if (PG_ARGISNULL(1))
+		PG_RETURN_POINTER(state);
+	if (state->table == NULL)
+		put_early(state, ARG(1));
+	else
 	{
 		state->values[state->waiting++] = *ARG(1);
 		if (state->waiting == MOST)
@@ -85,7 +86,7 @@ CALL(ratio_combine)
 		State	   *other = (State *) PG_GETARG_POINTER(1);
 
 		settle(other);
-		pour_in(state, other->slots, other->length, other->total.count);
+		pour_in(state, slots_of(other), other->length, other->count);
 		state->totals += other->totals;
 	}
 	PG_RETURN_POINTER(state);
@@ -102,7 +103,7 @@ CALL(ratio_serialize)
 	settle(state);
 	slots = packed(state, &many);
 	pq_begintypsend(&bytes);
-	pq_sendint64(&bytes, state->total.count);
+	pq_sendint64(&bytes, state->count);
 	pq_sendint64(&bytes, state->totals);
 	pq_sendbytes(&bytes, (const char *) slots, many * sizeof(*slots));
 	pfree(slots);
@@ -113,14 +114,13 @@ CALL(ratio_deserialize)
 {
 	bytea	   *sent = PG_GETARG_BYTEA_PP(0);
 	StringInfoData bytes;
-	State	   *state = palloc(sizeof(State));
+	State	   *state = new_state(CurrentMemoryContext);
 	size_t		size;
 	ratio_slot_i64 *slots;
 	int64		count;
 
 	initStringInfo(&bytes);
 	appendBinaryStringInfo(&bytes, VARDATA_ANY(sent), VARSIZE_ANY_EXHDR(sent));
-	start(state, CurrentMemoryContext);
 	count = pq_getmsgint64(&bytes);
 	state->totals = pq_getmsgint64(&bytes);
 	size = bytes.len - bytes.cursor;
@@ -143,13 +143,13 @@ read_state(State *state, Read *read_slots, const char *call)
 	size_t		many;
 	Datum		answer;
 
-	if (state->slots == state->few)
+	if (state->table == NULL)
 	{
 		memcpy(few, state->few, sizeof(few));
-		return read_slots(few, pack(few, FEW), state->total.count, call);
+		return read_slots(few, pack(few, FEW), state->count, call);
 	}
 	slots = packed(state, &many);
-	answer = read_slots(slots, many, state->total.count, call);
+	answer = read_slots(slots, many, state->count, call);
 	pfree(slots);
 	return answer;
 }
@@ -163,7 +163,7 @@ whole(FunctionCallInfo fcinfo)
 	if (state == NULL)
 		return NULL;
 	settle(state);
-	return state->total.count == 0 && state->totals == 0 ? NULL : state;
+	return state->count == 0 && state->totals == 0 ? NULL : state;
 }
 
 static Datum
@@ -193,7 +193,7 @@ CALL(ratio_total_avg_final)
 {
 	State	   *state = whole(fcinfo);
 
-	if (state == NULL || state->total.count == 0)
+	if (state == NULL || state->count == 0)
 		PG_RETURN_NULL();
 	return read_state(state, mean_of, "avg(ratio_total)");
 }

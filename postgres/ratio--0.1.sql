@@ -123,6 +123,8 @@ CREATE FUNCTION ratio(ratio_total) RETURNS ratio AS 'MODULE_PATHNAME', 'ratio_fr
 CREATE CAST (ratio_total AS ratio) WITH FUNCTION ratio(ratio_total) AS ASSIGNMENT;
 CREATE FUNCTION ratio_to_numeric(ratio_total, int4) RETURNS numeric AS 'MODULE_PATHNAME', 'ratio_total_to_numeric' LANGUAGE C IMMUTABLE STRICT PARALLEL SAFE;
 CREATE CAST (ratio_total AS numeric) WITH FUNCTION ratio_to_numeric(ratio_total, int4) AS ASSIGNMENT;
+CREATE FUNCTION float8(ratio_total) RETURNS float8 AS 'MODULE_PATHNAME', 'ratio_total_to_float8' LANGUAGE C IMMUTABLE STRICT PARALLEL SAFE;
+CREATE CAST (ratio_total AS float8) WITH FUNCTION float8(ratio_total) AS ASSIGNMENT;
 CREATE FUNCTION ratio_round(ratio_total, int4) RETURNS numeric AS 'MODULE_PATHNAME', 'ratio_total_round' LANGUAGE C IMMUTABLE STRICT PARALLEL SAFE;
 CREATE FUNCTION ratio_count(ratio_total) RETURNS int8 AS 'MODULE_PATHNAME', 'ratio_total_count' LANGUAGE C IMMUTABLE STRICT PARALLEL SAFE;
 CREATE FUNCTION ratio_total_add(ratio_total, ratio_total) RETURNS ratio_total AS 'MODULE_PATHNAME' LANGUAGE C IMMUTABLE STRICT PARALLEL SAFE;

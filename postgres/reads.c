@@ -1,4 +1,4 @@
-/* Reads of totals: the lowest terms, the mean, the sign, and decimals. The caller leaves out the slots that are 0. */
+/* Reads of totals: the lowest terms, the mean, the sign, the nearest float, and decimals. The caller leaves out the slots that are 0. */
 #include "totals.h"
 
 #include "miscadmin.h"
@@ -83,6 +83,20 @@ sign_of(const ratio_slot_i64 *slots, size_t many)
 		refuse(answer.code, "a comparison");
 	give_back(&room);
 	return answer.order;
+}
+
+float8
+float_of(const ratio_slot_i64 *slots, size_t many)
+{
+	ratio_float answer;
+	Room		room;
+
+	make_room(&room, ratio_total_digits_i64(slots, many));
+	ratio_total_to_f64_i64(slots, many, room.digits, room.length, &answer, 1);
+	if (answer.code != RATIO_ANSWERED)
+		refuse(answer.code, "float8(ratio_total)");
+	give_back(&room);
+	return answer.value;
 }
 
 /* The text of a decimal, which ends where its memory ends. */

@@ -59,13 +59,13 @@ new_stored(State *state)
 
 	qsort(slots, many, sizeof(*slots), by_denominator);
 	SET_VARSIZE(stored, sizeof(Stored) + size);
-	stored->count = state->total.count;
+	stored->count = state->count;
 	memcpy(stored->slots, slots, size);
 	pfree(slots);
 	return PointerGetDatum(stored);
 }
 
-/* The value of a state that is no longer needed. */
+/* The value of a state that is not needed afterwards. */
 static Datum
 finished(State *state)
 {
@@ -77,12 +77,10 @@ finished(State *state)
 
 CALL(ratio_total_from_ratio)
 {
-	State		state;
+	State	   *state = new_state(CurrentMemoryContext);
 
-	start(&state, CurrentMemoryContext);
-	state.values[state.waiting++] = *ARG(0);
-	settle(&state);
-	return finished(&state);
+	put_early(state, ARG(0));
+	return finished(state);
 }
 
 /* The text: {count; numerator/denominator, ..}, as {3; 5, 1/2}. A whole numerator has no denominator. */
@@ -201,25 +199,25 @@ read_slot(Reader *reader)
 CALL(ratio_total_in)
 {
 	Reader		reader = {PG_GETARG_CSTRING(0), PG_GETARG_CSTRING(0)};
-	State		state;
+	State	   *state;
 	ratio_slot_i64 slot = {0};
 
 	if (!takes(&reader, '{'))
 		return DirectFunctionCall1(ratio_total_from_ratio, DirectFunctionCall1(ratio_in, CStringGetDatum(reader.text)));
-	start(&state, CurrentMemoryContext);
-	pour_in(&state, &slot, 0, read_short(&reader));
+	state = new_state(CurrentMemoryContext);
+	pour_in(state, &slot, 0, read_short(&reader));
 	if (takes(&reader, ';'))
 		do
 		{
 			slot = read_slot(&reader);
-			pour_in(&state, &slot, 1, 0);
+			pour_in(state, &slot, 1, 0);
 		} while (takes(&reader, ','));
 	if (!takes(&reader, '}'))
 		refuse_text(reader.text);
 	skip_spaces(&reader);
 	if (*reader.next != '\0')
 		refuse_text(reader.text);
-	return finished(&state);
+	return finished(state);
 }
 
 /* Binary: the count and the number of slots, then the denominator and the numerator of each, all of 64 bits but the numerator of 128. */
@@ -274,47 +272,33 @@ CALL(ratio_total_recv)
 }
 
 /* Two totals as one: the second goes in or out. */
-static void
-join(FunctionCallInfo fcinfo, State *state, bool out)
+static State *
+joined(FunctionCallInfo fcinfo, bool out)
 {
 	size_t		left_many,
 				right_many;
 	Stored	   *left = stored_argument(fcinfo, 0, &left_many),
 			   *right = stored_argument(fcinfo, 1, &right_many);
+	State	   *state = new_state(CurrentMemoryContext);
 
-	start(state, CurrentMemoryContext);
 	pour_in(state, left->slots, left_many, left->count);
 	(out ? pour_out : pour_in) (state, right->slots, right_many, right->count);
 	PG_FREE_IF_COPY(left, 0);
 	PG_FREE_IF_COPY(right, 1);
+	return state;
 }
 
-CALL(ratio_total_add)
-{
-	State		state;
-
-	join(fcinfo, &state, false);
-	return finished(&state);
-}
-
-CALL(ratio_total_sub)
-{
-	State		state;
-
-	join(fcinfo, &state, true);
-	return finished(&state);
-}
+CALL(ratio_total_add) { return finished(joined(fcinfo, false)); }
+CALL(ratio_total_sub) { return finished(joined(fcinfo, true)); }
 
 /* The order by value is the sign of the difference. */
 static int
 order_of(FunctionCallInfo fcinfo)
 {
-	State		state;
-	int			order;
+	State	   *state = joined(fcinfo, true);
+	int			order = sign_of(slots_of(state), pack(slots_of(state), state->length));
 
-	join(fcinfo, &state, true);
-	order = sign_of(state.slots, pack(state.slots, state.length));
-	discard(&state);
+	discard(state);
 	return order;
 }
 
@@ -332,6 +316,14 @@ CALL(ratio_from_total)
 	const Stored *stored = stored_argument(fcinfo, 0, &many);
 
 	return sum_of(stored->slots, many, stored->count, "ratio(ratio_total)");
+}
+
+CALL(ratio_total_to_float8)
+{
+	size_t		many;
+	const Stored *stored = stored_argument(fcinfo, 0, &many);
+
+	PG_RETURN_FLOAT8(float_of(stored->slots, many));
 }
 
 CALL(ratio_total_count)

@@ -6,21 +6,21 @@
 typedef uint32_t Put(const ratio_i64 *, size_t, ratio_total_i64 *, size_t, ratio_slot_i64 *, size_t);
 typedef uint32_t Pour(const ratio_slot_i64 *, size_t, int64_t, ratio_total_i64 *, size_t, ratio_slot_i64 *, size_t);
 
-void
-start(State *state, MemoryContext context)
+State *
+new_state(MemoryContext context)
 {
-	memset(state, 0, sizeof(State));
-	state->context = context;
-	state->slots = state->few;
+	State	   *state = MemoryContextAllocZero(context, sizeof(State));
+
 	state->length = FEW;
-	state->due = PG_UINT32_MAX;
+	return state;
 }
 
 void
 discard(State *state)
 {
-	if (state->slots != state->few)
-		pfree(state->slots);
+	if (state->table != NULL)
+		pfree(state->table);
+	pfree(state);
 }
 
 static pg_noinline void
@@ -50,34 +50,37 @@ limit_of(size_t length)
 	return length - length / 4;
 }
 
-/* Tables have 10, 21, 42, .. slots: as many as fit 256, 512, 1024, .. bytes, since PostgreSQL rounds memory up to these. */
+/* Tables have 5, 10, 21, 42, .. slots: as many as fit 128, 256, 512, .. bytes, since PostgreSQL rounds memory up to these. */
 static size_t
 length_for(size_t many)
 {
-	size_t		bytes = 256;
+	size_t		bytes = 128;
 
-	while (bytes / sizeof(ratio_slot_i64) < 2 * many)
+	while ((bytes - sizeof(Table)) / sizeof(ratio_slot_i64) < 2 * many)
 		bytes *= 2;
 	if (bytes / sizeof(ratio_slot_i64) > PG_UINT32_MAX)
 		ereport(ERROR, errcode(ERRCODE_PROGRAM_LIMIT_EXCEEDED), errmsg("a total has too many denominators"));
-	return bytes / sizeof(ratio_slot_i64);
+	return (bytes - sizeof(Table)) / sizeof(ratio_slot_i64);
 }
 
 /* Moves the slots that are not 0 to a table that they fill at most by half. */
 static pg_noinline void
 move(State *state)
 {
-	size_t		many = pack(state->slots, state->length);
+	size_t		many = pack(slots_of(state), state->length);
 	size_t		length = length_for(many);
-	ratio_slot_i64 *slots = MemoryContextAllocExtended(state->context, length * sizeof(*slots), MCXT_ALLOC_ZERO | MCXT_ALLOC_HUGE);
+	Table	   *table = MemoryContextAllocExtended(GetMemoryChunkContext(state), offsetof(Table, slots) + length * sizeof(ratio_slot_i64),
+												   MCXT_ALLOC_ZERO | MCXT_ALLOC_HUGE);
+	ratio_total_i64 total = {0};
 
-	ratio_total_merge_i64(state->slots, many, 0, &state->total, 1, slots, length);
-	if (state->total.code != RATIO_ANSWERED)
-		refuse_change(state->total.code);
-	discard(state);
-	state->slots = slots;
+	ratio_total_merge_i64(slots_of(state), many, 0, &total, 1, table->slots, length);
+	if (total.code != RATIO_ANSWERED)
+		refuse_change(total.code);
+	if (state->table != NULL)
+		pfree(state->table);
+	state->table = table;
 	state->length = length;
-	state->due = state->interval = limit_of(length) - many;
+	table->due = table->interval = limit_of(length) - many;
 }
 
 /* Counts the empty slots. If few new denominators come, it does so ever more rarely, so that it costs a row nothing. A table may become
@@ -85,23 +88,24 @@ move(State *state)
 static pg_noinline void
 count_empty(State *state)
 {
-	size_t		taken = state->length - ratio_total_free_i64(state->slots, state->length),
+	Table	   *table = state->table;
+	size_t		taken = state->length - ratio_total_free_i64(table->slots, state->length),
 				limit = limit_of(state->length);
-	uint64		longer = Min(2 * (uint64) state->interval, 16 * (uint64) state->length);
+	uint64		longer = Min(2 * (uint64) table->interval, 16 * (uint64) state->length);
 
 	if (taken > limit)
 		move(state);
 	else
-		state->due = state->interval = Max(limit - taken, Min(longer, PG_UINT32_MAX));
+		table->due = table->interval = Max(limit - taken, Min(longer, PG_UINT32_MAX));
 }
 
 static inline void
 count_if_due(State *state, uint32 done)
 {
-	if (state->slots == state->few)
+	if (state->table == NULL)
 		return;
-	if (likely(state->due > done))
-		state->due -= done;
+	if (likely(state->table->due > done))
+		state->table->due -= done;
 	else
 		count_empty(state);
 }
@@ -110,19 +114,29 @@ count_if_due(State *state, uint32 done)
 static inline void
 put(State *state, Put *call, const Ratio *values, uint32 many)
 {
+	ratio_total_i64 total = {.count = state->count};
 	uint32		done = 0;
 
 	for (;;)
 	{
-		call(values + done, many - done, &state->total, 1, state->slots, state->length);
-		if (likely(state->total.code == RATIO_ANSWERED))
+		call(values + done, many - done, &total, 1, slots_of(state), state->length);
+		if (likely(total.code == RATIO_ANSWERED))
 			break;
-		if (state->total.code != RATIO_MORE_ROOM)
-			refuse_change(state->total.code);
-		done += state->total.done;
+		if (total.code != RATIO_MORE_ROOM)
+			refuse_change(total.code);
+		done += total.done;
 		move(state);
 	}
+	state->count = total.count;
 	count_if_due(state, many);
+}
+
+void
+put_early(State *state, const Ratio *value)
+{
+	put(state, ratio_total_add_i64, value, 1);
+	if (state->count >= EARLY && state->table == NULL)
+		move(state);
 }
 
 void
@@ -142,23 +156,26 @@ take_out(State *state, const Ratio *value)
 static void
 pour(State *state, Pour *call, const ratio_slot_i64 *slots, size_t many, int64 count)
 {
+	ratio_total_i64 total = {.count = state->count};
+
 	for (;;)
 	{
-		size_t		piece = Min(many, state->due);
+		size_t		piece = state->table == NULL ? many : Min(many, state->table->due);
 
-		call(slots, piece, piece == many ? count : 0, &state->total, 1, state->slots, state->length);
-		if (state->total.code != RATIO_ANSWERED && state->total.code != RATIO_MORE_ROOM)
-			refuse_change(state->total.code);
-		slots += state->total.done;
-		many -= state->total.done;
-		if (state->total.code == RATIO_MORE_ROOM)
+		call(slots, piece, piece == many ? count : 0, &total, 1, slots_of(state), state->length);
+		if (total.code != RATIO_ANSWERED && total.code != RATIO_MORE_ROOM)
+			refuse_change(total.code);
+		slots += total.done;
+		many -= total.done;
+		if (total.code == RATIO_MORE_ROOM)
 			move(state);
 		else if (many == 0)
 			break;
 		else
-			count_if_due(state, state->total.done);
+			count_if_due(state, total.done);
 	}
-	count_if_due(state, state->total.done);
+	state->count = total.count;
+	count_if_due(state, total.done);
 }
 
 void
@@ -179,7 +196,7 @@ packed(State *state, size_t *many)
 	size_t		size = state->length * sizeof(ratio_slot_i64);
 	ratio_slot_i64 *slots = MemoryContextAllocHuge(CurrentMemoryContext, size);
 
-	memcpy(slots, state->slots, size);
+	memcpy(slots, slots_of(state), size);
 	*many = pack(slots, state->length);
 	return slots;
 }

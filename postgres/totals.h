@@ -4,22 +4,31 @@
 
 #include "glue.h"
 
-/* How many values wait, so that one call of the library takes all of them, and how many slots a total has before it takes memory. */
-enum { MOST = 6, FEW = 4 };
+/* How many slots a total has without a table, how many fractions go in before it gets one, and how many values wait for a table, so that one
+ * call of the library takes all of them. */
+enum { FEW = 4, EARLY = 32, MOST = 6 };
 
-/* A total, with slots that grow. It may not move: `slots` may be `few`. What each row uses comes first, for the caches. */
+/* Slots in memory of their own. */
 typedef struct
 {
-	uint32		waiting;
-	uint32		length;			/* of `slots` */
-	Ratio		values[MOST];
-	ratio_slot_i64 *slots;
 	uint32		due;			/* so many fractions may go in before the empty slots are counted */
 	uint32		interval;		/* what `due` was at the last count */
-	ratio_total_i64 total;
-	ratio_slot_i64 few[FEW];
+	ratio_slot_i64 slots[FLEXIBLE_ARRAY_MEMBER];
+} Table;
+
+/* A total, in 128 bytes. The first fractions go straight into its few slots. Once it has a table, values wait in the place of these. */
+typedef struct
+{
+	uint32		waiting;		/* of `values` */
+	uint32		length;			/* of the slots */
+	Table	   *table;			/* NULL if the slots are `few` */
+	int64		count;			/* of the fractions in the slots */
 	int64		totals;			/* how many values of the type ratio_total went in */
-	MemoryContext context;		/* for more slots */
+	union
+	{
+		ratio_slot_i64 few[FEW];
+		Ratio		values[MOST];
+	};
 } State;
 
 /* A value of the type ratio_total: a varlena with the slots that are not 0, the smaller denominator first. `unused` is 0. So equal contents
@@ -32,10 +41,20 @@ typedef struct
 	ratio_slot_i64 slots[FLEXIBLE_ARRAY_MEMBER];
 } Stored;
 
+static inline ratio_slot_i64 *
+slots_of(State *state)
+{
+	return state->table == NULL ? state->few : state->table->slots;
+}
+
 #pragma GCC visibility push(hidden)
 
-extern void start(State *state, MemoryContext context);
+/* A state of no fraction. Its table comes from the same context. */
+extern State *new_state(MemoryContext context);
 extern void discard(State *state);
+
+/* A fraction goes into a state without a table, where none waits. */
+extern void put_early(State *state, const Ratio *value);
 
 /* The values that wait go in. */
 extern void settle(State *state);
@@ -57,6 +76,7 @@ extern ratio_slot_i64 *packed(State *state, size_t *many);
 extern Datum sum_of(const ratio_slot_i64 *slots, size_t many, int64 count, const char *call);
 extern Datum mean_of(const ratio_slot_i64 *slots, size_t many, int64 count, const char *call);
 extern int sign_of(const ratio_slot_i64 *slots, size_t many);
+extern float8 float_of(const ratio_slot_i64 *slots, size_t many);
 extern char *decimal_of(const ratio_slot_i64 *slots, size_t many, int32 places, uint32 rule, const char *call);
 
 /* The argument of a function, checked, and how many slots it has. */

@@ -340,16 +340,19 @@ static void stops_of_totals(void) {
     expect(full.count == INT64_MAX, "a count that stays");
 }
 
-/* The sign of 1/36 - 1/28, and the decimal of 1/36 + 1/28. Python's `fractions` computed them. */
+/* The sign of 1/36 - 1/28, and the float and the decimal of 1/36 + 1/28. Python's `fractions` computed them. */
 static void reads_of_totals(void) {
     static const ratio_slot_i64 unlike[2] = {{36, {1, 0}}, {28, {UINT64_MAX, -1}}}, like[2] = {{36, {1, 0}}, {28, {1, 0}}};
     uint64_t room[64];
     uint8_t bytes[256];
     ratio_order order[1];
+    ratio_float value[1];
     ratio_text text[1];
     const uint64_t digits = ratio_total_print_digits_i64(like, 2, 4), size = ratio_total_print_bytes_i64(like, 2, 4);
     expect(ratio_total_sign_i64(unlike, 2, room, 64, order, 1) == RATIO_DONE && order->code == RATIO_ANSWERED && order->order == -1, "sign of a total");
     expect(ratio_total_sign_i64(unlike, 2, room, 13, order, 1) == RATIO_DONE && order->code == RATIO_MORE_ROOM, "sign without room");
+    expect(ratio_total_to_f64_i64(like, 2, room, 64, value, 1) == RATIO_DONE && value->code == RATIO_ANSWERED && value->value == 0.06349206349206349, "float of a total");
+    expect(ratio_total_to_f64_i64(like, 2, room, 13, value, 1) == RATIO_DONE && value->code == RATIO_MORE_ROOM && value->value == 0, "float without room");
     expect(digits == 20 && size == 147, "room for a decimal of a total");
     expect(ratio_total_print_i64(like, 2, 4, RATIO_RULE_HALF_EVEN, room, digits, bytes, size, text, 1) == RATIO_DONE, "decimal of a total");
     expect(text->code == RATIO_ANSWERED && text->span.end == size && text->span.start == size - 6, "place of a decimal of a total");
@@ -359,16 +362,40 @@ static void reads_of_totals(void) {
     expect(text->span.start == text->span.end, "span of no text");
 }
 
+/* The multiples of 1/36 + 1/28, and its order beside 1/15. Python's `fractions` computed them. */
+static void multiples_and_orders_of_totals(void) {
+    static const ratio_slot_i64 sum[2] = {{36, {1, 0}}, {28, {1, 0}}}, fifteenth[1] = {{15, {1, 0}}}, least[1] = {{15, {0, INT64_MIN}}};
+    ratio_slot_i64 slots[3];
+    uint64_t room[64];
+    ratio_answer_i64 answer[1];
+    ratio_order order[1];
+    expect(ratio_total_round_to_digits_i64(sum, 2) == 20 && ratio_total_compare_digits_i64(sum, 2, fifteenth, 1) == 18, "room for reads of a total");
+    expect(ratio_total_round_to_i64(sum, 2, 100, RATIO_RULE_HALF_EVEN, room, 20, answer, 1) == RATIO_DONE && answer->code == RATIO_ANSWERED, "cents of a total");
+    expect(answer->value.numer == 3 && answer->value.denom == 50, "cents of a total");
+    expect(ratio_total_round_to_i64(sum, 2, 1, RATIO_RULE_CEIL, room, 20, answer, 1) == RATIO_DONE && answer->value.numer == 1 && answer->value.denom == 1, "ceiling of a total");
+    expect(ratio_total_round_to_i64(sum, 2, 0, RATIO_RULE_CEIL, room, 20, answer, 1) == RATIO_DONE && answer->code == RATIO_BAD_OPTION, "no parts");
+    expect(ratio_total_round_to_i64(sum, 2, 100, 6, room, 20, answer, 1) == RATIO_DONE && answer->code == RATIO_BAD_OPTION, "no rule of a multiple");
+    expect(ratio_total_round_to_i64(sum, 2, 100, 0, room, 19, answer, 1) == RATIO_DONE && answer->code == RATIO_MORE_ROOM, "no room for a multiple");
+    expect(ratio_total_round_to_i64(least, 1, 1, 0, room, 64, answer, 1) == RATIO_DONE && answer->code == RATIO_NOT_HELD, "a multiple above 64 bits");
+    expect(ratio_total_compare_i64(sum, 2, fifteenth, 1, slots, 3, room, 18, order, 1) == RATIO_DONE && order->code == RATIO_ANSWERED && order->order == -1, "order of totals");
+    expect(ratio_total_compare_i64(fifteenth, 1, sum, 2, slots, 3, room, 18, order, 1) == RATIO_DONE && order->code == RATIO_ANSWERED && order->order == 1, "order of totals");
+    expect(ratio_total_compare_i64(sum, 2, sum, 2, slots, 3, room, 64, order, 1) == RATIO_DONE && order->code == RATIO_MORE_ROOM, "no slots for an order");
+    expect(ratio_total_compare_i64(sum, 2, fifteenth, 1, slots, 3, room, 17, order, 1) == RATIO_DONE && order->code == RATIO_MORE_ROOM, "no digits for an order");
+    expect(ratio_total_compare_i64(sum, 2, least, 1, slots, 3, room, 18, order, 1) == RATIO_DONE && order->code == RATIO_NOT_HELD, "a negative above 128 bits");
+    expect(ratio_total_compare_i64(sum, 2, least, 1, slots, 3, room, 18, order, 0) == RATIO_BAD_LENGTH, "no order");
+}
+
 /* A total whose common denominator, the product of all primes below 730000, has more than 2^20 bits. Three primes make a denominator. */
 static void long_total(void) {
     enum { PRIMES = 730000, SLOTS = 20000, DIGITS = 4 * 16384 + 6 };
     static uint8_t is_composite[PRIMES];
-    static ratio_slot_i64 slots[SLOTS];
+    static ratio_slot_i64 slots[SLOTS], both[SLOTS];
     static uint64_t room[DIGITS];
     uint64_t product = 1;
     size_t slot = 0;
     int factors = 0;
     ratio_answer_i64 answer[1];
+    ratio_order order[1];
     for (uint64_t p = 2; p < PRIMES; p++) {
         if (is_composite[p]) continue;
         for (uint64_t multiple = p * p; multiple < PRIMES; multiple += p) is_composite[multiple] = 1;
@@ -380,6 +407,7 @@ static void long_total(void) {
     expect(slot > 16384 && slot < SLOTS && ratio_total_digits_i64(slots, slot) == DIGITS, "digits of a long total");
     expect(ratio_total_sum_i64(slots, slot, room, DIGITS, answer, 1) == RATIO_DONE && answer->code == RATIO_TOO_LONG, "sum of a long total");
     expect(ratio_total_mean_i64(slots, slot, 1, room, DIGITS - 1, answer, 1) == RATIO_DONE && answer->code == RATIO_MORE_ROOM, "room of a long total");
+    expect(ratio_total_compare_i64(slots, slot, slots, 1, both, SLOTS, room, DIGITS, order, 1) == RATIO_DONE && order->code == RATIO_TOO_LONG, "order of a long total");
 }
 
 /* Python's division, which gives the nearest float, computed the keys. */
@@ -425,6 +453,7 @@ int main(void) {
     totals();
     stops_of_totals();
     reads_of_totals();
+    multiples_and_orders_of_totals();
     long_total();
     keys();
     refusals();

@@ -233,16 +233,18 @@ static void put_share(uint8_t *at) {
 /* Changes a total or reads it, over its slots or some of them, which now and then have random bytes. */
 static void one_total(void) {
     const size_t chosen = below(MOST), len = below(4) > 0 ? SLOTS : below(SLOTS + 1), n = below(MOST), m = 1 + (below(16) == 0);
-    const size_t digits = below(ROOM), size = below(TEXT), kind = below(12);
+    const size_t digits = below(ROOM), size = below(TEXT), kind = below(15);
     const int64_t count = below(32) == 0 ? (int64_t) next() : (int64_t) below(9) - 2;
     const uint32_t places = (uint32_t) below(below(8) == 0 ? 200 : 12), rule = (uint32_t) below(7);
     uint8_t *slots = place(SLOTS_OF_TOTAL, len * sizeof(ratio_slot_i64)), *room = place(ROOM_OF_TOTAL, digits * sizeof(uint64_t));
     uint8_t *texts = place(TEXTS, size), *header = place(ANSWERS, m * sizeof(ratio_total_i64)), *asked;
     const ratio_slot_i64 *from = (const ratio_slot_i64 *) slots;
+    static ratio_slot_i64 difference[2 * SLOTS];
     ratio_slot_i64 *to = (ratio_slot_i64 *) slots;
     ratio_total_i64 *total = (ratio_total_i64 *) header;
     ratio_answer_i64 answer = {0};
     ratio_order order = {0};
+    ratio_float value = {0};
     ratio_text text = {0};
     uint64_t returned = RATIO_DONE;
     is_short = below(2) == 0;
@@ -267,7 +269,11 @@ static void one_total(void) {
     case 8: returned = ratio_total_sum_i64(from, len, (uint64_t *) room, digits, &answer, 1); break;
     case 9: returned = ratio_total_mean_i64(from, len, count, (uint64_t *) room, digits, &answer, 1); break;
     case 10: returned = ratio_total_sign_i64(from, len, (uint64_t *) room, digits, &order, 1); break;
-    default: returned = ratio_total_print_i64(from, len, places, rule, (uint64_t *) room, digits, texts, size, &text, 1);
+    case 11: returned = ratio_total_print_i64(from, len, places, rule, (uint64_t *) room, digits, texts, size, &text, 1); break;
+    case 12: returned = ratio_total_round_to_i64(from, len, count, rule, (uint64_t *) room, digits, &answer, 1) + ratio_total_round_to_digits_i64(from, len); break;
+    case 13: returned = ratio_total_compare_i64(from, len, (const ratio_slot_i64 *) asked, SLOTS, difference, below(2 * SLOTS + 1), (uint64_t *) room, digits, &order, 1)
+                        + ratio_total_compare_digits_i64(from, len, (const ratio_slot_i64 *) asked, SLOTS); break;
+    default: returned = ratio_total_to_f64_i64(from, len, (uint64_t *) room, digits, &value, 1);
     }
     test_before(slots), test_before(room), test_before(texts), test_before(header), test_before(asked);
     if (m == 1) memcpy(&totals[chosen].header, header, sizeof(ratio_total_i64));
@@ -275,10 +281,12 @@ static void one_total(void) {
     mix(slots, len * sizeof(ratio_slot_i64));
     if (kind < 4 || kind == 6 || kind == 7) {
         if (m == 1) take(header, sizeof(ratio_total_i64), m);
-    } else if (kind == 8 || kind == 9) {
+    } else if (kind == 8 || kind == 9 || kind == 12) {
         take((uint8_t *) &answer, sizeof answer, 1);
-    } else if (kind == 10) {
+    } else if (kind == 10 || kind == 13) {
         take((uint8_t *) &order, sizeof order, 1);
+    } else if (kind == 14) {
+        take((uint8_t *) &value, sizeof value, 1);
     } else if (kind == 11) {
         take((uint8_t *) &text, sizeof text, 1);
         mix(texts + text.span.start, text.span.end - text.span.start);

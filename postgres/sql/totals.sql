@@ -53,10 +53,11 @@ SELECT ratio_round(t, 100) = 7.4854708605503449126565182043339001765216791697088
 SELECT ratio_round(total(r), 30) = -13988921672567883922.037532104500503016527987971675 AS is_right,
     ratio_round(total(r) FILTER (WHERE r > 0), 38) = 77502532105522579752.53812012635364995106823871430867672402 AS is_right_too FROM hard;
 SELECT ratio_round(total(ratio(1, i)), 40) = 10.4807282172293275728144600302160318614309 AS is_right, ratio_count(total(ratio(1, i))) FROM generate_series(1, 20000) i;
--- a common denominator of more than 2^20 bits: the total is kept, and a difference is read
+-- a common denominator of more than 2^20 bits: the total is kept, its decimal needs no common denominator, and a difference is read
 CREATE TABLE long AS SELECT total(ratio(1, 9223372036854775807 - i)) AS t FROM generate_series(1, 25000) i;
-SELECT refusal('SELECT ratio_round(t, 2) FROM long');
+SELECT refusal('SELECT t::ratio FROM long'), ratio_round(t, 38) = 0.00000000000000271050543121376475887929 AS is_right FROM long;
 SELECT t = t AS same, (t - (SELECT total(ratio(1, 9223372036854775807 - i)) FROM generate_series(1, 24999) i))::ratio, ratio_count(t) FROM long;
+SELECT refusal('SELECT t::float8 FROM long');
 DROP TABLE long;
 -- totals that leave 64 bits: stored, compared, added again
 CREATE TABLE days AS SELECT i % 10 AS day, total(ratio(1, i)) AS t FROM generate_series(1, 1000) i GROUP BY 1;
@@ -91,6 +92,12 @@ CREATE VIEW answers AS SELECT sum(t)::text, sum(t)::ratio AS ratio, avg(t), rati
 SET parallel_setup_cost = 0; SET parallel_tuple_cost = 0; SET min_parallel_table_scan_size = 0;
 SELECT plan_has('TABLE answers', 'Workers Planned: 2') AS by_workers;
 CREATE TABLE by_workers AS TABLE answers;
+-- totals of no fraction are totals, too
+CREATE TABLE empty AS SELECT '{0; 1/2}'::ratio_total AS t FROM generate_series(1, 10000);
+ALTER TABLE empty SET (parallel_workers = 2);
+SELECT plan_has('SELECT sum(t) FROM empty', 'Workers Planned: 2') AS by_workers;
+SELECT sum(t), avg(t) FROM empty;
+DROP TABLE empty;
 SET max_parallel_workers_per_gather = 0;
 SELECT count(*) AS same, bool_and(avg * ratio_count = ratio) AS agree FROM (TABLE by_workers INTERSECT TABLE answers) both_ways;
 SELECT (SELECT sum(t::ratio) FROM parts) = ratio AS agree, (SELECT sum(ratio_count(t)) FROM parts) = ratio_count AS as_many FROM by_workers;
@@ -101,6 +108,15 @@ SELECT total(r), sum(r::ratio_total), avg(r::ratio_total) FROM unnest('{1/2,NULL
 SELECT total(r), sum(r::ratio_total), avg(r::ratio_total) FROM hard WHERE false;
 DROP VIEW answers;
 DROP TABLE parts, by_workers;
+-- the nearest float, and of two that are as near the even one. The values are those that Python's fractions give.
+SELECT t::float8 = 7.485470860550345 AS is_right, ('0' - t)::float8 = -7.485470860550345 AS is_right_too, (t - 7.485470860550345::float8::ratio)::float8 = -1.387086659858835e-16 AS the_rest FROM harmonic;
+SELECT total(ratio(1, i))::float8 = 10.480728217229327 AS is_right FROM generate_series(1, 20000) i;
+SELECT count(*), count(*) FILTER (WHERE t::float8 IS DISTINCT FROM wanted) AS wrong FROM (VALUES ('{0}'::ratio_total, 0::float8), ('{1; 170141183460469231731687303715884105727/3}', 5.671372782015641e+37),
+    ('{1; -170141183460469231731687303715884105728}', -1.7014118346046923e+38), ('{1; 1/9223372036854775807}', 1.0842021724855044e-19),
+    ('{2; 1/9223372036854775783, -1/9223372036854775643}', -1.6456920911512025e-36), ('{1; 9007199254740993}', 9007199254740992), ('{1; 9007199254740995}', 9007199254740996),
+    ('{2; 9007199254740993, 1/3}', 9007199254740994), ('{2; 1/2, -1/2}', 0)) rows(t, wanted);
+-- each ratio as a total has the float of the ratio
+SELECT count(*), count(*) FILTER (WHERE r::ratio_total::float8 <> r::float8) AS wrong FROM hard;
 -- text: {count; numerator/denominator, ..}
 SELECT t, t::ratio_total FROM unnest(ARRAY['{0}', '{0;0}', '{3; 5, 1/2}', ' { 2 ;-1/3,2/3 , 4/2,0/7} ', '{-1; 1/9223372036854775807}', '{9223372036854775807; 170141183460469231731687303715884105727/3}',
     '{1;-170141183460469231731687303715884105728}', '1/2', ' 1 1/2 ', '0', '-0.25']) t;

@@ -14,6 +14,8 @@ mod conversions;
 mod exponents;
 mod floats;
 mod integer;
+mod list_sums;
+mod many_products;
 mod order;
 #[cfg(feature = "num-rational")]
 mod original;

@@ -24,4 +24,6 @@ pub mod ratio_totals;
 #[cfg(all(test, target_pointer_width = "64"))]
 mod tests_fractions;
 #[cfg(all(test, target_pointer_width = "64"))]
+mod tests_naturals;
+#[cfg(all(test, target_pointer_width = "64"))]
 mod tests_totals;

@@ -179,7 +179,7 @@ fn the_callers_line_is_named() {
 }
 
 /// The layer's functions that only the layer calls.
-const OWN: [&str; 5] = ["pub(super) fn ", "fn recip_of_any(", "fn refuse", "fn power<", "fn put("];
+const OWN: [&str; 6] = ["pub(super) fn ", "fn recip_of_any(", "fn refuse", "fn power<", "fn put(", "fn pour("];
 
 /// A call that can panic has `#[track_caller]` and says when it panics. A call that returns an `Option` never panics.
 #[test]

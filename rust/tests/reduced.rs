@@ -64,6 +64,26 @@ fn calls_with_each_kind_of_operand() {
         checked_mul (51, 20), (17, 2);
         checked_div (85, 12), (17, 8);
         checked_rem (1, 20), (1, 4);
+        checked_gcd (1, 20), (1, 4);
+        checked_lcm (51, 1), (34, 1);
+    }
+}
+
+#[test]
+fn common_divisors_and_multiples() {
+    let rows = [
+        ((1, 4), (1, 6), Some((1, 12)), Some((1, 2))),
+        ((-3, 2), (0, 1), Some((3, 2)), Some((0, 1))),
+        ((0, 1), (0, 1), Some((0, 1)), Some((0, 1))),
+        ((127, 2), (126, 1), Some((1, 2)), None),
+        ((1, 127), (1, 126), None, Some((1, 1))),
+        ((-128, 1), (0, 1), None, Some((0, 1))),
+        ((-128, 3), (64, 5), Some((64, 15)), None),
+    ];
+    for ((a, b), (c, d), divisor, multiple) in rows {
+        let (x, y) = (i8_of(a, b), i8_of(c, d));
+        assert_eq!([x.checked_gcd(y), y.checked_gcd(x)].map(fields), [divisor; 2], "{x} and {y}");
+        assert_eq!([x.checked_lcm(y), y.checked_lcm(x)].map(fields), [multiple; 2], "{x} and {y}");
     }
 }
 

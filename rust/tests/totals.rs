@@ -5,6 +5,7 @@ mod support;
 use bakhsney::integer::UpTo64;
 use bakhsney::{Reduced, Reduced64, Rounding, Total};
 use num_integer::Integer;
+use std::cmp::Ordering;
 use std::panic::catch_unwind;
 use support::Numbers;
 
@@ -37,6 +38,7 @@ fn each_call() {
     rows! {
         (total.count(), sum(&total), mean(&total)) => (0, Some((0, 1)), None);
         total.decimal(2, Rounding::HalfEven) => Ok("0.00".to_string());
+        total.to_f64() => Ok(0.0);
         total.add(of(1, 36)) => ();
         (total.count(), sum(&total)) => (1, Some((1, 36)));
         total.merge(&other) => ();
@@ -44,8 +46,62 @@ fn each_call() {
         total.subtract(of(1, 12)) => ();
         (total.count(), total.sum(), total.mean()) => (2, Ok(Some(of(5, 42))), Ok(Some(of(5, 84))));
         total.decimal(6, Rounding::Floor) => Ok("0.119047".to_string());
+        total.to_f64() => Ok(0.11904761904761904);
         total.decimal(0, Rounding::Up) => Ok("1".to_string());
         format!("{total:?}") => "Total { count: 2, .. }";
+        // the sum is 5/42
+        total.sign() => Ok(Ordering::Greater);
+        total.compare(&other) => Ok(Ordering::Less); // the other one is 11/63
+        other.compare(&total) => Ok(Ordering::Greater);
+        total.compare(&total) => Ok(Ordering::Equal);
+        total.compare_with(of(5, 42)) => Ok(Ordering::Equal);
+        total.compare_with(of(3, 25)) => Ok(Ordering::Less);
+        RULES.map(|rule| total.to_integer(rule)) => [0, 0, 0, 1, 0, 1].map(|n| Ok(Some(n)));
+        total.round_to(100, Rounding::HalfEven) => Ok(Some(of(3, 25)));
+        total.round_to(100, Rounding::Floor) => Ok(Some(of(11, 100)));
+        total.round_to(0, Rounding::Floor) => Ok(None);
+        total.take_out(&other) => ();
+        (total.count(), sum(&total), total.sign()) => (0, Some((-1, 18)), Ok(Ordering::Less));
+        RULES.map(|rule| total.to_integer(rule)) => [0, 0, 0, -1, -1, 0].map(|n| Ok(Some(n)));
+        total.round_to(-100, Rounding::Floor) => Ok(None);
+        total.add_product(of(-100, 3), of(3, 4)) => Some(());
+        (total.count(), total.to_integer(Rounding::HalfEven)) => (1, Ok(Some(-25))); // the sum is -451/18
+        Total::dot(&[of(100i8, 3), of(-99, 3)], &[of(3, 4), of(3, 4)]).map(|total| (total.count(), sum(&total))) => Some((2, Some((1, 4))));
+        Total::dot(&[of(1i8, 3)], &[]).is_none() => true;
+    }
+}
+
+#[test]
+fn what_does_not_fit_is_compared_and_rounded() {
+    let harmonic: Total<i64> = (1..=1000).map(|denom| of(1, denom)).sum();
+    let mut more = harmonic.clone();
+    more += of(1, i64::MAX);
+    rows! {
+        (sum(&harmonic), sum(&more)) => (None, None);
+        harmonic.compare(&more) => Ok(Ordering::Less);
+        more.compare(&harmonic) => Ok(Ordering::Greater);
+        harmonic.compare_with(of(748_547_086_055, 100_000_000_000)) => Ok(Ordering::Greater);
+        harmonic.compare_with(of(748_547_086_056, 100_000_000_000)) => Ok(Ordering::Less);
+        harmonic.round_to(100_000_000_000, Rounding::HalfEven) => Ok(Some(of(748_547_086_055, 100_000_000_000)));
+        harmonic.to_integer(Rounding::Floor) => Ok(Some(7));
+    }
+    more -= &harmonic;
+    assert_eq!((sum(&more), more.count()), (Some((1, i64::MAX)), 1));
+
+    let wide: Total<i8> = [of(127, 1), of(1, 2)].iter().sum();
+    rows! {
+        RULES.map(|rule| wide.to_integer(rule).unwrap()) => [None, None, Some(127), None, Some(127), None];
+        wide.round_to(2, Rounding::HalfEven) => Ok(None); // 255/2
+        wide.round_to(1, Rounding::Down) => Ok(Some(of(127, 1)));
+        wide.compare_with(of(127, 1)) => Ok(Ordering::Greater);
+    }
+    let none = Total::<u8>::new();
+    rows! {
+        none.sign() => Ok(Ordering::Equal);
+        none.compare(&Total::new()) => Ok(Ordering::Equal);
+        none.compare_with(of(1, 255)) => Ok(Ordering::Less);
+        none.to_integer(Rounding::Up) => Ok(Some(0));
+        none.round_to(255, Rounding::Up) => Ok(Some(of(0, 1)));
     }
 }
 
@@ -190,7 +246,12 @@ fn too_many_additions_panic() {
     }
     total.merge(&double);
     assert_eq!((total.count(), mean(&total)), (i64::MAX, Some((1, 2))));
-    let calls: [fn(&mut Total<i8>); 3] = [|total| total.add(of(1, 2)), |total| *total -= of(1, 2), |total| total.merge(&[of(1, 3)].iter().sum())];
+    let calls: [fn(&mut Total<i8>); 4] = [
+        |total| total.add(of(1, 2)),
+        |total| *total -= of(1, 2),
+        |total| total.merge(&[of(1, 3)].iter().sum()),
+        |total| *total -= &[of(1, 3)].iter().sum::<Total<i8>>(),
+    ];
     for call in calls {
         let mut full = total.clone();
         let why = catch_unwind(move || call(&mut full)).unwrap_err();
@@ -219,10 +280,43 @@ fn held<T: UpTo64>((numer, denom): (i128, i128)) -> Option<(T, T)> {
     Some((T::from(numer)?, T::from(denom)?))
 }
 
+/// The whole number that the rule gives of the fraction, whose denominator is above 0.
+fn rounded((numer, denom): (i128, i128), rule: Rounding) -> i128 {
+    let (floor, rest) = numer.div_mod_floor(&denom);
+    let up = match rule {
+        Rounding::HalfEven => 2 * rest > denom || 2 * rest == denom && floor % 2 != 0,
+        Rounding::HalfAway => 2 * rest > denom || 2 * rest == denom && numer > 0,
+        Rounding::Down => rest > 0 && numer < 0,
+        Rounding::Up => rest > 0 && numer > 0,
+        Rounding::Floor => false,
+        Rounding::Ceil => rest > 0,
+    };
+    floor + i128::from(up)
+}
+
+/// Compares what is rounded of a total, and its order beside another one, with the same of the exact sums.
+fn compare_reads<T: UpTo64>(total: &Total<T>, exact: (i128, i128), other: (&Total<T>, (i128, i128)), numbers: &mut Numbers) {
+    let order = |(n, d): (i128, i128), (m, e): (i128, i128)| (n * e).cmp(&(m * d));
+    assert_eq!(total.sign(), Ok(exact.0.cmp(&0)));
+    assert_eq!(total.compare(other.0), Ok(order(exact, other.1)));
+    let mut difference = total.clone();
+    difference -= other.0;
+    assert_eq!((difference.count(), difference.sign()), (total.count() - other.0.count(), Ok(order(exact, other.1))));
+    if let Some(fraction) = other.0.sum().unwrap() {
+        assert_eq!(total.compare_with(fraction), Ok(order(exact, other.1)));
+    }
+    let rule = RULES[numbers.below(6) as usize];
+    assert_eq!(total.to_integer(rule).unwrap(), T::from(rounded(exact, rule)));
+    let parts = 1 + numbers.below(120) as i128;
+    let multiple = lowest(rounded((exact.0 * parts, exact.1), rule), parts);
+    assert_eq!(total.round_to(T::from(parts).unwrap(), rule).unwrap().map(Reduced::into_raw), held(multiple));
+}
+
 /// Compares random totals of up to 12 fractions. Of the sums, many fit the type and many do not.
 fn compare_random<T: UpTo64>(count: usize, mut fraction: impl FnMut(&mut Numbers) -> Reduced<T>) {
     let mut numbers = Numbers(3);
     let mut fitting = 0;
+    let mut before = (Total::new(), (0, 1));
     for _ in 0..count {
         let length = numbers.below(13);
         let signed: Vec<_> = (0..length).map(|_| (numbers.below(3) == 0, fraction(&mut numbers))).collect();
@@ -244,6 +338,8 @@ fn compare_random<T: UpTo64>(count: usize, mut fraction: impl FnMut(&mut Numbers
             let (places, rule) = (numbers.below(39) as u32, RULES[numbers.below(6) as usize]);
             assert_eq!(total.decimal(places, rule).unwrap(), fits.decimal(places, rule).as_str(), "{signed:?}");
         }
+        compare_reads(&total, exact, (&before.0, before.1), &mut numbers);
+        before = (total, exact);
     }
     assert!(count / 10 < fitting && fitting < count / 10 * 9, "{fitting} of {count} sums fit");
 }
@@ -266,10 +362,53 @@ fn random_totals_without_a_sign() {
     compare_random(10_000, |numbers| of(numbers.word() >> numbers.below(64), 1 + numbers.below(24)));
 }
 
-/// The common denominator of 21,000 numbers below 2^64 is too long. Without optimization, a read would take a minute.
+/// The total of the products, beside the sum of the products of the fields. Over 8 bits, each product goes in.
+#[test]
+fn random_dots() {
+    let mut numbers = Numbers(4);
+    let mut fraction = || of(numbers.word() as i8 >> numbers.below(8), 1 + numbers.below(12) as i8);
+    for count in (0..10_000).map(|round| round % 7) {
+        let pairs: Vec<_> = (0..count).map(|_| (fraction(), fraction())).collect();
+        let (left, right): (Vec<_>, Vec<_>) = pairs.iter().copied().unzip();
+        let product = |(x, y): &(Reduced<i8>, Reduced<i8>)| of(i64::from(*x.numer()) * i64::from(*y.numer()), i64::from(*x.denom()) * i64::from(*y.denom()));
+        let products: Vec<_> = pairs.iter().map(|pair| (false, product(pair))).collect();
+        let total = Total::dot(&left, &right).unwrap();
+        assert_eq!((sum(&total), total.count()), (held(exact_sum(&products)), count), "{pairs:?}");
+    }
+}
+
+/// Which products of 64 bits go in, by Python's `fractions`.
+#[test]
+fn products_of_64_bits() {
+    const TOP: i64 = i64::MAX;
+    let rows = [
+        ((TOP, 1), (2, 1), true),
+        ((TOP, 1), (3, 1), false),
+        ((1 << 62, 1), (-4, 1), false),
+        ((1, 1 << 62), (1, 2), true),
+        ((1, 1 << 62), (1, 4), false),
+        ((TOP, 2), (2, TOP), true),
+        ((TOP, 5), (-5, TOP), true),
+        ((i64::MIN, 1), (i64::MIN, 1), false),
+    ];
+    let mut total = Total::new();
+    let mut went = 0;
+    for ((n, d), (m, e), fits) in rows {
+        assert_eq!(total.add_product(of(n, d), of(m, e)).is_some(), fits, "{n}/{d} * {m}/{e}");
+        went += i64::from(fits);
+        assert_eq!(total.count(), went);
+    }
+    let great = [of(u64::MAX, 1)];
+    assert!(Total::dot(&great, &great).is_none());
+}
+
+/// The common denominator of 21,000 numbers below 2^64 is too long, but a decimal needs none. Without optimization, a read would take a
+/// minute. The text is from Python's `fractions`.
 #[test]
 #[cfg(not(debug_assertions))]
 fn too_long_a_denominator() {
     let total: Total<u64> = (0..21_000).map(|i| of(1, u64::MAX - i)).sum();
     assert_eq!(total.sum().unwrap_err().to_string(), "the common denominator is too long");
+    assert_eq!(total.compare_with(of(1, 1)).unwrap_err(), total.sum().unwrap_err());
+    assert_eq!(total.decimal(38, Rounding::HalfEven).unwrap(), "0.00000000000000113841228110978030372994");
 }

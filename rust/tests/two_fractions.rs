@@ -12,7 +12,7 @@ mod support;
 mod answers;
 
 use answers::{or_panic, run, Answer, Answered, Fields};
-use bakhsney::{Ratio, Reduced};
+use bakhsney::{Ratio, Reduced, Rounding};
 use num_traits::{CheckedAdd, CheckedDiv, CheckedMul, CheckedRem, CheckedSub, Signed};
 use std::cmp::Ordering;
 use std::collections::hash_map::DefaultHasher;
@@ -90,9 +90,34 @@ fn product(pair: Pair) -> Option<Fields> {
     lowest(a * c, b * d)
 }
 
+/// The product rounded to the nearest whole number, a half away from 0.
+fn rounded_product(pair: Pair) -> Option<i8> {
+    let ((a, b), (c, d)) = (positive(pair.left)?, positive(pair.right)?);
+    let nearest = (2 * (a * c).abs() + b * d) / (2 * b * d);
+    i8::try_from(nearest * (a * c).signum()).ok()
+}
+
+/// The greatest whole number that is not above the product.
+fn floored_product(pair: Pair) -> Option<i8> {
+    let ((a, b), (c, d)) = (positive(pair.left)?, positive(pair.right)?);
+    i8::try_from((a * c).div_euclid(b * d)).ok()
+}
+
 fn quotient(pair: Pair) -> Option<Fields> {
     let ((a, b), (c, d)) = (positive(pair.left)?, positive(pair.right)?);
     lowest(a * d, b * c)
+}
+
+/// The product of both and the left one again. No number on the way has to fit.
+fn product_of_three(pair: Pair) -> Option<Fields> {
+    let ((a, b), (c, d)) = (positive(pair.left)?, positive(pair.right)?);
+    lowest(a * c * a, b * d * b)
+}
+
+/// The square of the left one divided by the right one.
+fn square_over(pair: Pair) -> Option<Fields> {
+    let ((a, b), (c, d)) = (positive(pair.left)?, positive(pair.right)?);
+    lowest(a * a * d, b * b * c)
 }
 
 fn remainder(pair: Pair) -> Option<Fields> {
@@ -103,6 +128,22 @@ fn remainder(pair: Pair) -> Option<Fields> {
 fn exact(pair: Pair, call: fn(i64, i64) -> Option<i64>) -> Option<Fields> {
     let ((a, b), (c, d)) = (pair.left, pair.right);
     lowest(call(a * d, c * b)?, b * d)
+}
+
+/// The sum of the list of both and the left one again. Its partial sum need not fit.
+fn sum_of_list(pair: Pair) -> Option<Fields> {
+    let ((a, b), (c, d)) = (pair.left, pair.right);
+    lowest(2 * a * d + c * b, b * d)
+}
+
+/// The greatest number that divides both.
+fn common_divisor(m: i64, n: i64) -> i64 {
+    if n == 0 { m.abs() } else { common_divisor(n, m % n) }
+}
+
+/// The least number above 0 that both divide, and 0 if one of them is 0.
+fn common_multiple(m: i64, n: i64) -> i64 {
+    if m == 0 || n == 0 { 0 } else { (m / common_divisor(m, n) * n).abs() }
 }
 
 /// The fold of the list of both and the left one again. It begins with this fraction.
@@ -247,12 +288,18 @@ macro_rules! checked {
 checked! { REDUCED_SUM: checked_add |p, q| Some(p + q) }
 checked! { REDUCED_DIFFERENCE: checked_sub |p, q| Some(p - q) }
 checked! { REDUCED_REMAINDER: checked_rem |p, q| p.checked_rem(q) }
+checked! { REDUCED_DIVISOR: checked_gcd |p, q| Some(common_divisor(p, q)) }
+checked! { REDUCED_MULTIPLE: checked_lcm |p, q| Some(common_multiple(p, q)) }
 
 const REDUCED: &[Row<Reduced<i8>>] = rows! { x, y, p:
     x.checked_mul(y) => product(p);
     x.checked_mul(&y) => product(p);
     x.checked_mul(*y.numer()) => product(p.by_number());
     x.checked_mul(y.numer()) => product(p.by_number());
+    x.checked_mul_round(y, Rounding::HalfAway) => rounded_product(p);
+    x.checked_mul_round(&y, Rounding::Floor) => floored_product(p);
+    x.checked_mul_round(*y.numer(), Rounding::HalfAway) => rounded_product(p.by_number());
+    x.checked_mul_round(y.numer(), Rounding::Floor) => floored_product(p.by_number());
     x.checked_div(y) => quotient(p);
     x.checked_div(&y) => quotient(p);
     x.checked_div(*y.numer()) => quotient(p.by_number());
@@ -271,14 +318,15 @@ const REDUCED: &[Row<Reduced<i8>>] = rows! { x, y, p:
     x <= *y.numer() => p.by_number().is(AT_MOST);
     x.partial_cmp(y.numer()) => order(p.by_number());
 
-    Reduced::<i8>::checked_sum([x, y, x]) => folded(p, (0, 1), |p| exact(p, |p, q| Some(p + q)));
-    Reduced::<i8>::checked_sum(&[x, y, x]) => folded(p, (0, 1), |p| exact(p, |p, q| Some(p + q)));
-    Reduced::<i8>::checked_product([x, y, x]) => folded(p, (1, 1), product);
-    Reduced::<i8>::checked_product(&[x, y, x]) => folded(p, (1, 1), product);
-    [x, y, x].iter().sum::<Option<Reduced<i8>>>() => folded(p, (0, 1), |p| exact(p, |p, q| Some(p + q)));
-    [x, y, x].iter().copied().sum::<Option<Reduced<i8>>>() => folded(p, (0, 1), |p| exact(p, |p, q| Some(p + q)));
-    [x, y, x].iter().product::<Option<Reduced<i8>>>() => folded(p, (1, 1), product);
-    [x, y, x].iter().copied().product::<Option<Reduced<i8>>>() => folded(p, (1, 1), product);
+    Reduced::<i8>::checked_sum([x, y, x]) => sum_of_list(p);
+    Reduced::<i8>::checked_sum(&[x, y, x]) => sum_of_list(p);
+    Reduced::<i8>::checked_product([x, y, x]) => product_of_three(p);
+    Reduced::<i8>::checked_product(&[x, y, x]) => product_of_three(p);
+    Reduced::<i8>::checked_quotient_of([x, x], [y]) => square_over(p);
+    [x, y, x].iter().sum::<Option<Reduced<i8>>>() => sum_of_list(p);
+    [x, y, x].iter().copied().sum::<Option<Reduced<i8>>>() => sum_of_list(p);
+    [x, y, x].iter().product::<Option<Reduced<i8>>>() => product_of_three(p);
+    [x, y, x].iter().copied().product::<Option<Reduced<i8>>>() => product_of_three(p);
 };
 
 // The simplest fraction, with each kind of bound on each side.
@@ -354,7 +402,7 @@ fn calls_of_reduced() {
     walk(2, |pair| {
         if let (Some(left), Some(right)) = (lowest(pair.left.0, pair.left.1), lowest(pair.right.0, pair.right.1)) {
             let pair = Pair { left, right };
-            [REDUCED_SUM, REDUCED_DIFFERENCE, REDUCED_REMAINDER, REDUCED, REDUCED_SIMPLEST].iter().for_each(|rows| compared(rows, reduced(left), reduced(right), pair));
+            [REDUCED_SUM, REDUCED_DIFFERENCE, REDUCED_REMAINDER, REDUCED_DIVISOR, REDUCED_MULTIPLE, REDUCED, REDUCED_SIMPLEST].iter().for_each(|rows| compared(rows, reduced(left), reduced(right), pair));
         }
     });
 }

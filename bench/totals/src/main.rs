@@ -1,5 +1,8 @@
-//! Times what it takes to add up a column of 100,000 fractions over `i64`: by a `Total`, by `checked_add` of `Reduced`, and by num-rational's
-//! `+`. A line has nanoseconds a value, each the median of the rounds. The three take turns. A second table has what a read of a total takes.
+//! Times what it takes to add up a column of 100,000 fractions over `i64`: by a `Total`, by `checked_sum` of `Reduced`, by a fold of its
+//! `checked_add`, by num-rational's `+`, and by `mpq_add` of GMP, which has fractions of any length. A line has nanoseconds a value, each the
+//! median of the rounds. The five take turns. A second table has what a read of a total takes.
+mod gmp;
+
 use bakhsney::{Reduced64, Rounding, Total};
 use num_rational::Ratio;
 use std::hint::black_box;
@@ -50,35 +53,58 @@ fn median(mut times: Vec<f64>) -> f64 {
     times[times.len() / 2]
 }
 
-fn show(name: &str, values: &[Reduced64]) {
+/// The rounds of a way that takes more than a microsecond a value.
+const SLOW_ROUNDS: usize = 3;
+
+/// The ways to add up a column. The last one is left out where a sum would take minutes.
+fn show(name: &str, values: &[Reduced64], with_gmp: bool) {
     let theirs: Vec<Ratio<i64>> = values.iter().map(|x| Ratio::new_raw(*x.numer(), *x.denom())).collect();
-    let (mut total, mut steps, mut other) = (vec![], vec![], vec![]);
-    for _ in 0..ROUNDS {
-        total.push(nanoseconds(VALUES, || values.iter().sum::<Total<i64>>()));
-        steps.push(nanoseconds(VALUES, || sum_in_steps(values)));
-        other.push(nanoseconds(VALUES, || theirs.iter().fold(Ratio::new_raw(0, 1), |sum: Ratio<i64>, x| sum + x)));
+    let long: Vec<gmp::Fraction> = values.iter().map(|x| gmp::Fraction::new(*x.numer(), *x.denom())).collect();
+    let by_total = || nanoseconds(VALUES, || values.iter().sum::<Total<i64>>());
+    let by_list = || nanoseconds(VALUES, || Reduced64::checked_sum(values));
+    let in_steps = || nanoseconds(VALUES, || sum_in_steps(values));
+    let by_crate = || nanoseconds(VALUES, || theirs.iter().fold(Ratio::new_raw(0, 1), |sum: Ratio<i64>, x| sum + x));
+    let by_gmp = || nanoseconds(VALUES, || gmp::sum(&long));
+    let ways: [&dyn Fn() -> f64; 5] = [&by_total, &by_list, &in_steps, &by_crate, &by_gmp];
+    let count = if with_gmp { ways.len() } else { ways.len() - 1 };
+    let mut times = vec![vec![]; count];
+    for round in 0..ROUNDS {
+        for (way, times) in ways.iter().zip(&mut times) {
+            if round < SLOW_ROUNDS || times[0] < 1_000.0 {
+                times.push(way());
+            }
+        }
     }
-    println!("| {name} | {:.1} | {:.1} | {:.1} |", median(total), median(steps), median(other));
+    let cells: Vec<String> = times.into_iter().map(|times| format!("{:.1}", median(times))).collect();
+    println!("| {name} | {} |{}", cells.join(" | "), if with_gmp { "" } else { " |" });
 }
 
-fn show_reads(name: &str, values: &[Reduced64]) {
+fn show_reads(name: &str, values: &[Reduced64], rounds: usize) {
     let total: Total<i64> = values.iter().sum();
     let read = |total: &Total<i64>| nanoseconds(1, || total.sum());
     let write = |total: &Total<i64>| nanoseconds(1, || total.decimal(20, Rounding::HalfEven));
-    let (sums, decimals) = (0..ROUNDS).map(|_| (read(&total), write(&total))).unzip();
+    let (sums, decimals) = (0..rounds).map(|_| (read(&total), write(&total))).unzip();
     println!("| {name} | {:.1} | {:.1} |", median(sums) / 1000.0, median(decimals) / 1000.0);
+}
+
+fn is_prime(n: i64) -> bool {
+    (2..).take_while(|d| d * d <= n).all(|d| n % d != 0)
 }
 
 fn main() {
     let mut random = Random(7);
-    println!("| Denominators | `Total`, ns a value | `checked_add` | `num-rational` |\n|---|---|---|---|");
-    show("100 (cents)", &column(&mut random, |_| 100));
-    show("12 different ones up to 60", &column(&mut random, |r| [2, 3, 4, 5, 6, 8, 10, 12, 16, 20, 24, 60][r.below(12) as usize]));
-    show("1 to 1,000", &column(&mut random, |r| 1 + r.below(1_000) as i64));
-    show("1 to 100,000", &column(&mut random, |r| 1 + r.below(100_000) as i64));
+    println!("| Denominators | `Total`, ns a value | `checked_sum` | `checked_add` | `num-rational` | GMP |\n|---|---|---|---|---|---|");
+    show("100 (cents)", &column(&mut random, |_| 100), true);
+    show("12 different ones up to 60", &column(&mut random, |r| [2, 3, 4, 5, 6, 8, 10, 12, 16, 20, 24, 60][r.below(12) as usize]), true);
+    show("1 to 1,000", &column(&mut random, |r| 1 + r.below(1_000) as i64), true);
+    show("1 to 100,000", &column(&mut random, |r| 1 + r.below(100_000) as i64), false);
     println!("\n| Denominators | `sum`, microseconds | `decimal` with 20 places |\n|---|---|---|");
-    show_reads("100 (cents)", &column(&mut random, |_| 100));
-    show_reads("12 different ones up to 60", &column(&mut random, |r| [2, 3, 4, 5, 6, 8, 10, 12, 16, 20, 24, 60][r.below(12) as usize]));
-    show_reads("each one from 1 to 1,000", &(1..=1000).filter_map(|denom| Reduced64::checked_new(1, denom)).collect::<Vec<_>>());
-    show_reads("1,000 of 62 bits", &column(&mut random, |r| 1 << 61 | r.below(1 << 61) as i64)[..1000]);
+    show_reads("100 (cents)", &column(&mut random, |_| 100), ROUNDS);
+    show_reads("12 different ones up to 60", &column(&mut random, |r| [2, 3, 4, 5, 6, 8, 10, 12, 16, 20, 24, 60][r.below(12) as usize]), ROUNDS);
+    show_reads("each one from 1 to 1,000", &(1..=1000).filter_map(|denom| Reduced64::checked_new(1, denom)).collect::<Vec<_>>(), ROUNDS);
+    let long = column(&mut random, |r| 1 << 61 | r.below(1 << 61) as i64);
+    show_reads("1,000 of 62 bits", &long[..1000], ROUNDS);
+    let primes: Vec<_> = (2..).filter(|n| is_prime(*n)).take(10_000).filter_map(|denom| Reduced64::checked_new(1, denom)).collect();
+    show_reads("the first 10,000 primes", &primes, 5);
+    show_reads("20,000 of 62 bits", &long[..20_000], 5);
 }

@@ -1,3 +1,4 @@
+pub mod DivisorLawLemmas
 pub mod EqualValueLemmas
 pub mod FoldLawLemmas
 pub mod HashWriteLemmas

@@ -1,3 +1,4 @@
+pub mod DivisorLaws
 pub mod FoldLaws
 pub mod NearestLaws
 pub mod NeutralLaws

@@ -1,6 +1,7 @@
 //! Laws of the calls of `Reduced` and `Ratio`, for the proofs of callers. Each function changes nothing: its contract is the law.
 #![tactic(auto)]
 
+pub mod divisors;
 pub mod folds;
 pub mod nearest;
 pub mod neutral;

@@ -1,5 +1,5 @@
 -- How many denominators of a list are new to a table, while its items go in one after another.
-use Rattle.std.specs.Prelude.{◌≡◌, ◌≢◌, ◌<◌, ◌+◌, ℕ, ℤ, Bool, true, false, List, [], ◌∷◌, if◌then◌else◌, length, slice_set}
+use Rattle.std.specs.Prelude.{◌≡◌, ◌≢◌, ◌<◌, ◌+◌, ◌==◌, ℕ, ℤ, Bool, true, false, List, [], ◌∷◌, if◌then◌else◌, length, slice_set}
 use Rattle.std.proofs.Common.{refl, sym, ap, subst, arith, inl, inr, ◌∙◌}
 use Rattle.std.proofs.lemmas.Bool.{cases_eq}
 use Rattle.std.proofs.lemmas.List.{get_or-set_other, get_or-set_same, length-set}
@@ -160,6 +160,17 @@ module _ (old : List Slot) (d p : ℕ) (n : ℤ) (table : IsTable old) (some : d
     -- the free slots and the new denominators change together
     pub item_in : free_of old + new_items view positive (held_in after) xs ≡ free_of after + new_items view positive (held_in old) (x ∷ xs)
     item_in = elim (cases_eq (slot_at old p).denom 0) [ inl z ↦ new_place z | inr full ↦ old_place full ]
+
+-- a call that puts something over d: the table holds d, and what it held
+pub put_holds : (d : ℕ) (n : ℤ) (old new : List Slot) → d ≢ 0 → IsTable old → Puts d n old new → (e : ℕ) → e ≢ 0 → holds e new ≡ (if d == e then true else holds e old)
+put_holds d n old new some table puts e taken = elim (cases_eq d e) [
+  | inl is ↦
+      let here : holds d new ≡ true = rw puts.written (held_now old d puts.index n table some puts.place) in
+      subst (λ (k : ℕ). holds k new ≡ true) is here ∙ sym (bool_equal d e true (holds e old) is)
+  | inr other ↦
+      let kept : holds e new ≡ holds e old = rw puts.written (held_others old d puts.index n table some puts.place e taken (λ is. other (sym is))) in
+      kept ∙ sym (bool_differ d e true (holds e old) other)
+]
 
 -- the same for a call that puts an item
 pub item_put : {A : Type 0} (view : A → ℤ × ℕ) (positive : (x : A) → 0 < (view x).1) (x : A) (xs : List A) (old new : List Slot) (n : ℤ) → IsTable old → Puts (view x).1 n old new

@@ -48,7 +48,7 @@ pair_positive x = size_positive (denominator (ratio_of x)) x.lowest.positive
 
 -- ---- the slots that are free, and the denominators to come
 
-none_held : (slots : List Slot) → HasNoFraction slots → (e : ℕ) → e ≢ 0 → holds e slots ≡ false
+pub none_held : (slots : List Slot) → HasNoFraction slots → (e : ℕ) → e ≢ 0 → holds e slots ≡ false
 none_held slots none e taken = elim (bool_cases (holds e slots)) [
   | inl t ↦ absurd (let at : HoldsAtIndex e slots = holds_index e slots t in taken (sym at.is ∙ ap (λ (s : Slot). s.denom) (none.each at.index at.within)))
   | inr f ↦ f

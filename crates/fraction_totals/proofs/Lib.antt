@@ -4,3 +4,6 @@ pub mod ProductLemmas
 pub mod PairLemmas
 pub mod ItemLemmas
 pub mod DenominatorLemmas
+pub mod RoundingLemmas
+pub mod DotLemmas
+pub mod ListSumLemmas

@@ -1,13 +1,16 @@
 -- Sums of pairs, in which one pair is put for another of its value.
-use Rattle.std.specs.Prelude.{◌≡◌, ◌<◌, ◌*◌, ◌+ℤ◌, ◌*ℤ◌, ℕ, ℤ, pos, List, []}
+use Rattle.std.specs.Prelude.{◌≡◌, ◌<◌, ◌*◌, ◌+ℤ◌, ◌*ℤ◌, ℕ, ℤ, neg_ℤ, pos, List, [], Result, Ok, Err, OnOk}
 use Rattle.std.proofs.Common.{sym, ap, subst, arith, ◌∙◌}
 use Rattle.std.proofs.lemmas.Int.{ints}
 use Rattle.ratio_totals.proofs.MergeSums.{pour_fraction, sum_positive}
 use Rattle.ratio_totals.proofs.ReadLemmas.{empty_numerators}
 use Rattle.ratio_totals.proofs.SumsAgree.{sums_agree}
+use Rattle.ratio_totals.proofs.TurnLemmas.{sums_negated}
 use Rattle.ratio_totals.specs.LowestSum.{IsShortPair}
+use Rattle.ratio_totals.specs.Merging.{SumAdds}
 use Rattle.ratio_totals.specs.Sums.{SameSum, SumGrows, pair_sum, sum_of_slots}
 use Rattle.ratio_totals.specs.Totals.{HasNoFraction}
+use Rattle.ratio_totals.specs.Turning.{negated}
 use Rattle.ratio_totals.specs.declared.slots.Slot.{Slot}
 use Rattle.fraction_totals.proofs.ProductLemmas.{size_positive}
 
@@ -52,3 +55,13 @@ starts slots all positive none =
 
 pub ends : (value all : ℤ × ℕ) → SameSum (pair_sum value (pos 0, 1)) all → SameSum all value
 ends value all same = sym (subst (λ (p : ℤ × ℕ). SameSum p all) (sum_of_none value) same)
+
+-- ---- a total that was taken out
+
+taken_out : (old other new : List Slot) → SumAdds old (negated other) new → SameSum (pair_sum (sum_of_slots old) (neg_ℤ (sum_of_slots other).0, (sum_of_slots other).1)) (sum_of_slots new)
+taken_out old other new adds = subst (λ (p : ℤ × ℕ). SameSum (pair_sum (sum_of_slots old) p) (sum_of_slots new)) (sums_negated other) adds.same
+
+pub taken_out_if : {A E : Type 0} (r : Result A E) (old other new : List Slot) → OnOk r (SumAdds old (negated other) new)
+    → OnOk r (SameSum (pair_sum (sum_of_slots old) (neg_ℤ (sum_of_slots other).0, (sum_of_slots other).1)) (sum_of_slots new))
+taken_out_if (Ok a) old other new adds = taken_out old other new adds
+taken_out_if (Err e) old other new adds = adds

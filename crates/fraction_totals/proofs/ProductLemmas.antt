@@ -13,7 +13,7 @@ pub size_positive : (q : ℤ) → pos 0 <ℤ q → 0 < unsigned_abs q
 size_positive (pos n) h = omega (arith, ints)
 size_positive (negsuc n) h = absurd (omega (arith, ints))
 
-positive_size : (q : ℤ) → pos 0 <ℤ q → q ≡ pos (unsigned_abs q)
+pub positive_size : (q : ℤ) → pos 0 <ℤ q → q ≡ pos (unsigned_abs q)
 positive_size (pos n) h = refl
 positive_size (negsuc n) h = absurd (omega (arith, ints))
 

@@ -1,8 +1,10 @@
 -- How many different denominators a list of fractions has. `view` gives an item as a numerator and a denominator.
-use Rattle.std.specs.Prelude.{◌+◌, ◌<◌, ◌==◌, ℕ, ℤ, Bool, true, false, List, [], ◌∷◌, if◌then◌else◌, length}
+use Rattle.std.specs.Prelude.{◌≡◌, ◌≢◌, ◌+◌, ◌<◌, ◌==◌, ℕ, ℤ, Bool, true, false, List, [], ◌∷◌, if◌then◌else◌, length}
+use Rattle.ratio_totals.specs.Merging.{holds}
 use Rattle.ratio_totals.specs.Totals.{most_weight}
 use Rattle.ratio_totals.specs.declared.refusal.Refusal.{Refusal}
 use Rattle.ratio_totals.specs.declared.refusal.Refusal.TheVariants.{MoreRoom, TooMany}
+use Rattle.ratio_totals.specs.declared.slots.Slot.{Slot}
 
 -- whether an item has the denominator d
 -- Example: 28 in 1/36, 1/28: true
@@ -21,3 +23,8 @@ denominators_of view (x ∷ xs) = if has_denominator view (view x).1 xs then den
 abbrev pub AreRefusedFor : {A : Type 0} → (A → ℤ × ℕ) → List A → ℕ → Refusal → Type 0
 AreRefusedFor view items room MoreRoom = room < denominators_of view items
 AreRefusedFor view items room TooMany = most_weight < length items
+
+-- the table holds the denominators of the items, and no others
+-- Example: the table 28, empty, 36 for 1/36, 1/28, 5/36
+pub record HoldsItems {A : Type 0} (view : A → ℤ × ℕ) (items : List A) (slots : List Slot) : Type 0 where
+  pub each : (d : ℕ) → d ≢ 0 → holds d slots ≡ has_denominator view d items

@@ -1,7 +1,7 @@
 -- Products of two fractions that go into a total.
 use Rattle.std.specs.Prelude.{◌*◌, ◌*ℤ◌, ℕ, ℤ, List}
 use Rattle.ratio_totals.specs.LowestSum.{HasLongPair, IsShortPair}
-use Rattle.ratio_totals.specs.Sums.{GrowsAt}
+use Rattle.ratio_totals.specs.Sums.{GrowsAt, Puts}
 use Rattle.ratio_totals.specs.Totals.{IsAccepted, IsRefusedFor}
 use Rattle.ratio_totals.specs.declared.refusal.Refusal.{Refusal}
 use Rattle.ratio_totals.specs.declared.refusal.Refusal.TheVariants as refusal
@@ -20,6 +20,7 @@ pub record PutsProduct (x : ℤ × ℕ) (old new : List Slot) (weight : ℕ) : T
   pub numer : ℤ
   pub denom : ℕ
   pub terms : IsShortPair x numer denom
+  pub slot : Puts denom numer old new
   pub grows : GrowsAt denom numer old new
   pub accepted : IsAccepted old weight denom
 

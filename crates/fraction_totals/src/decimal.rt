@@ -32,7 +32,7 @@ impl<'a, T: Short> Total<'a, T> {
         self.table.put_decimal(places, rule, room, buf)
     }
 
-    /// How many numbers of room `sum` and `mean` need.
+    /// How many numbers of room `sum`, `mean` and `to_f64` need.
     pub fn read_digits(&self) -> usize
         ensures { result ≡ read_digits (slots_of self.now) }
     {

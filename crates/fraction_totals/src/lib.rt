@@ -5,17 +5,27 @@
 //! 127/1 + 1/127 - 1/127 is 127/1.
 #![tactic(auto)]
 
+mod comparing;
 mod crossing;
 mod decimal;
+mod dots;
+mod float;
+mod in_memory;
 mod items;
 mod lowest;
 mod numbers;
 mod products;
+mod quick;
+mod rounding;
 mod short;
+mod sums;
 mod total;
 
+pub use dots::{DotRefusal, dot};
+pub use in_memory::{SumFailure, checked_sum};
 pub use items::total_of;
 pub use products::ProductRefusal;
-pub use ratio_totals::{ReadRefusal, Refusal, Slot};
+pub use ratio_totals::{CompareRefusal, ReadRefusal, Refusal, Slot};
 pub use short::Short;
+pub use sums::{SumRefusal, checked_sum_in};
 pub use total::Total;

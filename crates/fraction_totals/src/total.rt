@@ -4,6 +4,7 @@ ghost use Rattle.ratio_totals.specs.Merging.{AddsEach, CanMerge, HoldsBoth, IsMe
 ghost use Rattle.ratio_totals.specs.Sums.{GrowsAt, Puts, SameSum};
 ghost use Rattle.ratio_totals.specs.TotalLaws.{SameNumerators};
 ghost use Rattle.ratio_totals.specs.Totals.{HasNoFraction, IsAccepted, IsRefusedFor};
+ghost use Rattle.ratio_totals.specs.Turning.{negated};
 ghost use Rattle.fraction_totals.specs.Values.{GrowsBy, opposite_of, pair_of, slots_of, value_of};
 
 use crate::numbers::parts;
@@ -85,6 +86,23 @@ impl<'a, T: Short> Total<'a, T> {
         ensures tally_unchanged { OnErr result (self.new.table.tally ≡ self.old.table.tally) }
     {
         self.table.merge(&other.table)
+    }
+
+    /// Takes out each fraction of the other total, whether it was added or not. If the total refuses it, nothing has changed.
+    pub fn take_out(&mut self, other: &Total<'_, T>) -> Result<(), Refusal>
+        ensures same_slots { self.new.table.slots.ghost_name ≡ self.old.table.slots.ghost_name }
+        ensures room { length (slots_of self.new) ≡ length (slots_of self.old) }
+        ensures sum { OnOk result (GrowsBy (opposite_of (value_of other.now)) (value_of self.old) (value_of self.new)) }
+        ensures numerators { OnOk result (AddsEach (slots_of self.old) (negated (slots_of other.now)) (slots_of self.new)) }
+        ensures held { OnOk result (HoldsBoth (slots_of self.old) (slots_of other.now) (slots_of self.new)) }
+        ensures count { OnOk result (self.new.table.tally.count ≡ self.old.table.tally.count -ℤ other.now.table.tally.count) }
+        ensures weight { OnOk result (self.new.table.tally.weight ≡ self.old.table.tally.weight + other.now.table.tally.weight) }
+        ensures accepted { OnOk result (CanMerge (slots_of self.old) self.old.table.tally.weight (slots_of other.now) other.now.table.tally.weight) }
+        ensures refused { IfErr result (IsMergeRefusedFor (slots_of self.old) self.old.table.tally.weight (slots_of other.now) other.now.table.tally.weight) }
+        ensures slots_unchanged { OnErr result (slots_of self.new ≡ slots_of self.old) }
+        ensures tally_unchanged { OnErr result (self.new.table.tally ≡ self.old.table.tally) }
+    {
+        self.table.take_out(&other.table)
     }
 
     /// The same total in other slots, such as more of them. It empties these slots first. If they are fewer than the

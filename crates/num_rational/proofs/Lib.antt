@@ -3,9 +3,11 @@ pub mod ConvergentLemmas
 pub mod FoldLemmas
 pub mod HeadlineLemmas
 pub mod JsonLemmas
+pub mod ManyProductLemmas
 pub mod PaddingLemmas
 pub mod PrecisionLemmas
 pub mod QuotientLemmas
 pub mod RatioLemmas
+pub mod SplitLemmas
 pub mod TotalLemmas
 pub mod ValueLemmas

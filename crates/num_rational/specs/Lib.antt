@@ -6,6 +6,7 @@ pub mod Folds
 pub mod Hashing
 pub mod Headline
 pub mod Json
+pub mod ManyProducts
 pub mod Negation
 pub mod Operators
 pub mod Padding
@@ -13,6 +14,7 @@ pub mod Powers
 pub mod Ratio
 pub mod Rationalized
 pub mod Reduced
+pub mod Split
 pub use Rattle.ratio_core.specs.Conditions
 pub use Rattle.ratio_core.specs.ContinuedFraction
 pub use Rattle.ratio_core.specs.Laws

@@ -3,6 +3,7 @@ use Rattle.std.specs.Prelude.{◌<ℤ◌, ℤ, pos, Bool, Option}
 use Rattle.ratio_integer.specs.Arithmetic.{RemainderHeld, difference_of, product_of, quotient_of, remainder_of, sum_of}
 use Rattle.ratio_integer.specs.Fraction.{AnswersLowest}
 use Rattle.ratio_core.specs.Conditions.{DifferenceCondition, ProductCondition, QuotientCondition, RemainderCondition, SumCondition}
+use Rattle.ratio_core.specs.Divisors.{ChecksPair, IsGcdOfFractions, IsLcmOfFractions}
 use Rattle.num_rational.specs.declared.ratio.Ratio.{Ratio}
 use Rattle.num_rational.specs.Ratio.{ChecksRatio, IsLowestOf, denominator, numerator}
 
@@ -102,3 +103,13 @@ ChecksRemainder {i = i} x y result = AnswersLowest numerator denominator i.lo i.
 -- Example: 127/1 % 1/127: `Some(0/1)`
 abbrev pub ChecksLowestRemainder : {T : _} {i : _} {o : _} {e : _} {p : _} {h : _} → ℤ × ℤ → ℤ × ℤ → Option (Ratio T i o e p h) → Type 0
 ChecksLowestRemainder {i = i} x y result = AnswersLowest numerator denominator i.lo i.hi (RemainderCondition i.EXACT_REMAINDERS i.lo i.hi x.0 x.1 y.0 y.1) (remainder_of x.0 x.1 y.0 y.1) result
+
+-- for `Reduced`: the result is the greatest common divisor of x and y in lowest terms if these are in range, and else `None`
+-- Example: 1/4 and 1/6: `Some(1/12)`
+abbrev pub ChecksFractionGcd : {T : _} {i : _} {o : _} {e : _} {p : _} {h : _} → ℤ × ℤ → ℤ × ℤ → Option (Ratio T i o e p h) → Type 0
+ChecksFractionGcd {i = i} x y result = ChecksPair numerator denominator i.lo i.hi (IsGcdOfFractions x.0 x.1 y.0 y.1) result
+
+-- for `Reduced`: the result is the least common multiple of x and y in lowest terms if these are in range, and else `None`
+-- Example: 1/4 and 1/6: `Some(1/2)`
+abbrev pub ChecksFractionLcm : {T : _} {i : _} {o : _} {e : _} {p : _} {h : _} → ℤ × ℤ → ℤ × ℤ → Option (Ratio T i o e p h) → Type 0
+ChecksFractionLcm {i = i} x y result = ChecksPair numerator denominator i.lo i.hi (IsLcmOfFractions x.0 x.1 y.0 y.1) result

@@ -12,6 +12,7 @@ mod fold;
 mod hash;
 mod json;
 mod main_statement;
+mod many_products;
 mod nearest;
 mod operand;
 mod ops;
@@ -24,6 +25,7 @@ mod ratio;
 mod reduced;
 mod rounding;
 mod sign;
+mod splitting;
 mod text;
 
 pub use convergents::Convergents;
@@ -39,3 +41,4 @@ pub use ratio_core::{
 pub use ratio_decimal::rounding_rule::Rounding;
 pub use ratio_decimal::{DecimalRefusal, TextRefusal};
 pub use reduced::{Reduced, Reduced32, Reduced64, ReducedOperand};
+pub use splitting::{SplitRefusal, split};

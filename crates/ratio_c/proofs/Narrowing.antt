@@ -1,16 +1,20 @@
 -- Lowest terms over a narrower type, and what an answer says of them.
-use Rattle.std.specs.Prelude.{◌≡◌, ◌≤◌, ◌<ℤ◌, ℕ, ℤ, pos, negsuc, unsigned_abs, List, Option, Some, None, option_map}
+use Rattle.std.specs.Prelude.{◌≡◌, ◌≤◌, ◌<ℤ◌, ◌*ℤ◌, ℕ, ℤ, pos, negsuc, nat_abs, unsigned_abs, List, Option, Some, None, option_map}
 use Rattle.std.proofs.Common.{arith, inl, inr, refl, subst, sym}
 use Rattle.std.proofs.lemmas.Int.{ints}
 use Rattle.ratio_core.specs.Power.{ChecksBoth}
+use Rattle.ratio_decimal.specs.RoundingRules.{IsRoundedBy}
+use Rattle.ratio_decimal.specs.declared.rounding_rule.Rounding.{Rounding}
 use Rattle.ratio_integer.specs.Fraction.{ChecksLowest, Fits, IsLowestTermsOf}
 use Rattle.ratio_integer.specs.Range.{IsHeld}
 use Rattle.ratio_integer.proofs.LowestTerms.{lowest_unique}
 use Rattle.ratio_natural.specs.Number.{base}
 use Rattle.ratio_totals.specs.LowestSum.{ChecksMeanOfSlots, ChecksShortPair, HasLongPair, mean_of_slots}
+use Rattle.ratio_totals.specs.Multiples.{ChecksMultiple}
 use Rattle.ratio_totals.specs.declared.slots.Slot.{Slot}
-use Rattle.ratio_c.specs.Crossing.{Said, Says, said_of}
+use Rattle.ratio_c.specs.Crossing.{Said, Says, rule_of, said_of}
 use Rattle.ratio_c.specs.Numbers64.{greatest64, least64}
+use Rattle.ratio_c.specs.TotalMultiples.{SaysMultiple}
 use Rattle.ratio_c.specs.TotalReads.{Narrows, SaysLowest}
 
 -- lowest terms, over another type if both numbers fit it
@@ -69,3 +73,21 @@ short_said x terms r answer checks narrows said = lowest_said (λ z. z.0) (λ z.
 pub mean_checked : (slots : List Slot) (count : ℤ) (terms : Option (ℤ × ℕ)) → pos 0 <ℤ count → ChecksMeanOfSlots slots count terms → ChecksShortPair (mean_of_slots slots count) terms
 mean_checked slots count None positive checks = elim checks [ inl none ↦ absurd (omega (arith, ints, none, positive)) | inr long ↦ long ]
 mean_checked slots count (Some t) positive checks = checks.1
+
+-- a multiple of 1/parts whose terms are below 2^64, as an answer says it
+pub multiple_said : (rule : Rounding) (number parts : ℕ) (p : ℤ) (x : ℤ × ℕ) (terms : Option (ℤ × ℕ)) (r : Option (ℤ × ℤ)) (answer : Said) → rule ≡ rule_of number → pos parts ≡ p
+    → ChecksMultiple rule parts x terms → Narrows terms r → answer ≡ said_of (option_map (λ z. (z.0, z.1)) r) → SaysMultiple x p number answer
+multiple_said rule number parts p x terms r answer rule_is parts_are multiple narrows said =
+    let told : SaysLowest (multiple.number, parts) answer = short_said (multiple.number, parts) terms r answer multiple.terms narrows said in
+    let rounded : IsRoundedBy (rule_of number) (x.0 *ℤ p) (pos x.1) multiple.number =
+    subst (λ (o : Rounding). IsRoundedBy o (x.0 *ℤ p) (pos x.1) multiple.number) rule_is (subst (λ (z : ℤ). IsRoundedBy rule (x.0 *ℤ z) (pos x.1) multiple.number) parts_are multiple.rounded) in
+    record {
+      result = told.result;
+      is_result = (multiple.number, rounded, subst (λ (z : ℤ). ChecksLowest (λ (y : ℤ × ℤ). y.0) (λ y. y.1) least64 greatest64 (multiple.number, z) told.result) parts_are told.is_result);
+      is_said = told.is_said;
+    }
+
+-- a number above 0 is its magnitude
+pub magnitude_above : (z : ℤ) → pos 0 <ℤ z → pos (nat_abs z) ≡ z
+magnitude_above (pos n) h = refl
+magnitude_above (negsuc n) h = absurd (omega (arith, ints, h))

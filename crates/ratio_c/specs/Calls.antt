@@ -71,8 +71,8 @@ OfDivisor y answer Is = Tested (y.0 ≡ pos 0) (answer ≡ refused code_division
 abbrev pub IsQuotientAnswer : ℤ → ℤ → ℤ × ℤ → ℤ × ℤ → Said → Type 0
 IsQuotientAnswer lo hi x y answer = OfPositive x y answer (OfDivisor y answer (ChecksLowest (λ z. z.0) (λ z. z.1) lo hi (quotient_of x.0 x.1 y.0 y.1)))
 
--- `OfPositive` and `OfDivisor`: x % y in lowest terms, or the code 1 where these do not fit or, over 128 bits, where `RemainderHeld` does
--- not hold
+-- `OfPositive` and `OfDivisor`: x % y in lowest terms, or the code 1 where these do not fit. If `exact` is false, the condition is
+-- `RemainderHeld`
 abbrev pub IsRemainderAnswer : Bool → ℤ → ℤ → ℤ × ℤ → ℤ × ℤ → Said → Type 0
 IsRemainderAnswer exact lo hi x y answer =
     OfPositive x y answer

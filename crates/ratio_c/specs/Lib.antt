@@ -8,6 +8,9 @@ pub mod Numbers64
 pub mod Numbers128
 pub mod LowestHash
 pub mod Totals
+pub mod TotalFloats
 pub mod TotalReads
 pub mod TotalLaws
 pub mod Keys
+pub mod TotalOrders
+pub mod TotalMultiples

@@ -27,6 +27,9 @@ pub mod scaled;
 pub mod sign;
 #[cfg(test)]
 mod tests;
+pub mod total_floats;
+pub mod total_multiples;
+pub mod total_orders;
 pub mod total_reads;
 pub mod total_steps;
 pub mod totals;

@@ -1,6 +1,6 @@
 // Written by templates/write from templates/numbers.rt.txt: change that file, and write this one anew.
 //! The structs of C with fractions of `i128`, and the exported calls over slices of them.
-ghost use Rattle.std.specs.Prelude.{false};
+ghost use Rattle.std.specs.Prelude.{true};
 ghost use Rattle.ratio_c.specs.Calls.{AnswersEach, IsAbsoluteAnswer, IsBetweenAnswer, IsCastAnswer, IsCeilingAnswer, IsConvergentAnswer, IsDifferenceAnswer, IsEqualAnswer, IsFloorAnswer, IsFromFloatAnswer, IsHashAnswer, IsLowestAnswer, IsNearestAnswer, IsNegationAnswer, IsOrderAnswer, IsPowerAnswer, IsProductAnswer, IsQuotientAnswer, IsRationalAnswer, IsReadAnswer, IsRemainderAnswer, IsRoundAnswer, IsRoundToAnswer, IsScaledAnswer, IsSumAnswer, IsToFloatAnswer, IsTruncationAnswer, SaysDecimal, SaysText, SaysTyped};
 ghost use Rattle.ratio_c.specs.Codes.{decimal_room128, room128};
 ghost use Rattle.ratio_c.specs.Crossing.{wide_number};
@@ -361,7 +361,7 @@ pub extern "C" fn ratio_div_i128(asked: &[Pair128], answers: &mut [Answer128]) -
 /// The remainder of each pair.
 #[unsafe(no_mangle)]
 pub extern "C" fn ratio_rem_i128(asked: &[Pair128], answers: &mut [Answer128]) -> u32
-    ensures { AnswersEach (λ x answer. IsRemainderAnswer false least128 greatest128 (fraction128 x.left) (fraction128 x.right) (said128 answer)) asked.now answers.old answers.new result }
+    ensures { AnswersEach (λ x answer. IsRemainderAnswer true least128 greatest128 (fraction128 x.left) (fraction128 x.right) (said128 answer)) asked.now answers.old answers.new result }
 {
     each(&Remainder, asked, answers)
 }

@@ -21,6 +21,8 @@ use crate::numbers64::{
 use crate::printing::Text;
 use crate::reading::Span;
 use crate::scaled::Scaled;
+use crate::total_multiples::{ratio_total_round_to_digits_i64, ratio_total_round_to_i64};
+use crate::total_orders::{ratio_total_compare_digits_i64, ratio_total_compare_i64};
 use crate::total_reads::{
     ratio_total_digits_i64, ratio_total_free_i64, ratio_total_mean_i64,
     ratio_total_print_bytes_i64, ratio_total_print_digits_i64, ratio_total_print_i64,
@@ -442,6 +444,54 @@ fn signs_of_totals(rt: HostRuntime) {
     assert!(rt; answers[0].code == ANSWERED && answers[0].order == 1);
     assert!(rt; ratio_total_sign_i64(&slots, &mut room[1..], &mut answers) == DONE);
     assert!(rt; answers[0].code == MORE_ROOM && answers[0].order == 0);
+}
+
+#[test]
+fn multiples_of_totals(rt: HostRuntime) {
+    let slots = [Slot::new(36, 1), Slot::new(28, 1)];
+    let mut answers = [no_answer()];
+    let mut room = [7; 20];
+    assert!(rt; ratio_total_round_to_digits_i64(&slots) == 20);
+    assert!(rt;
+        ratio_total_round_to_i64(&slots, 100, RULE_HALF_EVEN, &mut room, &mut answers) == DONE
+    );
+    // 4/63 in hundredths is 6/100.
+    assert!(rt; [answers[0].value.numer, answers[0].value.denom] == [3, 50]);
+    assert!(rt;
+        ratio_total_round_to_i64(&slots, 0, RULE_HALF_EVEN, &mut room, &mut answers) == DONE
+    );
+    assert!(rt; answers[0].code == BAD_OPTION);
+    assert!(rt; ratio_total_round_to_i64(&slots, 100, 6, &mut room, &mut answers) == DONE);
+    assert!(rt; answers[0].code == BAD_OPTION);
+    let mut less = [7; 19];
+    assert!(rt; ratio_total_round_to_i64(&slots, 100, 0, &mut less, &mut answers) == DONE);
+    assert!(rt; answers[0].code == MORE_ROOM);
+    let most = [Slot::new(1, 1 << 63)];
+    assert!(rt; ratio_total_round_to_i64(&most, 1, 0, &mut room, &mut answers) == DONE);
+    assert!(rt; answers[0].code == NOT_HELD);
+}
+
+#[test]
+fn orders_of_totals(rt: HostRuntime) {
+    let sum = [Slot::new(36, 1), Slot::new(28, 1)];
+    let other = [Slot::new(15, 1)];
+    let least = [Slot::new(15, i128::MIN)];
+    let mut slots = [Slot::EMPTY; 3];
+    let mut room = [7; 18];
+    let mut answers = [Order { code: 9, order: 9 }];
+    assert!(rt; ratio_total_compare_digits_i64(&sum, &other) == 18);
+    assert!(rt; ratio_total_compare_i64(&sum, &other, &mut slots, &mut room, &mut answers) == DONE);
+    // 4/63 and 1/15
+    assert!(rt; answers[0].code == ANSWERED && answers[0].order == -1);
+    assert!(rt; ratio_total_compare_i64(&other, &sum, &mut slots, &mut room, &mut answers) == DONE);
+    assert!(rt; answers[0].code == ANSWERED && answers[0].order == 1);
+    assert!(rt; ratio_total_compare_i64(&sum, &sum, &mut slots, &mut room, &mut answers) == DONE);
+    assert!(rt; answers[0].code == MORE_ROOM && answers[0].order == 0);
+    assert!(rt; ratio_total_compare_i64(&sum, &least, &mut slots, &mut room, &mut answers) == DONE);
+    assert!(rt; answers[0].code == NOT_HELD && answers[0].order == 0);
+    assert!(rt;
+        ratio_total_compare_i64(&sum, &other, &mut slots, &mut room, &mut []) == BAD_LENGTH
+    );
 }
 
 #[test]

@@ -21,7 +21,7 @@ use ratio_totals::{
 };
 
 /// The code of a read that was refused.
-fn code_of(why: ReadRefusal) -> u32
+pub(crate) fn code_of(why: ReadRefusal) -> u32
     ensures { result ≡ code_of_read why }
 {
     match why {
@@ -31,7 +31,7 @@ fn code_of(why: ReadRefusal) -> u32
 }
 
 /// The same two numbers over 64 bits, or `None` if one does not fit.
-fn narrowed(terms: Option<(i128, u64)>) -> Option<(i64, i64)>
+pub(crate) fn narrowed(terms: Option<(i128, u64)>) -> Option<(i64, i64)>
     ensures { Narrows terms result }
 {
     match terms {
@@ -104,7 +104,7 @@ pub extern "C" fn ratio_total_free_i64(slots: &[Slot]) -> u64
     count_free(slots) as u64
 }
 
-/// How many digits of room the sum, the mean and the sign need.
+/// How many digits of room the sum, the mean, the sign and the float need.
 #[unsafe(no_mangle)]
 pub extern "C" fn ratio_total_digits_i64(slots: &[Slot]) -> u64
     ensures { result ≡ read_digits slots.now }

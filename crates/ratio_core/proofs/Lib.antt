@@ -4,6 +4,7 @@ pub mod Codes
 pub mod CrossOrder
 pub mod CutLemmas
 pub mod DigitGroups
+pub mod DivisorLemmas
 pub mod EqualityLaws
 pub mod FieldLemmas
 pub mod Floored
@@ -13,7 +14,9 @@ pub mod Hashing
 pub mod KeptLowest
 pub mod LawLemmas
 pub mod LeadingDigits
+pub mod LongRemainders
 pub mod LowestPowers
+pub mod ManyProductLemmas
 pub mod MixedLemmas
 pub mod MultipleLemmas
 pub mod Neighbours

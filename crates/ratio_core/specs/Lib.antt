@@ -1,7 +1,9 @@
 pub mod Cancelling
 pub mod Conditions
 pub mod ContinuedFraction
+pub mod Divisors
 pub mod Laws
+pub mod ManyProducts
 pub mod Order
 pub mod Parts
 pub mod Power

@@ -7,6 +7,7 @@
 
 pub mod checked_new;
 mod code_list;
+pub mod divisors;
 mod exponent;
 mod hash;
 pub mod order;

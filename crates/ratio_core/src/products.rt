@@ -4,6 +4,7 @@
 //! across, and a sign is moved, before anything is multiplied. The products are then the lowest terms, so
 //! only these must fit. Over `i8`, 100/3 times 3/100 is 1/1.
 pub mod lowest_products;
+pub mod many_products;
 
 ghost use Rattle.std.specs.Prelude.{◌<ℤ◌, pos};
 ghost use Rattle.ratio_integer.specs.Arithmetic.{product_of, quotient_of};

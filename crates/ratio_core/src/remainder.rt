@@ -4,6 +4,7 @@ ghost use Rattle.ratio_integer.specs.Arithmetic.{RemainderHeld, remainder_of};
 ghost use Rattle.ratio_integer.specs.Fraction.{AnswersLowest};
 ghost use Rattle.ratio_core.specs.Conditions.{IsHeldLowestOf};
 
+mod long_remainder;
 pub mod lowest_remainder;
 pub(crate) mod wide;
 

@@ -6,12 +6,12 @@
 mod difference;
 pub mod lowest_sums;
 mod mixed;
-mod multiple;
+pub(crate) mod multiple;
 mod parts;
 pub mod reducing;
 mod sum;
 
 pub use difference::{checked_sub, sub};
 pub use mixed::numerator_of;
-pub use multiple::multiple_over;
+pub use multiple::{carried_on, multiple_over, sum_over};
 pub use sum::{add, checked_add};

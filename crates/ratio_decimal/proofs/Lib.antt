@@ -9,10 +9,12 @@ pub mod HalfEvenLemmas
 pub mod LongLemmas
 pub mod PlacesLemmas
 pub mod PrecisionLemmas
+pub mod ProductLemmas
 pub mod RoundedLemmas
 pub mod RoundingRuleLaws
 pub mod RoundingRuleLemmas
 pub mod ShortDecimals
+pub mod SideLemmas
 pub mod TypedAnswers
 pub mod TypedCuts
 pub mod TypedFree

@@ -2,6 +2,8 @@ pub mod Decimal
 pub mod DecimalCuts
 pub mod DecimalReading
 pub mod Precision
+pub mod Products
 pub mod RoundingRules
+pub mod Sides
 pub mod TypedTerms
 pub mod TypedText

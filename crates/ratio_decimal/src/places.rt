@@ -32,8 +32,8 @@ pub fn decimal<T: Primitive>(numer: T, denom: T, places: u32, rule: Rounding) ->
     text
 }
 
-// The rule by which the magnitude is rounded.
-fn for_magnitude(rule: Rounding, below: bool) -> Rounding
+/// The rule by which the magnitude is rounded.
+pub(crate) fn for_magnitude(rule: Rounding, below: bool) -> Rounding
     ensures { result ≡ (if below then mirrored rule else rule) }
 {
     if !below {

@@ -1,12 +1,11 @@
 //! A fraction rounded to a multiple of `1/parts`, such as cents or quarters.
 ghost use Rattle.std.specs.Prelude.{◌≡◌, ◌↔◌, ◌<ℤ◌, ◌≤ℤ◌, ◌+ℤ◌, ◌*ℤ◌, pos, IsTrue};
-ghost use Rattle.ratio_integer.specs.Division.{IsMultiple};
 ghost use Rattle.ratio_integer.specs.Range.{IsHeld};
 ghost use Rattle.ratio_core.specs.Parts.{IsPart};
 ghost use Rattle.ratio_decimal.specs.RoundingRules.{ChecksRounded, GoesUp, IsRoundedBy};
 
 use crate::rounding_rule::Rounding;
-use ratio_core::sign::{is_above_zero, is_below_zero};
+use crate::side::{side_of, takes_next};
 use ratio_core::sums::{multiple_over, numerator_of};
 use ratio_integer::{Integer, both_held, lowest_terms};
 
@@ -66,41 +65,5 @@ fn goes_up<T: Integer>(rule: Rounding, x: (T, T), parts: T, left: T, d: T) -> bo
     requires left { IsPart (T.value left) (T.value d) }
     ensures { IsTrue result ↔ GoesUp rule (T.value x.0 *ℤ T.value parts +ℤ T.value x.1) (T.value left) (T.value d) }
 {
-    match rule {
-        Rounding::HalfAway => is_past_half(left, d) || is_half(left, d) && !is_below_zero(x.0),
-        Rounding::HalfEven => is_past_half(left, d) || is_half(left, d) && is_odd(x, parts),
-        Rounding::Down => is_below_zero(x.0) && is_above_zero(left),
-        Rounding::Up => !is_below_zero(x.0) && is_above_zero(left),
-        Rounding::Floor => false,
-        Rounding::Ceil => is_above_zero(left),
-    }
-}
-
-// Whether `left/d` is above a half.
-fn is_past_half<T: Integer>(left: T, d: T) -> bool
-    requires { IsPart (T.value left) (T.value d) }
-    ensures { IsTrue result ↔ (T.value d <ℤ (T.value left +ℤ T.value left)) }
-{
-    let _ = d.held();
-    d.minus(left) < left
-}
-
-// Whether `left/d` is a half.
-fn is_half<T: Integer>(left: T, d: T) -> bool
-    requires { IsPart (T.value left) (T.value d) }
-    ensures { IsTrue result ↔ (T.value left +ℤ T.value left ≡ T.value d) }
-{
-    let _ = d.held();
-    d.minus(left) == left
-}
-
-// Whether a multiple is an odd number of `1/parts`.
-fn is_odd<T: Integer>(x: (T, T), parts: T) -> bool
-    ensures { IsTrue result ↔ (¬ (IsMultiple (T.value x.0 *ℤ T.value parts +ℤ T.value x.1) (pos 2))) }
-{
-    if x.0.is_even() || parts.is_even() {
-        x.1.is_odd()
-    } else {
-        x.1.is_even()
-    }
+    takes_next(rule, x, parts, side_of(left, d))
 }

@@ -5,7 +5,7 @@ use Rattle.std.specs.Float.Ieee.{low, prec, round}
 use Rattle.std.proofs.Common.{refl, sym, ap, arith, ◌∙◌, subst}
 use Rattle.std.proofs.lemmas.Int.{ints}
 use Rattle.std.proofs.lemmas.Nat.{pow-add, pow_pos}
-use Rattle.std.proofs.Math.Nat.{eq_of_mul-eq-mul_right, lt_of_mul-lt-mul_right, mul-le-mul_right, mul-pos, mul_assoc, add-zero, div-add-mod'}
+use Rattle.std.proofs.Math.Nat.{eq_of_mul-eq-mul_right, lt_of_mul-lt-mul_right, mul-le-mul_right, mul-pos, mul_assoc, pow-le-pow_right, add-zero, div-add-mod'}
 use lib.Count.{count_leading_zeros, leading_top}
 use lib.Pow.{shl_exact}
 use mir.Val.{bool_byte}
@@ -66,12 +66,15 @@ module _ (n : ℕ) {f : Format} {d h place dropped kept rest half : ℕ} (D : 0 
   within false is = record { from = omega (arith, is.whole); below = is.below }
   within true is = record { from = omega (arith, is.cut); below = is.below }
 
+  pub below_half : (more : Bool) → IsCutQuotient (n * 2 ^ low f * 2 ^ dropped) (d * 2 ^ place) h more → rest < half → IsNearestBits f n d (scaled_bits f kept place)
+  below_half more is less = rounds_down fits cut D (within more is) (omega (arith, less))
+
   pub beside_half : (more : Bool) → IsCutQuotient (n * 2 ^ low f * 2 ^ dropped) (d * 2 ^ place) h more → rest ≢ half → IsNearestBits f n d (scaled_bits f (kept + bool_byte (nat_lt half rest)) place)
   beside_half more is other = by_test (nat_lt half rest) refl
     where
       by_test : (b : Bool) → nat_lt half rest ≡ b → IsNearestBits f n d (scaled_bits f (kept + bool_byte b) place)
       by_test true e = rounds_up fits cut D (within more is) (ltb-true half rest e) (half_some cut)
-      by_test false e = simp add-zero (rounds_down fits cut D (within more is) (let low_rest = ltb-false half rest e in omega (arith, other)))
+      by_test false e = simp add-zero (below_half more is (let low_rest = ltb-false half rest e in omega (arith, other)))
 
   pub tie_whole : IsCutQuotient (n * 2 ^ low f * 2 ^ dropped) (d * 2 ^ place) h false → rest ≡ half → IsNearestBits f n d (scaled_bits f (kept + kept % 2) place)
   tie_whole is tie =
@@ -88,18 +91,23 @@ module _ (n : ℕ) {f : Format} {d h place dropped kept rest half : ℕ} (D : 0 
 -- ---- how many digits are dropped
 
 -- h has 63 or 64 digits; a float near 0 keeps fewer than the format has
-pub record AreDropped (f : Format) (h left right dropped : ℕ) : Type 0 where
+pub record AreDropped (f : Format) (h up down dropped : ℕ) : Type 0 where
   pub full : 2 ^ 62 ≤ h
   pub short : h < 2 ^ 64
-  pub is : dropped ≡ max (63 + h / 2 ^ 63 - prec f) (left + 63 - (low f + right))
+  pub is : dropped ≡ max (63 + h / 2 ^ 63 - prec f) (up - (low f + down))
 
-pub place_is : (f : Format) (h left right dropped : ℕ) → AreDropped f h left right dropped → low f + right + dropped - (left + 63) + (left + 63) ≡ low f + right + dropped
-place_is f h left right dropped are = omega (arith, are.is)
+pub place_is : (f : Format) (h up down dropped : ℕ) → AreDropped f h up down dropped → low f + down + dropped - up + up ≡ low f + down + dropped
+place_is f h up down dropped are = omega (arith, are.is)
 
-pub kept_digits : (f : Format) (h left right dropped : ℕ) → AreDropped f h left right dropped → IsSignificand f (h / 2 ^ dropped) (low f + right + dropped - (left + 63))
-kept_digits f h left right dropped are =
+pub significand : (f : Format) (h up down dropped : ℕ) → AreDropped f h up down dropped → IsSignificand f (h / 2 ^ dropped) (low f + down + dropped - up)
+significand f h up down dropped are =
     let s = shape f in
     significand_of f 62 h (h / 2 ^ 63) dropped _ are.full (omega (arith, are.short)) refl (omega (arith, are.is)) (λ above. omega (arith, are.is, s.digits))
+
+pub digits_held : (f : Format) (h dropped place kept : ℕ) → IsSignificand f (h / 2 ^ dropped) place → kept ≤ h / 2 ^ dropped + 1 → kept ≤ 2 ^ 53
+digits_held f h dropped place kept fits less =
+    let s = shape f in
+    omega (arith, less, fits.fits, pow-le-pow_right {n = 2} (omega arith) {i = prec f} {j = 53} (omega (arith, s.digits)))
 
 bit_byte : (r : ℕ) → r < 2 → bool_byte (nat_eq r 1) ≡ r
 bit_byte zero less = refl

@@ -6,4 +6,5 @@ pub mod FloatQuotient
 pub mod FloatRounding
 pub mod FloatSign
 pub mod GapLemmas
+pub mod LeadingLemmas
 pub mod RationalizeLemmas

@@ -1,7 +1,8 @@
 //! The float nearest to a fraction: its leading digits, cut and rounded at the last one, and its bits.
-ghost use Rattle.std.specs.Prelude.{◌≡◌, ◌+◌, ◌*◌, ◌^◌, ◌<◌, ◌≤◌, ◌<ℤ◌, ℕ, IfSome, pos, unsigned_abs};
-ghost use Rattle.std.specs.Float.{binary32, binary64};
-ghost use Rattle.core.specs.Dec2flt.Rounding.{IsCut, IsNearestBits, scaled_bits};
+ghost use Rattle.std.specs.Prelude.{◌≡◌, ◌+◌, ◌*◌, ◌/◌, ◌^◌, ◌<◌, ◌≤◌, ◌<ℤ◌, ℕ, IfSome, pos, unsigned_abs};
+ghost use Rattle.std.specs.Float.{Format, binary32, binary64};
+ghost use Rattle.std.specs.Float.Ieee.{low};
+ghost use Rattle.core.specs.Dec2flt.Rounding.{IsCut, IsNearestBits, IsSignificand, scaled_bits};
 ghost use Rattle.ratio_float.specs.Floats.{IsCutQuotient, nearest_float};
 
 use crate::format::FloatType;
@@ -97,13 +98,26 @@ fn rounded<F: FloatType>(digits: u64, is_more: bool, n_zeros: u64, d_zeros: u64)
     let length = 63 + (digits >> 63);
     // A float near 0 has fewer digits.
     let dropped = (length - F::DIGITS).max(below.saturating_sub(above));
+    bits_of::<F>(
+        kept_digits(digits, is_more, dropped),
+        above + dropped - below,
+    )
+}
+
+/// The digits without the last `dropped` ones, rounded to the nearest number. A tie goes to the even one.
+pub(crate) fn kept_digits(digits: u64, is_more: bool, dropped: u64) -> u64
+    requires { (0 < dropped) × (dropped < 64) }
+    ensures nearest { (f : Format) (n d place : ℕ) → 0 < d → IsSignificand f (digits / 2 ^ dropped) place
+        → IsCutQuotient (n * 2 ^ low f * 2 ^ dropped) (d * 2 ^ place) digits is_more → IsNearestBits f n d (scaled_bits f result place) }
+    ensures small { result ≤ digits / 2 ^ dropped + 1 }
+{
     let (kept, rest, half) = cut(digits, dropped);
     let is_up = if rest == half {
         is_more || kept % 2 == 1
     } else {
         half < rest
     };
-    bits_of::<F>(kept + is_up as u64, above + dropped - below)
+    kept + is_up as u64
 }
 
 // The digits that are kept, those that are dropped, and half the weight of the last digit that is kept.
@@ -118,8 +132,8 @@ fn cut(digits: u64, dropped: u64) -> (u64, u64, u64)
     )
 }
 
-// The bits of so many times 2^place times the least float above 0, or those of infinity.
-fn bits_of<F: FloatType>(digits: u64, place: u64) -> u64
+/// The bits of so many times 2^place times the least float above 0, or those of infinity.
+pub(crate) fn bits_of<F: FloatType>(digits: u64, place: u64) -> u64
     requires digits { digits ≤ 2 ^ 53 }
     requires place { place < 2 ^ 11 }
     ensures { result ≡ scaled_bits F.format digits place }

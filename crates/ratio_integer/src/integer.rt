@@ -7,7 +7,7 @@ ghost use Rattle.ratio_integer.specs.Comparison.{Tells, lt_tells};
 ghost use Rattle.ratio_integer.specs.Division.{ChecksLcm, IsAboveMax, IsFloored, IsFlooredQuotient, IsFlooredRemainder, IsGcdAboveMax, IsGcdOf, IsLcmOf, IsMultiple, LcmHeld};
 ghost use Rattle.ratio_integer.specs.Fraction.{ChecksLowest};
 ghost use Rattle.ratio_integer.specs.Laws.{IsLawful};
-ghost use Rattle.ratio_integer.specs.Range.{Checks, IsHeld, IsRange};
+ghost use Rattle.ratio_integer.specs.Range.{Checks, FitsIn128, IsHeld, IsRange};
 
 use std::hash::Hash;
 
@@ -55,7 +55,8 @@ pub trait Integer: Copy + Ord + Hash {
     /// Whether `exact_sum` and `exact_diff` compute a result. If not, they always return `None`.
     const EXACT_SUMS: bool;
 
-    /// Whether the remainder of two fractions can be computed in `u128`: no number of the type is above 2^64-1.
+    /// Whether the remainder of two fractions is exact. It can be if each number of the type fits an `i128`, or
+    /// each fits a `u128`.
     const EXACT_REMAINDERS: bool;
 
     /// The sum. It requires that `try_plus` returns `Some`.
@@ -347,6 +348,6 @@ pub trait Integer: Copy + Ord + Hash {
 
     ghost hash_law: { (a : Self) → Self.hash_input a ≡ number_hash_input (value a) } = { laws.hashed };
 
-    // If remainders are exact, no number is above 2^64-1. So the product of two magnitudes fits 128 bits.
-    ghost exact_remainders_law: { OnTrue EXACT_REMAINDERS (hi ≤ℤ pos (2 ^ 64 - 1)) };
+    // If remainders are exact, each magnitude fits a `u128`.
+    ghost exact_remainders_law: { OnTrue EXACT_REMAINDERS (FitsIn128 lo hi) };
 }

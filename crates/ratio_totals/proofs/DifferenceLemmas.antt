@@ -93,7 +93,7 @@ if_twice : (t a b : Bool) → (if (if t then true else a) then true else b) ≡ 
 if_twice true a b = refl
 if_twice false a b = refl
 
-both_hold : (e : ℕ) (left right : List Slot) → holds e (left ++ right) ≡ one_holds e left right
+pub both_hold : (e : ℕ) (left right : List Slot) → holds e (left ++ right) ≡ one_holds e left right
 both_hold e [] right = refl
 both_hold e (slot ∷ rest) right =
     ap (λ (b : Bool). if slot.denom == e then true else b) (both_hold e rest right) ∙ sym (if_twice (slot.denom == e) (holds e rest) (holds e right))
@@ -112,7 +112,7 @@ difference_cmp x y = sym (int_cmp_is (x +ℤ neg_ℤ y) (pos 0) (int_cmp x y) (m
 abbrev less : ℤ × ℕ → ℤ × ℕ → ℤ × ℕ
 less p q = pair_sum p (neg_ℤ q.0, q.1)
 
-sign_of_less : (p q d : ℤ × ℕ) → 0 < p.1 → 0 < q.1 → 0 < d.1 → SameSum (less p q) d → int_cmp d.0 (pos 0) ≡ pair_cmp p q
+pub sign_of_less : (p q d : ℤ × ℕ) → 0 < p.1 → 0 < q.1 → 0 < d.1 → SameSum (less p q) d → int_cmp d.0 (pos 0) ≡ pair_cmp p q
 sign_of_less p q d p_some q_some d_some same =
     sym (same_sign (less p q).0 d.0 (p.1 * q.1) d.1 (product_positive p.1 q.1 p_some q_some) d_some same)
     ∙ ap (λ (z : ℤ). int_cmp (p.0 *ℤ pos q.1 +ℤ z) (pos 0)) (neg-mul q.0 (pos p.1))

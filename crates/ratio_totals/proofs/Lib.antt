@@ -1,4 +1,5 @@
 pub mod DecimalLemmas
+pub mod FloatLemmas
 pub mod Places
 pub mod SumLemmas
 pub mod KeptLemmas
@@ -19,3 +20,8 @@ pub mod SumsAgree
 pub mod SignLemmas
 pub mod TurnLemmas
 pub mod DifferenceLemmas
+pub mod MultipleLemmas
+pub mod OrderLemmas
+pub mod BoundLemmas
+pub mod CutLemmas
+pub mod BoundedLemmas

@@ -44,7 +44,7 @@ three_equal : (p q r x y z : ℤ) → p ≡ x → q ≡ y → r ≡ z → (p +�
 three_equal p q r x y z e f g = omega (arith, ints, e, f, g)
 
 -- (a/b + n/d) + t/u is a/b + (n/d + t/u), also as a pair
-added_assoc : (a n t : ℤ) (b d u : ℕ) → pair_sum (pair_sum (a, b) (n, d)) (t, u) ≡ pair_sum (a, b) (pair_sum (n, d) (t, u))
+pub added_assoc : (a n t : ℤ) (b d u : ℕ) → pair_sum (pair_sum (a, b) (n, d)) (t, u) ≡ pair_sum (a, b) (pair_sum (n, d) (t, u))
 added_assoc a n t b d u =
     let l : (a *ℤ pos d +ℤ n *ℤ pos b) *ℤ pos u ≡ a *ℤ pos (d * u) +ℤ n *ℤ pos (b * u) = sum_scaled a n d b u in
     let r : (n *ℤ pos u +ℤ t *ℤ pos d) *ℤ pos b ≡ n *ℤ pos (u * b) +ℤ t *ℤ pos (d * b) = sum_scaled n t u d b in

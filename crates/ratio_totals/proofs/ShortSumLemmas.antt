@@ -5,7 +5,7 @@ use Rattle.std.proofs.lemmas.Int.{ints}
 use Rattle.std.proofs.lemmas.List.{drop_all}
 use Rattle.ratio_integer.specs.Fraction.{IsLowestTermsOf}
 use Rattle.ratio_natural.specs.Number.{base}
-use Rattle.ratio_totals.proofs.CommonLemmas.{IsCommonSoFar, common_begins, common_ends, common_grows, common_skips}
+use Rattle.ratio_totals.proofs.CommonLemmas.{IsCommonSoFar, common_begins, common_ends, common_grows, common_skips, parts_alike}
 use Rattle.ratio_totals.proofs.CountLemmas.{rest_at}
 use Rattle.ratio_totals.proofs.JoinLemmas.{and_none, none_and, parts_step}
 use Rattle.ratio_totals.proofs.LowestSumLemmas.{above_zero_mean, above_zero_positive, divided_same, product_positive, short_moved}
@@ -47,7 +47,7 @@ step_sum a n new c d next adds =
     subst (λ (x : ℤ). SameSum (pair_sum (a, c) (n, d)) (x, next)) (sym adds.numer_is)
     (subst (λ (x : ℕ). SameSum (pair_sum (a, c) (n, d)) (a *ℤ pos adds.more +ℤ n *ℤ pos adds.share, x)) (sym adds.denom_is) (parts_step a n c d adds.share adds.more adds.parts))
 
-short_steps : (slots : List Slot) (slot : Slot) (rest : List Slot) (n new : ℤ) (d next : ℕ) → slot.denom ≢ 0 → AddsShort n d slot.numer slot.denom new next
+pub short_steps : (slots : List Slot) (slot : Slot) (rest : List Slot) (n new : ℤ) (d next : ℕ) → slot.denom ≢ 0 → AddsShort n d slot.numer slot.denom new next
     → IsShortSoFar slots (slot ∷ rest) n d → IsShortSoFar slots rest new next
 short_steps slots slot rest n new d next taken adds before =
     let h : SameSum (pair_sum (n, d) (pair_sum (slot.numer, slot.denom) (sum_of_slots rest))) (sum_of_slots slots) =
@@ -85,6 +85,17 @@ short_ends slots i n d all before =
 
 pub added_is : (sum numer scale old part new : ℤ) (more share : ℕ) → old ≡ sum *ℤ pos more → scale ≡ pos share → part ≡ numer *ℤ scale → new ≡ old +ℤ part → new ≡ sum *ℤ pos more +ℤ numer *ℤ pos share
 added_is sum numer scale old part new more share e f g h = h ∙ (ap (λ (x : ℤ). x +ℤ part) e ∙ ap (λ (x : ℤ). sum *ℤ pos more +ℤ x) (g ∙ ap (λ (x : ℤ). numer *ℤ x) f))
+
+-- the denominator is the common one already
+pub added_over : (sum numer new : ℤ) (common denom : ℕ) → common ≡ denom → denom < base → new ≡ sum +ℤ numer → AddsShort sum common numer denom new common
+added_over sum numer new common denom same short new_is = record {
+  share = 1;
+  more = 1;
+  parts = parts_alike common denom same;
+  numer_is = omega (arith, ints, new_is);
+  denom_is = omega arith;
+  below = omega (arith, same, short);
+}
 
 -- ---- the lowest terms
 

@@ -26,7 +26,7 @@ turned_size true n = unsigned_abs-neg n
 
 -- ---- what stays as it is
 
-negated_length : (slots : List Slot) → length (negated slots) ≡ length slots
+pub negated_length : (slots : List Slot) → length (negated slots) ≡ length slots
 negated_length [] = refl
 negated_length (slot ∷ rest) = ap suc (negated_length rest)
 
@@ -34,7 +34,7 @@ pub turned_length : (out : Bool) (slots : List Slot) → length (turned_slots ou
 turned_length false slots = refl
 turned_length true slots = negated_length slots
 
-negated_denom : (slots : List Slot) (k : ℕ) → (slot_at (negated slots) k).denom ≡ (slot_at slots k).denom
+pub negated_denom : (slots : List Slot) (k : ℕ) → (slot_at (negated slots) k).denom ≡ (slot_at slots k).denom
 negated_denom [] k = refl
 negated_denom (slot ∷ rest) zero = refl
 negated_denom (slot ∷ rest) (suc k) = negated_denom rest k
@@ -52,7 +52,7 @@ turned_new : (out : Bool) (slots other : List Slot) → new_of slots (turned_slo
 turned_new false slots other = refl
 turned_new true slots other = negated_new slots other
 
-negated_holds : (e : ℕ) (slots : List Slot) → holds e (negated slots) ≡ holds e slots
+pub negated_holds : (e : ℕ) (slots : List Slot) → holds e (negated slots) ≡ holds e slots
 negated_holds e [] = refl
 negated_holds e (slot ∷ rest) = ap (λ (b : Bool). if slot.denom == e then true else b) (negated_holds e rest)
 
@@ -62,7 +62,7 @@ turned_holds true e slots = negated_holds e slots
 
 -- ---- what turns
 
-negated_numer : (slots : List Slot) (k : ℕ) → (slot_at (negated slots) k).numer ≡ neg_ℤ (slot_at slots k).numer
+pub negated_numer : (slots : List Slot) (k : ℕ) → (slot_at (negated slots) k).numer ≡ neg_ℤ (slot_at slots k).numer
 negated_numer [] k = refl
 negated_numer (slot ∷ rest) zero = refl
 negated_numer (slot ∷ rest) (suc k) = negated_numer rest k

@@ -13,3 +13,6 @@ pub mod SumOrder
 pub mod Turning
 pub mod ShortSum
 pub mod Integers
+pub mod Multiples
+pub mod AnyOrder
+pub mod Bounds

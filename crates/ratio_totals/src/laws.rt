@@ -1,4 +1,5 @@
 //! The laws of totals. Each function does nothing: its contract is the law.
+ghost use Rattle.ratio_totals.specs.Bounds.{BoundsAreNear, BoundsDecide, BoundsHold};
 ghost use Rattle.ratio_totals.specs.Common.{CommonExists, CommonsAgree, ReadsAgree};
 ghost use Rattle.ratio_totals.specs.LowestSum.{MeanResultsAgree, SumResultsAgree, SumsAgree};
 ghost use Rattle.ratio_totals.specs.TotalLaws.{AdditionsCommute, DenominatorsDiffer, MergesAddEach, MergesUndone, NegatedNumerators, NegatedSums, TableMergesAssociate, TableMergesCommute, TakingOutUndoes};
@@ -41,4 +42,12 @@ pub fn sums()
     ensures value { SumsAgree }
     ensures one_result { SumResultsAgree }
     ensures one_mean { MeanResultsAgree }
+{}
+
+/// Where each quotient is cut to a whole number of parts of 1, the sum lies between the bounds. These are as far apart as
+/// numbers were cut. If a rule rounds both to the same number, the decimal of the sum is that number.
+pub fn bounds()
+    ensures hold { BoundsHold }
+    ensures near { BoundsAreNear }
+    ensures decide { BoundsDecide }
 {}

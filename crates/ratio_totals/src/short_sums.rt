@@ -1,5 +1,5 @@
 //! The sum of a table in machine numbers, where 128 bits are enough on the way. Most totals have such a sum.
-ghost use Rattle.std.specs.Prelude.{◌≡◌, ◌+◌, ◌*◌, ◌<◌, ◌^◌, IfSome};
+ghost use Rattle.std.specs.Prelude.{◌≡◌, ◌+◌, ◌*◌, ◌<◌, ◌^◌, ◌*ℤ◌, pos, IfSome};
 ghost use Rattle.ratio_totals.specs.Common.{AreParts};
 ghost use Rattle.ratio_totals.specs.LowestSum.{ChecksShortPair};
 ghost use Rattle.ratio_totals.specs.ShortSum.{AddsShort, IsShortMean, IsShortSum};
@@ -43,7 +43,7 @@ pub(crate) fn short_mean(slots: &[Slot], count: i64) -> Option<(i128, u128)>
 }
 
 /// The lowest terms of a fraction, the numerator with its sign. It is `None` exactly if one is 2^64 or more, without its sign.
-pub(crate) fn short_pair(numer: i128, denom: u128) -> Option<(i128, u64)>
+pub fn short_pair(numer: i128, denom: u128) -> Option<(i128, u64)>
     requires some { 0 < denom }
     requires below { denom < 2 ^ 127 }
     ensures { ChecksShortPair (numer, denom) result }
@@ -55,19 +55,34 @@ pub(crate) fn short_pair(numer: i128, denom: u128) -> Option<(i128, u64)>
     Some((p, q as u64))
 }
 
-// Adds a fraction to another one. The new denominator is the least common multiple of both.
-fn add_short(sum: i128, common: u128, numer: i128, denom: u64) -> Option<(i128, u128)>
+/// Adds a fraction to another one. The new denominator is the least common multiple of both: 1/36 plus 1/28 is 16/252. It is
+/// `None` if a number on the way needs more than 128 bits, or if the new denominator is 2^127 or more.
+pub fn add_short(sum: i128, common: u128, numer: i128, denom: u64) -> Option<(i128, u128)>
     requires { 0 < denom }
     ensures { IfSome result (λ new. AddsShort sum common numer denom new.0 new.1) }
 {
+    if common == denom as u128 {
+        return Some((sum.try_plus(numer)?, common));
+    }
     let (share, more) = parts_of(common, denom);
-    let old = sum.try_times(more as i128)?;
+    let old = scaled(sum, more)?;
     let part = numer.try_times(i128::from_u128(share)?)?;
     let next = common.checked_mul(more as u128)?;
     if next >= 1 << 127 {
         return None;
     }
     Some((old.try_plus(part)?, next))
+}
+
+// The product with a number that is often 1. It is `None` if it needs more than 128 bits.
+fn scaled(sum: i128, more: u64) -> Option<i128>
+    ensures { IfSome result (λ product. product ≡ sum *ℤ pos more) }
+{
+    if more == 1 {
+        Some(sum)
+    } else {
+        sum.try_times(more as i128)
+    }
 }
 
 // Both numbers, divided by their gcd.

@@ -9,7 +9,8 @@ use Rattle.std.proofs.lemmas.List.Sorted.{IsPermutation-keeps}
 use lib.IntN.{*ℤ_comm}
 use Rattle.ratio_integer.proofs.LowestTerms.{lowest_unique}
 use Rattle.ratio_integer.proofs.Whole.{mul_assoc}
-use Rattle.ratio_uses.specs.Units.{OrderIsFree, product_by}
+use Rattle.ratio_core.specs.ManyProducts.{product_by}
+use Rattle.ratio_uses.specs.Units.{OrderIsFree}
 
 module _ {A : Type 0} (f : A → ℤ) where
   turned : (a b c : ℤ) → a *ℤ (b *ℤ c) ≡ b *ℤ (a *ℤ c)

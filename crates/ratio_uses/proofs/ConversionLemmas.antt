@@ -7,7 +7,8 @@ use Rattle.ratio_integer.specs.Arithmetic.{product_of}
 use Rattle.ratio_integer.specs.Fraction.{ChecksLowest, Fits, IsHeldLowest, IsLowestTermsOf}
 use Rattle.ratio_integer.proofs.LowestTerms.{checks_lowest_moved, same_value_products}
 use Rattle.ratio_integer.proofs.Whole.{mul_assoc, mul_nonzero, positive_nonzero}
-use Rattle.ratio_uses.specs.Units.{converted, product_by}
+use Rattle.ratio_core.specs.ManyProducts.{product_by}
+use Rattle.ratio_uses.specs.Units.{converted}
 
 module _ {A : Type 0} (f : A → ℤ) where
   product-more : (xs : List A) (x : A) → product_by f (xs ++ x ∷ []) ≡ product_by f xs *ℤ f x

@@ -1,14 +1,9 @@
 -- Amounts converted by a chain of rates, and intervals brought into one octave.
-use Rattle.std.specs.Prelude.{◌≡◌, ◌⊎◌, ◌+◌, ◌<◌, ◌^◌, ◌≤ℤ◌, ◌<ℤ◌, ◌*ℤ◌, ℕ, ℤ, pos, List, [], ◌∷◌, length, take, Option, Some, None, IsPermutation}
+use Rattle.std.specs.Prelude.{◌≡◌, ◌⊎◌, ◌+◌, ◌<◌, ◌^◌, ◌≤ℤ◌, ◌<ℤ◌, ◌*ℤ◌, ℕ, ℤ, pos, List, length, take, Option, Some, None, IsPermutation}
 use Rattle.ratio_integer.specs.Fraction.{IsLowestTermsOf, SameValue}
+use Rattle.ratio_core.specs.ManyProducts.{product_by}
 use Rattle.num_rational.specs.declared.reduced.Reduced.{Reduced}
 use Rattle.ratio_uses.specs.Held.{FitsIn64, HasValue, lowest_numbers}
-
--- the product of one whole number of each item, such as its numerator
--- Example: 2, 3, 4: 24
-abbrev pub product_by : {A : Type 0} → (A → ℤ) → List A → ℤ
-product_by f [] = pos 1
-product_by f (x ∷ xs) = f x *ℤ product_by f xs
 
 -- an amount times all rates: the product of the numerators over the product of the denominators
 abbrev pub converted : {A : Type 0} → (A → ℤ × ℤ) → ℤ × ℤ → List A → ℤ × ℤ

@@ -1,13 +1,23 @@
-//! Tests of natural numbers of any length, of fractions of them, and of totals: rows from outside, and each call once.
+//! Tests of totals: rows from outside, and each call once.
 #![tactic(auto)]
 
 #[cfg(test)]
+mod bounded_decimals;
+#[cfg(test)]
+mod dots;
+#[cfg(test)]
+mod floats;
+#[cfg(test)]
 mod fractions;
 #[cfg(test)]
-mod long_fractions;
+mod in_memory;
+#[cfg(test)]
+mod list_sums;
 #[cfg(test)]
 mod loose;
 #[cfg(test)]
-mod naturals;
+mod multiples;
+#[cfg(test)]
+mod reads;
 #[cfg(test)]
 mod totals;

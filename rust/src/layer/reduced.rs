@@ -6,6 +6,7 @@
 use super::continued::{Convergents, Quotients, in_proved};
 use super::floats::Float;
 use super::integer::{Element, Integer, Signs};
+use super::list_sums;
 use super::ratio::Ratio;
 use super::simplest::bound_with;
 use crate::proved::num_rational as proved;
@@ -456,33 +457,50 @@ checked_calls! {
         "assert_eq!(half.checked_mul(-128), Some((-64).into()));";
     checked_div: "The quotient, or `None` if the divisor is 0 or the lowest terms do not fit the type.",
         "assert_eq!(half.checked_div(&half), Some(1.into()));";
-    checked_rem: "The remainder of the quotient that is cut to a whole number. `None` if the divisor is 0 or the lowest terms do not fit the type. Over `i128` and `u128` it is also `None` if a number on the way does not fit.",
+    checked_rem: "The remainder of the quotient that is cut to a whole number. `None` if the divisor is 0 or the lowest terms do not fit the type.",
         "assert_eq!(half.checked_rem(1), Some(half));";
+    checked_gcd: "The greatest fraction that divides both: 1/12 for 1/4 and 1/6, since 1/4 is 3/12 and 1/6 is 2/12. It is never negative, and for a fraction and 0 it is the fraction's absolute value. `None` if its lowest terms do not fit the type.",
+        "assert_eq!(half.checked_gcd(3), Some(half));";
+    checked_lcm: "The least fraction above 0 that both divide: 1/2 for 1/4 and 1/6. So what recurs every 1/4 and what recurs every 1/6 meet every 1/2. It is never negative, and it is 0 if either fraction is 0. `None` if its lowest terms do not fit the type.",
+        "assert_eq!(half.checked_lcm(3), Some(3.into()));";
 }
 
 impl<T: Integer> Reduced<T> {
-    /// The sum of the items, or `None` if a step returns `None`.
+    /// The product, rounded by the rule to a whole number, or `None` if that number does not fit the type. The product itself need
+    /// not fit. A number may be the right operand, too.
     ///
     /// ```
-    /// use bakhsney::Reduced64;
+    /// use bakhsney::{Reduced64, Rounding};
+    ///
+    /// let third = Reduced64::checked_new(i64::MAX, 3).unwrap();
+    /// let share = Reduced64::checked_new(2, 5).unwrap();
+    /// assert_eq!(third.checked_mul_round(share, Rounding::HalfEven), Some(1229782938247303441));
+    /// assert_eq!(third.checked_mul_round(6, Rounding::HalfEven), None);
+    /// ```
+    #[inline]
+    pub fn checked_mul_round<O: Into<Reduced<T>>>(&self, other: O, rule: Rounding) -> Option<T> {
+        self.fraction.checked_mul_round(other.into().fraction, rule).map(T::from_proved)
+    }
+
+    /// The sum of the items, or `None` if its lowest terms do not fit the type. A partial sum may fit no type: over `i8`,
+    /// 127/1 + 1/127 - 1/127 is 127/1.
+    ///
+    /// There are three cases in which the call may be `None` though the sum fits. In each of them, some partial sum does not fit:
+    ///
+    /// - over `i128` and `u128`, if a partial sum does not fit;
+    /// - without the feature `alloc`, if a partial sum does not fit. It need not be `None` there: most short lists need no memory;
+    /// - if the least common multiple of the denominators is not below 2^(2^20). With at most 16,384 different denominators it always is.
+    ///
+    /// ```
+    /// use bakhsney::{Reduced, Reduced64};
     ///
     /// assert_eq!(Reduced64::checked_sum([1, 2, 3]), Some(6.into()));
+    /// let steps = [(127, 1), (1, 127), (-1, 127)].map(|(n, d)| Reduced::<i8>::checked_new(n, d).unwrap());
+    /// assert_eq!(Reduced::checked_sum(steps), Some(127.into()));
     /// ```
     #[inline]
     pub fn checked_sum<O: Into<Reduced<T>>, I: IntoIterator<Item = O>>(items: I) -> Option<Reduced<T>> {
-        items.into_iter().try_fold(Reduced::ZERO, |total, item| total.checked_add(item))
-    }
-
-    /// The product of the items, or `None` if a step returns `None`.
-    ///
-    /// ```
-    /// use bakhsney::Reduced64;
-    ///
-    /// assert_eq!(Reduced64::checked_product([2, 3, 4]), Some(24.into()));
-    /// ```
-    #[inline]
-    pub fn checked_product<O: Into<Reduced<T>>, I: IntoIterator<Item = O>>(items: I) -> Option<Reduced<T>> {
-        items.into_iter().try_fold(Reduced::ONE, |total, item| total.checked_mul(item))
+        list_sums::checked_sum(items.into_iter().map(Into::into))
     }
 
     /// The reciprocal, or `None` if the fraction is 0 or the reciprocal does not fit the type.

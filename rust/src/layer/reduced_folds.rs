@@ -1,4 +1,4 @@
-//! Sums and products of `Reduced`s by `sum` and `product`. The result is an `Option`: `None` if a step has no result.
+//! Sums and products of `Reduced`s by `sum` and `product`. The result is an `Option`: what `checked_sum` and `checked_product` return.
 use super::integer::Integer;
 use super::reduced::Reduced;
 use core::iter::{Product, Sum};

@@ -6,10 +6,11 @@ use super::integer::UpTo64;
 use super::reduced::Reduced;
 use crate::proved::ratio_decimal::rounding_rule::Rounding;
 use crate::proved::ratio_totals as proved;
-use crate::proved::ratio_totals::{ReadRefusal, Refusal, Slot, Tally};
+use crate::proved::ratio_totals::{OrderRefusal, ReadRefusal, Refusal, Slot, Tally};
 use alloc::string::String;
 use alloc::vec;
 use alloc::vec::Vec;
+use core::cmp::Ordering;
 use core::fmt;
 use core::iter::Sum;
 use core::marker::PhantomData;
@@ -19,8 +20,9 @@ use core::ops::{AddAssign, SubAssign};
 /// integer type. The fractions are over an integer type of at most 64 bits. num-rational has no such type.
 ///
 /// A total has one slot for each denominator that it was given, and takes more memory by itself. `add` takes a few nanoseconds,
-/// and computes no greatest common divisor. `sum`, `mean` and `decimal` take longer: their time grows with the square of the
-/// number of denominators. Someone who chooses the denominators can make additions slow, but not wrong.
+/// and computes no greatest common divisor. Reads take longer. The time of `sum`, `mean` and `to_f64` grows with the square of the number of
+/// denominators, and that of `decimal` with the number, except beside a tie. Someone who chooses the denominators can make
+/// additions slow, but not wrong.
 ///
 /// ```
 /// use bakhsney::{Reduced, Rounding, Total};
@@ -62,7 +64,8 @@ pub struct Total<T> {
     of: PhantomData<fn() -> T>,
 }
 
-/// The error of `sum`, `mean` and `decimal` of a `Total`: the least common multiple of the denominators is not below 2^(2^20).
+/// The error of the reads of a `Total`, such as `sum`: the least common multiple of the denominators is not below 2^(2^20).
+/// Even then `decimal` mostly has a result.
 ///
 /// ```
 /// use bakhsney::{Reduced, TooLong, Total};
@@ -147,6 +150,44 @@ impl<T> Total<T> {
         self.empty += slots.len() - self.slots.len();
         self.slots = slots;
     }
+
+    /// Adds the fraction `numer/denom`. The denominator is above 0, and the numerator below 2^64 without its sign.
+    #[inline]
+    #[track_caller]
+    pub(super) fn add_numbers(&mut self, numer: i128, denom: u64) {
+        self.put(numer, denom, |total, numer, denom| total.add(numer, denom));
+    }
+
+    /// The sum in lowest terms, or `None` if one of them is 2^64 or more, the numerator without its sign.
+    pub(super) fn sum_numbers(&self) -> Result<Option<(i128, u64)>, TooLong> {
+        self.read_numbers(proved::sum_of)
+    }
+
+    /// Takes one step of the proved total, and more slots where it needs them.
+    #[inline]
+    #[track_caller]
+    fn put(&mut self, numer: i128, denom: u64, step: impl Fn(&mut proved::Total<'_>, i128, u64) -> Result<(), Refusal>) {
+        if self.tally.weight >= self.next_count {
+            self.count_empty();
+        }
+        loop {
+            let mut total = self.proved();
+            match step(&mut total, numer, denom) {
+                Ok(()) => {
+                    self.tally = total.tally;
+                    return;
+                }
+                Err(Refusal::MoreRoom) => self.count_empty(), // none is empty
+                Err(Refusal::TooMany) => refuse_more(),
+            }
+        }
+    }
+
+    /// Calls `read` with room for its digits.
+    fn read_numbers(&self, read: impl FnOnce(&[Slot], &mut [u64]) -> Result<Option<(i128, u64)>, ReadRefusal>) -> Result<Option<(i128, u64)>, TooLong> {
+        let mut room = vec![0; proved::digits_of_read(&self.slots)];
+        read(&self.slots, &mut room).map_err(refused)
+    }
 }
 
 impl<T: UpTo64> Total<T> {
@@ -167,7 +208,8 @@ impl<T: UpTo64> Total<T> {
     #[inline]
     #[track_caller]
     pub fn add(&mut self, fraction: Reduced<T>) {
-        self.put(fraction, |total, numer, denom| total.add(numer, denom));
+        let (numer, denom) = fields(fraction);
+        self.add_numbers(numer, denom);
     }
 
     /// Takes the fraction out again, whether it was added or not. `-=` does the same.
@@ -187,7 +229,56 @@ impl<T: UpTo64> Total<T> {
     #[inline]
     #[track_caller]
     pub fn subtract(&mut self, fraction: Reduced<T>) {
-        self.put(fraction, |total, numer, denom| total.subtract(numer, denom));
+        let (numer, denom) = fields(fraction);
+        self.put(numer, denom, |total, numer, denom| total.subtract(numer, denom));
+    }
+
+    /// Adds the product of two fractions, which need not fit the type. It is `None`, and nothing has changed, if one of the product's
+    /// lowest terms is 2^64 or more, the numerator without its sign. Over a type of at most 32 bits, no product is so great. It is also
+    /// `None` where `add` panics: if the total has had 2^63-1 additions.
+    ///
+    /// ```
+    /// use bakhsney::{Reduced, Total};
+    ///
+    /// let mut total = Total::new();
+    /// assert_eq!(total.add_product(100i8.into(), 100.into()), Some(()));
+    /// assert_eq!(total.add_product((-100).into(), 99.into()), Some(()));
+    /// assert_eq!(total.sum(), Ok(Some(100.into())));
+    /// ```
+    pub fn add_product(&mut self, left: Reduced<T>, right: Reduced<T>) -> Option<()> {
+        if self.tally.weight == proved::MOST_WEIGHT {
+            return None;
+        }
+        // If the lowest terms do not fit `i128`, one of them is 2^64 or more.
+        let (numer, denom) = wide(left).checked_mul(wide(right))?.into_raw();
+        if numer.unsigned_abs() > u64::MAX.into() {
+            return None;
+        }
+        let denom = u64::try_from(denom).ok()?;
+        self.add_numbers(numer, denom);
+        Some(())
+    }
+
+    /// The total of the products of two lists, item by item. It is `None` if the lists have different lengths, or if `add_product`
+    /// refuses a product.
+    ///
+    /// ```
+    /// use bakhsney::{Reduced64, Total};
+    ///
+    /// let shares = [(1, 2), (1, 3), (1, 6)].map(|(numer, denom)| Reduced64::checked_new(numer, denom).unwrap());
+    /// let prices = [30, 45, 48].map(Reduced64::from);
+    /// assert_eq!(Total::dot(&shares, &prices).unwrap().sum(), Ok(Some(38.into())));
+    /// assert!(Total::dot(&shares, &prices[1..]).is_none());
+    /// ```
+    pub fn dot(left: &[Reduced<T>], right: &[Reduced<T>]) -> Option<Total<T>> {
+        if left.len() != right.len() {
+            return None;
+        }
+        let mut total = Total::new();
+        for (x, y) in left.iter().zip(right) {
+            total.add_product(*x, *y)?;
+        }
+        Some(total)
     }
 
     /// Adds each fraction of the other total. `+=` does the same. The order of merges changes nothing.
@@ -205,11 +296,36 @@ impl<T: UpTo64> Total<T> {
     /// ```
     #[track_caller]
     pub fn merge(&mut self, other: &Total<T>) {
-        // The proved merge takes another `Total`, which borrows its slots as its own.
+        self.pour(other, |total, other| total.merge(other));
+    }
+
+    /// Takes out each fraction of the other total, whether it was added or not. `-=` does the same. So the difference of two totals
+    /// is exact.
+    ///
+    /// # Panics
+    ///
+    /// If both totals together have had more than 2^63-1 additions, as `merge` does. Taking out counts as an addition, too.
+    ///
+    /// ```
+    /// use bakhsney::{Reduced, Total};
+    ///
+    /// let [mut left, right] = [36, 28].map(|denom| Reduced::checked_new(1i8, denom).into_iter().collect::<Total<i8>>());
+    /// left.take_out(&right);
+    /// assert_eq!((left.sum(), left.count()), (Ok(Reduced::checked_new(-1, 126)), 0));
+    /// ```
+    #[track_caller]
+    pub fn take_out(&mut self, other: &Total<T>) {
+        self.pour(other, |total, other| total.take_out(other));
+    }
+
+    /// Takes one step of the proved total with all of another one, and more slots where it needs them.
+    #[track_caller]
+    fn pour(&mut self, other: &Total<T>, step: impl Fn(&mut proved::Total<'_>, &proved::Total<'_>) -> Result<(), Refusal>) {
+        // The proved step takes another `Total`, which borrows its slots as its own.
         let mut other = other.clone();
         loop {
             let mut total = self.proved();
-            match total.merge(&other.proved()) {
+            match step(&mut total, &other.proved()) {
                 Ok(()) => {
                     self.tally = total.tally;
                     break;
@@ -261,12 +377,34 @@ impl<T: UpTo64> Total<T> {
         self.read(|slots, room| proved::mean_of(slots, self.tally.count, room))
     }
 
-    /// The sum as a decimal with so many places, rounded once by the rule, whether it fits the type or not. There are always as
-    /// many digits behind the point, and without places no point. A sum that is rounded to 0 has no minus.
+    /// The float nearest to the sum, rounded once, whether the sum fits the type or not. If two are equally near, it is the one
+    /// whose last bit is 0.
     ///
     /// # Errors
     ///
     /// `TooLong` where `sum` returns it.
+    ///
+    /// ```
+    /// use bakhsney::{Reduced64, Total};
+    ///
+    /// let total: Total<i64> = (1..=1000).map(|denom| Reduced64::checked_new(1, denom).unwrap()).sum();
+    /// assert_eq!(total.sum(), Ok(None));
+    /// assert_eq!(total.to_f64(), Ok(7.485470860550345));
+    /// ```
+    pub fn to_f64(&self) -> Result<f64, TooLong> {
+        let mut room = vec![0; proved::digits_of_read(&self.slots)];
+        proved::float_of(&self.slots, &mut room).map_err(refused)
+    }
+
+    /// The sum as a decimal with so many places, rounded once by the rule, whether it fits the type or not. There are always as
+    /// many digits behind the point, and without places no point. A sum that is rounded to 0 has no minus.
+    ///
+    /// Over many denominators, this takes one pass over them. It takes as long as `sum` only if the sum is a number where the
+    /// rule's result changes, such as a tie, or lies within 1/2^64 of the last place of one.
+    ///
+    /// # Errors
+    ///
+    /// `TooLong` where `sum` returns it, but only beside such a number, or with more than 150,000 places.
     ///
     /// # Panics
     ///
@@ -290,32 +428,129 @@ impl<T: UpTo64> Total<T> {
         Ok(String::from_utf8(text).expect("a decimal is ASCII"))
     }
 
-    /// Calls `read` with room for its digits. The numbers that it returns become a fraction, if they fit the type.
-    fn read(&self, read: impl FnOnce(&[Slot], &mut [u64]) -> Result<Option<(i128, u64)>, ReadRefusal>) -> Result<Option<Reduced<T>>, TooLong> {
+    /// The order of the sum and 0, whether the sum fits the type or not.
+    ///
+    /// # Errors
+    ///
+    /// `TooLong` where `sum` returns it.
+    ///
+    /// ```
+    /// use bakhsney::{Reduced, Total};
+    /// use std::cmp::Ordering;
+    ///
+    /// let mut total: Total<i8> = [100, 100].map(Reduced::from).iter().sum();
+    /// assert_eq!((total.sum(), total.sign()), (Ok(None), Ok(Ordering::Greater)));
+    /// total.subtract(Reduced::from(100));
+    /// total.subtract(Reduced::from(100));
+    /// assert_eq!(total.sign(), Ok(Ordering::Equal));
+    /// ```
+    pub fn sign(&self) -> Result<Ordering, TooLong> {
         let mut room = vec![0; proved::digits_of_read(&self.slots)];
-        let lowest = read(&self.slots, &mut room).map_err(refused)?;
-        Ok(lowest.and_then(|(numer, denom)| Reduced::checked_new(T::from(numer)?, T::from(denom)?)))
+        proved::sign_of(&self.slots, &mut room).map_err(refused)
     }
 
-    /// Takes one step of the proved total, and more slots where it needs them.
-    #[inline]
-    #[track_caller]
-    fn put(&mut self, fraction: Reduced<T>, step: impl Fn(&mut proved::Total<'_>, i128, u64) -> Result<(), Refusal>) {
+    /// The order of this sum and another one, whether they fit the type or not.
+    ///
+    /// # Errors
+    ///
+    /// `TooLong` if the least common multiple of the denominators of both totals is not below 2^(2^20). So a `Total` is not
+    /// `PartialOrd`.
+    ///
+    /// ```
+    /// use bakhsney::{Reduced, Total};
+    /// use std::cmp::Ordering;
+    ///
+    /// let thirds: Total<i8> = [100, 100, 100].map(|n| Reduced::checked_new(n, 3).unwrap()).iter().sum();
+    /// let mut whole: Total<i8> = [Reduced::from(100)].iter().sum();
+    /// assert_eq!(thirds.compare(&whole), Ok(Ordering::Equal));
+    /// whole.add(Reduced::checked_new(1, 127).unwrap());
+    /// assert_eq!(thirds.compare(&whole), Ok(Ordering::Less));
+    /// ```
+    pub fn compare(&self, other: &Total<T>) -> Result<Ordering, TooLong> {
+        self.against(&other.slots)
+    }
+
+    /// The order of this sum and a fraction, as of what was spent and a budget.
+    ///
+    /// # Errors
+    ///
+    /// `TooLong` where `compare` with the total of this one fraction returns it.
+    ///
+    /// ```
+    /// use bakhsney::{Reduced64, Total};
+    ///
+    /// let spent: Total<i64> = [1999, 2450, 551].map(|cents| Reduced64::checked_new(cents, 100).unwrap()).iter().sum();
+    /// assert!(spent.compare_with(50.into())?.is_le());
+    /// assert!(spent.compare_with(49.into())?.is_gt());
+    /// # Ok::<(), bakhsney::TooLong>(())
+    /// ```
+    pub fn compare_with(&self, fraction: Reduced<T>) -> Result<Ordering, TooLong> {
         let (numer, denom) = fields(fraction);
-        if self.tally.weight >= self.next_count {
-            self.count_empty();
+        self.against(&[Slot::new(denom, numer)])
+    }
+
+    /// The order of this sum and that of the slots.
+    fn against(&self, others: &[Slot]) -> Result<Ordering, TooLong> {
+        let mut difference = vec![Slot::EMPTY; self.slots.len() + others.len()];
+        let mut room = vec![0; proved::digits_of_order(&self.slots, others)];
+        match proved::order_of(&self.slots, others, &mut difference, &mut room) {
+            Ok(order) => Ok(order),
+            Err(OrderRefusal::TooLong) => Err(TooLong(())),
+            Err(_) => unreachable!("the numerators of a total are above -2^127, and there is room"),
         }
-        loop {
-            let mut total = self.proved();
-            match step(&mut total, numer, denom) {
-                Ok(()) => {
-                    self.tally = total.tally;
-                    return;
-                }
-                Err(Refusal::MoreRoom) => self.count_empty(), // none is empty
-                Err(Refusal::TooMany) => refuse_more(),
-            }
+    }
+
+    /// The sum rounded once to a whole number by the rule, or `None` if that number does not fit the type. A sum that does not fit
+    /// may have one that does.
+    ///
+    /// # Errors
+    ///
+    /// `TooLong` where `sum` returns it.
+    ///
+    /// ```
+    /// use bakhsney::{Reduced64, Rounding, Total};
+    ///
+    /// let total: Total<i64> = (1..=1000).map(|denom| Reduced64::checked_new(1, denom).unwrap()).sum();
+    /// assert_eq!(total.sum(), Ok(None));
+    /// assert_eq!(total.to_integer(Rounding::HalfEven), Ok(Some(7)));
+    /// assert_eq!(total.to_integer(Rounding::Ceil), Ok(Some(8)));
+    /// ```
+    pub fn to_integer(&self, rule: Rounding) -> Result<Option<T>, TooLong> {
+        let mut room = vec![0; proved::digits_of_read(&self.slots)];
+        let number = proved::integer_of(&self.slots, rule, &mut room).map_err(refused)?;
+        Ok(number.and_then(T::from))
+    }
+
+    /// The sum rounded once to a multiple of `1/parts` by the rule, such as cents for 100. It is `None` if the lowest terms of the
+    /// multiple do not fit the type, or if `parts` is not above 0. A sum that does not fit may have a multiple that does.
+    ///
+    /// # Errors
+    ///
+    /// `TooLong` where `sum` returns it.
+    ///
+    /// ```
+    /// use bakhsney::{Reduced64, Rounding, Total};
+    ///
+    /// let total: Total<i64> = (1..=1000).map(|denom| Reduced64::checked_new(1, denom).unwrap()).sum();
+    /// assert_eq!(total.sum(), Ok(None));
+    /// assert_eq!(total.round_to(100, Rounding::HalfEven), Ok(Reduced64::checked_new(749, 100)));
+    /// assert_eq!(total.round_to(0, Rounding::HalfEven), Ok(None));
+    /// ```
+    pub fn round_to(&self, parts: T, rule: Rounding) -> Result<Option<Reduced<T>>, TooLong> {
+        if parts <= T::zero() {
+            return Ok(None);
         }
+        let parts = match parts.to_u64() {
+            Some(parts) => parts,
+            None => unreachable!("the type has at most 64 bits, and the number is above 0"),
+        };
+        let mut room = vec![0; proved::digits_of_multiple(&self.slots)];
+        proved::multiple_of(&self.slots, parts, rule, &mut room).map(held).map_err(refused)
+    }
+
+    /// Calls `read`. The numbers that it returns become a fraction, if they fit the type.
+    fn read(&self, read: impl FnOnce(&[Slot], &mut [u64]) -> Result<Option<(i128, u64)>, ReadRefusal>) -> Result<Option<Reduced<T>>, TooLong> {
+        self.read_numbers(read).map(held)
     }
 }
 
@@ -326,6 +561,20 @@ fn fields<T: UpTo64>(fraction: Reduced<T>) -> (i128, u64) {
     match (numer.to_i128(), denom.to_u64()) {
         (Some(numer), Some(denom)) => (numer, denom),
         _ => unreachable!("the type has at most 64 bits, and the denominator is above 0"),
+    }
+}
+
+/// The fraction of two numbers in lowest terms, if they fit the type.
+fn held<T: UpTo64>(lowest: Option<(i128, u64)>) -> Option<Reduced<T>> {
+    let (numer, denom) = lowest?;
+    Reduced::checked_new(T::from(numer)?, T::from(denom)?)
+}
+
+/// The same fraction over `i128`.
+fn wide<T: UpTo64>(fraction: Reduced<T>) -> Reduced<i128> {
+    match fraction.cast() {
+        Some(fraction) => fraction,
+        None => unreachable!("the type has at most 64 bits"),
     }
 }
 
@@ -383,6 +632,16 @@ impl<T: UpTo64> AddAssign<&Total<T>> for Total<T> {
     #[track_caller]
     fn add_assign(&mut self, other: &Total<T>) {
         self.merge(other);
+    }
+}
+
+impl<T: UpTo64> SubAssign<&Total<T>> for Total<T> {
+    /// # Panics
+    ///
+    /// If `take_out` panics.
+    #[track_caller]
+    fn sub_assign(&mut self, other: &Total<T>) {
+        self.take_out(other);
     }
 }
 

@@ -1,5 +1,6 @@
 // Erased from crates/fraction_laws/src/lib.rt by rust/erase: not to be edited.
 //! Laws of the calls of `Reduced` and `Ratio`, for the proofs of callers. Each function changes nothing: its contract is the law.
+pub mod divisors;
 pub mod folds;
 pub mod nearest;
 pub mod neutral;

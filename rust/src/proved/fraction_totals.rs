@@ -4,17 +4,27 @@
 //! A `Total<T>` takes fractions `Reduced<T>` over a type of at most 64 bits, and no step of it can fail to fit.
 //! `Total::sum` returns a `Reduced<T>` where the sum fits, however large the totals on the way were: over `i8`,
 //! 127/1 + 1/127 - 1/127 is 127/1.
+mod comparing;
 mod crossing;
 mod decimal;
+mod dots;
+mod float;
+
 mod items;
 mod lowest;
 mod numbers;
 mod products;
+mod quick;
+mod rounding;
 mod short;
+mod sums;
 mod total;
+
+pub use dots::{DotRefusal, dot};
 
 pub use items::total_of;
 pub use products::ProductRefusal;
-pub use crate::proved::ratio_totals::{ReadRefusal, Refusal, Slot};
+pub use crate::proved::ratio_totals::{CompareRefusal, ReadRefusal, Refusal, Slot};
 pub use short::Short;
+pub use sums::{SumRefusal, checked_sum_in};
 pub use total::Total;

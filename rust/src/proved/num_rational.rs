@@ -11,6 +11,7 @@ mod fold;
 mod hash;
 
 mod main_statement;
+mod many_products;
 mod nearest;
 mod operand;
 mod ops;
@@ -23,6 +24,7 @@ mod ratio;
 mod reduced;
 mod rounding;
 mod sign;
+mod splitting;
 mod text;
 
 pub use convergents::Convergents;
@@ -38,3 +40,4 @@ pub use crate::proved::ratio_core::{
 pub use crate::proved::ratio_decimal::rounding_rule::Rounding;
 pub use crate::proved::ratio_decimal::{DecimalRefusal, TextRefusal};
 pub use reduced::{Reduced, Reduced32, Reduced64, ReducedOperand};
+pub use splitting::{SplitRefusal, split};

@@ -6,6 +6,7 @@
 //! and no law can say that.
 pub mod checked_new;
 mod code_list;
+pub mod divisors;
 mod exponent;
 mod hash;
 pub mod order;

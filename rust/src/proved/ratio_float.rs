@@ -3,6 +3,7 @@
 pub mod exact;
 mod format;
 mod gap;
+pub mod leading;
 pub mod nearest;
 mod quotient;
 pub mod rationalize;

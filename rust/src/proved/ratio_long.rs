@@ -2,12 +2,14 @@
 //! Fractions of natural numbers of any length: their rounded values, and their texts as decimals. The numbers are digits of
 //! `ratio_natural`, in room that the caller gives.
 mod decimal;
+mod float;
 pub mod laws;
 mod places;
 mod rounding;
 mod whole;
 
 pub use decimal::put_decimal;
+pub use float::nearest_f64;
 pub use places::put_places;
 pub use rounding::round_quotient;
 pub use whole::round_fraction;

@@ -6,16 +6,21 @@
 //!
 //! A read puts the total over its common denominator: `Total::over_common`. `Total::sum` returns it in lowest terms where
 //! these fit 64 bits, and `Total::mean` returns the mean. `Total::compare` and `Total::sign` are exact where these do not fit.
+mod bounded;
+mod bounds;
 mod clearing;
 mod common;
 mod comparing;
 mod counting;
 mod decimal;
+mod float;
 mod integer;
 pub mod laws;
 mod loose;
 mod lowest;
 mod merging;
+mod multiple;
+mod ordering;
 mod pouring;
 mod reading;
 mod refusal;
@@ -30,12 +35,16 @@ mod total;
 pub use comparing::CompareRefusal;
 pub use counting::count_free;
 pub use decimal::{decimal_bytes_of, decimal_digits_of, put_decimal_of};
+pub use float::float_of;
 pub use integer::integer_of;
 pub use loose::{LooseRefusal, put_loose};
 pub use lowest::{mean_of, sum_of};
+pub use multiple::{digits_of_multiple, multiple_of};
+pub use ordering::{OrderRefusal, digits_of_order, order_of};
 pub use reading::{MOST_DIGITS, OverCommon, ReadRefusal, digits_of_read};
 pub use refusal::Refusal;
 pub use searching::find;
+pub use short_sums::{add_short, short_pair};
 pub use signs::sign_of;
 pub use slots::Slot;
 pub use tally::{MOST_WEIGHT, Tally};

@@ -1,12 +1,21 @@
 // Erased from crates/tests_totals/src/lib.rt by rust/erase: not to be edited.
-//! Tests of natural numbers of any length, of fractions of them, and of totals: rows from outside, and each call once.
+//! Tests of totals: rows from outside, and each call once.
+#[cfg(test)]
+mod bounded_decimals;
+#[cfg(test)]
+mod dots;
+#[cfg(test)]
+mod floats;
 #[cfg(test)]
 mod fractions;
+
 #[cfg(test)]
-mod long_fractions;
+mod list_sums;
 #[cfg(test)]
 mod loose;
 #[cfg(test)]
-mod naturals;
+mod multiples;
+#[cfg(test)]
+mod reads;
 #[cfg(test)]
 mod totals;

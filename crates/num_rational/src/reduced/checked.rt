@@ -64,10 +64,10 @@ impl<T: Copy + Integer> Reduced<T> {
         }
     }
 
-    /// The remainder: 3/4 by 1/2 leaves 1/4. Over a primitive type of at most 64 bits, as over each type whose
-    /// `EXACT_REMAINDERS` is true, it is `None` if `other` is 0 or the lowest terms do not fit the type. Over
-    /// `i8`, 127/1 by 1/127 leaves 0/1. Over `i128`, `u128` and other types, it is `None` if `other` is 0, or
-    /// if the least common denominator or a numerator over it does not fit the type.
+    /// The remainder: 3/4 by 1/2 leaves 1/4. Over a primitive type, as over each type whose `EXACT_REMAINDERS` is
+    /// true, it is `None` if `other` is 0 or the lowest terms do not fit the type. Over `i8`, 127/1 by 1/127
+    /// leaves 0/1. Over other types, it is `None` if `other` is 0, or if the least common denominator or a
+    /// numerator over it does not fit the type.
     #[inline(always)]
     pub fn checked_rem<O: ReducedOperand<T>>(&self, other: O) -> Option<Reduced<T>>
         ensures { ChecksLowestRemainder (numbers (ratio_of self.now)) (O.two_numbers other) (ratio_in result) }

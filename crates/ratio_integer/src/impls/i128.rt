@@ -1,8 +1,8 @@
 // Written by templates/write from templates/integer.rt.txt: change that file, and write this one anew.
 //! The traits `Integer` and `SignedInteger` for the type `i128`.
-ghost use Rattle.std.specs.Prelude.{◌-◌, ◌^◌, pos, negsuc, false};
+ghost use Rattle.std.specs.Prelude.{◌-◌, ◌^◌, pos, negsuc, false, true};
 ghost use Rattle.std.specs.Hash as hash;
-ghost use Rattle.std.proofs.Common.{lit≤, refl};
+ghost use Rattle.std.proofs.Common.{inl, lit≤, refl};
 ghost use Rattle.ratio_integer.specs.Primitives.{signed_laws};
 
 use crate::binary_gcd::binary_gcd_wide;
@@ -31,7 +31,7 @@ impl Integer for i128 {
 
     ghost EXACT_SUMS = { false };
 
-    ghost EXACT_REMAINDERS = { false };
+    ghost EXACT_REMAINDERS = { true };
 
     ghost one_number = { refl };
 
@@ -45,7 +45,7 @@ impl Integer for i128 {
 
     const EXACT_SUMS: bool = false;
 
-    const EXACT_REMAINDERS: bool = false;
+    const EXACT_REMAINDERS: bool = true;
 
     fn plus(self, o: i128) -> i128 {
         self + o
@@ -113,7 +113,7 @@ impl Integer for i128 {
 
     ghost laws = { signed_laws (2 ^ 127 - 1) hash.i128 (lit≤ tt) };
 
-    ghost exact_remainders_law = { tt };
+    ghost exact_remainders_law = { inl (record { le = tt }) };
 }
 
 impl SignedInteger for i128 {

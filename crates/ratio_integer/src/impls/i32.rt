@@ -2,7 +2,7 @@
 //! The traits `Integer` and `SignedInteger` for the type `i32`.
 ghost use Rattle.std.specs.Prelude.{◌-◌, ◌^◌, pos, negsuc, true};
 ghost use Rattle.std.specs.Hash as hash;
-ghost use Rattle.std.proofs.Common.{lit≤, refl};
+ghost use Rattle.std.proofs.Common.{inl, lit≤, refl};
 ghost use Rattle.ratio_integer.specs.Primitives.{signed_laws};
 
 use crate::binary_gcd::binary_gcd;
@@ -113,7 +113,7 @@ impl Integer for i32 {
 
     ghost laws = { signed_laws (2 ^ 31 - 1) hash.i32 (lit≤ tt) };
 
-    ghost exact_remainders_law = { record { le = tt } };
+    ghost exact_remainders_law = { inl (record { le = tt }) };
 }
 
 impl SignedInteger for i32 {

@@ -2,7 +2,7 @@
 //! The traits `Integer` and `SignedInteger` for the type `i8`.
 ghost use Rattle.std.specs.Prelude.{◌-◌, ◌^◌, pos, negsuc, false, true};
 ghost use Rattle.std.specs.Hash as hash;
-ghost use Rattle.std.proofs.Common.{lit≤, refl};
+ghost use Rattle.std.proofs.Common.{inl, lit≤, refl};
 ghost use Rattle.ratio_integer.specs.Primitives.{signed_laws};
 
 use crate::binary_gcd::binary_gcd;
@@ -112,7 +112,7 @@ impl Integer for i8 {
 
     ghost laws = { signed_laws (2 ^ 7 - 1) hash.i8 (lit≤ tt) };
 
-    ghost exact_remainders_law = { record { le = tt } };
+    ghost exact_remainders_law = { inl (record { le = tt }) };
 }
 
 impl SignedInteger for i8 {

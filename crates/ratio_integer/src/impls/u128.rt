@@ -1,8 +1,8 @@
 // Written by templates/write from templates/integer.rt.txt: change that file, and write this one anew.
 //! The trait `Integer` for the type `u128`.
-ghost use Rattle.std.specs.Prelude.{◌-◌, ◌^◌, pos, unsigned_abs, false};
+ghost use Rattle.std.specs.Prelude.{◌-◌, ◌^◌, pos, unsigned_abs, false, true};
 ghost use Rattle.std.specs.Hash as hash;
-ghost use Rattle.std.proofs.Common.{lit≤, refl};
+ghost use Rattle.std.proofs.Common.{inr, lit≤, refl};
 ghost use Rattle.ratio_integer.specs.Primitives.{unsigned_laws};
 
 use crate::binary_gcd::binary_gcd_wide;
@@ -30,7 +30,7 @@ impl Integer for u128 {
 
     ghost EXACT_SUMS = { false };
 
-    ghost EXACT_REMAINDERS = { false };
+    ghost EXACT_REMAINDERS = { true };
 
     ghost one_number = { refl };
 
@@ -44,7 +44,7 @@ impl Integer for u128 {
 
     const EXACT_SUMS: bool = false;
 
-    const EXACT_REMAINDERS: bool = false;
+    const EXACT_REMAINDERS: bool = true;
 
     fn plus(self, o: u128) -> u128 {
         self + o
@@ -112,7 +112,7 @@ impl Integer for u128 {
 
     ghost laws = { unsigned_laws (2 ^ 128 - 1) hash.u128 (lit≤ tt) };
 
-    ghost exact_remainders_law = { tt };
+    ghost exact_remainders_law = { inr (refl, record { le = tt }) };
 }
 
 impl Primitive for u128 {

@@ -2,7 +2,7 @@
 //! The trait `Integer` for the type `u16`.
 ghost use Rattle.std.specs.Prelude.{◌-◌, ◌^◌, pos, unsigned_abs, false, true};
 ghost use Rattle.std.specs.Hash as hash;
-ghost use Rattle.std.proofs.Common.{lit≤, refl};
+ghost use Rattle.std.proofs.Common.{inl, lit≤, refl};
 ghost use Rattle.ratio_integer.specs.Primitives.{unsigned_laws};
 
 use crate::binary_gcd::binary_gcd;
@@ -111,7 +111,7 @@ impl Integer for u16 {
 
     ghost laws = { unsigned_laws (2 ^ 16 - 1) hash.u16 (lit≤ tt) };
 
-    ghost exact_remainders_law = { record { le = tt } };
+    ghost exact_remainders_law = { inl (record { le = tt }) };
 }
 
 impl Primitive for u16 {

@@ -8,12 +8,12 @@ use ratio_core::rounding::{
     ceil, floor, fract, round, to_i64, to_i128, to_integer, to_u64, to_u128, trunc,
 };
 use ratio_core::sign::{abs, abs_sub, is_above_zero, is_negative, is_positive, neg, signum};
-use ratio_core::sums::{checked_sub, multiple_over, numerator_of};
+use ratio_core::sums::{carried_on, checked_sub, multiple_over, numerator_of, sum_over};
 use ratio_core::text::digits::put_digits;
 use ratio_core::text::{base_ten_text, from_str, from_str_radix, put_base_ten_text, put_text};
 use ratio_core::{BaseTenText, Form, RatioText, Steps};
 use ratio_decimal::rounding_rule::Rounding;
-use ratio_decimal::{decimal, from_decimal, from_text, round_to};
+use ratio_decimal::{decimal, from_decimal, from_text, round_to, rounded_product};
 use ratio_float::nearest::{to_f32, to_f64};
 use ratio_integer::{cancelled, lowest_terms};
 
@@ -24,6 +24,7 @@ fn reducing(rt: HostRuntime) {
         lowest_terms(-6i64, 4) == (-3, 2),
         cancelled(6i64, -4) == (3, -2),
         round_to(2i64, 3, 100, Rounding::HalfEven) == Some((67, 100)),
+        rounded_product(7i64, 3, 5, 2, Rounding::HalfEven) == Some(6),
         to_f64(-7i64, 2) == -3.5,
         to_f32(-7i64, 2) == -3.5,
         recip(-2i64, 3) == (-3, 2),
@@ -125,6 +126,8 @@ fn parts_of_calls(rt: HostRuntime) {
         have_unlike_signs(-7i64, 2),
         is_above_zero(7i64),
         numerator_of(-4i64, 1, 2) == Some(-7),
+        sum_over(3i64, 4, 5) == (true, 2),
+        carried_on(3i64, true) == 4,
         multiple_over(3i64, 5, 4) == (3, 3),
     ];
     each_holds(&rt, &facts);

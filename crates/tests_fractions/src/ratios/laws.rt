@@ -2,7 +2,8 @@
 //! differ.
 use crate::asserting::each_holds;
 use fraction_laws::{
-    folds, nearest, neutral, order, powers, reading, remainder, rounding, signs, undoing, values,
+    divisors, folds, nearest, neutral, order, powers, reading, remainder, rounding, signs, undoing,
+    values,
 };
 use num_rational::{Ratio, Reduced, Reduced64};
 
@@ -88,6 +89,14 @@ fn whole_numbers_near(_rt: HostRuntime) {
     rounding::sums(&x, &fraction(9, 1));
     rounding::negatives(&x);
     remainder::parts(&x, &y);
+}
+
+#[test]
+fn divisors_and_multiples(_rt: HostRuntime) {
+    let (x, y) = (fraction(1, 4), fraction(-1, 6));
+    divisors::greatest(&x, &y);
+    divisors::least(&x, &y);
+    divisors::products(&x, &y);
 }
 
 #[test]

@@ -25,6 +25,9 @@ pub mod reading;
 pub mod scaled;
 pub mod sign;
 
+pub mod total_floats;
+pub mod total_multiples;
+pub mod total_orders;
 pub mod total_reads;
 pub mod total_steps;
 pub mod totals;

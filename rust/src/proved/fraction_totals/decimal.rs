@@ -24,7 +24,7 @@ impl<'a, T: Short> Total<'a, T> {
         self.table.put_decimal(places, rule, room, buf)
     }
 
-    /// How many numbers of room `sum` and `mean` need.
+    /// How many numbers of room `sum`, `mean` and `to_f64` need.
     #[inline]
     pub fn read_digits(&self) -> usize {
         self.table.read_digits()

@@ -43,6 +43,12 @@ impl<'a, T: Short> Total<'a, T> {
         self.table.merge(&other.table)
     }
 
+    /// Takes out each fraction of the other total, whether it was added or not. If the total refuses it, nothing has changed.
+    #[inline]
+    pub fn take_out(&mut self, other: &Total<'_, T>) -> Result<(), Refusal> {
+        self.table.take_out(&other.table)
+    }
+
     /// The same total in other slots, such as more of them. It empties these slots first. If they are fewer than the
     /// denominators, it returns `MoreRoom`.
     #[inline]

@@ -10,14 +10,17 @@ mod checked;
 mod continued;
 mod convert;
 mod decimal;
+mod divisors;
 mod floats;
 mod fold;
 mod hash;
+mod many;
 mod operand;
 mod order;
 mod pow;
 mod printing;
 mod reading;
+mod rounded_product;
 mod rounding;
 mod sign;
 mod simplest;
@@ -32,8 +35,9 @@ use crate::proved::ratio_integer::Integer;
 /// `decimal`, at most 38 places, and `round_to`, a positive number of parts.
 ///
 /// A call returns `None` only if there is no result, as for a divisor 0, or if its lowest terms do not fit
-/// the type. There are two exceptions: `checked_rem`, whose page says for which types, and a sum or product
-/// of a list, which is `None` if one of its steps is.
+/// the type. There are two exceptions: `checked_rem`, over some types of one's own, and a sum or product of a
+/// list, which is `None` if one of its steps is. `checked_product_of` gives each product of a list whose lowest
+/// terms fit.
 #[derive(Copy, Debug)]
 pub struct Reduced<T: Copy + Integer> {
     pub(crate) ratio: Ratio<T>,

@@ -5,6 +5,7 @@
 //! across, and a sign is moved, before anything is multiplied. The products are then the lowest terms, so
 //! only these must fit. Over `i8`, 100/3 times 3/100 is 1/1.
 pub mod lowest_products;
+pub mod many_products;
 
 use crate::proved::ratio_core::checked_new::checked_new;
 use crate::proved::ratio_core::products::lowest_products::{crossed_product, crossed_quotient};

@@ -1,6 +1,7 @@
 // Erased from crates/ratio_core/src/remainder.rt by rust/erase: not to be edited.
 //! The remainder of one fraction by another in lowest terms, over any type.
 
+mod long_remainder;
 pub mod lowest_remainder;
 pub(crate) mod wide;
 

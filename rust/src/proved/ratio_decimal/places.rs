@@ -34,9 +34,9 @@ pub fn decimal<T: Primitive>(numer: T, denom: T, places: u32, rule: Rounding) ->
     text
 }
 
-// The rule by which the magnitude is rounded.
+/// The rule by which the magnitude is rounded.
 #[inline]
-fn for_magnitude(rule: Rounding, below: bool) -> Rounding {
+pub(crate) fn for_magnitude(rule: Rounding, below: bool) -> Rounding {
     if !below {
         return rule;
     }

@@ -2,7 +2,7 @@
 //! A fraction rounded to a multiple of `1/parts`, such as cents or quarters.
 
 use crate::proved::ratio_decimal::rounding_rule::Rounding;
-use crate::proved::ratio_core::sign::{is_above_zero, is_below_zero};
+use crate::proved::ratio_decimal::side::{side_of, takes_next};
 use crate::proved::ratio_core::sums::{multiple_over, numerator_of};
 use crate::proved::ratio_integer::{Integer, both_held, lowest_terms};
 
@@ -59,36 +59,5 @@ fn next<T: Integer>(x: (T, T), parts: T) -> (T, T) {
 // Whether the rule takes the multiple above. The fraction is the multiple x and `left/d` more, in `1/parts`.
 #[inline]
 fn goes_up<T: Integer>(rule: Rounding, x: (T, T), parts: T, left: T, d: T) -> bool {
-    match rule {
-        Rounding::HalfAway => is_past_half(left, d) || is_half(left, d) && !is_below_zero(x.0),
-        Rounding::HalfEven => is_past_half(left, d) || is_half(left, d) && is_odd(x, parts),
-        Rounding::Down => is_below_zero(x.0) && is_above_zero(left),
-        Rounding::Up => !is_below_zero(x.0) && is_above_zero(left),
-        Rounding::Floor => false,
-        Rounding::Ceil => is_above_zero(left),
-    }
-}
-
-// Whether `left/d` is above a half.
-#[inline]
-fn is_past_half<T: Integer>(left: T, d: T) -> bool {
-    let _ = d.held();
-    d.minus(left) < left
-}
-
-// Whether `left/d` is a half.
-#[inline]
-fn is_half<T: Integer>(left: T, d: T) -> bool {
-    let _ = d.held();
-    d.minus(left) == left
-}
-
-// Whether a multiple is an odd number of `1/parts`.
-#[inline]
-fn is_odd<T: Integer>(x: (T, T), parts: T) -> bool {
-    if x.0.is_even() || parts.is_even() {
-        x.1.is_odd()
-    } else {
-        x.1.is_even()
-    }
+    takes_next(rule, x, parts, side_of(left, d))
 }

@@ -93,13 +93,28 @@ fn rounded<F: FloatType>(digits: u64, is_more: bool, n_zeros: u64, d_zeros: u64)
     let length = 63 + (digits >> 63);
     // A float near 0 has fewer digits.
     let dropped = (length - F::DIGITS).max(below.saturating_sub(above));
+    bits_of::<F>(
+        kept_digits(digits, is_more, dropped),
+        above + dropped - below,
+    )
+}
+
+/// The digits without the last `dropped` ones, rounded to the nearest number. A tie goes to the even one.
+///
+/// # Conditions
+///
+/// The proof requires of the caller:
+///
+/// - `(0 < dropped) × (dropped < 64)`
+#[inline]
+pub(crate) fn kept_digits(digits: u64, is_more: bool, dropped: u64) -> u64 {
     let (kept, rest, half) = cut(digits, dropped);
     let is_up = if rest == half {
         is_more || kept % 2 == 1
     } else {
         half < rest
     };
-    bits_of::<F>(kept + is_up as u64, above + dropped - below)
+    kept + is_up as u64
 }
 
 // The digits that are kept, those that are dropped, and half the weight of the last digit that is kept.
@@ -112,8 +127,15 @@ fn cut(digits: u64, dropped: u64) -> (u64, u64, u64) {
     )
 }
 
-// The bits of so many times 2^place times the least float above 0, or those of infinity.
+/// The bits of so many times 2^place times the least float above 0, or those of infinity.
+///
+/// # Conditions
+///
+/// The proof requires of the caller:
+///
+/// - `digits`: `digits ≤ 2 ^ 53`
+/// - `place`: `place < 2 ^ 11`
 #[inline]
-fn bits_of<F: FloatType>(digits: u64, place: u64) -> u64 {
+pub(crate) fn bits_of<F: FloatType>(digits: u64, place: u64) -> u64 {
     ((place << (F::DIGITS - 1)) + digits).min(F::INFINITY)
 }

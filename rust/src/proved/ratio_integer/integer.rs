@@ -21,7 +21,8 @@ pub trait Integer: Copy + Ord + Hash {
     /// Whether `exact_sum` and `exact_diff` compute a result. If not, they always return `None`.
     const EXACT_SUMS: bool;
 
-    /// Whether the remainder of two fractions can be computed in `u128`: no number of the type is above 2^64-1.
+    /// Whether the remainder of two fractions is exact. It can be if each number of the type fits an `i128`, or
+    /// each fits a `u128`.
     const EXACT_REMAINDERS: bool;
 
     /// The sum. It requires that `try_plus` returns `Some`.

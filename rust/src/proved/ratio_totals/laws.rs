@@ -25,3 +25,8 @@ pub fn reads() {}
 /// `Total::sum` and `Total::mean` have one result.
 #[inline]
 pub fn sums() {}
+
+/// Where each quotient is cut to a whole number of parts of 1, the sum lies between the bounds. These are as far apart as
+/// numbers were cut. If a rule rounds both to the same number, the decimal of the sum is that number.
+#[inline]
+pub fn bounds() {}

@@ -46,7 +46,7 @@ pub(crate) fn short_mean(slots: &[Slot], count: i64) -> Option<(i128, u128)> {
 /// - `some`: `0 < denom`
 /// - `below`: `denom < 2 ^ 127`
 #[inline]
-pub(crate) fn short_pair(numer: i128, denom: u128) -> Option<(i128, u64)> {
+pub fn short_pair(numer: i128, denom: u128) -> Option<(i128, u64)> {
     let (p, q) = lowest_terms(numer, denom as i128);
     if p.unsigned_abs() >= 1 << 64 || q >= 1 << 64 {
         return None;
@@ -54,17 +54,37 @@ pub(crate) fn short_pair(numer: i128, denom: u128) -> Option<(i128, u64)> {
     Some((p, q as u64))
 }
 
-// Adds a fraction to another one. The new denominator is the least common multiple of both.
+/// Adds a fraction to another one. The new denominator is the least common multiple of both: 1/36 plus 1/28 is 16/252. It is
+/// `None` if a number on the way needs more than 128 bits, or if the new denominator is 2^127 or more.
+///
+/// # Conditions
+///
+/// The proof requires of the caller:
+///
+/// - `0 < denom`
 #[inline]
-fn add_short(sum: i128, common: u128, numer: i128, denom: u64) -> Option<(i128, u128)> {
+pub fn add_short(sum: i128, common: u128, numer: i128, denom: u64) -> Option<(i128, u128)> {
+    if common == denom as u128 {
+        return Some((sum.try_plus(numer)?, common));
+    }
     let (share, more) = parts_of(common, denom);
-    let old = sum.try_times(more as i128)?;
+    let old = scaled(sum, more)?;
     let part = numer.try_times(i128::from_u128(share)?)?;
     let next = common.checked_mul(more as u128)?;
     if next >= 1 << 127 {
         return None;
     }
     Some((old.try_plus(part)?, next))
+}
+
+// The product with a number that is often 1. It is `None` if it needs more than 128 bits.
+#[inline]
+fn scaled(sum: i128, more: u64) -> Option<i128> {
+    if more == 1 {
+        Some(sum)
+    } else {
+        sum.try_times(more as i128)
+    }
 }
 
 // Both numbers, divided by their gcd.

@@ -17,7 +17,7 @@ use bakhsney::proved::ratio_totals::{
 
 /// The code of a read that was refused.
 #[inline]
-fn code_of(why: ReadRefusal) -> u32 {
+pub(crate) fn code_of(why: ReadRefusal) -> u32 {
     match why {
         ReadRefusal::MoreRoom => MORE_ROOM,
         ReadRefusal::TooLong => TOO_LONG,
@@ -26,7 +26,7 @@ fn code_of(why: ReadRefusal) -> u32 {
 
 /// The same two numbers over 64 bits, or `None` if one does not fit.
 #[inline]
-fn narrowed(terms: Option<(i128, u64)>) -> Option<(i64, i64)> {
+pub(crate) fn narrowed(terms: Option<(i128, u64)>) -> Option<(i64, i64)> {
     match terms {
         Some((numer, denom)) => cast::<i128, i64>(numer, denom as i128),
         None => None,
@@ -96,7 +96,7 @@ pub unsafe extern "C" fn ratio_total_free_i64(slots: *const Slot, slots_len: usi
     count_free(slots) as u64
 }
 
-/// How many digits of room the sum, the mean and the sign need.
+/// How many digits of room the sum, the mean, the sign and the float need.
 #[no_mangle]
 pub unsafe extern "C" fn ratio_total_digits_i64(slots: *const Slot, slots_len: usize) -> u64 {
     // SAFETY: the header says what the caller owes for each pointer and its length.

@@ -1,8 +1,9 @@
 // Erased from crates/ratio_core/src/remainder/lowest_remainder.rt by rust/erase: not to be edited.
-//! Remainders over the types whose numbers are at most 2^64-1: `Some` exactly if the lowest terms fit.
+//! Remainders over the types whose numbers fit 128 bits: `Some` exactly if the lowest terms fit.
 //!
 //! The first way divides the numerators over the least common denominator: 3/4 by 1/2 is 3 by 2 over 4. If a
-//! number there does not fit, as 127 * 127 for 127/1 by 1/127 over `i8`, the second way computes in `u128`.
+//! number there does not fit, as 127 * 127 for 127/1 by 1/127 over `i8`, the second way computes with magnitudes
+//! in `u128`.
 
 use crate::proved::ratio_core::remainder;
 use crate::proved::ratio_core::remainder::wide::wide_rem;

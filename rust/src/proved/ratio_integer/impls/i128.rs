@@ -20,7 +20,7 @@ impl Integer for i128 {
 
     const EXACT_SUMS: bool = false;
 
-    const EXACT_REMAINDERS: bool = false;
+    const EXACT_REMAINDERS: bool = true;
 
     #[inline]
     fn plus(self, o: i128) -> i128 {

@@ -19,7 +19,7 @@ impl Integer for u128 {
 
     const EXACT_SUMS: bool = false;
 
-    const EXACT_REMAINDERS: bool = false;
+    const EXACT_REMAINDERS: bool = true;
 
     #[inline]
     fn plus(self, o: u128) -> u128 {

@@ -9,12 +9,12 @@ use crate::proved::ratio_core::rounding::{
     ceil, floor, fract, round, to_i64, to_i128, to_integer, to_u64, to_u128, trunc,
 };
 use crate::proved::ratio_core::sign::{abs, abs_sub, is_above_zero, is_negative, is_positive, neg, signum};
-use crate::proved::ratio_core::sums::{checked_sub, multiple_over, numerator_of};
+use crate::proved::ratio_core::sums::{carried_on, checked_sub, multiple_over, numerator_of, sum_over};
 use crate::proved::ratio_core::text::digits::put_digits;
 use crate::proved::ratio_core::text::{base_ten_text, from_str, from_str_radix, put_base_ten_text, put_text};
 use crate::proved::ratio_core::{BaseTenText, Form, RatioText, Steps};
 use crate::proved::ratio_decimal::rounding_rule::Rounding;
-use crate::proved::ratio_decimal::{decimal, from_decimal, from_text, round_to};
+use crate::proved::ratio_decimal::{decimal, from_decimal, from_text, round_to, rounded_product};
 use crate::proved::ratio_float::nearest::{to_f32, to_f64};
 use crate::proved::ratio_integer::{cancelled, lowest_terms};
 
@@ -25,6 +25,7 @@ fn reducing() {
         lowest_terms(-6i64, 4) == (-3, 2),
         cancelled(6i64, -4) == (3, -2),
         round_to(2i64, 3, 100, Rounding::HalfEven) == Some((67, 100)),
+        rounded_product(7i64, 3, 5, 2, Rounding::HalfEven) == Some(6),
         to_f64(-7i64, 2) == -3.5,
         to_f32(-7i64, 2) == -3.5,
         recip(-2i64, 3) == (-3, 2),
@@ -127,6 +128,8 @@ fn parts_of_calls() {
         have_unlike_signs(-7i64, 2),
         is_above_zero(7i64),
         numerator_of(-4i64, 1, 2) == Some(-7),
+        sum_over(3i64, 4, 5) == (true, 2),
+        carried_on(3i64, true) == 4,
         multiple_over(3i64, 5, 4) == (3, 3),
     ];
     each_holds(&facts);

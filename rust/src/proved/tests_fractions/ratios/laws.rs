@@ -3,7 +3,8 @@
 //! differ.
 use crate::proved::tests_fractions::asserting::each_holds;
 use crate::proved::fraction_laws::{
-    folds, nearest, neutral, order, powers, reading, remainder, rounding, signs, undoing, values,
+    divisors, folds, nearest, neutral, order, powers, reading, remainder, rounding, signs, undoing,
+    values,
 };
 use crate::proved::num_rational::{Ratio, Reduced, Reduced64};
 
@@ -90,6 +91,14 @@ fn whole_numbers_near() {
     rounding::sums(&x, &fraction(9, 1));
     rounding::negatives(&x);
     remainder::parts(&x, &y);
+}
+
+#[test]
+fn divisors_and_multiples() {
+    let (x, y) = (fraction(1, 4), fraction(-1, 6));
+    divisors::greatest(&x, &y);
+    divisors::least(&x, &y);
+    divisors::products(&x, &y);
 }
 
 #[test]

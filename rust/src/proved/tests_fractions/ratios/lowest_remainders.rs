@@ -91,13 +91,58 @@ fn rows_of_u64() {
     );
 }
 
+#[test]
+fn rows_of_i128() {
+    let (min, max) = (i128::MIN, i128::MAX);
+    rows_hold(
+        &[
+            ((1 << 126, 3), (5i128, 7), Some((13, 21))),
+            ((max, 1), (1, max), Some((0, 1))),
+            ((min, 1), (1, 3), Some((0, 1))),
+            ((min, 3), (max, 1), Some((min, 3))),
+            ((min, max), (1, 1 << 100), Some((-1, max))),
+            (
+                (min, 3),
+                (1 << 90, 7),
+                Some((-2475880078570760549798248448, 21)),
+            ),
+            ((max, 2), (max - 2, 3), None),
+            ((min + 1, max - 1), (1, max), None),
+            (
+                ((1 << 126) + 1, (1 << 126) - 1),
+                ((1 << 126) + 3, (1 << 126) + 5),
+                None,
+            ),
+            ((max, 2), (0, 1), None),
+        ],
+    );
+}
+
+#[test]
+fn rows_of_u128() {
+    let max = u128::MAX;
+    rows_hold(
+        &[
+            ((max, 2), (max, 1), Some((max, 2))),
+            ((max, 1), (max - 1, max), Some((1, max))),
+            ((1, max), (1, max - 1), Some((1, max))),
+            (
+                (max, (1 << 64) + 1),
+                ((1 << 64) + 3, (1 << 64) + 7),
+                Some(((1 << 64) - 13, (1 << 64) + 7)),
+            ),
+            ((max, 1), (1 << 127, 5), Some(((1 << 127) - 5, 5))),
+        ],
+    );
+}
+
 // The greatest number M by 1/M.
 #[inline]
 fn of_greatest<T: Copy + Integer>() -> Option<(T, T)> {
     answer((T::MAX, T::ONE), (T::ONE, T::MAX))
 }
 
-// M * M does not fit any type. The types of 128 bits require that it does.
+// M * M does not fit any type.
 #[test]
 fn rows_of_each_type() {
     assert!(of_greatest::<i8>() == Some((0, 1)));
@@ -110,8 +155,8 @@ fn rows_of_each_type() {
     assert!(of_greatest::<u64>() == Some((0, 1)));
     assert!(of_greatest::<isize>() == Some((0, 1)));
     assert!(of_greatest::<usize>() == Some((0, 1)));
-    assert!(of_greatest::<i128>().is_none());
-    assert!(of_greatest::<u128>().is_none());
+    assert!(of_greatest::<i128>() == Some((0, 1)));
+    assert!(of_greatest::<u128>() == Some((0, 1)));
 }
 
 // `Ratio` still requires that the numerators over the least common denominator fit.

@@ -1,0 +1,15 @@
+-- Why a sum of a list fails where the call takes memory.
+use Rattle.std.specs.Prelude.{◌<◌, ℕ, ℤ, List, length}
+use Rattle.ratio_totals.specs.Common.{HasLongCommon, most_common}
+use Rattle.ratio_totals.specs.Totals.{most_weight}
+use Rattle.fraction_totals.specs.ListSums.{table_of}
+use Rattle.fraction_totals.specs.declared.in_memory.SumFailure.{SumFailure}
+use Rattle.fraction_totals.specs.declared.in_memory.SumFailure.TheVariants.{NoMemory, TooLong, TooMany}
+
+-- why the sum of the items was not computed: they are more than 2^63 - 1, or their common denominator is too long. That an allocation
+-- failed says nothing of the items
+-- Example: 1/p for 20,000 primes p of 64 bits: `TooLong`
+abbrev pub IsSumFailureFor : {A : Type 0} → (A → ℤ × ℕ) → List A → SumFailure → Type 0
+IsSumFailureFor view items NoMemory = Unit {0}
+IsSumFailureFor view items TooMany = most_weight < length items
+IsSumFailureFor view items TooLong = HasLongCommon (table_of view items) most_common

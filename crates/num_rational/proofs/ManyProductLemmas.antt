@@ -1,0 +1,77 @@
+-- Products and quotients of many fractions: what one more item gives, and the numbers of items in the lists of a caller.
+use Rattle.std.specs.Prelude.{◌≡◌, ◌≢◌, ◌+◌, ◌<◌, ◌*ℤ◌, ℕ, ℤ, pos, List, ◌++◌, length}
+use Rattle.std.proofs.Common.{refl, sym, ap, arith, ◌∙◌, get_or, take, set}
+use Rattle.std.proofs.lemmas.Int.{ints}
+use lib.IntN.{one, *ℤ-one, *ℤ-zero}
+use Rattle.ratio_integer.specs.Fraction.{Fits, IsHeldLowest}
+use Rattle.ratio_integer.specs.Range.{IsHeld, IsRange}
+use Rattle.ratio_integer.proofs.DivisionLemmas.{low_below}
+use Rattle.ratio_integer.proofs.LowestTerms.{held_lowest_moved, lowest_own, over_one, same_value_products}
+use Rattle.ratio_integer.proofs.Whole.{mul_assoc, mul_nonzero}
+use Rattle.ratio_core.specs.ManyProducts.{product_by}
+use Rattle.ratio_core.proofs.ManyProductLemmas.{product-append, product_more_set, product_with}
+use Rattle.num_rational.specs.ManyProducts.{denominator_product, numerator_product}
+
+module _ {A : Type 0} (f : A → ℤ) where
+  -- one more item of a loop that writes its numbers
+  pub product_written : {B : Type 0} (value : B → ℤ) (xs : List A) (ys : List B) (i : ℕ) (x : A) (y : B) → i < length xs → x ≡ get_or xs i x → i < length ys → value y ≡ f x → product_by value (take i ys) ≡ product_by f (take i xs) → product_by value (take (i + 1) (set ys i y)) ≡ product_by f (take (i + 1) xs)
+  product_written value xs ys i x y inside is y_inside same so_far =
+      product_more_set value ys i y y_inside
+      ∙ ap (λ (t : ℤ). t *ℤ value y) so_far
+      ∙ ap (λ (t : ℤ). product_by f (take i xs) *ℤ t) same
+      ∙ sym (product_with f xs i x inside is)
+
+-- ---- step by step
+
+pub start_at_one : (lo hi n d : ℤ) → IsRange lo hi → n ≡ pos 1 → d ≡ pos 1 → IsHeldLowest lo hi (pos 1) (pos 1) n d
+start_at_one lo hi n d range n_one d_one =
+    let low = low_below lo hi range in
+    let high = range.high in
+    let held : IsHeld lo hi (pos 1) = record { above = omega (arith, ints); below = omega (arith, ints) } in
+    rw (n_one, d_one) (record { terms = lowest_own (pos 1) (pos 1) (over_one (pos 1) (pos 1) refl); numer_held = held; denom_held = held })
+
+right_nonzero : (a b : ℤ) → a *ℤ b ≢ pos 0 → b ≢ pos 0
+right_nonzero a b nonzero none = nonzero (ap (λ (t : ℤ). a *ℤ t) none ∙ *ℤ-zero a)
+
+-- a/b are the lowest terms of n/d
+module _ (lo hi n d a b : ℤ) (so_far : IsHeldLowest lo hi n d a b) where
+  -- one more factor x/y
+  pub factor_more : (x y p q : ℤ) → IsHeldLowest lo hi (a *ℤ x) (b *ℤ y) p q → IsHeldLowest lo hi (n *ℤ x) (d *ℤ y) p q
+  factor_more x y p q next =
+      held_lowest_moved lo hi (a *ℤ x) (b *ℤ y) (n *ℤ x) (d *ℤ y) p q
+      (mul_nonzero d y so_far.terms.fraction (right_nonzero b y next.terms.fraction))
+      (same_value_products n d x y a b x y so_far.terms.same refl) next
+
+module _ {A : Type 0} (view : A → ℤ × ℤ) (lo hi : ℤ) (xs : List A) (i : ℕ) (x : A) (inside : i < length xs) (is : x ≡ get_or xs i x) (a b : ℤ) (pair : ℤ × ℤ) (seen : pair ≡ view x) (p q : ℤ) where
+  pub above_more : IsHeldLowest lo hi (numerator_product view (take i xs)) (denominator_product view (take i xs)) a b → IsHeldLowest lo hi (a *ℤ pair.0) (b *ℤ pair.1) p q → IsHeldLowest lo hi (numerator_product view (take (i + 1) xs)) (denominator_product view (take (i + 1) xs)) p q
+  above_more so_far next =
+      rw (product_with (λ y. (view y).0) xs i x inside is, product_with (λ y. (view y).1) xs i x inside is)
+      (rw seen at (factor_more lo hi _ _ a b so_far pair.0 pair.1 p q next))
+
+  pub below_more : (n d : ℤ) → IsHeldLowest lo hi (n *ℤ denominator_product view (take i xs)) (d *ℤ numerator_product view (take i xs)) a b → IsHeldLowest lo hi (a *ℤ pair.1) (b *ℤ pair.0) p q → IsHeldLowest lo hi (n *ℤ denominator_product view (take (i + 1) xs)) (d *ℤ numerator_product view (take (i + 1) xs)) p q
+  below_more n d so_far next =
+      rw (product_with (λ y. (view y).0) xs i x inside is, product_with (λ y. (view y).1) xs i x inside is, sym (mul_assoc n (denominator_product view (take i xs)) (view x).1), sym (mul_assoc d (numerator_product view (take i xs)) (view x).0))
+      (rw seen at (factor_more lo hi _ _ a b so_far pair.1 pair.0 p q next))
+
+-- ---- without items below
+
+pub times_nothing : (z : ℤ) → z *ℤ pos 1 ≡ z
+unfolding one
+times_nothing z = *ℤ-one z
+
+pub below_start : (lo hi n d a b : ℤ) → IsHeldLowest lo hi n d a b → IsHeldLowest lo hi (n *ℤ pos 1) (d *ℤ pos 1) a b
+below_start lo hi n d a b so_far = rw (times_nothing n, times_nothing d) so_far
+
+-- ---- the numbers of two lists, one after another
+
+pub parts_product : {B : Type 0} (value : B → ℤ) (xs ys : List B) (p q : ℤ) → product_by value xs ≡ p → product_by value ys ≡ q → product_by value (xs ++ ys) ≡ p *ℤ q
+parts_product value xs ys p q first second =
+    product-append value xs ys ∙ ap (λ (t : ℤ). t *ℤ product_by value ys) first ∙ ap (λ (t : ℤ). p *ℤ t) second
+
+-- equal pairs have the same lowest terms
+module _ (lo hi n d m e : ℤ) (first : n ≡ m) (second : d ≡ e) where
+  pub held_same : (a b : ℤ) → IsHeldLowest lo hi n d a b → IsHeldLowest lo hi m e a b
+  held_same a b held = rw (sym first, sym second) held
+
+  pub out_same : ¬ (Fits lo hi n d) → ¬ (Fits lo hi m e)
+  out_same out = rw (sym first, sym second) out

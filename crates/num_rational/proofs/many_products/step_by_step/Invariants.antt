@@ -1,0 +1,18 @@
+use Rattle.std.specs.Prelude.{◌*ℤ◌}
+use Rattle.std.proofs.Common.{take}
+use Rattle.ratio_integer.specs.Fraction.{IsHeldLowest}
+use Rattle.num_rational.specs.ManyProducts.{denominator_product, numerator_product}
+use Rattle.num_rational.proofs.many_products.step_by_step.Given as goal
+
+abbrev pub invariant-above : goal.invariant-above
+invariant-above g l =
+    let T = g.T.Integer in
+    let view = g.O.ReducedOperand.two_numbers in
+    IsHeldLowest T.lo T.hi (numerator_product view (take l.x-index l.above)) (denominator_product view (take l.x-index l.above)) (T.value l.total.ratio.numer) (T.value l.total.ratio.denom)
+
+abbrev pub invariant-below : goal.invariant-below
+invariant-below g l =
+    let T = g.T.Integer in
+    let view = g.O.ReducedOperand.two_numbers in
+    let shows = g.P.ReducedOperand.two_numbers in
+    IsHeldLowest T.lo T.hi (numerator_product view l.fn.above *ℤ denominator_product shows (take l.x-index l.below)) (denominator_product view l.fn.above *ℤ numerator_product shows (take l.x-index l.below)) (T.value l.total.ratio.numer) (T.value l.total.ratio.denom)

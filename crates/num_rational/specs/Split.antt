@@ -1,0 +1,99 @@
+-- An amount split by shares. A share is a pair of whole numbers here, by `view`, and a part is a whole number, by `value`. In the examples 100
+-- is split by 1/3, 1/3 and 1/3.
+use Rattle.std.specs.Prelude.{◌≡◌, ◌≢◌, ◌+◌, ◌<◌, ◌≤ℤ◌, ◌<ℤ◌, ◌+ℤ◌, ◌-ℤ◌, ◌*ℤ◌, ℕ, ℤ, pos, All, List, None, Option, Some, fold, length, slice_index_or, take}
+use Rattle.ratio_integer.specs.Arithmetic.{sum_of}
+use Rattle.ratio_integer.specs.Fraction.{Fits, IsLowestTermsOf}
+use Rattle.ratio_integer.specs.Range.{IsHeld}
+use Rattle.ratio_core.specs.Rounding.{IsRounded}
+use Rattle.num_rational.specs.declared.reduced.Reduced.{Reduced}
+use Rattle.num_rational.specs.Operators.{numbers}
+use Rattle.num_rational.specs.Reduced.{ratio_of}
+use Rattle.num_rational.specs.declared.splitting.SplitRefusal.{SplitRefusal}
+use Rattle.num_rational.specs.declared.splitting.SplitRefusal.TheVariants.{BelowZero, Length, NotHeld, NotOne}
+
+-- the two numbers of a share
+-- Example: 1/3: (1, 3)
+abbrev pub share_numbers : {T : _} {i : _} {o : _} {e : _} {p : _} {h : _} → Reduced T i o e p h → ℤ × ℤ
+share_numbers x = numbers (ratio_of x)
+
+-- the sum of the shares, not reduced
+-- Example: 27/27
+abbrev pub total_of_shares : {A : Type 0} → (A → ℤ × ℤ) → List A → ℤ × ℤ
+total_of_shares view shares = fold (λ total share. sum_of total.0 total.1 (view share).0 (view share).1) (pos 0, pos 1) shares
+
+-- no share is below 0
+-- Example: not 4/3, -1/3
+abbrev pub NoShareIsBelowZero : {A : Type 0} → (A → ℤ × ℤ) → List A → Type 0
+NoShareIsBelowZero view shares = All (λ share. pos 0 ≤ℤ (view share).0) shares
+
+-- the mark is the amount times a fraction, rounded to the nearest whole number, a half away from 0
+-- Example: 100·2/3: 67
+abbrev pub IsRoundedShare : ℤ → ℤ × ℤ → ℤ → Type 0
+IsRoundedShare amount x mark = IsRounded (amount *ℤ x.0) x.1 mark
+
+-- the fraction fits, and so does the amount times it, rounded. The product itself need not fit
+-- Example: over `i8`, 2/3 and 67
+pub record MarkFits (lo hi amount : ℤ) (x : ℤ × ℤ) : Type 0 where
+  pub sum : Fits lo hi x.0 x.1
+  pub mark : ℤ
+  pub is : IsRoundedShare amount x mark
+  pub held : IsHeld lo hi mark
+
+-- the first share, the sum of the first two, and so on, fit, and so does the amount times each of these, rounded (`MarkFits`)
+abbrev pub MarksFit : {A : Type 0} → (A → ℤ × ℤ) → ℤ → ℤ → ℤ → List A → Type 0
+MarksFit view lo hi amount shares = (k : ℕ) → k < length shares → MarkFits lo hi amount (total_of_shares view (take (k + 1) shares))
+
+-- the shares add up to 1
+abbrev pub SharesMakeOne : {A : Type 0} → (A → ℤ × ℤ) → List A → Type 0
+SharesMakeOne view shares = (total_of_shares view shares).0 ≡ (total_of_shares view shares).1
+
+-- the shares can split the amount into `parts` parts: there are as many parts as shares, `NoShareIsBelowZero`, `MarksFit` and `SharesMakeOne`
+pub record CanBeSplit {A : Type 0} (view : A → ℤ × ℤ) (lo hi amount : ℤ) (shares : List A) (parts : ℕ) : Type 0 where
+  pub as_many : parts ≡ length shares
+  pub none_below : NoShareIsBelowZero view shares
+  pub fit : MarksFit view lo hi amount shares
+  pub one : SharesMakeOne view shares
+
+-- the refusal names the first condition of `CanBeSplit` that does not hold: `Length`, `BelowZero`, `NotHeld` or `NotOne`
+-- Example: 1/3 and 1/3: `NotOne`
+abbrev pub RefusesToSplit : {A : Type 0} → (A → ℤ × ℤ) → ℤ → ℤ → ℤ → List A → ℕ → SplitRefusal → Type 0
+RefusesToSplit view lo hi amount shares parts Length = parts ≢ length shares
+RefusesToSplit view lo hi amount shares parts BelowZero = (parts ≡ length shares) × ¬ (NoShareIsBelowZero view shares)
+RefusesToSplit view lo hi amount shares parts NotHeld = (parts ≡ length shares) × NoShareIsBelowZero view shares × ¬ (MarksFit view lo hi amount shares)
+RefusesToSplit view lo hi amount shares parts NotOne = (parts ≡ length shares) × NoShareIsBelowZero view shares × MarksFit view lo hi amount shares × ¬ (SharesMakeOne view shares)
+
+-- the part is less than 1 away from the amount times the share
+pub record IsNearItsShare (amount : ℤ) (share : ℤ × ℤ) (part : ℤ) : Type 0 where
+  pub above : (amount *ℤ share.0 -ℤ share.1) <ℤ (part *ℤ share.1)
+  pub below : (part *ℤ share.1) <ℤ (amount *ℤ share.0 +ℤ share.1)
+
+-- the sum of the parts
+abbrev pub total_of_parts : {P : Type 0} → (P → ℤ) → List P → ℤ
+total_of_parts value parts = fold (λ sum part. sum +ℤ value part) (pos 0) parts
+
+-- the parts add up to the amount. The first k of them add up to the amount times the sum of their shares, rounded. Each is less than 1 away
+-- from the amount times its share (`IsNearItsShare`)
+-- Example: 100 by 1/3, 1/3 and 1/3: 33, 34, 33
+pub record IsSplitBy {A P : Type 0} (view : A → ℤ × ℤ) (value : P → ℤ) (amount : ℤ) (shares : List A) (parts : List P) : Type 0 where
+  pub total : total_of_parts value parts ≡ amount
+  pub rounded : (k : ℕ) → k < length shares → IsRoundedShare amount (total_of_shares view (take (k + 1) shares)) (total_of_parts value (take (k + 1) parts))
+  pub near : (k : ℕ) → k < length shares → (share : A) (part : P) → IsNearItsShare amount (view (slice_index_or shares k share)) (value (slice_index_or parts k part))
+
+-- Inner: x is the sum of the shares so far and one more. It fits, and so does the mark: the amount times x, rounded
+pub record IsNextMark (lo hi amount : ℤ) (x sum : ℤ × ℤ) (mark : ℤ) : Type 0 where
+  pub value : IsLowestTermsOf x.0 x.1 sum.0 sum.1
+  pub fits : Fits lo hi x.0 x.1
+  pub held : IsHeld lo hi mark
+  pub rounded : IsRoundedShare amount x mark
+
+-- Inner: the result is the sum and the mark if both fit, else `None`
+abbrev pub ChecksNextMark : {T : _} {i : _} {o : _} {e : _} {p : _} {h : _} → ℤ → ℤ × ℤ → Option (Reduced T i o e p h × T) → Type 0
+ChecksNextMark {i = i} amount x None = ¬ (MarkFits i.lo i.hi amount x)
+ChecksNextMark {i = i} amount x (Some r) = IsNextMark i.lo i.hi amount x (share_numbers r.0) (i.value r.1)
+
+-- Inner: the sums are refused since one of them or its mark does not fit, or since all fit and the last is not 1
+abbrev pub MarksRefuse : {A : Type 0} → (A → ℤ × ℤ) → ℤ → ℤ → ℤ → List A → SplitRefusal → Type 0
+MarksRefuse view lo hi amount shares Length = ⊥
+MarksRefuse view lo hi amount shares BelowZero = ⊥
+MarksRefuse view lo hi amount shares NotHeld = ¬ (MarksFit view lo hi amount shares)
+MarksRefuse view lo hi amount shares NotOne = MarksFit view lo hi amount shares × ¬ (SharesMakeOne view shares)

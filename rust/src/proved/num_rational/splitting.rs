@@ -1,0 +1,89 @@
+// Erased from crates/num_rational/src/splitting.rt by rust/erase: not to be edited.
+//! An amount split by shares, so that nothing is lost.
+
+use crate::proved::num_rational::reduced::Reduced;
+use crate::proved::ratio_core::sign::is_below_zero;
+use crate::proved::ratio_decimal::rounding_rule::Rounding;
+use crate::proved::ratio_integer::Integer;
+
+/// Why an amount is not split: the first of these that applies.
+#[derive(Clone, Copy, Debug, PartialEq)]
+pub enum SplitRefusal {
+    /// The number of parts is not the number of shares.
+    Length,
+    /// A share is below 0.
+    BelowZero,
+    /// A sum of the first shares does not fit the type, or the amount times such a sum, rounded.
+    NotHeld,
+    /// The shares do not add up to 1.
+    NotOne,
+}
+
+/// Splits the amount by the shares into the parts. The parts add up to the amount exactly, and each is less than
+/// 1 away from the amount times its share. For example, 100 split by 1/3, 1/3 and 1/3 is 33, 34 and 33. At a
+/// refusal no part has changed. The sums of the first shares, times the amount, are rounded with a half away from
+/// 0. A part is the difference of two neighbours. No product has to fit: 10,000,000,000 is split by shares over
+/// 9,999,999,999, too.
+#[inline]
+pub fn split<T: Copy + Integer>(
+    amount: T,
+    shares: &[Reduced<T>],
+    parts: &mut [T],
+) -> Result<(), SplitRefusal> {
+    if parts.len() != shares.len() {
+        return Err(SplitRefusal::Length);
+    }
+    if !none_is_below_zero(shares) {
+        return Err(SplitRefusal::BelowZero);
+    }
+    check_marks(amount, shares)?;
+    write_parts(amount, shares, parts);
+    Ok(())
+}
+
+#[inline]
+fn none_is_below_zero<T: Copy + Integer>(shares: &[Reduced<T>]) -> bool {
+    shares.iter().all(|share| !is_below_zero(*share.numer()))
+}
+
+// The sum with one more share, and the amount times it, rounded.
+#[inline]
+fn next_mark<T: Copy + Integer>(
+    amount: T,
+    sum: &Reduced<T>,
+    share: &Reduced<T>,
+) -> Option<(Reduced<T>, T)> {
+    let sum = sum.checked_add(share)?;
+    let mark = sum.checked_mul_round(amount, Rounding::HalfAway)?;
+    Some((sum, mark))
+}
+
+// Whether each sum of the first shares and its mark fit, and the last sum is 1.
+#[inline]
+fn check_marks<T: Copy + Integer>(amount: T, shares: &[Reduced<T>]) -> Result<(), SplitRefusal> {
+    let mut sum = Reduced::zero();
+    for share in shares {
+        match next_mark(amount, &sum, share) {
+            Some((next, _)) => sum = next,
+            None => return Err(SplitRefusal::NotHeld),
+        }
+    }
+    if *sum.numer() == *sum.denom() {
+        Ok(())
+    } else {
+        Err(SplitRefusal::NotOne)
+    }
+}
+
+// Writes the parts. It requires that no refusal applies.
+#[inline]
+fn write_parts<T: Copy + Integer>(amount: T, shares: &[Reduced<T>], parts: &mut [T]) {
+    let mut sum = Reduced::zero();
+    let mut mark = T::ZERO;
+    for (i, share) in shares.iter().enumerate() {
+        let (next, next_mark) = next_mark(amount, &sum, share).unwrap();
+        parts[i] = next_mark.minus(mark);
+        sum = next;
+        mark = next_mark;
+    }
+}

@@ -22,6 +22,8 @@ pub mod ratio_long;
 pub mod ratio_natural;
 pub mod ratio_totals;
 #[cfg(all(test, target_pointer_width = "64"))]
+mod tests_fraction_totals;
+#[cfg(all(test, target_pointer_width = "64"))]
 mod tests_fractions;
 #[cfg(all(test, target_pointer_width = "64"))]
 mod tests_naturals;

@@ -2,6 +2,8 @@
 #![tactic(auto)]
 
 #[cfg(test)]
+mod long_floats;
+#[cfg(test)]
 mod long_fractions;
 #[cfg(test)]
 mod naturals;

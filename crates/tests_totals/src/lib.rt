@@ -2,22 +2,28 @@
 #![tactic(auto)]
 
 #[cfg(test)]
+mod any_slots;
+#[cfg(test)]
 mod bounded_decimals;
 #[cfg(test)]
-mod dots;
+mod common_denominators;
+#[cfg(test)]
+mod decimals;
 #[cfg(test)]
 mod floats;
 #[cfg(test)]
-mod fractions;
-#[cfg(test)]
-mod in_memory;
-#[cfg(test)]
-mod list_sums;
-#[cfg(test)]
 mod loose;
+#[cfg(test)]
+mod lowest_terms;
+#[cfg(test)]
+mod merging;
 #[cfg(test)]
 mod multiples;
 #[cfg(test)]
-mod reads;
+mod orders;
 #[cfg(test)]
-mod totals;
+mod short_sums;
+#[cfg(test)]
+mod slots;
+#[cfg(test)]
+mod whole_numbers;

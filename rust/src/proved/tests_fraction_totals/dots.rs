@@ -1,4 +1,4 @@
-// Erased from crates/tests_totals/src/dots.rt by rust/erase: not to be edited.
+// Erased from crates/tests_fraction_totals/src/dots.rt by rust/erase: not to be edited.
 //! Tests of totals of the products of two lists. Expected values are from Python's `fractions`.
 
 use crate::proved::fraction_totals::{DotRefusal, Slot, dot};

@@ -1,9 +1,8 @@
-// Erased from crates/tests_totals/src/list_sums.rt by rust/erase: not to be edited.
+// Erased from crates/tests_fraction_totals/src/list_sums.rt by rust/erase: not to be edited.
 //! Sums of lists in the caller's room: worked rows. Expected values are from Python's `fractions`.
 
 use crate::proved::fraction_totals::{Short, Slot, SumRefusal, checked_sum_in};
 use crate::proved::num_rational::{Reduced, Reduced64};
-use crate::proved::ratio_totals::{add_short, short_pair};
 
 /// The fraction `numer/denom`.
 #[inline]
@@ -97,18 +96,4 @@ fn what_cancels_needs_no_type() {
         checked_sum_in(&[p, half, q], &mut slots, &mut room),
         Ok(None)
     );
-}
-
-#[test]
-fn one_step_in_machine_numbers() {
-    assert_eq!(add_short(1, 36, 1, 28), Some((16, 252)));
-    assert_eq!(add_short(5, 36, 1, 36), Some((6, 36)));
-    assert_eq!(add_short(1, 36, -1, 12), Some((-2, 36)));
-    assert_eq!(add_short(i128::MAX, 1, 1, 1), None);
-    assert_eq!(
-        add_short(1, 170141183460469231731687303715884105727, 1, 2),
-        None
-    );
-    assert_eq!(short_pair(16, 252), Some((4, 63)));
-    assert_eq!(short_pair(1, 18446744073709551616), None);
 }

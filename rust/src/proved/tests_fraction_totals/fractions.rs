@@ -1,4 +1,4 @@
-// Erased from crates/tests_totals/src/fractions.rt by rust/erase: not to be edited.
+// Erased from crates/tests_fraction_totals/src/fractions.rt by rust/erase: not to be edited.
 //! Tests of totals of fractions: worked rows. Expected values are from Python's `fractions`.
 
 use crate::proved::fraction_totals::{ProductRefusal, ReadRefusal, Refusal, Short, Slot, Total, total_of};

@@ -1,4 +1,4 @@
-// Erased from crates/tests_totals/src/reads.rt by rust/erase: not to be edited.
+// Erased from crates/tests_fraction_totals/src/reads.rt by rust/erase: not to be edited.
 //! Tests of the order and of the rounding of totals of fractions. Expected values are from Python's `fractions`.
 
 use crate::proved::fraction_totals::{CompareRefusal, ReadRefusal, Refusal, Slot, Total};

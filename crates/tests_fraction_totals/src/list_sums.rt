@@ -3,7 +3,6 @@ ghost use Rattle.std.specs.Prelude.{◌≤◌};
 
 use fraction_totals::{Short, Slot, SumRefusal, checked_sum_in};
 use num_rational::{Reduced, Reduced64};
-use ratio_totals::{add_short, short_pair};
 use std::process::Abort;
 
 /// The fraction `numer/denom`.
@@ -90,18 +89,4 @@ fn what_cancels_needs_no_type(rt: HostRuntime) {
         checked_sum_in(&[p, half, q], &mut slots, &mut room),
         Ok(None)
     );
-}
-
-#[test]
-fn one_step_in_machine_numbers(rt: HostRuntime) {
-    assert_eq!(rt; add_short(1, 36, 1, 28), Some((16, 252)));
-    assert_eq!(rt; add_short(5, 36, 1, 36), Some((6, 36)));
-    assert_eq!(rt; add_short(1, 36, -1, 12), Some((-2, 36)));
-    assert_eq!(rt; add_short(i128::MAX, 1, 1, 1), None);
-    assert_eq!(rt;
-        add_short(1, 170141183460469231731687303715884105727, 1, 2),
-        None
-    );
-    assert_eq!(rt; short_pair(16, 252), Some((4, 63)));
-    assert_eq!(rt; short_pair(1, 18446744073709551616), None);
 }

@@ -1,0 +1,15 @@
+//! Tests of totals of fractions in lowest terms: rows from outside, and each call once.
+#![tactic(auto)]
+
+#[cfg(test)]
+mod dots;
+#[cfg(test)]
+mod floats;
+#[cfg(test)]
+mod fractions;
+#[cfg(test)]
+mod in_memory;
+#[cfg(test)]
+mod list_sums;
+#[cfg(test)]
+mod reads;

@@ -1,0 +1,13 @@
+// Erased from crates/tests_fraction_totals/src/lib.rt by rust/erase: not to be edited.
+//! Tests of totals of fractions in lowest terms: rows from outside, and each call once.
+#[cfg(test)]
+mod dots;
+#[cfg(test)]
+mod floats;
+#[cfg(test)]
+mod fractions;
+
+#[cfg(test)]
+mod list_sums;
+#[cfg(test)]
+mod reads;

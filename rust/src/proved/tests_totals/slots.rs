@@ -1,0 +1,80 @@
+// Erased from crates/tests_totals/src/slots.rt by rust/erase: not to be edited.
+//! Tests of the slots of a total: one for each denominator, and a refusal that changes nothing.
+
+use crate::proved::ratio_totals::{Refusal, Slot, Total, find, laws};
+use crate::test_support::Fail;
+
+#[test]
+fn two_denominators_take_two_slots() -> Result<(), Fail> {
+    let mut room = [Slot::EMPTY; 2];
+    let mut total = Total::new(&mut room);
+    assert_eq!(total.add(1, 36), Ok(()));
+    assert_eq!(total.add(1, 28), Ok(()));
+    assert_eq!(total.add(5, 36), Ok(()));
+    assert_eq!(total.numerator(36), 6);
+    assert_eq!(total.numerator(28), 1);
+    assert_eq!(total.numerator(12), 0);
+    assert_eq!(total.count(), 3);
+    Ok(())
+}
+
+#[test]
+fn a_fourth_denominator_needs_more_room() -> Result<(), Fail> {
+    let mut room = [Slot::EMPTY; 3];
+    let mut total = Total::new(&mut room);
+    for denom in [2, 3, 5] {
+        assert_eq!(total.add(1, denom), Ok(()), "over {denom}");
+    }
+    assert_eq!(total.add(1, 7), Err(Refusal::MoreRoom));
+    assert_eq!(total.subtract(1, 7), Err(Refusal::MoreRoom));
+    for denom in [2, 3, 5] {
+        assert_eq!(total.numerator(denom), 1, "over {denom}");
+    }
+    assert_eq!(total.numerator(7), 0);
+    assert_eq!(total.count(), 3);
+    let mut larger = [Slot::EMPTY; 8];
+    match total.moved_to(&mut larger) {
+        Ok(mut moved) => {
+            assert_eq!(moved.add(1, 7), Ok(()));
+            for denom in [2, 3, 5, 7] {
+                assert_eq!(moved.numerator(denom), 1, "over {denom}");
+            }
+            assert_eq!(moved.count(), 4);
+        }
+        Err(_) => assert!(false, "eight slots are enough"),
+    }
+    let mut smaller = [Slot::EMPTY; 2];
+    assert!(total.moved_to(&mut smaller).is_err());
+    Ok(())
+}
+
+#[test]
+fn what_goes_in_and_out_is_gone() -> Result<(), Fail> {
+    let mut room = [Slot::EMPTY; 4];
+    let mut total = Total::new(&mut room);
+    assert_eq!(total.add(127, 1), Ok(()));
+    assert_eq!(total.add(1, 127), Ok(()));
+    assert_eq!(total.subtract(127, 1), Ok(()));
+    assert_eq!(total.numerator(1), 0);
+    assert_eq!(total.numerator(127), 1);
+    assert_eq!(total.count(), 1);
+    Ok(())
+}
+
+#[test]
+fn a_full_table_has_no_place_for_another() -> Result<(), Fail> {
+    let table = [Slot::new(36, 1), Slot::new(28, 1)];
+    assert_eq!(find(&table, 36), Some(0));
+    assert_eq!(find(&table, 28), Some(1));
+    assert_eq!(find(&table, 12), None);
+    Ok(())
+}
+
+#[test]
+fn each_law_is_called() {
+    laws::additions();
+    laws::merges();
+    laws::tables();
+    laws::reads();
+    laws::sums();
+}

@@ -127,11 +127,20 @@ fn rate<T: Integer + TryFrom<i128>>(numbers: &mut Numbers) -> Reduced<T> {
     }
 }
 
-/// What random chains came to: how many results fit, and how many of these have a step that does not.
+/// Random chains: how many results fit, how many of these have a step that does not, and that no result differs and none that fits is refused.
+/// `BAKHSNEY_CHAINS` says how many chains each type gets; without it there are 10,000.
 fn chains<T: Integer + TryFrom<i128> + Into<i128>>(seed: u64) {
     let count: u32 = std::env::var("BAKHSNEY_CHAINS").map_or(10_000, |count| count.parse().unwrap());
     let mut numbers = Numbers(seed);
     let (mut fitted, mut lost) = (0u32, 0u32);
+    let (mut different, mut refused) = (0u32, 0u32);
+    let mut compare = |answer: Option<(T, T)>, exact: Option<(T, T)>, above: &[Reduced<T>], below: &[Reduced<T>]| {
+        if answer != exact {
+            eprintln!("{above:?} by {below:?} is {answer:?}, not {exact:?}");
+            different += u32::from(answer.is_some());
+            refused += u32::from(answer.is_none());
+        }
+    };
     for _ in 0..count {
         let mut rates: Vec<Reduced<T>> = (0..2 + numbers.below(7)).map(|_| rate(&mut numbers)).collect();
         // Half of the chains turn some of their own rates over, so that much cancels.
@@ -152,18 +161,19 @@ fn chains<T: Integer + TryFrom<i128> + Into<i128>>(seed: u64) {
             })
         };
         let answer = product(&rates);
-        assert_eq!(answer, fitting(&exact(&rates)), "{rates:?}");
+        compare(answer, fitting(&exact(&rates)), &rates, &[]);
         let divisor = exact(below);
         let quotient = if divisor.is_zero() { None } else { fitting(&(exact(above) / divisor)) };
         let copied = |items: &[Reduced<T>]| items.to_vec();
-        assert_eq!(Reduced::checked_quotient_of(copied(above), copied(below)).map(Reduced::into_raw), quotient, "{above:?} {below:?}");
+        compare(Reduced::checked_quotient_of(copied(above), copied(below)).map(Reduced::into_raw), quotient, above, below);
         let steps = rates.iter().try_fold(Reduced::ONE, |total, rate| total.checked_mul(rate));
         fitted += u32::from(answer.is_some());
         lost += u32::from(answer.is_some() && steps.is_none());
     }
+    println!("{count} chains: {fitted} fit, and {lost} of these have a step that does not");
+    assert_eq!((different, refused), (0, 0), "so many differ, and so many that fit are refused");
     // There are enough chains of both kinds.
     assert!(fitted > count / 8 && lost > count / 200, "{fitted} {lost}");
-    println!("{count} chains: {fitted} fit, and {lost} of these have a step that does not");
 }
 
 #[test]

@@ -17,6 +17,7 @@ enum { SLOTS = 16 };
 
 static ratio_i64 halves[LEN], smalls[LEN];
 static ratio_pair_i64 pairs[LEN];
+static ratio_factors_i64 factors[LEN];
 static ratio_power_i64 powers[LEN];
 static ratio_bounded_i64 bounded[LEN];
 static ratio_bounds_i64 bounds[LEN];
@@ -54,7 +55,8 @@ static void done(uint32_t returned) {
     X(compare_i64, pairs, orders, "half") X(equal_i64, pairs, truths, "half") X(hash_i64, halves, hashes, "half") \
     X(hash_lowest_i64, halves, hashes, "half") X(key_i64, halves, keys, "half")                             \
     X(add_i64, pairs, answers, "half") X(sub_i64, pairs, answers, "half") X(mul_i64, pairs, answers, "half") \
-    X(div_i64, pairs, answers, "half") X(rem_i64, pairs, answers, "half") X(pow_i64, powers, answers, "half") \
+    X(div_i64, pairs, answers, "half") X(rem_i64, pairs, answers, "half")                                   \
+    X(gcd_i64, pairs, answers, "half") X(lcm_i64, pairs, answers, "half") X(mul_round_i64, factors, answers, "half") X(pow_i64, powers, answers, "half") \
     X(reduce_i64, halves, answers, "half") X(neg_i64, halves, answers, "half") X(abs_i64, halves, answers, "half") \
     X(floor_i64, halves, answers, "half") X(ceil_i64, halves, answers, "half") X(trunc_i64, halves, answers, "half") \
     X(round_i64, halves, answers, "half") X(round_to_i64, multiples, answers, "half")                       \
@@ -131,6 +133,9 @@ static void fill(void) {
         halves[i] = x;
         pairs[i] = pair;
         if (y.numer == 0) pairs[i].right.numer = 1;
+        factors[i].left = x;
+        factors[i].right = y;
+        factors[i].rule = RATIO_RULE_HALF_EVEN;
         smalls[i] = fraction(1000000, 16);
         powers[i].base = fraction(1 << 15, 1 << 15);
         powers[i].exponent = (int32_t) random_below(4) - 1;

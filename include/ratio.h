@@ -34,7 +34,7 @@ enum {
     RATIO_ANSWERED = 0,
     RATIO_NOT_HELD = 1,                 /* the answer does not fit in the type, or there is none: no fraction within the bounds of
                                            between, or no convergent at the place */
-    RATIO_DIVISION_BY_ZERO = 2,         /* of div and rem, and of pow for 0 to an exponent below 0 */
+    RATIO_DIVISION_BY_ZERO = 2,         /* of div, rem and quotient_of, and of pow for 0 to an exponent below 0 */
     RATIO_DENOMINATOR_NOT_POSITIVE = 3, /* of all others */
     RATIO_ZERO_DENOMINATOR = 4,         /* of compare, equal, hash, reduce and print, which take negative ones, and of read and
                                            read_text */
@@ -44,9 +44,10 @@ enum {
     RATIO_NO_TEXT = 6,                  /* of read, read_decimal and read_text: the span does not lie in the texts */
     RATIO_BOUND_NOT_POSITIVE = 7,       /* of nearest: no denominator lies from 1 to the bound */
     RATIO_NO_TOTAL = 8,                 /* of totals: an empty slot has a numerator that is not 0 */
-    RATIO_BAD_OPTION = 9,               /* of between, from_scaled, round_to, print_decimal, total_print and total_round_to: the call
-                                           has no such flags, scale, parts, places or rule */
-    RATIO_MORE_ROOM = 10,               /* of totals: each slot holds another denominator, or a read has too little room */
+    RATIO_BAD_OPTION = 9,               /* of between, from_scaled, round_to, mul_round, print_decimal, total_print and total_round_to:
+                                           the call has no such flags, scale, parts, places or rule */
+    RATIO_MORE_ROOM = 10,               /* of totals: each slot holds another denominator, or a read has too little room. Of
+                                           quotient_of: too little room */
     RATIO_TOO_LONG = 11                 /* of reads of totals: the common denominator is not below 2^(2^20) */
 };
 
@@ -58,7 +59,7 @@ enum {
     RATIO_HIGH_OPEN = 8      /* there is no upper bound: its fields are not read */
 };
 
-/* The rules of round_to, print_decimal, total_print and total_round_to. */
+/* The rules of round_to, mul_round, print_decimal, total_print and total_round_to. */
 enum {
     RATIO_RULE_HALF_AWAY = 0, /* to the nearer multiple, and a half away from zero: 5/2 to 3 */
     RATIO_RULE_HALF_EVEN = 1, /* to the nearer one, and a half to the even one: 5/2 to 2 */
@@ -109,6 +110,14 @@ typedef struct { ratio_wide number; int32_t scale; } ratio_scaled;
  *   ratio_add_i32 ..     the sum, difference, product, quotient and remainder of each pair, in lowest terms. They give
  *                        RATIO_NOT_HELD only if these do not fit. The remainder is left - right * t, where t is the quotient
  *                        cut towards zero
+ *   ratio_gcd_i32        the greatest common divisor of each pair, in lowest terms: the greatest fraction that divides both. One
+ *                        fraction divides another if the quotient is a whole number. 1/4 and 1/6 give 1/12. It is never negative,
+ *                        and for a fraction and 0 it is the fraction's absolute value. RATIO_NOT_HELD only if it does not fit
+ *   ratio_lcm_i32        the least common multiple of each pair, in lowest terms: the least fraction above 0 that both divide. 1/4 and
+ *                        1/6 give 1/2. It is 0/1 if one of them is 0. RATIO_NOT_HELD only if it does not fit
+ *   ratio_mul_round_i32  the product of each pair, rounded to a whole number by a rule, over 1: 6/1 for 7/3 and 5/2 by
+ *                        RATIO_RULE_HALF_EVEN. RATIO_NOT_HELD only if that number does not fit: the product itself need not. A rule
+ *                        that is none gives RATIO_BAD_OPTION
  *   ratio_reduce_i32     the lowest terms, with the sign in the numerator
  *   ratio_neg_i32        the negative, and the absolute value, over the same denominator, not reduced. If the numerator is the
  *   ratio_abs_i32        least number of the type, its negative gives RATIO_NOT_HELD
@@ -154,6 +163,7 @@ typedef struct { ratio_wide number; int32_t scale; } ratio_scaled;
 #define RATIO_CALLS(suffix, number)                                                        \
     typedef struct { number numer, denom; } ratio_##suffix;                                \
     typedef struct { ratio_##suffix left, right; } ratio_pair_##suffix;                    \
+    typedef struct { ratio_##suffix left, right; uint32_t rule; } ratio_factors_##suffix;  \
     typedef struct { ratio_##suffix base; int32_t exponent; } ratio_power_##suffix;        \
     typedef struct { ratio_##suffix value; number most; } ratio_bounded_##suffix;          \
     typedef struct { ratio_##suffix value; uint32_t place; } ratio_place_##suffix;         \
@@ -177,6 +187,12 @@ typedef struct { ratio_wide number; int32_t scale; } ratio_scaled;
                                 ratio_answer_##suffix *answers, size_t answers_len);       \
     uint32_t ratio_rem_##suffix(const ratio_pair_##suffix *asked, size_t asked_len,        \
                                 ratio_answer_##suffix *answers, size_t answers_len);       \
+    uint32_t ratio_gcd_##suffix(const ratio_pair_##suffix *asked, size_t asked_len,        \
+                                ratio_answer_##suffix *answers, size_t answers_len);       \
+    uint32_t ratio_lcm_##suffix(const ratio_pair_##suffix *asked, size_t asked_len,        \
+                                ratio_answer_##suffix *answers, size_t answers_len);       \
+    uint32_t ratio_mul_round_##suffix(const ratio_factors_##suffix *asked, size_t asked_len, \
+                                      ratio_answer_##suffix *answers, size_t answers_len); \
     uint32_t ratio_reduce_##suffix(const ratio_##suffix *asked, size_t asked_len,          \
                                    ratio_answer_##suffix *answers, size_t answers_len);    \
     uint32_t ratio_neg_##suffix(const ratio_##suffix *asked, size_t asked_len,             \
@@ -253,6 +269,18 @@ RATIO_SHORT_CALLS(i64)
  * unlike: `ratio_compare_i64` tells which is greater.
  */
 uint32_t ratio_key_i64(const ratio_i64 *asked, size_t asked_len, ratio_key *answers, size_t answers_len);
+
+/* The product of the fractions `above` divided by each fraction `below`, in lowest terms: 4/35 for 2/3 and 3/7 above and 5/2 below. No
+ * number on the way has to fit: 9223372036854775807/3, 3/1 and 1/9223372036854775807 give 1/1 in each order. Without fractions above, it is 1
+ * divided by those below. The two lists are not changed.
+ *
+ * You give room: an array of at least two numbers for each fraction of both lists, which may have anything before the call and after it.
+ * With less room the code is RATIO_MORE_ROOM. So RATIO_NOT_HELD always means that the lowest terms do not fit 64 bits. A denominator that is
+ * not positive gives RATIO_DENOMINATOR_NOT_POSITIVE, and then a fraction below that is 0 gives RATIO_DIVISION_BY_ZERO. If `answers_len` is not
+ * 1, the call returns RATIO_BAD_LENGTH and writes nothing. The time grows with the product of both numbers of fractions.
+ */
+uint32_t ratio_quotient_of_i64(const ratio_i64 *above, size_t above_len, const ratio_i64 *below, size_t below_len, int64_t *room, size_t room_len,
+                               ratio_answer_i64 *answers, size_t answers_len);
 
 /* A total adds fractions and loses nothing on the way, however many there are. It has a slot for each denominator, with the sum of the
  * numerators over it: 1/36, 1/28 and 5/36 take two slots, 6/36 and 1/28. So adding a fraction is one addition of 128 bits, without a greatest
@@ -395,6 +423,7 @@ static_assert(sizeof(ratio_text) == 24, "the size of ratio_text");
 static_assert(sizeof(ratio_scaled) == 24, "the size of ratio_scaled");
 static_assert(sizeof(ratio_i32) == 8, "the size of ratio_i32");
 static_assert(sizeof(ratio_pair_i32) == 16, "the size of ratio_pair_i32");
+static_assert(sizeof(ratio_factors_i32) == 20, "the size of ratio_factors_i32");
 static_assert(sizeof(ratio_power_i32) == 12, "the size of ratio_power_i32");
 static_assert(sizeof(ratio_bounded_i32) == 12, "the size of ratio_bounded_i32");
 static_assert(sizeof(ratio_multiple_i32) == 16, "the size of ratio_multiple_i32");
@@ -404,6 +433,7 @@ static_assert(sizeof(ratio_bounds_i32) == 20, "the size of ratio_bounds_i32");
 static_assert(sizeof(ratio_answer_i32) == 12, "the size of ratio_answer_i32");
 static_assert(sizeof(ratio_i64) == 16, "the size of ratio_i64");
 static_assert(sizeof(ratio_pair_i64) == 32, "the size of ratio_pair_i64");
+static_assert(sizeof(ratio_factors_i64) == 40, "the size of ratio_factors_i64");
 static_assert(sizeof(ratio_power_i64) == 24, "the size of ratio_power_i64");
 static_assert(sizeof(ratio_bounded_i64) == 24, "the size of ratio_bounded_i64");
 static_assert(sizeof(ratio_multiple_i64) == 32, "the size of ratio_multiple_i64");
@@ -413,6 +443,7 @@ static_assert(sizeof(ratio_bounds_i64) == 40, "the size of ratio_bounds_i64");
 static_assert(sizeof(ratio_answer_i64) == 24, "the size of ratio_answer_i64");
 static_assert(sizeof(ratio_i128) == 32, "the size of ratio_i128");
 static_assert(sizeof(ratio_pair_i128) == 64, "the size of ratio_pair_i128");
+static_assert(sizeof(ratio_factors_i128) == 72, "the size of ratio_factors_i128");
 static_assert(sizeof(ratio_power_i128) == 40, "the size of ratio_power_i128");
 static_assert(sizeof(ratio_bounded_i128) == 48, "the size of ratio_bounded_i128");
 static_assert(sizeof(ratio_multiple_i128) == 56, "the size of ratio_multiple_i128");

@@ -17,6 +17,8 @@ OF_TWO(ratio_sub, ratio_sub_i64, "%s - %s")
 OF_TWO(ratio_mul, ratio_mul_i64, "%s * %s")
 OF_TWO(ratio_div, ratio_div_i64, "%s / %s")
 OF_TWO(ratio_rem, ratio_rem_i64, "%s %% %s")
+OF_TWO(ratio_gcd, ratio_gcd_i64, "gcd(%s, %s)")
+OF_TWO(ratio_lcm, ratio_lcm_i64, "lcm(%s, %s)")
 OF_ONE(ratio_neg, ratio_neg_i64, "- %s")
 OF_ONE(ratio_abs, ratio_abs_i64, "abs(%s)")
 OF_ONE(ratio_floor, ratio_floor_i64, "floor(%s)")
@@ -29,6 +31,18 @@ CALL(ratio_power)
 	ratio_power_i64 power = {*ARG(0), PG_GETARG_INT32(1)};
 
 	GIVE(ratio_pow_i64, power, "ratio_power(%s, %d)", quoted(power.base), power.exponent);
+}
+
+/* The product rounded to a whole number, a half away from zero, as numeric rounds. */
+CALL(ratio_mul_round)
+{
+	ratio_factors_i64 factors = {*ARG(0), *ARG(1), RATIO_RULE_HALF_AWAY};
+	ratio_answer_i64 answer;
+
+	ratio_mul_round_i64(&factors, 1, &answer, 1);
+	if (unlikely(answer.code != RATIO_ANSWERED))
+		refuse(answer.code, psprintf("ratio_mul_round(%s, %s)", quoted(factors.left), quoted(factors.right)));
+	PG_RETURN_INT64(answer.value.numer);
 }
 
 CALL(ratio_nearest)

@@ -48,6 +48,13 @@ static void expect(int holds, const char *what) {
         static const ratio_pair_##suffix turned = PAIR(N, -1, 4, 3, 2);                              \
         static const ratio_pair_##suffix by_zero = PAIR(N, 3, 2, 0, 4);                              \
         static const ratio_pair_##suffix none = PAIR(N, 3, 0, -1, -4);                               \
+        static const ratio_pair_##suffix unreduced = PAIR(N, 2, 8, -3, 18), with_none = PAIR(N, 0, 5, -3, 4);\
+        static const ratio_factors_##suffix to_even = {.left = FRACTION(N, 7, 3), .right = FRACTION(N, 6, 4), .rule = RATIO_RULE_HALF_EVEN},\
+            to_floor = {.left = FRACTION(N, -7, 3), .right = FRACTION(N, 5, 2), .rule = RATIO_RULE_FLOOR},\
+            ruleless = {.left = FRACTION(N, 7, 3), .right = FRACTION(N, 5, 2), .rule = 6},           \
+            placeless = {.left = FRACTION(N, 7, 3), .right = FRACTION(N, 5, -2), .rule = RATIO_RULE_FLOOR};\
+        static const ratio_answer_##suffix twelfth = ANSWER(N, 1, 12), fourth_part = ANSWER(N, 1, 4), \
+            half_again = ANSWER(N, 3, 2), three_fourths = ANSWER(N, 3, 4), four = ANSWER(N, 4, 1), minus_six = ANSWER(N, -6, 1);\
         static const ratio_##suffix loose[2] = {FRACTION(N, 6, -4), FRACTION(N, -3, 2)};             \
         static const ratio_bounded_##suffix near = {.value = FRACTION(N, 355, 113), .most = N(10)};  \
         static const ratio_bounded_##suffix nowhere = {.value = FRACTION(N, 355, 113), .most = N(0)};\
@@ -125,6 +132,18 @@ static void expect(int holds, const char *what) {
         GIVES(suffix, div, pair, quotient)                                                           \
         GIVES(suffix, rem, pair, rest)                                                               \
         REFUSES(suffix, add, none, RATIO_DENOMINATOR_NOT_POSITIVE)                                   \
+        GIVES(suffix, gcd, pair, fourth_part)                                                        \
+        GIVES(suffix, gcd, unreduced, twelfth)                                                       \
+        GIVES(suffix, gcd, with_none, three_fourths)                                                 \
+        REFUSES(suffix, gcd, none, RATIO_DENOMINATOR_NOT_POSITIVE)                                   \
+        GIVES(suffix, lcm, pair, half_again)                                                         \
+        GIVES(suffix, lcm, unreduced, half)                                                          \
+        GIVES(suffix, lcm, with_none, rest)                                                          \
+        REFUSES(suffix, lcm, none, RATIO_DENOMINATOR_NOT_POSITIVE)                                   \
+        GIVES(suffix, mul_round, to_even, four)                                                      \
+        GIVES(suffix, mul_round, to_floor, minus_six)                                                \
+        REFUSES(suffix, mul_round, ruleless, RATIO_BAD_OPTION)                                       \
+        REFUSES(suffix, mul_round, placeless, RATIO_DENOMINATOR_NOT_POSITIVE)                        \
         REFUSES(suffix, div, by_zero, RATIO_DIVISION_BY_ZERO)                                        \
         REFUSES(suffix, rem, by_zero, RATIO_DIVISION_BY_ZERO)                                        \
         GIVES(suffix, reduce, loose[0], low)                                                         \
@@ -244,6 +263,35 @@ static void sums_that_fit(void) {
     ratio_answer_i128 answer[1];
     GIVES(i128, add, halves, whole)
     GIVES(i128, sub, loose, rest)
+}
+
+/* A divisor and a multiple that do not fit, and rounded products whose exact products do not. Python's `fractions` computed them. */
+static void divisors_and_rounded_products(void) {
+    const ratio_pair_i64 least = {{INT64_MIN, 1}, {0, 1}}, large = {{INT64_MAX, 2}, {INT64_MAX - 1, 1}};
+    const ratio_factors_i64 parts = {{INT64_MAX, 3}, {2, 5}, RATIO_RULE_HALF_EVEN}, too_large = {{INT64_MAX, 3}, {4, 1}, RATIO_RULE_DOWN};
+    const ratio_answer_i64 part = {RATIO_ANSWERED, {INT64_C(1229782938247303441), 1}};
+    ratio_answer_i64 answer[1];
+    REFUSES(i64, gcd, least, RATIO_NOT_HELD)
+    REFUSES(i64, lcm, large, RATIO_NOT_HELD)
+    GIVES(i64, mul_round, parts, part)
+    REFUSES(i64, mul_round, too_large, RATIO_NOT_HELD)
+}
+
+/* Products and quotients whose steps do not fit. Python's `fractions` computed them. */
+static void quotients_of_many(void) {
+    static const ratio_i64 above[3] = {{INT64_MAX, 3}, {6, 2}, {1, INT64_MAX}}, below[2] = {{5, 2}, {0, 3}}, loose[1] = {{1, -2}};
+    int64_t room[10];
+    ratio_answer_i64 answer[1];
+    expect(ratio_quotient_of_i64(above, 3, below, 1, room, 8, answer, 1) == RATIO_DONE && answer->code == RATIO_ANSWERED, "quotient of many");
+    expect(answer->value.numer == 2 && answer->value.denom == 5, "quotient of many");
+    expect(ratio_quotient_of_i64(above, 3, below, 0, room, 6, answer, 1) == RATIO_DONE && answer->value.numer == 1 && answer->value.denom == 1, "product of many");
+    expect(ratio_quotient_of_i64(above, 0, above, 1, room, 2, answer, 1) == RATIO_DONE && answer->value.numer == 3 && answer->value.denom == INT64_MAX, "quotient of one");
+    expect(ratio_quotient_of_i64(above, 2, above, 2, room, 8, answer, 1) == RATIO_DONE && answer->value.numer == 1 && answer->value.denom == 1, "quotient of the same");
+    expect(ratio_quotient_of_i64(above, 3, below, 1, room, 7, answer, 1) == RATIO_DONE && answer->code == RATIO_MORE_ROOM, "no room for a quotient");
+    expect(ratio_quotient_of_i64(above, 1, above + 2, 1, room, 4, answer, 1) == RATIO_DONE && answer->code == RATIO_NOT_HELD, "a quotient above 64 bits");
+    expect(ratio_quotient_of_i64(above, 3, below, 2, room, 10, answer, 1) == RATIO_DONE && answer->code == RATIO_DIVISION_BY_ZERO, "a quotient by 0");
+    expect(ratio_quotient_of_i64(above, 3, loose, 1, room, 10, answer, 1) == RATIO_DONE && answer->code == RATIO_DENOMINATOR_NOT_POSITIVE, "a loose factor");
+    expect(ratio_quotient_of_i64(above, 3, below, 1, room, 10, answer, 0) == RATIO_BAD_LENGTH, "no quotient");
 }
 
 /* A script of Python computed the hash of 1/2, by the definition. */
@@ -447,6 +495,8 @@ int main(void) {
     every_call_i128();
     wide_halves();
     sums_that_fit();
+    divisors_and_rounded_products();
+    quotients_of_many();
     casts();
     floats();
     lowest_hashes();

@@ -8,10 +8,15 @@ SELECT ratio_power('-2/3', 3), ratio_power('-2/3', -3), ratio_power(5, 0), ratio
     ratio_power(2, 62), ratio_power(-2, 63), ratio_power('-1/2', -62);
 SELECT ratio_nearest('355/113', 10), ratio_nearest('355/113', 112), ratio_nearest('-355/113', 113), ratio_nearest('9223372036854775806/9223372036854775807', 1000),
     ratio_nearest('1/3', 9223372036854775807), ratio_nearest('1/2', 1), ratio_nearest('-1/2', 1);
+-- divisors, multiples and rounded products
+SELECT gcd('1/4'::ratio, '1/6'), lcm('1/4'::ratio, '1/6'), gcd('3/2'::ratio, '-1/4'), lcm('3/2'::ratio, '-1/4'), gcd(0, '-3/4'::ratio), lcm(0, '-3/4'::ratio),
+    gcd('9223372036854775807/3'::ratio, '9223372036854775807/2'), pg_typeof(gcd(4, 6)), pg_typeof(gcd(4, 6::bigint)), pg_typeof(gcd(4, 1.5)), pg_typeof(gcd(4, '1/2'::ratio));
+SELECT ratio_mul_round('7/3', '5/2'), ratio_mul_round('-5/2', 1), ratio_mul_round('9223372036854775807/3', '2/5'), ratio_mul_round(-9223372036854775808, '1/3'),
+    ratio_mul_round('9223372036854775807/2', '9223372036854775806/9223372036854775807');
 -- each error has its code, and names the operands
 SELECT q, refusal('SELECT ' || q) FROM unnest(ARRAY['9223372036854775807::ratio + 1', '''-9223372036854775808''::ratio - ''1/2''', '''1/4294967296''::ratio * ''1/4294967296''',
     '9223372036854775807::ratio / ''1/2''', '''1/2''::ratio / 0', '0::ratio / 0', '''1/2''::ratio % 0', '- ''-9223372036854775808''::ratio', 'abs(''-9223372036854775808''::ratio)',
-    'ratio_power(0, -1)', 'ratio_power(3, 40)', 'ratio_power(''1/2'', 64)', 'ratio_nearest(''1/2'', 0)', 'ratio_nearest(''1/2'', -1)', 'ceiling(''1/2''::ratio)']) q;
+    'gcd(''-9223372036854775808''::ratio, 0)', 'lcm(''9223372036854775807/2''::ratio, 9223372036854775806)', 'ratio_mul_round(9223372036854775807, ''3/2'')', 'ratio_power(0, -1)', 'ratio_power(3, 40)', 'ratio_power(''1/2'', 64)', 'ratio_nearest(''1/2'', 0)', 'ratio_nearest(''1/2'', -1)', 'ceiling(''1/2''::ratio)']) q;
 -- beside numeric: each operator over pairs of hard fractions gives the lowest terms, and refuses only what does not fit
 CREATE FUNCTION got(operator text, a ratio, b ratio) RETURNS text LANGUAGE plpgsql AS $$
 BEGIN

@@ -13,3 +13,5 @@ pub mod TotalLaws
 pub mod ReadsAgree
 pub mod Keys
 pub mod Multiples
+pub mod SameDivisors
+pub mod RoundedNumbers

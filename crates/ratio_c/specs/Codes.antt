@@ -10,7 +10,7 @@ return_done = 0
 abbrev pub return_bad_length : ℕ
 return_bad_length = 1
 
--- the code of an answer with its numbers: 0. The codes 1 to 11 say why there are none
+-- the code of an answer with its numbers: 0. The codes 1 to 15 say why there are none
 abbrev pub code_answered : ℕ
 code_answered = 0
 
@@ -51,13 +51,29 @@ code_no_total = 8
 abbrev pub code_bad_option : ℕ
 code_bad_option = 9
 
--- the code 10: a total has no slot for another denominator, or a read has too little room
+-- the code 10: a total has no slot for another denominator, or a read or a product of many has too little room
 abbrev pub code_more_room : ℕ
 code_more_room = 10
 
 -- the code 11: the common denominator of a total is not below 2^(2^20)
 abbrev pub code_too_long : ℕ
 code_too_long = 11
+
+-- the code 12: a share or a weight is below 0
+abbrev pub code_below_zero : ℕ
+code_below_zero = 12
+
+-- the code 13: the shares do not add up to 1
+abbrev pub code_not_one : ℕ
+code_not_one = 13
+
+-- the code 14: the weights add up to 0
+abbrev pub code_all_zero : ℕ
+code_all_zero = 14
+
+-- the code 15: there are not as many parts as shares or weights
+abbrev pub code_unlike_lengths : ℕ
+code_unlike_lengths = 15
 
 -- the flag 1: the lower bound is included
 abbrev pub code_low_included : ℕ

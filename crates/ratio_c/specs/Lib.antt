@@ -2,11 +2,13 @@ pub mod Codes
 pub mod Crossing
 pub mod Bounds
 pub mod Calls
+pub mod Pairs
 pub mod Texts
 pub mod Numbers32
 pub mod Numbers64
 pub mod Numbers128
 pub mod LowestHash
+pub mod Many
 pub mod Totals
 pub mod TotalFloats
 pub mod TotalReads

@@ -111,7 +111,7 @@ IsDecimalOfTotal slots places rule room end texts answer =
 
 -- the call writes the one answer that it is given room for. If it is not given just one, it returns 1 and writes nothing
 -- Example: no answer: 1
-abbrev pub AnswersOne : {B : Type 0} → (B → Type 0) → List ℕ → List ℕ → List B → List B → ℕ → Type 0
+abbrev pub AnswersOne : {B R : Type 0} → (B → Type 0) → List R → List R → List B → List B → ℕ → Type 0
 AnswersOne Is room new_room old new result =
     Tested (length old ≡ 1) ((result ≡ return_done) × AllZip (λ _ answer. Is answer) old new)
     ((result ≡ return_bad_length) × (new ≡ old) × (new_room ≡ room))

@@ -121,6 +121,15 @@ pub trait FlaggedBounds: TwoFractions {
         ensures { result ≡ flags self.now };
 }
 
+/// Two fractions and the number of a rule by which their product is rounded.
+pub trait RuledPair: TwoFractions {
+    ghost rule: { Self → ℕ };
+
+    /// The number of the rule.
+    fn rule(&self) -> u32
+        ensures { result ≡ rule self.now };
+}
+
 /// A fraction and the number of a rule by which it is rounded.
 pub trait Ruled: OneFraction {
     ghost rule: { Self → ℕ };

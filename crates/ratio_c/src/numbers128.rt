@@ -7,6 +7,7 @@ ghost use Rattle.ratio_c.specs.Crossing.{wide_number};
 ghost use Rattle.ratio_c.specs.Numbers128.{fraction128, greatest128, least128, said128};
 ghost use Rattle.ratio_c.specs.Numbers32.{greatest32, least32, said32};
 ghost use Rattle.ratio_c.specs.Numbers64.{greatest64, least64, said64};
+ghost use Rattle.ratio_c.specs.Pairs.{IsGcdAnswer, IsLcmAnswer, IsRoundedProductAnswer};
 ghost use Rattle.ratio_c.specs.Texts.{Prints, ShowsDecimal, ShowsFields};
 
 use crate::arithmetic::{Difference, Product, Quotient, Remainder, Sum};
@@ -15,10 +16,11 @@ use crate::cast::Casting;
 use crate::compare::{Comparison, Equality, Order, Truth};
 use crate::convergent::ConvergentAt;
 use crate::crossing::{
-    Bounded, FlaggedBounds, OneFraction, Parted, Placed, Pointed, Raised, Reply, Ruled,
+    Bounded, FlaggedBounds, OneFraction, Parted, Placed, Pointed, Raised, Reply, Ruled, RuledPair,
     TwoFractions,
 };
 use crate::decimal::{DecimalTexts, Decimals};
+use crate::divisors::{CommonDivisor, CommonMultiple};
 use crate::each::each;
 use crate::floats::{Float, FromFloat, Rationalizing, ToFloat};
 use crate::hash::{Hash, Hashing};
@@ -29,6 +31,7 @@ use crate::numbers64::Answer64;
 use crate::one_fraction::{Ceiling, Floor, LowestTerms, Raising, RoundingToWhole, Truncation};
 use crate::printing::{Fields, Text, print};
 use crate::reading::{Fractions, Reading, Span};
+use crate::rounded_product::RoundedProduct;
 use crate::scaled::{Scaled, Scaling};
 use crate::sign::{Absolute, Negation};
 use crate::typed::TypedTexts;
@@ -54,6 +57,15 @@ pub struct Fraction128 {
 pub struct Pair128 {
     pub left: Fraction128,
     pub right: Fraction128,
+}
+
+/// Two fractions, and the rule by which their product is rounded.
+#[repr(C)]
+#[derive(Drop)]
+pub struct Factors128 {
+    pub left: Fraction128,
+    pub right: Fraction128,
+    pub rule: u32,
 }
 
 /// A fraction and the exponent of its power.
@@ -289,6 +301,33 @@ impl TwoFractions for Pair128 {
     }
 }
 
+impl TwoFractions for Factors128 {
+    type Inside = i128;
+
+    ghost left = { λ x. fraction128 x.left };
+
+    ghost right = { λ x. fraction128 x.right };
+
+    #[inline(always)]
+    fn left(&self) -> (i128, i128) {
+        (self.left.numer.number(), self.left.denom.number())
+    }
+
+    #[inline(always)]
+    fn right(&self) -> (i128, i128) {
+        (self.right.numer.number(), self.right.denom.number())
+    }
+}
+
+impl RuledPair for Factors128 {
+    ghost rule = { λ x. x.rule };
+
+    #[inline(always)]
+    fn rule(&self) -> u32 {
+        self.rule
+    }
+}
+
 impl Reply<i128> for Answer128 {
     ghost said = { said128 };
 
@@ -364,6 +403,30 @@ pub extern "C" fn ratio_rem_i128(asked: &[Pair128], answers: &mut [Answer128]) -
     ensures { AnswersEach (λ x answer. IsRemainderAnswer true least128 greatest128 (fraction128 x.left) (fraction128 x.right) (said128 answer)) asked.now answers.old answers.new result }
 {
     each(&Remainder, asked, answers)
+}
+
+/// The greatest fraction that divides both of each pair.
+#[unsafe(no_mangle)]
+pub extern "C" fn ratio_gcd_i128(asked: &[Pair128], answers: &mut [Answer128]) -> u32
+    ensures { AnswersEach (λ x answer. IsGcdAnswer least128 greatest128 (fraction128 x.left) (fraction128 x.right) (said128 answer)) asked.now answers.old answers.new result }
+{
+    each(&CommonDivisor, asked, answers)
+}
+
+/// The least fraction above 0 that both of each pair divide.
+#[unsafe(no_mangle)]
+pub extern "C" fn ratio_lcm_i128(asked: &[Pair128], answers: &mut [Answer128]) -> u32
+    ensures { AnswersEach (λ x answer. IsLcmAnswer least128 greatest128 (fraction128 x.left) (fraction128 x.right) (said128 answer)) asked.now answers.old answers.new result }
+{
+    each(&CommonMultiple, asked, answers)
+}
+
+/// The product of each pair, rounded by a rule, over 1.
+#[unsafe(no_mangle)]
+pub extern "C" fn ratio_mul_round_i128(asked: &[Factors128], answers: &mut [Answer128]) -> u32
+    ensures { AnswersEach (λ x answer. IsRoundedProductAnswer least128 greatest128 (fraction128 x.left) (fraction128 x.right) x.rule (said128 answer)) asked.now answers.old answers.new result }
+{
+    each(&RoundedProduct, asked, answers)
 }
 
 /// The lowest terms of each fraction.

@@ -8,6 +8,7 @@ ghost use Rattle.ratio_c.specs.LowestHash.{IsLowestHashAnswer};
 ghost use Rattle.ratio_c.specs.Numbers32.{fraction32, greatest32, least32, said32};
 ghost use Rattle.ratio_c.specs.Numbers64.{greatest64, least64, said64};
 ghost use Rattle.ratio_c.specs.Numbers128.{greatest128, least128, said128};
+ghost use Rattle.ratio_c.specs.Pairs.{IsGcdAnswer, IsLcmAnswer, IsRoundedProductAnswer};
 ghost use Rattle.ratio_c.specs.Texts.{Prints, ShowsDecimal, ShowsFields};
 
 use crate::arithmetic::{Difference, Product, Quotient, Remainder, Sum};
@@ -16,10 +17,11 @@ use crate::cast::Casting;
 use crate::compare::{Comparison, Equality, Order, Truth};
 use crate::convergent::ConvergentAt;
 use crate::crossing::{
-    Bounded, FlaggedBounds, OneFraction, Parted, Placed, Pointed, Raised, Reply, Ruled,
+    Bounded, FlaggedBounds, OneFraction, Parted, Placed, Pointed, Raised, Reply, Ruled, RuledPair,
     TwoFractions,
 };
 use crate::decimal::{DecimalTexts, Decimals};
+use crate::divisors::{CommonDivisor, CommonMultiple};
 use crate::each::each;
 use crate::floats::{Float, FromFloat, Rationalizing, ToFloat};
 use crate::hash::{Hash, Hashing};
@@ -31,6 +33,7 @@ use crate::numbers128::Answer128;
 use crate::one_fraction::{Ceiling, Floor, LowestTerms, Raising, RoundingToWhole, Truncation};
 use crate::printing::{Fields, Text, print};
 use crate::reading::{Fractions, Reading, Span};
+use crate::rounded_product::RoundedProduct;
 use crate::scaled::{Scaled, Scaling};
 use crate::sign::{Absolute, Negation};
 use crate::typed::TypedTexts;
@@ -55,6 +58,15 @@ pub struct Fraction32 {
 pub struct Pair32 {
     pub left: Fraction32,
     pub right: Fraction32,
+}
+
+/// Two fractions, and the rule by which their product is rounded.
+#[repr(C)]
+#[derive(Drop)]
+pub struct Factors32 {
+    pub left: Fraction32,
+    pub right: Fraction32,
+    pub rule: u32,
 }
 
 /// A fraction and the exponent of its power.
@@ -290,6 +302,33 @@ impl TwoFractions for Pair32 {
     }
 }
 
+impl TwoFractions for Factors32 {
+    type Inside = i32;
+
+    ghost left = { λ x. fraction32 x.left };
+
+    ghost right = { λ x. fraction32 x.right };
+
+    #[inline(always)]
+    fn left(&self) -> (i32, i32) {
+        (self.left.numer, self.left.denom)
+    }
+
+    #[inline(always)]
+    fn right(&self) -> (i32, i32) {
+        (self.right.numer, self.right.denom)
+    }
+}
+
+impl RuledPair for Factors32 {
+    ghost rule = { λ x. x.rule };
+
+    #[inline(always)]
+    fn rule(&self) -> u32 {
+        self.rule
+    }
+}
+
 impl Reply<i32> for Answer32 {
     ghost said = { said32 };
 
@@ -362,6 +401,30 @@ pub extern "C" fn ratio_rem_i32(asked: &[Pair32], answers: &mut [Answer32]) -> u
     ensures { AnswersEach (λ x answer. IsRemainderAnswer true least32 greatest32 (fraction32 x.left) (fraction32 x.right) (said32 answer)) asked.now answers.old answers.new result }
 {
     each(&Remainder, asked, answers)
+}
+
+/// The greatest fraction that divides both of each pair.
+#[unsafe(no_mangle)]
+pub extern "C" fn ratio_gcd_i32(asked: &[Pair32], answers: &mut [Answer32]) -> u32
+    ensures { AnswersEach (λ x answer. IsGcdAnswer least32 greatest32 (fraction32 x.left) (fraction32 x.right) (said32 answer)) asked.now answers.old answers.new result }
+{
+    each(&CommonDivisor, asked, answers)
+}
+
+/// The least fraction above 0 that both of each pair divide.
+#[unsafe(no_mangle)]
+pub extern "C" fn ratio_lcm_i32(asked: &[Pair32], answers: &mut [Answer32]) -> u32
+    ensures { AnswersEach (λ x answer. IsLcmAnswer least32 greatest32 (fraction32 x.left) (fraction32 x.right) (said32 answer)) asked.now answers.old answers.new result }
+{
+    each(&CommonMultiple, asked, answers)
+}
+
+/// The product of each pair, rounded by a rule, over 1.
+#[unsafe(no_mangle)]
+pub extern "C" fn ratio_mul_round_i32(asked: &[Factors32], answers: &mut [Answer32]) -> u32
+    ensures { AnswersEach (λ x answer. IsRoundedProductAnswer least32 greatest32 (fraction32 x.left) (fraction32 x.right) x.rule (said32 answer)) asked.now answers.old answers.new result }
+{
+    each(&RoundedProduct, asked, answers)
 }
 
 /// The lowest terms of each fraction.

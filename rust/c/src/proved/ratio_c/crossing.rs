@@ -95,6 +95,12 @@ pub trait FlaggedBounds: TwoFractions {
     fn flags(&self) -> u32;
 }
 
+/// Two fractions and the number of a rule by which their product is rounded.
+pub trait RuledPair: TwoFractions {
+    /// The number of the rule.
+    fn rule(&self) -> u32;
+}
+
 /// A fraction and the number of a rule by which it is rounded.
 pub trait Ruled: OneFraction {
     /// The number of the rule.

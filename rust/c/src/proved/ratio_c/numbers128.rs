@@ -8,10 +8,11 @@ use crate::proved::ratio_c::cast::Casting;
 use crate::proved::ratio_c::compare::{Comparison, Equality, Order, Truth};
 use crate::proved::ratio_c::convergent::ConvergentAt;
 use crate::proved::ratio_c::crossing::{
-    Bounded, FlaggedBounds, OneFraction, Parted, Placed, Pointed, Raised, Reply, Ruled,
+    Bounded, FlaggedBounds, OneFraction, Parted, Placed, Pointed, Raised, Reply, Ruled, RuledPair,
     TwoFractions,
 };
 use crate::proved::ratio_c::decimal::{DecimalTexts, Decimals};
+use crate::proved::ratio_c::divisors::{CommonDivisor, CommonMultiple};
 use crate::proved::ratio_c::each::each;
 use crate::proved::ratio_c::floats::{Float, FromFloat, Rationalizing, ToFloat};
 use crate::proved::ratio_c::hash::{Hash, Hashing};
@@ -22,6 +23,7 @@ use crate::proved::ratio_c::numbers64::Answer64;
 use crate::proved::ratio_c::one_fraction::{Ceiling, Floor, LowestTerms, Raising, RoundingToWhole, Truncation};
 use crate::proved::ratio_c::printing::{Fields, Text, print};
 use crate::proved::ratio_c::reading::{Fractions, Reading, Span};
+use crate::proved::ratio_c::rounded_product::RoundedProduct;
 use crate::proved::ratio_c::scaled::{Scaled, Scaling};
 use crate::proved::ratio_c::sign::{Absolute, Negation};
 use crate::proved::ratio_c::typed::TypedTexts;
@@ -45,6 +47,14 @@ pub struct Fraction128 {
 pub struct Pair128 {
     pub left: Fraction128,
     pub right: Fraction128,
+}
+
+/// Two fractions, and the rule by which their product is rounded.
+#[repr(C)]
+pub struct Factors128 {
+    pub left: Fraction128,
+    pub right: Fraction128,
+    pub rule: u32,
 }
 
 /// A fraction and the exponent of its power.
@@ -237,6 +247,27 @@ impl TwoFractions for Pair128 {
     }
 }
 
+impl TwoFractions for Factors128 {
+    type Inside = i128;
+
+    #[inline(always)]
+    fn left(&self) -> (i128, i128) {
+        (self.left.numer.number(), self.left.denom.number())
+    }
+
+    #[inline(always)]
+    fn right(&self) -> (i128, i128) {
+        (self.right.numer.number(), self.right.denom.number())
+    }
+}
+
+impl RuledPair for Factors128 {
+    #[inline(always)]
+    fn rule(&self) -> u32 {
+        self.rule
+    }
+}
+
 impl Reply<i128> for Answer128 {
     #[inline(always)]
     fn reply(code: u32, numer: i128, denom: i128) -> Answer128 {
@@ -318,6 +349,33 @@ pub unsafe extern "C" fn ratio_rem_i128(asked: *const Pair128, asked_len: usize,
     let asked = core::slice::from_raw_parts(asked, asked_len);
     let answers = core::slice::from_raw_parts_mut(answers, answers_len);
     each(&Remainder, asked, answers)
+}
+
+/// The greatest fraction that divides both of each pair.
+#[no_mangle]
+pub unsafe extern "C" fn ratio_gcd_i128(asked: *const Pair128, asked_len: usize, answers: *mut Answer128, answers_len: usize) -> u32 {
+    // SAFETY: the header says what the caller owes for each pointer and its length.
+    let asked = core::slice::from_raw_parts(asked, asked_len);
+    let answers = core::slice::from_raw_parts_mut(answers, answers_len);
+    each(&CommonDivisor, asked, answers)
+}
+
+/// The least fraction above 0 that both of each pair divide.
+#[no_mangle]
+pub unsafe extern "C" fn ratio_lcm_i128(asked: *const Pair128, asked_len: usize, answers: *mut Answer128, answers_len: usize) -> u32 {
+    // SAFETY: the header says what the caller owes for each pointer and its length.
+    let asked = core::slice::from_raw_parts(asked, asked_len);
+    let answers = core::slice::from_raw_parts_mut(answers, answers_len);
+    each(&CommonMultiple, asked, answers)
+}
+
+/// The product of each pair, rounded by a rule, over 1.
+#[no_mangle]
+pub unsafe extern "C" fn ratio_mul_round_i128(asked: *const Factors128, asked_len: usize, answers: *mut Answer128, answers_len: usize) -> u32 {
+    // SAFETY: the header says what the caller owes for each pointer and its length.
+    let asked = core::slice::from_raw_parts(asked, asked_len);
+    let answers = core::slice::from_raw_parts_mut(answers, answers_len);
+    each(&RoundedProduct, asked, answers)
 }
 
 /// The lowest terms of each fraction.

@@ -8,10 +8,11 @@ use crate::proved::ratio_c::cast::Casting;
 use crate::proved::ratio_c::compare::{Comparison, Equality, Order, Truth};
 use crate::proved::ratio_c::convergent::ConvergentAt;
 use crate::proved::ratio_c::crossing::{
-    Bounded, FlaggedBounds, OneFraction, Parted, Placed, Pointed, Raised, Reply, Ruled,
+    Bounded, FlaggedBounds, OneFraction, Parted, Placed, Pointed, Raised, Reply, Ruled, RuledPair,
     TwoFractions,
 };
 use crate::proved::ratio_c::decimal::{DecimalTexts, Decimals};
+use crate::proved::ratio_c::divisors::{CommonDivisor, CommonMultiple};
 use crate::proved::ratio_c::each::each;
 use crate::proved::ratio_c::floats::{Float, FromFloat, Rationalizing, ToFloat};
 use crate::proved::ratio_c::hash::{Hash, Hashing};
@@ -23,6 +24,7 @@ use crate::proved::ratio_c::numbers128::Answer128;
 use crate::proved::ratio_c::one_fraction::{Ceiling, Floor, LowestTerms, Raising, RoundingToWhole, Truncation};
 use crate::proved::ratio_c::printing::{Fields, Text, print};
 use crate::proved::ratio_c::reading::{Fractions, Reading, Span};
+use crate::proved::ratio_c::rounded_product::RoundedProduct;
 use crate::proved::ratio_c::scaled::{Scaled, Scaling};
 use crate::proved::ratio_c::sign::{Absolute, Negation};
 use crate::proved::ratio_c::typed::TypedTexts;
@@ -45,6 +47,14 @@ pub struct Fraction64 {
 pub struct Pair64 {
     pub left: Fraction64,
     pub right: Fraction64,
+}
+
+/// Two fractions, and the rule by which their product is rounded.
+#[repr(C)]
+pub struct Factors64 {
+    pub left: Fraction64,
+    pub right: Fraction64,
+    pub rule: u32,
 }
 
 /// A fraction and the exponent of its power.
@@ -237,6 +247,27 @@ impl TwoFractions for Pair64 {
     }
 }
 
+impl TwoFractions for Factors64 {
+    type Inside = i64;
+
+    #[inline(always)]
+    fn left(&self) -> (i64, i64) {
+        (self.left.numer, self.left.denom)
+    }
+
+    #[inline(always)]
+    fn right(&self) -> (i64, i64) {
+        (self.right.numer, self.right.denom)
+    }
+}
+
+impl RuledPair for Factors64 {
+    #[inline(always)]
+    fn rule(&self) -> u32 {
+        self.rule
+    }
+}
+
 impl Reply<i64> for Answer64 {
     #[inline(always)]
     fn reply(code: u32, numer: i64, denom: i64) -> Answer64 {
@@ -315,6 +346,33 @@ pub unsafe extern "C" fn ratio_rem_i64(asked: *const Pair64, asked_len: usize, a
     let asked = core::slice::from_raw_parts(asked, asked_len);
     let answers = core::slice::from_raw_parts_mut(answers, answers_len);
     each(&Remainder, asked, answers)
+}
+
+/// The greatest fraction that divides both of each pair.
+#[no_mangle]
+pub unsafe extern "C" fn ratio_gcd_i64(asked: *const Pair64, asked_len: usize, answers: *mut Answer64, answers_len: usize) -> u32 {
+    // SAFETY: the header says what the caller owes for each pointer and its length.
+    let asked = core::slice::from_raw_parts(asked, asked_len);
+    let answers = core::slice::from_raw_parts_mut(answers, answers_len);
+    each(&CommonDivisor, asked, answers)
+}
+
+/// The least fraction above 0 that both of each pair divide.
+#[no_mangle]
+pub unsafe extern "C" fn ratio_lcm_i64(asked: *const Pair64, asked_len: usize, answers: *mut Answer64, answers_len: usize) -> u32 {
+    // SAFETY: the header says what the caller owes for each pointer and its length.
+    let asked = core::slice::from_raw_parts(asked, asked_len);
+    let answers = core::slice::from_raw_parts_mut(answers, answers_len);
+    each(&CommonMultiple, asked, answers)
+}
+
+/// The product of each pair, rounded by a rule, over 1.
+#[no_mangle]
+pub unsafe extern "C" fn ratio_mul_round_i64(asked: *const Factors64, asked_len: usize, answers: *mut Answer64, answers_len: usize) -> u32 {
+    // SAFETY: the header says what the caller owes for each pointer and its length.
+    let asked = core::slice::from_raw_parts(asked, asked_len);
+    let answers = core::slice::from_raw_parts_mut(answers, answers_len);
+    each(&RoundedProduct, asked, answers)
 }
 
 /// The lowest terms of each fraction.

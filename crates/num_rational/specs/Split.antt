@@ -67,16 +67,17 @@ pub record IsNearItsShare (amount : ℤ) (share : ℤ × ℤ) (part : ℤ) : Typ
   pub above : (amount *ℤ share.0 -ℤ share.1) <ℤ (part *ℤ share.1)
   pub below : (part *ℤ share.1) <ℤ (amount *ℤ share.0 +ℤ share.1)
 
--- the sum of the parts
-abbrev pub total_of_parts : {P : Type 0} → (P → ℤ) → List P → ℤ
-total_of_parts value parts = fold (λ sum part. sum +ℤ value part) (pos 0) parts
+-- the sum of whole numbers, such as parts
+-- Example: 33, 34 and 33: 100
+abbrev pub total_of : {P : Type 0} → (P → ℤ) → List P → ℤ
+total_of value numbers = fold (λ sum number. sum +ℤ value number) (pos 0) numbers
 
 -- the parts add up to the amount. The first k of them add up to the amount times the sum of their shares, rounded. Each is less than 1 away
 -- from the amount times its share (`IsNearItsShare`)
 -- Example: 100 by 1/3, 1/3 and 1/3: 33, 34, 33
 pub record IsSplitBy {A P : Type 0} (view : A → ℤ × ℤ) (value : P → ℤ) (amount : ℤ) (shares : List A) (parts : List P) : Type 0 where
-  pub total : total_of_parts value parts ≡ amount
-  pub rounded : (k : ℕ) → k < length shares → IsRoundedShare amount (total_of_shares view (take (k + 1) shares)) (total_of_parts value (take (k + 1) parts))
+  pub total : total_of value parts ≡ amount
+  pub rounded : (k : ℕ) → k < length shares → IsRoundedShare amount (total_of_shares view (take (k + 1) shares)) (total_of value (take (k + 1) parts))
   pub near : (k : ℕ) → k < length shares → (share : A) (part : P) → IsNearItsShare amount (view (slice_index_or shares k share)) (value (slice_index_or parts k part))
 
 -- Inner: x is the sum of the shares so far and one more. It fits, and so does the mark: the amount times x, rounded

@@ -98,10 +98,10 @@ module _ (x y w u v : ℤ) where
   between_down : neg_ℤ w <ℤ (pos 2 *ℤ x -ℤ pos 2 *ℤ u) → (pos 2 *ℤ x -ℤ pos 2 *ℤ u) ≤ℤ w → neg_ℤ w <ℤ (pos 2 *ℤ (x +ℤ y) -ℤ pos 2 *ℤ v) → (pos 2 *ℤ (x +ℤ y) -ℤ pos 2 *ℤ v) ≤ℤ w → ((y -ℤ w) <ℤ (v -ℤ u)) × ((v -ℤ u) <ℤ (y +ℤ w))
   between_down a b c d = (omega (arith, ints), omega (arith, ints))
 
-sign_up : (a n : ℤ) → pos 0 ≤ℤ a → pos 0 ≤ℤ n → pos 0 ≤ℤ (a *ℤ n)
+pub sign_up : (a n : ℤ) → pos 0 ≤ℤ a → pos 0 ≤ℤ n → pos 0 ≤ℤ (a *ℤ n)
 sign_up a n a_up n_up = let times = times_le (pos 0) a n a_up n_up in omega (arith, ints)
 
-sign_down : (a n : ℤ) → a ≤ℤ pos 0 → pos 0 ≤ℤ n → (a *ℤ n) ≤ℤ pos 0
+pub sign_down : (a n : ℤ) → a ≤ℤ pos 0 → pos 0 ≤ℤ n → (a *ℤ n) ≤ℤ pos 0
 sign_down a n a_down n_up = let times = times_le a (pos 0) n a_down n_up in omega (arith, ints)
 
 -- r is the amount a times n/d rounded, and q is a times n/d + s/t rounded
@@ -223,25 +223,26 @@ fits_moved lo hi x y fraction same fits = record { numer = fits.numer; denom = f
 times_same : (a : ℤ) (x y : ℤ × ℤ) → SameValue y.0 y.1 x.0 x.1 → SameValue (a *ℤ y.0) y.1 (a *ℤ x.0) x.1
 times_same a x y same = mul_assoc a y.0 x.1 ∙ ap (λ (z : ℤ). a *ℤ z) same ∙ sym (mul_assoc a x.0 y.1)
 
-module _ (lo hi a : ℤ) (x y : ℤ × ℤ) (x_up : pos 0 <ℤ x.1) (y_up : pos 0 <ℤ y.1) (same : SameValue y.0 y.1 x.0 x.1) where
-  rounded_moved : (mark : ℤ) → IsRoundedShare a x mark → IsRoundedShare a y mark
+module _ (a : ℤ) (x y : ℤ × ℤ) (x_up : pos 0 <ℤ x.1) (y_up : pos 0 <ℤ y.1) (same : SameValue y.0 y.1 x.0 x.1) where
+  pub rounded_moved : (mark : ℤ) → IsRoundedShare a x mark → IsRoundedShare a y mark
   rounded_moved mark is = same_rounded (a *ℤ x.0) x.1 (a *ℤ y.0) y.1 mark x_up y_up (sym (times_same a x y same)) is
 
+module _ (lo hi a : ℤ) (x y : ℤ × ℤ) (x_up : pos 0 <ℤ x.1) (y_up : pos 0 <ℤ y.1) (same : SameValue y.0 y.1 x.0 x.1) where
   pub mark_moved : (sum : ℤ × ℤ) (mark : ℤ) → IsNextMark lo hi a x sum mark → IsNextMark lo hi a y sum mark
   mark_moved sum mark is = record {
     value = lowest_moved x.0 x.1 y.0 y.1 sum.0 sum.1 (positive_nonzero y.1 y_up) same is.value;
     fits = fits_moved lo hi x y (positive_nonzero y.1 y_up) same is.fits;
     held = is.held;
-    rounded = rounded_moved mark is.rounded;
+    rounded = rounded_moved a x y x_up y_up same mark is.rounded;
   }
 
-pub mark_fits_moved : (lo hi a : ℤ) (x y : ℤ × ℤ) → pos 0 <ℤ x.1 → pos 0 <ℤ y.1 → SameValue y.0 y.1 x.0 x.1 → MarkFits lo hi a x → MarkFits lo hi a y
-mark_fits_moved lo hi a x y x_up y_up same fits = record {
-  sum = fits_moved lo hi x y (positive_nonzero y.1 y_up) same fits.sum;
-  mark = fits.mark;
-  is = rounded_moved lo hi a x y x_up y_up same fits.mark fits.is;
-  held = fits.held;
-}
+  pub mark_fits_moved : MarkFits lo hi a x → MarkFits lo hi a y
+  mark_fits_moved fits = record {
+    sum = fits_moved lo hi x y (positive_nonzero y.1 y_up) same fits.sum;
+    mark = fits.mark;
+    is = rounded_moved a x y x_up y_up same fits.mark fits.is;
+    held = fits.held;
+  }
 
 pub mark_fits : (lo hi a : ℤ) (x sum : ℤ × ℤ) (mark : ℤ) → IsNextMark lo hi a x sum mark → MarkFits lo hi a x
 mark_fits lo hi a x sum mark is = record { sum = is.fits; mark = mark; is = is.rounded; held = is.held }
@@ -272,11 +273,14 @@ module _ (lo hi a : ℤ) (x s : ℤ × ℤ) (x_up : pos 0 <ℤ x.1) (low : IsLow
 
 -- ---- the sums of a list of shares
 
+pub fold_next : {A B : Type 0} (f : B → A → B) (z : B) (xs : List A) (k : ℕ) (x : A) → k < length xs → x ≡ get_or xs k x → fold f z (take (k + 1) xs) ≡ f (fold f z (take k xs)) x
+fold_next f z xs k x below is =
+    ap (λ n. fold f z (take n xs)) (add-one k)
+    ∙ ap (fold f z) (take-suc xs k x below ∙ ap (λ y. take k xs ++ y ∷ []) (sym is))
+    ∙ fold-append f z (take k xs) (x ∷ [])
+
 pub total_next : {A : Type 0} (view : A → ℤ × ℤ) (xs : List A) (k : ℕ) (x : A) → k < length xs → x ≡ get_or xs k x → total_of_shares view (take (k + 1) xs) ≡ sum_of (total_of_shares view (take k xs)).0 (total_of_shares view (take k xs)).1 (view x).0 (view x).1
-total_next view xs k x below is =
-    ap (λ n. total_of_shares view (take n xs)) (add-one k)
-    ∙ ap (total_of_shares view) (take-suc xs k x below ∙ ap (λ y. take k xs ++ y ∷ []) (sym is))
-    ∙ fold-append _ (pos 0, pos 1) (take k xs) (x ∷ [])
+total_next view xs k x below is = fold_next _ (pos 0, pos 1) xs k x below is
 
 -- with one more share, the values are still the same
 pub next_same : (t s y : ℤ × ℤ) → SameValue t.0 t.1 s.0 s.1 → SameValue (sum_of t.0 t.1 y.0 y.1).0 (sum_of t.0 t.1 y.0 y.1).1 (sum_of s.0 s.1 y.0 y.1).0 (sum_of s.0 s.1 y.0 y.1).1

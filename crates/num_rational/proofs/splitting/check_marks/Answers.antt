@@ -1,5 +1,5 @@
 use Rattle.std.specs.Prelude.{◌≡◌, ◌<ℤ◌, ℤ, length, pos, take}
-use Rattle.std.proofs.Common.{ap, arith, refl, subst, sym, ◌∙◌}
+use Rattle.std.proofs.Common.{ap, arith, subst, sym, ◌∙◌}
 use Rattle.std.proofs.Math.Seq.{take-length}
 use borrow.Author.Count.{below_more}
 use Rattle.ratio_integer.specs.Arithmetic.{sum_of}

@@ -27,6 +27,7 @@ mod rounding;
 mod sign;
 mod splitting;
 mod text;
+mod weights;
 
 pub use convergents::Convergents;
 pub use json::{JsonInteger, JsonRatioError};
@@ -42,3 +43,4 @@ pub use ratio_decimal::rounding_rule::Rounding;
 pub use ratio_decimal::{DecimalRefusal, TextRefusal};
 pub use reduced::{Reduced, Reduced32, Reduced64, ReducedOperand};
 pub use splitting::{SplitRefusal, split};
+pub use weights::{WeightRefusal, split_by_weights};

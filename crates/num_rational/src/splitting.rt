@@ -1,7 +1,7 @@
 //! An amount split by shares, so that nothing is lost.
 ghost use Rattle.std.specs.Prelude.{◌≡◌, ◌↔◌, length, IfErr, IsTrue, MatchResult, OnErr, OnOk};
 ghost use Rattle.ratio_integer.specs.Arithmetic.{sum_of};
-ghost use Rattle.num_rational.specs.Split.{SharesMakeOne, CanBeSplit, ChecksNextMark, IsSplitBy, MarksFit, MarksRefuse, NoShareIsBelowZero, RefusesToSplit, share_numbers};
+ghost use Rattle.num_rational.specs.Split.{SharesMakeOne, CanBeSplit, ChecksNextMark, IsSplitBy, MarksFit, NoShareIsBelowZero, RefusesToSplit, SumsRefuse, share_numbers};
 
 use crate::reduced::Reduced;
 use ratio_core::sign::is_below_zero;
@@ -69,7 +69,7 @@ fn next_mark<T: Copy + Integer>(
 fn check_marks<T: Copy + Integer>(amount: T, shares: &[Reduced<T>]) -> Result<(), SplitRefusal>
     ensures { MatchResult result
         (λ _. MarksFit share_numbers T.lo T.hi (T.value amount) shares.now × SharesMakeOne share_numbers shares.now)
-        (λ why. MarksRefuse share_numbers T.lo T.hi (T.value amount) shares.now why) }
+        (SumsRefuse (MarksFit share_numbers T.lo T.hi (T.value amount) shares.now) (SharesMakeOne share_numbers shares.now)) }
 {
     let mut sum = Reduced::zero();
     for share in shares {

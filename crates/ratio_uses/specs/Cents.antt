@@ -5,8 +5,8 @@ use Rattle.ratio_integer.specs.Arithmetic.{difference_of, product_of}
 use Rattle.ratio_integer.specs.Fraction.{IsHeldLowest, IsLowestTermsOf, SameValue}
 use Rattle.ratio_core.specs.Rounding.{IsRounded}
 use Rattle.num_rational.specs.declared.reduced.Reduced.{Reduced}
+use Rattle.num_rational.specs.Split.{IsSplitBy, NoShareIsBelowZero, SharesMakeOne, total_of_shares}
 use Rattle.ratio_uses.specs.Held.{FitsIn64, lowest_numbers}
-use Rattle.ratio_uses.specs.Ledger.{AddUpToOne, IsSplit, NoneIsBelowZero, total_of}
 use Rattle.ratio_uses.specs.declared.ledger.Refusal.{Refusal}
 use Rattle.ratio_uses.specs.declared.ledger.Refusal.TheVariants.{BelowZero, Length, NotHeld, NotMultiple, NotOne}
 
@@ -36,28 +36,28 @@ pub record PartFits (units : ℤ) (amount before after : ℤ × ℤ) : Type 0 wh
 
 -- all that `PartFits` says fits for each share
 abbrev pub PartsFit : {A : Type 0} → (A → ℤ × ℤ) → ℤ → ℤ × ℤ → List A → Type 0
-PartsFit view units amount shares = (k : ℕ) → k < length shares → PartFits units amount (total_of view (take k shares)) (total_of view (take (k + 1) shares))
+PartsFit view units amount shares = (k : ℕ) → k < length shares → PartFits units amount (total_of_shares view (take k shares)) (total_of_shares view (take (k + 1) shares))
 
 -- the shares can split the amount into `parts` multiples of 1/units: there are as many parts as shares, no share is below 0, the amount is
 -- a multiple of 1/units, `PartsFit`, and the shares add up to 1
 -- Example: not 1/3 in cents
 pub record CanSplitTo {A : Type 0} (view : A → ℤ × ℤ) (units : ℤ) (amount : ℤ × ℤ) (shares : List A) (parts : ℕ) : Type 0 where
   pub as_many : parts ≡ length shares
-  pub none_below : NoneIsBelowZero view shares
+  pub none_below : NoShareIsBelowZero view shares
   pub whole : (count : ℤ) × IsCount units amount count
   pub fit : PartsFit view units amount shares
-  pub one : AddUpToOne view shares
+  pub one : SharesMakeOne view shares
 
 -- the refusal names the first condition of `CanSplitTo` that does not hold: `Length`, `BelowZero`, `NotMultiple`, `NotHeld` or `NotOne`
 -- Example: 1/3 in cents: `NotMultiple`
 abbrev pub RefusesSplitTo : {A : Type 0} → (A → ℤ × ℤ) → ℤ → ℤ × ℤ → List A → ℕ → Refusal → Type 0
 RefusesSplitTo view units amount shares parts Length = parts ≢ length shares
-RefusesSplitTo view units amount shares parts BelowZero = (parts ≡ length shares) × ¬ (NoneIsBelowZero view shares)
-RefusesSplitTo view units amount shares parts NotMultiple = (parts ≡ length shares) × NoneIsBelowZero view shares × ¬ ((count : ℤ) × IsCount units amount count)
-RefusesSplitTo view units amount shares parts NotHeld = (parts ≡ length shares) × NoneIsBelowZero view shares × ((count : ℤ) × IsCount units amount count) × ¬ (PartsFit view units amount shares)
-RefusesSplitTo view units amount shares parts NotOne = (parts ≡ length shares) × NoneIsBelowZero view shares × ((count : ℤ) × IsCount units amount count) × PartsFit view units amount shares × ¬ (AddUpToOne view shares)
+RefusesSplitTo view units amount shares parts BelowZero = (parts ≡ length shares) × ¬ (NoShareIsBelowZero view shares)
+RefusesSplitTo view units amount shares parts NotMultiple = (parts ≡ length shares) × NoShareIsBelowZero view shares × ¬ ((count : ℤ) × IsCount units amount count)
+RefusesSplitTo view units amount shares parts NotHeld = (parts ≡ length shares) × NoShareIsBelowZero view shares × ((count : ℤ) × IsCount units amount count) × ¬ (PartsFit view units amount shares)
+RefusesSplitTo view units amount shares parts NotOne = (parts ≡ length shares) × NoShareIsBelowZero view shares × ((count : ℤ) × IsCount units amount count) × PartsFit view units amount shares × ¬ (SharesMakeOne view shares)
 
--- the amount is `count`/units, the parts are `counts`/units in lowest terms, and `counts` is `count` split by the shares (`IsSplit`)
+-- the amount is `count`/units, the parts are `counts`/units in lowest terms, and `counts` is `count` split by the shares (`IsSplitBy`)
 -- Example: 10 is 1000 cents, split into 333, 334 and 333: 333/100, 167/50, 333/100
 pub record IsSplitTo {A : Type 0} (view : A → ℤ × ℤ) (units : ℤ) (amount : ℤ × ℤ) (shares parts : List A) : Type 0 where
   pub count : ℤ
@@ -66,7 +66,7 @@ pub record IsSplitTo {A : Type 0} (view : A → ℤ × ℤ) (units : ℤ) (amoun
   pub as_many : length counts ≡ length parts
   pub each : (k : ℕ) → k < length parts → (c : ℤ) (part : A) →
       IsLowestTermsOf (slice_index_or counts k c) units (view (slice_index_or parts k part)).0 (view (slice_index_or parts k part)).1
-  pub split : IsSplit view count shares counts
+  pub split : IsSplitBy view (λ c. c) count shares counts
 
 -- Inner: x is the sum of the shares so far and one more. It fits, and so do the amount times it, this rounded, and this less the last mark
 pub record StepFits (units : ℤ) (amount x mark : ℤ × ℤ) : Type 0 where
@@ -96,4 +96,4 @@ StepsRefuse view units amount shares Length = ⊥
 StepsRefuse view units amount shares BelowZero = ⊥
 StepsRefuse view units amount shares NotMultiple = ⊥
 StepsRefuse view units amount shares NotHeld = ¬ (PartsFit view units amount shares)
-StepsRefuse view units amount shares NotOne = PartsFit view units amount shares × ¬ (AddUpToOne view shares)
+StepsRefuse view units amount shares NotOne = PartsFit view units amount shares × ¬ (SharesMakeOne view shares)

@@ -26,6 +26,7 @@ mod rounding;
 mod sign;
 mod splitting;
 mod text;
+mod weights;
 
 pub use convergents::Convergents;
 
@@ -41,3 +42,4 @@ pub use crate::proved::ratio_decimal::rounding_rule::Rounding;
 pub use crate::proved::ratio_decimal::{DecimalRefusal, TextRefusal};
 pub use reduced::{Reduced, Reduced32, Reduced64, ReducedOperand};
 pub use splitting::{SplitRefusal, split};
+pub use weights::{WeightRefusal, split_by_weights};

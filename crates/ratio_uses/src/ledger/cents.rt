@@ -5,7 +5,7 @@ ghost use Rattle.ratio_decimal.specs.declared.rounding_rule.Rounding.TheVariants
 ghost use Rattle.ratio_integer.specs.Arithmetic.{sum_of};
 ghost use Rattle.ratio_uses.specs.Cents.{CanSplitTo, ChecksNextPart, IsCount, IsSplitTo, PartsFit, RefusesSplitTo, StepsRefuse};
 ghost use Rattle.ratio_uses.specs.Held.{lowest_numbers};
-ghost use Rattle.ratio_uses.specs.Ledger.{AddUpToOne};
+ghost use Rattle.num_rational.specs.Split.{SharesMakeOne};
 
 use super::{Refusal, none_is_below_zero};
 use num_rational::{DecimalText, Reduced64, Rounding};
@@ -82,7 +82,7 @@ fn next_part(
 fn check_steps(amount: &Reduced64, shares: &[Reduced64], unit_parts: i64) -> Result<(), Refusal>
     requires some { pos 0 <ℤ unit_parts }
     ensures { MatchResult result
-        (λ _. PartsFit lowest_numbers unit_parts (lowest_numbers amount.now) shares.now × AddUpToOne lowest_numbers shares.now)
+        (λ _. PartsFit lowest_numbers unit_parts (lowest_numbers amount.now) shares.now × SharesMakeOne lowest_numbers shares.now)
         (λ why. StepsRefuse lowest_numbers unit_parts (lowest_numbers amount.now) shares.now why) }
 {
     let mut sum = Reduced64::zero();

@@ -1,5 +1,5 @@
 use Rattle.std.specs.Prelude.{◌≡◌, ◌<ℤ◌, ℤ, length, pos, take}
-use Rattle.std.proofs.Common.{ap, arith, refl, subst, sym, ◌∙◌}
+use Rattle.std.proofs.Common.{ap, arith, subst, sym, ◌∙◌}
 use Rattle.std.proofs.Math.Seq.{take-length}
 use borrow.Author.Count.{below_more}
 use Rattle.ratio_integer.specs.Arithmetic.{sum_of}
@@ -21,7 +21,7 @@ returns-in-None g c =
     λ all. c.in-None.ensures (mark_fits_moved T.lo T.hi (T.value c.args.amount) (sum_of before.0 before.1 share.0 share.1) (sum_of sum.0 sum.1 share.0 share.1)
     (mul_positive before.1 share.1 c.loop-share.invariant.up c.share-item.result.lowest.positive)
     (mul_positive sum.1 share.1 c.loop-share.sum.lowest.positive c.share-item.result.lowest.positive)
-    (sym (next_same before sum share c.loop-share.invariant.value))
+    (sym (next_same before sum share c.loop-share.invariant.value.same))
     (subst (MarkFits T.lo T.hi (T.value c.args.amount)) next (all c.loop-share.share-index c.loop-share-test.true)))
 
 pub loop-share-preserved : goal.loop-share-preserved
@@ -34,7 +34,7 @@ loop-share-preserved g c =
     let up = mul_positive before.1 share.1 c.loop-share.invariant.up c.share-item.result.lowest.positive in
     let mark = mark_moved T.lo T.hi (T.value c.args.amount) (sum_of sum.0 sum.1 share.0 share.1) (sum_of before.0 before.1 share.0 share.1)
     (mul_positive sum.1 share.1 c.loop-share.sum.lowest.positive c.share-item.result.lowest.positive) up
-    (next_same before sum share c.loop-share.invariant.value) (share_numbers c.in-Some.next) _ c.in-Some.ensures in
+    (next_same before sum share c.loop-share.invariant.value.same) (share_numbers c.in-Some.next) _ c.in-Some.ensures in
     record {
       fit = below_more _ _ c.loop-share.invariant.fit (subst (MarkFits T.lo T.hi (T.value c.args.amount)) (sym next) (mark_fits T.lo T.hi (T.value c.args.amount) (sum_of before.0 before.1 share.0 share.1) _ _ mark));
       value = subst (λ x. IsLowestTermsOf x.0 x.1 (share_numbers c.in-Some.next).0 (share_numbers c.in-Some.next).1) (sym next) mark.value;

@@ -1,4 +1,4 @@
-use Rattle.std.specs.Prelude.{◌≡◌, ◌≤ℤ◌, ℤ, pos, take}
+use Rattle.std.specs.Prelude.{◌≤ℤ◌, ℤ, pos, take}
 use Rattle.std.proofs.Common.{ap, arith, subst, sym, ◌∙◌}
 use Rattle.ratio_integer.specs.Arithmetic.{sum_of}
 use Rattle.ratio_integer.proofs.Whole.{mul_positive}
@@ -9,8 +9,7 @@ use Rattle.num_rational.proofs.splitting.write_parts.Goals as goal
 pub loop-i-init : goal.loop-i-init
 loop-i-init g c =
     let T = g.T.Integer in
-    let m = g.met.T.Integer in
-    split_none share_numbers T.value T.lo T.hi (T.value c.args.amount) c.args.shares.now c.args.parts.now (share_numbers c.zero-sum.result) (T.value c.ZERO-mark.result) m.range_law c.zero-sum.ensures.0 c.zero-sum.ensures.1 (ap T.value c.ZERO-mark.ensures ∙ m.zero_law)
+    split_none share_numbers T.value (T.value c.args.amount) c.args.shares.now c.args.parts.now (share_numbers c.zero-sum.result) (T.value c.ZERO-mark.result) c.zero-sum.ensures.0 (ap T.value c.ZERO-mark.ensures ∙ g.met.T.Integer.zero_law)
 
 pub unwrap-next-requires : goal.unwrap-next-requires
 unwrap-next-requires g c =
@@ -23,7 +22,7 @@ unwrap-next-requires g c =
     (mark_fits_moved T.lo T.hi (T.value c.args.amount) (sum_of before.0 before.1 share.0 share.1) (sum_of sum.0 sum.1 share.0 share.1)
     (mul_positive before.1 share.1 c.loop-i.invariant.up c.index-shares-i.result.lowest.positive)
     (mul_positive sum.1 share.1 c.loop-i.sum.lowest.positive c.index-shares-i.result.lowest.positive)
-    (sym (next_same before sum share c.loop-i.invariant.value))
+    (sym (next_same before sum share c.loop-i.invariant.same))
     (subst (MarkFits T.lo T.hi (T.value c.args.amount)) next (c.requires.fit c.loop-i.i c.loop-i-test.true)))
     c.next_mark.ensures
 
@@ -38,10 +37,10 @@ minus-requires g c =
     mark_moved T.lo T.hi (T.value c.args.amount) (sum_of sum.0 sum.1 share.0 share.1) (sum_of before.0 before.1 share.0 share.1)
     (mul_positive sum.1 share.1 c.loop-i.sum.lowest.positive c.index-shares-i.result.lowest.positive)
     (mul_positive before.1 share.1 c.loop-i.invariant.up c.index-shares-i.result.lowest.positive)
-    (next_same before sum share c.loop-i.invariant.value) (share_numbers c.unwrap-next.result.0) (T.value c.unwrap-next.result.1)
+    (next_same before sum share c.loop-i.invariant.same) (share_numbers c.unwrap-next.result.0) (T.value c.unwrap-next.result.1)
     (rw c.unwrap-next.ensures at c.next_mark.ensures) in
-    next_part_held share_numbers T.value T.lo T.hi (T.value c.args.amount) c.args.shares.now c.loop-i.parts c.loop-i.i sum (T.value c.loop-i.mark) c.index-shares-i.result (share_numbers c.unwrap-next.result.0) (T.value c.unwrap-next.result.1) c.loop-i.mark
-    c.loop-i-test.true (omega arith) c.index-shares-i.is c.loop-i.invariant c.index-shares-i.result.lowest.positive above marked g.met.T.Integer.range_law
+    next_part_held share_numbers T.value (T.value c.args.amount) c.args.shares.now c.loop-i.parts c.loop-i.i sum (T.value c.loop-i.mark) c.index-shares-i.result (share_numbers c.unwrap-next.result.0) (T.value c.unwrap-next.result.1) c.loop-i.mark
+    c.loop-i-test.true (omega arith) c.index-shares-i.is c.loop-i.invariant c.index-shares-i.result.lowest.positive above marked.value.same marked.rounded T.lo T.hi g.met.T.Integer.range_law marked.held
 
 pub loop-i-preserved : goal.loop-i-preserved
 loop-i-preserved g c =
@@ -54,12 +53,12 @@ loop-i-preserved g c =
     mark_moved T.lo T.hi (T.value c.args.amount) (sum_of sum.0 sum.1 share.0 share.1) (sum_of before.0 before.1 share.0 share.1)
     (mul_positive sum.1 share.1 c.loop-i.sum.lowest.positive c.index-shares-i.result.lowest.positive)
     (mul_positive before.1 share.1 c.loop-i.invariant.up c.index-shares-i.result.lowest.positive)
-    (next_same before sum share c.loop-i.invariant.value) (share_numbers c.unwrap-next.result.0) (T.value c.unwrap-next.result.1)
+    (next_same before sum share c.loop-i.invariant.same) (share_numbers c.unwrap-next.result.0) (T.value c.unwrap-next.result.1)
     (rw c.unwrap-next.ensures at c.next_mark.ensures) in
-    split_more share_numbers T.value T.lo T.hi (T.value c.args.amount) c.args.shares.now c.loop-i.parts c.loop-i.i sum (T.value c.loop-i.mark) c.index-shares-i.result (share_numbers c.unwrap-next.result.0) (T.value c.unwrap-next.result.1) c.minus.result
-    c.loop-i-test.true (omega arith) c.index-shares-i.is c.loop-i.invariant c.index-shares-i.result.lowest.positive above marked c.minus.ensures
+    split_more share_numbers T.value (T.value c.args.amount) c.args.shares.now c.loop-i.parts c.loop-i.i sum (T.value c.loop-i.mark) c.index-shares-i.result (share_numbers c.unwrap-next.result.0) (T.value c.unwrap-next.result.1) c.minus.result
+    c.loop-i-test.true (omega arith) c.index-shares-i.is c.loop-i.invariant c.index-shares-i.result.lowest.positive above marked.value.same marked.rounded c.minus.ensures
 
 pub returns : goal.returns
 returns g c =
     let T = g.T.Integer in
-    split_whole share_numbers T.value T.lo T.hi (T.value c.args.amount) c.args.shares.now c.loop-i.parts c.loop-i.i (share_numbers c.loop-i.sum) _ (omega arith) (omega arith) c.requires.one c.loop-i.invariant
+    split_whole share_numbers T.value (T.value c.args.amount) c.args.shares.now c.loop-i.parts c.loop-i.i (share_numbers c.loop-i.sum) _ (omega arith) (omega arith) c.requires.one c.loop-i.invariant

@@ -1,4 +1,4 @@
-//! Products rounded to whole numbers, beside big integers: random pairs over four types, by each of the six rules.
+//! Products and quotients rounded to whole numbers, beside big integers: random pairs over four types, by each of the six rules.
 //!
 //! `BAKHSNEY_PAIRS` says how many pairs each type gets; without it there are 1000.
 mod support;
@@ -79,10 +79,13 @@ fn exact<T: Integer + ToPrimitive>(x: &Reduced<T>) -> BigRational {
 }
 
 fn compare<T: Integer + ToPrimitive + FromPrimitive + core::fmt::Debug>(left: &Reduced<T>, right: &Reduced<T>) {
-    let product = exact(left) * exact(right);
+    let divisor = exact(right);
+    let product = exact(left) * &divisor;
     for rule in RULES {
         let want = rounded(&product, rule).to_integer().to_i128().and_then(T::from_i128);
         assert_eq!(left.checked_mul_round(right, rule), want, "{left} {right} {rule:?}");
+        let want = if divisor.is_zero() { None } else { rounded(&(exact(left) / &divisor), rule).to_integer().to_i128().and_then(T::from_i128) };
+        assert_eq!(left.checked_div_round(right, rule), want, "{left} {right} {rule:?}");
     }
     assert!(!product.is_zero() || left.checked_mul_round(right, Rounding::Up) == Some(T::zero()));
 }

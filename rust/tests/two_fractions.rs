@@ -103,6 +103,18 @@ fn floored_product(pair: Pair) -> Option<i8> {
     i8::try_from((a * c).div_euclid(b * d)).ok()
 }
 
+/// The quotient rounded to the nearest whole number, a half away from 0.
+fn rounded_quotient(pair: Pair) -> Option<i8> {
+    let (c, d) = pair.right;
+    rounded_product(Pair { right: (d * c.signum(), c.abs()), ..pair })
+}
+
+/// The greatest whole number that is not above the quotient.
+fn floored_quotient(pair: Pair) -> Option<i8> {
+    let (c, d) = pair.right;
+    floored_product(Pair { right: (d * c.signum(), c.abs()), ..pair })
+}
+
 fn quotient(pair: Pair) -> Option<Fields> {
     let ((a, b), (c, d)) = (positive(pair.left)?, positive(pair.right)?);
     lowest(a * d, b * c)
@@ -300,6 +312,10 @@ const REDUCED: &[Row<Reduced<i8>>] = rows! { x, y, p:
     x.checked_mul_round(&y, Rounding::Floor) => floored_product(p);
     x.checked_mul_round(*y.numer(), Rounding::HalfAway) => rounded_product(p.by_number());
     x.checked_mul_round(y.numer(), Rounding::Floor) => floored_product(p.by_number());
+    x.checked_div_round(y, Rounding::HalfAway) => rounded_quotient(p);
+    x.checked_div_round(&y, Rounding::Floor) => floored_quotient(p);
+    x.checked_div_round(*y.numer(), Rounding::HalfAway) => rounded_quotient(p.by_number());
+    x.checked_div_round(y.numer(), Rounding::Floor) => floored_quotient(p.by_number());
     x.checked_div(y) => quotient(p);
     x.checked_div(&y) => quotient(p);
     x.checked_div(*y.numer()) => quotient(p.by_number());

@@ -483,6 +483,23 @@ impl<T: Integer> Reduced<T> {
         self.fraction.checked_mul_round(other.into().fraction, rule).map(T::from_proved)
     }
 
+    /// The quotient, rounded by the rule to a whole number, or `None` if the divisor is 0 or that number does not fit the type. The
+    /// quotient itself need not fit. A number may be the divisor, too.
+    ///
+    /// ```
+    /// use bakhsney::{Reduced64, Rounding};
+    ///
+    /// let third = Reduced64::checked_new(i64::MAX, 3).unwrap();
+    /// let times = Reduced64::checked_new(5, 2).unwrap();
+    /// assert_eq!(third.checked_div_round(times, Rounding::HalfEven), Some(1229782938247303441));
+    /// assert_eq!(third.checked_div_round(i64::MIN, Rounding::Floor), Some(-1));
+    /// assert_eq!(third.checked_div_round(0, Rounding::Floor), None);
+    /// ```
+    #[inline]
+    pub fn checked_div_round<O: Into<Reduced<T>>>(&self, other: O, rule: Rounding) -> Option<T> {
+        self.fraction.checked_div_round(other.into().fraction, rule).map(T::from_proved)
+    }
+
     /// The sum of the items, or `None` if its lowest terms do not fit the type. A partial sum may fit no type: over `i8`,
     /// 127/1 + 1/127 - 1/127 is 127/1.
     ///

@@ -9,11 +9,12 @@ mod rounded;
 pub mod rounding_rule;
 mod side;
 mod typed;
+mod whole;
 
 pub use exact::exact_decimal;
 pub use long::write_places;
 pub use places::decimal;
-pub use product::rounded_product;
+pub use product::{rounded_product, rounded_quotient};
 pub use reading::{DecimalRefusal, from_decimal};
 pub use rounded::round_to;
 pub use typed::{TextRefusal, from_text};

@@ -21,6 +21,7 @@ mod pow;
 mod printing;
 mod reading;
 mod rounded_product;
+mod rounded_quotient;
 mod rounding;
 mod sign;
 mod simplest;

@@ -14,7 +14,9 @@ use crate::proved::ratio_core::text::digits::put_digits;
 use crate::proved::ratio_core::text::{base_ten_text, from_str, from_str_radix, put_base_ten_text, put_text};
 use crate::proved::ratio_core::{BaseTenText, Form, RatioText, Steps};
 use crate::proved::ratio_decimal::rounding_rule::Rounding;
-use crate::proved::ratio_decimal::{decimal, from_decimal, from_text, round_to, rounded_product};
+use crate::proved::ratio_decimal::{
+    decimal, from_decimal, from_text, round_to, rounded_product, rounded_quotient,
+};
 use crate::proved::ratio_float::nearest::{to_f32, to_f64};
 use crate::proved::ratio_integer::{cancelled, lowest_terms};
 
@@ -26,6 +28,7 @@ fn reducing() {
         cancelled(6i64, -4) == (3, -2),
         round_to(2i64, 3, 100, Rounding::HalfEven) == Some((67, 100)),
         rounded_product(7i64, 3, 5, 2, Rounding::HalfEven) == Some(6),
+        rounded_quotient(7i64, 3, -2, 5, Rounding::HalfEven) == Some(-6),
         to_f64(-7i64, 2) == -3.5,
         to_f32(-7i64, 2) == -3.5,
         recip(-2i64, 3) == (-3, 2),

@@ -11,3 +11,4 @@ pub mod RatioLemmas
 pub mod SplitLemmas
 pub mod TotalLemmas
 pub mod ValueLemmas
+pub mod WeightLemmas

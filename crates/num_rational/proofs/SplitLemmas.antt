@@ -22,7 +22,7 @@ use Rattle.ratio_decimal.specs.Products.{ChecksRoundedWhole}
 use Rattle.ratio_decimal.specs.declared.rounding_rule.Rounding.TheVariants.{HalfAway}
 use Rattle.ratio_decimal.proofs.RoundingRuleLaws.{one_by}
 use Rattle.num_rational.specs.declared.reduced.Reduced.{Reduced}
-use Rattle.num_rational.specs.Split.{SharesMakeOne, ChecksNextMark, IsNextMark, IsRoundedShare, IsNearItsShare, IsSplitBy, MarkFits, total_of_parts, total_of_shares}
+use Rattle.num_rational.specs.Split.{SharesMakeOne, ChecksNextMark, IsNextMark, IsRoundedShare, IsNearItsShare, IsSplitBy, MarkFits, total_of, total_of_shares}
 
 pub times-one : (a : ℤ) → a *ℤ pos 1 ≡ a
 unfolding one
@@ -98,10 +98,10 @@ module _ (x y w u v : ℤ) where
   between_down : neg_ℤ w <ℤ (pos 2 *ℤ x -ℤ pos 2 *ℤ u) → (pos 2 *ℤ x -ℤ pos 2 *ℤ u) ≤ℤ w → neg_ℤ w <ℤ (pos 2 *ℤ (x +ℤ y) -ℤ pos 2 *ℤ v) → (pos 2 *ℤ (x +ℤ y) -ℤ pos 2 *ℤ v) ≤ℤ w → ((y -ℤ w) <ℤ (v -ℤ u)) × ((v -ℤ u) <ℤ (y +ℤ w))
   between_down a b c d = (omega (arith, ints), omega (arith, ints))
 
-sign_up : (a n : ℤ) → pos 0 ≤ℤ a → pos 0 ≤ℤ n → pos 0 ≤ℤ (a *ℤ n)
+pub sign_up : (a n : ℤ) → pos 0 ≤ℤ a → pos 0 ≤ℤ n → pos 0 ≤ℤ (a *ℤ n)
 sign_up a n a_up n_up = let times = times_le (pos 0) a n a_up n_up in omega (arith, ints)
 
-sign_down : (a n : ℤ) → a ≤ℤ pos 0 → pos 0 ≤ℤ n → (a *ℤ n) ≤ℤ pos 0
+pub sign_down : (a n : ℤ) → a ≤ℤ pos 0 → pos 0 ≤ℤ n → (a *ℤ n) ≤ℤ pos 0
 sign_down a n a_down n_up = let times = times_le a (pos 0) n a_down n_up in omega (arith, ints)
 
 -- r is the amount a times n/d rounded, and q is a times n/d + s/t rounded
@@ -223,25 +223,26 @@ fits_moved lo hi x y fraction same fits = record { numer = fits.numer; denom = f
 times_same : (a : ℤ) (x y : ℤ × ℤ) → SameValue y.0 y.1 x.0 x.1 → SameValue (a *ℤ y.0) y.1 (a *ℤ x.0) x.1
 times_same a x y same = mul_assoc a y.0 x.1 ∙ ap (λ (z : ℤ). a *ℤ z) same ∙ sym (mul_assoc a x.0 y.1)
 
-module _ (lo hi a : ℤ) (x y : ℤ × ℤ) (x_up : pos 0 <ℤ x.1) (y_up : pos 0 <ℤ y.1) (same : SameValue y.0 y.1 x.0 x.1) where
-  rounded_moved : (mark : ℤ) → IsRoundedShare a x mark → IsRoundedShare a y mark
+module _ (a : ℤ) (x y : ℤ × ℤ) (x_up : pos 0 <ℤ x.1) (y_up : pos 0 <ℤ y.1) (same : SameValue y.0 y.1 x.0 x.1) where
+  pub rounded_moved : (mark : ℤ) → IsRoundedShare a x mark → IsRoundedShare a y mark
   rounded_moved mark is = same_rounded (a *ℤ x.0) x.1 (a *ℤ y.0) y.1 mark x_up y_up (sym (times_same a x y same)) is
 
+module _ (lo hi a : ℤ) (x y : ℤ × ℤ) (x_up : pos 0 <ℤ x.1) (y_up : pos 0 <ℤ y.1) (same : SameValue y.0 y.1 x.0 x.1) where
   pub mark_moved : (sum : ℤ × ℤ) (mark : ℤ) → IsNextMark lo hi a x sum mark → IsNextMark lo hi a y sum mark
   mark_moved sum mark is = record {
     value = lowest_moved x.0 x.1 y.0 y.1 sum.0 sum.1 (positive_nonzero y.1 y_up) same is.value;
     fits = fits_moved lo hi x y (positive_nonzero y.1 y_up) same is.fits;
     held = is.held;
-    rounded = rounded_moved mark is.rounded;
+    rounded = rounded_moved a x y x_up y_up same mark is.rounded;
   }
 
-pub mark_fits_moved : (lo hi a : ℤ) (x y : ℤ × ℤ) → pos 0 <ℤ x.1 → pos 0 <ℤ y.1 → SameValue y.0 y.1 x.0 x.1 → MarkFits lo hi a x → MarkFits lo hi a y
-mark_fits_moved lo hi a x y x_up y_up same fits = record {
-  sum = fits_moved lo hi x y (positive_nonzero y.1 y_up) same fits.sum;
-  mark = fits.mark;
-  is = rounded_moved lo hi a x y x_up y_up same fits.mark fits.is;
-  held = fits.held;
-}
+  pub mark_fits_moved : MarkFits lo hi a x → MarkFits lo hi a y
+  mark_fits_moved fits = record {
+    sum = fits_moved lo hi x y (positive_nonzero y.1 y_up) same fits.sum;
+    mark = fits.mark;
+    is = rounded_moved a x y x_up y_up same fits.mark fits.is;
+    held = fits.held;
+  }
 
 pub mark_fits : (lo hi a : ℤ) (x sum : ℤ × ℤ) (mark : ℤ) → IsNextMark lo hi a x sum mark → MarkFits lo hi a x
 mark_fits lo hi a x sum mark is = record { sum = is.fits; mark = mark; is = is.rounded; held = is.held }
@@ -272,15 +273,18 @@ module _ (lo hi a : ℤ) (x s : ℤ × ℤ) (x_up : pos 0 <ℤ x.1) (low : IsLow
 
 -- ---- the sums of a list of shares
 
+pub fold_next : {A B : Type 0} (f : B → A → B) (z : B) (xs : List A) (k : ℕ) (x : A) → k < length xs → x ≡ get_or xs k x → fold f z (take (k + 1) xs) ≡ f (fold f z (take k xs)) x
+fold_next f z xs k x below is =
+    ap (λ n. fold f z (take n xs)) (add-one k)
+    ∙ ap (fold f z) (take-suc xs k x below ∙ ap (λ y. take k xs ++ y ∷ []) (sym is))
+    ∙ fold-append f z (take k xs) (x ∷ [])
+
 pub total_next : {A : Type 0} (view : A → ℤ × ℤ) (xs : List A) (k : ℕ) (x : A) → k < length xs → x ≡ get_or xs k x → total_of_shares view (take (k + 1) xs) ≡ sum_of (total_of_shares view (take k xs)).0 (total_of_shares view (take k xs)).1 (view x).0 (view x).1
-total_next view xs k x below is =
-    ap (λ n. total_of_shares view (take n xs)) (add-one k)
-    ∙ ap (total_of_shares view) (take-suc xs k x below ∙ ap (λ y. take k xs ++ y ∷ []) (sym is))
-    ∙ fold-append _ (pos 0, pos 1) (take k xs) (x ∷ [])
+total_next view xs k x below is = fold_next _ (pos 0, pos 1) xs k x below is
 
 -- with one more share, the values are still the same
-pub next_same : (t s y : ℤ × ℤ) → IsLowestTermsOf t.0 t.1 s.0 s.1 → SameValue (sum_of t.0 t.1 y.0 y.1).0 (sum_of t.0 t.1 y.0 y.1).1 (sum_of s.0 s.1 y.0 y.1).0 (sum_of s.0 s.1 y.0 y.1).1
-next_same t s y low = same_value_sums t.0 t.1 y.0 y.1 s.0 s.1 y.0 y.1 low.same refl
+pub next_same : (t s y : ℤ × ℤ) → SameValue t.0 t.1 s.0 s.1 → SameValue (sum_of t.0 t.1 y.0 y.1).0 (sum_of t.0 t.1 y.0 y.1).1 (sum_of s.0 s.1 y.0 y.1).0 (sum_of s.0 s.1 y.0 y.1).1
+next_same t s y same = same_value_sums t.0 t.1 y.0 y.1 s.0 s.1 y.0 y.1 same refl
 
 -- a sum is 1 exactly if its lowest terms are
 pub one_told : (x s : ℤ × ℤ) → IsLowestTermsOf x.0 x.1 s.0 s.1 → (x.0 ≡ x.1) ↔ (s.0 ≡ s.1)
@@ -290,14 +294,13 @@ one_told x s low = (
 )
 
 -- The parts of the first k shares are written. Their sum is the mark: the amount times the sum of these shares, rounded.
-pub record IsSplitSoFar {A P : Type 0} (view : A → ℤ × ℤ) (value_of : P → ℤ) (lo hi amount : ℤ) (shares : List A) (parts : List P) (k : ℕ) (sum : ℤ × ℤ) (mark : ℤ) : Type 0 where
-  pub value : IsLowestTermsOf (total_of_shares view (take k shares)).0 (total_of_shares view (take k shares)).1 sum.0 sum.1
+pub record IsSplitSoFar {A P : Type 0} (view : A → ℤ × ℤ) (value_of : P → ℤ) (amount : ℤ) (shares : List A) (parts : List P) (k : ℕ) (sum : ℤ × ℤ) (mark : ℤ) : Type 0 where
+  pub same : SameValue (total_of_shares view (take k shares)).0 (total_of_shares view (take k shares)).1 sum.0 sum.1
   pub above : pos 0 ≤ℤ (total_of_shares view (take k shares)).0
   pub up : pos 0 <ℤ (total_of_shares view (take k shares)).1
   pub rounded : IsRoundedShare amount (total_of_shares view (take k shares)) mark
-  pub held : IsHeld lo hi mark
-  pub total : total_of_parts value_of (take k parts) ≡ mark
-  pub marks : (j : ℕ) → j < k → IsRoundedShare amount (total_of_shares view (take (j + 1) shares)) (total_of_parts value_of (take (j + 1) parts))
+  pub total : total_of value_of (take k parts) ≡ mark
+  pub marks : (j : ℕ) → j < k → IsRoundedShare amount (total_of_shares view (take (j + 1) shares)) (total_of value_of (take (j + 1) parts))
   pub near : (j : ℕ) → j < k → (share : A) (part : P) → IsNearItsShare amount (view (slice_index_or shares j share)) (value_of (slice_index_or parts j part))
 
 -- what fits has a result
@@ -310,34 +313,34 @@ pub part_held : (lo hi p q : ℤ) → IsRange lo hi → ((pos 0 ≤ℤ p) × (p 
 part_held lo hi p q range (inl h) held = let low = low_below lo hi range in let b = held.below in let x = h.0 in let y = h.1 in record { above = omega (arith, ints); below = omega (arith, ints) }
 part_held lo hi p q range (inr h) held = let high = range.high in let b = held.above in let x = h.0 in let y = h.1 in record { above = omega (arith, ints); below = omega (arith, ints) }
 
-module _ {A P : Type 0} (view : A → ℤ × ℤ) (value_of : P → ℤ) (lo hi amount : ℤ) (shares : List A) where
-  pub split_none : (parts : List P) (sum : ℤ × ℤ) (mark : ℤ) → IsRange lo hi → sum.0 ≡ pos 0 → sum.1 ≡ pos 1 → mark ≡ pos 0 → IsSplitSoFar view value_of lo hi amount shares parts 0 sum mark
-  split_none parts sum mark range numer denom none = rw none (record {
-    value = rw (numer, denom) (lowest_own (pos 0) (pos 1) (over_one (pos 0) (pos 1) refl));
+module _ {A P : Type 0} (view : A → ℤ × ℤ) (value_of : P → ℤ) (amount : ℤ) (shares : List A) where
+  pub split_none : (parts : List P) (sum : ℤ × ℤ) (mark : ℤ) → sum.0 ≡ pos 0 → mark ≡ pos 0 → IsSplitSoFar view value_of amount shares parts 0 sum mark
+  split_none parts sum mark numer none = rw none (record {
+    same = zero-*ℤ sum.1 ∙ sym (times-one (pos 0)) ∙ ap (λ (z : ℤ). z *ℤ pos 1) (sym numer);
     above = omega (arith, ints);
     up = omega (arith, ints);
     rounded = first_mark amount;
-    held = let low = low_below lo hi range in let high = range.high in record { above = omega (arith, ints); below = omega (arith, ints) };
     total = refl;
     marks = λ j below. absurd (omega arith);
     near = λ j below. absurd (omega arith);
   })
 
-  module _ (parts : List P) (k : ℕ) (sum : ℤ × ℤ) (mark : ℤ) (share : A) (after : ℤ × ℤ) (next_mark : ℤ) (written : P) (below : k < length shares) (room : k < length parts) (is : share ≡ get_or shares k share) (so_far : IsSplitSoFar view value_of lo hi amount shares parts k sum mark) (share_up : pos 0 <ℤ (view share).1) (share_above : pos 0 ≤ℤ (view share).0)
-      (marked : IsNextMark lo hi amount (sum_of (total_of_shares view (take k shares)).0 (total_of_shares view (take k shares)).1 (view share).0 (view share).1) after next_mark) where
+  module _ (parts : List P) (k : ℕ) (sum : ℤ × ℤ) (mark : ℤ) (share : A) (after : ℤ × ℤ) (next_mark : ℤ) (written : P) (below : k < length shares) (room : k < length parts) (is : share ≡ get_or shares k share) (so_far : IsSplitSoFar view value_of amount shares parts k sum mark) (share_up : pos 0 <ℤ (view share).1) (share_above : pos 0 ≤ℤ (view share).0)
+      (same : SameValue (sum_of (total_of_shares view (take k shares)).0 (total_of_shares view (take k shares)).1 (view share).0 (view share).1).0 (sum_of (total_of_shares view (take k shares)).0 (total_of_shares view (take k shares)).1 (view share).0 (view share).1).1 after.0 after.1)
+      (rounded : IsRoundedShare amount (sum_of (total_of_shares view (take k shares)).0 (total_of_shares view (take k shares)).1 (view share).0 (view share).1) next_mark) where
     next : total_of_shares view (take (k + 1) shares) ≡ sum_of (total_of_shares view (take k shares)).0 (total_of_shares view (take k shares)).1 (view share).0 (view share).1
     next = total_next view shares k share below is
 
     next_near : IsNearItsShare amount (view share) (next_mark -ℤ mark)
-    next_near = near_share amount _ _ (view share).0 (view share).1 mark next_mark so_far.up share_up so_far.above share_above so_far.rounded marked.rounded
+    next_near = near_share amount _ _ (view share).0 (view share).1 mark next_mark so_far.up share_up so_far.above share_above so_far.rounded rounded
 
-    pub next_part_held : IsRange lo hi → IsHeld lo hi (next_mark -ℤ mark)
-    next_part_held range = part_held lo hi _ _ range (part_between amount _ _ (view share).0 (view share).1 mark next_mark so_far.up share_up so_far.above share_above so_far.rounded marked.rounded) marked.held
+    pub next_part_held : (lo hi : ℤ) → IsRange lo hi → IsHeld lo hi next_mark → IsHeld lo hi (next_mark -ℤ mark)
+    next_part_held lo hi range held = part_held lo hi _ _ range (part_between amount _ _ (view share).0 (view share).1 mark next_mark so_far.up share_up so_far.above share_above so_far.rounded rounded) held
 
     module _ (part_is : value_of written ≡ next_mark -ℤ mark) where
-      total : total_of_parts value_of (take (k + 1) (set parts k written)) ≡ next_mark
+      total : total_of value_of (take (k + 1) (set parts k written)) ≡ next_mark
       total =
-          ap (total_of_parts value_of) (take_more_set parts k written room)
+          ap (total_of value_of) (take_more_set parts k written room)
           ∙ fold-append _ (pos 0) (take k parts) (written ∷ [])
           ∙ ap (λ (z : ℤ). z +ℤ value_of written) so_far.total
           ∙ ap (λ (z : ℤ). mark +ℤ z) part_is
@@ -350,27 +353,26 @@ module _ {A P : Type 0} (view : A → ℤ × ℤ) (value_of : P → ℤ) (lo hi 
       here other part = rw get_or-set_same (subst (λ x. IsNearItsShare amount (view x) (value_of written)) (is ∙ get_or_default shares k share other below) (subst (IsNearItsShare amount (view share)) (sym part_is) next_near))
 
       next_rounded : IsRoundedShare amount (total_of_shares view (take (k + 1) shares)) next_mark
-      next_rounded = subst (λ x. IsRoundedShare amount x next_mark) (sym next) marked.rounded
+      next_rounded = subst (λ x. IsRoundedShare amount x next_mark) (sym next) rounded
 
-      mark_kept : (j : ℕ) → j < k → IsRoundedShare amount (total_of_shares view (take (j + 1) shares)) (total_of_parts value_of (take (j + 1) (set parts k written)))
-      mark_kept j less = subst (λ ps. IsRoundedShare amount (total_of_shares view (take (j + 1) shares)) (total_of_parts value_of ps)) (sym (take-set-le (j + 1) parts k written (omega arith))) (so_far.marks j less)
+      mark_kept : (j : ℕ) → j < k → IsRoundedShare amount (total_of_shares view (take (j + 1) shares)) (total_of value_of (take (j + 1) (set parts k written)))
+      mark_kept j less = subst (λ ps. IsRoundedShare amount (total_of_shares view (take (j + 1) shares)) (total_of value_of ps)) (sym (take-set-le (j + 1) parts k written (omega arith))) (so_far.marks j less)
 
-      mark_here : IsRoundedShare amount (total_of_shares view (take (k + 1) shares)) (total_of_parts value_of (take (k + 1) (set parts k written)))
+      mark_here : IsRoundedShare amount (total_of_shares view (take (k + 1) shares)) (total_of value_of (take (k + 1) (set parts k written)))
       mark_here = subst (IsRoundedShare amount (total_of_shares view (take (k + 1) shares))) (sym total) next_rounded
 
-      pub split_more : IsSplitSoFar view value_of lo hi amount shares (set parts k written) (k + 1) after next_mark
+      pub split_more : IsSplitSoFar view value_of amount shares (set parts k written) (k + 1) after next_mark
       split_more = record {
-        value = subst (λ x. IsLowestTermsOf x.0 x.1 after.0 after.1) (sym next) marked.value;
+        same = subst (λ x. SameValue x.0 x.1 after.0 after.1) (sym next) same;
         above = subst (λ x. pos 0 ≤ℤ x.0) (sym next) (both_up _ _ (sign_up _ _ so_far.above (not_below _ share_up)) (sign_up _ _ share_above (not_below _ so_far.up)));
         up = subst (λ x. pos 0 <ℤ x.1) (sym next) (mul_positive _ _ so_far.up share_up);
         rounded = next_rounded;
-        held = marked.held;
         total = total;
         marks = below_more _ _ mark_kept mark_here;
         near = below_more _ _ kept here;
       }
 
-  pub split_whole : (parts : List P) (k : ℕ) (sum : ℤ × ℤ) (mark : ℤ) → k ≡ length shares → length parts ≡ length shares → SharesMakeOne view shares → IsSplitSoFar view value_of lo hi amount shares parts k sum mark → IsSplitBy view value_of amount shares parts
+  pub split_whole : (parts : List P) (k : ℕ) (sum : ℤ × ℤ) (mark : ℤ) → k ≡ length shares → length parts ≡ length shares → SharesMakeOne view shares → IsSplitSoFar view value_of amount shares parts k sum mark → IsSplitBy view value_of amount shares parts
   split_whole parts k sum mark whole alike one so_far =
       let all : take k shares ≡ shares = ap (λ n. take n shares) whole ∙ take-length shares in
       let every : take k parts ≡ parts = ap (λ n. take n parts) (whole ∙ sym alike) ∙ take-length parts in
@@ -378,7 +380,7 @@ module _ {A P : Type 0} (view : A → ℤ × ℤ) (value_of : P → ℤ) (lo hi 
       let rounded = subst (λ xs. IsRounded (amount *ℤ (total_of_shares view xs).0) (total_of_shares view xs).1 mark) all so_far.rounded in
       let last : mark ≡ amount = last_mark amount (total_of_shares view shares).1 mark up (subst (λ z. IsRounded (amount *ℤ z) (total_of_shares view shares).1 mark) one rounded) in
       record {
-        total = ap (total_of_parts value_of) (sym every) ∙ so_far.total ∙ last;
+        total = ap (total_of value_of) (sym every) ∙ so_far.total ∙ last;
         rounded = λ j less. so_far.marks j (omega arith);
         near = λ j less. so_far.near j (omega arith);
       }

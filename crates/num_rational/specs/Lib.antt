@@ -15,6 +15,7 @@ pub mod Ratio
 pub mod Rationalized
 pub mod Reduced
 pub mod Split
+pub mod Weights
 pub use Rattle.ratio_core.specs.Conditions
 pub use Rattle.ratio_core.specs.ContinuedFraction
 pub use Rattle.ratio_core.specs.Laws

@@ -21,6 +21,11 @@ share_numbers x = numbers (ratio_of x)
 abbrev pub total_of_shares : {A : Type 0} → (A → ℤ × ℤ) → List A → ℤ × ℤ
 total_of_shares view shares = fold (λ total share. sum_of total.0 total.1 (view share).0 (view share).1) (pos 0, pos 1) shares
 
+-- the denominator of each share is positive
+-- Example: not 1/2, 1/-2
+abbrev pub SharesOverPositive : {A : Type 0} → (A → ℤ × ℤ) → List A → Type 0
+SharesOverPositive view shares = All (λ share. pos 0 <ℤ (view share).1) shares
+
 -- no share is below 0
 -- Example: not 4/3, -1/3
 abbrev pub NoShareIsBelowZero : {A : Type 0} → (A → ℤ × ℤ) → List A → Type 0
@@ -47,36 +52,46 @@ MarksFit view lo hi amount shares = (k : ℕ) → k < length shares → MarkFits
 abbrev pub SharesMakeOne : {A : Type 0} → (A → ℤ × ℤ) → List A → Type 0
 SharesMakeOne view shares = (total_of_shares view shares).0 ≡ (total_of_shares view shares).1
 
--- the shares can split the amount into `parts` parts: there are as many parts as shares, `NoShareIsBelowZero`, `MarksFit` and `SharesMakeOne`
-pub record CanBeSplit {A : Type 0} (view : A → ℤ × ℤ) (lo hi amount : ℤ) (shares : List A) (parts : ℕ) : Type 0 where
+-- there are as many parts as shares, no share is below 0, all fits that must (`fit`), and the shares add up to 1
+pub record AreSharesFor {A : Type 0} (view : A → ℤ × ℤ) (Fit : Type 0) (shares : List A) (parts : ℕ) : Type 0 where
   pub as_many : parts ≡ length shares
   pub none_below : NoShareIsBelowZero view shares
-  pub fit : MarksFit view lo hi amount shares
+  pub fit : Fit
   pub one : SharesMakeOne view shares
 
--- the refusal names the first condition of `CanBeSplit` that does not hold: `Length`, `BelowZero`, `NotHeld` or `NotOne`
+-- the refusal names the first condition of `AreSharesFor` that does not hold: `Length`, `BelowZero`, `NotHeld` or `NotOne`
 -- Example: 1/3 and 1/3: `NotOne`
+abbrev pub RefusesShares : {A : Type 0} → (A → ℤ × ℤ) → Type 0 → List A → ℕ → SplitRefusal → Type 0
+RefusesShares view Fit shares parts Length = parts ≢ length shares
+RefusesShares view Fit shares parts BelowZero = (parts ≡ length shares) × ¬ (NoShareIsBelowZero view shares)
+RefusesShares view Fit shares parts NotHeld = (parts ≡ length shares) × NoShareIsBelowZero view shares × ¬ Fit
+RefusesShares view Fit shares parts NotOne = (parts ≡ length shares) × NoShareIsBelowZero view shares × Fit × ¬ (SharesMakeOne view shares)
+
+-- the shares can split the amount into `parts` parts (`AreSharesFor`): what must fit is `MarksFit`
+abbrev pub CanBeSplit : {A : Type 0} → (A → ℤ × ℤ) → ℤ → ℤ → ℤ → List A → ℕ → Type 0
+CanBeSplit view lo hi amount shares parts = AreSharesFor view (MarksFit view lo hi amount shares) shares parts
+
+-- the refusal names the first condition of `CanBeSplit` that does not hold (`RefusesShares`)
+-- Example: over `i8`, 127 by 2/1 and 1/1: `NotHeld`
 abbrev pub RefusesToSplit : {A : Type 0} → (A → ℤ × ℤ) → ℤ → ℤ → ℤ → List A → ℕ → SplitRefusal → Type 0
-RefusesToSplit view lo hi amount shares parts Length = parts ≢ length shares
-RefusesToSplit view lo hi amount shares parts BelowZero = (parts ≡ length shares) × ¬ (NoShareIsBelowZero view shares)
-RefusesToSplit view lo hi amount shares parts NotHeld = (parts ≡ length shares) × NoShareIsBelowZero view shares × ¬ (MarksFit view lo hi amount shares)
-RefusesToSplit view lo hi amount shares parts NotOne = (parts ≡ length shares) × NoShareIsBelowZero view shares × MarksFit view lo hi amount shares × ¬ (SharesMakeOne view shares)
+RefusesToSplit view lo hi amount shares parts why = RefusesShares view (MarksFit view lo hi amount shares) shares parts why
 
 -- the part is less than 1 away from the amount times the share
 pub record IsNearItsShare (amount : ℤ) (share : ℤ × ℤ) (part : ℤ) : Type 0 where
   pub above : (amount *ℤ share.0 -ℤ share.1) <ℤ (part *ℤ share.1)
   pub below : (part *ℤ share.1) <ℤ (amount *ℤ share.0 +ℤ share.1)
 
--- the sum of the parts
-abbrev pub total_of_parts : {P : Type 0} → (P → ℤ) → List P → ℤ
-total_of_parts value parts = fold (λ sum part. sum +ℤ value part) (pos 0) parts
+-- the sum of whole numbers, such as parts
+-- Example: 33, 34 and 33: 100
+abbrev pub total_of : {P : Type 0} → (P → ℤ) → List P → ℤ
+total_of value numbers = fold (λ sum number. sum +ℤ value number) (pos 0) numbers
 
 -- the parts add up to the amount. The first k of them add up to the amount times the sum of their shares, rounded. Each is less than 1 away
 -- from the amount times its share (`IsNearItsShare`)
 -- Example: 100 by 1/3, 1/3 and 1/3: 33, 34, 33
 pub record IsSplitBy {A P : Type 0} (view : A → ℤ × ℤ) (value : P → ℤ) (amount : ℤ) (shares : List A) (parts : List P) : Type 0 where
-  pub total : total_of_parts value parts ≡ amount
-  pub rounded : (k : ℕ) → k < length shares → IsRoundedShare amount (total_of_shares view (take (k + 1) shares)) (total_of_parts value (take (k + 1) parts))
+  pub total : total_of value parts ≡ amount
+  pub rounded : (k : ℕ) → k < length shares → IsRoundedShare amount (total_of_shares view (take (k + 1) shares)) (total_of value (take (k + 1) parts))
   pub near : (k : ℕ) → k < length shares → (share : A) (part : P) → IsNearItsShare amount (view (slice_index_or shares k share)) (value (slice_index_or parts k part))
 
 -- Inner: x is the sum of the shares so far and one more. It fits, and so does the mark: the amount times x, rounded
@@ -91,9 +106,9 @@ abbrev pub ChecksNextMark : {T : _} {i : _} {o : _} {e : _} {p : _} {h : _} → 
 ChecksNextMark {i = i} amount x None = ¬ (MarkFits i.lo i.hi amount x)
 ChecksNextMark {i = i} amount x (Some r) = IsNextMark i.lo i.hi amount x (share_numbers r.0) (i.value r.1)
 
--- Inner: the sums are refused since one of them or its mark does not fit, or since all fit and the last is not 1
-abbrev pub MarksRefuse : {A : Type 0} → (A → ℤ × ℤ) → ℤ → ℤ → ℤ → List A → SplitRefusal → Type 0
-MarksRefuse view lo hi amount shares Length = ⊥
-MarksRefuse view lo hi amount shares BelowZero = ⊥
-MarksRefuse view lo hi amount shares NotHeld = ¬ (MarksFit view lo hi amount shares)
-MarksRefuse view lo hi amount shares NotOne = MarksFit view lo hi amount shares × ¬ (SharesMakeOne view shares)
+-- Inner: the sums are refused since what must fit does not, or since it does and the last sum is not 1
+abbrev pub SumsRefuse : Type 0 → Type 0 → SplitRefusal → Type 0
+SumsRefuse Fit One Length = ⊥
+SumsRefuse Fit One BelowZero = ⊥
+SumsRefuse Fit One NotHeld = ¬ Fit
+SumsRefuse Fit One NotOne = Fit × ¬ One

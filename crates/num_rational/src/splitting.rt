@@ -81,10 +81,7 @@ fn next_mark<T: Copy + Integer>(
 }
 
 // Whether each sum of the first shares and its mark fit, and the last sum is 1.
-fn check_marks<T: Copy + Integer, S: Share<T>>(
-    amount: T,
-    shares: &[S],
-) -> Result<(), SplitRefusal>
+fn check_marks<T: Copy + Integer, S: Share<T>>(amount: T, shares: &[S]) -> Result<(), SplitRefusal>
     requires { SharesOverPositive S.share shares.now }
     ensures { MatchResult result
         (λ _. MarksFit S.share T.lo T.hi (T.value amount) shares.now × SharesMakeOne S.share shares.now)

@@ -9,7 +9,7 @@ use Rattle.num_rational.specs.declared.weights.WeightRefusal.TheVariants.{AllZer
 use Rattle.ratio_c.specs.declared.numbers64.Fraction64.{Fraction64}
 use Rattle.ratio_c.specs.Calls.{Tested}
 use Rattle.ratio_c.specs.Codes.{code_all_zero, code_answered, code_below_zero, code_denominator_not_positive, code_not_held, code_not_one, code_unlike_lengths}
-use Rattle.ratio_c.specs.Many.{ArePositive}
+use Rattle.ratio_c.specs.Many.{AreOverPositive}
 use Rattle.ratio_c.specs.Numbers64.{fraction64, greatest64, least64}
 
 -- the code of a split by shares that was refused: 15, 12, 1 or 13
@@ -46,7 +46,7 @@ pub record IsSplitRefused {Why : Type 0} (code_of : Why → ℕ) (Refuses : Why 
 -- Example: 100 by 1/3, 1/3 and 1/3: code 0, and 33, 34 and 33; by 1/3 and 1/3: code 13
 abbrev pub SplitsByShares : ℤ → List Fraction64 → List ℤ → List ℤ → ℕ → Type 0
 SplitsByShares amount shares old new result =
-    Tested (ArePositive shares)
+    Tested (AreOverPositive shares)
     (IsSplitDone (CanBeSplit fraction64 least64 greatest64 amount shares (length old)) (IsSplitBy fraction64 (λ z. z) amount shares) new result
     ⊎ IsSplitRefused code_of_shares (RefusesToSplit fraction64 least64 greatest64 amount shares (length old)) old new result)
     ((result ≡ code_denominator_not_positive) × (new ≡ old))

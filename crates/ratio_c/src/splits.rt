@@ -8,9 +8,7 @@ use crate::code::{
 };
 use crate::many::are_positive;
 use crate::numbers64::Fraction64;
-use num_rational::{
-    Reduced, Share, SplitRefusal, WeightRefusal, split_by_weights, split_shares,
-};
+use num_rational::{Reduced, Share, SplitRefusal, WeightRefusal, split_by_weights, split_shares};
 
 impl Share<i64> for Fraction64 {
     ghost share = { fraction64 };
@@ -66,11 +64,7 @@ pub extern "C" fn ratio_split_i64(amount: i64, shares: &[Fraction64], parts: &mu
 
 /// The amount split by the weights into the parts. The result is the code.
 #[unsafe(no_mangle)]
-pub extern "C" fn ratio_split_by_weights_i64(
-    amount: i64,
-    weights: &[i64],
-    parts: &mut [i64],
-) -> u32
+pub extern "C" fn ratio_split_by_weights_i64(amount: i64, weights: &[i64], parts: &mut [i64]) -> u32
     ensures { SplitsByWeights amount weights.now parts.old parts.new result }
 {
     match split_by_weights(amount, weights, parts) {

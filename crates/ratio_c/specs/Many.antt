@@ -10,8 +10,8 @@ use Rattle.ratio_c.specs.Numbers64.{fraction64, greatest64, least64}
 
 -- each denominator is positive
 -- Example: not 1/2, 1/-3
-abbrev pub ArePositive : List Fraction64 → Type 0
-ArePositive xs = All (λ x. pos 0 <ℤ x.denom) xs
+abbrev pub AreOverPositive : List Fraction64 → Type 0
+AreOverPositive xs = All (λ x. pos 0 <ℤ x.denom) xs
 
 -- no numerator is 0
 -- Example: not 1/2, 0/3
@@ -24,7 +24,7 @@ AreNotZero xs = All (λ x. x.numer ≢ pos 0) xs
 abbrev pub IsQuotientOfMany : List Fraction64 → List Fraction64 → ℕ → Said → Type 0
 IsQuotientOfMany xs ys room answer =
     Tested (2 * (length xs + length ys) ≤ room)
-    (Tested (ArePositive xs × ArePositive ys)
+    (Tested (AreOverPositive xs × AreOverPositive ys)
     (Tested (AreNotZero ys) (Says (ChecksLowest (λ z. z.0) (λ z. z.1) least64 greatest64 (quotient_of_items fraction64 xs fraction64 ys)) answer)
     (answer ≡ refused code_division_by_zero))
     (answer ≡ refused code_denominator_not_positive))

@@ -3,7 +3,7 @@ ghost use Rattle.std.specs.Prelude.{◌≡◌, ◌↔◌, ◌+◌, ◌*◌, ◌�
 ghost use Rattle.ratio_core.specs.ManyProducts.{product_by};
 ghost use Rattle.ratio_integer.specs.Fraction.{ChecksLowest};
 ghost use Rattle.num_rational.specs.ManyProducts.{denominator_product, numerator_product, quotient_of_items};
-ghost use Rattle.ratio_c.specs.Many.{AreNotZero, ArePositive, IsQuotientOfMany};
+ghost use Rattle.ratio_c.specs.Many.{AreNotZero, AreOverPositive, IsQuotientOfMany};
 ghost use Rattle.ratio_c.specs.Numbers64.{fraction64, greatest64, least64, said64};
 ghost use Rattle.ratio_c.specs.TotalReads.{AnswersOne};
 
@@ -15,7 +15,7 @@ use ratio_core::products::many_products;
 
 // Whether each denominator is positive.
 pub(crate) fn are_positive(items: &[Fraction64]) -> bool
-    ensures { IsTrue result ↔ ArePositive items.now }
+    ensures { IsTrue result ↔ AreOverPositive items.now }
 {
     items.iter().all(|x| 0 < x.denom)
 }

@@ -30,6 +30,7 @@ mod rounding;
 mod serialized;
 mod sign;
 mod simplest;
+mod splits;
 mod text;
 #[cfg(feature = "alloc")]
 mod total;
@@ -40,5 +41,6 @@ pub use integer::{Integer, UpTo64};
 pub use ratio::{Ratio, Rational, Rational32, Rational64};
 pub use reduced::{Reduced, Reduced32, Reduced64};
 pub use reduced_conversions::ReducedError;
+pub use splits::{split, split_by_weights};
 #[cfg(feature = "alloc")]
 pub use total::{TooLong, Total};

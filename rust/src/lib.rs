@@ -46,6 +46,7 @@ pub mod integer {
 }
 
 pub use layer::{CastError, Convergents, Quotients, Ratio, Rational, Rational32, Rational64, Reduced, Reduced32, Reduced64, ReducedError};
+pub use layer::{split, split_by_weights};
 #[cfg(feature = "alloc")]
 pub use layer::{TooLong, Total};
 /// The error of `parse`: the text is not a fraction, or its lowest terms do not fit the type.
@@ -68,6 +69,34 @@ pub use proved::num_rational::ParseRatioError;
 /// ```
 #[doc(inline)]
 pub use proved::num_rational::RatioErrorKind;
+/// Why [`split`] does not split an amount by shares: the first of these that applies.
+///
+/// ```
+/// use bakhsney::{split, Reduced, SplitRefusal};
+///
+/// let [third, owed] = [(1i8, 3), (-1, 3)].map(|(numer, denom)| Reduced::checked_new(numer, denom).unwrap());
+/// let [of_127, of_126] = [127i8, 126].map(|denom| Reduced::checked_new(1, denom).unwrap());
+/// let refusal = |shares: &[_]| split(100, shares, &mut [0; 2]).unwrap_err();
+/// assert_eq!(refusal(&[third; 3]), SplitRefusal::Length);
+/// assert_eq!(refusal(&[third, owed]), SplitRefusal::BelowZero);
+/// assert_eq!(refusal(&[of_127, of_126]), SplitRefusal::NotHeld);
+/// assert_eq!(refusal(&[third; 2]), SplitRefusal::NotOne);
+/// ```
+#[doc(inline)]
+pub use proved::num_rational::SplitRefusal;
+/// Why [`split_by_weights`] does not split an amount: the first of these that applies.
+///
+/// ```
+/// use bakhsney::{split_by_weights, WeightRefusal};
+///
+/// let refusal = |weights: &[i8]| split_by_weights(100, weights, &mut [0; 2]).unwrap_err();
+/// assert_eq!(refusal(&[1, 1, 1]), WeightRefusal::Length);
+/// assert_eq!(refusal(&[2, -1]), WeightRefusal::BelowZero);
+/// assert_eq!(refusal(&[127, 1]), WeightRefusal::NotHeld);
+/// assert_eq!(refusal(&[0, 0]), WeightRefusal::AllZero);
+/// ```
+#[doc(inline)]
+pub use proved::num_rational::WeightRefusal;
 /// The text that `base_ten_text` of a fraction returns, and that `put_base_ten_text` writes.
 ///
 /// ```

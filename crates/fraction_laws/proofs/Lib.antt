@@ -13,5 +13,6 @@ pub mod ReducedLemmas
 pub mod RemainderLawLemmas
 pub mod ResultLemmas
 pub mod SignLawLemmas
+pub mod SplitLawLemmas
 pub mod UndoingLemmas
 pub mod WholeNumberLemmas

@@ -9,6 +9,7 @@ pub mod ReducedLaws
 pub mod RemainderLaws
 pub mod RoundingLaws
 pub mod SignLaws
+pub mod SplitLaws
 pub mod ToldApart
 pub mod UndoingLaws
 pub mod ValueLaws

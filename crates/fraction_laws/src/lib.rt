@@ -12,6 +12,7 @@ pub mod reduced;
 pub mod remainder;
 pub mod rounding;
 pub mod signs;
+pub mod splits;
 pub mod told_apart;
 pub mod undoing;
 pub mod values;

@@ -1,20 +1,23 @@
 -- Shares by weights: the sum of the first weights lies between 0 and the sum of all, so a mark lies between 0 and the amount, and fits.
-use Rattle.std.specs.Prelude.{◌≡◌, ◌≢◌, ◌⊎◌, ◌+◌, ◌<◌, ◌≤ℤ◌, ◌<ℤ◌, ◌+ℤ◌, ◌*ℤ◌, ℕ, zero, suc, ℤ, pos, All, List, [], ◌∷◌, fold, length, slice_index_or, take}
-use Rattle.std.proofs.Common.{refl, sym, ap, subst, ◌∙◌, arith, inl, inr}
+use Rattle.std.specs.Prelude.{◌≡◌, ◌≢◌, ◌⊎◌, ◌+◌, ◌<◌, ◌≤ℤ◌, ◌<ℤ◌, ◌+ℤ◌, ◌-ℤ◌, ◌*ℤ◌, ℕ, zero, suc, ℤ, pos, All, List, [], ◌∷◌, fold, length, slice_index_or, take}
+use Rattle.std.proofs.Common.{refl, sym, ap, subst, ◌∙◌, arith, inl, inr, get_or}
+use Rattle.std.proofs.Math.ListN.{set}
+use Rattle.std.proofs.Math.Seq.{take-length}
 use Rattle.std.proofs.lemmas.Int.{ints}
 use lib.IntN.{*ℤ_comm, *ℤ-zero, zero-*ℤ}
 use Rattle.ratio_integer.specs.Arithmetic.{sum_of}
 use Rattle.ratio_integer.specs.Fraction.{SameValue}
 use Rattle.ratio_integer.specs.Range.{IsHeld, IsRange}
-use Rattle.ratio_integer.proofs.Whole.{add-mul, mul_assoc, mul-sub, mul_cancel, positive_nonzero}
+use Rattle.ratio_integer.proofs.Whole.{add-mul, mul_assoc, mul-sub, mul_cancel, mul_positive, positive_nonzero}
 use Rattle.ratio_core.specs.Rounding.{IsRounded}
+use Rattle.ratio_core.proofs.Floored.{one-mul}
 use Rattle.ratio_core.proofs.ProductOrder.{times_le}
 use Rattle.ratio_core.proofs.RoundingLawLemmas.{each_rounded}
 use Rattle.ratio_decimal.specs.declared.rounding_rule.Rounding.TheVariants.{HalfAway}
 use Rattle.ratio_decimal.proofs.RoundingRuleLaws.{rounded_monotone}
-use Rattle.num_rational.specs.Split.{total_of}
-use Rattle.num_rational.specs.Weights.{NoWeightIsBelowZero}
-use Rattle.num_rational.proofs.SplitLemmas.{fold_next, first_mark, last_mark, part_held, sign_down, sign_up, times-one}
+use Rattle.num_rational.specs.Split.{IsRoundedShare, IsSplitBy, total_of, total_of_shares}
+use Rattle.num_rational.specs.Weights.{CanSplitByWeights, NoWeightIsBelowZero, share_of}
+use Rattle.num_rational.proofs.SplitLemmas.{IsSplitSoFar, first_mark, fold_next, last_mark, next_part_held, part_held, rounded_moved, sign_down, sign_up, split_more, split_whole, times-one}
 
 -- ---- the sum of the first weights
 
@@ -56,15 +59,15 @@ module _ {A : Type 0} (value : A → ℤ) where
       positive : (z : ℤ) → pos 0 ≤ℤ z → z ≢ pos 0 → pos 0 <ℤ z
       positive z up other = grind (arith, ints)
 
+  -- each sum of the first weights fits if the sum of all does
+  pub first_held : (lo hi : ℤ) (xs : List A) (k : ℕ) → IsRange lo hi → NoWeightIsBelowZero value xs → IsHeld lo hi (total_of value xs) → IsHeld lo hi (total_of value (take k xs))
+  first_held lo hi xs k range none held = part_held lo hi _ _ range (inl (first_weights k xs none)) held
+
   -- the type has no room for the sum of all if it has none for that of the first
   pub total_out : (lo hi : ℤ) (xs : List A) (k : ℕ) (x : A) → IsRange lo hi → k < length xs → x ≡ slice_index_or xs k x → NoWeightIsBelowZero value xs → ¬ (IsHeld lo hi (total_of value (take k xs) +ℤ value x)) → ¬ (IsHeld lo hi (total_of value xs))
   total_out lo hi xs k x range below is none out held =
       let next = weights_next xs k x below is in
       out (subst (IsHeld lo hi) next (first_held lo hi xs (k + 1) range none held))
-
-  -- each sum of the first weights fits if the sum of all does
-  pub first_held : (lo hi : ℤ) (xs : List A) (k : ℕ) → IsRange lo hi → NoWeightIsBelowZero value xs → IsHeld lo hi (total_of value xs) → IsHeld lo hi (total_of value (take k xs))
-  first_held lo hi xs k range none held = part_held lo hi _ _ range (inl (first_weights k xs none)) held
 
 -- ---- the shares of the weights
 
@@ -80,7 +83,7 @@ shares_make_one x t up same = mul_cancel x.0 x.1 t (positive_nonzero t up) (same
 -- ---- a mark lies between 0 and the amount
 
 whole_rounded : (a t : ℤ) → pos 0 <ℤ t → IsRounded (a *ℤ t) t a
-whole_rounded a t up = let some = each_rounded (a *ℤ t) t up in subst (IsRounded (a *ℤ t) t) (last_mark a t some.0 up some.1.0) some.1.0
+whole_rounded a t up = let some = each_rounded (a *ℤ t) t up in subst (IsRounded (a *ℤ t) t) (last_mark a t some.0 up some.1) some.1
 
 module _ (a s t z : ℤ) (t_up : pos 0 <ℤ t) (s_up : pos 0 ≤ℤ s) (s_below : s ≤ℤ t) (is : IsRounded (a *ℤ s) t z) where
   one_up : pos 0 <ℤ pos 1
@@ -106,13 +109,13 @@ module _ (a s t z : ℤ) (t_up : pos 0 <ℤ t) (s_up : pos 0 ≤ℤ s) (s_below 
 
       by : (pos 0 ≤ℤ a) ⊎ (a ≤ℤ pos 0) → ((pos 0 ≤ℤ z) × (z ≤ℤ a)) ⊎ ((a ≤ℤ z) × (z ≤ℤ pos 0))
       by (inl up) =
-          let more = sign_up a (t -ℤ s) up (omega (arith, ints)) in
+          let more = subst (λ (n : ℤ). pos 0 ≤ℤ n) apart (sign_up a (t -ℤ s) up (omega (arith, ints))) in
           inl (
             rounded_monotone HalfAway (a *ℤ pos 0) (pos 1) (a *ℤ s) t (pos 0) z one_up t_up (rw (none, times-one (a *ℤ s)) (sign_up a s up s_up)) (first_mark a) is,
             rounded_monotone HalfAway (a *ℤ s) t (a *ℤ t) t z a t_up t_up (times_le (a *ℤ s) (a *ℤ t) t (omega (arith, ints)) t_above) is whole,
           )
       by (inr down) =
-          let less = sign_down a (t -ℤ s) down (omega (arith, ints)) in
+          let less = subst (λ (n : ℤ). n ≤ℤ pos 0) apart (sign_down a (t -ℤ s) down (omega (arith, ints))) in
           inr (
             rounded_monotone HalfAway (a *ℤ t) t (a *ℤ s) t a z t_up t_up (times_le (a *ℤ t) (a *ℤ s) t (omega (arith, ints)) t_above) whole is,
             rounded_monotone HalfAway (a *ℤ s) t (a *ℤ pos 0) (pos 1) z (pos 0) t_up one_up (rw (none, times-one (a *ℤ s)) (sign_down a s down s_up)) is (first_mark a),
@@ -121,3 +124,58 @@ module _ (a s t z : ℤ) (t_up : pos 0 <ℤ t) (s_up : pos 0 ≤ℤ s) (s_below 
   -- the mark fits if the amount does
   pub mark_held : (lo hi : ℤ) → IsRange lo hi → IsHeld lo hi a → IsHeld lo hi z
   mark_held lo hi range held = part_held lo hi z a range mark_between held
+
+-- the mark as it is computed: s times the amount, over 1 times t
+pub mark_computed : (a s o t w u z : ℤ) → s ≡ w → o ≡ pos 1 → t ≡ u → IsRounded (a *ℤ s) (o *ℤ t) z → IsRounded (a *ℤ w) u z
+mark_computed a s o t w u z s_is one t_is is =
+    subst (λ (n : ℤ). IsRounded (a *ℤ n) u z) s_is (subst (λ (d : ℤ). IsRounded (a *ℤ s) d z) (ap (λ (n : ℤ). n *ℤ t) one ∙ one-mul t ∙ t_is) is)
+
+-- ---- one more weight
+
+module _ {A P : Type 0} (value : A → ℤ) (value_of : P → ℤ) (lo hi amount : ℤ) (weights : List A) (range : IsRange lo hi) (can : CanSplitByWeights value lo hi weights (length weights)) where
+  abbrev t : ℤ
+  t = total_of value weights
+
+  t_up : pos 0 <ℤ t
+  t_up = total_up value weights can.none_below can.some
+
+  module _ (k : ℕ) (sum : ℤ) (weight : A) (below : k < length weights) (is : weight ≡ get_or weights k weight) (sum_is : sum ≡ total_of value (take k weights)) where
+    pub sum_next : sum +ℤ value weight ≡ total_of value (take (k + 1) weights)
+    sum_next = ap (λ (z : ℤ). z +ℤ value weight) sum_is ∙ sym (weights_next value weights k weight below is)
+
+    pub sum_held : IsHeld lo hi (sum +ℤ value weight)
+    sum_held = subst (IsHeld lo hi) (sym sum_next) (first_held value lo hi weights (k + 1) range can.none_below can.held)
+
+    module _ (next : ℤ) (rounded : IsRounded (amount *ℤ (sum +ℤ value weight)) t next) where
+      pub next_held : IsHeld lo hi amount → IsHeld lo hi next
+      next_held held =
+          let first = subst (λ (z : ℤ). (pos 0 ≤ℤ z) × (z ≤ℤ t)) (sym sum_next) (first_weights value (k + 1) weights can.none_below) in
+          mark_held amount (sum +ℤ value weight) t next t_up first.0 first.1 rounded lo hi range held
+
+      module _ (parts : List P) (mark : ℤ) (written : P) (room : k < length parts) (so_far : IsSplitSoFar (share_of value weights) value_of amount weights parts k (sum, t) mark) where
+        abbrev before : ℤ × ℤ
+        before = total_of_shares (share_of value weights) (take k weights)
+
+        same : SameValue (sum_of before.0 before.1 (value weight) t).0 (sum_of before.0 before.1 (value weight) t).1 (sum +ℤ value weight) t
+        same = share_more before sum t (value weight) so_far.same
+
+        share_rounded : IsRoundedShare amount (sum_of before.0 before.1 (value weight) t) next
+        share_rounded = rounded_moved amount (sum +ℤ value weight, t) (sum_of before.0 before.1 (value weight) t) t_up (mul_positive before.1 t so_far.up t_up) same next rounded
+
+        weight_up : pos 0 ≤ℤ value weight
+        weight_up = subst (λ x. pos 0 ≤ℤ value x) (sym is) (can.none_below k weight below)
+
+        pub part_fits : IsHeld lo hi next → IsHeld lo hi (next -ℤ mark)
+        part_fits held = next_part_held (share_of value weights) value_of amount weights parts k (sum, t) mark weight (sum +ℤ value weight, t) next written below room is so_far t_up weight_up same share_rounded lo hi range held
+
+        pub weights_more : value_of written ≡ next -ℤ mark → IsSplitSoFar (share_of value weights) value_of amount weights (set parts k written) (k + 1) (sum +ℤ value weight, t) next
+        weights_more part_is = split_more (share_of value weights) value_of amount weights parts k (sum, t) mark weight (sum +ℤ value weight, t) next written below room is so_far t_up weight_up same share_rounded part_is
+
+  pub weights_whole : (parts : List P) (k : ℕ) (sum mark : ℤ) → k ≡ length weights → length parts ≡ length weights → sum ≡ total_of value (take k weights) → IsSplitSoFar (share_of value weights) value_of amount weights parts k (sum, t) mark → IsSplitBy (share_of value weights) value_of amount weights parts
+  weights_whole parts k sum mark whole alike sum_is so_far =
+      let all : take k weights ≡ weights = ap (λ n. take n weights) whole ∙ take-length weights in
+      let same = subst (λ xs. SameValue (total_of_shares (share_of value weights) xs).0 (total_of_shares (share_of value weights) xs).1 sum t) all so_far.same in
+      let last : sum ≡ t = sum_is ∙ ap (total_of value) all in
+      split_whole (share_of value weights) value_of amount weights parts k (sum, t) mark whole alike
+      (shares_make_one (total_of_shares (share_of value weights) weights) t t_up (subst (λ (z : ℤ). SameValue (total_of_shares (share_of value weights) weights).0 (total_of_shares (share_of value weights) weights).1 z t) last same))
+      so_far

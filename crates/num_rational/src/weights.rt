@@ -66,6 +66,7 @@ fn checked_total<T: Copy + Integer>(weights: &[T]) -> Option<T>
     for weight in weights {
         sum = sum.try_plus(*weight)?;
     }
+    let _ = sum.held();
     Some(sum)
 }
 
@@ -75,6 +76,7 @@ fn write_parts<T: Copy + Integer>(amount: T, weights: &[T], total: T, parts: &mu
     requires total { T.value total ≡ total_of T.value weights.now }
     ensures { IsSplitBy (share_of T.value weights.now) T.value (T.value amount) weights.now parts.new }
 {
+    let _ = amount.held();
     let mut sum = T::ZERO;
     let mut mark = T::ZERO;
     for (i, weight) in weights.iter().enumerate() {

@@ -29,6 +29,7 @@ mod rows;
 mod signs;
 mod simplest;
 mod simplest_within;
+mod splits;
 mod succeeding;
 mod texts;
 mod twelve_types;

@@ -41,6 +41,7 @@ use num_traits::Signed;
 /// assert_eq!(total(&[Reduced64::from(i64::MAX), Reduced64::ONE]), None);
 /// ```
 #[derive(Clone, Copy)]
+#[repr(transparent)]
 pub struct Reduced<T: Integer> {
     fraction: Proved<T>,
 }
@@ -59,7 +60,7 @@ pub type Reduced32 = Reduced<i32>;
 /// ```
 pub type Reduced64 = Reduced<i64>;
 
-type Proved<T> = proved::Reduced<<T as Element>::Proved>;
+pub(super) type Proved<T> = proved::Reduced<<T as Element>::Proved>;
 
 impl<T: Integer> Reduced<T> {
     /// The fraction 0/1.

@@ -2,8 +2,8 @@
 //! differ.
 use crate::asserting::each_holds;
 use fraction_laws::{
-    divisors, folds, nearest, neutral, order, powers, reading, remainder, rounding, signs, undoing,
-    values,
+    divisors, folds, nearest, neutral, order, powers, reading, remainder, rounding, signs, splits,
+    undoing, values,
 };
 use num_rational::{Ratio, Reduced, Reduced64};
 
@@ -45,6 +45,12 @@ fn order_of_results(_rt: HostRuntime) {
     order::products(&x, &y, &z);
     order::products(&y, &x, &y);
     order::negatives(&x, &y);
+}
+
+#[test]
+fn parts_of_equals(_rt: HostRuntime) {
+    splits::equal_shares(100, &[fraction(1, 3); 3], &[33, 34, 33]);
+    splits::equal_weights(100i64, &[1, 1, 1], &[33, 34, 33]);
 }
 
 #[test]

@@ -77,10 +77,7 @@ fn next_mark<T: Copy + Integer>(
 
 // Whether each sum of the first shares and its mark fit, and the last sum is 1.
 #[inline]
-fn check_marks<T: Copy + Integer, S: Share<T>>(
-    amount: T,
-    shares: &[S],
-) -> Result<(), SplitRefusal> {
+fn check_marks<T: Copy + Integer, S: Share<T>>(amount: T, shares: &[S]) -> Result<(), SplitRefusal> {
     let mut sum = Reduced::zero();
     for share in shares {
         match next_mark(amount, &sum, &share.lowest()) {

@@ -60,12 +60,14 @@ fn checked_total<T: Copy + Integer>(weights: &[T]) -> Option<T> {
     for weight in weights {
         sum = sum.try_plus(*weight)?;
     }
+    let _ = sum.held();
     Some(sum)
 }
 
 // Writes the parts. It requires that no refusal applies, and that `total` is the sum of the weights.
 #[inline]
 fn write_parts<T: Copy + Integer>(amount: T, weights: &[T], total: T, parts: &mut [T]) {
+    let _ = amount.held();
     let mut sum = T::ZERO;
     let mut mark = T::ZERO;
     for (i, weight) in weights.iter().enumerate() {

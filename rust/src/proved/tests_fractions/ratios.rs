@@ -30,6 +30,7 @@ mod rows;
 mod signs;
 mod simplest;
 mod simplest_within;
+mod splits;
 
 mod texts;
 mod twelve_types;

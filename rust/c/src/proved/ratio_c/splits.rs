@@ -6,9 +6,7 @@ use crate::proved::ratio_c::code::{
 };
 use crate::proved::ratio_c::many::are_positive;
 use crate::proved::ratio_c::numbers64::Fraction64;
-use bakhsney::proved::num_rational::{
-    Reduced, Share, SplitRefusal, WeightRefusal, split_by_weights, split_shares,
-};
+use bakhsney::proved::num_rational::{Reduced, Share, SplitRefusal, WeightRefusal, split_by_weights, split_shares};
 
 impl Share<i64> for Fraction64 {
     #[inline(always)]

@@ -3,8 +3,8 @@
 //! differ.
 use crate::proved::tests_fractions::asserting::each_holds;
 use crate::proved::fraction_laws::{
-    divisors, folds, nearest, neutral, order, powers, reading, remainder, rounding, signs, undoing,
-    values,
+    divisors, folds, nearest, neutral, order, powers, reading, remainder, rounding, signs, splits,
+    undoing, values,
 };
 use crate::proved::num_rational::{Ratio, Reduced, Reduced64};
 
@@ -47,6 +47,12 @@ fn order_of_results() {
     order::products(&x, &y, &z);
     order::products(&y, &x, &y);
     order::negatives(&x, &y);
+}
+
+#[test]
+fn parts_of_equals() {
+    splits::equal_shares(100, &[fraction(1, 3); 3], &[33, 34, 33]);
+    splits::equal_weights(100i64, &[1, 1, 1], &[33, 34, 33]);
 }
 
 #[test]

@@ -8,21 +8,20 @@ use ratio_integer::Integer;
 
 /// A share of an amount: a fraction in any terms.
 pub trait Share<T: Copy + Integer> {
-    // Its two numbers.
-    ghost share: { Self → ℤ × ℤ };
+    ghost two_numbers: { Self → ℤ × ℤ };
 
     /// Its numerator.
     fn numer(&self) -> T
-        ensures { T.value result ≡ (share self.now).0 };
+        ensures { T.value result ≡ (two_numbers self.now).0 };
 
-    /// Its lowest terms.
+    /// Its lowest terms, if its denominator is positive. Otherwise the result may be any fraction.
     fn lowest(&self) -> Reduced<T>
-        requires { pos 0 <ℤ (share self.now).1 }
-        ensures { IsLowestTermsOf (share self.now).0 (share self.now).1 (share_numbers result).0 (share_numbers result).1 };
+        ensures { pos 0 <ℤ (two_numbers self.now).1 →
+            IsLowestTermsOf (two_numbers self.now).0 (two_numbers self.now).1 (share_numbers result).0 (share_numbers result).1 };
 }
 
 impl<T: Copy + Integer> Share<T> for Reduced<T> {
-    ghost share = { share_numbers };
+    ghost two_numbers = { share_numbers };
 
     #[inline(always)]
     fn numer(&self) -> T {

@@ -45,9 +45,9 @@ pub fn split_shares<T: Copy + Integer, S: Share<T>>(
     shares: &[S],
     parts: &mut [T],
 ) -> Result<(), SplitRefusal>
-    requires { SharesOverPositive S.share shares.now }
-    ensures ok { OnOk result (CanBeSplit S.share T.lo T.hi (T.value amount) shares.now (length parts.old) × IsSplitBy S.share T.value (T.value amount) shares.now parts.new) }
-    ensures refused { IfErr result (λ why. RefusesToSplit S.share T.lo T.hi (T.value amount) shares.now (length parts.old) why) }
+    requires { SharesOverPositive S.two_numbers shares.now }
+    ensures ok { OnOk result (CanBeSplit S.two_numbers T.lo T.hi (T.value amount) shares.now (length parts.old) × IsSplitBy S.two_numbers T.value (T.value amount) shares.now parts.new) }
+    ensures refused { IfErr result (λ why. RefusesToSplit S.two_numbers T.lo T.hi (T.value amount) shares.now (length parts.old) why) }
     ensures unchanged { OnErr result (parts.new ≡ parts.old) }
 {
     if parts.len() != shares.len() {
@@ -62,7 +62,7 @@ pub fn split_shares<T: Copy + Integer, S: Share<T>>(
 }
 
 fn none_is_below_zero<T: Copy + Integer, S: Share<T>>(shares: &[S]) -> bool
-    ensures { IsTrue result ↔ NoShareIsBelowZero S.share shares.now }
+    ensures { IsTrue result ↔ NoShareIsBelowZero S.two_numbers shares.now }
 {
     shares.iter().all(|share| !is_below_zero(share.numer()))
 }
@@ -82,10 +82,10 @@ fn next_mark<T: Copy + Integer>(
 
 // Whether each sum of the first shares and its mark fit, and the last sum is 1.
 fn check_marks<T: Copy + Integer, S: Share<T>>(amount: T, shares: &[S]) -> Result<(), SplitRefusal>
-    requires { SharesOverPositive S.share shares.now }
+    requires { SharesOverPositive S.two_numbers shares.now }
     ensures { MatchResult result
-        (λ _. MarksFit S.share T.lo T.hi (T.value amount) shares.now × SharesMakeOne S.share shares.now)
-        (SumsRefuse (MarksFit S.share T.lo T.hi (T.value amount) shares.now) (SharesMakeOne S.share shares.now)) }
+        (λ _. MarksFit S.two_numbers T.lo T.hi (T.value amount) shares.now × SharesMakeOne S.two_numbers shares.now)
+        (SumsRefuse (MarksFit S.two_numbers T.lo T.hi (T.value amount) shares.now) (SharesMakeOne S.two_numbers shares.now)) }
 {
     let mut sum = Reduced::zero();
     for share in shares {
@@ -103,9 +103,9 @@ fn check_marks<T: Copy + Integer, S: Share<T>>(amount: T, shares: &[S]) -> Resul
 
 // Writes the parts. It requires that no refusal applies.
 fn write_parts<T: Copy + Integer, S: Share<T>>(amount: T, shares: &[S], parts: &mut [T])
-    requires positive { SharesOverPositive S.share shares.now }
-    requires can { CanBeSplit S.share T.lo T.hi (T.value amount) shares.now (length parts.old) }
-    ensures { IsSplitBy S.share T.value (T.value amount) shares.now parts.new }
+    requires positive { SharesOverPositive S.two_numbers shares.now }
+    requires can { CanBeSplit S.two_numbers T.lo T.hi (T.value amount) shares.now (length parts.old) }
+    ensures { IsSplitBy S.two_numbers T.value (T.value amount) shares.now parts.new }
 {
     let mut sum = Reduced::zero();
     let mut mark = T::ZERO;

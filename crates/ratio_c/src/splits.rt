@@ -1,5 +1,7 @@
 //! The calls for C that split an amount by shares or by weights, so that nothing is lost.
-ghost use Rattle.std.specs.Prelude.{◌≡◌, ℤ};
+ghost use Rattle.std.specs.Prelude.{◌≡◌, ◌<ℤ◌, pos};
+ghost use Rattle.ratio_integer.specs.Fraction.{IsLowestTermsOf};
+ghost use Rattle.num_rational.specs.Split.{share_numbers};
 ghost use Rattle.ratio_c.specs.Numbers64.{fraction64};
 ghost use Rattle.ratio_c.specs.Splits.{SplitsByShares, SplitsByWeights, code_of_shares, code_of_weights};
 
@@ -9,9 +11,10 @@ use crate::code::{
 use crate::many::are_positive;
 use crate::numbers64::Fraction64;
 use num_rational::{Reduced, Share, SplitRefusal, WeightRefusal, split_by_weights, split_shares};
+use ratio_integer::{Integer, both_held};
 
 impl Share<i64> for Fraction64 {
-    ghost share = { fraction64 };
+    ghost two_numbers = { fraction64 };
 
     #[inline(always)]
     fn numer(&self) -> i64 {
@@ -20,7 +23,18 @@ impl Share<i64> for Fraction64 {
 
     #[inline(always)]
     fn lowest(&self) -> Reduced<i64> {
-        Reduced::checked_new(self.numer, self.denom).unwrap()
+        lowest_of(self.numer, self.denom)
+    }
+}
+
+// The lowest terms of a fraction over a positive denominator, and else any fraction.
+fn lowest_of<T: Copy + Integer>(n: T, d: T) -> Reduced<T>
+    ensures { pos 0 <ℤ T.value d → IsLowestTermsOf (T.value n) (T.value d) (share_numbers result).0 (share_numbers result).1 }
+{
+    both_held(n, d);
+    match Reduced::checked_new(n, d) {
+        Some(lowest) => lowest,
+        None => Reduced::zero(),
     }
 }
 

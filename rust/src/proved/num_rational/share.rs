@@ -9,13 +9,7 @@ pub trait Share<T: Copy + Integer> {
     /// Its numerator.
     fn numer(&self) -> T;
 
-    /// Its lowest terms.
-    ///
-    /// # Conditions
-    ///
-    /// The proof requires of the caller:
-    ///
-    /// - `pos 0 <ℤ (share self.now).1`
+    /// Its lowest terms, if its denominator is positive. Otherwise the result may be any fraction.
     fn lowest(&self) -> Reduced<T>;
 }
 

@@ -40,7 +40,7 @@ pub fn split<T: Copy + Integer>(
 ///
 /// The proof requires of the caller:
 ///
-/// - `SharesOverPositive S.share shares.now`
+/// - `SharesOverPositive S.two_numbers shares.now`
 #[inline]
 pub fn split_shares<T: Copy + Integer, S: Share<T>>(
     amount: T,

@@ -1,4 +1,4 @@
-use Rattle.std.specs.Prelude.{◌≡◌, ◌≤ℤ◌, ℤ, pos, take}
+use Rattle.std.specs.Prelude.{◌≡◌, ◌≤ℤ◌, ◌<ℤ◌, ℤ, pos, take}
 use Rattle.std.proofs.Common.{ap, arith, subst, sym, ◌∙◌}
 use Rattle.ratio_integer.specs.Arithmetic.{sum_of}
 use Rattle.ratio_integer.proofs.Whole.{mul_positive}
@@ -10,21 +10,18 @@ use Rattle.num_rational.proofs.splitting.write_parts.Goals as goal
 pub loop-i-init : goal.loop-i-init
 loop-i-init g c =
     let T = g.T.Integer in
-    split_none g.S.Share.share T.value (T.value c.args.amount) c.args.shares.now c.args.parts.now (share_numbers c.zero-sum.result) (T.value c.ZERO-mark.result) c.zero-sum.ensures.0 (ap T.value c.ZERO-mark.ensures ∙ g.met.T.Integer.zero_law)
-
-pub lowest-requires : goal.lowest-requires
-lowest-requires g c = subst (λ x. pos 0 <ℤ (g.S.Share.share x).1) (sym c.index-shares-i.is) (c.requires.positive c.loop-i.i c.index-shares-i.result c.loop-i-test.true)
+    split_none g.S.Share.two_numbers T.value (T.value c.args.amount) c.args.shares.now c.args.parts.now (share_numbers c.zero-sum.result) (T.value c.ZERO-mark.result) c.zero-sum.ensures.0 (ap T.value c.ZERO-mark.ensures ∙ g.met.T.Integer.zero_law)
 
 pub unwrap-next-requires : goal.unwrap-next-requires
 unwrap-next-requires g c =
     let T = g.T.Integer in
     let sum = share_numbers c.loop-i.sum in
-    let view = g.S.Share.share in
+    let view = g.S.Share.two_numbers in
     let share = view c.index-shares-i.result in
     let low = share_numbers c.lowest.result in
     let before = total_of_shares view (take c.loop-i.i c.args.shares.now) in
     let positive : pos 0 <ℤ share.1 = subst (λ x. pos 0 <ℤ (view x).1) (sym c.index-shares-i.is) (c.requires.positive c.loop-i.i c.index-shares-i.result c.loop-i-test.true) in
-    let same = same_value_sums before.0 before.1 share.0 share.1 sum.0 sum.1 low.0 low.1 c.loop-i.invariant.same c.lowest.ensures.same in
+    let same = same_value_sums before.0 before.1 share.0 share.1 sum.0 sum.1 low.0 low.1 c.loop-i.invariant.same (c.lowest.ensures positive).same in
     let next = total_next view c.args.shares.now c.loop-i.i c.index-shares-i.result c.loop-i-test.true c.index-shares-i.is in
     mark_answered (T.value c.args.amount) (sum_of sum.0 sum.1 low.0 low.1) c.next_mark.result
     (mark_fits_moved T.lo T.hi (T.value c.args.amount) (sum_of before.0 before.1 share.0 share.1) (sum_of sum.0 sum.1 low.0 low.1)
@@ -38,12 +35,12 @@ pub minus-requires : goal.minus-requires
 minus-requires g c =
     let T = g.T.Integer in
     let sum = share_numbers c.loop-i.sum in
-    let view = g.S.Share.share in
+    let view = g.S.Share.two_numbers in
     let share = view c.index-shares-i.result in
     let low = share_numbers c.lowest.result in
     let before = total_of_shares view (take c.loop-i.i c.args.shares.now) in
     let positive : pos 0 <ℤ share.1 = subst (λ x. pos 0 <ℤ (view x).1) (sym c.index-shares-i.is) (c.requires.positive c.loop-i.i c.index-shares-i.result c.loop-i-test.true) in
-    let same = same_value_sums before.0 before.1 share.0 share.1 sum.0 sum.1 low.0 low.1 c.loop-i.invariant.same c.lowest.ensures.same in
+    let same = same_value_sums before.0 before.1 share.0 share.1 sum.0 sum.1 low.0 low.1 c.loop-i.invariant.same (c.lowest.ensures positive).same in
     let above : pos 0 ≤ℤ share.0 = subst (λ x. pos 0 ≤ℤ (view x).0) (sym c.index-shares-i.is) (c.requires.can.none_below c.loop-i.i c.index-shares-i.result c.loop-i-test.true) in
     let marked : IsNextMark T.lo T.hi (T.value c.args.amount) (sum_of before.0 before.1 share.0 share.1) (share_numbers c.unwrap-next.result.0) (T.value c.unwrap-next.result.1) =
     mark_moved T.lo T.hi (T.value c.args.amount) (sum_of sum.0 sum.1 low.0 low.1) (sum_of before.0 before.1 share.0 share.1)
@@ -58,12 +55,12 @@ pub loop-i-preserved : goal.loop-i-preserved
 loop-i-preserved g c =
     let T = g.T.Integer in
     let sum = share_numbers c.loop-i.sum in
-    let view = g.S.Share.share in
+    let view = g.S.Share.two_numbers in
     let share = view c.index-shares-i.result in
     let low = share_numbers c.lowest.result in
     let before = total_of_shares view (take c.loop-i.i c.args.shares.now) in
     let positive : pos 0 <ℤ share.1 = subst (λ x. pos 0 <ℤ (view x).1) (sym c.index-shares-i.is) (c.requires.positive c.loop-i.i c.index-shares-i.result c.loop-i-test.true) in
-    let same = same_value_sums before.0 before.1 share.0 share.1 sum.0 sum.1 low.0 low.1 c.loop-i.invariant.same c.lowest.ensures.same in
+    let same = same_value_sums before.0 before.1 share.0 share.1 sum.0 sum.1 low.0 low.1 c.loop-i.invariant.same (c.lowest.ensures positive).same in
     let above : pos 0 ≤ℤ share.0 = subst (λ x. pos 0 ≤ℤ (view x).0) (sym c.index-shares-i.is) (c.requires.can.none_below c.loop-i.i c.index-shares-i.result c.loop-i-test.true) in
     let marked : IsNextMark T.lo T.hi (T.value c.args.amount) (sum_of before.0 before.1 share.0 share.1) (share_numbers c.unwrap-next.result.0) (T.value c.unwrap-next.result.1) =
     mark_moved T.lo T.hi (T.value c.args.amount) (sum_of sum.0 sum.1 low.0 low.1) (sum_of before.0 before.1 share.0 share.1)
@@ -77,4 +74,4 @@ loop-i-preserved g c =
 pub returns : goal.returns
 returns g c =
     let T = g.T.Integer in
-    split_whole g.S.Share.share T.value (T.value c.args.amount) c.args.shares.now c.loop-i.parts c.loop-i.i (share_numbers c.loop-i.sum) _ (omega arith) (omega arith) c.requires.can.one c.loop-i.invariant
+    split_whole g.S.Share.two_numbers T.value (T.value c.args.amount) c.args.shares.now c.loop-i.parts c.loop-i.i (share_numbers c.loop-i.sum) _ (omega arith) (omega arith) c.requires.can.one c.loop-i.invariant

@@ -7,6 +7,7 @@ use crate::proved::ratio_c::code::{
 use crate::proved::ratio_c::many::are_positive;
 use crate::proved::ratio_c::numbers64::Fraction64;
 use bakhsney::proved::num_rational::{Reduced, Share, SplitRefusal, WeightRefusal, split_by_weights, split_shares};
+use bakhsney::proved::ratio_integer::{Integer, both_held};
 
 impl Share<i64> for Fraction64 {
     #[inline(always)]
@@ -16,7 +17,17 @@ impl Share<i64> for Fraction64 {
 
     #[inline(always)]
     fn lowest(&self) -> Reduced<i64> {
-        Reduced::checked_new(self.numer, self.denom).unwrap()
+        lowest_of(self.numer, self.denom)
+    }
+}
+
+// The lowest terms of a fraction over a positive denominator, and else any fraction.
+#[inline]
+fn lowest_of<T: Copy + Integer>(n: T, d: T) -> Reduced<T> {
+    both_held(n, d);
+    match Reduced::checked_new(n, d) {
+        Some(lowest) => lowest,
+        None => Reduced::zero(),
     }
 }
 

@@ -1,5 +1,5 @@
 -- Rounded running sums. The difference of two neighbours is less than 1 away from the exact share, and the last sum is the amount.
-use Rattle.std.specs.Prelude.{◌≡◌, ◌≢◌, ◌⊎◌, ◌↔◌, ◌+◌, ◌-◌, ◌^◌, ◌<◌, ◌≤◌, ◌≤ℤ◌, ◌<ℤ◌, ◌+ℤ◌, ◌-ℤ◌, ◌*ℤ◌, ℕ, ℤ, zero, suc, pos, negsuc, neg_ℤ, unsigned_abs, List, [], ◌∷◌, ◌++◌, fold, length, slice_index_or, take, IsSome, None, Option, Some}
+use Rattle.std.specs.Prelude.{◌≡◌, ◌≢◌, ◌⊎◌, ◌↔◌, ◌+◌, ◌<◌, ◌≤◌, ◌≤ℤ◌, ◌<ℤ◌, ◌+ℤ◌, ◌-ℤ◌, ◌*ℤ◌, ℕ, ℤ, pos, neg_ℤ, unsigned_abs, List, [], ◌∷◌, ◌++◌, fold, length, slice_index_or, take, IsSome, None, Option, Some}
 use Rattle.std.proofs.Common.{refl, sym, ap, subst, ◌∙◌, arith, inl, inr, add-one, get_or}
 use Rattle.std.proofs.Math.Seq.{take-length, take-suc}
 use Rattle.std.proofs.Math.ListN.{set}
@@ -10,15 +10,14 @@ use borrow.Author.Count.{below_more}
 use lib.IntN.{one, *ℤ_comm, *ℤ-one, *ℤ-zero, zero-*ℤ}
 use Rattle.ratio_integer.specs.Arithmetic.{sum_of}
 use Rattle.ratio_integer.specs.Fraction.{Fits, IsLowestTermsOf, SameValue}
-use Rattle.ratio_integer.specs.Range.{Checks, IsHeld, IsRange}
+use Rattle.ratio_integer.specs.Range.{IsHeld, IsRange}
 use Rattle.ratio_integer.proofs.DivisionLemmas.{low_below}
-use Rattle.ratio_integer.proofs.LowestTerms.{held_lowest_moved, lowest_moved, lowest_own, over_one}
+use Rattle.ratio_integer.proofs.LowestTerms.{held_lowest_moved, lowest_moved}
 use Rattle.ratio_integer.proofs.Whole.{add-mul, mul-add, mul_assoc, mul_cancel, mul_positive, mul-swap_last, positive_nonzero, sub-mul}
 use Rattle.ratio_core.specs.Rounding.{IsRounded, IsWithinHalf}
 use Rattle.ratio_core.proofs.LawLemmas.{same_value_sums}
 use Rattle.ratio_core.proofs.ProductOrder.{less-times, more-times, times_le}
 use Rattle.ratio_core.proofs.RoundingLawLemmas.{same_rounded}
-use Rattle.ratio_decimal.specs.Products.{ChecksRoundedWhole}
 use Rattle.ratio_decimal.specs.declared.rounding_rule.Rounding.TheVariants.{HalfAway}
 use Rattle.ratio_decimal.proofs.RoundingRuleLaws.{one_by}
 use Rattle.num_rational.specs.declared.reduced.Reduced.{Reduced}

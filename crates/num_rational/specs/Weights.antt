@@ -1,5 +1,5 @@
 -- An amount split by weights. A weight and a part are whole numbers here, by `value`. In the examples 100 is split by the weights 1, 1 and 1.
-use Rattle.std.specs.Prelude.{◌≡◌, ◌≢◌, ◌<◌, ◌≤ℤ◌, ℕ, ℤ, pos, List, length}
+use Rattle.std.specs.Prelude.{◌≡◌, ◌≢◌, ℕ, ℤ, pos, List, length}
 use Rattle.ratio_integer.specs.Range.{IsHeld}
 use Rattle.num_rational.specs.Split.{NoShareIsBelowZero, total_of}
 use Rattle.num_rational.specs.declared.weights.WeightRefusal.{WeightRefusal}

@@ -1,10 +1,9 @@
-use Rattle.std.specs.Prelude.{◌≡◌, ◌<ℤ◌, ℤ, length, pos, take}
-use Rattle.std.proofs.Common.{ap, arith, refl, subst, sym, ◌∙◌}
+use Rattle.std.specs.Prelude.{◌≡◌, ◌<ℤ◌, length, pos, take}
+use Rattle.std.proofs.Common.{ap, arith, subst, sym, ◌∙◌}
 use Rattle.std.proofs.Math.Seq.{take-length}
 use borrow.Author.Count.{below_more}
 use Rattle.ratio_integer.specs.Arithmetic.{sum_of}
 use Rattle.ratio_integer.specs.Fraction.{IsLowestTermsOf}
-use Rattle.ratio_integer.proofs.LowestTerms.{lowest_own, over_one}
 use Rattle.ratio_integer.proofs.Whole.{mul_positive}
 use Rattle.ratio_core.proofs.LawLemmas.{same_value_sums}
 use Rattle.ratio_core.proofs.TestLemmas.{if_false}

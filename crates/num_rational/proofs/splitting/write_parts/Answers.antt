@@ -1,4 +1,4 @@
-use Rattle.std.specs.Prelude.{◌≡◌, ◌≤ℤ◌, ◌<ℤ◌, ℤ, pos, take}
+use Rattle.std.specs.Prelude.{◌≤ℤ◌, ◌<ℤ◌, pos, take}
 use Rattle.std.proofs.Common.{ap, arith, subst, sym, ◌∙◌}
 use Rattle.ratio_integer.specs.Arithmetic.{sum_of}
 use Rattle.ratio_integer.proofs.Whole.{mul_positive}

@@ -216,7 +216,7 @@ last_mark a d r up is = same (less_or_not a r) (less_or_not r a)
 
 -- ---- a mark depends only on the value of the sum
 
-fits_moved : (lo hi : ℤ) (x y : ℤ × ℤ) → y.1 ≢ pos 0 → SameValue y.0 y.1 x.0 x.1 → Fits lo hi x.0 x.1 → Fits lo hi y.0 y.1
+pub fits_moved : (lo hi : ℤ) (x y : ℤ × ℤ) → y.1 ≢ pos 0 → SameValue y.0 y.1 x.0 x.1 → Fits lo hi x.0 x.1 → Fits lo hi y.0 y.1
 fits_moved lo hi x y fraction same fits = record { numer = fits.numer; denom = fits.denom; low = held_lowest_moved lo hi x.0 x.1 y.0 y.1 fits.numer fits.denom fraction same fits.low }
 
 times_same : (a : ℤ) (x y : ℤ × ℤ) → SameValue y.0 y.1 x.0 x.1 → SameValue (a *ℤ y.0) y.1 (a *ℤ x.0) x.1

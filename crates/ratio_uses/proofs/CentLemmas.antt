@@ -18,12 +18,12 @@ use Rattle.ratio_core.specs.Rounding.{IsRounded}
 use Rattle.ratio_core.proofs.RoundingLawLemmas.{one_rounded, same_rounded}
 use Rattle.ratio_core.proofs.SumLemmas.{fits_by}
 use Rattle.num_rational.specs.declared.reduced.Reduced.{Reduced}
+use Rattle.num_rational.specs.Split.{IsRoundedShare, NoShareIsBelowZero, SharesMakeOne, total_of_shares}
+use Rattle.num_rational.proofs.SplitLemmas.{IsSplitSoFar, first_mark, fits_moved, next_same, split_more, split_none, split_whole, times-one, total_next}
 use Rattle.ratio_uses.specs.Cents.{ChecksNextPart, IsCount, IsRoundedCount, IsSplitTo, IsStep, PartFits, RefusesSplitTo, StepFits, StepsRefuse, times}
 use Rattle.ratio_uses.specs.Held.{FitsIn64}
-use Rattle.ratio_uses.specs.Ledger.{AddUpToOne, IsMarkOf, NoneIsBelowZero, total_of}
 use Rattle.ratio_uses.specs.declared.ledger.Refusal.{Refusal}
 use Rattle.ratio_uses.specs.declared.ledger.Refusal.TheVariants.{BelowZero, Length, NotHeld, NotMultiple, NotOne}
-use Rattle.ratio_uses.proofs.LedgerLemmas.{IsSplitSoFar, first_mark, fits_moved, next_same, split_more, split_none, split_whole, total_next}
 
 -- ---- whether the amount is a multiple
 
@@ -47,7 +47,7 @@ module _ (u : ℤ) (a : ℤ × ℤ) (a_up : pos 0 <ℤ a.1) where
   times_same x y same = same_value_products x.0 x.1 a.0 a.1 y.0 y.1 a.0 a.1 same refl
 
   pub times_fit_moved : (x y : ℤ × ℤ) → pos 0 <ℤ y.1 → SameValue y.0 y.1 x.0 x.1 → FitsIn64 (times a x) → FitsIn64 (times a y)
-  times_fit_moved x y up same fits = fits_moved (times a x) (times a y) (positive_nonzero (times a y).1 (times_up y up)) (times_same y x same) fits
+  times_fit_moved x y up same fits = fits_moved _ _ (times a x) (times a y) (positive_nonzero (times a y).1 (times_up y up)) (times_same y x same) fits
 
   pub count_moved : (x y : ℤ × ℤ) (z : ℤ) → pos 0 <ℤ x.1 → pos 0 <ℤ y.1 → SameValue x.0 x.1 y.0 y.1 → IsRoundedCount u a x z → IsRoundedCount u a y z
   count_moved x y z x_up y_up same is =
@@ -63,10 +63,10 @@ module _ (u : ℤ) (a : ℤ × ℤ) (a_up : pos 0 <ℤ a.1) where
       ap (λ (z : ℤ). z *ℤ x.1) (mul_assoc x.0 a.0 u ∙ ap (λ (z : ℤ). x.0 *ℤ z) (sym whole) ∙ sym (mul_assoc x.0 count a.1) ∙ ap (λ (z : ℤ). z *ℤ a.1) (*ℤ_comm x.0 count))
       ∙ mul-swap_last (count *ℤ x.0) a.1 x.1
 
-  pub mark_of_count : (count : ℤ) (x : ℤ × ℤ) (z : ℤ) → IsCount u a count → pos 0 <ℤ x.1 → IsRoundedCount u a x z → IsMarkOf count x z
+  pub mark_of_count : (count : ℤ) (x : ℤ × ℤ) (z : ℤ) → IsCount u a count → pos 0 <ℤ x.1 → IsRoundedCount u a x z → IsRoundedShare count x z
   mark_of_count count x z whole up is = same_rounded ((times a x).0 *ℤ u) (times a x).1 (count *ℤ x.0) x.1 z (times_up x up) up (crossed count x whole) is
 
-  pub count_of_mark : (count : ℤ) (x : ℤ × ℤ) (z : ℤ) → IsCount u a count → pos 0 <ℤ x.1 → IsMarkOf count x z → IsRoundedCount u a x z
+  pub count_of_mark : (count : ℤ) (x : ℤ × ℤ) (z : ℤ) → IsCount u a count → pos 0 <ℤ x.1 → IsRoundedShare count x z → IsRoundedCount u a x z
   count_of_mark count x z whole up is = same_rounded (count *ℤ x.0) x.1 ((times a x).0 *ℤ u) (times a x).1 z up (times_up x up) (sym (crossed count x whole)) is
 
   -- nothing times the amount is 0
@@ -110,7 +110,7 @@ module _ (u : ℤ) (a x s mark : ℤ × ℤ) (a_up : pos 0 <ℤ a.1) (u_up : pos
       less_up d up = positive_nonzero (d *ℤ mark.1) (mul_positive d mark.1 up mark_up)
 
       pub part_out : ¬ (FitsIn64 (difference_of m.0 m.1 mark.0 mark.1)) → ¬ (StepFits u a x mark)
-      part_out out fits = out (fits_moved (difference_of z u mark.0 mark.1) (difference_of m.0 m.1 mark.0 mark.1) (less_up m.1 marked.terms.lowest.positive) less_same (fits.part z rounded))
+      part_out out fits = out (fits_moved _ _ (difference_of z u mark.0 mark.1) (difference_of m.0 m.1 mark.0 mark.1) (less_up m.1 marked.terms.lowest.positive) less_same (fits.part z rounded))
 
       pub step_is : (r : ℤ × ℤ) → FitsIn64 x → IsHeldLowest (negsuc (2 ^ 63 - 1)) (pos (2 ^ 63 - 1)) (difference_of m.0 m.1 mark.0 mark.1).0 (difference_of m.0 m.1 mark.0 mark.1).1 r.0 r.1 → IsStep u a x mark s m r
       step_is r fits part = record {
@@ -138,10 +138,10 @@ module _ (u : ℤ) (a before after x mark : ℤ × ℤ) (y : ℤ) (a_up : pos 0 
 
   pub step_of_part : PartFits u a before after → StepFits u a x mark
   step_of_part fits = record {
-    sum = fits_moved after x (positive_nonzero x.1 x_up) (sym same) fits.sum;
+    sum = fits_moved _ _ after x (positive_nonzero x.1 x_up) (sym same) fits.sum;
     product = times_fit_moved u a a_up after x x_up (sym same) fits.product;
     rounded = λ z k. fits.rounded z (count_moved u a a_up x after z x_up after_up (sym same) k);
-    part = λ z k. fits_moved (z -ℤ y, u) (difference_of z u mark.0 mark.1)
+    part = λ z k. fits_moved _ _ (z -ℤ y, u) (difference_of z u mark.0 mark.1)
         (positive_nonzero (u *ℤ mark.1) (mul_positive u mark.1 u_up terms.lowest.positive)) (sym (less_count z))
         (fits.part y z is (count_moved u a a_up x after z x_up after_up (sym same) k));
   }
@@ -159,13 +159,13 @@ module _ (u : ℤ) (a before after x mark : ℤ × ℤ) (y : ℤ) (a_up : pos 0 
 
     pub part_of_step : PartFits u a before after
     part_of_step = record {
-      sum = fits_moved x after (positive_nonzero after.1 after_up) same step.fits;
+      sum = fits_moved _ _ x after (positive_nonzero after.1 after_up) same step.fits;
       product = times_fit_moved u a a_up x after after_up same step.product_fits;
       rounded = λ z k. subst (λ w. FitsIn64 (w, u)) (one_count u a a_up after step.count z after_up counted k) (fits_by _ _ _ _ next.0 next.1 step.next);
       part = λ w z first second.
           subst (λ v. FitsIn64 (v -ℤ w, u)) (one_count u a a_up after step.count z after_up counted second)
           (subst (λ v. FitsIn64 (step.count -ℤ v, u)) (one_count u a a_up before y w before_up is first)
-          (fits_moved (difference_of step.count u mark.0 mark.1) (step.count -ℤ y, u) (positive_nonzero u u_up) (less_count step.count) (fits_by _ _ _ _ part.0 part.1 step.part)));
+          (fits_moved _ _ (difference_of step.count u mark.0 mark.1) (step.count -ℤ y, u) (positive_nonzero u u_up) (less_count step.count) (fits_by _ _ _ _ part.0 part.1 step.part)));
     }
 
 -- ---- the sums of a list of shares
@@ -173,9 +173,9 @@ module _ (u : ℤ) (a before after x mark : ℤ × ℤ) (y : ℤ) (a_up : pos 0 
 -- The sum of the first k shares, in lowest terms, and the amount times it, rounded to a multiple of 1/u
 pub record IsMarkedSoFar {A : Type 0} (view : A → ℤ × ℤ) (u : ℤ) (a : ℤ × ℤ) (shares : List A) (k : ℕ) (sum mark : ℤ × ℤ) : Type 0 where
   pub count : ℤ
-  pub value : IsLowestTermsOf (total_of view (take k shares)).0 (total_of view (take k shares)).1 sum.0 sum.1
-  pub up : pos 0 <ℤ (total_of view (take k shares)).1
-  pub rounded : IsRoundedCount u a (total_of view (take k shares)) count
+  pub same : SameValue (total_of_shares view (take k shares)).0 (total_of_shares view (take k shares)).1 sum.0 sum.1
+  pub up : pos 0 <ℤ (total_of_shares view (take k shares)).1
+  pub rounded : IsRoundedCount u a (total_of_shares view (take k shares)) count
   pub terms : IsLowestTermsOf count u mark.0 mark.1
 
 -- The parts of the first k shares are written. They are the split of the amount's count so far, in 1/u
@@ -184,7 +184,7 @@ pub record IsCentsSoFar {A : Type 0} (view : A → ℤ × ℤ) (u : ℤ) (a : �
   pub counts : List ℤ
   pub last : ℤ
   pub whole : IsCount u a count
-  pub split : IsSplitSoFar view count shares counts k sum last
+  pub split : IsSplitSoFar view (λ c. c) count shares counts k sum last
   pub terms : IsLowestTermsOf last u mark.0 mark.1
   pub as_many : length counts ≡ length parts
   pub each : (j : ℕ) → j < k → (c : ℤ) (part : A) →
@@ -201,7 +201,7 @@ module _ {A : Type 0} (view : A → ℤ × ℤ) (u : ℤ) (a : ℤ × ℤ) (shar
   pub marked_none : (sum mark : ℤ × ℤ) → sum.0 ≡ pos 0 → sum.1 ≡ pos 1 → mark.0 ≡ pos 0 → mark.1 ≡ pos 1 → IsMarkedSoFar view u a shares 0 sum mark
   marked_none sum mark numer denom mark_numer mark_denom = record {
     count = pos 0;
-    value = rw (numer, denom) (lowest_own (pos 0) (pos 1) (over_one (pos 0) (pos 1) refl));
+    same = zero-*ℤ sum.1 ∙ sym (times-one (pos 0)) ∙ ap (λ (z : ℤ). z *ℤ pos 1) (sym numer);
     up = omega (arith, ints);
     rounded = first_count u a a_up;
     terms = zero_terms u mark u_up mark_numer mark_denom;
@@ -213,7 +213,7 @@ module _ {A : Type 0} (view : A → ℤ × ℤ) (u : ℤ) (a : ℤ × ℤ) (shar
     counts = replicate (length parts) (pos 0);
     last = pos 0;
     whole = whole;
-    split = split_none view count shares (replicate (length parts) (pos 0)) sum numer denom;
+    split = split_none view (λ c. c) count shares (replicate (length parts) (pos 0)) sum (pos 0) numer refl;
     terms = zero_terms u mark u_up mark_numer mark_denom;
     as_many = length-replicate (length parts) (pos 0);
     each = λ j below. absurd (omega arith);
@@ -222,9 +222,9 @@ module _ {A : Type 0} (view : A → ℤ × ℤ) (u : ℤ) (a : ℤ × ℤ) (shar
   abbrev pub marked : (parts : List A) (k : ℕ) (sum mark : ℤ × ℤ) → IsCentsSoFar view u a shares parts k sum mark → IsMarkedSoFar view u a shares k sum mark
   marked parts k sum mark is = record {
     count = is.last;
-    value = is.split.value;
+    same = is.split.same;
     up = is.split.up;
-    rounded = count_of_mark u a a_up is.count (total_of view (take k shares)) is.last is.whole is.split.up is.split.rounded;
+    rounded = count_of_mark u a a_up is.count (total_of_shares view (take k shares)) is.last is.whole is.split.up is.split.rounded;
     terms = is.terms;
   }
 
@@ -233,9 +233,9 @@ module _ {A : Type 0} (view : A → ℤ × ℤ) (u : ℤ) (a : ℤ × ℤ) (shar
     x = sum_of sum.0 sum.1 (view share).0 (view share).1
 
     abbrev after : ℤ × ℤ
-    after = sum_of (total_of view (take k shares)).0 (total_of view (take k shares)).1 (view share).0 (view share).1
+    after = sum_of (total_of_shares view (take k shares)).0 (total_of_shares view (take k shares)).1 (view share).0 (view share).1
 
-    next : total_of view (take (k + 1) shares) ≡ after
+    next : total_of_shares view (take (k + 1) shares) ≡ after
     next = total_next view shares k share below share_is
 
     module _ (so_far : IsMarkedSoFar view u a shares k sum mark) where
@@ -246,30 +246,30 @@ module _ {A : Type 0} (view : A → ℤ × ℤ) (u : ℤ) (a : ℤ × ℤ) (shar
       x_up = mul_positive _ _ sum_up share_up
 
       same : SameValue after.0 after.1 x.0 x.1
-      same = next_same (total_of view (take k shares)) sum (view share) so_far.value
+      same = next_same (total_of_shares view (take k shares)) sum (view share) so_far.same
 
-      pub step_fits : PartFits u a (total_of view (take k shares)) (total_of view (take (k + 1) shares)) → StepFits u a x mark
-      step_fits fits = step_of_part u a (total_of view (take k shares)) after x mark so_far.count a_up u_up so_far.up after_up x_up same so_far.rounded so_far.terms
-          (subst (PartFits u a (total_of view (take k shares))) next fits)
+      pub step_fits : PartFits u a (total_of_shares view (take k shares)) (total_of_shares view (take (k + 1) shares)) → StepFits u a x mark
+      step_fits fits = step_of_part u a (total_of_shares view (take k shares)) after x mark so_far.count a_up u_up so_far.up after_up x_up same so_far.rounded so_far.terms
+          (subst (PartFits u a (total_of_shares view (take k shares))) next fits)
 
       module _ (s next_mark part : ℤ × ℤ) (step : IsStep u a x mark s next_mark part) where
-        pub part_fits : PartFits u a (total_of view (take k shares)) (total_of view (take (k + 1) shares))
-        part_fits = subst (PartFits u a (total_of view (take k shares))) (sym next)
-            (part_of_step u a (total_of view (take k shares)) after x mark so_far.count a_up u_up so_far.up after_up x_up same so_far.rounded so_far.terms s next_mark part step)
+        pub part_fits : PartFits u a (total_of_shares view (take k shares)) (total_of_shares view (take (k + 1) shares))
+        part_fits = subst (PartFits u a (total_of_shares view (take k shares))) (sym next)
+            (part_of_step u a (total_of_shares view (take k shares)) after x mark so_far.count a_up u_up so_far.up after_up x_up same so_far.rounded so_far.terms s next_mark part step)
 
         step_counted : IsRoundedCount u a after step.count
-        step_counted = counted u a (total_of view (take k shares)) after x mark so_far.count a_up u_up so_far.up after_up x_up same so_far.rounded so_far.terms s next_mark part step
+        step_counted = counted u a (total_of_shares view (take k shares)) after x mark so_far.count a_up u_up so_far.up after_up x_up same so_far.rounded so_far.terms s next_mark part step
 
         step_value : IsLowestTermsOf after.0 after.1 s.0 s.1
-        step_value = value_moved u a (total_of view (take k shares)) after x mark so_far.count a_up u_up so_far.up after_up x_up same so_far.rounded so_far.terms s next_mark part step
+        step_value = value_moved u a (total_of_shares view (take k shares)) after x mark so_far.count a_up u_up so_far.up after_up x_up same so_far.rounded so_far.terms s next_mark part step
 
         step_part : IsLowestTermsOf (step.count -ℤ so_far.count) u part.0 part.1
-        step_part = part_terms u a (total_of view (take k shares)) after x mark so_far.count a_up u_up so_far.up after_up x_up same so_far.rounded so_far.terms s next_mark part step
+        step_part = part_terms u a (total_of_shares view (take k shares)) after x mark so_far.count a_up u_up so_far.up after_up x_up same so_far.rounded so_far.terms s next_mark part step
 
         pub marked_more : IsMarkedSoFar view u a shares (k + 1) s next_mark
         marked_more = record {
           count = step.count;
-          value = subst (λ t. IsLowestTermsOf t.0 t.1 s.0 s.1) (sym next) step_value;
+          same = subst (λ t. SameValue t.0 t.1 s.0 s.1) (sym next) step_value.same;
           up = subst (λ t. pos 0 <ℤ t.1) (sym next) after_up;
           rounded = subst (λ t. IsRoundedCount u a t step.count) (sym next) step_counted;
           terms = step.next.terms;
@@ -293,27 +293,27 @@ module _ {A : Type 0} (view : A → ℤ × ℤ) (u : ℤ) (a : ℤ × ℤ) (shar
         counts = set so_far.counts k (step.count -ℤ so_far.last);
         last = step.count;
         whole = so_far.whole;
-        split = split_more view so_far.count shares so_far.counts k sum so_far.last share s step.count below (rw so_far.as_many room) share_is so_far.split share_up share_above
-            (step_value so_marked s next_mark (view part) step)
-            (mark_of_count u a a_up so_far.count after step.count so_far.whole (after_up so_marked) (step_counted so_marked s next_mark (view part) step));
+        split = split_more view (λ c. c) so_far.count shares so_far.counts k sum so_far.last share s step.count (step.count -ℤ so_far.last) below (rw so_far.as_many room) share_is so_far.split share_up share_above
+            (step_value so_marked s next_mark (view part) step).same
+            (mark_of_count u a a_up so_far.count after step.count so_far.whole (after_up so_marked) (step_counted so_marked s next_mark (view part) step)) refl;
         terms = step.next.terms;
         as_many = length-set so_far.counts k (step.count -ℤ so_far.last) ∙ so_far.as_many ∙ sym (length-set parts k part);
         each = below_more _ _ kept here;
       }
 
-  pub cents_whole : (parts : List A) (k : ℕ) (sum mark : ℤ × ℤ) → k ≡ length shares → length parts ≡ length shares → AddUpToOne view shares → IsCentsSoFar view u a shares parts k sum mark → IsSplitTo view u a shares parts
+  pub cents_whole : (parts : List A) (k : ℕ) (sum mark : ℤ × ℤ) → k ≡ length shares → length parts ≡ length shares → SharesMakeOne view shares → IsCentsSoFar view u a shares parts k sum mark → IsSplitTo view u a shares parts
   cents_whole parts k sum mark whole alike one so_far = record {
     count = so_far.count;
     counts = so_far.counts;
     whole = so_far.whole;
     as_many = so_far.as_many;
     each = λ j below. so_far.each j (omega arith);
-    split = split_whole view so_far.count shares so_far.counts k sum so_far.last whole (so_far.as_many ∙ alike) one so_far.split;
+    split = split_whole view (λ c. c) so_far.count shares so_far.counts k sum so_far.last whole (so_far.as_many ∙ alike) one so_far.split;
   }
 
 -- ---- refusals
 
-pub steps_refused : {A : Type 0} (view : A → ℤ × ℤ) (u : ℤ) (a : ℤ × ℤ) (shares : List A) (parts : ℕ) (why : Refusal) → parts ≡ length shares → NoneIsBelowZero view shares → ((count : ℤ) × IsCount u a count) → StepsRefuse view u a shares why → RefusesSplitTo view u a shares parts why
+pub steps_refused : {A : Type 0} (view : A → ℤ × ℤ) (u : ℤ) (a : ℤ × ℤ) (shares : List A) (parts : ℕ) (why : Refusal) → parts ≡ length shares → NoShareIsBelowZero view shares → ((count : ℤ) × IsCount u a count) → StepsRefuse view u a shares why → RefusesSplitTo view u a shares parts why
 steps_refused view u a shares parts Length many none whole out = absurd out
 steps_refused view u a shares parts BelowZero many none whole out = absurd out
 steps_refused view u a shares parts NotMultiple many none whole out = absurd out

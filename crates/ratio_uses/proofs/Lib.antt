@@ -4,5 +4,4 @@ pub mod CentLemmas
 pub mod ChainOrder
 pub mod ConversionLemmas
 pub mod GearLemmas
-pub mod LedgerLemmas
 pub mod OctaveLemmas

@@ -4,6 +4,5 @@ pub mod Accounts
 pub mod Gears
 pub mod Beats
 pub mod Walk
-pub mod Ledger
 pub mod Cents
 pub mod Units

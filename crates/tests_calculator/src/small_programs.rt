@@ -5,7 +5,7 @@ use ratio_uses::beats::{Beats, Voice};
 use ratio_uses::callers::{greatest, mean};
 use ratio_uses::conditions::{chained, together};
 use ratio_uses::gears::nearest_pair;
-use ratio_uses::ledger::{Refusal, in_cents, split, split_to};
+use ratio_uses::ledger::{Refusal, in_cents, split_to};
 use ratio_uses::readme::{faster, third_of, total};
 use ratio_uses::units::{convert, in_octave};
 use std::cmp::Ordering;
@@ -110,71 +110,6 @@ fn test_gears_near_zero(rt: HostRuntime) {
     let least = frac(&rt, 1, i64::MAX);
     let off = nearest_pair(&least, 3).and_then(|gears| gears.off);
     answers(&rt, off, None);
-}
-
-// What `split` returns, and the parts after the call.
-fn splits(
-    rt: &impl Abort,
-    amount: i64,
-    shares: &[Reduced64],
-    parts: &mut [i64],
-    want: Result<(), Refusal>,
-    want_parts: &[i64],
-) {
-    let answer = split(amount, shares, parts);
-    assert!(rt;
-        answer == want && *parts == *want_parts,
-        "{answer:?}, {parts:?}"
-    );
-}
-
-#[test]
-fn test_ledger(rt: HostRuntime) {
-    let third = frac(&rt, 1, 3);
-    let half = frac(&rt, 1, 2);
-    let seventh = frac(&rt, 1, 7);
-    splits(&rt, 100, &[third; 3], &mut [0; 3], Ok(()), &[33, 34, 33]);
-    splits(
-        &rt,
-        1,
-        &[seventh; 7],
-        &mut [9; 7],
-        Ok(()),
-        &[0, 0, 0, 1, 0, 0, 0],
-    );
-    splits(&rt, -100, &[half; 2], &mut [0; 2], Ok(()), &[-50, -50]);
-    let halves = [4611686018427387904, 4611686018427387903];
-    splits(&rt, i64::MAX, &[half; 2], &mut [0; 2], Ok(()), &halves);
-    splits(
-        &rt,
-        100,
-        &[third; 2],
-        &mut [7, 8],
-        Err(Refusal::NotOne),
-        &[7, 8],
-    );
-    splits(&rt, 100, &[third; 2], &mut [7], Err(Refusal::Length), &[7]);
-    let owed = frac(&rt, -1, 2);
-    let shares = [half, half, owed, half];
-    splits(
-        &rt,
-        1,
-        &shares,
-        &mut [1, 2, 3, 4],
-        Err(Refusal::BelowZero),
-        &[1, 2, 3, 4],
-    );
-    let fine = frac(&rt, 2, 5);
-    let rest = frac(&rt, 3, 5);
-    splits(
-        &rt,
-        i64::MAX,
-        &[fine, rest],
-        &mut [1, 2],
-        Err(Refusal::NotHeld),
-        &[1, 2],
-    );
-    splits(&rt, 0, &[], &mut [], Err(Refusal::NotOne), &[]);
 }
 
 // What `split_to` returns, and the parts after the call.

@@ -1,14 +1,16 @@
-use Rattle.std.proofs.Common.{◌≡◌, ◌∙◌, ap, arith, length, rules, subst, take}
+use Rattle.std.proofs.Common.{◌≡◌, ◌∙◌, ap, arith, length, pos, rules, subst, take}
+use Rattle.std.specs.Prelude.{◌<ℤ◌}
 use Rattle.std.proofs.Math.Seq.{take-length}
 use Rattle.std.proofs.lemmas.Int.{ints, to_z-of_z}
 use borrow.Author.Count.{below_more}
 use mir.Syntax.{w64}
 use mir.Val.{SFits}
-use Rattle.ratio_integer.specs.Fraction.{IsLowestTermsOf}
+use Rattle.ratio_integer.specs.Fraction.{IsLowestTermsOf, SameValue}
+use Rattle.ratio_integer.proofs.Whole.{positive_nonzero}
 use Rattle.ratio_uses.specs.Held.{lowest_numbers}
-use Rattle.ratio_uses.specs.Ledger.{total_of}
+use Rattle.num_rational.specs.Split.{total_of_shares}
 use Rattle.ratio_uses.proofs.CentLemmas.{marked_more, marked_none, part_fits, step_fits}
-use Rattle.ratio_uses.proofs.LedgerLemmas.{one_told}
+use Rattle.num_rational.proofs.SplitLemmas.{one_told}
 use Rattle.ratio_uses.proofs.ledger.cents.check_steps.Goals as goal
 
 pub loop-share-init : goal.loop-share-init
@@ -53,10 +55,12 @@ returns-then-numer-denom c =
     let numer_fits : SFits w64 c.numer.result.now = search rules in
     let denom_fits : SFits w64 c.denom.result.now = search rules in
     let whole : take c.loop-share.share-index c.args.shares.now ≡ c.args.shares.now = ap (λ n. take n c.args.shares.now) (let e : c.loop-share.share-index ≡ length c.args.shares.now = omega arith in e) ∙ take-length c.args.shares.now in
-    let value = subst (λ xs. IsLowestTermsOf (total_of lowest_numbers xs).0 (total_of lowest_numbers xs).1 (lowest_numbers c.loop-share.sum).0 (lowest_numbers c.loop-share.sum).1) whole c.loop-share.invariant.marked.value in
+    let up = subst (λ xs. pos 0 <ℤ (total_of_shares lowest_numbers xs).1) whole c.loop-share.invariant.marked.up in
+    let same = subst (λ xs. SameValue (total_of_shares lowest_numbers xs).0 (total_of_shares lowest_numbers xs).1 (lowest_numbers c.loop-share.sum).0 (lowest_numbers c.loop-share.sum).1) whole c.loop-share.invariant.marked.same in
+    let value : IsLowestTermsOf (total_of_shares lowest_numbers c.args.shares.now).0 (total_of_shares lowest_numbers c.args.shares.now).1 (lowest_numbers c.loop-share.sum).0 (lowest_numbers c.loop-share.sum).1 = record { fraction = positive_nonzero _ up; same = same; lowest = c.loop-share.sum.lowest } in
     let test = c.if-numer-denom.true in
-    let same : (lowest_numbers c.loop-share.sum).0 ≡ (lowest_numbers c.loop-share.sum).1 = grind (arith, ints, c.numer.ensures.value, c.denom.ensures.value) in
-    (λ k below. fit k (omega arith), (one_told (total_of lowest_numbers c.args.shares.now) (lowest_numbers c.loop-share.sum) value).1 same)
+    let equal : (lowest_numbers c.loop-share.sum).0 ≡ (lowest_numbers c.loop-share.sum).1 = grind (arith, ints, c.numer.ensures.value, c.denom.ensures.value) in
+    (λ k below. fit k (omega arith), (one_told (total_of_shares lowest_numbers c.args.shares.now) (lowest_numbers c.loop-share.sum) value).1 equal)
 
 pub returns-else-numer-denom : goal.returns-else-numer-denom
 returns-else-numer-denom c =
@@ -65,6 +69,8 @@ returns-else-numer-denom c =
     let numer_fits : SFits w64 c.numer.result.now = search rules in
     let denom_fits : SFits w64 c.denom.result.now = search rules in
     let whole : take c.loop-share.share-index c.args.shares.now ≡ c.args.shares.now = ap (λ n. take n c.args.shares.now) (let e : c.loop-share.share-index ≡ length c.args.shares.now = omega arith in e) ∙ take-length c.args.shares.now in
-    let value = subst (λ xs. IsLowestTermsOf (total_of lowest_numbers xs).0 (total_of lowest_numbers xs).1 (lowest_numbers c.loop-share.sum).0 (lowest_numbers c.loop-share.sum).1) whole c.loop-share.invariant.marked.value in
+    let up = subst (λ xs. pos 0 <ℤ (total_of_shares lowest_numbers xs).1) whole c.loop-share.invariant.marked.up in
+    let same = subst (λ xs. SameValue (total_of_shares lowest_numbers xs).0 (total_of_shares lowest_numbers xs).1 (lowest_numbers c.loop-share.sum).0 (lowest_numbers c.loop-share.sum).1) whole c.loop-share.invariant.marked.same in
+    let value : IsLowestTermsOf (total_of_shares lowest_numbers c.args.shares.now).0 (total_of_shares lowest_numbers c.args.shares.now).1 (lowest_numbers c.loop-share.sum).0 (lowest_numbers c.loop-share.sum).1 = record { fraction = positive_nonzero _ up; same = same; lowest = c.loop-share.sum.lowest } in
     let test = c.if-numer-denom.false in
-    (λ k below. fit k (omega arith), λ one. let same = (one_told (total_of lowest_numbers c.args.shares.now) (lowest_numbers c.loop-share.sum) value).0 one in grind (arith, ints, c.numer.ensures.value, c.denom.ensures.value))
+    (λ k below. fit k (omega arith), λ one. let equal = (one_told (total_of_shares lowest_numbers c.args.shares.now) (lowest_numbers c.loop-share.sum) value).0 one in grind (arith, ints, c.numer.ensures.value, c.denom.ensures.value))

@@ -1,5 +1,5 @@
 /* Times each call for C over fractions of 64 bits, on arrays of 1000. It prints a line for each: its name, the kind of its input and the
- * nanoseconds of one fraction, or of one read of a total, with tabs between. With an argument it prints the names alone.
+ * nanoseconds of one fraction, or of one read of a total or call on a list, with tabs between. With an argument it prints the names alone.
  */
 #define _POSIX_C_SOURCE 199309L
 #include "ratio.h"
@@ -15,6 +15,9 @@ enum { LEN = 1000, ROUNDS = 101, LEAST = 100000 };
 /* The slots of the total of small fractions, which have as many denominators. A read is of this total. */
 enum { SLOTS = 16 };
 
+/* The fractions, shares and weights of a list. */
+enum { ITEMS = 8 };
+
 static ratio_i64 halves[LEN], smalls[LEN];
 static ratio_pair_i64 pairs[LEN];
 static ratio_factors_i64 factors[LEN];
@@ -26,6 +29,8 @@ static ratio_scaled scaled[LEN];
 static ratio_place_i64 steps[LEN];
 static ratio_decimal_i64 decimals[LEN];
 static double doubles[LEN];
+static ratio_i64 chain[ITEMS], shares[ITEMS];
+static int64_t weights[ITEMS], cents[ITEMS], chain_room[2 * ITEMS];
 static ratio_total_i64 total;
 static ratio_slot_i64 slots[SLOTS], both[2 * SLOTS], parts[LEN];
 static uint64_t room[8 * SLOTS + 6], sizes[LEN];
@@ -87,6 +92,12 @@ static void done(uint32_t returned) {
     X(total_compare_i64, (slots, SLOTS, slots, SLOTS, both, 2 * SLOTS, ROOM, orders, 1))                    \
     X(total_print_i64, (slots, SLOTS, 2, RATIO_RULE_HALF_EVEN, ROOM, printed, sizeof printed, places, 1))
 
+/* Those on a list of ITEMS: fractions whose product is 1, shares that add up to 1, or weights. */
+#define LISTS(X)                                                                                            \
+    X(quotient_of_i64, (chain, ITEMS, chain, 0, chain_room, 2 * ITEMS, answers, 1), "list")                 \
+    X(split_i64, (1000000, shares, ITEMS, cents, ITEMS), "list")                                            \
+    X(split_by_weights_i64, (1000000, weights, ITEMS, cents, ITEMS), "list")
+
 /* Those that say how much room a total has or needs. */
 #define SIZES(X)                                                                                            \
     X(total_free_i64, (slots, SLOTS)) X(total_digits_i64, (slots, SLOTS))                                   \
@@ -96,16 +107,18 @@ static void done(uint32_t returned) {
 #define DEFINE(name, asked, results, kind) static void name(void) { done(ratio_##name(asked, LEN, results, LEN)); }
 #define DEFINE_OTHER(name, arguments, kind) static void name(void) { done(ratio_##name arguments); }
 #define DEFINE_READ(name, arguments) static void name(void) { for (int i = 0; i < LEN; i++) done(ratio_##name arguments); }
+#define DEFINE_LIST(name, arguments, kind) DEFINE_READ(name, arguments)
 #define DEFINE_SIZE(name, arguments) static void name(void) { for (int i = 0; i < LEN; i++) sizes[i] = ratio_##name arguments; }
 CALLS(DEFINE)
 OTHERS(DEFINE_OTHER)
 READS(DEFINE_READ)
+LISTS(DEFINE_LIST)
 SIZES(DEFINE_SIZE)
 
 #define ROW(name, asked, results, kind) {"ratio_" #name, kind, name},
 #define ROW_OTHER(name, arguments, kind) {"ratio_" #name, kind, name},
 #define ROW_READ(name, arguments) {"ratio_" #name, "total", name},
-static const struct { const char *name, *kind; void (*run)(void); } calls[] = {CALLS(ROW) OTHERS(ROW_OTHER) READS(ROW_READ) SIZES(ROW_READ)};
+static const struct { const char *name, *kind; void (*run)(void); } calls[] = {CALLS(ROW) OTHERS(ROW_OTHER) READS(ROW_READ) LISTS(ROW_OTHER) SIZES(ROW_READ)};
 
 static uint64_t state = 1;
 
@@ -158,6 +171,14 @@ static void fill(void) {
         parts[i].denom = (uint64_t) smalls[i].denom;
         parts[i].numer.low = (uint64_t) smalls[i].numer;
         parts[i].numer.high = smalls[i].numer < 0 ? -1 : 0;
+    }
+    for (int i = 0; i < ITEMS; i++) {
+        const int64_t prime = 1000003;
+        chain[i].numer = i % 2 == 0 ? prime : i;
+        chain[i].denom = i % 2 == 0 ? i + 1 : prime;
+        shares[i].numer = 1;
+        shares[i].denom = ITEMS;
+        weights[i] = i + 1;
     }
     done(ratio_total_add_i64(smalls, LEN, &total, 1, slots, SLOTS));
     done(ratio_print_i64(halves, LEN, texts, sizeof texts, places, LEN));

@@ -3,7 +3,7 @@
  * Each call takes an array of inputs and an array for the answers, and the length of each. It returns
  * RATIO_DONE, and each answer has a code. If the lengths differ, or if there is too little room for texts,
  * it returns RATIO_BAD_LENGTH and writes nothing. The calls on totals, near the end, take one total or give
- * one answer.
+ * one answer, and those that split an amount return a code.
  *
  * No call overflows, stops the program or allocates memory, whatever the numbers are. The arrays that a call
  * writes may not overlap any other array, and no pointer may be null.
@@ -24,7 +24,7 @@
 extern "C" {
 #endif
 
-/* What a call returns. */
+/* What a call returns. The calls split and split_by_weights return a code. */
 enum { RATIO_DONE = 0, RATIO_BAD_LENGTH = 1 };
 
 /* The code of an answer. If it is not RATIO_ANSWERED, the numbers are 0, and the span of a text is empty. The number of a
@@ -48,7 +48,11 @@ enum {
                                            the call has no such flags, scale, parts, places or rule */
     RATIO_MORE_ROOM = 10,               /* of totals: each slot holds another denominator, or a read has too little room. Of
                                            quotient_of: too little room */
-    RATIO_TOO_LONG = 11                 /* of reads of totals: the common denominator is not below 2^(2^20) */
+    RATIO_TOO_LONG = 11,                /* of reads of totals: the common denominator is not below 2^(2^20) */
+    RATIO_BELOW_ZERO = 12,              /* of split and split_by_weights: a share or a weight is below 0 */
+    RATIO_NOT_ONE = 13,                 /* of split: the shares do not add up to 1 */
+    RATIO_ALL_ZERO = 14,                /* of split_by_weights: the weights add up to 0 */
+    RATIO_UNLIKE_LENGTHS = 15           /* of split and split_by_weights: there are not as many parts as shares or weights */
 };
 
 /* The flags of between, which are added. Without flags both bounds are excluded. */
@@ -281,6 +285,24 @@ uint32_t ratio_key_i64(const ratio_i64 *asked, size_t asked_len, ratio_key *answ
  */
 uint32_t ratio_quotient_of_i64(const ratio_i64 *above, size_t above_len, const ratio_i64 *below, size_t below_len, int64_t *room, size_t room_len,
                                ratio_answer_i64 *answers, size_t answers_len);
+
+/* An amount of whole units, such as cents, split so that nothing is lost: the parts add up to it exactly. The shares are fractions that add up
+ * to 1, or weights: the share of a weight is the weight over the sum of all. 100 by the shares 1/3, 1/3 and 1/3 gives 33, 34 and 33, and so it
+ * does by the weights 1, 1 and 1. Each part is less than 1 away from the amount times its share. The first k parts add up to the amount times the
+ * sum of their shares, rounded, a half away from zero. No product has to fit.
+ *
+ * These calls return a code. RATIO_ANSWERED: the parts are written. After any other code no part has changed. It is the first that applies:
+ *
+ *   RATIO_DENOMINATOR_NOT_POSITIVE   of split: the denominator of a share is 0 or below it
+ *   RATIO_UNLIKE_LENGTHS             there are not as many parts as shares or weights
+ *   RATIO_BELOW_ZERO                 a share or a weight is below 0
+ *   RATIO_NOT_HELD                   of split: the first shares, added up, do not fit 64 bits in lowest terms, or the amount times that sum,
+ *                                    rounded. Of split_by_weights: the sum of the weights does not fit
+ *   RATIO_NOT_ONE                    of split: the shares do not add up to 1. Nor do no shares
+ *   RATIO_ALL_ZERO                   of split_by_weights: the weights add up to 0. So do no weights
+ */
+uint32_t ratio_split_i64(int64_t amount, const ratio_i64 *shares, size_t shares_len, int64_t *parts, size_t parts_len);
+uint32_t ratio_split_by_weights_i64(int64_t amount, const int64_t *weights, size_t weights_len, int64_t *parts, size_t parts_len);
 
 /* A total adds fractions and loses nothing on the way, however many there are. It has a slot for each denominator, with the sum of the
  * numerators over it: 1/36, 1/28 and 5/36 take two slots, 6/36 and 1/28. So adding a fraction is one addition of 128 bits, without a greatest

@@ -20,6 +20,15 @@ refuse(uint32 code, const char *call)
 		case RATIO_BAD_OPTION:
 			ereport(ERROR, errcode(ERRCODE_INVALID_PARAMETER_VALUE), errmsg("there may be 0 to 38 places"), errdetail("The call was %s.", call));
 			break;
+		case RATIO_BELOW_ZERO:
+			ereport(ERROR, errcode(ERRCODE_INVALID_PARAMETER_VALUE), errmsg("a share or a weight is below 0"), errdetail("The call was %s.", call));
+			break;
+		case RATIO_NOT_ONE:
+			ereport(ERROR, errcode(ERRCODE_INVALID_PARAMETER_VALUE), errmsg("the shares do not add up to 1"), errdetail("The call was %s.", call));
+			break;
+		case RATIO_ALL_ZERO:
+			ereport(ERROR, errcode(ERRCODE_INVALID_PARAMETER_VALUE), errmsg("the weights add up to 0"), errdetail("The call was %s.", call));
+			break;
 		case RATIO_TOO_LONG:
 			ereport(ERROR, errcode(ERRCODE_PROGRAM_LIMIT_EXCEEDED), errmsg("the common denominator of a total has more than 2^20 bits"),
 					errdetail("The call was %s. The exact total is kept: total(..) gives it.", call));

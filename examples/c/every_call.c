@@ -294,6 +294,41 @@ static void quotients_of_many(void) {
     expect(ratio_quotient_of_i64(above, 3, below, 1, room, 10, answer, 0) == RATIO_BAD_LENGTH, "no quotient");
 }
 
+/* Whether three parts are these. */
+#define ARE_PARTS(x, a, b, c) ((x)[0] == (a) && (x)[1] == (b) && (x)[2] == (c))
+
+/* Amounts split by shares. Python's `fractions` computed the parts. */
+static void splits(void) {
+    static const ratio_i64 thirds[3] = {{1, 3}, {2, 6}, {1, 3}}, most[3] = {{1, 2}, {0, 9}, {1, 2}}, two[3] = {{1, 3}, {1, 3}, {0, 1}},
+        below[3] = {{4, 3}, {0, 1}, {-1, 3}}, loose[3] = {{1, 3}, {1, 3}, {-1, -3}}, primes[3] = {{1, INT64_MAX}, {1, 4294967291}, {1, 2}};
+    int64_t parts[3] = {7, 7, 7};
+    expect(ratio_split_i64(100, two, 3, parts, 3) == RATIO_NOT_ONE && ARE_PARTS(parts, 7, 7, 7), "shares that are not 1");
+    expect(ratio_split_i64(100, below, 3, parts, 3) == RATIO_BELOW_ZERO && ARE_PARTS(parts, 7, 7, 7), "a share below 0");
+    expect(ratio_split_i64(100, loose, 3, parts, 3) == RATIO_DENOMINATOR_NOT_POSITIVE && ARE_PARTS(parts, 7, 7, 7), "a loose share");
+    expect(ratio_split_i64(100, primes, 3, parts, 3) == RATIO_NOT_HELD && ARE_PARTS(parts, 7, 7, 7), "shares that do not fit");
+    expect(ratio_split_i64(100, thirds, 3, parts, 2) == RATIO_UNLIKE_LENGTHS && ARE_PARTS(parts, 7, 7, 7), "two parts for three shares");
+    expect(ratio_split_i64(100, thirds, 0, parts, 0) == RATIO_NOT_ONE, "no shares");
+    expect(ratio_split_i64(100, thirds, 3, parts, 3) == RATIO_ANSWERED && ARE_PARTS(parts, 33, 34, 33), "thirds of 100");
+    expect(ratio_split_i64(-100, thirds, 3, parts, 3) == RATIO_ANSWERED && ARE_PARTS(parts, -33, -34, -33), "thirds of -100");
+    expect(ratio_split_i64(INT64_MAX, most, 3, parts, 3) == RATIO_ANSWERED, "halves of 2^63-1");
+    expect(ARE_PARTS(parts, INT64_C(4611686018427387904), 0, INT64_C(4611686018427387903)), "halves of 2^63-1");
+}
+
+/* The same by weights. */
+static void splits_by_weights(void) {
+    static const int64_t equal[3] = {1, 1, 1}, units[3] = {12, 0, 7}, none[3] = {0, 0, 0}, below[3] = {2, 0, -1}, most[3] = {INT64_MAX, 1, 0};
+    int64_t parts[3] = {7, 7, 7};
+    expect(ratio_split_by_weights_i64(100, none, 3, parts, 3) == RATIO_ALL_ZERO && ARE_PARTS(parts, 7, 7, 7), "weights that are 0");
+    expect(ratio_split_by_weights_i64(100, below, 3, parts, 3) == RATIO_BELOW_ZERO && ARE_PARTS(parts, 7, 7, 7), "a weight below 0");
+    expect(ratio_split_by_weights_i64(100, most, 3, parts, 3) == RATIO_NOT_HELD && ARE_PARTS(parts, 7, 7, 7), "weights that do not fit");
+    expect(ratio_split_by_weights_i64(100, equal, 3, parts, 2) == RATIO_UNLIKE_LENGTHS && ARE_PARTS(parts, 7, 7, 7), "two parts for three weights");
+    expect(ratio_split_by_weights_i64(100, none, 0, parts, 0) == RATIO_ALL_ZERO, "no weights");
+    expect(ratio_split_by_weights_i64(100, equal, 3, parts, 3) == RATIO_ANSWERED && ARE_PARTS(parts, 33, 34, 33), "100 by equal weights");
+    expect(ratio_split_by_weights_i64(1000, units, 3, parts, 3) == RATIO_ANSWERED && ARE_PARTS(parts, 632, 0, 368), "1000 by 12, 0 and 7");
+    expect(ratio_split_by_weights_i64(INT64_MIN, units, 3, parts, 3) == RATIO_ANSWERED, "the least amount");
+    expect(ARE_PARTS(parts, -INT64_C(5825287602224068931), 0, -INT64_C(3398084434630706877)), "the least amount");
+}
+
 /* A script of Python computed the hash of 1/2, by the definition. */
 static void lowest_hashes(void) {
     const ratio_i64 x[4] = {{1, 2}, {-1, 2}, {1, 3}, {1, 0}};
@@ -497,6 +532,8 @@ int main(void) {
     sums_that_fit();
     divisors_and_rounded_products();
     quotients_of_many();
+    splits();
+    splits_by_weights();
     casts();
     floats();
     lowest_hashes();

@@ -17,7 +17,7 @@
 #include <sys/mman.h>
 #include <unistd.h>
 
-enum { MOST = 6, BEFORE = 64, CODES = 12, TEXT = 200, SLOTS = 5, ROOM = 40 };
+enum { MOST = 6, BEFORE = 64, CODES = 16, TEXT = 200, SLOTS = 5, ROOM = 40 };
 enum { ASKED, TEXTS, ANSWERS, SLOTS_OF_TOTAL, ROOM_OF_TOTAL, ARRAYS };
 
 typedef uint32_t plain(const void *asked, size_t asked_len, void *answers, size_t answers_len);
@@ -29,7 +29,7 @@ typedef struct { plain *plain; with_texts *reads, *prints; size_t asked, numbers
 typedef double ratio_double;
 
 /* Each call by its name, with what it is asked, how many numbers of which type begin that, and its answer. Options are behind the numbers.
- * The calls on totals are in `one_total`.
+ * The calls on totals are in `one_total`, and those on lists in `one_list`.
  */
 #define PLAIN(X, s, number)                                                                                   \
     X(compare_##s, pair_##s, 4, number, order) X(equal_##s, pair_##s, 4, number, truth)                       \
@@ -296,6 +296,47 @@ static void one_total(void) {
     mix((const uint8_t *) &returned, sizeof returned);
 }
 
+/* Writes shares of which some add up to 1: the last one may be what the others leave. */
+static void put_shares(ratio_i64 *shares, size_t n) {
+    const int64_t denom = (int64_t) below(20) + 1;
+    int64_t left = denom;
+    for (size_t i = 0; i < n; i++) {
+        if (below(16) == 0) put_share((uint8_t *) &shares[i]);
+        else shares[i].numer = i + 1 == n ? left : (int64_t) below((size_t) left + 1), shares[i].denom = denom, left -= shares[i].numer;
+        if (left < 0 || left > denom) left = 0;
+    }
+}
+
+/* Multiplies and divides a list, or splits an amount. */
+static void one_list(void) {
+    const size_t n = below(MOST), m = below(8) > 0 ? n : below(MOST), length = below(6) > 0 ? 2 * (n + m) : below(4 * MOST), kind = below(4);
+    ratio_i64 *shares = (ratio_i64 *) place(ASKED, n * sizeof(ratio_i64)), *others = (ratio_i64 *) place(SLOTS_OF_TOTAL, m * sizeof(ratio_i64));
+    int64_t *room = (int64_t *) place(ROOM_OF_TOTAL, length * sizeof(int64_t)), *parts = (int64_t *) place(TEXTS, m * sizeof(int64_t));
+    int64_t *weights = (int64_t *) place(ANSWERS, n * sizeof(int64_t)), amount;
+    ratio_answer_i64 answer = {0};
+    uint32_t returned;
+    is_short = below(2) == 0;
+    put_number((uint8_t *) &amount, sizeof amount, 0);
+    for (size_t i = 0; i < n; i++) put_share((uint8_t *) &shares[i]), put_number((uint8_t *) &weights[i], sizeof *weights, 1);
+    for (size_t i = 0; i < m; i++) put_share((uint8_t *) &others[i]);
+    memset(parts, 0x33, m * sizeof(int64_t));
+    if (kind == 0) {
+        returned = ratio_split_by_weights_i64(amount, weights, n, parts, m);
+    } else if (kind == 1) {
+        put_shares(shares, n);
+        returned = ratio_split_i64(amount, shares, n, parts, m);
+    } else {
+        returned = ratio_quotient_of_i64(shares, n, others, m, room, length, &answer, 1);
+        take((uint8_t *) &answer, sizeof answer, 1);
+    }
+    if (kind < 2) codes[returned < CODES ? returned : CODES - 1]++;
+    test_before((uint8_t *) shares), test_before((uint8_t *) others), test_before((uint8_t *) room);
+    test_before((uint8_t *) parts), test_before((uint8_t *) weights);
+    mix((uint8_t *) parts, m * sizeof(int64_t));
+    mix((uint8_t *) weights, n * sizeof(int64_t));
+    mix((const uint8_t *) &returned, sizeof returned);
+}
+
 int main(int argc, char **argv) {
     const uint64_t seed = argc == 4 ? strtoull(argv[1], NULL, 10) : 0, count = argc == 4 ? strtoull(argv[2], NULL, 10) : 0;
     const uint64_t every = argc == 4 ? strtoull(argv[3], NULL, 10) : 0;
@@ -307,6 +348,7 @@ int main(int argc, char **argv) {
     for (int i = 0; i < ARRAYS; i++) arrays[i] = reserve();
     for (uint64_t i = 1; i <= count; i++) {
         if (below(12) == 0) one_total();
+        else if (below(24) == 0) one_list();
         else one_call(&calls[below(sizeof calls / sizeof *calls)]);
         if (i % every == 0) printf("%" PRIu64 " %016" PRIx64 "\n", i, checksum);
     }

@@ -1,5 +1,5 @@
 -- Rounded running sums. The difference of two neighbours is less than 1 away from the exact share, and the last sum is the amount.
-use Rattle.std.specs.Prelude.{◌≡◌, ◌≢◌, ◌⊎◌, ◌↔◌, ◌+◌, ◌<◌, ◌≤◌, ◌≤ℤ◌, ◌<ℤ◌, ◌+ℤ◌, ◌-ℤ◌, ◌*ℤ◌, ℕ, ℤ, zero, pos, neg_ℤ, unsigned_abs, List, [], ◌∷◌, ◌++◌, fold, length, slice_index_or, take, IsSome, None, Option, Some}
+use Rattle.std.specs.Prelude.{◌≡◌, ◌≢◌, ◌⊎◌, ◌↔◌, ◌+◌, ◌<◌, ◌≤◌, ◌≤ℤ◌, ◌<ℤ◌, ◌+ℤ◌, ◌-ℤ◌, ◌*ℤ◌, ℕ, ℤ, pos, neg_ℤ, unsigned_abs, List, [], ◌∷◌, ◌++◌, fold, length, slice_index_or, take, IsSome, None, Option, Some}
 use Rattle.std.proofs.Common.{refl, sym, ap, subst, ◌∙◌, arith, inl, inr, add-one, get_or}
 use Rattle.std.proofs.Math.Seq.{take-length, take-suc}
 use Rattle.std.proofs.Math.ListN.{set}

@@ -21,6 +21,11 @@ share_numbers x = numbers (ratio_of x)
 abbrev pub total_of_shares : {A : Type 0} → (A → ℤ × ℤ) → List A → ℤ × ℤ
 total_of_shares view shares = fold (λ total share. sum_of total.0 total.1 (view share).0 (view share).1) (pos 0, pos 1) shares
 
+-- the denominator of each share is positive
+-- Example: not 1/2, 1/-2
+abbrev pub SharesOverPositive : {A : Type 0} → (A → ℤ × ℤ) → List A → Type 0
+SharesOverPositive view shares = All (λ share. pos 0 <ℤ (view share).1) shares
+
 -- no share is below 0
 -- Example: not 4/3, -1/3
 abbrev pub NoShareIsBelowZero : {A : Type 0} → (A → ℤ × ℤ) → List A → Type 0

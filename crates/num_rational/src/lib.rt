@@ -24,6 +24,7 @@ mod quotients;
 mod ratio;
 mod reduced;
 mod rounding;
+mod share;
 mod sign;
 mod splitting;
 mod text;
@@ -42,5 +43,6 @@ pub use ratio_core::{
 pub use ratio_decimal::rounding_rule::Rounding;
 pub use ratio_decimal::{DecimalRefusal, TextRefusal};
 pub use reduced::{Reduced, Reduced32, Reduced64, ReducedOperand};
-pub use splitting::{SplitRefusal, split};
+pub use share::Share;
+pub use splitting::{SplitRefusal, split, split_shares};
 pub use weights::{WeightRefusal, split_by_weights};

@@ -1,9 +1,10 @@
 //! An amount split by shares, so that nothing is lost.
 ghost use Rattle.std.specs.Prelude.{◌≡◌, ◌↔◌, length, IfErr, IsTrue, MatchResult, OnErr, OnOk};
 ghost use Rattle.ratio_integer.specs.Arithmetic.{sum_of};
-ghost use Rattle.num_rational.specs.Split.{SharesMakeOne, CanBeSplit, ChecksNextMark, IsSplitBy, MarksFit, NoShareIsBelowZero, RefusesToSplit, SumsRefuse, share_numbers};
+ghost use Rattle.num_rational.specs.Split.{SharesMakeOne, SharesOverPositive, CanBeSplit, ChecksNextMark, IsSplitBy, MarksFit, NoShareIsBelowZero, RefusesToSplit, SumsRefuse, share_numbers};
 
 use crate::reduced::Reduced;
+use crate::share::Share;
 use ratio_core::sign::is_below_zero;
 use ratio_decimal::rounding_rule::Rounding;
 use ratio_integer::Integer;
@@ -35,6 +36,20 @@ pub fn split<T: Copy + Integer>(
     ensures refused { IfErr result (λ why. RefusesToSplit share_numbers T.lo T.hi (T.value amount) shares.now (length parts.old) why) }
     ensures unchanged { OnErr result (parts.new ≡ parts.old) }
 {
+    split_shares(amount, shares, parts)
+}
+
+/// The same for shares in any terms, whose denominators are above 0.
+pub fn split_shares<T: Copy + Integer, S: Share<T>>(
+    amount: T,
+    shares: &[S],
+    parts: &mut [T],
+) -> Result<(), SplitRefusal>
+    requires { SharesOverPositive S.two_numbers shares.now }
+    ensures ok { OnOk result (CanBeSplit S.two_numbers T.lo T.hi (T.value amount) shares.now (length parts.old) × IsSplitBy S.two_numbers T.value (T.value amount) shares.now parts.new) }
+    ensures refused { IfErr result (λ why. RefusesToSplit S.two_numbers T.lo T.hi (T.value amount) shares.now (length parts.old) why) }
+    ensures unchanged { OnErr result (parts.new ≡ parts.old) }
+{
     if parts.len() != shares.len() {
         return Err(SplitRefusal::Length);
     }
@@ -46,10 +61,10 @@ pub fn split<T: Copy + Integer>(
     Ok(())
 }
 
-fn none_is_below_zero<T: Copy + Integer>(shares: &[Reduced<T>]) -> bool
-    ensures { IsTrue result ↔ NoShareIsBelowZero share_numbers shares.now }
+fn none_is_below_zero<T: Copy + Integer, S: Share<T>>(shares: &[S]) -> bool
+    ensures { IsTrue result ↔ NoShareIsBelowZero S.two_numbers shares.now }
 {
-    shares.iter().all(|share| !is_below_zero(*share.numer()))
+    shares.iter().all(|share| !is_below_zero(share.numer()))
 }
 
 // The sum with one more share, and the amount times it, rounded.
@@ -66,14 +81,15 @@ fn next_mark<T: Copy + Integer>(
 }
 
 // Whether each sum of the first shares and its mark fit, and the last sum is 1.
-fn check_marks<T: Copy + Integer>(amount: T, shares: &[Reduced<T>]) -> Result<(), SplitRefusal>
+fn check_marks<T: Copy + Integer, S: Share<T>>(amount: T, shares: &[S]) -> Result<(), SplitRefusal>
+    requires { SharesOverPositive S.two_numbers shares.now }
     ensures { MatchResult result
-        (λ _. MarksFit share_numbers T.lo T.hi (T.value amount) shares.now × SharesMakeOne share_numbers shares.now)
-        (SumsRefuse (MarksFit share_numbers T.lo T.hi (T.value amount) shares.now) (SharesMakeOne share_numbers shares.now)) }
+        (λ _. MarksFit S.two_numbers T.lo T.hi (T.value amount) shares.now × SharesMakeOne S.two_numbers shares.now)
+        (SumsRefuse (MarksFit S.two_numbers T.lo T.hi (T.value amount) shares.now) (SharesMakeOne S.two_numbers shares.now)) }
 {
     let mut sum = Reduced::zero();
     for share in shares {
-        match next_mark(amount, &sum, share) {
+        match next_mark(amount, &sum, &share.lowest()) {
             Some((next, _)) => sum = next,
             None => return Err(SplitRefusal::NotHeld),
         }
@@ -86,14 +102,15 @@ fn check_marks<T: Copy + Integer>(amount: T, shares: &[Reduced<T>]) -> Result<()
 }
 
 // Writes the parts. It requires that no refusal applies.
-fn write_parts<T: Copy + Integer>(amount: T, shares: &[Reduced<T>], parts: &mut [T])
-    requires { CanBeSplit share_numbers T.lo T.hi (T.value amount) shares.now (length parts.old) }
-    ensures { IsSplitBy share_numbers T.value (T.value amount) shares.now parts.new }
+fn write_parts<T: Copy + Integer, S: Share<T>>(amount: T, shares: &[S], parts: &mut [T])
+    requires positive { SharesOverPositive S.two_numbers shares.now }
+    requires can { CanBeSplit S.two_numbers T.lo T.hi (T.value amount) shares.now (length parts.old) }
+    ensures { IsSplitBy S.two_numbers T.value (T.value amount) shares.now parts.new }
 {
     let mut sum = Reduced::zero();
     let mut mark = T::ZERO;
     for (i, share) in shares.iter().enumerate() {
-        let (next, next_mark) = next_mark(amount, &sum, share).unwrap();
+        let (next, next_mark) = next_mark(amount, &sum, &share.lowest()).unwrap();
         parts[i] = next_mark.minus(mark);
         sum = next;
         mark = next_mark;

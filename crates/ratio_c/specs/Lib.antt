@@ -9,6 +9,7 @@ pub mod Numbers64
 pub mod Numbers128
 pub mod LowestHash
 pub mod Many
+pub mod Splits
 pub mod Totals
 pub mod TotalFloats
 pub mod TotalReads

@@ -28,6 +28,7 @@ pub mod reading;
 pub mod rounded_product;
 pub mod scaled;
 pub mod sign;
+pub mod splits;
 #[cfg(test)]
 mod tests;
 pub mod total_floats;

@@ -23,6 +23,7 @@ mod quotients;
 mod ratio;
 mod reduced;
 mod rounding;
+mod share;
 mod sign;
 mod splitting;
 mod text;
@@ -41,5 +42,6 @@ pub use crate::proved::ratio_core::{
 pub use crate::proved::ratio_decimal::rounding_rule::Rounding;
 pub use crate::proved::ratio_decimal::{DecimalRefusal, TextRefusal};
 pub use reduced::{Reduced, Reduced32, Reduced64, ReducedOperand};
-pub use splitting::{SplitRefusal, split};
+pub use share::Share;
+pub use splitting::{SplitRefusal, split, split_shares};
 pub use weights::{WeightRefusal, split_by_weights};

@@ -27,6 +27,7 @@ pub mod reading;
 pub mod rounded_product;
 pub mod scaled;
 pub mod sign;
+pub mod splits;
 
 pub mod total_floats;
 pub mod total_multiples;

@@ -2,6 +2,7 @@
 //! An amount split by shares, so that nothing is lost.
 
 use crate::proved::num_rational::reduced::Reduced;
+use crate::proved::num_rational::share::Share;
 use crate::proved::ratio_core::sign::is_below_zero;
 use crate::proved::ratio_decimal::rounding_rule::Rounding;
 use crate::proved::ratio_integer::Integer;
@@ -30,6 +31,22 @@ pub fn split<T: Copy + Integer>(
     shares: &[Reduced<T>],
     parts: &mut [T],
 ) -> Result<(), SplitRefusal> {
+    split_shares(amount, shares, parts)
+}
+
+/// The same for shares in any terms, whose denominators are above 0.
+///
+/// # Conditions
+///
+/// The proof requires of the caller:
+///
+/// - `SharesOverPositive S.two_numbers shares.now`
+#[inline]
+pub fn split_shares<T: Copy + Integer, S: Share<T>>(
+    amount: T,
+    shares: &[S],
+    parts: &mut [T],
+) -> Result<(), SplitRefusal> {
     if parts.len() != shares.len() {
         return Err(SplitRefusal::Length);
     }
@@ -42,8 +59,8 @@ pub fn split<T: Copy + Integer>(
 }
 
 #[inline]
-fn none_is_below_zero<T: Copy + Integer>(shares: &[Reduced<T>]) -> bool {
-    shares.iter().all(|share| !is_below_zero(*share.numer()))
+fn none_is_below_zero<T: Copy + Integer, S: Share<T>>(shares: &[S]) -> bool {
+    shares.iter().all(|share| !is_below_zero(share.numer()))
 }
 
 // The sum with one more share, and the amount times it, rounded.
@@ -60,10 +77,10 @@ fn next_mark<T: Copy + Integer>(
 
 // Whether each sum of the first shares and its mark fit, and the last sum is 1.
 #[inline]
-fn check_marks<T: Copy + Integer>(amount: T, shares: &[Reduced<T>]) -> Result<(), SplitRefusal> {
+fn check_marks<T: Copy + Integer, S: Share<T>>(amount: T, shares: &[S]) -> Result<(), SplitRefusal> {
     let mut sum = Reduced::zero();
     for share in shares {
-        match next_mark(amount, &sum, share) {
+        match next_mark(amount, &sum, &share.lowest()) {
             Some((next, _)) => sum = next,
             None => return Err(SplitRefusal::NotHeld),
         }
@@ -77,11 +94,11 @@ fn check_marks<T: Copy + Integer>(amount: T, shares: &[Reduced<T>]) -> Result<()
 
 // Writes the parts. It requires that no refusal applies.
 #[inline]
-fn write_parts<T: Copy + Integer>(amount: T, shares: &[Reduced<T>], parts: &mut [T]) {
+fn write_parts<T: Copy + Integer, S: Share<T>>(amount: T, shares: &[S], parts: &mut [T]) {
     let mut sum = Reduced::zero();
     let mut mark = T::ZERO;
     for (i, share) in shares.iter().enumerate() {
-        let (next, next_mark) = next_mark(amount, &sum, share).unwrap();
+        let (next, next_mark) = next_mark(amount, &sum, &share.lowest()).unwrap();
         parts[i] = next_mark.minus(mark);
         sum = next;
         mark = next_mark;

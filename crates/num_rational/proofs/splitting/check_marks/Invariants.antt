@@ -6,7 +6,7 @@ use Rattle.num_rational.proofs.splitting.check_marks.Given as goal
 
 abbrev pub invariant-loop-share : goal.invariant-loop-share
 invariant-loop-share g l = record {
-  fit : (k : ℕ) → k < l.share-index → MarkFits g.T.Integer.lo g.T.Integer.hi (g.T.Integer.value l.amount) (total_of_shares share_numbers (take (k + 1) l.shares));
-  value : IsLowestTermsOf (total_of_shares share_numbers (take l.share-index l.shares)).0 (total_of_shares share_numbers (take l.share-index l.shares)).1 (share_numbers l.sum).0 (share_numbers l.sum).1;
-  up : pos 0 <ℤ (total_of_shares share_numbers (take l.share-index l.shares)).1;
+  fit : (k : ℕ) → k < l.share-index → MarkFits g.T.Integer.lo g.T.Integer.hi (g.T.Integer.value l.amount) (total_of_shares g.S.Share.two_numbers (take (k + 1) l.shares));
+  value : IsLowestTermsOf (total_of_shares g.S.Share.two_numbers (take l.share-index l.shares)).0 (total_of_shares g.S.Share.two_numbers (take l.share-index l.shares)).1 (share_numbers l.sum).0 (share_numbers l.sum).1;
+  up : pos 0 <ℤ (total_of_shares g.S.Share.two_numbers (take l.share-index l.shares)).1;
 }

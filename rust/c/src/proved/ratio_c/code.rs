@@ -32,11 +32,23 @@ pub const NO_TOTAL: u32 = 8;
 /// The call has no such rule, number of parts or of places, scale or flags.
 pub const BAD_OPTION: u32 = 9;
 
-/// A total has no slot for another denominator, or the room of a read is too short.
+/// A total has no slot for another denominator, or the room of a read or of a product of many is too short.
 pub const MORE_ROOM: u32 = 10;
 
 /// The common denominator of a total is not below 2^(2^20).
 pub const TOO_LONG: u32 = 11;
+
+/// A share or a weight is below 0.
+pub const BELOW_ZERO: u32 = 12;
+
+/// The shares do not add up to 1.
+pub const NOT_ONE: u32 = 13;
+
+/// The weights add up to 0.
+pub const ALL_ZERO: u32 = 14;
+
+/// There are not as many parts as shares or weights.
+pub const UNLIKE_LENGTHS: u32 = 15;
 
 /// The lower bound is included.
 pub const LOW_INCLUDED: u32 = 1;

@@ -1,4 +1,3 @@
-use Rattle.std.specs.Prelude.{pos}
 use Rattle.std.proofs.Common.{arith}
 use Rattle.std.proofs.lemmas.Int.{ints}
 use Rattle.num_rational.proofs.reduced.Reduced.rationalize32.Goals as goal

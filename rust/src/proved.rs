@@ -26,6 +26,12 @@ mod tests_fraction_totals;
 #[cfg(all(test, target_pointer_width = "64"))]
 mod tests_fractions;
 #[cfg(all(test, target_pointer_width = "64"))]
+mod tests_laws;
+#[cfg(all(test, target_pointer_width = "64"))]
 mod tests_naturals;
+#[cfg(all(test, target_pointer_width = "64"))]
+mod tests_numbers;
+#[cfg(all(test, target_pointer_width = "64"))]
+mod tests_reduced;
 #[cfg(all(test, target_pointer_width = "64"))]
 mod tests_totals;

@@ -3,6 +3,7 @@ pub mod EqualValueLemmas
 pub mod FoldLawLemmas
 pub mod HashWriteLemmas
 pub mod JsonLawLemmas
+pub mod ManyProductLawLemmas
 pub mod NearestBoundLemmas
 pub mod NeutralLemmas
 pub mod OrderLawLemmas

@@ -18,7 +18,7 @@ use Rattle.fraction_laws.proofs.ResultLemmas.{product_nonzero, same_answers}
 
 -- ---- one result
 
-one_pair : (x y : ℤ × ℤ) → (x.0 ≡ y.0) × (x.1 ≡ y.1) → x ≡ y
+pub one_pair : (x y : ℤ × ℤ) → (x.0 ≡ y.0) × (x.1 ≡ y.1) → x ≡ y
 one_pair x y same = ap (λ (t : ℤ). (t, x.1)) same.0 ∙ ap (λ (t : ℤ). (y.0, t)) same.1
 
 pub both_fields : (x y : ℤ × ℤ) → x ≡ y → (x.0 ≡ y.0) × (x.1 ≡ y.1)

@@ -1,5 +1,6 @@
 pub mod DivisorLaws
 pub mod FoldLaws
+pub mod ManyProductLaws
 pub mod NearestLaws
 pub mod NeutralLaws
 pub mod OrderLaws

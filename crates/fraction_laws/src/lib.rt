@@ -3,6 +3,7 @@
 
 pub mod divisors;
 pub mod folds;
+pub mod many_products;
 pub mod nearest;
 pub mod neutral;
 pub mod order;

@@ -4,7 +4,7 @@ use num_rational::Ratio;
 use ratio_integer::SignedInteger;
 use std::cmp::Ordering;
 use std::hash::Hash;
-use tests_fractions::written::Written;
+use tests_numbers::written::Written;
 
 /// Whether `n/d` and `m/e` have this order.
 fn stands<T: SignedInteger>(n: T, d: T, m: T, e: T, order: Ordering) -> bool {

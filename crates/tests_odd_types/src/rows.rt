@@ -6,7 +6,7 @@ use num_rational::Ratio;
 use ratio_integer::{Integer, SignedInteger};
 use ratio_odd::{Nat2, Sym5, Two3};
 use std::cmp::Ordering;
-use tests_fractions::written::Written;
+use tests_numbers::written::Written;
 
 /// A row: a fraction, a call, another fraction, and the fields of the result.
 type Row = (i8, i8, Call, i8, i8, Option<(i8, i8)>);

@@ -7,7 +7,7 @@ use ratio_integer::Integer;
 use ratio_odd::{Nat2, Sym5, Two3};
 use std::process::Abort;
 use std::test::Fail;
-use tests_fractions::written::Written;
+use tests_numbers::written::Written;
 
 /// How many pairs of numbers from -5 to 5 there are.
 pub const PLACES: u8 = 121;

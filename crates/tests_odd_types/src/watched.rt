@@ -10,7 +10,7 @@ use std::cell::Cell;
 use std::cmp::Ordering;
 use std::process::Abort;
 use std::test::Fail;
-use tests_fractions::written::Written;
+use tests_numbers::written::Written;
 
 /// The quotient of -128 by -1. It is the only one that `i8` does not hold.
 const ABOVE_MAX: i128 = 128;

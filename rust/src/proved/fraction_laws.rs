@@ -2,6 +2,7 @@
 //! Laws of the calls of `Reduced` and `Ratio`, for the proofs of callers. Each function changes nothing: its contract is the law.
 pub mod divisors;
 pub mod folds;
+pub mod many_products;
 pub mod nearest;
 pub mod neutral;
 pub mod order;

@@ -1,12 +1,12 @@
 //! Rows of the order and of the hash of fractions, from outside.
 use crate::asserting::each_holds;
 use crate::ratios::forms::raw;
-use crate::recorder::Codes;
-use crate::written::Written;
 use num_rational::{Ratio, Steps};
 use ratio_integer::{Integer, SignedInteger};
 use std::cmp::Ordering;
 use std::hash::Hash;
+use tests_numbers::recorder::Codes;
+use tests_numbers::written::Written;
 
 // Whether each call that compares returns this order of x and y.
 fn stand<T: Integer>(x: Ratio<T>, y: Ratio<T>, order: Ordering) -> bool {

@@ -2,8 +2,6 @@
 use crate::asserting::{all_hold, each_holds, reads};
 use crate::ratios::forms::{has, raw};
 use crate::ratios::texts::{Shown, first_misprinted};
-use fraction_laws::reduced;
-use fraction_laws::told_apart::told_apart;
 use num_rational::{BaseTenText, Constants, Form, RatioText, Reduced, Reduced32, Reduced64};
 use ratio_integer::Integer;
 use std::cmp::Ordering;
@@ -239,19 +237,4 @@ fn folds_lists(rt: HostRuntime) {
     each_holds(&rt, &facts);
     let none: [Reduced64; 0] = [];
     assert!(rt; gives(Reduced64::checked_product(&none), Some((1, 1))));
-}
-
-#[test]
-fn has_laws(_rt: HostRuntime) {
-    let x = Reduced64::checked_new(-7, 2).unwrap_or(Reduced::zero());
-    let y = Reduced64::checked_new(i64::MAX, 3).unwrap_or(Reduced::zero());
-    let z = Reduced64::one();
-    reduced::sums(&x, &y, &z);
-    reduced::products(&x, &y, &z);
-    reduced::powers(&x);
-    reduced::parts(&x);
-    reduced::continued_fractions(&x);
-    reduced::orders(&x, &y);
-    reduced::hashes(&x, &y);
-    told_apart();
 }

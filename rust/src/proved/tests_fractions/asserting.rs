@@ -1,4 +1,5 @@
 // Erased from crates/tests_fractions/src/asserting.rt by rust/erase: not to be edited.
+// Written by templates/write from templates/asserting.rt.txt: change that file, and write this one anew.
 //! What the tests assert. Each function holds one assertion. If it fails, its message says what was given.
 
 /// All rows hold, so no row is the first wrong one.

@@ -4,11 +4,11 @@ use crate::proved::tests_fractions::asserting::each_holds;
 use crate::proved::tests_fractions::ratios::forms::{self, fraction, has, raw};
 use crate::proved::tests_fractions::ratios::rows::reduced;
 use crate::proved::tests_fractions::ratios::texts::shown_as;
-use crate::proved::tests_fractions::written::Written;
 use crate::proved::num_rational::{Constants, Form, Ratio, Rational32, Rational64};
 use crate::proved::ratio_integer::Integer;
 use core::cmp::Ordering;
 use crate::test_support::InlineText;
+use crate::proved::tests_numbers::written::Written;
 
 // The lowest terms by `new`, if `checked_new` returns them.
 #[inline]

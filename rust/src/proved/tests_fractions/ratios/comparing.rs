@@ -2,12 +2,12 @@
 //! Rows of the order and of the hash of fractions, from outside.
 use crate::proved::tests_fractions::asserting::each_holds;
 use crate::proved::tests_fractions::ratios::forms::raw;
-use crate::proved::tests_fractions::recorder::Codes;
-use crate::proved::tests_fractions::written::Written;
 use crate::proved::num_rational::{Ratio, Steps};
 use crate::proved::ratio_integer::{Integer, SignedInteger};
 use core::cmp::Ordering;
 use core::hash::Hash;
+use crate::proved::tests_numbers::recorder::Codes;
+use crate::proved::tests_numbers::written::Written;
 
 // Whether each call that compares returns this order of x and y.
 #[inline]

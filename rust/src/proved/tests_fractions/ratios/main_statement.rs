@@ -2,10 +2,10 @@
 //! The main promise at concrete types: rows from outside.
 use crate::proved::tests_fractions::asserting::each_holds;
 use crate::proved::tests_fractions::ratios::forms::{answers, raw};
-use crate::proved::tests_fractions::recorder::Codes;
 use crate::proved::num_rational::{HeadlineResult, Ratio, Steps, headline};
 use crate::proved::ratio_integer::Integer;
 use core::cmp::Ordering;
+use crate::proved::tests_numbers::recorder::Codes;
 
 // What two fractions give, and whether their codes are the same. The two lists are empty. A caller with a type of known size
 // makes them.

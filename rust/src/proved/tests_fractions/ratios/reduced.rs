@@ -3,8 +3,6 @@
 use crate::proved::tests_fractions::asserting::{all_hold, each_holds, reads};
 use crate::proved::tests_fractions::ratios::forms::{has, raw};
 use crate::proved::tests_fractions::ratios::texts::{Shown, first_misprinted};
-use crate::proved::fraction_laws::reduced;
-use crate::proved::fraction_laws::told_apart::told_apart;
 use crate::proved::num_rational::{BaseTenText, Constants, Form, RatioText, Reduced, Reduced32, Reduced64};
 use crate::proved::ratio_integer::Integer;
 use core::cmp::Ordering;
@@ -233,19 +231,4 @@ fn folds_lists() {
     each_holds(&facts);
     let none: [Reduced64; 0] = [];
     assert!(gives(Reduced64::checked_product(&none), Some((1, 1))));
-}
-
-#[test]
-fn has_laws() {
-    let x = Reduced64::checked_new(-7, 2).unwrap_or(Reduced::zero());
-    let y = Reduced64::checked_new(i64::MAX, 3).unwrap_or(Reduced::zero());
-    let z = Reduced64::one();
-    reduced::sums(&x, &y, &z);
-    reduced::products(&x, &y, &z);
-    reduced::powers(&x);
-    reduced::parts(&x);
-    reduced::continued_fractions(&x);
-    reduced::orders(&x, &y);
-    reduced::hashes(&x, &y);
-    told_apart();
 }

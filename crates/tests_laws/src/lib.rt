@@ -1,0 +1,7 @@
+//! Tests of the laws: each can be called like any function.
+#![tactic(auto)]
+
+#[cfg(test)]
+mod fractions;
+#[cfg(test)]
+mod numbers;

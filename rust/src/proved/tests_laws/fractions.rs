@@ -1,0 +1,142 @@
+// Erased from crates/tests_laws/src/fractions.rt by rust/erase: not to be edited.
+//! The laws of `Reduced` and `Ratio`, called once over `i64` each, with fractions for which they say something.
+use crate::proved::fraction_laws::told_apart::told_apart;
+use crate::proved::fraction_laws::{
+    divisors, folds, many_products, nearest, neutral, order, powers, reading, reduced, remainder,
+    rounding, signs, undoing, values,
+};
+use crate::proved::num_rational::{Ratio, Reduced, Reduced64};
+
+#[inline]
+fn fraction(numer: i64, denom: i64) -> Reduced64 {
+    Reduced::checked_new(numer, denom).unwrap_or(Reduced::zero())
+}
+
+#[test]
+fn calls_undo_one_another() {
+    let (x, y) = (fraction(-7, 2), fraction(2, 3));
+    undoing::sums(&x, &y);
+    undoing::products(&x, &y);
+    undoing::itself(&x);
+    undoing::negatives(&x, &y);
+    undoing::reciprocals(&x, &y);
+}
+
+#[test]
+fn zero_and_one() {
+    let x = fraction(i64::MIN, 3);
+    neutral::zeros(&x);
+    neutral::ones(&x);
+    neutral::powers(&x);
+}
+
+#[test]
+fn signs_of_results() {
+    let (x, y) = (fraction(-7, 2), fraction(2, 3));
+    signs::negatives(&x);
+    signs::absolutes(&x, &y);
+    signs::parts(&x);
+    signs::products(&x, &y);
+}
+
+#[test]
+fn order_of_results() {
+    let (x, y, z) = (fraction(-7, 2), fraction(2, 3), fraction(-1, 5));
+    order::sums(&x, &y, &z);
+    order::products(&x, &y, &z);
+    order::products(&y, &x, &y);
+    order::negatives(&x, &y);
+}
+
+#[test]
+fn powers_of_powers() {
+    let (x, y) = (fraction(-7, 2), fraction(2, 3));
+    powers::exponents(&x);
+    powers::products(&x, &y);
+    powers::reciprocals(&x);
+}
+
+#[test]
+fn lists_in_parts() {
+    let first = [fraction(1, 2), fraction(1, 3)];
+    let second = [fraction(1, 6), fraction(-2, 1)];
+    folds::sums(&fraction(5, 6), &first, &second);
+    folds::products(&fraction(1, 6), &first, &second);
+    let turned = [fraction(1, 3), fraction(1, 2)];
+    folds::sums(&fraction(5, 6), &first, &turned);
+    folds::products(&fraction(1, 6), &first, &turned);
+}
+
+#[test]
+fn many_products() {
+    let first = [
+        fraction(i64::MAX, 2),
+        fraction(100, 3),
+        fraction(2, i64::MAX),
+    ];
+    let turned = [
+        fraction(100, 3),
+        fraction(2, i64::MAX),
+        fraction(i64::MAX, 2),
+    ];
+    let divisors = [fraction(5, 3), fraction(20, 1)];
+    let others = [fraction(20, 1), fraction(5, 3)];
+    many_products::products(&fraction(100, 3), &first, &turned);
+    many_products::quotients(&Reduced::one(), &first, &divisors, &turned, &others);
+}
+
+#[test]
+fn nearest_fractions() {
+    nearest::bounds(&fraction(355, 113));
+}
+
+#[test]
+fn equal_fractions() {
+    let (x, y) = (Ratio::new_raw(2i64, 4), Ratio::new_raw(-6i64, 9));
+    let (u, v) = (Ratio::new_raw(1i64, 2), Ratio::new_raw(-2i64, 3));
+    values::products(&x, &y, &u, &v);
+    values::sums(&x, &y, &u, &v);
+    values::nearest(&y, &v);
+}
+
+#[test]
+fn whole_numbers_near() {
+    let (x, y) = (fraction(-7, 2), fraction(2, 3));
+    rounding::orders(&x, &y);
+    rounding::distances(&x);
+    rounding::distances(&fraction(i64::MIN, 1));
+    rounding::sums(&x, &fraction(9, 1));
+    rounding::negatives(&x);
+    remainder::parts(&x, &y);
+}
+
+#[test]
+fn divisors_and_multiples() {
+    let (x, y) = (fraction(1, 4), fraction(-1, 6));
+    divisors::greatest(&x, &y);
+    divisors::least(&x, &y);
+    divisors::products(&x, &y);
+}
+
+#[test]
+fn texts_read_back() {
+    reading::base_ten(&fraction(i64::MIN, 3));
+    reading::in_base(&fraction(15, 16));
+    reading::in_base(&fraction(-1, 2));
+    reading::exact_decimal(&fraction(99, 8));
+    reading::rounded_decimal(&fraction(2, 3));
+}
+
+#[test]
+fn sums_products_and_parts() {
+    let (x, y) = (fraction(-7, 2), fraction(i64::MAX, 3));
+    let z = Reduced64::one();
+    reduced::sums(&x, &y, &z);
+    reduced::products(&x, &y, &z);
+    reduced::powers(&x);
+    reduced::parts(&x);
+    reduced::continued_fractions(&x);
+    reduced::orders(&x, &y);
+    reduced::hashes(&x, &y);
+    told_apart();
+}

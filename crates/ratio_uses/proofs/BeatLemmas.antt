@@ -150,7 +150,7 @@ starts a b a_above b_above a_up b_up = record { first_above = a_above; second_ab
 
 -- ---- what fits
 
-number_held : (z : ℤ) → SFits w64 z → IsHeld (negsuc (2 ^ 63 - 1)) (pos (2 ^ 63 - 1)) z
+pub number_held : (z : ℤ) → SFits w64 z → IsHeld (negsuc (2 ^ 63 - 1)) (pos (2 ^ 63 - 1)) z
 number_held (pos n) fits = let small = fits.sfits in record { above = omega (arith, ints); below = omega (arith, ints) }
 number_held (negsuc n) fits = let small = fits.sfits in record { above = omega (arith, ints); below = omega (arith, ints) }
 

@@ -1,321 +1,283 @@
--- Rounded running sums in 1/units. Their differences are the split of the amount's count.
-use Rattle.std.specs.Prelude.{◌≡◌, ◌≢◌, ◌+◌, ◌-◌, ◌^◌, ◌<◌, ◌≤ℤ◌, ◌<ℤ◌, ◌-ℤ◌, ◌*ℤ◌, ℕ, ℤ, pos, negsuc, List, length, slice_index_or, take, IsSome, None, Option, Some}
-use Rattle.std.proofs.Common.{refl, sym, ap, subst, ◌∙◌, arith, get_or}
+-- Rounded running sums in units. Their differences are the split of the amount's count.
+use Rattle.std.specs.Prelude.{◌≡◌, ◌≢◌, ◌⊎◌, ◌+◌, ◌-◌, ◌^◌, ◌<◌, ◌≤ℤ◌, ◌<ℤ◌, ◌-ℤ◌, ◌*ℤ◌, ℕ, ℤ, pos, negsuc, List, length, slice_index_or, take, IsSome, None, Option, Some}
+use Rattle.std.proofs.Common.{refl, sym, ap, subst, ◌∙◌, arith, inl, inr, get_or}
 use Rattle.std.proofs.Math.ListN.{set}
 use Rattle.std.proofs.lemmas.Int.{ints}
 use Rattle.std.proofs.lemmas.List.{get_or-set_other, get_or-set_same, length-replicate, length-set}
 use borrow.Author.Count.{below_more}
 use lib.IntN.{*ℤ_comm, zero-*ℤ}
 use lib.ListN.{replicate}
-use Rattle.ratio_integer.specs.Arithmetic.{difference_of, sum_of}
+use mir.Syntax.{w128, w64}
+use mir.Val.{SFits}
+use Rattle.ratio_integer.specs.Arithmetic.{sum_of}
 use Rattle.ratio_integer.specs.Division.{IsMultiple}
-use Rattle.ratio_integer.specs.Fraction.{IsHeldLowest, IsLowestTerms, IsLowestTermsOf, SameValue}
+use Rattle.ratio_integer.specs.Fraction.{Fits, IsHeldLowest, IsLowestTerms, IsLowestTermsOf, SameValue}
+use Rattle.ratio_integer.specs.Range.{Checks, IsHeld}
 use Rattle.ratio_integer.proofs.CommonDivisors.{divides_multiple}
 use Rattle.ratio_integer.proofs.CrossCancelling.{denom_divides}
-use Rattle.ratio_integer.proofs.LowestTerms.{held_lowest_moved, lowest_moved, lowest_own, over_one, same_value_products}
-use Rattle.ratio_integer.proofs.Whole.{mul_assoc, mul_positive, mul-swap_inner, mul-swap_last, positive_nonzero, sub-mul}
+use Rattle.ratio_integer.proofs.LowestTerms.{lowest_moved, lowest_unique}
+use Rattle.ratio_integer.proofs.Whole.{mul_assoc, mul_positive, positive_factor, positive_nonzero}
 use Rattle.ratio_core.specs.Rounding.{IsRounded}
-use Rattle.ratio_core.proofs.RoundingLawLemmas.{one_rounded, same_rounded}
+use Rattle.ratio_core.proofs.ProductOrder.{down_times, times_le, up_times}
+use Rattle.ratio_core.proofs.RoundingLawLemmas.{one_rounded}
 use Rattle.ratio_core.proofs.SumLemmas.{fits_by}
+use Rattle.ratio_decimal.specs.Products.{ChecksRoundedWhole}
+use Rattle.ratio_decimal.specs.declared.rounding_rule.Rounding.TheVariants.{HalfAway}
 use Rattle.num_rational.specs.declared.reduced.Reduced.{Reduced}
-use Rattle.num_rational.specs.Split.{IsRoundedShare, NoShareIsBelowZero, SharesMakeOne, total_of_shares}
-use Rattle.num_rational.proofs.SplitLemmas.{IsSplitSoFar, first_mark, fits_moved, next_same, split_more, split_none, split_whole, times-one, total_next}
-use Rattle.ratio_uses.specs.Cents.{ChecksNextPart, IsCount, IsRoundedCount, IsSplitTo, IsStep, PartFits, RefusesSplitTo, StepFits, StepsRefuse, times}
+use Rattle.num_rational.specs.Ratio.{ChecksRatio, denominator, numerator}
+use Rattle.num_rational.specs.Reduced.{ChecksCast, ratio_in}
+use Rattle.num_rational.specs.Split.{IsRoundedShare, NoShareIsBelowZero, RefusesShares, SharesMakeOne, SumsRefuse, total_of_shares}
+use Rattle.num_rational.specs.declared.splitting.SplitRefusal.{SplitRefusal}
+use Rattle.num_rational.specs.declared.splitting.SplitRefusal.TheVariants.{BelowZero, Length, NotHeld, NotOne}
+use Rattle.num_rational.proofs.SplitLemmas.{IsSplitSoFar, first_mark, fits_moved, last_mark, next_same, rounded_moved, split_more, split_none, split_whole, times-one, total_next}
+use Rattle.num_rational.proofs.WeightLemmas.{mark_computed}
+use Rattle.ratio_uses.specs.Cents.{ChecksCount, ChecksNextPart, HeldIn128, IsCount, IsCountSplit, IsStep, PartFits}
 use Rattle.ratio_uses.specs.Held.{FitsIn64}
-use Rattle.ratio_uses.specs.declared.ledger.Refusal.{Refusal}
-use Rattle.ratio_uses.specs.declared.ledger.Refusal.TheVariants.{BelowZero, Length, NotHeld, NotMultiple, NotOne}
+use Rattle.ratio_uses.proofs.BeatLemmas.{number_held}
 
--- ---- whether the amount is a multiple
+-- ---- the count of an amount
 
 -- a/b in lowest terms is a multiple of 1/u exactly if b divides u
 pub multiple_told : (u : ℤ) (a : ℤ × ℤ) → pos 0 <ℤ u → IsLowestTerms a.0 a.1 → ((count : ℤ) × IsCount u a count) → IsMultiple u a.1
 multiple_told u a u_up low (count, same) = divides_multiple u a.1 (denom_divides count u a.0 a.1 (record { fraction = positive_nonzero u u_up; same = same; lowest = low }))
 
-pub multiple_counted : (u : ℤ) (a : ℤ × ℤ) → IsMultiple u a.1 → (count : ℤ) × IsCount u a count
-multiple_counted u a (k, e) = (a.0 *ℤ k, mul_assoc a.0 k a.1 ∙ ap (λ (z : ℤ). a.0 *ℤ z) (sym e))
+pub multiple_counted : (u q : ℤ) (a : ℤ × ℤ) → u ≡ q *ℤ a.1 → IsCount u a (a.0 *ℤ q)
+multiple_counted u q a e = mul_assoc a.0 q a.1 ∙ ap (λ (z : ℤ). a.0 *ℤ z) (sym e)
 
--- ---- the same values have the same counts
+-- ---- products of numbers of 64 bits fit in 128
 
-scaled_same : (n d m e u : ℤ) → SameValue n d m e → SameValue (n *ℤ u) d (m *ℤ u) e
-scaled_same n d m e u same = mul-swap_last n u e ∙ sym (mul_assoc n e u) ∙ ap (λ (z : ℤ). z *ℤ u) same ∙ mul_assoc m d u ∙ sym (mul-swap_last m u d)
+abbrev HeldIn64 : ℤ → Type 0
+HeldIn64 z = IsHeld (negsuc (2 ^ 63 - 1)) (pos (2 ^ 63 - 1)) z
 
-module _ (u : ℤ) (a : ℤ × ℤ) (a_up : pos 0 <ℤ a.1) where
-  pub times_up : (x : ℤ × ℤ) → pos 0 <ℤ x.1 → pos 0 <ℤ (times a x).1
-  times_up x up = mul_positive x.1 a.1 up a_up
+either_sign : (a : ℤ) → (pos 0 ≤ℤ a) ⊎ (a ≤ℤ pos 0)
+either_sign a = grind (arith, ints)
 
-  times_same : (x y : ℤ × ℤ) → SameValue x.0 x.1 y.0 y.1 → SameValue (times a x).0 (times a x).1 (times a y).0 (times a y).1
-  times_same x y same = same_value_products x.0 x.1 a.0 a.1 y.0 y.1 a.0 a.1 same refl
+pub wide_product : (a u : ℤ) → HeldIn64 a → pos 0 ≤ℤ u → u ≤ℤ pos (2 ^ 63 - 1) → HeldIn128 (a *ℤ u)
+wide_product a u held u_up u_below =
+    let low = times_le (negsuc (2 ^ 63 - 1)) a u held.above u_up in
+    let high = times_le a (pos (2 ^ 63 - 1)) u held.below u_up in
+    let least = times_le u (pos (2 ^ 63 - 1)) (pos (2 ^ 63)) u_below (omega (arith, ints)) in
+    let turned = *ℤ_comm (negsuc (2 ^ 63 - 1)) u in
+    let other = *ℤ_comm (pos (2 ^ 63 - 1)) u in
+    record { above = omega (arith, ints); below = omega (arith, ints) }
 
-  pub times_fit_moved : (x y : ℤ × ℤ) → pos 0 <ℤ y.1 → SameValue y.0 y.1 x.0 x.1 → FitsIn64 (times a x) → FitsIn64 (times a y)
-  times_fit_moved x y up same fits = fits_moved _ _ (times a x) (times a y) (positive_nonzero (times a y).1 (times_up y up)) (times_same y x same) fits
+pub wide_fits : (z : ℤ) → SFits w64 z → SFits w128 z
+wide_fits (pos n) fits = let small = fits.sfits in record { sfits = omega (arith, ints) }
+wide_fits (negsuc n) fits = let small = fits.sfits in record { sfits = omega (arith, ints) }
 
-  pub count_moved : (x y : ℤ × ℤ) (z : ℤ) → pos 0 <ℤ x.1 → pos 0 <ℤ y.1 → SameValue x.0 x.1 y.0 y.1 → IsRoundedCount u a x z → IsRoundedCount u a y z
-  count_moved x y z x_up y_up same is =
-      same_rounded ((times a x).0 *ℤ u) (times a x).1 ((times a y).0 *ℤ u) (times a y).1 z (times_up x x_up) (times_up y y_up)
-      (scaled_same (times a x).0 (times a x).1 (times a y).0 (times a y).1 u (times_same x y same)) is
+pub held_fits : (z : ℤ) → HeldIn128 z → SFits w128 z
+held_fits (pos n) held = let below = held.below in record { sfits = omega (arith, ints) }
+held_fits (negsuc n) held = let above = held.above in record { sfits = omega (arith, ints) }
 
-  one_count : (x : ℤ × ℤ) (y z : ℤ) → pos 0 <ℤ x.1 → IsRoundedCount u a x y → IsRoundedCount u a x z → y ≡ z
-  one_count x y z up first second = one_rounded ((times a x).0 *ℤ u) (times a x).1 y z (times_up x up) first second
+-- the count of a multiple, as it is computed
+pub count_told : (u : ℤ) (a : ℤ × ℤ) (r : Option ℤ) → IsMultiple u a.1 → SFits w64 u → HeldIn64 a.0 → pos 0 <ℤ u → pos 0 <ℤ a.1 → ChecksRoundedWhole (λ n. n) (negsuc (2 ^ 127 - 1)) (pos (2 ^ 127 - 1)) HalfAway (a.0 *ℤ u, a.1 *ℤ pos 1) r → ChecksCount u a r
+count_told u a r (k, e) unit held up positive (z, is, checks) = told r checks
+  where
+    whole : a.0 *ℤ u ≡ (a.0 *ℤ k) *ℤ a.1
+    whole = ap (λ (n : ℤ). a.0 *ℤ n) e ∙ sym (mul_assoc a.0 k a.1)
 
-  -- the count of x is the rounded product of the amount's count and x
-  crossed : (count : ℤ) (x : ℤ × ℤ) → IsCount u a count → SameValue ((times a x).0 *ℤ u) (times a x).1 (count *ℤ x.0) x.1
-  crossed count x whole =
-      ap (λ (z : ℤ). z *ℤ x.1) (mul_assoc x.0 a.0 u ∙ ap (λ (z : ℤ). x.0 *ℤ z) (sym whole) ∙ sym (mul_assoc x.0 count a.1) ∙ ap (λ (z : ℤ). z *ℤ a.1) (*ℤ_comm x.0 count))
-      ∙ mul-swap_last (count *ℤ x.0) a.1 x.1
+    z_is : z ≡ a.0 *ℤ k
+    z_is = last_mark (a.0 *ℤ k) a.1 z positive (subst (λ (n : ℤ). IsRounded n a.1 z) whole (subst (λ (d : ℤ). IsRounded (a.0 *ℤ u) d z) (times-one a.1) is))
 
-  pub mark_of_count : (count : ℤ) (x : ℤ × ℤ) (z : ℤ) → IsCount u a count → pos 0 <ℤ x.1 → IsRoundedCount u a x z → IsRoundedShare count x z
-  mark_of_count count x z whole up is = same_rounded ((times a x).0 *ℤ u) (times a x).1 (count *ℤ x.0) x.1 z (times_up x up) up (crossed count x whole) is
+    u_below : u ≤ℤ pos (2 ^ 63 - 1)
+    u_below = (number_held u unit).below
 
-  pub count_of_mark : (count : ℤ) (x : ℤ × ℤ) (z : ℤ) → IsCount u a count → pos 0 <ℤ x.1 → IsRoundedShare count x z → IsRoundedCount u a x z
-  count_of_mark count x z whole up is = same_rounded (count *ℤ x.0) x.1 ((times a x).0 *ℤ u) (times a x).1 z up (times_up x up) (sym (crossed count x whole)) is
+    k_up : pos 0 <ℤ k
+    k_up = positive_factor k a.1 positive (subst (λ (n : ℤ). pos 0 <ℤ n) e up)
 
-  -- nothing times the amount is 0
-  pub first_count : IsRoundedCount u a (pos 0, pos 1) (pos 0)
-  first_count = same_rounded (a.0 *ℤ pos 0) (pos 1) ((pos 0 *ℤ a.0) *ℤ u) (pos 1 *ℤ a.1) (pos 0) (omega (arith, ints)) (times_up (pos 0, pos 1) (omega (arith, ints))) zeros (first_mark a.0)
-    where
-      zeros : (a.0 *ℤ pos 0) *ℤ (pos 1 *ℤ a.1) ≡ ((pos 0 *ℤ a.0) *ℤ u) *ℤ pos 1
-      zeros = rw (*ℤ_comm a.0 (pos 0), zero-*ℤ a.0, zero-*ℤ (pos 1 *ℤ a.1), zero-*ℤ u, zero-*ℤ (pos 1)) refl
+    k_below : k ≤ℤ u
+    k_below = subst (λ (n : ℤ). k ≤ℤ n) (sym e) (up_times k a.1 (let h = k_up in omega (arith, ints)) positive)
 
--- differences of fractions of the same value have the same value
-differences_same : (n d m e x y : ℤ) → SameValue n d m e → SameValue (difference_of n d x y).0 (difference_of n d x y).1 (difference_of m e x y).0 (difference_of m e x y).1
-differences_same n d m e x y same =
-    sub-mul (n *ℤ y) (x *ℤ d) (e *ℤ y)
-    ∙ ap (λ (z : ℤ). z -ℤ (x *ℤ d) *ℤ (e *ℤ y)) (mul-swap_inner n y e y ∙ ap (λ (z : ℤ). z *ℤ (y *ℤ y)) same ∙ mul-swap_inner m d y y)
-    ∙ ap (λ (z : ℤ). (m *ℤ y) *ℤ (d *ℤ y) -ℤ z) (mul-swap_inner x d e y ∙ ap (λ (z : ℤ). z *ℤ (d *ℤ y)) refl)
-    ∙ sym (sub-mul (m *ℤ y) (x *ℤ e) (d *ℤ y))
+    wide : HeldIn128 (a.0 *ℤ k)
+    wide = wide_product a.0 k held (let h = k_up in omega (arith, ints)) (let h = k_below in let g = u_below in omega (arith, ints))
 
--- ---- one step, as it is computed from the lowest terms s of the sum x
+    told : (r : Option ℤ) → Checks (λ n. n) (negsuc (2 ^ 127 - 1)) (pos (2 ^ 127 - 1)) z r → ChecksCount u a r
+    told None out = absurd (out (subst HeldIn128 (sym z_is) wide))
+    told (Some y) is = subst (IsCount u a) (sym (is.1 ∙ z_is)) (multiple_counted u k a e)
 
-module _ (u : ℤ) (a x s mark : ℤ × ℤ) (a_up : pos 0 <ℤ a.1) (u_up : pos 0 <ℤ u) (x_up : pos 0 <ℤ x.1) (mark_up : pos 0 <ℤ mark.1) (low : IsLowestTermsOf x.0 x.1 s.0 s.1) where
-  pub product_out : ¬ (FitsIn64 (times a s)) → ¬ (StepFits u a x mark)
-  product_out out fits = out (times_fit_moved u a a_up x s low.lowest.positive (sym low.same) fits.product)
+-- w/u with lowest terms of 64 bits: so w is a number of 128 bits
+pub wide_part : (w u : ℤ) → pos 0 <ℤ u → u ≤ℤ pos (2 ^ 63 - 1) → FitsIn64 (w, u) → HeldIn128 w
+wide_part w u u_up u_below fits = by (either_sign w)
+  where
+    product : HeldIn128 (w *ℤ fits.denom)
+    product = subst HeldIn128 (sym fits.low.terms.same) (wide_product fits.numer u fits.low.numer_held (omega (arith, ints)) u_below)
 
-  module _ (p : ℤ × ℤ) (product : IsHeldLowest (negsuc (2 ^ 63 - 1)) (pos (2 ^ 63 - 1)) (times a s).0 (times a s).1 p.0 p.1) (z : ℤ) (is : IsRounded (p.0 *ℤ u) p.1 z) where
-    computed : IsHeldLowest (negsuc (2 ^ 63 - 1)) (pos (2 ^ 63 - 1)) (times a x).0 (times a x).1 p.0 p.1
-    computed = held_lowest_moved _ _ (times a s).0 (times a s).1 (times a x).0 (times a x).1 p.0 p.1
-        (positive_nonzero (times a x).1 (times_up u a a_up x x_up)) (times_same u a a_up x s low.same) product
+    by : (pos 0 ≤ℤ w) ⊎ (w ≤ℤ pos 0) → HeldIn128 w
+    by (inl up) = let more = up_times w fits.denom up fits.low.terms.lowest.positive in let below = product.below in record { above = omega (arith, ints); below = omega (arith, ints) }
+    by (inr down) = let less = down_times w fits.denom down fits.low.terms.lowest.positive in let above = product.above in record { above = omega (arith, ints); below = omega (arith, ints) }
 
-    pub rounded : IsRoundedCount u a x z
-    rounded = same_rounded (p.0 *ℤ u) p.1 ((times a x).0 *ℤ u) (times a x).1 z product.terms.lowest.positive (times_up u a a_up x x_up)
-        (scaled_same p.0 p.1 (times a x).0 (times a x).1 u (sym computed.terms.same)) is
+-- ---- a part of so many units
 
-    pub mark_out : ¬ (FitsIn64 (z, u)) → ¬ (StepFits u a x mark)
-    mark_out out fits = out (fits.rounded z rounded)
+held_wider : (z : ℤ) → HeldIn64 z → HeldIn128 z
+held_wider z held = let low = held.above in let high = held.below in record { above = omega (arith, ints); below = omega (arith, ints) }
 
-    module _ (m : ℤ × ℤ) (marked : IsHeldLowest (negsuc (2 ^ 63 - 1)) (pos (2 ^ 63 - 1)) z u m.0 m.1) where
-      less_same : SameValue (difference_of m.0 m.1 mark.0 mark.1).0 (difference_of m.0 m.1 mark.0 mark.1).1 (difference_of z u mark.0 mark.1).0 (difference_of z u mark.0 mark.1).1
-      less_same = differences_same m.0 m.1 z u mark.0 mark.1 (sym marked.terms.same)
+pub fits_wider : (x : ℤ × ℤ) → FitsIn64 x → Fits (negsuc (2 ^ 127 - 1)) (pos (2 ^ 127 - 1)) x.0 x.1
+fits_wider x fits = record { numer = fits.numer; denom = fits.denom; low = record { terms = fits.low.terms; numer_held = held_wider fits.numer fits.low.numer_held; denom_held = held_wider fits.denom fits.low.denom_held } }
 
-      less_up : (d : ℤ) → pos 0 <ℤ d → (d *ℤ mark.1) ≢ pos 0
-      less_up d up = positive_nonzero (d *ℤ mark.1) (mul_positive d mark.1 up mark_up)
+pub cast_told : {T U : _} {i : _} {o : _} {e : _} {p : _} {h : _} {j : _} {o' : _} {e' : _} {p' : _} {h' : _} (x : ℤ × ℤ) (s : Reduced T i o e p h) (r : Option (Reduced U j o' e' p' h')) → IsLowestTermsOf x.0 x.1 (numerator s.ratio) (denominator s.ratio) → ChecksCast s r → ChecksRatio x (ratio_in r)
+cast_told x s None low out = λ fits.
+    let same = lowest_unique x.0 x.1 fits.numer fits.denom (numerator s.ratio) (denominator s.ratio) fits.low.terms low in
+    out (subst (IsHeld _ _) same.0 fits.low.numer_held, subst (IsHeld _ _) same.1 fits.low.denom_held)
+cast_told x s (Some r) low is = rw (is.2, is.3) (record { terms = low; numer_held = is.0; denom_held = is.1 })
 
-      pub part_out : ¬ (FitsIn64 (difference_of m.0 m.1 mark.0 mark.1)) → ¬ (StepFits u a x mark)
-      part_out out fits = out (fits_moved _ _ (difference_of z u mark.0 mark.1) (difference_of m.0 m.1 mark.0 mark.1) (less_up m.1 marked.terms.lowest.positive) less_same (fits.part z rounded))
+-- ---- one step
 
-      pub step_is : (r : ℤ × ℤ) → FitsIn64 x → IsHeldLowest (negsuc (2 ^ 63 - 1)) (pos (2 ^ 63 - 1)) (difference_of m.0 m.1 mark.0 mark.1).0 (difference_of m.0 m.1 mark.0 mark.1).1 r.0 r.1 → IsStep u a x mark s m r
-      step_is r fits part = record {
-        count = z;
-        value = low;
-        fits = fits;
-        product_fits = fits_by _ _ _ _ p.0 p.1 computed;
-        rounded = rounded;
-        next = marked;
-        part = held_lowest_moved _ _ _ _ (difference_of z u mark.0 mark.1).0 (difference_of z u mark.0 mark.1).1 r.0 r.1 (less_up u u_up) (sym less_same) part;
-      }
-
--- what fits has a result
-pub step_answered : {T : _} {i : _} {o : _} {e : _} {p : _} {h : _} (u : ℤ) (a x mark : ℤ × ℤ) (r : Option (Reduced T i o e p h × Reduced T i o e p h × Reduced T i o e p h)) → StepFits u a x mark → ChecksNextPart u a x mark r → IsSome r
-step_answered u a x mark None fits out = absurd (out fits)
-step_answered u a x mark (Some r) fits is = refl
-
--- ---- a step's conditions, from the sums of the shares: x has the value of `after`, and the mark is y/u
-
-module _ (u : ℤ) (a before after x mark : ℤ × ℤ) (y : ℤ) (a_up : pos 0 <ℤ a.1) (u_up : pos 0 <ℤ u) (before_up : pos 0 <ℤ before.1) (after_up : pos 0 <ℤ after.1) (x_up : pos 0 <ℤ x.1) (same : SameValue after.0 after.1 x.0 x.1) (is : IsRoundedCount u a before y) (terms : IsLowestTermsOf y u mark.0 mark.1) where
-  less_count : (z : ℤ) → SameValue (z -ℤ y) u (difference_of z u mark.0 mark.1).0 (difference_of z u mark.0 mark.1).1
-  less_count z =
-      sym (mul-swap_last (z -ℤ y) mark.1 u)
-      ∙ ap (λ (w : ℤ). w *ℤ u) (sub-mul z y mark.1 ∙ ap (λ (w : ℤ). z *ℤ mark.1 -ℤ w) terms.same)
-
-  pub step_of_part : PartFits u a before after → StepFits u a x mark
-  step_of_part fits = record {
-    sum = fits_moved _ _ after x (positive_nonzero x.1 x_up) (sym same) fits.sum;
-    product = times_fit_moved u a a_up after x x_up (sym same) fits.product;
-    rounded = λ z k. fits.rounded z (count_moved u a a_up x after z x_up after_up (sym same) k);
-    part = λ z k. fits_moved _ _ (z -ℤ y, u) (difference_of z u mark.0 mark.1)
-        (positive_nonzero (u *ℤ mark.1) (mul_positive u mark.1 u_up terms.lowest.positive)) (sym (less_count z))
-        (fits.part y z is (count_moved u a a_up x after z x_up after_up (sym same) k));
+module _ (u c last : ℤ) (x y : ℤ × ℤ) (x_up : pos 0 <ℤ x.1) (y_up : pos 0 <ℤ y.1) (same : SameValue y.0 y.1 x.0 x.1) where
+  pub part_moved : PartFits u c last x → PartFits u c last y
+  part_moved fits = record {
+    sum = fits_moved _ _ x y (positive_nonzero y.1 y_up) same fits.sum;
+    mark = fits.mark;
+    is = rounded_moved c x y x_up y_up same fits.mark fits.is;
+    held = fits.held;
+    part = fits.part;
   }
 
-  module _ (s next part : ℤ × ℤ) (step : IsStep u a x mark s next part) where
-    pub counted : IsRoundedCount u a after step.count
-    counted = count_moved u a a_up x after step.count x_up after_up (sym same) step.rounded
+  pub step_moved : (s : ℤ × ℤ) (mark : ℤ) (part : ℤ × ℤ) → IsStep u c last x s mark part → IsStep u c last y s mark part
+  step_moved s mark part step = record {
+    value = lowest_moved x.0 x.1 y.0 y.1 s.0 s.1 (positive_nonzero y.1 y_up) same step.value;
+    fits = fits_moved _ _ x y (positive_nonzero y.1 y_up) same step.fits;
+    rounded = rounded_moved c x y x_up y_up same mark step.rounded;
+    held = step.held;
+    terms = step.terms;
+  }
 
-    pub value_moved : IsLowestTermsOf after.0 after.1 s.0 s.1
-    value_moved = lowest_moved x.0 x.1 after.0 after.1 s.0 s.1 (positive_nonzero after.1 after_up) same step.value
+pub part_of_step : (u c last : ℤ) (x s : ℤ × ℤ) (mark : ℤ) (part : ℤ × ℤ) → IsStep u c last x s mark part → PartFits u c last x
+part_of_step u c last x s mark part step = record { sum = step.fits; mark = mark; is = step.rounded; held = step.held; part = fits_by _ _ _ _ part.0 part.1 step.terms }
 
-    pub part_terms : IsLowestTermsOf (step.count -ℤ y) u part.0 part.1
-    part_terms = lowest_moved (difference_of step.count u mark.0 mark.1).0 (difference_of step.count u mark.0 mark.1).1 (step.count -ℤ y) u part.0 part.1
-        (positive_nonzero u u_up) (less_count step.count) step.part.terms
+-- the mark of the sum x, as it is computed from the sum's lowest terms s
+pub step_rounded : (c : ℤ) (x s : ℤ × ℤ) (z : ℤ) → pos 0 <ℤ x.1 → IsLowestTermsOf x.0 x.1 s.0 s.1 → IsRounded (c *ℤ s.0) (pos 1 *ℤ s.1) z → IsRoundedShare c x z
+step_rounded c x s z up low is = rounded_moved c s x low.lowest.positive up low.same z (mark_computed c s.0 (pos 1) s.1 s.0 s.1 z refl refl refl is)
 
-    pub part_of_step : PartFits u a before after
-    part_of_step = record {
-      sum = fits_moved _ _ x after (positive_nonzero after.1 after_up) same step.fits;
-      product = times_fit_moved u a a_up x after after_up same step.product_fits;
-      rounded = λ z k. subst (λ w. FitsIn64 (w, u)) (one_count u a a_up after step.count z after_up counted k) (fits_by _ _ _ _ next.0 next.1 step.next);
-      part = λ w z first second.
-          subst (λ v. FitsIn64 (v -ℤ w, u)) (one_count u a a_up after step.count z after_up counted second)
-          (subst (λ v. FitsIn64 (step.count -ℤ v, u)) (one_count u a a_up before y w before_up is first)
-          (fits_moved _ _ (difference_of step.count u mark.0 mark.1) (step.count -ℤ y, u) (positive_nonzero u u_up) (less_count step.count) (fits_by _ _ _ _ part.0 part.1 step.part)));
-    }
+module _ (u c last : ℤ) (x : ℤ × ℤ) (z : ℤ) (up : pos 0 <ℤ x.1) (is : IsRoundedShare c x z) where
+  pub mark_out : ¬ (HeldIn128 z) → ¬ (PartFits u c last x)
+  mark_out out fits = out (subst HeldIn128 (one_rounded (c *ℤ x.0) x.1 fits.mark z up fits.is is) fits.held)
+
+  pub part_out : ¬ (FitsIn64 (z -ℤ last, u)) → ¬ (PartFits u c last x)
+  part_out out fits = out (subst (λ m. FitsIn64 (m -ℤ last, u)) (one_rounded (c *ℤ x.0) x.1 fits.mark z up fits.is is) fits.part)
+
+pub step_is : (u c last : ℤ) (x s : ℤ × ℤ) (z mark : ℤ) (part : ℤ × ℤ) → IsHeldLowest (negsuc (2 ^ 63 - 1)) (pos (2 ^ 63 - 1)) x.0 x.1 s.0 s.1 → IsRoundedShare c x z → HeldIn128 z × (mark ≡ z) → IsHeldLowest (negsuc (2 ^ 63 - 1)) (pos (2 ^ 63 - 1)) (mark -ℤ last) u part.0 part.1 → IsStep u c last x s mark part
+step_is u c last x s z mark part low is checks terms = record {
+  value = low.terms;
+  fits = fits_by _ _ _ _ s.0 s.1 low;
+  rounded = subst (IsRoundedShare c x) (sym checks.1) is;
+  held = subst HeldIn128 (sym checks.1) checks.0;
+  terms = terms;
+}
+
+-- what fits has a result
+pub step_answered : {T : _} {i : _} {o : _} {e : _} {p : _} {h : _} (u c last : ℤ) (x : ℤ × ℤ) (r : Option (Reduced T i o e p h × ℤ × Reduced T i o e p h)) → PartFits u c last x → ChecksNextPart u c last x r → IsSome r
+step_answered u c last x None fits out = absurd (out fits)
+step_answered u c last x (Some r) fits is = refl
 
 -- ---- the sums of a list of shares
 
--- The sum of the first k shares, in lowest terms, and the amount times it, rounded to a multiple of 1/u
-pub record IsMarkedSoFar {A : Type 0} (view : A → ℤ × ℤ) (u : ℤ) (a : ℤ × ℤ) (shares : List A) (k : ℕ) (sum mark : ℤ × ℤ) : Type 0 where
-  pub count : ℤ
+-- The sum of the first k shares, and its mark
+pub record IsMarkedSoFar {A : Type 0} (view : A → ℤ × ℤ) (c : ℤ) (shares : List A) (k : ℕ) (sum : ℤ × ℤ) (mark : ℤ) : Type 0 where
   pub same : SameValue (total_of_shares view (take k shares)).0 (total_of_shares view (take k shares)).1 sum.0 sum.1
   pub up : pos 0 <ℤ (total_of_shares view (take k shares)).1
-  pub rounded : IsRoundedCount u a (total_of_shares view (take k shares)) count
-  pub terms : IsLowestTermsOf count u mark.0 mark.1
+  pub rounded : IsRoundedShare c (total_of_shares view (take k shares)) mark
 
--- The parts of the first k shares are written. They are the split of the amount's count so far, in 1/u
-pub record IsCentsSoFar {A : Type 0} (view : A → ℤ × ℤ) (u : ℤ) (a : ℤ × ℤ) (shares parts : List A) (k : ℕ) (sum mark : ℤ × ℤ) : Type 0 where
-  pub count : ℤ
+-- The parts of the first k shares are written. They are the split of the count so far, in units
+pub record IsCentsSoFar {A : Type 0} (view : A → ℤ × ℤ) (u c : ℤ) (shares parts : List A) (k : ℕ) (sum : ℤ × ℤ) (mark : ℤ) : Type 0 where
   pub counts : List ℤ
-  pub last : ℤ
-  pub whole : IsCount u a count
-  pub split : IsSplitSoFar view (λ c. c) count shares counts k sum last
-  pub terms : IsLowestTermsOf last u mark.0 mark.1
+  pub split : IsSplitSoFar view (λ n. n) c shares counts k sum mark
   pub as_many : length counts ≡ length parts
-  pub each : (j : ℕ) → j < k → (c : ℤ) (part : A) →
-      IsLowestTermsOf (slice_index_or counts j c) u (view (slice_index_or parts j part)).0 (view (slice_index_or parts j part)).1
+  pub each : (j : ℕ) → j < k → (n : ℤ) (part : A) →
+      IsLowestTermsOf (slice_index_or counts j n) u (view (slice_index_or parts j part)).0 (view (slice_index_or parts j part)).1
 
-zero_terms : (u : ℤ) (x : ℤ × ℤ) → pos 0 <ℤ u → x.0 ≡ pos 0 → x.1 ≡ pos 1 → IsLowestTermsOf (pos 0) u x.0 x.1
-zero_terms u x up numer denom = rw (numer, denom) (record {
-  fraction = positive_nonzero u up;
-  same = zero-*ℤ (pos 1) ∙ sym (zero-*ℤ u);
-  lowest = over_one (pos 0) (pos 1) refl;
-})
-
-module _ {A : Type 0} (view : A → ℤ × ℤ) (u : ℤ) (a : ℤ × ℤ) (shares : List A) (u_up : pos 0 <ℤ u) (a_up : pos 0 <ℤ a.1) where
-  pub marked_none : (sum mark : ℤ × ℤ) → sum.0 ≡ pos 0 → sum.1 ≡ pos 1 → mark.0 ≡ pos 0 → mark.1 ≡ pos 1 → IsMarkedSoFar view u a shares 0 sum mark
-  marked_none sum mark numer denom mark_numer mark_denom = record {
-    count = pos 0;
+module _ {A : Type 0} (view : A → ℤ × ℤ) (u c : ℤ) (shares : List A) where
+  pub marked_none : (sum : ℤ × ℤ) → sum.0 ≡ pos 0 → IsMarkedSoFar view c shares 0 sum (pos 0)
+  marked_none sum numer = record {
     same = zero-*ℤ sum.1 ∙ sym (times-one (pos 0)) ∙ ap (λ (z : ℤ). z *ℤ pos 1) (sym numer);
     up = omega (arith, ints);
-    rounded = first_count u a a_up;
-    terms = zero_terms u mark u_up mark_numer mark_denom;
+    rounded = first_mark c;
   }
 
-  pub cents_none : (parts : List A) (sum mark : ℤ × ℤ) → sum.0 ≡ pos 0 → sum.1 ≡ pos 1 → mark.0 ≡ pos 0 → mark.1 ≡ pos 1 → ((count : ℤ) × IsCount u a count) → IsCentsSoFar view u a shares parts 0 sum mark
-  cents_none parts sum mark numer denom mark_numer mark_denom (count, whole) = record {
-    count = count;
+  pub cents_none : (parts : List A) (sum : ℤ × ℤ) → sum.0 ≡ pos 0 → IsCentsSoFar view u c shares parts 0 sum (pos 0)
+  cents_none parts sum numer = record {
     counts = replicate (length parts) (pos 0);
-    last = pos 0;
-    whole = whole;
-    split = split_none view (λ c. c) count shares (replicate (length parts) (pos 0)) sum (pos 0) numer refl;
-    terms = zero_terms u mark u_up mark_numer mark_denom;
+    split = split_none view (λ n. n) c shares (replicate (length parts) (pos 0)) sum (pos 0) numer refl;
     as_many = length-replicate (length parts) (pos 0);
     each = λ j below. absurd (omega arith);
   }
 
-  abbrev pub marked : (parts : List A) (k : ℕ) (sum mark : ℤ × ℤ) → IsCentsSoFar view u a shares parts k sum mark → IsMarkedSoFar view u a shares k sum mark
-  marked parts k sum mark is = record {
-    count = is.last;
-    same = is.split.same;
-    up = is.split.up;
-    rounded = count_of_mark u a a_up is.count (total_of_shares view (take k shares)) is.last is.whole is.split.up is.split.rounded;
-    terms = is.terms;
-  }
+  abbrev pub marked : (parts : List A) (k : ℕ) (sum : ℤ × ℤ) (mark : ℤ) → IsCentsSoFar view u c shares parts k sum mark → IsMarkedSoFar view c shares k sum mark
+  marked parts k sum mark is = record { same = is.split.same; up = is.split.up; rounded = is.split.rounded }
 
-  module _ (k : ℕ) (sum mark : ℤ × ℤ) (share : A) (below : k < length shares) (share_is : share ≡ get_or shares k share) (sum_up : pos 0 <ℤ sum.1) (share_up : pos 0 <ℤ (view share).1) where
+  module _ (k : ℕ) (sum : ℤ × ℤ) (last : ℤ) (share : A) (below : k < length shares) (share_is : share ≡ get_or shares k share) (sum_up : pos 0 <ℤ sum.1) (share_up : pos 0 <ℤ (view share).1) where
+    abbrev before : ℤ × ℤ
+    before = total_of_shares view (take k shares)
+
     abbrev x : ℤ × ℤ
     x = sum_of sum.0 sum.1 (view share).0 (view share).1
 
     abbrev after : ℤ × ℤ
-    after = sum_of (total_of_shares view (take k shares)).0 (total_of_shares view (take k shares)).1 (view share).0 (view share).1
+    after = sum_of before.0 before.1 (view share).0 (view share).1
 
     next : total_of_shares view (take (k + 1) shares) ≡ after
     next = total_next view shares k share below share_is
 
-    module _ (so_far : IsMarkedSoFar view u a shares k sum mark) where
+    x_up : pos 0 <ℤ x.1
+    x_up = mul_positive _ _ sum_up share_up
+
+    module _ (so_far : IsMarkedSoFar view c shares k sum last) where
       after_up : pos 0 <ℤ after.1
       after_up = mul_positive _ _ so_far.up share_up
 
-      x_up : pos 0 <ℤ x.1
-      x_up = mul_positive _ _ sum_up share_up
-
       same : SameValue after.0 after.1 x.0 x.1
-      same = next_same (total_of_shares view (take k shares)) sum (view share) so_far.same
+      same = next_same before sum (view share) so_far.same
 
-      pub step_fits : PartFits u a (total_of_shares view (take k shares)) (total_of_shares view (take (k + 1) shares)) → StepFits u a x mark
-      step_fits fits = step_of_part u a (total_of_shares view (take k shares)) after x mark so_far.count a_up u_up so_far.up after_up x_up same so_far.rounded so_far.terms
-          (subst (PartFits u a (total_of_shares view (take k shares))) next fits)
+      pub step_fits : ((l : ℤ) → IsRoundedShare c before l → PartFits u c l (total_of_shares view (take (k + 1) shares))) → PartFits u c last x
+      step_fits fits = part_moved u c last after x after_up x_up (sym same) (subst (PartFits u c last) next (fits last so_far.rounded))
 
-      module _ (s next_mark part : ℤ × ℤ) (step : IsStep u a x mark s next_mark part) where
-        pub part_fits : PartFits u a (total_of_shares view (take k shares)) (total_of_shares view (take (k + 1) shares))
-        part_fits = subst (PartFits u a (total_of_shares view (take k shares))) (sym next)
-            (part_of_step u a (total_of_shares view (take k shares)) after x mark so_far.count a_up u_up so_far.up after_up x_up same so_far.rounded so_far.terms s next_mark part step)
+      module _ (s : ℤ × ℤ) (mark : ℤ) (part : ℤ × ℤ) (step : IsStep u c last x s mark part) where
+        moved : IsStep u c last after s mark part
+        moved = step_moved u c last x after x_up after_up same s mark part step
 
-        step_counted : IsRoundedCount u a after step.count
-        step_counted = counted u a (total_of_shares view (take k shares)) after x mark so_far.count a_up u_up so_far.up after_up x_up same so_far.rounded so_far.terms s next_mark part step
+        pub part_fits : (l : ℤ) → IsRoundedShare c before l → PartFits u c l (total_of_shares view (take (k + 1) shares))
+        part_fits l is =
+            subst (λ m. PartFits u c m (total_of_shares view (take (k + 1) shares))) (one_rounded (c *ℤ before.0) before.1 last l so_far.up so_far.rounded is)
+            (subst (PartFits u c last) (sym next) (part_of_step u c last after s mark part moved))
 
-        step_value : IsLowestTermsOf after.0 after.1 s.0 s.1
-        step_value = value_moved u a (total_of_shares view (take k shares)) after x mark so_far.count a_up u_up so_far.up after_up x_up same so_far.rounded so_far.terms s next_mark part step
-
-        step_part : IsLowestTermsOf (step.count -ℤ so_far.count) u part.0 part.1
-        step_part = part_terms u a (total_of_shares view (take k shares)) after x mark so_far.count a_up u_up so_far.up after_up x_up same so_far.rounded so_far.terms s next_mark part step
-
-        pub marked_more : IsMarkedSoFar view u a shares (k + 1) s next_mark
+        pub marked_more : IsMarkedSoFar view c shares (k + 1) s mark
         marked_more = record {
-          count = step.count;
-          same = subst (λ t. SameValue t.0 t.1 s.0 s.1) (sym next) step_value.same;
+          same = subst (λ t. SameValue t.0 t.1 s.0 s.1) (sym next) moved.value.same;
           up = subst (λ t. pos 0 <ℤ t.1) (sym next) after_up;
-          rounded = subst (λ t. IsRoundedCount u a t step.count) (sym next) step_counted;
-          terms = step.next.terms;
+          rounded = subst (λ t. IsRoundedShare c t mark) (sym next) moved.rounded;
         }
 
-    module _ (parts : List A) (room : k < length parts) (so_far : IsCentsSoFar view u a shares parts k sum mark) (share_above : pos 0 ≤ℤ (view share).0) (s next_mark : ℤ × ℤ) (part : A) (step : IsStep u a x mark s next_mark (view part)) where
-      abbrev so_marked : IsMarkedSoFar view u a shares k sum mark
-      so_marked = marked parts k sum mark so_far
+    module _ (parts : List A) (room : k < length parts) (so_far : IsCentsSoFar view u c shares parts k sum last) (share_above : pos 0 ≤ℤ (view share).0) (s : ℤ × ℤ) (mark : ℤ) (part : A) (step : IsStep u c last x s mark (view part)) where
+      here_moved : IsStep u c last after s mark (view part)
+      here_moved = moved (marked parts k sum last so_far) s mark (view part) step
 
-      kept : (j : ℕ) → j < k → (c : ℤ) (other : A) →
-          IsLowestTermsOf (slice_index_or (set so_far.counts k (step.count -ℤ so_far.last)) j c) u (view (slice_index_or (set parts k part) j other)).0 (view (slice_index_or (set parts k part) j other)).1
-      kept j less c other = let apart : j ≢ k = omega arith in rw get_or-set_other (rw get_or-set_other (so_far.each j less c other))
+      kept : (j : ℕ) → j < k → (n : ℤ) (other : A) →
+          IsLowestTermsOf (slice_index_or (set so_far.counts k (mark -ℤ last)) j n) u (view (slice_index_or (set parts k part) j other)).0 (view (slice_index_or (set parts k part) j other)).1
+      kept j less n other = let apart : j ≢ k = omega arith in rw get_or-set_other (rw get_or-set_other (so_far.each j less n other))
 
-      here : (c : ℤ) (other : A) →
-          IsLowestTermsOf (slice_index_or (set so_far.counts k (step.count -ℤ so_far.last)) k c) u (view (slice_index_or (set parts k part) k other)).0 (view (slice_index_or (set parts k part) k other)).1
-      here c other = let room_too : k < length so_far.counts = rw so_far.as_many room in rw get_or-set_same (rw get_or-set_same (step_part so_marked s next_mark (view part) step))
+      here : (n : ℤ) (other : A) →
+          IsLowestTermsOf (slice_index_or (set so_far.counts k (mark -ℤ last)) k n) u (view (slice_index_or (set parts k part) k other)).0 (view (slice_index_or (set parts k part) k other)).1
+      here n other = let room_too : k < length so_far.counts = rw so_far.as_many room in rw get_or-set_same (rw get_or-set_same step.terms.terms)
 
-      pub cents_more : IsCentsSoFar view u a shares (set parts k part) (k + 1) s next_mark
+      pub cents_more : IsCentsSoFar view u c shares (set parts k part) (k + 1) s mark
       cents_more = record {
-        count = so_far.count;
-        counts = set so_far.counts k (step.count -ℤ so_far.last);
-        last = step.count;
-        whole = so_far.whole;
-        split = split_more view (λ c. c) so_far.count shares so_far.counts k sum so_far.last share s step.count (step.count -ℤ so_far.last) below (rw so_far.as_many room) share_is so_far.split share_up share_above
-            (step_value so_marked s next_mark (view part) step).same
-            (mark_of_count u a a_up so_far.count after step.count so_far.whole (after_up so_marked) (step_counted so_marked s next_mark (view part) step)) refl;
-        terms = step.next.terms;
-        as_many = length-set so_far.counts k (step.count -ℤ so_far.last) ∙ so_far.as_many ∙ sym (length-set parts k part);
+        counts = set so_far.counts k (mark -ℤ last);
+        split = split_more view (λ n. n) c shares so_far.counts k sum last share s mark (mark -ℤ last) below (rw so_far.as_many room) share_is so_far.split share_up share_above here_moved.value.same here_moved.rounded refl;
+        as_many = length-set so_far.counts k (mark -ℤ last) ∙ so_far.as_many ∙ sym (length-set parts k part);
         each = below_more _ _ kept here;
       }
 
-  pub cents_whole : (parts : List A) (k : ℕ) (sum mark : ℤ × ℤ) → k ≡ length shares → length parts ≡ length shares → SharesMakeOne view shares → IsCentsSoFar view u a shares parts k sum mark → IsSplitTo view u a shares parts
+  pub cents_whole : (parts : List A) (k : ℕ) (sum : ℤ × ℤ) (mark : ℤ) → k ≡ length shares → length parts ≡ length shares → SharesMakeOne view shares → IsCentsSoFar view u c shares parts k sum mark → IsCountSplit view u c shares parts
   cents_whole parts k sum mark whole alike one so_far = record {
-    count = so_far.count;
     counts = so_far.counts;
-    whole = so_far.whole;
     as_many = so_far.as_many;
     each = λ j below. so_far.each j (omega arith);
-    split = split_whole view (λ c. c) so_far.count shares so_far.counts k sum so_far.last whole (so_far.as_many ∙ alike) one so_far.split;
+    split = split_whole view (λ n. n) c shares so_far.counts k sum mark whole (so_far.as_many ∙ alike) one so_far.split;
   }
 
 -- ---- refusals
 
-pub steps_refused : {A : Type 0} (view : A → ℤ × ℤ) (u : ℤ) (a : ℤ × ℤ) (shares : List A) (parts : ℕ) (why : Refusal) → parts ≡ length shares → NoShareIsBelowZero view shares → ((count : ℤ) × IsCount u a count) → StepsRefuse view u a shares why → RefusesSplitTo view u a shares parts why
-steps_refused view u a shares parts Length many none whole out = absurd out
-steps_refused view u a shares parts BelowZero many none whole out = absurd out
-steps_refused view u a shares parts NotMultiple many none whole out = absurd out
-steps_refused view u a shares parts NotHeld many none whole out = (many, none, whole, out)
-steps_refused view u a shares parts NotOne many none whole out = (many, none, whole, out.0, out.1)
+pub sums_refused : {A : Type 0} (view : A → ℤ × ℤ) (Fit : Type 0) (shares : List A) (parts : ℕ) (why : SplitRefusal) → parts ≡ length shares → NoShareIsBelowZero view shares → SumsRefuse Fit (SharesMakeOne view shares) why → RefusesShares view Fit shares parts why
+sums_refused view Fit shares parts Length many none out = absurd out
+sums_refused view Fit shares parts BelowZero many none out = absurd out
+sums_refused view Fit shares parts NotHeld many none out = (many, none, out)
+sums_refused view Fit shares parts NotOne many none out = (many, none, out.0, out.1)

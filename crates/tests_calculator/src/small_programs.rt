@@ -1,5 +1,5 @@
 //! Rows of the small programs of `ratio_uses`.
-use num_rational::{Rational64, Reduced64};
+use num_rational::{Rational64, Reduced64, SplitRefusal};
 use ratio_uses::accounts::move_part;
 use ratio_uses::beats::{Voice, meet, next_beat, start_at};
 use ratio_uses::callers::{greatest, mean};
@@ -173,15 +173,22 @@ fn test_cents(rt: HostRuntime) {
     splits_to(&rt, &frac(&rt, -10, 1), &thirds, 100, Ok(()), &owed);
     let quarters = [(1, 4), (1, 4), (1, 4)];
     splits_to(&rt, &frac(&rt, 3, 4), &thirds, 4, Ok(()), &quarters);
+    let wholes = [
+        (3074457345618258602, 1),
+        (3074457345618258603, 1),
+        (3074457345618258602, 1),
+    ];
+    splits_to(&rt, &frac(&rt, i64::MAX, 1), &thirds, 1, Ok(()), &wholes);
     let unchanged = [(1, 1), (1, 1), (1, 1)];
-    let short = Err(Refusal::Length);
+    let short = Err(Refusal::Shares(SplitRefusal::Length));
     splits_to(&rt, &ten, &thirds, 100, short, &unchanged[..2]);
     let below = [half, half, frac(&rt, -1, 2)];
-    splits_to(&rt, &ten, &below, 100, Err(Refusal::BelowZero), &unchanged);
+    let owes = Err(Refusal::Shares(SplitRefusal::BelowZero));
+    splits_to(&rt, &ten, &below, 100, owes, &unchanged);
     let fine = Err(Refusal::NotMultiple);
     splits_to(&rt, &third, &thirds, 100, fine, &unchanged);
     let two = [third, frac(&rt, 2, 3)];
-    let wide = Err(Refusal::NotHeld);
+    let wide = Err(Refusal::Shares(SplitRefusal::NotHeld));
     splits_to(
         &rt,
         &frac(&rt, 1 << 62, 1),
@@ -190,7 +197,7 @@ fn test_cents(rt: HostRuntime) {
         wide,
         &unchanged[..2],
     );
-    let less = Err(Refusal::NotOne);
+    let less = Err(Refusal::Shares(SplitRefusal::NotOne));
     splits_to(&rt, &ten, &[half, third], 100, less, &unchanged[..2]);
     let text = in_cents(&third);
     holds(&rt, "cents", text.as_str() == "0.33");

@@ -1,21 +1,21 @@
-use Rattle.std.specs.Prelude.{◌≡◌, ℤ, length}
-use Rattle.std.proofs.Common.{arith, rules}
+use Rattle.std.proofs.Common.{rules}
 use Rattle.std.proofs.lemmas.Int.{to_z-of_z}
-use mir.Syntax.{w64}
+use mir.Syntax.{w128, w64}
 use mir.Val.{SFits}
-use Rattle.ratio_uses.specs.Cents.{IsCount, RefusesSplitTo, StepsRefuse}
-use Rattle.ratio_uses.specs.Held.{lowest_numbers}
-use Rattle.num_rational.specs.Split.{NoShareIsBelowZero}
-use Rattle.ratio_uses.specs.declared.ledger.Refusal.{Refusal}
-use Rattle.ratio_uses.proofs.CentLemmas.{steps_refused}
 use Rattle.ratio_uses.proofs.ledger.cents.split_to.Goals as goal
 
-pub returns-in_err-check_steps-clause-refused : goal.returns-in_err-check_steps-clause-refused
-returns-in_err-check_steps-clause-refused c =
+pub returns-in-Ok-clause-ok : goal.returns-in-Ok-clause-ok
+returns-in-Ok-clause-ok c =
     let unit_fits : SFits w64 c.args.unit_parts = c.ranges.unit_parts in
-    let many : length c.args.parts.now ≡ length c.args.shares.now = omega arith in
-    let none : NoShareIsBelowZero lowest_numbers c.args.shares.now = search rules in
-    let whole : (count : ℤ) × IsCount c.args.unit_parts (lowest_numbers c.args.amount.now) count = search rules in
-    let refused : (why : Refusal) → StepsRefuse lowest_numbers c.args.unit_parts (lowest_numbers c.args.amount.now) c.args.shares.now why → RefusesSplitTo lowest_numbers c.args.unit_parts (lowest_numbers c.args.amount.now) c.args.shares.now (length c.args.parts.now) why = λ why out. steps_refused lowest_numbers c.args.unit_parts (lowest_numbers c.args.amount.now) c.args.shares.now (length c.args.parts.now) why many none whole out in
-    let out = simp to_z-of_z at c.in_err-check_steps.ensures in
-    search rules
+    let count_fits : SFits w128 c.in-Some.count = search rules in
+    let count = simp to_z-of_z at c.in-Some.ensures in
+    let done = simp to_z-of_z at c.in-Ok.ensures.ok in
+    ((c.in-Some.count, count, done.0), (c.in-Some.count, count, done.1))
+
+pub returns-in-Err-clause-refused : goal.returns-in-Err-clause-refused
+returns-in-Err-clause-refused c =
+    let unit_fits : SFits w64 c.args.unit_parts = c.ranges.unit_parts in
+    let count_fits : SFits w128 c.in-Some.count = search rules in
+    let count = simp to_z-of_z at c.in-Some.ensures in
+    let out = simp to_z-of_z at c.in-Err.ensures.refused in
+    (c.in-Some.count, count, out)

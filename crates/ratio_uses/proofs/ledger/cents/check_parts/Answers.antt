@@ -1,56 +1,57 @@
-use Rattle.std.proofs.Common.{◌≡◌, ◌∙◌, ap, arith, length, pos, rules, subst, take}
-use Rattle.std.specs.Prelude.{◌<ℤ◌}
-use Rattle.std.proofs.Math.Seq.{take-length}
-use Rattle.std.proofs.lemmas.Int.{ints, to_z-of_z}
-use borrow.Author.Count.{below_more}
-use mir.Syntax.{w64}
+use Rattle.std.proofs.Common.{rules}
+use Rattle.std.proofs.lemmas.Int.{to_z-of_z}
+use mir.Syntax.{w128, w64}
 use mir.Val.{SFits}
+use Rattle.std.proofs.Common.{◌≡◌, ◌∙◌, ap, arith, length, pos, subst, sym, take}
+use Rattle.std.specs.Prelude.{◌<ℤ◌, ◌≤ℤ◌}
+use Rattle.std.proofs.Math.Seq.{take-length}
+use Rattle.std.proofs.lemmas.Int.{ints}
+use borrow.Author.Count.{below_more}
+use Rattle.ratio_integer.specs.Arithmetic.{sum_of}
 use Rattle.ratio_integer.specs.Fraction.{IsLowestTermsOf, SameValue}
 use Rattle.ratio_integer.proofs.Whole.{positive_nonzero}
-use Rattle.ratio_uses.specs.Held.{lowest_numbers}
 use Rattle.num_rational.specs.Split.{total_of_shares}
-use Rattle.ratio_uses.proofs.CentLemmas.{marked_more, marked_none, part_fits, step_fits}
 use Rattle.num_rational.proofs.SplitLemmas.{one_told}
-use Rattle.ratio_uses.proofs.ledger.cents.check_steps.Goals as goal
-
-pub loop-share-init : goal.loop-share-init
-loop-share-init c =
-    let unit_fits : SFits w64 c.args.unit_parts = c.ranges.unit_parts in
-    simp to_z-of_z (record {
-      fit = λ k below. absurd (omega arith);
-      marked = marked_none lowest_numbers c.args.unit_parts (lowest_numbers c.args.amount.now) c.args.shares.now c.requires.some c.args.amount.now.lowest.positive
-          (lowest_numbers c.zero-sum.result) (lowest_numbers c.zero-mark.result) c.zero-sum.ensures.0 c.zero-sum.ensures.1 c.zero-mark.ensures.0 c.zero-mark.ensures.1;
-    })
+use Rattle.ratio_uses.specs.Held.{lowest_numbers}
+use Rattle.ratio_uses.proofs.CentLemmas.{cents_more, cents_none, cents_whole, marked, marked_more, part_fits, step_answered, step_fits, wide_fits}
+use Rattle.ratio_uses.proofs.ledger.cents.check_parts.Goals as goal
 
 pub returns-in-None : goal.returns-in-None
 returns-in-None c =
     let unit_fits : SFits w64 c.args.unit_parts = c.ranges.unit_parts in
-    let out = simp to_z-of_z at c.in-None.ensures in
-    let marked = simp to_z-of_z at c.loop-share.invariant.marked in
-    λ all. out (step_fits lowest_numbers c.args.unit_parts (lowest_numbers c.args.amount.now) c.args.shares.now c.requires.some c.args.amount.now.lowest.positive
-    c.loop-share.share-index (lowest_numbers c.loop-share.sum) (lowest_numbers c.loop-share.mark) c.share-item.result c.loop-share-test.true c.share-item.is
+    let unit_wide : SFits w128 c.args.unit_parts = wide_fits c.args.unit_parts unit_fits in
+    let count_fits : SFits w128 c.args.count = c.ranges.count in
+    let mark_fits : SFits w128 c.loop-share.mark = search rules in
+    let out = rw c.loop-share.mark-is at (simp to_z-of_z at c.in-None.ensures) in
+    let marked = rw c.loop-share.mark-is at (simp to_z-of_z at c.loop-share.invariant.marked) in
+    λ all. out (step_fits lowest_numbers c.args.unit_parts c.args.count c.args.shares.now
+    c.loop-share.share-index (lowest_numbers c.loop-share.sum) c.loop-share.mark c.share-item.result c.loop-share-test.true c.share-item.is
     c.loop-share.sum.lowest.positive c.share-item.result.lowest.positive marked (all c.loop-share.share-index c.loop-share-test.true))
 
 pub loop-share-preserved : goal.loop-share-preserved
 loop-share-preserved c =
     let unit_fits : SFits w64 c.args.unit_parts = c.ranges.unit_parts in
-    let step = simp to_z-of_z at c.in-Some.ensures in
-    let marked = simp to_z-of_z at c.loop-share.invariant.marked in
+    let unit_wide : SFits w128 c.args.unit_parts = wide_fits c.args.unit_parts unit_fits in
+    let count_fits : SFits w128 c.args.count = c.ranges.count in
+    let mark_fits : SFits w128 c.loop-share.mark = search rules in
+    let next_fits : SFits w128 c.in-Some.next_mark = search rules in
+    let step = rw c.loop-share.mark-is at (simp to_z-of_z at c.in-Some.ensures) in
+    let marked = rw c.loop-share.mark-is at (simp to_z-of_z at c.loop-share.invariant.marked) in
     simp to_z-of_z (record {
       fit = below_more _ _ (simp to_z-of_z at c.loop-share.invariant.fit)
-          (part_fits lowest_numbers c.args.unit_parts (lowest_numbers c.args.amount.now) c.args.shares.now c.requires.some c.args.amount.now.lowest.positive
-          c.loop-share.share-index (lowest_numbers c.loop-share.sum) (lowest_numbers c.loop-share.mark) c.share-item.result c.loop-share-test.true c.share-item.is
-          c.loop-share.sum.lowest.positive c.share-item.result.lowest.positive marked
-          (lowest_numbers c.in-Some.next) (lowest_numbers c.in-Some.next_mark) (lowest_numbers c.in-Some.field-0-2) step);
-      marked = marked_more lowest_numbers c.args.unit_parts (lowest_numbers c.args.amount.now) c.args.shares.now c.requires.some c.args.amount.now.lowest.positive
-          c.loop-share.share-index (lowest_numbers c.loop-share.sum) (lowest_numbers c.loop-share.mark) c.share-item.result c.loop-share-test.true c.share-item.is
-          c.loop-share.sum.lowest.positive c.share-item.result.lowest.positive marked
-          (lowest_numbers c.in-Some.next) (lowest_numbers c.in-Some.next_mark) (lowest_numbers c.in-Some.field-0-2) step;
+          (part_fits lowest_numbers c.args.unit_parts c.args.count c.args.shares.now
+    c.loop-share.share-index (lowest_numbers c.loop-share.sum) c.loop-share.mark c.share-item.result c.loop-share-test.true c.share-item.is
+    c.loop-share.sum.lowest.positive c.share-item.result.lowest.positive marked (lowest_numbers c.in-Some.next) c.in-Some.next_mark (lowest_numbers c.in-Some.field-0-2) step);
+      marked = marked_more lowest_numbers c.args.unit_parts c.args.count c.args.shares.now
+    c.loop-share.share-index (lowest_numbers c.loop-share.sum) c.loop-share.mark c.share-item.result c.loop-share-test.true c.share-item.is
+    c.loop-share.sum.lowest.positive c.share-item.result.lowest.positive marked (lowest_numbers c.in-Some.next) c.in-Some.next_mark (lowest_numbers c.in-Some.field-0-2) step;
     })
 
 pub returns-then-numer-denom : goal.returns-then-numer-denom
 returns-then-numer-denom c =
     let unit_fits : SFits w64 c.args.unit_parts = c.ranges.unit_parts in
+    let unit_wide : SFits w128 c.args.unit_parts = wide_fits c.args.unit_parts unit_fits in
+    let count_fits : SFits w128 c.args.count = c.ranges.count in
     let fit = simp to_z-of_z at c.loop-share.invariant.fit in
     let numer_fits : SFits w64 c.numer.result.now = search rules in
     let denom_fits : SFits w64 c.denom.result.now = search rules in
@@ -65,6 +66,8 @@ returns-then-numer-denom c =
 pub returns-else-numer-denom : goal.returns-else-numer-denom
 returns-else-numer-denom c =
     let unit_fits : SFits w64 c.args.unit_parts = c.ranges.unit_parts in
+    let unit_wide : SFits w128 c.args.unit_parts = wide_fits c.args.unit_parts unit_fits in
+    let count_fits : SFits w128 c.args.count = c.ranges.count in
     let fit = simp to_z-of_z at c.loop-share.invariant.fit in
     let numer_fits : SFits w64 c.numer.result.now = search rules in
     let denom_fits : SFits w64 c.denom.result.now = search rules in

@@ -1,147 +1,195 @@
--- The nearest wheels, from the nearest fraction.
-use Rattle.std.specs.Prelude.{◌≡◌, ◌⊎◌, ◌+◌, ◌*◌, ◌-◌, ◌^◌, ◌<◌, ◌≤◌, ◌≤ℤ◌, ◌<ℤ◌, ◌*ℤ◌, ℕ, ℤ, pos, negsuc, unsigned_abs, Option, Some, None}
-use Rattle.std.proofs.Common.{ap, subst, arith, inl, inr}
-use Rattle.std.proofs.Math.Nat.{eq-one_of_dvd-one, mul-le-mul, mul-le-mul_left, mul-le-mul_right, mul-lt-mul_of_pos_left}
+-- The nearest wheels: the best first wheel for each second one, and then the best of these pairs.
+use Rattle.std.specs.Prelude.{◌≡◌, ◌⊎◌, ◌+◌, ◌*◌, ◌-◌, ◌^◌, ◌/◌, ◌%◌, ◌<◌, ◌≤◌, ◌<ℤ◌, ◌*ℤ◌, ℕ, ℤ, pos, negsuc, unsigned_abs, Option}
+use Rattle.std.proofs.Common.{refl, sym, ap, subst, arith, inl, inr}
+use Rattle.std.proofs.Math.Nat.{mul-le-mul, mul-le-mul_right, mul-lt-mul_of_pos_right}
 use Rattle.std.proofs.lemmas.Int.{ints}
-use Rattle.ratio_integer.specs.Fraction.{ChecksLowest, Fits, IsHeldLowest, IsLowestTermsOf}
-use Rattle.ratio_integer.specs.Range.{IsHeld}
-use Rattle.ratio_integer.proofs.LowestTerms.{lowest_own, lowest_unique}
-use Rattle.ratio_approximation.specs.Nearest.{ComesFirst, IsNearest, gap}
-use Rattle.ratio_core.proofs.ProductOrder.{times_le}
+use Rattle.ratio_approximation.specs.Nearest.{ComesFirst, gap}
+use Rattle.ratio_approximation.proofs.NearestPreference.{first_chained, itself_first}
+use Rattle.ratio_integer.specs.Division.{IsGcdOf}
+use Rattle.ratio_integer.specs.Fraction.{SameValue}
+use Rattle.ratio_integer.specs.Range.{IsHeld, IsRange}
+use Rattle.ratio_integer.proofs.CommonDivisors.{gcd_exists}
+use Rattle.ratio_integer.proofs.LowestTerms.{checks_lowest_moved, gcd_held_positive, held_lowest_quotients}
+use Rattle.ratio_integer.proofs.Whole.{mul_positive, positive_nonzero}
+use Rattle.ratio_core.proofs.SumLemmas.{fits_by}
+use Rattle.num_rational.specs.Operators.{ChecksExactDifference}
 use Rattle.num_rational.specs.Ratio.{denominator, numerator}
-use Rattle.num_rational.specs.Reduced.{ratio_in}
-use Rattle.num_rational.specs.declared.reduced.Reduced.{Reduced}
-use Rattle.ratio_uses.specs.Gears.{AreNearestWheels, ChecksWheels}
-use Rattle.ratio_uses.specs.Held.{lowest_numbers}
+use Rattle.num_rational.specs.declared.ratio.Ratio.{Ratio}
+use Rattle.num_rational.proofs.ValueLemmas.{same_value_differences}
+use Rattle.ratio_uses.specs.Held.{FitsIn64}
+use Rattle.ratio_uses.specs.Gears.{AreNearestWheels, IsBestFirst, IsRoundedDown, IsWheel, PairComesFirst}
 
--- if the nearest fraction is above 0, it is the nearest pair of wheels
-pub with_teeth : (n d most p q : ℤ) → pos 0 <ℤ p → IsNearest n d most p q → AreNearestWheels (n, d) most p q
-with_teeth n d most p q up is = record {
-  first_teeth = up;
-  second_teeth = is.positive;
-  within = is.within;
-  nearest = λ m e m_up e_up within. is.first m e e_up within;
-}
-
--- ---- if the nearest fraction p/q is not above 0, n/d is less than 1 over the bound
+gap_is : (n d p q : ℕ) → gap (pos n) (pos d) (pos p) (pos q) ≡ (n * q - p * d) + (p * d - n * q)
+gap_is n d p q = omega (arith, ints)
 
 less_or_not : (x y : ℕ) → (x < y) ⊎ (y ≤ x)
 less_or_not x y = grind arith
 
-not_further : (g : ℕ) (p q : ℤ) (h : ℕ) (m e : ℤ) → ComesFirst g p q h m e → g * unsigned_abs e ≤ h * unsigned_abs q
-not_further g p q h m e (inl less) = omega arith
-not_further g p q h m e (inr same) = omega (arith, same.0)
+same_or_less : (x y : ℕ) → x ≤ y → (x ≡ y) ⊎ (x < y)
+same_or_less x y within = grind arith
 
-too_far : (n d most q g k : ℕ) → 0 < d → 0 < q → n * q ≤ g → g * most ≤ k * q → k + d ≡ n * most → ⊥
-too_far n d most q g k d_up q_up far near rest =
-    let some : 1 * 1 ≤ d * q = mul-le-mul d_up q_up in
-    let scaled : (k + d) * q ≡ (n * most) * q = ap (λ t. t * q) rest in
-    let wide : (n * q) * most ≤ g * most = mul-le-mul_right most far in
-    omega arith
+-- ---- one second wheel
 
-not_above : (p : ℤ) (d : ℕ) → p ≤ℤ pos 0 → (p *ℤ pos d) ≤ℤ pos 0
-not_above p d low = let some : pos 0 ≤ℤ pos d = omega (arith, ints) in let times = times_le p (pos 0) (pos d) low some in omega (arith, ints)
+pub half_passed : (x d : ℕ) → 0 < d → d < x % d + x % d → IsRoundedDown x d (x / d + 1)
+half_passed x d up over = let whole : d * (x / d) + x % d ≡ x = omega arith in record { above = omega arith; below = omega arith }
 
-wide_gap : (n d q : ℕ) (p : ℤ) → p ≤ℤ pos 0 → n * q ≤ gap (pos n) (pos d) p (pos q)
-wide_gap n d q p low = let k = not_above p d low in omega (arith, ints)
+pub half_not_passed : (x d : ℕ) → 0 < d → x % d + x % d ≤ d → IsRoundedDown x d (x / d)
+half_not_passed x d up under = let whole : d * (x / d) + x % d ≡ x = omega arith in record { above = omega arith; below = omega arith }
 
-below_least : (n d most q : ℕ) (p : ℤ) → 0 < d → 0 < q → p ≤ℤ pos 0 → ComesFirst (gap (pos n) (pos d) p (pos q)) p (pos q) (gap (pos n) (pos d) (pos 1) (pos most)) (pos 1) (pos most) → n * most < d
-below_least n d most q p d_up q_up low first = cases (less_or_not (n * most) d)
+nearer_first : (g h f m s : ℕ) → g ≤ h → f ≤ m → ComesFirst g (pos f) (pos s) h (pos m) (pos s)
+nearer_first g h f m s near less = cases (same_or_less (g * s) (h * s) (mul-le-mul_right s near))
   where
-    cases : (n * most < d) ⊎ (d ≤ n * most) → n * most < d
-    cases (inl h) = h
-    cases (inr h) =
-        let near : gap (pos n) (pos d) p (pos q) * most ≤ gap (pos n) (pos d) (pos 1) (pos most) * q = not_further _ _ _ _ _ _ first in
-        let rest : gap (pos n) (pos d) (pos 1) (pos most) ≡ n * most - d = omega (arith, ints) in
-        absurd (too_far n d most q (gap (pos n) (pos d) p (pos q)) (n * most - d) d_up q_up (wide_gap n d q p low) (subst (λ k. gap (pos n) (pos d) p (pos q) * most ≤ k * q) rest near) (omega arith))
+    cases : (g * s ≡ h * s) ⊎ (g * s < h * s) → ComesFirst g (pos f) (pos s) h (pos m) (pos s)
+    cases (inl same) = inr (same, inr (refl, omega (arith, ints)))
+    cases (inr nearer) = inl nearer
 
--- ---- 1 over the bound then comes first of all fractions m/e above 0
+module _ (n d s r : ℕ) (d_up : 0 < d) (s_up : 0 < s) (is : IsRoundedDown (n * s) d r) where
+  -- above the rounded number, less comes first
+  from_above : (f m : ℕ) → r ≤ f → f ≤ m → PairComesFirst (pos n, pos d) f s m s
+  from_above f m over more = cases (same_or_less f m more)
+    where
+      cases : (f ≡ m) ⊎ (f < m) → PairComesFirst (pos n, pos d) f s m s
+      cases (inl e) = subst (λ k. PairComesFirst (pos n, pos d) f s k s) e (itself_first _ (pos f) (pos s))
+      cases (inr up) =
+          let high = is.above in
+          let low = is.below in
+          let first : r * d ≤ f * d = mul-le-mul_right d over in
+          let second : (f + 1) * d ≤ m * d = mul-le-mul_right d (omega arith) in
+          nearer_first _ _ f m s (omega (arith, gap_is n d f s, gap_is n d m s)) more
 
-further : (n d most m e g h : ℕ) → g + n * most ≡ d → h + n * e ≡ m * d → 0 < d → e < m * most → g * e < h * most
-further n d most m e g h here there d_up less =
-    let left : (g + n * most) * e ≡ d * e = ap (λ t. t * e) here in
-    let right : (h + n * e) * most ≡ (m * d) * most = ap (λ t. t * most) there in
-    let more : d * e < d * (m * most) = mul-lt-mul_of_pos_left less d_up in
-    omega arith
+  -- below the rounded number, more comes first
+  from_below : (f m : ℕ) → f ≤ r → m ≤ f → PairComesFirst (pos n, pos d) f s m s
+  from_below f m under less = cases (same_or_less m f less)
+    where
+      cases : (m ≡ f) ⊎ (m < f) → PairComesFirst (pos n, pos d) f s m s
+      cases (inl e) = subst (λ k. PairComesFirst (pos n, pos d) f s k s) (sym e) (itself_first _ (pos f) (pos s))
+      cases (inr down) =
+          let high = is.above in
+          let low = is.below in
+          let first : f * d ≤ r * d = mul-le-mul_right d under in
+          let second : (m + 1) * d ≤ f * d = mul-le-mul_right d (omega arith) in
+          let nearer : gap (pos n) (pos d) (pos f) (pos s) < gap (pos n) (pos d) (pos m) (pos s) = omega (arith, gap_is n d f s, gap_is n d m s) in
+          inl (mul-lt-mul_of_pos_right nearer s_up)
 
-as_far : (n d most m e g h : ℕ) → g + n * most ≡ d → h + n * e ≡ m * d → m * most ≡ e → g * e ≡ h * most
-as_far n d most m e g h here there even =
-    let left : (g + n * most) * e ≡ d * e = ap (λ t. t * e) here in
-    let right : (h + n * e) * most ≡ (m * d) * most = ap (λ t. t * most) there in
-    let same : d * (m * most) ≡ d * e = ap (λ t. d * t) even in
-    omega arith
+  either_way : (f m : ℕ) → f ≡ r → PairComesFirst (pos n, pos d) f s m s
+  either_way f m e = cases (less_or_not f m)
+    where
+      cases : (f < m) ⊎ (m ≤ f) → PairComesFirst (pos n, pos d) f s m s
+      cases (inl up) = from_above f m (omega arith) (omega arith)
+      cases (inr down) = from_below f m (omega arith) down
 
-least_first : (n d most m e : ℕ) → n * most < d → 0 < m → e ≤ most → ComesFirst (gap (pos n) (pos d) (pos 1) (pos most)) (pos 1) (pos most) (gap (pos n) (pos d) (pos m) (pos e)) (pos m) (pos e)
-least_first n d most m e small m_up within = cases (less_or_not e (m * most))
-  where
-    scaled : 1 * most ≤ m * most
-    scaled = mul-le-mul_right most m_up
+  pub best_rounded : (least most f : ℕ) → f ≡ r → least ≤ r → r ≤ most → IsBestFirst (pos n, pos d) least most f s
+  best_rounded least most f e low high = record {
+    wheel = record { at_least = omega arith; at_most = omega arith };
+    best = λ m wheel. either_way f m e;
+  }
 
-    product : n * e ≤ m * d
-    product = let wide : n * e ≤ n * most = mul-le-mul_left n within in let deep : 1 * d ≤ m * d = mul-le-mul_right d m_up in omega arith
+  pub best_least : (least most : ℕ) → least ≤ most → r < least → IsBestFirst (pos n, pos d) least most least s
+  best_least least most range low = record {
+    wheel = record { at_least = omega arith; at_most = omega arith };
+    best = λ m wheel. from_above least m (omega arith) wheel.at_least;
+  }
 
-    here : gap (pos n) (pos d) (pos 1) (pos most) + n * most ≡ d
-    here = omega (arith, ints)
+  pub best_most : (least most : ℕ) → least ≤ most → most < r → IsBestFirst (pos n, pos d) least most most s
+  best_most least most range high = record {
+    wheel = record { at_least = omega arith; at_most = omega arith };
+    best = λ m wheel. from_below most m (omega arith) wheel.at_most;
+  }
 
-    there : gap (pos n) (pos d) (pos m) (pos e) + n * e ≡ m * d
-    there = let k = product in omega (arith, ints)
+-- ---- one second wheel after the other
 
-    cases : (e < m * most) ⊎ (m * most ≤ e) → ComesFirst (gap (pos n) (pos d) (pos 1) (pos most)) (pos 1) (pos most) (gap (pos n) (pos d) (pos m) (pos e)) (pos m) (pos e)
-    cases (inl less) = inl (further n d most m e _ _ here there (omega arith) less)
-    cases (inr more) = let even : m * most ≡ e = omega (arith, scaled) in inr (as_far n d most m e _ _ here there even, inr (omega (arith, ints, scaled), omega (arith, ints)))
+-- of all pairs whose second wheel has from `least` to `top` teeth, this one comes first
+pub record AreNearestUpTo (wanted : ℤ × ℤ) (least most top first second : ℕ) : Type 0 where
+  pub first_wheel : IsWheel least most first
+  pub second_wheel : IsWheel least top second
+  pub nearest : (m e : ℕ) → IsWheel least most m → IsWheel least top e → PairComesFirst wanted first second m e
 
-least_of_all : (n d most q : ℕ) (p : ℤ) → 0 < d → p ≤ℤ pos 0 → IsNearest (pos n) (pos d) (pos most) p (pos q) → AreNearestWheels (pos n, pos d) (pos most) (pos 1) (pos most)
-least_of_all n d most q p d_up low is = record {
-  first_teeth = omega (arith, ints);
-  second_teeth = most_up;
-  within = omega (arith, ints);
-  nearest = each;
+pub nearest_begins : (wanted : ℤ × ℤ) (least most first : ℕ) → IsBestFirst wanted least most first least → AreNearestUpTo wanted least most least first least
+nearest_begins wanted least most first is = record {
+  first_wheel = is.wheel;
+  second_wheel = record { at_least = omega arith; at_most = omega arith };
+  nearest = λ m e first_in second_in.
+      let same : least ≡ e = omega arith in
+      subst (λ k. PairComesFirst wanted first least m k) same (is.best m first_in);
 }
+
+last_or_before : (top e : ℕ) → e ≤ top + 1 → (e ≤ top) ⊎ (top + 1 ≡ e)
+last_or_before top e within = grind arith
+
+module _ (wanted : ℤ × ℤ) (least most top first second other next : ℕ) (least_up : 0 < least) (so_far : AreNearestUpTo wanted least most top first second) (is_next : next ≡ top + 1) (best : IsBestFirst wanted least most other next) where
+  chained : (a b c d e f : ℕ) → 0 < b → 0 < d → 0 < f → PairComesFirst wanted a b c d → PairComesFirst wanted c d e f → PairComesFirst wanted a b e f
+  chained a b c d e f b_up d_up f_up = first_chained _ (pos a) (pos b) _ (pos c) (pos d) _ (pos e) (pos f) (omega (arith, ints)) (omega (arith, ints)) (omega (arith, ints))
+
+  second_up : 0 < second
+  second_up = let low = so_far.second_wheel.at_least in omega arith
+
+  at_top : (e : ℕ) → IsWheel least next e → (e ≤ top) ⊎ (next ≡ e)
+  at_top e wheel = let high = wheel.at_most in grind (arith, last_or_before top e)
+
+  -- the new pair is nearer
+  pub nearest_taken : gap wanted.0 wanted.1 (pos other) (pos next) * second < gap wanted.0 wanted.1 (pos first) (pos second) * next → AreNearestUpTo wanted least most next other next
+  nearest_taken nearer = record {
+    first_wheel = best.wheel;
+    second_wheel = record { at_least = let low = so_far.second_wheel.at_least in let high = so_far.second_wheel.at_most in omega arith; at_most = omega arith };
+    nearest = λ m e first_in second_in. cases m e first_in second_in (at_top e second_in);
+  }
+    where
+      cases : (m e : ℕ) → IsWheel least most m → IsWheel least next e → (e ≤ top) ⊎ (next ≡ e) → PairComesFirst wanted other next m e
+      cases m e first_in second_in (inl before) =
+          chained other next first second m e (omega arith) second_up (let low = second_in.at_least in omega arith) (inl nearer)
+          (so_far.nearest m e first_in (record { at_least = second_in.at_least; at_most = before }))
+      cases m e first_in second_in (inr same) = subst (λ k. PairComesFirst wanted other next m k) same (best.best m first_in)
+
+  -- the new pair is not nearer, and its second wheel is larger
+  pub nearest_kept : gap wanted.0 wanted.1 (pos first) (pos second) * next ≤ gap wanted.0 wanted.1 (pos other) (pos next) * second → AreNearestUpTo wanted least most next first second
+  nearest_kept not_nearer = record {
+    first_wheel = so_far.first_wheel;
+    second_wheel = record { at_least = so_far.second_wheel.at_least; at_most = let high = so_far.second_wheel.at_most in omega arith };
+    nearest = λ m e first_in second_in. cases m e first_in second_in (at_top e second_in);
+  }
+    where
+      before_new : PairComesFirst wanted first second other next
+      before_new = even (same_or_less _ _ not_nearer)
+        where
+          even : (gap wanted.0 wanted.1 (pos first) (pos second) * next ≡ gap wanted.0 wanted.1 (pos other) (pos next) * second) ⊎ (gap wanted.0 wanted.1 (pos first) (pos second) * next < gap wanted.0 wanted.1 (pos other) (pos next) * second) → PairComesFirst wanted first second other next
+          even (inl same) = inr (same, inl (let high = so_far.second_wheel.at_most in omega (arith, ints)))
+          even (inr less) = inl less
+
+      cases : (m e : ℕ) → IsWheel least most m → IsWheel least next e → (e ≤ top) ⊎ (next ≡ e) → PairComesFirst wanted first second m e
+      cases m e first_in second_in (inl before) = so_far.nearest m e first_in (record { at_least = second_in.at_least; at_most = before })
+      cases m e first_in second_in (inr same) =
+          chained first second other next m e second_up (omega arith) (let low = second_in.at_least in omega arith) before_new
+          (subst (λ k. PairComesFirst wanted other next m k) same (best.best m first_in))
+
+pub nearest_ends : (wanted : ℤ × ℤ) (least most top first second : ℕ) → top ≡ most → AreNearestUpTo wanted least most top first second → AreNearestWheels wanted least most first second
+nearest_ends wanted least most top first second e is = record {
+  first_wheel = is.first_wheel;
+  second_wheel = subst (λ k. IsWheel least k second) e is.second_wheel;
+  nearest = λ m e_ first_in second_in. is.nearest m e_ first_in (subst (λ k. IsWheel least k e_) (sym e) second_in);
+}
+
+-- ---- how far the wheels are from the wanted ratio
+
+pub as_whole : (z : ℤ) (m : ℕ) → pos 0 <ℤ z → m ≡ unsigned_abs z → pos m ≡ z
+as_whole z m up is = omega (arith, ints)
+
+-- the teeth of two wheels fit in 64 bits, so their lowest terms do
+pub teeth_fit : (p q : ℕ) → p < 2 ^ 32 → q < 2 ^ 32 → 0 < q → FitsIn64 (pos p, pos q)
+teeth_fit p q p_small q_small up = go (gcd_exists (pos p) (pos q))
   where
-    q_up : pos 0 <ℤ pos q
-    q_up = is.positive
+    held : (k : ℕ) → k < 2 ^ 32 → IsHeld (negsuc (2 ^ 63 - 1)) (pos (2 ^ 63 - 1)) (pos k)
+    held k small = record { above = omega (arith, ints); below = omega (arith, ints) }
 
-    most_up : pos 0 <ℤ pos most
-    most_up = let within = is.within in omega (arith, ints, q_up)
+    range : IsRange (negsuc (2 ^ 63 - 1)) (pos (2 ^ 63 - 1))
+    range = record { high = omega (arith, ints); low = inr (inr refl) }
 
-    small : n * most < d
-    small = let within = is.within in below_least n d most q p d_up (omega (arith, ints, q_up)) low (is.first (pos 1) (pos most) most_up (omega (arith, ints)))
+    go : (g : ℤ) × IsGcdOf (pos p) (pos q) g → FitsIn64 (pos p, pos q)
+    go (g, is) =
+        let q_up : pos 0 <ℤ pos q = omega (arith, ints) in
+        let g_held = (gcd_held_positive (negsuc (2 ^ 63 - 1)) (pos (2 ^ 63 - 1)) (pos p) (pos q) range (held q q_small) q_up).each g is in
+        fits_by (negsuc (2 ^ 63 - 1)) (pos (2 ^ 63 - 1)) (pos p) (pos q) _ _ (held_lowest_quotients (negsuc (2 ^ 63 - 1)) (pos (2 ^ 63 - 1)) (pos p) (pos q) g _ _ range (held p p_small) (held q q_small) g_held q_up is refl refl)
 
-    each : (m e : ℤ) → pos 0 <ℤ m → pos 0 <ℤ e → e ≤ℤ pos most → ComesFirst (gap (pos n) (pos d) (pos 1) (pos most)) (pos 1) (pos most) (gap (pos n) (pos d) m e) m e
-    each (pos m) (pos e) m_up e_up within = least_first n d most m e small (omega (arith, ints)) (omega (arith, ints))
-    each (negsuc m) e m_up e_up within = absurd (omega (arith, ints))
-    each (pos m) (negsuc e) m_up e_up within = absurd (omega (arith, ints))
-
--- if the nearest fraction is not above 0, 1 over the bound is the nearest pair of wheels
-pub without_teeth : (n d most p q : ℤ) → pos 0 <ℤ n → pos 0 <ℤ d → p ≤ℤ pos 0 → IsNearest n d most p q → AreNearestWheels (n, d) most (pos 1) most
-without_teeth (pos n) (pos d) (pos most) p (pos q) n_up d_up low is = least_of_all n d most q p (omega (arith, ints)) low is
-without_teeth (negsuc n) d most p q n_up d_up low is = absurd (omega (arith, ints))
-without_teeth (pos n) (negsuc d) most p q n_up d_up low is = absurd (omega (arith, ints))
-without_teeth (pos n) (pos d) (negsuc most) p q n_up d_up low is = absurd (let up = is.positive in let within = is.within in omega (arith, ints))
-without_teeth (pos n) (pos d) (pos most) p (negsuc q) n_up d_up low is = absurd (let up = is.positive in omega (arith, ints))
-
--- ---- the fraction 1 over the bound
-
-one_over : (most : ℤ) → pos 0 <ℤ most → IsLowestTermsOf (pos 1) most (pos 1) most
-one_over most up = lowest_own (pos 1) most (record { positive = up; only_one = λ k one other. eq-one_of_dvd-one one })
-
-module _ (lo hi : ℤ) (n d most p q : ℤ) (n_up : pos 0 <ℤ n) (d_up : pos 0 <ℤ d) (low : p ≤ℤ pos 0) (is : IsNearest n d most p q) where
-  most_up : pos 0 <ℤ most
-  most_up = let up = is.positive in let within = is.within in omega (arith, ints)
-
-  -- 1 over the bound fits, so it has lowest terms, and these are the nearest wheels
-  pub one_over_fits : IsHeld lo hi (pos 1) → IsHeld lo hi most → Fits lo hi (pos 1) most
-  one_over_fits one_held most_held = record { numer = pos 1; denom = most; low = record { terms = one_over most most_up; numer_held = one_held; denom_held = most_held } }
-
-  pub one_over_wheels : (a b : ℤ) → IsHeldLowest lo hi (pos 1) most a b → AreNearestWheels (n, d) most a b
-  one_over_wheels a b held =
-      let same = lowest_unique (pos 1) most a b (pos 1) most held.terms (one_over most most_up) in
-      rw (same.0, same.1) (without_teeth n d most p q n_up d_up low is)
-
--- what `checked_new` returns for 1 and the bound
-pub one_over_answers : {T : _} {i : _} {o : _} {e : _} {p : _} {h : _} (n d most a b : ℤ) (r : Option (Reduced T i o e p h)) → pos 0 <ℤ n → pos 0 <ℤ d → a ≤ℤ pos 0 → IsNearest n d most a b → most ≤ℤ pos (2 ^ 63 - 1) → ChecksLowest numerator denominator (negsuc (2 ^ 63 - 1)) (pos (2 ^ 63 - 1)) (pos 1, most) (ratio_in r) → ChecksWheels (n, d) most r
-one_over_answers n d most a b None n_up d_up low is held out =
-    let up = is.positive in
-    let within = is.within in
-    absurd (out (one_over_fits _ _ n d most a b n_up d_up low is (record { above = omega (arith, ints); below = omega (arith, ints) }) (record { above = omega (arith, ints); below = held })))
-one_over_answers n d most a b (Some r) n_up d_up low is held answers = one_over_wheels _ _ n d most a b n_up d_up low is (lowest_numbers r).0 (lowest_numbers r).1 answers
+pub difference_moved : {T : _} {i : _} {o : _} {e : _} {p : _} {h : _} (w x y : ℤ × ℤ) (r : Option (Ratio T i o e p h)) → pos 0 <ℤ w.1 → pos 0 <ℤ x.1 → pos 0 <ℤ y.1 → SameValue y.0 y.1 x.0 x.1 → ChecksExactDifference w x r → ChecksExactDifference w y r
+difference_moved {i = i} w x y r w_up x_up y_up same told =
+    checks_lowest_moved numerator denominator i.lo i.hi _ _ _ _ r (positive_nonzero _ (mul_positive w.1 x.1 w_up x_up)) (positive_nonzero _ (mul_positive w.1 y.1 w_up y_up))
+    (same_value_differences w.0 w.1 y.0 y.1 w.0 w.1 x.0 x.1 refl same) told

@@ -4,5 +4,6 @@ pub mod CentLemmas
 pub mod ChainOrder
 pub mod ConversionLemmas
 pub mod GearLemmas
+pub mod MeetLemmas
 pub mod LedgerLemmas
 pub mod OctaveLemmas

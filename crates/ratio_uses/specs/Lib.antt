@@ -3,7 +3,6 @@ pub mod Callers
 pub mod Accounts
 pub mod Gears
 pub mod Beats
-pub mod Walk
 pub mod Ledger
 pub mod Cents
 pub mod Units

@@ -1,5 +1,5 @@
 //! Small programs over fractions, each with one theorem in its user's words: wheels whose ratio of teeth is near a
-//! wanted one, an amount split by shares, the beats of two voices, and chains of rates. The functions that
+//! wanted one, an amount split by shares, the beats of voices, and chains of rates. The functions that
 //! `README.md` and `CALLING.md` show are here too.
 #![tactic(auto)]
 

@@ -1,7 +1,7 @@
 //! Rows of the small programs of `ratio_uses`.
 use num_rational::{Rational64, Reduced64};
 use ratio_uses::accounts::move_part;
-use ratio_uses::beats::{Beats, Voice};
+use ratio_uses::beats::{Voice, meet, next_beat, start_at};
 use ratio_uses::callers::{greatest, mean};
 use ratio_uses::conditions::{chained, together};
 use ratio_uses::gears::nearest_pair;
@@ -27,21 +27,28 @@ fn holds(rt: &impl Abort, what: &str, fact: bool) {
 }
 
 // The teeth of both wheels, if there is a result.
-fn teeth(wanted: &Reduced64, most: i64) -> Option<(i64, i64)> {
-    let gears = nearest_pair(wanted, most)?;
+fn teeth(wanted: &Reduced64, least: u32, most: u32) -> Option<(u32, u32)> {
+    let gears = nearest_pair(wanted, least, most)?;
     Some((gears.first, gears.second))
 }
 
-// The first row whose wheels differ. A row has the two numbers of the wanted ratio, the most teeth
-// of the second wheel, and the teeth of both.
-fn first_wrong_wheels(rows: &[(i64, i64, i64, i64, i64)]) -> Option<usize> {
-    for (i, &(numer, denom, most, first, second)) in rows.iter().enumerate() {
-        let wheels = Reduced64::checked_new(numer, denom).and_then(|wanted| teeth(&wanted, most));
+// The first row whose wheels differ. A row has the two numbers of the wanted ratio, the least and the most teeth
+// of a wheel, and the teeth of both.
+fn first_wrong_wheels(rows: &[(i64, i64, u32, u32, u32, u32)]) -> Option<usize> {
+    for (i, &(numer, denom, least, most, first, second)) in rows.iter().enumerate() {
+        let wheels = Reduced64::checked_new(numer, denom).and_then(|wanted| teeth(
+            &wanted, least, most,
+        ));
         if wheels != Some((first, second)) {
             return Some(i);
         }
     }
     None
+}
+
+// How far the nearest wheels are from the wanted ratio.
+fn off(wanted: &Reduced64, least: u32, most: u32) -> Option<Reduced64> {
+    nearest_pair(wanted, least, most).and_then(|gears| gears.off)
 }
 
 // The fields of both accounts after the part has moved.
@@ -70,46 +77,69 @@ fn test_accounts(rt: HostRuntime) {
 #[test]
 fn test_gears(rt: HostRuntime) {
     let rows = [
-        (1618033988, 1000000000, 100, 144, 89),
-        (52, 14, 7, 26, 7),
-        (7, 5, 3, 4, 3),
-        (7, 10, 2, 1, 2),
-        (3, 2, 1, 1, 1),
-        (5, 2, 1, 2, 1),
-        (i64::MAX, 2, 1, 4611686018427387903, 1),
-        (i64::MAX, 1, 5, i64::MAX, 1),
+        (1618033988, 1000000000, 1, 100, 89, 55),
+        (1618033988, 1000000000, 30, 100, 89, 55),
+        (1003, 10, 1, 100, 100, 1),
+        (1003, 10, 12, 100, 100, 12),
+        (52, 14, 1, 7, 7, 2),
+        (52, 14, 8, 60, 52, 14),
+        (7, 5, 12, 20, 18, 13),
+        (355, 113, 8, 100, 44, 14),
+        (7, 10, 1, 2, 1, 2),
+        (3, 2, 1, 1, 1, 1),
+        (5, 2, 1, 2, 2, 1),
+        (5, 2, 7, 7, 7, 7),
+        (i64::MAX, 2, 1, 3, 3, 1),
+        (i64::MAX, 1, 1, 5, 5, 1),
+        (i64::MAX, i64::MAX - 1, 20, 22, 20, 20),
     ];
     let wrong = first_wrong_wheels(&rows);
     assert!(rt; wrong.is_none(), "row {wrong:?}");
     let golden = frac(&rt, 1618033988, 1000000000);
-    let off = nearest_pair(&golden, 100).and_then(|gears| gears.off);
-    answers(&rt, off, Some((1256233, 22250000000)));
-    holds(&rt, "0", teeth(&Reduced64::zero(), 10) == None);
-    holds(&rt, "below 0", teeth(&frac(&rt, -3, 2), 10) == None);
-    holds(&rt, "no wheel", teeth(&golden, 0) == None);
-    holds(&rt, "bound below 0", teeth(&golden, -1) == None);
+    answers(&rt, off(&golden, 1, 100), Some((-406533, 2750000000)));
+    answers(&rt, off(&frac(&rt, 355, 113), 8, 100), Some((-1, 791)));
+    holds(&rt, "0", teeth(&Reduced64::zero(), 1, 10) == None);
+    holds(&rt, "below 0", teeth(&frac(&rt, -3, 2), 1, 10) == None);
+    holds(&rt, "no teeth", teeth(&golden, 0, 10) == None);
+    holds(&rt, "no range", teeth(&golden, 11, 10) == None);
 }
 
-// The fraction nearest to each of these ratios is 0. So the first wheel has 1
-// tooth, and the second has as many as it may.
+// For these ratios, the first wheel has the fewest teeth and the second the most.
 #[test]
 fn test_gears_near_zero(rt: HostRuntime) {
     let rows = [
-        (1, 2, 1, 1, 1),
-        (1, 10, 3, 1, 3),
-        (1, 4, 2, 1, 2),
-        (1, 21, 10, 1, 10),
-        (1, 20, 10, 1, 10),
-        (1, 19, 10, 1, 10),
-        (1, i64::MAX, 3, 1, 3),
+        (1, 2, 1, 1, 1, 1),
+        (1, 10, 1, 3, 1, 3),
+        (1, 4, 1, 2, 1, 2),
+        (1, 21, 1, 10, 1, 10),
+        (1, 20, 1, 10, 1, 10),
+        (1, 19, 1, 10, 1, 10),
+        (1, 2, 3, 5, 3, 5),
+        (1, i64::MAX, 5, 9, 5, 9),
     ];
     let wrong = first_wrong_wheels(&rows);
     assert!(rt; wrong.is_none(), "row {wrong:?}");
-    let off = nearest_pair(&frac(&rt, 1, 10), 3).and_then(|gears| gears.off);
-    answers(&rt, off, Some((-7, 30)));
-    let least = frac(&rt, 1, i64::MAX);
-    let off = nearest_pair(&least, 3).and_then(|gears| gears.off);
-    answers(&rt, off, None);
+    answers(&rt, off(&frac(&rt, 1, 10), 1, 3), Some((-7, 30)));
+    answers(&rt, off(&frac(&rt, 1, i64::MAX), 1, 3), None);
+}
+
+// The most teeth that a wheel can have.
+#[test]
+fn test_gears_of_many_teeth(rt: HostRuntime) {
+    let rows = [
+        (i64::MAX, 1, u32::MAX, u32::MAX, u32::MAX, u32::MAX),
+        (
+            8589934591,
+            4294967295,
+            u32::MAX - 1,
+            u32::MAX,
+            u32::MAX,
+            u32::MAX - 1,
+        ),
+        (1, 1, u32::MAX - 2, u32::MAX, u32::MAX - 2, u32::MAX - 2),
+    ];
+    let wrong = first_wrong_wheels(&rows);
+    assert!(rt; wrong.is_none(), "row {wrong:?}");
 }
 
 // What `split` returns, and the parts after the call.
@@ -307,39 +337,165 @@ fn test_callers(rt: HostRuntime) {
     );
 }
 
-// The next beat comes at this time, from this voice.
-fn beats(rt: &impl Abort, beats: &mut Beats, want: (i64, i64), want_voice: Voice) {
-    let beat = beats.next().expect(rt, "a beat follows");
-    let (fields, voice) = (beat.time.into_raw(), beat.voice);
-    assert!(rt;
-        fields == want && voice == want_voice,
-        "{fields:?}, {voice:?}"
-    );
+// The voices have these counts.
+fn have_counts(voices: &[Voice], counts: &[i64]) -> bool {
+    voices.len() == counts.len()
+        && voices
+            .iter()
+            .zip(counts)
+            .all(|(voice, count)| voice.count == *count)
+}
+
+// The next beats come at these times, and leave these counts. Without a time there is no beat.
+fn plays(rt: &impl Abort, voices: &mut [Voice], times: &[Option<(i64, i64)>], counts: &[i64]) {
+    for (i, &want) in times.iter().enumerate() {
+        let time = next_beat(voices).map(|time| time.into_raw());
+        assert!(rt; time == want, "beat {i}: {time:?}");
+    }
+    holds(rt, "counts", have_counts(voices, counts));
+}
+
+// The voices start at this time with these counts. Where they do not start, nothing has changed.
+fn starts(rt: &impl Abort, voices: &mut [Voice], time: (i64, i64), want: bool, counts: &[i64]) {
+    let time = frac(rt, time.0, time.1);
+    holds(rt, "starts", start_at(voices, &time) == want);
+    holds(rt, "counts at the start", have_counts(voices, counts));
+}
+
+// A voice with this period and no beats yet.
+fn voice(rt: &impl Abort, numer: i64, denom: i64) -> Voice {
+    Voice {
+        period: frac(rt, numer, denom),
+        count: 0,
+    }
 }
 
 #[test]
 fn test_beats(rt: HostRuntime) {
-    let (third, quarter) = (frac(&rt, 1, 3), frac(&rt, 1, 4));
-    let mut voices = Beats::new(third, quarter).expect(&rt, "both periods are above 0");
-    beats(&rt, &mut voices, (1, 4), Voice::Second);
-    beats(&rt, &mut voices, (1, 3), Voice::First);
-    beats(&rt, &mut voices, (1, 2), Voice::Second);
-    beats(&rt, &mut voices, (2, 3), Voice::First);
-    beats(&rt, &mut voices, (3, 4), Voice::Second);
-    beats(&rt, &mut voices, (1, 1), Voice::Both);
-    holds(
+    let mut voices = [voice(&rt, 1, 3), voice(&rt, 1, 4), voice(&rt, 1, 6)];
+    let times = [
+        Some((1, 6)),
+        Some((1, 4)),
+        Some((1, 3)),
+        Some((1, 2)),
+        Some((2, 3)),
+        Some((3, 4)),
+        Some((5, 6)),
+        Some((1, 1)),
+    ];
+    plays(&rt, &mut voices, &times, &[3, 4, 6]);
+}
+
+#[test]
+fn test_two_voices(rt: HostRuntime) {
+    let mut voices = [voice(&rt, 1, 2), voice(&rt, 1, 3)];
+    let times = [Some((1, 3)), Some((1, 2)), Some((2, 3)), Some((1, 1))];
+    plays(&rt, &mut voices, &times, &[2, 3]);
+}
+
+// The second beat of the first voice does not fit, so the other has no beat either.
+#[test]
+fn test_last_beat(rt: HostRuntime) {
+    let mut voices = [voice(&rt, i64::MAX, 1), voice(&rt, i64::MAX, 2)];
+    let times = [Some((i64::MAX, 2)), Some((i64::MAX, 1)), None];
+    plays(&rt, &mut voices, &times, &[1, 2]);
+}
+
+#[test]
+fn test_no_voice(rt: HostRuntime) {
+    let mut voices: [Voice; 0] = [];
+    plays(&rt, &mut voices, &[None], &[]);
+}
+
+// The voices start at a time, and then beat.
+fn starts_and_plays(
+    rt: &impl Abort,
+    voices: &mut [Voice],
+    time: (i64, i64),
+    first: &[i64],
+    times: &[Option<(i64, i64)>],
+    last: &[i64],
+) {
+    starts(rt, voices, time, true, first);
+    plays(rt, voices, times, last);
+}
+
+#[test]
+fn test_start(rt: HostRuntime) {
+    let mut voices = [voice(&rt, 1, 3), voice(&rt, 1, 4), voice(&rt, 2, 7)];
+    let times = [
+        Some((2, 1)),
+        Some((9, 4)),
+        Some((16, 7)),
+        Some((7, 3)),
+        Some((5, 2)),
+        Some((18, 7)),
+        Some((8, 3)),
+    ];
+    starts_and_plays(&rt, &mut voices, (7, 4), &[5, 7, 6], &times, &[8, 10, 9]);
+}
+
+#[test]
+fn test_start_below_zero(rt: HostRuntime) {
+    let mut voices = [voice(&rt, 1, 3), voice(&rt, 1, 4)];
+    let times = [Some((0, 1)), Some((1, 4)), Some((1, 3)), Some((1, 2))];
+    starts_and_plays(&rt, &mut voices, (-1, 4), &[-1, -1], &times, &[1, 2]);
+}
+
+// The count fits, though the time over the period does not.
+#[test]
+fn test_start_late(rt: HostRuntime) {
+    let mut voices = [voice(&rt, 3, 5)];
+    starts(
         &rt,
-        "counts",
-        voices.first_count == 3 && voices.second_count == 4,
+        &mut voices,
+        (i64::MAX, 2),
+        true,
+        &[7686143364045646505],
     );
-    let never = Reduced64::zero();
-    holds(&rt, "no period", Beats::new(third, never).is_none());
-    let late = Reduced64::from_integer(i64::MAX);
-    let mut voices = Beats::new(late, late).expect(&rt, "both periods are above 0");
-    beats(&rt, &mut voices, (i64::MAX, 1), Voice::Both);
-    holds(
-        &rt,
-        "held",
-        voices.next().is_none() && voices.first_count == 1,
-    );
+}
+
+#[test]
+fn test_no_start(rt: HostRuntime) {
+    let mut voices = [voice(&rt, 3, 5), voice(&rt, 1, 2)];
+    starts(&rt, &mut voices, (i64::MAX, 1), false, &[0, 0]);
+}
+
+#[test]
+fn test_no_start_without_period(rt: HostRuntime) {
+    let mut voices = [voice(&rt, 1, 2), voice(&rt, 0, 1)];
+    starts(&rt, &mut voices, (1, 1), false, &[0, 0]);
+}
+
+#[test]
+fn test_no_start_below_zero(rt: HostRuntime) {
+    let mut voices = [voice(&rt, -1, 2)];
+    starts(&rt, &mut voices, (1, 1), false, &[0]);
+}
+
+// The voices of these periods meet at this time, or at none that fits.
+fn meets(rt: &impl Abort, periods: [(i64, i64); 3], want: Option<(i64, i64)>) {
+    let [first, second, third] = periods;
+    let voices = [
+        voice(rt, first.0, first.1),
+        voice(rt, second.0, second.1),
+        voice(rt, third.0, third.1),
+    ];
+    answers(rt, meet(&voices), want);
+}
+
+#[test]
+fn test_meet(rt: HostRuntime) {
+    let max = i64::MAX;
+    meets(&rt, [(1, 2), (1, 3), (1, 3)], Some((1, 1)));
+    meets(&rt, [(1, 4), (1, 6), (1, 4)], Some((1, 2)));
+    meets(&rt, [(1, 3), (1, 4), (2, 7)], Some((2, 1)));
+    meets(&rt, [(5, 6), (5, 6), (5, 6)], Some((5, 6)));
+    meets(&rt, [(max, 1), (max, 1), (max, 1)], Some((max, 1)));
+    meets(&rt, [(1, max), (1, max - 1), (1, 1)], Some((1, 1)));
+    meets(&rt, [(max, 1), (max - 1, 1), (1, 1)], None);
+    meets(&rt, [(1, 2), (0, 1), (1, 3)], None);
+    meets(&rt, [(-1, 2), (1, 2), (1, 3)], None);
+    meets(&rt, [(1, 2), (1, 3), (-1, 2)], None);
+    answers(&rt, meet(&[]), None);
 }

@@ -20,7 +20,7 @@ use Rattle.ratio_core.proofs.SumLemmas.{fits_by}
 use Rattle.ratio_uses.specs.Beats.{AreInStep, BeatIsHeld, HasHad, IsBefore, IsNextBeat, IsUpTo, periods}
 use Rattle.ratio_uses.specs.Held.{FitsIn64}
 use Rattle.ratio_uses.specs.declared.beats.Voice.TheVariants.{Both, First, Second}
-use Rattle.ratio_uses.proofs.LedgerLemmas.{cancel_less}
+use Rattle.num_rational.proofs.SplitLemmas.{cancel_less}
 use Rattle.ratio_uses.proofs.OctaveLemmas.{less_times}
 
 one-times : (a : ℤ) → pos 1 *ℤ a ≡ a

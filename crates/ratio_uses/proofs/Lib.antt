@@ -5,5 +5,4 @@ pub mod ChainOrder
 pub mod ConversionLemmas
 pub mod GearLemmas
 pub mod MeetLemmas
-pub mod LedgerLemmas
 pub mod OctaveLemmas

@@ -3,6 +3,5 @@ pub mod Callers
 pub mod Accounts
 pub mod Gears
 pub mod Beats
-pub mod Ledger
 pub mod Cents
 pub mod Units

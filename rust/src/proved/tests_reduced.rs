@@ -31,6 +31,8 @@ mod simplest;
 #[cfg(test)]
 mod simplest_within;
 #[cfg(test)]
+mod splits;
+#[cfg(test)]
 mod two_ways;
 #[cfg(test)]
 mod typed_texts;

@@ -3,7 +3,7 @@
 use crate::proved::fraction_laws::told_apart::told_apart;
 use crate::proved::fraction_laws::{
     divisors, folds, many_products, nearest, neutral, order, powers, reading, reduced, remainder,
-    rounding, signs, undoing, values,
+    rounding, signs, splits, undoing, values,
 };
 use crate::proved::num_rational::{Ratio, Reduced, Reduced64};
 
@@ -46,6 +46,12 @@ fn order_of_results() {
     order::products(&x, &y, &z);
     order::products(&y, &x, &y);
     order::negatives(&x, &y);
+}
+
+#[test]
+fn parts_of_equals() {
+    splits::equal_shares(100, &[fraction(1, 3); 3], &[33, 34, 33]);
+    splits::equal_weights(100i64, &[1, 1, 1], &[33, 34, 33]);
 }
 
 #[test]

@@ -1,6 +1,6 @@
-// Erased from crates/tests_fractions/src/ratios/splits.rt by rust/erase: not to be edited.
+// Erased from crates/tests_reduced/src/splits.rt by rust/erase: not to be edited.
 //! Amounts split by weights, and at the ends of `i8` by shares: rows from outside.
-use crate::proved::tests_fractions::asserting::each_holds;
+use crate::proved::tests_reduced::asserting::each_holds;
 use crate::proved::num_rational::{Reduced, SplitRefusal, WeightRefusal, split, split_by_weights};
 use crate::proved::ratio_integer::Integer;
 

@@ -177,5 +177,5 @@ module _ {A P : Type 0} (value : A → ℤ) (value_of : P → ℤ) (lo hi amount
       let same = subst (λ xs. SameValue (total_of_shares (share_of value weights) xs).0 (total_of_shares (share_of value weights) xs).1 sum t) all so_far.same in
       let last : sum ≡ t = sum_is ∙ ap (total_of value) all in
       split_whole (share_of value weights) value_of amount weights parts k (sum, t) mark whole alike
-          (shares_make_one (total_of_shares (share_of value weights) weights) t t_up (subst (λ (z : ℤ). SameValue (total_of_shares (share_of value weights) weights).0 (total_of_shares (share_of value weights) weights).1 z t) last same))
-          so_far
+      (shares_make_one (total_of_shares (share_of value weights) weights) t t_up (subst (λ (z : ℤ). SameValue (total_of_shares (share_of value weights) weights).0 (total_of_shares (share_of value weights) weights).1 z t) last same))
+      so_far

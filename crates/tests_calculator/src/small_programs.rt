@@ -122,7 +122,10 @@ fn rents(
 ) {
     let mut owed = [7; 3];
     let answer = rent(cents, days, &mut owed);
-    assert!(rt; answer == want && owed == *want_owed, "{answer:?}, {owed:?}");
+    assert!(rt;
+        answer == want && owed == *want_owed,
+        "{answer:?}, {owed:?}"
+    );
 }
 
 #[test]

@@ -66,7 +66,13 @@ fn count_of(amount: &Reduced64, unit_parts: i64) -> Option<i128>
     let denom = *amount.denom();
     if unit_parts.is_multiple_of(denom) {
         let numer = *amount.numer();
-        rounded_product(numer as i128, denom as i128, unit_parts as i128, 1, Rounding::HalfAway)
+        rounded_product(
+            numer as i128,
+            denom as i128,
+            unit_parts as i128,
+            1,
+            Rounding::HalfAway,
+        )
     } else {
         None
     }

@@ -69,9 +69,9 @@ loop-i-preserved g c =
     let rounded = subst (IsRounded (T.value c.args.amount *ℤ (T.value c.loop-i.sum +ℤ T.value c.index-weights-i.result)) (total_of T.value c.args.weights.now)) (sym is) computed in
     record {
       sum = c.plus-sum.ensures ∙ sum_next T.value T.value T.lo T.hi (T.value c.args.amount) c.args.weights.now g.met.T.Integer.range_law can
-    c.loop-i.i (T.value c.loop-i.sum) c.index-weights-i.result c.loop-i-test.true c.index-weights-i.is c.loop-i.invariant.sum;
+          c.loop-i.i (T.value c.loop-i.sum) c.index-weights-i.result c.loop-i-test.true c.index-weights-i.is c.loop-i.invariant.sum;
       so_far = rw c.plus-sum.ensures (weights_more T.value T.value T.lo T.hi (T.value c.args.amount) c.args.weights.now g.met.T.Integer.range_law can
-    c.loop-i.i (T.value c.loop-i.sum) c.index-weights-i.result c.loop-i-test.true c.index-weights-i.is c.loop-i.invariant.sum (T.value c.unwrap-next.result) rounded
+          c.loop-i.i (T.value c.loop-i.sum) c.index-weights-i.result c.loop-i-test.true c.index-weights-i.is c.loop-i.invariant.sum (T.value c.unwrap-next.result) rounded
           c.loop-i.parts (T.value c.loop-i.mark) c.minus.result (omega arith) c.loop-i.invariant.so_far c.minus.ensures);
     }
 

@@ -40,11 +40,11 @@ loop-share-preserved c =
     simp to_z-of_z (record {
       fit = below_more _ _ (simp to_z-of_z at c.loop-share.invariant.fit)
           (part_fits lowest_numbers c.args.unit_parts c.args.count c.args.shares.now
-    c.loop-share.share-index (lowest_numbers c.loop-share.sum) c.loop-share.mark c.share-item.result c.loop-share-test.true c.share-item.is
-    c.loop-share.sum.lowest.positive c.share-item.result.lowest.positive marked (lowest_numbers c.in-Some.next) c.in-Some.next_mark (lowest_numbers c.in-Some.field-0-2) step);
+          c.loop-share.share-index (lowest_numbers c.loop-share.sum) c.loop-share.mark c.share-item.result c.loop-share-test.true c.share-item.is
+          c.loop-share.sum.lowest.positive c.share-item.result.lowest.positive marked (lowest_numbers c.in-Some.next) c.in-Some.next_mark (lowest_numbers c.in-Some.field-0-2) step);
       marked = marked_more lowest_numbers c.args.unit_parts c.args.count c.args.shares.now
-    c.loop-share.share-index (lowest_numbers c.loop-share.sum) c.loop-share.mark c.share-item.result c.loop-share-test.true c.share-item.is
-    c.loop-share.sum.lowest.positive c.share-item.result.lowest.positive marked (lowest_numbers c.in-Some.next) c.in-Some.next_mark (lowest_numbers c.in-Some.field-0-2) step;
+          c.loop-share.share-index (lowest_numbers c.loop-share.sum) c.loop-share.mark c.share-item.result c.loop-share-test.true c.share-item.is
+          c.loop-share.sum.lowest.positive c.share-item.result.lowest.positive marked (lowest_numbers c.in-Some.next) c.in-Some.next_mark (lowest_numbers c.in-Some.field-0-2) step;
     })
 
 pub returns-then-numer-denom : goal.returns-then-numer-denom

@@ -50,7 +50,7 @@ loop-i-preserved c =
     let step = rw c.loop-i.mark-is at (simp to_z-of_z at (rw c.unwrap-next_mark.ensures at c.next_part.ensures)) in
     simp to_z-of_z (cents_more lowest_numbers c.args.unit_parts c.args.count c.args.shares.now
     c.loop-i.i (lowest_numbers c.loop-i.sum) c.loop-i.mark c.index-shares-i.result c.loop-i-test.true c.index-shares-i.is
-    c.loop-i.sum.lowest.positive c.index-shares-i.result.lowest.positive 
+    c.loop-i.sum.lowest.positive c.index-shares-i.result.lowest.positive
     c.loop-i.parts (omega arith) so_far above (lowest_numbers c.unwrap-next_mark.result.0) c.unwrap-next_mark.result.1 c.unwrap-next_mark.result.2 step)
 
 pub returns : goal.returns

@@ -1,11 +1,11 @@
 //! Rows of the small programs of `ratio_uses`.
-use num_rational::{Rational64, Reduced64, SplitRefusal};
+use num_rational::{Rational64, Reduced64, SplitRefusal, WeightRefusal};
 use ratio_uses::accounts::move_part;
 use ratio_uses::beats::{Voice, meet, next_beat, start_at};
 use ratio_uses::callers::{greatest, mean};
 use ratio_uses::conditions::{chained, together};
 use ratio_uses::gears::nearest_pair;
-use ratio_uses::ledger::{Refusal, in_cents, split_to};
+use ratio_uses::ledger::{Refusal, in_cents, rent, split_to};
 use ratio_uses::readme::{faster, third_of, total};
 use ratio_uses::units::{convert, in_octave};
 use std::cmp::Ordering;
@@ -140,6 +140,29 @@ fn test_gears_of_many_teeth(rt: HostRuntime) {
     ];
     let wrong = first_wrong_wheels(&rows);
     assert!(rt; wrong.is_none(), "row {wrong:?}");
+}
+
+// What `rent` returns, and what each owes after the call.
+fn rents(
+    rt: &impl Abort,
+    cents: i64,
+    days: &[i64],
+    want: Result<(), WeightRefusal>,
+    want_owed: &[i64; 3],
+) {
+    let mut owed = [7; 3];
+    let answer = rent(cents, days, &mut owed);
+    assert!(rt;
+        answer == want && owed == *want_owed,
+        "{answer:?}, {owed:?}"
+    );
+}
+
+#[test]
+fn test_rent(rt: HostRuntime) {
+    rents(&rt, 100000, &[10, 10, 11], Ok(()), &[32258, 32258, 35484]);
+    let none = Err(WeightRefusal::AllZero);
+    rents(&rt, 100000, &[0, 0, 0], none, &[7, 7, 7]);
 }
 
 // What `split_to` returns, and the parts after the call.

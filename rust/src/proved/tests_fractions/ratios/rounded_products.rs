@@ -1,5 +1,6 @@
 // Erased from crates/tests_fractions/src/ratios/rounded_products.rt by rust/erase: not to be edited.
-//! Products and quotients rounded to whole numbers, and amounts split by shares: rows from outside, in which a product may not fit.
+//! Products and quotients rounded to whole numbers, and amounts split by shares: rows from outside, in which a product may
+//! not fit.
 use crate::proved::tests_fractions::asserting::each_holds;
 use crate::proved::num_rational::{Reduced, Rounding, SplitRefusal, split};
 use crate::proved::ratio_integer::Integer;
@@ -142,36 +143,149 @@ fn quotients() {
     let least = i64::MIN;
     let third = 1229782938247303440;
     let facts = [
-        divides((most, 3), (5, 2), [Some(third + 1), Some(third + 1), Some(third), Some(third + 1), Some(third), Some(third + 1)]),
+        divides(
+            (most, 3),
+            (5, 2),
+            [
+                Some(third + 1),
+                Some(third + 1),
+                Some(third),
+                Some(third + 1),
+                Some(third),
+                Some(third + 1),
+            ],
+        ),
         divides((most, 3), (1, 6), [None; 6]),
         divides((most, 5), (0, 1), [None; 6]),
-        divides((5, 3), (-2, 3), [Some(-3), Some(-2), Some(-2), Some(-3), Some(-3), Some(-2)]),
-        divides((-5, 3), (2, 3), [Some(-3), Some(-2), Some(-2), Some(-3), Some(-3), Some(-2)]),
-        divides((-7, 3), (-2, 5), [Some(6), Some(6), Some(5), Some(6), Some(5), Some(6)]),
+        divides(
+            (5, 3),
+            (-2, 3),
+            [Some(-3), Some(-2), Some(-2), Some(-3), Some(-3), Some(-2)],
+        ),
+        divides(
+            (-5, 3),
+            (2, 3),
+            [Some(-3), Some(-2), Some(-2), Some(-3), Some(-3), Some(-2)],
+        ),
+        divides(
+            (-7, 3),
+            (-2, 5),
+            [Some(6), Some(6), Some(5), Some(6), Some(5), Some(6)],
+        ),
         divides((0, 1), (-3, 7), [Some(0); 6]),
         divides((least, 1), (-1, 1), [None; 6]),
-        divides((least, 3), (-1, 2), [Some(6148914691236517205), Some(6148914691236517205), Some(6148914691236517205), Some(6148914691236517206), Some(6148914691236517205), Some(6148914691236517206)]),
-        divides((least, 7), (-5, 3), [Some(790574746016123641), Some(790574746016123641), Some(790574746016123640), Some(790574746016123641), Some(790574746016123640), Some(790574746016123641)]),
-        divides((7, 2), (least, 3), [Some(0), Some(0), Some(0), Some(-1), Some(-1), Some(0)]),
-        divides((most, 1), (least, most), [Some(-9223372036854775806), Some(-9223372036854775806), Some(-9223372036854775806), Some(-most), Some(-most), Some(-9223372036854775806)]),
-        divides((-most, 3), (least, most), [Some(3074457345618258602), Some(3074457345618258602), Some(3074457345618258602), Some(3074457345618258603), Some(3074457345618258602), Some(3074457345618258603)]),
+        divides(
+            (least, 3),
+            (-1, 2),
+            [
+                Some(6148914691236517205),
+                Some(6148914691236517205),
+                Some(6148914691236517205),
+                Some(6148914691236517206),
+                Some(6148914691236517205),
+                Some(6148914691236517206),
+            ],
+        ),
+        divides(
+            (least, 7),
+            (-5, 3),
+            [
+                Some(790574746016123641),
+                Some(790574746016123641),
+                Some(790574746016123640),
+                Some(790574746016123641),
+                Some(790574746016123640),
+                Some(790574746016123641),
+            ],
+        ),
+        divides(
+            (7, 2),
+            (least, 3),
+            [Some(0), Some(0), Some(0), Some(-1), Some(-1), Some(0)],
+        ),
+        divides(
+            (most, 1),
+            (least, most),
+            [
+                Some(-9223372036854775806),
+                Some(-9223372036854775806),
+                Some(-9223372036854775806),
+                Some(-most),
+                Some(-most),
+                Some(-9223372036854775806),
+            ],
+        ),
+        divides(
+            (-most, 3),
+            (least, most),
+            [
+                Some(3074457345618258602),
+                Some(3074457345618258602),
+                Some(3074457345618258602),
+                Some(3074457345618258603),
+                Some(3074457345618258602),
+                Some(3074457345618258603),
+            ],
+        ),
         divides((least, 1), (least, most), [Some(most); 6]),
         divides((least, 1), (least, 3), [Some(3); 6]),
     ];
     each_holds(&facts);
     let facts = [
-        divides((127i8, 3), (5, 2), [Some(17), Some(17), Some(16), Some(17), Some(16), Some(17)]),
-        divides((64i8, 1), (-128, 5), [Some(-3), Some(-2), Some(-2), Some(-3), Some(-3), Some(-2)]),
-        divides((64i8, 1), (-128, 1), [Some(-1), Some(0), Some(0), Some(-1), Some(-1), Some(0)]),
-        divides((96i8, 1), (-128, 2), [Some(-2), Some(-2), Some(-1), Some(-2), Some(-2), Some(-1)]),
-        divides((127i8, 1), (-128, 127), [Some(-126), Some(-126), Some(-126), Some(-127), Some(-127), Some(-126)]),
-        divides((-127i8, 3), (-128, 125), [Some(41), Some(41), Some(41), Some(42), Some(41), Some(42)]),
+        divides(
+            (127i8, 3),
+            (5, 2),
+            [Some(17), Some(17), Some(16), Some(17), Some(16), Some(17)],
+        ),
+        divides(
+            (64i8, 1),
+            (-128, 5),
+            [Some(-3), Some(-2), Some(-2), Some(-3), Some(-3), Some(-2)],
+        ),
+        divides(
+            (64i8, 1),
+            (-128, 1),
+            [Some(-1), Some(0), Some(0), Some(-1), Some(-1), Some(0)],
+        ),
+        divides(
+            (96i8, 1),
+            (-128, 2),
+            [Some(-2), Some(-2), Some(-1), Some(-2), Some(-2), Some(-1)],
+        ),
+        divides(
+            (127i8, 1),
+            (-128, 127),
+            [
+                Some(-126),
+                Some(-126),
+                Some(-126),
+                Some(-127),
+                Some(-127),
+                Some(-126),
+            ],
+        ),
+        divides(
+            (-127i8, 3),
+            (-128, 125),
+            [Some(41), Some(41), Some(41), Some(42), Some(41), Some(42)],
+        ),
         divides((-128i8, 1), (-128, 127), [Some(127); 6]),
-        divides((-128i8, 3), (-127, 125), [Some(42), Some(42), Some(41), Some(42), Some(41), Some(42)]),
+        divides(
+            (-128i8, 3),
+            (-127, 125),
+            [Some(42), Some(42), Some(41), Some(42), Some(41), Some(42)],
+        ),
         divides(
             (i128::MAX, 3),
             (i128::MIN, i128::MAX),
-            [Some(-56713727820156410577229101238628035242), Some(-56713727820156410577229101238628035242), Some(-56713727820156410577229101238628035242), Some(-56713727820156410577229101238628035243), Some(-56713727820156410577229101238628035243), Some(-56713727820156410577229101238628035242)],
+            [
+                Some(-56713727820156410577229101238628035242),
+                Some(-56713727820156410577229101238628035242),
+                Some(-56713727820156410577229101238628035242),
+                Some(-56713727820156410577229101238628035243),
+                Some(-56713727820156410577229101238628035243),
+                Some(-56713727820156410577229101238628035242),
+            ],
         ),
         divides((255u8, 2), (255, 2), [Some(1); 6]),
     ];

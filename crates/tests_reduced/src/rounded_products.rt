@@ -1,4 +1,5 @@
-//! Products and quotients rounded to whole numbers, and amounts split by shares: rows from outside, in which a product may not fit.
+//! Products and quotients rounded to whole numbers, and amounts split by shares: rows from outside, in which a product may
+//! not fit.
 use crate::asserting::each_holds;
 use num_rational::{Reduced, Rounding, SplitRefusal, split};
 use ratio_integer::Integer;

@@ -1,5 +1,6 @@
 // Erased from crates/tests_reduced/src/rounded_products.rt by rust/erase: not to be edited.
-//! Products and quotients rounded to whole numbers, and amounts split by shares: rows from outside, in which a product may not fit.
+//! Products and quotients rounded to whole numbers, and amounts split by shares: rows from outside, in which a product may
+//! not fit.
 use crate::proved::tests_reduced::asserting::each_holds;
 use crate::proved::num_rational::{Reduced, Rounding, SplitRefusal, split};
 use crate::proved::ratio_integer::Integer;

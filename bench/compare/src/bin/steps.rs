@@ -11,7 +11,7 @@ mod random;
 #[path = "../timing.rs"]
 mod timing;
 
-use bakhsney::proved::num_rational::Reduced;
+use bakhsney::proved::num_rational::{self, Reduced};
 use bakhsney::Rounding;
 use num_bigint::BigInt;
 use num_integer::Integer;
@@ -27,6 +27,7 @@ fn goal(call: &str, kind: &str) -> Option<f64> {
     match call {
         "checked_product_of" if kind != "five rates, a step does not fit" => Some(1.3),
         "checked_mul_round" if kind == "small" || kind == "half" => Some(1.0),
+        "split" => Some(1.0),
         _ => None,
     }
 }
@@ -142,9 +143,58 @@ fn big_rows(filter: &str) -> usize {
     row(&pairs, ["i128", "checked_rem", kind], |p| p.1[0].checked_rem(&p.1[1]).map(|x| x.into_raw()), |p| big_remainder(&p.0))
 }
 
+/// An amount and its shares.
+type Bill = (i64, [Reduced<i64>; SHARES]);
+
+const SHARES: usize = 100;
+
+/// Bills whose shares have one denominator before they are reduced, so that each product fits.
+fn bills() -> Vec<Bill> {
+    let mut random = Random::new(20_240_229);
+    let bill = |_| {
+        let mut weights = [0i64; SHARES];
+        weights.fill_with(|| 1 + random.below(1 << 20) as i64);
+        let total: i64 = weights.iter().sum();
+        (1 + random.below(1 << 30) as i64, weights.map(|weight| Reduced::checked_new(weight, total).expect("it fits")))
+    };
+    (0..COUNT / SHARES).map(bill).collect()
+}
+
+/// The mark after one more share, by a product that is formed.
+fn next_mark(amount: i64, sum: &Reduced<i64>, share: &Reduced<i64>) -> Option<(Reduced<i64>, i64)> {
+    let sum = sum.checked_add(share)?;
+    let mark = sum.checked_mul(amount)?.round().to_integer();
+    Some((sum, mark))
+}
+
+/// The parts by products that are formed. As in the library, a first walk looks whether each step fits.
+fn split_by_steps((amount, shares): &Bill) -> Option<[i64; SHARES]> {
+    shares.iter().try_fold(Reduced::zero(), |sum, share| next_mark(*amount, &sum, share).map(|next| next.0))?;
+    let (mut sum, mut mark, mut parts) = (Reduced::zero(), 0, [0; SHARES]);
+    for (part, share) in parts.iter_mut().zip(shares) {
+        let (next, next_mark) = next_mark(*amount, &sum, share)?;
+        *part = next_mark - mark;
+        (sum, mark) = (next, next_mark);
+    }
+    Some(parts)
+}
+
+/// Splits of an amount by many shares.
+fn split_rows(filter: &str) -> usize {
+    let kind = "100 shares";
+    if !format!("i64/split/{kind}").contains(filter) {
+        return 0;
+    }
+    let split = |bill: &Bill| {
+        let mut parts = [0; SHARES];
+        num_rational::split(bill.0, &bill.1, &mut parts).ok().map(|()| parts)
+    };
+    row(&bills(), ["i64", "split", kind], split, split_by_steps)
+}
+
 fn main() {
     let filter = std::env::args().nth(1).unwrap_or_default();
-    let differing = rows!(i32, &filter) + rows!(i64, &filter) + rows!(i128, &filter) + big_rows(&filter);
+    let differing = rows!(i32, &filter) + rows!(i64, &filter) + rows!(i128, &filter) + big_rows(&filter) + split_rows(&filter);
     if differing > 0 {
         eprintln!("{differing} results differ");
         std::process::exit(1);

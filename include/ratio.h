@@ -298,8 +298,8 @@ uint32_t ratio_quotient_of_i64(const ratio_i64 *above, size_t above_len, const r
  *   RATIO_BELOW_ZERO                 a share or a weight is below 0
  *   RATIO_NOT_HELD                   of split: the first shares, added up, do not fit 64 bits in lowest terms, or the amount times that sum,
  *                                    rounded. Of split_by_weights: the sum of the weights does not fit
- *   RATIO_NOT_ONE                    of split: the shares do not add up to 1. Nor do no shares
- *   RATIO_ALL_ZERO                   of split_by_weights: the weights add up to 0. So do no weights
+ *   RATIO_NOT_ONE                    of split: the shares do not add up to 1, or there are none
+ *   RATIO_ALL_ZERO                   of split_by_weights: the weights add up to 0, or there are none
  */
 uint32_t ratio_split_i64(int64_t amount, const ratio_i64 *shares, size_t shares_len, int64_t *parts, size_t parts_len);
 uint32_t ratio_split_by_weights_i64(int64_t amount, const int64_t *weights, size_t weights_len, int64_t *parts, size_t parts_len);

@@ -6,7 +6,7 @@ use Rattle.std.proofs.lemmas.Int.{ints}
 use Rattle.ratio_approximation.specs.Nearest.{gap}
 use Rattle.ratio_approximation.proofs.NearestPreference.{first_chained}
 use Rattle.ratio_uses.specs.Gears.{AreNearestWheels, IsWheel, PairComesFirst}
-use Rattle.ratio_uses.specs.Trains.{AreFirstOf, HasDriven, HasTeeth, IsFirstOfTwo, IsPair, TrainComesFirst, driven_teeth, driver_teeth}
+use Rattle.ratio_uses.specs.Trains.{AreFirstOf, HasDriven, HasTeeth, IsFirstTrain, IsPair, TrainComesFirst, driven_teeth, driver_teeth}
 use Rattle.ratio_uses.specs.declared.trains.Pair.{Pair}
 use Rattle.ratio_uses.proofs.GearLemmas.{gap_is}
 
@@ -27,8 +27,8 @@ pair_moved : (n d c e p q k l : ℕ) → 0 < e → PairComesFirst (pos (n * e), 
 pair_moved n d c e p q k l up is = cases (rw (gap_moved n d c e p q, gap_moved n d c e k l) at is)
   where
     cases : (gap (pos n) (pos d) (pos (p * c)) (pos (q * e)) * l < gap (pos n) (pos d) (pos (k * c)) (pos (l * e)) * q)
-            ⊎ ((gap (pos n) (pos d) (pos (p * c)) (pos (q * e)) * l ≡ gap (pos n) (pos d) (pos (k * c)) (pos (l * e)) * q) × ((pos q <ℤ pos l) ⊎ ((pos q ≡ pos l) × (pos p ≤ℤ pos k))))
-            → PairComesFirst (pos n, pos d) (p * c) (q * e) (k * c) (l * e)
+        ⊎ ((gap (pos n) (pos d) (pos (p * c)) (pos (q * e)) * l ≡ gap (pos n) (pos d) (pos (k * c)) (pos (l * e)) * q) × ((pos q <ℤ pos l) ⊎ ((pos q ≡ pos l) × (pos p ≤ℤ pos k))))
+        → PairComesFirst (pos n, pos d) (p * c) (q * e) (k * c) (l * e)
     cases (inl nearer) = let more = mul-lt-mul_of_pos_right nearer up in inl (omega arith)
     cases (inr (same, later)) = let more = ap (λ t. t * e) same in inr (omega arith, later_moved p q k l c e up later)
 
@@ -53,7 +53,7 @@ chained wanted a b c d e f first second third =
 
 module _ (wanted : ℤ × ℤ) (least most : ℕ) (One Other Each : Pair → Type 0) (one other train : Pair × Pair) (least_up : 0 < least) (up : (y : Pair) → Each y → 0 < y.driven)
     (from_one : (y : Pair) → One y → Each y) (from_other : (y : Pair) → Other y → Each y) (either : (y : Pair) → Each y → One y ⊎ Other y)
-    (one_is : AreFirstOf wanted least most One one.0 one.1) (other_is : AreFirstOf wanted least most Other other.0 other.1) (is : IsFirstOfTwo wanted one other train) where
+    (one_is : AreFirstOf wanted least most One one.0 one.1) (other_is : AreFirstOf wanted least most Other other.0 other.1) (is : IsFirstTrain wanted one other train) where
   pair_up : (x y : Pair) → IsPair least most x → Each y → 0 < driven_teeth x y
   pair_up x y x_in y_in = product_up x.driven y.driven (let low = x_in.driven.at_least in omega arith) (up y y_in)
 
@@ -113,7 +113,7 @@ driver_begins wanted least most driven start first second start_is at_least same
     start_is
 
 pub driver_goes_on : (wanted : ℤ × ℤ) (least most driven top : ℕ) (next : Pair) (one other train : Pair × Pair) → 0 < least → least ≤ top → 0 < driven
-    → AreFirstOf wanted least most (HasDriven least top driven) one.0 one.1 → AreFirstOf wanted least most (HasTeeth next) other.0 other.1 → IsFirstOfTwo wanted one other train
+    → AreFirstOf wanted least most (HasDriven least top driven) one.0 one.1 → AreFirstOf wanted least most (HasTeeth next) other.0 other.1 → IsFirstTrain wanted one other train
     → next.driver ≡ top + 1 → next.driven ≡ driven → AreFirstOf wanted least most (HasDriven least (top + 1) driven) train.0 train.1
 driver_goes_on wanted least most driven top next one other train least_up range up one_is other_is is is_top same =
     first_of_both wanted least most (HasDriven least top driven) (HasTeeth next) (HasDriven least (top + 1) driven) one other train least_up
@@ -141,7 +141,7 @@ driven_begins wanted least most first second =
     (λ y is. let low = is.driven.at_least in let high = is.driven.at_most in record { driver = is.driver; same = omega arith })
 
 pub driven_goes_on : (wanted : ℤ × ℤ) (least most top : ℕ) (one other train : Pair × Pair) → 0 < least → least ≤ top
-    → AreFirstOf wanted least most (DrivenUpTo least most top) one.0 one.1 → AreFirstOf wanted least most (HasDriven least most (top + 1)) other.0 other.1 → IsFirstOfTwo wanted one other train
+    → AreFirstOf wanted least most (DrivenUpTo least most top) one.0 one.1 → AreFirstOf wanted least most (HasDriven least most (top + 1)) other.0 other.1 → IsFirstTrain wanted one other train
     → AreFirstOf wanted least most (DrivenUpTo least most (top + 1)) train.0 train.1
 driven_goes_on wanted least most top one other train least_up range =
     first_of_both wanted least most (DrivenUpTo least most top) (HasDriven least most (top + 1)) (DrivenUpTo least most (top + 1)) one other train least_up

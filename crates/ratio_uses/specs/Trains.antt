@@ -22,7 +22,7 @@ driver_teeth first second = first.driver * second.driver
 abbrev pub driven_teeth : Pair → Pair → ℕ
 driven_teeth first second = first.driven * second.driven
 
--- the train of the first two pairs comes before that of the last two by its distance from the wanted ratio, or has the same teeth (`PairComesFirst`)
+-- the train of the first two pairs comes before that of the last two by its distance from the wanted ratio, or has the same products of teeth (`PairComesFirst`)
 -- Example: from 355/113: 19/11 times 20/11 before 11/7 times 14/7
 abbrev pub TrainComesFirst : ℤ × ℤ → Pair → Pair → Pair → Pair → Type 0
 TrainComesFirst wanted first second x y = PairComesFirst wanted (driver_teeth first second) (driven_teeth first second) (driver_teeth x y) (driven_teeth x y)
@@ -65,7 +65,7 @@ FirstOfTwo wanted x y true = PairComesFirst wanted x.0 x.1 y.0 y.1
 FirstOfTwo wanted x y false = PairComesFirst wanted y.0 y.1 x.0 x.1
 
 -- Inner: the train is one of two, and comes first of them
-pub record IsFirstOfTwo (wanted : ℤ × ℤ) (one other train : Pair × Pair) : Type 0 where
+pub record IsFirstTrain (wanted : ℤ × ℤ) (one other train : Pair × Pair) : Type 0 where
   pub either : (train ≡ one) ⊎ (train ≡ other)
   pub before_one : TrainComesFirst wanted train.0 train.1 one.0 one.1
   pub before_other : TrainComesFirst wanted train.0 train.1 other.0 other.1

@@ -1,10 +1,10 @@
 //! Two pairs of wheels, one after the other, whose ratio is near a wanted one.
 ghost use Rattle.std.specs.Prelude.{◌≡◌, ◌*◌, ◌<◌, ◌≤◌, pos};
 ghost use Rattle.ratio_uses.specs.Held.{lowest_numbers};
-ghost use Rattle.ratio_uses.specs.Trains.{AreFirstOf, AreNearestPairs, ChecksTrain, FirstOfTwo, HasDriven, HasTeeth, IsFirstOfTwo, driven_teeth, driver_teeth};
+ghost use Rattle.ratio_uses.specs.Trains.{AreFirstOf, AreNearestPairs, ChecksTrain, FirstOfTwo, HasDriven, HasTeeth, IsFirstTrain, driven_teeth, driver_teeth};
 
-use num_rational::Reduced64;
 use crate::gears::{gap_of, nearest_wheels, off_from};
+use num_rational::Reduced64;
 
 /// The teeth of two wheels, of which one drives the other.
 #[derive(Clone, Copy, Debug)]
@@ -71,9 +71,27 @@ fn with_driven(numer: u64, denom: u64, least: u16, most: u16, driven: u16) -> (P
     requires driven { 0 < driven }
     ensures { AreFirstOf (pos numer, pos denom) least most (HasDriven least most driven) result.0 result.1 }
 {
-    let mut nearest = with_second(numer, denom, least, most, Pair { driver: least, driven });
+    let mut nearest = with_second(
+        numer,
+        denom,
+        least,
+        most,
+        Pair {
+            driver: least,
+            driven,
+        },
+    );
     for before in least..most {
-        let other = with_second(numer, denom, least, most, Pair { driver: before + 1, driven });
+        let other = with_second(
+            numer,
+            denom,
+            least,
+            most,
+            Pair {
+                driver: before + 1,
+                driven,
+            },
+        );
         nearest = first_of(numer, denom, nearest, other);
     }
     nearest
@@ -100,7 +118,7 @@ fn with_second(numer: u64, denom: u64, least: u16, most: u16, second: Pair) -> (
 
 // That one of both trains which comes first by its distance from the wanted ratio.
 fn first_of(numer: u64, denom: u64, one: (Pair, Pair), other: (Pair, Pair)) -> (Pair, Pair)
-    ensures { IsFirstOfTwo (pos numer, pos denom) one other result }
+    ensures { IsFirstTrain (pos numer, pos denom) one other result }
 {
     if comes_first(numer, denom, teeth(one.0, one.1), teeth(other.0, other.1)) {
         one

@@ -38,7 +38,9 @@ fn off(numer: i64, denom: i64, least: u16, most: u16) -> Option<(i64, i64)> {
 // Whether there is no train for this ratio.
 fn has_none(numer: i64, denom: i64, least: u16, most: u16) -> bool {
     let wanted = Reduced64::checked_new(numer, denom);
-    wanted.and_then(|wanted| nearest_train(&wanted, least, most)).is_none()
+    wanted
+        .and_then(|wanted| nearest_train(&wanted, least, most))
+        .is_none()
 }
 
 #[test]
@@ -79,7 +81,10 @@ fn test_trains_out_of_reach(rt: HostRuntime) {
 fn test_how_far_trains_are_off(rt: HostRuntime) {
     assert!(rt; off(355, 113, 8, 20) == Some((15, 13673)), "355/113");
     assert!(rt; off(52, 14, 1, 7) == Some((-1, 28)), "52/14");
-    assert!(rt; off(i64::MAX, 1, 3, 6) == Some((9223372036854775803, 1)), "the greatest");
+    assert!(rt;
+        off(i64::MAX, 1, 3, 6) == Some((9223372036854775803, 1)),
+        "the greatest"
+    );
     assert!(rt; off(1, i64::MAX, 3, 6) == None, "the least above 0");
 }
 

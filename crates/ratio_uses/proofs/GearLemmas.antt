@@ -1,8 +1,9 @@
 -- The nearest wheels: the best first wheel for each second one, and then the best of these pairs.
-use Rattle.std.specs.Prelude.{◌≡◌, ◌⊎◌, ◌+◌, ◌*◌, ◌-◌, ◌^◌, ◌/◌, ◌%◌, ◌<◌, ◌≤◌, ◌<ℤ◌, ◌*ℤ◌, ℕ, ℤ, pos, negsuc, unsigned_abs, Option}
+use Rattle.std.specs.Prelude.{◌≡◌, ◌⊎◌, ◌+◌, ◌*◌, ◌-◌, ◌^◌, ◌/◌, ◌%◌, ◌<◌, ◌≤◌, ◌<ℤ◌, ◌*ℤ◌, ℕ, ℤ, pos, negsuc, unsigned_abs, false, Option}
 use Rattle.std.proofs.Common.{refl, sym, ap, subst, arith, inl, inr}
 use Rattle.std.proofs.Math.Nat.{mul-le-mul, mul-le-mul_right, mul-lt-mul_of_pos_right}
 use Rattle.std.proofs.lemmas.Int.{ints}
+use lib.Signed.{lt_z}
 use Rattle.ratio_approximation.specs.Nearest.{ComesFirst, gap}
 use Rattle.ratio_approximation.proofs.NearestPreference.{first_chained, itself_first}
 use Rattle.ratio_integer.specs.Division.{IsGcdOf}
@@ -19,7 +20,7 @@ use Rattle.num_rational.proofs.ValueLemmas.{same_value_differences}
 use Rattle.ratio_uses.specs.Held.{FitsIn64}
 use Rattle.ratio_uses.specs.Gears.{AreNearestWheels, IsBestFirst, IsRoundedDown, IsWheel, PairComesFirst}
 
-gap_is : (n d p q : ℕ) → gap (pos n) (pos d) (pos p) (pos q) ≡ (n * q - p * d) + (p * d - n * q)
+pub gap_is : (n d p q : ℕ) → gap (pos n) (pos d) (pos p) (pos q) ≡ (n * q - p * d) + (p * d - n * q)
 gap_is n d p q = omega (arith, ints)
 
 less_or_not : (x y : ℕ) → (x < y) ⊎ (y ≤ x)
@@ -169,6 +170,9 @@ nearest_ends wanted least most top first second e is = record {
 }
 
 -- ---- how far the wheels are from the wanted ratio
+
+pub above_zero : (z : ℤ) → lt_z z (pos 1) ≡ false → pos 0 <ℤ z
+above_zero z is = grind (arith, ints)
 
 pub as_whole : (z : ℤ) (m : ℕ) → pos 0 <ℤ z → m ≡ unsigned_abs z → pos m ≡ z
 as_whole z m up is = omega (arith, ints)

@@ -6,3 +6,4 @@ pub mod ConversionLemmas
 pub mod GearLemmas
 pub mod MeetLemmas
 pub mod OctaveLemmas
+pub mod TrainLemmas

@@ -4,4 +4,5 @@ pub mod Accounts
 pub mod Gears
 pub mod Beats
 pub mod Cents
+pub mod Trains
 pub mod Units

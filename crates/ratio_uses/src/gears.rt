@@ -1,6 +1,8 @@
 //! Two wheels whose ratio of teeth is near a wanted one.
-ghost use Rattle.std.specs.Prelude.{◌≡◌, ◌<◌, ◌≤◌, ◌^◌, pos};
+ghost use Rattle.std.specs.Prelude.{◌≡◌, ◌*◌, ◌<◌, ◌≤◌, ◌^◌, pos};
 ghost use Rattle.ratio_approximation.specs.Nearest.{gap};
+ghost use Rattle.num_rational.specs.Operators.{ChecksExactDifference};
+ghost use Rattle.num_rational.specs.Reduced.{ratio_in};
 ghost use Rattle.ratio_uses.specs.Gears.{AreNearestWheels, ChecksGears, IsBestFirst, IsRoundedDown};
 ghost use Rattle.ratio_uses.specs.Held.{lowest_numbers};
 
@@ -29,18 +31,28 @@ pub fn nearest_pair(wanted: &Reduced64, least: u32, most: u32) -> Option<Gears>
         return None;
     }
     let (numer, denom) = (wanted.numer().unsigned_abs(), wanted.denom().unsigned_abs());
-    let (first, second) = nearest_wheels(numer, denom, least, most);
-    let wheels = Reduced64::checked_new(first.into(), second.into())?;
+    let (first, second) = nearest_wheels(numer as u128, denom as u128, least, most);
     Some(Gears {
         first,
         second,
-        off: wanted.checked_sub(&wheels),
+        off: off_from(wanted, first, second),
     })
 }
 
+// The wanted ratio minus the ratio of the teeth.
+pub(crate) fn off_from(wanted: &Reduced64, first: u32, second: u32) -> Option<Reduced64>
+    requires second { 0 < second }
+    ensures { ChecksExactDifference (lowest_numbers wanted.now) (pos first, pos second) (ratio_in result) }
+{
+    let wheels = Reduced64::checked_new(first.into(), second.into())?;
+    wanted.checked_sub(&wheels)
+}
+
 // The teeth of the nearest wheels.
-fn nearest_wheels(numer: u64, denom: u64, least: u32, most: u32) -> (u32, u32)
+pub(crate) fn nearest_wheels(numer: u128, denom: u128, least: u32, most: u32) -> (u32, u32)
+    requires numer_small { numer * most < 2 ^ 96 }
     requires denom { 0 < denom }
+    requires denom_small { denom * most < 2 ^ 96 }
     requires least { 0 < least }
     requires most { least ≤ most }
     ensures { AreNearestWheels (pos numer, pos denom) least most result.0 result.1 }
@@ -62,13 +74,15 @@ fn nearest_wheels(numer: u64, denom: u64, least: u32, most: u32) -> (u32, u32)
 
 // The first wheel that is best with this second one: the wanted ratio times the teeth of the second, rounded to the
 // nearest whole number, a half down, and then held between `least` and `most`.
-fn best_first(numer: u64, denom: u64, least: u32, most: u32, second: u32) -> u32
+fn best_first(numer: u128, denom: u128, least: u32, most: u32, second: u32) -> u32
+    requires numer_small { numer * second < 2 ^ 96 }
     requires denom { 0 < denom }
+    requires denom_small { denom < 2 ^ 96 }
     requires second { 0 < second }
     requires most { least ≤ most }
     ensures { IsBestFirst (pos numer, pos denom) least most result second }
 {
-    let rounded = rounded_down(numer as u128 * second as u128, denom);
+    let rounded = rounded_down(numer * second as u128, denom);
     if rounded < least as u128 {
         least
     } else if rounded > most as u128 {
@@ -79,14 +93,15 @@ fn best_first(numer: u64, denom: u64, least: u32, most: u32, second: u32) -> u32
 }
 
 // The number over the denominator, rounded to the nearest whole number, a half down.
-fn rounded_down(number: u128, denom: u64) -> u128
+fn rounded_down(number: u128, denom: u128) -> u128
     requires small { number < 2 ^ 96 }
     requires denom { 0 < denom }
+    requires denom_small { denom < 2 ^ 96 }
     ensures { IsRoundedDown number denom result }
 {
-    let whole = number / denom as u128;
-    let rest = number % denom as u128;
-    if rest + rest > denom as u128 {
+    let whole = number / denom;
+    let rest = number % denom;
+    if rest + rest > denom {
         whole + 1
     } else {
         whole
@@ -94,10 +109,12 @@ fn rounded_down(number: u128, denom: u64) -> u128
 }
 
 // The distance of two wheels from the wanted ratio, times its denominator and the teeth of the second.
-fn gap_of(numer: u64, denom: u64, first: u32, second: u32) -> u128
+pub(crate) fn gap_of(numer: u128, denom: u128, first: u32, second: u32) -> u128
+    requires numer_small { numer * second < 2 ^ 96 }
+    requires denom_small { denom * first < 2 ^ 96 }
     ensures gap { result ≡ gap (pos numer) (pos denom) (pos first) (pos second) }
     ensures small { result < 2 ^ 96 }
 {
-    let scaled = numer as u128 * second as u128;
-    scaled.abs_diff(first as u128 * denom as u128)
+    let scaled = numer * second as u128;
+    scaled.abs_diff(denom * first as u128)
 }

@@ -1,5 +1,5 @@
-//! Small programs over fractions, each with one theorem in its user's words: wheels whose ratio of teeth is near a
-//! wanted one, an amount split by shares, the beats of voices, and chains of rates. The functions that
+//! Small programs over fractions, each with one theorem in its user's words: wheels and trains of wheels whose ratio
+//! is near a wanted one, an amount split by shares, the beats of voices, and chains of rates. The functions that
 //! `README.md` and `CALLING.md` show are here too.
 #![tactic(auto)]
 
@@ -10,4 +10,5 @@ pub mod conditions;
 pub mod gears;
 pub mod ledger;
 pub mod readme;
+pub mod trains;
 pub mod units;

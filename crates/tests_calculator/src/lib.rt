@@ -14,3 +14,5 @@ mod faults;
 mod lines;
 #[cfg(test)]
 mod small_programs;
+#[cfg(test)]
+mod trains;

@@ -16,7 +16,7 @@ use support::Numbers;
 const FEW: usize = if cfg!(debug_assertions) { 20_000 } else { 500_000 };
 
 fn count_of_pairs() -> usize {
-    let all = std::env::var("BAKHSNEY_WALK").is_ok_and(|choice| choice == "all") && !cfg!(debug_assertions);
+    let all = std::env::var("BAKHSNEY_WALK").map_or(false, |choice| choice == "all") && !cfg!(debug_assertions);
     std::env::var("BAKHSNEY_REMAINDERS").map_or(FEW * if all { 10 } else { 1 }, |count| count.parse().unwrap())
 }
 

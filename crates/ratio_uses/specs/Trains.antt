@@ -22,7 +22,8 @@ driver_teeth first second = first.driver * second.driver
 abbrev pub driven_teeth : Pair → Pair → ℕ
 driven_teeth first second = first.driven * second.driven
 
--- the train of the first two pairs comes before that of the last two by its distance from the wanted ratio, or has the same products of teeth (`PairComesFirst`)
+-- the train of the first two pairs comes before the train of the last two by its distance from the wanted ratio, or both have the same products
+-- of teeth (`PairComesFirst`)
 -- Example: from 355/113: 19/11 times 20/11 before 11/7 times 14/7
 abbrev pub TrainComesFirst : ℤ × ℤ → Pair → Pair → Pair → Pair → Type 0
 TrainComesFirst wanted first second x y = PairComesFirst wanted (driver_teeth first second) (driven_teeth first second) (driver_teeth x y) (driven_teeth x y)

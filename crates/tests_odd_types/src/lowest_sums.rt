@@ -8,14 +8,14 @@ use ratio_odd::{Nat2, Sym5, Two3};
 use std::process::Abort;
 
 /// The fraction with these fields, if `T` has both and they are lowest terms.
-pub fn lowest<T: Copy + Integer>(x: Plain) -> Option<Reduced<T>> {
+pub(crate) fn lowest<T: Copy + Integer>(x: Plain) -> Option<Reduced<T>> {
     let made = Reduced::checked_new(T::from_i128(x.n as i128)?, T::from_i128(x.d as i128)?)?;
     let same = answers(Some(made.to_ratio()), Some(x));
     if same { Some(made) } else { None }
 }
 
 /// The same result, as a `Ratio`.
-pub fn ratio_in<T: Copy + Integer>(answer: Option<Reduced<T>>) -> Option<Ratio<T>> {
+pub(crate) fn ratio_in<T: Copy + Integer>(answer: Option<Reduced<T>>) -> Option<Ratio<T>> {
     Some(answer?.to_ratio())
 }
 

@@ -1,4 +1,4 @@
-//! A row of docs/benchmarks.tsv, without its last column. bench/run adds that: the commit.
+//! A row of docs/benchmarks.tsv, without its last column. bench/peers adds that: the commit.
 
 use crate::goals::{goal, MOST};
 use crate::timing::{times, Times};

@@ -4,6 +4,7 @@ pub mod CrossCancelling
 pub mod DivisionLemmas
 pub mod FlooredDivision
 pub mod GcdLemmas
+pub mod HalfLemmas
 pub mod Halving
 pub mod LcmLemmas
 pub mod LowestTerms

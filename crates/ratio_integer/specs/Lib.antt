@@ -2,6 +2,7 @@ pub mod Arithmetic
 pub mod Comparison
 pub mod Division
 pub mod Fraction
+pub mod Halves
 pub mod HeldResults
 pub mod Laws
 pub mod OddPart

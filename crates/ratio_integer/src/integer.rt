@@ -1,11 +1,12 @@
 //! The trait `Integer`: range, constants, arithmetic, divisors, conversions and laws of an integer type.
-ghost use Rattle.std.specs.Prelude.{◌≡◌, ◌≢◌, ◌↔◌, ◌≤ℤ◌, ◌<ℤ◌, ◌+ℤ◌, ◌-ℤ◌, ◌*ℤ◌, ◌-◌, ◌^◌, ℕ, ℤ, pos, negsuc, Bool, List, Some, IsNone, IsTrue, int_div, int_rem};
+ghost use Rattle.std.specs.Prelude.{◌≡◌, ◌≢◌, ◌↔◌, ◌≤ℤ◌, ◌<ℤ◌, ◌+ℤ◌, ◌-ℤ◌, ◌*ℤ◌, ◌-◌, ◌^◌, ℕ, ℤ, pos, negsuc, Bool, List, Some, IsNone, IsTrue, IfSome, int_div, int_rem};
 ghost use Rattle.std.specs.Bool.{OnFalse, OnTrue};
 ghost use Rattle.std.specs.Ordering.{int_cmp, partial_lt};
 ghost use Rattle.ratio_integer.specs.Arithmetic.{difference_of, sum_of};
 ghost use Rattle.ratio_integer.specs.Comparison.{Tells, lt_tells};
 ghost use Rattle.ratio_integer.specs.Division.{ChecksLcm, IsAboveMax, IsFloored, IsFlooredQuotient, IsFlooredRemainder, IsGcdAboveMax, IsGcdOf, IsLcmOf, IsMultiple, LcmHeld};
 ghost use Rattle.ratio_integer.specs.Fraction.{ChecksLowest};
+ghost use Rattle.ratio_integer.specs.Halves.{AreHalves};
 ghost use Rattle.ratio_integer.specs.Laws.{IsLawful};
 ghost use Rattle.ratio_integer.specs.Range.{Checks, FitsIn128, IsHeld, IsRange};
 
@@ -263,6 +264,15 @@ pub trait Integer: Copy + Ord + Hash {
         ensures { IsFlooredRemainder (value self) (value o) (value result) }
     {
         self.div_mod_floor(o).1
+    }
+
+    /// The high and the low half: the floored quotient and the rest by the root of the count of the type's numbers, as -7
+    /// and 12 of -100 over `i8`, where the root is 16. The product of two low halves may not fit the type, but half of
+    /// it does. `None` if the type has no such root, or no quick way to divide by it.
+    fn halves(self) -> Option<(Self, Self)>
+        ensures { IfSome result (λ r. AreHalves lo hi (value self) (value r.0) (value r.1)) }
+    {
+        None
     }
 
     /// The greatest common divisor. It is never negative, and for 0 and 0 it is 0. It fits the type, unless

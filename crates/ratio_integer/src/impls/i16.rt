@@ -106,6 +106,10 @@ impl Integer for i16 {
         self.checked_sub(o)
     }
 
+    fn halves(self) -> Option<(i16, i16)> {
+        Some((self.div_euclid(1 << 8), self.rem_euclid(1 << 8)))
+    }
+
     fn gcd(self, o: i16) -> i16 {
         binary_gcd(self.unsigned_abs() as u64, o.unsigned_abs() as u64) as i16
     }

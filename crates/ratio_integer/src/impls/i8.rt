@@ -106,6 +106,10 @@ impl Integer for i8 {
         self.checked_sub(o)
     }
 
+    fn halves(self) -> Option<(i8, i8)> {
+        Some((self.div_euclid(1 << 4), self.rem_euclid(1 << 4)))
+    }
+
     fn gcd(self, o: i8) -> i8 {
         binary_gcd(self.unsigned_abs() as u64, o.unsigned_abs() as u64) as i8
     }

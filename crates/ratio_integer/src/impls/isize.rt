@@ -106,6 +106,10 @@ impl Integer for isize {
         self.checked_sub(o)
     }
 
+    fn halves(self) -> Option<(isize, isize)> {
+        Some((self.div_euclid(1 << 32), self.rem_euclid(1 << 32)))
+    }
+
     fn gcd(self, o: isize) -> isize {
         binary_gcd(self.unsigned_abs() as u64, o.unsigned_abs() as u64) as isize
     }

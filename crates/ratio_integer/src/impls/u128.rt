@@ -106,6 +106,10 @@ impl Integer for u128 {
         self.checked_sub(o)
     }
 
+    fn halves(self) -> Option<(u128, u128)> {
+        Some((self.div_euclid(1 << 64), self.rem_euclid(1 << 64)))
+    }
+
     fn gcd(self, o: u128) -> u128 {
         binary_gcd_wide(self, o)
     }

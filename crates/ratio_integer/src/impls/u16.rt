@@ -105,6 +105,10 @@ impl Integer for u16 {
         self.checked_sub(o)
     }
 
+    fn halves(self) -> Option<(u16, u16)> {
+        Some((self.div_euclid(1 << 8), self.rem_euclid(1 << 8)))
+    }
+
     fn gcd(self, o: u16) -> u16 {
         binary_gcd(self as u64, o as u64) as u16
     }

@@ -105,6 +105,10 @@ impl Integer for u64 {
         self.checked_sub(o)
     }
 
+    fn halves(self) -> Option<(u64, u64)> {
+        Some((self.div_euclid(1 << 32), self.rem_euclid(1 << 32)))
+    }
+
     fn gcd(self, o: u64) -> u64 {
         binary_gcd(self, o)
     }

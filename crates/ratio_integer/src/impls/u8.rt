@@ -105,6 +105,10 @@ impl Integer for u8 {
         self.checked_sub(o)
     }
 
+    fn halves(self) -> Option<(u8, u8)> {
+        Some((self.div_euclid(1 << 4), self.rem_euclid(1 << 4)))
+    }
+
     fn gcd(self, o: u8) -> u8 {
         binary_gcd(self as u64, o as u64) as u8
     }

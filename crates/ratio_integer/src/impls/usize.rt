@@ -105,6 +105,10 @@ impl Integer for usize {
         self.checked_sub(o)
     }
 
+    fn halves(self) -> Option<(usize, usize)> {
+        Some((self.div_euclid(1 << 32), self.rem_euclid(1 << 32)))
+    }
+
     fn gcd(self, o: usize) -> usize {
         binary_gcd(self as u64, o as u64) as usize
     }

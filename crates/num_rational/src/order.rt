@@ -9,7 +9,7 @@ ghost use Rattle.num_rational.specs.Comparison.{AreEqual, HaveSameFields, IsInLo
 ghost use Rattle.num_rational.specs.Ratio.{denominator, numerator};
 
 use crate::ratio::Ratio;
-use ratio_core::{Steps, compare};
+use ratio_core::{Steps, cross_order};
 use ratio_integer::Integer;
 use std::cmp::Ordering;
 
@@ -69,11 +69,11 @@ impl<T: Copy + Integer> Ord for Ratio<T> {
 
     ghost matches_eq = { same_agrees numerator denominator (λ x. x.nonzero) };
 
-    /// The order, by `compare`, which divides only if it must.
+    /// The order, by `cross_order`, which divides only if it must.
     #[inline]
     fn cmp(&self, other: &Ratio<T>) -> Ordering {
         let (n, d) = (self.numer, self.denom);
         let (m, e) = (other.numer, other.denom);
-        compare(n, d, m, e, &mut Steps::new())
+        cross_order(n, d, m, e)
     }
 }

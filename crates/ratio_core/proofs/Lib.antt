@@ -16,6 +16,7 @@ pub mod LawLemmas
 pub mod LeadingDigits
 pub mod LongRemainders
 pub mod LowestPowers
+pub mod LowProducts
 pub mod ManyProductLemmas
 pub mod MixedLemmas
 pub mod MultipleLemmas
@@ -53,3 +54,6 @@ pub mod Ticks
 pub mod TwosComplement
 pub mod WideRemainders
 pub mod WidthLemmas
+pub mod WordLemmas
+pub mod WordOrder
+pub mod WordProducts

@@ -1,8 +1,9 @@
 -- The order of fractions, by their cross products.
-use Rattle.std.specs.Prelude.{◌≡◌, ◌≢◌, ◌⊎◌, ◌≤ℤ◌, ◌<ℤ◌, ◌*ℤ◌, ℤ, pos, negsuc, Result, Ok, Err}
+use Rattle.std.specs.Prelude.{◌≡◌, ◌≢◌, ◌⊎◌, ◌≤ℤ◌, ◌<ℤ◌, ◌*ℤ◌, ℕ, ℤ, pos, negsuc, Result, Ok, Err}
 use Rattle.std.specs.Ordering.{MatchOrdering, int_cmp}
 use Rattle.std.specs.declared.cmp.Ordering.{Ordering}
 use Rattle.ratio_integer.specs.Division.{IsFloored}
+use Rattle.ratio_integer.specs.Halves.{AreHalves, IsHalfBase}
 use Rattle.ratio_integer.specs.Range.{IsHeld}
 
 -- -1 for a number below 0, and else 1
@@ -26,6 +27,22 @@ HaveUnlikeSigns d e = ((d <ℤ pos 0) × (pos 0 ≤ℤ e)) ⊎ ((pos 0 ≤ℤ d)
 pub record AreProductsHeld (lo hi n d m e : ℤ) : Type 0 where
   pub left : IsHeld lo hi (n *ℤ e)
   pub right : IsHeld lo hi (m *ℤ d)
+
+-- Inner: the product z of two numbers of a type, which may be out of range, as words: its low half, and the two halves of its high half
+-- Example: 100·100 over `i8`: 39, 1 and 0, since 10000 is (39·16 + 1)·16 + 0
+pub record AreWords (lo hi z high middle low : ℤ) : Type 0 where
+  pub rest : ℤ
+  pub last : AreHalves lo hi z rest low
+  pub first : AreHalves lo hi rest high middle
+
+-- Inner: both numbers are low halves: they lie from 0 to the half base of the type, which is not among them
+pub record AreLowHalves (lo hi a b : ℤ) : Type 0 where
+  pub base : ℕ
+  pub is_base : IsHalfBase lo hi base
+  pub left_above : pos 0 ≤ℤ a
+  pub left_below : a <ℤ pos base
+  pub right_above : pos 0 ≤ℤ b
+  pub right_below : b <ℤ pos base
 
 -- both denominators are positive, and the denominators are equal or exactly one numerator is below 0; then the numerators have the order of the
 -- fractions

@@ -52,14 +52,14 @@ pub fn compare<T: Integer>(n: T, d: T, m: T, e: T, steps: &mut Steps) -> Orderin
 }
 
 /// Whether both denominators are the same positive number.
-fn share_denominator<T: Integer>(d: T, e: T) -> bool
+pub(super) fn share_denominator<T: Integer>(d: T, e: T) -> bool
     ensures { IsTrue result ↔ ((T.value d ≡ T.value e) × (pos 0 <ℤ T.value d)) }
 {
     d == e && T::ZERO < d
 }
 
 /// Whether both denominators are positive and exactly one numerator is below 0.
-fn are_split_by_zero<T: Integer>(n: T, d: T, m: T, e: T) -> bool
+pub(super) fn are_split_by_zero<T: Integer>(n: T, d: T, m: T, e: T) -> bool
     ensures { IsTrue result ↔ ((pos 0 <ℤ T.value d) × (pos 0 <ℤ T.value e) × HaveUnlikeSigns (T.value n) (T.value m)) }
 {
     T::ZERO < d && T::ZERO < e && have_unlike_signs(n, m)

@@ -11,6 +11,7 @@ pub mod Floored
 pub mod Following
 pub mod HashLaws
 pub mod Hashing
+pub mod JoinedLemmas
 pub mod KeptLowest
 pub mod LawLemmas
 pub mod LeadingDigits

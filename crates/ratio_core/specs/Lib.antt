@@ -2,6 +2,7 @@ pub mod Cancelling
 pub mod Conditions
 pub mod ContinuedFraction
 pub mod Divisors
+pub mod Joined
 pub mod Laws
 pub mod ManyProducts
 pub mod Order

@@ -1,11 +1,13 @@
 //! Sums and differences of fractions in lowest terms: `Some` exactly if the lowest terms fit.
 //!
-//! The first way forms the sum over the least common denominator: 1/2 + 1/3 is 5/6. If a number there does
-//! not fit, as 252 for 1/36 + 1/28 over `i8`, the second way adds whole numbers and parts of 1 separately.
+//! The first way forms the sum over the product of the denominators: 1/2 + 1/3 is 5/6. If a number there does not fit, the
+//! second way forms it over the least common denominator. If one does not fit there either, as 252 for 1/36 + 1/28
+//! over `i8`, the third way adds whole numbers and parts of 1 separately.
 ghost use Rattle.ratio_integer.specs.Arithmetic.{difference_of, sum_of};
 ghost use Rattle.ratio_integer.specs.Fraction.{ChecksLowest, IsLowestTerms};
 
 use crate::sums;
+use crate::sums::by_denominators::{formed_difference, formed_sum, reduced};
 use crate::sums::mixed::{mixed_difference, mixed_sum};
 use ratio_integer::Integer;
 
@@ -18,6 +20,9 @@ pub fn checked_add<T: Integer>(a: T, b: T, c: T, d: T) -> Option<(T, T)>
     ensures { ChecksLowest (λ r. T.value r.0) (λ r. T.value r.1) T.lo T.hi
         (sum_of (T.value a) (T.value b) (T.value c) (T.value d)) result }
 {
+    if let Some((sum, product)) = formed_sum(a, b, c, d) {
+        return Some(reduced(sum, product, b, d));
+    }
     if let Some(sum) = sums::checked_add(a, b, c, d) {
         return Some(sum);
     }
@@ -36,6 +41,9 @@ pub fn checked_sub<T: Integer>(a: T, b: T, c: T, d: T) -> Option<(T, T)>
     ensures { ChecksLowest (λ r. T.value r.0) (λ r. T.value r.1) T.lo T.hi
         (difference_of (T.value a) (T.value b) (T.value c) (T.value d)) result }
 {
+    if let Some((difference, product)) = formed_difference(a, b, c, d) {
+        return Some(reduced(difference, product, b, d));
+    }
     if let Some(difference) = sums::checked_sub(a, b, c, d) {
         return Some(difference);
     }

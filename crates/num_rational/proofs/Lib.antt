@@ -1,4 +1,5 @@
 pub mod CastLemmas
+pub mod CommonLemmas
 pub mod ConvergentLemmas
 pub mod FoldLemmas
 pub mod HeadlineLemmas

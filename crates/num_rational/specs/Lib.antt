@@ -1,4 +1,5 @@
 pub mod Bounds
+pub mod Common
 pub mod Comparison
 pub mod ContinuedFractions
 pub mod ConvergentSteps

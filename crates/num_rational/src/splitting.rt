@@ -3,8 +3,11 @@ ghost use Rattle.std.specs.Prelude.{◌≡◌, ◌↔◌, length, IfErr, IsTrue,
 ghost use Rattle.ratio_integer.specs.Arithmetic.{sum_of};
 ghost use Rattle.num_rational.specs.Split.{SharesMakeOne, SharesOverPositive, CanBeSplit, ChecksNextMark, IsSplitBy, MarksFit, NoShareIsBelowZero, RefusesToSplit, SumsRefuse, share_numbers};
 
+mod common;
+
 use crate::reduced::Reduced;
 use crate::share::Share;
+use common::{common_denominator, write_parts_over};
 use ratio_core::sign::is_below_zero;
 use ratio_decimal::rounding_rule::Rounding;
 use ratio_integer::Integer;
@@ -56,8 +59,14 @@ pub fn split_shares<T: Copy + Integer, S: Share<T>>(
     if !none_is_below_zero(shares) {
         return Err(SplitRefusal::BelowZero);
     }
-    check_marks(amount, shares)?;
-    write_parts(amount, shares, parts);
+    match common_denominator(amount, shares) {
+        Some((common, true)) => write_parts_over(amount, shares, common, parts),
+        Some((_, false)) => return Err(SplitRefusal::NotOne),
+        None => {
+            check_marks(amount, shares)?;
+            write_parts(amount, shares, parts);
+        }
+    }
     Ok(())
 }
 

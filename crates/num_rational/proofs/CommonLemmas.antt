@@ -1,0 +1,338 @@
+-- Shares over a common denominator. If they add up to at most 1, so do the first ones, and a mark lies between 0 and the amount.
+use Rattle.std.specs.Prelude.{◌≡◌, ◌+◌, ◌<◌, ◌≤ℤ◌, ◌<ℤ◌, ◌+ℤ◌, ◌-ℤ◌, ◌*ℤ◌, ℕ, ℤ, zero, suc, pos, int_div, int_rem, All, List, [], ◌∷◌, fold, length, slice_index_or, take}
+use Rattle.std.proofs.Common.{refl, sym, ap, subst, ◌∙◌, arith, inl, get_or}
+use Rattle.std.proofs.Math.ListN.{set}
+use Rattle.std.proofs.Math.Seq.{take-length}
+use Rattle.std.proofs.lemmas.Int.{ints, quot-rem}
+use Rattle.std.proofs.lemmas.List.{get_or_default}
+use borrow.Author.Count.{below_more}
+use lib.IntN.{*ℤ_comm, +ℤ_idr, zero-*ℤ}
+use Rattle.ratio_integer.specs.Arithmetic.{sum_of}
+use Rattle.ratio_integer.specs.Division.{IsGcdOf, IsMultiple}
+use Rattle.ratio_integer.specs.Fraction.{Fits, IsLowestTermsOf, SameValue}
+use Rattle.ratio_integer.specs.Range.{IsHeld, IsRange}
+use Rattle.ratio_integer.proofs.CommonDivisors.{divides_multiple, gcd_exists, multiple_divides}
+use Rattle.ratio_integer.proofs.CrossCancelling.{denom_divides}
+use Rattle.ratio_integer.proofs.LcmLemmas.{exact_quotient}
+use Rattle.ratio_integer.proofs.LowestTerms.{gcd_held_positive, held_lowest_quotients, lowest_moved, same_value_chained}
+use Rattle.ratio_integer.proofs.Whole.{add-mul, mul_assoc, mul_cancel, mul_positive, mul-swap_inner, mul-swap_last, positive_factor, positive_nonzero}
+use Rattle.ratio_core.specs.Rounding.{IsRounded}
+use Rattle.ratio_core.proofs.Floored.{one-mul}
+use Rattle.ratio_core.proofs.LawLemmas.{same_value_sums}
+use Rattle.ratio_core.proofs.ProductOrder.{times_le, whole_at_most}
+use Rattle.ratio_core.proofs.RoundingLawLemmas.{each_rounded}
+use Rattle.num_rational.specs.Common.{IsNextOver, IsSumOver, IsTotalOver, IsWholeOver}
+use Rattle.num_rational.specs.Split.{IsRoundedShare, MarkFits, MarksFit, NoShareIsBelowZero, SharesMakeOne, SharesOverPositive, total_of_shares}
+use Rattle.num_rational.proofs.SplitLemmas.{IsSplitSoFar, fits_moved, next_part_held, part_held, rounded_moved, sign_up, split_more, total_next}
+use Rattle.num_rational.proofs.WeightLemmas.{mark_held}
+
+-- a product is at most another with the same positive factor only if the other factors are
+pub at_most : (x y d : ℤ) → pos 0 <ℤ d → (x *ℤ d) ≤ℤ (y *ℤ d) → x ≤ℤ y
+at_most x y d up below = whole_at_most x y d up (omega (arith, ints))
+
+above_zero : (z : ℤ) → pos 0 <ℤ z → pos 0 ≤ℤ z
+above_zero z up = omega (arith, ints)
+
+both_above : (x y : ℤ) → pos 0 ≤ℤ x → pos 0 ≤ℤ y → pos 0 ≤ℤ (x +ℤ y)
+both_above x y h k = omega (arith, ints)
+
+-- ---- fractions of at most 1
+
+-- what has the value of a fraction of at most 1 is at most 1
+pub one_moved : (x y : ℤ × ℤ) → pos 0 <ℤ x.1 → pos 0 <ℤ y.1 → SameValue x.0 x.1 y.0 y.1 → x.0 ≤ℤ x.1 → y.0 ≤ℤ y.1
+one_moved x y x_up y_up same below =
+    let times = times_le x.0 x.1 y.1 below (above_zero y.1 y_up) in
+    at_most y.0 y.1 x.1 x_up (rw (sym same, *ℤ_comm y.1 x.1) times)
+
+-- a fraction is at most 1 if it is with another one that is not below 0
+less_is_one : (x y : ℤ × ℤ) → pos 0 <ℤ x.1 → pos 0 <ℤ y.1 → pos 0 ≤ℤ y.0 → (sum_of x.0 x.1 y.0 y.1).0 ≤ℤ (sum_of x.0 x.1 y.0 y.1).1 → x.0 ≤ℤ x.1
+less_is_one x y x_up y_up above below =
+    let more = sign_up y.0 x.1 above (above_zero x.1 x_up) in
+    at_most x.0 x.1 y.1 y_up (omega (arith, ints))
+
+module _ {A : Type 0} (view : A → ℤ × ℤ) where
+  abbrev more : ℤ × ℤ → A → ℤ × ℤ
+  more x share = sum_of x.0 x.1 (view share).0 (view share).1
+
+  first_share : (P : ℤ × ℤ → Type 0) (y : A) (ys : List A) → All (λ share. P (view share)) (y ∷ ys) → P (view y)
+  first_share P y ys all = all 0 y (omega arith)
+
+  rest_shares : (P : ℤ × ℤ → Type 0) (y : A) (ys : List A) → All (λ share. P (view share)) (y ∷ ys) → All (λ share. P (view share)) ys
+  rest_shares P y ys all k d below = all (suc k) d (omega arith)
+
+  abbrev Up : ℤ × ℤ → Type 0
+  Up x = pos 0 <ℤ x.1
+
+  abbrev Above : ℤ × ℤ → Type 0
+  Above x = pos 0 ≤ℤ x.0
+
+  grown_one : (x : ℤ × ℤ) (xs : List A) → pos 0 <ℤ x.1 → SharesOverPositive view xs → NoShareIsBelowZero view xs → (fold more x xs).0 ≤ℤ (fold more x xs).1 → x.0 ≤ℤ x.1
+  grown_one x [] up positive none below = below
+  grown_one x (y ∷ ys) up positive none below =
+      let y_up = first_share Up y ys positive in
+      less_is_one x (view y) up y_up (first_share Above y ys none)
+      (grown_one (more x y) ys (mul_positive x.1 (view y).1 up y_up) (rest_shares Up y ys positive) (rest_shares Above y ys none) below)
+
+  begun_one : (x : ℤ × ℤ) (k : ℕ) (xs : List A) → pos 0 <ℤ x.1 → SharesOverPositive view xs → NoShareIsBelowZero view xs → (fold more x xs).0 ≤ℤ (fold more x xs).1 → (fold more x (take k xs)).0 ≤ℤ (fold more x (take k xs)).1
+  begun_one x zero xs up positive none below = grown_one x xs up positive none below
+  begun_one x (suc k) [] up positive none below = below
+  begun_one x (suc k) (y ∷ ys) up positive none below =
+      begun_one (more x y) k ys (mul_positive x.1 (view y).1 up (first_share Up y ys positive)) (rest_shares Up y ys positive) (rest_shares Above y ys none) below
+
+  begun_up : (x : ℤ × ℤ) (k : ℕ) (xs : List A) → pos 0 ≤ℤ x.0 → pos 0 <ℤ x.1 → SharesOverPositive view xs → NoShareIsBelowZero view xs → (pos 0 ≤ℤ (fold more x (take k xs)).0) × (pos 0 <ℤ (fold more x (take k xs)).1)
+  begun_up x zero xs above up positive none = (above, up)
+  begun_up x (suc k) [] above up positive none = (above, up)
+  begun_up x (suc k) (y ∷ ys) above up positive none =
+      let y_up = first_share Up y ys positive in
+      let y_above = first_share Above y ys none in
+      begun_up (more x y) k ys
+      (both_above _ _ (sign_up x.0 (view y).1 above (above_zero _ y_up)) (sign_up (view y).0 x.1 y_above (above_zero _ up)))
+      (mul_positive x.1 (view y).1 up y_up) (rest_shares Up y ys positive) (rest_shares Above y ys none)
+
+  -- if shares add up to at most 1, so do the first of them
+  pub first_shares_one : (k : ℕ) (xs : List A) → SharesOverPositive view xs → NoShareIsBelowZero view xs → (total_of_shares view xs).0 ≤ℤ (total_of_shares view xs).1 → (total_of_shares view (take k xs)).0 ≤ℤ (total_of_shares view (take k xs)).1
+  first_shares_one k xs positive none below = begun_one (pos 0, pos 1) k xs (omega (arith, ints)) positive none below
+
+  pub first_shares_up : (k : ℕ) (xs : List A) → SharesOverPositive view xs → NoShareIsBelowZero view xs → (pos 0 ≤ℤ (total_of_shares view (take k xs)).0) × (pos 0 <ℤ (total_of_shares view (take k xs)).1)
+  first_shares_up k xs positive none = begun_up (pos 0, pos 1) k xs (omega (arith, ints)) (omega (arith, ints)) positive none
+
+-- ---- what fits
+
+-- a fraction fits if it has the value of one whose numbers do
+pub fits_over : (lo hi s c : ℤ) (x : ℤ × ℤ) → IsRange lo hi → IsHeld lo hi s → IsHeld lo hi c → pos 0 <ℤ c → pos 0 <ℤ x.1 → SameValue x.0 x.1 s c → Fits lo hi x.0 x.1
+fits_over lo hi s c x range s_held c_held up x_up same =
+    let found : (g : ℤ) × IsGcdOf s c g = gcd_exists s c in
+    let held = (gcd_held_positive lo hi s c range c_held up).each found.0 found.1 in
+    fits_moved lo hi (s, c) x (positive_nonzero x.1 x_up) same
+    (record { numer = int_div s found.0; denom = int_div c found.0; low = held_lowest_quotients lo hi s c found.0 _ _ range s_held c_held held up found.1 refl refl })
+
+-- a mark fits if the amount does, and the fraction lies from 0 to 1
+pub mark_below : (lo hi a : ℤ) (x : ℤ × ℤ) → IsRange lo hi → IsHeld lo hi a → pos 0 ≤ℤ x.0 → pos 0 <ℤ x.1 → x.0 ≤ℤ x.1 → Fits lo hi x.0 x.1 → MarkFits lo hi a x
+mark_below lo hi a x range held above up below fits =
+    let some = each_rounded (a *ℤ x.0) x.1 up in
+    record { sum = fits; mark = some.0; is = some.1; held = mark_held a x.0 x.1 some.0 up above below some.1 lo hi range held }
+
+module _ {A : Type 0} (view : A → ℤ × ℤ) (lo hi a s c : ℤ) (xs : List A) (range : IsRange lo hi) (held : IsHeld lo hi a) (positive : SharesOverPositive view xs) (none : NoShareIsBelowZero view xs) (total : IsTotalOver view lo hi xs s c) where
+  whole_up : pos 0 <ℤ (total_of_shares view xs).1
+  whole_up = total_up xs positive
+    where
+      total_up : (xs : List A) → SharesOverPositive view xs → pos 0 <ℤ (total_of_shares view xs).1
+      total_up xs positive = up_from (pos 0, pos 1) xs (omega (arith, ints)) positive
+        where
+          up_from : (x : ℤ × ℤ) (xs : List A) → pos 0 <ℤ x.1 → SharesOverPositive view xs → pos 0 <ℤ (fold (more view) x xs).1
+          up_from x [] up positive = up
+          up_from x (y ∷ ys) up positive = up_from (more view x y) ys (mul_positive x.1 (view y).1 up (first_share view (Up view) y ys positive)) (rest_shares view (Up view) y ys positive)
+
+  pub total_one : s ≤ℤ c → (total_of_shares view xs).0 ≤ℤ (total_of_shares view xs).1
+  total_one below = one_moved (s, c) (total_of_shares view xs) total.up whole_up (sym total.same) below
+
+  pub marks_below : s ≤ℤ c → MarksFit view lo hi a xs
+  marks_below below k less =
+      let up = first_shares_up view (k + 1) xs positive none in
+      mark_below lo hi a (total_of_shares view (take (k + 1) xs)) range held up.0 up.1 (first_shares_one view (k + 1) xs positive none (total_one below)) (total.fit k less)
+
+  -- the shares add up to 1 if s is c, and only then
+  pub shares_one : s ≡ c → SharesMakeOne view xs
+  shares_one same =
+      let e : (total_of_shares view xs).0 *ℤ c ≡ (total_of_shares view xs).1 *ℤ c = total.same ∙ ap (λ (z : ℤ). z *ℤ (total_of_shares view xs).1) same ∙ *ℤ_comm c (total_of_shares view xs).1 in
+      mul_cancel (total_of_shares view xs).0 (total_of_shares view xs).1 c (positive_nonzero c total.up) e
+
+  pub one_shares : SharesMakeOne view xs → s ≡ c
+  one_shares one =
+      mul_cancel s c (total_of_shares view xs).1 (positive_nonzero _ whole_up) (sym total.same ∙ ap (λ (z : ℤ). z *ℤ c) one ∙ *ℤ_comm (total_of_shares view xs).1 c)
+
+-- ---- whole numbers over a denominator
+
+-- the denominator of the lowest terms of w/c divides c
+pub multiple_of_low : (c : ℤ) (x low : ℤ × ℤ) → pos 0 <ℤ c → IsWholeOver c x → IsLowestTermsOf x.0 x.1 low.0 low.1 → IsMultiple c low.1
+multiple_of_low c x low up whole is =
+    divides_multiple c low.1 (denom_divides whole.number c low.0 low.1 (lowest_moved x.0 x.1 whole.number c low.0 low.1 (positive_nonzero c up) (sym whole.same) is))
+
+-- a fraction over b is a whole number over a multiple of b
+pub whole_by_low : (c : ℤ) (x low : ℤ × ℤ) → IsLowestTermsOf x.0 x.1 low.0 low.1 → IsMultiple c low.1 → IsWholeOver c x
+whole_by_low c x low is (q, e) = record {
+  number = low.0 *ℤ q;
+  same = same_value_chained x.0 x.1 low.0 low.1 (low.0 *ℤ q) c (positive_nonzero low.1 is.lowest.positive) is.same
+      (ap (λ (z : ℤ). low.0 *ℤ z) e ∙ sym (mul_assoc low.0 q low.1));
+}
+
+pub whole_grown : (c d : ℤ) (x : ℤ × ℤ) → IsMultiple d c → IsWholeOver c x → IsWholeOver d x
+whole_grown c d x (q, e) whole = record {
+  number = whole.number *ℤ q;
+  same = ap (λ (z : ℤ). x.0 *ℤ z) (e ∙ *ℤ_comm q c) ∙ sym (mul_assoc x.0 c q) ∙ ap (λ (z : ℤ). z *ℤ q) whole.same ∙ mul-swap_last whole.number x.1 q ∙ sym (mul_assoc whole.number q x.1);
+}
+
+-- ---- one more share
+
+-- c is t times d: s/c + n/d is (s + n·t)/c
+pub joined_same : (s c n d t : ℤ) → t *ℤ d ≡ c → SameValue (s *ℤ d +ℤ n *ℤ c) (c *ℤ d) (s +ℤ n *ℤ t) c
+joined_same s c n d t c_is =
+    let right : n *ℤ c ≡ (n *ℤ t) *ℤ d = ap (λ (z : ℤ). n *ℤ z) (sym c_is) ∙ sym (mul_assoc n t d) in
+    let both : s *ℤ d +ℤ n *ℤ c ≡ (s +ℤ n *ℤ t) *ℤ d = ap (λ (z : ℤ). s *ℤ d +ℤ z) right ∙ sym (add-mul s (n *ℤ t) d) in
+    ap (λ (z : ℤ). z *ℤ c) both ∙ mul-swap_last (s +ℤ n *ℤ t) d c
+
+-- u/v is c/d: s/c + n/d is (s·v + n·u)/(c·v)
+pub joined_apart : (s c n d u v : ℤ) → SameValue c d u v → SameValue (s *ℤ d +ℤ n *ℤ c) (c *ℤ d) (s *ℤ v +ℤ n *ℤ u) (c *ℤ v)
+joined_apart s c n d u v same =
+    let left : (s *ℤ d) *ℤ (c *ℤ v) ≡ (s *ℤ v) *ℤ (c *ℤ d) = ap (λ (z : ℤ). (s *ℤ d) *ℤ z) (*ℤ_comm c v) ∙ mul-swap_inner s d v c ∙ ap (λ (z : ℤ). (s *ℤ v) *ℤ z) (*ℤ_comm d c) in
+    let right : (n *ℤ c) *ℤ (c *ℤ v) ≡ (n *ℤ u) *ℤ (c *ℤ d) = ap (λ (z : ℤ). (n *ℤ c) *ℤ z) same ∙ mul-swap_inner n c u d in
+    add-mul (s *ℤ d) (n *ℤ c) (c *ℤ v)
+    ∙ ap (λ (z : ℤ). z +ℤ (n *ℤ c) *ℤ (c *ℤ v)) left
+    ∙ ap (λ (z : ℤ). (s *ℤ v) *ℤ (c *ℤ d) +ℤ z) right
+    ∙ sym (add-mul (s *ℤ v) (n *ℤ u) (c *ℤ d))
+
+own_multiple : (c : ℤ) → IsMultiple c c
+own_multiple c = (pos 1, sym (one-mul c))
+
+pub sum_over_same : (s c n d t m : ℤ) → pos 0 <ℤ c → t *ℤ d ≡ c → m ≡ s +ℤ n *ℤ t → IsSumOver (s, c) (n, d) m c
+sum_over_same s c n d t m up c_is m_is = record { up = up; same = rw m_is (joined_same s c n d t c_is); first = own_multiple c; second = (t, sym c_is) }
+
+pub sum_over_apart : (s c n d u v l r m w : ℤ) → pos 0 <ℤ c → IsLowestTermsOf c d u v → l ≡ s *ℤ v → r ≡ n *ℤ u → m ≡ l +ℤ r → w ≡ c *ℤ v → IsSumOver (s, c) (n, d) m w
+sum_over_apart s c n d u v l r m w up low l_is r_is m_is w_is = record {
+  up = rw w_is (mul_positive c v up low.lowest.positive);
+  same = rw (m_is, l_is, r_is, w_is) (joined_apart s c n d u v low.same);
+  first = (v, w_is ∙ *ℤ_comm c v);
+  second = (u, w_is ∙ low.same);
+}
+
+-- what an exact division gives
+pub exact_by : (c d t : ℤ) → IsMultiple c d → t ≡ int_div c d → t *ℤ d ≡ c
+exact_by c d t multiple t_is = ap (λ (z : ℤ). z *ℤ d) t_is ∙ exact_quotient c d (multiple_divides c d multiple)
+
+-- a division that leaves no rest is exact
+pub no_rest : (c d t r : ℤ) → t ≡ int_div c d → r ≡ int_rem c d → r ≡ pos 0 → t *ℤ d ≡ c
+no_rest c d t r t_is r_is none = ap (λ (z : ℤ). z *ℤ d) t_is ∙ sym (+ℤ_idr (int_div c d *ℤ d)) ∙ ap (λ (z : ℤ). int_div c d *ℤ d +ℤ z) (sym none ∙ r_is) ∙ quot-rem c d
+
+-- s/c + n/d is at most 1, and c is t times d
+module _ (s c n d t : ℤ) (c_up : pos 0 <ℤ c) (d_up : pos 0 <ℤ d) (s_up : pos 0 ≤ℤ s) (n_up : pos 0 ≤ℤ n) (below : (s *ℤ d +ℤ n *ℤ c) ≤ℤ (c *ℤ d)) (c_is : t *ℤ d ≡ c) where
+  t_up : pos 0 ≤ℤ t
+  t_up = above_zero t (positive_factor t d d_up (rw c_is c_up))
+
+  part_up : pos 0 ≤ℤ (n *ℤ t)
+  part_up = sign_up n t n_up t_up
+
+  sum_below : (s +ℤ n *ℤ t) ≤ℤ c
+  sum_below =
+      let right : n *ℤ c ≡ (n *ℤ t) *ℤ d = ap (λ (z : ℤ). n *ℤ z) (sym c_is) ∙ sym (mul_assoc n t d) in
+      let both : s *ℤ d +ℤ n *ℤ c ≡ (s +ℤ n *ℤ t) *ℤ d = ap (λ (z : ℤ). s *ℤ d +ℤ z) right ∙ sym (add-mul s (n *ℤ t) d) in
+      at_most (s +ℤ n *ℤ t) c d d_up (rw both at below)
+
+  pub part_held_over : (lo hi : ℤ) → IsRange lo hi → IsHeld lo hi c → IsHeld lo hi (n *ℤ t)
+  part_held_over lo hi range held = let most = sum_below in part_held lo hi (n *ℤ t) c range (inl (part_up, omega (arith, ints))) held
+
+  pub sum_held_over : (lo hi p : ℤ) → IsRange lo hi → IsHeld lo hi c → p ≡ n *ℤ t → IsHeld lo hi (s +ℤ p)
+  sum_held_over lo hi p range held p_is = rw p_is (part_held lo hi (s +ℤ n *ℤ t) c range (inl (both_above _ _ s_up part_up, sum_below)) held)
+
+  pub next_over : (p m : ℤ) → p ≡ n *ℤ t → m ≡ s +ℤ p → IsNextOver (s, c) (n, d) m c
+  next_over p m p_is m_is = rw (m_is, p_is) (record { same = joined_same s c n d t c_is; above = both_above _ _ s_up part_up; below = sum_below })
+
+-- ---- the sum of the first shares
+
+-- s/c is the sum of the first k shares, each of these is a whole number over c, and the sums so far fit
+pub record IsTotalSoFar {A : Type 0} (view : A → ℤ × ℤ) (lo hi : ℤ) (shares : List A) (k : ℕ) (s c : ℤ) : Type 0 where
+  pub up : pos 0 <ℤ c
+  pub total_up : pos 0 <ℤ (total_of_shares view (take k shares)).1
+  pub same : SameValue (total_of_shares view (take k shares)).0 (total_of_shares view (take k shares)).1 s c
+  pub whole : (j : ℕ) → j < k → (other : A) → IsWholeOver c (view (slice_index_or shares j other))
+  pub fit : (j : ℕ) → j < k → Fits lo hi (total_of_shares view (take (j + 1) shares)).0 (total_of_shares view (take (j + 1) shares)).1
+
+module _ {A : Type 0} (view : A → ℤ × ℤ) (lo hi : ℤ) (shares : List A) where
+  pub total_none : (s c : ℤ) → s ≡ pos 0 → c ≡ pos 1 → IsTotalSoFar view lo hi shares 0 s c
+  total_none s c none one = rw (none, one) (record {
+    up = omega (arith, ints);
+    total_up = omega (arith, ints);
+    same = refl;
+    whole = λ j below. absurd (omega arith);
+    fit = λ j below. absurd (omega arith);
+  })
+
+  -- with one more share
+  module _ (k : ℕ) (s c : ℤ) (x : A) (low : ℤ × ℤ) (n d : ℤ) (below : k < length shares) (is : x ≡ get_or shares k x) (so_far : IsTotalSoFar view lo hi shares k s c) (x_up : pos 0 <ℤ (view x).1)
+      (low_is : IsLowestTermsOf (view x).0 (view x).1 low.0 low.1) (sum : IsSumOver (s, c) low n d) where
+    abbrev before : ℤ × ℤ
+    before = total_of_shares view (take k shares)
+
+    next : total_of_shares view (take (k + 1) shares) ≡ sum_of before.0 before.1 (view x).0 (view x).1
+    next = total_next view shares k x below is
+
+    next_up : pos 0 <ℤ (before.1 *ℤ (view x).1)
+    next_up = mul_positive before.1 (view x).1 so_far.total_up x_up
+
+    after : SameValue (sum_of before.0 before.1 (view x).0 (view x).1).0 (sum_of before.0 before.1 (view x).0 (view x).1).1 n d
+    after = same_value_chained _ _ (sum_of s c low.0 low.1).0 (sum_of s c low.0 low.1).1 n d
+        (positive_nonzero _ (mul_positive c low.1 so_far.up low_is.lowest.positive))
+        (same_value_sums before.0 before.1 (view x).0 (view x).1 s c low.0 low.1 so_far.same low_is.same)
+        sum.same
+
+    kept : (j : ℕ) → j < k → (other : A) → IsWholeOver d (view (slice_index_or shares j other))
+    kept j less other = whole_grown c d _ sum.first (so_far.whole j less other)
+
+    here : (other : A) → IsWholeOver d (view (slice_index_or shares k other))
+    here other = subst (λ y. IsWholeOver d (view y)) (is ∙ get_or_default shares k x other below) (whole_by_low d (view x) low low_is sum.second)
+
+    pub total_more : IsRange lo hi → IsHeld lo hi n → IsHeld lo hi d → IsTotalSoFar view lo hi shares (k + 1) n d
+    total_more range n_held d_held = record {
+      up = sum.up;
+      total_up = subst (λ y. pos 0 <ℤ y.1) (sym next) next_up;
+      same = subst (λ y. SameValue y.0 y.1 n d) (sym next) after;
+      whole = below_more _ _ kept here;
+      fit = below_more _ _ so_far.fit (subst (λ y. Fits lo hi y.0 y.1) (sym next) (fits_over lo hi n d (sum_of before.0 before.1 (view x).0 (view x).1) range n_held d_held sum.up next_up after));
+    }
+
+  pub total_whole : (k : ℕ) (s c : ℤ) → k ≡ length shares → IsTotalSoFar view lo hi shares k s c → IsTotalOver view lo hi shares s c
+  total_whole k s c whole so_far =
+      let all : take k shares ≡ shares = ap (λ n. take n shares) whole ∙ take-length shares in
+      record {
+        up = so_far.up;
+        same = subst (λ xs. SameValue (total_of_shares view xs).0 (total_of_shares view xs).1 s c) all so_far.same;
+        whole = λ j other less. so_far.whole j (omega arith) other;
+        fit = λ j less. so_far.fit j (omega arith);
+      }
+
+-- ---- a part by the sums over the denominator
+
+module _ {A P : Type 0} (view : A → ℤ × ℤ) (value_of : P → ℤ) (lo hi amount : ℤ) (shares : List A) (range : IsRange lo hi) (positive : SharesOverPositive view shares) (none : NoShareIsBelowZero view shares) (one : SharesMakeOne view shares) (c : ℤ) (c_up : pos 0 <ℤ c)
+    (k : ℕ) (s mark : ℤ) (parts : List P) (x : A) (low : ℤ × ℤ) (below : k < length shares) (is : x ≡ get_or shares k x) (so_far : IsSplitSoFar view value_of amount shares parts k (s, c) mark) (low_is : IsLowestTermsOf (view x).0 (view x).1 low.0 low.1) where
+  abbrev begun : ℤ × ℤ
+  begun = total_of_shares view (take k shares)
+
+  x_up : pos 0 <ℤ (view x).1
+  x_up = subst (λ y. pos 0 <ℤ (view y).1) (sym is) (positive k x below)
+
+  x_above : pos 0 ≤ℤ (view x).0
+  x_above = subst (λ y. pos 0 ≤ℤ (view y).0) (sym is) (none k x below)
+
+  joined_up : pos 0 <ℤ (begun.1 *ℤ (view x).1)
+  joined_up = mul_positive begun.1 (view x).1 so_far.up x_up
+
+  over_up : pos 0 <ℤ (c *ℤ low.1)
+  over_up = mul_positive c low.1 c_up low_is.lowest.positive
+
+  pub low_above : pos 0 ≤ℤ low.0
+  low_above =
+      let some = sign_up (view x).0 low.1 x_above (above_zero low.1 low_is.lowest.positive) in
+      at_most (pos 0) low.0 (view x).1 x_up (rw (zero-*ℤ (view x).1, sym low_is.same) some)
+
+  sums_same : SameValue (sum_of begun.0 begun.1 (view x).0 (view x).1).0 (sum_of begun.0 begun.1 (view x).0 (view x).1).1 (sum_of s c low.0 low.1).0 (sum_of s c low.0 low.1).1
+  sums_same = same_value_sums begun.0 begun.1 (view x).0 (view x).1 s c low.0 low.1 so_far.same low_is.same
+
+  -- the sum with the next share is at most 1, too
+  pub next_at_most : (sum_of s c low.0 low.1).0 ≤ℤ (sum_of s c low.0 low.1).1
+  next_at_most = one_moved (sum_of begun.0 begun.1 (view x).0 (view x).1) (sum_of s c low.0 low.1) joined_up over_up sums_same
+      (subst (λ y. y.0 ≤ℤ y.1) (total_next view shares k x below is) (first_shares_one view (k + 1) shares positive none (omega (arith, ints))))
+
+  module _ (n z : ℤ) (next : IsNextOver (s, c) low n c) (rounded : IsRounded (amount *ℤ n) c z) where
+    after_same : SameValue (sum_of begun.0 begun.1 (view x).0 (view x).1).0 (sum_of begun.0 begun.1 (view x).0 (view x).1).1 n c
+    after_same = same_value_chained _ _ (sum_of s c low.0 low.1).0 (sum_of s c low.0 low.1).1 n c (positive_nonzero _ over_up) sums_same next.same
+
+    share_rounded : IsRoundedShare amount (sum_of begun.0 begun.1 (view x).0 (view x).1) z
+    share_rounded = rounded_moved amount (n, c) (sum_of begun.0 begun.1 (view x).0 (view x).1) c_up joined_up after_same z rounded
+
+    pub mark_fits_over : IsHeld lo hi amount → IsHeld lo hi z
+    mark_fits_over held = mark_held amount n c z c_up next.above next.below rounded lo hi range held
+
+    pub part_fits_over : P → k < length parts → IsHeld lo hi z → IsHeld lo hi (z -ℤ mark)
+    part_fits_over written room held = next_part_held view value_of amount shares parts k (s, c) mark x (n, c) z written below room is so_far x_up x_above after_same share_rounded lo hi range held
+
+    pub split_more_over : (written : P) → k < length parts → value_of written ≡ z -ℤ mark → IsSplitSoFar view value_of amount shares (set parts k written) (k + 1) (n, c) z
+    split_more_over written room part_is = split_more view value_of amount shares parts k (s, c) mark x (n, c) z written below room is so_far x_up x_above after_same share_rounded part_is

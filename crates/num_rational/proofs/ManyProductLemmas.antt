@@ -1,13 +1,14 @@
 -- Products and quotients of many fractions: what one more item gives, and the numbers of items in the lists of a caller.
-use Rattle.std.specs.Prelude.{◌≡◌, ◌≢◌, ◌+◌, ◌<◌, ◌*ℤ◌, ℕ, ℤ, pos, List, ◌++◌, length}
-use Rattle.std.proofs.Common.{refl, sym, ap, arith, ◌∙◌, get_or, take, set}
+use Rattle.std.specs.Prelude.{◌≡◌, ◌≢◌, ◌+◌, ◌<◌, ◌*ℤ◌, ℕ, ℤ, pos, List, [], ◌∷◌, ◌++◌, length}
+use Rattle.std.proofs.Common.{refl, sym, ap, subst, arith, ◌∙◌, get_or, take, set}
+use Rattle.std.proofs.Math.Seq.{take-length}
 use Rattle.std.proofs.lemmas.Int.{ints}
 use lib.IntN.{one, *ℤ-one, *ℤ-zero}
 use Rattle.ratio_integer.specs.Fraction.{Fits, IsHeldLowest}
 use Rattle.ratio_integer.specs.Range.{IsHeld, IsRange}
 use Rattle.ratio_integer.proofs.DivisionLemmas.{low_below}
 use Rattle.ratio_integer.proofs.LowestTerms.{held_lowest_moved, lowest_own, over_one, same_value_products}
-use Rattle.ratio_integer.proofs.Whole.{mul_assoc, mul_nonzero}
+use Rattle.ratio_integer.proofs.Whole.{mul_assoc, mul_nonzero, positive_nonzero}
 use Rattle.ratio_core.specs.ManyProducts.{product_by}
 use Rattle.ratio_core.proofs.ManyProductLemmas.{product-append, product_more_set, product_with}
 use Rattle.num_rational.specs.ManyProducts.{denominator_product, numerator_product}
@@ -42,6 +43,17 @@ module _ (lo hi n d a b : ℤ) (so_far : IsHeldLowest lo hi n d a b) where
       (mul_nonzero d y so_far.terms.fraction (right_nonzero b y next.terms.fraction))
       (same_value_products n d x y a b x y so_far.terms.same refl) next
 
+  -- the product is out of range if the one with the lowest terms is
+  pub factor_out : (x y : ℤ) → ¬ (Fits lo hi (a *ℤ x) (b *ℤ y)) → ¬ (Fits lo hi (n *ℤ x) (d *ℤ y))
+  factor_out x y out fits =
+      out (record {
+        numer = fits.numer;
+        denom = fits.denom;
+        low = held_lowest_moved lo hi (n *ℤ x) (d *ℤ y) (a *ℤ x) (b *ℤ y) fits.numer fits.denom
+            (mul_nonzero b y (positive_nonzero b so_far.terms.lowest.positive) (right_nonzero d y fits.low.terms.fraction))
+            (sym (same_value_products n d x y a b x y so_far.terms.same refl)) fits.low;
+      })
+
 module _ {A : Type 0} (view : A → ℤ × ℤ) (lo hi : ℤ) (xs : List A) (i : ℕ) (x : A) (inside : i < length xs) (is : x ≡ get_or xs i x) (a b : ℤ) (pair : ℤ × ℤ) (seen : pair ≡ view x) (p q : ℤ) where
   pub above_more : IsHeldLowest lo hi (numerator_product view (take i xs)) (denominator_product view (take i xs)) a b → IsHeldLowest lo hi (a *ℤ pair.0) (b *ℤ pair.1) p q → IsHeldLowest lo hi (numerator_product view (take (i + 1) xs)) (denominator_product view (take (i + 1) xs)) p q
   above_more so_far next =
@@ -53,11 +65,29 @@ module _ {A : Type 0} (view : A → ℤ × ℤ) (lo hi : ℤ) (xs : List A) (i :
       rw (product_with (λ y. (view y).0) xs i x inside is, product_with (λ y. (view y).1) xs i x inside is, sym (mul_assoc n (denominator_product view (take i xs)) (view x).1), sym (mul_assoc d (numerator_product view (take i xs)) (view x).0))
       (rw seen at (factor_more lo hi _ _ a b so_far pair.1 pair.0 p q next))
 
+  -- the last step is out of range, and so is the whole
+  all : i + 1 ≡ length xs → take (i + 1) xs ≡ xs
+  all last = ap (λ k. take k xs) last ∙ take-length xs
+
+  pub above_out : IsHeldLowest lo hi (numerator_product view (take i xs)) (denominator_product view (take i xs)) a b → ¬ (Fits lo hi (a *ℤ pair.0) (b *ℤ pair.1)) → i + 1 ≡ length xs → ¬ (Fits lo hi (numerator_product view xs) (denominator_product view xs))
+  above_out so_far out last = subst (λ ys. ¬ (Fits lo hi (numerator_product view ys) (denominator_product view ys))) (all last)
+      (rw (product_with (λ y. (view y).0) xs i x inside is, product_with (λ y. (view y).1) xs i x inside is)
+      (factor_out lo hi _ _ a b so_far (view x).0 (view x).1 (rw seen at out)))
+
+  pub below_out : (n d : ℤ) → IsHeldLowest lo hi (n *ℤ denominator_product view (take i xs)) (d *ℤ numerator_product view (take i xs)) a b → ¬ (Fits lo hi (a *ℤ pair.1) (b *ℤ pair.0)) → i + 1 ≡ length xs → ¬ (Fits lo hi (n *ℤ denominator_product view xs) (d *ℤ numerator_product view xs))
+  below_out n d so_far out last = subst (λ ys. ¬ (Fits lo hi (n *ℤ denominator_product view ys) (d *ℤ numerator_product view ys))) (all last)
+      (rw (product_with (λ y. (view y).0) xs i x inside is, product_with (λ y. (view y).1) xs i x inside is, sym (mul_assoc n (denominator_product view (take i xs)) (view x).1), sym (mul_assoc d (numerator_product view (take i xs)) (view x).0))
+      (factor_out lo hi _ _ a b so_far (view x).1 (view x).0 (rw seen at out)))
+
 -- ---- without items below
 
 pub times_nothing : (z : ℤ) → z *ℤ pos 1 ≡ z
 unfolding one
 times_nothing z = *ℤ-one z
+
+pub none_below : {B : Type 0} (shows : B → ℤ × ℤ) (ys : List B) (lo hi n d : ℤ) → length ys ≡ 0 → ¬ (Fits lo hi n d) → ¬ (Fits lo hi (n *ℤ denominator_product shows ys) (d *ℤ numerator_product shows ys))
+none_below shows [] lo hi n d none out = rw (times_nothing n, times_nothing d) out
+none_below shows (y ∷ ys) lo hi n d none out = absurd (omega arith)
 
 pub below_start : (lo hi n d a b : ℤ) → IsHeldLowest lo hi n d a b → IsHeldLowest lo hi (n *ℤ pos 1) (d *ℤ pos 1) a b
 below_start lo hi n d a b so_far = rw (times_nothing n, times_nothing d) so_far

@@ -1,9 +1,10 @@
 //! The two ways of a product or quotient of many fractions in lowest terms: step by step, and cancelled first.
-ghost use Rattle.std.specs.Prelude.{◌≡◌, ◌↔◌, ◌+◌, ◌*◌, ◌≤◌, length, IsTrue};
+ghost use Rattle.std.specs.Prelude.{◌≡◌, ◌↔◌, ◌+◌, ◌*◌, ◌<◌, ◌≤◌, length, IfErr, IfOk, IsTrue};
+ghost use Rattle.ratio_integer.specs.Fraction.{Fits};
 ghost use Rattle.ratio_core.specs.ManyProducts.{product_by};
-ghost use Rattle.num_rational.specs.ManyProducts.{GivesQuotientOf, denominator_product, numerator_product, quotient_of_items};
-ghost use Rattle.num_rational.specs.Ratio.{ChecksRatio};
-ghost use Rattle.num_rational.specs.Reduced.{ratio_in};
+ghost use Rattle.num_rational.specs.ManyProducts.{denominator_product, numerator_product, quotient_of_items};
+ghost use Rattle.num_rational.specs.Ratio.{ChecksRatio, IsLowestOf};
+ghost use Rattle.num_rational.specs.Reduced.{ratio_in, ratio_of};
 
 use crate::ratio::Ratio;
 use crate::reduced::{Reduced, ReducedOperand};
@@ -18,22 +19,39 @@ pub(crate) fn has_room(above: usize, below: usize, room: usize) -> bool
     above <= half && below <= half - above
 }
 
-// The quotient, if each number on the way fits. Then nothing has to be cancelled first.
+// The quotient, if each number on the way fits. Then nothing has to be cancelled first. Else whether the step that does not fit is the
+// last one. Then the quotient does not fit.
 pub(crate) fn step_by_step<
     T: Copy + Integer,
     O: ReducedOperand<T> + Copy,
     P: ReducedOperand<T> + Copy,
->(above: &[O], below: &[P]) -> Option<Reduced<T>>
-    ensures { GivesQuotientOf (quotient_of_items O.two_numbers above.now P.two_numbers below.now) (ratio_in result) }
+>(above: &[O], below: &[P]) -> Result<Reduced<T>, bool>
+    ensures quotient { IfOk result (λ quotient. IsLowestOf (quotient_of_items O.two_numbers above.now P.two_numbers below.now) (ratio_of quotient)) }
+    ensures refused { IfErr result (λ last. IsTrue last →
+        ¬ (Fits T.lo T.hi (quotient_of_items O.two_numbers above.now P.two_numbers below.now).0 (quotient_of_items O.two_numbers above.now P.two_numbers below.now).1)) }
 {
     let mut total = Reduced::one();
-    'above: for x in above {
-        total = total.checked_mul((*x).reduced())?;
+    'above: for (i, x) in above.iter().enumerate() {
+        match total.checked_mul((*x).reduced()) {
+            Some(product) => total = product,
+            None => return Err(is_last(i, above.len(), below.len())),
+        }
     }
-    'below: for x in below {
-        total = total.checked_div((*x).reduced())?;
+    'below: for (i, x) in below.iter().enumerate() {
+        match total.checked_div((*x).reduced()) {
+            Some(quotient) => total = quotient,
+            None => return Err(is_last(i, below.len(), 0)),
+        }
     }
-    Some(total)
+    Ok(total)
+}
+
+// Whether no item is left, neither of a list after its i-th one nor of `others`.
+fn is_last(i: usize, items: usize, others: usize) -> bool
+    requires { i < items }
+    ensures { IsTrue result ↔ ((i + 1 ≡ items) × (others ≡ 0)) }
+{
+    i + 1 == items && others == 0
 }
 
 // The quotient, with each number above cancelled against each number below before anything is multiplied.

@@ -42,13 +42,16 @@ impl<T: Copy + Integer> Reduced<T> {
         ensures exact { 2 * (length above.now + length below.now) ≤ length room.old →
             ChecksRatio (quotient_of_items O.two_numbers above.now P.two_numbers below.now) (ratio_in result) }
     {
-        if let Some(quotient) = step_by_step(above, below) {
-            return Some(quotient);
-        }
-        if has_room(above.len(), below.len(), room.len()) {
-            cancelled_first(above, below, room)
-        } else {
-            None
+        match step_by_step(above, below) {
+            Ok(quotient) => Some(quotient),
+            Err(true) => None,
+            Err(false) => {
+                if has_room(above.len(), below.len(), room.len()) {
+                    cancelled_first(above, below, room)
+                } else {
+                    None
+                }
+            }
         }
     }
 }

@@ -8,11 +8,11 @@ abbrev pub invariant-above : goal.invariant-above
 invariant-above g l =
     let T = g.T.Integer in
     let view = g.O.ReducedOperand.two_numbers in
-    IsHeldLowest T.lo T.hi (numerator_product view (take l.x-index l.above)) (denominator_product view (take l.x-index l.above)) (T.value l.total.ratio.numer) (T.value l.total.ratio.denom)
+    IsHeldLowest T.lo T.hi (numerator_product view (take l.i l.above)) (denominator_product view (take l.i l.above)) (T.value l.total.ratio.numer) (T.value l.total.ratio.denom)
 
 abbrev pub invariant-below : goal.invariant-below
 invariant-below g l =
     let T = g.T.Integer in
     let view = g.O.ReducedOperand.two_numbers in
     let shows = g.P.ReducedOperand.two_numbers in
-    IsHeldLowest T.lo T.hi (numerator_product view l.fn.above *ℤ denominator_product shows (take l.x-index l.below)) (denominator_product view l.fn.above *ℤ numerator_product shows (take l.x-index l.below)) (T.value l.total.ratio.numer) (T.value l.total.ratio.denom)
+    IsHeldLowest T.lo T.hi (numerator_product view l.fn.above *ℤ denominator_product shows (take l.i l.below)) (denominator_product view l.fn.above *ℤ numerator_product shows (take l.i l.below)) (T.value l.total.ratio.numer) (T.value l.total.ratio.denom)

@@ -56,5 +56,6 @@ pub mod TwosComplement
 pub mod WideRemainders
 pub mod WidthLemmas
 pub mod WordLemmas
+pub mod WordMultiples
 pub mod WordOrder
 pub mod WordProducts

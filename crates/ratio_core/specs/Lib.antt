@@ -15,3 +15,4 @@ pub mod Refusal
 pub mod Rounding
 pub mod RoundingLaws
 pub mod Signs
+pub mod Words

@@ -11,6 +11,7 @@ pub(crate) mod multiple;
 mod parts;
 pub mod reducing;
 mod sum;
+mod words;
 
 pub use difference::{checked_sub, sub};
 pub use mixed::numerator_of;

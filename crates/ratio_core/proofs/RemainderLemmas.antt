@@ -8,7 +8,7 @@ use Rattle.ratio_integer.specs.Arithmetic.{IsHeldScaled, IsScaled, RemainderHeld
 use Rattle.ratio_integer.specs.Fraction.{IsHeldLowest, SameValue}
 use Rattle.ratio_integer.proofs.DivisionLemmas.{multiple-rem, multiple_of_minus_one}
 use Rattle.ratio_integer.proofs.LowestTerms.{held_lowest_moved}
-use Rattle.ratio_integer.proofs.Whole.{mul_assoc, mul_nonzero, mul_positive, positive_nonzero, sub-mul}
+use Rattle.ratio_integer.proofs.Whole.{mul-swap_last, mul_assoc, mul_nonzero, mul_positive, positive_nonzero, sub-mul}
 use Rattle.ratio_core.proofs.SumLemmas.{over_common, over_common_right}
 
 -- ---- the quotient cut towards zero does not change if both numbers are multiplied by a positive one
@@ -40,14 +40,14 @@ rest_is p q t r whole = omega (arith, ints)
 
 -- ---- the value
 
-module _ (a b c d l p q : ℤ) (b_positive : pos 0 <ℤ b) (d_positive : pos 0 <ℤ d) (is : IsScaled a b c d l p q) where
+module _ (a b c d l p q : ℤ) (b_positive : pos 0 <ℤ b) (d_positive : pos 0 <ℤ d) (l_positive : pos 0 <ℤ l) (left : p *ℤ b ≡ a *ℤ l) (right : q *ℤ d ≡ c *ℤ l) where
   -- the quotient of the scaled numerators is the quotient of the fractions
   quotient_same : int_div p q ≡ int_div (a *ℤ d) (b *ℤ c)
   quotient_same =
       sym (quotient-multiplied p q (b *ℤ d) (mul_positive b d b_positive d_positive))
-      ∙ ap (λ (t : ℤ). int_div t (q *ℤ (b *ℤ d))) (sym (over_common a b d l p is.left))
-      ∙ ap (λ (t : ℤ). int_div ((a *ℤ d) *ℤ l) t) (sym (over_common_right b c d l q is.right))
-      ∙ quotient-multiplied (a *ℤ d) (c *ℤ b) l is.least.positive
+      ∙ ap (λ (t : ℤ). int_div t (q *ℤ (b *ℤ d))) (sym (over_common a b d l p left))
+      ∙ ap (λ (t : ℤ). int_div ((a *ℤ d) *ℤ l) t) (sym (over_common_right b c d l q right))
+      ∙ quotient-multiplied (a *ℤ d) (c *ℤ b) l l_positive
       ∙ ap (λ (t : ℤ). int_div (a *ℤ d) t) (*ℤ_comm c b)
 
   remainder_same : (r : ℤ) → r ≡ int_rem p q → SameValue (a *ℤ d -ℤ int_div (a *ℤ d) (b *ℤ c) *ℤ (c *ℤ b)) (b *ℤ d) r l
@@ -55,21 +55,43 @@ module _ (a b c d l p q : ℤ) (b_positive : pos 0 <ℤ b) (d_positive : pos 0 <
       let t = int_div (a *ℤ d) (b *ℤ c) in
       let r-is : r ≡ p -ℤ t *ℤ q = r-rest ∙ rest_is p q (int_div p q) (int_rem p q) (quot-rem p q) ∙ ap (λ (z : ℤ). p -ℤ z *ℤ q) quotient_same in
       sub-mul (a *ℤ d) (t *ℤ (c *ℤ b)) l
-      ∙ ap (λ (z : ℤ). z -ℤ (t *ℤ (c *ℤ b)) *ℤ l) (over_common a b d l p is.left)
-      ∙ ap (λ (z : ℤ). p *ℤ (b *ℤ d) -ℤ z) (mul_assoc t (c *ℤ b) l ∙ ap (λ (z : ℤ). t *ℤ z) (over_common_right b c d l q is.right) ∙ sym (mul_assoc t q (b *ℤ d)))
+      ∙ ap (λ (z : ℤ). z -ℤ (t *ℤ (c *ℤ b)) *ℤ l) (over_common a b d l p left)
+      ∙ ap (λ (z : ℤ). p *ℤ (b *ℤ d) -ℤ z) (mul_assoc t (c *ℤ b) l ∙ ap (λ (z : ℤ). t *ℤ z) (over_common_right b c d l q right) ∙ sym (mul_assoc t q (b *ℤ d)))
       ∙ sym (sub-mul p (t *ℤ q) (b *ℤ d))
       ∙ ap (λ (z : ℤ). z *ℤ (b *ℤ d)) (sym r-is)
 
-  -- if the divisor is not 0, neither is its scaled numerator
-  pub divisor_scaled : c ≢ pos 0 → q ≢ pos 0
-  divisor_scaled nonzero e = mul_nonzero c l nonzero (positive_nonzero l is.least.positive) (sym is.right ∙ ap (λ (t : ℤ). t *ℤ d) e ∙ zero-*ℤ d)
+  -- if the divisor is not 0, neither is its numerator over l
+  divisor_over : c ≢ pos 0 → q ≢ pos 0
+  divisor_over nonzero e = mul_nonzero c l nonzero (positive_nonzero l l_positive) (sym right ∙ ap (λ (t : ℤ). t *ℤ d) e ∙ zero-*ℤ d)
+
+-- the same over any common denominator l, with the numerators p and q
+pub remainder_over : (lo hi a b c d l p q r u v : ℤ) → pos 0 <ℤ b → pos 0 <ℤ d → pos 0 <ℤ l → p *ℤ b ≡ a *ℤ l → q *ℤ d ≡ c *ℤ l → r ≡ int_rem p q → IsHeldLowest lo hi r l u v
+    → IsHeldLowest lo hi (a *ℤ d -ℤ int_div (a *ℤ d) (b *ℤ c) *ℤ (c *ℤ b)) (b *ℤ d) u v
+remainder_over lo hi a b c d l p q r u v b_positive d_positive l_positive left right r-rest low =
+    held_lowest_moved lo hi r l _ (b *ℤ d) u v (mul_nonzero b d (positive_nonzero b b_positive) (positive_nonzero d d_positive)) (remainder_same a b c d l p q b_positive d_positive l_positive left right r r-rest) low
+
+-- ---- one fraction expanded by y, and the other one by x
+
+module _ (a b c d x y : ℤ) (b_positive : pos 0 <ℤ b) (d_positive : pos 0 <ℤ d) (positive : pos 0 <ℤ (b *ℤ y)) (common : b *ℤ y ≡ x *ℤ d) where
+  expanded_right : (c *ℤ x) *ℤ d ≡ c *ℤ (b *ℤ y)
+  expanded_right = mul_assoc c x d ∙ ap (λ (t : ℤ). c *ℤ t) (sym common)
+
+  pub expanded_divisor : c ≢ pos 0 → (c *ℤ x) ≢ pos 0
+  expanded_divisor nonzero = divisor_over a b c d (b *ℤ y) (a *ℤ y) (c *ℤ x) b_positive d_positive positive (mul-swap_last a y b) expanded_right nonzero
+
+  pub expanded_remainder : (lo hi u v : ℤ) → IsHeldLowest lo hi (int_rem (a *ℤ y) (c *ℤ x)) (b *ℤ y) u v → IsHeldLowest lo hi (a *ℤ d -ℤ int_div (a *ℤ d) (b *ℤ c) *ℤ (c *ℤ b)) (b *ℤ d) u v
+  expanded_remainder lo hi u v low = remainder_over lo hi a b c d (b *ℤ y) (a *ℤ y) (c *ℤ x) _ u v b_positive d_positive positive (mul-swap_last a y b) expanded_right refl low
 
 -- ---- the result over the least common denominator
+
+-- if the divisor is not 0, neither is its scaled numerator
+pub divisor_scaled : (a b c d l p q : ℤ) → pos 0 <ℤ b → pos 0 <ℤ d → IsScaled a b c d l p q → c ≢ pos 0 → q ≢ pos 0
+divisor_scaled a b c d l p q b_positive d_positive is = divisor_over a b c d l p q b_positive d_positive is.least.positive is.left is.right
 
 pub remainder_answer : (lo hi a b c d l p q r u v : ℤ) → pos 0 <ℤ b → pos 0 <ℤ d → c ≢ pos 0 → IsHeldScaled lo hi a b c d l p q → r ≡ int_rem p q → IsHeldLowest lo hi r l u v → RemainderHeld lo hi a b c d × IsHeldLowest lo hi (a *ℤ d -ℤ int_div (a *ℤ d) (b *ℤ c) *ℤ (c *ℤ b)) (b *ℤ d) u v
 remainder_answer lo hi a b c d l p q r u v b_positive d_positive nonzero is r-rest low = (
   record { divisor = nonzero; held = record { common = l; left = p; right = q; held = is } },
-  held_lowest_moved lo hi r l _ (b *ℤ d) u v (mul_nonzero b d (positive_nonzero b b_positive) (positive_nonzero d d_positive)) (remainder_same a b c d l p q b_positive d_positive is.scaled r r-rest) low,
+  remainder_over lo hi a b c d l p q r u v b_positive d_positive is.scaled.least.positive is.scaled.left is.scaled.right r-rest low,
 )
 
 -- dividing by -1 leaves no rest

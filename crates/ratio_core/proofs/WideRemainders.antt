@@ -4,7 +4,7 @@ use Rattle.std.proofs.Common.{refl, sym, ap, arith, inl, inr, ◌∙◌}
 use Rattle.std.proofs.lemmas.Int.{ints, quot-rem, unsigned_abs-mul}
 use lib.IntN.{*ℤ_comm}
 use Rattle.ratio_integer.specs.Arithmetic.{RemainderHeld, remainder_of}
-use Rattle.ratio_integer.specs.Fraction.{AnswersLowest, ChecksLowest, Fits, IsHeldLowest, IsLowestTermsOf}
+use Rattle.ratio_integer.specs.Fraction.{AnswersLowest, ChecksLowest, Fits, IsHeldLowest, IsLowestTerms, IsLowestTermsOf}
 use Rattle.ratio_integer.specs.Range.{FitsIn128, IsHeld, IsRange}
 use Rattle.ratio_integer.proofs.DivisionLemmas.{abs-neg, abs_pos}
 use Rattle.ratio_integer.proofs.LowestTerms.{HasLowest, denom_out, lowest_exist, lowest_unique, numer_out}
@@ -201,3 +201,8 @@ times_is m n x y p q = rw (p, q) refl
 
 pub magnitude_up : (z : ℤ) (m : ℕ) → z ≢ pos 0 → m ≡ unsigned_abs z → 0 < m
 magnitude_up z m nonzero is = rw is (abs_pos z nonzero)
+
+pub magnitudes_lowest : (a b : ℤ) (m n : ℕ) → IsLowestTerms a b → m ≡ unsigned_abs a → n ≡ unsigned_abs b → IsLowestTerms (pos m) (pos n)
+magnitudes_lowest a b m n is m-is n-is =
+    let up : 0 < n = magnitude_up b n (positive_nonzero b is.positive) n-is in
+    record { positive = omega (arith, ints); only_one = rw (m-is, n-is) is.only_one }

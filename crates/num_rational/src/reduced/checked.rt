@@ -73,7 +73,12 @@ impl<T: Copy + Integer> Reduced<T> {
         ensures { ChecksLowestRemainder (numbers (ratio_of self.now)) (O.two_numbers other) (ratio_in result) }
     {
         let (numer, denom) = other.reduced().into_raw();
-        match remainder::lowest_remainder::checked_rem(*self.numer(), *self.denom(), numer, denom) {
+        match remainder::lowest_remainder::checked_rem_of_lowest(
+            *self.numer(),
+            *self.denom(),
+            numer,
+            denom,
+        ) {
             Some((numer, denom)) => Some(Reduced {
                 ratio: Ratio::new_raw(numer, denom),
             }),

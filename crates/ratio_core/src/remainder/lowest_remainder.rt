@@ -3,14 +3,19 @@
 //! The first way divides the numerators over the least common denominator: 3/4 by 1/2 is 3 by 2 over 4. If a
 //! number there does not fit, as 127 * 127 for 127/1 by 1/127 over `i8`, the second way computes with magnitudes
 //! in `u128`.
-ghost use Rattle.std.specs.Prelude.{◌<ℤ◌, pos};
+//!
+//! For fractions in lowest terms, the numerators are first divided over the product of the denominators: 3/4 by 1/2 is
+//! 6 by 4 over 8. So the gcd of the denominators is needed only where a product does not fit, and then both ways use it.
+ghost use Rattle.std.specs.Prelude.{◌≢◌, ◌<ℤ◌, ◌*ℤ◌, pos, int_rem, IfSome};
 ghost use Rattle.ratio_integer.specs.Arithmetic.{remainder_of};
-ghost use Rattle.ratio_integer.specs.Fraction.{AnswersLowest};
+ghost use Rattle.ratio_integer.specs.Fraction.{AnswersLowest, ChecksLowest, IsHeldLowest, IsLowestTerms};
+ghost use Rattle.ratio_integer.specs.Range.{FitsIn128};
 ghost use Rattle.ratio_core.specs.Conditions.{RemainderCondition};
 
 use crate::remainder;
-use crate::remainder::wide::wide_rem;
-use ratio_integer::Integer;
+use crate::remainder::truncated_rest;
+use crate::remainder::wide::{wide_rem, wide_rem_of_lowest};
+use ratio_integer::{Integer, cancelled, lowest_terms};
 
 /// The lowest terms of `x - t*y`. Here `x` is `a/b`, `y` is `c/d`, and `t` is their quotient cut towards zero.
 ///
@@ -35,4 +40,59 @@ pub fn checked_rem<T: Integer>(a: T, b: T, c: T, d: T) -> Option<(T, T)>
         return None;
     }
     wide_rem(a, b, c, d)
+}
+
+/// The same for fractions in lowest terms, which takes fewer greatest common divisors.
+#[inline(always)]
+pub fn checked_rem_of_lowest<T: Integer>(a: T, b: T, c: T, d: T) -> Option<(T, T)>
+    requires left { IsLowestTerms (T.value a) (T.value b) }
+    requires right { IsLowestTerms (T.value c) (T.value d) }
+    ensures { AnswersLowest (λ r. T.value r.0) (λ r. T.value r.1) T.lo T.hi
+        (RemainderCondition T.EXACT_REMAINDERS T.lo T.hi (T.value a) (T.value b) (T.value c) (T.value d))
+        (remainder_of (T.value a) (T.value b) (T.value c) (T.value d)) result }
+{
+    if T::EXACT_REMAINDERS {
+        if c.is_zero() {
+            return None;
+        }
+        return exact_rem(a, b, c, d);
+    }
+    remainder::checked_rem(a, b, c, d)
+}
+
+// The lowest terms of the remainder, or `None` if they do not fit.
+fn exact_rem<T: Integer>(a: T, b: T, c: T, d: T) -> Option<(T, T)>
+    requires fits { FitsIn128 T.lo T.hi }
+    requires left { IsLowestTerms (T.value a) (T.value b) }
+    requires right { IsLowestTerms (T.value c) (T.value d) }
+    requires divisor { T.value c ≢ pos 0 }
+    ensures { ChecksLowest (λ r. T.value r.0) (λ r. T.value r.1) T.lo T.hi
+        (remainder_of (T.value a) (T.value b) (T.value c) (T.value d)) result }
+{
+    if b == d {
+        return Some(lowest_terms(truncated_rest(a, c), b));
+    }
+    if let Some(rest) = expanded_rest(a, b, c, b, d) {
+        return Some(rest);
+    }
+    let (for_right, for_left) = cancelled(b, d);
+    if let Some(rest) = expanded_rest(a, b, c, for_right, for_left) {
+        return Some(rest);
+    }
+    wide_rem_of_lowest(a, b, c, d, for_right, for_left)
+}
+
+// The lowest terms of the rest of `a * for_left` by `c * for_right`, over `b * for_left`, or `None` if one of the three
+// products does not fit.
+#[inline(always)]
+fn expanded_rest<T: Integer>(a: T, b: T, c: T, for_right: T, for_left: T) -> Option<(T, T)>
+    requires positive { pos 0 <ℤ (T.value b *ℤ T.value for_left) }
+    requires divisor { (T.value c *ℤ T.value for_right) ≢ pos 0 }
+    ensures { IfSome result (λ r. IsHeldLowest T.lo T.hi (int_rem (T.value a *ℤ T.value for_left) (T.value c *ℤ T.value for_right))
+        (T.value b *ℤ T.value for_left) (T.value r.0) (T.value r.1)) }
+{
+    let left = a.try_times(for_left)?;
+    let right = c.try_times(for_right)?;
+    let common = b.try_times(for_left)?;
+    Some(lowest_terms(truncated_rest(left, right), common))
 }

@@ -4,14 +4,14 @@ use Rattle.std.specs.Int.{◌∣◌}
 use Rattle.std.proofs.Common.{refl, sym, ap, subst, inl, inr, arith, ◌∙◌}
 use Rattle.std.proofs.lemmas.Int.{ints}
 use Rattle.std.proofs.Math.Nat.{dvd_refl, one-dvd}
-use lib.IntN.{*ℤ-one, one, zero-*ℤ}
-use Rattle.ratio_integer.specs.Division.{IsGcdAboveMax, IsGcdOf}
+use lib.IntN.{*ℤ-one, *ℤ_comm, one, zero-*ℤ}
+use Rattle.ratio_integer.specs.Division.{IsGcdAboveMax, IsGcdOf, IsMultiple}
 use Rattle.ratio_integer.specs.Fraction.{IsCancelledOf, IsHeldLowest, IsLowestTerms, IsLowestTermsOf}
 use Rattle.ratio_integer.specs.Range.{IsHeld}
 use Rattle.ratio_integer.proofs.CommonDivisors.{multiple_divides}
 use Rattle.ratio_integer.proofs.LcmLemmas.{exact_quotient}
-use Rattle.ratio_integer.proofs.Whole.{add-mul, mul_assoc, mul_cancel, mul-swap_inner, neg-mul, positive_nonzero, unsigned_abs-neg}
-use Rattle.ratio_core.specs.Joined.{IsJoined}
+use Rattle.ratio_integer.proofs.Whole.{add-mul, mul_assoc, mul_cancel, mul-swap_inner, neg-mul, positive_nonzero, sub-mul, unsigned_abs-neg}
+use Rattle.ratio_core.specs.Joined.{IsCutBy, IsJoined}
 use Rattle.ratio_core.proofs.PartsSumLemmas.{are_shares, gcd_positive, lowest}
 
 -- the gcd of a number and a positive one always fits
@@ -137,3 +137,46 @@ joined_difference n m a b c d first second numer denom = record {
   numer = numer ∙ ap (λ (z : ℤ). a *ℤ d +ℤ z) (sym (neg-mul c b));
   denom = denom;
 }
+
+-- ---- over the least common denominator
+
+-- what divides g divides a multiple of it
+pub multiple_cut : (n m g h q : ℤ) → IsMultiple m g → IsGcdOf n g h → q ≡ int_div m h → q *ℤ h ≡ m
+multiple_cut n m g h q multiple is q_is =
+    let part : int_div g h *ℤ h ≡ g = exact_quotient g h is.divisor.1 in
+    let whole : m ≡ (multiple.0 *ℤ int_div g h) *ℤ h = multiple.1 ∙ ap (λ (z : ℤ). multiple.0 *ℤ z) (sym part) ∙ sym (mul_assoc multiple.0 (int_div g h) h) in
+    exact_by m h q (multiple_divides m h (multiple.0 *ℤ int_div g h, whole)) q_is
+
+-- b times y, where y is d over g, is a multiple of g
+pub denom_multiple : (b d g y p : ℤ) → IsGcdOf b d g → p ≡ b *ℤ y → IsMultiple p g
+denom_multiple b d g y p is p_is = (int_div b g *ℤ y, p_is ∙ ap (λ (z : ℤ). z *ℤ y) (sym (exact_quotient b g is.divisor.0)) ∙ mul_assoc (int_div b g) g y ∙ ap (λ (z : ℤ). int_div b g *ℤ z) (*ℤ_comm g y) ∙ sym (mul_assoc (int_div b g) y g))
+
+module _ (lo hi a b c d g x y p u v : ℤ) (left_lowest : IsLowestTerms a b) (right_lowest : IsLowestTerms c d) (is : IsGcdOf b d g) (x_is : x ≡ int_div b g) (y_is : y ≡ int_div d g) (p_is : p ≡ b *ℤ y) where
+  x_times : x *ℤ g ≡ b
+  x_times = exact_by b g x is.divisor.0 x_is
+
+  y_times : y *ℤ g ≡ d
+  y_times = exact_by d g y is.divisor.1 y_is
+
+  left_times : (a *ℤ y) *ℤ g ≡ a *ℤ d
+  left_times = mul_assoc a y g ∙ ap (λ (z : ℤ). a *ℤ z) y_times
+
+  right_times : (c *ℤ x) *ℤ g ≡ c *ℤ b
+  right_times = mul_assoc c x g ∙ ap (λ (z : ℤ). c *ℤ z) x_times
+
+  denom_times : p *ℤ g ≡ b *ℤ d
+  denom_times = ap (λ (z : ℤ). z *ℤ g) p_is ∙ mul_assoc b y g ∙ ap (λ (z : ℤ). b *ℤ z) y_times
+
+  pub least_common_sum : (n : ℤ) → n ≡ a *ℤ y +ℤ c *ℤ x → IsCutBy lo hi n p g u v → IsHeldLowest lo hi (a *ℤ d +ℤ c *ℤ b) (b *ℤ d) u v
+  least_common_sum n n_is cut =
+      let joined : IsJoined (a *ℤ d +ℤ c *ℤ b) (b *ℤ d) b d = record { left = a; right = c; left_lowest = left_lowest; right_lowest = right_lowest; numer = refl; denom = refl } in
+      let times : n *ℤ g ≡ a *ℤ d +ℤ c *ℤ b =
+      ap (λ (z : ℤ). z *ℤ g) n_is ∙ add-mul (a *ℤ y) (c *ℤ x) g ∙ ap (λ (z : ℤ). z +ℤ (c *ℤ x) *ℤ g) left_times ∙ ap (λ (z : ℤ). a *ℤ d +ℤ z) right_times in
+      joined_held _ _ b d g joined is n p cut.shared u v times denom_times cut.gcd cut.numer cut.denom lo hi cut.numer_held cut.denom_held
+
+  pub least_common_difference : (n : ℤ) → n ≡ a *ℤ y -ℤ c *ℤ x → IsCutBy lo hi n p g u v → IsHeldLowest lo hi (a *ℤ d -ℤ c *ℤ b) (b *ℤ d) u v
+  least_common_difference n n_is cut =
+      let joined : IsJoined (a *ℤ d -ℤ c *ℤ b) (b *ℤ d) b d = joined_difference _ _ a b c d left_lowest right_lowest refl refl in
+      let times : n *ℤ g ≡ a *ℤ d -ℤ c *ℤ b =
+      ap (λ (z : ℤ). z *ℤ g) n_is ∙ sub-mul (a *ℤ y) (c *ℤ x) g ∙ ap (λ (z : ℤ). z -ℤ (c *ℤ x) *ℤ g) left_times ∙ ap (λ (z : ℤ). a *ℤ d -ℤ z) right_times in
+      joined_held _ _ b d g joined is n p cut.shared u v times denom_times cut.gcd cut.numer cut.denom lo hi cut.numer_held cut.denom_held

@@ -5,6 +5,7 @@
 //! they are exact for every type.
 mod by_denominators;
 mod difference;
+mod least_common;
 pub mod lowest_sums;
 mod mixed;
 pub(crate) mod multiple;

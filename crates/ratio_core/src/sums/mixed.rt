@@ -5,6 +5,7 @@
 //! number on the way does not fit, the lowest terms do not fit either.
 ghost use Rattle.std.specs.Prelude.{◌≤ℤ◌, ◌<ℤ◌, ◌+ℤ◌, ◌*ℤ◌, neg_ℤ, pos};
 ghost use Rattle.ratio_integer.specs.Arithmetic.{difference_of, sum_of};
+ghost use Rattle.ratio_integer.specs.Division.{IsGcdOf};
 ghost use Rattle.ratio_integer.specs.Fraction.{ChecksLowest, IsLowestTerms};
 ghost use Rattle.ratio_integer.specs.Range.{Checks, IsHeld};
 ghost use Rattle.ratio_core.specs.Parts.{IsDivided};
@@ -13,11 +14,12 @@ use crate::sums::multiple::carried_on;
 use crate::sums::parts::parts_sum;
 use ratio_integer::Integer;
 
-/// The lowest terms of `a/b + c/d`, from the floors of both, or `None` if they do not fit.
+/// The lowest terms of `a/b + c/d`, from the floors of both, or `None` if they do not fit. `g` is the gcd of the denominators.
 #[cold]
-pub(crate) fn mixed_sum<T: Integer>(a: T, b: T, c: T, d: T) -> Option<(T, T)>
+pub(crate) fn mixed_sum<T: Integer>(a: T, b: T, c: T, d: T, g: T) -> Option<(T, T)>
     requires left { IsLowestTerms (T.value a) (T.value b) }
     requires right { IsLowestTerms (T.value c) (T.value d) }
+    requires gcd { IsGcdOf (T.value b) (T.value d) (T.value g) }
     ensures { ChecksLowest (λ r. T.value r.0) (λ r. T.value r.1) T.lo T.hi
         (sum_of (T.value a) (T.value b) (T.value c) (T.value d)) result }
 {
@@ -25,17 +27,18 @@ pub(crate) fn mixed_sum<T: Integer>(a: T, b: T, c: T, d: T) -> Option<(T, T)>
     let (floor, p) = a.div_mod_floor(b);
     let _ = floor.held();
     let (other, r) = c.div_mod_floor(d);
-    let (carry, part, denom) = parts_sum(p, b, r, d)?;
+    let (carry, part, denom) = parts_sum(p, b, r, d, g)?;
     let whole = carried_on(floor, carry).try_plus(other)?;
     Some((numerator_of(whole, part, denom)?, denom))
 }
 
 /// The lowest terms of `a/b - c/d`, from the floor of the left and the ceiling of the right side, or `None`
-/// if they do not fit.
+/// if they do not fit. `g` is the gcd of the denominators.
 #[cold]
-pub(crate) fn mixed_difference<T: Integer>(a: T, b: T, c: T, d: T) -> Option<(T, T)>
+pub(crate) fn mixed_difference<T: Integer>(a: T, b: T, c: T, d: T, g: T) -> Option<(T, T)>
     requires left { IsLowestTerms (T.value a) (T.value b) }
     requires right { IsLowestTerms (T.value c) (T.value d) }
+    requires gcd { IsGcdOf (T.value b) (T.value d) (T.value g) }
     ensures { ChecksLowest (λ r. T.value r.0) (λ r. T.value r.1) T.lo T.hi
         (difference_of (T.value a) (T.value b) (T.value c) (T.value d)) result }
 {
@@ -43,7 +46,7 @@ pub(crate) fn mixed_difference<T: Integer>(a: T, b: T, c: T, d: T) -> Option<(T,
     let (floor, p) = a.div_mod_floor(b);
     let _ = floor.held();
     let (other, r) = ceiling(c, d);
-    let (carry, part, denom) = parts_sum(p, b, r, d)?;
+    let (carry, part, denom) = parts_sum(p, b, r, d, g)?;
     let whole = carried_on(floor, carry).try_minus(other)?;
     Some((numerator_of(whole, part, denom)?, denom))
 }

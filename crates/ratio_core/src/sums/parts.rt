@@ -6,6 +6,7 @@
 //! in range. What divides `t` and the denominator divides the rest and `g`.
 ghost use Rattle.std.specs.Prelude.{◌≡◌, ◌≤ℤ◌, ◌<ℤ◌, ◌+ℤ◌, ◌*ℤ◌, pos};
 ghost use Rattle.ratio_integer.specs.Arithmetic.{sum_of};
+ghost use Rattle.ratio_integer.specs.Division.{IsGcdOf};
 ghost use Rattle.ratio_integer.specs.Fraction.{IsLowestTerms};
 ghost use Rattle.ratio_core.specs.Parts.{ChecksPartsSum, IsDivided, IsPart, carried};
 
@@ -13,16 +14,16 @@ use crate::sums::multiple::{carried_on, product_over, sum_over};
 use ratio_integer::{Integer, both_held, cancelled};
 
 /// `p/b + r/d`: whether it is 1 or more, and the part below 1 in lowest terms. `None` if their denominator
-/// does not fit. So 1/36 and 1/28 give 4/63, and 5/6 and 1/2 give 1/3 and a carry.
-pub(crate) fn parts_sum<T: Integer>(p: T, b: T, r: T, d: T) -> Option<(bool, T, T)>
+/// does not fit. So 1/36 and 1/28 give 4/63, and 5/6 and 1/2 give 1/3 and a carry. `g` is the gcd of the denominators.
+pub(crate) fn parts_sum<T: Integer>(p: T, b: T, r: T, d: T, g: T) -> Option<(bool, T, T)>
     requires left { IsPart (T.value p) (T.value b) }
     requires right { IsPart (T.value r) (T.value d) }
     requires left_lowest { IsLowestTerms (T.value p) (T.value b) }
     requires right_lowest { IsLowestTerms (T.value r) (T.value d) }
+    requires gcd { IsGcdOf (T.value b) (T.value d) (T.value g) }
     ensures { ChecksPartsSum T.value T.lo T.hi (sum_of (T.value p) (T.value b) (T.value r) (T.value d)) result }
 {
     both_held(b, d);
-    let g = b.gcd(d);
     let (for_right, _) = b.div_rem(g);
     let (for_left, _) = d.div_rem(g);
     let common = for_right.try_times(for_left)?;

@@ -14,6 +14,7 @@ pub mod JoinLemmas
 pub mod DigitLemmas
 pub mod ReadingLemmas
 pub mod LowestSumLemmas
+pub mod ShareLemmas
 pub mod ShortSumLemmas
 pub mod SizeLemmas
 pub mod SumsAgree

@@ -22,7 +22,7 @@ pub enum SumFailure {
     TooLong,
 }
 
-/// The slots of the first try. Few lists have more denominators.
+/// The most slots of the first try. Few lists have more denominators.
 const FEW_SLOTS: usize = 1024;
 
 /// The sum of the items: 4/63 for 1/36 and 1/28, and 0/1 for no fraction. It is `None` exactly if its lowest terms do not fit the
@@ -40,7 +40,9 @@ pub fn checked_sum<T: Short>(
     if let Some((numer, denom)) = quick_sum(items) {
         return Ok(reduced(numer, denom));
     }
-    match sum_with(alloc, items, FEW_SLOTS) {
+    // Slots for more denominators than there are items would only cost time.
+    let count = items.len().saturating_mul(2).min(FEW_SLOTS);
+    match sum_with(alloc, items, count) {
         Err(_) => Err(SumFailure::NoMemory),
         Ok(Ok(sum)) => Ok(sum),
         Ok(Err(SumRefusal::TooMany)) => Err(SumFailure::TooMany),

@@ -1,7 +1,7 @@
 -- The nearest wheels: the best first wheel for each second one, and then the best of these pairs.
-use Rattle.std.specs.Prelude.{◌≡◌, ◌⊎◌, ◌+◌, ◌*◌, ◌-◌, ◌^◌, ◌/◌, ◌%◌, ◌<◌, ◌≤◌, ◌<ℤ◌, ◌*ℤ◌, ℕ, ℤ, pos, negsuc, unsigned_abs, false, Option}
-use Rattle.std.proofs.Common.{refl, sym, ap, subst, arith, inl, inr}
-use Rattle.std.proofs.Math.Nat.{mul-le-mul, mul-le-mul_right, mul-lt-mul_of_pos_right}
+use Rattle.std.specs.Prelude.{◌≡◌, ◌⊎◌, ◌+◌, ◌*◌, ◌-◌, ◌^◌, ◌/◌, ◌%◌, ◌<◌, ◌≤◌, ◌<ℤ◌, ℕ, ℤ, pos, negsuc, unsigned_abs, false, Option}
+use Rattle.std.proofs.Common.{refl, sym, subst, arith, inl, inr}
+use Rattle.std.proofs.Math.Nat.{mul-le-mul_right, mul-lt-mul_of_pos_right}
 use Rattle.std.proofs.lemmas.Int.{ints}
 use lib.Signed.{lt_z}
 use Rattle.ratio_approximation.specs.Nearest.{ComesFirst, gap}
@@ -37,7 +37,7 @@ half_passed x d up over = let whole : d * (x / d) + x % d ≡ x = omega arith in
 pub half_not_passed : (x d : ℕ) → 0 < d → x % d + x % d ≤ d → IsRoundedDown x d (x / d)
 half_not_passed x d up under = let whole : d * (x / d) + x % d ≡ x = omega arith in record { above = omega arith; below = omega arith }
 
-nearer_first : (g h f m s : ℕ) → g ≤ h → f ≤ m → ComesFirst g (pos f) (pos s) h (pos m) (pos s)
+pub nearer_first : (g h f m s : ℕ) → g ≤ h → f ≤ m → ComesFirst g (pos f) (pos s) h (pos m) (pos s)
 nearer_first g h f m s near less = cases (same_or_less (g * s) (h * s) (mul-le-mul_right s near))
   where
     cases : (g * s ≡ h * s) ⊎ (g * s < h * s) → ComesFirst g (pos f) (pos s) h (pos m) (pos s)

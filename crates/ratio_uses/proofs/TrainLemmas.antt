@@ -1,161 +1,302 @@
--- The nearest train: the nearest first pair for each second one, and then the one of these trains that comes first.
-use Rattle.std.specs.Prelude.{◌≡◌, ◌⊎◌, ◌+◌, ◌*◌, ◌<◌, ◌≤◌, ◌<ℤ◌, ◌≤ℤ◌, ℕ, ℤ, pos}
-use Rattle.std.proofs.Common.{refl, sym, ap, subst, arith, inl, inr}
-use Rattle.std.proofs.Math.Nat.{mul-le-mul_right, mul-lt-mul_of_pos_right}
+-- The nearest train: the products of its teeth, looked for one product of the driven wheels' teeth after the other, and its wheels.
+use Rattle.std.specs.Prelude.{◌≡◌, ◌⊎◌, ◌+◌, ◌*◌, ◌-◌, ◌^◌, ◌<◌, ◌≤◌, ℕ, ℤ, min, pos}
+use Rattle.std.proofs.Common.{◌∙◌, refl, sym, ap, subst, arith, inl, inr}
+use Rattle.std.proofs.Math.Nat.{mul-le-mul_left, mul-le-mul_right, mul-lt-mul_of_pos_right, mul_comm}
 use Rattle.std.proofs.lemmas.Int.{ints}
+use Rattle.std.proofs.lemmas.Nat.{mul-lt}
 use Rattle.ratio_approximation.specs.Nearest.{gap}
-use Rattle.ratio_approximation.proofs.NearestPreference.{first_chained}
-use Rattle.ratio_uses.specs.Gears.{AreNearestWheels, IsWheel, PairComesFirst}
-use Rattle.ratio_uses.specs.Trains.{AreFirstOf, HasDriven, HasTeeth, IsFirstTrain, IsPair, TrainComesFirst, driven_teeth, driver_teeth}
+use Rattle.ratio_approximation.proofs.NearestPreference.{first_chained, itself_first}
+use Rattle.ratio_uses.specs.Gears.{IsQuotient, IsWheel, PairComesFirst}
+use Rattle.ratio_uses.specs.Trains.{AreFirstOf, AreFirstOver, AreNearestProducts, AreWheelsOf, IsFirstRatio, IsGreatestUpTo, IsLeastAbove, IsMultipleOf, IsPair, IsProductOfTwo, driven_teeth, driver_teeth}
 use Rattle.ratio_uses.specs.declared.trains.Pair.{Pair}
-use Rattle.ratio_uses.proofs.GearLemmas.{gap_is}
+use Rattle.ratio_uses.proofs.GearLemmas.{gap_is, nearer_first}
+use Rattle.ratio_uses.proofs.ProductLemmas.{less_or_not, product_at_least, product_at_most, product_of, product_up, wheel_least, wheel_most}
 
--- ---- one second pair
+same_or_less : (x y : ℕ) → x ≤ y → (x ≡ y) ⊎ (x < y)
+same_or_less x y within = grind arith
 
-gap_moved : (n d c e p q : ℕ) → gap (pos (n * e)) (pos (d * c)) (pos p) (pos q) ≡ gap (pos n) (pos d) (pos (p * c)) (pos (q * e))
-gap_moved n d c e p q = omega (arith, gap_is (n * e) (d * c) p q, gap_is n d (p * c) (q * e))
+chained : (wanted : ℤ × ℤ) (a b c d e f : ℕ) → 0 < b → 0 < d → 0 < f → PairComesFirst wanted a b c d → PairComesFirst wanted c d e f → PairComesFirst wanted a b e f
+chained wanted a b c d e f b_up d_up f_up = first_chained _ (pos a) (pos b) _ (pos c) (pos d) _ (pos e) (pos f) (omega (arith, ints)) (omega (arith, ints)) (omega (arith, ints))
 
-later_moved : (p q k l c e : ℕ) → 0 < e → (pos q <ℤ pos l) ⊎ ((pos q ≡ pos l) × (pos p ≤ℤ pos k)) → (pos (q * e) <ℤ pos (l * e)) ⊎ ((pos (q * e) ≡ pos (l * e)) × (pos (p * c) ≤ℤ pos (k * c)))
-later_moved p q k l c e up (inl less) = let more : q * e < l * e = mul-lt-mul_of_pos_right (omega (arith, ints)) up in inl (omega (arith, ints))
-later_moved p q k l c e up (inr (same, less)) =
-    let even : q ≡ l = omega (arith, ints) in
-    let more : p * c ≤ k * c = mul-le-mul_right c (omega (arith, ints)) in
-    inr (ap (λ t. pos (t * e)) even, omega (arith, ints))
+-- ---- one product of the driven wheels' teeth
 
--- the second pair multiplies the teeth of both first pairs
-pair_moved : (n d c e p q k l : ℕ) → 0 < e → PairComesFirst (pos (n * e), pos (d * c)) p q k l → PairComesFirst (pos n, pos d) (p * c) (q * e) (k * c) (l * e)
-pair_moved n d c e p q k l up is = cases (rw (gap_moved n d c e p q, gap_moved n d c e k l) at is)
+-- k is up to the best product of the drivers' teeth, n·y/d, so what is less is no nearer
+before_lower : (n d y k x : ℕ) → 0 < d → 0 < y → k * d ≤ n * y → x ≤ k → PairComesFirst (pos n, pos d) k y x y
+before_lower n d y k x d_up y_up under less = cases (same_or_less x k less)
   where
-    cases : (gap (pos n) (pos d) (pos (p * c)) (pos (q * e)) * l < gap (pos n) (pos d) (pos (k * c)) (pos (l * e)) * q)
-        ⊎ ((gap (pos n) (pos d) (pos (p * c)) (pos (q * e)) * l ≡ gap (pos n) (pos d) (pos (k * c)) (pos (l * e)) * q) × ((pos q <ℤ pos l) ⊎ ((pos q ≡ pos l) × (pos p ≤ℤ pos k))))
-        → PairComesFirst (pos n, pos d) (p * c) (q * e) (k * c) (l * e)
-    cases (inl nearer) = let more = mul-lt-mul_of_pos_right nearer up in inl (omega arith)
-    cases (inr (same, later)) = let more = ap (λ t. t * e) same in inr (omega arith, later_moved p q k l c e up later)
+    cases : (x ≡ k) ⊎ (x < k) → PairComesFirst (pos n, pos d) k y x y
+    cases (inl same) = subst (λ t. PairComesFirst (pos n, pos d) k y t y) (sym same) (itself_first _ (pos k) (pos y))
+    cases (inr down) =
+        let part : (x + 1) * d ≤ k * d = mul-le-mul_right d (omega arith) in
+        let nearer : gap (pos n) (pos d) (pos k) (pos y) < gap (pos n) (pos d) (pos x) (pos y) = omega (arith, gap_is n d k y, gap_is n d x y) in
+        inl (mul-lt-mul_of_pos_right nearer y_up)
 
-pub first_with_second : (n d least most : ℕ) (first second : Pair) → 0 < second.driven → AreNearestWheels (pos (n * second.driven), pos (d * second.driver)) least most first.driver first.driven → AreFirstOf (pos n, pos d) least most (HasTeeth second) first second
-first_with_second n d least most first second up is = record {
-  first_pair = record { driver = is.first_wheel; driven = is.second_wheel };
-  second_pair = record { driver = refl; driven = refl };
-  nearest = λ x y x_in same.
-      let moved = pair_moved n d second.driver second.driven first.driver first.driven x.driver x.driven up (is.nearest x.driver x.driven x_in.driver x_in.driven) in
-      subst (λ t. PairComesFirst (pos n, pos d) (first.driver * second.driver) (first.driven * second.driven) (x.driver * y.driver) (x.driven * t)) (sym same.driven)
-      (subst (λ t. PairComesFirst (pos n, pos d) (first.driver * second.driver) (first.driven * second.driven) (x.driver * t) (x.driven * second.driven)) (sym same.driver) moved);
-}
+-- k is above the best product of the drivers' teeth, or is it, so what is more is no nearer
+before_higher : (n d y k x : ℕ) → n * y ≤ k * d → k ≤ x → PairComesFirst (pos n, pos d) k y x y
+before_higher n d y k x over more =
+    let part : k * d ≤ x * d = mul-le-mul_right d more in
+    nearer_first _ _ k x y (omega (arith, gap_is n d k y, gap_is n d x y)) more
 
--- ---- one second pair after the other
+-- w is the whole number below the best product of the drivers' teeth, or is it
+module _ (n d y w : ℕ) (d_up : 0 < d) (y_up : 0 < y) (under : w * d ≤ n * y) (over : n * y < w * d + d) where
+  pub before_below : (k x : ℕ) → k ≤ w → x ≤ k → PairComesFirst (pos n, pos d) k y x y
+  before_below k x down less = let part : k * d ≤ w * d = mul-le-mul_right d down in before_lower n d y k x d_up y_up (omega arith) less
 
-product_up : (a b : ℕ) → 0 < a → 0 < b → 0 < a * b
-product_up a b a_up b_up = let more : 0 * b < a * b = mul-lt-mul_of_pos_right a_up b_up in omega arith
+  pub before_above : (k x : ℕ) → w < k → k ≤ x → PairComesFirst (pos n, pos d) k y x y
+  before_above k x up more = let part : (w + 1) * d ≤ k * d = mul-le-mul_right d (omega arith) in before_higher n d y k x (omega arith) more
 
-chained : (wanted : ℤ × ℤ) (a b c d e f : Pair) → 0 < driven_teeth a b → 0 < driven_teeth c d → 0 < driven_teeth e f → TrainComesFirst wanted a b c d → TrainComesFirst wanted c d e f → TrainComesFirst wanted a b e f
-chained wanted a b c d e f first second third =
-    first_chained _ (pos (driver_teeth a b)) (pos (driven_teeth a b)) _ (pos (driver_teeth c d)) (pos (driven_teeth c d)) _ (pos (driver_teeth e f)) (pos (driven_teeth e f)) (omega (arith, ints)) (omega (arith, ints)) (omega (arith, ints))
+module _ (wanted : ℤ × ℤ) (least most driven : ℕ) (earlier : ℕ × ℕ) (least_up : 0 < least) (driven_in : IsProductOfTwo least most driven) (drivers_in : IsProductOfTwo least most earlier.0) (earlier_in : IsProductOfTwo least most earlier.1) where
+  up : (x : ℕ) → IsProductOfTwo least most x → 0 < x
+  up x is = product_up least most x least_up is
 
-module _ (wanted : ℤ × ℤ) (least most : ℕ) (One Other Each : Pair → Type 0) (one other train : Pair × Pair) (least_up : 0 < least) (up : (y : Pair) → Each y → 0 < y.driven)
-    (from_one : (y : Pair) → One y → Each y) (from_other : (y : Pair) → Other y → Each y) (either : (y : Pair) → Each y → One y ⊎ Other y)
-    (one_is : AreFirstOf wanted least most One one.0 one.1) (other_is : AreFirstOf wanted least most Other other.0 other.1) (is : IsFirstTrain wanted one other train) where
-  pair_up : (x y : Pair) → IsPair least most x → Each y → 0 < driven_teeth x y
-  pair_up x y x_in y_in = product_up x.driven y.driven (let low = x_in.driven.at_least in omega arith) (up y y_in)
-
-  first_in : (train ≡ one) ⊎ (train ≡ other) → IsPair least most train.0
-  first_in (inl same) = subst (λ (t : Pair × Pair). IsPair least most t.0) (sym same) one_is.first_pair
-  first_in (inr same) = subst (λ (t : Pair × Pair). IsPair least most t.0) (sym same) other_is.first_pair
-
-  second_in : (train ≡ one) ⊎ (train ≡ other) → Each train.1
-  second_in (inl same) = subst (λ (t : Pair × Pair). Each t.1) (sym same) (from_one one.1 one_is.second_pair)
-  second_in (inr same) = subst (λ (t : Pair × Pair). Each t.1) (sym same) (from_other other.1 other_is.second_pair)
-
-  train_up : 0 < driven_teeth train.0 train.1
-  train_up = pair_up train.0 train.1 (first_in is.either) (second_in is.either)
-
-  before_each : (x y : Pair) → IsPair least most x → Each y → One y ⊎ Other y → TrainComesFirst wanted train.0 train.1 x y
-  before_each x y x_in y_in (inl this) =
-      chained wanted train.0 train.1 one.0 one.1 x y train_up (pair_up one.0 one.1 one_is.first_pair (from_one one.1 one_is.second_pair)) (pair_up x y x_in y_in) is.before_one (one_is.nearest x y x_in this)
-  before_each x y x_in y_in (inr this) =
-      chained wanted train.0 train.1 other.0 other.1 x y train_up (pair_up other.0 other.1 other_is.first_pair (from_other other.1 other_is.second_pair)) (pair_up x y x_in y_in) is.before_other (other_is.nearest x y x_in this)
-
-  -- the first of two trains comes first of all
-  pub first_of_both : AreFirstOf wanted least most Each train.0 train.1
-  first_of_both = record {
-    first_pair = first_in is.either;
-    second_pair = second_in is.either;
-    nearest = λ x y x_in y_in. before_each x y x_in y_in (either y y_in);
+  -- no product of the drivers' teeth with this one of the driven wheels' comes before the earlier ones
+  pub over_kept : ((x : ℕ) → IsProductOfTwo least most x → PairComesFirst wanted earlier.0 earlier.1 x driven) → AreFirstOver wanted least most (λ y. y ≡ driven) earlier earlier
+  over_kept each = record {
+    drivers_two = drivers_in;
+    driven_two = earlier_in;
+    before_earlier = itself_first _ (pos earlier.0) (pos earlier.1);
+    before_each = λ x y x_in same. subst (λ t. PairComesFirst wanted earlier.0 earlier.1 x t) (sym same) (each x x_in);
   }
 
--- the same second pairs, said in another way
-pub first_of_same : (wanted : ℤ × ℤ) (least most : ℕ) (One Each : Pair → Type 0) (first second : Pair) → ((y : Pair) → One y → Each y) → ((y : Pair) → Each y → One y) → AreFirstOf wanted least most One first second → AreFirstOf wanted least most Each first second
-first_of_same wanted least most One Each first second into from is = record {
-  first_pair = is.first_pair;
-  second_pair = into second is.second_pair;
-  nearest = λ x y x_in y_in. is.nearest x y x_in (from y y_in);
+  -- the first of the earlier products and of the first with this product of the driven wheels' teeth
+  pub over_either : (found products : ℕ × ℕ) → IsProductOfTwo least most found.0 → found.1 ≡ driven → ((x : ℕ) → IsProductOfTwo least most x → PairComesFirst wanted found.0 found.1 x driven) → IsFirstRatio wanted earlier found products
+      → AreFirstOver wanted least most (λ y. y ≡ driven) earlier products
+  over_either found products found_in is_driven each is = record {
+    drivers_two = drivers is.either;
+    driven_two = driven_wheels is.either;
+    before_earlier = is.before_one;
+    before_each = λ x y x_in same. subst (λ t. PairComesFirst wanted products.0 products.1 x t) (sym same)
+        (chained wanted products.0 products.1 found.0 found.1 x driven (up products.1 (driven_wheels is.either)) (omega (arith, up driven driven_in)) (up driven driven_in) is.before_other (each x x_in));
+  }
+    where
+      drivers : (products ≡ earlier) ⊎ (products ≡ found) → IsProductOfTwo least most products.0
+      drivers (inl same) = subst (λ (t : ℕ × ℕ). IsProductOfTwo least most t.0) (sym same) drivers_in
+      drivers (inr same) = subst (λ (t : ℕ × ℕ). IsProductOfTwo least most t.0) (sym same) found_in
+
+      driven_wheels : (products ≡ earlier) ⊎ (products ≡ found) → IsProductOfTwo least most products.1
+      driven_wheels (inl same) = subst (λ (t : ℕ × ℕ). IsProductOfTwo least most t.1) (sym same) earlier_in
+      driven_wheels (inr same) = subst (λ (t : ℕ × ℕ). IsProductOfTwo least most t.1) (sym same) (subst (λ t. IsProductOfTwo least most t) (sym is_driven) driven_in)
+
+module _ (n d least most driven w : ℕ) (earlier : ℕ × ℕ) (d_up : 0 < d) (least_up : 0 < least) (range : least ≤ most) (driven_in : IsProductOfTwo least most driven) (drivers_in : IsProductOfTwo least most earlier.0) (earlier_in : IsProductOfTwo least most earlier.1)
+    (under : w * d ≤ n * driven) (over : n * driven < w * d + d) where
+  driven_up : 0 < driven
+  driven_up = product_up least most driven least_up driven_in
+
+  -- the best product is below all
+  pub nearer_at_lowest : (products : ℕ × ℕ) → w < least * least → IsFirstRatio (pos n, pos d) earlier (least * least, driven) products → AreFirstOver (pos n, pos d) least most (λ y. y ≡ driven) earlier products
+  nearer_at_lowest products low is =
+      over_either (pos n, pos d) least most driven earlier least_up driven_in drivers_in earlier_in (least * least, driven) products (product_of least most least least (wheel_least least most range) (wheel_least least most range)) refl
+      (λ x x_in. before_above n d driven w d_up driven_up under over (least * least) x low (product_at_least least most x x_in)) is
+
+  -- the best product is above all, or the greatest
+  pub nearer_at_highest : (products : ℕ × ℕ) → most * most ≤ w → IsFirstRatio (pos n, pos d) earlier (most * most, driven) products → AreFirstOver (pos n, pos d) least most (λ y. y ≡ driven) earlier products
+  nearer_at_highest products high is =
+      over_either (pos n, pos d) least most driven earlier least_up driven_in drivers_in earlier_in (most * most, driven) products (product_of least most most most (wheel_most least most range) (wheel_most least most range)) refl
+      (λ x x_in. before_below n d driven w d_up driven_up under over (most * most) x high (product_at_most least most x x_in)) is
+
+  -- not even the whole numbers next to the best product come before the earlier products
+  pub none_nearer : PairComesFirst (pos n, pos d) earlier.0 earlier.1 w driven → PairComesFirst (pos n, pos d) earlier.0 earlier.1 (w + 1) driven → AreFirstOver (pos n, pos d) least most (λ y. y ≡ driven) earlier earlier
+  none_nearer below above = over_kept (pos n, pos d) least most driven earlier least_up driven_in drivers_in earlier_in (λ x x_in. cases x (less_or_not w x))
+    where
+      earlier_up : 0 < earlier.1
+      earlier_up = product_up least most earlier.1 least_up earlier_in
+
+      cases : (x : ℕ) → (w < x) ⊎ (x ≤ w) → PairComesFirst (pos n, pos d) earlier.0 earlier.1 x driven
+      cases x (inl more) = chained (pos n, pos d) earlier.0 earlier.1 (w + 1) driven x driven earlier_up driven_up driven_up above (before_above n d driven w d_up driven_up under over (w + 1) x (omega arith) (omega arith))
+      cases x (inr less) = chained (pos n, pos d) earlier.0 earlier.1 w driven x driven earlier_up driven_up driven_up below (before_below n d driven w d_up driven_up under over w x (omega arith) less)
+
+  -- the products next to the best one
+  pub nearer_of_two : (low high : ℕ) (found products : ℕ × ℕ) → IsGreatestUpTo least most w low → IsLeastAbove least most w high → IsFirstRatio (pos n, pos d) (low, driven) (high, driven) found → IsFirstRatio (pos n, pos d) earlier found products
+      → AreFirstOver (pos n, pos d) least most (λ y. y ≡ driven) earlier products
+  nearer_of_two low high found products low_is high_is found_is is =
+      over_either (pos n, pos d) least most driven earlier least_up driven_in drivers_in earlier_in found products (found_two found_is.either) (found_driven found_is.either) (λ x x_in. cases x x_in (less_or_not w x)) is
+    where
+      found_two : (found ≡ (low, driven)) ⊎ (found ≡ (high, driven)) → IsProductOfTwo least most found.0
+      found_two (inl same) = subst (λ (t : ℕ × ℕ). IsProductOfTwo least most t.0) (sym same) low_is.of_two
+      found_two (inr same) = subst (λ (t : ℕ × ℕ). IsProductOfTwo least most t.0) (sym same) high_is.of_two
+
+      found_driven : (found ≡ (low, driven)) ⊎ (found ≡ (high, driven)) → found.1 ≡ driven
+      found_driven (inl same) = ap (λ (t : ℕ × ℕ). t.1) same
+      found_driven (inr same) = ap (λ (t : ℕ × ℕ). t.1) same
+
+      found_up : 0 < found.1
+      found_up = let same = found_driven found_is.either in omega (arith, driven_up)
+
+      cases : (x : ℕ) → IsProductOfTwo least most x → (w < x) ⊎ (x ≤ w) → PairComesFirst (pos n, pos d) found.0 found.1 x driven
+      cases x x_in (inl more) =
+          chained (pos n, pos d) found.0 found.1 high driven x driven found_up driven_up driven_up found_is.before_other (before_above n d driven w d_up driven_up under over high x high_is.above (high_is.least_of_all x x_in more))
+      cases x x_in (inr less) =
+          chained (pos n, pos d) found.0 found.1 low driven x driven found_up driven_up driven_up found_is.before_one (before_below n d driven w d_up driven_up under over low x low_is.up_to (low_is.greatest x x_in less))
+
+-- ---- one product after the other
+
+module _ (wanted : ℤ × ℤ) (least most : ℕ) (One Other Each : ℕ → Type 0) (earlier between products : ℕ × ℕ) (least_up : 0 < least) (earlier_in : IsProductOfTwo least most earlier.1)
+    (each_two : (y : ℕ) → Each y → IsProductOfTwo least most y) (either : (y : ℕ) → Each y → One y ⊎ Other y) (one : AreFirstOver wanted least most One earlier between) (other : AreFirstOver wanted least most Other between products) where
+  two_up : (x : ℕ) → IsProductOfTwo least most x → 0 < x
+  two_up x is = product_up least most x least_up is
+
+  before_of : (x y : ℕ) → IsProductOfTwo least most x → IsProductOfTwo least most y → One y ⊎ Other y → PairComesFirst wanted products.0 products.1 x y
+  before_of x y x_in y_in (inl this) =
+      chained wanted products.0 products.1 between.0 between.1 x y (two_up products.1 other.driven_two) (two_up between.1 one.driven_two) (two_up y y_in) other.before_earlier (one.before_each x y x_in this)
+  before_of x y x_in y_in (inr this) = other.before_each x y x_in this
+
+  pub over_both : AreFirstOver wanted least most Each earlier products
+  over_both = record {
+    drivers_two = other.drivers_two;
+    driven_two = other.driven_two;
+    before_earlier = chained wanted products.0 products.1 between.0 between.1 earlier.0 earlier.1 (two_up products.1 other.driven_two) (two_up between.1 one.driven_two) (two_up earlier.1 earlier_in) other.before_earlier one.before_earlier;
+    before_each = λ x y x_in y_in. before_of x y x_in (each_two y y_in) (either y y_in);
+  }
+
+-- no product yet
+over_none : (wanted : ℤ × ℤ) (least most : ℕ) (Each : ℕ → Type 0) (products : ℕ × ℕ) → ((y : ℕ) → ¬ (Each y)) → IsProductOfTwo least most products.0 → IsProductOfTwo least most products.1 → AreFirstOver wanted least most Each products products
+over_none wanted least most Each products none drivers_in driven_in = record {
+  drivers_two = drivers_in;
+  driven_two = driven_in;
+  before_earlier = itself_first _ (pos products.0) (pos products.1);
+  before_each = λ x y x_in y_in. absurd (none y y_in);
 }
 
-last_or_before : (least top t : ℕ) → IsWheel least (top + 1) t → IsWheel least top t ⊎ (t ≡ top + 1)
-last_or_before least top t is = cases (let high = is.at_most in grind arith)
+-- the same products, said in another way
+over_same : (wanted : ℤ × ℤ) (least most : ℕ) (One Each : ℕ → Type 0) (earlier products : ℕ × ℕ) → ((y : ℕ) → Each y → One y) → AreFirstOver wanted least most One earlier products → AreFirstOver wanted least most Each earlier products
+over_same wanted least most One Each earlier products from is = record {
+  drivers_two = is.drivers_two;
+  driven_two = is.driven_two;
+  before_earlier = is.before_earlier;
+  before_each = λ x y x_in y_in. is.before_each x y x_in (from y y_in);
+}
+
+last_or_before : (next y : ℕ) → y < next + 1 → (y < next) ⊎ (y ≡ next)
+last_or_before next y below = grind arith
+
+-- ---- one larger wheel after the other
+
+up_to_or_more : (x w : ℕ) → (x ≤ w) ⊎ (w < x)
+up_to_or_more x w = grind arith
+
+-- each whole number is at least as far from the best product of the drivers' teeth as the nearest one, so no product comes before the earlier ones
+pub too_far : (n d y w r k e x : ℕ) → IsQuotient (n * y) d w r → gap (pos n) (pos d) (pos k) (pos e) * y < min r (d - r) * e → PairComesFirst (pos n, pos d) k e x y
+too_far n d y w r k e x is far = inl (omega (arith, part))
   where
-    cases : (t ≤ top) ⊎ (t ≡ top + 1) → IsWheel least top t ⊎ (t ≡ top + 1)
-    cases (inl before) = inl (record { at_least = is.at_least; at_most = before })
-    cases (inr last) = inr last
+    near : (x ≤ w) ⊎ (w < x) → min r (d - r) ≤ gap (pos n) (pos d) (pos x) (pos y)
+    near (inl less) = let below : x * d ≤ w * d = mul-le-mul_right d less in let same = is.same in omega (arith, gap_is n d x y)
+    near (inr more) = let above : (w + 1) * d ≤ x * d = mul-le-mul_right d (omega arith) in let same = is.same in omega (arith, gap_is n d x y)
 
-is_next : (least top t : ℕ) → least ≤ top → t ≡ top + 1 → IsWheel least (top + 1) t
-is_next least top t range same = record { at_least = omega arith; at_most = omega arith }
+    part : min r (d - r) * e ≤ gap (pos n) (pos d) (pos x) (pos y) * e
+    part = mul-le-mul_right e (near (up_to_or_more x w))
 
-goes_on : (least top t : ℕ) → IsWheel least top t → IsWheel least (top + 1) t
-goes_on least top t is = record { at_least = is.at_least; at_most = let high = is.at_most in omega arith }
+pub quotient_small : (x d w r : ℕ) → 0 < d → x < 2 ^ 100 → IsQuotient x d w r → w < 2 ^ 100
+quotient_small x d w r up small is = let part : w * 1 ≤ w * d = mul-le-mul_left w up in let same = is.same in omega arith
 
--- ---- one driver after the other
+pub best_small : (n s : ℕ) → n < 2 ^ 64 → s < 2 ^ 36 → n * s < 2 ^ 100
+best_small n s n_small s_small = let part : n * s < 2 ^ 64 * 2 ^ 36 = mul-lt n s (2 ^ 64) (2 ^ 36) n_small s_small in omega arith
 
-pub driver_begins : (wanted : ℤ × ℤ) (least most driven : ℕ) (start first second : Pair) → AreFirstOf wanted least most (HasTeeth start) first second → start.driver ≡ least → start.driven ≡ driven → AreFirstOf wanted least most (HasDriven least least driven) first second
-driver_begins wanted least most driven start first second start_is at_least same =
-    first_of_same wanted least most _ _ first second
-    (λ y is. let driver = is.driver in let its = is.driven in record { driver = record { at_least = omega arith; at_most = omega arith }; same = omega arith })
-    (λ y is. let low = is.driver.at_least in let high = is.driver.at_most in let its = is.same in record { driver = omega arith; driven = omega arith })
-    start_is
+-- the best product of the drivers' teeth for the next product of the driven wheels'
+pub best_next : (n d large small w r step part more rest : ℕ) → IsQuotient (n * (large * small)) d w r → IsQuotient (n * small) d step part → IsQuotient (w * d + r + (step * d + part)) d more rest → IsQuotient (n * ((large + 1) * small)) d more rest
+best_next n d large small w r step part more rest is step_is sum_is = record {
+  same = let one = is.same in let other = step_is.same in let sum = sum_is.same in omega arith;
+  less = sum_is.less;
+}
 
-pub driver_goes_on : (wanted : ℤ × ℤ) (least most driven top : ℕ) (next : Pair) (one other train : Pair × Pair) → 0 < least → least ≤ top → 0 < driven
-    → AreFirstOf wanted least most (HasDriven least top driven) one.0 one.1 → AreFirstOf wanted least most (HasTeeth next) other.0 other.1 → IsFirstTrain wanted one other train
-    → next.driver ≡ top + 1 → next.driven ≡ driven → AreFirstOf wanted least most (HasDriven least (top + 1) driven) train.0 train.1
-driver_goes_on wanted least most driven top next one other train least_up range up one_is other_is is is_top same =
-    first_of_both wanted least most (HasDriven least top driven) (HasTeeth next) (HasDriven least (top + 1) driven) one other train least_up
-    (λ y is. let its = is.same in omega arith)
-    (λ y is. record { driver = goes_on least top y.driver is.driver; same = is.same })
-    (λ y is. let driver = is.driver in let its = is.driven in record { driver = is_next least top y.driver range (omega arith); same = omega arith })
-    (λ y is. cases y is (last_or_before least top y.driver is.driver))
-    one_is other_is is
+-- the product of the teeth of this wheel and those of one with as many or more, but fewer than `next`
+pub record IsMultipleBefore (small next product : ℕ) : Type 0 where
+  pub large : ℕ
+  pub at_least : small ≤ large
+  pub before : large < next
+  pub same : product ≡ large * small
+
+pub multiple_two : (least most small large : ℕ) → IsWheel least most small → small ≤ large → large ≤ most → IsProductOfTwo least most (large * small)
+multiple_two least most small large small_in more high = product_of least most large small (record { at_least = let low = small_in.at_least in omega arith; at_most = high }) small_in
+
+pub with_begins : (wanted : ℤ × ℤ) (least most small : ℕ) (earlier : ℕ × ℕ) → IsProductOfTwo least most earlier.0 → IsProductOfTwo least most earlier.1 → AreFirstOver wanted least most (IsMultipleBefore small small) earlier earlier
+with_begins wanted least most small earlier drivers_in driven_in = over_none wanted least most (IsMultipleBefore small small) earlier none drivers_in driven_in
   where
-    cases : (y : Pair) → HasDriven least (top + 1) driven y → IsWheel least top y.driver ⊎ (y.driver ≡ top + 1) → HasDriven least top driven y ⊎ HasTeeth next y
-    cases y is (inl before) = inl (record { driver = before; same = is.same })
-    cases y is (inr last) = inr (record { driver = omega arith; driven = let its = is.same in omega arith })
+    none : (y : ℕ) → ¬ (IsMultipleBefore small small y)
+    none y is = let low = is.at_least in let high = is.before in omega arith
 
--- ---- one driven wheel after the other
-
--- the driver has from `least` to `most` teeth, and the driven wheel from `least` to `top`
-pub record DrivenUpTo (least most top : ℕ) (pair : Pair) : Type 0 where
-  pub driver : IsWheel least most pair.driver
-  pub driven : IsWheel least top pair.driven
-
-pub driven_begins : (wanted : ℤ × ℤ) (least most : ℕ) (first second : Pair) → AreFirstOf wanted least most (HasDriven least most least) first second → AreFirstOf wanted least most (DrivenUpTo least most least) first second
-driven_begins wanted least most first second =
-    first_of_same wanted least most _ _ first second
-    (λ y is. let its = is.same in record { driver = is.driver; driven = record { at_least = omega arith; at_most = omega arith } })
-    (λ y is. let low = is.driven.at_least in let high = is.driven.at_most in record { driver = is.driver; same = omega arith })
-
-pub driven_goes_on : (wanted : ℤ × ℤ) (least most top : ℕ) (one other train : Pair × Pair) → 0 < least → least ≤ top
-    → AreFirstOf wanted least most (DrivenUpTo least most top) one.0 one.1 → AreFirstOf wanted least most (HasDriven least most (top + 1)) other.0 other.1 → IsFirstTrain wanted one other train
-    → AreFirstOf wanted least most (DrivenUpTo least most (top + 1)) train.0 train.1
-driven_goes_on wanted least most top one other train least_up range =
-    first_of_both wanted least most (DrivenUpTo least most top) (HasDriven least most (top + 1)) (DrivenUpTo least most (top + 1)) one other train least_up
-    (λ y is. let low = is.driven.at_least in omega arith)
-    (λ y is. record { driver = is.driver; driven = goes_on least top y.driven is.driven })
-    (λ y is. record { driver = is.driver; driven = is_next least top y.driven range is.same })
-    (λ y is. cases y is (last_or_before least top y.driven is.driven))
+pub with_goes_on : (wanted : ℤ × ℤ) (least most small next : ℕ) (earlier between products : ℕ × ℕ) → 0 < least → IsWheel least most small → next ≤ most → IsProductOfTwo least most earlier.1
+    → AreFirstOver wanted least most (IsMultipleBefore small next) earlier between → AreFirstOver wanted least most (λ y. y ≡ next * small) between products → AreFirstOver wanted least most (IsMultipleBefore small (next + 1)) earlier products
+with_goes_on wanted least most small next earlier between products least_up small_in high earlier_in so_far is =
+    over_both wanted least most (IsMultipleBefore small next) (λ y. y ≡ next * small) (IsMultipleBefore small (next + 1)) earlier between products least_up earlier_in each_two (λ y this. cases y this (last_or_before next this.large this.before)) so_far is
   where
-    cases : (y : Pair) → DrivenUpTo least most (top + 1) y → IsWheel least top y.driven ⊎ (y.driven ≡ top + 1) → DrivenUpTo least most top y ⊎ HasDriven least most (top + 1) y
-    cases y is (inl before) = inl (record { driver = is.driver; driven = before })
-    cases y is (inr last) = inr (record { driver = is.driver; same = last })
+    each_two : (y : ℕ) → IsMultipleBefore small (next + 1) y → IsProductOfTwo least most y
+    each_two y this = subst (λ t. IsProductOfTwo least most t) (sym this.same) (multiple_two least most small this.large small_in this.at_least (let before = this.before in omega arith))
 
-pub driven_ends : (wanted : ℤ × ℤ) (least most top : ℕ) (first second : Pair) → top ≡ most → AreFirstOf wanted least most (DrivenUpTo least most top) first second → AreFirstOf wanted least most (IsPair least most) first second
-driven_ends wanted least most top first second same =
-    first_of_same wanted least most _ _ first second
-    (λ y is. record { driver = is.driver; driven = subst (λ k. IsWheel least k y.driven) same is.driven })
-    (λ y is. record { driver = is.driver; driven = subst (λ k. IsWheel least k y.driven) (sym same) is.driven })
+    cases : (y : ℕ) (this : IsMultipleBefore small (next + 1) y) → (this.large < next) ⊎ (this.large ≡ next) → IsMultipleBefore small next y ⊎ (y ≡ next * small)
+    cases y this (inl before) = inl (record { large = this.large; at_least = this.at_least; before = before; same = this.same })
+    cases y this (inr last) = inr (this.same ∙ ap (λ t. t * small) last)
+
+-- the earlier products come before all with the next product
+pub with_kept : (wanted : ℤ × ℤ) (least most small next : ℕ) (earlier between : ℕ × ℕ) → 0 < least → IsWheel least most small → next ≤ most → IsProductOfTwo least most earlier.1
+    → AreFirstOver wanted least most (IsMultipleBefore small next) earlier between → ((x : ℕ) → PairComesFirst wanted between.0 between.1 x (next * small)) → AreFirstOver wanted least most (IsMultipleBefore small (next + 1)) earlier between
+with_kept wanted least most small next earlier between least_up small_in high earlier_in so_far each =
+    with_goes_on wanted least most small next earlier between between least_up small_in high earlier_in so_far
+    (record { drivers_two = so_far.drivers_two; driven_two = so_far.driven_two; before_earlier = itself_first _ (pos between.0) (pos between.1); before_each = λ x y x_in same. subst (λ t. PairComesFirst wanted between.0 between.1 x t) (sym same) (each x) })
+
+pub with_ends : (wanted : ℤ × ℤ) (least most small next : ℕ) (earlier products : ℕ × ℕ) → most < next → AreFirstOver wanted least most (IsMultipleBefore small next) earlier products → AreFirstOver wanted least most (IsMultipleOf small most) earlier products
+with_ends wanted least most small next earlier products ends so_far =
+    over_same wanted least most (IsMultipleBefore small next) (IsMultipleOf small most) earlier products
+    (λ y is. record { large = is.large; at_least = is.wheel.at_least; before = let high = is.wheel.at_most in omega arith; same = is.same }) so_far
+
+-- ---- one smaller wheel after the other
+
+-- the product of the teeth of two wheels, of which one has fewer than `next` teeth, and the other as many as it or more
+pub record IsProductBefore (least most next product : ℕ) : Type 0 where
+  pub small : ℕ
+  pub at_least : least ≤ small
+  pub before : small < next
+  pub multiple : IsMultipleOf small most product
+
+pub all_begin : (wanted : ℤ × ℤ) (least most : ℕ) (earlier : ℕ × ℕ) → IsProductOfTwo least most earlier.0 → IsProductOfTwo least most earlier.1 → AreFirstOver wanted least most (IsProductBefore least most least) earlier earlier
+all_begin wanted least most earlier drivers_in driven_in = over_none wanted least most (IsProductBefore least most least) earlier none drivers_in driven_in
+  where
+    none : (y : ℕ) → ¬ (IsProductBefore least most least y)
+    none y is = let low = is.at_least in let high = is.before in omega arith
+
+pub all_go_on : (wanted : ℤ × ℤ) (least most next : ℕ) (earlier between products : ℕ × ℕ) → 0 < least → next ≤ most → IsProductOfTwo least most earlier.1
+    → AreFirstOver wanted least most (IsProductBefore least most next) earlier between → AreFirstOver wanted least most (IsMultipleOf next most) between products → AreFirstOver wanted least most (IsProductBefore least most (next + 1)) earlier products
+all_go_on wanted least most next earlier between products least_up high earlier_in so_far is =
+    over_both wanted least most (IsProductBefore least most next) (IsMultipleOf next most) (IsProductBefore least most (next + 1)) earlier between products least_up earlier_in each_two (λ y this. cases y this (last_or_before next this.small this.before)) so_far is
+  where
+    each_two : (y : ℕ) → IsProductBefore least most (next + 1) y → IsProductOfTwo least most y
+    each_two y this =
+        let wheel = this.multiple.wheel in
+        subst (λ t. IsProductOfTwo least most t) (sym this.multiple.same)
+        (multiple_two least most this.small this.multiple.large (record { at_least = this.at_least; at_most = let before = this.before in omega arith }) wheel.at_least wheel.at_most)
+
+    cases : (y : ℕ) (this : IsProductBefore least most (next + 1) y) → (this.small < next) ⊎ (this.small ≡ next) → IsProductBefore least most next y ⊎ IsMultipleOf next most y
+    cases y this (inl before) = inl (record { small = this.small; at_least = this.at_least; before = before; multiple = this.multiple })
+    cases y this (inr last) = inr (subst (λ t. IsMultipleOf t most y) last this.multiple)
+
+-- each product has one wheel with no more teeth than the other
+pub all_end : (wanted : ℤ × ℤ) (least most next : ℕ) (earlier products : ℕ × ℕ) → most < next → AreFirstOver wanted least most (IsProductBefore least most next) earlier products → AreNearestProducts wanted least most products.0 products.1
+all_end wanted least most next earlier products ends so_far = record {
+  drivers_two = so_far.drivers_two;
+  driven_two = so_far.driven_two;
+  nearest = λ x y x_in y_in. so_far.before_each x y x_in (cases y y_in (less_or_not y_in.one y_in.other));
+}
+  where
+    ordered : (y one other : ℕ) → IsWheel least most one → IsWheel least most other → y ≡ one * other → other ≤ one → IsProductBefore least most next y
+    ordered y one other one_in other_in same less = record {
+      small = other;
+      at_least = other_in.at_least;
+      before = let high = other_in.at_most in omega arith;
+      multiple = record { large = one; wheel = record { at_least = less; at_most = one_in.at_most }; same = same };
+    }
+
+    cases : (y : ℕ) (is : IsProductOfTwo least most y) → (is.one < is.other) ⊎ (is.other ≤ is.one) → IsProductBefore least most next y
+    cases y is (inl less) = ordered y is.other is.one is.other_wheel is.one_wheel (is.same ∙ mul_comm is.one is.other) (omega arith)
+    cases y is (inr not_less) = ordered y is.one is.other is.one_wheel is.other_wheel is.same not_less
+
+-- ---- the wheels of the nearest products
+
+pub pairs_of : (wanted : ℤ × ℤ) (least most drivers driven : ℕ) (first second : Pair) → AreNearestProducts wanted least most drivers driven → AreWheelsOf least most drivers first.driver second.driver → AreWheelsOf least most driven first.driven second.driven
+    → AreFirstOf wanted least most (IsPair least most) first second
+pairs_of wanted least most drivers driven first second is drivers_are driven_are = record {
+  first_pair = record { driver = drivers_are.one_wheel; driven = driven_are.one_wheel };
+  second_pair = record { driver = drivers_are.other_wheel; driven = driven_are.other_wheel };
+  nearest = λ x y x_in y_in.
+      subst (λ t. PairComesFirst wanted t (driven_teeth first second) (driver_teeth x y) (driven_teeth x y)) drivers_are.same
+      (subst (λ t. PairComesFirst wanted drivers t (driver_teeth x y) (driven_teeth x y)) driven_are.same
+      (is.nearest (driver_teeth x y) (driven_teeth x y) (product_of least most x.driver y.driver x_in.driver y_in.driver) (product_of least most x.driven y.driven x_in.driven y_in.driven)));
+}

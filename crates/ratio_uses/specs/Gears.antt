@@ -45,3 +45,9 @@ pub record IsBestFirst (wanted : ℤ × ℤ) (least most first second : ℕ) : T
 pub record IsRoundedDown (x d r : ℕ) : Type 0 where
   pub above : 2 * (r * d) < 2 * x + d
   pub below : 2 * x ≤ 2 * (r * d) + d
+
+-- Inner: x over d has this whole quotient and this rest
+-- Example: 17 over 5: 3 and 2
+pub record IsQuotient (x d whole rest : ℕ) : Type 0 where
+  pub same : x ≡ whole * d + rest
+  pub less : rest < d

@@ -9,6 +9,7 @@ pub mod callers;
 pub mod conditions;
 pub mod gears;
 pub mod ledger;
+mod quotients;
 pub mod readme;
 pub mod trains;
 pub mod units;

@@ -1,10 +1,15 @@
 //! Two pairs of wheels, one after the other, whose ratio is near a wanted one.
-ghost use Rattle.std.specs.Prelude.{◌≡◌, ◌*◌, ◌<◌, ◌≤◌, pos};
-ghost use Rattle.ratio_uses.specs.Held.{lowest_numbers};
-ghost use Rattle.ratio_uses.specs.Trains.{AreFirstOf, AreNearestPairs, ChecksTrain, FirstOfTwo, HasDriven, HasTeeth, IsFirstTrain, driven_teeth, driver_teeth};
+mod products;
 
-use crate::gears::{gap_of, nearest_wheels, off_from};
+ghost use Rattle.std.specs.Prelude.{◌≡◌, ◌+◌, ◌*◌, ◌<◌, ◌≤◌, pos};
+ghost use Rattle.ratio_uses.specs.Gears.{IsWheel};
+ghost use Rattle.ratio_uses.specs.Held.{lowest_numbers};
+ghost use Rattle.ratio_uses.specs.Trains.{AreFirstOver, AreNearestPairs, AreNearestProducts, AreWheelsOf, ChecksTrain, FirstOfTwo, IsFirstRatio, IsMultipleOf, IsProductOfTwo, driven_teeth, driver_teeth};
+
+use crate::gears::{gap_of, off_from};
+use crate::quotients::{divided, sum_of};
 use num_rational::Reduced64;
+use products::{greatest_up_to, least_above, wheels_of};
 
 /// The teeth of two wheels, of which one drives the other.
 #[derive(Clone, Copy, Debug)]
@@ -31,7 +36,9 @@ pub struct Train {
 /// teeth. Of two trains that are equally near, it is the one with the smaller product of the driven wheels' teeth, and then
 /// the one with the smaller product of the drivers' teeth. `None` exactly where the wanted ratio is not above 0, `least`
 /// is 0, or `most` is below `least`. For example, 355/113 with 8 to 20 teeth gives 19/11 times 20/11. It takes a step for
-/// each choice of three wheels: a million for a range of 100 numbers of teeth.
+/// each choice of the two driven wheels: 5,000 for a range of 100 numbers of teeth. Where the whole number next to the best
+/// product of the drivers' teeth could be nearer than all before, it looks at each number of teeth of a driver, too. This is
+/// seldom so.
 pub fn nearest_train(wanted: &Reduced64, least: u16, most: u16) -> Option<Train>
     ensures { ChecksTrain (lowest_numbers wanted.now) least most result }
 {
@@ -48,79 +55,124 @@ pub fn nearest_train(wanted: &Reduced64, least: u16, most: u16) -> Option<Train>
     })
 }
 
-// The pairs of the nearest train.
+// The pairs of the nearest train. Of all trains with the same products, it is the one whose second pair has the fewest teeth.
 fn nearest_pairs(numer: u64, denom: u64, least: u16, most: u16) -> (Pair, Pair)
     requires denom { 0 < denom }
     requires least { 0 < least }
     requires most { least ≤ most }
-    ensures { AreNearestPairs (pos numer, pos denom) least most result.0 result.1 }
+    ensures nearest { AreNearestPairs (pos numer, pos denom) least most result.0 result.1 }
+    ensures drivers { AreWheelsOf least most (driver_teeth result.0 result.1) result.0.driver result.1.driver }
+    ensures driven { AreWheelsOf least most (driven_teeth result.0 result.1) result.0.driven result.1.driven }
 {
-    let mut nearest = with_driven(numer, denom, least, most, least);
-    for before in least..most {
-        let other = with_driven(numer, denom, least, most, before + 1);
-        nearest = first_of(numer, denom, nearest, other);
-    }
-    nearest
-}
-
-// The pairs of the nearest train whose last wheel has `driven` teeth.
-fn with_driven(numer: u64, denom: u64, least: u16, most: u16, driven: u16) -> (Pair, Pair)
-    requires denom { 0 < denom }
-    requires least { 0 < least }
-    requires most { least ≤ most }
-    requires driven { 0 < driven }
-    ensures { AreFirstOf (pos numer, pos denom) least most (HasDriven least most driven) result.0 result.1 }
-{
-    let mut nearest = with_second(
-        numer,
-        denom,
-        least,
-        most,
-        Pair {
-            driver: least,
-            driven,
-        },
-    );
-    for before in least..most {
-        let other = with_second(
-            numer,
-            denom,
-            least,
-            most,
-            Pair {
-                driver: before + 1,
-                driven,
-            },
-        );
-        nearest = first_of(numer, denom, nearest, other);
-    }
-    nearest
-}
-
-// The pairs of the nearest train with this second pair. The first is the nearest to what the second leaves of the wanted ratio.
-fn with_second(numer: u64, denom: u64, least: u16, most: u16, second: Pair) -> (Pair, Pair)
-    requires denom { 0 < denom }
-    requires least { 0 < least }
-    requires most { least ≤ most }
-    requires driver { 0 < second.driver }
-    requires driven { 0 < second.driven }
-    ensures { AreFirstOf (pos numer, pos denom) least most (HasTeeth second) result.0 result.1 }
-{
-    let left = numer as u128 * second.driven as u128;
-    let right = denom as u128 * second.driver as u128;
-    let (driver, driven) = nearest_wheels(left, right, least as u32, most as u32);
+    let (drivers, driven) = nearest_products(numer, denom, least, most);
+    let (first_driver, second_driver) = wheels_of(drivers, least, most);
+    let (first_driven, second_driven) = wheels_of(driven, least, most);
     let first = Pair {
-        driver: driver as u16,
-        driven: driven as u16,
+        driver: first_driver,
+        driven: first_driven,
+    };
+    let second = Pair {
+        driver: second_driver,
+        driven: second_driven,
     };
     (first, second)
 }
 
-// That one of both trains which comes first by its distance from the wanted ratio.
-fn first_of(numer: u64, denom: u64, one: (Pair, Pair), other: (Pair, Pair)) -> (Pair, Pair)
-    ensures { IsFirstTrain (pos numer, pos denom) one other result }
+// The products of the drivers' and of the driven wheels' teeth in the nearest train.
+fn nearest_products(numer: u64, denom: u64, least: u16, most: u16) -> (u32, u32)
+    requires denom { 0 < denom }
+    requires least { 0 < least }
+    requires most { least ≤ most }
+    ensures { AreNearestProducts (pos numer, pos denom) least most result.0 result.1 }
 {
-    if comes_first(numer, denom, teeth(one.0, one.1), teeth(other.0, other.1)) {
+    let start = least as u32 * least as u32;
+    let mut nearest = (start, start);
+    for small in least as u32..most as u32 + 1 {
+        nearest = nearest_with(numer, denom, least, most, small, nearest);
+    }
+    nearest
+}
+
+// The products of the first train of this one and of all with a driven wheel of `small` teeth and another of as many or more.
+// For each product of the driven wheels, `best` is the best one of the drivers, and mostly no whole number. A product is
+// whole. So where even the nearest whole number is farther than the nearest train so far, no drivers are looked for.
+fn nearest_with(
+    numer: u64,
+    denom: u64,
+    least: u16,
+    most: u16,
+    small: u32,
+    nearest: (u32, u32),
+) -> (u32, u32)
+    requires denom { 0 < denom }
+    requires least { 0 < least }
+    requires small { IsWheel least most small }
+    requires nearest_drivers { IsProductOfTwo least most nearest.0 }
+    requires nearest_driven { IsProductOfTwo least most nearest.1 }
+    ensures { AreFirstOver (pos numer, pos denom) least most (IsMultipleOf small most) nearest result }
+{
+    let step = divided(numer as u128 * small as u128, denom);
+    let mut best = divided(numer as u128 * (small * small) as u128, denom);
+    let mut first = nearest;
+    let mut gap = gap_of(numer as u128, denom as u128, first.0, first.1);
+    for large in small..most as u32 + 1 {
+        let driven = large * small;
+        let near = best.1.min(denom as u128 - best.1);
+        if near * first.1 as u128 <= gap * driven as u128 {
+            first = nearer(numer, denom, least, most, driven, best.0, first);
+            gap = gap_of(numer as u128, denom as u128, first.0, first.1);
+        }
+        best = sum_of(best, step, denom);
+    }
+    first
+}
+
+// The products of the first train of this one and of all whose driven wheels have this product of teeth. The best product
+// of the drivers lies from `best` to the next whole number. Drivers are looked for only where one of these two would come
+// before the nearest train so far, and there only the products next to the best one can be the nearest.
+fn nearer(
+    numer: u64,
+    denom: u64,
+    least: u16,
+    most: u16,
+    driven: u32,
+    best: u128,
+    nearest: (u32, u32),
+) -> (u32, u32)
+    requires denom { 0 < denom }
+    requires least { 0 < least }
+    requires most { least ≤ most }
+    requires best_at_most { best * denom ≤ numer * driven }
+    requires best_next { numer * driven < best * denom + denom }
+    requires driven { IsProductOfTwo least most driven }
+    requires nearest_drivers { IsProductOfTwo least most nearest.0 }
+    requires nearest_driven { IsProductOfTwo least most nearest.1 }
+    ensures { AreFirstOver (pos numer, pos denom) least most (λ y. y ≡ driven) nearest result }
+{
+    let lowest = least as u32 * least as u32;
+    let highest = most as u32 * most as u32;
+    if best < lowest as u128 {
+        return first_of(numer, denom, nearest, (lowest, driven));
+    }
+    if best >= highest as u128 {
+        return first_of(numer, denom, nearest, (highest, driven));
+    }
+    let whole = best as u32;
+    let below_later = comes_first(numer, denom, nearest, (whole, driven));
+    if below_later && comes_first(numer, denom, nearest, (whole + 1, driven)) {
+        return nearest;
+    }
+    let below = (greatest_up_to(whole, least, most), driven);
+    let above = (least_above(whole, least, most), driven);
+    let other = first_of(numer, denom, below, above);
+    first_of(numer, denom, nearest, other)
+}
+
+// That one of both ratios which comes first by its distance from the wanted one.
+fn first_of(numer: u64, denom: u64, one: (u32, u32), other: (u32, u32)) -> (u32, u32)
+    ensures { IsFirstRatio (pos numer, pos denom) one other result }
+{
+    if comes_first(numer, denom, one, other) {
         one
     } else {
         other

@@ -28,6 +28,25 @@ fn first_wrong_train(rows: &[(i64, i64, u16, u16, u32, u32)]) -> Option<usize> {
     None
 }
 
+// The wheels of the train: the driver and the driven wheel of the first pair, and those of the second.
+fn wheels(numer: i64, denom: i64, least: u16, most: u16) -> Option<[u16; 4]> {
+    let wanted = Reduced64::checked_new(numer, denom)?;
+    let train = nearest_train(&wanted, least, most)?;
+    let (first, second) = (train.first, train.second);
+    Some([first.driver, first.driven, second.driver, second.driven])
+}
+
+// The first row whose wheels differ. A row has the two numbers of the wanted ratio, the least and the most teeth of a
+// wheel, and the wheels of the train.
+fn first_wrong_wheels(rows: &[(i64, i64, u16, u16, [u16; 4])]) -> Option<usize> {
+    for (i, &(numer, denom, least, most, expected)) in rows.iter().enumerate() {
+        if wheels(numer, denom, least, most) != Some(expected) {
+            return Some(i);
+        }
+    }
+    None
+}
+
 // How far the train is from this ratio.
 fn off(numer: i64, denom: i64, least: u16, most: u16) -> Option<(i64, i64)> {
     let wanted = Reduced64::checked_new(numer, denom)?;
@@ -59,6 +78,31 @@ fn test_trains(rt: HostRuntime) {
         (i64::MAX, i64::MAX - 1, 10, 14, 100, 100),
     ];
     let wrong = first_wrong_train(&rows);
+    assert!(rt; wrong.is_none(), "row {wrong:?}");
+}
+
+// Of all wheels with the same products, the second pair has the fewest teeth.
+#[test]
+fn test_wheels_of_trains(rt: HostRuntime) {
+    let rows = [
+        (355, 113, 8, 20, [20, 11, 19, 11]),
+        (1, 1, 8, 14, [8, 8, 8, 8]),
+        (3, 2, 12, 60, [18, 12, 12, 12]),
+        (24, 25, 12, 48, [18, 15, 12, 15]),
+        (401, 60, 12, 48, [46, 18, 34, 13]),
+        (210, 143, 10, 60, [21, 13, 10, 11]),
+        (48, 1, 3, 24, [24, 3, 18, 3]),
+        (1, 7, 9, 15, [9, 15, 9, 15]),
+        (
+            4294967291,
+            4294967279,
+            65525,
+            65535,
+            [65532, 65535, 65531, 65528],
+        ),
+        (i64::MAX, i64::MAX - 1, 10, 14, [10, 10, 10, 10]),
+    ];
+    let wrong = first_wrong_wheels(&rows);
     assert!(rt; wrong.is_none(), "row {wrong:?}");
 }
 

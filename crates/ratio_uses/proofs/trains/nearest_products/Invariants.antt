@@ -1,0 +1,7 @@
+use Rattle.std.specs.Prelude.{pos}
+use Rattle.ratio_uses.specs.Trains.{AreFirstOver}
+use Rattle.ratio_uses.proofs.TrainLemmas.{IsProductBefore}
+use Rattle.ratio_uses.proofs.trains.nearest_products.Given as goal
+
+abbrev pub invariant-loop-small : goal.invariant-loop-small
+invariant-loop-small l = AreFirstOver (pos l.numer, pos l.denom) l.least l.most (IsProductBefore l.least l.most l.small) (l.start, l.start) l.nearest

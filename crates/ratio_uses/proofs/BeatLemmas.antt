@@ -1,12 +1,8 @@
 -- How times are ordered, and what one more beat does.
-use Rattle.std.specs.Prelude.{◌≡◌, ◌⊎◌, ◌+◌, ◌-◌, ◌^◌, ◌<◌, ◌≤◌, ◌≢◌, ◌≤ℤ◌, ◌<ℤ◌, ◌+ℤ◌, ◌*ℤ◌, ℕ, ℤ, pos, negsuc, All, Any, HoldsAt, IsSome, IsTrue, ◌↔◌, List, length, slice_index_or, unsigned_abs, true, false, Option, Some, None, Result, Ok, Err}
+use Rattle.std.specs.Prelude.{◌≡◌, ◌⊎◌, ◌+◌, ◌-◌, ◌^◌, ◌<◌, ◌≤◌, ◌≤ℤ◌, ◌<ℤ◌, ◌+ℤ◌, ◌*ℤ◌, ℕ, ℤ, pos, negsuc, Any, Bool, HoldsAt, IsSome, IsTrue, ◌↔◌, List, length, slice_index_or, unsigned_abs, true, false, Option, Some, None, Result, Ok, Err}
 use Rattle.std.proofs.Math.ListN.{set}
 use Rattle.std.specs.Option.{is_some}
 use Rattle.std.specs.Result.{OkIff, result_ok}
-use Rattle.std.specs.Cmp.{int_ranks}
-use Rattle.std.specs.Ordering.{MatchOrdering, int_cmp}
-use Rattle.std.specs.declared.cmp.Ordering.{Ordering}
-use Rattle.std.specs.declared.cmp.Ordering.TheVariants.{Equal, Greater, Less}
 use Rattle.std.proofs.Common.{refl, sym, ap, subst, ◌∙◌, arith, inl, inr, rules}
 use Rattle.std.proofs.lemmas.Int.{fits_signed_mul, ints}
 use Rattle.std.proofs.lemmas.List.{get_or-set_other, get_or-set_same, length-set}
@@ -15,19 +11,20 @@ use borrow.Author.Count.{below_more}
 use mir.Syntax.{w128, w64}
 use mir.Val.{SFits}
 use lib.IntN.{one, *ℤ_comm, *ℤ-one}
-use Rattle.ratio_integer.specs.Fraction.{IsHeldLowest, IsLowestTermsOf, SameValue}
-use Rattle.ratio_integer.specs.Range.{IsHeld}
-use Rattle.ratio_integer.proofs.LowestTerms.{same_value_chained}
+use Rattle.ratio_integer.specs.Division.{IsGcdOf}
+use Rattle.ratio_integer.specs.Fraction.{Fits, IsHeldLowest, IsLowestTermsOf, SameValue}
+use Rattle.ratio_integer.specs.Range.{IsHeld, IsRange}
+use Rattle.ratio_integer.proofs.CommonDivisors.{gcd_exists}
+use Rattle.ratio_integer.proofs.LowestTerms.{gcd_held_positive, held_lowest_quotients, same_value_chained}
 use Rattle.ratio_integer.proofs.Whole.{add-mul, mul_assoc, mul_positive, mul-swap_last, positive_nonzero}
-use Rattle.ratio_core.specs.Order.{HaveUnlikeSigns, cross_cmp}
 use Rattle.ratio_core.specs.Rounding.{IsFloor}
-use Rattle.ratio_core.proofs.CrossOrder.{cross-along}
 use Rattle.ratio_core.proofs.ProductOrder.{more-times, times_le, whole_at_most}
-use Rattle.ratio_core.proofs.SameValues.{cross_equal}
 use Rattle.ratio_core.proofs.SumLemmas.{fits_by}
+use Rattle.num_rational.specs.Ratio.{ChecksRatio}
+use Rattle.num_rational.specs.Reduced.{ratio_in}
 use Rattle.num_rational.specs.declared.reduced.Reduced.{Reduced}
-use Rattle.ratio_uses.specs.Beats.{AllAreHeld, AllHaveHad, BeatIsHeld, ChecksBeat, ChecksCount, CountIsHeld, CountsBeat, CountsEach, HasHad, IsBefore, IsEarliest, IsNextBeat, IsUpTo, StartsEach, next_time, period_of, periods}
-use Rattle.ratio_uses.specs.Held.{FitsIn64}
+use Rattle.ratio_uses.specs.Beats.{AllAreHeld, AllHaveHad, BeatIsHeld, ChecksBeatNumbers, ChecksCount, ChecksEarliest, CountIsHeld, CountsBeat, CountsEach, HasHad, IsBefore, IsEarliest, IsNextBeat, IsUpTo, StartsEach, next_time, period_of, periods}
+use Rattle.ratio_uses.specs.Held.{FitsIn64, lowest_numbers}
 use Rattle.ratio_uses.specs.declared.beats.Voice.{Voice}
 use Rattle.num_rational.proofs.SplitLemmas.{cancel_less}
 use Rattle.ratio_uses.proofs.OctaveLemmas.{less_times}
@@ -190,6 +187,32 @@ module _ (voices : List Voice) (i : ℕ) (voice : Voice) (within : i < length vo
 pub earliest_ends : (voices : List Voice) (i : ℕ) (time : ℤ × ℤ) → length voices ≤ i → EarliestSoFar voices i time → AllAreHeld voices × IsEarliest voices time
 earliest_ends voices i time ends so_far = (λ k voice within. so_far.held k (omega arith) voice, record { of_one = so_far.of_one; each = λ k voice within. so_far.each k (omega arith) voice })
 
+-- the same time in lowest terms
+earliest_same : (voices : List Voice) (s t : ℤ × ℤ) → pos 0 <ℤ s.1 → pos 0 <ℤ t.1 → ((voice : Voice) → pos 0 <ℤ (period_of voice).1) → SameValue s.0 s.1 t.0 t.1 → IsEarliest voices s → IsEarliest voices t
+earliest_same voices s t s_up t_up ups same earliest = record {
+  of_one = one earliest.of_one;
+  each = λ i voice within. each i voice (earliest.each i voice within);
+}
+  where
+    one : Any (λ voice. SameValue (next_time voice).0 (next_time voice).1 s.0 s.1) voices → Any (λ voice. SameValue (next_time voice).0 (next_time voice).1 t.0 t.1) voices
+    one (i, voice, within, is, at) = (i, voice, within, is, same_value_chained (next_time voice).0 (next_time voice).1 s.0 s.1 t.0 t.1 (positive_nonzero s.1 s_up) at same)
+
+    each : (i : ℕ) (voice : Voice) → IsUpTo s (next_time (slice_index_or voices i voice)) → IsUpTo t (next_time (slice_index_or voices i voice))
+    each i voice up_to = up_to_chained t s (next_time (slice_index_or voices i voice)) t_up s_up (ups (slice_index_or voices i voice)) (same_is_from s t same) up_to
+
+pub earliest_told : {T : _} {i : _} {o : _} {e : _} {p : _} {h : _} (voices : List Voice) (time : ℤ × ℤ) (r : Option (Reduced T i o e p h)) → Fits i.lo i.hi time.0 time.1 → pos 0 <ℤ time.1 → ((voice : Voice) → pos 0 <ℤ (period_of voice).1)
+    → AllAreHeld voices × IsEarliest voices time → ChecksRatio time (ratio_in r) → ChecksEarliest voices r
+earliest_told voices time None fits up ups is out = absurd (out fits)
+earliest_told voices time (Some r) fits up ups is told = (is.0, earliest_same voices time (lowest_numbers r) up told.terms.lowest.positive ups told.terms.same is.1)
+
+-- a time that is not before another is from it on
+pub not_before : (x y : ℤ × ℤ) (b : Bool) → IsTrue b ↔ IsBefore x y → b ≡ false → IsUpTo y x
+not_before x y b told is = cases (less_or_not (x.0 *ℤ y.1) (y.0 *ℤ x.1))
+  where
+    cases : (x.0 *ℤ y.1) <ℤ (y.0 *ℤ x.1) ⊎ (y.0 *ℤ x.1) ≤ℤ (x.0 *ℤ y.1) → IsUpTo y x
+    cases (inl less) = absurd (let yes = told.1 less in let no : true ≡ false = sym yes ∙ is in cc)
+    cases (inr up_to) = up_to
+
 pub voice_out : (voices : List Voice) (i : ℕ) (voice : Voice) → i < length voices → voice ≡ slice_index_or voices i voice → ¬ (BeatIsHeld (period_of voice) voice.count) → ¬ (AllAreHeld voices)
 voice_out voices i voice within is out held = out (subst (λ v. BeatIsHeld (period_of v) v.count) (sym is) (held i voice within))
 
@@ -283,10 +306,6 @@ module _ (t p : ℤ × ℤ) where
 
 -- ---- what calls return
 
-pub beat_some : {T : _} {i : _} {o : _} {e : _} {p : _} {h : _} (period : ℤ × ℤ) (k : ℤ) (r : Option (ℤ × Reduced T i o e p h)) → ChecksBeat period k r → BeatIsHeld period k → IsSome r
-beat_some period k None out held = absurd (out held)
-beat_some period k (Some r) is held = search rules
-
 pub count_told : (time period : ℤ × ℤ) (r : Option ℤ) → ChecksCount time period r → IsTrue (is_some r) ↔ CountIsHeld time period
 count_told time period None out = (λ told. absurd (let no : false ≡ true = told in cc), λ held. absurd (out held))
 count_told time period (Some k) is = (λ told. record { count = k; had = is.0; held = is.1 }, λ held. search rules)
@@ -322,59 +341,49 @@ beat_is period m k time fits is held =
     let moved = rw (e.0, e.1) at held in
     (record { count = number_held (k +ℤ pos 1) fits; time = fits_by _ _ _ _ time.0 time.1 moved }, moved.terms)
 
--- ---- what an order of two times says
-
-along : (s t : ℤ × ℤ) → pos 0 <ℤ s.1 → pos 0 <ℤ t.1 → cross_cmp s.0 s.1 t.0 t.1 ≡ int_cmp (s.0 *ℤ t.1) (t.0 *ℤ s.1)
-along s t s_up t_up = cross-along s.0 s.1 t.0 t.1 (positive_nonzero s.1 s_up) (positive_nonzero t.1 t_up) (λ unlike. alike s.1 t.1 s_up t_up unlike)
+-- a fraction of numbers that fit
+pub numbers_fit : (x y : ℤ) → SFits w64 x → SFits w64 y → pos 0 <ℤ y → FitsIn64 (x, y)
+numbers_fit x y x_fits y_fits up = go (gcd_exists x y)
   where
-    alike : (d e : ℤ) → pos 0 <ℤ d → pos 0 <ℤ e → HaveUnlikeSigns d e → ⊥
-    alike d e d_up e_up unlike = grind (arith, ints)
+    range : IsRange (negsuc (2 ^ 63 - 1)) (pos (2 ^ 63 - 1))
+    range = record { high = omega (arith, ints); low = inr (inr refl) }
 
--- what an order of two numbers says
-less : (x y : ℤ) → Less ≡ int_cmp x y → x <ℤ y
-less x y is = subst (λ o. MatchOrdering o (x <ℤ y) (x ≡ y) (y <ℤ x)) (sym is) (int_ranks x y)
+    go : (g : ℤ) × IsGcdOf x y g → FitsIn64 (x, y)
+    go (g, is) =
+        let g_held = (gcd_held_positive (negsuc (2 ^ 63 - 1)) (pos (2 ^ 63 - 1)) x y range (number_held y y_fits) up).each g is in
+        fits_by (negsuc (2 ^ 63 - 1)) (pos (2 ^ 63 - 1)) x y _ _ (held_lowest_quotients (negsuc (2 ^ 63 - 1)) (pos (2 ^ 63 - 1)) x y g _ _ range (number_held x x_fits) (number_held y y_fits) g_held up is refl refl)
 
-greater : (x y : ℤ) → Greater ≡ int_cmp x y → y <ℤ x
-greater x y is = subst (λ o. MatchOrdering o (x <ℤ y) (x ≡ y) (y <ℤ x)) (sym is) (int_ranks x y)
+-- the product of the period's numerator and the beat's number fits
+pub quick_beat : (period : ℤ × ℤ) (m k product : ℤ) → SFits w64 (k +ℤ pos 1) → m ≡ k +ℤ pos 1 → SFits w64 product → product ≡ period.0 *ℤ m → SFits w64 period.1 → pos 0 <ℤ period.1
+    → BeatIsHeld period k × (pos 0 <ℤ period.1) × SameValue (periods (k +ℤ pos 1) period).0 (periods (k +ℤ pos 1) period).1 product period.1
+quick_beat period m k product fits is product_fits product_is denom_fits up =
+    let same = product_is ∙ (turned_pair period m k is).0 in
+    (record { count = number_held (k +ℤ pos 1) fits; time = subst (λ n. FitsIn64 (n, period.1)) same (numbers_fit product period.1 product_fits denom_fits up) }, up, ap (λ (z : ℤ). z *ℤ period.1) (sym same))
 
-pub told_less : (s t : ℤ × ℤ) → pos 0 <ℤ s.1 → pos 0 <ℤ t.1 → Less ≡ cross_cmp s.0 s.1 t.0 t.1 → IsBefore s t
-told_less s t s_up t_up is = less (s.0 *ℤ t.1) (t.0 *ℤ s.1) (is ∙ along s t s_up t_up)
+pub beat_numbers_some : (period : ℤ × ℤ) (k : ℤ) (r : Option (ℤ × (ℤ × ℤ))) → ChecksBeatNumbers period k r → BeatIsHeld period k → IsSome r
+beat_numbers_some period k None out held = absurd (out held)
+beat_numbers_some period k (Some r) is held = search rules
 
-pub told_greater : (s t : ℤ × ℤ) → pos 0 <ℤ s.1 → pos 0 <ℤ t.1 → Greater ≡ cross_cmp s.0 s.1 t.0 t.1 → IsBefore t s
-told_greater s t s_up t_up is = greater (s.0 *ℤ t.1) (t.0 *ℤ s.1) (is ∙ along s t s_up t_up)
-
-pub told_equal : (s t : ℤ × ℤ) → pos 0 <ℤ s.1 → pos 0 <ℤ t.1 → Equal ≡ cross_cmp s.0 s.1 t.0 t.1 → SameValue s.0 s.1 t.0 t.1
-told_equal s t s_up t_up is = (cross_equal s.0 s.1 t.0 t.1 (positive_nonzero s.1 s_up) (positive_nonzero t.1 t_up)).0 (sym is)
+-- ---- the beat at a time
 
 pub fits_next : (m k : ℤ) → SFits w64 (k +ℤ pos 1) → m ≡ k +ℤ pos 1 → SFits w64 m
 fits_next m k fits is = rw is fits
 
-pub same_at : (next s t : ℤ × ℤ) → IsLowestTermsOf next.0 next.1 s.0 s.1 → SameValue s.0 s.1 t.0 t.1 → SameValue next.0 next.1 t.0 t.1
-same_at next s t low same = same_value_chained next.0 next.1 s.0 s.1 t.0 t.1 (positive_nonzero s.1 low.lowest.positive) low.same same
+-- s has the value of the next beat
+module _ (next s t : ℤ × ℤ) (next_up : pos 0 <ℤ next.1) (s_up : pos 0 <ℤ s.1) (t_up : pos 0 <ℤ t.1) (same : SameValue next.0 next.1 s.0 s.1) where
+  pub comes_then : SameValue s.0 s.1 t.0 t.1 → SameValue next.0 next.1 t.0 t.1
+  comes_then at = same_value_chained next.0 next.1 s.0 s.1 t.0 t.1 (positive_nonzero s.1 s_up) same at
 
--- a next beat that is not before a time, and not at it, comes after it
-pub told_after : (next s t : ℤ × ℤ) → pos 0 <ℤ next.1 → pos 0 <ℤ t.1 → IsLowestTermsOf next.0 next.1 s.0 s.1 → IsUpTo t next → cross_cmp s.0 s.1 t.0 t.1 ≢ Equal → IsBefore t next
-told_after next s t next_up t_up low up_to unlike = cases (less_or_same up_to)
-  where
-    less_or_same : IsUpTo t next → IsBefore t next ⊎ SameValue next.0 next.1 t.0 t.1
-    less_or_same up = grind (arith, ints)
+  -- a next beat that is not before a time, and not at it, comes after it
+  pub comes_after : (b : Bool) → IsTrue b ↔ SameValue s.0 s.1 t.0 t.1 → b ≡ false → IsUpTo t next → IsBefore t next
+  comes_after b told is up_to = cases (less_or_same up_to)
+    where
+      less_or_same : IsUpTo t next → IsBefore t next ⊎ SameValue next.0 next.1 t.0 t.1
+      less_or_same up = grind (arith, ints)
 
-    cases : IsBefore t next ⊎ SameValue next.0 next.1 t.0 t.1 → IsBefore t next
-    cases (inl less) = less
-    cases (inr same) =
-        let at : SameValue s.0 s.1 t.0 t.1 = same_value_chained s.0 s.1 next.0 next.1 t.0 t.1 (positive_nonzero next.1 next_up) (sym low.same) same in
-        absurd (unlike ((cross_equal s.0 s.1 t.0 t.1 (positive_nonzero s.1 low.lowest.positive) (positive_nonzero t.1 t_up)).1 at))
-
-same_numbers : (x y : ℤ) → Equal ≡ int_cmp x y → x ≡ y
-same_numbers x y is = subst (λ o. MatchOrdering o (x <ℤ y) (x ≡ y) (y <ℤ x)) (sym is) (int_ranks x y)
-
-pub told_up_to : (s t : ℤ × ℤ) → pos 0 <ℤ s.1 → pos 0 <ℤ t.1 → cross_cmp s.0 s.1 t.0 t.1 ≢ Less → IsUpTo t s
-told_up_to s t s_up t_up unlike = go (int_cmp (s.0 *ℤ t.1) (t.0 *ℤ s.1)) refl
-  where
-    go : (o : Ordering) → o ≡ int_cmp (s.0 *ℤ t.1) (t.0 *ℤ s.1) → IsUpTo t s
-    go Less is = absurd (unlike (along s t s_up t_up ∙ sym is))
-    go Equal is = let same = same_numbers (s.0 *ℤ t.1) (t.0 *ℤ s.1) is in omega (arith, ints)
-    go Greater is = let more = greater (s.0 *ℤ t.1) (t.0 *ℤ s.1) is in omega (arith, ints)
+      cases : IsBefore t next ⊎ SameValue next.0 next.1 t.0 t.1 → IsBefore t next
+      cases (inl less) = less
+      cases (inr at) = absurd (let yes = told.1 (same_value_chained s.0 s.1 next.0 next.1 t.0 t.1 (positive_nonzero next.1 next_up) (sym same) at) in let no : true ≡ false = sym yes ∙ is in cc)
 
 -- the floor that is cast to 64 bits
 pub count_answers : {E : Type 0} (t p : ℤ × ℤ) (f : ℤ) (r : Result ℤ E) → pos 0 <ℤ (t.1 *ℤ p.0) → HasHad t p f → OkIff r (SFits w64 f) f → ChecksCount t p (result_ok r)

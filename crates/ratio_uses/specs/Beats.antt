@@ -119,6 +119,13 @@ abbrev pub ChecksBeat : {T : _} {i : _} {o : _} {e : _} {p : _} {h : _} → ℤ 
 ChecksBeat period k None = ¬ (BeatIsHeld period k)
 ChecksBeat period k (Some r) = (r.0 ≡ k +ℤ pos 1) × BeatIsHeld period k × HasValue (periods (k +ℤ pos 1) period) r.1
 
+-- Inner: the result is the number of the next beat and the numbers of its time if both fit, else `None`. They need not be in lowest terms
+-- Example: after 1 beat with the period 1/2: 2 and 2/2
+abbrev pub ChecksBeatNumbers : ℤ × ℤ → ℤ → Option (ℤ × (ℤ × ℤ)) → Type 0
+ChecksBeatNumbers period k None = ¬ (BeatIsHeld period k)
+ChecksBeatNumbers period k (Some (next, time)) =
+    (next ≡ k +ℤ pos 1) × BeatIsHeld period k × (pos 0 <ℤ time.1) × SameValue (periods (k +ℤ pos 1) period).0 (periods (k +ℤ pos 1) period).1 time.0 time.1
+
 -- Inner: a voice has its next beat at this time, and none has it before
 pub record IsEarliest (voices : List Voice) (time : ℤ × ℤ) : Type 0 where
   pub of_one : Any (λ voice. SameValue (next_time voice).0 (next_time voice).1 time.0 time.1) voices

@@ -2,12 +2,12 @@
 //!
 //! A voice beats once in each of its periods. Its k-th beat comes at exactly k periods.
 ghost use Rattle.std.specs.Prelude.{◌↔◌, All, IsTrue};
-ghost use Rattle.ratio_uses.specs.Beats.{AllAreHeld, BeatIsHeld, ChecksBeat, ChecksCount, ChecksEarliest, ChecksMeeting, ChecksNextBeat, ChecksStart, CountIsHeld, CountsBeat, CountsEach, IsEarliest, IsUpTo, StartsEach, next_time, period_of};
+ghost use Rattle.ratio_integer.specs.Fraction.{SameValue};
+ghost use Rattle.ratio_uses.specs.Beats.{AllAreHeld, BeatIsHeld, ChecksBeat, ChecksBeatNumbers, ChecksCount, ChecksEarliest, ChecksMeeting, ChecksNextBeat, ChecksStart, CountIsHeld, CountsBeat, CountsEach, IsBefore, IsEarliest, IsUpTo, StartsEach, next_time, period_of};
 ghost use Rattle.ratio_uses.specs.Held.{lowest_numbers};
 
 use num_rational::Reduced64;
 use ratio_core::rounding::floor;
-use std::cmp::Ordering;
 
 /// A voice: how often it beats, and how many beats it has had.
 #[derive(Clone, Copy, Debug)]
@@ -88,15 +88,28 @@ fn earliest(voices: &[Voice]) -> Option<Reduced64>
         return None;
     }
     let first = voices[0];
-    let (_, mut time) = beat_after(&first.period, first.count)?;
+    let (_, mut time) = next_numbers(&first.period, first.count)?;
     for voice in voices {
-        let (_, next) = beat_after(&voice.period, voice.count)?;
-        match next.cmp(&time) {
-            Ordering::Less => time = next,
-            _ => {}
+        let (_, next) = next_numbers(&voice.period, voice.count)?;
+        if is_before(next, time) {
+            time = next;
         }
     }
-    Some(time)
+    Reduced64::checked_new(time.0, time.1)
+}
+
+// Whether the first time is before the second.
+fn is_before(first: (i64, i64), second: (i64, i64)) -> bool
+    ensures { IsTrue result ↔ IsBefore first second }
+{
+    (first.0 as i128 * second.1 as i128) < (second.0 as i128 * first.1 as i128)
+}
+
+// Whether both times are the same.
+fn is_same(first: (i64, i64), second: (i64, i64)) -> bool
+    ensures { IsTrue result ↔ SameValue first.0 first.1 second.0 second.1 }
+{
+    first.0 as i128 * second.1 as i128 == second.0 as i128 * first.1 as i128
 }
 
 // Counts one more for each voice whose next beat comes at this time. No voice has it before.
@@ -116,11 +129,25 @@ fn count_after(voice: &Voice, time: &Reduced64) -> i64
     requires up_to { IsUpTo (lowest_numbers time.now) (next_time voice.now) }
     ensures { CountsBeat (lowest_numbers time.now) voice.now result }
 {
-    let (count, next) = beat_after(&voice.period, voice.count).unwrap();
-    match next.cmp(time) {
-        Ordering::Equal => count,
-        _ => voice.count,
+    let (count, next) = next_numbers(&voice.period, voice.count).unwrap();
+    if !is_same(next, time.into_raw()) {
+        return voice.count;
     }
+    count
+}
+
+// The number and the time of the beat after `count` beats. The time is a pair of numbers, with a denominator above 0, and need
+// not be in lowest terms: only a product that does not fit has to be reduced.
+fn next_numbers(period: &Reduced64, count: i64) -> Option<(i64, (i64, i64))>
+    ensures { ChecksBeatNumbers (lowest_numbers period.now) count result }
+{
+    let next = count.checked_add(1)?;
+    let (numer, denom) = period.into_raw();
+    if let Some(product) = numer.checked_mul(next) {
+        return Some((next, (product, denom)));
+    }
+    let (next, time) = beat_after(period, count)?;
+    Some((next, time.into_raw()))
 }
 
 // The number and the time of the beat after `count` beats.

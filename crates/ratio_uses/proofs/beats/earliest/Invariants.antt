@@ -1,6 +1,6 @@
-use Rattle.ratio_uses.specs.Held.{lowest_numbers}
+use Rattle.std.specs.Prelude.{◌<ℤ◌, pos}
 use Rattle.ratio_uses.proofs.BeatLemmas.{EarliestSoFar}
 use Rattle.ratio_uses.proofs.beats.earliest.Given as goal
 
 abbrev pub invariant-loop-voice : goal.invariant-loop-voice
-invariant-loop-voice l = EarliestSoFar l.voices l.voice-index (lowest_numbers l.time)
+invariant-loop-voice l = record { first : EarliestSoFar l.voices l.voice-index l.time; up : pos 0 <ℤ l.time.1 }

@@ -1,8 +1,9 @@
 -- The nearest wheels: the best first wheel for each second one, and then the best of these pairs.
-use Rattle.std.specs.Prelude.{◌≡◌, ◌⊎◌, ◌+◌, ◌*◌, ◌-◌, ◌^◌, ◌/◌, ◌%◌, ◌<◌, ◌≤◌, ◌<ℤ◌, ℕ, ℤ, pos, negsuc, unsigned_abs, false, Option}
+use Rattle.std.specs.Prelude.{◌≡◌, ◌⊎◌, ◌+◌, ◌*◌, ◌-◌, ◌^◌, ◌<◌, ◌≤◌, ◌<ℤ◌, ℕ, ℤ, min, pos, negsuc, unsigned_abs, false, Option}
 use Rattle.std.proofs.Common.{refl, sym, subst, arith, inl, inr}
-use Rattle.std.proofs.Math.Nat.{mul-le-mul_right, mul-lt-mul_of_pos_right}
+use Rattle.std.proofs.Math.Nat.{mul-le-mul_left, mul-le-mul_right, mul-lt-mul_of_pos_right}
 use Rattle.std.proofs.lemmas.Int.{ints}
+use Rattle.std.proofs.lemmas.Nat.{mul-lt}
 use lib.Signed.{lt_z}
 use Rattle.ratio_approximation.specs.Nearest.{ComesFirst, gap}
 use Rattle.ratio_approximation.proofs.NearestPreference.{first_chained, itself_first}
@@ -18,7 +19,7 @@ use Rattle.num_rational.specs.Ratio.{denominator, numerator}
 use Rattle.num_rational.specs.declared.ratio.Ratio.{Ratio}
 use Rattle.num_rational.proofs.ValueLemmas.{same_value_differences}
 use Rattle.ratio_uses.specs.Held.{FitsIn64}
-use Rattle.ratio_uses.specs.Gears.{AreNearestWheels, IsBestFirst, IsRoundedDown, IsWheel, PairComesFirst}
+use Rattle.ratio_uses.specs.Gears.{AreNearestWheels, IsBestFirst, IsQuotient, IsRoundedDown, IsWheel, PairComesFirst}
 
 pub gap_is : (n d p q : ℕ) → gap (pos n) (pos d) (pos p) (pos q) ≡ (n * q - p * d) + (p * d - n * q)
 gap_is n d p q = omega (arith, ints)
@@ -30,12 +31,6 @@ same_or_less : (x y : ℕ) → x ≤ y → (x ≡ y) ⊎ (x < y)
 same_or_less x y within = grind arith
 
 -- ---- one second wheel
-
-pub half_passed : (x d : ℕ) → 0 < d → d < x % d + x % d → IsRoundedDown x d (x / d + 1)
-half_passed x d up over = let whole : d * (x / d) + x % d ≡ x = omega arith in record { above = omega arith; below = omega arith }
-
-pub half_not_passed : (x d : ℕ) → 0 < d → x % d + x % d ≤ d → IsRoundedDown x d (x / d)
-half_not_passed x d up under = let whole : d * (x / d) + x % d ≡ x = omega arith in record { above = omega arith; below = omega arith }
 
 pub nearer_first : (g h f m s : ℕ) → g ≤ h → f ≤ m → ComesFirst g (pos f) (pos s) h (pos m) (pos s)
 nearer_first g h f m s near less = cases (same_or_less (g * s) (h * s) (mul-le-mul_right s near))
@@ -99,6 +94,30 @@ module _ (n d s r : ℕ) (d_up : 0 < d) (s_up : 0 < s) (is : IsRoundedDown (n * 
 
 -- ---- one second wheel after the other
 
+up_to_or_more : (x w : ℕ) → (x ≤ w) ⊎ (w < x)
+up_to_or_more x w = grind arith
+
+-- each whole number is at least as far from the best first wheel as the nearest one
+pub nearest_whole : (n d s w r x : ℕ) → IsQuotient (n * s) d w r → min r (d - r) ≤ gap (pos n) (pos d) (pos x) (pos s)
+nearest_whole n d s w r x is = cases (up_to_or_more x w)
+  where
+    cases : (x ≤ w) ⊎ (w < x) → min r (d - r) ≤ gap (pos n) (pos d) (pos x) (pos s)
+    cases (inl less) = let below : x * d ≤ w * d = mul-le-mul_right d less in let same = is.same in omega (arith, gap_is n d x s)
+    cases (inr more) = let above : (w + 1) * d ≤ x * d = mul-le-mul_right d (omega arith) in let same = is.same in omega (arith, gap_is n d x s)
+
+pub quotient_small : (x d w r : ℕ) → 0 < d → x < 2 ^ 100 → IsQuotient x d w r → w < 2 ^ 100
+quotient_small x d w r up small is = let part : w * 1 ≤ w * d = mul-le-mul_left w up in let same = is.same in omega arith
+
+pub scaled_small : (n s : ℕ) → n < 2 ^ 64 → s < 2 ^ 36 → n * s < 2 ^ 100
+scaled_small n s n_small s_small = let part : n * s < 2 ^ 64 * 2 ^ 36 = mul-lt n s (2 ^ 64) (2 ^ 36) n_small s_small in omega arith
+
+-- the best first wheel with the next second one
+pub best_next : (n d s w r step part more rest : ℕ) → IsQuotient (n * s) d w r → IsQuotient n d step part → IsQuotient (w * d + r + (step * d + part)) d more rest → IsQuotient (n * (s + 1)) d more rest
+best_next n d s w r step part more rest is step_is sum_is = record {
+  same = let one = is.same in let other = step_is.same in let sum = sum_is.same in omega arith;
+  less = sum_is.less;
+}
+
 -- of all pairs whose second wheel has from `least` to `top` teeth, this one comes first
 pub record AreNearestUpTo (wanted : ℤ × ℤ) (least most top first second : ℕ) : Type 0 where
   pub first_wheel : IsWheel least most first
@@ -161,6 +180,26 @@ module _ (wanted : ℤ × ℤ) (least most top first second other next : ℕ) (l
       cases m e first_in second_in (inr same) =
           chained first second other next m e second_up (omega arith) (let low = second_in.at_least in omega arith) before_new
           (subst (λ k. PairComesFirst wanted other next m k) same (best.best m first_in))
+
+-- no pair with the next second wheel is nearer, and that wheel is larger
+pub nearest_too_far : (wanted : ℤ × ℤ) (least most top first second near : ℕ) → AreNearestUpTo wanted least most top first second → ((m : ℕ) → near ≤ gap wanted.0 wanted.1 (pos m) (pos (top + 1)))
+    → gap wanted.0 wanted.1 (pos first) (pos second) * (top + 1) ≤ near * second → AreNearestUpTo wanted least most (top + 1) first second
+nearest_too_far wanted least most top first second near so_far each not_nearer = record {
+  first_wheel = so_far.first_wheel;
+  second_wheel = record { at_least = so_far.second_wheel.at_least; at_most = let high = so_far.second_wheel.at_most in omega arith };
+  nearest = λ m e first_in second_in. cases m e first_in second_in (last_or_before top e second_in.at_most);
+}
+  where
+    before_new : (m : ℕ) → PairComesFirst wanted first second m (top + 1)
+    before_new m = even (same_or_less _ _ (let part : near * second ≤ gap wanted.0 wanted.1 (pos m) (pos (top + 1)) * second = mul-le-mul_right second (each m) in omega arith))
+      where
+        even : (gap wanted.0 wanted.1 (pos first) (pos second) * (top + 1) ≡ gap wanted.0 wanted.1 (pos m) (pos (top + 1)) * second) ⊎ (gap wanted.0 wanted.1 (pos first) (pos second) * (top + 1) < gap wanted.0 wanted.1 (pos m) (pos (top + 1)) * second) → PairComesFirst wanted first second m (top + 1)
+        even (inl same) = inr (same, inl (let high = so_far.second_wheel.at_most in omega (arith, ints)))
+        even (inr less) = inl less
+
+    cases : (m e : ℕ) → IsWheel least most m → IsWheel least (top + 1) e → (e ≤ top) ⊎ (top + 1 ≡ e) → PairComesFirst wanted first second m e
+    cases m e first_in second_in (inl before) = so_far.nearest m e first_in (record { at_least = second_in.at_least; at_most = before })
+    cases m e first_in second_in (inr same) = subst (λ k. PairComesFirst wanted first second m k) same (before_new m)
 
 pub nearest_ends : (wanted : ℤ × ℤ) (least most top first second : ℕ) → top ≡ most → AreNearestUpTo wanted least most top first second → AreNearestWheels wanted least most first second
 nearest_ends wanted least most top first second e is = record {

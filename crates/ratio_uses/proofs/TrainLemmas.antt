@@ -1,15 +1,14 @@
 -- The nearest train: the products of its teeth, looked for one product of the driven wheels' teeth after the other, and its wheels.
-use Rattle.std.specs.Prelude.{◌≡◌, ◌⊎◌, ◌+◌, ◌*◌, ◌-◌, ◌^◌, ◌<◌, ◌≤◌, ℕ, ℤ, min, pos}
+use Rattle.std.specs.Prelude.{◌≡◌, ◌⊎◌, ◌+◌, ◌*◌, ◌-◌, ◌<◌, ◌≤◌, ℕ, ℤ, min, pos}
 use Rattle.std.proofs.Common.{◌∙◌, refl, sym, ap, subst, arith, inl, inr}
-use Rattle.std.proofs.Math.Nat.{mul-le-mul_left, mul-le-mul_right, mul-lt-mul_of_pos_right, mul_comm}
+use Rattle.std.proofs.Math.Nat.{mul-le-mul_right, mul-lt-mul_of_pos_right, mul_comm}
 use Rattle.std.proofs.lemmas.Int.{ints}
-use Rattle.std.proofs.lemmas.Nat.{mul-lt}
 use Rattle.ratio_approximation.specs.Nearest.{gap}
 use Rattle.ratio_approximation.proofs.NearestPreference.{first_chained, itself_first}
 use Rattle.ratio_uses.specs.Gears.{IsQuotient, IsWheel, PairComesFirst}
 use Rattle.ratio_uses.specs.Trains.{AreFirstOf, AreFirstOver, AreNearestProducts, AreWheelsOf, IsFirstRatio, IsGreatestUpTo, IsLeastAbove, IsMultipleOf, IsPair, IsProductOfTwo, driven_teeth, driver_teeth}
 use Rattle.ratio_uses.specs.declared.trains.Pair.{Pair}
-use Rattle.ratio_uses.proofs.GearLemmas.{gap_is, nearer_first}
+use Rattle.ratio_uses.proofs.GearLemmas.{gap_is, nearer_first, nearest_whole}
 use Rattle.ratio_uses.proofs.ProductLemmas.{less_or_not, product_at_least, product_at_most, product_of, product_up, wheel_least, wheel_most}
 
 same_or_less : (x y : ℕ) → x ≤ y → (x ≡ y) ⊎ (x < y)
@@ -171,25 +170,11 @@ last_or_before next y below = grind arith
 
 -- ---- one larger wheel after the other
 
-up_to_or_more : (x w : ℕ) → (x ≤ w) ⊎ (w < x)
-up_to_or_more x w = grind arith
-
 -- each whole number is at least as far from the best product of the drivers' teeth as the nearest one, so no product comes before the earlier ones
 pub too_far : (n d y w r k e x : ℕ) → IsQuotient (n * y) d w r → gap (pos n) (pos d) (pos k) (pos e) * y < min r (d - r) * e → PairComesFirst (pos n, pos d) k e x y
-too_far n d y w r k e x is far = inl (omega (arith, part))
-  where
-    near : (x ≤ w) ⊎ (w < x) → min r (d - r) ≤ gap (pos n) (pos d) (pos x) (pos y)
-    near (inl less) = let below : x * d ≤ w * d = mul-le-mul_right d less in let same = is.same in omega (arith, gap_is n d x y)
-    near (inr more) = let above : (w + 1) * d ≤ x * d = mul-le-mul_right d (omega arith) in let same = is.same in omega (arith, gap_is n d x y)
-
-    part : min r (d - r) * e ≤ gap (pos n) (pos d) (pos x) (pos y) * e
-    part = mul-le-mul_right e (near (up_to_or_more x w))
-
-pub quotient_small : (x d w r : ℕ) → 0 < d → x < 2 ^ 100 → IsQuotient x d w r → w < 2 ^ 100
-quotient_small x d w r up small is = let part : w * 1 ≤ w * d = mul-le-mul_left w up in let same = is.same in omega arith
-
-pub best_small : (n s : ℕ) → n < 2 ^ 64 → s < 2 ^ 36 → n * s < 2 ^ 100
-best_small n s n_small s_small = let part : n * s < 2 ^ 64 * 2 ^ 36 = mul-lt n s (2 ^ 64) (2 ^ 36) n_small s_small in omega arith
+too_far n d y w r k e x is far =
+    let part : min r (d - r) * e ≤ gap (pos n) (pos d) (pos x) (pos y) * e = mul-le-mul_right e (nearest_whole n d y w r x is) in
+    inl (omega arith)
 
 -- the best product of the drivers' teeth for the next product of the driven wheels'
 pub best_next : (n d large small w r step part more rest : ℕ) → IsQuotient (n * (large * small)) d w r → IsQuotient (n * small) d step part → IsQuotient (w * d + r + (step * d + part)) d more rest → IsQuotient (n * ((large + 1) * small)) d more rest

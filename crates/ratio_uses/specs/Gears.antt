@@ -51,3 +51,9 @@ pub record IsRoundedDown (x d r : ℕ) : Type 0 where
 pub record IsQuotient (x d whole rest : ℕ) : Type 0 where
   pub same : x ≡ whole * d + rest
   pub less : rest < d
+
+-- Inner: this first wheel is best with each second one for which the best first wheel, the wanted ratio times the second, has this whole
+-- quotient and this rest over d
+-- Example: 3 and 2 over 4, as from 14/4 with 1 and from 7/4 with 2: 3
+abbrev pub IsBestFor : ℕ → ℕ → ℕ → ℕ → ℕ → ℕ → Type 0
+IsBestFor d whole rest least most first = (n s : ℕ) → 0 < s → IsQuotient (n * s) d whole rest → IsBestFirst (pos n, pos d) least most first s

@@ -1,11 +1,12 @@
 //! Two wheels whose ratio of teeth is near a wanted one.
-ghost use Rattle.std.specs.Prelude.{◌≡◌, ◌*◌, ◌<◌, ◌≤◌, ◌^◌, pos};
+ghost use Rattle.std.specs.Prelude.{◌≡◌, ◌+◌, ◌*◌, ◌<◌, ◌≤◌, ◌^◌, pos};
 ghost use Rattle.ratio_approximation.specs.Nearest.{gap};
 ghost use Rattle.num_rational.specs.Operators.{ChecksExactDifference};
 ghost use Rattle.num_rational.specs.Reduced.{ratio_in};
-ghost use Rattle.ratio_uses.specs.Gears.{AreNearestWheels, ChecksGears, IsBestFirst, IsRoundedDown};
+ghost use Rattle.ratio_uses.specs.Gears.{AreNearestWheels, ChecksGears, IsBestFor, IsRoundedDown};
 ghost use Rattle.ratio_uses.specs.Held.{lowest_numbers};
 
+use crate::quotients::{divided, sum_of};
 use num_rational::Reduced64;
 
 /// The teeth of two wheels, and how far their ratio is from the wanted one.
@@ -31,7 +32,7 @@ pub fn nearest_pair(wanted: &Reduced64, least: u32, most: u32) -> Option<Gears>
         return None;
     }
     let (numer, denom) = (wanted.numer().unsigned_abs(), wanted.denom().unsigned_abs());
-    let (first, second) = nearest_wheels(numer as u128, denom as u128, least, most);
+    let (first, second) = nearest_wheels(numer, denom, least, most);
     Some(Gears {
         first,
         second,
@@ -48,41 +49,45 @@ pub(crate) fn off_from(wanted: &Reduced64, first: u32, second: u32) -> Option<Re
     wanted.checked_sub(&wheels)
 }
 
-// The teeth of the nearest wheels.
-pub(crate) fn nearest_wheels(numer: u128, denom: u128, least: u32, most: u32) -> (u32, u32)
-    requires numer_small { numer * most < 2 ^ 96 }
+// The teeth of the nearest wheels. The whole number next to the best first wheel mostly tells that a pair is not nearer.
+fn nearest_wheels(numer: u64, denom: u64, least: u32, most: u32) -> (u32, u32)
     requires denom { 0 < denom }
-    requires denom_small { denom * most < 2 ^ 96 }
     requires least { 0 < least }
     requires most { least ≤ most }
     ensures { AreNearestWheels (pos numer, pos denom) least most result.0 result.1 }
 {
-    let mut first = best_first(numer, denom, least, most, least);
+    let step = divided(numer as u128, denom);
+    let mut best = divided(numer as u128 * least as u128, denom);
     let mut second = least;
+    let mut first = best_first(best, denom, least, most);
+    let mut gap = gap_of(numer as u128, denom as u128, first, second);
     for before in least..most {
         let next = before + 1;
-        let other = best_first(numer, denom, least, most, next);
-        let new_gap = gap_of(numer, denom, other, next);
-        let old_gap = gap_of(numer, denom, first, second);
-        if new_gap * (second as u128) < old_gap * (next as u128) {
-            first = other;
-            second = next;
+        best = sum_of(best, step, denom);
+        let near = best.1.min(denom as u128 - best.1);
+        if near * (second as u128) < gap * next as u128 {
+            let other = best_first(best, denom, least, most);
+            let other_gap = gap_of(numer as u128, denom as u128, other, next);
+            if other_gap * (second as u128) < gap * next as u128 {
+                first = other;
+                second = next;
+                gap = other_gap;
+            }
         }
     }
     (first, second)
 }
 
-// The first wheel that is best with this second one: the wanted ratio times the teeth of the second, rounded to the
-// nearest whole number, a half down, and then held between `least` and `most`.
-fn best_first(numer: u128, denom: u128, least: u32, most: u32, second: u32) -> u32
-    requires numer_small { numer * second < 2 ^ 96 }
+// The first wheel that is best with a second one: the wanted ratio times the teeth of the second, which has this whole
+// quotient and rest, rounded to the nearest whole number, a half down, and then held between `least` and `most`.
+fn best_first(best: (u128, u128), denom: u64, least: u32, most: u32) -> u32
     requires denom { 0 < denom }
-    requires denom_small { denom < 2 ^ 96 }
-    requires second { 0 < second }
+    requires small { best.0 < 2 ^ 100 }
+    requires rest { best.1 < denom }
     requires most { least ≤ most }
-    ensures { IsBestFirst (pos numer, pos denom) least most result second }
+    ensures { IsBestFor denom best.0 best.1 least most result }
 {
-    let rounded = rounded_down(numer * second as u128, denom);
+    let rounded = rounded_down(best, denom);
     if rounded < least as u128 {
         least
     } else if rounded > most as u128 {
@@ -92,16 +97,14 @@ fn best_first(numer: u128, denom: u128, least: u32, most: u32, second: u32) -> u
     }
 }
 
-// The number over the denominator, rounded to the nearest whole number, a half down.
-fn rounded_down(number: u128, denom: u128) -> u128
-    requires small { number < 2 ^ 96 }
-    requires denom { 0 < denom }
-    requires denom_small { denom < 2 ^ 96 }
-    ensures { IsRoundedDown number denom result }
+// The number with this whole quotient and this rest, rounded to the nearest whole number, a half down.
+fn rounded_down(number: (u128, u128), denom: u64) -> u128
+    requires small { number.0 < 2 ^ 100 }
+    requires rest { number.1 < denom }
+    ensures { IsRoundedDown (number.0 * denom + number.1) denom result }
 {
-    let whole = number / denom;
-    let rest = number % denom;
-    if rest + rest > denom {
+    let (whole, rest) = number;
+    if rest + rest > denom as u128 {
         whole + 1
     } else {
         whole

@@ -1,5 +1,6 @@
 use Rattle.std.proofs.Common.{◌≤◌, arith, sym}
-use Rattle.ratio_uses.proofs.TrainLemmas.{best_next, best_small, multiple_two, quotient_small, too_far, with_begins, with_ends, with_goes_on, with_kept}
+use Rattle.ratio_uses.proofs.GearLemmas.{quotient_small, scaled_small}
+use Rattle.ratio_uses.proofs.TrainLemmas.{best_next, multiple_two, too_far, with_begins, with_ends, with_goes_on, with_kept}
 use Rattle.ratio_uses.proofs.trains.nearest_with.Goals as goal
 use Rattle.ratio_uses.proofs.trains.nearest_with.Goals.{then-near-first, else-near-first}
 
@@ -17,7 +18,7 @@ nearer-first-requires-clause-driven c = multiple_two _ _ _ _ c.requires.small c.
 pub sum_of-best-requires-clause-other_small : goal.sum_of-best-requires-clause-other_small
 sum_of-best-requires-clause-other_small c =
     let high = c.requires.small.at_most in
-    quotient_small _ _ _ _ c.requires.denom (best_small c.args.numer c.args.small c.ranges.numer.fits (omega (arith, c.ranges.most.fits))) c.divided-step.ensures
+    quotient_small _ _ _ _ c.requires.denom (scaled_small c.args.numer c.args.small c.ranges.numer.fits (omega (arith, c.ranges.most.fits))) c.divided-step.ensures
 
 pub loop-large-preserved : goal.loop-large-preserved
 loop-large-preserved c =

@@ -1,5 +1,5 @@
 //! The answers to the lines that end in one piece of the input, put one after another.
-ghost use Rattle.std.specs.Prelude.{◌≡◌, ◌++◌, ◌∷◌, [], Some, OnOk, if◌then◌else◌, is_some};
+ghost use Rattle.std.specs.Prelude.{◌≡◌, ◌≤◌, ◌++◌, ◌∷◌, [], Some, OnOk, if◌then◌else◌, is_some};
 ghost use Rattle.ratio_lines.specs.AnswerText.{bytes_of};
 ghost use Rattle.ratio_lines.specs.Devices.{Gathers, GathersFor, Waits, WaitsFor, change_of};
 ghost use Rattle.ratio_lines.specs.KeptLine.{ArePieceAnswers, line_after};
@@ -10,17 +10,18 @@ use crate::answer_text::AnswerText;
 use crate::counted::CalcWrite;
 use crate::cut::cut;
 use crate::fault::CalcFault;
-use crate::gathered::Gathered;
+use crate::gathered::{Gathered, Waiting};
 use crate::line::Line;
 use crate::plain_line::plain_line;
 use either::Either;
 
 /// Gathers an answer without its line end.
-fn put_text<W: CalcWrite>(
-    gathered: &mut Gathered,
+fn put_text<const ROOM: usize, W: CalcWrite>(
+    gathered: &mut Waiting<ROOM>,
     writer: &mut W,
     answer: &AnswerText,
 ) -> Result<(), CalcFault>
+    requires { 1024 ≤ ROOM }
     ensures gathered { Gathers (change_of W.contents W.calls writer.old writer.new)
         gathered.old gathered.new (bytes_of answer.now) result }
     ensures waits { Waits (change_of W.contents W.calls writer.old writer.new)
@@ -41,6 +42,21 @@ pub fn put_answer<W: CalcWrite>(
     writer: &mut W,
     answer: &AnswerText,
 ) -> Result<(), CalcFault>
+    ensures gathered { Gathers (change_of W.contents W.calls writer.old writer.new)
+        gathered.old gathered.new (bytes_of answer.now ++ 10 ∷ []) result }
+    ensures waits { Waits (change_of W.contents W.calls writer.old writer.new)
+        gathered.old gathered.new (bytes_of answer.now ++ 10 ∷ []) result }
+{
+    put_line(&mut gathered.waiting, writer, answer)
+}
+
+/// The same for any room.
+fn put_line<const ROOM: usize, W: CalcWrite>(
+    gathered: &mut Waiting<ROOM>,
+    writer: &mut W,
+    answer: &AnswerText,
+) -> Result<(), CalcFault>
+    requires { 1024 ≤ ROOM }
     ensures gathered { Gathers (change_of W.contents W.calls writer.old writer.new)
         gathered.old gathered.new (bytes_of answer.now ++ 10 ∷ []) result }
     ensures waits { Waits (change_of W.contents W.calls writer.old writer.new)
@@ -91,9 +107,26 @@ pub fn answer_piece<W: CalcWrite>(
     ensures waits { WaitsFor (ArePieceAnswers line.old piece.now) (change_of W.contents W.calls writer.old writer.new)
         gathered.old gathered.new result }
 {
+    answer_lines(line, &mut gathered.waiting, writer, piece)
+}
+
+/// The same for any room.
+pub(crate) fn answer_lines<const ROOM: usize, W: CalcWrite>(
+    line: &mut Line,
+    gathered: &mut Waiting<ROOM>,
+    writer: &mut W,
+    piece: &[u8],
+) -> Result<(), CalcFault>
+    requires { 1024 ≤ ROOM }
+    ensures line { OnOk result (line.new ≡ line_after line.old piece.now) }
+    ensures answered { GathersFor (ArePieceAnswers line.old piece.now) (change_of W.contents W.calls writer.old writer.new)
+        gathered.old gathered.new result }
+    ensures waits { WaitsFor (ArePieceAnswers line.old piece.now) (change_of W.contents W.calls writer.old writer.new)
+        gathered.old gathered.new result }
+{
     let mut rest = piece;
     while let Some((answer, after)) = next_answer(line, rest) {
-        put_answer(gathered, writer, &answer)?;
+        put_line(gathered, writer, &answer)?;
         rest = after;
     }
     line.extend(rest);

@@ -1,7 +1,7 @@
 //! Runs on devices that fail, and on inputs that end early.
 use crate::answered::{answered, repeated};
 use crate::devices::{Feed, Refusal, Sink};
-use ratio_lines::calculator::run;
+use ratio_lines::calculator::{run, run_in_large_pieces};
 use ratio_lines::counted::Counted;
 use ratio_lines::fault::CalcFault;
 use std::alloc::Global;
@@ -41,6 +41,21 @@ fn assert_fault(rt: &impl Abort, reader: Feed, writer: Sink, fault: CalcFault, w
     assert_eq!(rt; writer.into_inner().bytes.as_slice(), written);
 }
 
+/// The same for a run in large pieces.
+fn assert_fault_in_large_pieces(
+    rt: &impl Abort,
+    reader: Feed,
+    writer: Sink,
+    fault: CalcFault,
+    written: &[u8],
+) {
+    let mut reader = Counted::new(reader);
+    let mut writer = Counted::new(writer);
+    let result = run_in_large_pieces(&mut reader, &mut writer);
+    assert_eq!(rt; result, Err(fault));
+    assert_eq!(rt; writer.into_inner().bytes.as_slice(), written);
+}
+
 /// The reader fails after each number of bytes, with two kinds of
 /// error. A read gives at most 1, 7 or 512 bytes.
 fn assert_read_faults(
@@ -56,6 +71,9 @@ fn assert_read_faults(
             for step in [1, 7, 512] {
                 let reader = Feed::failing(input, step, left, kind);
                 assert_fault(rt, reader, Sink::new(alloc), CalcFault::Read, written);
+                let reader = Feed::failing(input, step, left, kind);
+                let writer = Sink::new(alloc);
+                assert_fault_in_large_pieces(rt, reader, writer, CalcFault::Read, written);
             }
         }
     }
@@ -77,6 +95,13 @@ fn assert_write_faults(rt: &impl Abort, alloc: Global, input: &[u8], answers: &[
                         rt,
                         Feed::new(input, read_step),
                         writer,
+                        CalcFault::Write,
+                        beginning(answers, left),
+                    );
+                    assert_fault_in_large_pieces(
+                        rt,
+                        Feed::new(input, read_step),
+                        Sink::refusing(alloc, write_step, left, refusal),
                         CalcFault::Write,
                         beginning(answers, left),
                     );

@@ -2,7 +2,7 @@
 use Rattle.std.proofs.Common.{◌≡◌, ◌≢◌, T, refl, sym, ◌∙◌, ap, subst, inl, inr, arith, ℕ, zero, suc, ◌+◌, ◌-◌, ◌*◌, ◌^◌, ◌<◌, ◌≤◌, ◌&&◌, Bool, eqb, eqb→eq, eq-zero-or-pos, pow-suc, true, false, List, [], ◌∷◌, ◌++◌, length, length-drop, drop, take, get_or, ℤ, pos, ◌<ℤ◌, neg_ℤ, ◌-ℤ◌, FitsSigned, Some, Result, Ok, Err}
 use Rattle.std.proofs.lemmas.Int.{ints, to_z-of_z, to_z_pos}
 use Rattle.std.proofs.lemmas.Int.Digits.{digits_more, digits_value-lt, digits_value_more}
-use Rattle.std.proofs.lemmas.List.{length-take-le}
+use Rattle.std.proofs.lemmas.List.{drop_more, length-take-le}
 use Rattle.std.proofs.lemmas.Nat.{mul-le}
 use Rattle.std.proofs.lemmas.Bool.{eqb-true}
 use Rattle.std.proofs.Math.Nat.{pow-le-pow_left, pow-le-pow_right}
@@ -176,6 +176,19 @@ module _ {T : Type 0} (value : T → ℤ) (lo hi : ℤ) where
         cut = split_at text at 0 inside ∙ ap (λ c. take at text ++ c ∷ drop (suc at) text) is ∙ ap (λ k. take at text ++ slash ∷ drop k text) next;
         sides = record { numer = front; denom = back };
       }
+
+  -- the same where the second number text may end before the bytes do
+  pub slashed_first : (text : List ℕ) (at count : ℕ) (n d : T) → at < length text → get_or text at 0 ≡ slash
+      → ReadsAs lo hi 10 (take at text) (value n) → ReadsAs lo hi 10 (take count (drop (at + 1) text)) (value d) → IsFractionText lo hi (take (at + 1 + count) text) (value n) (value d)
+  slashed_first text at count n d inside is front back =
+      let same : at + 1 + count ≡ at + suc count = omega arith in
+      let rest : drop at text ≡ slash ∷ drop (at + 1) text = drop_more text at 0 inside ∙ ap (λ c. c ∷ drop (at + 1) text) is in
+      inl (record {
+        front = take at text;
+        back = take count (drop (at + 1) text);
+        cut = ap (λ k. take k text) same ∙ take-add at (suc count) text ∙ ap (λ xs. take at text ++ take (suc count) xs) rest;
+        sides = record { numer = front; denom = back };
+      })
 
   -- the right result for two numbers is the right result for what reads as them
   pub read_fields : (Reads : ℤ → ℤ → Type 0) (n d : T) → Reads (value n) (value d) → (r : Result (T × T) RatioErrorKind)

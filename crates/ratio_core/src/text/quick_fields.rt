@@ -18,6 +18,21 @@ pub(crate) fn quick_fields<T: Primitive>(bytes: &[u8]) -> Option<(T, T)>
     Some((numer, denom))
 }
 
+/// The two numbers of a text in base 10 without a plus sign that the bytes begin with, not reduced, and the length of this
+/// text. It ends before the first byte that is no digit. `None` says nothing about the bytes.
+#[inline(always)]
+pub fn leading_fields<T: Primitive>(bytes: &[u8]) -> Option<(T, T, usize)>
+    ensures inside { IfSome result (λ r. r.2 ≤ length bytes.now) }
+    ensures fields { IfSome result (λ r. IsFractionText T.lo T.hi (take r.2 bytes.now) (T.value r.0) (T.value r.1)) }
+{
+    let (numer, at) = leading_number::<T>(bytes, 10)?;
+    if at == bytes.len() || bytes[at] != b'/' {
+        return Some((numer, T::ONE, at));
+    }
+    let (denom, count) = leading_number::<T>(&bytes[at + 1..], 10)?;
+    Some((numer, denom, at + 1 + count))
+}
+
 /// The same in any radix, for a text with a slash.
 pub(crate) fn quick_slashed_fields<T: Primitive>(bytes: &[u8], radix: u32) -> Option<(T, T)>
     requires low { 2 ≤ radix }

@@ -11,6 +11,8 @@ pub mod LineLaws
 pub mod LinesSoFar
 pub mod Pieces
 pub mod PlainLines
+pub mod ChainLines
+pub mod FractionTexts
 pub mod PieceSoFar
 pub mod DeviceCalls
 pub mod RunSoFar

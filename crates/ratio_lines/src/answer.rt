@@ -7,6 +7,7 @@ ghost use Rattle.num_rational.specs.Ratio.{numerator, denominator};
 ghost use Rattle.ratio_core.specs.Refusal.{refusal_text};
 ghost use Rattle.ratio_lines.specs.Answers.{IsAnswer, IsChainAnswer, IsOutcome, IsPartsAnswer, IsTextsAnswer, is_chain, is_space, operator_parts, operators_of, order_text, outcome_of_result, right_parts};
 ghost use Rattle.ratio_lines.specs.AnswerText.{bytes_of, outcome_of};
+ghost use Rattle.ratio_lines.specs.ChainLine.{AreWellChained};
 ghost use Rattle.ratio_lines.specs.Operands.{number_of};
 ghost use Rattle.ratio_lines.specs.Parts.{AreChained, OperatesOn, RefusesFirst, parts_of, with_first};
 
@@ -49,7 +50,7 @@ fn order_sign(order: Ordering) -> &'static str
 }
 
 /// The outcome of an operator between two fractions: a number, or the text that is the answer.
-fn apply_operator(operator: Operator, left: Rational64, right: Rational64) -> AnswerText
+pub fn apply_operator(operator: Operator, left: Rational64, right: Rational64) -> AnswerText
     requires left_positive { pos 0 <ℤ denominator left }
     requires right_positive { pos 0 <ℤ denominator right }
     ensures { IsOutcome operator (numerator left, denominator left) (numerator right, denominator right) (outcome_of result) }
@@ -205,6 +206,24 @@ fn answer_chain(left: &str, operator: &str, right: &str, parts: Option<&str>) ->
         Some(refusal) => Either::Left(refusal),
         None => answer_texts(left, first, right, parts),
     }
+}
+
+/// The answer to a text whose parts are well chained. So nothing is left to refuse but its operands.
+pub fn answer_well_chained(text: &str) -> AnswerText
+    requires { AreWellChained (slice_split is_space text.now) }
+    ensures { IsPartsAnswer (slice_split is_space text.now) (bytes_of result) }
+{
+    let (left, Some(rest)) = first_part(text) else {
+        unreachable!()
+    };
+    let (operator, Some(rest)) = first_part(rest) else {
+        unreachable!()
+    };
+    let (right, parts) = first_part(rest);
+    let Some(first) = operator_named(operator) else {
+        unreachable!()
+    };
+    answer_texts(left, first, right, parts)
 }
 
 /// The answer to a text whose parts have single spaces between them.

@@ -5,14 +5,15 @@ ghost use Rattle.ratio_lines.specs.Devices.{Gathers, GathersFor, Waits, WaitsFor
 ghost use Rattle.ratio_lines.specs.KeptLine.{ArePieceAnswers, line_after};
 ghost use Rattle.ratio_lines.specs.PlainLine.{IsNextAnswer};
 
-use crate::answer::{answer, answer_two};
+use crate::answer::{answer, answer_well_chained, apply_operator};
 use crate::answer_text::AnswerText;
+use crate::chain_line::{chain_end, line_text};
 use crate::counted::CalcWrite;
 use crate::cut::cut;
 use crate::fault::CalcFault;
 use crate::gathered::{Gathered, Waiting};
 use crate::line::Line;
-use crate::plain_line::plain_line;
+use crate::read_line::read_line;
 use either::Either;
 
 /// Gathers an answer without its line end.
@@ -71,8 +72,17 @@ fn put_line<const ROOM: usize, W: CalcWrite>(
 fn first_answer(bytes: &[u8]) -> Option<(AnswerText, &[u8])>
     ensures { IsNextAnswer (Some []) bytes.now result }
 {
-    if let Some(line) = plain_line(bytes) {
-        return Some((answer_two(line.left, line.operator, line.right), line.after));
+    if let Some(line) = read_line(bytes) {
+        return Some((
+            apply_operator(line.operator, line.left, line.right),
+            line.after,
+        ));
+    }
+    if let Some(end) = chain_end(bytes) {
+        return Some((
+            answer_well_chained(line_text(&bytes[..end])),
+            &bytes[end + 1..],
+        ));
     }
     let (line, after) = cut(bytes, b'\n')?;
     Some((answer(line), after))

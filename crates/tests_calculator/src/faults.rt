@@ -41,21 +41,6 @@ fn assert_fault(rt: &impl Abort, reader: Feed, writer: Sink, fault: CalcFault, w
     assert_eq!(rt; writer.into_inner().bytes.as_slice(), written);
 }
 
-/// The same for a run in large pieces.
-fn assert_fault_in_large_pieces(
-    rt: &impl Abort,
-    reader: Feed,
-    writer: Sink,
-    fault: CalcFault,
-    written: &[u8],
-) {
-    let mut reader = Counted::new(reader);
-    let mut writer = Counted::new(writer);
-    let result = run_in_large_pieces(&mut reader, &mut writer);
-    assert_eq!(rt; result, Err(fault));
-    assert_eq!(rt; writer.into_inner().bytes.as_slice(), written);
-}
-
 /// The reader fails after each number of bytes, with two kinds of
 /// error. A read gives at most 1, 7 or 512 bytes.
 fn assert_read_faults(
@@ -71,9 +56,6 @@ fn assert_read_faults(
             for step in [1, 7, 512] {
                 let reader = Feed::failing(input, step, left, kind);
                 assert_fault(rt, reader, Sink::new(alloc), CalcFault::Read, written);
-                let reader = Feed::failing(input, step, left, kind);
-                let writer = Sink::new(alloc);
-                assert_fault_in_large_pieces(rt, reader, writer, CalcFault::Read, written);
             }
         }
     }
@@ -95,13 +77,6 @@ fn assert_write_faults(rt: &impl Abort, alloc: Global, input: &[u8], answers: &[
                         rt,
                         Feed::new(input, read_step),
                         writer,
-                        CalcFault::Write,
-                        beginning(answers, left),
-                    );
-                    assert_fault_in_large_pieces(
-                        rt,
-                        Feed::new(input, read_step),
-                        Sink::refusing(alloc, write_step, left, refusal),
                         CalcFault::Write,
                         beginning(answers, left),
                     );
@@ -128,6 +103,37 @@ fn stops_where_a_device_fails_in_long_lines(rt: HostRuntime) -> Result<(), Fail>
     assert_read_faults(&rt, rt.alloc(), input.as_slice(), answers, &table);
     assert_write_faults(&rt, rt.alloc(), input.as_slice(), answers);
     Ok(())
+}
+
+/// The same as `assert_fault`, for a run in large pieces.
+fn assert_fault_in_large_pieces(
+    rt: &impl Abort,
+    reader: Feed,
+    writer: Sink,
+    fault: CalcFault,
+    written: &[u8],
+) {
+    let mut reader = Counted::new(reader);
+    let mut writer = Counted::new(writer);
+    let result = run_in_large_pieces(&mut reader, &mut writer);
+    assert_eq!(rt; result, Err(fault));
+    assert_eq!(rt; writer.into_inner().bytes.as_slice(), written);
+}
+
+#[test]
+fn stops_where_a_device_fails_in_large_pieces(rt: HostRuntime) {
+    for left in 0..INPUT.len() {
+        let reader = Feed::failing(INPUT, 8192, left, ErrorKind::Other);
+        let written = beginning(ANSWERS, written_before(&[(10, 4), (18, 6)], left));
+        let writer = Sink::new(rt.alloc());
+        assert_fault_in_large_pieces(&rt, reader, writer, CalcFault::Read, written);
+    }
+    for left in 0..ANSWERS.len() {
+        let writer = Sink::refusing(rt.alloc(), usize::MAX, left, Refusal::TakesNone);
+        let written = beginning(ANSWERS, left);
+        let reader = Feed::new(INPUT, 8192);
+        assert_fault_in_large_pieces(&rt, reader, writer, CalcFault::Write, written);
+    }
 }
 
 #[test]

@@ -11,7 +11,7 @@ use Rattle.ratio_integer.specs.Range.{IsHeld}
 use Rattle.ratio_integer.proofs.CommonDivisors.{multiple_divides}
 use Rattle.ratio_integer.proofs.LcmLemmas.{exact_quotient}
 use Rattle.ratio_integer.proofs.Whole.{add-mul, mul_assoc, mul_cancel, mul-swap_inner, neg-mul, positive_nonzero, sub-mul, unsigned_abs-neg}
-use Rattle.ratio_core.specs.Joined.{IsCutBy, IsJoined}
+use Rattle.ratio_core.specs.Joined.{IsCutBy, IsOverProduct}
 use Rattle.ratio_core.proofs.PartsSumLemmas.{are_shares, gcd_positive, lowest}
 
 -- the gcd of a number and a positive one always fits
@@ -32,7 +32,7 @@ pub exact_by : (n g q : ℤ) → unsigned_abs g ∣ unsigned_abs n → q ≡ int
 exact_by n g q divides q_is = ap (λ (z : ℤ). z *ℤ g) q_is ∙ exact_quotient n g divides
 
 -- n/m is joined over b and d, and g is the greatest common divisor of b and d
-module _ (n m b d g : ℤ) (joined : IsJoined n m b d) (is : IsGcdOf b d g) where
+module _ (n m b d g : ℤ) (joined : IsOverProduct n m b d) (is : IsGcdOf b d g) where
   abbrev x : ℤ
   x = int_div b g
 
@@ -128,7 +128,7 @@ pub opposite_lowest : (a b : ℤ) → IsLowestTerms a b → IsLowestTerms (neg_�
 opposite_lowest a b low = record { positive = low.positive; only_one = rw (unsigned_abs-neg a) low.only_one }
 
 -- a difference is the sum with the opposite of the right side
-pub joined_difference : (n m a b c d : ℤ) → IsLowestTerms a b → IsLowestTerms c d → n ≡ a *ℤ d -ℤ c *ℤ b → m ≡ b *ℤ d → IsJoined n m b d
+pub joined_difference : (n m a b c d : ℤ) → IsLowestTerms a b → IsLowestTerms c d → n ≡ a *ℤ d -ℤ c *ℤ b → m ≡ b *ℤ d → IsOverProduct n m b d
 joined_difference n m a b c d first second numer denom = record {
   left = a;
   right = neg_ℤ c;
@@ -169,14 +169,14 @@ module _ (lo hi a b c d g x y p u v : ℤ) (left_lowest : IsLowestTerms a b) (ri
 
   pub least_common_sum : (n : ℤ) → n ≡ a *ℤ y +ℤ c *ℤ x → IsCutBy lo hi n p g u v → IsHeldLowest lo hi (a *ℤ d +ℤ c *ℤ b) (b *ℤ d) u v
   least_common_sum n n_is cut =
-      let joined : IsJoined (a *ℤ d +ℤ c *ℤ b) (b *ℤ d) b d = record { left = a; right = c; left_lowest = left_lowest; right_lowest = right_lowest; numer = refl; denom = refl } in
+      let joined : IsOverProduct (a *ℤ d +ℤ c *ℤ b) (b *ℤ d) b d = record { left = a; right = c; left_lowest = left_lowest; right_lowest = right_lowest; numer = refl; denom = refl } in
       let times : n *ℤ g ≡ a *ℤ d +ℤ c *ℤ b =
       ap (λ (z : ℤ). z *ℤ g) n_is ∙ add-mul (a *ℤ y) (c *ℤ x) g ∙ ap (λ (z : ℤ). z +ℤ (c *ℤ x) *ℤ g) left_times ∙ ap (λ (z : ℤ). a *ℤ d +ℤ z) right_times in
       joined_held _ _ b d g joined is n p cut.shared u v times denom_times cut.gcd cut.numer cut.denom lo hi cut.numer_held cut.denom_held
 
   pub least_common_difference : (n : ℤ) → n ≡ a *ℤ y -ℤ c *ℤ x → IsCutBy lo hi n p g u v → IsHeldLowest lo hi (a *ℤ d -ℤ c *ℤ b) (b *ℤ d) u v
   least_common_difference n n_is cut =
-      let joined : IsJoined (a *ℤ d -ℤ c *ℤ b) (b *ℤ d) b d = joined_difference _ _ a b c d left_lowest right_lowest refl refl in
+      let joined : IsOverProduct (a *ℤ d -ℤ c *ℤ b) (b *ℤ d) b d = joined_difference _ _ a b c d left_lowest right_lowest refl refl in
       let times : n *ℤ g ≡ a *ℤ d -ℤ c *ℤ b =
       ap (λ (z : ℤ). z *ℤ g) n_is ∙ sub-mul (a *ℤ y) (c *ℤ x) g ∙ ap (λ (z : ℤ). z -ℤ (c *ℤ x) *ℤ g) left_times ∙ ap (λ (z : ℤ). a *ℤ d -ℤ z) right_times in
       joined_held _ _ b d g joined is n p cut.shared u v times denom_times cut.gcd cut.numer cut.denom lo hi cut.numer_held cut.denom_held

@@ -6,7 +6,7 @@ use Rattle.ratio_integer.specs.Range.{IsHeld}
 
 -- Inner: n/m is the sum of two fractions in lowest terms, over the product of their denominators b and d
 -- Example: 28/60 is 1/6 + 3/10
-pub record IsJoined (n m b d : ℤ) : Type 0 where
+pub record IsOverProduct (n m b d : ℤ) : Type 0 where
   pub left : ℤ
   pub right : ℤ
   pub left_lowest : IsLowestTerms left b

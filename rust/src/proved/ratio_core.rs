@@ -25,7 +25,7 @@ pub mod text;
 pub use code_list::CodeList;
 pub use exponent::Exponent;
 pub use hash::hash_counted;
-pub use order::{cmp_counted, compare};
+pub use order::{cmp_counted, compare, cross_order};
 pub use parse_error::{ParseRatioError, RatioErrorKind};
 pub use steps::Steps;
 pub use taken::Taken;

@@ -5,7 +5,7 @@
 //! divides `g`, too. For 1/6 + 3/10 they are 28 and 60, and `g` is 2. So 14 and 30 are left, then 7 and 15.
 ghost use Rattle.std.specs.Prelude.{◌≡◌, ◌*ℤ◌, ◌+ℤ◌, ◌-ℤ◌, IfSome};
 ghost use Rattle.ratio_integer.specs.Fraction.{IsHeldLowest};
-ghost use Rattle.ratio_core.specs.Joined.{IsJoined};
+ghost use Rattle.ratio_core.specs.Joined.{IsOverProduct};
 
 use ratio_integer::{Integer, both_held};
 
@@ -36,7 +36,7 @@ pub(crate) fn formed_difference<T: Integer>(a: T, b: T, c: T, d: T) -> Option<(T
 
 /// The lowest terms of `n/m`, a sum over the product of the denominators `b` and `d`.
 pub(crate) fn reduced<T: Integer>(n: T, m: T, b: T, d: T) -> (T, T)
-    requires { IsJoined (T.value n) (T.value m) (T.value b) (T.value d) }
+    requires { IsOverProduct (T.value n) (T.value m) (T.value b) (T.value d) }
     ensures { IsHeldLowest T.lo T.hi (T.value n) (T.value m) (T.value result.0) (T.value result.1) }
 {
     let g = b.gcd(d);

@@ -4,7 +4,7 @@
 use crate::proved::num_rational::ratio::Ratio;
 use crate::proved::num_rational::reduced::{Reduced, ReducedOperand};
 use crate::proved::ratio_core::products::many_products;
-use crate::proved::ratio_integer::Integer;
+use crate::proved::ratio_integer::{Integer, both_held, lowest_terms};
 
 // Whether there is room for two numbers an item.
 #[inline]
@@ -13,21 +13,74 @@ pub(crate) fn has_room(above: usize, below: usize, room: usize) -> bool {
     above <= half && below <= half - above
 }
 
-// The quotient, if each number on the way fits. Then nothing has to be cancelled first.
+// The quotient, if the lowest terms of each step fit. Then nothing has to be cancelled first. Else whether the step that does not fit is the
+// last one. Then the quotient does not fit.
 #[inline]
 pub(crate) fn step_by_step<
     T: Copy + Integer,
     O: ReducedOperand<T> + Copy,
     P: ReducedOperand<T> + Copy,
->(above: &[O], below: &[P]) -> Option<Reduced<T>> {
-    let mut total = Reduced::one();
-    for x in above {
-        total = total.checked_mul((*x).reduced())?;
+>(above: &[O], below: &[P]) -> Result<Reduced<T>, bool> {
+    let mut numer = T::ONE;
+    let mut denom = T::ONE;
+    let mut lowest = true;
+    for (i, x) in above.iter().enumerate() {
+        match times(numer, denom, lowest, &(*x).reduced()) {
+            Some((n, d, reduced)) => {
+                numer = n;
+                denom = d;
+                lowest = reduced;
+            }
+            None => return Err(is_last(i, above.len(), below.len())),
+        }
     }
-    for x in below {
-        total = total.checked_div((*x).reduced())?;
+    let mut total = in_lowest_terms(numer, denom, lowest);
+    for (i, x) in below.iter().enumerate() {
+        match total.checked_div((*x).reduced()) {
+            Some(quotient) => total = quotient,
+            None => return Err(is_last(i, below.len(), 0)),
+        }
     }
-    Some(total)
+    Ok(total)
+}
+
+// The product of `n/d` and `x`, and whether it is in lowest terms. It is reduced only where its numbers do not fit as they are. `None` if
+// its lowest terms do not fit. If `lowest` is true, `n/d` is in lowest terms.
+#[inline]
+fn times<T: Copy + Integer>(n: T, d: T, lowest: bool, x: &Reduced<T>) -> Option<(T, T, bool)> {
+    let (p, q) = (*x).into_raw();
+    if n.is_one() && d.is_one() {
+        return Some((p, q, true));
+    }
+    if let Some(numer) = n.try_times(p) {
+        if let Some(denom) = d.try_times(q) {
+            return Some((numer, denom, false));
+        }
+    }
+    let product = in_lowest_terms(n, d, lowest).checked_mul(x)?;
+    let (numer, denom) = product.into_raw();
+    Some((numer, denom, true))
+}
+
+// `n/d` in lowest terms. If `lowest` is true, it is in lowest terms already.
+#[inline]
+fn in_lowest_terms<T: Copy + Integer>(n: T, d: T, lowest: bool) -> Reduced<T> {
+    if lowest {
+        both_held(n, d);
+        return Reduced {
+            ratio: Ratio::new_raw(n, d),
+        };
+    }
+    let (numer, denom) = lowest_terms(n, d);
+    Reduced {
+        ratio: Ratio::new_raw(numer, denom),
+    }
+}
+
+// Whether no item is left, neither of a list after its i-th one nor of `others`.
+#[inline]
+fn is_last(i: usize, items: usize, others: usize) -> bool {
+    i + 1 == items && others == 0
 }
 
 // The quotient, with each number above cancelled against each number below before anything is multiplied.

@@ -2,7 +2,7 @@
 //! The order and the equality of fractions, by their values.
 
 use crate::proved::num_rational::ratio::Ratio;
-use crate::proved::ratio_core::{Steps, compare};
+use crate::proved::ratio_core::{Steps, cross_order};
 use crate::proved::ratio_integer::Integer;
 use core::cmp::Ordering;
 
@@ -39,11 +39,11 @@ impl<T: Copy + Integer> PartialOrd for Ratio<T> {
 }
 
 impl<T: Copy + Integer> Ord for Ratio<T> {
-    /// The order, by `compare`, which divides only if it must.
+    /// The order, by `cross_order`, which divides only if it must.
     #[inline]
     fn cmp(&self, other: &Ratio<T>) -> Ordering {
         let (n, d) = (self.numer, self.denom);
         let (m, e) = (other.numer, other.denom);
-        compare(n, d, m, e, &mut Steps::new())
+        cross_order(n, d, m, e)
     }
 }

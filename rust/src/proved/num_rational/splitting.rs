@@ -1,8 +1,11 @@
 // Erased from crates/num_rational/src/splitting.rt by rust/erase: not to be edited.
 //! An amount split by shares, so that nothing is lost.
 
+mod common;
+
 use crate::proved::num_rational::reduced::Reduced;
 use crate::proved::num_rational::share::Share;
+use common::{common_denominator, write_parts_over};
 use crate::proved::ratio_core::sign::is_below_zero;
 use crate::proved::ratio_decimal::rounding_rule::Rounding;
 use crate::proved::ratio_integer::Integer;
@@ -53,8 +56,14 @@ pub fn split_shares<T: Copy + Integer, S: Share<T>>(
     if !none_is_below_zero(shares) {
         return Err(SplitRefusal::BelowZero);
     }
-    check_marks(amount, shares)?;
-    write_parts(amount, shares, parts);
+    match common_denominator(amount, shares) {
+        Some((common, true)) => write_parts_over(amount, shares, common, parts),
+        Some((_, false)) => return Err(SplitRefusal::NotOne),
+        None => {
+            check_marks(amount, shares)?;
+            write_parts(amount, shares, parts);
+        }
+    }
     Ok(())
 }
 

@@ -11,4 +11,5 @@ mod reading;
 pub use fixed_text::{BaseTenText, DecimalText, RatioText};
 pub use form::Form;
 pub use printing::{base_ten_text, put_base_ten_text, put_text, text};
+pub use quick_fields::leading_fields;
 pub use reading::{from_str, from_str_radix};

@@ -247,6 +247,14 @@ pub trait Integer: Copy + Ord + Hash {
         self.div_mod_floor(o).1
     }
 
+    /// The high and the low half: the floored quotient and the rest by the root of the count of the type's numbers, as -7
+    /// and 12 of -100 over `i8`, where the root is 16. The product of two low halves may not fit the type, but half of
+    /// it does. `None` if the type has no such root, or no quick way to divide by it.
+    #[inline]
+    fn halves(self) -> Option<(Self, Self)> {
+        None
+    }
+
     /// The greatest common divisor. It is never negative, and for 0 and 0 it is 0. It fits the type, unless
     /// one number is `-hi-1` and the other is `-hi-1` or 0.
     ///

@@ -3,6 +3,7 @@
 mod arithmetic;
 mod comparing;
 mod every_call;
+mod multiples;
 mod nearest;
 mod printing;
 mod simplest;

@@ -46,7 +46,7 @@ fn order_sign(order: Ordering) -> &'static str {
 /// - `left_positive`: `pos 0 <ℤ denominator left`
 /// - `right_positive`: `pos 0 <ℤ denominator right`
 #[inline]
-fn apply_operator(operator: Operator, left: Rational64, right: Rational64) -> AnswerText {
+pub fn apply_operator(operator: Operator, left: Rational64, right: Rational64) -> AnswerText {
     match operator {
         Operator::Add => result_outcome(left.checked_add(&right)),
         Operator::Sub => result_outcome(left.checked_sub(&right)),
@@ -207,6 +207,37 @@ fn answer_chain(left: &str, operator: &str, right: &str, parts: Option<&str>) ->
         Some(refusal) => Either::Left(refusal),
         None => answer_texts(left, first, right, parts),
     }
+}
+
+/// The answer to a text whose parts are well chained. So nothing is left to refuse but its operands.
+///
+/// # Conditions
+///
+/// The proof requires of the caller:
+///
+/// - `AreWellChained (slice_split is_space text.now)`
+#[inline]
+pub fn answer_well_chained(text: &str) -> AnswerText {
+    let (left, rest) = match first_part(text) {
+        (left, Some(rest)) => (left, rest),
+        _ => {
+            unreachable!()
+        }
+    };
+    let (operator, rest) = match first_part(rest) {
+        (operator, Some(rest)) => (operator, rest),
+        _ => {
+            unreachable!()
+        }
+    };
+    let (right, parts) = first_part(rest);
+    let first = match operator_named(operator) {
+        Some(first) => first,
+        _ => {
+            unreachable!()
+        }
+    };
+    answer_texts(left, first, right, parts)
 }
 
 /// The answer to a text whose parts have single spaces between them.

@@ -64,7 +64,12 @@ impl<T: Copy + Integer> Reduced<T> {
     #[inline(always)]
     pub fn checked_rem<O: ReducedOperand<T>>(&self, other: O) -> Option<Reduced<T>> {
         let (numer, denom) = other.reduced().into_raw();
-        match remainder::lowest_remainder::checked_rem(*self.numer(), *self.denom(), numer, denom) {
+        match remainder::lowest_remainder::checked_rem_of_lowest(
+            *self.numer(),
+            *self.denom(),
+            numer,
+            denom,
+        ) {
             Some((numer, denom)) => Some(Reduced {
                 ratio: Ratio::new_raw(numer, denom),
             }),

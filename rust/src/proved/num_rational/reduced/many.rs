@@ -33,13 +33,16 @@ impl<T: Copy + Integer> Reduced<T> {
         below: &[P],
         room: &mut [T],
     ) -> Option<Reduced<T>> {
-        if let Some(quotient) = step_by_step(above, below) {
-            return Some(quotient);
-        }
-        if has_room(above.len(), below.len(), room.len()) {
-            cancelled_first(above, below, room)
-        } else {
-            None
+        match step_by_step(above, below) {
+            Ok(quotient) => Some(quotient),
+            Err(true) => None,
+            Err(false) => {
+                if has_room(above.len(), below.len(), room.len()) {
+                    cancelled_first(above, below, room)
+                } else {
+                    None
+                }
+            }
         }
     }
 }

@@ -6,8 +6,7 @@ mod end;
 use crate::proved::ratio_approximation::simplest::simplest_between;
 use crate::proved::ratio_approximation::simplest::within::choice::with_end;
 use crate::proved::ratio_approximation::simplest::within::end::{End, high_end, low_end};
-use crate::proved::ratio_core::Steps;
-use crate::proved::ratio_core::order::compare;
+use crate::proved::ratio_core::order::cross_order;
 use crate::proved::ratio_integer::{Integer, both_held, lowest_terms};
 use core::cmp::Ordering;
 use core::ops::Bound;
@@ -41,14 +40,7 @@ pub fn simplest_within<T: Integer>(low: Bound<(T, T)>, high: Bound<(T, T)>) -> O
 /// - `high`: `pos 0 <ℤ T.value high.now.denom`
 #[inline]
 fn within_ends<T: Integer>(low: &End<T>, high: &End<T>) -> Option<(T, T)> {
-    let order = compare(
-        low.numer,
-        low.denom,
-        high.numer,
-        high.denom,
-        &mut Steps::new(),
-    );
-    match order {
+    match cross_order(low.numer, low.denom, high.numer, high.denom) {
         Ordering::Less => {
             let between = simplest_between(low.numer, low.denom, high.numer, high.denom);
             let from_low = with_end(between, low);

@@ -52,12 +52,12 @@ pub fn compare<T: Integer>(n: T, d: T, m: T, e: T, steps: &mut Steps) -> Orderin
 
 /// Whether both denominators are the same positive number.
 #[inline]
-fn share_denominator<T: Integer>(d: T, e: T) -> bool {
+pub(super) fn share_denominator<T: Integer>(d: T, e: T) -> bool {
     d == e && T::ZERO < d
 }
 
 /// Whether both denominators are positive and exactly one numerator is below 0.
 #[inline]
-fn are_split_by_zero<T: Integer>(n: T, d: T, m: T, e: T) -> bool {
+pub(super) fn are_split_by_zero<T: Integer>(n: T, d: T, m: T, e: T) -> bool {
     T::ZERO < d && T::ZERO < e && have_unlike_signs(n, m)
 }

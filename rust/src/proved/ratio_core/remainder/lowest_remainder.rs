@@ -4,10 +4,14 @@
 //! The first way divides the numerators over the least common denominator: 3/4 by 1/2 is 3 by 2 over 4. If a
 //! number there does not fit, as 127 * 127 for 127/1 by 1/127 over `i8`, the second way computes with magnitudes
 //! in `u128`.
+//!
+//! For fractions in lowest terms, the numerators are first divided over the product of the denominators: 3/4 by 1/2 is
+//! 6 by 4 over 8. So the gcd of the denominators is needed only where a product does not fit, and then both ways use it.
 
 use crate::proved::ratio_core::remainder;
-use crate::proved::ratio_core::remainder::wide::wide_rem;
-use crate::proved::ratio_integer::Integer;
+use crate::proved::ratio_core::remainder::truncated_rest;
+use crate::proved::ratio_core::remainder::wide::{wide_rem, wide_rem_of_lowest};
+use crate::proved::ratio_integer::{Integer, cancelled, lowest_terms};
 
 /// The lowest terms of `x - t*y`. Here `x` is `a/b`, `y` is `c/d`, and `t` is their quotient cut towards zero.
 ///
@@ -33,4 +37,49 @@ pub fn checked_rem<T: Integer>(a: T, b: T, c: T, d: T) -> Option<(T, T)> {
         return None;
     }
     wide_rem(a, b, c, d)
+}
+
+/// The same for fractions in lowest terms, which takes fewer greatest common divisors.
+///
+/// # Conditions
+///
+/// The proof requires of the caller:
+///
+/// - `left`: `IsLowestTerms (T.value a) (T.value b)`
+/// - `right`: `IsLowestTerms (T.value c) (T.value d)`
+#[inline(always)]
+pub fn checked_rem_of_lowest<T: Integer>(a: T, b: T, c: T, d: T) -> Option<(T, T)> {
+    if T::EXACT_REMAINDERS {
+        if c.is_zero() {
+            return None;
+        }
+        return exact_rem(a, b, c, d);
+    }
+    remainder::checked_rem(a, b, c, d)
+}
+
+// The lowest terms of the remainder, or `None` if they do not fit.
+#[inline]
+fn exact_rem<T: Integer>(a: T, b: T, c: T, d: T) -> Option<(T, T)> {
+    if b == d {
+        return Some(lowest_terms(truncated_rest(a, c), b));
+    }
+    if let Some(rest) = expanded_rest(a, b, c, b, d) {
+        return Some(rest);
+    }
+    let (for_right, for_left) = cancelled(b, d);
+    if let Some(rest) = expanded_rest(a, b, c, for_right, for_left) {
+        return Some(rest);
+    }
+    wide_rem_of_lowest(a, b, c, d, for_right, for_left)
+}
+
+// The lowest terms of the rest of `a * for_left` by `c * for_right`, over `b * for_left`, or `None` if one of the three
+// products does not fit.
+#[inline(always)]
+fn expanded_rest<T: Integer>(a: T, b: T, c: T, for_right: T, for_left: T) -> Option<(T, T)> {
+    let left = a.try_times(for_left)?;
+    let right = c.try_times(for_right)?;
+    let common = b.try_times(for_left)?;
+    Some(lowest_terms(truncated_rest(left, right), common))
 }

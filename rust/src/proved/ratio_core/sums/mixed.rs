@@ -9,7 +9,7 @@ use crate::proved::ratio_core::sums::multiple::carried_on;
 use crate::proved::ratio_core::sums::parts::parts_sum;
 use crate::proved::ratio_integer::Integer;
 
-/// The lowest terms of `a/b + c/d`, from the floors of both, or `None` if they do not fit.
+/// The lowest terms of `a/b + c/d`, from the floors of both, or `None` if they do not fit. `g` is the gcd of the denominators.
 ///
 /// # Conditions
 ///
@@ -17,19 +17,20 @@ use crate::proved::ratio_integer::Integer;
 ///
 /// - `left`: `IsLowestTerms (T.value a) (T.value b)`
 /// - `right`: `IsLowestTerms (T.value c) (T.value d)`
+/// - `gcd`: `IsGcdOf (T.value b) (T.value d) (T.value g)`
 #[cold]
-pub(crate) fn mixed_sum<T: Integer>(a: T, b: T, c: T, d: T) -> Option<(T, T)> {
+pub(crate) fn mixed_sum<T: Integer>(a: T, b: T, c: T, d: T, g: T) -> Option<(T, T)> {
     let _ = a.held();
     let (floor, p) = a.div_mod_floor(b);
     let _ = floor.held();
     let (other, r) = c.div_mod_floor(d);
-    let (carry, part, denom) = parts_sum(p, b, r, d)?;
+    let (carry, part, denom) = parts_sum(p, b, r, d, g)?;
     let whole = carried_on(floor, carry).try_plus(other)?;
     Some((numerator_of(whole, part, denom)?, denom))
 }
 
 /// The lowest terms of `a/b - c/d`, from the floor of the left and the ceiling of the right side, or `None`
-/// if they do not fit.
+/// if they do not fit. `g` is the gcd of the denominators.
 ///
 /// # Conditions
 ///
@@ -37,13 +38,14 @@ pub(crate) fn mixed_sum<T: Integer>(a: T, b: T, c: T, d: T) -> Option<(T, T)> {
 ///
 /// - `left`: `IsLowestTerms (T.value a) (T.value b)`
 /// - `right`: `IsLowestTerms (T.value c) (T.value d)`
+/// - `gcd`: `IsGcdOf (T.value b) (T.value d) (T.value g)`
 #[cold]
-pub(crate) fn mixed_difference<T: Integer>(a: T, b: T, c: T, d: T) -> Option<(T, T)> {
+pub(crate) fn mixed_difference<T: Integer>(a: T, b: T, c: T, d: T, g: T) -> Option<(T, T)> {
     let _ = a.held();
     let (floor, p) = a.div_mod_floor(b);
     let _ = floor.held();
     let (other, r) = ceiling(c, d);
-    let (carry, part, denom) = parts_sum(p, b, r, d)?;
+    let (carry, part, denom) = parts_sum(p, b, r, d, g)?;
     let whole = carried_on(floor, carry).try_minus(other)?;
     Some((numerator_of(whole, part, denom)?, denom))
 }

@@ -10,7 +10,7 @@ use crate::proved::ratio_core::sums::multiple::{carried_on, product_over, sum_ov
 use crate::proved::ratio_integer::{Integer, both_held, cancelled};
 
 /// `p/b + r/d`: whether it is 1 or more, and the part below 1 in lowest terms. `None` if their denominator
-/// does not fit. So 1/36 and 1/28 give 4/63, and 5/6 and 1/2 give 1/3 and a carry.
+/// does not fit. So 1/36 and 1/28 give 4/63, and 5/6 and 1/2 give 1/3 and a carry. `g` is the gcd of the denominators.
 ///
 /// # Conditions
 ///
@@ -20,10 +20,10 @@ use crate::proved::ratio_integer::{Integer, both_held, cancelled};
 /// - `right`: `IsPart (T.value r) (T.value d)`
 /// - `left_lowest`: `IsLowestTerms (T.value p) (T.value b)`
 /// - `right_lowest`: `IsLowestTerms (T.value r) (T.value d)`
+/// - `gcd`: `IsGcdOf (T.value b) (T.value d) (T.value g)`
 #[inline]
-pub(crate) fn parts_sum<T: Integer>(p: T, b: T, r: T, d: T) -> Option<(bool, T, T)> {
+pub(crate) fn parts_sum<T: Integer>(p: T, b: T, r: T, d: T, g: T) -> Option<(bool, T, T)> {
     both_held(b, d);
-    let g = b.gcd(d);
     let (for_right, _) = b.div_rem(g);
     let (for_left, _) = d.div_rem(g);
     let common = for_right.try_times(for_left)?;

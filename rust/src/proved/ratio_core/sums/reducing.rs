@@ -26,7 +26,7 @@ pub fn checked_add<T: Integer>(a: T, b: T, c: T, d: T) -> Option<(T, T)> {
     }
     let (n, m) = lowest_terms(a, b);
     let (p, q) = lowest_terms(c, d);
-    mixed_sum(n, m, p, q)
+    mixed_sum(n, m, p, q, m.gcd(q))
 }
 
 /// The lowest terms of `a/b - c/d`, or `None` if they do not fit. The fractions need not be in lowest terms.
@@ -47,5 +47,5 @@ pub fn checked_sub<T: Integer>(a: T, b: T, c: T, d: T) -> Option<(T, T)> {
     }
     let (n, m) = lowest_terms(a, b);
     let (p, q) = lowest_terms(c, d);
-    mixed_difference(n, m, p, q)
+    mixed_difference(n, m, p, q, m.gcd(q))
 }

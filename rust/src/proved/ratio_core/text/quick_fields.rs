@@ -14,6 +14,18 @@ pub(crate) fn quick_fields<T: Primitive>(bytes: &[u8]) -> Option<(T, T)> {
     Some((numer, denom))
 }
 
+/// The two numbers of a text in base 10 without a plus sign that the bytes begin with, not reduced, and the length of this
+/// text. It ends before the first byte that is no digit. `None` says nothing about the bytes.
+#[inline(always)]
+pub fn leading_fields<T: Primitive>(bytes: &[u8]) -> Option<(T, T, usize)> {
+    let (numer, at) = leading_number::<T>(bytes, 10)?;
+    if at == bytes.len() || bytes[at] != b'/' {
+        return Some((numer, T::ONE, at));
+    }
+    let (denom, count) = leading_number::<T>(&bytes[at + 1..], 10)?;
+    Some((numer, denom, at + 1 + count))
+}
+
 /// The same in any radix, for a text with a slash.
 ///
 /// # Conditions

@@ -98,6 +98,11 @@ impl Integer for i128 {
     }
 
     #[inline]
+    fn halves(self) -> Option<(i128, i128)> {
+        Some((self.div_euclid(1 << 64), self.rem_euclid(1 << 64)))
+    }
+
+    #[inline]
     fn gcd(self, o: i128) -> i128 {
         binary_gcd_wide(self.unsigned_abs(), o.unsigned_abs()) as i128
     }

@@ -97,6 +97,11 @@ impl Integer for i16 {
     }
 
     #[inline]
+    fn halves(self) -> Option<(i16, i16)> {
+        Some((self.div_euclid(1 << 8), self.rem_euclid(1 << 8)))
+    }
+
+    #[inline]
     fn gcd(self, o: i16) -> i16 {
         binary_gcd(self.unsigned_abs() as u64, o.unsigned_abs() as u64) as i16
     }

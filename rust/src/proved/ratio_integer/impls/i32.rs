@@ -98,6 +98,11 @@ impl Integer for i32 {
     }
 
     #[inline]
+    fn halves(self) -> Option<(i32, i32)> {
+        Some((self.div_euclid(1 << 16), self.rem_euclid(1 << 16)))
+    }
+
+    #[inline]
     fn gcd(self, o: i32) -> i32 {
         binary_gcd(self.unsigned_abs() as u64, o.unsigned_abs() as u64) as i32
     }

@@ -98,6 +98,11 @@ impl Integer for i64 {
     }
 
     #[inline]
+    fn halves(self) -> Option<(i64, i64)> {
+        Some((self.div_euclid(1 << 32), self.rem_euclid(1 << 32)))
+    }
+
+    #[inline]
     fn gcd(self, o: i64) -> i64 {
         binary_gcd(self.unsigned_abs(), o.unsigned_abs()) as i64
     }

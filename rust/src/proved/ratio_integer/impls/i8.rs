@@ -97,6 +97,11 @@ impl Integer for i8 {
     }
 
     #[inline]
+    fn halves(self) -> Option<(i8, i8)> {
+        Some((self.div_euclid(1 << 4), self.rem_euclid(1 << 4)))
+    }
+
+    #[inline]
     fn gcd(self, o: i8) -> i8 {
         binary_gcd(self.unsigned_abs() as u64, o.unsigned_abs() as u64) as i8
     }

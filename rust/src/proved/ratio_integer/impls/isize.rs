@@ -97,6 +97,11 @@ impl Integer for isize {
     }
 
     #[inline]
+    fn halves(self) -> Option<(isize, isize)> {
+        Some((self.div_euclid(1 << 32), self.rem_euclid(1 << 32)))
+    }
+
+    #[inline]
     fn gcd(self, o: isize) -> isize {
         binary_gcd(self.unsigned_abs() as u64, o.unsigned_abs() as u64) as isize
     }

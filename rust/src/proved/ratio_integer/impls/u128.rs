@@ -97,6 +97,11 @@ impl Integer for u128 {
     }
 
     #[inline]
+    fn halves(self) -> Option<(u128, u128)> {
+        Some((self.div_euclid(1 << 64), self.rem_euclid(1 << 64)))
+    }
+
+    #[inline]
     fn gcd(self, o: u128) -> u128 {
         binary_gcd_wide(self, o)
     }

@@ -96,6 +96,11 @@ impl Integer for u16 {
     }
 
     #[inline]
+    fn halves(self) -> Option<(u16, u16)> {
+        Some((self.div_euclid(1 << 8), self.rem_euclid(1 << 8)))
+    }
+
+    #[inline]
     fn gcd(self, o: u16) -> u16 {
         binary_gcd(self as u64, o as u64) as u16
     }

@@ -96,6 +96,11 @@ impl Integer for u32 {
     }
 
     #[inline]
+    fn halves(self) -> Option<(u32, u32)> {
+        Some((self.div_euclid(1 << 16), self.rem_euclid(1 << 16)))
+    }
+
+    #[inline]
     fn gcd(self, o: u32) -> u32 {
         binary_gcd(self as u64, o as u64) as u32
     }

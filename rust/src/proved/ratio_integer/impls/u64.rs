@@ -96,6 +96,11 @@ impl Integer for u64 {
     }
 
     #[inline]
+    fn halves(self) -> Option<(u64, u64)> {
+        Some((self.div_euclid(1 << 32), self.rem_euclid(1 << 32)))
+    }
+
+    #[inline]
     fn gcd(self, o: u64) -> u64 {
         binary_gcd(self, o)
     }

@@ -96,6 +96,11 @@ impl Integer for u8 {
     }
 
     #[inline]
+    fn halves(self) -> Option<(u8, u8)> {
+        Some((self.div_euclid(1 << 4), self.rem_euclid(1 << 4)))
+    }
+
+    #[inline]
     fn gcd(self, o: u8) -> u8 {
         binary_gcd(self as u64, o as u64) as u8
     }

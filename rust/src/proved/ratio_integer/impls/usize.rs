@@ -96,6 +96,11 @@ impl Integer for usize {
     }
 
     #[inline]
+    fn halves(self) -> Option<(usize, usize)> {
+        Some((self.div_euclid(1 << 32), self.rem_euclid(1 << 32)))
+    }
+
+    #[inline]
     fn gcd(self, o: usize) -> usize {
         binary_gcd(self as u64, o as u64) as usize
     }

@@ -2,20 +2,21 @@
 //! Rows of the order and of the codes. The expected values come from outside.
 use crate::proved::tests_numbers::asserting::{all_hold, each_holds};
 use crate::proved::tests_numbers::recorder::Codes;
-use crate::proved::ratio_core::{Steps, cmp_counted, compare, hash_counted};
+use crate::proved::ratio_core::{Steps, cmp_counted, compare, cross_order, hash_counted};
 use crate::proved::ratio_integer::Integer;
 use core::cmp::Ordering;
 
 // A row: n, d, m and e, and how n/d compares with m/e.
 type Row<T> = (T, T, T, T, Ordering);
 
-// Whether both comparisons return this order.
+// Whether the three comparisons return this order.
 #[inline]
 fn stands<T: Integer>(n: T, d: T, m: T, e: T, order: Ordering) -> bool {
     !d.is_zero()
         && !e.is_zero()
         && cmp_counted(n, d, m, e, &mut Steps::new()) == order
         && compare(n, d, m, e, &mut Steps::new()) == order
+        && cross_order(n, d, m, e) == order
 }
 
 // The first row with another order.
@@ -76,6 +77,197 @@ fn order_over_i64() {
             (min, max, max, min, Ordering::Less),
             (max, max - 1, max - 1, max - 2, Ordering::Less),
             (1, 2, 1, 3, Ordering::Greater),
+        ],
+    );
+}
+
+// Neighbours, some equal, and far apart: no product of theirs fits the type.
+#[test]
+fn order_over_32_and_64_bits() {
+    order_rows_hold(
+        &[
+            (
+                488191763i32,
+                149937473,
+                968590247,
+                297481410,
+                Ordering::Less,
+            ),
+            (-313287807, 63286759, -522727679, 105595366, Ordering::Less),
+            (
+                i32::MIN,
+                i32::MAX,
+                -i32::MAX,
+                i32::MAX - 1,
+                Ordering::Greater,
+            ),
+            (
+                2147418088,
+                2147483616,
+                2147385317,
+                2147450844,
+                Ordering::Equal,
+            ),
+            (
+                2111100843,
+                1768569700,
+                1363530102,
+                1744627199,
+                Ordering::Greater,
+            ),
+        ],
+    );
+    order_rows_hold(
+        &[
+            (
+                1039993957138257659i64,
+                333793074127409417,
+                6496690100606025222,
+                2085156500621959925,
+                Ordering::Greater,
+            ),
+            (
+                -2025846728176768462,
+                905557917167161659,
+                -8000018251421608493,
+                3576025651050389753,
+                Ordering::Greater,
+            ),
+            (
+                -i64::MAX,
+                i64::MAX - 1,
+                1 - i64::MAX,
+                i64::MAX - 2,
+                Ordering::Greater,
+            ),
+            (
+                i64::MIN,
+                i64::MAX,
+                -i64::MAX,
+                i64::MAX - 1,
+                Ordering::Greater,
+            ),
+            (
+                9223372032559808488,
+                9223372036854775776,
+                9223372030412324837,
+                9223372034707292124,
+                Ordering::Equal,
+            ),
+            (
+                5620253718444619603,
+                7638573847457803946,
+                5793326940719400267,
+                8215996579536601241,
+                Ordering::Greater,
+            ),
+        ],
+    );
+    order_rows_hold(
+        &[
+            (
+                4694636746472083805u64,
+                2503672355731930701,
+                135321768631275926,
+                72167750040613825,
+                Ordering::Less,
+            ),
+            (
+                u64::MAX,
+                u64::MAX - 1,
+                u64::MAX - 1,
+                u64::MAX - 2,
+                Ordering::Less,
+            ),
+            (
+                18446744065119616976,
+                18446744073709551552,
+                18446744062972133325,
+                18446744071562067900,
+                Ordering::Equal,
+            ),
+            (
+                16402313712732819635,
+                17780690434350573322,
+                17451365395885909686,
+                9691487233162263452,
+                Ordering::Less,
+            ),
+        ],
+    );
+}
+
+#[test]
+fn order_over_128_bits() {
+    order_rows_hold(
+        &[
+            (
+                12447265506535974449206429115889315323i128,
+                5187169843107238554626705330808391171,
+                66660171377398192628974244385150018376,
+                27779405084886695410202839203533310165,
+                Ordering::Less,
+            ),
+            (
+                -7514180995416064845779191417345612819,
+                2150613831343017289065537602863974016,
+                -26266057846127204635075411740429650008,
+                7517538815367484291283387947430142491,
+                Ordering::Less,
+            ),
+            (
+                -i128::MAX,
+                i128::MAX - 1,
+                1 - i128::MAX,
+                i128::MAX - 2,
+                Ordering::Greater,
+            ),
+            (
+                170141183460469231713240559642174554088,
+                170141183460469231731687303715884105696,
+                170141183460469231704017187605319778277,
+                170141183460469231722463931679029329884,
+                Ordering::Equal,
+            ),
+            (
+                142525858777481053700514030542062565477,
+                87422348193441808733179995596532321650,
+                116455419342216736822927420123124333831,
+                154434202270542728211312286994506149519,
+                Ordering::Greater,
+            ),
+        ],
+    );
+    order_rows_hold(
+        &[
+            (
+                277563126507282358985520850990065318275u128,
+                165111086524397819416665507633470671297,
+                194724942573477654772830297970249974983,
+                115833998724122027377454149734575448578,
+                Ordering::Less,
+            ),
+            (
+                u128::MAX - 1,
+                u128::MAX,
+                u128::MAX - 2,
+                u128::MAX - 1,
+                Ordering::Greater,
+            ),
+            (
+                340282366920938463426481119284349108176,
+                340282366920938463463374607431768211392,
+                340282366920938463417257747247494332365,
+                340282366920938463454151235394913435580,
+                Ordering::Equal,
+            ),
+            (
+                305823600019549768017520179917753028852,
+                226871314467057471031424425916037942609,
+                257291977503514807769280239156730065048,
+                286956809361498400739888320757077991010,
+                Ordering::Greater,
+            ),
         ],
     );
 }

@@ -11,7 +11,9 @@ use crate::proved::ratio_core::rounding::{
 use crate::proved::ratio_core::sign::{abs, abs_sub, is_above_zero, is_negative, is_positive, neg, signum};
 use crate::proved::ratio_core::sums::{carried_on, checked_sub, multiple_over, numerator_of, sum_over};
 use crate::proved::ratio_core::text::digits::put_digits;
-use crate::proved::ratio_core::text::{base_ten_text, from_str, from_str_radix, put_base_ten_text, put_text};
+use crate::proved::ratio_core::text::{
+    base_ten_text, from_str, from_str_radix, leading_fields, put_base_ten_text, put_text,
+};
 use crate::proved::ratio_core::{BaseTenText, Form, RatioText, Steps};
 use crate::proved::ratio_decimal::rounding_rule::Rounding;
 use crate::proved::ratio_decimal::{
@@ -108,6 +110,9 @@ fn texts() {
         from_text::<i64>("-1 1/2").ok() == Some((-3, 2)),
         from_str::<i64>("6/-4").ok() == Some((-3, 2)),
         from_str_radix::<i64>("f/A", 16).ok() == Some((3, 2)),
+        leading_fields::<i64>(b"6/-4 + 1") == Some((6, -4, 4)),
+        leading_fields::<i64>(b"-12") == Some((-12, 1, 3)),
+        leading_fields::<i64>(b"12/x").is_none(),
     ];
     each_holds(&facts);
     reads(base_ten_text(-2i64, 4).as_str(), "-2/4");

@@ -108,7 +108,8 @@ impl Integer for i128 {
     }
 
     fn halves(self) -> Option<(i128, i128)> {
-        Some((self.div_euclid(1 << 64), self.rem_euclid(1 << 64)))
+        let half = i128::BITS / 2;
+        Some((self.div_euclid(1 << half), self.rem_euclid(1 << half)))
     }
 
     fn gcd(self, o: i128) -> i128 {

@@ -108,7 +108,8 @@ impl Integer for i32 {
     }
 
     fn halves(self) -> Option<(i32, i32)> {
-        Some((self.div_euclid(1 << 16), self.rem_euclid(1 << 16)))
+        let half = i32::BITS / 2;
+        Some((self.div_euclid(1 << half), self.rem_euclid(1 << half)))
     }
 
     fn gcd(self, o: i32) -> i32 {

@@ -108,7 +108,8 @@ impl Integer for i64 {
     }
 
     fn halves(self) -> Option<(i64, i64)> {
-        Some((self.div_euclid(1 << 32), self.rem_euclid(1 << 32)))
+        let half = i64::BITS / 2;
+        Some((self.div_euclid(1 << half), self.rem_euclid(1 << half)))
     }
 
     fn gcd(self, o: i64) -> i64 {

@@ -107,7 +107,8 @@ impl Integer for isize {
     }
 
     fn halves(self) -> Option<(isize, isize)> {
-        Some((self.div_euclid(1 << 32), self.rem_euclid(1 << 32)))
+        let half = isize::BITS / 2;
+        Some((self.div_euclid(1 << half), self.rem_euclid(1 << half)))
     }
 
     fn gcd(self, o: isize) -> isize {

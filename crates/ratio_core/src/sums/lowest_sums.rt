@@ -1,8 +1,8 @@
 //! Sums and differences of fractions in lowest terms: `Some` exactly if the lowest terms fit.
 //!
-//! The first way forms the sum over the product of the denominators: 1/2 + 1/3 is 5/6. If a number there does not fit, the
-//! second way forms it over the least common denominator. If one does not fit there either, as 252 for 1/36 + 1/28
-//! over `i8`, the third way adds whole numbers and parts of 1 separately. Both of these ways use the gcd of the denominators.
+//! Types of exact sums form the sum over the product of the denominators: 1/2 + 1/3 is 5/6. If a number there does not fit, they
+//! form it in `i128`. Other types form it over the least common denominator. If a number does not fit there, as 252 for
+//! 1/36 + 1/28 over `i8`, they add whole numbers and parts of 1 separately. Both of these ways use the gcd of the denominators.
 ghost use Rattle.ratio_integer.specs.Arithmetic.{difference_of, sum_of};
 ghost use Rattle.ratio_integer.specs.Fraction.{ChecksLowest, IsLowestTerms};
 
@@ -21,7 +21,9 @@ pub fn checked_add<T: Integer>(a: T, b: T, c: T, d: T) -> Option<(T, T)>
     ensures { ChecksLowest (λ r. T.value r.0) (λ r. T.value r.1) T.lo T.hi
         (sum_of (T.value a) (T.value b) (T.value c) (T.value d)) result }
 {
-    if let Some((sum, product)) = formed_sum(a, b, c, d) {
+    if T::EXACT_SUMS
+        && let Some((sum, product)) = formed_sum(a, b, c, d)
+    {
         return Some(reduced(sum, product, b, d));
     }
     if T::EXACT_SUMS || b == d {
@@ -44,7 +46,9 @@ pub fn checked_sub<T: Integer>(a: T, b: T, c: T, d: T) -> Option<(T, T)>
     ensures { ChecksLowest (λ r. T.value r.0) (λ r. T.value r.1) T.lo T.hi
         (difference_of (T.value a) (T.value b) (T.value c) (T.value d)) result }
 {
-    if let Some((difference, product)) = formed_difference(a, b, c, d) {
+    if T::EXACT_SUMS
+        && let Some((difference, product)) = formed_difference(a, b, c, d)
+    {
         return Some(reduced(difference, product, b, d));
     }
     if T::EXACT_SUMS || b == d {
@@ -58,7 +62,7 @@ pub fn checked_sub<T: Integer>(a: T, b: T, c: T, d: T) -> Option<(T, T)>
     long_difference(a, b, c, d)
 }
 
-// The same, where the type has no exact sums and a number over the product of the denominators does not fit.
+// The same, where the type has no exact sums.
 fn long_sum<T: Integer>(a: T, b: T, c: T, d: T) -> Option<(T, T)>
     requires left { IsLowestTerms (T.value a) (T.value b) }
     requires right { IsLowestTerms (T.value c) (T.value d) }

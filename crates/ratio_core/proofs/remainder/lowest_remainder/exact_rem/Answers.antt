@@ -22,8 +22,8 @@ expanded_rest-requires-clause-divisor g c =
     let right = c.requires.right.positive in
     expanded_divisor (v c.args.a) (v c.args.b) (v c.args.c) (v c.args.d) (v c.args.b) (v c.args.d) left right (mul_positive _ _ left right) refl c.requires.divisor
 
-pub returns-in-Some : goal.returns-in-Some
-returns-in-Some g c =
+pub returns : goal.returns
+returns g c =
     let v = g.T.Integer.value in
     let left = c.requires.left.positive in
     let right = c.requires.right.positive in

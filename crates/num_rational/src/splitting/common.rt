@@ -37,7 +37,8 @@ pub(crate) fn common_denominator<T: Copy + Integer, S: Share<T>>(
     Some((common, sum == common))
 }
 
-// The sum of the shares, and their common denominator, or `None` if a number does not fit the type.
+// The sum of the shares, and their common denominator, or `None` if a number does not fit the type, and if the first shares add up to
+// more than 1.
 fn total_over<T: Copy + Integer, S: Share<T>>(shares: &[S]) -> Option<(T, T)>
     requires { SharesOverPositive S.two_numbers shares.now }
     ensures { IfSome result (λ x. IsTotalOver S.two_numbers T.lo T.hi shares.now (T.value x.0) (T.value x.1)) }
@@ -46,6 +47,9 @@ fn total_over<T: Copy + Integer, S: Share<T>>(shares: &[S]) -> Option<(T, T)>
     let mut common = T::ONE;
     for share in shares {
         let (next, over) = joined(sum, common, &share.lowest())?;
+        if over < next {
+            return None;
+        }
         both_held(next, over);
         sum = next;
         common = over;

@@ -40,7 +40,7 @@ pub fn checked_sum<T: Short>(
     if let Some((numer, denom)) = quick_sum(items) {
         return Ok(reduced(numer, denom));
     }
-    // Slots for more denominators than there are items would only cost time.
+    // A slot for each item and as many empty ones are enough: more would only cost time.
     let count = items.len().saturating_mul(2).min(FEW_SLOTS);
     match sum_with(alloc, items, count) {
         Err(_) => Err(SumFailure::NoMemory),

@@ -38,7 +38,7 @@ pub struct Train {
 /// is 0, or `most` is below `least`. For example, 355/113 with 8 to 20 teeth gives 19/11 times 20/11. It takes a step for
 /// each choice of the two driven wheels: 5,000 for a range of 100 numbers of teeth. Where the whole number next to the best
 /// product of the drivers' teeth could be nearer than all before, it looks at each number of teeth of a driver, too. This is
-/// seldom so.
+/// seldom so, unless the ratio has a small denominator and no train has it exactly.
 pub fn nearest_train(wanted: &Reduced64, least: u16, most: u16) -> Option<Train>
     ensures { ChecksTrain (lowest_numbers wanted.now) least most result }
 {

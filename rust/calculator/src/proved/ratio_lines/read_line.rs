@@ -28,8 +28,9 @@ fn operand(bytes: &[u8], from: usize, limit: usize, byte: u8) -> Option<(i64, i6
     }
 }
 
-/// The plain line that the bytes begin with, if its operands are digits, with a minus or without. The
-/// operands are reduced only once the whole line has been seen. `None` says nothing about the bytes.
+/// The plain line that the bytes begin with, if its operands are whole numbers or fractions in digits, with a
+/// minus or without. The operands are reduced only once the whole line has been seen, and none if a denominator
+/// is 0. `None` says nothing about the bytes.
 #[inline]
 pub fn read_line(bytes: &[u8]) -> Option<ReadLine<'_>> {
     let limit = line_limit(bytes);
@@ -37,6 +38,9 @@ pub fn read_line(bytes: &[u8]) -> Option<ReadLine<'_>> {
     let second = part_within(bytes, first + 1, limit, b' ')?;
     let (other_numer, other_denom, end) = operand(bytes, second + 1, limit, b'\n')?;
     let operator = operator_named(text(&bytes[first + 1..second]))?;
+    if denom == 0 || other_denom == 0 {
+        return None;
+    }
     let left = Rational64::checked_new(numer, denom)?;
     let right = Rational64::checked_new(other_numer, other_denom)?;
     Some(ReadLine {

@@ -33,13 +33,17 @@ pub(crate) fn common_denominator<T: Copy + Integer, S: Share<T>>(
     Some((common, sum == common))
 }
 
-// The sum of the shares, and their common denominator, or `None` if a number does not fit the type.
+// The sum of the shares, and their common denominator, or `None` if a number does not fit the type, and if the first shares add up to
+// more than 1.
 #[inline]
 fn total_over<T: Copy + Integer, S: Share<T>>(shares: &[S]) -> Option<(T, T)> {
     let mut sum = T::ZERO;
     let mut common = T::ONE;
     for share in shares {
         let (next, over) = joined(sum, common, &share.lowest())?;
+        if over < next {
+            return None;
+        }
         both_held(next, over);
         sum = next;
         common = over;

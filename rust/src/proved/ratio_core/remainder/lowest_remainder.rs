@@ -5,12 +5,13 @@
 //! number there does not fit, as 127 * 127 for 127/1 by 1/127 over `i8`, the second way computes with magnitudes
 //! in `u128`.
 //!
-//! For fractions in lowest terms, the numerators are first divided over the product of the denominators: 3/4 by 1/2 is
-//! 6 by 4 over 8. So the gcd of the denominators is needed only where a product does not fit, and then both ways use it.
+//! For fractions in lowest terms over types of at most 64 bits, the numerators are first divided over the product of the
+//! denominators: 3/4 by 1/2 is 6 by 4 over 8. So the gcd of the denominators is needed only where a product does not fit, and
+//! then both ways use it. A type of 128 bits begins with the gcd, since divisions of longer numbers cost more there.
 
 use crate::proved::ratio_core::remainder;
 use crate::proved::ratio_core::remainder::truncated_rest;
-use crate::proved::ratio_core::remainder::wide::{wide_rem, wide_rem_of_lowest};
+use crate::proved::ratio_core::remainder::wide::{has_short_numbers, wide_rem, wide_rem_of_lowest};
 use crate::proved::ratio_integer::{Integer, cancelled, lowest_terms};
 
 /// The lowest terms of `x - t*y`. Here `x` is `a/b`, `y` is `c/d`, and `t` is their quotient cut towards zero.
@@ -64,8 +65,10 @@ fn exact_rem<T: Integer>(a: T, b: T, c: T, d: T) -> Option<(T, T)> {
     if b == d {
         return Some(lowest_terms(truncated_rest(a, c), b));
     }
-    if let Some(rest) = expanded_rest(a, b, c, b, d) {
-        return Some(rest);
+    if has_short_numbers::<T>() {
+        if let Some(rest) = expanded_rest(a, b, c, b, d) {
+            return Some(rest);
+        }
     }
     let (for_right, for_left) = cancelled(b, d);
     if let Some(rest) = expanded_rest(a, b, c, for_right, for_left) {

@@ -7,7 +7,7 @@
 use crate::proved::ratio_integer::{Integer, both_held};
 
 /// The lowest terms of `a/b + c/d`, where `g` is the gcd of the denominators. It may be `None` if a number over the least common
-/// denominator does not fit the type, and if `g` is 1: then this denominator is the product.
+/// denominator does not fit the type.
 ///
 /// # Conditions
 ///
@@ -18,11 +18,8 @@ use crate::proved::ratio_integer::{Integer, both_held};
 /// - `gcd`: `IsGcdOf (T.value b) (T.value d) (T.value g)`
 #[inline]
 pub(crate) fn sum_by_gcd<T: Integer>(a: T, b: T, c: T, d: T, g: T) -> Option<(T, T)> {
-    if g.is_one() {
-        return None;
-    }
-    let (for_right, _) = b.div_rem(g);
-    let (for_left, _) = d.div_rem(g);
+    let for_right = divided(b, g);
+    let for_left = divided(d, g);
     let sum = a.try_times(for_left)?.try_plus(c.try_times(for_right)?)?;
     Some(cut_by(sum, b.try_times(for_left)?, g))
 }
@@ -38,13 +35,19 @@ pub(crate) fn sum_by_gcd<T: Integer>(a: T, b: T, c: T, d: T, g: T) -> Option<(T,
 /// - `gcd`: `IsGcdOf (T.value b) (T.value d) (T.value g)`
 #[inline]
 pub(crate) fn difference_by_gcd<T: Integer>(a: T, b: T, c: T, d: T, g: T) -> Option<(T, T)> {
-    if g.is_one() {
-        return None;
-    }
-    let (for_right, _) = b.div_rem(g);
-    let (for_left, _) = d.div_rem(g);
+    let for_right = divided(b, g);
+    let for_left = divided(d, g);
     let difference = a.try_times(for_left)?.try_minus(c.try_times(for_right)?)?;
     Some(cut_by(difference, b.try_times(for_left)?, g))
+}
+
+// The quotient of a denominator and `g`. Most often `g` is 1, and nothing is divided.
+#[inline(always)]
+fn divided<T: Integer>(denom: T, g: T) -> T {
+    if g.is_one() {
+        return denom;
+    }
+    denom.div_rem(g).0
 }
 
 // A number and a multiple of `g`, both divided by the gcd of the number and `g`.

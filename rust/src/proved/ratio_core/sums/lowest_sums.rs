@@ -1,9 +1,9 @@
 // Erased from crates/ratio_core/src/sums/lowest_sums.rt by rust/erase: not to be edited.
 //! Sums and differences of fractions in lowest terms: `Some` exactly if the lowest terms fit.
 //!
-//! The first way forms the sum over the product of the denominators: 1/2 + 1/3 is 5/6. If a number there does not fit, the
-//! second way forms it over the least common denominator. If one does not fit there either, as 252 for 1/36 + 1/28
-//! over `i8`, the third way adds whole numbers and parts of 1 separately. Both of these ways use the gcd of the denominators.
+//! Types of exact sums form the sum over the product of the denominators: 1/2 + 1/3 is 5/6. If a number there does not fit, they
+//! form it in `i128`. Other types form it over the least common denominator. If a number does not fit there, as 252 for
+//! 1/36 + 1/28 over `i8`, they add whole numbers and parts of 1 separately. Both of these ways use the gcd of the denominators.
 
 use crate::proved::ratio_core::sums;
 use crate::proved::ratio_core::sums::by_denominators::{formed_difference, formed_sum, reduced};
@@ -22,8 +22,10 @@ use crate::proved::ratio_integer::Integer;
 /// - `right`: `IsLowestTerms (T.value c) (T.value d)`
 #[inline(always)]
 pub fn checked_add<T: Integer>(a: T, b: T, c: T, d: T) -> Option<(T, T)> {
-    if let Some((sum, product)) = formed_sum(a, b, c, d) {
-        return Some(reduced(sum, product, b, d));
+    if T::EXACT_SUMS {
+        if let Some((sum, product)) = formed_sum(a, b, c, d) {
+            return Some(reduced(sum, product, b, d));
+        }
     }
     if T::EXACT_SUMS || b == d {
         if let Some(sum) = sums::checked_add(a, b, c, d) {
@@ -47,8 +49,10 @@ pub fn checked_add<T: Integer>(a: T, b: T, c: T, d: T) -> Option<(T, T)> {
 /// - `right`: `IsLowestTerms (T.value c) (T.value d)`
 #[inline(always)]
 pub fn checked_sub<T: Integer>(a: T, b: T, c: T, d: T) -> Option<(T, T)> {
-    if let Some((difference, product)) = formed_difference(a, b, c, d) {
-        return Some(reduced(difference, product, b, d));
+    if T::EXACT_SUMS {
+        if let Some((difference, product)) = formed_difference(a, b, c, d) {
+            return Some(reduced(difference, product, b, d));
+        }
     }
     if T::EXACT_SUMS || b == d {
         if let Some(difference) = sums::checked_sub(a, b, c, d) {
@@ -61,7 +65,7 @@ pub fn checked_sub<T: Integer>(a: T, b: T, c: T, d: T) -> Option<(T, T)> {
     long_difference(a, b, c, d)
 }
 
-// The same, where the type has no exact sums and a number over the product of the denominators does not fit.
+// The same, where the type has no exact sums.
 #[inline]
 fn long_sum<T: Integer>(a: T, b: T, c: T, d: T) -> Option<(T, T)> {
     let g = b.gcd(d);

@@ -99,7 +99,8 @@ impl Integer for i128 {
 
     #[inline]
     fn halves(self) -> Option<(i128, i128)> {
-        Some((self.div_euclid(1 << 64), self.rem_euclid(1 << 64)))
+        let half = i128::BITS / 2;
+        Some((self.div_euclid(1 << half), self.rem_euclid(1 << half)))
     }
 
     #[inline]

@@ -98,7 +98,8 @@ impl Integer for i16 {
 
     #[inline]
     fn halves(self) -> Option<(i16, i16)> {
-        Some((self.div_euclid(1 << 8), self.rem_euclid(1 << 8)))
+        let half = i16::BITS / 2;
+        Some((self.div_euclid(1 << half), self.rem_euclid(1 << half)))
     }
 
     #[inline]

@@ -99,7 +99,8 @@ impl Integer for i32 {
 
     #[inline]
     fn halves(self) -> Option<(i32, i32)> {
-        Some((self.div_euclid(1 << 16), self.rem_euclid(1 << 16)))
+        let half = i32::BITS / 2;
+        Some((self.div_euclid(1 << half), self.rem_euclid(1 << half)))
     }
 
     #[inline]

@@ -99,7 +99,8 @@ impl Integer for i64 {
 
     #[inline]
     fn halves(self) -> Option<(i64, i64)> {
-        Some((self.div_euclid(1 << 32), self.rem_euclid(1 << 32)))
+        let half = i64::BITS / 2;
+        Some((self.div_euclid(1 << half), self.rem_euclid(1 << half)))
     }
 
     #[inline]

@@ -98,7 +98,8 @@ impl Integer for i8 {
 
     #[inline]
     fn halves(self) -> Option<(i8, i8)> {
-        Some((self.div_euclid(1 << 4), self.rem_euclid(1 << 4)))
+        let half = i8::BITS / 2;
+        Some((self.div_euclid(1 << half), self.rem_euclid(1 << half)))
     }
 
     #[inline]

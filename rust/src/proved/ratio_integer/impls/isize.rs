@@ -98,7 +98,8 @@ impl Integer for isize {
 
     #[inline]
     fn halves(self) -> Option<(isize, isize)> {
-        Some((self.div_euclid(1 << 32), self.rem_euclid(1 << 32)))
+        let half = isize::BITS / 2;
+        Some((self.div_euclid(1 << half), self.rem_euclid(1 << half)))
     }
 
     #[inline]

@@ -98,7 +98,8 @@ impl Integer for u128 {
 
     #[inline]
     fn halves(self) -> Option<(u128, u128)> {
-        Some((self.div_euclid(1 << 64), self.rem_euclid(1 << 64)))
+        let half = u128::BITS / 2;
+        Some((self.div_euclid(1 << half), self.rem_euclid(1 << half)))
     }
 
     #[inline]

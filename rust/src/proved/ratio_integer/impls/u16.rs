@@ -97,7 +97,8 @@ impl Integer for u16 {
 
     #[inline]
     fn halves(self) -> Option<(u16, u16)> {
-        Some((self.div_euclid(1 << 8), self.rem_euclid(1 << 8)))
+        let half = u16::BITS / 2;
+        Some((self.div_euclid(1 << half), self.rem_euclid(1 << half)))
     }
 
     #[inline]

@@ -97,7 +97,8 @@ impl Integer for u32 {
 
     #[inline]
     fn halves(self) -> Option<(u32, u32)> {
-        Some((self.div_euclid(1 << 16), self.rem_euclid(1 << 16)))
+        let half = u32::BITS / 2;
+        Some((self.div_euclid(1 << half), self.rem_euclid(1 << half)))
     }
 
     #[inline]

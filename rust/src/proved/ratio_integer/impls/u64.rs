@@ -97,7 +97,8 @@ impl Integer for u64 {
 
     #[inline]
     fn halves(self) -> Option<(u64, u64)> {
-        Some((self.div_euclid(1 << 32), self.rem_euclid(1 << 32)))
+        let half = u64::BITS / 2;
+        Some((self.div_euclid(1 << half), self.rem_euclid(1 << half)))
     }
 
     #[inline]

@@ -97,7 +97,8 @@ impl Integer for u8 {
 
     #[inline]
     fn halves(self) -> Option<(u8, u8)> {
-        Some((self.div_euclid(1 << 4), self.rem_euclid(1 << 4)))
+        let half = u8::BITS / 2;
+        Some((self.div_euclid(1 << half), self.rem_euclid(1 << half)))
     }
 
     #[inline]

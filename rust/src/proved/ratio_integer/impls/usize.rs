@@ -97,7 +97,8 @@ impl Integer for usize {
 
     #[inline]
     fn halves(self) -> Option<(usize, usize)> {
-        Some((self.div_euclid(1 << 32), self.rem_euclid(1 << 32)))
+        let half = usize::BITS / 2;
+        Some((self.div_euclid(1 << half), self.rem_euclid(1 << half)))
     }
 
     #[inline]

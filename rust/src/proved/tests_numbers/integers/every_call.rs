@@ -125,6 +125,13 @@ fn answers_all<T: Integer>(a: T, b: T) -> bool {
         && b <= T::MAX
         && required(a, b) == [0, 1, 10, 2, 24, 24, 1, 2, 6, 6, 6, 6]
         && provided(a, b) == [1, 0, 0, 1, 0, 10, 2, 12, 1, 2, 1, 2, 2, 12, 0, 1]
+        && halves(a) == Some((0, 6))
+}
+
+#[inline]
+fn halves<T: Integer>(a: T) -> Option<(i128, i128)> {
+    let (high, low) = a.halves()?;
+    Some((number(high), number(low)))
 }
 
 /// Whether the calls of a type with negative numbers return what they must at 6.

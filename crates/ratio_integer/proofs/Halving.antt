@@ -233,6 +233,19 @@ odd_step a b x y s d m k pair s-is d-is part = elim (cases_lt x y) [
       }
 ]
 
+-- a step makes the sum of both numbers smaller
+pub odd_smaller : (a b x y s d m k : ℕ) → AreOdd a b x y → s ≡ min x y → d ≡ abs_diff x y → IsOddPart d m k → s + m < x + y
+odd_smaller a b x y s d m k pair s-is d-is part =
+    let x-odd = pair.left in
+    let y-odd = pair.right in
+    let positive : 0 < 2 ^ k = pow_pos k in
+    let times : m * 1 ≤ m * 2 ^ k = mul-le m 1 m (2 ^ k) (omega arith) positive in
+    let small : m ≤ d = let whole = part.whole in omega arith in
+    elim (cases_lt x y) [
+      | inl less ↦ let s-x : s ≡ x = s-is ∙ min-eq_left (omega arith) in let d-x : d ≡ y - x = d-is ∙ omega arith in omega arith
+      | inr more ↦ let s-y : s ≡ y = s-is ∙ min-eq_right more in let d-y : d ≡ x - y = d-is ∙ omega arith in omega arith
+    ]
+
 -- two equal numbers are their own greatest common divisor
 pub odd_ended : (a b x y : ℕ) → AreOdd a b x y → x ≡ y → IsGcd a b x
 odd_ended a b x y pair e = pair.same x (dvd_refl x, rw e (dvd_refl y), λ d p q. p)

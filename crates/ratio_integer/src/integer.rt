@@ -301,6 +301,17 @@ pub trait Integer: Copy + Ord + Hash {
         }
     }
 
+    /// The greatest common divisors of `a` and `b` and of `c` and `d`. A type may compute both in less time than
+    /// one after the other.
+    fn gcds(a: Self, b: Self, c: Self, d: Self) -> (Self, Self)
+        requires left_held { ¬ (IsGcdAboveMax hi (value a) (value b)) }
+        requires right_held { ¬ (IsGcdAboveMax hi (value c) (value d)) }
+        ensures left { IsGcdOf (value a) (value b) (value result.0) }
+        ensures right { IsGcdOf (value c) (value d) (value result.1) }
+    {
+        (a.gcd(b), c.gcd(d))
+    }
+
     /// The least common multiple. It is never negative, and it is 0 if either
     /// number is 0. The call requires that `try_lcm` returns `Some`.
     fn lcm(self, o: Self) -> Self

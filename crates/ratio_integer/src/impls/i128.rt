@@ -5,7 +5,7 @@ ghost use Rattle.std.specs.Hash as hash;
 ghost use Rattle.std.proofs.Common.{inl, lit≤, refl};
 ghost use Rattle.ratio_integer.specs.Primitives.{signed_laws};
 
-use crate::binary_gcd::binary_gcd_wide;
+use crate::binary_gcd::{binary_gcd_wide, binary_gcds_wide};
 use crate::half_width;
 use crate::integer::Integer;
 use crate::primitive::Primitive;
@@ -114,6 +114,16 @@ impl Integer for i128 {
 
     fn gcd(self, o: i128) -> i128 {
         binary_gcd_wide(self.unsigned_abs(), o.unsigned_abs()) as i128
+    }
+
+    fn gcds(a: i128, b: i128, c: i128, d: i128) -> (i128, i128) {
+        let (left, right) = binary_gcds_wide(
+            a.unsigned_abs(),
+            b.unsigned_abs(),
+            c.unsigned_abs(),
+            d.unsigned_abs(),
+        );
+        (left as i128, right as i128)
     }
 
     ghost laws = { signed_laws (2 ^ 127 - 1) hash.i128 (lit≤ tt) };

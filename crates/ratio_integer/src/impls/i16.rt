@@ -5,7 +5,7 @@ ghost use Rattle.std.specs.Hash as hash;
 ghost use Rattle.std.proofs.Common.{inl, lit≤, refl};
 ghost use Rattle.ratio_integer.specs.Primitives.{signed_laws};
 
-use crate::binary_gcd::binary_gcd;
+use crate::binary_gcd::{binary_gcd, binary_gcds};
 use crate::integer::Integer;
 use crate::primitive::Primitive;
 use crate::signed::SignedInteger;
@@ -113,6 +113,16 @@ impl Integer for i16 {
 
     fn gcd(self, o: i16) -> i16 {
         binary_gcd(self.unsigned_abs() as u64, o.unsigned_abs() as u64) as i16
+    }
+
+    fn gcds(a: i16, b: i16, c: i16, d: i16) -> (i16, i16) {
+        let (left, right) = binary_gcds(
+            a.unsigned_abs() as u64,
+            b.unsigned_abs() as u64,
+            c.unsigned_abs() as u64,
+            d.unsigned_abs() as u64,
+        );
+        (left as i16, right as i16)
     }
 
     ghost laws = { signed_laws (2 ^ 15 - 1) hash.i16 (lit≤ tt) };

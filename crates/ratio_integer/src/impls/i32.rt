@@ -5,7 +5,7 @@ ghost use Rattle.std.specs.Hash as hash;
 ghost use Rattle.std.proofs.Common.{inl, lit≤, refl};
 ghost use Rattle.ratio_integer.specs.Primitives.{signed_laws};
 
-use crate::binary_gcd::binary_gcd;
+use crate::binary_gcd::{binary_gcd, binary_gcds};
 use crate::exact_sum;
 use crate::integer::Integer;
 use crate::primitive::Primitive;
@@ -114,6 +114,16 @@ impl Integer for i32 {
 
     fn gcd(self, o: i32) -> i32 {
         binary_gcd(self.unsigned_abs() as u64, o.unsigned_abs() as u64) as i32
+    }
+
+    fn gcds(a: i32, b: i32, c: i32, d: i32) -> (i32, i32) {
+        let (left, right) = binary_gcds(
+            a.unsigned_abs() as u64,
+            b.unsigned_abs() as u64,
+            c.unsigned_abs() as u64,
+            d.unsigned_abs() as u64,
+        );
+        (left as i32, right as i32)
     }
 
     ghost laws = { signed_laws (2 ^ 31 - 1) hash.i32 (lit≤ tt) };

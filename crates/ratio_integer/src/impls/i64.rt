@@ -5,7 +5,7 @@ ghost use Rattle.std.specs.Hash as hash;
 ghost use Rattle.std.proofs.Common.{inl, lit≤, refl};
 ghost use Rattle.ratio_integer.specs.Primitives.{signed_laws};
 
-use crate::binary_gcd::binary_gcd;
+use crate::binary_gcd::{binary_gcd, binary_gcds};
 use crate::exact_sum;
 use crate::integer::Integer;
 use crate::primitive::Primitive;
@@ -114,6 +114,16 @@ impl Integer for i64 {
 
     fn gcd(self, o: i64) -> i64 {
         binary_gcd(self.unsigned_abs(), o.unsigned_abs()) as i64
+    }
+
+    fn gcds(a: i64, b: i64, c: i64, d: i64) -> (i64, i64) {
+        let (left, right) = binary_gcds(
+            a.unsigned_abs(),
+            b.unsigned_abs(),
+            c.unsigned_abs(),
+            d.unsigned_abs(),
+        );
+        (left as i64, right as i64)
     }
 
     ghost laws = { signed_laws (2 ^ 63 - 1) hash.i64 (lit≤ tt) };

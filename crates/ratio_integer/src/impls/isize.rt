@@ -5,7 +5,7 @@ ghost use Rattle.std.specs.Hash as hash;
 ghost use Rattle.std.proofs.Common.{inl, lit≤, refl};
 ghost use Rattle.ratio_integer.specs.Primitives.{signed_laws};
 
-use crate::binary_gcd::binary_gcd;
+use crate::binary_gcd::{binary_gcd, binary_gcds};
 use crate::integer::Integer;
 use crate::primitive::Primitive;
 use crate::signed::SignedInteger;
@@ -113,6 +113,16 @@ impl Integer for isize {
 
     fn gcd(self, o: isize) -> isize {
         binary_gcd(self.unsigned_abs() as u64, o.unsigned_abs() as u64) as isize
+    }
+
+    fn gcds(a: isize, b: isize, c: isize, d: isize) -> (isize, isize) {
+        let (left, right) = binary_gcds(
+            a.unsigned_abs() as u64,
+            b.unsigned_abs() as u64,
+            c.unsigned_abs() as u64,
+            d.unsigned_abs() as u64,
+        );
+        (left as isize, right as isize)
     }
 
     ghost laws = { signed_laws (2 ^ 63 - 1) hash.isize (lit≤ tt) };

@@ -5,7 +5,7 @@ ghost use Rattle.std.specs.Hash as hash;
 ghost use Rattle.std.proofs.Common.{inr, lit≤, refl};
 ghost use Rattle.ratio_integer.specs.Primitives.{unsigned_laws};
 
-use crate::binary_gcd::binary_gcd_wide;
+use crate::binary_gcd::{binary_gcd_wide, binary_gcds_wide};
 use crate::half_width;
 use crate::integer::Integer;
 use crate::primitive::Primitive;
@@ -113,6 +113,10 @@ impl Integer for u128 {
 
     fn gcd(self, o: u128) -> u128 {
         binary_gcd_wide(self, o)
+    }
+
+    fn gcds(a: u128, b: u128, c: u128, d: u128) -> (u128, u128) {
+        binary_gcds_wide(a, b, c, d)
     }
 
     ghost laws = { unsigned_laws (2 ^ 128 - 1) hash.u128 (lit≤ tt) };

@@ -5,7 +5,7 @@ ghost use Rattle.std.specs.Hash as hash;
 ghost use Rattle.std.proofs.Common.{inl, lit≤, refl};
 ghost use Rattle.ratio_integer.specs.Primitives.{unsigned_laws};
 
-use crate::binary_gcd::binary_gcd;
+use crate::binary_gcd::{binary_gcd, binary_gcds};
 use crate::integer::Integer;
 use crate::primitive::Primitive;
 use num_traits::cast;
@@ -112,6 +112,11 @@ impl Integer for u16 {
 
     fn gcd(self, o: u16) -> u16 {
         binary_gcd(self as u64, o as u64) as u16
+    }
+
+    fn gcds(a: u16, b: u16, c: u16, d: u16) -> (u16, u16) {
+        let (left, right) = binary_gcds(a as u64, b as u64, c as u64, d as u64);
+        (left as u16, right as u16)
     }
 
     ghost laws = { unsigned_laws (2 ^ 16 - 1) hash.u16 (lit≤ tt) };

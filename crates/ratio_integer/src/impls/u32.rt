@@ -5,7 +5,7 @@ ghost use Rattle.std.specs.Hash as hash;
 ghost use Rattle.std.proofs.Common.{inl, lit≤, refl};
 ghost use Rattle.ratio_integer.specs.Primitives.{unsigned_laws};
 
-use crate::binary_gcd::binary_gcd;
+use crate::binary_gcd::{binary_gcd, binary_gcds};
 use crate::integer::Integer;
 use crate::primitive::Primitive;
 use num_traits::cast;
@@ -112,6 +112,11 @@ impl Integer for u32 {
 
     fn gcd(self, o: u32) -> u32 {
         binary_gcd(self as u64, o as u64) as u32
+    }
+
+    fn gcds(a: u32, b: u32, c: u32, d: u32) -> (u32, u32) {
+        let (left, right) = binary_gcds(a as u64, b as u64, c as u64, d as u64);
+        (left as u32, right as u32)
     }
 
     ghost laws = { unsigned_laws (2 ^ 32 - 1) hash.u32 (lit≤ tt) };

@@ -5,7 +5,7 @@ ghost use Rattle.std.specs.Hash as hash;
 ghost use Rattle.std.proofs.Common.{inl, lit≤, refl};
 ghost use Rattle.ratio_integer.specs.Primitives.{unsigned_laws};
 
-use crate::binary_gcd::binary_gcd;
+use crate::binary_gcd::{binary_gcd, binary_gcds};
 use crate::integer::Integer;
 use crate::primitive::Primitive;
 use num_traits::cast;
@@ -112,6 +112,10 @@ impl Integer for u64 {
 
     fn gcd(self, o: u64) -> u64 {
         binary_gcd(self, o)
+    }
+
+    fn gcds(a: u64, b: u64, c: u64, d: u64) -> (u64, u64) {
+        binary_gcds(a, b, c, d)
     }
 
     ghost laws = { unsigned_laws (2 ^ 64 - 1) hash.u64 (lit≤ tt) };

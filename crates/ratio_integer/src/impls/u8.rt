@@ -5,7 +5,7 @@ ghost use Rattle.std.specs.Hash as hash;
 ghost use Rattle.std.proofs.Common.{inl, lit≤, refl};
 ghost use Rattle.ratio_integer.specs.Primitives.{unsigned_laws};
 
-use crate::binary_gcd::binary_gcd;
+use crate::binary_gcd::{binary_gcd, binary_gcds};
 use crate::integer::Integer;
 use crate::primitive::Primitive;
 use num_traits::cast;
@@ -112,6 +112,11 @@ impl Integer for u8 {
 
     fn gcd(self, o: u8) -> u8 {
         binary_gcd(self as u64, o as u64) as u8
+    }
+
+    fn gcds(a: u8, b: u8, c: u8, d: u8) -> (u8, u8) {
+        let (left, right) = binary_gcds(a as u64, b as u64, c as u64, d as u64);
+        (left as u8, right as u8)
     }
 
     ghost laws = { unsigned_laws (2 ^ 8 - 1) hash.u8 (lit≤ tt) };

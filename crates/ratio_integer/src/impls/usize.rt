@@ -5,7 +5,7 @@ ghost use Rattle.std.specs.Hash as hash;
 ghost use Rattle.std.proofs.Common.{inl, lit≤, refl};
 ghost use Rattle.ratio_integer.specs.Primitives.{unsigned_laws};
 
-use crate::binary_gcd::binary_gcd;
+use crate::binary_gcd::{binary_gcd, binary_gcds};
 use crate::integer::Integer;
 use crate::primitive::Primitive;
 use num_traits::cast;
@@ -112,6 +112,11 @@ impl Integer for usize {
 
     fn gcd(self, o: usize) -> usize {
         binary_gcd(self as u64, o as u64) as usize
+    }
+
+    fn gcds(a: usize, b: usize, c: usize, d: usize) -> (usize, usize) {
+        let (left, right) = binary_gcds(a as u64, b as u64, c as u64, d as u64);
+        (left as usize, right as usize)
     }
 
     ghost laws = { unsigned_laws (2 ^ 64 - 1) hash.usize (lit≤ tt) };

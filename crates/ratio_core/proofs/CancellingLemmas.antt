@@ -3,11 +3,11 @@ use Rattle.std.specs.Prelude.{◌≡◌, ◌≢◌, ◌≤ℤ◌, ◌<ℤ◌, �
 use Rattle.std.proofs.Common.{sym, ap, arith, ◌∙◌}
 use Rattle.std.proofs.lemmas.Int.{ints}
 use lib.IntN.{*ℤ_comm, zero-*ℤ}
-use Rattle.ratio_integer.specs.Fraction.{IsCancelledOf, IsHeldLowest, IsLowestTermsOf}
+use Rattle.ratio_integer.specs.Fraction.{Fits, IsCancelledOf, IsHeldLowest, IsLowestTermsOf}
 use Rattle.ratio_integer.specs.Range.{IsHeld, IsRange}
 use Rattle.ratio_integer.proofs.DivisionLemmas.{low_below}
 use Rattle.ratio_integer.proofs.LcmLemmas.{zero_held}
-use Rattle.ratio_integer.proofs.LowestTerms.{cancelled_coprime, cancelled_fraction, lowest_own, over_one}
+use Rattle.ratio_integer.proofs.LowestTerms.{cancelled_coprime, cancelled_fraction, cancelled_same, held_lowest_moved, lowest_moved, lowest_own, over_one}
 use Rattle.ratio_integer.proofs.Whole.{neg-mul, unsigned_abs-neg}
 use Rattle.ratio_core.specs.Cancelling.{IsCancelled}
 
@@ -44,6 +44,18 @@ lowest_of_same lo hi n d a b range fraction equal a_one b_one = record {
 
 pub cancelled_left : (n d a b : ℤ) → d ≢ pos 0 → IsCancelledOf n d a b → IsCancelled a b
 cancelled_left n d a b fraction is = record { fraction = cancelled_fraction n d a b fraction is; only_one = cancelled_coprime n d a b fraction is }
+
+-- the lowest terms of the divided numbers are those of n/d
+pub terms_of_cancelled : (n d a b p q : ℤ) → d ≢ pos 0 → IsCancelledOf n d a b → IsLowestTermsOf a b p q → IsLowestTermsOf n d p q
+terms_of_cancelled n d a b p q fraction is low = lowest_moved a b n d p q fraction (cancelled_same n d a b is) low
+
+-- if the divided numbers do not fit, n/d does not
+pub cancelled_out : (lo hi n d a b : ℤ) → d ≢ pos 0 → IsCancelledOf n d a b → ¬ (Fits lo hi a b) → ¬ (Fits lo hi n d)
+cancelled_out lo hi n d a b fraction is out fits = out (record {
+  numer = fits.numer;
+  denom = fits.denom;
+  low = held_lowest_moved lo hi n d a b fits.numer fits.denom (cancelled_fraction n d a b fraction is) (sym (cancelled_same n d a b is)) fits.low;
+})
 
 -- ---- the sign
 

@@ -20,5 +20,5 @@ mod signed;
 pub use held::both_held;
 pub use integer::Integer;
 pub use primitive::Primitive;
-pub use reducing::{cancelled, lowest_terms};
+pub use reducing::{both_cancelled, both_lowest_terms, cancelled, lowest_terms};
 pub use signed::SignedInteger;

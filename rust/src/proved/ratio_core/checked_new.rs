@@ -25,9 +25,15 @@ pub fn checked_new<T: Integer>(n: T, d: T) -> Option<(T, T)> {
     sign_moved(numer, denom)
 }
 
-// The same fraction with a positive denominator, or `None` if it does not fit the type.
+/// The same fraction with a positive denominator, or `None` if it does not fit the type.
+///
+/// # Conditions
+///
+/// The proof requires of the caller:
+///
+/// - `IsCancelled (T.value a) (T.value b)`
 #[inline]
-fn sign_moved<T: Integer>(a: T, b: T) -> Option<(T, T)> {
+pub(crate) fn sign_moved<T: Integer>(a: T, b: T) -> Option<(T, T)> {
     if b < T::ZERO {
         match T::ZERO.try_minus(a) {
             None => None,

@@ -11,10 +11,12 @@
 
 mod above;
 mod above_wide;
+mod pair;
 mod plain;
 mod wide;
 
 use above_wide::odd_gcd_above_wide;
+use pair::odd_gcds;
 use plain::odd_gcd;
 use wide::odd_gcd_wide;
 
@@ -57,6 +59,19 @@ pub(crate) fn binary_gcd(a: u64, b: u64) -> u64 {
     odd_gcd(odd_part(a), odd_part(b)) << shift
 }
 
+/// The greatest common divisors of `a` and `b` and of `c` and `d`, which take less time together than one
+/// after the other: a processor does the steps of both at once.
+#[inline]
+pub(crate) fn binary_gcds(a: u64, b: u64, c: u64, d: u64) -> (u64, u64) {
+    if a == 0 || b == 0 || c == 0 || d == 0 {
+        return (binary_gcd(a, b), binary_gcd(c, d));
+    }
+    let left = a.trailing_zeros().min(b.trailing_zeros());
+    let right = c.trailing_zeros().min(d.trailing_zeros());
+    let (x, u) = odd_gcds(odd_part(a), odd_part(b), odd_part(c), odd_part(d));
+    (x << left, u << right)
+}
+
 /// The number without its factors of 2.
 ///
 /// # Conditions
@@ -94,9 +109,13 @@ fn lower_half(n: u128) -> u64 {
     (n % (1 << 64)) as u64
 }
 
-/// The greatest common divisor of magnitudes of at most 128 bits, 0 for 0 and 0.
+/// The greatest common divisor of magnitudes of at most 128 bits, 0 for 0 and 0. Most numbers fit 64 bits,
+/// where each step takes less time.
 #[inline]
 pub(crate) fn binary_gcd_wide(a: u128, b: u128) -> u128 {
+    if a <= u64::MAX as u128 && b <= u64::MAX as u128 {
+        return binary_gcd(a as u64, b as u64) as u128;
+    }
     if a == 0 {
         return b;
     }
@@ -105,6 +124,17 @@ pub(crate) fn binary_gcd_wide(a: u128, b: u128) -> u128 {
     }
     let shift = a.trailing_zeros().min(b.trailing_zeros());
     odd_gcd_wide(odd_part_wide(a), odd_part_wide(b)) << shift
+}
+
+/// Both greatest common divisors. They are computed together if all four magnitudes fit 64 bits.
+#[inline]
+pub(crate) fn binary_gcds_wide(a: u128, b: u128, c: u128, d: u128) -> (u128, u128) {
+    let most = u64::MAX as u128;
+    if a <= most && b <= most && c <= most && d <= most {
+        let (x, u) = binary_gcds(a as u64, b as u64, c as u64, d as u64);
+        return (x as u128, u as u128);
+    }
+    (binary_gcd_wide(a, b), binary_gcd_wide(c, d))
 }
 
 /// The greatest common divisor of magnitudes of at most 128 bits. It is `None` only if the divisor is at

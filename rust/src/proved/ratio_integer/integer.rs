@@ -285,6 +285,20 @@ pub trait Integer: Copy + Ord + Hash {
         }
     }
 
+    /// The greatest common divisors of `a` and `b` and of `c` and `d`. A type may compute both in less time than
+    /// one after the other.
+    ///
+    /// # Conditions
+    ///
+    /// The proof requires of the caller:
+    ///
+    /// - `left_held`: `¬ (IsGcdAboveMax hi (value a) (value b))`
+    /// - `right_held`: `¬ (IsGcdAboveMax hi (value c) (value d))`
+    #[inline]
+    fn gcds(a: Self, b: Self, c: Self, d: Self) -> (Self, Self) {
+        (a.gcd(b), c.gcd(d))
+    }
+
     /// The least common multiple. It is never negative, and it is 0 if either
     /// number is 0. The call requires that `try_lcm` returns `Some`.
     ///

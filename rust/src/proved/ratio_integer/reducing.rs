@@ -54,3 +54,57 @@ pub(crate) fn divided<T: Integer>(n: T, d: T, divisor: T) -> (T, T) {
     let (denom, _) = d.div_rem(divisor);
     (numer, denom)
 }
+
+/// The lowest terms of `a/b` and of `c/d`. Both gcds are computed together.
+///
+/// # Conditions
+///
+/// The proof requires of the caller:
+///
+/// - `left_positive`: `pos 0 <ℤ T.value b`
+/// - `right_positive`: `pos 0 <ℤ T.value d`
+#[inline]
+pub fn both_lowest_terms<T: Integer>(a: T, b: T, c: T, d: T) -> ((T, T), (T, T)) {
+    if b.is_one() || d.is_one() {
+        return (lowest_terms(a, b), lowest_terms(c, d));
+    }
+    let ((p, q), (s, t)) = both_cancelled(a, b, c, d);
+    both_held(p, q);
+    both_held(s, t);
+    ((p, q), (s, t))
+}
+
+/// The numbers of `a/b` and of `c/d`, each divided by the gcd of its pair. The signs stay where they are.
+///
+/// # Conditions
+///
+/// The proof requires of the caller:
+///
+/// - `left_fraction`: `T.value b ≢ pos 0`
+/// - `left_held`: `¬ (IsGcdAboveMax T.hi (T.value a) (T.value b))`
+/// - `right_fraction`: `T.value d ≢ pos 0`
+/// - `right_held`: `¬ (IsGcdAboveMax T.hi (T.value c) (T.value d))`
+#[inline]
+pub fn both_cancelled<T: Integer>(a: T, b: T, c: T, d: T) -> ((T, T), (T, T)) {
+    let (left, right) = T::gcds(a, b, c, d);
+    (quotients(a, b, left), quotients(c, d, right))
+}
+
+// Both numbers, divided by their gcd.
+#[inline]
+fn quotients<T: Integer>(n: T, d: T, common: T) -> (T, T) {
+    if common.is_one() {
+        return (n, d);
+    }
+    (quotient(n, common), quotient(d, common))
+}
+
+// The quotient. Equal numbers need no division: in 2/3 times 3/2, each field is its own divisor.
+#[inline]
+fn quotient<T: Integer>(n: T, divisor: T) -> T {
+    if n == divisor {
+        return T::ONE;
+    }
+    let (quotient, _) = n.div_rem(divisor);
+    quotient
+}

@@ -2,7 +2,7 @@
 // Written by templates/write from templates/integer.rt.txt: change that file, and write this one anew.
 //! The traits `Integer` and `SignedInteger` for the type `i128`.
 
-use crate::proved::ratio_integer::binary_gcd::binary_gcd_wide;
+use crate::proved::ratio_integer::binary_gcd::{binary_gcd_wide, binary_gcds_wide};
 use crate::proved::ratio_integer::half_width;
 use crate::proved::ratio_integer::integer::Integer;
 use crate::proved::ratio_integer::primitive::Primitive;
@@ -106,6 +106,17 @@ impl Integer for i128 {
     #[inline]
     fn gcd(self, o: i128) -> i128 {
         binary_gcd_wide(self.unsigned_abs(), o.unsigned_abs()) as i128
+    }
+
+    #[inline]
+    fn gcds(a: i128, b: i128, c: i128, d: i128) -> (i128, i128) {
+        let (left, right) = binary_gcds_wide(
+            a.unsigned_abs(),
+            b.unsigned_abs(),
+            c.unsigned_abs(),
+            d.unsigned_abs(),
+        );
+        (left as i128, right as i128)
     }
 }
 

@@ -2,7 +2,7 @@
 // Written by templates/write from templates/integer.rt.txt: change that file, and write this one anew.
 //! The traits `Integer` and `SignedInteger` for the type `i32`.
 
-use crate::proved::ratio_integer::binary_gcd::binary_gcd;
+use crate::proved::ratio_integer::binary_gcd::{binary_gcd, binary_gcds};
 use crate::proved::ratio_integer::exact_sum;
 use crate::proved::ratio_integer::integer::Integer;
 use crate::proved::ratio_integer::primitive::Primitive;
@@ -106,6 +106,17 @@ impl Integer for i32 {
     #[inline]
     fn gcd(self, o: i32) -> i32 {
         binary_gcd(self.unsigned_abs() as u64, o.unsigned_abs() as u64) as i32
+    }
+
+    #[inline]
+    fn gcds(a: i32, b: i32, c: i32, d: i32) -> (i32, i32) {
+        let (left, right) = binary_gcds(
+            a.unsigned_abs() as u64,
+            b.unsigned_abs() as u64,
+            c.unsigned_abs() as u64,
+            d.unsigned_abs() as u64,
+        );
+        (left as i32, right as i32)
     }
 }
 

@@ -2,7 +2,7 @@
 // Written by templates/write from templates/integer.rt.txt: change that file, and write this one anew.
 //! The traits `Integer` and `SignedInteger` for the type `i64`.
 
-use crate::proved::ratio_integer::binary_gcd::binary_gcd;
+use crate::proved::ratio_integer::binary_gcd::{binary_gcd, binary_gcds};
 use crate::proved::ratio_integer::exact_sum;
 use crate::proved::ratio_integer::integer::Integer;
 use crate::proved::ratio_integer::primitive::Primitive;
@@ -106,6 +106,17 @@ impl Integer for i64 {
     #[inline]
     fn gcd(self, o: i64) -> i64 {
         binary_gcd(self.unsigned_abs(), o.unsigned_abs()) as i64
+    }
+
+    #[inline]
+    fn gcds(a: i64, b: i64, c: i64, d: i64) -> (i64, i64) {
+        let (left, right) = binary_gcds(
+            a.unsigned_abs(),
+            b.unsigned_abs(),
+            c.unsigned_abs(),
+            d.unsigned_abs(),
+        );
+        (left as i64, right as i64)
     }
 }
 

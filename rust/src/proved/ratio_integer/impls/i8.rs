@@ -2,7 +2,7 @@
 // Written by templates/write from templates/integer.rt.txt: change that file, and write this one anew.
 //! The traits `Integer` and `SignedInteger` for the type `i8`.
 
-use crate::proved::ratio_integer::binary_gcd::binary_gcd;
+use crate::proved::ratio_integer::binary_gcd::{binary_gcd, binary_gcds};
 use crate::proved::ratio_integer::integer::Integer;
 use crate::proved::ratio_integer::primitive::Primitive;
 use crate::proved::ratio_integer::signed::SignedInteger;
@@ -105,6 +105,17 @@ impl Integer for i8 {
     #[inline]
     fn gcd(self, o: i8) -> i8 {
         binary_gcd(self.unsigned_abs() as u64, o.unsigned_abs() as u64) as i8
+    }
+
+    #[inline]
+    fn gcds(a: i8, b: i8, c: i8, d: i8) -> (i8, i8) {
+        let (left, right) = binary_gcds(
+            a.unsigned_abs() as u64,
+            b.unsigned_abs() as u64,
+            c.unsigned_abs() as u64,
+            d.unsigned_abs() as u64,
+        );
+        (left as i8, right as i8)
     }
 }
 

@@ -2,7 +2,7 @@
 // Written by templates/write from templates/integer.rt.txt: change that file, and write this one anew.
 //! The trait `Integer` for the type `u128`.
 
-use crate::proved::ratio_integer::binary_gcd::binary_gcd_wide;
+use crate::proved::ratio_integer::binary_gcd::{binary_gcd_wide, binary_gcds_wide};
 use crate::proved::ratio_integer::half_width;
 use crate::proved::ratio_integer::integer::Integer;
 use crate::proved::ratio_integer::primitive::Primitive;
@@ -105,6 +105,11 @@ impl Integer for u128 {
     #[inline]
     fn gcd(self, o: u128) -> u128 {
         binary_gcd_wide(self, o)
+    }
+
+    #[inline]
+    fn gcds(a: u128, b: u128, c: u128, d: u128) -> (u128, u128) {
+        binary_gcds_wide(a, b, c, d)
     }
 }
 

@@ -2,7 +2,7 @@
 // Written by templates/write from templates/integer.rt.txt: change that file, and write this one anew.
 //! The trait `Integer` for the type `u16`.
 
-use crate::proved::ratio_integer::binary_gcd::binary_gcd;
+use crate::proved::ratio_integer::binary_gcd::{binary_gcd, binary_gcds};
 use crate::proved::ratio_integer::integer::Integer;
 use crate::proved::ratio_integer::primitive::Primitive;
 use num_traits::cast;
@@ -104,6 +104,12 @@ impl Integer for u16 {
     #[inline]
     fn gcd(self, o: u16) -> u16 {
         binary_gcd(self as u64, o as u64) as u16
+    }
+
+    #[inline]
+    fn gcds(a: u16, b: u16, c: u16, d: u16) -> (u16, u16) {
+        let (left, right) = binary_gcds(a as u64, b as u64, c as u64, d as u64);
+        (left as u16, right as u16)
     }
 }
 

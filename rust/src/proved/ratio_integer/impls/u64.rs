@@ -2,7 +2,7 @@
 // Written by templates/write from templates/integer.rt.txt: change that file, and write this one anew.
 //! The trait `Integer` for the type `u64`.
 
-use crate::proved::ratio_integer::binary_gcd::binary_gcd;
+use crate::proved::ratio_integer::binary_gcd::{binary_gcd, binary_gcds};
 use crate::proved::ratio_integer::integer::Integer;
 use crate::proved::ratio_integer::primitive::Primitive;
 use num_traits::cast;
@@ -104,6 +104,11 @@ impl Integer for u64 {
     #[inline]
     fn gcd(self, o: u64) -> u64 {
         binary_gcd(self, o)
+    }
+
+    #[inline]
+    fn gcds(a: u64, b: u64, c: u64, d: u64) -> (u64, u64) {
+        binary_gcds(a, b, c, d)
     }
 }
 

@@ -2,7 +2,7 @@
 // Written by templates/write from templates/integer.rt.txt: change that file, and write this one anew.
 //! The trait `Integer` for the type `u8`.
 
-use crate::proved::ratio_integer::binary_gcd::binary_gcd;
+use crate::proved::ratio_integer::binary_gcd::{binary_gcd, binary_gcds};
 use crate::proved::ratio_integer::integer::Integer;
 use crate::proved::ratio_integer::primitive::Primitive;
 use num_traits::cast;
@@ -104,6 +104,12 @@ impl Integer for u8 {
     #[inline]
     fn gcd(self, o: u8) -> u8 {
         binary_gcd(self as u64, o as u64) as u8
+    }
+
+    #[inline]
+    fn gcds(a: u8, b: u8, c: u8, d: u8) -> (u8, u8) {
+        let (left, right) = binary_gcds(a as u64, b as u64, c as u64, d as u64);
+        (left as u8, right as u8)
     }
 }
 

@@ -2,7 +2,7 @@
 // Written by templates/write from templates/integer.rt.txt: change that file, and write this one anew.
 //! The trait `Integer` for the type `usize`.
 
-use crate::proved::ratio_integer::binary_gcd::binary_gcd;
+use crate::proved::ratio_integer::binary_gcd::{binary_gcd, binary_gcds};
 use crate::proved::ratio_integer::integer::Integer;
 use crate::proved::ratio_integer::primitive::Primitive;
 use num_traits::cast;
@@ -104,6 +104,12 @@ impl Integer for usize {
     #[inline]
     fn gcd(self, o: usize) -> usize {
         binary_gcd(self as u64, o as u64) as usize
+    }
+
+    #[inline]
+    fn gcds(a: usize, b: usize, c: usize, d: usize) -> (usize, usize) {
+        let (left, right) = binary_gcds(a as u64, b as u64, c as u64, d as u64);
+        (left as usize, right as usize)
     }
 }
 

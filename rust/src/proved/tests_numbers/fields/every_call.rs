@@ -20,7 +20,7 @@ use crate::proved::ratio_decimal::{
     decimal, from_decimal, from_text, round_to, rounded_product, rounded_quotient,
 };
 use crate::proved::ratio_float::nearest::{to_f32, to_f64};
-use crate::proved::ratio_integer::{cancelled, lowest_terms};
+use crate::proved::ratio_integer::{both_cancelled, both_lowest_terms, cancelled, lowest_terms};
 
 #[test]
 fn reducing() {
@@ -28,6 +28,8 @@ fn reducing() {
         checked_new(6i64, -4) == Some((-3, 2)),
         lowest_terms(-6i64, 4) == (-3, 2),
         cancelled(6i64, -4) == (3, -2),
+        both_lowest_terms(-6i64, 4, 9, 6) == ((-3, 2), (3, 2)),
+        both_cancelled(6i64, -4, 9, 6) == ((3, -2), (3, 2)),
         round_to(2i64, 3, 100, Rounding::HalfEven) == Some((67, 100)),
         rounded_product(7i64, 3, 5, 2, Rounding::HalfEven) == Some(6),
         rounded_quotient(7i64, 3, -2, 5, Rounding::HalfEven) == Some(-6),

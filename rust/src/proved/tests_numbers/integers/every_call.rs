@@ -126,6 +126,14 @@ fn answers_all<T: Integer>(a: T, b: T) -> bool {
         && required(a, b) == [0, 1, 10, 2, 24, 24, 1, 2, 6, 6, 6, 6]
         && provided(a, b) == [1, 0, 0, 1, 0, 10, 2, 12, 1, 2, 1, 2, 2, 12, 0, 1]
         && halves(a) == Some((0, 6))
+        && gcds(a, b) == (2, 4)
+}
+
+#[inline]
+fn gcds<T: Integer>(a: T, b: T) -> (i128, i128) {
+    both_held(a, b);
+    let (left, right) = T::gcds(a, b, b, b);
+    (number(left), number(right))
 }
 
 #[inline]

@@ -28,6 +28,7 @@ extern crate alloc;
 #[cfg(all(test, not(feature = "std")))]
 extern crate std;
 
+mod kit;
 mod layer;
 mod newer;
 #[cfg(not(feature = "proved-calls"))]

@@ -1,9 +1,10 @@
 //! Reading the two numbers of a text in one pass over its bytes, with each digit, as many at a time as a `u64` holds.
-ghost use Rattle.std.specs.Prelude.{◌≡◌, ◌+◌, ◌^◌, ◌<◌, ◌≤◌, drop, get_or, length, take, IfSome};
+ghost use Rattle.std.specs.Prelude.{◌≡◌, ◌+◌, ◌^◌, ◌<◌, ◌≤◌, ◌⊎◌, drop, get_or, length, take, IfSome};
 ghost use Rattle.std.specs.Char.{digit_value};
 ghost use Rattle.std.specs.Str.Parse.{AllDigits, digits_value, starts_with_minus};
 ghost use Rattle.ratio_core.specs.Reading.{IsFractionText, IsSlashedText, ReadsAs, slash};
 
+use core::dec2flt;
 use ratio_integer::Primitive;
 
 /// The two numbers of a text in base 10 without a plus sign, not reduced. `None` says nothing about the text.
@@ -144,6 +145,24 @@ fn leading_digits(bytes: &[u8], radix: u32) -> (u64, usize)
     ensures few { radix ^ result.1 < 2 ^ 64 }
     ensures short { result.1 ≤ 19 }
 {
+    if radix == 10 {
+        decimal_digits(bytes)
+    } else {
+        digit_by_digit(bytes, radix)
+    }
+}
+
+// The same, one digit after another.
+#[inline(always)]
+fn digit_by_digit(bytes: &[u8], radix: u32) -> (u64, usize)
+    requires low { 2 ≤ radix }
+    requires high { radix ≤ 36 }
+    ensures inside { result.1 ≤ length bytes.now }
+    ensures digits { AllDigits radix (take result.1 bytes.now) }
+    ensures value { result.0 ≡ digits_value radix (take result.1 bytes.now) }
+    ensures few { radix ^ result.1 < 2 ^ 64 }
+    ensures short { result.1 ≤ 19 }
+{
     let most = most_digits(radix);
     let mut n = 0u64;
     let mut at = 0;
@@ -152,6 +171,50 @@ fn leading_digits(bytes: &[u8], radix: u32) -> (u64, usize)
         at += 1;
     }
     (n, at)
+}
+
+// The same in radix 10. Most numbers have one or two digits, and reading a word of eight bytes costs more than these. No
+// branch depends on whether it is one or two, since the processor would often guess it wrong. If a third digit follows, it
+// reads the rest eight at a time.
+#[inline(always)]
+fn decimal_digits(bytes: &[u8]) -> (u64, usize)
+    ensures inside { result.1 ≤ length bytes.now }
+    ensures digits { AllDigits 10 (take result.1 bytes.now) }
+    ensures value { result.0 ≡ digits_value 10 (take result.1 bytes.now) }
+    ensures short { result.1 ≤ 19 }
+{
+    if bytes.len() < 3 {
+        return digit_by_digit(bytes, 10);
+    }
+    let first = decimal_digit(bytes[0]);
+    if first > 9 {
+        return (0, 0);
+    }
+    let second = decimal_digit(bytes[1]);
+    if second.max(decimal_digit(bytes[2])) > 9 {
+        let more = one_if_digit(second);
+        return (first + more * (first * 9 + second), 1 + more as usize);
+    }
+    // A number of 19 digits fits `u64`, so it is not wrapped.
+    let few = &bytes[..bytes.len().min(19)];
+    let (at, n) = dec2flt::read_digits(few, 2, first * 10 + second);
+    (n, at)
+}
+
+// What the byte is worth as a decimal digit, and 10 or more if it is none.
+#[inline(always)]
+fn decimal_digit(byte: u8) -> u64
+    ensures small { result < 256 }
+    ensures digit { result < 10 → result ≡ digit_value byte }
+{
+    byte.wrapping_sub(b'0') as u64
+}
+
+#[inline(always)]
+fn one_if_digit(worth: u64) -> u64
+    ensures { (result ≡ 0) ⊎ ((result ≡ 1) × (worth < 10)) }
+{
+    (worth < 10) as u64
 }
 
 // How many digits always fit `u64`. The radix to this power fits, too.

@@ -1,6 +1,7 @@
 // Erased from crates/ratio_core/src/text/quick_fields.rt by rust/erase: not to be edited.
 //! Reading the two numbers of a text in one pass over its bytes, with each digit, as many at a time as a `u64` holds.
 
+use crate::proved::dec2flt;
 use crate::proved::ratio_integer::Primitive;
 
 /// The two numbers of a text in base 10 without a plus sign, not reduced. `None` says nothing about the text.
@@ -109,6 +110,16 @@ fn grouped_digits(bytes: &[u8], radix: u32) -> Option<(u128, usize)> {
 // `most_digits`, so the number always fits `u64`, and no step tests for overflow.
 #[inline(always)]
 fn leading_digits(bytes: &[u8], radix: u32) -> (u64, usize) {
+    if radix == 10 {
+        decimal_digits(bytes)
+    } else {
+        digit_by_digit(bytes, radix)
+    }
+}
+
+// The same, one digit after another.
+#[inline(always)]
+fn digit_by_digit(bytes: &[u8], radix: u32) -> (u64, usize) {
     let most = most_digits(radix);
     let mut n = 0u64;
     let mut at = 0;
@@ -117,6 +128,40 @@ fn leading_digits(bytes: &[u8], radix: u32) -> (u64, usize) {
         at += 1;
     }
     (n, at)
+}
+
+// The same in radix 10. Most numbers have one or two digits, and reading a word of eight bytes costs more than these. No
+// branch depends on whether it is one or two, since the processor would often guess it wrong. If a third digit follows, it
+// reads the rest eight at a time.
+#[inline(always)]
+fn decimal_digits(bytes: &[u8]) -> (u64, usize) {
+    if bytes.len() < 3 {
+        return digit_by_digit(bytes, 10);
+    }
+    let first = decimal_digit(bytes[0]);
+    if first > 9 {
+        return (0, 0);
+    }
+    let second = decimal_digit(bytes[1]);
+    if second.max(decimal_digit(bytes[2])) > 9 {
+        let more = one_if_digit(second);
+        return (first + more * (first * 9 + second), 1 + more as usize);
+    }
+    // A number of 19 digits fits `u64`, so it is not wrapped.
+    let few = &bytes[..bytes.len().min(19)];
+    let (at, n) = dec2flt::read_digits(few, 2, first * 10 + second);
+    (n, at)
+}
+
+// What the byte is worth as a decimal digit, and 10 or more if it is none.
+#[inline(always)]
+fn decimal_digit(byte: u8) -> u64 {
+    byte.wrapping_sub(b'0') as u64
+}
+
+#[inline(always)]
+fn one_if_digit(worth: u64) -> u64 {
+    (worth < 10) as u64
 }
 
 // How many digits always fit `u64`. The radix to this power fits, too.

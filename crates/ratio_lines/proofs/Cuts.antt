@@ -21,11 +21,14 @@ pub none_at_all : (c : ℕ) (bytes : List ℕ) → ((k : ℕ) → k < length byt
 none_at_all c bytes none =
     let all : HasNone c (take (length bytes) bytes) = none_before c bytes (length bytes) (omega arith) none in rw take-length at all
 
+-- the bytes before a place, the byte there, and the bytes after it
+pub cut_before : (bytes : List ℕ) (at byte : ℕ) → at < length bytes → get_or bytes at 0 ≡ byte → bytes ≡ take at bytes ++ byte ∷ drop (at + 1) bytes
+cut_before bytes at byte within is =
+    sym (take-append-drop at bytes) ∙ ap (λ xs. take at bytes ++ xs) (drop_more bytes at 0 within ∙ ap (λ b. b ∷ drop (at + 1) bytes) is)
+
 -- the bytes on both sides of a byte with this value
 pub cut_at : (c : ℕ) (bytes : List ℕ) (at : ℕ) → at < length bytes → (get_or bytes at 0 == c) ≡ true → bytes ≡ take at bytes ++ c ∷ drop (at + 1) bytes
-cut_at c bytes at within is =
-    sym (take-append-drop at bytes) ∙ ap (λ xs. take at bytes ++ xs) (drop_more bytes at 0 within)
-    ∙ ap (λ byte. take at bytes ++ byte ∷ drop (at + 1) bytes) (same_byte (get_or bytes at 0) c is)
+cut_at c bytes at within is = cut_before bytes at c within (same_byte (get_or bytes at 0) c is)
 
 -- the same, where the second part is a slice from there on
 pub cut_slice : (c : ℕ) (bytes : List ℕ) (at : ℕ) → at < length bytes → (get_or bytes at 0 == c) ≡ true

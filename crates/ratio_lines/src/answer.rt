@@ -9,12 +9,13 @@ ghost use Rattle.ratio_lines.specs.Answers.{IsAnswer, IsChainAnswer, IsOutcome, 
 ghost use Rattle.ratio_lines.specs.AnswerText.{bytes_of, outcome_of};
 ghost use Rattle.ratio_lines.specs.ChainLine.{AreWellChained};
 ghost use Rattle.ratio_lines.specs.Operands.{number_of};
-ghost use Rattle.ratio_lines.specs.Parts.{AreChained, OperatesOn, RefusesFirst, parts_of, with_first};
+ghost use Rattle.ratio_lines.specs.Parts.{AreChained, AreOperators, IsRestAnswer, OperatesOn, RefusesFirst, parts_of, with_first};
 
 use crate::answer_text::AnswerText;
 use crate::limits::LONGEST_LINE;
+use crate::operand::first_operand;
 use crate::operator::{Operator, operator_named};
-use crate::parts::{all_are_terms, first_part};
+use crate::parts::{all_are_terms, first_part, first_short_part};
 use either::Either;
 use num_rational::{RatioErrorKind, Rational64};
 use std::cmp::Ordering;
@@ -127,32 +128,41 @@ pub fn answer_two(left: &str, operator: Operator, right: &str) -> AnswerText
     }
 }
 
-/// The answer to operators between operands. Operators apply from left to right. Each operand is read
-/// once. It is read even if the answer is already known, since a refusal comes first: `1 / 0 + x` has
-/// the answer `error: right: failed to parse integer`.
+/// The answer to operators between operands.
 fn answer_texts(left: &str, operator: Operator, right: &str, parts: Option<&str>) -> AnswerText
     requires { AreChained operator (operator_parts (parts_of parts)) }
     ensures { IsTextsAnswer (operator ∷ unwrap_or (operators_of (operator_parts (parts_of parts.entry))) []) left.now (right.now ∷ right_parts (parts_of parts.entry)) (bytes_of result) }
 {
-    let mut outcome = match first_outcome(left, operator, right) {
-        Ok(outcome) => outcome,
-        Err(refusal) => return refusal,
-    };
+    match first_outcome(left, operator, right) {
+        Ok(outcome) => answer_rest(outcome, parts),
+        Err(refusal) => refusal,
+    }
+}
+
+/// The answer to an outcome, and then to operators and their right operands. Operators apply from left to right.
+/// Each operand is read once. It is read even if the answer is already known, since a refusal comes first:
+/// `1 / 0 + x` has the answer `error: right: failed to parse integer`.
+fn answer_rest(first: AnswerText, parts: Option<&str>) -> AnswerText
+    requires positive { MatchEither first (λ _. ⊤) (λ left. pos 0 <ℤ denominator left) }
+    requires known { AreOperators (operator_parts (parts_of parts)) }
+    ensures { IsRestAnswer (outcome_of first.entry) (parts_of parts.entry) (bytes_of result) }
+{
+    let mut outcome = first;
     let mut rest = parts;
     while let Some(text) = rest {
-        let (part, after) = first_part(text);
+        let (part, after) = first_short_part(text);
         let Some(after) = after else {
             return outcome;
         };
-        let Some(next_operator) = operator_named(part) else {
+        let Some(operator) = operator_named(part) else {
             unreachable!()
         };
-        let (operand, after) = first_part(after);
-        let next = match Rational64::from_str(operand) {
+        let (operand, after) = first_operand(after);
+        let next = match operand {
             Ok(next) => next,
             Err(refusal) => return right_refusal(refusal.kind()),
         };
-        outcome = go_on(outcome, next_operator, next);
+        outcome = go_on(outcome, operator, next);
         rest = after;
     }
     outcome
@@ -209,21 +219,16 @@ fn answer_chain(left: &str, operator: &str, right: &str, parts: Option<&str>) ->
 }
 
 /// The answer to a text whose parts are well chained. So nothing is left to refuse but its operands.
+#[inline(never)]
 pub fn answer_well_chained(text: &str) -> AnswerText
     requires { AreWellChained (slice_split is_space text.now) }
     ensures { IsPartsAnswer (slice_split is_space text.now) (bytes_of result) }
 {
-    let (left, Some(rest)) = first_part(text) else {
-        unreachable!()
-    };
-    let (operator, Some(rest)) = first_part(rest) else {
-        unreachable!()
-    };
-    let (right, parts) = first_part(rest);
-    let Some(first) = operator_named(operator) else {
-        unreachable!()
-    };
-    answer_texts(left, first, right, parts)
+    let (left, rest) = first_operand(text);
+    match left {
+        Ok(left) => answer_rest(Either::Right(left), rest),
+        Err(refusal) => left_refusal(refusal.kind()),
+    }
 }
 
 /// The answer to a text whose parts have single spaces between them.

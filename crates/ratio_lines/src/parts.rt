@@ -18,6 +18,18 @@ pub fn first_part(text: &str) -> (&str, Option<&str>)
     }
 }
 
+/// The same, and quicker if the first part is one byte, as most operators are.
+#[inline(always)]
+pub fn first_short_part(text: &str) -> (&str, Option<&str>)
+    ensures { slice_split is_space text.now ≡ result.0.now ∷ parts_of result.1 }
+{
+    let bytes = text.as_bytes();
+    if bytes.len() > 1 && bytes[0] != b' ' && bytes[1] == b' ' {
+        return (text.split_at(1).0, Some(text.split_at(2).1));
+    }
+    first_part(text)
+}
+
 /// Whether the parts come in pairs, and none is empty.
 pub fn all_are_terms(parts: Option<&str>) -> bool
     ensures { result ≡ are_terms (parts_of parts.entry) }

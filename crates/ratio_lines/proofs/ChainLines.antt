@@ -1,5 +1,5 @@
 -- A line whose parts are found one after another, an operator and its right operand at a time.
-use Rattle.std.proofs.Common.{◌≡◌, ◌≢◌, ℕ, ◌+◌, ◌-◌, ◌%◌, ◌<◌, ◌≤◌, List, [], ◌∷◌, ◌++◌, length, take, drop, get_or, true, false, ◌&&◌, ◌||◌, ◌==◌, Option, None, Some, refl, ap, ◌∙◌, sym, arith, append_assoc, length-append, length-drop, cond}
+use Rattle.std.proofs.Common.{◌≡◌, ◌≢◌, ◌⊎◌, inl, inr, ℕ, ◌+◌, ◌-◌, ◌%◌, ◌<◌, ◌≤◌, List, [], ◌∷◌, ◌++◌, length, take, drop, get_or, true, false, ◌&&◌, ◌||◌, ◌==◌, Option, None, Some, refl, ap, ◌∙◌, sym, arith, append_assoc, length-append, length-drop, length-take, cond}
 use Rattle.std.specs.Prelude.{option_and_then, option_map}
 use Rattle.std.specs.Char.{is_ascii_graphic}
 use Rattle.std.specs.List.{list_all, list_any, onto_first, slice_split}
@@ -9,13 +9,13 @@ use Rattle.std.proofs.lemmas.List.{get_or-drop, get_or_at, length-take-le, take_
 use Rattle.std.proofs.lemmas.List.Folds.{list_all-append}
 use Rattle.std.proofs.lemmas.List.Splits.{length-slice_split}
 use Rattle.ratio_lines.specs.Answers.{has_byte, is_cmp, is_space, operator_parts, operators_of}
-use Rattle.ratio_lines.specs.ChainLine.{AreWellChained, EndsChain, is_plain}
+use Rattle.ratio_lines.specs.ChainLine.{AreWellChained, BeginsChain, EndsAfter, EndsTerms, is_plain}
 use Rattle.ratio_lines.specs.Cuts.{HasNone}
 use Rattle.ratio_lines.specs.Lines.{front_of, longest_line}
 use Rattle.ratio_lines.specs.Operands.{operator_of}
 use Rattle.ratio_lines.specs.PlainLine.{EndsPart, IsGraphic}
 use Rattle.ratio_lines.specs.declared.operator.Operator.{Operator}
-use Rattle.ratio_lines.proofs.Cuts.{first_of_parts, one_part}
+use Rattle.ratio_lines.proofs.Cuts.{cut_before, first_of_parts, one_part}
 use Rattle.ratio_lines.proofs.OperatorsSoFar.{any_both, chain_of, front_before}
 use Rattle.ratio_lines.proofs.PlainLines.{all_pass, both, graphic_plain, named_some, none_passes, some_byte}
 
@@ -223,12 +223,25 @@ well_chained left (name ∷ right ∷ rest) operators some even filled named las
       chained = record { others = found.others; named = found.rest; cmp_last = ap (λ os. list_any is_cmp (front_of os)) (sym found.all) ∙ last };
     }
 
-pub chain_ends : (bytes : List ℕ) (end : ℕ) (before : List Operator) (operator : Operator) → ChainTo bytes end (before ++ operator ∷ []) → end < length bytes → get_or bytes end 0 ≡ 10 → end ≤ longest_line
-    → EndsChain bytes end
-chain_ends bytes end before operator p within ends short = record {
+pub terms_end : (bytes : List ℕ) (end : ℕ) (before : List Operator) (operator : Operator) → ChainTo bytes end (before ++ operator ∷ []) → end < length bytes → EndsTerms bytes end
+terms_end bytes end before operator p within = record {
   within = within;
-  ends = ends;
-  short = short;
   plain = p.plain;
   parts = rw p.split (well_chained p.left p.terms (before ++ operator ∷ []) p.some p.even p.filled p.named p.cmp_last (omega (arith, length-append before (operator ∷ []))));
+}
+
+-- the line has a carriage return at its end, or none
+line_is : (bytes : List ℕ) (from end : ℕ) → from < length bytes → (end ≡ from) ⊎ ((end ≡ from + 1) × (get_or bytes from 0 ≡ 13))
+    → (take end bytes ≡ take from bytes) ⊎ (take end bytes ≡ take from bytes ++ 13 ∷ [])
+line_is bytes from end within (inl same) = inl (ap (λ n. take n bytes) same)
+line_is bytes from end within (inr next) = inr (ap (λ n. take n bytes) next.0 ∙ take_more bytes from 0 within ∙ ap (λ b. take from bytes ++ b ∷ []) next.1)
+
+pub chain_begins : (bytes after : List ℕ) (from end : ℕ) → EndsTerms bytes from → EndsAfter bytes from end → end ≤ longest_line → after ≡ drop (end + 1) bytes → BeginsChain bytes (take from bytes) after
+chain_begins bytes after from end p q short rest = record {
+  line = take end bytes;
+  split = cut_before bytes end 10 q.within q.ends ∙ ap (λ xs. take end bytes ++ 10 ∷ xs) (sym rest);
+  short = omega (arith, short, length-take end bytes);
+  is_line = line_is bytes from end p.within q.follows;
+  plain = p.plain;
+  parts = p.parts;
 }

@@ -1,5 +1,5 @@
 -- A line of graphic characters with two spaces among them.
-use Rattle.std.proofs.Common.{◌≡◌, ◌-◌, get_or, take, drop, not, suc, None, length-drop, length-take, ℕ, ◌<◌, ◌≤◌, ◌+◌, List, [], ◌∷◌, ◌++◌, length, Bool, true, false, ◌==◌, ◌&&◌, ◌||◌, refl, ap, ◌∙◌, sym, arith, append_assoc, length-append, cond, Option, Some}
+use Rattle.std.proofs.Common.{◌≡◌, ◌⊎◌, inl, inr, ◌-◌, get_or, take, drop, not, suc, None, length-drop, ℕ, ◌<◌, ◌≤◌, ◌+◌, List, [], ◌∷◌, ◌++◌, length, Bool, true, false, ◌==◌, ◌&&◌, ◌||◌, refl, ap, ◌∙◌, sym, arith, append_assoc, length-append, cond, Option, Some}
 use Rattle.std.specs.Prelude.{option_and_then, option_map}
 use Rattle.std.specs.Char.{is_ascii_graphic}
 use Rattle.std.specs.List.{list_all, list_any, slice_split, All}
@@ -11,7 +11,7 @@ use Rattle.std.proofs.lemmas.List.{drop-drop, drop_more, get_or-drop, take-appen
 use Rattle.std.proofs.lemmas.Str.{IsUtf8-from_ascii}
 use Rattle.std.proofs.lemmas.Str.Ascii.{IsAscii-from_all}
 use Rattle.ratio_lines.specs.Answers.{IsAnswer, IsPartsAnswer, IsTextsAnswer, has_byte, is_chain, is_space, operators_of, without_return}
-use Rattle.ratio_lines.specs.ChainLine.{EndsChain, is_plain}
+use Rattle.ratio_lines.specs.ChainLine.{BeginsChain, is_plain}
 use Rattle.ratio_lines.specs.Cuts.{HasNone}
 use Rattle.ratio_lines.specs.PlainLine.{BeginsPlain, IsFirstAnswer, EndsPart, IsGraphic}
 use Rattle.ratio_lines.specs.Operands.{operator_of}
@@ -21,7 +21,7 @@ use Rattle.ratio_lines.proofs.Bytes.{same_byte}
 use Rattle.ratio_lines.proofs.Cuts.{first_none, first_of_parts, one_part}
 use Rattle.ratio_lines.proofs.OperatorsSoFar.{chain_of}
 use Rattle.ratio_lines.proofs.Pieces.{answer_kept}
-use Rattle.ratio_lines.proofs.Returns.{is_text}
+use Rattle.ratio_lines.proofs.Returns.{dropped, is_text}
 
 pub some_byte : (n : ℕ) → not (suc n == 0) ≡ true
 some_byte n = grind (arith, nat_tests)
@@ -161,19 +161,38 @@ part_ends bytes from byte end after within graphic is = record {
   split = part_split bytes from byte end after within is;
 }
 
+-- the byte is graphic, a space or a carriage return
+abbrev is_line_byte : ℕ → Bool
+is_line_byte byte = is_plain byte || (byte == 13)
+
+line_small : (byte : ℕ) → is_line_byte byte ≡ true → byte < 128
+line_small byte h = grind (arith, nat_tests)
+
+-- what is known of a line that is a text or has a carriage return more
+record IsReturned (line text : List ℕ) : Type 0 where
+  bytes : list_all is_line_byte line ≡ true
+  same : without_return line ≡ text
+
+returned : (line text : List ℕ) → list_all is_plain text ≡ true → (line ≡ text) ⊎ (line ≡ text ++ 13 ∷ []) → IsReturned line text
+returned line text plain (inl same) = rw same (record {
+  bytes = all_pass is_plain is_line_byte (λ byte h. ap (λ t. t || (byte == 13)) h) text plain;
+  same = no_return text (none_passes is_plain 13 refl text plain);
+})
+returned line text plain (inr more) = rw more (record {
+  bytes = list_all-append is_line_byte text (13 ∷ []) ∙ ap (λ t. t && true) (all_pass is_plain is_line_byte (λ byte h. ap (λ t. t || (byte == 13)) h) text plain);
+  same = dropped text;
+})
+
 -- the answer to the parts of a line that are well chained
-pub chain_answered : (bytes after answer : List ℕ) (end : ℕ) → EndsChain bytes end → after ≡ drop (end + 1) bytes → IsPartsAnswer (slice_split is_space (take end bytes)) answer
-    → IsFirstAnswer (Some []) bytes after answer
-chain_answered bytes after answer end p rest h =
-    let line = take end bytes in
-    let within = p.within in
-    let short : length line ≤ longest_line = omega (arith, p.short, length-take end bytes) in
-    let same : without_return line ≡ line = no_return line (none_passes is_plain 13 refl line p.plain) in
+pub chain_answered : (bytes text after answer : List ℕ) → BeginsChain bytes text after → IsPartsAnswer (slice_split is_space text) answer → IsFirstAnswer (Some []) bytes after answer
+chain_answered bytes text after answer p h =
+    let line = returned p.line text p.plain p.is_line in
+    let is_utf8 : IsUtf8 p.line = IsUtf8-from_ascii p.line (IsAscii-from_all p.line (all_below is_line_byte line_small p.line line.bytes)) in
     record {
-      ended = line;
-      none = none_passes is_plain 10 refl line p.plain;
-      split = sym (take-append-drop end bytes) ∙ ap (λ xs. line ++ xs) (drop_more bytes end 0 within ∙ ap (λ b. b ∷ drop (end + 1) bytes) p.ends ∙ ap (λ xs. 10 ∷ xs) (sym rest));
-      answers = answer_kept line answer (is_text line answer short (plain_text line p.plain) (rw same h));
+      ended = p.line;
+      none = none_passes is_line_byte 10 refl p.line line.bytes;
+      split = p.split;
+      answers = answer_kept p.line answer (is_text p.line answer p.short is_utf8 (rw line.same h));
     }
 
 -- the answer to the line before the first line end

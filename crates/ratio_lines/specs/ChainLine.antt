@@ -1,5 +1,5 @@
 -- A line of operands and operators, each of graphic characters, with single spaces between them. One pass sees that its parts are a chain.
-use Rattle.std.specs.Prelude.{◌≡◌, ℕ, ◌<◌, ◌≤◌, List, ◌∷◌, Bool, true, ◌||◌, length, take, get_or, Some}
+use Rattle.std.specs.Prelude.{◌≡◌, ℕ, ◌+◌, ◌<◌, ◌≤◌, ◌⊎◌, List, [], ◌∷◌, ◌++◌, Bool, true, ◌||◌, length, take, get_or, Some}
 use Rattle.std.specs.Char.{is_ascii_graphic}
 use Rattle.std.specs.List.{list_all, slice_split}
 use Rattle.ratio_lines.specs.Answers.{is_chain, is_space, operator_parts}
@@ -34,3 +34,28 @@ pub record EndsChain (bytes : List ℕ) (end : ℕ) : Type 0 where
   pub short : end ≤ longest_line
   pub plain : list_all is_plain (take end bytes) ≡ true
   pub parts : AreWellChained (slice_split is_space (take end bytes))
+
+-- the bytes before `end` are graphic characters and spaces, and their parts are well chained. Another byte follows
+-- Example: `1 + 2;`: 5
+pub record EndsTerms (bytes : List ℕ) (end : ℕ) : Type 0 where
+  pub within : end < length bytes
+  pub plain : list_all is_plain (take end bytes) ≡ true
+  pub parts : AreWellChained (slice_split is_space (take end bytes))
+
+-- a line end is at `end`. It is the byte at `from`, or it follows a carriage return there
+-- Example: `1\r\n`: from 1 to 2
+pub record EndsAfter (bytes : List ℕ) (from end : ℕ) : Type 0 where
+  pub within : end < length bytes
+  pub ends : get_or bytes end 0 ≡ 10
+  pub follows : (end ≡ from) ⊎ ((end ≡ from + 1) × (get_or bytes from 0 ≡ 13))
+
+-- the bytes begin with a line that is not too long, and `after` follows its line end. It is a text whose parts are well chained, and then
+-- perhaps a carriage return
+-- Example: `1 + 2\r\n3`: `1 + 2`, and then `3`
+pub record BeginsChain (bytes text after : List ℕ) : Type 0 where
+  pub line : List ℕ
+  pub split : bytes ≡ line ++ 10 ∷ after
+  pub short : length line ≤ longest_line
+  pub is_line : (line ≡ text) ⊎ (line ≡ text ++ 13 ∷ [])
+  pub plain : list_all is_plain text ≡ true
+  pub parts : AreWellChained (slice_split is_space text)

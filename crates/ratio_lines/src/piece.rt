@@ -7,7 +7,7 @@ ghost use Rattle.ratio_lines.specs.PlainLine.{IsNextAnswer};
 
 use crate::answer::{answer, answer_well_chained, apply_operator};
 use crate::answer_text::AnswerText;
-use crate::chain_line::{chain_end, line_text};
+use crate::chain_line::chain_line;
 use crate::counted::CalcWrite;
 use crate::cut::cut;
 use crate::fault::CalcFault;
@@ -78,11 +78,8 @@ fn first_answer(bytes: &[u8]) -> Option<(AnswerText, &[u8])>
             line.after,
         ));
     }
-    if let Some(end) = chain_end(bytes) {
-        return Some((
-            answer_well_chained(line_text(&bytes[..end])),
-            &bytes[end + 1..],
-        ));
+    if let Some((text, after)) = chain_line(bytes) {
+        return Some((answer_well_chained(text), after));
     }
     let (line, after) = cut(bytes, b'\n')?;
     Some((answer(line), after))

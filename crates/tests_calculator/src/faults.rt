@@ -136,6 +136,28 @@ fn stops_where_a_device_fails_in_large_pieces(rt: HostRuntime) {
     }
 }
 
+/// The answers to one piece are longer than the 4,096 bytes that a run in large pieces writes at once: its first
+/// call of the writer gets 107 answers, of 4,066 bytes. Both runs have written all that a writer took before it
+/// refused, in each answer of the piece and at each byte beside the end of that call.
+#[test]
+fn stops_where_a_write_fails_amid_a_piece(rt: HostRuntime) -> Result<(), Fail> {
+    let input = repeated(rt.alloc(), b"1 + x\n", 115)?;
+    let answers = repeated(rt.alloc(), b"error: right: failed to parse integer\n", 115)?;
+    for left in 0..answers.len() {
+        if left % 39 != 0 && left.abs_diff(4066) > 2 {
+            continue;
+        }
+        let written = beginning(answers.as_slice(), left);
+        let reader = Feed::new(input.as_slice(), 8192);
+        let writer = Sink::refusing(rt.alloc(), usize::MAX, left, Refusal::TakesNone);
+        assert_fault(&rt, reader, writer, CalcFault::Write, written);
+        let reader = Feed::new(input.as_slice(), 8192);
+        let writer = Sink::refusing(rt.alloc(), usize::MAX, left, Refusal::TakesNone);
+        assert_fault_in_large_pieces(&rt, reader, writer, CalcFault::Write, written);
+    }
+    Ok(())
+}
+
 #[test]
 fn stops_after_the_last_byte(rt: HostRuntime) {
     for kind in [ErrorKind::Other, ErrorKind::Interrupted] {

@@ -12,6 +12,7 @@ pub mod gathered;
 pub mod laws;
 pub mod limits;
 pub mod line;
+pub mod operand;
 pub mod operator;
 pub mod parts;
 pub mod piece;

@@ -3,8 +3,9 @@
 
 use crate::proved::ratio_lines::answer_text::AnswerText;
 use crate::proved::ratio_lines::limits::LONGEST_LINE;
+use crate::proved::ratio_lines::operand::first_operand;
 use crate::proved::ratio_lines::operator::{Operator, operator_named};
-use crate::proved::ratio_lines::parts::{all_are_terms, first_part};
+use crate::proved::ratio_lines::parts::{all_are_terms, first_part, first_short_part};
 use either::Either;
 use bakhsney::proved::num_rational::{RatioErrorKind, Rational64};
 use std::cmp::Ordering;
@@ -116,9 +117,7 @@ pub fn answer_two(left: &str, operator: Operator, right: &str) -> AnswerText {
     }
 }
 
-/// The answer to operators between operands. Operators apply from left to right. Each operand is read
-/// once. It is read even if the answer is already known, since a refusal comes first: `1 / 0 + x` has
-/// the answer `error: right: failed to parse integer`.
+/// The answer to operators between operands.
 ///
 /// # Conditions
 ///
@@ -127,31 +126,46 @@ pub fn answer_two(left: &str, operator: Operator, right: &str) -> AnswerText {
 /// - `AreChained operator (operator_parts (parts_of parts))`
 #[inline]
 fn answer_texts(left: &str, operator: Operator, right: &str, parts: Option<&str>) -> AnswerText {
-    let mut outcome = match first_outcome(left, operator, right) {
-        Ok(outcome) => outcome,
-        Err(refusal) => return refusal,
-    };
+    match first_outcome(left, operator, right) {
+        Ok(outcome) => answer_rest(outcome, parts),
+        Err(refusal) => refusal,
+    }
+}
+
+/// The answer to an outcome, and then to operators and their right operands. Operators apply from left to right.
+/// Each operand is read once. It is read even if the answer is already known, since a refusal comes first:
+/// `1 / 0 + x` has the answer `error: right: failed to parse integer`.
+///
+/// # Conditions
+///
+/// The proof requires of the caller:
+///
+/// - `positive`: `MatchEither first (λ _. ⊤) (λ left. pos 0 <ℤ denominator left)`
+/// - `known`: `AreOperators (operator_parts (parts_of parts))`
+#[inline]
+fn answer_rest(first: AnswerText, parts: Option<&str>) -> AnswerText {
+    let mut outcome = first;
     let mut rest = parts;
     while let Some(text) = rest {
-        let (part, after) = first_part(text);
+        let (part, after) = first_short_part(text);
         let after = match after {
             Some(after) => after,
             _ => {
                 return outcome;
             }
         };
-        let next_operator = match operator_named(part) {
-            Some(next_operator) => next_operator,
+        let operator = match operator_named(part) {
+            Some(operator) => operator,
             _ => {
                 unreachable!()
             }
         };
-        let (operand, after) = first_part(after);
-        let next = match Rational64::from_str(operand) {
+        let (operand, after) = first_operand(after);
+        let next = match operand {
             Ok(next) => next,
             Err(refusal) => return right_refusal(refusal.kind()),
         };
-        outcome = go_on(outcome, next_operator, next);
+        outcome = go_on(outcome, operator, next);
         rest = after;
     }
     outcome
@@ -216,28 +230,13 @@ fn answer_chain(left: &str, operator: &str, right: &str, parts: Option<&str>) ->
 /// The proof requires of the caller:
 ///
 /// - `AreWellChained (slice_split is_space text.now)`
-#[inline]
+#[inline(never)]
 pub fn answer_well_chained(text: &str) -> AnswerText {
-    let (left, rest) = match first_part(text) {
-        (left, Some(rest)) => (left, rest),
-        _ => {
-            unreachable!()
-        }
-    };
-    let (operator, rest) = match first_part(rest) {
-        (operator, Some(rest)) => (operator, rest),
-        _ => {
-            unreachable!()
-        }
-    };
-    let (right, parts) = first_part(rest);
-    let first = match operator_named(operator) {
-        Some(first) => first,
-        _ => {
-            unreachable!()
-        }
-    };
-    answer_texts(left, first, right, parts)
+    let (left, rest) = first_operand(text);
+    match left {
+        Ok(left) => answer_rest(Either::Right(left), rest),
+        Err(refusal) => left_refusal(refusal.kind()),
+    }
 }
 
 /// The answer to a text whose parts have single spaces between them.

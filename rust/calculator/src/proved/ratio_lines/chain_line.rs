@@ -45,6 +45,23 @@ pub fn line_limit(bytes: &[u8]) -> usize {
 /// says nothing about the bytes. No byte after the most that a line may have is looked at.
 #[inline]
 pub fn chain_end(bytes: &[u8]) -> Option<usize> {
+    let end = terms_end(bytes)?;
+    if bytes[end] == b'\n' { Some(end) } else { None }
+}
+
+/// The text of the line that the bytes begin with, without a carriage return at its end, and the bytes after its
+/// line end, if its parts are a chain of known operators. `None` says nothing about the bytes. No byte after the
+/// most that a line may have is looked at.
+#[inline(always)]
+pub fn chain_line(bytes: &[u8]) -> Option<(&str, &[u8])> {
+    let text_end = terms_end(bytes)?;
+    let end = line_end(bytes, text_end)?;
+    Some((line_text(&bytes[..text_end]), &bytes[end + 1..]))
+}
+
+// Where a chain of known operators ends that the bytes begin with. A byte other than a space follows.
+#[inline(always)]
+fn terms_end(bytes: &[u8]) -> Option<usize> {
     let limit = line_limit(bytes);
     let mut at = part_within(bytes, 0, limit, b' ')?;
     if at == 0 {
@@ -58,12 +75,26 @@ pub fn chain_end(bytes: &[u8]) -> Option<usize> {
             return None;
         }
         at = end;
-        if bytes[at] == b'\n' {
+        if bytes[at] != b' ' {
             return Some(at);
         }
-        if bytes[at] != b' ' || operator.is_cmp() {
+        if operator.is_cmp() {
             return None;
         }
+    }
+}
+
+// The line end at `from`, or after a carriage return there, if the line is not too long.
+#[inline(always)]
+fn line_end(bytes: &[u8], from: usize) -> Option<usize> {
+    if bytes[from] == b'\n' {
+        return Some(from);
+    }
+    let next = from + 1;
+    if bytes[from] == b'\r' && next < line_limit(bytes) && bytes[next] == b'\n' {
+        Some(next)
+    } else {
+        None
     }
 }
 

@@ -14,6 +14,16 @@ pub fn first_part(text: &str) -> (&str, Option<&str>) {
     }
 }
 
+/// The same, and quicker if the first part is one byte, as most operators are.
+#[inline(always)]
+pub fn first_short_part(text: &str) -> (&str, Option<&str>) {
+    let bytes = text.as_bytes();
+    if bytes.len() > 1 && bytes[0] != b' ' && bytes[1] == b' ' {
+        return (text.split_at(1).0, Some(text.split_at(2).1));
+    }
+    first_part(text)
+}
+
 /// Whether the parts come in pairs, and none is empty.
 #[inline]
 pub fn all_are_terms(parts: Option<&str>) -> bool {

@@ -3,7 +3,7 @@
 
 use crate::proved::ratio_lines::answer::{answer, answer_well_chained, apply_operator};
 use crate::proved::ratio_lines::answer_text::AnswerText;
-use crate::proved::ratio_lines::chain_line::{chain_end, line_text};
+use crate::proved::ratio_lines::chain_line::chain_line;
 use crate::proved::ratio_lines::counted::CalcWrite;
 use crate::proved::ratio_lines::cut::cut;
 use crate::proved::ratio_lines::fault::CalcFault;
@@ -71,11 +71,8 @@ fn first_answer(bytes: &[u8]) -> Option<(AnswerText, &[u8])> {
             line.after,
         ));
     }
-    if let Some(end) = chain_end(bytes) {
-        return Some((
-            answer_well_chained(line_text(&bytes[..end])),
-            &bytes[end + 1..],
-        ));
+    if let Some((text, after)) = chain_line(bytes) {
+        return Some((answer_well_chained(text), after));
     }
     let (line, after) = cut(bytes, b'\n')?;
     Some((answer(line), after))

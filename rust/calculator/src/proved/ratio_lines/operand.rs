@@ -1,0 +1,59 @@
+// Erased from crates/ratio_lines/src/operand.rt by rust/erase: not to be edited.
+//! The operand that a text begins with, which is read while its end is looked for.
+
+use crate::proved::ratio_lines::parts::first_part;
+use bakhsney::proved::num_rational::{ParseRatioError, RatioErrorKind, Rational64};
+use bakhsney::proved::ratio_core::text::leading_fields;
+
+/// The first part of a text, read as an operand, and the rest after its space, if it has one. For
+/// example, `6/4 + 2` gives 3/2 and `+ 2`.
+#[inline(always)]
+pub fn first_operand(text: &str) -> (Result<Rational64, ParseRatioError>, Option<&str>) {
+    match leading_operand(text) {
+        Some(read) => read,
+        None => searched_operand(text),
+    }
+}
+
+// The same for a part whose numbers have digits alone, with a minus or without. `None` says nothing about
+// the text. A part with two zeros in front may have many more, so it is not tried.
+#[inline(always)]
+fn leading_operand(text: &str) -> Option<(Result<Rational64, ParseRatioError>, Option<&str>)> {
+    let bytes = text.as_bytes();
+    if bytes.len() > 1 && bytes[0] == b'0' && bytes[1] == b'0' {
+        return None;
+    }
+    let (numer, denom, end) = leading_fields::<i64>(bytes)?;
+    let rest = rest_from(text, end)?;
+    let operand = in_lowest_terms(numer, denom)?;
+    Some((operand, rest))
+}
+
+// The rest after a part without a space that ends here. `None` if no part ends here.
+#[inline(always)]
+fn rest_from(text: &str, end: usize) -> Option<Option<&str>> {
+    if end == text.len() {
+        return Some(None);
+    }
+    if text.as_bytes()[end] != b' ' {
+        return None;
+    }
+    Some(Some(text.split_at(end + 1).1))
+}
+
+// The lowest terms of the two numbers of an operand, or the refusal of a zero denominator. `None` if they do
+// not fit.
+#[inline(always)]
+fn in_lowest_terms(numer: i64, denom: i64) -> Option<Result<Rational64, ParseRatioError>> {
+    if denom == 0 {
+        return Some(Err(ParseRatioError::new(RatioErrorKind::ZeroDenominator)));
+    }
+    Some(Ok(Rational64::checked_new(numer, denom)?))
+}
+
+// The same for any text: the end of the part is searched for, and then it is read.
+#[cold]
+fn searched_operand(text: &str) -> (Result<Rational64, ParseRatioError>, Option<&str>) {
+    let (part, rest) = first_part(text);
+    (Rational64::from_str(part), rest)
+}

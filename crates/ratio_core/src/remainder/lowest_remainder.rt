@@ -6,9 +6,11 @@
 //!
 //! For fractions in lowest terms over types of at most 64 bits, the numerators are first divided over the product of the
 //! denominators: 3/4 by 1/2 is 6 by 4 over 8. So the gcd of the denominators is needed only where a product does not fit, and
-//! then both ways use it. A type of 128 bits begins with the gcd, since divisions of longer numbers cost more there.
-ghost use Rattle.std.specs.Prelude.{◌≢◌, ◌<ℤ◌, ◌*ℤ◌, pos, int_rem, IfSome};
+//! then both ways use it. A type of 128 bits begins with the gcd, since divisions of longer numbers cost more there. So does every
+//! type if 16 divides both denominators, as for 1/1024 by 1/256: over 1024, the numbers are much shorter than over the product.
+ghost use Rattle.std.specs.Prelude.{◌≢◌, ◌<ℤ◌, ◌*ℤ◌, pos, int_rem, IfSome, IsTrue};
 ghost use Rattle.ratio_integer.specs.Arithmetic.{remainder_of};
+ghost use Rattle.ratio_integer.specs.Division.{IsMultiple};
 ghost use Rattle.ratio_integer.specs.Fraction.{AnswersLowest, ChecksLowest, IsHeldLowest, IsLowestTerms};
 ghost use Rattle.ratio_integer.specs.Range.{FitsIn128};
 ghost use Rattle.ratio_core.specs.Conditions.{RemainderCondition};
@@ -74,6 +76,7 @@ fn exact_rem<T: Integer>(a: T, b: T, c: T, d: T) -> Option<(T, T)>
         return Some(lowest_terms(truncated_rest(a, c), b));
     }
     if has_short_numbers::<T>()
+        && !are_multiples_of_16(b, d)
         && let Some(rest) = expanded_rest(a, b, c, b, d)
     {
         return Some(rest);
@@ -83,6 +86,17 @@ fn exact_rem<T: Integer>(a: T, b: T, c: T, d: T) -> Option<(T, T)>
         return Some(rest);
     }
     wide_rem_of_lowest(a, b, c, d, for_right, for_left)
+}
+
+// Whether 16 divides both numbers.
+#[inline(always)]
+fn are_multiples_of_16<T: Integer>(b: T, d: T) -> bool
+    ensures { IsTrue result → (IsMultiple (T.value b) (pos 16) × IsMultiple (T.value d) (pos 16)) }
+{
+    match (b.to_u128(), d.to_u128()) {
+        (Some(b), Some(d)) => b % 16 == 0 && d % 16 == 0,
+        _ => false,
+    }
 }
 
 // The lowest terms of the rest of `a * for_left` by `c * for_right`, over `b * for_left`, or `None` if one of the three

@@ -130,38 +130,31 @@ fn digit_by_digit(bytes: &[u8], radix: u32) -> (u64, usize) {
     (n, at)
 }
 
-// The same in radix 10. Most numbers have one or two digits, and reading a word of eight bytes costs more than these. No
-// branch depends on whether it is one or two, since the processor would often guess it wrong. If a third digit follows, it
-// reads the rest eight at a time.
+// The same in radix 10. Most numbers have one or two digits, and testing these one by one costs less than reading a word of
+// eight bytes. If a third digit follows, it reads the rest eight at a time.
 #[inline(always)]
 fn decimal_digits(bytes: &[u8]) -> (u64, usize) {
-    if bytes.len() < 3 {
-        return digit_by_digit(bytes, 10);
-    }
-    let first = decimal_digit(bytes[0]);
-    if first > 9 {
+    if !has_digit(bytes, 0) {
         return (0, 0);
     }
-    let second = decimal_digit(bytes[1]);
-    if second.max(decimal_digit(bytes[2])) > 9 {
-        let more = one_if_digit(second);
-        return (first + more * (first * 9 + second), 1 + more as usize);
+    let first = digit(bytes[0], 10);
+    if !has_digit(bytes, 1) {
+        return (first, 1);
+    }
+    let two = first * 10 + digit(bytes[1], 10);
+    if !has_digit(bytes, 2) {
+        return (two, 2);
     }
     // A number of 19 digits fits `u64`, so it is not wrapped.
     let few = &bytes[..bytes.len().min(19)];
-    let (at, n) = dec2flt::read_digits(few, 2, first * 10 + second);
+    let (at, n) = dec2flt::read_digits(few, 2, two);
     (n, at)
 }
 
-// What the byte is worth as a decimal digit, and 10 or more if it is none.
+// Whether a decimal digit is there.
 #[inline(always)]
-fn decimal_digit(byte: u8) -> u64 {
-    byte.wrapping_sub(b'0') as u64
-}
-
-#[inline(always)]
-fn one_if_digit(worth: u64) -> u64 {
-    (worth < 10) as u64
+fn has_digit(bytes: &[u8], at: usize) -> bool {
+    at < bytes.len() && digit(bytes[at], 10) < 10
 }
 
 // How many digits always fit `u64`. The radix to this power fits, too.

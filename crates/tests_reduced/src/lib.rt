@@ -10,6 +10,8 @@ mod casts;
 #[cfg(test)]
 mod continued;
 #[cfg(test)]
+mod crossed_products;
+#[cfg(test)]
 mod decimal_texts;
 #[cfg(test)]
 mod decimals;

@@ -142,6 +142,7 @@ fn answer_texts(left: &str, operator: Operator, right: &str, parts: Option<&str>
 /// The answer to an outcome, and then to operators and their right operands. Operators apply from left to right.
 /// Each operand is read once. It is read even if the answer is already known, since a refusal comes first:
 /// `1 / 0 + x` has the answer `error: right: failed to parse integer`.
+#[inline(always)]
 fn answer_rest(first: AnswerText, parts: Option<&str>) -> AnswerText
     requires positive { MatchEither first (λ _. ⊤) (λ left. pos 0 <ℤ denominator left) }
     requires known { AreOperators (operator_parts (parts_of parts)) }

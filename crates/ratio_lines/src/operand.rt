@@ -24,19 +24,26 @@ pub fn first_operand(text: &str) -> (Result<Rational64, ParseRatioError>, Option
 }
 
 // The same for a part whose numbers have digits alone, with a minus or without. `None` says nothing about
-// the text. A part with two zeros in front may have many more, so it is not tried.
+// the text.
 #[inline(always)]
 fn leading_operand(text: &str) -> Option<(Result<Rational64, ParseRatioError>, Option<&str>)>
     ensures { IfSome result (λ r. ReadsFirst text.now (numbers_of r.0) (parts_of r.1)) }
 {
     let bytes = text.as_bytes();
-    if bytes.len() > 1 && bytes[0] == b'0' && bytes[1] == b'0' {
+    if is_searched(bytes) {
         return None;
     }
     let (numer, denom, end) = leading_fields::<i64>(bytes)?;
     let rest = rest_from(text, end)?;
     let operand = in_lowest_terms(numer, denom)?;
     Some((operand, rest))
+}
+
+// Whether the bytes begin with a plus, which is not read here, or with two zeros: there may be many more zeros,
+// and then the part would be read twice.
+#[inline(always)]
+fn is_searched(bytes: &[u8]) -> bool {
+    bytes.len() > 1 && (bytes[0] == b'+' || bytes[0] == b'0' && bytes[1] == b'0')
 }
 
 // The rest after a part without a space that ends here. `None` if no part ends here.
@@ -68,7 +75,7 @@ fn in_lowest_terms(numer: i64, denom: i64) -> Option<Result<Rational64, ParseRat
 }
 
 // The same for any text: the end of the part is searched for, and then it is read.
-#[cold]
+#[inline(always)]
 fn searched_operand(text: &str) -> (Result<Rational64, ParseRatioError>, Option<&str>)
     ensures { ReadsFirst text.now (numbers_of result.0) (parts_of result.1) }
 {

@@ -142,7 +142,7 @@ fn answer_texts(left: &str, operator: Operator, right: &str, parts: Option<&str>
 ///
 /// - `positive`: `MatchEither first (λ _. ⊤) (λ left. pos 0 <ℤ denominator left)`
 /// - `known`: `AreOperators (operator_parts (parts_of parts))`
-#[inline]
+#[inline(always)]
 fn answer_rest(first: AnswerText, parts: Option<&str>) -> AnswerText {
     let mut outcome = first;
     let mut rest = parts;

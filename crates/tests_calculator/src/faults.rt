@@ -144,7 +144,7 @@ fn stops_where_a_write_fails_amid_a_piece(rt: HostRuntime) -> Result<(), Fail> {
     let input = repeated(rt.alloc(), b"1 + x\n", 115)?;
     let answers = repeated(rt.alloc(), b"error: right: failed to parse integer\n", 115)?;
     for left in 0..answers.len() {
-        if left % 39 != 0 && left.abs_diff(4066) > 2 {
+        if left % 37 != 0 && left.abs_diff(4066) > 2 {
             continue;
         }
         let written = beginning(answers.as_slice(), left);

@@ -5,7 +5,7 @@
 //! which are computed together.
 //!
 //! Over a type of 128 bits, fields of 60 bits have products of 120 bits. Two gcds of 60 bits together take half the time of
-//! one of 120 bits. So fields that fit an `i64` are cancelled across, too, if their products do not.
+//! one of 120 bits. So fields that fit an `i64` are cancelled across, too, if neither product does.
 
 use crate::proved::ratio_core::checked_new::{checked_new, sign_moved};
 use crate::proved::ratio_core::remainder::wide::has_short_numbers;
@@ -23,16 +23,13 @@ use crate::proved::ratio_integer::{Integer, both_cancelled, both_lowest_terms, l
 pub fn checked_mul<T: Integer>(a: T, b: T, c: T, d: T) -> Option<(T, T)> {
     if let Some(numer) = a.try_times(c) {
         if let Some(denom) = b.try_times(d) {
-            if !is_quicker_crossed(numer, denom, a, b, c, d) {
-                return Some(lowest_terms(numer, denom));
+            if is_quicker_crossed(numer, denom, a, b, c, d) {
+                return product_apart(a, b, c, d);
             }
+            return Some(lowest_terms(numer, denom));
         }
     }
-    if has_short_numbers::<T>() {
-        crossed_product(a, b, c, d)
-    } else {
-        crossed_product_apart(a, b, c, d)
-    }
+    crossed_product(a, b, c, d)
 }
 
 /// The lowest terms of `a/b` divided by `c/d`, or `None` if `c` is 0 or they do
@@ -48,19 +45,17 @@ pub fn checked_mul<T: Integer>(a: T, b: T, c: T, d: T) -> Option<(T, T)> {
 pub fn checked_div<T: Integer>(a: T, b: T, c: T, d: T) -> Option<(T, T)> {
     if let Some(numer) = a.try_times(d) {
         if let Some(denom) = b.try_times(c) {
-            if !is_quicker_crossed(numer, denom, a, b, c, d) {
-                return checked_new(numer, denom);
+            if is_quicker_crossed(numer, denom, a, b, c, d) {
+                return quotient_apart(a, b, c, d);
             }
+            return checked_new(numer, denom);
         }
     }
-    if has_short_numbers::<T>() {
-        crossed_quotient(a, b, c, d)
-    } else {
-        crossed_quotient_apart(a, b, c, d)
-    }
+    crossed_quotient(a, b, c, d)
 }
 
-/// The product, cancelled across before it is multiplied: 2/3 times 3/4 becomes 1/1 times 1/2.
+/// The product, cancelled across before it is multiplied: 2/3 times 3/4 becomes 1/1 times 1/2. The gcds of long numbers of 128 bits gain
+/// nothing together.
 ///
 /// # Conditions
 ///
@@ -70,12 +65,35 @@ pub fn checked_div<T: Integer>(a: T, b: T, c: T, d: T) -> Option<(T, T)> {
 /// - `right`: `IsLowestTerms (T.value c) (T.value d)`
 #[inline]
 pub(crate) fn crossed_product<T: Integer>(a: T, b: T, c: T, d: T) -> Option<(T, T)> {
+    if has_short_numbers::<T>() {
+        product_together(a, b, c, d)
+    } else {
+        product_in_turn(a, b, c, d)
+    }
+}
+
+// The same with both gcds together.
+#[inline]
+fn product_together<T: Integer>(a: T, b: T, c: T, d: T) -> Option<(T, T)> {
     let ((p, t), (s, q)) = both_lowest_terms(a, d, c, b);
     multiplied(p, q, s, t)
 }
 
-/// The quotient: `a/c` times `d/b`. Reducing `a/c` moves the divisor's sign. If `b`, `c` or `d` is 1, or `a/c` needs no gcd,
-/// at most one gcd is left.
+// The same with one gcd after the other.
+#[inline]
+fn product_in_turn<T: Integer>(a: T, b: T, c: T, d: T) -> Option<(T, T)> {
+    let (p, t) = lowest_terms(a, d);
+    let (s, q) = lowest_terms(c, b);
+    multiplied(p, q, s, t)
+}
+
+// `product_together` by a call of its own. In 128 bits its code is long, and products of short fields take less time without it.
+#[inline(never)]
+fn product_apart<T: Integer>(a: T, b: T, c: T, d: T) -> Option<(T, T)> {
+    product_together(a, b, c, d)
+}
+
+/// The quotient: `a/c` times `d/b`. Reducing `a/c` moves the divisor's sign.
 ///
 /// # Conditions
 ///
@@ -85,26 +103,36 @@ pub(crate) fn crossed_product<T: Integer>(a: T, b: T, c: T, d: T) -> Option<(T, 
 /// - `right`: `IsLowestTerms (T.value c) (T.value d)`
 #[inline]
 pub(crate) fn crossed_quotient<T: Integer>(a: T, b: T, c: T, d: T) -> Option<(T, T)> {
+    if has_short_numbers::<T>() {
+        quotient_together(a, b, c, d)
+    } else {
+        quotient_in_turn(a, b, c, d)
+    }
+}
+
+// The same with both gcds together. If `b`, `c` or `d` is 1, or `a/c` needs no gcd, at most one gcd is left.
+#[inline]
+fn quotient_together<T: Integer>(a: T, b: T, c: T, d: T) -> Option<(T, T)> {
     if b.is_one() || c.is_one() || d.is_one() || c.is_zero() || a.is_zero() || a == c {
-        let (s, t) = lowest_terms(d, b);
-        let (p, q) = checked_new(a, c)?;
-        return multiplied(p, q, s, t);
+        return quotient_in_turn(a, b, c, d);
     }
     let ((n, m), (s, t)) = both_cancelled(a, c, d, b);
     let (p, q) = sign_moved(n, m)?;
     multiplied(p, q, s, t)
 }
 
-// `crossed_product` by a call of its own. In 128 bits its code is long, and products of short fields take less time without it.
-#[inline(never)]
-fn crossed_product_apart<T: Integer>(a: T, b: T, c: T, d: T) -> Option<(T, T)> {
-    crossed_product(a, b, c, d)
+// The same with one gcd after the other.
+#[inline]
+fn quotient_in_turn<T: Integer>(a: T, b: T, c: T, d: T) -> Option<(T, T)> {
+    let (s, t) = lowest_terms(d, b);
+    let (p, q) = checked_new(a, c)?;
+    multiplied(p, q, s, t)
 }
 
-// The same for `crossed_quotient`.
+// The same as `product_apart`.
 #[inline(never)]
-fn crossed_quotient_apart<T: Integer>(a: T, b: T, c: T, d: T) -> Option<(T, T)> {
-    crossed_quotient(a, b, c, d)
+fn quotient_apart<T: Integer>(a: T, b: T, c: T, d: T) -> Option<(T, T)> {
+    quotient_together(a, b, c, d)
 }
 
 // `p/q * s/t`, if its products are already in lowest terms.
@@ -113,13 +141,14 @@ fn multiplied<T: Integer>(p: T, q: T, s: T, t: T) -> Option<(T, T)> {
     Some((p.try_times(s)?, q.try_times(t)?))
 }
 
-// Whether the gcds of the fields take less time than the one of the products: these do not fit an `i64`, and the fields do. Over 1,
-// the products need no gcd.
+// Whether the gcds of the fields take less time than the one of the products: neither of these fits an `i64`, and each field does.
+// The gcd of a long product and a short one ends soon, and that of equal ones at once.
 #[inline]
 fn is_quicker_crossed<T: Integer>(numer: T, denom: T, a: T, b: T, c: T, d: T) -> bool {
     !has_short_numbers::<T>()
-        && !denom.is_one()
-        && (is_long(denom) || is_long(numer))
+        && is_long(denom)
+        && is_long(numer)
+        && numer != denom
         && !(is_long(a) || is_long(b) || is_long(c) || is_long(d))
 }
 

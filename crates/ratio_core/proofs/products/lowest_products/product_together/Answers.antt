@@ -1,7 +1,7 @@
 use Rattle.ratio_integer.proofs.CrossCancelling.{product_lowest}
 use Rattle.ratio_integer.proofs.LowestTerms.{lowest_own}
 use Rattle.ratio_core.proofs.ProductLemmas.{checks_by_lowest}
-use Rattle.ratio_core.proofs.products.lowest_products.crossed_product.Goals as goal
+use Rattle.ratio_core.proofs.products.lowest_products.product_together.Goals as goal
 
 pub multiplied-requires : goal.multiplied-requires
 multiplied-requires g c =

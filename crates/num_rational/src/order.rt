@@ -69,11 +69,11 @@ impl<T: Copy + Integer> Ord for Ratio<T> {
 
     ghost matches_eq = { same_agrees numerator denominator (λ x. x.nonzero) };
 
-    /// The order, by `cross_order`, which divides only if it must.
+    /// The order, by `cross_order`, which counts its divisions and divides only if it must.
     #[inline]
     fn cmp(&self, other: &Ratio<T>) -> Ordering {
         let (n, d) = (self.numer, self.denom);
         let (m, e) = (other.numer, other.denom);
-        cross_order(n, d, m, e)
+        cross_order(n, d, m, e, &mut Steps::new())
     }
 }

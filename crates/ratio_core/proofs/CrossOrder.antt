@@ -29,7 +29,7 @@ opposite x y a b Greater e h = omega (arith, ints)
 same_cmp : (x y a b : ℤ) → x +ℤ b ≡ y +ℤ a → int_cmp x y ≡ int_cmp a b
 same_cmp x y a b e = sym (int_cmp_is x y (int_cmp a b) (alike x y a b (int_cmp a b) e (int_ranks a b)))
 
-turned_cmp : (x y a b : ℤ) → x +ℤ a ≡ y +ℤ b → int_cmp x y ≡ ordering_reverse (int_cmp a b)
+pub turned_cmp : (x y a b : ℤ) → x +ℤ a ≡ y +ℤ b → int_cmp x y ≡ ordering_reverse (int_cmp a b)
 turned_cmp x y a b e = sym (int_cmp_is x y (ordering_reverse (int_cmp a b)) (opposite x y a b (int_cmp a b) e (int_ranks a b)))
 
 pub cmp-less : (x y : ℤ) → x <ℤ y → int_cmp x y ≡ Less

@@ -1,5 +1,5 @@
 -- The rounds of a comparison: how many there are, and the result of each.
-use Rattle.std.specs.Prelude.{◌≡◌, ◌≢◌, ◌⊎◌, ◌+◌, ◌*◌, ◌^◌, ◌<◌, ◌≤◌, ◌≤ℤ◌, ◌<ℤ◌, ◌+ℤ◌, ◌*ℤ◌, ◌||◌, ℕ, ℤ, suc, pos, negsuc, unsigned_abs, min, Bool, true, false, cond, not, List, [], ◌∷◌, length}
+use Rattle.std.specs.Prelude.{◌≡◌, ◌≢◌, ◌⊎◌, ◌+◌, ◌*◌, ◌^◌, ◌<◌, ◌≤◌, ◌≤ℤ◌, ◌<ℤ◌, ◌+ℤ◌, ◌*ℤ◌, ◌||◌, ℕ, ℤ, zero, suc, pos, negsuc, unsigned_abs, min, Bool, true, false, cond, not, List, [], ◌∷◌, length}
 use Rattle.std.proofs.Common.{refl, sym, ap, arith, subst, inl, inr, ◌∙◌}
 use Rattle.std.proofs.lemmas.Bool.{true≢false}
 use Rattle.std.proofs.lemmas.Bool.Decides.{Decides-int_eq}
@@ -9,7 +9,7 @@ use Rattle.std.specs.declared.cmp.Ordering.{Ordering}
 use Rattle.std.specs.declared.cmp.Ordering.TheVariants.{Less, Equal, Greater}
 use Rattle.ratio_integer.specs.Division.{IsAboveMax, IsFloored}
 use Rattle.ratio_integer.specs.Range.{IsHeld, IsRange}
-use Rattle.ratio_core.specs.ContinuedFraction.{Compares, IsCompared, IsPartialQuotients, IsRoundsUnless, IsWithinBits, rounds}
+use Rattle.ratio_core.specs.ContinuedFraction.{Compares, IsBoundedStepCount, IsCompared, IsPartialQuotients, IsRoundsUnless, IsWithinBits, rounds}
 use Rattle.ratio_core.specs.Order.{AreProductsHeld, DoNumeratorsDecide, HaveUnlikeSigns, IsOrderOfParts}
 use Rattle.ratio_core.proofs.CrossOrder.{divided-greater, divided-less, tied-both, tied-first, tied-rest, tied-second, top-equal, top-greater, top-less}
 use Rattle.ratio_core.proofs.Quotients.{Goes, goes_ends, goes_on, quotients_exist, quotients_known, quotients_short}
@@ -271,3 +271,34 @@ pub nothing_settles : {lo hi n d m e : ℤ} → ¬ ((d ≡ e) × (pos 0 <ℤ d))
     → ¬ (DoNumeratorsDecide n d m e ⊎ AreProductsHeld lo hi n d m e)
 nothing_settles shared split held (inr h) = held h
 nothing_settles shared split held (inl h) = elim h.2 [ inl same ↦ shared (same, h.0) | inr unlike ↦ split (h.0, h.1, unlike) ]
+
+-- ---- steps that are bounded alone
+
+pub bounded-by_rounds : (hi : ℤ) {n d m e : ℤ} {answer : Ordering} {l l' l'' r r' r'' : ℕ} → d ≢ pos 0 → e ≢ pos 0 → l' ≡ l → r' ≡ r → Compares (hi +ℤ pos 1) n d m e answer l' l'' r' r''
+    → (k : ℕ) × (l'' ≡ l + k) × (r'' ≡ r + k) × IsWithinBits (min (unsigned_abs d) (unsigned_abs e)) k
+bounded-by_rounds hi dn en left right h =
+    let counted = steps-by_rounds {Settled = ⊥} {hi = hi} dn en (λ never. never) h in
+    let left_rose = counted.1 in
+    let right_rose = counted.2 in
+    (counted.0, omega arith, omega arith, counted.3.bound)
+
+pub bounded_none : {lo hi n d m e : ℤ} (l r : ℕ) → (k : ℕ) × (l ≡ l + k) × (r ≡ r + k) × IsBoundedStepCount lo hi n d m e k
+bounded_none l r = (0, omega arith, omega arith, record { none = λ settled. refl; bound = λ j h. omega arith })
+
+pub bounded_unsettled : {lo hi n d m e : ℤ} (l l' r r' : ℕ) → ¬ (DoNumeratorsDecide n d m e ⊎ AreProductsHeld lo hi n d m e)
+    → (k : ℕ) × (l' ≡ l + k) × (r' ≡ r + k) × IsWithinBits (min (unsigned_abs d) (unsigned_abs e)) k
+    → (k : ℕ) × (l' ≡ l + k) × (r' ≡ r + k) × IsBoundedStepCount lo hi n d m e k
+bounded_unsettled l l' r r' unsettled counted = (counted.0, counted.1, counted.2, record { none = λ settled. absurd (unsettled settled); bound = counted.3 })
+
+-- eight steps, if both denominators have four binary digits
+eight_within : (m : ℕ) → 8 ≤ m → IsWithinBits m 8
+eight_within m large zero h = absurd (omega arith)
+eight_within m large (suc zero) h = absurd (omega arith)
+eight_within m large (suc (suc zero)) h = absurd (omega arith)
+eight_within m large (suc (suc (suc zero))) h = absurd (omega arith)
+eight_within m large (suc (suc (suc (suc j)))) h = omega arith
+
+pub eight_steps : (d e : ℤ) → pos 8 ≤ℤ d → pos 8 ≤ℤ e → IsWithinBits (min (unsigned_abs d) (unsigned_abs e)) 8
+eight_steps (pos d) (pos e) first second = eight_within (min d e) (omega (arith, ints))
+eight_steps (negsuc d) e first second = absurd (omega (arith, ints))
+eight_steps (pos d) (negsuc e) first second = absurd (omega (arith, ints))

@@ -14,5 +14,6 @@ pub mod Reading
 pub mod Refusal
 pub mod Rounding
 pub mod RoundingLaws
+pub mod Sides
 pub mod Signs
 pub mod Words

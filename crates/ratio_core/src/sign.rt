@@ -4,6 +4,7 @@ ghost use Rattle.ratio_integer.specs.Range.{IsHeld};
 ghost use Rattle.ratio_core.specs.Signs.{IsAbsolute, IsNegative, IsPositive, IsPositiveDifference, IsSign, PositiveDifferenceCondition};
 
 use crate::order::cross_order;
+use crate::steps::Steps;
 use crate::sums::sub;
 use ratio_integer::{Integer, SignedInteger};
 use std::cmp::Ordering;
@@ -33,7 +34,7 @@ pub fn abs_sub<T: SignedInteger>(a: T, b: T, c: T, d: T) -> (T, T)
     requires answered { PositiveDifferenceCondition T.EXACT_SUMS T.lo T.hi (T.value a) (T.value b) (T.value c) (T.value d) }
     ensures { IsPositiveDifference T.lo T.hi (T.value a) (T.value b) (T.value c) (T.value d) (T.value result.0) (T.value result.1) }
 {
-    match cross_order(a, b, c, d) {
+    match cross_order(a, b, c, d, &mut Steps::new()) {
         Ordering::Greater => sub(a, b, c, d),
         Ordering::Less | Ordering::Equal => (T::ZERO, T::ONE),
     }

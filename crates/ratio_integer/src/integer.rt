@@ -6,7 +6,7 @@ ghost use Rattle.ratio_integer.specs.Arithmetic.{difference_of, sum_of};
 ghost use Rattle.ratio_integer.specs.Comparison.{Tells, lt_tells};
 ghost use Rattle.ratio_integer.specs.Division.{ChecksLcm, IsAboveMax, IsFloored, IsFlooredQuotient, IsFlooredRemainder, IsGcdAboveMax, IsGcdOf, IsLcmOf, IsMultiple, LcmHeld};
 ghost use Rattle.ratio_integer.specs.Fraction.{ChecksLowest};
-ghost use Rattle.ratio_integer.specs.Halves.{AreHalves};
+ghost use Rattle.ratio_integer.specs.Halves.{AreHalves, IsBase};
 ghost use Rattle.ratio_integer.specs.Laws.{IsLawful};
 ghost use Rattle.ratio_integer.specs.Range.{Checks, FitsIn128, IsHeld, IsRange};
 
@@ -266,13 +266,22 @@ pub trait Integer: Copy + Ord + Hash {
         self.div_mod_floor(o).1
     }
 
-    /// The high and the low half: the floored quotient and the rest by the root of the count of the type's numbers, as -7
-    /// and 12 of -100 over `i8`, where the root is 16. The product of two low halves may not fit the type, but half of
-    /// it does. `None` if the type has no such root, or no quick way to divide by it.
-    fn halves(self) -> Option<(Self, Self)>
-        ensures { IfSome result (λ r. AreHalves lo hi (value self) (value r.0) (value r.1)) }
+    /// The half base, if dividing by it is quick: the root of the count of the type's numbers, as 2^32 over `i64`. It is even
+    /// and at least 6, the greatest number is 1 less than a multiple of it, and at least half of the numbers are not below 0.
+    /// `None` if the type has no such base, or no quick way to divide by it.
+    fn half_base() -> Option<Self>
+        ensures { IfSome result (λ base. IsBase lo hi (value base)) }
     {
         None
+    }
+
+    /// The high and the low half: the floored quotient and the rest by the half base, as -1 and 2^32-5 of -5 over `i64`. The
+    /// product of two low halves may not fit the type, but half of it does.
+    fn halves(self, base: Self) -> (Self, Self)
+        requires { IsBase lo hi (value base) }
+        ensures { AreHalves lo hi (value self) (value result.0) (value result.1) }
+    {
+        self.div_mod_floor(base)
     }
 
     /// The greatest common divisor. It is never negative, and for 0 and 0 it is 0. It fits the type, unless

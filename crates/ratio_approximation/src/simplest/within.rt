@@ -10,6 +10,7 @@ ghost use Rattle.ratio_approximation.specs.SimplestWithin.{ChecksSimplestWithin}
 use crate::simplest::simplest_between;
 use crate::simplest::within::choice::with_end;
 use crate::simplest::within::end::{End, high_end, low_end};
+use ratio_core::Steps;
 use ratio_core::order::cross_order;
 use ratio_integer::{Integer, both_held, lowest_terms};
 use std::cmp::Ordering;
@@ -38,7 +39,14 @@ fn within_ends<T: Integer>(low: &End<T>, high: &End<T>) -> Option<(T, T)>
         (end_bound low.now.included (T.value low.now.numer) (T.value low.now.denom))
         (end_bound high.now.included (T.value high.now.numer) (T.value high.now.denom)) result }
 {
-    match cross_order(low.numer, low.denom, high.numer, high.denom) {
+    let order = cross_order(
+        low.numer,
+        low.denom,
+        high.numer,
+        high.denom,
+        &mut Steps::new(),
+    );
+    match order {
         Ordering::Less => {
             let between = simplest_between(low.numer, low.denom, high.numer, high.denom);
             let from_low = with_end(between, low);

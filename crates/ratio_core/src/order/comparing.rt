@@ -1,7 +1,7 @@
 //! Two comparisons of fractions: one counts each division, and one divides only if it must.
-ghost use Rattle.std.specs.Prelude.{◌≡◌, ◌≢◌, ◌↔◌, ◌<ℤ◌, ◌+◌, ℕ, pos, IsTrue};
+ghost use Rattle.std.specs.Prelude.{◌≡◌, ◌≢◌, ◌↔◌, ◌⊎◌, ◌<ℤ◌, ◌+◌, ℕ, pos, IsTrue, MatchOption};
 ghost use Rattle.ratio_core.specs.ContinuedFraction.{IsSparingStepCount, IsStepCount};
-ghost use Rattle.ratio_core.specs.Order.{HaveUnlikeSigns, cross_cmp};
+ghost use Rattle.ratio_core.specs.Order.{AreProductsHeld, DoNumeratorsDecide, HaveUnlikeSigns, cross_cmp};
 
 use crate::order::products::order_of_products;
 use crate::order::rounds::cmp_by_rounds;
@@ -38,28 +38,43 @@ pub fn compare<T: Integer>(n: T, d: T, m: T, e: T, steps: &mut Steps) -> Orderin
         × (steps.new.right ≡ steps.old.right + k)
         × IsSparingStepCount T.lo T.hi (T.value n) (T.value d) (T.value m) (T.value e) k }
 {
-    if share_denominator(d, e) {
-        return n.cmp(&m);
-    }
-    if let Some(order) = order_of_products(n, d, m, e) {
+    if let Some(order) = order_at_once(n, d, m, e) {
         return order;
-    }
-    // This test comes last, since a processor cannot guess it.
-    if are_split_by_zero(n, d, m, e) {
-        return n.cmp(&m);
     }
     cmp_counted(n, d, m, e, steps)
 }
 
+/// The order of `n/d` and `m/e`, if the numerators alone or the cross products decide it.
+#[inline(always)]
+pub(super) fn order_at_once<T: Integer>(n: T, d: T, m: T, e: T) -> Option<Ordering>
+    requires left_nonzero { T.value d ≢ pos 0 }
+    requires right_nonzero { T.value e ≢ pos 0 }
+    ensures { let Settled = DoNumeratorsDecide (T.value n) (T.value d) (T.value m) (T.value e)
+        ⊎ AreProductsHeld T.lo T.hi (T.value n) (T.value d) (T.value m) (T.value e) in
+        MatchOption result (¬ Settled) (λ order. (order ≡ cross_cmp (T.value n) (T.value d) (T.value m) (T.value e)) × Settled) }
+{
+    if share_denominator(d, e) {
+        return Some(n.cmp(&m));
+    }
+    if let Some(order) = order_of_products(n, d, m, e) {
+        return Some(order);
+    }
+    // This test comes last, since a processor cannot guess it.
+    if are_split_by_zero(n, d, m, e) {
+        return Some(n.cmp(&m));
+    }
+    None
+}
+
 /// Whether both denominators are the same positive number.
-pub(super) fn share_denominator<T: Integer>(d: T, e: T) -> bool
+fn share_denominator<T: Integer>(d: T, e: T) -> bool
     ensures { IsTrue result ↔ ((T.value d ≡ T.value e) × (pos 0 <ℤ T.value d)) }
 {
     d == e && T::ZERO < d
 }
 
 /// Whether both denominators are positive and exactly one numerator is below 0.
-pub(super) fn are_split_by_zero<T: Integer>(n: T, d: T, m: T, e: T) -> bool
+fn are_split_by_zero<T: Integer>(n: T, d: T, m: T, e: T) -> bool
     ensures { IsTrue result ↔ ((pos 0 <ℤ T.value d) × (pos 0 <ℤ T.value e) × HaveUnlikeSigns (T.value n) (T.value m)) }
 {
     T::ZERO < d && T::ZERO < e && have_unlike_signs(n, m)

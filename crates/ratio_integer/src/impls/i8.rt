@@ -106,11 +106,6 @@ impl Integer for i8 {
         self.checked_sub(o)
     }
 
-    fn halves(self) -> Option<(i8, i8)> {
-        let half = i8::BITS / 2;
-        Some((self.div_euclid(1 << half), self.rem_euclid(1 << half)))
-    }
-
     fn gcd(self, o: i8) -> i8 {
         binary_gcd(self.unsigned_abs() as u64, o.unsigned_abs() as u64) as i8
     }

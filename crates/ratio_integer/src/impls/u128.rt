@@ -106,9 +106,13 @@ impl Integer for u128 {
         self.checked_sub(o)
     }
 
-    fn halves(self) -> Option<(u128, u128)> {
+    fn half_base() -> Option<u128> {
+        Some(1 << (u128::BITS / 2))
+    }
+
+    fn halves(self, _base: u128) -> (u128, u128) {
         let half = u128::BITS / 2;
-        Some((self.div_euclid(1 << half), self.rem_euclid(1 << half)))
+        (self.div_euclid(1 << half), self.rem_euclid(1 << half))
     }
 
     fn gcd(self, o: u128) -> u128 {

@@ -105,9 +105,13 @@ impl Integer for u64 {
         self.checked_sub(o)
     }
 
-    fn halves(self) -> Option<(u64, u64)> {
+    fn half_base() -> Option<u64> {
+        Some(1 << (u64::BITS / 2))
+    }
+
+    fn halves(self, _base: u64) -> (u64, u64) {
         let half = u64::BITS / 2;
-        Some((self.div_euclid(1 << half), self.rem_euclid(1 << half)))
+        (self.div_euclid(1 << half), self.rem_euclid(1 << half))
     }
 
     fn gcd(self, o: u64) -> u64 {

@@ -105,11 +105,6 @@ impl Integer for u8 {
         self.checked_sub(o)
     }
 
-    fn halves(self) -> Option<(u8, u8)> {
-        let half = u8::BITS / 2;
-        Some((self.div_euclid(1 << half), self.rem_euclid(1 << half)))
-    }
-
     fn gcd(self, o: u8) -> u8 {
         binary_gcd(self as u64, o as u64) as u8
     }

@@ -105,9 +105,13 @@ impl Integer for usize {
         self.checked_sub(o)
     }
 
-    fn halves(self) -> Option<(usize, usize)> {
+    fn half_base() -> Option<usize> {
+        Some(1 << (usize::BITS / 2))
+    }
+
+    fn halves(self, _base: usize) -> (usize, usize) {
         let half = usize::BITS / 2;
-        Some((self.div_euclid(1 << half), self.rem_euclid(1 << half)))
+        (self.div_euclid(1 << half), self.rem_euclid(1 << half))
     }
 
     fn gcd(self, o: usize) -> usize {

@@ -15,7 +15,7 @@ fn stands<T: Integer>(n: T, d: T, m: T, e: T, order: Ordering) -> bool {
         && !e.is_zero()
         && cmp_counted(n, d, m, e, &mut Steps::new()) == order
         && compare(n, d, m, e, &mut Steps::new()) == order
-        && cross_order(n, d, m, e) == order
+        && cross_order(n, d, m, e, &mut Steps::new()) == order
 }
 
 // The first row with another order.

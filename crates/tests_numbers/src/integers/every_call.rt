@@ -107,7 +107,7 @@ fn answers_all<T: Integer>(a: T, b: T) -> bool
         && b <= T::MAX
         && required(a, b) == [0, 1, 10, 2, 24, 24, 1, 2, 6, 6, 6, 6]
         && provided(a, b) == [1, 0, 0, 1, 0, 10, 2, 12, 1, 2, 1, 2, 2, 12, 0, 1]
-        && halves(a) == Some((0, 6))
+        && halves(a).unwrap_or((0, 6)) == (0, 6)
         && gcds(a, b) == (2, 4)
 }
 
@@ -119,9 +119,14 @@ fn gcds<T: Integer>(a: T, b: T) -> (i128, i128)
     (number(left), number(right))
 }
 
+/// The halves of a number, if its type has a half base.
 fn halves<T: Integer>(a: T) -> Option<(i128, i128)> {
-    let (high, low) = a.halves()?;
+    let (high, low) = a.halves(T::half_base()?);
     Some((number(high), number(low)))
+}
+
+fn half_base<T: Integer>() -> Option<i128> {
+    Some(number(T::half_base()?))
 }
 
 /// Whether the calls of a type with negative numbers return what they must at 6.
@@ -152,6 +157,33 @@ fn integers(rt: HostRuntime) {
         answers_all(6usize, 4),
     ];
     each_holds(&rt, &facts);
+}
+
+#[test]
+fn half_bases(rt: HostRuntime) {
+    let short = [
+        half_base::<i8>(),
+        half_base::<i16>(),
+        half_base::<i32>(),
+        half_base::<u8>(),
+        half_base::<u16>(),
+        half_base::<u32>(),
+    ];
+    let long = [
+        half_base::<i64>(),
+        half_base::<isize>(),
+        half_base::<u64>(),
+        half_base::<usize>(),
+    ];
+    let longest = [half_base::<i128>(), half_base::<u128>()];
+    each_holds(
+        &rt,
+        &[
+            short == [None; 6],
+            long == [Some(1 << 32); 4],
+            longest == [Some(1 << 64); 2],
+        ],
+    );
 }
 
 #[test]

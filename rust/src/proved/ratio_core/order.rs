@@ -4,8 +4,10 @@ mod comparing;
 mod deciding;
 pub mod dividing;
 mod following;
+mod halving;
 mod products;
 mod rounds;
+mod side;
 pub mod signs;
 mod words;
 

@@ -2,6 +2,7 @@
 //! Signs, negatives, absolute values and positive differences of fractions, and signs of numbers. A denominator may have either sign.
 
 use crate::proved::ratio_core::order::cross_order;
+use crate::proved::ratio_core::steps::Steps;
 use crate::proved::ratio_core::sums::sub;
 use crate::proved::ratio_integer::{Integer, SignedInteger};
 use core::cmp::Ordering;
@@ -43,7 +44,7 @@ pub fn abs<T: SignedInteger>(n: T, d: T) -> T {
 /// - `answered`: `PositiveDifferenceCondition T.EXACT_SUMS T.lo T.hi (T.value a) (T.value b) (T.value c) (T.value d)`
 #[inline]
 pub fn abs_sub<T: SignedInteger>(a: T, b: T, c: T, d: T) -> (T, T) {
-    match cross_order(a, b, c, d) {
+    match cross_order(a, b, c, d, &mut Steps::new()) {
         Ordering::Greater => sub(a, b, c, d),
         Ordering::Less | Ordering::Equal => (T::ZERO, T::ONE),
     }

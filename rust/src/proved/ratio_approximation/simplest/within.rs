@@ -6,6 +6,7 @@ mod end;
 use crate::proved::ratio_approximation::simplest::simplest_between;
 use crate::proved::ratio_approximation::simplest::within::choice::with_end;
 use crate::proved::ratio_approximation::simplest::within::end::{End, high_end, low_end};
+use crate::proved::ratio_core::Steps;
 use crate::proved::ratio_core::order::cross_order;
 use crate::proved::ratio_integer::{Integer, both_held, lowest_terms};
 use core::cmp::Ordering;
@@ -40,7 +41,14 @@ pub fn simplest_within<T: Integer>(low: Bound<(T, T)>, high: Bound<(T, T)>) -> O
 /// - `high`: `pos 0 <ℤ T.value high.now.denom`
 #[inline]
 fn within_ends<T: Integer>(low: &End<T>, high: &End<T>) -> Option<(T, T)> {
-    match cross_order(low.numer, low.denom, high.numer, high.denom) {
+    let order = cross_order(
+        low.numer,
+        low.denom,
+        high.numer,
+        high.denom,
+        &mut Steps::new(),
+    );
+    match order {
         Ordering::Less => {
             let between = simplest_between(low.numer, low.denom, high.numer, high.denom);
             let from_low = with_end(between, low);

@@ -37,27 +37,43 @@ pub fn cmp_counted<T: Integer>(n: T, d: T, m: T, e: T, steps: &mut Steps) -> Ord
 /// - `right_nonzero`: `T.value e ≢ pos 0`
 #[inline]
 pub fn compare<T: Integer>(n: T, d: T, m: T, e: T, steps: &mut Steps) -> Ordering {
-    if share_denominator(d, e) {
-        return n.cmp(&m);
-    }
-    if let Some(order) = order_of_products(n, d, m, e) {
+    if let Some(order) = order_at_once(n, d, m, e) {
         return order;
-    }
-    // This test comes last, since a processor cannot guess it.
-    if are_split_by_zero(n, d, m, e) {
-        return n.cmp(&m);
     }
     cmp_counted(n, d, m, e, steps)
 }
 
+/// The order of `n/d` and `m/e`, if the numerators alone or the cross products decide it.
+///
+/// # Conditions
+///
+/// The proof requires of the caller:
+///
+/// - `left_nonzero`: `T.value d ≢ pos 0`
+/// - `right_nonzero`: `T.value e ≢ pos 0`
+#[inline(always)]
+pub(super) fn order_at_once<T: Integer>(n: T, d: T, m: T, e: T) -> Option<Ordering> {
+    if share_denominator(d, e) {
+        return Some(n.cmp(&m));
+    }
+    if let Some(order) = order_of_products(n, d, m, e) {
+        return Some(order);
+    }
+    // This test comes last, since a processor cannot guess it.
+    if are_split_by_zero(n, d, m, e) {
+        return Some(n.cmp(&m));
+    }
+    None
+}
+
 /// Whether both denominators are the same positive number.
 #[inline]
-pub(super) fn share_denominator<T: Integer>(d: T, e: T) -> bool {
+fn share_denominator<T: Integer>(d: T, e: T) -> bool {
     d == e && T::ZERO < d
 }
 
 /// Whether both denominators are positive and exactly one numerator is below 0.
 #[inline]
-pub(super) fn are_split_by_zero<T: Integer>(n: T, d: T, m: T, e: T) -> bool {
+fn are_split_by_zero<T: Integer>(n: T, d: T, m: T, e: T) -> bool {
     T::ZERO < d && T::ZERO < e && have_unlike_signs(n, m)
 }

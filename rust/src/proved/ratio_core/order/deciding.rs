@@ -1,8 +1,7 @@
 // Erased from crates/ratio_core/src/order/deciding.rt by rust/erase: not to be edited.
-//! The order of two fractions, by what decides it soonest. It counts no steps.
+//! The order of two fractions, by what decides it soonest.
 
-use crate::proved::ratio_core::order::comparing::{are_split_by_zero, share_denominator};
-use crate::proved::ratio_core::order::products::order_of_products;
+use crate::proved::ratio_core::order::comparing::order_at_once;
 use crate::proved::ratio_core::order::rounds::cmp_by_rounds;
 use crate::proved::ratio_core::order::words::order_of_words;
 use crate::proved::ratio_core::steps::Steps;
@@ -10,9 +9,10 @@ use crate::proved::ratio_integer::Integer;
 use core::cmp::Ordering;
 
 /// The order of `n/d` and `m/e`, as `compare` tells it. The denominators may have either sign, and the fractions need not
-/// be reduced. Where the cross products do not fit the type, it forms them as words. It divides in rounds, as
-/// `cmp_counted` does, only if a denominator is negative, if a numerator is the least number, or if the numbers of the
-/// type have no halves.
+/// be reduced. Where neither the numerators alone nor the cross products decide, it forms these products as words. It divides
+/// in rounds, as `cmp_counted` does, if a denominator is below 8, if a numerator is the least number, or if the type has no
+/// half base. Both sides of `steps` rise by the same number, which is at most twice the number of binary digits of the
+/// smaller denominator.
 ///
 /// # Conditions
 ///
@@ -21,18 +21,11 @@ use core::cmp::Ordering;
 /// - `left_nonzero`: `T.value d ≢ pos 0`
 /// - `right_nonzero`: `T.value e ≢ pos 0`
 #[inline]
-pub fn cross_order<T: Integer>(n: T, d: T, m: T, e: T) -> Ordering {
-    if share_denominator(d, e) {
-        return n.cmp(&m);
+pub fn cross_order<T: Integer>(n: T, d: T, m: T, e: T, steps: &mut Steps) -> Ordering {
+    match order_at_once(n, d, m, e) {
+        Some(order) => order,
+        None => long_order(n, d, m, e, steps),
     }
-    if let Some(order) = order_of_products(n, d, m, e) {
-        return order;
-    }
-    // This test comes after the products, since a processor cannot guess it.
-    if are_split_by_zero(n, d, m, e) {
-        return n.cmp(&m);
-    }
-    long_order(n, d, m, e)
 }
 
 /// The same for fractions whose cross products do not fit the type. It is a function of its own, so that what goes before it
@@ -46,9 +39,9 @@ pub fn cross_order<T: Integer>(n: T, d: T, m: T, e: T) -> Ordering {
 /// - `right_nonzero`: `T.value e ≢ pos 0`
 #[cold]
 #[inline(never)]
-fn long_order<T: Integer>(n: T, d: T, m: T, e: T) -> Ordering {
-    match order_of_words(n, d, m, e) {
-        None => cmp_by_rounds(n, d, m, e, &mut Steps::new()),
+fn long_order<T: Integer>(n: T, d: T, m: T, e: T, steps: &mut Steps) -> Ordering {
+    match order_of_words(n, d, m, e, steps) {
+        None => cmp_by_rounds(n, d, m, e, steps),
         Some(order) => order,
     }
 }

@@ -98,9 +98,14 @@ impl Integer for i128 {
     }
 
     #[inline]
-    fn halves(self) -> Option<(i128, i128)> {
+    fn half_base() -> Option<i128> {
+        Some(1 << (i128::BITS / 2))
+    }
+
+    #[inline]
+    fn halves(self, _base: i128) -> (i128, i128) {
         let half = i128::BITS / 2;
-        Some((self.div_euclid(1 << half), self.rem_euclid(1 << half)))
+        (self.div_euclid(1 << half), self.rem_euclid(1 << half))
     }
 
     #[inline]

@@ -97,12 +97,6 @@ impl Integer for i16 {
     }
 
     #[inline]
-    fn halves(self) -> Option<(i16, i16)> {
-        let half = i16::BITS / 2;
-        Some((self.div_euclid(1 << half), self.rem_euclid(1 << half)))
-    }
-
-    #[inline]
     fn gcd(self, o: i16) -> i16 {
         binary_gcd(self.unsigned_abs() as u64, o.unsigned_abs() as u64) as i16
     }

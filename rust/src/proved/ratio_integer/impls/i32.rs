@@ -98,12 +98,6 @@ impl Integer for i32 {
     }
 
     #[inline]
-    fn halves(self) -> Option<(i32, i32)> {
-        let half = i32::BITS / 2;
-        Some((self.div_euclid(1 << half), self.rem_euclid(1 << half)))
-    }
-
-    #[inline]
     fn gcd(self, o: i32) -> i32 {
         binary_gcd(self.unsigned_abs() as u64, o.unsigned_abs() as u64) as i32
     }

@@ -98,9 +98,14 @@ impl Integer for i64 {
     }
 
     #[inline]
-    fn halves(self) -> Option<(i64, i64)> {
+    fn half_base() -> Option<i64> {
+        Some(1 << (i64::BITS / 2))
+    }
+
+    #[inline]
+    fn halves(self, _base: i64) -> (i64, i64) {
         let half = i64::BITS / 2;
-        Some((self.div_euclid(1 << half), self.rem_euclid(1 << half)))
+        (self.div_euclid(1 << half), self.rem_euclid(1 << half))
     }
 
     #[inline]

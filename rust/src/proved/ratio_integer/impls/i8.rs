@@ -97,12 +97,6 @@ impl Integer for i8 {
     }
 
     #[inline]
-    fn halves(self) -> Option<(i8, i8)> {
-        let half = i8::BITS / 2;
-        Some((self.div_euclid(1 << half), self.rem_euclid(1 << half)))
-    }
-
-    #[inline]
     fn gcd(self, o: i8) -> i8 {
         binary_gcd(self.unsigned_abs() as u64, o.unsigned_abs() as u64) as i8
     }

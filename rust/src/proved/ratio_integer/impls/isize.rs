@@ -97,9 +97,14 @@ impl Integer for isize {
     }
 
     #[inline]
-    fn halves(self) -> Option<(isize, isize)> {
+    fn half_base() -> Option<isize> {
+        Some(1 << (isize::BITS / 2))
+    }
+
+    #[inline]
+    fn halves(self, _base: isize) -> (isize, isize) {
         let half = isize::BITS / 2;
-        Some((self.div_euclid(1 << half), self.rem_euclid(1 << half)))
+        (self.div_euclid(1 << half), self.rem_euclid(1 << half))
     }
 
     #[inline]

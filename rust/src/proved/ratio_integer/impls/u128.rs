@@ -97,9 +97,14 @@ impl Integer for u128 {
     }
 
     #[inline]
-    fn halves(self) -> Option<(u128, u128)> {
+    fn half_base() -> Option<u128> {
+        Some(1 << (u128::BITS / 2))
+    }
+
+    #[inline]
+    fn halves(self, _base: u128) -> (u128, u128) {
         let half = u128::BITS / 2;
-        Some((self.div_euclid(1 << half), self.rem_euclid(1 << half)))
+        (self.div_euclid(1 << half), self.rem_euclid(1 << half))
     }
 
     #[inline]

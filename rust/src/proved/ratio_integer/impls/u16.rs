@@ -96,12 +96,6 @@ impl Integer for u16 {
     }
 
     #[inline]
-    fn halves(self) -> Option<(u16, u16)> {
-        let half = u16::BITS / 2;
-        Some((self.div_euclid(1 << half), self.rem_euclid(1 << half)))
-    }
-
-    #[inline]
     fn gcd(self, o: u16) -> u16 {
         binary_gcd(self as u64, o as u64) as u16
     }

@@ -96,12 +96,6 @@ impl Integer for u32 {
     }
 
     #[inline]
-    fn halves(self) -> Option<(u32, u32)> {
-        let half = u32::BITS / 2;
-        Some((self.div_euclid(1 << half), self.rem_euclid(1 << half)))
-    }
-
-    #[inline]
     fn gcd(self, o: u32) -> u32 {
         binary_gcd(self as u64, o as u64) as u32
     }

@@ -96,9 +96,14 @@ impl Integer for u64 {
     }
 
     #[inline]
-    fn halves(self) -> Option<(u64, u64)> {
+    fn half_base() -> Option<u64> {
+        Some(1 << (u64::BITS / 2))
+    }
+
+    #[inline]
+    fn halves(self, _base: u64) -> (u64, u64) {
         let half = u64::BITS / 2;
-        Some((self.div_euclid(1 << half), self.rem_euclid(1 << half)))
+        (self.div_euclid(1 << half), self.rem_euclid(1 << half))
     }
 
     #[inline]

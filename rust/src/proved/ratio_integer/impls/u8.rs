@@ -96,12 +96,6 @@ impl Integer for u8 {
     }
 
     #[inline]
-    fn halves(self) -> Option<(u8, u8)> {
-        let half = u8::BITS / 2;
-        Some((self.div_euclid(1 << half), self.rem_euclid(1 << half)))
-    }
-
-    #[inline]
     fn gcd(self, o: u8) -> u8 {
         binary_gcd(self as u64, o as u64) as u8
     }

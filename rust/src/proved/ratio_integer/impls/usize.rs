@@ -96,9 +96,14 @@ impl Integer for usize {
     }
 
     #[inline]
-    fn halves(self) -> Option<(usize, usize)> {
+    fn half_base() -> Option<usize> {
+        Some(1 << (usize::BITS / 2))
+    }
+
+    #[inline]
+    fn halves(self, _base: usize) -> (usize, usize) {
         let half = usize::BITS / 2;
-        Some((self.div_euclid(1 << half), self.rem_euclid(1 << half)))
+        (self.div_euclid(1 << half), self.rem_euclid(1 << half))
     }
 
     #[inline]

@@ -5,17 +5,17 @@ use Rattle.ratio_approximation.proofs.simplest.within.within_ends.Goals.{else-lo
 
 pub returns-in-Less : goal.returns-in-Less
 returns-in-Less g c =
-    let less = order_told _ _ _ _ _ c.requires.low c.requires.high c.in-Less.ensures in
+    let less = order_told _ _ _ _ _ c.requires.low c.requires.high c.in-Less.ensures.order in
     with_both_ends _ _ _ _ _ _ _ _ _ _ _ _ c.requires.low c.requires.high less c.simplest_between-between.ensures c.with_end-from_low.ensures c.with_end.ensures
 
 pub returns-then-high : goal.returns-then-high
 returns-then-high g c =
-    let same = order_told _ _ _ _ _ c.requires.low c.requires.high c.in-Equal.ensures in
+    let same = order_told _ _ _ _ _ c.requires.low c.requires.high c.in-Equal.ensures.order in
     end_alone _ _ _ _ _ _ _ _ _ _ c.requires.low c.requires.high c.if-low.true c.if-high.true same c.lowest_terms.ensures
 
 pub returns-else-low : goal.returns-else-low
 returns-else-low g c =
-    let same = order_told _ _ _ _ _ c.requires.low c.requires.high c.in-Equal.ensures in
+    let same = order_told _ _ _ _ _ c.requires.low c.requires.high c.in-Equal.ensures.order in
     elim c.else-low.branch [
       | else-low-via-then-low+else-high w ↦ none_at_end _ _ _ _ _ _ _ _ c.requires.low c.requires.high (inr w.if-high.false) same
       | else-low-via-else-low w ↦ none_at_end _ _ _ _ _ _ _ _ c.requires.low c.requires.high (inl w.if-low.false) same
@@ -23,5 +23,5 @@ returns-else-low g c =
 
 pub returns-in-Greater : goal.returns-in-Greater
 returns-in-Greater g c =
-    let more = order_told _ _ _ _ _ c.requires.low c.requires.high c.in-Greater.ensures in
+    let more = order_told _ _ _ _ _ c.requires.low c.requires.high c.in-Greater.ensures.order in
     none_turned _ _ _ _ _ _ _ _ c.requires.low c.requires.high more

@@ -8,7 +8,6 @@ use lib.IntN.{one, *ℤ_comm, *ℤ-one, zero-*ℤ}
 use Rattle.ratio_integer.specs.Division.{GcdHeld, IsGcdOf}
 use Rattle.ratio_integer.specs.Fraction.{ChecksLowest, Fits, IsCancelledOf, IsHeldLowest, IsLowestTerms, IsLowestTermsOf, SameValue}
 use Rattle.ratio_integer.specs.Range.{IsHeld, IsRange}
-use Rattle.std.proofs.lemmas.Nat.Gcd.{dvd_refl}
 use Rattle.ratio_integer.proofs.CommonDivisors.{coprime_gcd, coprime_turned, gcd_exists}
 use Rattle.ratio_integer.proofs.DivisionLemmas.{abs_pos, gcd_bounded, low_below, quotient_held}
 use Rattle.ratio_integer.proofs.GcdLemmas.{coprime-dvd}
@@ -156,12 +155,6 @@ cancelled_quotients n d g a b is a-is b-is = record {
 pub cancelled_by_one : (n d g : ℤ) → IsGcdOf n d g → g ≡ pos 1 → IsCancelledOf n d n d
 unfolding one
 cancelled_by_one n d g is single = record { divisor = g; greatest = is; numer = rw single (*ℤ-one n); denom = rw single (*ℤ-one d) }
-
--- a number that is not 0, divided by itself
-pub quotient_by_itself : (n d : ℤ) → d ≢ pos 0 → n ≡ d → int_div n d ≡ pos 1
-unfolding one
-quotient_by_itself n d nonzero same =
-    mul_cancel (int_div n d) (pos 1) d nonzero (rw same (exact_quotient d d (dvd_refl (unsigned_abs d)) ∙ sym (*ℤ_comm (pos 1) d ∙ *ℤ-one d)))
 
 pub lowest_quotients : (n d g a b : ℤ) → pos 0 <ℤ d → IsGcdOf n d g → a ≡ int_div n g → b ≡ int_div d g → IsLowestTermsOf n d a b
 lowest_quotients n d g a b positive is a-is b-is = lowest_cancelled n d a b positive (cancelled_quotients n d g a b is a-is b-is)

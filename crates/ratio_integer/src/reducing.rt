@@ -1,6 +1,6 @@
 //! The two numbers of a fraction divided by their gcd, and its lowest terms.
-ghost use Rattle.std.specs.Prelude.{◌≡◌, ◌≢◌, ◌<ℤ◌, pos, int_div};
-ghost use Rattle.ratio_integer.specs.Division.{IsAboveMax, IsGcdAboveMax, IsGcdOf};
+ghost use Rattle.std.specs.Prelude.{◌≢◌, ◌<ℤ◌, pos};
+ghost use Rattle.ratio_integer.specs.Division.{IsGcdAboveMax, IsGcdOf};
 ghost use Rattle.ratio_integer.specs.Fraction.{IsCancelledOf, IsHeldLowest};
 
 use crate::held::both_held;
@@ -71,30 +71,5 @@ pub fn both_cancelled<T: Integer>(a: T, b: T, c: T, d: T) -> ((T, T), (T, T))
     ensures right { IsCancelledOf (T.value c) (T.value d) (T.value result.1.0) (T.value result.1.1) }
 {
     let (left, right) = T::gcds(a, b, c, d);
-    (quotients(a, b, left), quotients(c, d, right))
-}
-
-// Both numbers, divided by their gcd.
-fn quotients<T: Integer>(n: T, d: T, common: T) -> (T, T)
-    requires fraction { T.value d ≢ pos 0 }
-    requires greatest { IsGcdOf (T.value n) (T.value d) (T.value common) }
-    ensures { IsCancelledOf (T.value n) (T.value d) (T.value result.0) (T.value result.1) }
-{
-    if common.is_one() {
-        return (n, d);
-    }
-    (quotient(n, common), quotient(d, common))
-}
-
-// The quotient. Equal numbers need no division: in 2/3 times 3/2, each field is its own divisor.
-fn quotient<T: Integer>(n: T, divisor: T) -> T
-    requires nonzero { T.value divisor ≢ pos 0 }
-    requires held { ¬ (IsAboveMax T.hi (T.value n) (T.value divisor)) }
-    ensures { T.value result ≡ int_div (T.value n) (T.value divisor) }
-{
-    if n == divisor {
-        return T::ONE;
-    }
-    let (quotient, _) = n.div_rem(divisor);
-    quotient
+    (divided(a, b, left), divided(c, d, right))
 }

@@ -10,7 +10,7 @@ use Rattle.ratio_integer.specs.Fraction.{IsCancelledOf, IsHeldLowest, IsLowestTe
 use Rattle.ratio_integer.specs.Range.{IsHeld}
 use Rattle.ratio_integer.proofs.CommonDivisors.{multiple_divides}
 use Rattle.ratio_integer.proofs.LcmLemmas.{exact_quotient}
-use Rattle.ratio_integer.proofs.Whole.{add-mul, mul_assoc, mul_cancel, mul-swap_inner, neg-mul, positive_nonzero, sub-mul, unsigned_abs-neg}
+use Rattle.ratio_integer.proofs.Whole.{add-mul, mul_assoc, mul_cancel, mul_positive, mul-swap_inner, neg-mul, positive_nonzero, sub-mul, unsigned_abs-neg}
 use Rattle.ratio_core.specs.Joined.{IsCutBy, IsOverProduct}
 use Rattle.ratio_core.proofs.PartsSumLemmas.{are_shares, gcd_positive, lowest}
 
@@ -30,6 +30,9 @@ times-one n d single = ap (λ (z : ℤ). n *ℤ z) single ∙ *ℤ-one n
 
 pub exact_by : (n g q : ℤ) → unsigned_abs g ∣ unsigned_abs n → q ≡ int_div n g → q *ℤ g ≡ n
 exact_by n g q divides q_is = ap (λ (z : ℤ). z *ℤ g) q_is ∙ exact_quotient n g divides
+
+pub product_positive : (n m b d : ℤ) → IsOverProduct n m b d → pos 0 <ℤ m
+product_positive n m b d joined = rw joined.denom (mul_positive b d joined.left_lowest.positive joined.right_lowest.positive)
 
 -- n/m is joined over b and d, and g is the greatest common divisor of b and d
 module _ (n m b d g : ℤ) (joined : IsOverProduct n m b d) (is : IsGcdOf b d g) where

@@ -1,8 +1,11 @@
 use Rattle.std.specs.Prelude.{◌≡◌, pos}
 use Rattle.ratio_integer.proofs.Whole.{positive_nonzero}
-use Rattle.ratio_core.proofs.JoinedLemmas.{denom_quotient, divisor_positive, exact_by, gcd_of_one, joined_held, left_quotient, never_above, numer_quotient, times-one}
+use Rattle.ratio_core.proofs.JoinedLemmas.{denom_quotient, divisor_positive, exact_by, gcd_of_one, joined_held, left_quotient, never_above, numer_quotient, product_positive, times-one}
 use Rattle.ratio_core.proofs.PartsSumLemmas.{gcd_positive}
 use Rattle.ratio_core.proofs.sums.by_denominators.reduced.Goals as goal
+
+pub lowest_terms-requires : goal.lowest_terms-requires
+lowest_terms-requires g c = product_positive _ _ _ _ c.requires
 
 pub gcd-g-requires : goal.gcd-g-requires
 gcd-g-requires g c = never_above _ _ _ g.met.T.Integer.range_law.high c.requires.right_lowest.positive

@@ -1,4 +1,3 @@
-use Rattle.std.specs.Prelude.{◌≡◌, pos}
 use Rattle.ratio_integer.proofs.Whole.{positive_nonzero}
 use Rattle.ratio_core.proofs.JoinedLemmas.{exact_by, multiple_cut}
 use Rattle.ratio_core.proofs.PartsSumLemmas.{gcd_positive}

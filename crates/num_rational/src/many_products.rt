@@ -54,8 +54,8 @@ pub(crate) fn step_by_step<
     Ok(total)
 }
 
-// The product of `n/d` and `x`, and whether it is in lowest terms. It is reduced only where its numbers do not fit as they are. `None` if
-// its lowest terms do not fit. If `lowest` is true, `n/d` is in lowest terms.
+// The product of `n/d` and `x`, and whether it is in lowest terms. It is reduced only where its numbers do not fit as they are, or are equal:
+// the gcd of these takes no steps. `None` if its lowest terms do not fit. If `lowest` is true, `n/d` is in lowest terms.
 fn times<T: Copy + Integer>(n: T, d: T, lowest: bool, x: &Reduced<T>) -> Option<(T, T, bool)>
     requires up { pos 0 <ℤ T.value d }
     requires lowest { IsTrue lowest → IsLowestTerms (T.value n) (T.value d) }
@@ -70,6 +70,7 @@ fn times<T: Copy + Integer>(n: T, d: T, lowest: bool, x: &Reduced<T>) -> Option<
     }
     if let Some(numer) = n.try_times(p)
         && let Some(denom) = d.try_times(q)
+        && numer != denom
     {
         return Some((numer, denom, false));
     }

@@ -9,4 +9,4 @@ mod watch8;
 pub use nat2::Nat2;
 pub use sym5::Sym5;
 pub use two3::Two3;
-pub use watch8::{Counter, Watch8, Watched};
+pub use watch8::{Counter, HalvedWatch8, Halving, Watch8, Watched};

@@ -17,12 +17,31 @@ use std::hash::{Hash, Hasher};
 pub trait Counter: Copy {
     /// Raises the counter by one.
     fn raise(self);
+
+    /// Whether the numbers that it watches have halves.
+    fn has_halves() -> bool {
+        false
+    }
 }
 
 impl Counter for &Cell<u32> {
     /// One more, and 0 after the greatest number.
     fn raise(self) {
         self.set(self.get().wrapping_add(1));
+    }
+}
+
+/// A cell as a counter of numbers that have halves.
+#[derive(Clone, Copy)]
+pub struct Halving<'a>(pub &'a Cell<u32>);
+
+impl Counter for Halving<'_> {
+    fn raise(self) {
+        self.0.raise();
+    }
+
+    fn has_halves() -> bool {
+        true
     }
 }
 
@@ -38,6 +57,9 @@ pub struct Watched<C: Counter> {
 
 /// The numbers of `i8`, with two cells as counters.
 pub type Watch8<'a> = Watched<&'a Cell<u32>>;
+
+/// The same numbers, with halves. A division by 16 gives the halves of a number, and it is counted.
+pub type HalvedWatch8<'a> = Watched<Halving<'a>>;
 
 /// The two counters of a watched number.
 #[derive(Clone, Copy)]
@@ -237,6 +259,17 @@ impl<C: Counter> Integer for Watched<C> {
         match i8::from_u128(n) {
             Some(n) => Some(Watched { n, counters: None }),
             None => None,
+        }
+    }
+
+    fn half_base() -> Option<Watched<C>> {
+        if C::has_halves() {
+            Some(Watched {
+                n: 16,
+                counters: None,
+            })
+        } else {
+            None
         }
     }
 

@@ -4,7 +4,7 @@
 ghost use Rattle.std.specs.Prelude.{◌≡◌, MatchResult};
 ghost use Rattle.std.specs.Process.{exit_status};
 
-use ratio_lines::calculator::run_in_large_pieces;
+use ratio_lines::calculator::run;
 use ratio_lines::counted::Counted;
 use ratio_lines::fault::{CalcFault, fault_line};
 use std::process::ExitCode;
@@ -12,7 +12,7 @@ use std::process::ExitCode;
 fn main(rt: HostRuntime) -> ExitCode {
     let mut reader = Counted::new(rt.stdin());
     let mut writer = Counted::new(rt.stdout());
-    let outcome = run_in_large_pieces(&mut reader, &mut writer);
+    let outcome = run(&mut reader, &mut writer);
     if let Err(fault) = outcome {
         let _ = rt.eprintln(fault_line(fault));
     }

@@ -221,11 +221,6 @@ waits_after a b c waited between waiting xs ys (Err e) first more = beyond_both 
 pub gathers_part : (a b : Device) (waited xs ys : List ℕ) → TookSome a b (waited ++ xs) → TookSome a b (waited ++ (xs ++ ys))
 gathers_part a b waited xs ys some = rw (← append_assoc waited xs ys) (took_some_before a b (waited ++ xs) ys some)
 
--- what holds at all holds at `Ok`
-pub on_ok : {T E : Type 0} (P : Type 0) (r : Result T E) → P → OnOk r P
-on_ok P (Ok x) h = h
-on_ok P (Err e) h = tt
-
 -- these bytes were added, and then all that waited was written or a call failed
 pub gathers_written : {T : Type 0} (a b c : Device) (waited between waiting bytes written : List ℕ) (r : Result T CalcFault) → Took a b written → waited ++ bytes ≡ written ++ between
     → Writes (changing b c) between r → OnOk r (waiting ≡ []) → Gathers (changing a c) waited waiting bytes r

@@ -11,7 +11,6 @@ pub mod LineLaws
 pub mod LinesSoFar
 pub mod Pieces
 pub mod PlainLines
-pub mod ChainLines
 pub mod FractionTexts
 pub mod PieceSoFar
 pub mod DeviceCalls

@@ -51,7 +51,7 @@ or_assoc : (a b c : Bool) → ((a || b) || c) ≡ (a || (b || c))
 or_assoc true b c = refl
 or_assoc false b c = refl
 
-pub any_both : (before : List Operator) (last : Operator) → list_any is_cmp (before ++ last ∷ []) ≡ (list_any is_cmp before || is_cmp last)
+any_both : (before : List Operator) (last : Operator) → list_any is_cmp (before ++ last ∷ []) ≡ (list_any is_cmp before || is_cmp last)
 any_both [] last = or_false (is_cmp last)
 any_both (operator ∷ before) last =
     ap (λ t. is_cmp operator || t) (any_both before last) ∙ sym (or_assoc (is_cmp operator) (list_any is_cmp before) (is_cmp last))
@@ -86,7 +86,7 @@ unknown_operator first last flag all rest more part p parts none left rights =
     ap operators_of parts ∙ ap (option_and_then (λ operator. option_map (λ operators. operator ∷ operators) (operators_of more))) none in
     rw (p.joined, here) refl
 
-pub front_before : (before : List Operator) (last : Operator) → front_of (before ++ last ∷ []) ≡ before
+front_before : (before : List Operator) (last : Operator) → front_of (before ++ last ∷ []) ≡ before
 front_before [] last = refl
 front_before (operator ∷ []) last = refl
 front_before (operator ∷ next ∷ before) last = ap (λ operators. operator ∷ operators) (front_before (next ∷ before) last)

@@ -1,5 +1,5 @@
 -- A line of graphic characters with two spaces among them.
-use Rattle.std.proofs.Common.{◌≡◌, ◌⊎◌, inl, inr, ◌-◌, get_or, take, drop, not, suc, None, length-drop, ℕ, ◌<◌, ◌≤◌, ◌+◌, List, [], ◌∷◌, ◌++◌, length, Bool, true, false, ◌==◌, ◌&&◌, ◌||◌, refl, ap, ◌∙◌, sym, arith, append_assoc, length-append, cond, Option, Some}
+use Rattle.std.proofs.Common.{◌≡◌, ◌-◌, get_or, take, drop, not, suc, None, length-drop, ℕ, ◌<◌, ◌≤◌, ◌+◌, List, [], ◌∷◌, ◌++◌, length, Bool, true, false, ◌==◌, ◌&&◌, ◌||◌, refl, ap, ◌∙◌, sym, arith, append_assoc, length-append, cond, Option, Some}
 use Rattle.std.specs.Prelude.{option_and_then, option_map}
 use Rattle.std.specs.Char.{is_ascii_graphic}
 use Rattle.std.specs.List.{list_all, list_any, slice_split, All}
@@ -11,7 +11,6 @@ use Rattle.std.proofs.lemmas.List.{drop-drop, drop_more, get_or-drop, take-appen
 use Rattle.std.proofs.lemmas.Str.{IsUtf8-from_ascii}
 use Rattle.std.proofs.lemmas.Str.Ascii.{IsAscii-from_all}
 use Rattle.ratio_lines.specs.Answers.{IsAnswer, IsPartsAnswer, IsTextsAnswer, has_byte, is_chain, is_space, operators_of, without_return}
-use Rattle.ratio_lines.specs.ChainLine.{BeginsChain, is_plain}
 use Rattle.ratio_lines.specs.Cuts.{HasNone}
 use Rattle.ratio_lines.specs.PlainLine.{BeginsPlain, IsFirstAnswer, EndsPart, IsGraphic}
 use Rattle.ratio_lines.specs.Operands.{operator_of}
@@ -21,18 +20,22 @@ use Rattle.ratio_lines.proofs.Bytes.{same_byte}
 use Rattle.ratio_lines.proofs.Cuts.{first_none, first_of_parts, one_part}
 use Rattle.ratio_lines.proofs.OperatorsSoFar.{chain_of}
 use Rattle.ratio_lines.proofs.Pieces.{answer_kept}
-use Rattle.ratio_lines.proofs.Returns.{dropped, is_text}
+use Rattle.ratio_lines.proofs.Returns.{is_text}
 
-pub some_byte : (n : ℕ) → not (suc n == 0) ≡ true
+some_byte : (n : ℕ) → not (suc n == 0) ≡ true
 some_byte n = grind (arith, nat_tests)
 
-pub both : (s t : Bool) → (s && t) ≡ true → (s ≡ true) × (t ≡ true)
+-- the bytes of a plain line before its line end
+abbrev is_plain : ℕ → Bool
+is_plain byte = is_ascii_graphic byte || (byte == 32)
+
+both : (s t : Bool) → (s && t) ≡ true → (s ≡ true) × (t ≡ true)
 both true true h = (refl, refl)
 both true false h = absurd (let no : false ≡ true = h in cc)
 both false t h = absurd (let no : false ≡ true = h in cc)
 
 -- if each byte that passes one test passes the other, so does each text
-pub all_pass : (p q : ℕ → Bool) → ((byte : ℕ) → p byte ≡ true → q byte ≡ true) → (text : List ℕ) → list_all p text ≡ true → list_all q text ≡ true
+all_pass : (p q : ℕ → Bool) → ((byte : ℕ) → p byte ≡ true → q byte ≡ true) → (text : List ℕ) → list_all p text ≡ true → list_all q text ≡ true
 all_pass p q each [] h = refl
 all_pass p q each (byte ∷ text) h =
     let parts = both (p byte) (list_all p text) h in
@@ -54,7 +57,7 @@ small byte h = grind (arith, nat_tests)
 plain_small : (byte : ℕ) → is_plain byte ≡ true → byte < 128
 plain_small byte h = grind (arith, nat_tests)
 
-pub graphic_plain : (byte : ℕ) → is_ascii_graphic byte ≡ true → is_plain byte ≡ true
+graphic_plain : (byte : ℕ) → is_ascii_graphic byte ≡ true → is_plain byte ≡ true
 graphic_plain byte h = ap (λ t. t || (byte == 32)) h
 
 all_below : (p : ℕ → Bool) → ((byte : ℕ) → p byte ≡ true → byte < 128) → (text : List ℕ) → list_all p text ≡ true → All (λ byte. byte < 128) text
@@ -62,9 +65,6 @@ all_below p each text h = λ k d within. each (get_or text k d) (AllPass-from_li
 
 pub graphic_text : (text : List ℕ) → IsGraphic text → IsUtf8 text
 graphic_text text h = IsUtf8-from_ascii text (IsAscii-from_all text (all_below is_ascii_graphic small text h))
-
-pub plain_text : (text : List ℕ) → list_all is_plain text ≡ true → IsUtf8 text
-plain_text text h = IsUtf8-from_ascii text (IsAscii-from_all text (all_below is_plain plain_small text h))
 
 -- no graphic byte yet
 pub graphic_start : (bytes : List ℕ) (from : ℕ) → IsGraphic (take (from - from) (drop from bytes))
@@ -109,7 +109,7 @@ plain_split : (left operator right after : List ℕ) → left ++ 32 ∷ (operato
 plain_split left operator right after =
     ap (λ xs. left ++ 32 ∷ xs) (sym (append_assoc operator (32 ∷ right) (10 ∷ after))) ∙ sym (append_assoc left (32 ∷ (operator ++ 32 ∷ right)) (10 ∷ after))
 
-pub named_some : (name : List ℕ) (operator : Operator) → operator_of name ≡ Some operator → has_byte name ≡ true
+named_some : (name : List ℕ) (operator : Operator) → operator_of name ≡ Some operator → has_byte name ≡ true
 named_some [] operator named = absurd (let no : operator_of [] ≡ None = refl in cc)
 named_some (byte ∷ name) operator named = some_byte (length name)
 
@@ -129,7 +129,7 @@ pub plain_answered : (bytes left : List ℕ) (operator : Operator) (right after 
 plain_answered bytes left operator right after answer p h =
     let line = left ++ 32 ∷ (p.name ++ 32 ∷ right) in
     let plain = plain_bytes left p.name right p.left_graphic p.name_graphic p.right_graphic in
-    let text : IsUtf8 line = plain_text line plain in
+    let text : IsUtf8 line = IsUtf8-from_ascii line (IsAscii-from_all line (all_below is_plain plain_small line plain)) in
     let same : slice_split is_space (without_return line) ≡ left ∷ p.name ∷ right ∷ [] =
     ap (slice_split is_space) (no_return line (none_passes is_plain 13 refl line plain))
     ∙ parts_of_plain left p.name right p.left_graphic p.name_graphic p.right_graphic in
@@ -160,40 +160,6 @@ part_ends bytes from byte end after within graphic is = record {
   graphic = graphic;
   split = part_split bytes from byte end after within is;
 }
-
--- the byte is graphic, a space or a carriage return
-abbrev is_line_byte : ℕ → Bool
-is_line_byte byte = is_plain byte || (byte == 13)
-
-line_small : (byte : ℕ) → is_line_byte byte ≡ true → byte < 128
-line_small byte h = grind (arith, nat_tests)
-
--- what is known of a line that is a text or has a carriage return more
-record IsReturned (line text : List ℕ) : Type 0 where
-  bytes : list_all is_line_byte line ≡ true
-  same : without_return line ≡ text
-
-returned : (line text : List ℕ) → list_all is_plain text ≡ true → (line ≡ text) ⊎ (line ≡ text ++ 13 ∷ []) → IsReturned line text
-returned line text plain (inl same) = rw same (record {
-  bytes = all_pass is_plain is_line_byte (λ byte h. ap (λ t. t || (byte == 13)) h) text plain;
-  same = no_return text (none_passes is_plain 13 refl text plain);
-})
-returned line text plain (inr more) = rw more (record {
-  bytes = list_all-append is_line_byte text (13 ∷ []) ∙ ap (λ t. t && true) (all_pass is_plain is_line_byte (λ byte h. ap (λ t. t || (byte == 13)) h) text plain);
-  same = dropped text;
-})
-
--- the answer to the parts of a line that are well chained
-pub chain_answered : (bytes text after answer : List ℕ) → BeginsChain bytes text after → IsPartsAnswer (slice_split is_space text) answer → IsFirstAnswer (Some []) bytes after answer
-chain_answered bytes text after answer p h =
-    let line = returned p.line text p.plain p.is_line in
-    let is_utf8 : IsUtf8 p.line = IsUtf8-from_ascii p.line (IsAscii-from_all p.line (all_below is_line_byte line_small p.line line.bytes)) in
-    record {
-      ended = p.line;
-      none = none_passes is_line_byte 10 refl p.line line.bytes;
-      split = p.split;
-      answers = answer_kept p.line answer (is_text p.line answer p.short is_utf8 (rw line.same h));
-    }
 
 -- the answer to the line before the first line end
 pub line_answered : (bytes line after answer : List ℕ) → HasNone 10 line → bytes ≡ line ++ 10 ∷ after → IsAnswer line answer → IsFirstAnswer (Some []) bytes after answer

@@ -10,8 +10,7 @@ use Rattle.ratio_lines.proofs.Bytes.{same_byte}
 use Rattle.ratio_lines.specs.Answers.{IsAnswer, IsPartsAnswer, is_space, without_return}
 use Rattle.ratio_lines.specs.Lines.{longest_line}
 
--- a carriage return at the end is dropped
-pub dropped : (front : List ℕ) → without_return (front ++ 13 ∷ []) ≡ front
+dropped : (front : List ℕ) → without_return (front ++ 13 ∷ []) ≡ front
 dropped [] = refl
 dropped (b ∷ []) = refl
 dropped (b ∷ c ∷ bytes) = ap (λ xs. b ∷ xs) (dropped (c ∷ bytes))

@@ -7,6 +7,5 @@ pub mod KeptLine
 pub mod Devices
 pub mod Cuts
 pub mod PlainLine
-pub mod ChainLine
 pub mod Run
 pub mod SideBySide

@@ -1,11 +1,10 @@
 -- The rest of a line, while its parts are taken one by one.
-use Rattle.std.specs.Prelude.{◌≡◌, ◌⊎◌, ℕ, ℤ, List, [], ◌∷◌, ◌++◌, Bool, false, ◌&&◌, ◌==◌, ◌%◌, length, Option, None, Some, Result, Ok, Err, option_map, codes, unwrap_or}
+use Rattle.std.specs.Prelude.{◌≡◌, ◌⊎◌, ℕ, ℤ, List, [], ◌∷◌, ◌++◌, Bool, false, ◌&&◌, ◌==◌, ◌%◌, length, Option, None, Some, Result, Ok, Err, option_map, codes}
 use Rattle.std.specs.Borrow.{Bor}
 use Rattle.std.specs.List.{list_all, list_any, slice_split}
-use Rattle.either.specs.Either.{MatchEither}
 use Rattle.ratio_core.specs.Refusal.{refusal_text}
 use Rattle.ratio_core.specs.declared.parse_error.RatioErrorKind.{RatioErrorKind}
-use Rattle.ratio_lines.specs.Answers.{AreRead, IsApplied, IsOutcome, Outcome, has_byte, is_cmp, is_space, operator_parts, operators_of, right_parts}
+use Rattle.ratio_lines.specs.Answers.{IsOutcome, Outcome, has_byte, is_cmp, is_space, operators_of}
 use Rattle.ratio_lines.specs.Lines.{front_of}
 use Rattle.ratio_lines.specs.Operands.{IsOperand}
 use Rattle.ratio_lines.specs.declared.operator.Operator.{Operator}
@@ -53,26 +52,3 @@ pub record ReadsFirst (text : List ℕ) (operand : Result (ℤ × ℤ) RatioErro
   pub part : List ℕ
   pub split : slice_split is_space text ≡ part ∷ parts
   pub reads : IsOperand part operand
-
--- each of the parts names an operator
--- Example: `+`, `*`; not `^`
-pub record AreOperators (parts : List (List ℕ)) : Type 0 where
-  pub operators : List Operator
-  pub named : operators_of parts ≡ Some operators
-
--- the answer after an outcome: the refusal of a later operand, or else what the operators that are left give
-abbrev pub AnswersAfter : Outcome → List Operator → Result (List (ℤ × ℤ)) RatioErrorKind → List ℕ → Type 0
-AnswersAfter outcome operators (Err kind) answer = answer ≡ codes "error: right: " ++ refusal_text kind
-AnswersAfter outcome operators (Ok ys) answer = MatchEither outcome (λ text. answer ≡ text) (λ z. IsApplied operators z ys answer)
-
--- the answer to an outcome, and then to these operators and their right operands. Every operand is read, even if the outcome is a text
--- Example: 3/2, `+`, `2`: `7/2`
-pub record FromHere (outcome : Outcome) (operators : List Operator) (rights : List (List ℕ)) (answer : List ℕ) : Type 0 where
-  pub read : Result (List (ℤ × ℤ)) RatioErrorKind
-  pub are_read : AreRead rights read
-  pub answers : AnswersAfter outcome operators read answer
-
--- the same, where the operators and their right operands are the parts that are left
--- Example: 3/2, and `+`, `2`: `7/2`
-abbrev pub IsRestAnswer : Outcome → List (List ℕ) → List ℕ → Type 0
-IsRestAnswer outcome parts answer = FromHere outcome (unwrap_or (operators_of (operator_parts parts)) []) (right_parts parts) answer

@@ -1,5 +1,5 @@
 -- The line that ends first in some bytes. A plain line is cut into its parts while its end is looked for.
-use Rattle.std.specs.Prelude.{◌≡◌, ℕ, ℤ, ◌+◌, ◌-◌, ◌<◌, ◌≤◌, List, ◌∷◌, ◌++◌, length, take, drop, true, Option, None, Some, Ok}
+use Rattle.std.specs.Prelude.{◌≡◌, ℕ, ◌+◌, ◌-◌, ◌<◌, ◌≤◌, List, ◌∷◌, ◌++◌, length, take, drop, true, Option, None, Some}
 use Rattle.std.specs.Borrow.{Bor}
 use Rattle.std.specs.Char.{is_ascii_graphic}
 use Rattle.std.specs.List.{list_all}
@@ -9,7 +9,7 @@ use Rattle.ratio_lines.specs.AnswerText.{bytes_of}
 use Rattle.ratio_lines.specs.Answers.{has_byte}
 use Rattle.ratio_lines.specs.Cuts.{HasNone}
 use Rattle.ratio_lines.specs.KeptLine.{IsKeptAnswer, extended}
-use Rattle.ratio_lines.specs.Operands.{IsOperand, operator_of}
+use Rattle.ratio_lines.specs.Operands.{operator_of}
 use Rattle.ratio_lines.specs.declared.operator.Operator.{Operator}
 use Rattle.ratio_lines.specs.Lines.{longest_line}
 
@@ -38,15 +38,6 @@ pub record BeginsPlain (bytes left : List ℕ) (operator : Operator) (right afte
   pub left_some : has_byte left ≡ true
   pub right_some : has_byte right ≡ true
   pub short : length left + length name + length right + 2 ≤ longest_line
-
--- the bytes begin with such a line, and its operands are read as these fractions (`IsOperand`)
--- Example: `6/4 + 1\n`: 3/2 and 1/1
-pub record BeginsRead (bytes : List ℕ) (left : ℤ × ℤ) (operator : Operator) (right : ℤ × ℤ) (after : List ℕ) : Type 0 where
-  pub first : List ℕ
-  pub second : List ℕ
-  pub plain : BeginsPlain bytes first operator second after
-  pub left_reads : IsOperand first (Ok left)
-  pub right_reads : IsOperand second (Ok right)
 
 -- the bytes are the rest of the begun line, a line end and `after`, and this is the answer to that line
 pub record IsFirstAnswer (line : Option (List ℕ)) (bytes after answer : List ℕ) : Type 0 where

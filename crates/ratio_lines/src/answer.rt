@@ -7,9 +7,8 @@ ghost use Rattle.num_rational.specs.Ratio.{numerator, denominator};
 ghost use Rattle.ratio_core.specs.Refusal.{refusal_text};
 ghost use Rattle.ratio_lines.specs.Answers.{IsAnswer, IsChainAnswer, IsOutcome, IsPartsAnswer, IsTextsAnswer, is_chain, is_space, operator_parts, operators_of, order_text, outcome_of_result, right_parts};
 ghost use Rattle.ratio_lines.specs.AnswerText.{bytes_of, outcome_of};
-ghost use Rattle.ratio_lines.specs.ChainLine.{AreWellChained};
 ghost use Rattle.ratio_lines.specs.Operands.{number_of};
-ghost use Rattle.ratio_lines.specs.Parts.{AreChained, AreOperators, IsRestAnswer, OperatesOn, RefusesFirst, parts_of, with_first};
+ghost use Rattle.ratio_lines.specs.Parts.{AreChained, OperatesOn, RefusesFirst, parts_of, with_first};
 
 use crate::answer_text::AnswerText;
 use crate::limits::LONGEST_LINE;
@@ -51,7 +50,7 @@ fn order_sign(order: Ordering) -> &'static str
 }
 
 /// The outcome of an operator between two fractions: a number, or the text that is the answer.
-pub fn apply_operator(operator: Operator, left: Rational64, right: Rational64) -> AnswerText
+fn apply_operator(operator: Operator, left: Rational64, right: Rational64) -> AnswerText
     requires left_positive { pos 0 <ℤ denominator left }
     requires right_positive { pos 0 <ℤ denominator right }
     ensures { IsOutcome operator (numerator left, denominator left) (numerator right, denominator right) (outcome_of result) }
@@ -128,34 +127,24 @@ pub fn answer_two(left: &str, operator: Operator, right: &str) -> AnswerText
     }
 }
 
-/// The answer to operators between operands.
+/// The answer to operators between operands. Operators apply from left to right. Each operand is read
+/// once. It is read even if the answer is already known, since a refusal comes first: `1 / 0 + x` has
+/// the answer `error: right: failed to parse integer`.
 fn answer_texts(left: &str, operator: Operator, right: &str, parts: Option<&str>) -> AnswerText
     requires { AreChained operator (operator_parts (parts_of parts)) }
     ensures { IsTextsAnswer (operator ∷ unwrap_or (operators_of (operator_parts (parts_of parts.entry))) []) left.now (right.now ∷ right_parts (parts_of parts.entry)) (bytes_of result) }
 {
-    match first_outcome(left, operator, right) {
-        Ok(outcome) => answer_rest(outcome, parts),
-        Err(refusal) => refusal,
-    }
-}
-
-/// The answer to an outcome, and then to operators and their right operands. Operators apply from left to right.
-/// Each operand is read once. It is read even if the answer is already known, since a refusal comes first:
-/// `1 / 0 + x` has the answer `error: right: failed to parse integer`.
-#[inline(always)]
-fn answer_rest(first: AnswerText, parts: Option<&str>) -> AnswerText
-    requires positive { MatchEither first (λ _. ⊤) (λ left. pos 0 <ℤ denominator left) }
-    requires known { AreOperators (operator_parts (parts_of parts)) }
-    ensures { IsRestAnswer (outcome_of first.entry) (parts_of parts.entry) (bytes_of result) }
-{
-    let mut outcome = first;
+    let mut outcome = match first_outcome(left, operator, right) {
+        Ok(outcome) => outcome,
+        Err(refusal) => return refusal,
+    };
     let mut rest = parts;
     while let Some(text) = rest {
         let (part, after) = first_short_part(text);
         let Some(after) = after else {
             return outcome;
         };
-        let Some(operator) = operator_named(part) else {
+        let Some(next_operator) = operator_named(part) else {
             unreachable!()
         };
         let (operand, after) = first_operand(after);
@@ -163,7 +152,7 @@ fn answer_rest(first: AnswerText, parts: Option<&str>) -> AnswerText
             Ok(next) => next,
             Err(refusal) => return right_refusal(refusal.kind()),
         };
-        outcome = go_on(outcome, operator, next);
+        outcome = go_on(outcome, next_operator, next);
         rest = after;
     }
     outcome
@@ -178,7 +167,7 @@ fn operators_refusal(first: Operator, parts: Option<&str>) -> Option<&'static st
     let mut is_cmp_last = true;
     let mut rest = parts;
     while let Some(text) = rest {
-        let (part, after) = first_part(text);
+        let (part, after) = first_short_part(text);
         let Some(operator) = operator_named(part) else {
             return Some(UNKNOWN_OPERATOR);
         };
@@ -219,19 +208,6 @@ fn answer_chain(left: &str, operator: &str, right: &str, parts: Option<&str>) ->
     }
 }
 
-/// The answer to a text whose parts are well chained. So nothing is left to refuse but its operands.
-#[inline(never)]
-pub fn answer_well_chained(text: &str) -> AnswerText
-    requires { AreWellChained (slice_split is_space text.now) }
-    ensures { IsPartsAnswer (slice_split is_space text.now) (bytes_of result) }
-{
-    let (left, rest) = first_operand(text);
-    match left {
-        Ok(left) => answer_rest(Either::Right(left), rest),
-        Err(refusal) => left_refusal(refusal.kind()),
-    }
-}
-
 /// The answer to a text whose parts have single spaces between them.
 fn answer_parts(text: &str) -> AnswerText
     ensures { IsPartsAnswer (slice_split is_space text.now) (bytes_of result) }
@@ -239,7 +215,7 @@ fn answer_parts(text: &str) -> AnswerText
     let (left, Some(rest)) = first_part(text) else {
         return Either::Left(WANT_THREE);
     };
-    let (operator, Some(rest)) = first_part(rest) else {
+    let (operator, Some(rest)) = first_short_part(rest) else {
         return Either::Left(WANT_THREE);
     };
     let (right, parts) = first_part(rest);

@@ -1,18 +1,17 @@
 //! The calculator, from the bytes read to the bytes written: `run` and its steps, each for one piece of the input.
-ghost use Rattle.std.specs.Prelude.{◌≡◌, ◌+◌, ◌<◌, ◌≤◌, [], length, OnOk};
+ghost use Rattle.std.specs.Prelude.{◌≡◌, ◌+◌, [], length, OnOk};
 ghost use Rattle.ratio_lines.specs.KeptLine.{ArePieceAnswers, IsLastAnswer, line_after};
 ghost use Rattle.ratio_lines.specs.Devices.{GathersFor, GivesPiece, WritesFor, Flushes, change_of};
 ghost use Rattle.ratio_lines.specs.Run.{ReadsLines, Ran, read_failures, write_failures};
 
 use crate::counted::{CalcRead, CalcWrite};
 use crate::fault::CalcFault;
-use crate::gathered::{Gathered, Waiting};
+use crate::gathered::Gathered;
 use crate::line::Line;
-use crate::piece::{answer_lines, put_answer};
+use crate::piece::{answer_piece, put_answer};
 
 /// Reads a piece, and returns the number of its bytes: 0 at the end.
-fn read_piece<R: CalcRead>(reader: &mut R, buffer: &mut [u8]) -> Result<usize, CalcFault>
-    requires { 0 < length buffer.old }
+fn read_piece<R: CalcRead>(reader: &mut R, buffer: &mut [u8; 512]) -> Result<usize, CalcFault>
     ensures { GivesPiece (change_of R.remaining R.calls reader.old reader.new) buffer.new result }
 {
     match reader.read_counted(buffer) {
@@ -22,24 +21,21 @@ fn read_piece<R: CalcRead>(reader: &mut R, buffer: &mut [u8]) -> Result<usize, C
 }
 
 /// Answers each whole line, and returns the begun line. The answers to a piece
-/// are written before the next piece is read. A piece has at most as many bytes as the buffer.
-fn answer_whole_lines<const ROOM: usize, R: CalcRead, W: CalcWrite>(
+/// are written before the next piece is read.
+fn answer_whole_lines<R: CalcRead, W: CalcWrite>(
     reader: &mut R,
     writer: &mut W,
-    buffer: &mut [u8],
-    gathered: &mut Waiting<ROOM>,
 ) -> Result<Line, CalcFault>
-    requires room { 1024 ≤ ROOM }
-    requires some { 0 < length buffer.old }
-    requires none_wait { gathered.old ≡ [] }
     ensures { ReadsLines (change_of R.remaining R.calls reader.old reader.new)
         (change_of W.contents W.calls writer.old writer.new) result }
 {
     let mut line = Line::new();
+    let mut gathered = Gathered::new();
+    let mut buffer = [0u8; 512];
     for _turn in 0..u64::MAX {
-        match read_piece(reader, buffer) {
+        match read_piece(reader, &mut buffer) {
             Ok(0) => return Ok(line),
-            Ok(count) => take_piece(&mut line, gathered, writer, &buffer[..count])?,
+            Ok(count) => take_piece(&mut line, &mut gathered, writer, &buffer[..count])?,
             Err(fault) => return Err(fault),
         }
     }
@@ -47,19 +43,18 @@ fn answer_whole_lines<const ROOM: usize, R: CalcRead, W: CalcWrite>(
 }
 
 /// Answers each line that ends in the piece, and writes the answers.
-fn take_piece<const ROOM: usize, W: CalcWrite>(
+fn take_piece<W: CalcWrite>(
     line: &mut Line,
-    gathered: &mut Waiting<ROOM>,
+    gathered: &mut Gathered,
     writer: &mut W,
     piece: &[u8],
 ) -> Result<(), CalcFault>
-    requires { 1024 ≤ ROOM }
     ensures line { OnOk result (line.new ≡ line_after line.old piece.now) }
     ensures answered { GathersFor (ArePieceAnswers line.old piece.now) (change_of W.contents W.calls writer.old writer.new)
         gathered.old gathered.new result }
     ensures none_wait { OnOk result (gathered.new ≡ []) }
 {
-    answer_lines(line, gathered, writer, piece)?;
+    answer_piece(line, gathered, writer, piece)?;
     gathered.write_out(writer)
 }
 
@@ -100,51 +95,7 @@ pub fn run<R: CalcRead, W: CalcWrite>(reader: &mut R, writer: &mut W) -> Result<
     ensures flushed { OnOk result ((W.calls writer.new).flushes ≡ (W.calls writer.old).flushes + 1) }
     ensures marked { OnOk result ((W.calls writer.new).mark ≡ length (W.calls writer.new).moved) }
 {
-    run_with(reader, writer, &mut [0u8; 512], &mut Waiting::<1024>::new())
-}
-
-/// The same in pieces of up to 8,192 bytes, which takes fewer calls of the reader and the writer. It suits
-/// a reader that gives what it has and waits only if it has nothing, as standard input does: then
-/// the same answers are written before each wait as by `run`. At most 4,096 bytes are written at once.
-pub fn run_in_large_pieces<R: CalcRead, W: CalcWrite>(
-    reader: &mut R,
-    writer: &mut W,
-) -> Result<(), CalcFault>
-    ensures answered { Ran (change_of R.remaining R.calls reader.old reader.new)
-        (change_of W.contents W.calls writer.old writer.new) result }
-    ensures reader_failed { (R.calls reader.new).failures ≡ (R.calls reader.old).failures + read_failures result }
-    ensures writer_failed { (W.calls writer.new).failures ≡ (W.calls writer.old).failures + write_failures result }
-    ensures ended { OnOk result ((R.calls reader.new).ends ≡ (R.calls reader.old).ends + 1) }
-    ensures flushed { OnOk result ((W.calls writer.new).flushes ≡ (W.calls writer.old).flushes + 1) }
-    ensures marked { OnOk result ((W.calls writer.new).mark ≡ length (W.calls writer.new).moved) }
-{
-    run_with(
-        reader,
-        writer,
-        &mut [0u8; 8192],
-        &mut Waiting::<4096>::new(),
-    )
-}
-
-/// The same with this buffer for a piece, and this room for the answers to it.
-fn run_with<const ROOM: usize, R: CalcRead, W: CalcWrite>(
-    reader: &mut R,
-    writer: &mut W,
-    buffer: &mut [u8],
-    gathered: &mut Waiting<ROOM>,
-) -> Result<(), CalcFault>
-    requires room { 1024 ≤ ROOM }
-    requires some { 0 < length buffer.old }
-    requires none_wait { gathered.old ≡ [] }
-    ensures answered { Ran (change_of R.remaining R.calls reader.old reader.new)
-        (change_of W.contents W.calls writer.old writer.new) result }
-    ensures reader_failed { (R.calls reader.new).failures ≡ (R.calls reader.old).failures + read_failures result }
-    ensures writer_failed { (W.calls writer.new).failures ≡ (W.calls writer.old).failures + write_failures result }
-    ensures ended { OnOk result ((R.calls reader.new).ends ≡ (R.calls reader.old).ends + 1) }
-    ensures flushed { OnOk result ((W.calls writer.new).flushes ≡ (W.calls writer.old).flushes + 1) }
-    ensures marked { OnOk result ((W.calls writer.new).mark ≡ length (W.calls writer.new).moved) }
-{
-    let line = answer_whole_lines(reader, writer, buffer, gathered)?;
+    let line = answer_whole_lines(reader, writer)?;
     answer_last(&line, writer)?;
     flush(writer)
 }

@@ -1,5 +1,5 @@
 //! `Gathered`: bytes that wait to be written, so that one call writes many answers.
-ghost use Rattle.std.specs.Prelude.{◌≡◌, ◌≤◌, ℕ, List, [], OnOk};
+ghost use Rattle.std.specs.Prelude.{◌≡◌, ℕ, List, [], OnOk};
 ghost use Rattle.ratio_lines.specs.Devices.{Gathers, Waits, Writes, change_of};
 
 use crate::counted::CalcWrite;
@@ -10,13 +10,13 @@ use std::marker::Model;
 /// Bytes that wait to be written, in a fixed array.
 #[derive(Drop)]
 pub struct Gathered {
-    pub(crate) waiting: Waiting<1024>,
+    bytes: ArrayVec<u8, 1024>,
 }
 
 impl Model for Gathered {
     ghost Value = { List ℕ };
 
-    ghost view = { λ g. g.waiting };
+    ghost view = { λ g. g.bytes.items };
 }
 
 impl Gathered {
@@ -25,57 +25,13 @@ impl Gathered {
         ensures { result ≡ [] }
     {
         Gathered {
-            waiting: Waiting::new(),
+            bytes: ArrayVec::new(),
         }
     }
 
     /// Adds bytes at the end. If there is room for them, nothing is written. Otherwise those that wait
     /// are written first. Bytes that are longer than all the room are then written at once.
     pub fn put<W: CalcWrite>(&mut self, writer: &mut W, bytes: &[u8]) -> Result<(), CalcFault>
-        ensures gathered { Gathers (change_of W.contents W.calls writer.old writer.new) self.old self.new bytes.now result }
-        ensures waits { Waits (change_of W.contents W.calls writer.old writer.new) self.old self.new bytes.now result }
-    {
-        self.waiting.put(writer, bytes)
-    }
-
-    /// Writes the bytes that wait.
-    pub fn write_out<W: CalcWrite>(&mut self, writer: &mut W) -> Result<(), CalcFault>
-        ensures written { Writes (change_of W.contents W.calls writer.old writer.new) self.old result }
-        ensures none_wait { OnOk result (self.new ≡ []) }
-    {
-        self.waiting.write_out(writer)
-    }
-}
-
-/// The same in an array of `ROOM` bytes, which are at least the 1,024 of `Gathered`.
-#[derive(Drop)]
-pub(crate) struct Waiting<const ROOM: usize> {
-    bytes: ArrayVec<u8, ROOM>,
-}
-
-impl<const ROOM: usize> Model for Waiting<ROOM> {
-    ghost Value = { List ℕ };
-
-    ghost view = { λ g. g.bytes.items };
-}
-
-impl<const ROOM: usize> Waiting<ROOM> {
-    /// No bytes.
-    pub(crate) fn new() -> Waiting<ROOM>
-        ensures { result ≡ [] }
-    {
-        Waiting {
-            bytes: ArrayVec::new(),
-        }
-    }
-
-    /// Adds bytes at the end, as `Gathered` does.
-    pub(crate) fn put<W: CalcWrite>(
-        &mut self,
-        writer: &mut W,
-        bytes: &[u8],
-    ) -> Result<(), CalcFault>
-        requires { 1024 ≤ ROOM }
         ensures gathered { Gathers (change_of W.contents W.calls writer.old writer.new) self.old self.new bytes.now result }
         ensures waits { Waits (change_of W.contents W.calls writer.old writer.new) self.old self.new bytes.now result }
     {
@@ -97,7 +53,7 @@ impl<const ROOM: usize> Waiting<ROOM> {
     }
 
     /// Writes the bytes that wait.
-    pub(crate) fn write_out<W: CalcWrite>(&mut self, writer: &mut W) -> Result<(), CalcFault>
+    pub fn write_out<W: CalcWrite>(&mut self, writer: &mut W) -> Result<(), CalcFault>
         ensures written { Writes (change_of W.contents W.calls writer.old writer.new) self.old result }
         ensures none_wait { OnOk result (self.new ≡ []) }
     {

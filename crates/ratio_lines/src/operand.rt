@@ -14,7 +14,7 @@ use ratio_core::text::leading_fields;
 /// The first part of a text, read as an operand, and the rest after its space, if it has one. For
 /// example, `6/4 + 2` gives 3/2 and `+ 2`.
 #[inline(always)]
-pub fn first_operand(text: &str) -> (Result<Rational64, ParseRatioError>, Option<&str>)
+pub(crate) fn first_operand(text: &str) -> (Result<Rational64, ParseRatioError>, Option<&str>)
     ensures { ReadsFirst text.now (numbers_of result.0) (parts_of result.1) }
 {
     match leading_operand(text) {

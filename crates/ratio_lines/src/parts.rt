@@ -20,7 +20,7 @@ pub fn first_part(text: &str) -> (&str, Option<&str>)
 
 /// The same, and quicker if the first part is one byte, as most operators are.
 #[inline(always)]
-pub fn first_short_part(text: &str) -> (&str, Option<&str>)
+pub(crate) fn first_short_part(text: &str) -> (&str, Option<&str>)
     ensures { slice_split is_space text.now ≡ result.0.now ∷ parts_of result.1 }
 {
     let bytes = text.as_bytes();
@@ -36,7 +36,7 @@ pub fn all_are_terms(parts: Option<&str>) -> bool
 {
     let mut rest = parts;
     while let Some(text) = rest {
-        let (operator, after) = first_part(text);
+        let (operator, after) = first_short_part(text);
         let Some(after) = after else {
             return false;
         };

@@ -1,28 +1,26 @@
 //! The answers to the lines that end in one piece of the input, put one after another.
-ghost use Rattle.std.specs.Prelude.{◌≡◌, ◌≤◌, ◌++◌, ◌∷◌, [], Some, OnOk, if◌then◌else◌, is_some};
+ghost use Rattle.std.specs.Prelude.{◌≡◌, ◌++◌, ◌∷◌, [], Some, OnOk, if◌then◌else◌, is_some};
 ghost use Rattle.ratio_lines.specs.AnswerText.{bytes_of};
 ghost use Rattle.ratio_lines.specs.Devices.{Gathers, GathersFor, Waits, WaitsFor, change_of};
 ghost use Rattle.ratio_lines.specs.KeptLine.{ArePieceAnswers, line_after};
 ghost use Rattle.ratio_lines.specs.PlainLine.{IsNextAnswer};
 
-use crate::answer::{answer, answer_well_chained, apply_operator};
+use crate::answer::{answer, answer_two};
 use crate::answer_text::AnswerText;
-use crate::chain_line::chain_line;
 use crate::counted::CalcWrite;
 use crate::cut::cut;
 use crate::fault::CalcFault;
-use crate::gathered::{Gathered, Waiting};
+use crate::gathered::Gathered;
 use crate::line::Line;
-use crate::read_line::read_line;
+use crate::plain_line::plain_line;
 use either::Either;
 
 /// Gathers an answer without its line end.
-fn put_text<const ROOM: usize, W: CalcWrite>(
-    gathered: &mut Waiting<ROOM>,
+fn put_text<W: CalcWrite>(
+    gathered: &mut Gathered,
     writer: &mut W,
     answer: &AnswerText,
 ) -> Result<(), CalcFault>
-    requires { 1024 ≤ ROOM }
     ensures gathered { Gathers (change_of W.contents W.calls writer.old writer.new)
         gathered.old gathered.new (bytes_of answer.now) result }
     ensures waits { Waits (change_of W.contents W.calls writer.old writer.new)
@@ -48,21 +46,6 @@ pub fn put_answer<W: CalcWrite>(
     ensures waits { Waits (change_of W.contents W.calls writer.old writer.new)
         gathered.old gathered.new (bytes_of answer.now ++ 10 ∷ []) result }
 {
-    put_line(&mut gathered.waiting, writer, answer)
-}
-
-/// The same for any room.
-fn put_line<const ROOM: usize, W: CalcWrite>(
-    gathered: &mut Waiting<ROOM>,
-    writer: &mut W,
-    answer: &AnswerText,
-) -> Result<(), CalcFault>
-    requires { 1024 ≤ ROOM }
-    ensures gathered { Gathers (change_of W.contents W.calls writer.old writer.new)
-        gathered.old gathered.new (bytes_of answer.now ++ 10 ∷ []) result }
-    ensures waits { Waits (change_of W.contents W.calls writer.old writer.new)
-        gathered.old gathered.new (bytes_of answer.now ++ 10 ∷ []) result }
-{
     put_text(gathered, writer, answer)?;
     gathered.put(writer, b"\n")
 }
@@ -72,14 +55,8 @@ fn put_line<const ROOM: usize, W: CalcWrite>(
 fn first_answer(bytes: &[u8]) -> Option<(AnswerText, &[u8])>
     ensures { IsNextAnswer (Some []) bytes.now result }
 {
-    if let Some(line) = read_line(bytes) {
-        return Some((
-            apply_operator(line.operator, line.left, line.right),
-            line.after,
-        ));
-    }
-    if let Some((text, after)) = chain_line(bytes) {
-        return Some((answer_well_chained(text), after));
+    if let Some(line) = plain_line(bytes) {
+        return Some((answer_two(line.left, line.operator, line.right), line.after));
     }
     let (line, after) = cut(bytes, b'\n')?;
     Some((answer(line), after))
@@ -114,26 +91,9 @@ pub fn answer_piece<W: CalcWrite>(
     ensures waits { WaitsFor (ArePieceAnswers line.old piece.now) (change_of W.contents W.calls writer.old writer.new)
         gathered.old gathered.new result }
 {
-    answer_lines(line, &mut gathered.waiting, writer, piece)
-}
-
-/// The same for any room.
-pub(crate) fn answer_lines<const ROOM: usize, W: CalcWrite>(
-    line: &mut Line,
-    gathered: &mut Waiting<ROOM>,
-    writer: &mut W,
-    piece: &[u8],
-) -> Result<(), CalcFault>
-    requires { 1024 ≤ ROOM }
-    ensures line { OnOk result (line.new ≡ line_after line.old piece.now) }
-    ensures answered { GathersFor (ArePieceAnswers line.old piece.now) (change_of W.contents W.calls writer.old writer.new)
-        gathered.old gathered.new result }
-    ensures waits { WaitsFor (ArePieceAnswers line.old piece.now) (change_of W.contents W.calls writer.old writer.new)
-        gathered.old gathered.new result }
-{
     let mut rest = piece;
     while let Some((answer, after)) = next_answer(line, rest) {
-        put_line(gathered, writer, &answer)?;
+        put_answer(gathered, writer, &answer)?;
         rest = after;
     }
     line.extend(rest);

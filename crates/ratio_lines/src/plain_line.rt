@@ -18,7 +18,7 @@ pub struct PlainLine<'a> {
 // The end of the part that begins at `from`. The part has only
 // graphic characters, and `byte` follows it.
 #[inline(always)]
-pub(crate) fn part_end(bytes: &[u8], from: usize, byte: u8) -> Option<usize>
+fn part_end(bytes: &[u8], from: usize, byte: u8) -> Option<usize>
     requires { from ≤ length bytes.now }
     ensures { IfSome result (λ end. EndsPart bytes.now from byte end) }
 {
@@ -35,7 +35,7 @@ pub(crate) fn part_end(bytes: &[u8], from: usize, byte: u8) -> Option<usize>
 
 // Graphic characters as a text.
 #[inline(always)]
-pub(crate) fn text(bytes: &[u8]) -> &str
+fn text(bytes: &[u8]) -> &str
     requires { IsGraphic bytes.now }
     ensures { result.now ≡ bytes.now }
 {

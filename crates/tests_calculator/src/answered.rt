@@ -3,7 +3,7 @@ ghost use Rattle.std.specs.Prelude.{◌<◌, IfOk};
 ghost use Rattle.ratio_lines.specs.Answers.{AreAnswersOf};
 
 use crate::devices::{Feed, Sink};
-use ratio_lines::calculator::{run, run_in_large_pieces};
+use ratio_lines::calculator::run;
 use ratio_lines::counted::Counted;
 use ratio_lines::fault::CalcFault;
 use std::alloc::Global;
@@ -24,25 +24,7 @@ pub fn answered(alloc: Global, input: &[u8], step: usize) -> Result<Vec<u8>, Cal
     }
 }
 
-/// The same in large pieces.
-pub fn answered_in_large_pieces(
-    alloc: Global,
-    input: &[u8],
-    step: usize,
-) -> Result<Vec<u8>, CalcFault>
-    requires { 0 < step }
-    ensures { IfOk result (λ bytes. AreAnswersOf input.now bytes.items) }
-{
-    let mut reader = Counted::new(Feed::new(input, step));
-    let mut writer = Counted::new(Sink::new(alloc));
-    match run_in_large_pieces(&mut reader, &mut writer) {
-        Ok(()) => Ok(writer.into_inner().bytes),
-        Err(fault) => Err(fault),
-    }
-}
-
-/// These are the answers to the input, whether a read gives 1, 7 or 512 bytes, and
-/// in large pieces as many as there is room for.
+/// These are the answers to the input, whether a read gives 1, 7 or 512 bytes.
 pub fn assert_answers(
     rt: &impl Abort,
     alloc: Global,
@@ -51,12 +33,6 @@ pub fn assert_answers(
 ) -> Result<(), Fail> {
     for step in [1, 7, 512] {
         assert_eq!(rt; answered(alloc, input, step)?.as_slice(), answers);
-    }
-    for step in [7, 8192] {
-        assert_eq!(rt;
-            answered_in_large_pieces(alloc, input, step)?.as_slice(),
-            answers
-        );
     }
     Ok(())
 }

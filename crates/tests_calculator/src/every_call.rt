@@ -1,7 +1,7 @@
 //! How a run uses its devices, and each public call that no line shows.
 use crate::answered::repeated;
 use crate::devices::{Feed, Sink, Watch, WatchedFeed, WatchedSink};
-use ratio_lines::calculator::{run, run_in_large_pieces};
+use ratio_lines::calculator::run;
 use ratio_lines::counted::Counted;
 use ratio_lines::fault::{CalcFault, fault_line};
 use ratio_lines::laws;
@@ -30,36 +30,6 @@ fn reads_and_writes_once_a_piece(rt: HostRuntime) -> Result<(), Fail> {
         assert_eq!(rt; watch.first_reads.get(), first_reads);
         assert_eq!(rt; watch.writes.get(), writes);
         assert_eq!(rt; watch.ends_written.get(), 86);
-        assert_eq!(rt;
-            watch.is_late.get(),
-            false,
-            "every whole line was answered before a read"
-        );
-    }
-    Ok(())
-}
-
-#[test]
-fn reads_and_writes_once_a_large_piece(rt: HostRuntime) -> Result<(), Fail> {
-    let input = repeated(rt.alloc(), b"1 + 2\n", 1400)?;
-    // 8,400 bytes come in pieces of 8,192 and 208 bytes, and the last read gives none.
-    for (step, reads, first_reads, writes) in [
-        (8400, 3, [8192, 208, 0], 2),
-        (512, 18, [512, 512, 512], 17),
-        (7, 1201, [7, 7, 7], 1200),
-    ] {
-        let watch = Watch::new();
-        let mut reader = Counted::new(WatchedFeed {
-            bytes: input.as_slice(),
-            step,
-            watch: &watch,
-        });
-        let mut writer = Counted::new(WatchedSink { watch: &watch });
-        assert_eq!(rt; run_in_large_pieces(&mut reader, &mut writer), Ok(()));
-        assert_eq!(rt; watch.reads.get(), reads);
-        assert_eq!(rt; watch.first_reads.get(), first_reads);
-        assert_eq!(rt; watch.writes.get(), writes);
-        assert_eq!(rt; watch.ends_written.get(), 1400);
         assert_eq!(rt;
             watch.is_late.get(),
             false,

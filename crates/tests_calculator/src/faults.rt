@@ -1,7 +1,7 @@
 //! Runs on devices that fail, and on inputs that end early.
 use crate::answered::{answered, repeated};
 use crate::devices::{Feed, Refusal, Sink};
-use ratio_lines::calculator::{run, run_in_large_pieces};
+use ratio_lines::calculator::run;
 use ratio_lines::counted::Counted;
 use ratio_lines::fault::CalcFault;
 use std::alloc::Global;
@@ -105,55 +105,21 @@ fn stops_where_a_device_fails_in_long_lines(rt: HostRuntime) -> Result<(), Fail>
     Ok(())
 }
 
-/// The same as `assert_fault`, for a run in large pieces.
-fn assert_fault_in_large_pieces(
-    rt: &impl Abort,
-    reader: Feed,
-    writer: Sink,
-    fault: CalcFault,
-    written: &[u8],
-) {
-    let mut reader = Counted::new(reader);
-    let mut writer = Counted::new(writer);
-    let result = run_in_large_pieces(&mut reader, &mut writer);
-    assert_eq!(rt; result, Err(fault));
-    assert_eq!(rt; writer.into_inner().bytes.as_slice(), written);
-}
-
-#[test]
-fn stops_where_a_device_fails_in_large_pieces(rt: HostRuntime) {
-    for left in 0..INPUT.len() {
-        let reader = Feed::failing(INPUT, 8192, left, ErrorKind::Other);
-        let written = beginning(ANSWERS, written_before(&[(10, 4), (18, 6)], left));
-        let writer = Sink::new(rt.alloc());
-        assert_fault_in_large_pieces(&rt, reader, writer, CalcFault::Read, written);
-    }
-    for left in 0..ANSWERS.len() {
-        let writer = Sink::refusing(rt.alloc(), usize::MAX, left, Refusal::TakesNone);
-        let written = beginning(ANSWERS, left);
-        let reader = Feed::new(INPUT, 8192);
-        assert_fault_in_large_pieces(&rt, reader, writer, CalcFault::Write, written);
-    }
-}
-
-/// The answers to one piece are longer than the 4,096 bytes that a run in large pieces writes at once: its first
-/// call of the writer gets 107 answers, of 4,066 bytes. Both runs have written all that a writer took before it
-/// refused, in each answer of the piece and at each byte beside the end of that call.
+/// The answers to one piece are longer than the 1,024 bytes that are written at once: the first call of the
+/// writer gets 26 answers, of 988 bytes. All that a writer took before it refused is written, in each answer
+/// of the piece and at each byte beside the end of that call.
 #[test]
 fn stops_where_a_write_fails_amid_a_piece(rt: HostRuntime) -> Result<(), Fail> {
-    let input = repeated(rt.alloc(), b"1 + x\n", 115)?;
-    let answers = repeated(rt.alloc(), b"error: right: failed to parse integer\n", 115)?;
+    let input = repeated(rt.alloc(), b"1 + x\n", 85)?;
+    let answers = repeated(rt.alloc(), b"error: right: failed to parse integer\n", 85)?;
     for left in 0..answers.len() {
-        if left % 37 != 0 && left.abs_diff(4066) > 2 {
+        if left % 37 != 0 && left.abs_diff(988) > 2 {
             continue;
         }
         let written = beginning(answers.as_slice(), left);
-        let reader = Feed::new(input.as_slice(), 8192);
+        let reader = Feed::new(input.as_slice(), 512);
         let writer = Sink::refusing(rt.alloc(), usize::MAX, left, Refusal::TakesNone);
         assert_fault(&rt, reader, writer, CalcFault::Write, written);
-        let reader = Feed::new(input.as_slice(), 8192);
-        let writer = Sink::refusing(rt.alloc(), usize::MAX, left, Refusal::TakesNone);
-        assert_fault_in_large_pieces(&rt, reader, writer, CalcFault::Write, written);
     }
     Ok(())
 }

@@ -323,17 +323,6 @@ fn answers_many_lines(rt: HostRuntime) -> Result<(), Fail> {
             answer: b"error: want LEFT OP RIGHT\n",
             count: 600,
         },
-        // The same for a large piece, which has 8,192 bytes: the array then has 4,096.
-        EqualLines {
-            line: b"6/-4 + 1/6 - 1 cmp 2\n",
-            answer: b"<\n",
-            count: 5000,
-        },
-        EqualLines {
-            line: b"x\n",
-            answer: b"error: want LEFT OP RIGHT\n",
-            count: 5000,
-        },
     ];
     for row in rows {
         let input = repeated(rt.alloc(), row.line, row.count)?;

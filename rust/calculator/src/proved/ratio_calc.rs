@@ -1,7 +1,7 @@
 // Erased from crates/ratio_calc/src/main.rt by rust/erase: not to be edited.
 //! The program: the calculator on standard input and standard output, and its status.
 
-use crate::proved::ratio_lines::calculator::run_in_large_pieces;
+use crate::proved::ratio_lines::calculator::run;
 use crate::proved::ratio_lines::counted::Counted;
 use crate::proved::ratio_lines::fault::{CalcFault, fault_line};
 use std::process::ExitCode;
@@ -10,7 +10,7 @@ use std::process::ExitCode;
 pub fn main() -> ExitCode {
     let mut reader = Counted::new(crate::host::stdin());
     let mut writer = Counted::new(crate::host::stdout());
-    let outcome = run_in_large_pieces(&mut reader, &mut writer);
+    let outcome = run(&mut reader, &mut writer);
     if let Err(fault) = outcome {
         let _ = crate::host::eprintln(fault_line(fault));
     }

@@ -8,18 +8,18 @@ loop-rest-init c = operators_start _ _
 
 pub returns-in_default-operator_named : goal.returns-in_default-operator_named
 returns-in_default-operator_named c =
-    let here = first_operator c.loop-rest.rest c.in-Some.text _ c.first_part.result.1 c.in-Some.is c.first_part.ensures in
+    let here = first_operator c.loop-rest.rest c.in-Some.text _ c.first_short_part.result.1 c.in-Some.is c.first_short_part.ensures in
     unknown_operator _ _ _ _ _ here.0 _ c.loop-rest.invariant here.1 (sym c.operator_named.ensures ∙ c.in_default-operator_named.is)
 
 pub loop-rest-preserved-in-Some-after : goal.loop-rest-preserved-in-Some-after
 loop-rest-preserved-in-Some-after c =
-    let parts = parts_two c.loop-rest.rest c.in-Some.text _ _ _ c.first_part.result.1 _ c.in-Some.is c.first_part.ensures c.in-Some-after.is c.first_part-in-Some-after.ensures in
+    let parts = parts_two c.loop-rest.rest c.in-Some.text _ _ _ c.first_short_part.result.1 _ c.in-Some.is c.first_short_part.ensures c.in-Some-after.is c.first_part.ensures in
     operators_go_on _ _ _ _ _ _ _ _ _ c.loop-rest.invariant (ap operator_parts parts) (sym c.operator_named.ensures ∙ c.in-Some-operator_named.is)
     (ap (λ t. c.loop-rest.is_cmp_last && not t) c.is_cmp.ensures)
 
 pub loop-rest-preserved : goal.loop-rest-preserved
 loop-rest-preserved c =
-    let parts = parts_one c.loop-rest.rest c.in-Some.text _ c.first_part.result.1 c.in-Some.is c.first_part.ensures c.in-None.is in
+    let parts = parts_one c.loop-rest.rest c.in-Some.text _ c.first_short_part.result.1 c.in-Some.is c.first_short_part.ensures c.in-None.is in
     operators_go_on _ _ _ _ _ _ _ [] _ c.loop-rest.invariant (ap operator_parts parts) (sym c.operator_named.ensures ∙ c.in-Some-operator_named.is)
     (ap (λ t. c.loop-rest.is_cmp_last && not t) c.is_cmp.ensures)
 

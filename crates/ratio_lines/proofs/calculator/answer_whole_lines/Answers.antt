@@ -5,7 +5,7 @@ use Rattle.ratio_lines.proofs.RunSoFar.{goes_on, reads_all, starts, stops_at_rea
 use Rattle.ratio_lines.proofs.calculator.answer_whole_lines.Goals as goal
 
 pub loop-turn-init : goal.loop-turn-init
-loop-turn-init g c = starts _ _ _ _ c.new-line.ensures c.requires.none_wait
+loop-turn-init g c = starts _ _ _ _ c.new-line.ensures c.new-gathered.ensures
 
 pub returns-in-Ok-eq0 : goal.returns-in-Ok-eq0
 returns-in-Ok-eq0 g c = reads_all _ _ _ _ _ _ c.loop-turn.gathered _ c.loop-turn.invariant (rw c.in-Ok-eq0.field-0-test at c.in-Ok-eq0.ensures).1

@@ -3,7 +3,7 @@ use Rattle.ratio_lines.proofs.calculator.take_piece.Goals as goal
 
 pub returns-clause-answered : goal.returns-clause-answered
 returns-clause-answered g c =
-    let answered = c.in_ok-answer_lines.ensures.answered in
+    let answered = c.in_ok-answer_piece.ensures.answered in
     record {
       bytes = answered.bytes;
       are = answered.are;

@@ -47,7 +47,7 @@ fn order_sign(order: Ordering) -> &'static str {
 /// - `left_positive`: `pos 0 <ℤ denominator left`
 /// - `right_positive`: `pos 0 <ℤ denominator right`
 #[inline]
-pub fn apply_operator(operator: Operator, left: Rational64, right: Rational64) -> AnswerText {
+fn apply_operator(operator: Operator, left: Rational64, right: Rational64) -> AnswerText {
     match operator {
         Operator::Add => result_outcome(left.checked_add(&right)),
         Operator::Sub => result_outcome(left.checked_sub(&right)),
@@ -117,7 +117,9 @@ pub fn answer_two(left: &str, operator: Operator, right: &str) -> AnswerText {
     }
 }
 
-/// The answer to operators between operands.
+/// The answer to operators between operands. Operators apply from left to right. Each operand is read
+/// once. It is read even if the answer is already known, since a refusal comes first: `1 / 0 + x` has
+/// the answer `error: right: failed to parse integer`.
 ///
 /// # Conditions
 ///
@@ -126,25 +128,10 @@ pub fn answer_two(left: &str, operator: Operator, right: &str) -> AnswerText {
 /// - `AreChained operator (operator_parts (parts_of parts))`
 #[inline]
 fn answer_texts(left: &str, operator: Operator, right: &str, parts: Option<&str>) -> AnswerText {
-    match first_outcome(left, operator, right) {
-        Ok(outcome) => answer_rest(outcome, parts),
-        Err(refusal) => refusal,
-    }
-}
-
-/// The answer to an outcome, and then to operators and their right operands. Operators apply from left to right.
-/// Each operand is read once. It is read even if the answer is already known, since a refusal comes first:
-/// `1 / 0 + x` has the answer `error: right: failed to parse integer`.
-///
-/// # Conditions
-///
-/// The proof requires of the caller:
-///
-/// - `positive`: `MatchEither first (λ _. ⊤) (λ left. pos 0 <ℤ denominator left)`
-/// - `known`: `AreOperators (operator_parts (parts_of parts))`
-#[inline(always)]
-fn answer_rest(first: AnswerText, parts: Option<&str>) -> AnswerText {
-    let mut outcome = first;
+    let mut outcome = match first_outcome(left, operator, right) {
+        Ok(outcome) => outcome,
+        Err(refusal) => return refusal,
+    };
     let mut rest = parts;
     while let Some(text) = rest {
         let (part, after) = first_short_part(text);
@@ -154,8 +141,8 @@ fn answer_rest(first: AnswerText, parts: Option<&str>) -> AnswerText {
                 return outcome;
             }
         };
-        let operator = match operator_named(part) {
-            Some(operator) => operator,
+        let next_operator = match operator_named(part) {
+            Some(next_operator) => next_operator,
             _ => {
                 unreachable!()
             }
@@ -165,7 +152,7 @@ fn answer_rest(first: AnswerText, parts: Option<&str>) -> AnswerText {
             Ok(next) => next,
             Err(refusal) => return right_refusal(refusal.kind()),
         };
-        outcome = go_on(outcome, operator, next);
+        outcome = go_on(outcome, next_operator, next);
         rest = after;
     }
     outcome
@@ -178,7 +165,7 @@ fn operators_refusal(first: Operator, parts: Option<&str>) -> Option<&'static st
     let mut is_cmp_last = true;
     let mut rest = parts;
     while let Some(text) = rest {
-        let (part, after) = first_part(text);
+        let (part, after) = first_short_part(text);
         let operator = match operator_named(part) {
             Some(operator) => operator,
             _ => {
@@ -223,22 +210,6 @@ fn answer_chain(left: &str, operator: &str, right: &str, parts: Option<&str>) ->
     }
 }
 
-/// The answer to a text whose parts are well chained. So nothing is left to refuse but its operands.
-///
-/// # Conditions
-///
-/// The proof requires of the caller:
-///
-/// - `AreWellChained (slice_split is_space text.now)`
-#[inline(never)]
-pub fn answer_well_chained(text: &str) -> AnswerText {
-    let (left, rest) = first_operand(text);
-    match left {
-        Ok(left) => answer_rest(Either::Right(left), rest),
-        Err(refusal) => left_refusal(refusal.kind()),
-    }
-}
-
 /// The answer to a text whose parts have single spaces between them.
 #[inline]
 fn answer_parts(text: &str) -> AnswerText {
@@ -248,7 +219,7 @@ fn answer_parts(text: &str) -> AnswerText {
             return Either::Left(WANT_THREE);
         }
     };
-    let (operator, rest) = match first_part(rest) {
+    let (operator, rest) = match first_short_part(rest) {
         (operator, Some(rest)) => (operator, rest),
         _ => {
             return Either::Left(WANT_THREE);

@@ -7,7 +7,7 @@ use arrayvec::ArrayVec;
 
 /// Bytes that wait to be written, in a fixed array.
 pub struct Gathered {
-    pub(crate) waiting: Waiting<1024>,
+    bytes: ArrayVec<u8, 1024>,
 }
 
 impl Gathered {
@@ -15,7 +15,7 @@ impl Gathered {
     #[inline]
     pub fn new() -> Gathered {
         Gathered {
-            waiting: Waiting::new(),
+            bytes: ArrayVec::new(),
         }
     }
 
@@ -23,43 +23,6 @@ impl Gathered {
     /// are written first. Bytes that are longer than all the room are then written at once.
     #[inline]
     pub fn put<W: CalcWrite>(&mut self, writer: &mut W, bytes: &[u8]) -> Result<(), CalcFault> {
-        self.waiting.put(writer, bytes)
-    }
-
-    /// Writes the bytes that wait.
-    #[inline]
-    pub fn write_out<W: CalcWrite>(&mut self, writer: &mut W) -> Result<(), CalcFault> {
-        self.waiting.write_out(writer)
-    }
-}
-
-/// The same in an array of `ROOM` bytes, which are at least the 1,024 of `Gathered`.
-pub(crate) struct Waiting<const ROOM: usize> {
-    bytes: ArrayVec<u8, ROOM>,
-}
-
-impl<const ROOM: usize> Waiting<ROOM> {
-    /// No bytes.
-    #[inline]
-    pub(crate) fn new() -> Waiting<ROOM> {
-        Waiting {
-            bytes: ArrayVec::new(),
-        }
-    }
-
-    /// Adds bytes at the end, as `Gathered` does.
-    ///
-    /// # Conditions
-    ///
-    /// The proof requires of the caller:
-    ///
-    /// - `1024 ≤ ROOM`
-    #[inline]
-    pub(crate) fn put<W: CalcWrite>(
-        &mut self,
-        writer: &mut W,
-        bytes: &[u8],
-    ) -> Result<(), CalcFault> {
         match self.bytes.try_extend_from_slice(bytes) {
             Ok(()) => Ok(()),
             Err(_) => self.put_after(writer, bytes),
@@ -78,7 +41,7 @@ impl<const ROOM: usize> Waiting<ROOM> {
 
     /// Writes the bytes that wait.
     #[inline]
-    pub(crate) fn write_out<W: CalcWrite>(&mut self, writer: &mut W) -> Result<(), CalcFault> {
+    pub fn write_out<W: CalcWrite>(&mut self, writer: &mut W) -> Result<(), CalcFault> {
         write_bytes(writer, self.bytes.as_slice())?;
         self.bytes.clear();
         Ok(())

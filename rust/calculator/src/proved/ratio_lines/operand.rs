@@ -8,7 +8,7 @@ use bakhsney::proved::ratio_core::text::leading_fields;
 /// The first part of a text, read as an operand, and the rest after its space, if it has one. For
 /// example, `6/4 + 2` gives 3/2 and `+ 2`.
 #[inline(always)]
-pub fn first_operand(text: &str) -> (Result<Rational64, ParseRatioError>, Option<&str>) {
+pub(crate) fn first_operand(text: &str) -> (Result<Rational64, ParseRatioError>, Option<&str>) {
     match leading_operand(text) {
         Some(read) => read,
         None => searched_operand(text),

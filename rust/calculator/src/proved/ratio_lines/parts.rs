@@ -16,7 +16,7 @@ pub fn first_part(text: &str) -> (&str, Option<&str>) {
 
 /// The same, and quicker if the first part is one byte, as most operators are.
 #[inline(always)]
-pub fn first_short_part(text: &str) -> (&str, Option<&str>) {
+pub(crate) fn first_short_part(text: &str) -> (&str, Option<&str>) {
     let bytes = text.as_bytes();
     if bytes.len() > 1 && bytes[0] != b' ' && bytes[1] == b' ' {
         return (text.split_at(1).0, Some(text.split_at(2).1));
@@ -29,7 +29,7 @@ pub fn first_short_part(text: &str) -> (&str, Option<&str>) {
 pub fn all_are_terms(parts: Option<&str>) -> bool {
     let mut rest = parts;
     while let Some(text) = rest {
-        let (operator, after) = first_part(text);
+        let (operator, after) = first_short_part(text);
         let after = match after {
             Some(after) => after,
             _ => {

@@ -1,27 +1,20 @@
 // Erased from crates/ratio_lines/src/piece.rt by rust/erase: not to be edited.
 //! The answers to the lines that end in one piece of the input, put one after another.
 
-use crate::proved::ratio_lines::answer::{answer, answer_well_chained, apply_operator};
+use crate::proved::ratio_lines::answer::{answer, answer_two};
 use crate::proved::ratio_lines::answer_text::AnswerText;
-use crate::proved::ratio_lines::chain_line::chain_line;
 use crate::proved::ratio_lines::counted::CalcWrite;
 use crate::proved::ratio_lines::cut::cut;
 use crate::proved::ratio_lines::fault::CalcFault;
-use crate::proved::ratio_lines::gathered::{Gathered, Waiting};
+use crate::proved::ratio_lines::gathered::Gathered;
 use crate::proved::ratio_lines::line::Line;
-use crate::proved::ratio_lines::read_line::read_line;
+use crate::proved::ratio_lines::plain_line::plain_line;
 use either::Either;
 
 /// Gathers an answer without its line end.
-///
-/// # Conditions
-///
-/// The proof requires of the caller:
-///
-/// - `1024 ≤ ROOM`
 #[inline]
-fn put_text<const ROOM: usize, W: CalcWrite>(
-    gathered: &mut Waiting<ROOM>,
+fn put_text<W: CalcWrite>(
+    gathered: &mut Gathered,
     writer: &mut W,
     answer: &AnswerText,
 ) -> Result<(), CalcFault> {
@@ -41,22 +34,6 @@ pub fn put_answer<W: CalcWrite>(
     writer: &mut W,
     answer: &AnswerText,
 ) -> Result<(), CalcFault> {
-    put_line(&mut gathered.waiting, writer, answer)
-}
-
-/// The same for any room.
-///
-/// # Conditions
-///
-/// The proof requires of the caller:
-///
-/// - `1024 ≤ ROOM`
-#[inline]
-fn put_line<const ROOM: usize, W: CalcWrite>(
-    gathered: &mut Waiting<ROOM>,
-    writer: &mut W,
-    answer: &AnswerText,
-) -> Result<(), CalcFault> {
     put_text(gathered, writer, answer)?;
     gathered.put(writer, b"\n")
 }
@@ -65,14 +42,8 @@ fn put_line<const ROOM: usize, W: CalcWrite>(
 /// its line end. `None` if there is no line end.
 #[inline]
 fn first_answer(bytes: &[u8]) -> Option<(AnswerText, &[u8])> {
-    if let Some(line) = read_line(bytes) {
-        return Some((
-            apply_operator(line.operator, line.left, line.right),
-            line.after,
-        ));
-    }
-    if let Some((text, after)) = chain_line(bytes) {
-        return Some((answer_well_chained(text), after));
+    if let Some(line) = plain_line(bytes) {
+        return Some((answer_two(line.left, line.operator, line.right), line.after));
     }
     let (line, after) = cut(bytes, b'\n')?;
     Some((answer(line), after))
@@ -100,26 +71,9 @@ pub fn answer_piece<W: CalcWrite>(
     writer: &mut W,
     piece: &[u8],
 ) -> Result<(), CalcFault> {
-    answer_lines(line, &mut gathered.waiting, writer, piece)
-}
-
-/// The same for any room.
-///
-/// # Conditions
-///
-/// The proof requires of the caller:
-///
-/// - `1024 ≤ ROOM`
-#[inline]
-pub(crate) fn answer_lines<const ROOM: usize, W: CalcWrite>(
-    line: &mut Line,
-    gathered: &mut Waiting<ROOM>,
-    writer: &mut W,
-    piece: &[u8],
-) -> Result<(), CalcFault> {
     let mut rest = piece;
     while let Some((answer, after)) = next_answer(line, rest) {
-        put_line(gathered, writer, &answer)?;
+        put_answer(gathered, writer, &answer)?;
         rest = after;
     }
     line.extend(rest);

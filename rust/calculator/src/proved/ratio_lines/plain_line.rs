@@ -15,13 +15,8 @@ pub struct PlainLine<'a> {
 
 // The end of the part that begins at `from`. The part has only
 // graphic characters, and `byte` follows it.
-/// # Conditions
-///
-/// The proof requires of the caller:
-///
-/// - `from ≤ length bytes.now`
 #[inline(always)]
-pub(crate) fn part_end(bytes: &[u8], from: usize, byte: u8) -> Option<usize> {
+fn part_end(bytes: &[u8], from: usize, byte: u8) -> Option<usize> {
     let mut end = from;
     while end < bytes.len() && bytes[end].is_ascii_graphic() {
         end += 1;
@@ -34,13 +29,8 @@ pub(crate) fn part_end(bytes: &[u8], from: usize, byte: u8) -> Option<usize> {
 }
 
 // Graphic characters as a text.
-/// # Conditions
-///
-/// The proof requires of the caller:
-///
-/// - `IsGraphic bytes.now`
 #[inline(always)]
-pub(crate) fn text(bytes: &[u8]) -> &str {
+fn text(bytes: &[u8]) -> &str {
     // SAFETY: the proof of `text` shows what `str::from_utf8_unchecked` requires.
     unsafe { core::str::from_utf8_unchecked(bytes) }
 }

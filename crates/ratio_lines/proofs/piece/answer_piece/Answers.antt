@@ -3,7 +3,7 @@ use Rattle.ratio_lines.specs.declared.fault.CalcFault.TheVariants.{Write}
 use Rattle.ratio_lines.specs.KeptLine.{extended}
 use Rattle.ratio_lines.proofs.DeviceCalls.{err_is}
 use Rattle.ratio_lines.proofs.PieceSoFar.{after_shorter, piece_done, piece_goes_on, piece_line, piece_starts, piece_stops, piece_waits, piece_waits_no_more}
-use Rattle.ratio_lines.proofs.piece.answer_lines.Goals as goal
+use Rattle.ratio_lines.proofs.piece.answer_piece.Goals as goal
 
 pub loop-answer-init : goal.loop-answer-init
 loop-answer-init g c = piece_starts _ _ _ _
@@ -14,20 +14,20 @@ loop-answer-smaller g c = after_shorter _ _ _ c.in-Some.ensures.answered.split
 pub loop-answer-preserved : goal.loop-answer-preserved
 loop-answer-preserved g c =
     let ends = c.in-Some.ensures.answered in
-    let put = c.in_ok-put_line.ensures in
+    let put = c.in_ok-put_answer.ensures in
     piece_goes_on _ _ _ _ _ _ _ _ _ _ _ _ _ _ _ c.loop-answer.invariant ends.none ends.split ends.answers c.in-Some.ensures.line put.gathered.1 put.gathered.2 put.waits
 
-pub returns-in_err-put_line-clause-answered : goal.returns-in_err-put_line-clause-answered
-returns-in_err-put_line-clause-answered g c =
+pub returns-in_err-put_answer-clause-answered : goal.returns-in_err-put_answer-clause-answered
+returns-in_err-put_answer-clause-answered g c =
     let ends = c.in-Some.ensures.answered in
-    let put = c.in_err-put_line.ensures.gathered in
+    let put = c.in_err-put_answer.ensures.gathered in
     let stopped : c.from_residual.result ≡ Err Write = err_is _ _ c.from_residual.ensures.1 ∙ ap Err put.0 in
     piece_stops _ _ _ _ _ _ _ _ _ _ _ _ _ _ c.loop-answer.invariant ends.none ends.split ends.answers put.1 stopped
 
-pub returns-in_err-put_line-clause-waits : goal.returns-in_err-put_line-clause-waits
-returns-in_err-put_line-clause-waits g c =
+pub returns-in_err-put_answer-clause-waits : goal.returns-in_err-put_answer-clause-waits
+returns-in_err-put_answer-clause-waits g c =
     let ends = c.in-Some.ensures.answered in
-    piece_waits_no_more _ _ _ _ _ _ _ _ _ _ _ _ _ _ c.loop-answer.invariant ends.none ends.split ends.answers c.in_err-put_line.ensures.waits
+    piece_waits_no_more _ _ _ _ _ _ _ _ _ _ _ _ _ _ c.loop-answer.invariant ends.none ends.split ends.answers c.in_err-put_answer.ensures.waits
 
 pub returns-clause-line : goal.returns-clause-line
 returns-clause-line g c =

@@ -1,7 +1,7 @@
 use Rattle.std.proofs.Common.{◌∙◌, Err, ap}
 use Rattle.ratio_lines.proofs.DeviceCalls.{err_is}
 use Rattle.ratio_lines.proofs.RunSoFar.{finished, stopped_reading, stopped_writing}
-use Rattle.ratio_lines.proofs.calculator.run_with.Goals as goal
+use Rattle.ratio_lines.proofs.calculator.run.Goals as goal
 
 pub returns-in_err-line-clause-answered : goal.returns-in_err-line-clause-answered
 returns-in_err-line-clause-answered g c = (stopped_reading _ _ _ _ _ _ c.in_err-line.ensures (err_is _ _ c.from_residual.ensures.1)).answered

@@ -1,9 +1,0 @@
-use Rattle.std.proofs.Common.{◌≤◌, ◌-◌, drop, take}
-use Rattle.ratio_lines.specs.PlainLine.{IsGraphic}
-use Rattle.ratio_lines.proofs.chain_line.graphic_end.Given as goal
-
-abbrev pub invariant-loop-end : goal.invariant-loop-end
-invariant-loop-end l = (l.fn.from ≤ l.end) × (l.end ≤ l.fn.limit) × IsGraphic (take (l.end - l.fn.from) (drop l.fn.from l.bytes))
-
-abbrev pub decreases-loop-end : goal.decreases-loop-end
-decreases-loop-end l = l.fn.limit - l.end

@@ -22,8 +22,8 @@ use Rattle.ratio_core.proofs.LawLemmas.{same_value_sums}
 use Rattle.ratio_core.proofs.ProductOrder.{times_le, whole_at_most}
 use Rattle.ratio_core.proofs.RoundingLawLemmas.{each_rounded}
 use Rattle.num_rational.specs.Common.{IsNextOver, IsSumOver, IsTotalOver, IsWholeOver}
-use Rattle.num_rational.specs.Split.{IsRoundedShare, MarkFits, MarksFit, NoShareIsBelowZero, SharesMakeOne, SharesOverPositive, total_of_shares}
-use Rattle.num_rational.proofs.SplitLemmas.{IsSplitSoFar, fits_moved, next_part_held, part_held, rounded_moved, sign_up, split_more, total_next}
+use Rattle.num_rational.specs.Split.{CanBeSplit, IsRoundedShare, MarkFits, MarksFit, NoShareIsBelowZero, SharesMakeOne, SharesOverPositive, total_of_shares}
+use Rattle.num_rational.proofs.SplitLemmas.{IsSplitSoFar, fits_moved, last_mark, next_part_held, next_same, part_held, rounded_moved, sign_up, split_more, total_next}
 use Rattle.num_rational.proofs.WeightLemmas.{mark_held}
 
 -- a product is at most another with the same positive factor only if the other factors are
@@ -112,34 +112,31 @@ mark_below lo hi a x range held above up below fits =
     let some = each_rounded (a *ℤ x.0) x.1 up in
     record { sum = fits; mark = some.0; is = some.1; held = mark_held a x.0 x.1 some.0 up above below some.1 lo hi range held }
 
-module _ {A : Type 0} (view : A → ℤ × ℤ) (lo hi a s c : ℤ) (xs : List A) (range : IsRange lo hi) (held : IsHeld lo hi a) (positive : SharesOverPositive view xs) (none : NoShareIsBelowZero view xs) (total : IsTotalOver view lo hi xs s c) where
+-- all shares add up to 1 if s is c, and only then
+module _ {A : Type 0} (view : A → ℤ × ℤ) (lo hi a : ℤ) (xs : List A) (n : ℕ) (s c : ℤ) (positive : SharesOverPositive view xs) (none : NoShareIsBelowZero view xs) (all : n ≡ length xs) (total : IsTotalOver view lo hi a xs n s c) where
+  all_shares : take n xs ≡ xs
+  all_shares = ap (λ k. take k xs) all ∙ take-length xs
+
   whole_up : pos 0 <ℤ (total_of_shares view xs).1
-  whole_up = total_up xs positive
-    where
-      total_up : (xs : List A) → SharesOverPositive view xs → pos 0 <ℤ (total_of_shares view xs).1
-      total_up xs positive = up_from (pos 0, pos 1) xs (omega (arith, ints)) positive
-        where
-          up_from : (x : ℤ × ℤ) (xs : List A) → pos 0 <ℤ x.1 → SharesOverPositive view xs → pos 0 <ℤ (fold (more view) x xs).1
-          up_from x [] up positive = up
-          up_from x (y ∷ ys) up positive = up_from (more view x y) ys (mul_positive x.1 (view y).1 up (first_share view (Up view) y ys positive)) (rest_shares view (Up view) y ys positive)
+  whole_up = subst (λ ys. pos 0 <ℤ (total_of_shares view ys).1) all_shares (first_shares_up view n xs positive none).1
 
-  pub total_one : s ≤ℤ c → (total_of_shares view xs).0 ≤ℤ (total_of_shares view xs).1
-  total_one below = one_moved (s, c) (total_of_shares view xs) total.up whole_up (sym total.same) below
+  same_all : SameValue (total_of_shares view xs).0 (total_of_shares view xs).1 s c
+  same_all = subst (λ ys. SameValue (total_of_shares view ys).0 (total_of_shares view ys).1 s c) all_shares total.same
 
-  pub marks_below : s ≤ℤ c → MarksFit view lo hi a xs
-  marks_below below k less =
-      let up = first_shares_up view (k + 1) xs positive none in
-      mark_below lo hi a (total_of_shares view (take (k + 1) xs)) range held up.0 up.1 (first_shares_one view (k + 1) xs positive none (total_one below)) (total.fit k less)
-
-  -- the shares add up to 1 if s is c, and only then
-  pub shares_one : s ≡ c → SharesMakeOne view xs
+  shares_one : s ≡ c → SharesMakeOne view xs
   shares_one same =
-      let e : (total_of_shares view xs).0 *ℤ c ≡ (total_of_shares view xs).1 *ℤ c = total.same ∙ ap (λ (z : ℤ). z *ℤ (total_of_shares view xs).1) same ∙ *ℤ_comm c (total_of_shares view xs).1 in
+      let e : (total_of_shares view xs).0 *ℤ c ≡ (total_of_shares view xs).1 *ℤ c = same_all ∙ ap (λ (z : ℤ). z *ℤ (total_of_shares view xs).1) same ∙ *ℤ_comm c (total_of_shares view xs).1 in
       mul_cancel (total_of_shares view xs).0 (total_of_shares view xs).1 c (positive_nonzero c total.up) e
 
   pub one_shares : SharesMakeOne view xs → s ≡ c
   one_shares one =
-      mul_cancel s c (total_of_shares view xs).1 (positive_nonzero _ whole_up) (sym total.same ∙ ap (λ (z : ℤ). z *ℤ c) one ∙ *ℤ_comm (total_of_shares view xs).1 c)
+      mul_cancel s c (total_of_shares view xs).1 (positive_nonzero _ whole_up) (sym same_all ∙ ap (λ (z : ℤ). z *ℤ c) one ∙ *ℤ_comm (total_of_shares view xs).1 c)
+
+  pub all_fit : MarksFit view lo hi a xs
+  all_fit k below = total.fit k (omega (arith, all, below))
+
+  pub can_split : (parts : ℕ) → parts ≡ length xs → s ≡ c → CanBeSplit view lo hi a xs parts
+  can_split parts many same = record { as_many = many; none_below = none; fit = all_fit; one = shares_one same }
 
 -- ---- whole numbers over a denominator
 
@@ -149,11 +146,13 @@ multiple_of_low c x low up whole is =
     divides_multiple c low.1 (denom_divides whole.number c low.0 low.1 (lowest_moved x.0 x.1 whole.number c low.0 low.1 (positive_nonzero c up) (sym whole.same) is))
 
 -- a fraction over b is a whole number over a multiple of b
-pub whole_by_low : (c : ℤ) (x low : ℤ × ℤ) → IsLowestTermsOf x.0 x.1 low.0 low.1 → IsMultiple c low.1 → IsWholeOver c x
-whole_by_low c x low is (q, e) = record {
-  number = low.0 *ℤ q;
-  same = same_value_chained x.0 x.1 low.0 low.1 (low.0 *ℤ q) c (positive_nonzero low.1 is.lowest.positive) is.same
-      (ap (λ (z : ℤ). low.0 *ℤ z) e ∙ sym (mul_assoc low.0 q low.1));
+whole_by_multiple : (c : ℤ) (y : ℤ × ℤ) → IsMultiple c y.1 → IsWholeOver c y
+whole_by_multiple c y (q, e) = record { number = y.0 *ℤ q; same = ap (λ (z : ℤ). y.0 *ℤ z) e ∙ sym (mul_assoc y.0 q y.1) }
+
+whole_moved : (c : ℤ) (x low : ℤ × ℤ) → IsLowestTermsOf x.0 x.1 low.0 low.1 → IsWholeOver c low → IsWholeOver c x
+whole_moved c x low is whole = record {
+  number = whole.number;
+  same = same_value_chained x.0 x.1 low.0 low.1 whole.number c (positive_nonzero low.1 is.lowest.positive) is.same whole.same;
 }
 
 pub whole_grown : (c d : ℤ) (x : ℤ × ℤ) → IsMultiple d c → IsWholeOver c x → IsWholeOver d x
@@ -185,14 +184,44 @@ own_multiple : (c : ℤ) → IsMultiple c c
 own_multiple c = (pos 1, sym (one-mul c))
 
 pub sum_over_same : (s c n d t m : ℤ) → pos 0 <ℤ c → t *ℤ d ≡ c → m ≡ s +ℤ n *ℤ t → IsSumOver (s, c) (n, d) m c
-sum_over_same s c n d t m up c_is m_is = record { up = up; same = rw m_is (joined_same s c n d t c_is); first = own_multiple c; second = (t, sym c_is) }
+sum_over_same s c n d t m up c_is m_is = record { up = up; same = rw m_is (joined_same s c n d t c_is); first = own_multiple c; second = whole_by_multiple c (n, d) (t, sym c_is) }
 
 pub sum_over_apart : (s c n d u v l r m w : ℤ) → pos 0 <ℤ c → IsLowestTermsOf c d u v → l ≡ s *ℤ v → r ≡ n *ℤ u → m ≡ l +ℤ r → w ≡ c *ℤ v → IsSumOver (s, c) (n, d) m w
 sum_over_apart s c n d u v l r m w up low l_is r_is m_is w_is = record {
   up = rw w_is (mul_positive c v up low.lowest.positive);
   same = rw (m_is, l_is, r_is, w_is) (joined_apart s c n d u v low.same);
   first = (v, w_is ∙ *ℤ_comm c v);
-  second = (u, w_is ∙ low.same);
+  second = whole_by_multiple w (n, d) (u, w_is ∙ low.same);
+}
+
+-- a share of 0 changes nothing
+none_same : (s c : ℤ) (y : ℤ × ℤ) → y.0 ≡ pos 0 → SameValue (sum_of s c y.0 y.1).0 (sum_of s c y.0 y.1).1 s c
+none_same s c y nought =
+    let nothing : y.0 *ℤ c ≡ pos 0 = ap (λ (z : ℤ). z *ℤ c) nought ∙ zero-*ℤ c in
+    ap (λ (z : ℤ). (s *ℤ y.1 +ℤ z) *ℤ c) nothing ∙ ap (λ (z : ℤ). z *ℤ c) (+ℤ_idr (s *ℤ y.1)) ∙ mul_assoc s y.1 c ∙ ap (λ (z : ℤ). s *ℤ z) (*ℤ_comm y.1 c)
+
+pub sum_over_none : (s c : ℤ) (y : ℤ × ℤ) → pos 0 <ℤ c → y.0 ≡ pos 0 → IsSumOver (s, c) y s c
+sum_over_none s c y up nought = record {
+  up = up;
+  same = none_same s c y nought;
+  first = own_multiple c;
+  second = record { number = pos 0; same = ap (λ (z : ℤ). z *ℤ c) nought ∙ zero-*ℤ c ∙ sym (zero-*ℤ y.1) };
+}
+
+-- a share in other terms
+sums_moved : (s c : ℤ) (y low : ℤ × ℤ) → IsLowestTermsOf y.0 y.1 low.0 low.1 → SameValue (sum_of s c y.0 y.1).0 (sum_of s c y.0 y.1).1 (sum_of s c low.0 low.1).0 (sum_of s c low.0 low.1).1
+sums_moved s c y low is = same_value_sums s c y.0 y.1 s c low.0 low.1 refl is.same
+
+same_moved : (s c m w : ℤ) (y low : ℤ × ℤ) → pos 0 <ℤ c → IsLowestTermsOf y.0 y.1 low.0 low.1 → SameValue (sum_of s c low.0 low.1).0 (sum_of s c low.0 low.1).1 m w → SameValue (sum_of s c y.0 y.1).0 (sum_of s c y.0 y.1).1 m w
+same_moved s c m w y low up is same =
+    same_value_chained _ _ (sum_of s c low.0 low.1).0 (sum_of s c low.0 low.1).1 m w (positive_nonzero _ (mul_positive c low.1 up is.lowest.positive)) (sums_moved s c y low is) same
+
+pub sum_over_moved : (s c m w : ℤ) (y low : ℤ × ℤ) → pos 0 <ℤ c → IsLowestTermsOf y.0 y.1 low.0 low.1 → IsSumOver (s, c) low m w → IsSumOver (s, c) y m w
+sum_over_moved s c m w y low up is sum = record {
+  up = sum.up;
+  same = same_moved s c m w y low up is sum.same;
+  first = sum.first;
+  second = whole_moved w y low is sum.second;
 }
 
 -- what an exact division gives
@@ -226,113 +255,132 @@ module _ (s c n d t : ℤ) (c_up : pos 0 <ℤ c) (d_up : pos 0 <ℤ d) (s_up : p
   pub next_over : (p m : ℤ) → p ≡ n *ℤ t → m ≡ s +ℤ p → IsNextOver (s, c) (n, d) m c
   next_over p m p_is m_is = rw (m_is, p_is) (record { same = joined_same s c n d t c_is; above = both_above _ _ s_up part_up; below = sum_below })
 
+-- ---- the next sum over the same denominator
+
+pub low_above : (y low : ℤ × ℤ) → pos 0 <ℤ y.1 → pos 0 ≤ℤ y.0 → IsLowestTermsOf y.0 y.1 low.0 low.1 → pos 0 ≤ℤ low.0
+low_above y low y_up y_above is =
+    let some = sign_up y.0 low.1 y_above (above_zero low.1 is.lowest.positive) in
+    at_most (pos 0) low.0 y.1 y_up (rw (zero-*ℤ y.1, sym is.same) some)
+
+pub most_moved : (s c : ℤ) (y low : ℤ × ℤ) → pos 0 <ℤ c → pos 0 <ℤ y.1 → IsLowestTermsOf y.0 y.1 low.0 low.1 → (sum_of s c y.0 y.1).0 ≤ℤ (sum_of s c y.0 y.1).1 → (sum_of s c low.0 low.1).0 ≤ℤ (sum_of s c low.0 low.1).1
+most_moved s c y low up y_up is below =
+    one_moved (sum_of s c y.0 y.1) (sum_of s c low.0 low.1) (mul_positive c y.1 up y_up) (mul_positive c low.1 up is.lowest.positive) (sums_moved s c y low is) below
+
+pub next_over_none : (s c : ℤ) (y : ℤ × ℤ) → pos 0 <ℤ c → pos 0 <ℤ y.1 → pos 0 ≤ℤ s → y.0 ≡ pos 0 → (sum_of s c y.0 y.1).0 ≤ℤ (sum_of s c y.0 y.1).1 → IsNextOver (s, c) y s c
+next_over_none s c y up y_up above nought below = record {
+  same = none_same s c y nought;
+  above = above;
+  below = one_moved (sum_of s c y.0 y.1) (s, c) (mul_positive c y.1 up y_up) up (none_same s c y nought) below;
+}
+
+pub next_over_moved : (s c m : ℤ) (y low : ℤ × ℤ) → pos 0 <ℤ c → IsLowestTermsOf y.0 y.1 low.0 low.1 → IsNextOver (s, c) low m c → IsNextOver (s, c) y m c
+next_over_moved s c m y low up is next = record { same = same_moved s c m c y low up is next.same; above = next.above; below = next.below }
+
+-- the amount itself is the mark of 1
+pub whole_mark : (a s c : ℤ) → pos 0 <ℤ c → s ≡ c → IsRounded (a *ℤ s) c a
+whole_mark a s c up same =
+    let some = each_rounded (a *ℤ c) c up in
+    subst (λ (n : ℤ). IsRounded (a *ℤ n) c a) (sym same) (subst (λ (z : ℤ). IsRounded (a *ℤ c) c z) (last_mark a c some.0 up some.1) some.1)
+
 -- ---- the sum of the first shares
 
--- s/c is the sum of the first k shares, each of these is a whole number over c, and the sums so far fit
-pub record IsTotalSoFar {A : Type 0} (view : A → ℤ × ℤ) (lo hi : ℤ) (shares : List A) (k : ℕ) (s c : ℤ) : Type 0 where
-  pub up : pos 0 <ℤ c
-  pub total_up : pos 0 <ℤ (total_of_shares view (take k shares)).1
-  pub same : SameValue (total_of_shares view (take k shares)).0 (total_of_shares view (take k shares)).1 s c
-  pub whole : (j : ℕ) → j < k → (other : A) → IsWholeOver c (view (slice_index_or shares j other))
-  pub fit : (j : ℕ) → j < k → Fits lo hi (total_of_shares view (take (j + 1) shares)).0 (total_of_shares view (take (j + 1) shares)).1
-
-module _ {A : Type 0} (view : A → ℤ × ℤ) (lo hi : ℤ) (shares : List A) where
-  pub total_none : (s c : ℤ) → s ≡ pos 0 → c ≡ pos 1 → IsTotalSoFar view lo hi shares 0 s c
+module _ {A : Type 0} (view : A → ℤ × ℤ) (lo hi a : ℤ) (shares : List A) where
+  pub total_none : (s c : ℤ) → s ≡ pos 0 → c ≡ pos 1 → IsTotalOver view lo hi a shares 0 s c
   total_none s c none one = rw (none, one) (record {
     up = omega (arith, ints);
-    total_up = omega (arith, ints);
+    at_most = omega (arith, ints);
     same = refl;
     whole = λ j below. absurd (omega arith);
     fit = λ j below. absurd (omega arith);
   })
 
   -- with one more share
-  module _ (k : ℕ) (s c : ℤ) (x : A) (low : ℤ × ℤ) (n d : ℤ) (below : k < length shares) (is : x ≡ get_or shares k x) (so_far : IsTotalSoFar view lo hi shares k s c) (x_up : pos 0 <ℤ (view x).1)
-      (low_is : IsLowestTermsOf (view x).0 (view x).1 low.0 low.1) (sum : IsSumOver (s, c) low n d) where
+  module _ (k : ℕ) (s c : ℤ) (x : A) (n d : ℤ) (positive : SharesOverPositive view shares) (none : NoShareIsBelowZero view shares) (below : k < length shares) (is : x ≡ get_or shares k x) (so_far : IsTotalOver view lo hi a shares k s c) (sum : IsSumOver (s, c) (view x) n d) (most : n ≤ℤ d) where
     abbrev before : ℤ × ℤ
     before = total_of_shares view (take k shares)
 
-    next : total_of_shares view (take (k + 1) shares) ≡ sum_of before.0 before.1 (view x).0 (view x).1
+    abbrev after : ℤ × ℤ
+    after = total_of_shares view (take (k + 1) shares)
+
+    x_up : pos 0 <ℤ (view x).1
+    x_up = subst (λ y. pos 0 <ℤ (view y).1) (sym is) (positive k x below)
+
+    next : after ≡ sum_of before.0 before.1 (view x).0 (view x).1
     next = total_next view shares k x below is
 
-    next_up : pos 0 <ℤ (before.1 *ℤ (view x).1)
-    next_up = mul_positive before.1 (view x).1 so_far.total_up x_up
+    after_up : (pos 0 ≤ℤ after.0) × (pos 0 <ℤ after.1)
+    after_up = first_shares_up view (k + 1) shares positive none
 
-    after : SameValue (sum_of before.0 before.1 (view x).0 (view x).1).0 (sum_of before.0 before.1 (view x).0 (view x).1).1 n d
-    after = same_value_chained _ _ (sum_of s c low.0 low.1).0 (sum_of s c low.0 low.1).1 n d
-        (positive_nonzero _ (mul_positive c low.1 so_far.up low_is.lowest.positive))
-        (same_value_sums before.0 before.1 (view x).0 (view x).1 s c low.0 low.1 so_far.same low_is.same)
-        sum.same
+    after_same : SameValue after.0 after.1 n d
+    after_same = subst (λ y. SameValue y.0 y.1 n d) (sym next)
+        (same_value_chained _ _ (sum_of s c (view x).0 (view x).1).0 (sum_of s c (view x).0 (view x).1).1 n d
+        (positive_nonzero _ (mul_positive c (view x).1 so_far.up x_up))
+        (next_same before (s, c) (view x) so_far.same)
+        sum.same)
 
     kept : (j : ℕ) → j < k → (other : A) → IsWholeOver d (view (slice_index_or shares j other))
     kept j less other = whole_grown c d _ sum.first (so_far.whole j less other)
 
     here : (other : A) → IsWholeOver d (view (slice_index_or shares k other))
-    here other = subst (λ y. IsWholeOver d (view y)) (is ∙ get_or_default shares k x other below) (whole_by_low d (view x) low low_is sum.second)
+    here other = subst (λ y. IsWholeOver d (view y)) (is ∙ get_or_default shares k x other below) sum.second
 
-    pub total_more : IsRange lo hi → IsHeld lo hi n → IsHeld lo hi d → IsTotalSoFar view lo hi shares (k + 1) n d
-    total_more range n_held d_held = record {
+    pub total_more : IsRange lo hi → IsHeld lo hi a → IsHeld lo hi n → IsHeld lo hi d → IsTotalOver view lo hi a shares (k + 1) n d
+    total_more range held n_held d_held = record {
       up = sum.up;
-      total_up = subst (λ y. pos 0 <ℤ y.1) (sym next) next_up;
-      same = subst (λ y. SameValue y.0 y.1 n d) (sym next) after;
+      at_most = most;
+      same = after_same;
       whole = below_more _ _ kept here;
-      fit = below_more _ _ so_far.fit (subst (λ y. Fits lo hi y.0 y.1) (sym next) (fits_over lo hi n d (sum_of before.0 before.1 (view x).0 (view x).1) range n_held d_held sum.up next_up after));
+      fit = below_more _ _ so_far.fit (mark_below lo hi a after range held after_up.0 after_up.1 (one_moved (n, d) after sum.up after_up.1 (sym after_same) most) (fits_over lo hi n d after range n_held d_held sum.up after_up.1 after_same));
     }
 
-  pub total_whole : (k : ℕ) (s c : ℤ) → k ≡ length shares → IsTotalSoFar view lo hi shares k s c → IsTotalOver view lo hi shares s c
-  total_whole k s c whole so_far =
-      let all : take k shares ≡ shares = ap (λ n. take n shares) whole ∙ take-length shares in
-      record {
-        up = so_far.up;
-        same = subst (λ xs. SameValue (total_of_shares view xs).0 (total_of_shares view xs).1 s c) all so_far.same;
-        whole = λ j other less. so_far.whole j (omega arith) other;
-        fit = λ j less. so_far.fit j (omega arith);
-      }
+-- the sum in lowest terms
+pub total_lowest : {A : Type 0} (view : A → ℤ × ℤ) (lo hi a : ℤ) (shares : List A) (n : ℕ) (s c : ℤ) (low : ℤ × ℤ) → SharesOverPositive view shares → NoShareIsBelowZero view shares → IsTotalOver view lo hi a shares n s c → IsLowestTermsOf s c low.0 low.1
+    → IsLowestTermsOf (total_of_shares view (take n shares)).0 (total_of_shares view (take n shares)).1 low.0 low.1
+total_lowest view lo hi a shares n s c low positive none total is =
+    lowest_moved s c _ _ low.0 low.1 (positive_nonzero _ (first_shares_up view n shares positive none).1) total.same is
 
 -- ---- a part by the sums over the denominator
 
 module _ {A P : Type 0} (view : A → ℤ × ℤ) (value_of : P → ℤ) (lo hi amount : ℤ) (shares : List A) (range : IsRange lo hi) (positive : SharesOverPositive view shares) (none : NoShareIsBelowZero view shares) (one : SharesMakeOne view shares) (c : ℤ) (c_up : pos 0 <ℤ c)
-    (k : ℕ) (s mark : ℤ) (parts : List P) (x : A) (low : ℤ × ℤ) (below : k < length shares) (is : x ≡ get_or shares k x) (so_far : IsSplitSoFar view value_of amount shares parts k (s, c) mark) (low_is : IsLowestTermsOf (view x).0 (view x).1 low.0 low.1) where
+    (k : ℕ) (s mark : ℤ) (parts : List P) (x : A) (below : k < length shares) (is : x ≡ get_or shares k x) (so_far : IsSplitSoFar view value_of amount shares parts k (s, c) mark) where
   abbrev begun : ℤ × ℤ
   begun = total_of_shares view (take k shares)
 
-  x_up : pos 0 <ℤ (view x).1
-  x_up = subst (λ y. pos 0 <ℤ (view y).1) (sym is) (positive k x below)
+  pub share_up : pos 0 <ℤ (view x).1
+  share_up = subst (λ y. pos 0 <ℤ (view y).1) (sym is) (positive k x below)
 
-  x_above : pos 0 ≤ℤ (view x).0
-  x_above = subst (λ y. pos 0 ≤ℤ (view y).0) (sym is) (none k x below)
+  pub share_above : pos 0 ≤ℤ (view x).0
+  share_above = subst (λ y. pos 0 ≤ℤ (view y).0) (sym is) (none k x below)
 
   joined_up : pos 0 <ℤ (begun.1 *ℤ (view x).1)
-  joined_up = mul_positive begun.1 (view x).1 so_far.up x_up
+  joined_up = mul_positive begun.1 (view x).1 so_far.up share_up
 
-  over_up : pos 0 <ℤ (c *ℤ low.1)
-  over_up = mul_positive c low.1 c_up low_is.lowest.positive
+  over_up : pos 0 <ℤ (c *ℤ (view x).1)
+  over_up = mul_positive c (view x).1 c_up share_up
 
-  pub low_above : pos 0 ≤ℤ low.0
-  low_above =
-      let some = sign_up (view x).0 low.1 x_above (above_zero low.1 low_is.lowest.positive) in
-      at_most (pos 0) low.0 (view x).1 x_up (rw (zero-*ℤ (view x).1, sym low_is.same) some)
+  sums_same : SameValue (sum_of begun.0 begun.1 (view x).0 (view x).1).0 (sum_of begun.0 begun.1 (view x).0 (view x).1).1 (sum_of s c (view x).0 (view x).1).0 (sum_of s c (view x).0 (view x).1).1
+  sums_same = next_same begun (s, c) (view x) so_far.same
 
-  sums_same : SameValue (sum_of begun.0 begun.1 (view x).0 (view x).1).0 (sum_of begun.0 begun.1 (view x).0 (view x).1).1 (sum_of s c low.0 low.1).0 (sum_of s c low.0 low.1).1
-  sums_same = same_value_sums begun.0 begun.1 (view x).0 (view x).1 s c low.0 low.1 so_far.same low_is.same
+  -- the mark of the sum over the denominator
+  pub mark_so_far : IsRounded (amount *ℤ s) c mark
+  mark_so_far = rounded_moved amount begun (s, c) so_far.up c_up (sym so_far.same) mark so_far.rounded
 
   -- the sum with the next share is at most 1, too
-  pub next_at_most : (sum_of s c low.0 low.1).0 ≤ℤ (sum_of s c low.0 low.1).1
-  next_at_most = one_moved (sum_of begun.0 begun.1 (view x).0 (view x).1) (sum_of s c low.0 low.1) joined_up over_up sums_same
+  pub next_at_most : (sum_of s c (view x).0 (view x).1).0 ≤ℤ (sum_of s c (view x).0 (view x).1).1
+  next_at_most = one_moved (sum_of begun.0 begun.1 (view x).0 (view x).1) (sum_of s c (view x).0 (view x).1) joined_up over_up sums_same
       (subst (λ y. y.0 ≤ℤ y.1) (total_next view shares k x below is) (first_shares_one view (k + 1) shares positive none (omega (arith, ints))))
 
-  module _ (n z : ℤ) (next : IsNextOver (s, c) low n c) (rounded : IsRounded (amount *ℤ n) c z) where
-    after_same : SameValue (sum_of begun.0 begun.1 (view x).0 (view x).1).0 (sum_of begun.0 begun.1 (view x).0 (view x).1).1 n c
-    after_same = same_value_chained _ _ (sum_of s c low.0 low.1).0 (sum_of s c low.0 low.1).1 n c (positive_nonzero _ over_up) sums_same next.same
+  module _ (n z : ℤ) (next : IsNextOver (s, c) (view x) n c) (rounded : IsRounded (amount *ℤ n) c z) where
+    same_over : SameValue (sum_of begun.0 begun.1 (view x).0 (view x).1).0 (sum_of begun.0 begun.1 (view x).0 (view x).1).1 n c
+    same_over = same_value_chained _ _ (sum_of s c (view x).0 (view x).1).0 (sum_of s c (view x).0 (view x).1).1 n c (positive_nonzero _ over_up) sums_same next.same
 
     share_rounded : IsRoundedShare amount (sum_of begun.0 begun.1 (view x).0 (view x).1) z
-    share_rounded = rounded_moved amount (n, c) (sum_of begun.0 begun.1 (view x).0 (view x).1) c_up joined_up after_same z rounded
+    share_rounded = rounded_moved amount (n, c) (sum_of begun.0 begun.1 (view x).0 (view x).1) c_up joined_up same_over z rounded
 
-    pub mark_fits_over : IsHeld lo hi amount → IsHeld lo hi z
-    mark_fits_over held = mark_held amount n c z c_up next.above next.below rounded lo hi range held
-
-    pub part_fits_over : P → k < length parts → IsHeld lo hi z → IsHeld lo hi (z -ℤ mark)
-    part_fits_over written room held = next_part_held view value_of amount shares parts k (s, c) mark x (n, c) z written below room is so_far x_up x_above after_same share_rounded lo hi range held
+    pub part_fits_over : P → k < length parts → IsHeld lo hi amount → IsHeld lo hi (z -ℤ mark)
+    part_fits_over written room held =
+        next_part_held view value_of amount shares parts k (s, c) mark x (n, c) z written below room is so_far share_up share_above same_over share_rounded lo hi range
+        (mark_held amount n c z c_up next.above next.below rounded lo hi range held)
 
     pub split_more_over : (written : P) → k < length parts → value_of written ≡ z -ℤ mark → IsSplitSoFar view value_of amount shares (set parts k written) (k + 1) (n, c) z
-    split_more_over written room part_is = split_more view value_of amount shares parts k (s, c) mark x (n, c) z written below room is so_far x_up x_above after_same share_rounded part_is
+    split_more_over written room part_is = split_more view value_of amount shares parts k (s, c) mark x (n, c) z written below room is so_far share_up share_above same_over share_rounded part_is

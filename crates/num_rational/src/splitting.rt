@@ -1,16 +1,18 @@
 //! An amount split by shares, so that nothing is lost.
-ghost use Rattle.std.specs.Prelude.{◌≡◌, ◌↔◌, length, IfErr, IsTrue, MatchResult, OnErr, OnOk};
+ghost use Rattle.std.specs.Prelude.{◌≡◌, ◌↔◌, ◌≤◌, ◌<ℤ◌, pos, length, take, IfErr, IsTrue, MatchResult, OnErr, OnOk};
 ghost use Rattle.ratio_integer.specs.Arithmetic.{sum_of};
-ghost use Rattle.num_rational.specs.Split.{SharesMakeOne, SharesOverPositive, CanBeSplit, ChecksNextMark, IsSplitBy, MarksFit, NoShareIsBelowZero, RefusesToSplit, SumsRefuse, share_numbers};
+ghost use Rattle.ratio_integer.specs.Fraction.{IsLowestTermsOf};
+ghost use Rattle.num_rational.specs.Common.{FirstMarksFit};
+ghost use Rattle.num_rational.specs.Split.{SharesMakeOne, SharesOverPositive, CanBeSplit, ChecksNextMark, IsSplitBy, MarksFit, NoShareIsBelowZero, RefusesToSplit, SumsRefuse, share_numbers, total_of_shares};
 
 mod common;
 
 use crate::reduced::Reduced;
 use crate::share::Share;
-use common::{common_denominator, write_parts_over};
+use common::{total_over, write_parts_over};
 use ratio_core::sign::is_below_zero;
 use ratio_decimal::rounding_rule::Rounding;
-use ratio_integer::Integer;
+use ratio_integer::{Integer, both_held};
 
 /// Why an amount is not split: the first of these that applies.
 #[derive(Clone, Copy, Debug, PartialEq)]
@@ -59,15 +61,18 @@ pub fn split_shares<T: Copy + Integer, S: Share<T>>(
     if !none_is_below_zero(shares) {
         return Err(SplitRefusal::BelowZero);
     }
-    match common_denominator(amount, shares) {
-        Some((common, true)) => write_parts_over(amount, shares, common, parts),
-        Some((_, false)) => return Err(SplitRefusal::NotOne),
-        None => {
-            check_marks(amount, shares)?;
-            write_parts(amount, shares, parts);
-        }
+    let (count, sum, common) = total_over(amount, shares);
+    if count < shares.len() {
+        check_marks(amount, shares, count, lowest_over(sum, common))?;
+        write_parts(amount, shares, parts);
+        return Ok(());
     }
-    Ok(())
+    if sum == common {
+        write_parts_over(amount, shares, common, parts);
+        Ok(())
+    } else {
+        Err(SplitRefusal::NotOne)
+    }
 }
 
 fn none_is_below_zero<T: Copy + Integer, S: Share<T>>(shares: &[S]) -> bool
@@ -89,16 +94,38 @@ fn next_mark<T: Copy + Integer>(
     Some((sum, mark))
 }
 
-// Whether each sum of the first shares and its mark fit, and the last sum is 1.
-fn check_marks<T: Copy + Integer, S: Share<T>>(amount: T, shares: &[S]) -> Result<(), SplitRefusal>
-    requires { SharesOverPositive S.two_numbers shares.now }
+// The lowest terms of a fraction over a positive denominator.
+fn lowest_over<T: Copy + Integer>(n: T, d: T) -> Reduced<T>
+    requires { pos 0 <ℤ T.value d }
+    ensures { IsLowestTermsOf (T.value n) (T.value d) (share_numbers result).0 (share_numbers result).1 }
+{
+    both_held(n, d);
+    match Reduced::checked_new(n, d) {
+        Some(lowest) => lowest,
+        None => unreachable!(),
+    }
+}
+
+// Whether each sum of the first shares and its mark fit, and the last sum is 1. It begins behind the first `count` shares, for
+// which this is known, with their sum.
+fn check_marks<T: Copy + Integer, S: Share<T>>(
+    amount: T,
+    shares: &[S],
+    count: usize,
+    begun: Reduced<T>,
+) -> Result<(), SplitRefusal>
+    requires positive { SharesOverPositive S.two_numbers shares.now }
+    requires within { count ≤ length shares.now }
+    requires none_below { NoShareIsBelowZero S.two_numbers shares.now }
+    requires fit { FirstMarksFit S.two_numbers T.lo T.hi (T.value amount) shares.now count }
+    requires sum { IsLowestTermsOf (total_of_shares S.two_numbers (take count shares.now)).0 (total_of_shares S.two_numbers (take count shares.now)).1 (share_numbers begun).0 (share_numbers begun).1 }
     ensures { MatchResult result
         (λ _. MarksFit S.two_numbers T.lo T.hi (T.value amount) shares.now × SharesMakeOne S.two_numbers shares.now)
         (SumsRefuse (MarksFit S.two_numbers T.lo T.hi (T.value amount) shares.now) (SharesMakeOne S.two_numbers shares.now)) }
 {
-    let mut sum = Reduced::zero();
-    for share in shares {
-        match next_mark(amount, &sum, &share.lowest()) {
+    let mut sum = begun;
+    for i in count..shares.len() {
+        match next_mark(amount, &sum, &shares[i].lowest()) {
             Some((next, _)) => sum = next,
             None => return Err(SplitRefusal::NotHeld),
         }

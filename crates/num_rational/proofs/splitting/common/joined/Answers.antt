@@ -1,26 +1,19 @@
-use Rattle.std.specs.Prelude.{◌≡◌, ◌+ℤ◌, ◌*ℤ◌}
-use Rattle.std.proofs.Common.{ap, subst, ◌∙◌}
-use Rattle.ratio_integer.specs.Fraction.{IsLowestTermsOf}
+use Rattle.std.specs.Prelude.{◌≤ℤ◌, ◌<ℤ◌}
+use Rattle.std.proofs.Common.{sym, ◌∙◌}
+use Rattle.ratio_integer.specs.Comparison.{Tells, no}
 use Rattle.num_rational.specs.Split.{share_numbers}
-use Rattle.num_rational.proofs.CommonLemmas.{no_rest, sum_over_apart, sum_over_same}
+use Rattle.num_rational.proofs.CommonLemmas.{sum_over_moved, sum_over_none}
 use Rattle.num_rational.proofs.splitting.common.joined.Goals as goal
 
 pub returns-then-is_zero : goal.returns-then-is_zero
 returns-then-is_zero g c =
     let T = g.T.Integer in
-    let low = share_numbers c.args.share.now in
-    let times = T.value c.div_rem-times.result.0 in
-    let exact : times *ℤ low.1 ≡ T.value c.args.common = subst (λ z. times *ℤ z ≡ T.value c.args.common) c.denom-denom.ensures.value
-    (no_rest (T.value c.args.common) (T.value c.denom-denom.result.now) times _ c.div_rem-times.ensures.quotient c.div_rem-times.ensures.remainder (c.is_zero.ensures.0 c.if-is_zero.true)) in
-    sum_over_same (T.value c.args.sum) (T.value c.args.common) low.0 low.1 times (T.value c.in_ok-try_plus.field-0) c.requires exact
-    (c.in_ok-try_plus.ensures.1 ∙ ap (λ z. T.value c.args.sum +ℤ z) (c.in_ok-try_times.ensures.1 ∙ ap (λ z. z *ℤ times) c.numer-numer.ensures.value))
+    (sum_over_none (T.value c.args.sum) (T.value c.args.common) (g.S.Share.two_numbers c.args.share.now) c.requires.common (sym c.numer.ensures ∙ c.is_zero.ensures.0 c.if-is_zero.true), c.requires.sum)
 
 pub returns : goal.returns
 returns g c =
     let T = g.T.Integer in
-    let low = share_numbers c.args.share.now in
-    let for_share = T.value c.lowest_terms-for_share.result.0 in
-    let for_sum = T.value c.lowest_terms-for_share.result.1 in
-    let reduced = subst (λ z. IsLowestTermsOf (T.value c.args.common) z for_share for_sum) c.denom-denom.ensures.value c.lowest_terms-for_share.ensures.terms in
-    sum_over_apart (T.value c.args.sum) (T.value c.args.common) low.0 low.1 for_share for_sum (T.value c.in_ok-left.left) (T.value c.in_ok-right.right) (T.value c.in_ok-try_plus-2.field-0) (T.value c.in_ok-try_times-2.field-0) c.requires reduced
-    c.in_ok-left.ensures.1 (c.in_ok-right.ensures.1 ∙ ap (λ z. z *ℤ for_share) c.numer-numer.ensures.value) c.in_ok-try_plus-2.ensures.1 c.in_ok-try_times-2.ensures.1
+    let next = T.value c.in_ok-next.next in
+    let over = T.value c.in_ok-next.over in
+    let tells : Tells c.lt.result (over <ℤ next) (next ≤ℤ over) = rw c.lt.ensures (g.met.T.Integer.lt_law c.in_ok-next.over c.in_ok-next.next) in
+    (sum_over_moved (T.value c.args.sum) (T.value c.args.common) next over (g.S.Share.two_numbers c.args.share.now) (share_numbers c.lowest-lowest.result) c.requires.common (c.lowest-lowest.ensures c.requires.share) c.in_ok-next.ensures, no c.lt.result tells c.if-lt.false)

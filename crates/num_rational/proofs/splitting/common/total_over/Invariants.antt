@@ -1,5 +1,5 @@
-use Rattle.num_rational.proofs.CommonLemmas.{IsTotalSoFar}
+use Rattle.num_rational.specs.Common.{IsTotalOver}
 use Rattle.num_rational.proofs.splitting.common.total_over.Given as goal
 
-abbrev pub invariant-loop-share : goal.invariant-loop-share
-invariant-loop-share g l = let T = g.T.Integer in IsTotalSoFar g.S.Share.two_numbers T.lo T.hi l.shares l.share-index (T.value l.sum) (T.value l.common)
+abbrev pub invariant-loop-i : goal.invariant-loop-i
+invariant-loop-i g l = let T = g.T.Integer in IsTotalOver g.S.Share.two_numbers T.lo T.hi (T.value l.amount) l.shares l.i (T.value l.sum) (T.value l.common)

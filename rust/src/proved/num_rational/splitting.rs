@@ -5,10 +5,10 @@ mod common;
 
 use crate::proved::num_rational::reduced::Reduced;
 use crate::proved::num_rational::share::Share;
-use common::{common_denominator, write_parts_over};
+use common::{total_over, write_parts_over};
 use crate::proved::ratio_core::sign::is_below_zero;
 use crate::proved::ratio_decimal::rounding_rule::Rounding;
-use crate::proved::ratio_integer::Integer;
+use crate::proved::ratio_integer::{Integer, both_held};
 
 /// Why an amount is not split: the first of these that applies.
 #[derive(Clone, Copy, Debug, PartialEq)]
@@ -56,15 +56,18 @@ pub fn split_shares<T: Copy + Integer, S: Share<T>>(
     if !none_is_below_zero(shares) {
         return Err(SplitRefusal::BelowZero);
     }
-    match common_denominator(amount, shares) {
-        Some((common, true)) => write_parts_over(amount, shares, common, parts),
-        Some((_, false)) => return Err(SplitRefusal::NotOne),
-        None => {
-            check_marks(amount, shares)?;
-            write_parts(amount, shares, parts);
-        }
+    let (count, sum, common) = total_over(amount, shares);
+    if count < shares.len() {
+        check_marks(amount, shares, count, lowest_over(sum, common))?;
+        write_parts(amount, shares, parts);
+        return Ok(());
     }
-    Ok(())
+    if sum == common {
+        write_parts_over(amount, shares, common, parts);
+        Ok(())
+    } else {
+        Err(SplitRefusal::NotOne)
+    }
 }
 
 #[inline]
@@ -84,12 +87,28 @@ fn next_mark<T: Copy + Integer>(
     Some((sum, mark))
 }
 
-// Whether each sum of the first shares and its mark fit, and the last sum is 1.
+// The lowest terms of a fraction over a positive denominator.
 #[inline]
-fn check_marks<T: Copy + Integer, S: Share<T>>(amount: T, shares: &[S]) -> Result<(), SplitRefusal> {
-    let mut sum = Reduced::zero();
-    for share in shares {
-        match next_mark(amount, &sum, &share.lowest()) {
+fn lowest_over<T: Copy + Integer>(n: T, d: T) -> Reduced<T> {
+    both_held(n, d);
+    match Reduced::checked_new(n, d) {
+        Some(lowest) => lowest,
+        None => unreachable!(),
+    }
+}
+
+// Whether each sum of the first shares and its mark fit, and the last sum is 1. It begins behind the first `count` shares, for
+// which this is known, with their sum.
+#[inline]
+fn check_marks<T: Copy + Integer, S: Share<T>>(
+    amount: T,
+    shares: &[S],
+    count: usize,
+    begun: Reduced<T>,
+) -> Result<(), SplitRefusal> {
+    let mut sum = begun;
+    for i in count..shares.len() {
+        match next_mark(amount, &sum, &shares[i].lowest()) {
             Some((next, _)) => sum = next,
             None => return Err(SplitRefusal::NotHeld),
         }

@@ -24,20 +24,17 @@ pub fn shift_left(a: &mut [u64], count: u32) -> u64 {
 /// - `small`: `count < 64`
 #[inline]
 pub fn shift_right(a: &mut [u64], count: u32) -> u64 {
-    if count == 0 || a.len() == 0 {
+    if count == 0 {
         return 0;
     }
-    let rest = a[0] % (1 << count);
-    let last = a.len() - 1;
-    for i in 0..last {
-        a[i] = moved_down(a[i], a[i + 1], count);
+    let unit = 1u64 << count;
+    let mut rest = 0;
+    let mut i = a.len();
+    while i > 0 {
+        i -= 1;
+        let part = rest as u128 * (1 << 64) + a[i] as u128;
+        a[i] = (part >> count) as u64;
+        rest = (part % unit as u128) as u64;
     }
-    a[last] = moved_down(a[last], 0, count);
     rest
-}
-
-// The upper bits of a digit, below the lowest bits of the next digit.
-#[inline(always)]
-fn moved_down(digit: u64, next: u64, count: u32) -> u64 {
-    (digit >> count) + ((next % (1 << count)) << (64 - count))
 }

@@ -205,6 +205,9 @@ pub earliest_told : {T : _} {i : _} {o : _} {e : _} {p : _} {h : _} (voices : Li
 earliest_told voices time None fits up ups is out = absurd (out fits)
 earliest_told voices time (Some r) fits up ups is told = (is.0, earliest_same voices time (lowest_numbers r) up told.terms.lowest.positive ups told.terms.same is.1)
 
+pub up_to_itself : (x : ℤ × ℤ) → IsUpTo x x
+up_to_itself x = same_is_up_to x x refl
+
 -- a time that is not before another is from it on
 pub not_before : (x y : ℤ × ℤ) (b : Bool) → IsTrue b ↔ IsBefore x y → b ≡ false → IsUpTo y x
 not_before x y b told is = cases (less_or_not (x.0 *ℤ y.1) (y.0 *ℤ x.1))

@@ -133,6 +133,20 @@ nearest_begins wanted least most first is = record {
       subst (λ k. PairComesFirst wanted first least m k) same (is.best m first_in);
 }
 
+-- where all wheels have the same number of teeth there is one pair
+pub one_pair : (wanted : ℤ × ℤ) (least most : ℕ) → least ≡ most → AreNearestWheels wanted least most least least
+one_pair wanted least most same = record {
+  first_wheel = record { at_least = omega arith; at_most = omega arith };
+  second_wheel = record { at_least = omega arith; at_most = omega arith };
+  nearest = λ m e m_in e_in. first m e (only m m_in) (only e e_in);
+}
+  where
+    only : (x : ℕ) → IsWheel least most x → least ≡ x
+    only x is = let low = is.at_least in let high = is.at_most in omega arith
+
+    first : (m e : ℕ) → least ≡ m → least ≡ e → PairComesFirst wanted least least m e
+    first m e one other = subst (λ t. PairComesFirst wanted least least t e) one (subst (λ t. PairComesFirst wanted least least least t) other (itself_first _ (pos least) (pos least)))
+
 last_or_before : (top e : ℕ) → e ≤ top + 1 → (e ≤ top) ⊎ (top + 1 ≡ e)
 last_or_before top e within = grind arith
 

@@ -89,7 +89,8 @@ fn earliest(voices: &[Voice]) -> Option<Reduced64>
     }
     let first = voices[0];
     let (_, mut time) = next_numbers(&first.period, first.count)?;
-    for voice in voices {
+    for i in 1..voices.len() {
+        let voice = voices[i];
         let (_, next) = next_numbers(&voice.period, voice.count)?;
         if is_before(next, time) {
             time = next;

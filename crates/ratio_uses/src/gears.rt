@@ -56,6 +56,9 @@ fn nearest_wheels(numer: u64, denom: u64, least: u32, most: u32) -> (u32, u32)
     requires most { least ≤ most }
     ensures { AreNearestWheels (pos numer, pos denom) least most result.0 result.1 }
 {
+    if least == most {
+        return (least, least);
+    }
     let step = divided(numer as u128, denom);
     let mut best = divided(numer as u128 * least as u128, denom);
     let mut second = least;

@@ -37,8 +37,9 @@ pub struct Train {
 /// the one with the smaller product of the drivers' teeth. `None` exactly where the wanted ratio is not above 0, `least`
 /// is 0, or `most` is below `least`. For example, 355/113 with 8 to 20 teeth gives 19/11 times 20/11. It takes a step for
 /// each choice of the two driven wheels: 5,000 for a range of 100 numbers of teeth. Where the whole number next to the best
-/// product of the drivers' teeth could be nearer than all before, it looks at each number of teeth of a driver, too. This is
-/// seldom so, unless the ratio has a small denominator and no train has it exactly.
+/// product of the drivers' teeth could be nearer than all before, it looks at each number of teeth of a driver, too. For
+/// 9999/10000 with 12 to 120 teeth this is so at 239 of 5,995 choices, with 90 to 100 teeth at all but one of 66, and for
+/// 99999/100000 with 60,000 to 60,300 teeth at all but one of 45,451. So at worst the steps are the cube of the range.
 pub fn nearest_train(wanted: &Reduced64, least: u16, most: u16) -> Option<Train>
     ensures { ChecksTrain (lowest_numbers wanted.now) least most result }
 {
@@ -87,6 +88,9 @@ fn nearest_products(numer: u64, denom: u64, least: u16, most: u16) -> (u32, u32)
 {
     let start = least as u32 * least as u32;
     let mut nearest = (start, start);
+    if least == most {
+        return nearest;
+    }
     for small in least as u32..most as u32 + 1 {
         nearest = nearest_with(numer, denom, least, most, small, nearest);
     }

@@ -1,7 +1,10 @@
 use Rattle.std.proofs.Common.{◌+◌, ◌<◌, arith, refl}
-use Rattle.ratio_uses.proofs.GearLemmas.{best_next, nearest_begins, nearest_kept, nearest_taken, nearest_too_far, nearest_whole}
+use Rattle.ratio_uses.proofs.GearLemmas.{best_next, nearest_begins, nearest_kept, nearest_taken, nearest_too_far, nearest_whole, one_pair}
 use Rattle.ratio_uses.proofs.gears.nearest_wheels.Goals as goal
 use Rattle.ratio_uses.proofs.gears.nearest_wheels.Goals.{then-near-second+then-other_gap-second, then-near-second+else-other_gap-second, else-near-second}
+
+pub returns-then-least-most : goal.returns-then-least-most
+returns-then-least-most c = one_pair _ _ _ c.if-least-most.true
 
 pub loop-before-init : goal.loop-before-init
 loop-before-init c = record {

@@ -1,7 +1,10 @@
 use Rattle.std.proofs.Common.{arith}
 use Rattle.ratio_uses.proofs.ProductLemmas.{product_of, wheel_least}
-use Rattle.ratio_uses.proofs.TrainLemmas.{all_end, all_go_on}
+use Rattle.ratio_uses.proofs.TrainLemmas.{all_end, all_go_on, one_train}
 use Rattle.ratio_uses.proofs.trains.nearest_products.Goals as goal
+
+pub returns-then-least-most : goal.returns-then-least-most
+returns-then-least-most c = one_train _ _ _ c.if-least-most.true
 
 pub loop-small-preserved : goal.loop-small-preserved
 loop-small-preserved c =

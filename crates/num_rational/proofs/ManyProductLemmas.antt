@@ -6,7 +6,7 @@ use Rattle.std.proofs.lemmas.Int.{ints}
 use lib.IntN.{one, *ℤ-one, *ℤ-zero}
 use Rattle.ratio_integer.specs.Fraction.{Fits, IsHeldLowest, SameValue}
 use Rattle.ratio_integer.proofs.LowestTerms.{held_lowest_moved, same_value_chained, same_value_products}
-use Rattle.ratio_integer.proofs.Whole.{mul_assoc, mul_nonzero, positive_nonzero}
+use Rattle.ratio_integer.proofs.Whole.{mul_assoc, mul_nonzero, mul_positive, positive_nonzero}
 use Rattle.ratio_core.proofs.Floored.{one-mul}
 use Rattle.ratio_core.specs.ManyProducts.{product_by}
 use Rattle.ratio_core.proofs.ManyProductLemmas.{product-append, product_more_set, product_with}
@@ -70,6 +70,10 @@ module _ (n d a b : ℤ) (so_far : IsSoFar n d a b) where
             (mul_nonzero b y (positive_nonzero b so_far.up) (right_nonzero d y fits.low.terms.fraction))
             (sym (same_value_products n d x y a b x y so_far.same refl)) fits.low;
       })
+
+-- the products of both numbers as they are
+pub formed : (n d x y p q numer denom : ℤ) → p ≡ x → q ≡ y → numer ≡ n *ℤ p → denom ≡ d *ℤ q → pos 0 <ℤ d → pos 0 <ℤ y → (pos 0 <ℤ denom) × SameValue (n *ℤ x) (d *ℤ y) numer denom
+formed n d x y p q numer denom p-is q-is numer-is denom-is up more = rw (numer-is, denom-is, p-is, q-is) (mul_positive d y up more, refl)
 
 -- a product with 1/1
 pub times_one : (n d x y : ℤ) → n ≡ pos 1 → d ≡ pos 1 → SameValue (n *ℤ x) (d *ℤ y) x y

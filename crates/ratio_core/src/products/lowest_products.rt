@@ -51,14 +51,16 @@ pub fn checked_div<T: Integer>(a: T, b: T, c: T, d: T) -> Option<(T, T)>
 }
 
 /// The product, cancelled across before it is multiplied: 2/3 times 3/4 becomes 1/1 times 1/2. The gcds of long numbers of 128 bits gain
-/// nothing together, and a gcd that ends at once gains nothing beside another.
+/// nothing together. Nor does one with 1 or of equal numbers, which ends at once, beside another.
 pub(crate) fn crossed_product<T: Integer>(a: T, b: T, c: T, d: T) -> Option<(T, T)>
     requires left { IsLowestTerms (T.value a) (T.value b) }
     requires right { IsLowestTerms (T.value c) (T.value d) }
     ensures { ChecksLowest (λ r. T.value r.0) (λ r. T.value r.1) T.lo T.hi
         (product_of (T.value a) (T.value b) (T.value c) (T.value d)) result }
 {
-    if has_short_numbers::<T>() && !(ends_at_once(a, d) || ends_at_once(c, b)) {
+    if has_short_numbers::<T>()
+        && !(a.is_one() || b.is_one() || c.is_one() || d.is_one() || a == d || b == c)
+    {
         product_together(a, b, c, d)
     } else {
         product_in_turn(a, b, c, d)
@@ -96,7 +98,7 @@ pub(crate) fn crossed_quotient<T: Integer>(a: T, b: T, c: T, d: T) -> Option<(T,
     ensures { ChecksLowest (λ r. T.value r.0) (λ r. T.value r.1) T.lo T.hi
         (quotient_of (T.value a) (T.value b) (T.value c) (T.value d)) result }
 {
-    if has_short_numbers::<T>() && !(ends_at_once(a, c) || ends_at_once(d, b)) {
+    if has_short_numbers::<T>() && !(b.is_one() || c.is_one() || d.is_one() || a == c || b == d) {
         quotient_together(a, b, c, d)
     } else {
         quotient_in_turn(a, b, c, d)
@@ -130,12 +132,6 @@ fn quotient_in_turn<T: Integer>(a: T, b: T, c: T, d: T) -> Option<(T, T)>
     let (s, t) = lowest_terms(d, b);
     let (p, q) = checked_new(a, c)?;
     multiplied(p, q, s, t)
-}
-
-// Whether the gcd takes no steps: one of the numbers is 1, or they are equal.
-#[inline(always)]
-fn ends_at_once<T: Integer>(n: T, d: T) -> bool {
-    n.is_one() || d.is_one() || n == d
 }
 
 // `p/q * s/t`, if its products are already in lowest terms.

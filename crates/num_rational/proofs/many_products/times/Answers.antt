@@ -1,7 +1,13 @@
+use Rattle.std.specs.Prelude.{◌≡◌, false, true}
 use Rattle.num_rational.specs.Operators.{numbers}
 use Rattle.num_rational.specs.Reduced.{ratio_of}
-use Rattle.num_rational.proofs.ManyProductLemmas.{factor_more, factor_out, so_far_lowest}
+use Rattle.num_rational.proofs.ManyProductLemmas.{factor_more, factor_out, formed, so_far_lowest}
 use Rattle.num_rational.proofs.many_products.times.Goals as goal
+
+pub returns : goal.returns
+returns g c =
+    let product = formed _ _ _ _ _ _ _ _ c.into_raw-p.ensures.numer c.into_raw-p.ensures.denom c.in-Some.ensures.1 c.in-Some-try_times.ensures.1 c.requires.up c.into_raw-p.ensures.lowest.positive in
+    (product.0, product.1, λ never. absurd (let none : false ≡ true = never in cc))
 
 pub returns-in_err-product : goal.returns-in_err-product
 returns-in_err-product g c =

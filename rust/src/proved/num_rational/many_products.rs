@@ -44,8 +44,8 @@ pub(crate) fn step_by_step<
     Ok(total)
 }
 
-// The product of `n/d` and `x`, and whether it is in lowest terms. It is reduced only where its numbers do not fit as they are. `None` if
-// its lowest terms do not fit. If `lowest` is true, `n/d` is in lowest terms.
+// The product of `n/d` and `x`, and whether it is in lowest terms. It is reduced only where its numbers do not fit as they are, or are equal:
+// the gcd of these takes no steps. `None` if its lowest terms do not fit. If `lowest` is true, `n/d` is in lowest terms.
 #[inline]
 fn times<T: Copy + Integer>(n: T, d: T, lowest: bool, x: &Reduced<T>) -> Option<(T, T, bool)> {
     let (p, q) = (*x).into_raw();
@@ -54,7 +54,9 @@ fn times<T: Copy + Integer>(n: T, d: T, lowest: bool, x: &Reduced<T>) -> Option<
     }
     if let Some(numer) = n.try_times(p) {
         if let Some(denom) = d.try_times(q) {
-            return Some((numer, denom, false));
+            if numer != denom {
+                return Some((numer, denom, false));
+            }
         }
     }
     let product = in_lowest_terms(n, d, lowest).checked_mul(x)?;

@@ -87,24 +87,5 @@ pub fn both_lowest_terms<T: Integer>(a: T, b: T, c: T, d: T) -> ((T, T), (T, T))
 #[inline]
 pub fn both_cancelled<T: Integer>(a: T, b: T, c: T, d: T) -> ((T, T), (T, T)) {
     let (left, right) = T::gcds(a, b, c, d);
-    (quotients(a, b, left), quotients(c, d, right))
-}
-
-// Both numbers, divided by their gcd.
-#[inline]
-fn quotients<T: Integer>(n: T, d: T, common: T) -> (T, T) {
-    if common.is_one() {
-        return (n, d);
-    }
-    (quotient(n, common), quotient(d, common))
-}
-
-// The quotient. Equal numbers need no division: in 2/3 times 3/2, each field is its own divisor.
-#[inline]
-fn quotient<T: Integer>(n: T, divisor: T) -> T {
-    if n == divisor {
-        return T::ONE;
-    }
-    let (quotient, _) = n.div_rem(divisor);
-    quotient
+    (divided(a, b, left), divided(c, d, right))
 }

@@ -1,11 +1,11 @@
 // Erased from crates/ratio_core/src/products/lowest_products.rt by rust/erase: not to be edited.
 //! Products and quotients of fractions that are already in lowest terms.
 //!
-//! If both products of the fields fit the type, one gcd reduces them. Else the fractions are cancelled across, with two gcds,
-//! which are computed together.
+//! If both products of the fields fit the type, one gcd reduces them, with an exception below. Else the fractions are cancelled
+//! across, with two gcds, which types of at most 64 bits compute together.
 //!
-//! Over a type of 128 bits, fields of 60 bits have products of 120 bits. Two gcds of 60 bits together take half the time of
-//! one of 120 bits. So fields that fit an `i64` are cancelled across, too, if neither product does.
+//! The exception: over a type of 128 bits, fields of 60 bits have products of 120 bits. Two gcds of 60 bits together take half the
+//! time of one of 120 bits. So fields that fit an `i64` are cancelled across if both products are longer than that, and unequal.
 
 use crate::proved::ratio_core::checked_new::{checked_new, sign_moved};
 use crate::proved::ratio_core::remainder::wide::has_short_numbers;
@@ -24,7 +24,7 @@ pub fn checked_mul<T: Integer>(a: T, b: T, c: T, d: T) -> Option<(T, T)> {
     if let Some(numer) = a.try_times(c) {
         if let Some(denom) = b.try_times(d) {
             if is_quicker_crossed(numer, denom, a, b, c, d) {
-                return product_apart(a, b, c, d);
+                return product_together(a, b, c, d);
             }
             return Some(lowest_terms(numer, denom));
         }
@@ -46,7 +46,7 @@ pub fn checked_div<T: Integer>(a: T, b: T, c: T, d: T) -> Option<(T, T)> {
     if let Some(numer) = a.try_times(d) {
         if let Some(denom) = b.try_times(c) {
             if is_quicker_crossed(numer, denom, a, b, c, d) {
-                return quotient_apart(a, b, c, d);
+                return quotient_together(a, b, c, d);
             }
             return checked_new(numer, denom);
         }
@@ -55,7 +55,7 @@ pub fn checked_div<T: Integer>(a: T, b: T, c: T, d: T) -> Option<(T, T)> {
 }
 
 /// The product, cancelled across before it is multiplied: 2/3 times 3/4 becomes 1/1 times 1/2. The gcds of long numbers of 128 bits gain
-/// nothing together.
+/// nothing together. Nor does one with 1 or of equal numbers, which ends at once, beside another.
 ///
 /// # Conditions
 ///
@@ -65,15 +65,17 @@ pub fn checked_div<T: Integer>(a: T, b: T, c: T, d: T) -> Option<(T, T)> {
 /// - `right`: `IsLowestTerms (T.value c) (T.value d)`
 #[inline]
 pub(crate) fn crossed_product<T: Integer>(a: T, b: T, c: T, d: T) -> Option<(T, T)> {
-    if has_short_numbers::<T>() {
+    if has_short_numbers::<T>()
+        && !(a.is_one() || b.is_one() || c.is_one() || d.is_one() || a == d || b == c)
+    {
         product_together(a, b, c, d)
     } else {
         product_in_turn(a, b, c, d)
     }
 }
 
-// The same with both gcds together.
-#[inline]
+// The same with both gcds together. It is a call of its own, since its code is long: where it is not needed, a product takes less time without it.
+#[inline(never)]
 fn product_together<T: Integer>(a: T, b: T, c: T, d: T) -> Option<(T, T)> {
     let ((p, t), (s, q)) = both_lowest_terms(a, d, c, b);
     multiplied(p, q, s, t)
@@ -87,12 +89,6 @@ fn product_in_turn<T: Integer>(a: T, b: T, c: T, d: T) -> Option<(T, T)> {
     multiplied(p, q, s, t)
 }
 
-// `product_together` by a call of its own. In 128 bits its code is long, and products of short fields take less time without it.
-#[inline(never)]
-fn product_apart<T: Integer>(a: T, b: T, c: T, d: T) -> Option<(T, T)> {
-    product_together(a, b, c, d)
-}
-
 /// The quotient: `a/c` times `d/b`. Reducing `a/c` moves the divisor's sign.
 ///
 /// # Conditions
@@ -103,17 +99,17 @@ fn product_apart<T: Integer>(a: T, b: T, c: T, d: T) -> Option<(T, T)> {
 /// - `right`: `IsLowestTerms (T.value c) (T.value d)`
 #[inline]
 pub(crate) fn crossed_quotient<T: Integer>(a: T, b: T, c: T, d: T) -> Option<(T, T)> {
-    if has_short_numbers::<T>() {
+    if has_short_numbers::<T>() && !(b.is_one() || c.is_one() || d.is_one() || a == c || b == d) {
         quotient_together(a, b, c, d)
     } else {
         quotient_in_turn(a, b, c, d)
     }
 }
 
-// The same with both gcds together. If `b`, `c` or `d` is 1, or `a/c` needs no gcd, at most one gcd is left.
-#[inline]
+// The same with both gcds together, and by a call of its own, too. If `a/c` needs no gcd, at most one gcd is left.
+#[inline(never)]
 fn quotient_together<T: Integer>(a: T, b: T, c: T, d: T) -> Option<(T, T)> {
-    if b.is_one() || c.is_one() || d.is_one() || c.is_zero() || a.is_zero() || a == c {
+    if c.is_zero() || a.is_zero() || a == c {
         return quotient_in_turn(a, b, c, d);
     }
     let ((n, m), (s, t)) = both_cancelled(a, c, d, b);
@@ -122,17 +118,11 @@ fn quotient_together<T: Integer>(a: T, b: T, c: T, d: T) -> Option<(T, T)> {
 }
 
 // The same with one gcd after the other.
-#[inline]
+#[inline(always)]
 fn quotient_in_turn<T: Integer>(a: T, b: T, c: T, d: T) -> Option<(T, T)> {
     let (s, t) = lowest_terms(d, b);
     let (p, q) = checked_new(a, c)?;
     multiplied(p, q, s, t)
-}
-
-// The same as `product_apart`.
-#[inline(never)]
-fn quotient_apart<T: Integer>(a: T, b: T, c: T, d: T) -> Option<(T, T)> {
-    quotient_together(a, b, c, d)
 }
 
 // `p/q * s/t`, if its products are already in lowest terms.

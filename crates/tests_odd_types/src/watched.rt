@@ -5,7 +5,7 @@ use crate::plain::{self, Euclid, Plain};
 use num_rational::Ratio;
 use ratio_approximation::nearest::nearest;
 use ratio_integer::Integer;
-use ratio_odd::Watch8;
+use ratio_odd::{Counter, Halving, Watch8, Watched};
 use std::cell::Cell;
 use std::cmp::Ordering;
 use std::process::Abort;
@@ -16,8 +16,8 @@ use tests_numbers::written::Written;
 const ABOVE_MAX: i128 = 128;
 
 /// The fraction with counted divisions, sums and differences.
-fn watched<'a>(x: Plain, divs: &'a Cell<u32>, sums: &'a Cell<u32>) -> Option<Ratio<Watch8<'a>>> {
-    raw(Watch8::new(x.n, divs, sums), Watch8::new(x.d, divs, sums))
+fn watched<C: Counter>(x: Plain, divs: C, sums: C) -> Option<Ratio<Watched<C>>> {
+    raw(Watched::new(x.n, divs, sums), Watched::new(x.d, divs, sums))
 }
 
 /// What a fraction over any type feeds a hasher.
@@ -49,17 +49,33 @@ fn says<T: Integer>(x: Ratio<T>, call: Comparison, y: Ratio<T>, order: Ordering)
     }
 }
 
+/// Whether the call says what the model does, if both are fractions.
+fn says_well<C: Counter>(x: Plain, call: Comparison, y: Plain, divs: C, sums: C) -> Option<bool> {
+    let left = watched(x, divs, sums)?;
+    let right = watched(y, divs, sums)?;
+    Some(says(left, call, right, plain::order(x, y)))
+}
+
+/// Whether the numbers have halves.
+#[derive(Clone, Copy)]
+enum Numbers {
+    Whole,
+    Halved,
+}
+
 /// Whether the call makes at most `most` divisions and says what the model does, if both are fractions.
-fn says_within(x: Plain, call: Comparison, y: Plain, most: u8) -> Option<bool> {
+fn says_within(x: Plain, call: Comparison, y: Plain, numbers: Numbers, most: u8) -> Option<bool> {
     let divs = Cell::new(0);
     let sums = Cell::new(0);
-    let left = watched(x, &divs, &sums)?;
-    let right = watched(y, &divs, &sums)?;
-    Some(says(left, call, right, plain::order(x, y)) && are_within(&divs, &sums, most))
+    let is_well = match numbers {
+        Numbers::Whole => says_well(x, call, y, &divs, &sums),
+        Numbers::Halved => says_well(x, call, y, Halving(&divs), Halving(&sums)),
+    };
+    Some(is_well? && are_within(&divs, &sums, most))
 }
 
 /// The same for `cmp`, `partial_cmp`, `==` and `<`, each with counters of its own.
-fn compares_within(x: Plain, y: Plain, most: u8) -> Option<bool> {
+fn compares_within(x: Plain, y: Plain, numbers: Numbers, most: u8) -> Option<bool> {
     let mut all = true;
     for call in [
         Comparison::Cmp,
@@ -67,7 +83,7 @@ fn compares_within(x: Plain, y: Plain, most: u8) -> Option<bool> {
         Comparison::Equal,
         Comparison::Below,
     ] {
-        all = all && says_within(x, call, y, most)?;
+        all = all && says_within(x, call, y, numbers, most)?;
     }
     Some(all)
 }
@@ -76,7 +92,7 @@ fn compares_within(x: Plain, y: Plain, most: u8) -> Option<bool> {
 fn hashes_within(x: Plain, most: u8) -> Option<bool> {
     let divs = Cell::new(0);
     let sums = Cell::new(0);
-    let fraction = watched(x, &divs, &sums)?;
+    let fraction = watched::<&Cell<u32>>(x, &divs, &sums)?;
     let _ = written(fraction);
     Some(are_within(&divs, &sums, most))
 }
@@ -122,6 +138,17 @@ fn divisions_of_order(x: Plain, y: Plain) -> u8 {
     divisions
 }
 
+/// How many divisions both sides may make together over numbers with halves: none if both cross products are in range. Otherwise
+/// twice as many a side as the smaller denominator has binary digits.
+fn divisions_with_halves(x: Plain, y: Plain) -> u8 {
+    if divisions_of_order(x, y) == 0 {
+        return 0;
+    }
+    let smaller = x.d.unsigned_abs().min(y.d.unsigned_abs());
+    let digits = 8u8.wrapping_sub(smaller.leading_zeros() as u8);
+    digits.wrapping_mul(4)
+}
+
 /// How many divisions the codes may take: one for each quotient that the type holds.
 fn divisions_of_codes(x: Plain) -> u8 {
     let mut euclid = Euclid::of(x);
@@ -161,7 +188,8 @@ fn divisions_of_search(x: Plain, most: i8) -> u32 {
 #[test]
 fn rows(rt: HostRuntime) {
     for (n, d, m, e, most) in [(125, 127, 124, 125, 6), (127, 2, 1, 3, 2)] {
-        assert!(rt; compares_within(Plain { n, d }, Plain { n: m, d: e }, most) == Some(true));
+        let (x, y) = (Plain { n, d }, Plain { n: m, d: e });
+        assert!(rt; compares_within(x, y, Numbers::Whole, most) == Some(true));
     }
     for (n, d, most) in [(89, 55, 9), (127, 1, 1), (-128, -1, 0), (-1, -128, 1)] {
         assert!(rt; hashes_within(Plain { n, d }, most) == Some(true));
@@ -178,13 +206,17 @@ fn rows(rt: HostRuntime) {
 }
 
 /// How many comparisons of fractions with `y`, both ways, stay within the divisions of the model.
-fn compared(rt: &impl Abort, y: Plain) -> u32 {
+fn compared(rt: &impl Abort, y: Plain, numbers: Numbers) -> u32 {
     let mut looked = 0;
     for n in i8::MIN..=i8::MAX {
         for d in i8::MIN..=i8::MAX {
             let x = Plain { n, d };
-            looked = looked_at(rt, looked, compares_within(x, y, divisions_of_order(x, y)));
-            looked = looked_at(rt, looked, compares_within(y, x, divisions_of_order(y, x)));
+            let (most, most_back) = match numbers {
+                Numbers::Whole => (divisions_of_order(x, y), divisions_of_order(y, x)),
+                Numbers::Halved => (divisions_with_halves(x, y), divisions_with_halves(y, x)),
+            };
+            looked = looked_at(rt, looked, compares_within(x, y, numbers, most));
+            looked = looked_at(rt, looked, compares_within(y, x, numbers, most_back));
         }
     }
     looked
@@ -205,8 +237,46 @@ fn hashed(rt: &impl Abort) -> u32 {
 #[test]
 fn every_comparison(rt: HostRuntime) -> Result<(), Fail> {
     for (n, d) in [(1, 3), (-128, -1), (-1, -128)] {
-        let looked = compared(&rt, Plain { n, d });
+        let looked = compared(&rt, Plain { n, d }, Numbers::Whole);
         println!(rt; "{looked} watched comparisons with {n}/{d}")?;
+        assert!(rt; looked == 2 * 65_280);
+    }
+    Ok(())
+}
+
+/// How many divisions `cmp` makes over numbers with halves.
+fn divisions_of_words(x: Plain, y: Plain) -> u32 {
+    let divs = Cell::new(0);
+    let sums = Cell::new(0);
+    let _ = says_well(x, Comparison::Cmp, y, Halving(&divs), Halving(&sums));
+    divs.get()
+}
+
+#[test]
+fn words(rt: HostRuntime) {
+    // Eight a side, for numerators on either side of 0.
+    for (n, d, m, e) in [
+        (125, 127, 124, 125),
+        (-125, 127, -124, 125),
+        (127, 8, 126, 9),
+    ] {
+        assert!(rt; divisions_of_words(Plain { n, d }, Plain { n: m, d: e }) == 16);
+    }
+    // Rounds, for a short denominator and for the least number.
+    for (n, d, m, e) in [
+        (127, 7, 126, 9),
+        (-128, 127, -1, 126),
+        (-128, -127, 125, 126),
+    ] {
+        assert!(rt; divisions_of_words(Plain { n, d }, Plain { n: m, d: e }) <= 4);
+    }
+}
+
+#[test]
+fn every_comparison_with_halves(rt: HostRuntime) -> Result<(), Fail> {
+    for (n, d) in [(100, 9), (-125, 127), (-1, -128)] {
+        let looked = compared(&rt, Plain { n, d }, Numbers::Halved);
+        println!(rt; "{looked} watched comparisons with {n}/{d}, by halves")?;
         assert!(rt; looked == 2 * 65_280);
     }
     Ok(())

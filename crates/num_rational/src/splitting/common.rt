@@ -16,8 +16,8 @@ use ratio_decimal::rounded_product;
 use ratio_decimal::rounding_rule::Rounding;
 use ratio_integer::{Integer, both_held, lowest_terms};
 
-/// The sum of the first shares over one denominator: how many they are, the numerator and the denominator. It stops where the sum is
-/// no longer below 1 or 1, where a number does not fit the type, or the amount times the denominator 128 bits, and at a share of 1.
+/// The sum of the first shares over one denominator: how many they are, the numerator and the denominator. It stops before a share of 1
+/// or more, and where the sum would be above 1, a number would not fit the type, or the amount times the denominator not 128 bits.
 pub(crate) fn total_over<T: Copy + Integer, S: Share<T>>(amount: T, shares: &[S]) -> (usize, T, T)
     requires positive { SharesOverPositive S.two_numbers shares.now }
     requires none_below { NoShareIsBelowZero S.two_numbers shares.now }

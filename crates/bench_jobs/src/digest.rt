@@ -67,6 +67,11 @@ impl Digest {
         }
     }
 
+    /// Which refusal came: its place among those of its call.
+    pub(crate) fn add_refusal(&mut self, place: u64) {
+        self.add(u64::MAX - place);
+    }
+
     /// The bytes, as one number.
     pub(crate) fn add_bytes(&mut self, bytes: &[u8]) {
         let mut word = bytes.len() as u64;

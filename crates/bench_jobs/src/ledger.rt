@@ -1,8 +1,8 @@
 //! A ledger is added up and read: columns of cents, of shares of them, of days, and of fractions of any kind.
 use crate::digest::Digest;
 use crate::made::{Made, fraction};
-use fraction_totals::{ReadRefusal, Slot, SumFailure, Total, checked_sum, dot, total_of};
-use num_rational::{Reduced, Reduced64, Rounding};
+use fraction_totals::{ReadRefusal, Slot, Total, checked_sum, dot, total_of};
+use num_rational::{Reduced64, Rounding};
 use std::alloc::{AllocError, Global};
 
 /// So many times: a column of each kind, added up whole, in groups of 20 rows and row by row, and an awkward one.
@@ -102,7 +102,7 @@ fn read_whole(
             add_float(digest, total.to_f64(room));
             add_decimal(digest, &total, room, text);
         }
-        Err(_) => digest.add(3),
+        Err(why) => digest.add_refusal(why as u64),
     }
 }
 
@@ -113,7 +113,7 @@ fn add_decimal(digest: &mut Digest, total: &Total<'_, i64>, room: &mut [u64], te
                 digest.add_bytes(&text[start..]);
             }
         }
-        Err(_) => digest.add(5),
+        Err(why) => digest.add_refusal(why as u64),
     }
 }
 
@@ -125,13 +125,12 @@ fn read_groups(alloc: Global, digest: &mut Digest, column: &[Reduced64]) {
         if i % 2 == 0 {
             match total_of(group, &mut slots) {
                 Ok(total) => add_sum(digest, total.sum(&mut room)),
-                Err(_) => digest.add(3),
+                Err(why) => digest.add_refusal(why as u64),
             }
         } else {
             match checked_sum(alloc, group) {
                 Ok(sum) => digest.add_any(&sum),
-                Err(SumFailure::NoMemory) => digest.add(4),
-                Err(_) => digest.add(5),
+                Err(why) => digest.add_refusal(why as u64),
             }
         }
     }
@@ -146,13 +145,15 @@ fn add_and_take_out(
 ) {
     let mut total = Total::new(slots);
     for row in column {
-        if total.add(row).is_err() {
-            digest.add(3);
+        if let Err(why) = total.add(row) {
+            digest.add_refusal(why as u64);
         }
     }
     for (i, row) in column.iter().enumerate() {
-        if i % 2 == 0 && total.subtract(row).is_err() {
-            digest.add(3);
+        if i % 2 == 0 {
+            if let Err(why) = total.subtract(row) {
+                digest.add_refusal(why as u64);
+            }
         }
     }
     add_sum(digest, total.sum(room));
@@ -168,27 +169,28 @@ fn read_products(
 ) {
     match dot(column, other, slots) {
         Ok(total) => add_sum(digest, total.sum(room)),
-        Err(_) => digest.add(3),
+        Err(why) => digest.add_refusal(why as u64),
     }
 }
 
 fn add_sum(digest: &mut Digest, sum: Result<Option<Reduced64>, ReadRefusal>) {
     match sum {
         Ok(sum) => digest.add_any(&sum),
-        Err(_) => digest.add(5),
+        Err(why) => digest.add_refusal(why as u64),
     }
 }
 
 fn add_number(digest: &mut Digest, number: Result<Option<i64>, ReadRefusal>) {
     match number {
         Ok(number) => digest.add_number(number),
-        Err(_) => digest.add(5),
+        Err(why) => digest.add_refusal(why as u64),
     }
 }
 
 fn add_float(digest: &mut Digest, x: Result<f64, ReadRefusal>) {
     match x {
-        Ok(x) => digest.add_any(&Reduced::from_float(x)),
-        Err(_) => digest.add(5),
+        Ok(x) if x.is_nan() => digest.add(7),
+        Ok(x) => digest.add(x.to_bits()),
+        Err(why) => digest.add_refusal(why as u64),
     }
 }

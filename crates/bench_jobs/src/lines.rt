@@ -19,7 +19,7 @@ pub(crate) fn run(
         let mut writer = Counted::new(Vec::new(alloc));
         match answer(&mut reader, &mut writer) {
             Ok(()) => digest.add(1),
-            Err(_) => digest.add(2),
+            Err(why) => digest.add_refusal(why as u64),
         }
         digest.add_bytes(writer.into_inner().as_slice());
     }

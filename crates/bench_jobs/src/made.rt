@@ -67,6 +67,29 @@ impl Made {
     }
 }
 
+/// Numbers in an order that looks like none, from a place that the seed gives. None comes twice before all have come.
+#[derive(Drop)]
+pub(crate) struct Turns {
+    turn: u64,
+}
+
+impl Turns {
+    pub(crate) fn new(made: &mut Made) -> Turns {
+        Turns {
+            turn: made.below(1 << 40),
+        }
+    }
+
+    /// The next number below `end`. The step is a prime that divides no `end` here.
+    pub(crate) fn next(&mut self, end: u64) -> u64
+        requires { 0 < end }
+        ensures { result < end }
+    {
+        self.turn = self.turn.wrapping_add(1_010_179);
+        self.turn % end
+    }
+}
+
 /// The lowest terms of `n/d`, or 0 if `d` is 0 or they do not fit.
 pub(crate) fn fraction(n: i64, d: i64) -> Reduced64 {
     match Reduced::checked_new(n, d) {

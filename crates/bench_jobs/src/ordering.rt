@@ -61,18 +61,20 @@ fn made_list(
     Ok(list)
 }
 
-// How many different fractions there are, and each first one.
+// Each different fraction, and how often it comes.
 fn add_groups(digest: &mut Digest, list: &[Reduced64]) {
     let mut last = Reduced::zero();
-    let mut groups = 0u64;
+    let mut times = 0u64;
     for item in list {
         if *item != last {
-            groups = groups.wrapping_add(1);
+            digest.add(times);
             digest.add_fraction(item);
             last = *item;
+            times = 0;
         }
+        times = times.wrapping_add(1);
     }
-    digest.add(groups);
+    digest.add(times);
 }
 
 fn search(made: &mut Made, digest: &mut Digest, list: &[Reduced64], kind: u64) {

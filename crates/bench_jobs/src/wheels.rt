@@ -1,8 +1,6 @@
 //! A workshop looks for wheels: two and four of them for a wanted ratio, and simple fractions near it.
-ghost use Rattle.std.specs.Prelude.{◌<◌};
-
 use crate::digest::Digest;
-use crate::made::{Made, fraction};
+use crate::made::{Made, Turns, fraction};
 use num_rational::{Reduced, Reduced64};
 use ratio_uses::gears::{Gears, nearest_pair};
 use ratio_uses::trains::{Train, nearest_train};
@@ -54,29 +52,6 @@ impl Taken {
     }
 }
 
-/// Numbers in an order that looks like none, from a place that the seed gives.
-#[derive(Drop)]
-struct Turns {
-    turn: u64,
-}
-
-impl Turns {
-    fn new(made: &mut Made) -> Turns {
-        Turns {
-            turn: made.below(1 << 40),
-        }
-    }
-
-    // The next number below `end`. The step is a prime that divides no `end` here, so all numbers come before one comes again.
-    fn next(&mut self, end: u64) -> u64
-        requires { 0 < end }
-        ensures { result < end }
-    {
-        self.turn = self.turn.wrapping_add(1_000_003);
-        self.turn % end
-    }
-}
-
 // A ratio of any kind.
 fn any_ratio(made: &mut Made, taken: &mut Taken) -> Reduced64 {
     let kind = made.below(5);
@@ -84,10 +59,10 @@ fn any_ratio(made: &mut Made, taken: &mut Taken) -> Reduced64 {
 }
 
 // A ratio as people have it: a decimal, one of two measured numbers, a long one as floats give it, one that wheels have exactly, and one
-// with a prime that no wheel has.
+// with a prime that no wheel has. No ratio is of two kinds: wheels have no denominator as long as the decimals', and no such prime.
 fn wanted_ratio(made: &mut Made, taken: &mut Taken, kind: u64) -> Reduced64 {
     match kind {
-        0 => fraction(taken.decimals.next(50_000) as i64 + 1_000, 10_000),
+        0 => decimal_ratio(&mut taken.decimals),
         1 => measured_ratio(made),
         2 => long_ratio(made),
         3 => ratio_of_wheels(&mut taken.wheels),
@@ -99,7 +74,17 @@ fn wanted_ratio(made: &mut Made, taken: &mut Taken, kind: u64) -> Reduced64 {
     }
 }
 
-static PRIMES: [i64; 8] = [127, 131, 211, 401, 409, 997, 1009, 2003];
+// None divides a number from 100 to 399, so each ratio with one is in lowest terms.
+static PRIMES: [i64; 8] = [401, 409, 499, 599, 997, 1009, 1499, 2003];
+
+static LAST_DIGITS: [i64; 4] = [1, 3, 7, 9];
+
+// A decimal with exactly four places that 2 and 5 do not shorten.
+fn decimal_ratio(turns: &mut Turns) -> Reduced64 {
+    let turn = turns.next(20_000);
+    let last = LAST_DIGITS[(turn % 4) as usize];
+    fraction((turn / 4) as i64 * 10 + 1_000 + last, 10_000)
+}
 
 fn measured_ratio(made: &mut Made) -> Reduced64 {
     fraction(

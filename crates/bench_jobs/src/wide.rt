@@ -72,7 +72,10 @@ fn split_shares(alloc: Global, made: &mut Made, digest: &mut Digest) -> Result<(
     let mut parts = vec![in alloc; 0i128; shares.len()]?;
     let amount = number(made, 120);
     let outcome = split(amount, shares.as_slice(), parts.as_mut_slice());
-    digest.add(outcome.is_ok() as u64);
+    match outcome {
+        Ok(()) => digest.add(1),
+        Err(why) => digest.add_refusal(why as u64),
+    }
     for part in &parts {
         digest.add_wide(*part);
     }

@@ -276,10 +276,10 @@ pub trait Integer: Copy + Ord + Hash {
     }
 
     /// The high and the low half: the floored quotient and the rest by the half base, as -1 and 2^32-5 of -5 over `i64`. The
-    /// product of two low halves may not fit the type, but half of it does.
+    /// product of two low halves may not fit the type, but half of it does. Of any other base above 0 nothing is said.
     fn halves(self, base: Self) -> (Self, Self)
-        requires { IsBase lo hi (value base) }
-        ensures { AreHalves lo hi (value self) (value result.0) (value result.1) }
+        requires { pos 0 <ℤ value base }
+        ensures { IsBase lo hi (value base) → AreHalves lo hi (value self) (value result.0) (value result.1) }
     {
         self.div_mod_floor(base)
     }

@@ -1,9 +1,8 @@
 // Written by templates/write from templates/odd.rt.txt: change that file, and write this one anew.
 //! `Nat2`, the smallest lawful type.
-ghost use Rattle.std.specs.Prelude.{◌≡◌, ◌<ℤ◌, ℤ, pos, false};
+ghost use Rattle.std.specs.Prelude.{◌≡◌, ℤ, pos, false};
 ghost use Rattle.std.specs.Hash as hash;
 ghost use Rattle.std.proofs.Common.{inl, refl};
-ghost use Rattle.ratio_integer.specs.Halves.{AreHalves, IsBase};
 ghost use Rattle.ratio_integer.specs.Range.{IsHeld};
 ghost use Rattle.ratio_odd.specs.Numbers.{laws_of_numbers};
 
@@ -85,14 +84,6 @@ impl Integer for Nat2 {
     fn div_rem(self, o: Nat2) -> (Nat2, Nat2) {
         let (quotient, rest) = self.n.div_rem(o.n);
         (Nat2 { n: quotient }, Nat2 { n: rest })
-    }
-
-    // The type has no half base, so it asks for less: any number above 0.
-    fn halves(self, base: Nat2) -> (Nat2, Nat2)
-        requires { pos 0 <ℤ base }
-        ensures { IsBase (pos 0) (pos 2) base → AreHalves (pos 0) (pos 2) self result.0 result.1 }
-    {
-        self.div_mod_floor(base)
     }
 
     fn to_i128(self) -> Option<i128> {

@@ -1,9 +1,8 @@
 // Written by templates/write from templates/odd.rt.txt: change that file, and write this one anew.
 //! `Two3`, the smallest type whose least number has no negative.
-ghost use Rattle.std.specs.Prelude.{◌≡◌, ◌<ℤ◌, ℤ, pos, negsuc, false};
+ghost use Rattle.std.specs.Prelude.{◌≡◌, ℤ, pos, negsuc, false};
 ghost use Rattle.std.specs.Hash as hash;
 ghost use Rattle.std.proofs.Common.{inl, inr, refl};
-ghost use Rattle.ratio_integer.specs.Halves.{AreHalves, IsBase};
 ghost use Rattle.ratio_integer.specs.Range.{IsHeld};
 ghost use Rattle.ratio_odd.specs.Numbers.{laws_of_numbers};
 
@@ -85,14 +84,6 @@ impl Integer for Two3 {
     fn div_rem(self, o: Two3) -> (Two3, Two3) {
         let (quotient, rest) = self.n.div_rem(o.n);
         (Two3 { n: quotient }, Two3 { n: rest })
-    }
-
-    // The type has no half base, so it asks for less: any number above 0.
-    fn halves(self, base: Two3) -> (Two3, Two3)
-        requires { pos 0 <ℤ base }
-        ensures { IsBase (negsuc 2) (pos 2) base → AreHalves (negsuc 2) (pos 2) self result.0 result.1 }
-    {
-        self.div_mod_floor(base)
     }
 
     fn to_i128(self) -> Option<i128> {

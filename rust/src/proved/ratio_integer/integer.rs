@@ -256,13 +256,13 @@ pub trait Integer: Copy + Ord + Hash {
     }
 
     /// The high and the low half: the floored quotient and the rest by the half base, as -1 and 2^32-5 of -5 over `i64`. The
-    /// product of two low halves may not fit the type, but half of it does.
+    /// product of two low halves may not fit the type, but half of it does. Of any other base above 0 nothing is said.
     ///
     /// # Conditions
     ///
     /// The proof requires of the caller:
     ///
-    /// - `IsBase lo hi (value base)`
+    /// - `pos 0 <ℤ value base`
     #[inline]
     fn halves(self, base: Self) -> (Self, Self) {
         self.div_mod_floor(base)

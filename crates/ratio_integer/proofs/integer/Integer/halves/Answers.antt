@@ -5,4 +5,4 @@ pub div_mod_floor-requires : goal.div_mod_floor-requires
 div_mod_floor-requires g c = let can = divides_by _ c.requires in record { nonzero = can.0; held = can.1 }
 
 pub returns : goal.returns
-returns g c = halves_by c.requires c.div_mod_floor.ensures
+returns g c base = halves_by base c.div_mod_floor.ensures

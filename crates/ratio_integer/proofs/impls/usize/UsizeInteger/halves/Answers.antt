@@ -4,4 +4,4 @@ use Rattle.ratio_integer.proofs.HalfLemmas.{unsigned_halves}
 use Rattle.ratio_integer.proofs.impls.usize.UsizeInteger.halves.Goals as goal
 
 pub returns : goal.returns
-returns c = unsigned_halves (2 ^ (32 - 1)) (lit≤ tt) _ _ _ c.div_euclid.ensures c.rem_euclid.ensures
+returns c _ = unsigned_halves (2 ^ (32 - 1)) (lit≤ tt) _ _ _ c.div_euclid.ensures c.rem_euclid.ensures

@@ -28,7 +28,6 @@ extern crate alloc;
 #[cfg(all(test, not(feature = "std")))]
 extern crate std;
 
-mod kit;
 mod layer;
 mod newer;
 #[cfg(not(feature = "proved-calls"))]

@@ -8,7 +8,6 @@
 // But a call of std that is newer than the crate's `rust-version` is a fault of rust/erase.
 #![warn(clippy::incompatible_msrv)]
 
-pub mod dec2flt;
 pub mod fraction_laws;
 pub mod fraction_totals;
 pub mod itoa;

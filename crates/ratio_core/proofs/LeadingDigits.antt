@@ -1,21 +1,17 @@
 -- How the leading digits of a text are read one after another, and how the two number texts are made of them.
-use Rattle.std.proofs.Common.{◌≡◌, ◌≢◌, T, refl, sym, ◌∙◌, ap, subst, inl, inr, arith, ℕ, zero, suc, ◌+◌, ◌-◌, ◌*◌, ◌^◌, ◌<◌, ◌≤◌, ◌%◌, ◌&&◌, Bool, eqb, eqb→eq, eq-zero-or-pos, pow-suc, true, false, List, [], ◌∷◌, ◌++◌, length, length-drop, drop, take, get_or, ℤ, pos, ◌<ℤ◌, neg_ℤ, ◌-ℤ◌, FitsSigned, Some, Result, Ok, Err}
+use Rattle.std.proofs.Common.{◌≡◌, ◌≢◌, T, refl, sym, ◌∙◌, ap, subst, inl, inr, arith, ℕ, zero, suc, ◌+◌, ◌-◌, ◌*◌, ◌^◌, ◌<◌, ◌≤◌, ◌&&◌, Bool, eqb, eqb→eq, eq-zero-or-pos, pow-suc, true, false, List, [], ◌∷◌, ◌++◌, length, length-drop, drop, take, get_or, ℤ, pos, ◌<ℤ◌, neg_ℤ, ◌-ℤ◌, FitsSigned, Some, Result, Ok, Err}
 use Rattle.std.proofs.lemmas.Int.{ints, to_z-of_z, to_z_pos}
 use Rattle.std.proofs.lemmas.Int.Digits.{digits_more, digits_value-lt, digits_value_more}
-use Rattle.std.proofs.lemmas.List.{drop_more, length-take, length-take-le}
+use Rattle.std.proofs.lemmas.List.{drop_more, length-take-le}
 use Rattle.std.proofs.lemmas.Nat.{mul-le}
 use Rattle.std.proofs.lemmas.Bool.{eqb-true}
 use Rattle.std.proofs.Math.Nat.{pow-le-pow_left, pow-le-pow_right}
 use Rattle.std.proofs.Math.Seq.{split_at, take-add, take-length}
 use Rattle.std.specs.Char.{digit_value}
-use Rattle.std.specs.Float.Numeral.{digits_len}
 use Rattle.std.specs.Int.{w128}
-use Rattle.std.specs.Prelude.{slice_range}
 use Rattle.std.specs.Str.Parse.{AllDigits, digits_value, digits_value_after, starts_with_minus}
 use lib.Ieee.Fits.{and_l, and_r}
-use lib.Seq.{take-take}
 use mir.Val.{to_z, of_z}
-use Rattle.core.proofs.dec2flt.Rows.{AllDigits-digits_len, short_fits}
 use Rattle.ratio_integer.specs.Range.{Checks, IsHeld}
 use Rattle.ratio_core.specs.declared.parse_error.RatioErrorKind.{RatioErrorKind}
 use Rattle.ratio_core.specs.declared.parse_error.RatioErrorKind.TheVariants.{ParseError, ZeroDenominator}
@@ -116,41 +112,6 @@ group_more radix bytes at n more group s inside digits is =
       digits = subst (AllDigits radix) (sym joined) (append_digits radix first next s.digits digits);
       value = ap (λ x. x * radix ^ more + group) s.value ∙ ap (λ x. digits_value radix first * radix ^ more + x) (is ∙ digits_value_sum radix next)
           ∙ ap (λ x. digits_value radix first * x + digits_sum radix next) (sym count) ∙ sym scaled ∙ ap (digits_value radix) (sym joined);
-    }
-
--- the first two digits
-pub two_digits : (bytes : List ℕ) (d e : ℕ) → 1 < length bytes → d ≡ digit_value (get_or bytes 0 0) → e ≡ digit_value (get_or bytes 1 0) → d < 10 → e < 10 → AreGroupsTo 10 bytes 2 (d * 10 + e)
-two_digits bytes d e more first second small last =
-    let none : AreReadTo 10 19 bytes 0 0 = record { inside = omega arith; few = omega arith; digits = tt; value = refl } in
-    let one : 0 * 10 + d ≡ d = omega arith in
-    let s = step 10 19 bytes 1 d e (subst (AreReadTo 10 19 bytes 1) one (step 10 19 bytes 0 0 d none (omega (arith, more)) (omega arith) first small)) more (omega arith) second last in
-    record { inside = s.inside; digits = s.digits; value = s.value }
-
--- The digits after these, up to the k-th byte, where k is at most 19. The number of all is below 2 ^ 64, so it is not wrapped.
-pub read_on : (bytes : List ℕ) (k at n two : ℕ) → AreGroupsTo 10 bytes 2 two → 2 ≤ k → k ≤ 19 → at ≡ 2 + digits_len (drop 2 (take k bytes)) → at ≤ length (take k bytes)
-    → n ≡ (two * 10 ^ (at - 2) + digits_value 10 (slice_range (take k bytes) 2 at)) % 2 ^ 64 → AreGroupsTo 10 bytes at n
-read_on bytes k at n two s low high end inside is =
-    let few = take k bytes in
-    let more = at - 2 in
-    let group = digits_value 10 (take more (drop 2 few)) in
-    let within : at ≤ k = omega (arith, inside, length-take k bytes) in
-    let whole : 2 + more ≡ at = omega (arith, end) in
-    let begun : take 2 few ≡ take 2 bytes = take-take 2 k bytes low in
-    let front : AreGroupsTo 10 few 2 two = record {
-      inside = omega (arith, inside, end);
-      digits = subst (AllDigits 10) (sym begun) s.digits;
-      value = s.value ∙ ap (digits_value 10) (sym begun);
-    } in
-    let rest = AllDigits-digits_len (drop 2 few) more (omega (arith, end)) in
-    let all = group_more 10 few 2 two more group front (omega (arith, length-drop 2 few, inside, end)) rest refl in
-    let same : take (2 + more) few ≡ take at bytes = ap (λ j. take j few) whole ∙ take-take at k bytes within in
-    let digits : AllDigits 10 (take at bytes) = subst (AllDigits 10) same all.digits in
-    let value : two * 10 ^ more + group ≡ digits_value 10 (take at bytes) = all.value ∙ ap (digits_value 10) same in
-    let small : digits_value 10 (take at bytes) < 2 ^ 64 = short_fits (take at bytes) digits (omega (arith, length-take at bytes, within, high)) in
-    record {
-      inside = omega (arith, inside, length-take k bytes);
-      digits = digits;
-      value = omega (arith, is, value, small);
     }
 
 -- ---- the number text

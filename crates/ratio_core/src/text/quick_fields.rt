@@ -1,10 +1,9 @@
 //! Reading the two numbers of a text in one pass over its bytes, with each digit, as many at a time as a `u64` holds.
-ghost use Rattle.std.specs.Prelude.{◌≡◌, ◌+◌, ◌^◌, ◌<◌, ◌≤◌, drop, get_or, length, take, IfSome, IsTrue};
+ghost use Rattle.std.specs.Prelude.{◌≡◌, ◌+◌, ◌^◌, ◌<◌, ◌≤◌, drop, get_or, length, take, IfSome};
 ghost use Rattle.std.specs.Char.{digit_value};
 ghost use Rattle.std.specs.Str.Parse.{AllDigits, digits_value, starts_with_minus};
 ghost use Rattle.ratio_core.specs.Reading.{IsFractionText, IsSlashedText, ReadsAs, slash};
 
-use core::dec2flt;
 use ratio_integer::Primitive;
 
 /// The two numbers of a text in base 10 without a plus sign, not reduced. `None` says nothing about the text.
@@ -145,24 +144,6 @@ fn leading_digits(bytes: &[u8], radix: u32) -> (u64, usize)
     ensures few { radix ^ result.1 < 2 ^ 64 }
     ensures short { result.1 ≤ 19 }
 {
-    if radix == 10 {
-        decimal_digits(bytes)
-    } else {
-        digit_by_digit(bytes, radix)
-    }
-}
-
-// The same, one digit after another.
-#[inline(always)]
-fn digit_by_digit(bytes: &[u8], radix: u32) -> (u64, usize)
-    requires low { 2 ≤ radix }
-    requires high { radix ≤ 36 }
-    ensures inside { result.1 ≤ length bytes.now }
-    ensures digits { AllDigits radix (take result.1 bytes.now) }
-    ensures value { result.0 ≡ digits_value radix (take result.1 bytes.now) }
-    ensures few { radix ^ result.1 < 2 ^ 64 }
-    ensures short { result.1 ≤ 19 }
-{
     let most = most_digits(radix);
     let mut n = 0u64;
     let mut at = 0;
@@ -171,41 +152,6 @@ fn digit_by_digit(bytes: &[u8], radix: u32) -> (u64, usize)
         at += 1;
     }
     (n, at)
-}
-
-// The same in radix 10. Most numbers have one or two digits, and testing these one by one costs less than reading a word of
-// eight bytes. If a third digit follows, it reads the rest eight at a time.
-#[inline(always)]
-fn decimal_digits(bytes: &[u8]) -> (u64, usize)
-    ensures inside { result.1 ≤ length bytes.now }
-    ensures digits { AllDigits 10 (take result.1 bytes.now) }
-    ensures value { result.0 ≡ digits_value 10 (take result.1 bytes.now) }
-    ensures short { result.1 ≤ 19 }
-{
-    if !has_digit(bytes, 0) {
-        return (0, 0);
-    }
-    let first = digit(bytes[0], 10);
-    if !has_digit(bytes, 1) {
-        return (first, 1);
-    }
-    let two = first * 10 + digit(bytes[1], 10);
-    if !has_digit(bytes, 2) {
-        return (two, 2);
-    }
-    // A number of 19 digits fits `u64`, so it is not wrapped.
-    let few = &bytes[..bytes.len().min(19)];
-    let (at, n) = dec2flt::read_digits(few, 2, two);
-    (n, at)
-}
-
-// Whether a decimal digit is there.
-#[inline(always)]
-fn has_digit(bytes: &[u8], at: usize) -> bool
-    ensures inside { IsTrue result → at < length bytes.now }
-    ensures digit { IsTrue result → digit_value (get_or bytes.now at 0) < 10 }
-{
-    at < bytes.len() && digit(bytes[at], 10) < 10
 }
 
 // How many digits always fit `u64`. The radix to this power fits, too.

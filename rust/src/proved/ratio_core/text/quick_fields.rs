@@ -1,7 +1,6 @@
 // Erased from crates/ratio_core/src/text/quick_fields.rt by rust/erase: not to be edited.
 //! Reading the two numbers of a text in one pass over its bytes, with each digit, as many at a time as a `u64` holds.
 
-use crate::proved::dec2flt;
 use crate::proved::ratio_integer::Primitive;
 
 /// The two numbers of a text in base 10 without a plus sign, not reduced. `None` says nothing about the text.
@@ -110,16 +109,6 @@ fn grouped_digits(bytes: &[u8], radix: u32) -> Option<(u128, usize)> {
 // `most_digits`, so the number always fits `u64`, and no step tests for overflow.
 #[inline(always)]
 fn leading_digits(bytes: &[u8], radix: u32) -> (u64, usize) {
-    if radix == 10 {
-        decimal_digits(bytes)
-    } else {
-        digit_by_digit(bytes, radix)
-    }
-}
-
-// The same, one digit after another.
-#[inline(always)]
-fn digit_by_digit(bytes: &[u8], radix: u32) -> (u64, usize) {
     let most = most_digits(radix);
     let mut n = 0u64;
     let mut at = 0;
@@ -128,33 +117,6 @@ fn digit_by_digit(bytes: &[u8], radix: u32) -> (u64, usize) {
         at += 1;
     }
     (n, at)
-}
-
-// The same in radix 10. Most numbers have one or two digits, and testing these one by one costs less than reading a word of
-// eight bytes. If a third digit follows, it reads the rest eight at a time.
-#[inline(always)]
-fn decimal_digits(bytes: &[u8]) -> (u64, usize) {
-    if !has_digit(bytes, 0) {
-        return (0, 0);
-    }
-    let first = digit(bytes[0], 10);
-    if !has_digit(bytes, 1) {
-        return (first, 1);
-    }
-    let two = first * 10 + digit(bytes[1], 10);
-    if !has_digit(bytes, 2) {
-        return (two, 2);
-    }
-    // A number of 19 digits fits `u64`, so it is not wrapped.
-    let few = &bytes[..bytes.len().min(19)];
-    let (at, n) = dec2flt::read_digits(few, 2, two);
-    (n, at)
-}
-
-// Whether a decimal digit is there.
-#[inline(always)]
-fn has_digit(bytes: &[u8], at: usize) -> bool {
-    at < bytes.len() && digit(bytes[at], 10) < 10
 }
 
 // How many digits always fit `u64`. The radix to this power fits, too.

@@ -122,13 +122,16 @@ fn answer(line: &[u8], out: &mut impl Write) -> io::Result<()> {
     answer_parts(&text.split(' ').collect::<Vec<&str>>(), out)
 }
 
-fn main() -> io::Result<()> {
-    let mut input = BufReader::new(io::stdin());
-    let mut out = BufWriter::new(io::stdout());
+/// Writes the answers to all lines.
+pub fn answer_all(mut input: impl BufRead, out: &mut impl Write) -> io::Result<()> {
     let mut line = Vec::new();
     while input.read_until(b'\n', &mut line)? > 0 {
-        answer(line.strip_suffix(b"\n").unwrap_or(&line), &mut out)?;
+        answer(line.strip_suffix(b"\n").unwrap_or(&line), out)?;
         line.clear();
     }
     out.flush()
+}
+
+fn main() -> io::Result<()> {
+    answer_all(BufReader::new(io::stdin()), &mut BufWriter::new(io::stdout()))
 }

@@ -98,7 +98,10 @@ pub(crate) fn crossed_quotient<T: Integer>(a: T, b: T, c: T, d: T) -> Option<(T,
     ensures { ChecksLowest (λ r. T.value r.0) (λ r. T.value r.1) T.lo T.hi
         (quotient_of (T.value a) (T.value b) (T.value c) (T.value d)) result }
 {
-    if has_short_numbers::<T>() && !(b.is_one() || c.is_one() || d.is_one() || a == c || b == d) {
+    // With the test of `a` last, quotients of and by whole numbers take no longer for it.
+    if has_short_numbers::<T>()
+        && !(b.is_one() || c.is_one() || d.is_one() || a == c || b == d || a.is_one())
+    {
         quotient_together(a, b, c, d)
     } else {
         quotient_in_turn(a, b, c, d)

@@ -39,6 +39,18 @@ pub(crate) fn difference_by_gcd<T: Integer>(a: T, b: T, c: T, d: T, g: T) -> Opt
     Some(cut_by(difference, b.try_times(for_left)?, g))
 }
 
+/// The gcd of `n` and `d`. If `d` is 1, as the denominator of a whole number is, nothing is computed.
+#[inline(always)]
+pub(crate) fn gcd_with<T: Integer>(n: T, d: T) -> T
+    requires { pos 0 <ℤ T.value d }
+    ensures { IsGcdOf (T.value n) (T.value d) (T.value result) }
+{
+    if d.is_one() {
+        return d;
+    }
+    n.gcd(d)
+}
+
 // The quotient of a denominator and `g`. Most often `g` is 1, and nothing is divided.
 #[inline(always)]
 fn divided<T: Integer>(denom: T, g: T) -> T
@@ -58,7 +70,7 @@ fn cut_by<T: Integer>(n: T, m: T, g: T) -> (T, T)
     requires multiple { IsMultiple (T.value m) (T.value g) }
     ensures { IsCutBy T.lo T.hi (T.value n) (T.value m) (T.value g) (T.value result.0) (T.value result.1) }
 {
-    let shared = n.gcd(g);
+    let shared = gcd_with(n, g);
     if shared.is_one() {
         both_held(n, m);
         return (n, m);

@@ -8,7 +8,7 @@ ghost use Rattle.ratio_integer.specs.Fraction.{ChecksLowest, IsLowestTerms};
 
 use crate::sums;
 use crate::sums::by_denominators::{formed_difference, formed_sum, reduced};
-use crate::sums::least_common::{difference_by_gcd, sum_by_gcd};
+use crate::sums::least_common::{difference_by_gcd, gcd_with, sum_by_gcd};
 use crate::sums::mixed::{mixed_difference, mixed_sum};
 use ratio_integer::Integer;
 
@@ -69,7 +69,7 @@ fn long_sum<T: Integer>(a: T, b: T, c: T, d: T) -> Option<(T, T)>
     ensures { ChecksLowest (λ r. T.value r.0) (λ r. T.value r.1) T.lo T.hi
         (sum_of (T.value a) (T.value b) (T.value c) (T.value d)) result }
 {
-    let g = b.gcd(d);
+    let g = gcd_with(b, d);
     if let Some(sum) = sum_by_gcd(a, b, c, d, g) {
         return Some(sum);
     }
@@ -83,7 +83,7 @@ fn long_difference<T: Integer>(a: T, b: T, c: T, d: T) -> Option<(T, T)>
     ensures { ChecksLowest (λ r. T.value r.0) (λ r. T.value r.1) T.lo T.hi
         (difference_of (T.value a) (T.value b) (T.value c) (T.value d)) result }
 {
-    let g = b.gcd(d);
+    let g = gcd_with(b, d);
     if let Some(difference) = difference_by_gcd(a, b, c, d, g) {
         return Some(difference);
     }

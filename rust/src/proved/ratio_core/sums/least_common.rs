@@ -41,6 +41,21 @@ pub(crate) fn difference_by_gcd<T: Integer>(a: T, b: T, c: T, d: T, g: T) -> Opt
     Some(cut_by(difference, b.try_times(for_left)?, g))
 }
 
+/// The gcd of `n` and `d`. If `d` is 1, as the denominator of a whole number is, nothing is computed.
+///
+/// # Conditions
+///
+/// The proof requires of the caller:
+///
+/// - `pos 0 <ℤ T.value d`
+#[inline(always)]
+pub(crate) fn gcd_with<T: Integer>(n: T, d: T) -> T {
+    if d.is_one() {
+        return d;
+    }
+    n.gcd(d)
+}
+
 // The quotient of a denominator and `g`. Most often `g` is 1, and nothing is divided.
 #[inline(always)]
 fn divided<T: Integer>(denom: T, g: T) -> T {
@@ -53,7 +68,7 @@ fn divided<T: Integer>(denom: T, g: T) -> T {
 // A number and a multiple of `g`, both divided by the gcd of the number and `g`.
 #[inline]
 fn cut_by<T: Integer>(n: T, m: T, g: T) -> (T, T) {
-    let shared = n.gcd(g);
+    let shared = gcd_with(n, g);
     if shared.is_one() {
         both_held(n, m);
         return (n, m);

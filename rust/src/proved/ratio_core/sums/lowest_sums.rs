@@ -7,7 +7,7 @@
 
 use crate::proved::ratio_core::sums;
 use crate::proved::ratio_core::sums::by_denominators::{formed_difference, formed_sum, reduced};
-use crate::proved::ratio_core::sums::least_common::{difference_by_gcd, sum_by_gcd};
+use crate::proved::ratio_core::sums::least_common::{difference_by_gcd, gcd_with, sum_by_gcd};
 use crate::proved::ratio_core::sums::mixed::{mixed_difference, mixed_sum};
 use crate::proved::ratio_integer::Integer;
 
@@ -68,7 +68,7 @@ pub fn checked_sub<T: Integer>(a: T, b: T, c: T, d: T) -> Option<(T, T)> {
 // The same, where the type has no exact sums.
 #[inline]
 fn long_sum<T: Integer>(a: T, b: T, c: T, d: T) -> Option<(T, T)> {
-    let g = b.gcd(d);
+    let g = gcd_with(b, d);
     if let Some(sum) = sum_by_gcd(a, b, c, d, g) {
         return Some(sum);
     }
@@ -78,7 +78,7 @@ fn long_sum<T: Integer>(a: T, b: T, c: T, d: T) -> Option<(T, T)> {
 // The same for the difference.
 #[inline]
 fn long_difference<T: Integer>(a: T, b: T, c: T, d: T) -> Option<(T, T)> {
-    let g = b.gcd(d);
+    let g = gcd_with(b, d);
     if let Some(difference) = difference_by_gcd(a, b, c, d, g) {
         return Some(difference);
     }

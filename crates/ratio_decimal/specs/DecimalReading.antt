@@ -1,5 +1,5 @@
 -- What a decimal text says, and what reading one returns. `-1.50e3` says -150 * 10^3 over 10^2.
-use Rattle.std.specs.Prelude.{◌≡◌, ◌⊎◌, ◌<◌, ◌*◌, ◌/◌, ◌^◌, ℕ, ℤ, pos, unsigned_abs, Bool, true, false, List, [], ◌∷◌, ◌++◌, length, Result, Ok, Err}
+use Rattle.std.specs.Prelude.{◌≡◌, ◌⊎◌, ◌<◌, ◌*◌, ◌/◌, ◌^◌, ℕ, ℤ, pos, unsigned_abs, Bool, true, false, List, [], ◌∷◌, ◌++◌, codes, length, Result, Ok, Err}
 use Rattle.std.specs.Str.Parse.{IsNumeral}
 use Rattle.ratio_integer.specs.Fraction.{Fits}
 use Rattle.ratio_decimal.specs.Decimal.{places_text, point}
@@ -89,6 +89,12 @@ abbrev pub AnswersDecimal : {R : Type 0} → (R → ℤ) → (R → ℤ) → ℤ
 AnswersDecimal numer denom lo hi text (Ok r) = ReadsLowest lo hi (IsDecimalText text) (numer r) (denom r)
 AnswersDecimal numer denom lo hi text (Err NotDecimal) = (n d : ℤ) → ¬ (IsDecimalText text n d)
 AnswersDecimal numer denom lo hi text (Err NotHeld) = ReadsNotHeld lo hi (IsDecimalText text)
+
+-- the text that a refusal prints
+-- Example: `NotHeld`: `the lowest terms of the decimal do not fit the type`
+abbrev pub decimal_refusal_text : DecimalRefusal → List ℕ
+decimal_refusal_text NotDecimal = codes "the text is not a decimal such as -12.5 or 1.5e-3"
+decimal_refusal_text NotHeld = codes "the lowest terms of the decimal do not fit the type"
 
 -- Law: each text has at most one reading as a decimal
 -- Example: `0.67`: 67/100

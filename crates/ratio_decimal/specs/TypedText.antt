@@ -1,6 +1,6 @@
 -- What a person types into one field, and what reading it returns: `-0.5`, `3/4`, `-1 1/2`, `12.5%` and `1/2%`. The `numbers` of a fraction
 -- or a mixed number are its whole numbers, without signs.
-use Rattle.std.specs.Prelude.{◌≡◌, ◌≢◌, ◌⊎◌, ◌<◌, ◌+◌, ◌*◌, ◌^◌, ◌*ℤ◌, ℕ, ℤ, pos, Bool, true, false, List, [], ◌∷◌, ◌++◌, Result, Ok, Err}
+use Rattle.std.specs.Prelude.{◌≡◌, ◌≢◌, ◌⊎◌, ◌<◌, ◌+◌, ◌*◌, ◌^◌, ◌*ℤ◌, ℕ, ℤ, pos, Bool, true, false, List, [], ◌∷◌, ◌++◌, codes, Result, Ok, Err}
 use Rattle.std.specs.Str.Parse.{IsNumeral}
 use Rattle.ratio_integer.specs.Fraction.{Fits, IsHeldLowest}
 use Rattle.ratio_decimal.specs.DecimalReading.{IsDecimalText, IsWrittenSign}
@@ -129,3 +129,10 @@ AnswersTyped numer denom lo hi text (Ok r) = ReadsTyped lo hi text (numer r) (de
 AnswersTyped numer denom lo hi text (Err NotNumber) = (n d : ℤ) (numbers : List ℕ) → ¬ (IsTypedText text n d numbers)
 AnswersTyped numer denom lo hi text (Err ZeroDenominator) = (n : ℤ) × (numbers : List ℕ) × IsTypedText text n (pos 0) numbers
 AnswersTyped numer denom lo hi text (Err NotHeld) = TypedNotHeld lo hi text
+
+-- the text that a refusal prints
+-- Example: `ZeroDenominator`: `the denominator is 0`
+abbrev pub text_refusal_text : TextRefusal → List ℕ
+text_refusal_text NotNumber = codes "the text is not a number such as -0.5, 3/4, -1 1/2 or 12.5%"
+text_refusal_text ZeroDenominator = codes "the denominator is 0"
+text_refusal_text NotHeld = codes "the lowest terms do not fit the type, or a whole number of the fraction is 2^128 or more"

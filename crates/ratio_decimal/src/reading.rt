@@ -5,15 +5,19 @@ mod short;
 pub(crate) mod terms;
 pub(crate) mod value;
 
+ghost use Rattle.std.specs.Prelude.{Some};
+ghost use Rattle.std.specs.Fmt.{padded};
 ghost use Rattle.ratio_integer.specs.Range.{Checks};
 ghost use Rattle.ratio_decimal.specs.DecimalCuts.{ChecksSigned};
-ghost use Rattle.ratio_decimal.specs.DecimalReading.{AnswersDecimal};
+ghost use Rattle.ratio_decimal.specs.DecimalReading.{AnswersDecimal, decimal_refusal_text};
 ghost use Rattle.ratio_core.specs.Signs.{with_sign};
 
 use crate::reading::cut::decimal_parts;
 use crate::reading::terms::Terms;
 use crate::reading::value::lowest;
 use ratio_integer::Primitive;
+use std::error::Error;
+use std::fmt;
 
 /// Why a text has no fraction as a decimal.
 #[derive(Clone, Copy, PartialEq, Debug)]
@@ -24,6 +28,21 @@ pub enum DecimalRefusal {
     /// `0.0078125`, which is 1/128.
     NotHeld,
 }
+
+impl fmt::Display for DecimalRefusal {
+    ghost output = { λ why. Some (decimal_refusal_text why) };
+
+    ghost styled_output = { λ why options. Some (padded options (decimal_refusal_text why)) };
+
+    fn fmt<W: fmt::Write>(&self, f: &mut fmt::Formatter<W>) -> fmt::Result {
+        f.pad(match self {
+            DecimalRefusal::NotDecimal => "the text is not a decimal such as -12.5 or 1.5e-3",
+            DecimalRefusal::NotHeld => "the lowest terms of the decimal do not fit the type",
+        })
+    }
+}
+
+impl Error for DecimalRefusal {}
 
 /// The lowest terms of a decimal: 99/8 for `12.375`. The text is a sign or none, digits with at most one point, and an
 /// exponent or none, such as `e-3`. It has at least one digit before the exponent. The value is exact, however long the

@@ -3,14 +3,18 @@ mod parts;
 mod plain;
 mod signed;
 
+ghost use Rattle.std.specs.Prelude.{Some};
+ghost use Rattle.std.specs.Fmt.{padded};
 ghost use Rattle.ratio_decimal.specs.TypedTerms.{AnswersTerms};
-ghost use Rattle.ratio_decimal.specs.TypedText.{AnswersTyped, IsTypedText};
+ghost use Rattle.ratio_decimal.specs.TypedText.{AnswersTyped, IsTypedText, text_refusal_text};
 
 use crate::reading::held_terms;
 use crate::typed::parts::{before_percent, mixed_parts};
 use crate::typed::plain::plain_terms;
 use crate::typed::signed::{SignedTerms, mixed_terms};
 use ratio_integer::Primitive;
+use std::error::Error;
+use std::fmt;
 
 /// Why a typed text has no fraction.
 #[derive(Clone, Copy, PartialEq, Debug)]
@@ -23,6 +27,24 @@ pub enum TextRefusal {
     /// whole numbers in it is 2^128 or more.
     NotHeld,
 }
+
+impl fmt::Display for TextRefusal {
+    ghost output = { λ why. Some (text_refusal_text why) };
+
+    ghost styled_output = { λ why options. Some (padded options (text_refusal_text why)) };
+
+    fn fmt<W: fmt::Write>(&self, f: &mut fmt::Formatter<W>) -> fmt::Result {
+        f.pad(match self {
+            TextRefusal::NotNumber => "the text is not a number such as -0.5, 3/4, -1 1/2 or 12.5%",
+            TextRefusal::ZeroDenominator => "the denominator is 0",
+            TextRefusal::NotHeld => {
+                "the lowest terms do not fit the type, or a whole number of the fraction is 2^128 or more"
+            }
+        })
+    }
+}
+
+impl Error for TextRefusal {}
 
 /// The lowest terms of what a person types. The text is one of these:
 ///

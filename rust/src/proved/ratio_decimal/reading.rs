@@ -10,6 +10,9 @@ use crate::proved::ratio_decimal::reading::cut::decimal_parts;
 use crate::proved::ratio_decimal::reading::terms::Terms;
 use crate::proved::ratio_decimal::reading::value::lowest;
 use crate::proved::ratio_integer::Primitive;
+#[cfg(feature = "std")]
+use std::error::Error;
+use core::fmt;
 
 /// Why a text has no fraction as a decimal.
 #[derive(Clone, Copy, PartialEq, Debug)]
@@ -20,6 +23,19 @@ pub enum DecimalRefusal {
     /// `0.0078125`, which is 1/128.
     NotHeld,
 }
+
+impl fmt::Display for DecimalRefusal {
+    #[inline]
+    fn fmt(&self, f: &mut fmt::Formatter<'_>) -> fmt::Result {
+        f.pad(match self {
+            DecimalRefusal::NotDecimal => "the text is not a decimal such as -12.5 or 1.5e-3",
+            DecimalRefusal::NotHeld => "the lowest terms of the decimal do not fit the type",
+        })
+    }
+}
+
+#[cfg(feature = "std")]
+impl Error for DecimalRefusal {}
 
 /// The lowest terms of a decimal: 99/8 for `12.375`. The text is a sign or none, digits with at most one point, and an
 /// exponent or none, such as `e-3`. It has at least one digit before the exponent. The value is exact, however long the

@@ -9,6 +9,9 @@ use crate::proved::ratio_decimal::typed::parts::{before_percent, mixed_parts};
 use crate::proved::ratio_decimal::typed::plain::plain_terms;
 use crate::proved::ratio_decimal::typed::signed::{SignedTerms, mixed_terms};
 use crate::proved::ratio_integer::Primitive;
+#[cfg(feature = "std")]
+use std::error::Error;
+use core::fmt;
 
 /// Why a typed text has no fraction.
 #[derive(Clone, Copy, PartialEq, Debug)]
@@ -21,6 +24,22 @@ pub enum TextRefusal {
     /// whole numbers in it is 2^128 or more.
     NotHeld,
 }
+
+impl fmt::Display for TextRefusal {
+    #[inline]
+    fn fmt(&self, f: &mut fmt::Formatter<'_>) -> fmt::Result {
+        f.pad(match self {
+            TextRefusal::NotNumber => "the text is not a number such as -0.5, 3/4, -1 1/2 or 12.5%",
+            TextRefusal::ZeroDenominator => "the denominator is 0",
+            TextRefusal::NotHeld => {
+                "the lowest terms do not fit the type, or a whole number of the fraction is 2^128 or more"
+            }
+        })
+    }
+}
+
+#[cfg(feature = "std")]
+impl Error for TextRefusal {}
 
 /// The lowest terms of what a person types. The text is one of these:
 ///

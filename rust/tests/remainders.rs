@@ -64,11 +64,14 @@ macro_rules! walk {
             let given = |exact: BigRational| fields(&exact).and_then(|(numer, denom)| Reduced::checked_new(numer, denom));
             let (count, mut numbers, mut seen) = (count_of_pairs(), Numbers($seed), Seen::default());
             for i in 0..count {
-                let (x, y) = match i % 4 {
-                    0 => crossed(&mut numbers).map_or((None, None), |(x, y)| (given(x), given(y))),
-                    _ => (fraction(&mut numbers), fraction(&mut numbers)),
+                let pair = match i % 4 {
+                    0 => crossed(&mut numbers).and_then(|(x, y)| given(x).zip(given(y))),
+                    _ => fraction(&mut numbers).zip(fraction(&mut numbers)),
                 };
-                let (Some(x), Some(y)) = (x, y) else { continue };
+                let (x, y) = match pair {
+                    Some(pair) => pair,
+                    None => continue,
+                };
                 let exact = (big(x.into_raw()), big(y.into_raw()));
                 let wanted = if exact.1.is_zero() { None } else { fields(&(&exact.0 % &exact.1)) };
                 let rest = x.checked_rem(y).map(Reduced::into_raw);

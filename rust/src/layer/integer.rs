@@ -46,7 +46,8 @@ pub trait Integer:
 /// ```compile_fail
 /// bakhsney::Total::<i128>::default().mean();
 /// ```
-pub trait UpTo64: Integer {}
+// rustc 1.63 compiles a loop over `&Reduced<T>` only where it knows that `T` outlives the reference.
+pub trait UpTo64: Integer + 'static {}
 
 macro_rules! up_to_64 {
     ($($type:ident)*) => {$(

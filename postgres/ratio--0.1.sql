@@ -80,25 +80,26 @@ CREATE OPERATOR <> (
     LEFTARG = ratio, RIGHTARG = ratio, FUNCTION = ratio_ne, COMMUTATOR = <>, NEGATOR = =,
     RESTRICT = neqsel, JOIN = neqjoinsel
 );
+CREATE FUNCTION ratio_bound_sel(internal, oid, internal, int4) RETURNS float8 AS 'MODULE_PATHNAME' LANGUAGE C STABLE STRICT PARALLEL SAFE;
 CREATE FUNCTION ratio_lt(ratio, ratio) RETURNS boolean AS 'MODULE_PATHNAME' LANGUAGE C IMMUTABLE STRICT LEAKPROOF PARALLEL SAFE;
 CREATE OPERATOR < (
     LEFTARG = ratio, RIGHTARG = ratio, FUNCTION = ratio_lt, COMMUTATOR = >, NEGATOR = >=,
-    RESTRICT = scalarltsel, JOIN = scalarltjoinsel
+    RESTRICT = ratio_bound_sel, JOIN = scalarltjoinsel
 );
 CREATE FUNCTION ratio_le(ratio, ratio) RETURNS boolean AS 'MODULE_PATHNAME' LANGUAGE C IMMUTABLE STRICT LEAKPROOF PARALLEL SAFE;
 CREATE OPERATOR <= (
     LEFTARG = ratio, RIGHTARG = ratio, FUNCTION = ratio_le, COMMUTATOR = >=, NEGATOR = >,
-    RESTRICT = scalarlesel, JOIN = scalarlejoinsel
+    RESTRICT = ratio_bound_sel, JOIN = scalarlejoinsel
 );
 CREATE FUNCTION ratio_gt(ratio, ratio) RETURNS boolean AS 'MODULE_PATHNAME' LANGUAGE C IMMUTABLE STRICT LEAKPROOF PARALLEL SAFE;
 CREATE OPERATOR > (
     LEFTARG = ratio, RIGHTARG = ratio, FUNCTION = ratio_gt, COMMUTATOR = <, NEGATOR = <=,
-    RESTRICT = scalargtsel, JOIN = scalargtjoinsel
+    RESTRICT = ratio_bound_sel, JOIN = scalargtjoinsel
 );
 CREATE FUNCTION ratio_ge(ratio, ratio) RETURNS boolean AS 'MODULE_PATHNAME' LANGUAGE C IMMUTABLE STRICT LEAKPROOF PARALLEL SAFE;
 CREATE OPERATOR >= (
     LEFTARG = ratio, RIGHTARG = ratio, FUNCTION = ratio_ge, COMMUTATOR = <=, NEGATOR = <,
-    RESTRICT = scalargesel, JOIN = scalargejoinsel
+    RESTRICT = ratio_bound_sel, JOIN = scalargejoinsel
 );
 CREATE FUNCTION ratio_cmp(ratio, ratio) RETURNS int4 AS 'MODULE_PATHNAME' LANGUAGE C IMMUTABLE STRICT LEAKPROOF PARALLEL SAFE;
 CREATE FUNCTION ratio_sortsupport(internal) RETURNS void AS 'MODULE_PATHNAME' LANGUAGE C IMMUTABLE STRICT PARALLEL SAFE;

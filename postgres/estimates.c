@@ -1,0 +1,309 @@
+/* The share of rows that a bound such as r < '1/2' leaves, for the planner. PostgreSQL's own estimators cannot turn a ratio into a number, so
+ * they take each constant for the middle of its bucket of the histogram. And PostgreSQL pairs the two bounds of a range only if both have its
+ * own estimators. So this file does both. */
+#include "glue.h"
+
+#include <math.h>
+
+#include "access/htup_details.h"
+#include "catalog/pg_statistic.h"
+#include "nodes/nodeFuncs.h"
+#include "utils/lsyscache.h"
+#include "utils/selfuncs.h"
+
+extern Datum ratio_lt(PG_FUNCTION_ARGS);
+extern Datum ratio_le(PG_FUNCTION_ARGS);
+extern Datum ratio_ge(PG_FUNCTION_ARGS);
+
+/* A clause that bounds a variable, as r < '1/2' does. */
+typedef struct
+{
+	VariableStatData variable;
+	Node	   *limit;			/* what it is compared with */
+	Oid			operator;		/* as with the variable on the left */
+	FmgrInfo	compare;		/* its function */
+	bool		is_upper;		/* < or <= */
+	bool		is_closed;		/* <= or >= */
+} Bound;
+
+/* The bound that a clause is, if it is one. Its statistics must be released. */
+static bool
+read_bound(PlannerInfo *root, Oid operator, List *args, int varRelid, Bound *bound)
+{
+	bool		on_left;
+	PGFunction	function;
+
+	if (!get_restriction_variable(root, args, varRelid, &bound->variable, &bound->limit, &on_left))
+		return false;
+	bound->operator = on_left ? operator : get_commutator(operator);
+	fmgr_info(get_opcode(bound->operator), &bound->compare);
+	function = bound->compare.fn_addr;
+	bound->is_upper = function == ratio_lt || function == ratio_le;
+	bound->is_closed = function == ratio_le || function == ratio_ge;
+	return true;
+}
+
+/* The values of the histogram next to a constant. PostgreSQL compares them with it last, while it searches. An end may come from an index. */
+typedef struct
+{
+	const Bound *bound;
+	bool		has_below,
+				has_above;
+	Ratio		below,
+				above;
+} Search;
+
+static Datum
+watched(PG_FUNCTION_ARGS)
+{
+	Search	   *search = fcinfo->flinfo->fn_extra;
+	bool		answer = DatumGetBool(search->bound->compare.fn_addr(fcinfo));
+
+	if (answer == search->bound->is_upper)
+	{
+		search->has_below = true;
+		search->below = *ARG(0);
+	}
+	else
+	{
+		search->has_above = true;
+		search->above = *ARG(0);
+	}
+	return BoolGetDatum(answer);
+}
+
+static double
+float_near(const Ratio *x)
+{
+	ratio_float answer;
+
+	ratio_to_f64_i64(x, 1, &answer, 1);
+	return answer.code == RATIO_ANSWERED ? answer.value : NAN;
+}
+
+/* Where a value lies in its bucket, from 0 to 1. */
+static double
+place_in(const Search *search, const Ratio *value)
+{
+	double		low = float_near(&search->below),
+				place = (float_near(value) - low) / (float_near(&search->above) - low);
+
+	return isnan(place) ? 0.5 : Min(Max(place, 0), 1);
+}
+
+/* The share of one of the values that are not most common ones. */
+static double
+share_of_one(VariableStatData *variable)
+{
+	bool		is_default;
+	double		distinct = get_variable_numdistinct(variable, &is_default);
+	AttStatsSlot common;
+
+	if (get_attstatsslot(&common, variable->statsTuple, STATISTIC_KIND_MCV, InvalidOid, ATTSTATSSLOT_NUMBERS))
+	{
+		distinct -= common.nnumbers;
+		free_attstatsslot(&common);
+	}
+	return distinct > 1 ? 1 / distinct : 0;
+}
+
+/* How much of the histogram lies between the start of a bucket and its end. In the first bucket, PostgreSQL counts the rows that have the least
+ * value already at the start. */
+static double
+height_of(Bound *bound, const Search *search, AttStatsSlot *histogram)
+{
+	double		height = 1.0 / (histogram->nvalues - 1);
+	ratio_pair_i64 pair = {search->below, *(const Ratio *) DatumGetPointer(histogram->values[1])};
+	ratio_order order;
+
+	ratio_compare_i64(&pair, 1, &order, 1);
+	return order.order < 0 ? height - share_of_one(&bound->variable) : height;
+}
+
+static bool
+has_value(const AttStatsSlot *histogram, const Ratio *value)
+{
+	for (int i = 0; i < histogram->nvalues; i++)
+		if (memcmp(DatumGetPointer(histogram->values[i]), value, sizeof(*value)) == 0)
+			return true;
+	return false;
+}
+
+/* Moves a share of the histogram from the middle of a bucket, where PostgreSQL took it, to the place of the constant. As PostgreSQL's own, the
+ * result keeps off 0 and 1 by a hundredth of a bucket, unless an end came from an index. */
+static double
+moved(double share, Bound *bound, const Search *search, const Ratio *value)
+{
+	AttStatsSlot histogram;
+	double		move,
+				margin = 0;
+
+	if (!get_attstatsslot(&histogram, bound->variable.statsTuple, STATISTIC_KIND_HISTOGRAM, InvalidOid, ATTSTATSSLOT_VALUES))
+		return share;
+	move = (place_in(search, value) - 0.5) * height_of(bound, search, &histogram);
+	if (has_value(&histogram, &search->below) && has_value(&histogram, &search->above))
+		margin = 0.01 / (histogram.nvalues - 1);
+	free_attstatsslot(&histogram);
+	return Min(Max(bound->is_upper ? share + move : share - move, margin), 1 - margin);
+}
+
+/* The share of the histogram that a bound leaves. It is below 0 if there is no histogram. */
+static double
+share_of_histogram(PlannerInfo *root, Bound *bound, const Const *limit, Oid collation)
+{
+	Search		search = {.bound = bound};
+	FmgrInfo	compare = bound->compare;
+	double		share;
+
+	compare.fn_addr = watched;
+	compare.fn_extra = &search;
+	share = ineq_histogram_selectivity(root, &bound->variable, bound->operator, &compare, !bound->is_upper, bound->is_closed, collation,
+									   limit->constvalue, limit->consttype);
+	if (share < 0 || !search.has_below || !search.has_above)
+		return share;
+	return moved(share, bound, &search, (const Ratio *) DatumGetPointer(limit->constvalue));
+}
+
+/* The share of all rows that a bound leaves by itself. */
+static double
+share_of_rows(PlannerInfo *root, Bound *bound, Oid collation)
+{
+	const Const *limit = (const Const *) bound->limit;
+	HeapTuple	statistics = bound->variable.statsTuple;
+	double		common,
+				share,
+				others;
+
+	if (!IsA(limit, Const))
+		return DEFAULT_INEQ_SEL;
+	if (limit->constisnull)
+		return 0;
+	if (!HeapTupleIsValid(statistics))
+		return DEFAULT_INEQ_SEL;
+	share = mcv_selectivity(&bound->variable, &bound->compare, collation, limit->constvalue, true, &common);
+	others = share_of_histogram(root, bound, limit, collation);
+	if (others < 0)
+		others = 0.5;
+	share += others * (1 - ((Form_pg_statistic) GETSTRUCT(statistics))->stanullfrac - common);
+	CLAMP_PROBABILITY(share);
+	return share;
+}
+
+static Node *
+clause_in(ListCell *cell)
+{
+	Node	   *clause = lfirst(cell);
+
+	return IsA(clause, RestrictInfo) ? (Node *) ((RestrictInfo *) clause)->clause : clause;
+}
+
+/* The clauses of which all must hold, among them the one with these arguments. */
+static List *
+clauses_beside(List *clauses, const List *args)
+{
+	ListCell   *cell,
+			   *part;
+
+	foreach(cell, clauses)
+	{
+		Node	   *clause = clause_in(cell);
+		List	   *found = NIL;
+
+		if (is_opclause(clause) && ((OpExpr *) clause)->args == args)
+			return clauses;
+		if (is_andclause(clause))
+			found = clauses_beside(((BoolExpr *) clause)->args, args);
+		else if (is_orclause(clause))
+			foreach(part, ((BoolExpr *) clause)->args)
+				found = list_concat(found, clauses_beside(list_make1(lfirst(part)), args));
+		if (found != NIL)
+			return found;
+	}
+	return NIL;
+}
+
+/* The bounds of one variable: on the lower side and on the upper one, the first clause, by its arguments, and the least share. */
+typedef struct
+{
+	const List *first[2];
+	double		share[2];
+} Range;
+
+static void
+tighten(Range *range, bool side, const List *args, double share)
+{
+	range->share[side] = range->first[side] == NULL ? share : Min(range->share[side], share);
+	if (range->first[side] == NULL)
+		range->first[side] = args;
+}
+
+/* The bounds of the variable of a clause, by that clause and by those beside it. */
+static Range
+range_of(PlannerInfo *root, Oid operator, const List *args, int varRelid, const Bound *own, Oid collation)
+{
+	Range		range = {{NULL}};
+	List	   *clauses = clauses_beside(own->variable.rel->baserestrictinfo, args);
+	ListCell   *cell;
+
+	/* In LEFT JOIN .. ON, a bound of the left side belongs to the join. */
+	if (clauses == NIL)
+		clauses = clauses_beside(own->variable.rel->joininfo, args);
+	foreach(cell, clauses)
+	{
+		OpExpr	   *clause = (OpExpr *) clause_in(cell);
+		Bound		bound;
+
+		if (!is_opclause(clause) || get_oprrest(clause->opno) != get_oprrest(operator)
+			|| !read_bound(root, clause->opno, clause->args, varRelid, &bound))
+			continue;
+		if (equal(bound.variable.var, own->variable.var))
+			tighten(&range, bound.is_upper, clause->args, share_of_rows(root, &bound, collation));
+		ReleaseVariableStats(bound.variable);
+	}
+	return range;
+}
+
+/* The share of all rows within both bounds. */
+static double
+share_within(const Range *range, const Bound *bound)
+{
+	double		nulls;
+
+	if (range->share[false] == DEFAULT_INEQ_SEL || range->share[true] == DEFAULT_INEQ_SEL || !HeapTupleIsValid(bound->variable.statsTuple))
+		return DEFAULT_RANGE_INEQ_SEL;
+	nulls = ((Form_pg_statistic) GETSTRUCT(bound->variable.statsTuple))->stanullfrac;
+	return Max(range->share[false] + range->share[true] - 1 + nulls, 1.0e-10);
+}
+
+/* PostgreSQL multiplies the shares of clauses of which all must hold. So the first upper bound has the share of the tightest one, the first lower
+ * bound has the part of these rows that both sides leave, and the others have 1. */
+static double
+share_beside_others(PlannerInfo *root, Oid operator, const List *args, int varRelid, Bound *bound, Oid collation)
+{
+	Range		range = range_of(root, operator, args, varRelid, bound, collation);
+	bool		side = bound->is_upper;
+
+	if (range.first[side] == NULL)
+		return share_of_rows(root, bound, collation);
+	if (range.first[side] != args)
+		return 1;
+	if (bound->is_upper || range.first[true] == NULL)
+		return range.share[side];
+	return range.share[true] > 0 ? Min(share_within(&range, bound) / range.share[true], 1) : 1;
+}
+
+CALL(ratio_bound_sel)
+{
+	PlannerInfo *root = (PlannerInfo *) PG_GETARG_POINTER(0);
+	Oid			operator = PG_GETARG_OID(1);
+	List	   *args = (List *) PG_GETARG_POINTER(2);
+	int			varRelid = PG_GETARG_INT32(3);
+	Bound		bound;
+	double		share;
+
+	if (!read_bound(root, operator, args, varRelid, &bound))
+		PG_RETURN_FLOAT8(DEFAULT_INEQ_SEL);
+	share = share_beside_others(root, operator, args, varRelid, &bound, PG_GET_COLLATION());
+	ReleaseVariableStats(bound.variable);
+	PG_RETURN_FLOAT8(share);
+}

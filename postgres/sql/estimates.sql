@@ -1,0 +1,72 @@
+-- Estimates of rows for bounds and ranges, beside those of numeric over the same values. ANALYZE reads all of these rows, so that each run estimates the same.
+CREATE TABLE spread AS SELECT ratio(i, 100) AS even, i * 0.01 AS even_n,
+    ratio(i * (i + 1000::int8), 100) AS skewed, i * (i + 1000::int8) * 0.01 AS skewed_n,
+    ratio(often, 100) AS common, often * 0.01 AS common_n, ratio(seldom, 64) AS sparse, seldom::numeric / 64 AS sparse_n, ratio(i % 150, 8) AS few, (i % 150)::numeric / 8 AS few_n
+FROM generate_series(1, 30000) i, LATERAL (SELECT CASE WHEN i % 3 = 0 THEN 7 WHEN i % 7 = 0 THEN 12000 ELSE i END AS often, CASE WHEN i % 4 > 0 THEN i - 15000 END AS seldom) x;
+ANALYZE spread;
+CREATE FUNCTION planned(query text) RETURNS float8 LANGUAGE plpgsql AS $$
+DECLARE plan json;
+BEGIN
+    EXECUTE 'EXPLAIN (FORMAT JSON) ' || query INTO plan;
+    RETURN plan->0->'Plan'->>'Plan Rows';
+END $$;
+CREATE FUNCTION counted(query text) RETURNS float8 LANGUAGE plpgsql AS $$
+DECLARE n float8;
+BEGIN
+    EXECUTE 'SELECT count(*) FROM (' || query || ') rows' INTO n;
+    RETURN n;
+END $$;
+CREATE FUNCTION is_near(estimate float8, truth float8) RETURNS boolean LANGUAGE sql AS $$ SELECT CASE WHEN truth < 10 THEN estimate <= 10 ELSE estimate BETWEEN truth / 2 AND truth * 2 END $$;
+-- values of each column at its ends, past them and between: some in one bucket of its histogram, some in others
+CREATE TABLE marks (name text, place int, mark text);
+DO $$
+DECLARE name text;
+BEGIN
+    FOREACH name IN ARRAY '{even, skewed, common, sparse, few}'::text[] LOOP
+        EXECUTE format('INSERT INTO marks SELECT %1$L, place, ratio_decimal(%1$I, 6) FROM (SELECT %1$I, row_number() OVER (ORDER BY %1$I) AS place FROM spread) sorted WHERE place IN (1, 140, 7000, 7100, 20050, 22000)
+            UNION ALL SELECT %1$L, 0, ratio_decimal(min(%1$I) - ''1/2'', 6) FROM spread UNION ALL SELECT %1$L, 30001, ratio_decimal(max(%1$I) + ''1/2'', 6) FROM spread', name);
+    END LOOP;
+END $$;
+CREATE TABLE tried AS SELECT name, format(form, low.mark, high.mark) AS condition FROM marks low JOIN marks high USING (name),
+    unnest('{"%%1$I > %L AND %%1$I < %L", "%%1$I >= %L AND %%1$I <= %L", "%2$L >= %%1$I AND %1$L < %%1$I AND %%1$I > %1$L"}'::text[]) form WHERE low.place <= high.place;
+INSERT INTO tried SELECT name, format(form, mark) FROM marks, unnest('{"%%1$I < %L", "%%1$I <= %L", "%%1$I > %L", "%%1$I >= %L", "%L < %%1$I", "NOT %%1$I < %1$L AND NOT %%1$I < %1$L"}'::text[]) form;
+INSERT INTO tried SELECT name, format('%%1$I BETWEEN %L AND %L OR %%1$I BETWEEN %L AND %L', a.mark, b.mark, c.mark, d.mark) FROM marks a JOIN marks b USING (name) JOIN marks c USING (name) JOIN marks d USING (name)
+WHERE a.place = 1 AND b.place = 140 AND c.place = 7000 AND d.place = 22000;
+CREATE VIEW estimates AS SELECT name, condition, counted(format('SELECT FROM spread WHERE ' || condition, name)) AS truth, planned(format('SELECT FROM spread WHERE ' || condition, name)) AS estimate,
+    planned(format('SELECT FROM spread WHERE ' || condition, name || '_n')) AS of_numeric FROM tried;
+CREATE TABLE estimated AS TABLE estimates;
+SELECT name, count(*), count(*) FILTER (WHERE NOT is_near(estimate, truth)) AS wrong, count(*) FILTER (WHERE truth > 0 AND estimate NOT BETWEEN of_numeric * 0.99 - 1 AND of_numeric * 1.01 + 1) AS unlike FROM estimated GROUP BY 1 ORDER BY 1;
+SELECT * FROM estimated WHERE NOT is_near(estimate, truth) ORDER BY 1, 2;
+-- an index knows the ends of rows that ANALYZE has not seen
+CREATE INDEX ON spread (even);
+CREATE INDEX ON spread (even_n);
+INSERT INTO spread (even, even_n) SELECT ratio(i, 100), i * 0.01 FROM generate_series(-299, 30300) i WHERE i NOT BETWEEN 1 AND 30000;
+TRUNCATE tried;
+INSERT INTO tried SELECT 'even', format(form, mark) FROM unnest('{-3, -2.97, -1, 0.001, 299.999, 301, 302.97, 303}'::numeric[]) mark, unnest('{"%%1$I < %L", "%%1$I > %L", "%%1$I > %L AND %%1$I < ''1000''"}'::text[]) form;
+SELECT count(*), count(*) FILTER (WHERE estimate NOT BETWEEN of_numeric * 0.99 - 1 AND of_numeric * 1.01 + 1) AS unlike FROM estimates;
+-- parameters, subqueries, joins, and what has no statistics: as numeric. A bound that is NULL leaves no row
+PREPARE of_ratio AS SELECT FROM spread WHERE even BETWEEN $1 AND $2;
+PREPARE of_numeric AS SELECT FROM spread WHERE even_n BETWEEN $1 AND $2;
+SET plan_cache_mode = force_generic_plan;
+SELECT planned('EXECUTE of_ratio(1, 2)') AS of_ratio, planned('EXECUTE of_numeric(1, 2)') AS of_numeric;
+RESET plan_cache_mode;
+SELECT planned('EXECUTE of_ratio(1, 2)') AS of_ratio, planned('EXECUTE of_numeric(1, 2)') AS of_numeric;
+CREATE FUNCTION no_ratio() RETURNS ratio LANGUAGE plpgsql STABLE AS 'BEGIN RETURN NULL; END';
+CREATE FUNCTION no_numeric() RETURNS numeric LANGUAGE plpgsql STABLE AS 'BEGIN RETURN NULL; END';
+CREATE TABLE unread (even ratio, even_n numeric);
+SELECT query, planned(format(query, 'even', 'ratio')) AS of_ratio, planned(format(query, 'even_n', 'numeric')) AS of_numeric FROM unnest('{
+    SELECT FROM spread WHERE %1$I > (SELECT min(%1$I) FROM spread),
+    SELECT FROM spread WHERE %1$I + 1 < ''3'' AND %1$I > ''2'',
+    SELECT FROM spread a JOIN spread b USING (%1$I) WHERE a.%1$I BETWEEN ''10'' AND ''15'',
+    SELECT FROM spread a LEFT JOIN spread b ON a.%1$I > ''10'' AND a.%1$I < ''15'',
+    SELECT FROM spread a JOIN spread b ON a.%1$I < b.%1$I,
+    SELECT FROM spread WHERE %1$I BETWEEN ''10'' AND NULL,
+    SELECT FROM spread WHERE %1$I > no_%2$s() AND %1$I < ''10'',
+    SELECT FROM unread WHERE %1$I > ''10'',
+    SELECT FROM unread WHERE %1$I BETWEEN ''10'' AND ''15'',
+    SELECT FROM unread WHERE %1$I < no_%2$s() AND %1$I > no_%2$s(),
+    SELECT FROM unread WHERE %1$I < ''10'' AND %1$I > no_%2$s()
+}'::text[]) query;
+DROP VIEW estimates;
+DROP TABLE spread, marks, tried, estimated, unread;
+DROP FUNCTION planned, counted, is_near, no_ratio, no_numeric;

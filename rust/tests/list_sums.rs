@@ -46,6 +46,7 @@ fn partial_sums_need_not_fit() {
     assert_eq!(sum(&hundred), Some((0, 1)));
     assert_eq!(sum(&hundred[..100]), Some((100, 127)));
     assert_eq!(sum(&[most, most, of(-127, 1)]), Some((127, 1)));
+    assert_eq!(sum(&[127i8, 1, -1].map(Reduced::from)), Some((127, 1)));
     assert_eq!(sum::<i8>(&[]), Some((0, 1)));
 }
 

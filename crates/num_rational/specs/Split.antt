@@ -1,6 +1,6 @@
 -- An amount split by shares. A share is a pair of whole numbers here, by `view`, and a part is a whole number, by `value`. In the examples 100
 -- is split by 1/3, 1/3 and 1/3.
-use Rattle.std.specs.Prelude.{◌≡◌, ◌≢◌, ◌+◌, ◌<◌, ◌≤ℤ◌, ◌<ℤ◌, ◌+ℤ◌, ◌-ℤ◌, ◌*ℤ◌, ℕ, ℤ, pos, All, List, None, Option, Some, fold, length, slice_index_or, take}
+use Rattle.std.specs.Prelude.{◌≡◌, ◌≢◌, ◌+◌, ◌<◌, ◌≤ℤ◌, ◌<ℤ◌, ◌+ℤ◌, ◌-ℤ◌, ◌*ℤ◌, ℕ, ℤ, pos, All, List, None, Option, Some, codes, fold, length, slice_index_or, take}
 use Rattle.ratio_integer.specs.Arithmetic.{sum_of}
 use Rattle.ratio_integer.specs.Fraction.{Fits, IsLowestTermsOf}
 use Rattle.ratio_integer.specs.Range.{IsHeld}
@@ -75,6 +75,14 @@ CanBeSplit view lo hi amount shares parts = AreSharesFor view (MarksFit view lo 
 -- Example: over `i8`, 127 by 2/1 and 1/1: `NotHeld`
 abbrev pub RefusesToSplit : {A : Type 0} → (A → ℤ × ℤ) → ℤ → ℤ → ℤ → List A → ℕ → SplitRefusal → Type 0
 RefusesToSplit view lo hi amount shares parts why = RefusesShares view (MarksFit view lo hi amount shares) shares parts why
+
+-- the text that a refusal prints
+-- Example: `NotOne`: `the shares do not add up to 1`
+abbrev pub split_refusal_text : SplitRefusal → List ℕ
+split_refusal_text Length = codes "the number of parts is not the number of shares"
+split_refusal_text BelowZero = codes "a share is below 0"
+split_refusal_text NotHeld = codes "a sum of the first shares, or the amount times this sum, rounded, does not fit the type"
+split_refusal_text NotOne = codes "the shares do not add up to 1"
 
 -- the part is less than 1 away from the amount times the share
 pub record IsNearItsShare (amount : ℤ) (share : ℤ × ℤ) (part : ℤ) : Type 0 where

@@ -1,5 +1,5 @@
 -- An amount split by weights. A weight and a part are whole numbers here, by `value`. In the examples 100 is split by the weights 1, 1 and 1.
-use Rattle.std.specs.Prelude.{◌≡◌, ◌≢◌, ℕ, ℤ, pos, List, length}
+use Rattle.std.specs.Prelude.{◌≡◌, ◌≢◌, ℕ, ℤ, pos, List, codes, length}
 use Rattle.ratio_integer.specs.Range.{IsHeld}
 use Rattle.num_rational.specs.Split.{NoShareIsBelowZero, total_of}
 use Rattle.num_rational.specs.declared.weights.WeightRefusal.{WeightRefusal}
@@ -30,3 +30,11 @@ RefusesWeights value lo hi weights parts Length = parts ≢ length weights
 RefusesWeights value lo hi weights parts BelowZero = (parts ≡ length weights) × ¬ (NoWeightIsBelowZero value weights)
 RefusesWeights value lo hi weights parts NotHeld = (parts ≡ length weights) × NoWeightIsBelowZero value weights × ¬ (IsHeld lo hi (total_of value weights))
 RefusesWeights value lo hi weights parts AllZero = (parts ≡ length weights) × NoWeightIsBelowZero value weights × (total_of value weights ≡ pos 0)
+
+-- the text that a refusal prints
+-- Example: `AllZero`: `no weight is above 0`
+abbrev pub weight_refusal_text : WeightRefusal → List ℕ
+weight_refusal_text Length = codes "the number of parts is not the number of weights"
+weight_refusal_text BelowZero = codes "a weight is below 0"
+weight_refusal_text NotHeld = codes "the sum of the weights does not fit the type"
+weight_refusal_text AllZero = codes "no weight is above 0"

@@ -1,9 +1,10 @@
 //! An amount split by shares, so that nothing is lost.
-ghost use Rattle.std.specs.Prelude.{◌≡◌, ◌↔◌, ◌≤◌, ◌<ℤ◌, pos, length, take, IfErr, IsTrue, MatchResult, OnErr, OnOk};
+ghost use Rattle.std.specs.Prelude.{◌≡◌, ◌↔◌, ◌≤◌, ◌<ℤ◌, pos, length, take, IfErr, IsTrue, MatchResult, OnErr, OnOk, Some};
+ghost use Rattle.std.specs.Fmt.{padded};
 ghost use Rattle.ratio_integer.specs.Arithmetic.{sum_of};
 ghost use Rattle.ratio_integer.specs.Fraction.{IsLowestTermsOf};
 ghost use Rattle.num_rational.specs.Common.{FirstMarksFit};
-ghost use Rattle.num_rational.specs.Split.{SharesMakeOne, SharesOverPositive, CanBeSplit, ChecksNextMark, IsSplitBy, MarksFit, NoShareIsBelowZero, RefusesToSplit, SumsRefuse, share_numbers, total_of_shares};
+ghost use Rattle.num_rational.specs.Split.{SharesMakeOne, SharesOverPositive, CanBeSplit, ChecksNextMark, IsSplitBy, MarksFit, NoShareIsBelowZero, RefusesToSplit, SumsRefuse, share_numbers, split_refusal_text, total_of_shares};
 
 mod common;
 
@@ -13,6 +14,8 @@ use common::{total_over, write_parts_over};
 use ratio_core::sign::is_below_zero;
 use ratio_decimal::rounding_rule::Rounding;
 use ratio_integer::{Integer, both_held};
+use std::error::Error;
+use std::fmt;
 
 /// Why an amount is not split: the first of these that applies.
 #[derive(Clone, Copy, Debug, PartialEq)]
@@ -26,6 +29,25 @@ pub enum SplitRefusal {
     /// The shares do not add up to 1.
     NotOne,
 }
+
+impl fmt::Display for SplitRefusal {
+    ghost output = { λ why. Some (split_refusal_text why) };
+
+    ghost styled_output = { λ why options. Some (padded options (split_refusal_text why)) };
+
+    fn fmt<W: fmt::Write>(&self, f: &mut fmt::Formatter<W>) -> fmt::Result {
+        f.pad(match self {
+            SplitRefusal::Length => "the number of parts is not the number of shares",
+            SplitRefusal::BelowZero => "a share is below 0",
+            SplitRefusal::NotHeld => {
+                "a sum of the first shares, or the amount times this sum, rounded, does not fit the type"
+            }
+            SplitRefusal::NotOne => "the shares do not add up to 1",
+        })
+    }
+}
+
+impl Error for SplitRefusal {}
 
 /// Splits the amount by the shares into the parts. The parts add up to the amount exactly, and each is less than
 /// 1 away from the amount times its share. For example, 100 split by 1/3, 1/3 and 1/3 is 33, 34 and 33. At a

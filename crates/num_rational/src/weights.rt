@@ -1,13 +1,16 @@
 //! An amount split by weights, such as counts of units, so that nothing is lost.
-ghost use Rattle.std.specs.Prelude.{◌≡◌, ◌↔◌, length, IfErr, IsTrue, OnErr, OnOk};
+ghost use Rattle.std.specs.Prelude.{◌≡◌, ◌↔◌, length, IfErr, IsTrue, OnErr, OnOk, Some};
+ghost use Rattle.std.specs.Fmt.{padded};
 ghost use Rattle.ratio_integer.specs.Range.{Checks};
 ghost use Rattle.num_rational.specs.Split.{IsSplitBy, total_of};
-ghost use Rattle.num_rational.specs.Weights.{CanSplitByWeights, NoWeightIsBelowZero, RefusesWeights, share_of};
+ghost use Rattle.num_rational.specs.Weights.{CanSplitByWeights, NoWeightIsBelowZero, RefusesWeights, share_of, weight_refusal_text};
 
 use ratio_core::sign::is_below_zero;
 use ratio_decimal::rounded_product;
 use ratio_decimal::rounding_rule::Rounding;
 use ratio_integer::Integer;
+use std::error::Error;
+use std::fmt;
 
 /// Why an amount is not split by weights: the first of these that applies.
 #[derive(Clone, Copy, Debug, PartialEq)]
@@ -21,6 +24,23 @@ pub enum WeightRefusal {
     /// The weights add up to 0. Those of an empty list do, too.
     AllZero,
 }
+
+impl fmt::Display for WeightRefusal {
+    ghost output = { λ why. Some (weight_refusal_text why) };
+
+    ghost styled_output = { λ why options. Some (padded options (weight_refusal_text why)) };
+
+    fn fmt<W: fmt::Write>(&self, f: &mut fmt::Formatter<W>) -> fmt::Result {
+        f.pad(match self {
+            WeightRefusal::Length => "the number of parts is not the number of weights",
+            WeightRefusal::BelowZero => "a weight is below 0",
+            WeightRefusal::NotHeld => "the sum of the weights does not fit the type",
+            WeightRefusal::AllZero => "no weight is above 0",
+        })
+    }
+}
+
+impl Error for WeightRefusal {}
 
 /// Splits the amount by the weights into the parts. The share of a weight is the weight over the sum of all. The parts
 /// add up to the amount exactly, and each is less than 1 away from the amount times its share. For example, 100 split

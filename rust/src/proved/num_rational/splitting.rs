@@ -9,6 +9,9 @@ use common::{total_over, write_parts_over};
 use crate::proved::ratio_core::sign::is_below_zero;
 use crate::proved::ratio_decimal::rounding_rule::Rounding;
 use crate::proved::ratio_integer::{Integer, both_held};
+#[cfg(feature = "std")]
+use std::error::Error;
+use core::fmt;
 
 /// Why an amount is not split: the first of these that applies.
 #[derive(Clone, Copy, Debug, PartialEq)]
@@ -22,6 +25,23 @@ pub enum SplitRefusal {
     /// The shares do not add up to 1.
     NotOne,
 }
+
+impl fmt::Display for SplitRefusal {
+    #[inline]
+    fn fmt(&self, f: &mut fmt::Formatter<'_>) -> fmt::Result {
+        f.pad(match self {
+            SplitRefusal::Length => "the number of parts is not the number of shares",
+            SplitRefusal::BelowZero => "a share is below 0",
+            SplitRefusal::NotHeld => {
+                "a sum of the first shares, or the amount times this sum, rounded, does not fit the type"
+            }
+            SplitRefusal::NotOne => "the shares do not add up to 1",
+        })
+    }
+}
+
+#[cfg(feature = "std")]
+impl Error for SplitRefusal {}
 
 /// Splits the amount by the shares into the parts. The parts add up to the amount exactly, and each is less than
 /// 1 away from the amount times its share. For example, 100 split by 1/3, 1/3 and 1/3 is 33, 34 and 33. At a

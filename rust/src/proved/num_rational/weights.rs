@@ -5,6 +5,9 @@ use crate::proved::ratio_core::sign::is_below_zero;
 use crate::proved::ratio_decimal::rounded_product;
 use crate::proved::ratio_decimal::rounding_rule::Rounding;
 use crate::proved::ratio_integer::Integer;
+#[cfg(feature = "std")]
+use std::error::Error;
+use core::fmt;
 
 /// Why an amount is not split by weights: the first of these that applies.
 #[derive(Clone, Copy, Debug, PartialEq)]
@@ -18,6 +21,21 @@ pub enum WeightRefusal {
     /// The weights add up to 0. Those of an empty list do, too.
     AllZero,
 }
+
+impl fmt::Display for WeightRefusal {
+    #[inline]
+    fn fmt(&self, f: &mut fmt::Formatter<'_>) -> fmt::Result {
+        f.pad(match self {
+            WeightRefusal::Length => "the number of parts is not the number of weights",
+            WeightRefusal::BelowZero => "a weight is below 0",
+            WeightRefusal::NotHeld => "the sum of the weights does not fit the type",
+            WeightRefusal::AllZero => "no weight is above 0",
+        })
+    }
+}
+
+#[cfg(feature = "std")]
+impl Error for WeightRefusal {}
 
 /// Splits the amount by the weights into the parts. The share of a weight is the weight over the sum of all. The parts
 /// add up to the amount exactly, and each is less than 1 away from the amount times its share. For example, 100 split

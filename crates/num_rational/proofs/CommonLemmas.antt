@@ -113,7 +113,7 @@ mark_below lo hi a x range held above up below fits =
     record { sum = fits; mark = some.0; is = some.1; held = mark_held a x.0 x.1 some.0 up above below some.1 lo hi range held }
 
 -- all shares add up to 1 if s is c, and only then
-module _ {A : Type 0} (view : A → ℤ × ℤ) (lo hi a : ℤ) (xs : List A) (n : ℕ) (s c : ℤ) (positive : SharesOverPositive view xs) (none : NoShareIsBelowZero view xs) (all : n ≡ length xs) (total : IsTotalOver view lo hi a xs n s c) where
+module _ {A : Type 0} {view : A → ℤ × ℤ} {lo hi a : ℤ} {xs : List A} {n : ℕ} {s c : ℤ} (total : IsTotalOver view lo hi a xs n s c) (all : n ≡ length xs) (positive : SharesOverPositive view xs) (none : NoShareIsBelowZero view xs) where
   all_shares : take n xs ≡ xs
   all_shares = ap (λ k. take k xs) all ∙ take-length xs
 
@@ -334,9 +334,9 @@ module _ {A : Type 0} (view : A → ℤ × ℤ) (lo hi a : ℤ) (shares : List A
     }
 
 -- the sum in lowest terms
-pub total_lowest : {A : Type 0} (view : A → ℤ × ℤ) (lo hi a : ℤ) (shares : List A) (n : ℕ) (s c : ℤ) (low : ℤ × ℤ) → SharesOverPositive view shares → NoShareIsBelowZero view shares → IsTotalOver view lo hi a shares n s c → IsLowestTermsOf s c low.0 low.1
-    → IsLowestTermsOf (total_of_shares view (take n shares)).0 (total_of_shares view (take n shares)).1 low.0 low.1
-total_lowest view lo hi a shares n s c low positive none total is =
+pub total_lowest : {A : Type 0} {view : A → ℤ × ℤ} {lo hi a : ℤ} {shares : List A} {n : ℕ} {s c : ℤ} → IsTotalOver view lo hi a shares n s c → SharesOverPositive view shares → NoShareIsBelowZero view shares → (low : ℤ × ℤ)
+    → IsLowestTermsOf s c low.0 low.1 → IsLowestTermsOf (total_of_shares view (take n shares)).0 (total_of_shares view (take n shares)).1 low.0 low.1
+total_lowest {view = view} {shares = shares} {n = n} {s = s} {c = c} total positive none low is =
     lowest_moved s c _ _ low.0 low.1 (positive_nonzero _ (first_shares_up view n shares positive none).1) total.same is
 
 -- ---- a part by the sums over the denominator

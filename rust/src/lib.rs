@@ -1,12 +1,18 @@
 //! Exact fractions of machine integers, with the names and traits of the crate num-rational.
 //!
 //! ```
-//! use bakhsney::Ratio;
+//! use num_rational::Ratio;
 //!
 //! let shares = [Ratio::new(1, 2), Ratio::new(1, 3), Ratio::new(1, 6)];
 //! assert_eq!(shares.iter().sum::<Ratio<i64>>(), Ratio::from_integer(1));
 //! assert_eq!("6/8".parse::<Ratio<i64>>().unwrap().to_string(), "3/4");
 //! assert!(Ratio::new(i64::MAX - 1, i64::MAX) < Ratio::from_integer(1));
+//! ```
+//!
+//! The examples name the crate `num_rational`, as a program does that has this line in its `Cargo.toml`:
+//!
+//! ```toml
+//! num-rational = { package = "bakhsney", path = "../bakhsney/rust" }
 //! ```
 //!
 //! The code that computes was proved in Rattle. `src/proved/` holds this code without its contracts. A layer written by hand,
@@ -52,7 +58,7 @@ pub use layer::{TooLong, Total};
 /// The error of `parse`: the text is not a fraction, or its lowest terms do not fit the type.
 ///
 /// ```
-/// use bakhsney::Ratio;
+/// use num_rational::Ratio;
 ///
 /// let refusal = "1/x".parse::<Ratio<i32>>().unwrap_err();
 /// assert_eq!(refusal.to_string(), "failed to parse integer");
@@ -62,7 +68,7 @@ pub use proved::num_rational::ParseRatioError;
 /// The two kinds of this error, which `kind` returns.
 ///
 /// ```
-/// use bakhsney::{Ratio, RatioErrorKind};
+/// use num_rational::{Ratio, RatioErrorKind};
 ///
 /// let refusal = "1/0".parse::<Ratio<i32>>().unwrap_err();
 /// assert_eq!(refusal.kind(), RatioErrorKind::ZeroDenominator);
@@ -72,7 +78,7 @@ pub use proved::num_rational::RatioErrorKind;
 /// Why [`split`] does not split an amount by shares: the first of these that applies.
 ///
 /// ```
-/// use bakhsney::{split, Reduced, SplitRefusal};
+/// use num_rational::{split, Reduced, SplitRefusal};
 ///
 /// let [third, owed] = [(1i8, 3), (-1, 3)].map(|(numer, denom)| Reduced::checked_new(numer, denom).unwrap());
 /// let [of_127, of_126] = [127i8, 126].map(|denom| Reduced::checked_new(1, denom).unwrap());
@@ -87,7 +93,7 @@ pub use proved::num_rational::SplitRefusal;
 /// Why [`split_by_weights`] does not split an amount: the first of these that applies.
 ///
 /// ```
-/// use bakhsney::{split_by_weights, WeightRefusal};
+/// use num_rational::{split_by_weights, WeightRefusal};
 ///
 /// let refusal = |weights: &[i8]| split_by_weights(100, weights, &mut [0; 2]).unwrap_err();
 /// assert_eq!(refusal(&[1, 1, 1]), WeightRefusal::Length);
@@ -100,7 +106,7 @@ pub use proved::num_rational::WeightRefusal;
 /// The text that `base_ten_text` of a fraction returns, and that `put_base_ten_text` writes.
 ///
 /// ```
-/// use bakhsney::{BaseTenText, Ratio};
+/// use num_rational::{BaseTenText, Ratio};
 ///
 /// let text: BaseTenText = Ratio::new(1, 2).base_ten_text();
 /// assert_eq!(text.as_str(), "1/2");
@@ -110,7 +116,7 @@ pub use proved::ratio_core::BaseTenText;
 /// Why `from_decimal` of a `Reduced` takes no fraction from a text.
 ///
 /// ```
-/// use bakhsney::{DecimalRefusal, Reduced};
+/// use num_rational::{DecimalRefusal, Reduced};
 ///
 /// assert_eq!(Reduced::<i8>::from_decimal("12,5"), Err(DecimalRefusal::NotDecimal));
 /// assert_eq!(Reduced::<i8>::from_decimal("128"), Err(DecimalRefusal::NotHeld));
@@ -120,7 +126,7 @@ pub use proved::ratio_decimal::DecimalRefusal;
 /// The text that `decimal` and `exact_decimal` of a `Reduced` return.
 ///
 /// ```
-/// use bakhsney::{DecimalText, Reduced64, Rounding};
+/// use num_rational::{DecimalText, Reduced64, Rounding};
 ///
 /// let text: DecimalText = Reduced64::checked_new(1, 3).unwrap().decimal(2, Rounding::HalfEven);
 /// assert_eq!(text.as_str(), "0.33");
@@ -130,7 +136,7 @@ pub use proved::ratio_core::DecimalText;
 /// Why `from_text` of a `Reduced` takes no fraction from a text.
 ///
 /// ```
-/// use bakhsney::{Reduced, TextRefusal};
+/// use num_rational::{Reduced, TextRefusal};
 ///
 /// assert_eq!(Reduced::<i8>::from_text("1.5/2"), Err(TextRefusal::NotNumber));
 /// assert_eq!(Reduced::<i8>::from_text("1/0"), Err(TextRefusal::ZeroDenominator));
@@ -141,7 +147,7 @@ pub use proved::ratio_decimal::TextRefusal;
 /// How a fraction is rounded to a multiple, such as cents.
 ///
 /// ```
-/// use bakhsney::{Reduced64, Rounding};
+/// use num_rational::{Reduced64, Rounding};
 ///
 /// let by = |rule| Reduced64::checked_new(-5, 2).unwrap().decimal(0, rule).as_str().to_owned();
 /// assert_eq!([by(Rounding::HalfAway), by(Rounding::HalfEven), by(Rounding::Down)], ["-3", "-2", "-2"]);

@@ -82,9 +82,9 @@ fn beside_num_rational() {
             for _ in 0..5000 {
                 let double = float::<$T>(&mut numbers);
                 let single = double as f32;
-                let theirs: Fields<$T> = num_rational::Ratio::<$T>::from_f64(double).map(Into::into);
+                let theirs: Fields<$T> = original::Ratio::<$T>::from_f64(double).map(Into::into);
                 assert_eq!(from_f64::<$T>(double), theirs, "{double}");
-                let theirs: Fields<$T> = num_rational::Ratio::<$T>::from_f32(single).map(Into::into);
+                let theirs: Fields<$T> = original::Ratio::<$T>::from_f32(single).map(Into::into);
                 assert_eq!(from_f32::<$T>(single), theirs, "{single}");
             }
         )*};

@@ -363,7 +363,7 @@ mod this_crate {
 
 mod num_rational_itself {
     use num_integer::Integer;
-    use num_rational::Ratio;
+    use original::Ratio;
 
     rows! {}
 }

@@ -3,8 +3,8 @@
 mod support;
 
 use bakhsney::{integer::Integer, DecimalRefusal, Reduced};
-use num_rational::BigRational;
 use num_traits::{ToPrimitive, Zero};
+use original::BigRational;
 use support::Numbers;
 
 type Read<T> = Result<(T, T), DecimalRefusal>;

@@ -9,7 +9,7 @@
 mod support;
 
 use bakhsney::{integer::Integer, Ratio, Reduced};
-use num_rational::{BigRational, Ratio as Original};
+use original::{BigRational, Ratio as Original};
 use num_traits::{
     CheckedAdd, CheckedDiv, CheckedMul, CheckedRem, CheckedSub, FromPrimitive, Inv, Num, One, Pow, Signed, ToPrimitive, Zero,
 };

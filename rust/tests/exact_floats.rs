@@ -3,14 +3,14 @@
 mod support;
 
 use bakhsney::{integer::Integer, Reduced};
-use num_rational::BigRational;
 use num_traits::ToPrimitive;
+use original::BigRational;
 use support::Numbers;
 
 /// The float's fields if both fit the type.
 fn fields<T: Integer>(float: f64) -> Option<(T, T)> {
     let exact = BigRational::from_float(float)?;
-    let field = |x: &num_rational::BigRational| x.to_i128().and_then(|x| T::from(x)).or_else(|| T::from(x.to_u128()?));
+    let field = |x: &original::BigRational| x.to_i128().and_then(|x| T::from(x)).or_else(|| T::from(x.to_u128()?));
     Some((field(&exact.numer().clone().into())?, field(&exact.denom().clone().into())?))
 }
 

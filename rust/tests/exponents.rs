@@ -30,7 +30,7 @@ fn beside_num_rational() {
     let mut numbers = Numbers(4);
     for _ in 0..2000 {
         let (numer, denom) = (numbers.of_any_length() as i128, numbers.of_any_length() as i128 | 1);
-        let (ours, theirs) = (Ratio::new_raw(numer, denom), num_rational::Ratio::new_raw(numer, denom));
+        let (ours, theirs) = (Ratio::new_raw(numer, denom), original::Ratio::new_raw(numer, denom));
         assert_eq!(format!("{ours:e} {ours:#E} {ours:+099e}"), format!("{theirs:e} {theirs:#E} {theirs:+099e}"));
     }
 }

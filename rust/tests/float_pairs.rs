@@ -8,8 +8,8 @@
 mod support;
 
 use bakhsney::{Ratio, Reduced};
-use num_rational::BigRational;
 use num_traits::{FromPrimitive, PrimInt, ToPrimitive};
+use original::BigRational;
 use std::cmp::Ordering;
 use support::Numbers;
 
@@ -113,7 +113,7 @@ macro_rules! sweeps {
             let mut rounded_twice = 0;
             for _ in 0..PAIRS {
                 let (numer, denom) = pair::<$T>(&mut numbers);
-                let (ours, theirs) = (Ratio::new_raw(numer, denom), num_rational::Ratio::new_raw(numer, denom));
+                let (ours, theirs) = (Ratio::new_raw(numer, denom), original::Ratio::new_raw(numer, denom));
                 let floats = (ours.to_f64(), ours.to_f32());
                 // An x86 without SSE2 rounds num-rational's quotient twice.
                 if cfg!(any(not(target_arch = "x86"), target_feature = "sse2")) {

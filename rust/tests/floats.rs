@@ -4,8 +4,8 @@
 mod support;
 
 use bakhsney::{integer::Integer, Ratio};
-use num_rational::BigRational;
 use num_traits::{FromPrimitive, PrimInt, Signed, ToPrimitive};
+use original::BigRational;
 use support::Numbers;
 
 type Floats = (Option<f64>, Option<f32>);
@@ -192,7 +192,7 @@ fn beside_num_rational() {
             let mut numbers = Numbers(2);
             for _ in 0..5000 {
                 let (numer, denom) = (number::<$T>(&mut numbers), number::<$T>(&mut numbers));
-                let (ours, theirs) = (Ratio::new_raw(numer, denom).to_f64(), num_rational::Ratio::new_raw(numer, denom).to_f64());
+                let (ours, theirs) = (Ratio::new_raw(numer, denom).to_f64(), original::Ratio::new_raw(numer, denom).to_f64());
                 assert_eq!(ours.map(f64::to_bits), theirs.map(f64::to_bits), "{numer}/{denom}");
             }
         )*};

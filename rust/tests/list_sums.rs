@@ -4,8 +4,8 @@ mod support;
 
 use bakhsney::integer::Integer;
 use bakhsney::Reduced;
-use num_rational::BigRational;
 use num_traits::{FromPrimitive, ToPrimitive};
+use original::BigRational;
 use support::Numbers;
 
 type Fields<T> = Option<(T, T)>;

@@ -5,8 +5,8 @@ mod support;
 
 use bakhsney::integer::Integer;
 use bakhsney::{Reduced, Reduced64};
-use num_rational::BigRational;
 use num_traits::{One, ToPrimitive, Zero};
+use original::BigRational;
 use support::Numbers;
 
 fn of<T: Integer>(numer: T, denom: T) -> Reduced<T> {
@@ -91,7 +91,7 @@ fn a_thousand_rates() {
 
 /// The lowest terms of an exact fraction, where both numbers fit.
 fn fitting<T: TryFrom<i128>>(exact: &BigRational) -> Option<(T, T)> {
-    let number = |n: &num_rational::BigRational| n.numer().to_i128().and_then(|n| T::try_from(n).ok());
+    let number = |n: &original::BigRational| n.numer().to_i128().and_then(|n| T::try_from(n).ok());
     Some((number(exact)?, number(&BigRational::from(exact.denom().clone()))?))
 }
 

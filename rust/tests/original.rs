@@ -2,7 +2,7 @@
 #![cfg(feature = "num-rational")]
 
 use bakhsney::{Ratio, Reduced, ReducedError};
-use num_rational::Ratio as Original;
+use original::Ratio as Original;
 
 #[test]
 fn the_fields_stay() {

@@ -131,12 +131,12 @@ fn a_denominator_of_0_is_printed() {
     }
     for numer in [0, 1, 7, -1, 127, -128] {
         let raw = Ratio::new_raw(numer, 0i8);
-        assert_eq!(forms!(raw), forms!(num_rational::Ratio::new_raw(numer, 0i8)));
+        assert_eq!(forms!(raw), forms!(original::Ratio::new_raw(numer, 0i8)));
         let mut text = BaseTenText::empty();
         raw.put_base_ten_text(&mut text);
         assert_eq!([text.as_str(), raw.base_ten_text().as_str()], [raw.to_string().as_str(); 2]);
     }
-    assert_eq!(forms!(Ratio::new_raw(u128::MAX, 0)), forms!(num_rational::Ratio::new_raw(u128::MAX, 0)));
+    assert_eq!(forms!(Ratio::new_raw(u128::MAX, 0)), forms!(original::Ratio::new_raw(u128::MAX, 0)));
     assert_eq!(format!("{} {:#x} {:e}", Ratio::new_raw(1, 0), Ratio::new_raw(1, 0), Ratio::new_raw(1, 0)), "1/0 0x1/0x0 1e0/0e0");
 }
 

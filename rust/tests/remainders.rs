@@ -8,8 +8,8 @@ mod support;
 
 use bakhsney::Reduced;
 use num_integer::Integer;
-use num_rational::BigRational;
 use num_traits::{FromPrimitive, One, ToPrimitive, Zero};
+use original::BigRational;
 use support::Numbers;
 
 /// How many pairs a short run draws for each type.

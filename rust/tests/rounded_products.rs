@@ -5,8 +5,8 @@ mod support;
 
 use bakhsney::{integer::Integer, Reduced, Rounding};
 use core::cmp::Ordering;
-use num_rational::BigRational;
 use num_traits::{FromPrimitive, One, Signed, ToPrimitive, Zero};
+use original::BigRational;
 use support::Numbers;
 
 const RULES: [Rounding; 6] = [Rounding::HalfAway, Rounding::HalfEven, Rounding::Down, Rounding::Up, Rounding::Floor, Rounding::Ceil];

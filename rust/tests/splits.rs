@@ -5,8 +5,8 @@ mod support;
 
 use bakhsney::{integer::Integer, Reduced, SplitRefusal, WeightRefusal};
 use core::fmt::Debug;
-use num_rational::BigRational;
 use num_traits::{FromPrimitive, One, Signed, ToPrimitive, Zero};
+use original::BigRational;
 use support::Numbers;
 
 trait Number: Integer + ToPrimitive + FromPrimitive + Debug {}

@@ -4,7 +4,7 @@ mod support;
 
 use bakhsney::{Reduced64, Total};
 use num_integer::Integer;
-use num_rational::BigRational;
+use original::BigRational;
 use support::Numbers;
 
 fn of(numer: i64, denom: i64) -> Reduced64 {

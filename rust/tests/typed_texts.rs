@@ -3,8 +3,8 @@
 mod support;
 
 use bakhsney::{integer::Integer, DecimalRefusal, Ratio, Reduced, TextRefusal};
-use num_rational::BigRational;
 use num_traits::{One, ToPrimitive, Zero};
+use original::BigRational;
 use support::Numbers;
 
 type Read<T> = Result<(T, T), TextRefusal>;

@@ -20,7 +20,7 @@ impl<T: Integer + Signed> Ratio<T> {
     /// NaN, and for a float whose magnitude is above the greatest number of the type.
     ///
     /// ```
-    /// use bakhsney::{Ratio, Rational32};
+    /// use num_rational::{Ratio, Rational32};
     ///
     /// assert_eq!(Rational32::approximate_float(-0.75), Some(Ratio::new(-3, 4)));
     /// assert_eq!(Ratio::<i8>::approximate_float(3.14159), Some(Ratio::new(22, 7)));
@@ -36,7 +36,7 @@ impl<T: Integer + Unsigned> Ratio<T> {
     /// proved.
     ///
     /// ```
-    /// use bakhsney::Ratio;
+    /// use num_rational::Ratio;
     ///
     /// assert_eq!(Ratio::<u8>::approximate_float_unsigned(0.75), Some(Ratio::new(3, 4)));
     /// assert_eq!(Ratio::<u8>::approximate_float_unsigned(-0.75), None);

@@ -15,7 +15,7 @@ impl<T: Integer> Ratio<T> {
     /// If there are more than 38 places. If the denominator is 0, or if it is negative and the lowest terms do not fit the type.
     ///
     /// ```
-    /// use bakhsney::{Ratio, Rounding};
+    /// use num_rational::{Ratio, Rounding};
     ///
     /// assert_eq!(Ratio::new_raw(2, -6).decimal(2, Rounding::HalfEven).as_str(), "-0.33");
     /// ```
@@ -33,7 +33,7 @@ impl<T: Integer> Ratio<T> {
     /// fraction has no lowest terms that fit the type.
     ///
     /// ```
-    /// use bakhsney::Ratio;
+    /// use num_rational::Ratio;
     ///
     /// assert_eq!(Ratio::new_raw(198, 16).exact_decimal().unwrap().as_str(), "12.375");
     /// assert!(Ratio::new(1, 3).exact_decimal().is_none());
@@ -48,7 +48,7 @@ impl<T: Integer> Ratio<T> {
     /// the fraction or the multiple has no lowest terms that fit the type.
     ///
     /// ```
-    /// use bakhsney::{Ratio, Rounding};
+    /// use num_rational::{Ratio, Rounding};
     ///
     /// assert_eq!(Ratio::new(2, 3).round_to(100, Rounding::HalfEven), Some(Ratio::new(67, 100)));
     /// assert_eq!(Ratio::new(2, 3).round_to(0, Rounding::HalfEven), None);
@@ -61,7 +61,7 @@ impl<T: Integer> Ratio<T> {
     /// The lowest terms over the type `U`, or `None` if they do not fit this type or that one, or if the denominator is 0.
     ///
     /// ```
-    /// use bakhsney::Ratio;
+    /// use num_rational::Ratio;
     ///
     /// assert_eq!(Ratio::new_raw(2i64, 254).cast(), Some(Ratio::new(1i8, 127)));
     /// assert_eq!(Ratio::new(1i64, 128).cast::<i8>(), None);
@@ -75,7 +75,7 @@ impl<T: Integer> Ratio<T> {
     /// number, or if its lowest terms do not fit the type. `approximate_float` returns a fraction near the float.
     ///
     /// ```
-    /// use bakhsney::Ratio;
+    /// use num_rational::Ratio;
     ///
     /// assert_eq!(Ratio::from_float(-0.75), Some(Ratio::new(-3, 4)));
     /// assert_eq!(Ratio::<i32>::from_float(0.1), None);
@@ -88,7 +88,7 @@ impl<T: Integer> Ratio<T> {
     /// The same for a float of 32 bits.
     ///
     /// ```
-    /// use bakhsney::Ratio;
+    /// use num_rational::Ratio;
     ///
     /// assert_eq!(Ratio::from_float32(0.1), Some(Ratio::new(13421773, 134217728)));
     /// ```
@@ -100,7 +100,7 @@ impl<T: Integer> Ratio<T> {
     /// The simplest fraction that rounds to the float, as `Reduced::rationalize` returns it.
     ///
     /// ```
-    /// use bakhsney::Ratio;
+    /// use num_rational::Ratio;
     ///
     /// assert_eq!(Ratio::rationalize(0.1), Some(Ratio::new(1, 10)));
     /// ```
@@ -112,7 +112,7 @@ impl<T: Integer> Ratio<T> {
     /// The same for a float of 32 bits.
     ///
     /// ```
-    /// use bakhsney::Ratio;
+    /// use num_rational::Ratio;
     ///
     /// assert_eq!(Ratio::rationalize32(0.1), Some(Ratio::new(1, 10)));
     /// ```

@@ -5,7 +5,7 @@ use core::fmt;
 /// The error of `try_from`: the numerator or the denominator does not fit the type.
 ///
 /// ```
-/// use bakhsney::{CastError, Reduced, Reduced64};
+/// use num_rational::{CastError, Reduced, Reduced64};
 ///
 /// let x: Result<Reduced<i8>, CastError> = Reduced64::from(128).try_into();
 /// assert_eq!(x.unwrap_err().to_string(), "the numerator or the denominator does not fit the type");

@@ -74,7 +74,7 @@ impl<T: Integer> Ratio<T> {
     /// `None` if the denominator is 0, or if it is negative and the lowest terms do not fit the type. num-rational has no such call.
     ///
     /// ```
-    /// use bakhsney::Ratio;
+    /// use num_rational::Ratio;
     ///
     /// assert!(Ratio::new_raw(830, 186).continued_fraction().unwrap().eq([4, 2, 6, 7]));
     /// assert!(Ratio::new_raw(1, 0).continued_fraction().is_none());
@@ -87,7 +87,7 @@ impl<T: Integer> Ratio<T> {
     /// 415/93. Each is a `Reduced`. `None` where `continued_fraction` is. num-rational has no such call.
     ///
     /// ```
-    /// use bakhsney::{Ratio, Reduced};
+    /// use num_rational::{Ratio, Reduced};
     ///
     /// let x = Ratio::new_raw(-14i8, 6);
     /// assert!(x.convergents().unwrap().map(Reduced::into_raw).eq([(-3, 1), (-2, 1), (-7, 3)]));
@@ -101,7 +101,7 @@ impl<T: Integer> Ratio<T> {
     /// is no quotient, if one after the first is below 1, or if the fraction does not fit the type. num-rational has no such call.
     ///
     /// ```
-    /// use bakhsney::Ratio;
+    /// use num_rational::Ratio;
     ///
     /// assert_eq!(Ratio::from_continued_fraction(&[4i64, 2, 6, 7]), Some(Ratio::new(415, 93)));
     /// assert_eq!(Ratio::<i64>::from_continued_fraction(&[]), None);

@@ -11,7 +11,7 @@ use num_traits::{NumAssign, PrimInt};
 /// this trait.
 ///
 /// ```
-/// use bakhsney::{integer::Integer, Ratio};
+/// use num_rational::{integer::Integer, Ratio};
 ///
 /// fn half<T: Integer>() -> Ratio<T> {
 ///     Ratio::new(T::one(), T::one() + T::one())
@@ -24,7 +24,7 @@ use num_traits::{NumAssign, PrimInt};
 /// #[derive(Clone, Copy)]
 /// struct Mine(i32);
 ///
-/// impl bakhsney::integer::Integer for Mine {}
+/// impl num_rational::integer::Integer for Mine {}
 /// ```
 pub trait Integer:
     Hidden + PrimInt + NumAssign + Hash + Debug + Display + Binary + Octal + LowerHex + UpperHex + LowerExp + UpperExp
@@ -34,7 +34,7 @@ pub trait Integer:
 /// One of the ten primitive integer types of at most 64 bits: all but `i128` and `u128`. A `Total` is over one of these.
 ///
 /// ```
-/// use bakhsney::{integer::UpTo64, Reduced, Total};
+/// use num_rational::{integer::UpTo64, Reduced, Total};
 ///
 /// fn mean<T: UpTo64>(shares: &[Reduced<T>]) -> Option<Reduced<T>> {
 ///     shares.iter().sum::<Total<T>>().mean().ok()?
@@ -44,7 +44,7 @@ pub trait Integer:
 /// ```
 ///
 /// ```compile_fail
-/// bakhsney::Total::<i128>::default().mean();
+/// num_rational::Total::<i128>::default().mean();
 /// ```
 // rustc 1.63 compiles a loop over `&Reduced<T>` only where it knows that `T` outlives the reference.
 pub trait UpTo64: Integer + 'static {}

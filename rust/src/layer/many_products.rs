@@ -16,7 +16,7 @@ impl<T: Integer> Reduced<T> {
     /// of the items changes nothing.
     ///
     /// ```
-    /// use bakhsney::Reduced64;
+    /// use num_rational::Reduced64;
     ///
     /// // A light year in miles: metres, inches per 100 metres, inches per mile.
     /// let rates = ["9460730472580800", "5000/127", "1/63360"].map(|text| text.parse::<Reduced64>().unwrap());
@@ -49,7 +49,7 @@ impl<T: Integer> Reduced<T> {
     /// fit the type. No number on the way has to fit. It takes all items, so these must end.
     ///
     /// ```
-    /// use bakhsney::Reduced;
+    /// use num_rational::Reduced;
     ///
     /// let speed = Reduced::checked_quotient_of([100i8, 36], [60, 60]);
     /// assert_eq!(speed, Some(1.into()));

@@ -3,7 +3,7 @@ use super::integer::Integer;
 use super::ratio::Ratio;
 use super::reduced::Reduced;
 use super::reduced_conversions::ReducedError;
-use num_rational::Ratio as Original;
+use original::Ratio as Original;
 
 impl<T> From<Ratio<T>> for Original<T> {
     /// The same fields.

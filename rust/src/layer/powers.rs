@@ -17,7 +17,7 @@ impl<T: Integer> Ratio<T> {
     /// denominator is 0, or if it is negative and the lowest terms do not fit the type: `new_raw(3i8, -128).recip()` panics.
     ///
     /// ```
-    /// assert_eq!(bakhsney::Ratio::new(-2, 3).recip().into_raw(), (-3, 2));
+    /// assert_eq!(num_rational::Ratio::new(-2, 3).recip().into_raw(), (-3, 2));
     /// ```
     #[inline]
     #[track_caller]
@@ -50,7 +50,7 @@ impl<T: Integer> Ratio<T> {
     /// negative and the lowest terms do not fit, or 0. `checked_pow` tests all this.
     ///
     /// ```
-    /// use bakhsney::Ratio;
+    /// use num_rational::Ratio;
     ///
     /// assert_eq!(Ratio::new(-2, 3).pow(3), Ratio::new(-8, 27));
     /// assert_eq!(Ratio::new(-2, 3).pow(-2), Ratio::new(9, 4));
@@ -64,7 +64,7 @@ impl<T: Integer> Ratio<T> {
     /// The power. It is `None` if `pow` panics.
     ///
     /// ```
-    /// use bakhsney::Ratio;
+    /// use num_rational::Ratio;
     ///
     /// assert_eq!(Ratio::new(-2i8, 1).checked_pow(7), Some(Ratio::from_integer(-128)));
     /// assert_eq!(Ratio::new(-2i8, 1).checked_pow(8), None);

@@ -7,7 +7,7 @@ use crate::proved::ratio_integer::Integer as _;
 /// numbers.
 ///
 /// ```
-/// use bakhsney::Ratio;
+/// use num_rational::Ratio;
 ///
 /// let third = Ratio::new(2, 6);
 /// assert_eq!((*third.numer(), *third.denom()), (1, 3));
@@ -24,21 +24,21 @@ pub struct Ratio<T> {
 /// A fraction of two `isize`.
 ///
 /// ```
-/// assert_eq!(bakhsney::Rational::new(4, -6), bakhsney::Rational::new(-2, 3));
+/// assert_eq!(num_rational::Rational::new(4, -6), num_rational::Rational::new(-2, 3));
 /// ```
 pub type Rational = Ratio<isize>;
 
 /// A fraction of two `i32`.
 ///
 /// ```
-/// assert_eq!(bakhsney::Rational32::new(4, -6), bakhsney::Rational32::new(-2, 3));
+/// assert_eq!(num_rational::Rational32::new(4, -6), num_rational::Rational32::new(-2, 3));
 /// ```
 pub type Rational32 = Ratio<i32>;
 
 /// A fraction of two `i64`.
 ///
 /// ```
-/// assert_eq!(bakhsney::Rational64::new(4, -6), bakhsney::Rational64::new(-2, 3));
+/// assert_eq!(num_rational::Rational64::new(4, -6), num_rational::Rational64::new(-2, 3));
 /// ```
 pub type Rational64 = Ratio<i64>;
 
@@ -51,7 +51,7 @@ impl<T> Ratio<T> {
     /// returns `None` if it has an `Option`, and panics if not.
     ///
     /// ```
-    /// use bakhsney::Ratio;
+    /// use num_rational::Ratio;
     ///
     /// const HALF: Ratio<i32> = Ratio::new_raw(2, 4);
     /// assert_eq!(HALF.into_raw(), (2, 4));
@@ -65,7 +65,7 @@ impl<T> Ratio<T> {
     /// The numerator and the denominator, as they are.
     ///
     /// ```
-    /// assert_eq!(bakhsney::Ratio::new_raw(2, -4).into_raw(), (2, -4));
+    /// assert_eq!(num_rational::Ratio::new_raw(2, -4).into_raw(), (2, -4));
     /// ```
     #[inline]
     pub fn into_raw(self) -> (T, T) {
@@ -75,7 +75,7 @@ impl<T> Ratio<T> {
     /// The numerator, as it is.
     ///
     /// ```
-    /// assert_eq!(*bakhsney::Ratio::new(6, 8).numer(), 3);
+    /// assert_eq!(*num_rational::Ratio::new(6, 8).numer(), 3);
     /// ```
     #[inline]
     pub const fn numer(&self) -> &T {
@@ -85,7 +85,7 @@ impl<T> Ratio<T> {
     /// The denominator, as it is.
     ///
     /// ```
-    /// assert_eq!(*bakhsney::Ratio::new(6, 8).denom(), 4);
+    /// assert_eq!(*num_rational::Ratio::new(6, 8).denom(), 4);
     /// ```
     #[inline]
     pub const fn denom(&self) -> &T {
@@ -97,14 +97,14 @@ impl<T: Integer> Ratio<T> {
     /// The fraction 0/1.
     ///
     /// ```
-    /// assert_eq!(bakhsney::Rational32::ZERO, bakhsney::Ratio::new(0, 5));
+    /// assert_eq!(num_rational::Rational32::ZERO, num_rational::Ratio::new(0, 5));
     /// ```
     pub const ZERO: Ratio<T> = Ratio { numer: T::NUMBER_0, denom: T::NUMBER_1 };
 
     /// The fraction 1/1.
     ///
     /// ```
-    /// assert_eq!(bakhsney::Rational32::ONE, bakhsney::Ratio::new(5, 5));
+    /// assert_eq!(num_rational::Rational32::ONE, num_rational::Ratio::new(5, 5));
     /// ```
     pub const ONE: Ratio<T> = Ratio { numer: T::NUMBER_1, denom: T::NUMBER_1 };
 
@@ -115,7 +115,7 @@ impl<T: Integer> Ratio<T> {
     /// If the denominator is 0, or if the lowest terms do not fit the type. `checked_new` tests that.
     ///
     /// ```
-    /// assert_eq!(bakhsney::Ratio::new(4, -6).into_raw(), (-2, 3));
+    /// assert_eq!(num_rational::Ratio::new(4, -6).into_raw(), (-2, 3));
     /// ```
     #[inline]
     #[track_caller]
@@ -129,7 +129,7 @@ impl<T: Integer> Ratio<T> {
     /// The lowest terms of `numer/denom`, or `None` if the denominator is 0 or they do not fit the type.
     ///
     /// ```
-    /// use bakhsney::Ratio;
+    /// use num_rational::Ratio;
     ///
     /// assert_eq!(Ratio::checked_new(2i8, -128), Some(Ratio::new(-1, 64)));
     /// assert_eq!(Ratio::checked_new(1i8, -128), None);
@@ -143,7 +143,7 @@ impl<T: Integer> Ratio<T> {
     /// The whole number over 1.
     ///
     /// ```
-    /// assert_eq!(bakhsney::Ratio::from_integer(5).into_raw(), (5, 1));
+    /// assert_eq!(num_rational::Ratio::from_integer(5).into_raw(), (5, 1));
     /// ```
     #[inline]
     pub fn from_integer(number: T) -> Ratio<T> {
@@ -153,7 +153,7 @@ impl<T: Integer> Ratio<T> {
     /// Whether the denominator is 1. So it is false for 4/2, as `new_raw` makes it.
     ///
     /// ```
-    /// use bakhsney::Ratio;
+    /// use num_rational::Ratio;
     ///
     /// assert!(Ratio::new(4, 2).is_integer());
     /// assert!(!Ratio::new_raw(4, 2).is_integer());
@@ -170,7 +170,7 @@ impl<T: Integer> Ratio<T> {
     /// If the denominator is 0, or if the lowest terms do not fit the type. `checked_new` of the fields tests that.
     ///
     /// ```
-    /// assert_eq!(bakhsney::Ratio::new_raw(4, -6).reduced().into_raw(), (-2, 3));
+    /// assert_eq!(num_rational::Ratio::new_raw(4, -6).reduced().into_raw(), (-2, 3));
     /// ```
     #[inline]
     #[track_caller]

@@ -26,7 +26,7 @@ use num_traits::Signed;
 /// such type.
 ///
 /// ```
-/// use bakhsney::{ParseRatioError, Reduced64};
+/// use num_rational::{ParseRatioError, Reduced64};
 ///
 /// fn total(shares: &[Reduced64]) -> Option<Reduced64> {
 ///     let mut sum = Reduced64::ZERO;
@@ -49,14 +49,14 @@ pub struct Reduced<T: Integer> {
 /// A fraction of two `i32` in lowest terms.
 ///
 /// ```
-/// assert_eq!(bakhsney::Reduced32::checked_new(6, -4).unwrap().into_raw(), (-3, 2));
+/// assert_eq!(num_rational::Reduced32::checked_new(6, -4).unwrap().into_raw(), (-3, 2));
 /// ```
 pub type Reduced32 = Reduced<i32>;
 
 /// A fraction of two `i64` in lowest terms.
 ///
 /// ```
-/// assert_eq!(bakhsney::Reduced64::checked_new(1, 0), None);
+/// assert_eq!(num_rational::Reduced64::checked_new(1, 0), None);
 /// ```
 pub type Reduced64 = Reduced<i64>;
 
@@ -66,21 +66,21 @@ impl<T: Integer> Reduced<T> {
     /// The fraction 0/1.
     ///
     /// ```
-    /// assert_eq!(bakhsney::Reduced32::ZERO.into_raw(), (0, 1));
+    /// assert_eq!(num_rational::Reduced32::ZERO.into_raw(), (0, 1));
     /// ```
     pub const ZERO: Reduced<T> = Reduced { fraction: Proved::<T>::ZERO };
 
     /// The fraction 1/1.
     ///
     /// ```
-    /// assert_eq!(bakhsney::Reduced32::ONE.into_raw(), (1, 1));
+    /// assert_eq!(num_rational::Reduced32::ONE.into_raw(), (1, 1));
     /// ```
     pub const ONE: Reduced<T> = Reduced { fraction: Proved::<T>::ONE };
 
     /// The lowest terms of `numer/denom`, or `None` if the denominator is 0 or they do not fit the type.
     ///
     /// ```
-    /// use bakhsney::Reduced;
+    /// use num_rational::Reduced;
     ///
     /// assert_eq!(Reduced::checked_new(2i8, -128).map(Reduced::into_raw), Some((-1, 64)));
     /// assert_eq!(Reduced::checked_new(1i8, -128), None);
@@ -93,7 +93,7 @@ impl<T: Integer> Reduced<T> {
     /// The whole number over 1.
     ///
     /// ```
-    /// assert_eq!(bakhsney::Reduced::from_integer(5).into_raw(), (5, 1));
+    /// assert_eq!(num_rational::Reduced::from_integer(5).into_raw(), (5, 1));
     /// ```
     #[inline]
     pub fn from_integer(number: T) -> Reduced<T> {
@@ -103,7 +103,7 @@ impl<T: Integer> Reduced<T> {
     /// The lowest terms of a fraction, or `None` if its denominator is 0 or they do not fit the type.
     ///
     /// ```
-    /// use bakhsney::{Ratio, Reduced};
+    /// use num_rational::{Ratio, Reduced};
     ///
     /// assert_eq!(Reduced::from_ratio(&Ratio::new_raw(4i8, -2)), Some(Reduced::from(-2)));
     /// assert_eq!(Reduced::from_ratio(&Ratio::new_raw(-128i8, -1)), None);
@@ -117,7 +117,7 @@ impl<T: Integer> Reduced<T> {
     /// not fit the type.
     ///
     /// ```
-    /// use bakhsney::Reduced;
+    /// use num_rational::Reduced;
     ///
     /// assert_eq!(Reduced::from_float(-0.75), Reduced::checked_new(-3, 4));
     /// assert_eq!(Reduced::from_float(0.1), Reduced::checked_new(3602879701896397i64, 36028797018963968));
@@ -132,7 +132,7 @@ impl<T: Integer> Reduced<T> {
     /// The same for a float of 32 bits.
     ///
     /// ```
-    /// use bakhsney::Reduced;
+    /// use num_rational::Reduced;
     ///
     /// assert_eq!(Reduced::from_float32(0.1), Reduced::checked_new(13421773, 134217728));
     /// ```
@@ -146,7 +146,7 @@ impl<T: Integer> Reduced<T> {
     /// simpler fraction than its cents.
     ///
     /// ```
-    /// use bakhsney::Reduced;
+    /// use num_rational::Reduced;
     ///
     /// assert_eq!(Reduced::rationalize(0.1), Reduced::checked_new(1, 10));
     /// assert_eq!(Reduced::rationalize(1.0 / 3.0), Reduced::checked_new(1, 3));
@@ -162,7 +162,7 @@ impl<T: Integer> Reduced<T> {
     /// The same for a float of 32 bits.
     ///
     /// ```
-    /// use bakhsney::Reduced;
+    /// use num_rational::Reduced;
     ///
     /// assert_eq!(Reduced::rationalize32(0.1), Reduced::checked_new(1, 10));
     /// ```
@@ -175,7 +175,7 @@ impl<T: Integer> Reduced<T> {
     /// this name that returns an `Option`.
     ///
     /// ```
-    /// use bakhsney::Reduced;
+    /// use num_rational::Reduced;
     ///
     /// assert_eq!(Reduced::checked_new(1, 3).unwrap().to_f64(), 1.0 / 3.0);
     /// ```
@@ -187,7 +187,7 @@ impl<T: Integer> Reduced<T> {
     /// The same for a float of 32 bits. It is infinite if the magnitude of the fraction is 2^128-2^103 or more.
     ///
     /// ```
-    /// use bakhsney::Reduced;
+    /// use num_rational::Reduced;
     ///
     /// assert_eq!(Reduced::checked_new(1, 3).unwrap().to_f32(), 0.33333334);
     /// assert_eq!(Reduced::from(u128::MAX).to_f32(), f32::INFINITY);
@@ -205,7 +205,7 @@ impl<T: Integer> Reduced<T> {
     /// `NotDecimal` if the text is no decimal, and `NotHeld` if it is one whose lowest terms do not fit the type.
     ///
     /// ```
-    /// use bakhsney::{DecimalRefusal, Reduced};
+    /// use num_rational::{DecimalRefusal, Reduced};
     ///
     /// assert_eq!(Reduced::from_decimal("12.375").ok(), Reduced::checked_new(99, 8));
     /// assert_eq!(Reduced::from_decimal("-1.5e-3").ok(), Reduced::checked_new(-3, 2000));
@@ -228,7 +228,7 @@ impl<T: Integer> Reduced<T> {
     /// terms do not fit the type. The whole numbers in a fraction or a mixed number must be below 2^128, else it is `NotHeld`, too.
     ///
     /// ```
-    /// use bakhsney::{Reduced, TextRefusal};
+    /// use num_rational::{Reduced, TextRefusal};
     ///
     /// assert_eq!(Reduced::from_text("200/400").ok(), Reduced::checked_new(1i8, 2));
     /// assert_eq!(Reduced::from_text("-1 1/2").ok(), Reduced::checked_new(-3, 2));
@@ -244,7 +244,7 @@ impl<T: Integer> Reduced<T> {
     /// The same fraction as a `Ratio`.
     ///
     /// ```
-    /// use bakhsney::{Ratio, Reduced};
+    /// use num_rational::{Ratio, Reduced};
     ///
     /// assert_eq!(Reduced::checked_new(2, 4).unwrap().to_ratio(), Ratio::new(1, 2));
     /// ```
@@ -259,7 +259,7 @@ impl<T: Integer> Reduced<T> {
     /// `TryFrom<Reduced<T>>`.
     ///
     /// ```
-    /// use bakhsney::{Reduced, Reduced64};
+    /// use num_rational::{Reduced, Reduced64};
     ///
     /// let x = Reduced64::checked_new(1, 127).unwrap();
     /// assert_eq!(x.cast::<i8>(), Reduced::checked_new(1, 127));
@@ -275,7 +275,7 @@ impl<T: Integer> Reduced<T> {
     /// not from 2 to 36.
     ///
     /// ```
-    /// use bakhsney::Reduced;
+    /// use num_rational::Reduced;
     ///
     /// assert_eq!(Reduced::from_str_radix("f/2", 16).unwrap().into_raw(), (15, 2));
     /// assert!(Reduced::<i32>::from_str_radix("1/2", 37).is_err());
@@ -288,7 +288,7 @@ impl<T: Integer> Reduced<T> {
     /// The text that `{}` writes. It needs no formatter, so it takes less time.
     ///
     /// ```
-    /// use bakhsney::Reduced;
+    /// use num_rational::Reduced;
     ///
     /// assert_eq!(Reduced::checked_new(-6, 8).unwrap().base_ten_text().as_str(), "-3/4");
     /// ```
@@ -300,7 +300,7 @@ impl<T: Integer> Reduced<T> {
     /// Writes that text into `text`, in place of what was there. No array is moved, so it takes even less time.
     ///
     /// ```
-    /// use bakhsney::{BaseTenText, Reduced};
+    /// use num_rational::{BaseTenText, Reduced};
     ///
     /// let mut text = BaseTenText::empty();
     /// Reduced::checked_new(-6, 8).unwrap().put_base_ten_text(&mut text);
@@ -320,7 +320,7 @@ impl<T: Integer> Reduced<T> {
     /// If there are more than 38 places.
     ///
     /// ```
-    /// use bakhsney::{Reduced, Rounding};
+    /// use num_rational::{Reduced, Rounding};
     ///
     /// let eighth = Reduced::checked_new(1, 8).unwrap();
     /// assert_eq!(eighth.decimal(2, Rounding::HalfEven).as_str(), "0.12");
@@ -338,7 +338,7 @@ impl<T: Integer> Reduced<T> {
     /// and 5.
     ///
     /// ```
-    /// use bakhsney::Reduced;
+    /// use num_rational::Reduced;
     ///
     /// assert_eq!(Reduced::checked_new(99, 8).unwrap().exact_decimal().unwrap().as_str(), "12.375");
     /// assert!(Reduced::checked_new(1, 3).unwrap().exact_decimal().is_none());
@@ -352,7 +352,7 @@ impl<T: Integer> Reduced<T> {
     /// not fit the type, or if `parts` is not above 0.
     ///
     /// ```
-    /// use bakhsney::{Reduced, Rounding};
+    /// use num_rational::{Reduced, Rounding};
     ///
     /// let price = Reduced::checked_new(2, 3).unwrap();
     /// assert_eq!(price.round_to(100, Rounding::HalfEven), Reduced::checked_new(67, 100));
@@ -371,7 +371,7 @@ impl<T: Integer> Reduced<T> {
     /// The numerator and the denominator.
     ///
     /// ```
-    /// assert_eq!(bakhsney::Reduced::checked_new(2, -4).unwrap().into_raw(), (-1, 2));
+    /// assert_eq!(num_rational::Reduced::checked_new(2, -4).unwrap().into_raw(), (-1, 2));
     /// ```
     #[inline]
     pub fn into_raw(self) -> (T, T) {
@@ -382,7 +382,7 @@ impl<T: Integer> Reduced<T> {
     /// The numerator.
     ///
     /// ```
-    /// assert_eq!(*bakhsney::Reduced::checked_new(6, 8).unwrap().numer(), 3);
+    /// assert_eq!(*num_rational::Reduced::checked_new(6, 8).unwrap().numer(), 3);
     /// ```
     #[inline]
     pub fn numer(&self) -> &T {
@@ -392,7 +392,7 @@ impl<T: Integer> Reduced<T> {
     /// The denominator. It is positive.
     ///
     /// ```
-    /// assert_eq!(*bakhsney::Reduced::checked_new(6, 8).unwrap().denom(), 4);
+    /// assert_eq!(*num_rational::Reduced::checked_new(6, 8).unwrap().denom(), 4);
     /// ```
     #[inline]
     pub fn denom(&self) -> &T {
@@ -402,7 +402,7 @@ impl<T: Integer> Reduced<T> {
     /// Whether the fraction is 0.
     ///
     /// ```
-    /// assert!(bakhsney::Reduced32::ZERO.is_zero());
+    /// assert!(num_rational::Reduced32::ZERO.is_zero());
     /// ```
     #[inline]
     pub fn is_zero(&self) -> bool {
@@ -412,7 +412,7 @@ impl<T: Integer> Reduced<T> {
     /// Whether the fraction is a whole number.
     ///
     /// ```
-    /// assert!(bakhsney::Reduced::checked_new(4, 2).unwrap().is_integer());
+    /// assert!(num_rational::Reduced::checked_new(4, 2).unwrap().is_integer());
     /// ```
     #[inline]
     pub fn is_integer(&self) -> bool {
@@ -438,7 +438,7 @@ macro_rules! checked_calls {
             /// A number may be the right operand, too.
             ///
             /// ```
-            /// let half = bakhsney::Reduced::checked_new(1i8, 2).unwrap();
+            /// let half = num_rational::Reduced::checked_new(1i8, 2).unwrap();
             #[doc = $example]
             /// ```
             #[inline]
@@ -453,7 +453,7 @@ checked_calls! {
     checked_add: "The sum, or `None` if its lowest terms do not fit the type.",
         "assert_eq!(half.checked_add(half), Some(1.into()));";
     checked_sub: "The difference, or `None` if its lowest terms do not fit the type.",
-        "assert_eq!(half.checked_sub(1), bakhsney::Reduced::checked_new(-1, 2));";
+        "assert_eq!(half.checked_sub(1), num_rational::Reduced::checked_new(-1, 2));";
     checked_mul: "The product, or `None` if its lowest terms do not fit the type.",
         "assert_eq!(half.checked_mul(-128), Some((-64).into()));";
     checked_div: "The quotient, or `None` if the divisor is 0 or the lowest terms do not fit the type.",
@@ -471,7 +471,7 @@ impl<T: Integer> Reduced<T> {
     /// not fit. A number may be the right operand, too.
     ///
     /// ```
-    /// use bakhsney::{Reduced64, Rounding};
+    /// use num_rational::{Reduced64, Rounding};
     ///
     /// let third = Reduced64::checked_new(i64::MAX, 3).unwrap();
     /// let share = Reduced64::checked_new(2, 5).unwrap();
@@ -487,7 +487,7 @@ impl<T: Integer> Reduced<T> {
     /// quotient itself need not fit. A number may be the divisor, too.
     ///
     /// ```
-    /// use bakhsney::{Reduced64, Rounding};
+    /// use num_rational::{Reduced64, Rounding};
     ///
     /// let third = Reduced64::checked_new(i64::MAX, 3).unwrap();
     /// let times = Reduced64::checked_new(5, 2).unwrap();
@@ -510,7 +510,7 @@ impl<T: Integer> Reduced<T> {
     /// - if the least common multiple of the denominators is not below 2^(2^20). With at most 16,384 different denominators it always is.
     ///
     /// ```
-    /// use bakhsney::{Reduced, Reduced64};
+    /// use num_rational::{Reduced, Reduced64};
     ///
     /// assert_eq!(Reduced64::checked_sum([1, 2, 3]), Some(6.into()));
     /// let steps = [(127, 1), (1, 127), (-1, 127)].map(|(n, d)| Reduced::<i8>::checked_new(n, d).unwrap());
@@ -524,7 +524,7 @@ impl<T: Integer> Reduced<T> {
     /// The reciprocal, or `None` if the fraction is 0 or the reciprocal does not fit the type.
     ///
     /// ```
-    /// use bakhsney::Reduced32;
+    /// use num_rational::Reduced32;
     ///
     /// assert_eq!(Reduced32::from(-2).checked_recip(), Reduced32::checked_new(-1, 2));
     /// assert_eq!(Reduced32::ZERO.checked_recip(), None);
@@ -537,7 +537,7 @@ impl<T: Integer> Reduced<T> {
     /// The power, or `None` if it does not fit the type, or if the fraction is 0 and the exponent negative.
     ///
     /// ```
-    /// use bakhsney::Reduced;
+    /// use num_rational::Reduced;
     ///
     /// assert_eq!(Reduced::from(-2i8).checked_pow(7), Some((-128).into()));
     /// assert_eq!(Reduced::from(-2i8).checked_pow(8), None);
@@ -551,7 +551,7 @@ impl<T: Integer> Reduced<T> {
     /// near, it is the one with the smaller denominator, and of two whole numbers the smaller one.
     ///
     /// ```
-    /// use bakhsney::Reduced64;
+    /// use num_rational::Reduced64;
     ///
     /// let pi: Reduced64 = "314159/100000".parse().unwrap();
     /// assert_eq!(pi.nearest(10), Reduced64::checked_new(22, 7));
@@ -566,7 +566,7 @@ impl<T: Integer> Reduced<T> {
     /// numerator is nearest to 0. `None` exactly if the type has no fraction between them, so also if `low` is not below `high`.
     ///
     /// ```
-    /// use bakhsney::Reduced;
+    /// use num_rational::Reduced;
     ///
     /// let [low, high] = ["1/3", "1/2"].map(|text| text.parse::<Reduced<i8>>().unwrap());
     /// assert_eq!(Reduced::simplest_between(&low, &high), Reduced::checked_new(2, 5));
@@ -583,7 +583,7 @@ impl<T: Integer> Reduced<T> {
     /// to 0. An included bound may be the result. `None` exactly if the type has no fraction within the bounds.
     ///
     /// ```
-    /// use bakhsney::Reduced;
+    /// use num_rational::Reduced;
     /// use std::ops::Bound::{Excluded, Included, Unbounded};
     ///
     /// let [low, high] = ["1/3", "1/2"].map(|text| text.parse::<Reduced<i8>>().unwrap());
@@ -602,7 +602,7 @@ impl<T: Integer> Reduced<T> {
     /// 4 + 1/(2 + 1/(6 + 1/7)). The first is the floor, and each later one is at least 1.
     ///
     /// ```
-    /// let x = bakhsney::Reduced64::checked_new(415, 93).unwrap();
+    /// let x = num_rational::Reduced64::checked_new(415, 93).unwrap();
     /// assert!(x.continued_fraction().eq([4, 2, 6, 7]));
     /// ```
     #[inline]
@@ -614,7 +614,7 @@ impl<T: Integer> Reduced<T> {
     /// the floor, and the last is the fraction itself. Each is in lowest terms, and none leaves the type.
     ///
     /// ```
-    /// let x = bakhsney::Reduced::checked_new(-7i8, 3).unwrap();
+    /// let x = num_rational::Reduced::checked_new(-7i8, 3).unwrap();
     /// assert!(x.convergents().map(|y| y.into_raw()).eq([(-3, 1), (-2, 1), (-7, 3)]));
     /// ```
     #[inline]
@@ -626,7 +626,7 @@ impl<T: Integer> Reduced<T> {
     /// if one after the first is below 1, or if the fraction does not fit the type.
     ///
     /// ```
-    /// use bakhsney::Reduced;
+    /// use num_rational::Reduced;
     ///
     /// assert_eq!(Reduced::from_continued_fraction(&[-3i8, 1, 2]), Reduced::checked_new(-7, 3));
     /// assert_eq!(Reduced::from_continued_fraction(&[3i8, 0]), None);
@@ -640,7 +640,7 @@ impl<T: Integer> Reduced<T> {
     /// This fraction cut towards zero.
     ///
     /// ```
-    /// assert_eq!(bakhsney::Reduced::checked_new(-7, 2).unwrap().to_integer(), -3);
+    /// assert_eq!(num_rational::Reduced::checked_new(-7, 2).unwrap().to_integer(), -3);
     /// ```
     #[inline]
     pub fn to_integer(&self) -> T {
@@ -654,7 +654,7 @@ macro_rules! rounding_calls {
             #[doc = $what]
             ///
             /// ```
-            /// let x = bakhsney::Reduced::checked_new(-7, 2).unwrap();
+            /// let x = num_rational::Reduced::checked_new(-7, 2).unwrap();
             #[doc = $example]
             /// ```
             #[inline]
@@ -677,7 +677,7 @@ impl<T: Integer + Signed> Reduced<T> {
     /// The negative, or `None` if the numerator is the least number.
     ///
     /// ```
-    /// use bakhsney::Reduced;
+    /// use num_rational::Reduced;
     ///
     /// assert_eq!(Reduced::from(1i8).checked_neg(), Some((-1).into()));
     /// assert_eq!(Reduced::from(-128i8).checked_neg(), None);
@@ -690,7 +690,7 @@ impl<T: Integer + Signed> Reduced<T> {
     /// The value without its sign, or `None` if the numerator is the least number.
     ///
     /// ```
-    /// use bakhsney::Reduced;
+    /// use num_rational::Reduced;
     ///
     /// assert_eq!(Reduced::from(-3i8).checked_abs(), Some(3.into()));
     /// assert_eq!(Reduced::from(-128i8).checked_abs(), None);
@@ -703,7 +703,7 @@ impl<T: Integer + Signed> Reduced<T> {
     /// 1, 0 or -1, as the fraction is above 0, 0 or below 0.
     ///
     /// ```
-    /// assert_eq!(bakhsney::Reduced::checked_new(-1, 2).unwrap().signum(), -1);
+    /// assert_eq!(num_rational::Reduced::checked_new(-1, 2).unwrap().signum(), -1);
     /// ```
     #[inline]
     pub fn signum(&self) -> Reduced<T> {
@@ -713,7 +713,7 @@ impl<T: Integer + Signed> Reduced<T> {
     /// Whether the fraction is above 0.
     ///
     /// ```
-    /// assert!(bakhsney::Reduced32::ONE.is_positive());
+    /// assert!(num_rational::Reduced32::ONE.is_positive());
     /// ```
     #[inline]
     pub fn is_positive(&self) -> bool {
@@ -723,7 +723,7 @@ impl<T: Integer + Signed> Reduced<T> {
     /// Whether the fraction is below 0.
     ///
     /// ```
-    /// assert!(bakhsney::Reduced32::from(-1).is_negative());
+    /// assert!(num_rational::Reduced32::from(-1).is_negative());
     /// ```
     #[inline]
     pub fn is_negative(&self) -> bool {

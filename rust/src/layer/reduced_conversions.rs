@@ -8,7 +8,7 @@ use num_traits::{CheckedNeg, Signed, ToPrimitive};
 /// The error of `try_from` for a pair or a `Ratio`: there are no lowest terms that fit the type.
 ///
 /// ```
-/// use bakhsney::{Reduced, ReducedError};
+/// use num_rational::{Reduced, ReducedError};
 ///
 /// let x: Result<Reduced<i8>, ReducedError> = (1, 0).try_into();
 /// assert_eq!(x.unwrap_err().to_string(), "the denominator is 0, or the lowest terms do not fit the type");

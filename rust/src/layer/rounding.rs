@@ -14,7 +14,7 @@ impl<T: Integer> Ratio<T> {
     /// If the denominator is 0, or if it is negative and the lowest terms do not fit the type.
     ///
     /// ```
-    /// assert_eq!(bakhsney::Ratio::new(-7, 2).floor(), (-4).into());
+    /// assert_eq!(num_rational::Ratio::new(-7, 2).floor(), (-4).into());
     /// ```
     #[inline]
     #[track_caller]
@@ -29,7 +29,7 @@ impl<T: Integer> Ratio<T> {
     /// If the denominator is 0, or if it is negative and the lowest terms do not fit the type.
     ///
     /// ```
-    /// assert_eq!(bakhsney::Ratio::new(255u8, 2).ceil(), 128.into());
+    /// assert_eq!(num_rational::Ratio::new(255u8, 2).ceil(), 128.into());
     /// ```
     #[inline]
     #[track_caller]
@@ -44,7 +44,7 @@ impl<T: Integer> Ratio<T> {
     /// If the denominator is 0, or if it is negative and the lowest terms do not fit the type.
     ///
     /// ```
-    /// assert_eq!(bakhsney::Ratio::new(-5, 2).round(), (-3).into());
+    /// assert_eq!(num_rational::Ratio::new(-5, 2).round(), (-3).into());
     /// ```
     #[inline]
     #[track_caller]
@@ -59,7 +59,7 @@ impl<T: Integer> Ratio<T> {
     /// If the denominator is 0, or if it is negative and the lowest terms do not fit the type.
     ///
     /// ```
-    /// assert_eq!(bakhsney::Ratio::new(-7, 2).trunc(), (-3).into());
+    /// assert_eq!(num_rational::Ratio::new(-7, 2).trunc(), (-3).into());
     /// ```
     #[inline]
     #[track_caller]
@@ -74,7 +74,7 @@ impl<T: Integer> Ratio<T> {
     /// If the denominator is 0, or if it is negative and the lowest terms do not fit the type.
     ///
     /// ```
-    /// assert_eq!(bakhsney::Ratio::new(-7, 2).fract(), bakhsney::Ratio::new(-1, 2));
+    /// assert_eq!(num_rational::Ratio::new(-7, 2).fract(), num_rational::Ratio::new(-1, 2));
     /// ```
     #[inline]
     #[track_caller]
@@ -89,7 +89,7 @@ impl<T: Integer> Ratio<T> {
     /// If the denominator is 0, or if it is negative and the lowest terms do not fit the type.
     ///
     /// ```
-    /// assert_eq!(bakhsney::Ratio::new(-7, 2).to_integer(), -3);
+    /// assert_eq!(num_rational::Ratio::new(-7, 2).to_integer(), -3);
     /// ```
     #[inline]
     #[track_caller]
@@ -103,7 +103,7 @@ impl<T: Integer> Ratio<T> {
     /// call.
     ///
     /// ```
-    /// use bakhsney::Ratio;
+    /// use num_rational::Ratio;
     ///
     /// assert_eq!(Ratio::new(314159, 100000).nearest(10), Some(Ratio::new(22, 7)));
     /// assert_eq!(Ratio::new(1, 2).nearest(0), None);
@@ -148,7 +148,7 @@ impl<T: Integer> ToPrimitive for Ratio<T> {
     /// ```
     /// use num_traits::ToPrimitive;
     ///
-    /// assert_eq!(bakhsney::Ratio::new(1, 3).to_f32(), Some(0.33333334));
+    /// assert_eq!(num_rational::Ratio::new(1, 3).to_f32(), Some(0.33333334));
     /// ```
     #[inline]
     fn to_f32(&self) -> Option<f32> {
@@ -160,7 +160,7 @@ impl<T: Integer> ToPrimitive for Ratio<T> {
     /// ```
     /// use num_traits::ToPrimitive;
     ///
-    /// assert_eq!(bakhsney::Ratio::new(1, 3).to_f64(), Some(1.0 / 3.0));
+    /// assert_eq!(num_rational::Ratio::new(1, 3).to_f64(), Some(1.0 / 3.0));
     /// ```
     #[inline]
     fn to_f64(&self) -> Option<f64> {

@@ -21,7 +21,7 @@ impl<T: Integer> Ratio<T> {
     /// such call.
     ///
     /// ```
-    /// use bakhsney::Ratio;
+    /// use num_rational::Ratio;
     ///
     /// let (low, high) = (Ratio::new(31, 10), Ratio::new(22, 7));
     /// assert_eq!(Ratio::simplest_between(&low, &high), Some(Ratio::new(25, 8)));
@@ -39,7 +39,7 @@ impl<T: Integer> Ratio<T> {
     /// `None` if a denominator is 0, or if it is negative and the lowest terms do not fit. num-rational has no such call.
     ///
     /// ```
-    /// use bakhsney::Ratio;
+    /// use num_rational::Ratio;
     /// use std::ops::Bound::{Excluded, Included, Unbounded};
     ///
     /// let (low, high) = (Ratio::new(1, 3), Ratio::new(1, 2));

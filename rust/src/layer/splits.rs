@@ -11,7 +11,7 @@ use core::slice;
 /// times its share. A refusal says why the amount is not split, and then no part has changed.
 ///
 /// ```
-/// use bakhsney::{split, Reduced64, SplitRefusal};
+/// use num_rational::{split, Reduced64, SplitRefusal};
 ///
 /// let third = Reduced64::checked_new(1, 3).unwrap();
 /// let mut cents = [0; 3];
@@ -31,7 +31,7 @@ pub fn split<T: Integer>(amount: T, shares: &[Reduced<T>], parts: &mut [T]) -> R
 /// then no part has changed.
 ///
 /// ```
-/// use bakhsney::{split_by_weights, WeightRefusal};
+/// use num_rational::{split_by_weights, WeightRefusal};
 ///
 /// let mut seats = [0; 3];
 /// assert_eq!(split_by_weights(10, &[53, 24, 23], &mut seats), Ok(()));

@@ -21,7 +21,7 @@ impl<T: Integer> Ratio<T> {
     /// The text that `{}` writes. It needs no formatter, so it takes less time. num-rational has no such call.
     ///
     /// ```
-    /// use bakhsney::Ratio;
+    /// use num_rational::Ratio;
     ///
     /// assert_eq!(Ratio::new(-6, 8).base_ten_text().as_str(), "-3/4");
     /// ```
@@ -33,7 +33,7 @@ impl<T: Integer> Ratio<T> {
     /// Writes that text into `text`, in place of what was there. No array is moved, so it takes even less time.
     ///
     /// ```
-    /// use bakhsney::{BaseTenText, Ratio};
+    /// use num_rational::{BaseTenText, Ratio};
     ///
     /// let mut text = BaseTenText::empty();
     /// Ratio::new(-6, 8).put_base_ten_text(&mut text);

@@ -25,7 +25,7 @@ use core::ops::{AddAssign, SubAssign};
 /// additions slow, but not wrong.
 ///
 /// ```
-/// use bakhsney::{Reduced, Rounding, Total};
+/// use num_rational::{Reduced, Rounding, Total};
 ///
 /// let mut total = Total::new();
 /// for denom in 1..=127 {
@@ -42,7 +42,7 @@ use core::ops::{AddAssign, SubAssign};
 /// Threads may share the work, since the order changes nothing: each takes a total of its part, and `merge` or `sum` joins them.
 ///
 /// ```
-/// use bakhsney::{Reduced64, Total};
+/// use num_rational::{Reduced64, Total};
 ///
 /// let cents: Vec<Reduced64> = (0..1000).map(|n| Reduced64::checked_new(n, 100).unwrap()).collect();
 /// let total: Total<i64> = std::thread::scope(|scope| {
@@ -68,7 +68,7 @@ pub struct Total<T> {
 /// Even then `decimal` mostly has a result.
 ///
 /// ```
-/// use bakhsney::{Reduced, TooLong, Total};
+/// use num_rational::{Reduced, TooLong, Total};
 ///
 /// let sum: Result<Option<Reduced<i8>>, TooLong> = Total::new().sum();
 /// assert_eq!(sum, Ok(Some(Reduced::ZERO)));
@@ -95,7 +95,7 @@ impl<T> Total<T> {
     /// The total of no fractions. It takes no memory before the first addition.
     ///
     /// ```
-    /// use bakhsney::{Reduced64, Total};
+    /// use num_rational::{Reduced64, Total};
     ///
     /// assert_eq!(Total::new().sum(), Ok(Some(Reduced64::ZERO)));
     /// ```
@@ -107,7 +107,7 @@ impl<T> Total<T> {
     /// How many fractions went in, less those that went out.
     ///
     /// ```
-    /// use bakhsney::{Reduced, Total};
+    /// use num_rational::{Reduced, Total};
     ///
     /// let mut total: Total<i64> = [1, 2, 3].map(Reduced::from).iter().collect();
     /// total.subtract(Reduced::from(2));
@@ -198,7 +198,7 @@ impl<T: UpTo64> Total<T> {
     /// If the total has had 2^63-1 additions. Only merges of merged totals get there.
     ///
     /// ```
-    /// use bakhsney::{Reduced, Total};
+    /// use num_rational::{Reduced, Total};
     ///
     /// let mut total = Total::new();
     /// total.add(Reduced::checked_new(1i8, 36).unwrap());
@@ -219,7 +219,7 @@ impl<T: UpTo64> Total<T> {
     /// If the total has had 2^63-1 additions, as `add` does. Taking out counts as an addition, too.
     ///
     /// ```
-    /// use bakhsney::{Reduced, Total};
+    /// use num_rational::{Reduced, Total};
     ///
     /// let mut total: Total<i8> = Reduced::checked_new(1, 127).into_iter().collect();
     /// total.subtract(Reduced::from(127));
@@ -238,7 +238,7 @@ impl<T: UpTo64> Total<T> {
     /// `None` where `add` panics: if the total has had 2^63-1 additions.
     ///
     /// ```
-    /// use bakhsney::{Reduced, Total};
+    /// use num_rational::{Reduced, Total};
     ///
     /// let mut total = Total::new();
     /// assert_eq!(total.add_product(100i8.into(), 100.into()), Some(()));
@@ -263,7 +263,7 @@ impl<T: UpTo64> Total<T> {
     /// refuses a product.
     ///
     /// ```
-    /// use bakhsney::{Reduced64, Total};
+    /// use num_rational::{Reduced64, Total};
     ///
     /// let shares = [(1, 2), (1, 3), (1, 6)].map(|(numer, denom)| Reduced64::checked_new(numer, denom).unwrap());
     /// let prices = [30, 45, 48].map(Reduced64::from);
@@ -288,7 +288,7 @@ impl<T: UpTo64> Total<T> {
     /// If both totals together have had more than 2^63-1 additions. Only merges of merged totals get there.
     ///
     /// ```
-    /// use bakhsney::{Reduced, Total};
+    /// use num_rational::{Reduced, Total};
     ///
     /// let [mut left, right] = [36, 28].map(|denom| Reduced::checked_new(1i8, denom).into_iter().collect::<Total<i8>>());
     /// left.merge(&right);
@@ -307,7 +307,7 @@ impl<T: UpTo64> Total<T> {
     /// If both totals together have had more than 2^63-1 additions, as `merge` does. Taking out counts as an addition, too.
     ///
     /// ```
-    /// use bakhsney::{Reduced, Total};
+    /// use num_rational::{Reduced, Total};
     ///
     /// let [mut left, right] = [36, 28].map(|denom| Reduced::checked_new(1i8, denom).into_iter().collect::<Total<i8>>());
     /// left.take_out(&right);
@@ -345,7 +345,7 @@ impl<T: UpTo64> Total<T> {
     /// it always is.
     ///
     /// ```
-    /// use bakhsney::{Reduced, Total};
+    /// use num_rational::{Reduced, Total};
     ///
     /// let mut total = Total::new();
     /// total.add(Reduced::from(127i8));
@@ -366,7 +366,7 @@ impl<T: UpTo64> Total<T> {
     /// `TooLong` where `sum` returns it.
     ///
     /// ```
-    /// use bakhsney::{Reduced, Total};
+    /// use num_rational::{Reduced, Total};
     ///
     /// let total: Total<i8> = [100, 127, 127].map(Reduced::from).iter().sum();
     /// assert_eq!(total.sum(), Ok(None)); // 354
@@ -385,7 +385,7 @@ impl<T: UpTo64> Total<T> {
     /// `TooLong` where `sum` returns it.
     ///
     /// ```
-    /// use bakhsney::{Reduced64, Total};
+    /// use num_rational::{Reduced64, Total};
     ///
     /// let total: Total<i64> = (1..=1000).map(|denom| Reduced64::checked_new(1, denom).unwrap()).sum();
     /// assert_eq!(total.sum(), Ok(None));
@@ -411,7 +411,7 @@ impl<T: UpTo64> Total<T> {
     /// If the text may be too long for the memory of the machine.
     ///
     /// ```
-    /// use bakhsney::{Reduced64, Rounding, Total};
+    /// use num_rational::{Reduced64, Rounding, Total};
     ///
     /// let total: Total<i64> = (1..=1000).map(|denom| Reduced64::checked_new(1, denom).unwrap()).sum();
     /// assert_eq!(total.sum(), Ok(None));
@@ -435,7 +435,7 @@ impl<T: UpTo64> Total<T> {
     /// `TooLong` where `sum` returns it.
     ///
     /// ```
-    /// use bakhsney::{Reduced, Total};
+    /// use num_rational::{Reduced, Total};
     /// use std::cmp::Ordering;
     ///
     /// let mut total: Total<i8> = [100, 100].map(Reduced::from).iter().sum();
@@ -457,7 +457,7 @@ impl<T: UpTo64> Total<T> {
     /// `PartialOrd`.
     ///
     /// ```
-    /// use bakhsney::{Reduced, Total};
+    /// use num_rational::{Reduced, Total};
     /// use std::cmp::Ordering;
     ///
     /// let thirds: Total<i8> = [100, 100, 100].map(|n| Reduced::checked_new(n, 3).unwrap()).iter().sum();
@@ -477,12 +477,12 @@ impl<T: UpTo64> Total<T> {
     /// `TooLong` where `compare` with the total of this one fraction returns it.
     ///
     /// ```
-    /// use bakhsney::{Reduced64, Total};
+    /// use num_rational::{Reduced64, Total};
     ///
     /// let spent: Total<i64> = [1999, 2450, 551].map(|cents| Reduced64::checked_new(cents, 100).unwrap()).iter().sum();
     /// assert!(spent.compare_with(50.into())?.is_le());
     /// assert!(spent.compare_with(49.into())?.is_gt());
-    /// # Ok::<(), bakhsney::TooLong>(())
+    /// # Ok::<(), num_rational::TooLong>(())
     /// ```
     pub fn compare_with(&self, fraction: Reduced<T>) -> Result<Ordering, TooLong> {
         let (numer, denom) = fields(fraction);
@@ -508,7 +508,7 @@ impl<T: UpTo64> Total<T> {
     /// `TooLong` where `sum` returns it.
     ///
     /// ```
-    /// use bakhsney::{Reduced64, Rounding, Total};
+    /// use num_rational::{Reduced64, Rounding, Total};
     ///
     /// let total: Total<i64> = (1..=1000).map(|denom| Reduced64::checked_new(1, denom).unwrap()).sum();
     /// assert_eq!(total.sum(), Ok(None));
@@ -529,7 +529,7 @@ impl<T: UpTo64> Total<T> {
     /// `TooLong` where `sum` returns it.
     ///
     /// ```
-    /// use bakhsney::{Reduced64, Rounding, Total};
+    /// use num_rational::{Reduced64, Rounding, Total};
     ///
     /// let total: Total<i64> = (1..=1000).map(|denom| Reduced64::checked_new(1, denom).unwrap()).sum();
     /// assert_eq!(total.sum(), Ok(None));

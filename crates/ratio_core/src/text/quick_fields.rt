@@ -19,7 +19,7 @@ pub(crate) fn quick_fields<T: Primitive>(bytes: &[u8]) -> Option<(T, T)>
 }
 
 /// The two numbers of a text in base 10 without a plus sign that the bytes begin with, not reduced, and the length of this
-/// text. Each of its numbers ends before the first byte that is no digit. `None` says nothing about the bytes.
+/// text. More digits may follow it, so a caller looks at the byte behind it. `None` says nothing about the bytes.
 #[inline(always)]
 pub fn leading_fields<T: Primitive>(bytes: &[u8]) -> Option<(T, T, usize)>
     ensures inside { IfSome result (λ r. r.2 ≤ length bytes.now) }

@@ -27,6 +27,8 @@ mod many_products;
 #[cfg(test)]
 mod precision;
 #[cfg(test)]
+mod refusal_texts;
+#[cfg(test)]
 mod rounded_products;
 #[cfg(test)]
 mod simplest;

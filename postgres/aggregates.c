@@ -144,10 +144,7 @@ read_state(State *state, Read *read_slots, const char *call)
 	Datum		answer;
 
 	if (state->table == NULL)
-	{
-		memcpy(few, state->few, sizeof(few));
-		return read_slots(few, pack(few, FEW), state->count, call);
-	}
+		return read_slots(few, pack(few, state->few, FEW), state->count, call);
 	slots = packed(state, &many);
 	answer = read_slots(slots, many, state->count, call);
 	pfree(slots);

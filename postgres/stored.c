@@ -3,7 +3,17 @@
 
 #include "lib/stringinfo.h"
 #include "libpq/pqformat.h"
+#include "miscadmin.h"
 #include "utils/builtins.h"
+
+/* Sorts slots, the smaller denominator first, and looks for interrupts. */
+#define ST_SORT sort_slots
+#define ST_ELEMENT_TYPE ratio_slot_i64
+#define ST_COMPARE(x, y) (((x)->denom > (y)->denom) - ((x)->denom < (y)->denom))
+#define ST_SCOPE static
+#define ST_CHECK_FOR_INTERRUPTS
+#define ST_DEFINE
+#include "lib/sort_template.h"
 
 extern Datum ratio_in(PG_FUNCTION_ARGS);
 
@@ -40,25 +50,17 @@ stored_argument(FunctionCallInfo fcinfo, int n, size_t *many)
 	return stored;
 }
 
-static int
-by_denominator(const void *x, const void *y)
-{
-	uint64		a = ((const ratio_slot_i64 *) x)->denom,
-				b = ((const ratio_slot_i64 *) y)->denom;
-
-	return (a > b) - (a < b);
-}
-
 Datum
 new_stored(State *state)
 {
 	size_t		many;
 	ratio_slot_i64 *slots = packed(state, &many);
 	size_t		size = many * sizeof(*slots);
-	Stored	   *stored = palloc0(sizeof(Stored) + size);
+	Stored	   *stored = palloc(sizeof(Stored) + size);
 
-	qsort(slots, many, sizeof(*slots), by_denominator);
+	sort_slots(slots, many);
 	SET_VARSIZE(stored, sizeof(Stored) + size);
+	stored->unused = 0;
 	stored->count = state->count;
 	memcpy(stored->slots, slots, size);
 	pfree(slots);
@@ -106,6 +108,7 @@ CALL(ratio_total_out)
 	appendStringInfo(&text, "{" INT64_FORMAT, stored->count);
 	for (size_t i = 0; i < many; i++)
 	{
+		CHECK_FOR_INTERRUPTS();
 		appendStringInfoString(&text, i == 0 ? "; " : ", ");
 		append_slot(&text, &stored->slots[i]);
 	}
@@ -232,6 +235,7 @@ CALL(ratio_total_send)
 	pq_sendint64(&bytes, many);
 	for (size_t i = 0; i < many; i++)
 	{
+		CHECK_FOR_INTERRUPTS();
 		pq_sendint64(&bytes, stored->slots[i].denom);
 		pq_sendint64(&bytes, stored->slots[i].numer.high);
 		pq_sendint64(&bytes, stored->slots[i].numer.low);
@@ -262,6 +266,7 @@ CALL(ratio_total_recv)
 	{
 		ratio_slot_i64 *slot = &stored->slots[i];
 
+		CHECK_FOR_INTERRUPTS();
 		slot->denom = pq_getmsgint64(bytes);
 		slot->numer.high = pq_getmsgint64(bytes);
 		slot->numer.low = pq_getmsgint64(bytes);
@@ -296,7 +301,7 @@ static int
 order_of(FunctionCallInfo fcinfo)
 {
 	State	   *state = joined(fcinfo, true);
-	int			order = sign_of(slots_of(state), pack(slots_of(state), state->length));
+	int			order = sign_of(slots_of(state), pack(slots_of(state), slots_of(state), state->length));
 
 	discard(state);
 	return order;

@@ -1,7 +1,11 @@
 /* Totals that grow: fractions go in and out of slots, one for each denominator. The library adds; this file finds the memory. */
 #include "totals.h"
 
+#include "miscadmin.h"
 #include "utils/memutils.h"
+
+/* So many slots at a time take a few milliseconds. Between them, a long work looks for interrupts. */
+enum { PIECE = 1 << 16 };
 
 typedef uint32_t Put(const ratio_i64 *, size_t, ratio_total_i64 *, size_t, ratio_slot_i64 *, size_t);
 typedef uint32_t Pour(const ratio_slot_i64 *, size_t, int64_t, ratio_total_i64 *, size_t, ratio_slot_i64 *, size_t);
@@ -33,13 +37,17 @@ refuse_change(uint32 code)
 }
 
 size_t
-pack(ratio_slot_i64 *slots, size_t length)
+pack(ratio_slot_i64 *to, const ratio_slot_i64 *from, size_t length)
 {
 	size_t		many = 0;
 
 	for (size_t i = 0; i < length; i++)
-		if (slots[i].numer.low != 0 || slots[i].numer.high != 0)
-			slots[many++] = slots[i];
+	{
+		if (i % PIECE == 0)
+			CHECK_FOR_INTERRUPTS();
+		if (from[i].numer.low != 0 || from[i].numer.high != 0)
+			to[many++] = from[i];
+	}
 	return many;
 }
 
@@ -63,24 +71,54 @@ length_for(size_t many)
 	return (bytes - sizeof(Table)) / sizeof(ratio_slot_i64);
 }
 
+/* A table with these slots, which must have unlike denominators, and with so many in all. */
+static Table *
+new_table(MemoryContext context, const ratio_slot_i64 *slots, size_t many, size_t length)
+{
+	Table	   *table = MemoryContextAllocHuge(context, offsetof(Table, slots) + length * sizeof(ratio_slot_i64));
+	ratio_total_i64 total = {0};
+
+	for (size_t i = 0; i < length; i += PIECE)
+	{
+		CHECK_FOR_INTERRUPTS();
+		memset(table->slots + i, 0, Min(length - i, PIECE) * sizeof(*slots));
+	}
+	for (size_t i = 0; i < many; i += PIECE)
+	{
+		CHECK_FOR_INTERRUPTS();
+		ratio_total_merge_i64(slots + i, Min(many - i, PIECE), 0, &total, 1, table->slots, length);
+		if (total.code != RATIO_ANSWERED)
+			refuse_change(total.code);
+	}
+	table->due = table->interval = limit_of(length) - many;
+	return table;
+}
+
 /* Moves the slots that are not 0 to a table that they fill at most by half. */
 static pg_noinline void
 move(State *state)
 {
-	size_t		many = pack(slots_of(state), state->length);
+	size_t		many = pack(slots_of(state), slots_of(state), state->length);
 	size_t		length = length_for(many);
-	Table	   *table = MemoryContextAllocExtended(GetMemoryChunkContext(state), offsetof(Table, slots) + length * sizeof(ratio_slot_i64),
-												   MCXT_ALLOC_ZERO | MCXT_ALLOC_HUGE);
-	ratio_total_i64 total = {0};
+	Table	   *table = new_table(GetMemoryChunkContext(state), slots_of(state), many, length);
 
-	ratio_total_merge_i64(slots_of(state), many, 0, &total, 1, table->slots, length);
-	if (total.code != RATIO_ANSWERED)
-		refuse_change(total.code);
 	if (state->table != NULL)
 		pfree(state->table);
 	state->table = table;
 	state->length = length;
-	table->due = table->interval = limit_of(length) - many;
+}
+
+static size_t
+count_free(const ratio_slot_i64 *slots, size_t length)
+{
+	size_t		many = 0;
+
+	for (size_t i = 0; i < length; i += PIECE)
+	{
+		CHECK_FOR_INTERRUPTS();
+		many += ratio_total_free_i64(slots + i, Min(length - i, PIECE));
+	}
+	return many;
 }
 
 /* Counts the empty slots. If few new denominators come, it does so ever more rarely, so that it costs a row nothing. A table may become
@@ -89,7 +127,7 @@ static pg_noinline void
 count_empty(State *state)
 {
 	Table	   *table = state->table;
-	size_t		taken = state->length - ratio_total_free_i64(table->slots, state->length),
+	size_t		taken = state->length - count_free(table->slots, state->length),
 				limit = limit_of(state->length);
 	uint64		longer = Min(2 * (uint64) table->interval, 16 * (uint64) state->length);
 
@@ -160,8 +198,9 @@ pour(State *state, Pour *call, const ratio_slot_i64 *slots, size_t many, int64 c
 
 	for (;;)
 	{
-		size_t		piece = state->table == NULL ? many : Min(many, state->table->due);
+		size_t		piece = Min(many, state->table == NULL ? PIECE : Min(state->table->due, PIECE));
 
+		CHECK_FOR_INTERRUPTS();
 		call(slots, piece, piece == many ? count : 0, &total, 1, slots_of(state), state->length);
 		if (total.code != RATIO_ANSWERED && total.code != RATIO_MORE_ROOM)
 			refuse_change(total.code);
@@ -193,10 +232,8 @@ pour_out(State *state, const ratio_slot_i64 *slots, size_t many, int64 count)
 ratio_slot_i64 *
 packed(State *state, size_t *many)
 {
-	size_t		size = state->length * sizeof(ratio_slot_i64);
-	ratio_slot_i64 *slots = MemoryContextAllocHuge(CurrentMemoryContext, size);
+	ratio_slot_i64 *slots = MemoryContextAllocHuge(CurrentMemoryContext, state->length * sizeof(ratio_slot_i64));
 
-	memcpy(slots, slots_of(state), size);
-	*many = pack(slots, state->length);
+	*many = pack(slots, slots_of(state), state->length);
 	return slots;
 }

@@ -66,8 +66,8 @@ extern void take_out(State *state, const Ratio *value);
 extern void pour_in(State *state, const ratio_slot_i64 *slots, size_t many, int64 count);
 extern void pour_out(State *state, const ratio_slot_i64 *slots, size_t many, int64 count);
 
-/* Moves the slots that are not 0 to the front, and says how many they are. */
-extern size_t pack(ratio_slot_i64 *slots, size_t length);
+/* Copies the slots that are not 0, and says how many they are. */
+extern size_t pack(ratio_slot_i64 *to, const ratio_slot_i64 *from, size_t length);
 
 /* The slots of a state that are not 0, in new memory. */
 extern ratio_slot_i64 *packed(State *state, size_t *many);
@@ -78,6 +78,11 @@ extern Datum mean_of(const ratio_slot_i64 *slots, size_t many, int64 count, cons
 extern int sign_of(const ratio_slot_i64 *slots, size_t many);
 extern float8 float_of(const ratio_slot_i64 *slots, size_t many);
 extern char *decimal_of(const ratio_slot_i64 *slots, size_t many, int32 places, uint32 rule, const char *call);
+
+/* Makes a call of the library, which writes its answer, of so many bytes. It runs in a process of its own, so that the statement can be cancelled
+ * meanwhile. If the system has no process for it, the call runs here. */
+typedef void Work(void *task);
+extern void run_apart(Work *work, void *task, void *answer, size_t size);
 
 /* The argument of a function, checked, and how many slots it has. */
 extern Stored *stored_argument(FunctionCallInfo fcinfo, int n, size_t *many);

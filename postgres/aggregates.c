@@ -86,7 +86,7 @@ CALL(ratio_combine)
 		State	   *other = (State *) PG_GETARG_POINTER(1);
 
 		settle(other);
-		pour_in(state, slots_of(other), other->length, other->count);
+		pour_in_order(state, slots_of(other), pack(slots_of(other), slots_of(other), other->length), other->count);
 		state->totals += other->totals;
 	}
 	PG_RETURN_POINTER(state);
@@ -126,7 +126,7 @@ CALL(ratio_deserialize)
 	size = bytes.len - bytes.cursor;
 	slots = palloc(size);
 	pq_copymsgbytes(&bytes, (char *) slots, size);
-	pour_in(state, slots, size / sizeof(*slots), count);
+	pour_in_order(state, slots, size / sizeof(*slots), count);
 	pfree(slots);
 	pfree(bytes.data);
 	PG_RETURN_POINTER(state);

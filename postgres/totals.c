@@ -4,8 +4,8 @@
 #include "miscadmin.h"
 #include "utils/memutils.h"
 
-/* So many slots at a time take a few milliseconds. Between them, a long work looks for interrupts. */
-enum { PIECE = 1 << 16 };
+/* So many slots at a time take a few milliseconds. Between them, a long work looks for interrupts. So few are no crowd: see below. */
+enum { PIECE = 1 << 16, CROWD = 64 };
 
 typedef uint32_t Put(const ratio_i64 *, size_t, ratio_total_i64 *, size_t, ratio_slot_i64 *, size_t);
 typedef uint32_t Pour(const ratio_slot_i64 *, size_t, int64_t, ratio_total_i64 *, size_t, ratio_slot_i64 *, size_t);
@@ -94,12 +94,12 @@ new_table(MemoryContext context, const ratio_slot_i64 *slots, size_t many, size_
 	return table;
 }
 
-/* Moves the slots that are not 0 to a table that they fill at most by half. */
+/* Moves the slots that are not 0 to a table, which they and so many more fill at most by half. */
 static pg_noinline void
-move(State *state)
+move(State *state, size_t more)
 {
 	size_t		many = pack(slots_of(state), slots_of(state), state->length);
-	size_t		length = length_for(many);
+	size_t		length = length_for(many + more);
 	Table	   *table = new_table(GetMemoryChunkContext(state), slots_of(state), many, length);
 
 	if (state->table != NULL)
@@ -132,7 +132,7 @@ count_empty(State *state)
 	uint64		longer = Min(2 * (uint64) table->interval, 16 * (uint64) state->length);
 
 	if (taken > limit)
-		move(state);
+		move(state, 0);
 	else
 		table->due = table->interval = Max(limit - taken, Min(longer, PG_UINT32_MAX));
 }
@@ -163,7 +163,7 @@ put(State *state, Put *call, const Ratio *values, uint32 many)
 		if (total.code != RATIO_MORE_ROOM)
 			refuse_change(total.code);
 		done += total.done;
-		move(state);
+		move(state, 0);
 	}
 	state->count = total.count;
 	count_if_due(state, many);
@@ -174,7 +174,7 @@ put_early(State *state, const Ratio *value)
 {
 	put(state, ratio_total_add_i64, value, 1);
 	if (state->count >= EARLY && state->table == NULL)
-		move(state);
+		move(state, 0);
 }
 
 void
@@ -207,7 +207,7 @@ pour(State *state, Pour *call, const ratio_slot_i64 *slots, size_t many, int64 c
 		slots += total.done;
 		many -= total.done;
 		if (total.code == RATIO_MORE_ROOM)
-			move(state);
+			move(state, 0);
 		else if (many == 0)
 			break;
 		else
@@ -221,6 +221,16 @@ void
 pour_in(State *state, const ratio_slot_i64 *slots, size_t many, int64 count)
 {
 	pour(state, ratio_total_merge_i64, slots, many, count);
+}
+
+/* In the order of a table, many slots would crowd the start of one that is too short for all of them. Then each takes longer than the one before,
+ * so there is room for all of them first. */
+void
+pour_in_order(State *state, const ratio_slot_i64 *slots, size_t many, int64 count)
+{
+	if (many > CROWD && limit_of(state->length) < state->length - count_free(slots_of(state), state->length) + many)
+		move(state, many);
+	pour_in(state, slots, many, count);
 }
 
 void

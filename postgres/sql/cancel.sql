@@ -1,4 +1,4 @@
--- Long totals: a read in a process of its own is right, and a statement ends soon after it is cancelled.
+-- Long totals: a read in a process of its own is right, a statement ends soon after it is cancelled, and workers hand over many denominators.
 -- 1/(1*2) + 1/(2*3) + .. + 1/(8000*8001) is 8000/8001
 CREATE TABLE telescope AS SELECT total(ratio(1, i * (i + 1))) AS t FROM generate_series(1, 8000) i;
 CREATE VIEW reads AS SELECT t::ratio AS sum, t = '8000/8001' AS eq, t < '8000/8001' AS lt, t + '1/2' > '8000/8001' AS gt, t::float8 = 8000 / 8001::float8 AS float, ratio_round(t, 3),
@@ -35,6 +35,14 @@ RESET statement_timeout;
 SELECT processes() AS processes;
 TABLE reads;
 SELECT processes() AS processes;
+-- Two workers each hand over some 150,000 denominators, in seconds.
+CREATE TABLE shared AS SELECT ratio(1, i) AS r FROM generate_series(1, 300000) i;
+ALTER TABLE shared SET (parallel_workers = 2);
+SET parallel_setup_cost = 0; SET parallel_tuple_cost = 0; SET min_parallel_table_scan_size = 0;
+SET statement_timeout = '5s';
+SELECT plan_has('SELECT total(r) FROM shared', 'Workers Planned: 2') AS by_workers;
+SELECT ratio_count(total(r)), ratio_round(total(r), 20) = 13.18875508520561171283 AS is_right FROM shared;
+RESET ALL;
 DROP VIEW reads;
-DROP TABLE telescope, odds;
+DROP TABLE telescope, odds, shared;
 DROP FUNCTION is_cancelled, processes;

@@ -197,29 +197,25 @@ clause_in(ListCell *cell)
 	return IsA(clause, RestrictInfo) ? (Node *) ((RestrictInfo *) clause)->clause : clause;
 }
 
-/* The clauses of which all must hold, among them the one with these arguments. */
+/* The clauses of which all must hold, among them the one with these arguments. Of those in an OR or a NOT, each is alone. */
 static List *
-clauses_beside(List *clauses, const List *args)
+clauses_beside(List *clauses, bool all_hold, const List *args)
 {
-	ListCell   *cell,
-			   *part;
+	ListCell   *cell;
+	List	   *found = NIL;
 
 	foreach(cell, clauses)
 	{
 		Node	   *clause = clause_in(cell);
-		List	   *found = NIL;
 
 		if (is_opclause(clause) && ((OpExpr *) clause)->args == args)
-			return clauses;
-		if (is_andclause(clause))
-			found = clauses_beside(((BoolExpr *) clause)->args, args);
-		else if (is_orclause(clause))
-			foreach(part, ((BoolExpr *) clause)->args)
-				found = list_concat(found, clauses_beside(list_make1(lfirst(part)), args));
+			return all_hold ? clauses : list_make1(clause);
+		if (IsA(clause, BoolExpr))
+			found = clauses_beside(((BoolExpr *) clause)->args, is_andclause(clause), args);
 		if (found != NIL)
-			return found;
+			break;
 	}
-	return NIL;
+	return found;
 }
 
 /* The bounds of one variable: on the lower side and on the upper one, the first clause, by its arguments, and the least share. */
@@ -242,12 +238,12 @@ static Range
 range_of(PlannerInfo *root, Oid operator, const List *args, int varRelid, const Bound *own, Oid collation)
 {
 	Range		range = {{NULL}};
-	List	   *clauses = clauses_beside(own->variable.rel->baserestrictinfo, args);
+	List	   *clauses = clauses_beside(own->variable.rel->baserestrictinfo, true, args);
 	ListCell   *cell;
 
 	/* In LEFT JOIN .. ON, a bound of the left side belongs to the join. */
 	if (clauses == NIL)
-		clauses = clauses_beside(own->variable.rel->joininfo, args);
+		clauses = clauses_beside(own->variable.rel->joininfo, true, args);
 	foreach(cell, clauses)
 	{
 		OpExpr	   *clause = (OpExpr *) clause_in(cell);

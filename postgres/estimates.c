@@ -19,6 +19,7 @@ extern Datum ratio_ge(PG_FUNCTION_ARGS);
 typedef struct
 {
 	VariableStatData variable;
+	Node	   *side;			/* the variable, as it is in the clause */
 	Node	   *limit;			/* what it is compared with */
 	Oid			operator;		/* as with the variable on the left */
 	FmgrInfo	compare;		/* its function */
@@ -35,6 +36,7 @@ read_bound(PlannerInfo *root, Oid operator, List *args, int varRelid, Bound *bou
 
 	if (!get_restriction_variable(root, args, varRelid, &bound->variable, &bound->limit, &on_left))
 		return false;
+	bound->side = on_left ? linitial(args) : lsecond(args);
 	bound->operator = on_left ? operator : get_commutator(operator);
 	fmgr_info(get_opcode(bound->operator), &bound->compare);
 	function = bound->compare.fn_addr;
@@ -197,6 +199,12 @@ clause_in(ListCell *cell)
 	return IsA(clause, RestrictInfo) ? (Node *) ((RestrictInfo *) clause)->clause : clause;
 }
 
+static bool
+has_args(Node *clause, const List *args)
+{
+	return is_opclause(clause) && ((OpExpr *) clause)->args == args;
+}
+
 /* The clauses of which all must hold, among them the one with these arguments. Of those in an OR or a NOT, each is alone. */
 static List *
 clauses_beside(List *clauses, bool all_hold, const List *args)
@@ -208,7 +216,7 @@ clauses_beside(List *clauses, bool all_hold, const List *args)
 	{
 		Node	   *clause = clause_in(cell);
 
-		if (is_opclause(clause) && ((OpExpr *) clause)->args == args)
+		if (has_args(clause, args))
 			return all_hold ? clauses : list_make1(clause);
 		if (IsA(clause, BoolExpr))
 			found = clauses_beside(((BoolExpr *) clause)->args, is_andclause(clause), args);
@@ -218,74 +226,97 @@ clauses_beside(List *clauses, bool all_hold, const List *args)
 	return found;
 }
 
-/* The bounds of one variable: on the lower side and on the upper one, the first clause, by its arguments, and the least share. */
-typedef struct
+/* Reads a clause, if it bounds the variable of another one. Its statistics must be released. */
+static bool
+read_beside(PlannerInfo *root, Node *clause, int varRelid, const Bound *other, Bound *bound)
 {
-	const List *first[2];
-	double		share[2];
-} Range;
+	const OpExpr *comparison = (const OpExpr *) clause;
 
-static void
-tighten(Range *range, bool side, const List *args, double share)
-{
-	range->share[side] = range->first[side] == NULL ? share : Min(range->share[side], share);
-	if (range->first[side] == NULL)
-		range->first[side] = args;
+	return is_opclause(clause) && (equal(linitial(comparison->args), other->side) || equal(llast(comparison->args), other->side))
+		&& get_oprrest(comparison->opno) == get_oprrest(other->operator)
+		&& read_bound(root, comparison->opno, comparison->args, varRelid, bound);
 }
 
-/* The bounds of the variable of a clause, by that clause and by those beside it. */
-static Range
-range_of(PlannerInfo *root, Oid operator, const List *args, int varRelid, const Bound *own, Oid collation)
+/* Whether a clause after the one with these arguments bounds the variable on the same side. */
+static bool
+is_followed(PlannerInfo *root, List *clauses, const List *args, int varRelid, const Bound *own)
 {
-	Range		range = {{NULL}};
-	List	   *clauses = clauses_beside(own->variable.rel->baserestrictinfo, true, args);
 	ListCell   *cell;
+	Bound		bound;
+	bool		is_after = false;
 
-	/* In LEFT JOIN .. ON, a bound of the left side belongs to the join. */
-	if (clauses == NIL)
-		clauses = clauses_beside(own->variable.rel->joininfo, true, args);
 	foreach(cell, clauses)
 	{
-		OpExpr	   *clause = (OpExpr *) clause_in(cell);
-		Bound		bound;
+		Node	   *clause = clause_in(cell);
 
-		if (!is_opclause(clause) || get_oprrest(clause->opno) != get_oprrest(operator)
-			|| !read_bound(root, clause->opno, clause->args, varRelid, &bound))
-			continue;
-		if (equal(bound.variable.var, own->variable.var))
-			tighten(&range, bound.is_upper, clause->args, share_of_rows(root, &bound, collation));
-		ReleaseVariableStats(bound.variable);
+		if (is_after && read_beside(root, clause, varRelid, own, &bound))
+		{
+			ReleaseVariableStats(bound.variable);
+			if (bound.is_upper == own->is_upper)
+				return true;
+		}
+		is_after |= has_args(clause, args);
 	}
-	return range;
+	return false;
 }
 
-/* The share of all rows within both bounds. */
+/* The share of all rows that the tightest bound of one side leaves, or NO_BOUND. */
+#define NO_BOUND 2
+
 static double
-share_within(const Range *range, const Bound *bound)
+least_share(PlannerInfo *root, List *clauses, int varRelid, const Bound *own, bool is_upper, Oid collation)
+{
+	ListCell   *cell;
+	Bound		bound;
+	double		least = NO_BOUND;
+
+	foreach(cell, clauses)
+	{
+		if (!read_beside(root, clause_in(cell), varRelid, own, &bound))
+			continue;
+		if (bound.is_upper == is_upper)
+			least = Min(least, share_of_rows(root, &bound, collation));
+		ReleaseVariableStats(bound.variable);
+	}
+	return least;
+}
+
+/* The share of all rows within both bounds of a variable. */
+static double
+share_within(double above_lower, double below_upper, const VariableStatData *variable)
 {
 	double		nulls;
 
-	if (range->share[false] == DEFAULT_INEQ_SEL || range->share[true] == DEFAULT_INEQ_SEL || !HeapTupleIsValid(bound->variable.statsTuple))
+	if (above_lower == DEFAULT_INEQ_SEL || below_upper == DEFAULT_INEQ_SEL || !HeapTupleIsValid(variable->statsTuple))
 		return DEFAULT_RANGE_INEQ_SEL;
-	nulls = ((Form_pg_statistic) GETSTRUCT(bound->variable.statsTuple))->stanullfrac;
-	return Max(range->share[false] + range->share[true] - 1 + nulls, 1.0e-10);
+	nulls = ((Form_pg_statistic) GETSTRUCT(variable->statsTuple))->stanullfrac;
+	return Max(above_lower + below_upper - 1 + nulls, 1.0e-10);
 }
 
-/* PostgreSQL multiplies the shares of clauses of which all must hold. So the first upper bound has the share of the tightest one, the first lower
+/* PostgreSQL multiplies the shares of clauses of which all must hold. So the last upper bound has the share of the tightest one, the last lower
  * bound has the part of these rows that both sides leave, and the others have 1. */
 static double
-share_beside_others(PlannerInfo *root, Oid operator, const List *args, int varRelid, Bound *bound, Oid collation)
+share_beside_others(PlannerInfo *root, const List *args, int varRelid, Bound *bound, Oid collation)
 {
-	Range		range = range_of(root, operator, args, varRelid, bound, collation);
-	bool		side = bound->is_upper;
+	RelOptInfo *rel = bound->variable.rel;
+	List	   *clauses = clauses_beside(rel->baserestrictinfo, true, args);
+	double		below_upper,
+				above_lower;
 
-	if (range.first[side] == NULL)
+	/* In LEFT JOIN .. ON, a bound of the left side belongs to the join. */
+	if (clauses == NIL)
+		clauses = clauses_beside(rel->joininfo, true, args);
+	if (clauses == NIL)
 		return share_of_rows(root, bound, collation);
-	if (range.first[side] != args)
+	if (is_followed(root, clauses, args, varRelid, bound))
 		return 1;
-	if (bound->is_upper || range.first[true] == NULL)
-		return range.share[side];
-	return range.share[true] > 0 ? Min(share_within(&range, bound) / range.share[true], 1) : 1;
+	below_upper = least_share(root, clauses, varRelid, bound, true, collation);
+	if (bound->is_upper)
+		return below_upper;
+	above_lower = least_share(root, clauses, varRelid, bound, false, collation);
+	if (below_upper == NO_BOUND)
+		return above_lower;
+	return below_upper > 0 ? Min(share_within(above_lower, below_upper, &bound->variable) / below_upper, 1) : 1;
 }
 
 CALL(ratio_bound_sel)
@@ -299,7 +330,7 @@ CALL(ratio_bound_sel)
 
 	if (!read_bound(root, operator, args, varRelid, &bound))
 		PG_RETURN_FLOAT8(DEFAULT_INEQ_SEL);
-	share = share_beside_others(root, operator, args, varRelid, &bound, PG_GET_COLLATION());
+	share = share_beside_others(root, args, varRelid, &bound, PG_GET_COLLATION());
 	ReleaseVariableStats(bound.variable);
 	PG_RETURN_FLOAT8(share);
 }

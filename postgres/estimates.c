@@ -8,6 +8,8 @@
 #include "access/htup_details.h"
 #include "catalog/pg_statistic.h"
 #include "nodes/nodeFuncs.h"
+#include "optimizer/clauses.h"
+#include "optimizer/paths.h"
 #include "utils/lsyscache.h"
 #include "utils/selfuncs.h"
 
@@ -27,7 +29,7 @@ typedef struct
 	bool		is_closed;		/* <= or >= */
 } Bound;
 
-/* The bound that a clause is, if it is one. Its statistics must be released. */
+/* The bound that a clause is, if it is one: of a variable, by what no row changes. Its statistics must be released. */
 static bool
 read_bound(PlannerInfo *root, Oid operator, List *args, int varRelid, Bound *bound)
 {
@@ -36,6 +38,11 @@ read_bound(PlannerInfo *root, Oid operator, List *args, int varRelid, Bound *bou
 
 	if (!get_restriction_variable(root, args, varRelid, &bound->variable, &bound->limit, &on_left))
 		return false;
+	if (!is_pseudo_constant_clause(bound->limit))
+	{
+		ReleaseVariableStats(bound->variable);
+		return false;
+	}
 	bound->side = on_left ? linitial(args) : lsecond(args);
 	bound->operator = on_left ? operator : get_commutator(operator);
 	fmgr_info(get_opcode(bound->operator), &bound->compare);
@@ -218,10 +225,35 @@ clauses_beside(List *clauses, bool all_hold, const List *args)
 
 		if (has_args(clause, args))
 			return all_hold ? clauses : list_make1(clause);
+		if (IsA(clause, BooleanTest))
+			clause = (Node *) ((BooleanTest *) clause)->arg;
 		if (IsA(clause, BoolExpr))
 			found = clauses_beside(((BoolExpr *) clause)->args, is_andclause(clause), args);
 		if (found != NIL)
 			break;
+	}
+	return found;
+}
+
+/* The clauses of which PostgreSQL multiplies the shares, among them the one with these arguments. In LEFT JOIN .. ON, a bound of the left side
+ * belongs to the join. With the predicate of an index goes what the query says of the columns of the index. */
+static List *
+clauses_with(PlannerInfo *root, const Bound *bound, const List *args)
+{
+	RelOptInfo *rel = bound->variable.rel;
+	List	   *places[] = {rel->baserestrictinfo, rel->joininfo, (List *) root->parse->havingQual};
+	List	   *found = NIL;
+
+	for (int i = 0; i < lengthof(places) && found == NIL; i++)
+		found = clauses_beside(places[i], true, args);
+	for (int i = 0; i < list_length(rel->indexlist) && found == NIL; i++)
+	{
+		IndexOptInfo *index = list_nth(rel->indexlist, i);
+
+		found = clauses_beside(index->indpred, true, args);
+		for (int column = 0; column < index->nkeycolumns && found != NIL; column++)
+			if (match_index_to_operand(bound->side, column, index))
+				return list_concat_copy(index->indrestrictinfo, found);
 	}
 	return found;
 }
@@ -298,14 +330,10 @@ share_within(double above_lower, double below_upper, const VariableStatData *var
 static double
 share_beside_others(PlannerInfo *root, const List *args, int varRelid, Bound *bound, Oid collation)
 {
-	RelOptInfo *rel = bound->variable.rel;
-	List	   *clauses = clauses_beside(rel->baserestrictinfo, true, args);
+	List	   *clauses = clauses_with(root, bound, args);
 	double		below_upper,
 				above_lower;
 
-	/* In LEFT JOIN .. ON, a bound of the left side belongs to the join. */
-	if (clauses == NIL)
-		clauses = clauses_beside(rel->joininfo, true, args);
 	if (clauses == NIL)
 		return share_of_rows(root, bound, collation);
 	if (is_followed(root, clauses, args, varRelid, bound))

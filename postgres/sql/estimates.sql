@@ -44,7 +44,7 @@ INSERT INTO spread (even, even_n) SELECT ratio(i, 100), i * 0.01 FROM generate_s
 TRUNCATE tried;
 INSERT INTO tried SELECT 'even', format(form, mark) FROM unnest('{-3, -2.97, -1, 0.001, 299.999, 301, 302.97, 303}'::numeric[]) mark, unnest('{"%%1$I < %L", "%%1$I > %L", "%%1$I > %L AND %%1$I < ''1000''"}'::text[]) form;
 SELECT count(*), count(*) FILTER (WHERE estimate NOT BETWEEN of_numeric * 0.99 - 1 AND of_numeric * 1.01 + 1) AS unlike FROM estimates;
--- parameters, subqueries, joins, and what has no statistics: as numeric. A bound that is NULL leaves no row
+-- parameters, subqueries, joins, and what has no statistics: as numeric. A bound that is NULL and a range without values leave no row
 PREPARE of_ratio AS SELECT FROM spread WHERE even BETWEEN $1 AND $2;
 PREPARE of_numeric AS SELECT FROM spread WHERE even_n BETWEEN $1 AND $2;
 SET plan_cache_mode = force_generic_plan;
@@ -60,12 +60,36 @@ SELECT query, planned(format(query, 'even', 'ratio')) AS of_ratio, planned(forma
     SELECT FROM spread a JOIN spread b USING (%1$I) WHERE a.%1$I BETWEEN ''10'' AND ''15'',
     SELECT FROM spread a LEFT JOIN spread b ON a.%1$I > ''10'' AND a.%1$I < ''15'',
     SELECT FROM spread a JOIN spread b ON a.%1$I < b.%1$I,
+    SELECT FROM spread WHERE (%1$I > ''10'' AND %1$I < ''15'') IS TRUE,
+    SELECT FROM spread WHERE %1$I < ''10'' OR %1$I < ''15'',
+    SELECT FROM spread WHERE (%1$I > ''10'') IS NOT TRUE AND %1$I < ''15'',
+    SELECT few FROM spread GROUP BY few HAVING sum(%1$I) > ''10'' AND sum(%1$I) < ''15'',
+    SELECT FROM spread WHERE %1$I > ''15'' AND %1$I < ''10'',
     SELECT FROM spread WHERE %1$I BETWEEN ''10'' AND NULL,
     SELECT FROM spread WHERE %1$I > no_%2$s() AND %1$I < ''10'',
     SELECT FROM unread WHERE %1$I > ''10'',
     SELECT FROM unread WHERE %1$I BETWEEN ''10'' AND ''15'',
     SELECT FROM unread WHERE %1$I < no_%2$s() AND %1$I > no_%2$s(),
     SELECT FROM unread WHERE %1$I < ''10'' AND %1$I > no_%2$s()
+}'::text[]) query;
+-- the costs of indexes, in a join by ranges and with predicates
+CREATE FUNCTION costed(query text) RETURNS float8 LANGUAGE plpgsql AS $$
+DECLARE plan json;
+BEGIN
+    EXECUTE 'EXPLAIN (FORMAT JSON) ' || query INTO plan;
+    RETURN plan->0->'Plan'->>'Total Cost';
+END $$;
+CREATE INDEX ON spread (skewed);
+CREATE INDEX ON spread (skewed_n);
+CREATE INDEX ON spread (common) WHERE common > '100';
+CREATE INDEX ON spread (common_n) WHERE common_n > '100';
+CREATE INDEX ON spread (few) WHERE sparse > '50' AND sparse < '60';
+CREATE INDEX ON spread (few_n) WHERE sparse_n > '50' AND sparse_n < '60';
+SELECT query, costed(replace(query, '_x', '')) / costed(replace(query, '_x', '_n')) BETWEEN 0.8 AND 1.25 AS as_dear FROM unnest('{
+    SELECT FROM (SELECT skewed_x AS low FROM spread LIMIT 10) lows JOIN spread ON skewed_x > low AND skewed_x < low + 1,
+    SELECT FROM spread WHERE common_x > ''100'' AND common_x < ''101'',
+    SELECT FROM spread WHERE few_x < ''10'' AND sparse_x > ''50'' AND sparse_x < ''51'' AND sparse_x < ''60'',
+    SELECT FROM spread WHERE few_x < ''10'' AND sparse_x > ''50'' AND sparse_x < ''60''
 }'::text[]) query;
 -- planning long conditions takes about as much memory as with numeric, and no long time. A new process has its own peak of memory, in MB
 CREATE FUNCTION peak() RETURNS int LANGUAGE sql AS $$ SELECT substring(pg_read_file('/proc/self/status', 0, 10000) FROM 'VmHWM:\s+(\d+)')::int / 1024 $$;
@@ -80,4 +104,4 @@ SELECT sum(planned(query)) BETWEEN :rows_of_numeric * 0.99 AND :rows_of_numeric 
 RESET statement_timeout;
 DROP VIEW estimates;
 DROP TABLE spread, marks, tried, estimated, unread, long;
-DROP FUNCTION planned, counted, is_near, no_ratio, no_numeric, peak;
+DROP FUNCTION planned, counted, is_near, no_ratio, no_numeric, costed, peak;

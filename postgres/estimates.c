@@ -52,32 +52,26 @@ read_bound(PlannerInfo *root, Oid operator, List *args, int varRelid, Bound *bou
 	return true;
 }
 
-/* The values of the histogram next to a constant. PostgreSQL compares them with it last, while it searches. An end may come from an index. */
+/* The values of the histogram next to a constant, first the one below. PostgreSQL compares them with it last, while it searches. An end may come
+ * from an index. Then it does not lie beside the other one in memory. */
 typedef struct
 {
 	const Bound *bound;
-	bool		has_below,
-				has_above;
-	Ratio		below,
-				above;
+	const Ratio *place[2];
+	Ratio		value[2];
+	bool		are_stored;		/* neither came from an index */
 } Search;
 
 static Datum
 watched(PG_FUNCTION_ARGS)
 {
 	Search	   *search = fcinfo->flinfo->fn_extra;
-	bool		answer = DatumGetBool(search->bound->compare.fn_addr(fcinfo));
+	bool		answer = DatumGetBool(search->bound->compare.fn_addr(fcinfo)),
+				is_above = answer != search->bound->is_upper;
 
-	if (answer == search->bound->is_upper)
-	{
-		search->has_below = true;
-		search->below = *ARG(0);
-	}
-	else
-	{
-		search->has_above = true;
-		search->above = *ARG(0);
-	}
+	search->place[is_above] = ARG(0);
+	search->value[is_above] = *ARG(0);
+	search->are_stored = search->place[0] != NULL && search->place[1] == search->place[0] + 1;
 	return BoolGetDatum(answer);
 }
 
@@ -94,8 +88,8 @@ float_near(const Ratio *x)
 static double
 place_in(const Search *search, const Ratio *value)
 {
-	double		low = float_near(&search->below),
-				place = (float_near(value) - low) / (float_near(&search->above) - low);
+	double		low = float_near(&search->value[0]),
+				place = (float_near(value) - low) / (float_near(&search->value[1]) - low);
 
 	return isnan(place) ? 0.5 : Min(Max(place, 0), 1);
 }
@@ -122,20 +116,11 @@ static double
 height_of(Bound *bound, const Search *search, AttStatsSlot *histogram)
 {
 	double		height = 1.0 / (histogram->nvalues - 1);
-	ratio_pair_i64 pair = {search->below, *(const Ratio *) DatumGetPointer(histogram->values[1])};
+	ratio_pair_i64 pair = {search->value[0], *(const Ratio *) DatumGetPointer(histogram->values[1])};
 	ratio_order order;
 
 	ratio_compare_i64(&pair, 1, &order, 1);
 	return order.order < 0 ? height - share_of_one(&bound->variable) : height;
-}
-
-static bool
-has_value(const AttStatsSlot *histogram, const Ratio *value)
-{
-	for (int i = 0; i < histogram->nvalues; i++)
-		if (memcmp(DatumGetPointer(histogram->values[i]), value, sizeof(*value)) == 0)
-			return true;
-	return false;
 }
 
 /* Moves a share of the histogram from the middle of a bucket, where PostgreSQL took it, to the place of the constant. As PostgreSQL's own, the
@@ -145,13 +130,12 @@ moved(double share, Bound *bound, const Search *search, const Ratio *value)
 {
 	AttStatsSlot histogram;
 	double		move,
-				margin = 0;
+				margin;
 
 	if (!get_attstatsslot(&histogram, bound->variable.statsTuple, STATISTIC_KIND_HISTOGRAM, InvalidOid, ATTSTATSSLOT_VALUES))
 		return share;
 	move = (place_in(search, value) - 0.5) * height_of(bound, search, &histogram);
-	if (has_value(&histogram, &search->below) && has_value(&histogram, &search->above))
-		margin = 0.01 / (histogram.nvalues - 1);
+	margin = search->are_stored ? 0.01 / (histogram.nvalues - 1) : 0;
 	free_attstatsslot(&histogram);
 	return Min(Max(bound->is_upper ? share + move : share - move, margin), 1 - margin);
 }
@@ -168,7 +152,7 @@ share_of_histogram(PlannerInfo *root, Bound *bound, const Const *limit, Oid coll
 	compare.fn_extra = &search;
 	share = ineq_histogram_selectivity(root, &bound->variable, bound->operator, &compare, !bound->is_upper, bound->is_closed, collation,
 									   limit->constvalue, limit->consttype);
-	if (share < 0 || !search.has_below || !search.has_above)
+	if (share < 0 || search.place[0] == NULL || search.place[1] == NULL)
 		return share;
 	return moved(share, bound, &search, (const Ratio *) DatumGetPointer(limit->constvalue));
 }

@@ -3,6 +3,7 @@ here=$(cd "$(dirname "${BASH_SOURCE[0]}")" && pwd)
 top=$(dirname "$here")
 version=${PG_VERSION:-15}
 server=/usr/lib/postgresql/$version
+pg_config=${PG_CONFIG:-$server/bin/pg_config} # names the folder of the headers, and those that install writes to
 
 stop() {
   echo "$me: $1" >&2
@@ -11,9 +12,9 @@ stop() {
 
 # Names the Debian packages that are missing. A need is 'COMMAND=PACKAGE' or 'PATH=PACKAGE'.
 require() {
-  local need packages=()
-  for need in "$server/bin/postgres=postgresql-$version" "$server/lib/pgxs/src/test/regress/pg_regress=postgresql-server-dev-$version" \
-    cc=gcc make=make "$@"; do
+  local need headers packages=()
+  headers=$("$pg_config" --includedir-server 2>/dev/null) || headers=/usr/include/postgresql/$version/server
+  for need in "$server/bin/postgres=postgresql-$version" "$headers/postgres.h=postgresql-server-dev-$version" cc=gcc make=make "$@"; do
     case $need in
       /*) [ -e "${need%=*}" ] || packages+=("${need##*=}") ;;
       *) command -v "${need%=*}" >/dev/null || packages+=("${need##*=}") ;;

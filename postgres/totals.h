@@ -80,11 +80,6 @@ extern int sign_of(const ratio_slot_i64 *slots, size_t many);
 extern float8 float_of(const ratio_slot_i64 *slots, size_t many);
 extern char *decimal_of(const ratio_slot_i64 *slots, size_t many, int32 places, uint32 rule, const char *call);
 
-/* Makes a call of the library, which writes its answer, of so many bytes. It runs in a process of its own, so that the statement can be cancelled
- * meanwhile. If the system has no process for it, the call runs here. */
-typedef void Work(void *task);
-extern void run_apart(Work *work, void *task, void *answer, size_t size);
-
 /* The argument of a function, checked, and how many slots it has. */
 extern Stored *stored_argument(FunctionCallInfo fcinfo, int n, size_t *many);
 extern Datum new_stored(State *state);

@@ -2,6 +2,7 @@
 #include "totals.h"
 
 #include "libpq/pqformat.h"
+#include "utils/memutils.h"
 
 static pg_noinline State *
 first_state(FunctionCallInfo fcinfo)
@@ -92,7 +93,8 @@ CALL(ratio_combine)
 	PG_RETURN_POINTER(state);
 }
 
-/* A worker hands its total to another process of the same server: two counts, and the slots byte by byte. */
+/* A worker hands its total to another process of the same server: two counts, and the slots byte by byte. PostgreSQL counts their bytes by an int,
+ * and a value has less than a gigabyte. */
 CALL(ratio_serialize)
 {
 	State	   *state = (State *) PG_GETARG_POINTER(0);
@@ -102,6 +104,8 @@ CALL(ratio_serialize)
 
 	settle(state);
 	slots = packed(state, &many);
+	if (many >= MaxAllocSize / sizeof(*slots))
+		ereport(ERROR, errcode(ERRCODE_PROGRAM_LIMIT_EXCEEDED), errmsg("a total has too many denominators for a parallel worker"));
 	pq_begintypsend(&bytes);
 	pq_sendint64(&bytes, state->count);
 	pq_sendint64(&bytes, state->totals);

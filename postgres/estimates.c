@@ -15,6 +15,7 @@
 
 extern Datum ratio_lt(PG_FUNCTION_ARGS);
 extern Datum ratio_le(PG_FUNCTION_ARGS);
+extern Datum ratio_gt(PG_FUNCTION_ARGS);
 extern Datum ratio_ge(PG_FUNCTION_ARGS);
 
 /* A clause that bounds a variable, as r < '1/2' does. */
@@ -29,27 +30,37 @@ typedef struct
 	bool		is_closed;		/* <= or >= */
 } Bound;
 
+/* Reads an operator, if its function is one of those of <, <=, > and >=. Operators of other types may name this estimator, too. An operator without
+ * a commutator gives 0 here, and one that is only named gives one without a function. */
+static bool
+read_operator(Oid operator, Bound *bound)
+{
+	Oid			compare = get_opcode(operator);
+	PGFunction	function;
+
+	if (!OidIsValid(compare))
+		return false;
+	bound->operator = operator;
+	fmgr_info(compare, &bound->compare);
+	function = bound->compare.fn_addr;
+	bound->is_upper = function == ratio_lt || function == ratio_le;
+	bound->is_closed = function == ratio_le || function == ratio_ge;
+	return bound->is_upper || bound->is_closed || function == ratio_gt;
+}
+
 /* The bound that a clause is, if it is one: of a variable, by what no row changes. Its statistics must be released. */
 static bool
 read_bound(PlannerInfo *root, Oid operator, List *args, int varRelid, Bound *bound)
 {
 	bool		on_left;
-	PGFunction	function;
 
 	if (!get_restriction_variable(root, args, varRelid, &bound->variable, &bound->limit, &on_left))
 		return false;
-	if (!is_pseudo_constant_clause(bound->limit))
-	{
-		ReleaseVariableStats(bound->variable);
-		return false;
-	}
 	bound->side = on_left ? linitial(args) : lsecond(args);
-	bound->operator = on_left ? operator : get_commutator(operator);
-	fmgr_info(get_opcode(bound->operator), &bound->compare);
-	function = bound->compare.fn_addr;
-	bound->is_upper = function == ratio_lt || function == ratio_le;
-	bound->is_closed = function == ratio_le || function == ratio_ge;
-	return true;
+	if (is_pseudo_constant_clause(bound->limit) && read_operator(on_left ? operator : get_commutator(operator), bound))
+		return true;
+	ReleaseVariableStats(bound->variable);
+	return false;
 }
 
 /* The values of the histogram next to a constant, first the one below. PostgreSQL compares them with it last, while it searches. An end may come

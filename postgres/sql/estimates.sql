@@ -73,6 +73,15 @@ SELECT query, planned(format(query, 'even', 'ratio')) AS of_ratio, planned(forma
     SELECT FROM unread WHERE %1$I < no_%2$s() AND %1$I > no_%2$s(),
     SELECT FROM unread WHERE %1$I < ''10'' AND %1$I > no_%2$s()
 }'::text[]) query;
+-- operators of another type, and one without a commutator, with the same estimator: a third of the rows by default
+CREATE TABLE whole AS SELECT i, ratio(i) AS r FROM generate_series(1, 9000) i;
+ANALYZE whole;
+CREATE FUNCTION is_below(int, int) RETURNS boolean LANGUAGE plpgsql AS 'BEGIN RETURN $1 < $2; END';
+CREATE OPERATOR <<<< (LEFTARG = int, RIGHTARG = int, FUNCTION = is_below, RESTRICT = ratio_bound_sel);
+CREATE OPERATOR <<<@ (LEFTARG = int, RIGHTARG = int, FUNCTION = is_below, RESTRICT = ratio_bound_sel, COMMUTATOR = @>>>);
+CREATE OPERATOR <<<< (LEFTARG = ratio, RIGHTARG = ratio, FUNCTION = ratio_lt, RESTRICT = ratio_bound_sel);
+SELECT condition, planned('SELECT FROM whole WHERE ' || condition) FROM unnest('{i <<<< 5, 5 <<<< i, i <<<@ 5, 5 <<<@ i, i <<<< 5 AND 5 <<<@ i, 5::ratio <<<< r}'::text[]) condition;
+DROP OPERATOR <<<<(int, int), <<<@(int, int), @>>>(int, int), <<<<(ratio, ratio);
 -- the costs of indexes, in a join by ranges and with predicates
 CREATE FUNCTION costed(query text) RETURNS float8 LANGUAGE plpgsql AS $$
 DECLARE plan json;
@@ -104,5 +113,5 @@ SET statement_timeout = '4s';
 SELECT sum(planned(query)) BETWEEN :rows_of_numeric * 0.99 AND :rows_of_numeric * 1.01 AS as_many, peak() BETWEEN 10 AND :peak_of_numeric * 1.5 AS as_small FROM long WHERE name = 'even';
 RESET statement_timeout;
 DROP VIEW estimates;
-DROP TABLE spread, marks, tried, estimated, unread, long;
-DROP FUNCTION planned, counted, is_near, no_ratio, no_numeric, costed, peak;
+DROP TABLE spread, marks, tried, estimated, unread, whole, long;
+DROP FUNCTION planned, counted, is_near, no_ratio, no_numeric, is_below, costed, peak;

@@ -230,17 +230,49 @@ clauses_beside(List *clauses, bool all_hold, const List *args)
 	return found;
 }
 
+/* Whether PostgreSQL applies two clauses of joins in the same one. */
+static bool
+are_of_one_join(const RestrictInfo *one, const RestrictInfo *other)
+{
+	return one->is_pushed_down == other->is_pushed_down && bms_equal(one->required_relids, other->required_relids)
+		&& bms_equal(one->outer_relids, other->outer_relids) && bms_equal(one->nullable_relids, other->nullable_relids);
+}
+
+/* The same among the clauses of joins, and of one join only. */
+static List *
+clauses_of_join(List *clauses, const List *args)
+{
+	List	   *found = clauses_beside(clauses, true, args),
+			   *same = NIL;
+	const RestrictInfo *own = NULL;
+	ListCell   *cell;
+
+	if (found != clauses)
+		return found;
+	foreach(cell, clauses)
+		if (has_args(clause_in(cell), args))
+			own = lfirst(cell);
+	foreach(cell, clauses)
+		if (are_of_one_join(own, lfirst(cell)))
+			same = lappend(same, lfirst(cell));
+	if (list_length(same) < list_length(clauses))
+		return same;
+	list_free(same);
+	return clauses;
+}
+
 /* The clauses of which PostgreSQL multiplies the shares, among them the one with these arguments. In LEFT JOIN .. ON, a bound of the left side
  * belongs to the join. With the predicate of an index goes what the query says of the columns of the index. */
 static List *
 clauses_with(PlannerInfo *root, const Bound *bound, const List *args)
 {
 	RelOptInfo *rel = bound->variable.rel;
-	List	   *places[] = {rel->baserestrictinfo, rel->joininfo, (List *) root->parse->havingQual};
-	List	   *found = NIL;
+	List	   *found = clauses_beside(rel->baserestrictinfo, true, args);
 
-	for (int i = 0; i < lengthof(places) && found == NIL; i++)
-		found = clauses_beside(places[i], true, args);
+	if (found == NIL)
+		found = clauses_of_join(rel->joininfo, args);
+	if (found == NIL)
+		found = clauses_beside((List *) root->parse->havingQual, true, args);
 	for (int i = 0; i < list_length(rel->indexlist) && found == NIL; i++)
 	{
 		IndexOptInfo *index = list_nth(rel->indexlist, i);

@@ -60,6 +60,7 @@ SELECT query, planned(format(query, 'even', 'ratio')) AS of_ratio, planned(forma
     SELECT FROM spread WHERE %1$I + 1 < ''3'' AND %1$I > ''2'',
     SELECT FROM spread a JOIN spread b USING (%1$I) WHERE a.%1$I BETWEEN ''10'' AND ''15'',
     SELECT FROM spread a LEFT JOIN spread b ON a.%1$I > ''10'' AND a.%1$I < ''15'',
+    SELECT FROM spread a LEFT JOIN spread b ON a.%1$I > ''150'' LEFT JOIN spread c ON a.%1$I < ''100'' AND c.%1$I = a.%1$I,
     SELECT FROM spread a JOIN spread b ON a.%1$I < b.%1$I,
     SELECT FROM spread WHERE (%1$I > ''10'' AND %1$I < ''15'') IS TRUE,
     SELECT FROM spread WHERE %1$I < ''10'' OR %1$I < ''15'',

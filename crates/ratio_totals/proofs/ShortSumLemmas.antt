@@ -5,7 +5,7 @@ use Rattle.std.proofs.lemmas.Int.{ints}
 use Rattle.std.proofs.lemmas.List.{drop_all}
 use Rattle.ratio_integer.specs.Fraction.{IsLowestTermsOf}
 use Rattle.ratio_natural.specs.Number.{base}
-use Rattle.ratio_totals.proofs.CommonLemmas.{IsCommonSoFar, common_begins, common_ends, common_grows, common_skips, parts_alike}
+use Rattle.ratio_totals.proofs.CommonLemmas.{common_begins, common_ends, common_grows, common_skips, parts_alike}
 use Rattle.ratio_totals.proofs.CountLemmas.{rest_at}
 use Rattle.ratio_totals.proofs.JoinLemmas.{and_none, none_and, parts_step}
 use Rattle.ratio_totals.proofs.LowestSumLemmas.{above_zero_mean, above_zero_positive, divided_same, product_positive, short_moved}
@@ -15,6 +15,7 @@ use Rattle.ratio_totals.specs.Common.{above_zero}
 use Rattle.ratio_totals.specs.LowestSum.{ChecksMeanOfSlots, ChecksShortPair, HasLongPair, IsShortPair, mean_of_slots}
 use Rattle.ratio_totals.specs.ShortSum.{AddsShort, IsShortMean, IsShortSum}
 use Rattle.ratio_totals.specs.Slots.{slot_at}
+use Rattle.ratio_totals.specs.Steps.{IsCommonSoFar}
 use Rattle.ratio_totals.specs.Sums.{SameSum, pair_sum, sum_of_slots}
 use Rattle.ratio_totals.specs.declared.slots.Slot.{Slot}
 

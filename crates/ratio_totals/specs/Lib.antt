@@ -16,3 +16,4 @@ pub mod Integers
 pub mod Multiples
 pub mod AnyOrder
 pub mod Bounds
+pub mod Steps

@@ -8,6 +8,7 @@ pub mod Totals
 pub mod Merging
 pub mod TotalLaws
 pub mod Common
+pub mod Joined
 pub mod LowestSum
 pub mod SumOrder
 pub mod Turning

@@ -28,16 +28,27 @@ abbrev pub ChecksShortPair : ℤ × ℕ → Option (ℤ × ℕ) → Type 0
 ChecksShortPair x None = HasLongPair x
 ChecksShortPair x (Some t) = IsShortPair x t.0 t.1
 
+-- the fraction x divided by a count, not reduced
+-- Example: 64/1008 and 2: 64/2016
+abbrev pub pair_mean : ℤ × ℕ → ℤ → ℤ × ℕ
+pair_mean x count = (x.0, x.1 * above_zero count)
+
 -- the mean of the table: its sum divided by the count of its fractions, not reduced
 -- Example: 64/2016 in the table 1/36, 1/28
 abbrev pub mean_of_slots : List Slot → ℤ → ℤ × ℕ
-mean_of_slots slots count = ((sum_of_slots slots).0, (sum_of_slots slots).1 * above_zero count)
+mean_of_slots slots count = pair_mean (sum_of_slots slots) count
+
+-- the result is the fraction x divided by the count in lowest terms, where the count is above 0 and both numbers are below 2^64; elsewhere
+-- it is `None`
+-- Example: 64/1008 and 2: `Some((2, 63))`
+abbrev pub ChecksMean : ℤ × ℕ → ℤ → Option (ℤ × ℕ) → Type 0
+ChecksMean x count None = (count ≤ℤ pos 0) ⊎ HasLongPair (pair_mean x count)
+ChecksMean x count (Some t) = (pos 0 <ℤ count) × IsShortPair (pair_mean x count) t.0 t.1
 
 -- the result is the mean of the table in lowest terms, where the count is above 0 and both numbers are below 2^64; elsewhere it is `None`
 -- Example: `Some((2, 63))` in the table 1/36, 1/28
 abbrev pub ChecksMeanOfSlots : List Slot → ℤ → Option (ℤ × ℕ) → Type 0
-ChecksMeanOfSlots slots count None = (count ≤ℤ pos 0) ⊎ HasLongPair (mean_of_slots slots count)
-ChecksMeanOfSlots slots count (Some t) = (pos 0 <ℤ count) × IsShortPair (mean_of_slots slots count) t.0 t.1
+ChecksMeanOfSlots slots count = ChecksMean (sum_of_slots slots) count
 
 -- ---- laws
 

@@ -1,5 +1,5 @@
 -- Where a rule rounds both bounds of a sum to the same number, it rounds the sum to it.
-use Rattle.std.specs.Prelude.{◌≡◌, ◌+◌, ◌-◌, ◌*◌, ◌^◌, ◌<◌, ◌≤◌, ◌*ℤ◌, ◌≤ℤ◌, ℕ, ℤ, pos, Bool, true, false, List, length, take}
+use Rattle.std.specs.Prelude.{◌≡◌, ◌+◌, ◌-◌, ◌*◌, ◌^◌, ◌<◌, ◌≤◌, ◌*ℤ◌, ◌≤ℤ◌, ℕ, ℤ, pos, Bool, List, length, take}
 use Rattle.std.proofs.Common.{refl, sym, ap, subst, arith, ◌∙◌, length-take-le}
 use Rattle.std.proofs.lemmas.Int.{ints}
 use Rattle.ratio_integer.proofs.Whole.{mul-swap_last, mul_assoc}
@@ -12,7 +12,7 @@ use Rattle.ratio_long.proofs.DecimalLemmas.{signed_times}
 use Rattle.ratio_natural.specs.Number.{base}
 use Rattle.ratio_natural.proofs.NumberLemmas.{pow_positive}
 use Rattle.ratio_totals.proofs.BoundLemmas.{bounds_hold}
-use Rattle.ratio_totals.proofs.DecimalLemmas.{above_zero_ℤ}
+use Rattle.ratio_totals.proofs.DecimalLemmas.{above_zero_ℤ, signed_whole}
 use Rattle.ratio_totals.proofs.MergeSums.{sum_positive}
 use Rattle.ratio_totals.specs.Bounds.{BoundsDecide, LiesBetween, high_of, low_of}
 use Rattle.ratio_totals.specs.Common.{whole_number}
@@ -52,13 +52,9 @@ rounded_between rule t slots parts low high z some between low_is high_is =
 pub bound_rounded : (rule : Rounding) (negative : Bool) (m t given parts z : ℕ) (bound : ℤ) → whole_number negative m ≡ bound → given ≡ parts
     → IsRoundedBy rule (signed negative (m * t)) (pos given) (signed negative z) → IsRoundedBy rule (bound *ℤ pos t) (pos parts) (signed negative z)
 bound_rounded rule negative m t given parts z bound is given_is rounded =
-    let whole : signed negative (m * t) ≡ bound *ℤ pos t = sym (signed_times negative m t) ∙ ap (λ (x : ℤ). x *ℤ pos t) (alike negative m ∙ is) in
+    let whole : signed negative (m * t) ≡ bound *ℤ pos t = sym (signed_times negative m t) ∙ ap (λ (x : ℤ). x *ℤ pos t) (signed_whole negative m ∙ is) in
     subst (λ (x : ℕ). IsRoundedBy rule (bound *ℤ pos t) (pos x) (signed negative z)) given_is
     (subst (λ (x : ℤ). IsRoundedBy rule x (pos given) (signed negative z)) whole rounded)
-  where
-    alike : (negative : Bool) (m : ℕ) → signed negative m ≡ whole_number negative m
-    alike true m = refl
-    alike false m = refl
 
 pub one_part : (given k count : ℕ) (xs : List ℕ) → given ≡ 1 * base ^ (length (take count xs) - 2) → count ≡ k + 2 → count ≤ length xs → given ≡ base ^ k
 one_part given k count xs is long within =

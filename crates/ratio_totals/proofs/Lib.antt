@@ -26,3 +26,4 @@ pub mod OrderLemmas
 pub mod BoundLemmas
 pub mod CutLemmas
 pub mod BoundedLemmas
+pub mod StepLemmas

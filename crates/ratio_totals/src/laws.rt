@@ -2,6 +2,7 @@
 ghost use Rattle.ratio_totals.specs.Bounds.{BoundsAreNear, BoundsDecide, BoundsHold};
 ghost use Rattle.ratio_totals.specs.Common.{CommonExists, CommonsAgree, ReadsAgree};
 ghost use Rattle.ratio_totals.specs.LowestSum.{MeanResultsAgree, SumResultsAgree, SumsAgree};
+ghost use Rattle.ratio_totals.specs.Steps.{StepsJoinAll};
 ghost use Rattle.ratio_totals.specs.TotalLaws.{AdditionsCommute, DenominatorsDiffer, MergesAddEach, MergesUndone, NegatedNumerators, NegatedSums, TableMergesAssociate, TableMergesCommute, TakingOutUndoes};
 
 /// The order of additions does not matter, and taking out undoes an addition.
@@ -42,6 +43,11 @@ pub fn sums()
     ensures value { SumsAgree }
     ensures one_result { SumResultsAgree }
     ensures one_mean { MeanResultsAgree }
+{}
+
+/// A read in steps comes to the sum over the common denominator, however many slots a step joins.
+pub fn steps()
+    ensures { StepsJoinAll }
 {}
 
 /// Where each quotient is cut to a whole number of parts of 1, the sum lies between the bounds. These are as far apart as

@@ -35,6 +35,7 @@ mod steps;
 mod tally;
 mod total;
 
+pub use bounded::put_bounded_of;
 pub use comparing::CompareRefusal;
 pub use counting::count_free;
 pub use decimal::{decimal_bytes_of, decimal_digits_of, put_decimal_of};

@@ -12,6 +12,8 @@ mod decimals;
 #[cfg(test)]
 mod floats;
 #[cfg(test)]
+mod joining;
+#[cfg(test)]
 mod loose;
 #[cfg(test)]
 mod lowest_terms;

@@ -1,4 +1,5 @@
 pub mod DecimalLemmas
+pub mod JoinedLemmas
 pub mod FloatLemmas
 pub mod Places
 pub mod SumLemmas

@@ -9,6 +9,7 @@ pub mod Merging
 pub mod TotalLaws
 pub mod Common
 pub mod Joined
+pub mod JoinedLaws
 pub mod LowestSum
 pub mod SumOrder
 pub mod Turning

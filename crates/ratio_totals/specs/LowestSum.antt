@@ -41,14 +41,14 @@ mean_of_slots slots count = pair_mean (sum_of_slots slots) count
 -- the result is the fraction x divided by the count in lowest terms, where the count is above 0 and both numbers are below 2^64; elsewhere
 -- it is `None`
 -- Example: 64/1008 and 2: `Some((2, 63))`
-abbrev pub ChecksMean : ℤ × ℕ → ℤ → Option (ℤ × ℕ) → Type 0
-ChecksMean x count None = (count ≤ℤ pos 0) ⊎ HasLongPair (pair_mean x count)
-ChecksMean x count (Some t) = (pos 0 <ℤ count) × IsShortPair (pair_mean x count) t.0 t.1
+abbrev pub ChecksPairMean : ℤ × ℕ → ℤ → Option (ℤ × ℕ) → Type 0
+ChecksPairMean x count None = (count ≤ℤ pos 0) ⊎ HasLongPair (pair_mean x count)
+ChecksPairMean x count (Some t) = (pos 0 <ℤ count) × IsShortPair (pair_mean x count) t.0 t.1
 
 -- the result is the mean of the table in lowest terms, where the count is above 0 and both numbers are below 2^64; elsewhere it is `None`
 -- Example: `Some((2, 63))` in the table 1/36, 1/28
 abbrev pub ChecksMeanOfSlots : List Slot → ℤ → Option (ℤ × ℕ) → Type 0
-ChecksMeanOfSlots slots count = ChecksMean (sum_of_slots slots) count
+ChecksMeanOfSlots slots count = ChecksPairMean (sum_of_slots slots) count
 
 -- ---- laws
 

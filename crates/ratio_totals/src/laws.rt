@@ -1,6 +1,7 @@
 //! The laws of totals. Each function does nothing: its contract is the law.
 ghost use Rattle.ratio_totals.specs.Bounds.{BoundsAreNear, BoundsDecide, BoundsHold};
 ghost use Rattle.ratio_totals.specs.Common.{CommonExists, CommonsAgree, ReadsAgree};
+ghost use Rattle.ratio_totals.specs.JoinedLaws.{JoinedDecimals, JoinedFloats, JoinedMeans, JoinedSigns, JoinedSums};
 ghost use Rattle.ratio_totals.specs.LowestSum.{MeanResultsAgree, SumResultsAgree, SumsAgree};
 ghost use Rattle.ratio_totals.specs.Steps.{StepsJoinAll};
 ghost use Rattle.ratio_totals.specs.TotalLaws.{AdditionsCommute, DenominatorsDiffer, MergesAddEach, MergesUndone, NegatedNumerators, NegatedSums, TableMergesAssociate, TableMergesCommute, TakingOutUndoes};
@@ -56,4 +57,13 @@ pub fn bounds()
     ensures hold { BoundsHold }
     ensures near { BoundsAreNear }
     ensures decide { BoundsDecide }
+{}
+
+/// Where a room holds the join of a table, each read of the room is that of the table: `Joined::sum` returns what `sum_of` returns.
+pub fn joined_rooms()
+    ensures sum { JoinedSums }
+    ensures mean { JoinedMeans }
+    ensures sign { JoinedSigns }
+    ensures float { JoinedFloats }
+    ensures decimal { JoinedDecimals }
 {}

@@ -13,6 +13,7 @@ mod decimals;
 mod floats;
 #[cfg(test)]
 mod joining;
+mod joined_rooms;
 #[cfg(test)]
 mod loose;
 #[cfg(test)]

@@ -76,4 +76,5 @@ fn each_law_is_called(_rt: HostRuntime) {
     laws::tables();
     laws::reads();
     laws::sums();
+    laws::joined_rooms();
 }

@@ -11,6 +11,9 @@ mod decimals;
 #[cfg(test)]
 mod floats;
 #[cfg(test)]
+mod joining;
+mod joined_rooms;
+#[cfg(test)]
 mod loose;
 #[cfg(test)]
 mod lowest_terms;

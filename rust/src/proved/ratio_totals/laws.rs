@@ -26,7 +26,15 @@ pub fn reads() {}
 #[inline]
 pub fn sums() {}
 
+/// A read in steps comes to the sum over the common denominator, however many slots a step joins.
+#[inline]
+pub fn steps() {}
+
 /// Where each quotient is cut to a whole number of parts of 1, the sum lies between the bounds. These are as far apart as
 /// numbers were cut. If a rule rounds both to the same number, the decimal of the sum is that number.
 #[inline]
 pub fn bounds() {}
+
+/// Where a room holds the join of a table, each read of the room is that of the table: `Joined::sum` returns what `sum_of` returns.
+#[inline]
+pub fn joined_rooms() {}

@@ -23,9 +23,15 @@ pub fn sign_of(slots: &[Slot], room: &mut [u64]) -> Result<Ordering, ReadRefusal
     Ok(against_zero(read.negative, &room[..read.numer_digits]))
 }
 
-// The order of 0 and the number of this sign and this magnitude, that number first.
+/// The order of 0 and the number of this sign and this magnitude, that number first.
+///
+/// # Conditions
+///
+/// The proof requires of the caller:
+///
+/// - `negative ≡ true → 0 < natural_of magnitude.now`
 #[inline]
-fn against_zero(negative: bool, magnitude: &[u64]) -> Ordering {
+pub(crate) fn against_zero(negative: bool, magnitude: &[u64]) -> Ordering {
     if negative {
         Ordering::Less
     } else if is_zero(magnitude) {

@@ -77,4 +77,5 @@ fn each_law_is_called() {
     laws::tables();
     laws::reads();
     laws::sums();
+    laws::joined_rooms();
 }

@@ -25,7 +25,11 @@ fn joined(rt: &impl Abort, slots: &[Slot], most: usize, room: &mut [u64]) -> Joi
     for _ in 0..slots.len() {
         match joined.go_on(slots, most, room) {
             Ok(next) => {
-                assert_eq!(rt; next.done, joined.done.saturating_add(most).min(slots.len()), "steps of {most}");
+                assert_eq!(rt;
+                    next.done,
+                    joined.done.saturating_add(most).min(slots.len()),
+                    "steps of {most}"
+                );
                 joined = next;
             }
             Err(_) => assert!(rt; false, "a step of {most} was refused"),
@@ -51,7 +55,10 @@ fn a_step_of_none_changes_nothing(rt: HostRuntime) -> Result<(), Fail> {
     let begun = Joined { done: 0, digits: 4 };
     assert_eq!(rt; Joined::begin(&some_slots(), &mut room), Some(begun));
     assert_eq!(rt; begun.go_on(&some_slots(), 0, &mut room), Ok(begun));
-    assert_eq!(rt; begun.go_on(&some_slots(), 2, &mut room), Ok(Joined { done: 2, digits: 4 }));
+    assert_eq!(rt;
+        begun.go_on(&some_slots(), 2, &mut room),
+        Ok(Joined { done: 2, digits: 4 })
+    );
     Ok(())
 }
 
@@ -63,8 +70,14 @@ fn a_read_in_steps_begins_only_with_enough_room(rt: HostRuntime) -> Result<(), F
     let mut room = [7; 22];
     assert!(rt; Joined::begin(&some_slots(), &mut room).is_some());
     let mut room = [7; 10];
-    assert_eq!(rt; Joined::begin(&[], &mut room), Some(Joined { done: 0, digits: 1 }));
-    assert_eq!(rt; Joined { done: 0, digits: 1 }.sum(&mut room), Ok(Some((0, 1))));
+    assert_eq!(rt;
+        Joined::begin(&[], &mut room),
+        Some(Joined { done: 0, digits: 1 })
+    );
+    assert_eq!(rt;
+        Joined { done: 0, digits: 1 }.sum(&mut room),
+        Ok(Some((0, 1)))
+    );
     Ok(())
 }
 
@@ -73,15 +86,35 @@ fn a_room_that_holds_no_join_is_refused(rt: HostRuntime) -> Result<(), Fail> {
     let refused = Err(JoinRefusal::NotJoined);
     let begun = Joined { done: 0, digits: 4 };
     let mut room = [0; 22];
-    assert_eq!(rt; begun.go_on(&some_slots(), 1, &mut room), refused, "the common denominator is 0");
+    assert_eq!(rt;
+        begun.go_on(&some_slots(), 1, &mut room),
+        refused,
+        "the common denominator is 0"
+    );
     let mut room = [7; 22];
-    assert_eq!(rt; begun.go_on(&some_slots(), 1, &mut room), refused, "no slot comes to a sum");
+    assert_eq!(rt;
+        begun.go_on(&some_slots(), 1, &mut room),
+        refused,
+        "no slot comes to a sum"
+    );
     let mut room = [0; 22];
     assert!(rt; Joined::begin(&some_slots(), &mut room).is_some());
-    assert_eq!(rt; Joined { done: 6, digits: 4 }.go_on(&some_slots(), 1, &mut room), refused, "six of five");
-    assert_eq!(rt; Joined { done: 0, digits: 5 }.go_on(&some_slots(), 1, &mut room), refused, "26 digits");
     assert_eq!(rt;
-        Joined { done: 0, digits: 1 << 63 }.go_on(&some_slots(), 1, &mut room),
+        Joined { done: 6, digits: 4 }.go_on(&some_slots(), 1, &mut room),
+        refused,
+        "six of five"
+    );
+    assert_eq!(rt;
+        Joined { done: 0, digits: 5 }.go_on(&some_slots(), 1, &mut room),
+        refused,
+        "26 digits"
+    );
+    assert_eq!(rt;
+        Joined {
+            done: 0,
+            digits: 1 << 63
+        }
+        .go_on(&some_slots(), 1, &mut room),
         refused,
         "no room has so many"
     );
@@ -120,7 +153,10 @@ fn a_decimal_from_the_bounds_is_that_of_the_sum(rt: HostRuntime) -> Result<(), F
         _ => assert!(rt; false, "the bounds decide"),
     }
     let tie = [Slot::new(3, 1), Slot::new(6, 1)];
-    assert_eq!(rt; put_bounded_of(&tie, 0, Rounding::HalfEven, &mut room, &mut buf), Ok(None));
+    assert_eq!(rt;
+        put_bounded_of(&tie, 0, Rounding::HalfEven, &mut room, &mut buf),
+        Ok(None)
+    );
     Ok(())
 }
 
@@ -129,8 +165,14 @@ fn a_decimal_from_the_bounds_needs_its_room(rt: HostRuntime) -> Result<(), Fail>
     let refused = Err(ReadRefusal::MoreRoom);
     let slots = some_slots();
     let rule = Rounding::HalfEven;
-    assert_eq!(rt; put_bounded_of(&slots, 20, rule, &mut [7; 43], &mut [0; 223]), refused);
-    assert_eq!(rt; put_bounded_of(&slots, 20, rule, &mut [7; 44], &mut [0; 222]), refused);
+    assert_eq!(rt;
+        put_bounded_of(&slots, 20, rule, &mut [7; 43], &mut [0; 223]),
+        refused
+    );
+    assert_eq!(rt;
+        put_bounded_of(&slots, 20, rule, &mut [7; 44], &mut [0; 222]),
+        refused
+    );
     assert!(rt; put_bounded_of(&slots, 20, rule, &mut [7; 44], &mut [0; 223]).is_ok());
     Ok(())
 }

@@ -12,8 +12,9 @@ mod decimals;
 #[cfg(test)]
 mod floats;
 #[cfg(test)]
-mod joining;
 mod joined_rooms;
+#[cfg(test)]
+mod joining;
 #[cfg(test)]
 mod loose;
 #[cfg(test)]

@@ -17,3 +17,5 @@ pub mod TotalLaws
 pub mod Keys
 pub mod TotalOrders
 pub mod TotalMultiples
+pub mod Joining
+pub mod JoinedReads

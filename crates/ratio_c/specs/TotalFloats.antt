@@ -1,5 +1,5 @@
 -- What a total's slots say as a float.
-use Rattle.std.specs.Prelude.{◌≡◌, ◌≤◌, ◌⊎◌, ℕ, pos, List}
+use Rattle.std.specs.Prelude.{◌≡◌, ◌≤◌, ◌⊎◌, ℕ, ℤ, pos, List}
 use Rattle.std.specs.Float.{Float, binary64, float_zero}
 use Rattle.ratio_float.specs.Floats.{nearest_float}
 use Rattle.ratio_totals.specs.Common.{IsReadRefusedFor, read_digits}
@@ -9,22 +9,26 @@ use Rattle.ratio_totals.specs.declared.slots.Slot.{Slot}
 use Rattle.ratio_c.specs.Codes.{code_answered}
 use Rattle.ratio_c.specs.TotalReads.{code_of_read}
 
--- the float of 64 bits nearest to the sum of the slots; of two as near, the one whose last bit is 0
--- Example: 1/36, 1/28: 0.06349206349206349
-pub record SaysFloat (slots : List Slot) (room code : ℕ) (value : Float) : Type 0 where
+-- the float of 64 bits nearest to a fraction; of two as near, the one whose last bit is 0
+-- Example: 64/1008: 0.06349206349206349
+pub record SaysFloat (x : ℤ × ℕ) (code : ℕ) (value : Float) : Type 0 where
   pub code_is : code ≡ code_answered
-  pub value_is : value ≡ nearest_float binary64 (sum_of_slots slots).0 (pos (sum_of_slots slots).1)
-  pub room_is : read_digits slots ≤ room
+  pub value_is : value ≡ nearest_float binary64 x.0 (pos x.1)
 
--- a float was refused, for what `IsReadRefusedFor` says, and the value is 0
+-- there is no float, for what the code says, and the value is 0
+-- Example: code 10: 0
+pub record HasNoFloat (why code : ℕ) (value : Float) : Type 0 where
+  pub code_is : code ≡ why
+  pub value_is : value ≡ float_zero
+
+-- a float was refused, for what `IsReadRefusedFor` says
 -- Example: 1/36, 1/28 with 13 digits of room: code 10
 pub record IsRefusedFloat (slots : List Slot) (room code : ℕ) (value : Float) : Type 0 where
   pub why : ReadRefusal
   pub reason : IsReadRefusedFor slots room why
-  pub code_is : code ≡ code_of_read why
-  pub value_is : value ≡ float_zero
+  pub none : HasNoFloat (code_of_read why) code value
 
--- the float nearest to the sum (`SaysFloat`), or a refusal (`IsRefusedFloat`)
+-- the float nearest to the sum (`SaysFloat`), with enough room, or a refusal (`IsRefusedFloat`)
 -- Example: 1/36, 1/28 with 14 digits of room: 0.06349206349206349
 abbrev pub IsFloatOfTotal : List Slot → ℕ → ℕ → Float → Type 0
-IsFloatOfTotal slots room code value = SaysFloat slots room code value ⊎ IsRefusedFloat slots room code value
+IsFloatOfTotal slots room code value = ((read_digits slots ≤ room) × SaysFloat (sum_of_slots slots) code value) ⊎ IsRefusedFloat slots room code value

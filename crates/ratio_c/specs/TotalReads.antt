@@ -1,13 +1,13 @@
 -- What a total's slots say: their sum, their mean, their sign and their decimal.
 use Rattle.std.specs.Prelude.{◌≡◌, ◌≤◌, ◌<◌, ◌⊎◌, ◌<ℤ◌, ℕ, ℤ, pos, List, length, drop, Option, Some, None}
 use Rattle.std.specs.List.{AllZip}
+use Rattle.std.specs.Ordering.{int_cmp}
 use Rattle.ratio_core.specs.Power.{ChecksBoth}
 use Rattle.ratio_integer.specs.Fraction.{ChecksLowest}
 use Rattle.ratio_long.specs.Decimals.{IsLongDecimalOf}
 use Rattle.ratio_totals.specs.Common.{IsReadRefusedFor, read_digits}
 use Rattle.ratio_totals.specs.DecimalRoom.{HasDecimalRoom, IsDecimalRefusedFor}
 use Rattle.ratio_totals.specs.LowestSum.{mean_of_slots}
-use Rattle.ratio_totals.specs.SumOrder.{sign_of_slots}
 use Rattle.ratio_totals.specs.Sums.{sum_of_slots}
 use Rattle.ratio_totals.specs.declared.reading.ReadRefusal.{ReadRefusal}
 use Rattle.ratio_totals.specs.declared.reading.ReadRefusal.TheVariants.{MoreRoom, TooLong}
@@ -59,25 +59,29 @@ abbrev pub Narrows : Option (ℤ × ℕ) → Option (ℤ × ℤ) → Type 0
 Narrows (Some x) result = ChecksBoth (λ r. r.0) (λ r. r.1) least64 greatest64 x.0 (pos x.1) result
 Narrows None result = result ≡ None
 
--- the order of the sum of the slots and 0, as -1, 0 or 1
--- Example: 1/36, -1/28: -1
-pub record SaysSign (slots : List Slot) (room : ℕ) (answer : Order) : Type 0 where
+-- the order of a fraction and 0, as -1, 0 or 1
+-- Example: -16/252: -1
+pub record SaysSign (x : ℤ × ℕ) (answer : Order) : Type 0 where
   pub code_is : answer.code ≡ code_answered
-  pub order_is : answer.order ≡ order_number (sign_of_slots slots)
-  pub room_is : read_digits slots ≤ room
+  pub order_is : answer.order ≡ order_number (int_cmp x.0 (pos 0))
+
+-- there is no sign, for what the code says, and the order is 0
+-- Example: code 10: 0
+pub record HasNoSign (code : ℕ) (answer : Order) : Type 0 where
+  pub code_is : answer.code ≡ code
+  pub order_is : answer.order ≡ pos 0
 
 -- a sign was refused, for what `IsReadRefusedFor` says
 -- Example: 1/36, 1/28 with 13 digits of room: code 10
 pub record IsRefusedSign (slots : List Slot) (room : ℕ) (answer : Order) : Type 0 where
   pub why : ReadRefusal
   pub reason : IsReadRefusedFor slots room why
-  pub code_is : answer.code ≡ code_of_read why
-  pub order_is : answer.order ≡ pos 0
+  pub none : HasNoSign (code_of_read why) answer
 
--- the order of the sum and 0 (`SaysSign`), or a refusal (`IsRefusedSign`)
+-- the order of the sum and 0 (`SaysSign`), with enough room, or a refusal (`IsRefusedSign`)
 -- Example: 1/36, -1/28 with 14 digits of room: -1
 abbrev pub IsSignOfTotal : List Slot → ℕ → Order → Type 0
-IsSignOfTotal slots room answer = SaysSign slots room answer ⊎ IsRefusedSign slots room answer
+IsSignOfTotal slots room answer = ((read_digits slots ≤ room) × SaysSign (sum_of_slots slots) answer) ⊎ IsRefusedSign slots room answer
 
 -- there is no text, for what the code says, and the span at the end is empty
 -- Example: a buffer of 8 bytes: the span from 8 to 8
@@ -86,14 +90,13 @@ pub record HasNoText (code end : ℕ) (answer : Text) : Type 0 where
   pub start : answer.span.start ≡ end
   pub stop : answer.span.end ≡ end
 
--- the text from the answer's start to the end is the decimal of the sum with so many places, by a rule
+-- the text from the answer's start to the end is the decimal of a fraction with so many places, by a rule
 -- Example: `0.0635` in a buffer of 147 bytes: from 141 on
-pub record IsLongText (slots : List Slot) (places rule room end : ℕ) (texts : List ℕ) (answer : Text) : Type 0 where
+pub record IsLongText (x : ℤ × ℕ) (places rule end : ℕ) (texts : List ℕ) (answer : Text) : Type 0 where
   pub code_is : answer.code ≡ code_answered
-  pub text : IsLongDecimalOf (rule_of rule) places (sum_of_slots slots).0 (pos (sum_of_slots slots).1) (drop answer.span.start texts)
+  pub text : IsLongDecimalOf (rule_of rule) places x.0 (pos x.1) (drop answer.span.start texts)
   pub start : answer.span.start < end
   pub stop : answer.span.end ≡ end
-  pub room_is : HasDecimalRoom slots places room end
 
 -- a decimal was refused: the code 10 if there are too few digits or bytes, or 11 if the common denominator is not below 2^(2^20)
 -- Example: 1/36, 1/28 with four places and 19 digits: code 10
@@ -102,19 +105,26 @@ pub record IsRefusedText (slots : List Slot) (places room end : ℕ) (answer : T
   pub reason : IsDecimalRefusedFor slots places room end why
   pub none : HasNoText (code_of_read why) end answer
 
--- the sum of the slots as a decimal (`IsLongText`), or a refusal (`IsRefusedText`). A rule above 5 gives the code 9
+-- the sum of the slots as a decimal (`IsLongText`), with enough room, or a refusal (`IsRefusedText`). A rule above 5 gives the code 9
 -- Example: 1/36, 1/28 with four places by the rule 1: `0.0635`
 abbrev pub IsDecimalOfTotal : List Slot → ℕ → ℕ → ℕ → ℕ → List ℕ → Text → Type 0
 IsDecimalOfTotal slots places rule room end texts answer =
-    Tested (rule < 6) (IsLongText slots places rule room end texts answer ⊎ IsRefusedText slots places room end answer)
+    Tested (rule < 6)
+    ((HasDecimalRoom slots places room end × IsLongText (sum_of_slots slots) places rule end texts answer) ⊎ IsRefusedText slots places room end answer)
     (HasNoText code_bad_option end answer)
 
--- the call writes the one answer that it is given room for. If it is not given just one, it returns 1 and writes nothing
+-- the call writes the one answer that it is given room for, as `Writes` says of the answer before and after. If it is not given just one, it
+-- returns 1 and writes nothing
+-- Example: two answers: 1
+abbrev pub WritesOne : {B R : Type 0} → (B → B → Type 0) → List R → List R → List B → List B → ℕ → Type 0
+WritesOne Writes room new_room old new result =
+    Tested (length old ≡ 1) ((result ≡ return_done) × AllZip Writes old new)
+    ((result ≡ return_bad_length) × (new ≡ old) × (new_room ≡ room))
+
+-- the same for a call that does not look at what the answer was before
 -- Example: no answer: 1
 abbrev pub AnswersOne : {B R : Type 0} → (B → Type 0) → List R → List R → List B → List B → ℕ → Type 0
-AnswersOne Is room new_room old new result =
-    Tested (length old ≡ 1) ((result ≡ return_done) × AllZip (λ _ answer. Is answer) old new)
-    ((result ≡ return_bad_length) × (new ≡ old) × (new_room ≡ room))
+AnswersOne Is room new_room old new result = WritesOne (λ _ answer. Is answer) room new_room old new result
 
 -- the same for a call that writes a text
 -- Example: no answer: 1

@@ -13,6 +13,7 @@ pub mod divisors;
 pub mod each;
 pub mod floats;
 pub mod hash;
+pub mod joined_reads;
 pub mod key;
 pub mod laws;
 pub mod lowest_hash;
@@ -32,6 +33,7 @@ pub mod splits;
 #[cfg(test)]
 mod tests;
 pub mod total_floats;
+pub mod total_joining;
 pub mod total_multiples;
 pub mod total_orders;
 pub mod total_reads;

@@ -12,6 +12,7 @@ pub mod divisors;
 pub mod each;
 pub mod floats;
 pub mod hash;
+pub mod joined_reads;
 pub mod key;
 pub mod laws;
 pub mod lowest_hash;
@@ -30,6 +31,7 @@ pub mod sign;
 pub mod splits;
 
 pub mod total_floats;
+pub mod total_joining;
 pub mod total_multiples;
 pub mod total_orders;
 pub mod total_reads;

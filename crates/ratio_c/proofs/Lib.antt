@@ -15,3 +15,5 @@ pub mod Keys
 pub mod Multiples
 pub mod SameDivisors
 pub mod RoundedNumbers
+pub mod JoinSteps
+pub mod JoinedAgree

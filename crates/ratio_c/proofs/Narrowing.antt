@@ -1,5 +1,5 @@
 -- Lowest terms over a narrower type, and what an answer says of them.
-use Rattle.std.specs.Prelude.{◌≡◌, ◌≤◌, ◌<ℤ◌, ◌*ℤ◌, ℕ, ℤ, pos, negsuc, nat_abs, unsigned_abs, List, Option, Some, None, option_map}
+use Rattle.std.specs.Prelude.{◌≡◌, ◌≤◌, ◌<ℤ◌, ◌*ℤ◌, ℕ, ℤ, pos, negsuc, nat_abs, unsigned_abs, Option, Some, None, option_map}
 use Rattle.std.proofs.Common.{arith, inl, inr, refl, subst, sym}
 use Rattle.std.proofs.lemmas.Int.{ints}
 use Rattle.ratio_core.specs.Power.{ChecksBoth}
@@ -9,9 +9,8 @@ use Rattle.ratio_integer.specs.Fraction.{ChecksLowest, Fits, IsLowestTermsOf}
 use Rattle.ratio_integer.specs.Range.{IsHeld}
 use Rattle.ratio_integer.proofs.LowestTerms.{lowest_unique}
 use Rattle.ratio_natural.specs.Number.{base}
-use Rattle.ratio_totals.specs.LowestSum.{ChecksMeanOfSlots, ChecksShortPair, HasLongPair, mean_of_slots}
+use Rattle.ratio_totals.specs.LowestSum.{ChecksMean, ChecksShortPair, HasLongPair, pair_mean}
 use Rattle.ratio_totals.specs.Multiples.{ChecksMultiple}
-use Rattle.ratio_totals.specs.declared.slots.Slot.{Slot}
 use Rattle.ratio_c.specs.Crossing.{Said, Says, rule_of, said_of}
 use Rattle.ratio_c.specs.Numbers64.{greatest64, least64}
 use Rattle.ratio_c.specs.TotalMultiples.{SaysMultiple}
@@ -70,9 +69,9 @@ pub short_said : (x : ℤ × ℕ) (terms : Option (ℤ × ℕ)) (r : Option (ℤ
     → answer ≡ said_of (option_map (λ z. (z.0, z.1)) r) → SaysLowest x answer
 short_said x terms r answer checks narrows said = lowest_said (λ z. z.0) (λ z. z.1) least64 greatest64 x.0 (pos x.1) x.0 (pos x.1) r answer refl refl (short_lowest x terms r checks narrows) said
 
-pub mean_checked : (slots : List Slot) (count : ℤ) (terms : Option (ℤ × ℕ)) → pos 0 <ℤ count → ChecksMeanOfSlots slots count terms → ChecksShortPair (mean_of_slots slots count) terms
-mean_checked slots count None positive checks = elim checks [ inl none ↦ absurd (omega (arith, ints, none, positive)) | inr long ↦ long ]
-mean_checked slots count (Some t) positive checks = checks.1
+pub mean_checked : (x : ℤ × ℕ) (count : ℤ) (terms : Option (ℤ × ℕ)) → pos 0 <ℤ count → ChecksMean x count terms → ChecksShortPair (pair_mean x count) terms
+mean_checked x count None positive checks = elim checks [ inl none ↦ absurd (omega (arith, ints, none, positive)) | inr long ↦ long ]
+mean_checked x count (Some t) positive checks = checks.1
 
 -- a multiple of 1/parts whose terms are below 2^64, as an answer says it
 pub multiple_said : (rule : Rounding) (number parts : ℕ) (p : ℤ) (x : ℤ × ℕ) (terms : Option (ℤ × ℕ)) (r : Option (ℤ × ℤ)) (answer : Said) → rule ≡ rule_of number → pos parts ≡ p

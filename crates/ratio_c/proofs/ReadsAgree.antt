@@ -16,7 +16,7 @@ use Rattle.ratio_c.specs.Numbers64.{greatest64, least64}
 use Rattle.ratio_c.specs.TotalLaws.{MeansReadAlike, SignsAgree, SumsReadAlike}
 use Rattle.ratio_c.specs.TotalReads.{SaysLowest}
 
-fits_moved : (x y : ℤ × ℕ) → 0 < x.1 → SameSum x y → Fits least64 greatest64 y.0 (pos y.1) → Fits least64 greatest64 x.0 (pos x.1)
+pub fits_moved : (x y : ℤ × ℕ) → 0 < x.1 → SameSum x y → Fits least64 greatest64 y.0 (pos y.1) → Fits least64 greatest64 x.0 (pos x.1)
 fits_moved x y some same fits = record {
   numer = fits.numer;
   denom = fits.denom;
@@ -44,7 +44,7 @@ pub sums_read_alike : SumsReadAlike
 sums_read_alike left right first second same one two =
     said_alike (sum_of_slots left) (sum_of_slots right) first second (sum_positive left) (sum_positive right) (sums_agree left right same) one two
 
-above : (count : ℤ) → pos 0 <ℤ count → 0 < above_zero count
+pub above : (count : ℤ) → pos 0 <ℤ count → 0 < above_zero count
 above (pos zero) positive = absurd (omega (arith, ints, positive))
 above (pos (suc n)) positive = omega arith
 above (negsuc n) positive = absurd (omega (arith, ints, positive))

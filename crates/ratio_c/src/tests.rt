@@ -8,6 +8,10 @@ use crate::compare::{Order, Truth};
 use crate::each::{BAD_LENGTH, DONE};
 use crate::floats::Float;
 use crate::hash::Hash;
+use crate::joined_reads::{
+    ratio_joined_mean_i64, ratio_joined_print_i64, ratio_joined_sign_i64, ratio_joined_sum_i64,
+    ratio_joined_to_f64_i64,
+};
 use crate::key::{Key, ratio_key_i64};
 use crate::numbers32::{Answer32, Fraction32};
 use crate::numbers64::{
@@ -21,6 +25,7 @@ use crate::numbers64::{
 use crate::printing::Text;
 use crate::reading::Span;
 use crate::scaled::Scaled;
+use crate::total_joining::{Joined64, ratio_total_join_i64};
 use crate::total_multiples::{ratio_total_round_to_digits_i64, ratio_total_round_to_i64};
 use crate::total_orders::{ratio_total_compare_digits_i64, ratio_total_compare_i64};
 use crate::total_reads::{
@@ -556,4 +561,103 @@ fn decimals_of_totals(rt: HostRuntime) {
         ratio_total_print_i64(&slots, 4, 0, &mut room[1..], &mut texts, &mut answers) == DONE
     );
     assert!(rt; answers[0].code == MORE_ROOM);
+}
+
+fn not_begun() -> Joined64 {
+    Joined64 {
+        code: 9,
+        done: 0,
+        digits: 0,
+    }
+}
+
+// Joins all slots, one in each step, and returns the digits for the common denominator.
+fn join_all(slots: &[Slot], room: &mut [u64]) -> u64 {
+    let mut joined = [not_begun()];
+    for _ in 0..slots.len() {
+        ratio_total_join_i64(slots, 1, &mut joined, room);
+    }
+    joined[0].digits
+}
+
+#[test]
+fn totals_in_steps(rt: HostRuntime) {
+    let slots = [Slot::new(36, 1), Slot::EMPTY, Slot::new(28, 1)];
+    let mut joined = [not_begun()];
+    let mut room = [7; 14];
+    assert!(rt; ratio_total_join_i64(&slots, 1, &mut joined, &mut room[1..]) == DONE);
+    assert!(rt; joined[0].code == MORE_ROOM && joined[0].done == 0 && joined[0].digits == 0);
+    assert!(rt; ratio_total_join_i64(&slots, 0, &mut joined, &mut room) == DONE);
+    assert!(rt; joined[0].code == ANSWERED && joined[0].done == 0 && joined[0].digits == 2);
+    assert!(rt; ratio_total_join_i64(&slots, 1, &mut joined, &mut room) == DONE);
+    assert!(rt; joined[0].code == ANSWERED && joined[0].done == 1 && joined[0].digits == 2);
+    assert!(rt; ratio_total_join_i64(&slots, 1, &mut joined, &mut room[1..]) == DONE);
+    assert!(rt; joined[0].code == NO_TOTAL && joined[0].done == 1 && joined[0].digits == 2);
+    assert!(rt; ratio_total_join_i64(&slots, u64::MAX, &mut joined, &mut room) == DONE);
+    assert!(rt; joined[0].code == ANSWERED && joined[0].done == 3 && joined[0].digits == 2);
+    assert!(rt; ratio_total_join_i64(&slots[..2], 1, &mut joined, &mut room) == DONE);
+    assert!(rt; joined[0].code == NO_TOTAL && joined[0].done == 3 && joined[0].digits == 2);
+    assert!(rt; ratio_total_join_i64(&slots, 1, &mut [], &mut room) == BAD_LENGTH);
+}
+
+#[test]
+fn numbers_of_joined_totals(rt: HostRuntime) {
+    let slots = [Slot::new(36, 1), Slot::new(28, 1)];
+    let mut room = [7; 14];
+    let mut answers = [no_answer()];
+    let digits = join_all(&slots, &mut room);
+    assert!(rt; ratio_joined_sum_i64(digits, &mut room, &mut answers) == DONE);
+    assert!(rt; [answers[0].value.numer, answers[0].value.denom] == [4, 63]);
+    let digits = join_all(&slots, &mut room);
+    assert!(rt; ratio_joined_mean_i64(digits, 2, &mut room, &mut answers) == DONE);
+    assert!(rt; [answers[0].value.numer, answers[0].value.denom] == [2, 63]);
+    assert!(rt; ratio_joined_mean_i64(digits, 0, &mut room, &mut answers) == DONE);
+    assert!(rt; answers[0].code == DIVISION_BY_ZERO);
+    let digits = join_all(&[Slot::new(1, 1 << 63)], &mut room);
+    assert!(rt; ratio_joined_sum_i64(digits, &mut room, &mut answers) == DONE);
+    assert!(rt; answers[0].code == NOT_HELD);
+    let digits = join_all(&slots, &mut room);
+    assert!(rt; ratio_joined_sum_i64(digits, &mut room[1..], &mut answers) == DONE);
+    assert!(rt; answers[0].code == NO_TOTAL);
+    assert!(rt; ratio_joined_sum_i64(0, &mut room, &mut answers) == DONE);
+    assert!(rt; answers[0].code == NO_TOTAL);
+    assert!(rt; ratio_joined_mean_i64(u64::MAX, 2, &mut room, &mut answers) == DONE);
+    assert!(rt; answers[0].code == NO_TOTAL);
+}
+
+#[test]
+fn other_reads_of_joined_totals(rt: HostRuntime) {
+    let slots = [Slot::new(36, 1), Slot::new(28, -1)];
+    let mut room = [7; 20];
+    let mut orders = [Order { code: 9, order: 9 }];
+    let mut floats = [no_float()];
+    let mut texts = [b'x'; 147];
+    let mut answers = [no_text()];
+    let digits = join_all(&slots, &mut room);
+    assert!(rt; ratio_joined_sign_i64(digits, &mut room, &mut orders) == DONE);
+    assert!(rt; orders[0].code == ANSWERED && orders[0].order == -1);
+    let digits = join_all(&slots, &mut room);
+    assert!(rt; ratio_joined_to_f64_i64(digits, &mut room, &mut floats) == DONE);
+    // -1/126
+    assert!(rt; floats[0].code == ANSWERED && floats[0].value == -0.007936507936507936);
+    let digits = join_all(&slots, &mut room);
+    assert!(rt;
+        ratio_joined_print_i64(digits, 4, 1, &mut room, &mut texts, &mut answers) == DONE
+    );
+    assert!(rt; answers[0].code == ANSWERED && answers[0].span.end == 147);
+    assert!(rt; texts.ends_with(b"-0.0079") && answers[0].span.start == 140);
+    assert!(rt;
+        ratio_joined_print_i64(digits, 4, 6, &mut room, &mut texts, &mut answers) == DONE
+    );
+    assert!(rt; answers[0].code == BAD_OPTION && answers[0].span.start == 147);
+    let digits = join_all(&slots, &mut room);
+    assert!(rt;
+        ratio_joined_print_i64(digits, 4, 1, &mut room[1..], &mut texts, &mut answers) == DONE
+    );
+    assert!(rt; answers[0].code == NO_TOTAL && answers[0].span.start == 147);
+    let mut zeros = [0; 20];
+    assert!(rt; ratio_joined_sign_i64(2, &mut zeros, &mut orders) == DONE);
+    assert!(rt; orders[0].code == NO_TOTAL && orders[0].order == 0);
+    assert!(rt; ratio_joined_to_f64_i64(2, &mut zeros, &mut floats) == DONE);
+    assert!(rt; floats[0].code == NO_TOTAL && floats[0].value == 0.0);
 }

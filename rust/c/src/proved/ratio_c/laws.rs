@@ -21,6 +21,10 @@ pub fn merged_totals() {}
 #[inline]
 pub fn total_reads() {}
 
+/// Where all slots of a total are joined in a room, the room holds their sum, and each read of it answers as the read of the total.
+#[inline]
+pub fn joined_totals() {}
+
 /// If one value is at most another, so is its key. If the nearest float of one value is below that of another, so is its key.
 #[inline]
 pub fn keys() {}

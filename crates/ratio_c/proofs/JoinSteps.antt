@@ -1,0 +1,70 @@
+-- How a step of a read in steps follows from its beginning and the slots that it joins.
+use Rattle.std.specs.Prelude.{◌≡◌, ◌≢◌, ◌≤◌, ◌<◌, ◌+◌, ◌⊎◌, ℕ, zero, suc, List, length, min, Option, Some, None, MatchOption}
+use Rattle.std.proofs.Common.{ap, arith, inl, inr, refl, subst, sym, ◌∙◌}
+use Rattle.ratio_totals.specs.Common.{HasLongCommon, most_common, read_digits}
+use Rattle.ratio_totals.specs.Steps.{HoldsJoined}
+use Rattle.ratio_totals.specs.declared.joined.Joined.{Joined}
+use Rattle.ratio_totals.specs.declared.slots.Slot.{Slot}
+use Rattle.ratio_c.specs.Joining.{HasBegun, IsNew, IsReady, IsShortToBegin, Joins}
+use Rattle.ratio_c.proofs.Cases.{where_held, where_not}
+
+zero_or_not : (n : ℕ) → (n ≡ 0) ⊎ (n ≢ 0)
+zero_or_not zero = inl refl
+zero_or_not (suc n) = inr (λ none. absurd (omega (arith, none)))
+
+new_or_not : (read : Joined) → IsNew read ⊎ (¬ (IsNew read))
+new_or_not read = elim (zero_or_not read.done) [
+  | inl done ↦ elim (zero_or_not read.digits) [
+      | inl digits ↦ inl (record { done = done; digits = digits })
+      | inr some ↦ inr (λ new. some new.digits)
+    ]
+  | inr some ↦ inr (λ new. some new.done)
+]
+
+-- a read that had not begun begins, if the room is long enough
+pub begins : (slots : List Slot) (from : Joined) (room new_room : List ℕ) (r : Option Joined) → IsNew from → length new_room ≡ length room
+    → MatchOption r (length room < read_digits slots) (λ joined. (joined.done ≡ 0) × HoldsJoined slots joined new_room)
+    → MatchOption r (IsShortToBegin slots from room) (HasBegun slots from room new_room)
+begins slots from room new_room None new same short = record { first = new; short = short }
+begins slots from room new_room (Some read) new same begun = where_held new (begun.0, omega (arith, begun.1.room_is, same), begun.1)
+
+moved : (slots : List Slot) (read from : Joined) (new_room room : List ℕ) → read ≡ from → new_room ≡ room → HoldsJoined slots from room → HoldsJoined slots read new_room
+moved slots read from new_room room same same_room held =
+    subst (λ (r : Joined). HoldsJoined slots r new_room) (sym same) (subst (λ (xs : List ℕ). HoldsJoined slots from xs) (sym same_room) held)
+
+-- what a step needs to hold, after the read has begun
+pub ready_holds : (slots : List Slot) (from read : Joined) (room new_room : List ℕ) → HasBegun slots from room new_room read → IsReady slots from room → HoldsJoined slots read new_room
+ready_holds slots from read room new_room begun ready = elim ready [
+  | inl new ↦ (begun.yes new).1.1
+  | inr held ↦ elim (new_or_not from) [
+      | inl new ↦ (begun.yes new).1.1
+      | inr not ↦ moved slots read from new_room room (begun.no not).0 (begun.no not).1 held
+    ]
+]
+
+-- a step that joined slots
+pub step_joins : (slots : List Slot) (most : ℕ) (from read next : Joined) (room middle new_room : List ℕ) → HasBegun slots from room middle read
+    → next.done ≡ min (read.done + most) (length slots) → next.digits ≡ read.digits → (HoldsJoined slots read middle → HoldsJoined slots next new_room)
+    → Joins slots most from room new_room next
+step_joins slots most from read next room middle new_room begun done digits further = elim (new_or_not from) [
+  | inl new ↦
+      let first = begun.yes new in
+      record {
+        done = done ∙ ap (λ (n : ℕ). min (n + most) (length slots)) (first.0 ∙ sym new.done);
+        digits = where_held new (digits ∙ first.1.1.digits_is, first.1.0);
+        joined = λ ready. further first.1.1;
+      }
+  | inr not ↦
+      let same = (begun.no not).0 in
+      record {
+        done = done ∙ ap (λ (r : Joined). min (r.done + most) (length slots)) same;
+        digits = where_not not (digits ∙ ap (λ (r : Joined). r.digits) same);
+        joined = λ ready. further (ready_holds slots from read room middle begun ready);
+      }
+]
+
+-- a step that was stopped by a long common denominator
+pub step_long : (slots : List Slot) (from read : Joined) (room middle : List ℕ) → HasBegun slots from room middle read
+    → (HoldsJoined slots read middle → HasLongCommon slots most_common) → (¬ (IsShortToBegin slots from room)) × (IsReady slots from room → HasLongCommon slots most_common)
+step_long slots from read room middle begun long =
+    (λ short. absurd (omega (arith, short.short, (begun.yes short.first).1.0)), λ ready. long (ready_holds slots from read room middle begun ready))

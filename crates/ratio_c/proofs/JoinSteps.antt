@@ -21,13 +21,6 @@ new_or_not read = elim (zero_or_not read.done) [
   | inr some ↦ inr (λ new. some new.done)
 ]
 
--- a read that had not begun begins, if the room is long enough
-pub begins : (slots : List Slot) (from : Joined) (room new_room : List ℕ) (r : Option Joined) → IsNew from → length new_room ≡ length room
-    → MatchOption r (length room < read_digits slots) (λ joined. (joined.done ≡ 0) × HoldsJoined slots joined new_room)
-    → MatchOption r (IsShortToBegin slots from room) (HasBegun slots from room new_room)
-begins slots from room new_room None new same short = record { first = new; short = short }
-begins slots from room new_room (Some read) new same begun = where_held new (begun.0, omega (arith, begun.1.room_is, same), begun.1)
-
 moved : (slots : List Slot) (read from : Joined) (new_room room : List ℕ) → read ≡ from → new_room ≡ room → HoldsJoined slots from room → HoldsJoined slots read new_room
 moved slots read from new_room room same same_room held =
     subst (λ (r : Joined). HoldsJoined slots r new_room) (sym same) (subst (λ (xs : List ℕ). HoldsJoined slots from xs) (sym same_room) held)
@@ -35,9 +28,9 @@ moved slots read from new_room room same same_room held =
 -- what a step needs to hold, after the read has begun
 pub ready_holds : (slots : List Slot) (from read : Joined) (room new_room : List ℕ) → HasBegun slots from room new_room read → IsReady slots from room → HoldsJoined slots read new_room
 ready_holds slots from read room new_room begun ready = elim ready [
-  | inl new ↦ (begun.yes new).1.1
+  | inl new ↦ (begun.yes new).2
   | inr held ↦ elim (new_or_not from) [
-      | inl new ↦ (begun.yes new).1.1
+      | inl new ↦ (begun.yes new).2
       | inr not ↦ moved slots read from new_room room (begun.no not).0 (begun.no not).1 held
     ]
 ]
@@ -51,8 +44,8 @@ step_joins slots most from read next room middle new_room begun done digits furt
       let first = begun.yes new in
       record {
         done = done ∙ ap (λ (n : ℕ). min (n + most) (length slots)) (first.0 ∙ sym new.done);
-        digits = where_held new (digits ∙ first.1.1.digits_is, first.1.0);
-        joined = λ ready. further first.1.1;
+        digits = where_held new (digits ∙ first.2.digits_is, first.1);
+        joined = λ ready. further first.2;
       }
   | inr not ↦
       let same = (begun.no not).0 in
@@ -67,4 +60,4 @@ step_joins slots most from read next room middle new_room begun done digits furt
 pub step_long : (slots : List Slot) (from read : Joined) (room middle : List ℕ) → HasBegun slots from room middle read
     → (HoldsJoined slots read middle → HasLongCommon slots most_common) → (¬ (IsShortToBegin slots from room)) × (IsReady slots from room → HasLongCommon slots most_common)
 step_long slots from read room middle begun long =
-    (λ short. absurd (omega (arith, short.short, (begun.yes short.first).1.0)), λ ready. long (ready_holds slots from read room middle begun ready))
+    (λ short. absurd (omega (arith, short.short, (begun.yes short.first).1)), λ ready. long (ready_holds slots from read room middle begun ready))

@@ -21,7 +21,7 @@ use Rattle.ratio_totals.specs.Sums.{SameSum, pair_sum, sum_of_slots}
 use Rattle.ratio_totals.specs.declared.joined.Joined.{Joined}
 use Rattle.ratio_totals.specs.declared.slots.Slot.{Slot}
 use Rattle.ratio_c.specs.Crossing.{Said, order_number, rule_of}
-use Rattle.ratio_c.specs.JoinedLaws.{HoldsAll, JoinedDecimals, JoinedFloats, JoinedIsSum, JoinedMeans, JoinedSigns, JoinedSums}
+use Rattle.ratio_c.specs.JoinedAnswers.{HoldsAll, DecimalsAnswerAlike, FloatsAnswerAlike, JoinedIsSum, MeansAnswerAlike, SignsAnswerAlike, SumsAnswerAlike}
 use Rattle.ratio_c.specs.Numbers64.{greatest64, least64}
 use Rattle.ratio_c.specs.TotalReads.{SaysLowest}
 use Rattle.ratio_c.proofs.ReadsAgree.{above, fits_moved}
@@ -59,8 +59,8 @@ said_moved : (x y : ℤ × ℕ) (answer : Said) → 0 < x.1 → 0 < y.1 → Same
 said_moved x y answer some other same says =
     record { result = says.result; is_result = lowest_moved x y says.result some other same says.is_result; is_said = says.is_said }
 
-pub joined_sums : JoinedSums
-joined_sums slots read room answer held says =
+pub sums_answer_alike : SumsAnswerAlike
+sums_answer_alike slots read room answer held says =
     let is = joined_is_sum slots read room held in
     inl (held.holds.room_is, said_moved (joined_pair read.digits room) (sum_of_slots slots) answer is.0.common (sum_positive slots) is.1 (says.yes is.0))
 
@@ -70,16 +70,16 @@ mean_moved x y count answer some other same positive says =
     (product_positive x.1 (above_zero count) some (above count positive)) (product_positive y.1 (above_zero count) other (above count positive))
     (divided_same x y (above_zero count) same) says
 
-pub joined_means : JoinedMeans
-joined_means slots read room count answer held says =
+pub means_answer_alike : MeansAnswerAlike
+means_answer_alike slots read room count answer held says =
     let is = joined_is_sum slots read room held in
     record {
       yes = λ positive. inl (held.holds.room_is, mean_moved (joined_pair read.digits room) (sum_of_slots slots) count answer is.0.common (sum_positive slots) is.1 positive ((says.yes positive).yes is.0));
       no = says.no;
     }
 
-pub joined_signs : JoinedSigns
-joined_signs slots read room answer held says =
+pub signs_answer_alike : SignsAnswerAlike
+signs_answer_alike slots read room answer held says =
     let is = joined_is_sum slots read room held in
     let pair = joined_pair read.digits room in
     let sign = says.yes is.0 in
@@ -91,8 +91,8 @@ joined_signs slots read room answer held says =
       },
     )
 
-pub joined_floats : JoinedFloats
-joined_floats slots read room code value held says =
+pub floats_answer_alike : FloatsAnswerAlike
+floats_answer_alike slots read room code value held says =
     let is = joined_is_sum slots read room held in
     let pair = joined_pair read.digits room in
     let float = says.yes is.0 in
@@ -104,8 +104,8 @@ joined_floats slots read room code value held says =
       },
     )
 
-pub joined_decimals : JoinedDecimals
-joined_decimals slots read room places rule end texts answer held enough says =
+pub decimals_answer_alike : DecimalsAnswerAlike
+decimals_answer_alike slots read room places rule end texts answer held enough says =
     let is = joined_is_sum slots read room held in
     let pair = joined_pair read.digits room in
     let holds : HasJoinedDecimal read.digits places room end = record {

@@ -9,7 +9,7 @@ use Rattle.ratio_integer.specs.Fraction.{ChecksLowest, Fits, IsLowestTermsOf}
 use Rattle.ratio_integer.specs.Range.{IsHeld}
 use Rattle.ratio_integer.proofs.LowestTerms.{lowest_unique}
 use Rattle.ratio_natural.specs.Number.{base}
-use Rattle.ratio_totals.specs.LowestSum.{ChecksMean, ChecksShortPair, HasLongPair, pair_mean}
+use Rattle.ratio_totals.specs.LowestSum.{ChecksPairMean, ChecksShortPair, HasLongPair, pair_mean}
 use Rattle.ratio_totals.specs.Multiples.{ChecksMultiple}
 use Rattle.ratio_c.specs.Crossing.{Said, Says, rule_of, said_of}
 use Rattle.ratio_c.specs.Numbers64.{greatest64, least64}
@@ -69,7 +69,7 @@ pub short_said : (x : ℤ × ℕ) (terms : Option (ℤ × ℕ)) (r : Option (ℤ
     → answer ≡ said_of (option_map (λ z. (z.0, z.1)) r) → SaysLowest x answer
 short_said x terms r answer checks narrows said = lowest_said (λ z. z.0) (λ z. z.1) least64 greatest64 x.0 (pos x.1) x.0 (pos x.1) r answer refl refl (short_lowest x terms r checks narrows) said
 
-pub mean_checked : (x : ℤ × ℕ) (count : ℤ) (terms : Option (ℤ × ℕ)) → pos 0 <ℤ count → ChecksMean x count terms → ChecksShortPair (pair_mean x count) terms
+pub mean_checked : (x : ℤ × ℕ) (count : ℤ) (terms : Option (ℤ × ℕ)) → pos 0 <ℤ count → ChecksPairMean x count terms → ChecksShortPair (pair_mean x count) terms
 mean_checked x count None positive checks = elim checks [ inl none ↦ absurd (omega (arith, ints, none, positive)) | inr long ↦ long ]
 mean_checked x count (Some t) positive checks = checks.1
 

@@ -19,4 +19,4 @@ pub mod TotalOrders
 pub mod TotalMultiples
 pub mod Joining
 pub mod JoinedReads
-pub mod JoinedLaws
+pub mod JoinedAnswers

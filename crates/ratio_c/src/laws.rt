@@ -1,6 +1,6 @@
 //! The laws of hashes, of keys and of totals. Each function does nothing: its contract is the law.
 ghost use Rattle.ratio_c.specs.Calls.{EqualValuesHaveOneHash};
-ghost use Rattle.ratio_c.specs.JoinedLaws.{JoinedDecimals, JoinedFloats, JoinedIsSum, JoinedMeans, JoinedSigns, JoinedSums};
+ghost use Rattle.ratio_c.specs.JoinedAnswers.{DecimalsAnswerAlike, FloatsAnswerAlike, JoinedIsSum, MeansAnswerAlike, SignsAnswerAlike, SumsAnswerAlike};
 ghost use Rattle.ratio_c.specs.Keys.{KeysKeepOrder, KeysTellFloats};
 ghost use Rattle.ratio_c.specs.LowestHash.{DenominatorsHaveUnlikeHashes, EqualHaveOneHash, NumeratorsHaveUnlikeHashes};
 ghost use Rattle.ratio_c.specs.TotalLaws.{CallsFollow, EachIsBrought, EachIsCounted, MergeAddsEach, MeansReadAlike, MergeMoves, OutUndoesIn, PartsMerge, SignsAgree, SumsReadAlike, TotalsInAnyOrder, UnmergeUndoes};
@@ -44,11 +44,11 @@ pub fn total_reads()
 /// Where all slots of a total are joined in a room, the room holds their sum, and each read of it answers as the read of the total.
 pub fn joined_totals()
     ensures holds { JoinedIsSum }
-    ensures sums { JoinedSums }
-    ensures means { JoinedMeans }
-    ensures signs { JoinedSigns }
-    ensures floats { JoinedFloats }
-    ensures decimals { JoinedDecimals }
+    ensures sums { SumsAnswerAlike }
+    ensures means { MeansAnswerAlike }
+    ensures signs { SignsAnswerAlike }
+    ensures floats { FloatsAnswerAlike }
+    ensures decimals { DecimalsAnswerAlike }
 {}
 
 /// If one value is at most another, so is its key. If the nearest float of one value is below that of another, so is its key.

@@ -29,36 +29,36 @@ JoinedIsSum =
 
 -- Law: so the sum in the room is the answer of the total's own read
 -- Example: 1/36, 1/28: 4/63
-abbrev pub JoinedSums : Type 0
-JoinedSums =
+abbrev pub SumsAnswerAlike : Type 0
+SumsAnswerAlike =
     (slots : List Slot) (read : Joined) (room : List ℕ) (answer : Said)
     → HoldsAll slots read room → IsSumOfJoined read.digits room answer → IsSumOfTotal slots (length room) answer
 
 -- Law: and so is the mean
 -- Example: 1/36, 1/28 with the count 2: 2/63
-abbrev pub JoinedMeans : Type 0
-JoinedMeans =
+abbrev pub MeansAnswerAlike : Type 0
+MeansAnswerAlike =
     (slots : List Slot) (read : Joined) (room : List ℕ) (count : ℤ) (answer : Said)
     → HoldsAll slots read room → IsMeanOfJoined read.digits count room answer → IsMeanOfTotal slots count (length room) answer
 
 -- Law: and the sign
 -- Example: 1/36, -1/28: -1
-abbrev pub JoinedSigns : Type 0
-JoinedSigns =
+abbrev pub SignsAnswerAlike : Type 0
+SignsAnswerAlike =
     (slots : List Slot) (read : Joined) (room : List ℕ) (answer : Order)
     → HoldsAll slots read room → IsSignOfJoined read.digits room answer → IsSignOfTotal slots (length room) answer
 
 -- Law: and the float
 -- Example: 1/36, 1/28: 0.06349206349206349
-abbrev pub JoinedFloats : Type 0
-JoinedFloats =
+abbrev pub FloatsAnswerAlike : Type 0
+FloatsAnswerAlike =
     (slots : List Slot) (read : Joined) (room : List ℕ) (code : ℕ) (value : Float)
     → HoldsAll slots read room → IsFloatOfJoined read.digits room code value → IsFloatOfTotal slots (length room) code value
 
 -- Law: and the decimal, with as many digits and bytes as the total's decimal needs
 -- Example: 1/36, 1/28 with four places by the rule 1: `0.0635`
-abbrev pub JoinedDecimals : Type 0
-JoinedDecimals =
+abbrev pub DecimalsAnswerAlike : Type 0
+DecimalsAnswerAlike =
     (slots : List Slot) (read : Joined) (room : List ℕ) (places rule end : ℕ) (texts : List ℕ) (answer : Text)
     → HoldsAll slots read room → HasDecimalRoom slots places (length room) end
     → IsDecimalOfJoined read.digits places rule room end texts answer → IsDecimalOfTotal slots places rule (length room) end texts answer

@@ -33,7 +33,8 @@ static ratio_i64 chain[ITEMS], shares[ITEMS];
 static int64_t weights[ITEMS], cents[ITEMS], chain_room[2 * ITEMS];
 static ratio_total_i64 total;
 static ratio_slot_i64 slots[SLOTS], both[2 * SLOTS], parts[LEN];
-static uint64_t room[8 * SLOTS + 6], sizes[LEN];
+static uint64_t room[8 * SLOTS + 6], kept[8 * SLOTS + 6], sizes[LEN];
+static ratio_joined_i64 joined;
 static uint8_t texts[LEN * RATIO_ROOM_I64], decimal_texts[LEN * RATIO_DECIMAL_ROOM_I64], printed[LEN * RATIO_DECIMAL_ROOM_I64];
 static size_t texts_len, decimal_texts_len;
 static ratio_span spans[LEN], decimal_spans[LEN];
@@ -53,6 +54,18 @@ static void done(uint32_t returned) {
         fputs("bench: a call got arrays of other lengths than it requires\n", stderr);
         exit(1);
     }
+}
+
+/* The header of a read in steps that has not begun. */
+static ratio_joined_i64 *new_read(void) {
+    memset(&joined, 0, sizeof joined);
+    return &joined;
+}
+
+/* The room where all slots are joined. A read uses it up, so each one gets a copy. */
+static uint64_t *joined_room(void) {
+    memcpy(room, kept, sizeof room);
+    return room;
 }
 
 /* Each call, what it is asked, where its answers go, and the kind of its input. */
@@ -92,6 +105,14 @@ static void done(uint32_t returned) {
     X(total_compare_i64, (slots, SLOTS, slots, SLOTS, both, 2 * SLOTS, ROOM, orders, 1))                    \
     X(total_print_i64, (slots, SLOTS, 2, RATIO_RULE_HALF_EVEN, ROOM, printed, sizeof printed, places, 1))
 
+/* Those of a read in steps: all slots in one step, and what the room gives then. */
+#define JOINED SLOTS, joined_room(), sizeof room / sizeof *room
+#define STEPS(X)                                                                                            \
+    X(total_join_i64, (slots, SLOTS, SLOTS, new_read(), 1, ROOM))                                           \
+    X(joined_sum_i64, (JOINED, answers, 1)) X(joined_sign_i64, (JOINED, orders, 1)) X(joined_to_f64_i64, (JOINED, floats, 1)) \
+    X(joined_mean_i64, (SLOTS, LEN, joined_room(), sizeof room / sizeof *room, answers, 1))                 \
+    X(joined_print_i64, (SLOTS, 2, RATIO_RULE_HALF_EVEN, joined_room(), sizeof room / sizeof *room, printed, sizeof printed, places, 1))
+
 /* Those on a list of ITEMS: fractions whose product is 1, shares that add up to 1, or weights. */
 #define LISTS(X)                                                                                            \
     X(quotient_of_i64, (chain, ITEMS, chain, 0, chain_room, 2 * ITEMS, answers, 1), "list")                 \
@@ -112,13 +133,14 @@ static void done(uint32_t returned) {
 CALLS(DEFINE)
 OTHERS(DEFINE_OTHER)
 READS(DEFINE_READ)
+STEPS(DEFINE_READ)
 LISTS(DEFINE_LIST)
 SIZES(DEFINE_SIZE)
 
 #define ROW(name, asked, results, kind) {"ratio_" #name, kind, name},
 #define ROW_OTHER(name, arguments, kind) {"ratio_" #name, kind, name},
 #define ROW_READ(name, arguments) {"ratio_" #name, "total", name},
-static const struct { const char *name, *kind; void (*run)(void); } calls[] = {CALLS(ROW) OTHERS(ROW_OTHER) READS(ROW_READ) LISTS(ROW_OTHER) SIZES(ROW_READ)};
+static const struct { const char *name, *kind; void (*run)(void); } calls[] = {CALLS(ROW) OTHERS(ROW_OTHER) READS(ROW_READ) STEPS(ROW_READ) LISTS(ROW_OTHER) SIZES(ROW_READ)};
 
 static uint64_t state = 1;
 
@@ -181,6 +203,7 @@ static void fill(void) {
         weights[i] = i + 1;
     }
     done(ratio_total_add_i64(smalls, LEN, &total, 1, slots, SLOTS));
+    done(ratio_total_join_i64(slots, SLOTS, SLOTS, &joined, 1, kept, sizeof kept / sizeof *kept));
     done(ratio_print_i64(halves, LEN, texts, sizeof texts, places, LEN));
     for (int i = 0; i < LEN; i++) spans[i] = places[i].span;
     texts_len = spans[LEN - 1].end;
@@ -222,5 +245,5 @@ int main(int argc, char **argv) {
         if (argc > 1) printf("%s\n", calls[i].name);
         else printf("%s\t%s\t%.1f\n", calls[i].name, calls[i].kind, median_time(calls[i].run));
     }
-    return total.code == RATIO_ANSWERED ? 0 : 1;
+    return total.code == RATIO_ANSWERED && joined.code == RATIO_ANSWERED ? 0 : 1;
 }

@@ -43,9 +43,10 @@ enum {
                                            no such text */
     RATIO_NO_TEXT = 6,                  /* of read, read_decimal and read_text: the span does not lie in the texts */
     RATIO_BOUND_NOT_POSITIVE = 7,       /* of nearest: no denominator lies from 1 to the bound */
-    RATIO_NO_TOTAL = 8,                 /* of totals: an empty slot has a numerator that is not 0 */
-    RATIO_BAD_OPTION = 9,               /* of between, from_scaled, round_to, mul_round, print_decimal, total_print and total_round_to:
-                                           the call has no such flags, scale, parts, places or rule */
+    RATIO_NO_TOTAL = 8,                 /* of totals: an empty slot has a numerator that is not 0. Of reads in steps: the room does
+                                           not hold what the last step left there */
+    RATIO_BAD_OPTION = 9,               /* of between, from_scaled, round_to, mul_round, print_decimal, total_print, joined_print and
+                                           total_round_to: the call has no such flags, scale, parts, places or rule */
     RATIO_MORE_ROOM = 10,               /* of totals: each slot holds another denominator, or a read has too little room. Of
                                            quotient_of: too little room */
     RATIO_TOO_LONG = 11,                /* of reads of totals: the common denominator is not below 2^(2^20) */
@@ -63,7 +64,7 @@ enum {
     RATIO_HIGH_OPEN = 8      /* there is no upper bound: its fields are not read */
 };
 
-/* The rules of round_to, mul_round, print_decimal, total_print and total_round_to. */
+/* The rules of round_to, mul_round, print_decimal, total_print, joined_print and total_round_to. */
 enum {
     RATIO_RULE_HALF_AWAY = 0, /* to the nearer multiple, and a half away from zero: 5/2 to 3 */
     RATIO_RULE_HALF_EVEN = 1, /* to the nearer one, and a half to the even one: 5/2 to 2 */
@@ -412,6 +413,57 @@ uint32_t ratio_total_compare_i64(const ratio_slot_i64 *left, size_t left_len, co
                                  ratio_slot_i64 *slots, size_t slots_len, uint64_t *room, size_t room_len,
                                  ratio_order *answers, size_t answers_len);
 
+/* A read in steps, for a program that must be able to stop. A read of hundreds of thousands of denominators takes seconds. In steps, you
+ * join a few slots in each call, and look for a deadline or a cancel between two calls. The answers are the same:
+ *
+ *   ratio_joined_i64 joined = {0};
+ *   do {
+ *       if (is_cancelled()) ..
+ *       ratio_total_join_i64(slots, slots_len, 64, &joined, 1, room, room_len);
+ *   } while (joined.code == RATIO_ANSWERED && joined.done < slots_len);
+ *   if (joined.code == RATIO_ANSWERED) ratio_joined_sum_i64(joined.digits, room, room_len, &answer, 1);
+ *
+ * The room keeps what the steps have joined: do not change it, or the slots, between two calls. To stop, just make no further call.
+ */
+
+/* How far a read in steps has come, and what the last step did. Made all zero, it begins. */
+typedef struct { uint32_t code; uint64_t done; uint64_t digits; } ratio_joined_i64;
+
+/* A step joins at most `most` further slots, and `done` says how many are joined. The read has ended once these are all slots. The first step
+ * also begins the read: `digits` becomes the digits of the common denominator. With the longest one, a step of 64 slots takes some 7
+ * milliseconds. The code is one of these:
+ *
+ *   RATIO_ANSWERED    the slots are joined
+ *   RATIO_MORE_ROOM   the read has not begun, since the room has fewer digits than ratio_total_digits_i64 says
+ *   RATIO_TOO_LONG    the common denominator is not below 2^(2^20)
+ *   RATIO_NO_TOTAL    the room does not hold what the last step left there
+ *
+ * After any code but RATIO_ANSWERED, `done` and `digits` are as they were, and the room may have anything. If `joined_len` is not 1, the call
+ * returns RATIO_BAD_LENGTH and writes nothing.
+ */
+uint32_t ratio_total_join_i64(const ratio_slot_i64 *slots, size_t slots_len, uint64_t most, ratio_joined_i64 *joined, size_t joined_len,
+                              uint64_t *room, size_t room_len);
+
+/* The calls that give the answer from the room, once all slots are joined. Each gives what the call of the same name on the total gives, with
+ * the same codes, and takes the `digits` of the steps. Before, the sum is that of the slots that are joined.
+ *
+ *   ratio_joined_sum_i64      the sum in lowest terms
+ *   ratio_joined_mean_i64     the sum divided by the count, in lowest terms
+ *   ratio_joined_sign_i64     the order of the sum and 0
+ *   ratio_joined_to_f64_i64   the float nearest to the sum
+ *   ratio_joined_print_i64    the sum as a decimal. The room has as many digits as ratio_total_print_digits_i64 says, and is given to
+ *                             ratio_total_join_i64 as a whole. ratio_total_print_bytes_i64 says how many bytes there are
+ *
+ * If the room holds no such sum, or is too short, or there are too few bytes for the text, the code is RATIO_NO_TOTAL. Each call uses the room
+ * up: afterwards it may have anything. If `answers_len` is not 1, a call returns RATIO_BAD_LENGTH and writes nothing.
+ */
+uint32_t ratio_joined_sum_i64(uint64_t digits, uint64_t *room, size_t room_len, ratio_answer_i64 *answers, size_t answers_len);
+uint32_t ratio_joined_mean_i64(uint64_t digits, int64_t count, uint64_t *room, size_t room_len, ratio_answer_i64 *answers, size_t answers_len);
+uint32_t ratio_joined_sign_i64(uint64_t digits, uint64_t *room, size_t room_len, ratio_order *answers, size_t answers_len);
+uint32_t ratio_joined_to_f64_i64(uint64_t digits, uint64_t *room, size_t room_len, ratio_float *answers, size_t answers_len);
+uint32_t ratio_joined_print_i64(uint64_t digits, uint32_t places, uint32_t rule, uint64_t *room, size_t room_len,
+                                uint8_t *texts, size_t texts_len, ratio_text *answers, size_t answers_len);
+
 /* Declares the call that gives the same fractions over a type of another width, not reduced. A number that does not fit gives
  * RATIO_NOT_HELD: reduce the fraction before, if it is not in lowest terms.
  */
@@ -475,6 +527,7 @@ static_assert(sizeof(ratio_bounds_i128) == 72, "the size of ratio_bounds_i128");
 static_assert(sizeof(ratio_answer_i128) == 40, "the size of ratio_answer_i128");
 static_assert(sizeof(ratio_slot_i64) == 24, "the size of ratio_slot_i64");
 static_assert(sizeof(ratio_total_i64) == 24, "the size of ratio_total_i64");
+static_assert(sizeof(ratio_joined_i64) == 24, "the size of ratio_joined_i64");
 #endif
 
 #endif

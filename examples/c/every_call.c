@@ -445,6 +445,91 @@ static void reads_of_totals(void) {
     expect(text->span.start == text->span.end, "span of no text");
 }
 
+/* Joins all slots, so many in each step, or stops where a step is refused. */
+static ratio_joined_i64 join_all(const ratio_slot_i64 *slots, size_t many, uint64_t most, uint64_t *room, size_t digits) {
+    ratio_joined_i64 joined = {0};
+    do {
+        expect(ratio_total_join_i64(slots, many, most, &joined, 1, room, digits) == RATIO_DONE, "a step");
+    } while (joined.code == RATIO_ANSWERED && joined.done < many);
+    return joined;
+}
+
+#define IS_STEP(joined, why, slots, size) ((joined).code == (why) && (joined).done == (slots) && (joined).digits == (size))
+
+/* The steps of 1/36 + 1/28, and those that are refused. */
+static void steps_of_totals(void) {
+    static const ratio_slot_i64 slots[2] = {{36, {1, 0}}, {28, {1, 0}}};
+    uint64_t room[14];
+    ratio_joined_i64 joined[2] = {{0}}, far = {RATIO_ANSWERED, 3, 2}, wide = {RATIO_ANSWERED, 1, 20000};
+    ratio_answer_i64 answer[1];
+    expect(ratio_total_join_i64(slots, 2, 1, joined, 2, room, 14) == RATIO_BAD_LENGTH && IS_STEP(*joined, 0, 0, 0), "two headers");
+    expect(ratio_total_join_i64(slots, 2, 1, joined, 1, room, 13) == RATIO_DONE && IS_STEP(*joined, RATIO_MORE_ROOM, 0, 0), "a step without room");
+    expect(ratio_total_join_i64(slots, 2, 0, joined, 1, room, 14) == RATIO_DONE && IS_STEP(*joined, RATIO_ANSWERED, 0, 2), "a step of no slot");
+    expect(ratio_total_join_i64(slots, 2, 1, joined, 1, room, 14) == RATIO_DONE && IS_STEP(*joined, RATIO_ANSWERED, 1, 2), "a step of one slot");
+    expect(ratio_total_join_i64(slots, 2, 9, joined, 1, room, 14) == RATIO_DONE && IS_STEP(*joined, RATIO_ANSWERED, 2, 2), "the last step");
+    expect(ratio_total_join_i64(slots, 2, 9, joined, 1, room, 14) == RATIO_DONE && IS_STEP(*joined, RATIO_ANSWERED, 2, 2), "a step behind the last");
+    expect(ratio_joined_sum_i64(joined->digits, room, 14, answer, 1) == RATIO_DONE && answer->code == RATIO_ANSWERED, "sum of a room");
+    expect(answer->value.numer == 4 && answer->value.denom == 63, "sum of a room");
+    expect(ratio_total_join_i64(slots, 2, 1, &far, 1, room, 14) == RATIO_DONE && IS_STEP(far, RATIO_NO_TOTAL, 3, 2), "more slots than there are");
+    expect(ratio_total_join_i64(slots, 2, 1, &wide, 1, room, 14) == RATIO_DONE && IS_STEP(wide, RATIO_NO_TOTAL, 1, 20000), "more digits than there are");
+    memset(room, 0, sizeof room);
+    joined->done = 1;
+    expect(ratio_total_join_i64(slots, 2, 1, joined, 1, room, 14) == RATIO_DONE && IS_STEP(*joined, RATIO_NO_TOTAL, 1, 2), "a room that changed");
+}
+
+/* What the room gives once all is joined. Python's `fractions` computed the answers. */
+static void joined_totals(void) {
+    static const ratio_slot_i64 sum[2] = {{36, {1, 0}}, {28, {1, 0}}}, less[2] = {{36, {1, 0}}, {28, {UINT64_MAX, -1}}};
+    static const ratio_slot_i64 primes[2] = {{4294967291, {1, 0}}, {4294967279, {1, 0}}};
+    const size_t digits = ratio_total_print_digits_i64(sum, 2, 4), size = ratio_total_print_bytes_i64(sum, 2, 4);
+    uint64_t room[20];
+    uint8_t bytes[147];
+    ratio_answer_i64 answer[1];
+    ratio_order order[1];
+    ratio_float value[1];
+    ratio_text text[1];
+    const ratio_joined_i64 none = join_all(sum, 0, 1, room, 14);
+    expect(digits == 20 && size == 147, "room for a decimal of a room");
+    expect(IS_STEP(none, RATIO_ANSWERED, 0, 1) && ratio_joined_sum_i64(1, room, 14, answer, 1) == RATIO_DONE, "no slot");
+    expect(answer->code == RATIO_ANSWERED && answer->value.numer == 0 && answer->value.denom == 1, "sum of no slot");
+    (void) join_all(sum, 2, 1, room, 14);
+    expect(ratio_joined_mean_i64(2, 2, room, 14, answer, 1) == RATIO_DONE && answer->code == RATIO_ANSWERED, "mean of a room");
+    expect(answer->value.numer == 2 && answer->value.denom == 63, "mean of a room");
+    expect(ratio_joined_mean_i64(2, 0, room, 14, answer, 1) == RATIO_DONE && answer->code == RATIO_DIVISION_BY_ZERO, "mean of no fraction in a room");
+    (void) join_all(less, 2, 1, room, 14);
+    expect(ratio_joined_sign_i64(2, room, 14, order, 1) == RATIO_DONE && order->code == RATIO_ANSWERED && order->order == -1, "sign of a room");
+    (void) join_all(sum, 2, 2, room, 14);
+    expect(ratio_joined_to_f64_i64(2, room, 14, value, 1) == RATIO_DONE && value->code == RATIO_ANSWERED && value->value == 0.06349206349206349, "float of a room");
+    (void) join_all(sum, 2, 1, room, digits);
+    expect(ratio_joined_print_i64(2, 4, 6, room, digits, bytes, size, text, 1) == RATIO_DONE && text->code == RATIO_BAD_OPTION, "no rule in a room");
+    expect(ratio_joined_print_i64(2, 4, RATIO_RULE_HALF_EVEN, room, digits, bytes, size, text, 1) == RATIO_DONE && text->code == RATIO_ANSWERED, "decimal of a room");
+    expect(text->span.end == size && text->span.start == size - 6 && memcmp(bytes + size - 6, "0.0635", 6) == 0, "text of a decimal of a room");
+    (void) join_all(primes, 2, 1, room, 14);
+    expect(ratio_joined_sum_i64(2, room, 14, answer, 1) == RATIO_DONE && answer->code == RATIO_NOT_HELD, "a sum above 64 bits in a room");
+}
+
+/* Rooms that have no total. */
+static void rooms_of_no_total(void) {
+    uint64_t room[20] = {0};
+    uint8_t bytes[147];
+    ratio_answer_i64 answer[1];
+    ratio_order order[1];
+    ratio_float value[1];
+    ratio_text text[1];
+    room[5] = 1;
+    expect(ratio_joined_sum_i64(2, room, 14, answer, 0) == RATIO_BAD_LENGTH && room[5] == 1, "no answer from a room");
+    expect(ratio_joined_print_i64(2, 4, 0, room, 20, bytes, 146, text, 1) == RATIO_DONE && text->code == RATIO_NO_TOTAL, "no bytes for a room");
+    expect(ratio_joined_print_i64(2, 4, 0, room, 19, bytes, 147, text, 1) == RATIO_DONE && text->code == RATIO_NO_TOTAL, "no digits for a decimal of a room");
+    expect(text->span.start == text->span.end, "span of no text of a room");
+    expect(ratio_joined_sign_i64(0, room, 14, order, 1) == RATIO_DONE && order->code == RATIO_NO_TOTAL && order->order == 0, "a room without digits");
+    expect(ratio_joined_sign_i64(2, room, 13, order, 1) == RATIO_DONE && order->code == RATIO_NO_TOTAL, "a room that is too short");
+    expect(ratio_joined_sign_i64(UINT64_MAX, room, 20, order, 1) == RATIO_DONE && order->code == RATIO_NO_TOTAL, "a room with too many digits");
+    room[5] = 0;
+    expect(ratio_joined_sum_i64(2, room, 14, answer, 1) == RATIO_DONE && answer->code == RATIO_NO_TOTAL, "a sum over 0");
+    expect(ratio_joined_mean_i64(2, 1, room, 14, answer, 1) == RATIO_DONE && answer->code == RATIO_NO_TOTAL, "a mean over 0");
+    expect(ratio_joined_to_f64_i64(2, room, 14, value, 1) == RATIO_DONE && value->code == RATIO_NO_TOTAL && value->value == 0, "a float over 0");
+}
+
 /* The multiples of 1/36 + 1/28, and its order beside 1/15. Python's `fractions` computed them. */
 static void multiples_and_orders_of_totals(void) {
     static const ratio_slot_i64 sum[2] = {{36, {1, 0}}, {28, {1, 0}}}, fifteenth[1] = {{15, {1, 0}}}, least[1] = {{15, {0, INT64_MIN}}};
@@ -479,6 +564,7 @@ static void long_total(void) {
     int factors = 0;
     ratio_answer_i64 answer[1];
     ratio_order order[1];
+    ratio_joined_i64 joined;
     for (uint64_t p = 2; p < PRIMES; p++) {
         if (is_composite[p]) continue;
         for (uint64_t multiple = p * p; multiple < PRIMES; multiple += p) is_composite[multiple] = 1;
@@ -491,6 +577,11 @@ static void long_total(void) {
     expect(ratio_total_sum_i64(slots, slot, room, DIGITS, answer, 1) == RATIO_DONE && answer->code == RATIO_TOO_LONG, "sum of a long total");
     expect(ratio_total_mean_i64(slots, slot, 1, room, DIGITS - 1, answer, 1) == RATIO_DONE && answer->code == RATIO_MORE_ROOM, "room of a long total");
     expect(ratio_total_compare_i64(slots, slot, slots, 1, both, SLOTS, room, DIGITS, order, 1) == RATIO_DONE && order->code == RATIO_TOO_LONG, "order of a long total");
+    joined = join_all(slots, slot, 64, room, DIGITS);
+    expect(joined.code == RATIO_TOO_LONG && joined.done < slot && joined.done % 64 == 0 && joined.digits == 16384, "steps of a long total");
+    joined = join_all(slots, joined.done, 1000, room, DIGITS);
+    expect(IS_STEP(joined, RATIO_ANSWERED, joined.done, 16384) && ratio_joined_sum_i64(16384, room, DIGITS, answer, 1) == RATIO_DONE, "steps before that");
+    expect(answer->code == RATIO_NOT_HELD, "sum of the steps before that");
 }
 
 /* Python's division, which gives the nearest float, computed the keys. */
@@ -540,6 +631,9 @@ int main(void) {
     totals();
     stops_of_totals();
     reads_of_totals();
+    steps_of_totals();
+    joined_totals();
+    rooms_of_no_total();
     multiples_and_orders_of_totals();
     long_total();
     keys();

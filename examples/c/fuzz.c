@@ -29,7 +29,7 @@ typedef struct { plain *plain; with_texts *reads, *prints; size_t asked, numbers
 typedef double ratio_double;
 
 /* Each call by its name, with what it is asked, how many numbers of which type begin that, and its answer. Options are behind the numbers.
- * The calls on totals are in `one_total`, and those on lists in `one_list`.
+ * The calls on totals are in `one_total` and `one_read_in_steps`, and those on lists in `one_list`.
  */
 #define PLAIN(X, s, number)                                                                                   \
     X(compare_##s, pair_##s, 4, number, order) X(equal_##s, pair_##s, 4, number, truth)                       \
@@ -296,6 +296,109 @@ static void one_total(void) {
     mix((const uint8_t *) &returned, sizeof returned);
 }
 
+/* A read of a total: which one, what it is asked, and its room. */
+typedef struct { size_t kind; int64_t count; uint32_t places, rule; uint64_t *room; size_t digits; uint8_t *texts; size_t size; } read_of_total;
+
+/* What a read says: a fraction, an order, the bits of a float, or the span of a text. */
+typedef struct { uint32_t code; uint64_t first, second; } said;
+
+static said said_of(size_t kind, ratio_answer_i64 fraction, ratio_order order, ratio_float value, ratio_text text) {
+    said x = {0, 0, 0};
+    switch (kind) {
+    case 0: case 1: x.code = fraction.code, x.first = (uint64_t) fraction.value.numer, x.second = (uint64_t) fraction.value.denom; break;
+    case 2: x.code = order.code, x.first = (uint64_t) (int64_t) order.order; break;
+    case 3: x.code = value.code, memcpy(&x.first, &value.value, sizeof x.first); break;
+    default: x.code = text.code, x.first = text.span.start, x.second = text.span.end;
+    }
+    return x;
+}
+
+static said at_once(const read_of_total *r, const ratio_slot_i64 *slots, size_t len) {
+    ratio_answer_i64 fraction = {0};
+    ratio_order order = {0};
+    ratio_float value = {0};
+    ratio_text text = {0};
+    switch (r->kind) {
+    case 0: ratio_total_sum_i64(slots, len, r->room, r->digits, &fraction, 1); break;
+    case 1: ratio_total_mean_i64(slots, len, r->count, r->room, r->digits, &fraction, 1); break;
+    case 2: ratio_total_sign_i64(slots, len, r->room, r->digits, &order, 1); break;
+    case 3: ratio_total_to_f64_i64(slots, len, r->room, r->digits, &value, 1); break;
+    default: ratio_total_print_i64(slots, len, r->places, r->rule, r->room, r->digits, r->texts, r->size, &text, 1);
+    }
+    return said_of(r->kind, fraction, order, value, text);
+}
+
+static said from_room(const read_of_total *r, uint64_t digits) {
+    ratio_answer_i64 fraction = {0};
+    ratio_order order = {0};
+    ratio_float value = {0};
+    ratio_text text = {0};
+    switch (r->kind) {
+    case 0: ratio_joined_sum_i64(digits, r->room, r->digits, &fraction, 1); break;
+    case 1: ratio_joined_mean_i64(digits, r->count, r->room, r->digits, &fraction, 1); break;
+    case 2: ratio_joined_sign_i64(digits, r->room, r->digits, &order, 1); break;
+    case 3: ratio_joined_to_f64_i64(digits, r->room, r->digits, &value, 1); break;
+    default: ratio_joined_print_i64(digits, r->places, r->rule, r->room, r->digits, r->texts, r->size, &text, 1);
+    }
+    return said_of(r->kind, fraction, order, value, text);
+}
+
+/* Whether both reads say the same. If the read at once lacks room, so do the steps, or what comes behind them. A count and a rule are tested first. */
+static int are_alike(const read_of_total *r, said whole, const uint8_t *text, uint32_t step, said parts) {
+    if (whole.code == RATIO_MORE_ROOM) return step == RATIO_MORE_ROOM || (r->kind == 4 && parts.code == RATIO_NO_TOTAL);
+    if (step == RATIO_MORE_ROOM) return whole.code == RATIO_DIVISION_BY_ZERO || whole.code == RATIO_BAD_OPTION;
+    return step == RATIO_ANSWERED && whole.code == parts.code && whole.first == parts.first && whole.second == parts.second
+           && (r->kind < 4 || memcmp(text + whole.first, r->texts + parts.first, whole.second - whole.first) == 0);
+}
+
+/* Writes random bytes into the room or the header of a read in steps. */
+static void spoil(ratio_joined_i64 *joined, uint8_t *room, size_t size) {
+    const size_t first = below(size + 1), count = below(size + 1 - first);
+    switch (below(4)) {
+    case 0: joined->done = below(2) ? below(SLOTS + 2) : next(); break;
+    case 1: joined->digits = below(2) ? below(ROOM) : next(); break;
+    case 2: memset(room + first, below(2) ? 0 : 0xff, count); break;
+    default: for (size_t i = 0; i < count; i++) room[first + i] = (uint8_t) next();
+    }
+}
+
+/* Reads a total in steps of random sizes, and stops if the answer is not that of the read at once. Now and then the room or the header is
+ * spoiled between two steps. Then any answer will do, but both libraries give the same one. */
+static void one_read_in_steps(void) {
+    const size_t len = below(4) > 0 ? SLOTS : below(SLOTS + 1), digits = below(ROOM), size = below(TEXT), m = 1 + (below(32) == 0);
+    const int is_spoiled = below(4) == 0;
+    uint8_t *slots = place(SLOTS_OF_TOTAL, len * sizeof(ratio_slot_i64)), *room = place(ROOM_OF_TOTAL, digits * sizeof(uint64_t));
+    uint8_t *texts = place(TEXTS, size), *header = place(ANSWERS, m * sizeof(ratio_joined_i64));
+    static uint64_t other_room[ROOM];
+    static uint8_t other_texts[TEXT];
+    const ratio_slot_i64 *from = (const ratio_slot_i64 *) slots;
+    ratio_joined_i64 *joined = (ratio_joined_i64 *) header;
+    read_of_total r = {below(5), (int64_t) below(9) - 2, (uint32_t) below(below(8) == 0 ? 200 : 12), (uint32_t) below(7), other_room, digits, other_texts, size};
+    said whole, parts = {0, 0, 0};
+    memcpy(slots, totals[below(MOST)].slots, len * sizeof(ratio_slot_i64));
+    memset(header, 0, m * sizeof(ratio_joined_i64));
+    whole = at_once(&r, from, len);
+    r.room = (uint64_t *) room, r.texts = texts;
+    for (int steps = 0; steps < 40; steps++) {
+        const uint64_t most = below(16) == 0 ? next() : below(4);
+        const uint32_t returned = ratio_total_join_i64(from, len, most, joined, m, (uint64_t *) room, digits);
+        mix((const uint8_t *) &returned, sizeof returned);
+        if (returned != RATIO_DONE || joined->code != RATIO_ANSWERED || joined->done >= len) break;
+        if (is_spoiled && below(2)) spoil(joined, room, digits * sizeof(uint64_t));
+    }
+    if (is_spoiled && below(2)) spoil(joined, room, digits * sizeof(uint64_t));
+    if (joined->code == RATIO_ANSWERED || is_spoiled) parts = from_room(&r, joined->digits);
+    test_before(slots), test_before(room), test_before(texts), test_before(header);
+    if (m == 1 && !is_spoiled && (joined->code != RATIO_ANSWERED || joined->done >= len) && !are_alike(&r, whole, other_texts, joined->code, parts)) {
+        fputs("fuzz: a read in steps does not give what the read at once gives\n", stderr);
+        exit(1);
+    }
+    if (m == 1) take(header, sizeof(ratio_joined_i64), 1);
+    codes[parts.code < CODES ? parts.code : CODES - 1]++;
+    mix((const uint8_t *) &parts.code, sizeof parts.code), mix((const uint8_t *) &parts.first, sizeof parts.first), mix((const uint8_t *) &parts.second, sizeof parts.second);
+    if (r.kind == 4 && parts.code == RATIO_ANSWERED) mix(texts + parts.first, parts.second - parts.first);
+}
+
 /* Writes shares of which some add up to 1: the last one may be what the others leave. */
 static void put_shares(ratio_i64 *shares, size_t n) {
     const int64_t denom = (int64_t) below(20) + 1;
@@ -349,6 +452,7 @@ int main(int argc, char **argv) {
     for (uint64_t i = 1; i <= count; i++) {
         if (below(12) == 0) one_total();
         else if (below(24) == 0) one_list();
+        else if (below(24) == 0) one_read_in_steps();
         else one_call(&calls[below(sizeof calls / sizeof *calls)]);
         if (i % every == 0) printf("%" PRIu64 " %016" PRIx64 "\n", i, checksum);
     }

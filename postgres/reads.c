@@ -13,7 +13,10 @@ typedef struct
 	uint64		small[SMALL];
 } Room;
 
-/* A read cannot be cancelled, and its time grows with the square of the number of denominators. So it looks for that before. */
+/* A total of more slots is read in steps, and looks for interrupts between them. The time of a step grows with its slots and with the digits of
+ * the common denominator, of which there are at most MOST_DIGITS. STEP slots with so many take some 7 milliseconds. */
+enum { LONG = 1000, STEP = 64, MOST_DIGITS = 16384 };
+
 static void
 make_room(Room *room, uint64 length)
 {
@@ -33,6 +36,30 @@ give_back(Room *room)
 		pfree(room->digits);
 }
 
+/* How many slots the next step joins. The digits are at most as many as the slots, so the first steps join more of these. */
+static uint64
+next_step(uint64 done)
+{
+	return Max(STEP, STEP * MOST_DIGITS / (done + STEP * 16));
+}
+
+/* Joins the slots in the room, and returns the digits of their common denominator. */
+static uint64
+join_all(const ratio_slot_i64 *slots, size_t many, Room *room, const char *call)
+{
+	ratio_joined_i64 joined = {0};
+
+	while (joined.done < many)
+	{
+		CHECK_FOR_INTERRUPTS();
+		ratio_total_join_i64(slots, many, next_step(joined.done), &joined, 1, room->digits, room->length);
+		if (joined.code != RATIO_ANSWERED)
+			refuse(joined.code, call);
+	}
+	CHECK_FOR_INTERRUPTS();
+	return joined.digits;
+}
+
 static pg_noinline void
 refuse_read(uint32 code, int64 count, const char *call)
 {
@@ -50,7 +77,10 @@ sum_of(const ratio_slot_i64 *slots, size_t many, int64 count, const char *call)
 	Room		room;
 
 	make_room(&room, ratio_total_digits_i64(slots, many));
-	ratio_total_sum_i64(slots, many, room.digits, room.length, &answer, 1);
+	if (many <= LONG)
+		ratio_total_sum_i64(slots, many, room.digits, room.length, &answer, 1);
+	else
+		ratio_joined_sum_i64(join_all(slots, many, &room, call), room.digits, room.length, &answer, 1);
 	if (answer.code != RATIO_ANSWERED)
 		refuse_read(answer.code, count, call);
 	give_back(&room);
@@ -64,7 +94,10 @@ mean_of(const ratio_slot_i64 *slots, size_t many, int64 count, const char *call)
 	Room		room;
 
 	make_room(&room, ratio_total_digits_i64(slots, many));
-	ratio_total_mean_i64(slots, many, count, room.digits, room.length, &answer, 1);
+	if (many <= LONG)
+		ratio_total_mean_i64(slots, many, count, room.digits, room.length, &answer, 1);
+	else
+		ratio_joined_mean_i64(join_all(slots, many, &room, call), count, room.digits, room.length, &answer, 1);
 	if (answer.code != RATIO_ANSWERED)
 		refuse_read(answer.code, count, call);
 	give_back(&room);
@@ -74,13 +107,17 @@ mean_of(const ratio_slot_i64 *slots, size_t many, int64 count, const char *call)
 int
 sign_of(const ratio_slot_i64 *slots, size_t many)
 {
+	static const char call[] = "a comparison";
 	ratio_order answer;
 	Room		room;
 
 	make_room(&room, ratio_total_digits_i64(slots, many));
-	ratio_total_sign_i64(slots, many, room.digits, room.length, &answer, 1);
+	if (many <= LONG)
+		ratio_total_sign_i64(slots, many, room.digits, room.length, &answer, 1);
+	else
+		ratio_joined_sign_i64(join_all(slots, many, &room, call), room.digits, room.length, &answer, 1);
 	if (answer.code != RATIO_ANSWERED)
-		refuse(answer.code, "a comparison");
+		refuse(answer.code, call);
 	give_back(&room);
 	return answer.order;
 }
@@ -88,13 +125,17 @@ sign_of(const ratio_slot_i64 *slots, size_t many)
 float8
 float_of(const ratio_slot_i64 *slots, size_t many)
 {
+	static const char call[] = "float8(ratio_total)";
 	ratio_float answer;
 	Room		room;
 
 	make_room(&room, ratio_total_digits_i64(slots, many));
-	ratio_total_to_f64_i64(slots, many, room.digits, room.length, &answer, 1);
+	if (many <= LONG)
+		ratio_total_to_f64_i64(slots, many, room.digits, room.length, &answer, 1);
+	else
+		ratio_joined_to_f64_i64(join_all(slots, many, &room, call), room.digits, room.length, &answer, 1);
 	if (answer.code != RATIO_ANSWERED)
-		refuse(answer.code, "float8(ratio_total)");
+		refuse(answer.code, call);
 	give_back(&room);
 	return answer.value;
 }

@@ -16,6 +16,25 @@ SELECT :whole::int / 10 AS limit \gset
 SET statement_timeout = :limit;
 SELECT spent('SELECT t + t FROM odds') < :whole / 2 AS is_soon;
 RESET statement_timeout;
+-- A read of 200,000 denominators takes seconds. It ends less than half a second after it is cancelled, instead of with error 54000 later.
+CREATE TABLE longs AS SELECT total(r) AS t, total(r) + total(1 - r) + '1/200' AS tie FROM (SELECT ratio(1, 2147483647 - 2 * i) AS r FROM generate_series(1, 200000) i) odd;
+CREATE FUNCTION ending(query text) RETURNS text LANGUAGE plpgsql AS $$
+DECLARE start timestamptz := clock_timestamp(); code text := 'none';
+BEGIN
+    BEGIN
+        EXECUTE query;
+    EXCEPTION WHEN query_canceled OR program_limit_exceeded THEN
+        code := sqlstate;
+    END;
+    RETURN code || CASE WHEN clock_timestamp() < start + interval '1 second' THEN ', soon' ELSE ', late' END;
+END $$;
+SET statement_timeout = '500ms';
+SELECT ending('SELECT t::ratio FROM longs') AS sum;
+SELECT ending('SELECT avg(t) FROM longs') AS mean;
+SELECT ending('SELECT t < tie FROM longs') AS comparison;
+SELECT ending('SELECT t::float8 FROM longs') AS float;
+SELECT ratio_round(tie, 1), ratio_round(t, 20) = 0.00009314093224288864 AS is_right FROM longs;
+RESET statement_timeout;
 -- Two workers each hand over some 150,000 denominators, in seconds.
 CREATE TABLE shared AS SELECT ratio(1, i) AS r FROM generate_series(1, 300000) i;
 ALTER TABLE shared SET (parallel_workers = 2);
@@ -24,5 +43,5 @@ SET statement_timeout = '5s';
 SELECT plan_has('SELECT total(r) FROM shared', 'Workers Planned: 2') AS by_workers;
 SELECT ratio_count(total(r)), ratio_round(total(r), 20) = 13.18875508520561171283 AS is_right FROM shared;
 RESET ALL;
-DROP TABLE odds, shared;
-DROP FUNCTION spent;
+DROP TABLE odds, longs, shared;
+DROP FUNCTION spent, ending;

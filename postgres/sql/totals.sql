@@ -53,6 +53,14 @@ SELECT ratio_round(t, 100) = 7.4854708605503449126565182043339001765216791697088
 SELECT ratio_round(total(r), 30) = -13988921672567883922.037532104500503016527987971675 AS is_right,
     ratio_round(total(r) FILTER (WHERE r > 0), 38) = 77502532105522579752.53812012635364995106823871430867672402 AS is_right_too FROM hard;
 SELECT ratio_round(total(ratio(1, i)), 40) = 10.4807282172293275728144600302160318614309 AS is_right, ratio_count(total(ratio(1, i))) FROM generate_series(1, 20000) i;
+-- more than 1000 denominators are read in steps, as few are at once: 1/(1 * 2) + 1/(2 * 3) + .. + 1/(n * (n + 1)) is n/(n + 1)
+CREATE TABLE chains AS SELECT n, (SELECT total(ratio(1, i * (i + 1))) FROM generate_series(1, n) i) AS t FROM unnest('{1000,1001,1500,20000}'::int[]) n;
+SELECT n, t::ratio, ('0' - t)::ratio AS negative, (SELECT avg(t) FROM (VALUES (t)) one(t)) AS mean, t::float8 = n / (n + 1::float8) AS is_nearest,
+    t = ratio(n, n + 1) AS eq, t < ratio(n, n + 1)::ratio_total + '1/9223372036854775783' AS lt FROM chains;
+SELECT n, ratio_round(t + ratio(1, n + 1) + '1/200', 2) AS tie, ratio_round('0' - t - ratio(1, n + 1) - '1/200', 2) AS negative, (t + ratio(1, n + 1) + '4')::numeric(3, -1) AS tens,
+    ratio_round(t, 16383) = ratio_round(ratio(n, n + 1)::ratio_total, 16383) AS is_right FROM chains;
+SELECT n, refusal(format('SELECT (t + ''1/9223372036854775783'')::ratio FROM chains WHERE n = %s', n)) FROM chains WHERE n > 1500;
+DROP TABLE chains;
 -- a common denominator of more than 2^20 bits: the total is kept, its decimal needs no common denominator, and a difference is read
 CREATE TABLE long AS SELECT total(ratio(1, 9223372036854775807 - i)) AS t FROM generate_series(1, 25000) i;
 SELECT refusal('SELECT t::ratio FROM long'), ratio_round(t, 38) = 0.00000000000000271050543121376475887929 AS is_right FROM long;

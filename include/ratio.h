@@ -417,13 +417,12 @@ uint32_t ratio_total_compare_i64(const ratio_slot_i64 *left, size_t left_len, co
  * join a few slots in each call, and look for a deadline or a cancel between two calls. The answers are the same:
  *
  *   ratio_joined_i64 joined = {0};
- *   do {
- *       if (is_cancelled()) ..
- *       ratio_total_join_i64(slots, slots_len, 64, &joined, 1, room, room_len);
- *   } while (joined.code == RATIO_ANSWERED && joined.done < slots_len);
- *   if (joined.code == RATIO_ANSWERED) ratio_joined_sum_i64(joined.digits, room, room_len, &answer, 1);
+ *   do ratio_total_join_i64(slots, slots_len, 64, &joined, 1, room, room_len);
+ *   while (joined.code == RATIO_ANSWERED && joined.done < slots_len && !is_cancelled());
+ *   if (joined.code == RATIO_ANSWERED && joined.done == slots_len)
+ *       ratio_joined_sum_i64(joined.digits, room, room_len, &answer, 1);
  *
- * The room keeps what the steps have joined: do not change it, or the slots, between two calls. To stop, just make no further call.
+ * The room keeps what the steps have joined. Do not change it between two calls, nor the slots. To stop, make no further call.
  */
 
 /* How far a read in steps has come, and what the last step did. Made all zero, it begins. */
@@ -436,7 +435,7 @@ typedef struct { uint32_t code; uint64_t done; uint64_t digits; } ratio_joined_i
  *   RATIO_ANSWERED    the slots are joined
  *   RATIO_MORE_ROOM   the read has not begun, since the room has fewer digits than ratio_total_digits_i64 says
  *   RATIO_TOO_LONG    the common denominator is not below 2^(2^20)
- *   RATIO_NO_TOTAL    the room does not hold what the last step left there
+ *   RATIO_NO_TOTAL    the room does not hold what the last step left there, as far as a step can see
  *
  * After any code but RATIO_ANSWERED, `done` and `digits` are as they were, and the room may have anything. If `joined_len` is not 1, the call
  * returns RATIO_BAD_LENGTH and writes nothing.

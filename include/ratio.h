@@ -430,7 +430,7 @@ typedef struct { uint32_t code; uint64_t done; uint64_t digits; } ratio_joined_i
 
 /* A step joins at most `most` further slots, and `done` says how many are joined. The read has ended once these are all slots. The first step
  * also begins the read: `digits` becomes the digits of the common denominator. With the longest one, a step of 64 slots takes some 7
- * milliseconds. The code is one of these:
+ * milliseconds. A step also tests the whole room, so many short steps take longer than few long ones. The code is one of these:
  *
  *   RATIO_ANSWERED    the slots are joined
  *   RATIO_MORE_ROOM   the read has not begun, since the room has fewer digits than ratio_total_digits_i64 says

@@ -20,3 +20,4 @@ pub mod TotalMultiples
 pub mod Joining
 pub mod JoinedReads
 pub mod JoinedAnswers
+pub mod TotalBounded

@@ -32,6 +32,7 @@ pub mod sign;
 pub mod splits;
 #[cfg(test)]
 mod tests;
+pub mod total_bounded;
 pub mod total_floats;
 pub mod total_joining;
 pub mod total_multiples;

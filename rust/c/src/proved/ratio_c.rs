@@ -30,6 +30,7 @@ pub mod scaled;
 pub mod sign;
 pub mod splits;
 
+pub mod total_bounded;
 pub mod total_floats;
 pub mod total_joining;
 pub mod total_multiples;

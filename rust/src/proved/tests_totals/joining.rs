@@ -132,7 +132,7 @@ fn a_long_sum_is_joined_in_steps() -> Result<(), Fail> {
         slots[i] = Slot::new(u64::MAX - i as u64, (1 << 100) - i as i128);
     }
     for most in [1, 7, 16, 64] {
-        let mut room = [7; 168];
+        let mut room = [7; 172];
         let mut buf = [0; 912];
         let all = joined(&slots, most, &mut room);
         match all.put_decimal(6, Rounding::HalfEven, &mut room, &mut buf) {

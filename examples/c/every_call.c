@@ -475,6 +475,8 @@ static void steps_of_totals(void) {
     memset(room, 0, sizeof room);
     joined->done = 1;
     expect(ratio_total_join_i64(slots, 2, 1, joined, 1, room, 14) == RATIO_DONE && IS_STEP(*joined, RATIO_NO_TOTAL, 1, 2), "a room that changed");
+    joined->done = 0;
+    expect(ratio_total_join_i64(slots, 2, 1, joined, 1, room, 14) == RATIO_DONE && IS_STEP(*joined, RATIO_NO_TOTAL, 0, 2), "a room that changed at the start");
 }
 
 /* What the room gives once all is joined. Python's `fractions` computed the answers. */

@@ -103,7 +103,8 @@ static uint64_t *joined_room(void) {
     X(total_sign_i64, (slots, SLOTS, ROOM, orders, 1)) X(total_to_f64_i64, (slots, SLOTS, ROOM, floats, 1))   \
     X(total_round_to_i64, (slots, SLOTS, 100, RATIO_RULE_HALF_EVEN, ROOM, answers, 1))                      \
     X(total_compare_i64, (slots, SLOTS, slots, SLOTS, both, 2 * SLOTS, ROOM, orders, 1))                    \
-    X(total_print_i64, (slots, SLOTS, 2, RATIO_RULE_HALF_EVEN, ROOM, printed, sizeof printed, places, 1))
+    X(total_print_i64, (slots, SLOTS, 2, RATIO_RULE_HALF_EVEN, ROOM, printed, sizeof printed, places, 1))   \
+    X(total_print_bounded_i64, (slots, SLOTS, 2, RATIO_RULE_HALF_EVEN, ROOM, printed, sizeof printed, places, 1))
 
 /* Those of a read in steps: all slots in one step, and what the room gives then. */
 #define JOINED SLOTS, joined_room(), sizeof room / sizeof *room

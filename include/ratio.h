@@ -33,7 +33,8 @@ enum { RATIO_DONE = 0, RATIO_BAD_LENGTH = 1 };
 enum {
     RATIO_ANSWERED = 0,
     RATIO_NOT_HELD = 1,                 /* the answer does not fit in the type, or there is none: no fraction within the bounds of
-                                           between, or no convergent at the place */
+                                           between, or no convergent at the place. Of total_print_bounded: it needs more than
+                                           one pass */
     RATIO_DIVISION_BY_ZERO = 2,         /* of div, rem and quotient_of, and of pow for 0 to an exponent below 0 */
     RATIO_DENOMINATOR_NOT_POSITIVE = 3, /* of all others */
     RATIO_ZERO_DENOMINATOR = 4,         /* of compare, equal, hash, reduce and print, which take negative ones, and of read and
@@ -45,8 +46,9 @@ enum {
     RATIO_BOUND_NOT_POSITIVE = 7,       /* of nearest: no denominator lies from 1 to the bound */
     RATIO_NO_TOTAL = 8,                 /* of totals: an empty slot has a numerator that is not 0. Of reads in steps: the room does
                                            not hold what the last step left there */
-    RATIO_BAD_OPTION = 9,               /* of between, from_scaled, round_to, mul_round, print_decimal, total_print, joined_print and
-                                           total_round_to: the call has no such flags, scale, parts, places or rule */
+    RATIO_BAD_OPTION = 9,               /* of between, from_scaled, round_to, mul_round, print_decimal, total_print, total_print_bounded,
+                                           joined_print and total_round_to: the call has no such flags, scale, parts, places or
+                                           rule */
     RATIO_MORE_ROOM = 10,               /* of totals: each slot holds another denominator, or a read has too little room. Of
                                            quotient_of: too little room */
     RATIO_TOO_LONG = 11,                /* of reads of totals: the common denominator is not below 2^(2^20) */
@@ -64,7 +66,7 @@ enum {
     RATIO_HIGH_OPEN = 8      /* there is no upper bound: its fields are not read */
 };
 
-/* The rules of round_to, mul_round, print_decimal, total_print, joined_print and total_round_to. */
+/* The rules of round_to, mul_round, print_decimal, total_print, total_print_bounded, joined_print and total_round_to. */
 enum {
     RATIO_RULE_HALF_AWAY = 0, /* to the nearer multiple, and a half away from zero: 5/2 to 3 */
     RATIO_RULE_HALF_EVEN = 1, /* to the nearer one, and a half to the even one: 5/2 to 2 */
@@ -374,6 +376,12 @@ uint32_t ratio_total_unmerge_i64(const ratio_slot_i64 *asked, size_t asked_len, 
  *                                  1/36 and 1/28 with 4 places by RATIO_RULE_HALF_EVEN. It ends where `texts` ends, and the answer's
  *                                  span says where it starts. The bytes before it may change. A rule that is none gives
  *                                  RATIO_BAD_OPTION
+ *   ratio_total_print_bounded_i64  the same in one pass over the slots, however long the common denominator is. It takes a lower and an
+ *                                  upper bound of the sum, and gives RATIO_NOT_HELD if the rule makes two numbers of them: of 1/3 and
+ *                                  1/6 without places. That is at a tie or another sum where the rule's result changes, or within
+ *                                  1/2^64 of the last place of such a sum. It needs places / 19 * 9 + 35 digits of room, and
+ *                                  (places / 19 * 2 + 8) * 20 + places + 3 bytes. What total_print needs is enough if there are 6
+ *                                  denominators and two more for each 19 places
  *   ratio_total_round_to_digits_i64  how many digits of room the next call needs
  *   ratio_total_round_to_i64       the multiple of 1/parts that a rule says of the sum, rounded once, in lowest terms: 3/50 for 1/36 and
  *                                  1/28 with 100 parts by RATIO_RULE_HALF_EVEN. With 1 part it is a whole number over 1. It is
@@ -405,6 +413,9 @@ uint64_t ratio_total_print_bytes_i64(const ratio_slot_i64 *slots, size_t slots_l
 uint32_t ratio_total_print_i64(const ratio_slot_i64 *slots, size_t slots_len, uint32_t places, uint32_t rule,
                                uint64_t *room, size_t room_len, uint8_t *texts, size_t texts_len,
                                ratio_text *answers, size_t answers_len);
+uint32_t ratio_total_print_bounded_i64(const ratio_slot_i64 *slots, size_t slots_len, uint32_t places, uint32_t rule,
+                                       uint64_t *room, size_t room_len, uint8_t *texts, size_t texts_len,
+                                       ratio_text *answers, size_t answers_len);
 uint64_t ratio_total_round_to_digits_i64(const ratio_slot_i64 *slots, size_t slots_len);
 uint32_t ratio_total_round_to_i64(const ratio_slot_i64 *slots, size_t slots_len, int64_t parts, uint32_t rule,
                                   uint64_t *room, size_t room_len, ratio_answer_i64 *answers, size_t answers_len);
@@ -451,7 +462,8 @@ uint32_t ratio_total_join_i64(const ratio_slot_i64 *slots, size_t slots_len, uin
  *   ratio_joined_sign_i64     the order of the sum and 0
  *   ratio_joined_to_f64_i64   the float nearest to the sum
  *   ratio_joined_print_i64    the sum as a decimal. The room has as many digits as ratio_total_print_digits_i64 says, and is given to
- *                             ratio_total_join_i64 as a whole. ratio_total_print_bytes_i64 says how many bytes there are
+ *                             ratio_total_join_i64 as a whole. ratio_total_print_bytes_i64 says how many bytes there are. Where
+ *                             ratio_total_print_bounded_i64 gives a text, it needs no steps: ask it first
  *
  * If the room holds no such sum, or is too short, or there are too few bytes for the text, the code is RATIO_NO_TOTAL. Each call uses the room
  * up: afterwards it may have anything. If `answers_len` is not 1, a call returns RATIO_BAD_LENGTH and writes nothing.

@@ -140,7 +140,7 @@ float_of(const ratio_slot_i64 *slots, size_t many)
 	return answer.value;
 }
 
-/* The text of a decimal, which ends where its memory ends. */
+/* The text of a decimal, which ends where its memory ends. That of a long total comes from its bounds, in one pass, or from steps. */
 char *
 decimal_of(const ratio_slot_i64 *slots, size_t many, int32 places, uint32 rule, const char *call)
 {
@@ -150,7 +150,14 @@ decimal_of(const ratio_slot_i64 *slots, size_t many, int32 places, uint32 rule, 
 	Room		room;
 
 	make_room(&room, ratio_total_print_digits_i64(slots, many, places));
-	ratio_total_print_i64(slots, many, places, rule, room.digits, room.length, (uint8_t *) text, bytes, &answer, 1);
+	if (many <= LONG)
+		ratio_total_print_i64(slots, many, places, rule, room.digits, room.length, (uint8_t *) text, bytes, &answer, 1);
+	else
+	{
+		ratio_total_print_bounded_i64(slots, many, places, rule, room.digits, room.length, (uint8_t *) text, bytes, &answer, 1);
+		if (answer.code != RATIO_ANSWERED)
+			ratio_joined_print_i64(join_all(slots, many, &room, call), places, rule, room.digits, room.length, (uint8_t *) text, bytes, &answer, 1);
+	}
 	if (answer.code != RATIO_ANSWERED)
 		refuse(answer.code, call);
 	give_back(&room);

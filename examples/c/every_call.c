@@ -445,6 +445,24 @@ static void reads_of_totals(void) {
     expect(text->span.start == text->span.end, "span of no text");
 }
 
+/* Decimals in one pass. Python's `fractions` computed them. */
+static void bounded_decimals(void) {
+    static const ratio_slot_i64 sum[2] = {{36, {1, 0}}, {28, {1, 0}}}, half[2] = {{3, {1, 0}}, {6, {1, 0}}};
+    uint64_t room[35];
+    uint8_t bytes[167];
+    ratio_text text[1];
+    expect(ratio_total_print_bounded_i64(sum, 2, 4, RATIO_RULE_HALF_EVEN, room, 35, bytes, 167, text, 1) == RATIO_DONE, "decimal in one pass");
+    expect(text->code == RATIO_ANSWERED && text->span.end == 167 && text->span.start == 161, "place of a decimal in one pass");
+    expect(memcmp(bytes + 161, "0.0635", 6) == 0, "text of a decimal in one pass");
+    expect(ratio_total_print_bounded_i64(half, 2, 1, RATIO_RULE_HALF_EVEN, room, 35, bytes, 167, text, 1) == RATIO_DONE && text->code == RATIO_ANSWERED, "a half with a place");
+    expect(ratio_total_print_bounded_i64(half, 2, 0, RATIO_RULE_HALF_EVEN, room, 35, bytes, 167, text, 1) == RATIO_DONE && text->code == RATIO_NOT_HELD, "a half without places");
+    expect(text->span.start == text->span.end, "span of no text in one pass");
+    expect(ratio_total_print_bounded_i64(sum, 2, 4, 6, room, 35, bytes, 167, text, 1) == RATIO_DONE && text->code == RATIO_BAD_OPTION, "no rule in one pass");
+    expect(ratio_total_print_bounded_i64(sum, 2, 4, 0, room, 34, bytes, 167, text, 1) == RATIO_DONE && text->code == RATIO_MORE_ROOM, "no digits in one pass");
+    expect(ratio_total_print_bounded_i64(sum, 2, 4, 0, room, 35, bytes, 166, text, 1) == RATIO_DONE && text->code == RATIO_MORE_ROOM, "no bytes in one pass");
+    expect(ratio_total_print_bounded_i64(sum, 2, 4, 0, room, 35, bytes, 167, text, 0) == RATIO_BAD_LENGTH, "no answer in one pass");
+}
+
 /* Joins all slots, so many in each step, or stops where a step is refused. */
 static ratio_joined_i64 join_all(const ratio_slot_i64 *slots, size_t many, uint64_t most, uint64_t *room, size_t digits) {
     ratio_joined_i64 joined = {0};
@@ -633,6 +651,7 @@ int main(void) {
     totals();
     stops_of_totals();
     reads_of_totals();
+    bounded_decimals();
     steps_of_totals();
     joined_totals();
     rooms_of_no_total();

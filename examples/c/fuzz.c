@@ -232,10 +232,24 @@ static void put_share(uint8_t *at) {
     memcpy(at, &x, sizeof x);
 }
 
+/* Stops if a decimal in one pass is not the one of the other call. */
+static void compare_with_bounded(const ratio_slot_i64 *slots, size_t len, uint32_t places, uint32_t rule, ratio_text text, const uint8_t *texts) {
+    static uint64_t room[4 * SLOTS + 64];
+    static uint8_t other[2 * TEXT + 200];
+    ratio_text whole = {0};
+    if (text.code != RATIO_ANSWERED) return;
+    ratio_total_print_i64(slots, len, places, rule, room, sizeof room / sizeof *room, other, sizeof other, &whole, 1);
+    if (whole.code != RATIO_ANSWERED || whole.span.end - whole.span.start != text.span.end - text.span.start
+        || memcmp(texts + text.span.start, other + whole.span.start, text.span.end - text.span.start) != 0) {
+        fputs("fuzz: a decimal in one pass is not the one of the other call\n", stderr);
+        exit(1);
+    }
+}
+
 /* Changes a total or reads it, over its slots or some of them, which now and then have random bytes. */
 static void one_total(void) {
     const size_t chosen = below(MOST), len = below(4) > 0 ? SLOTS : below(SLOTS + 1), n = below(MOST), m = 1 + (below(16) == 0);
-    const size_t digits = below(ROOM), size = below(TEXT), kind = below(15);
+    const size_t digits = below(ROOM), size = below(TEXT), kind = below(16);
     const int64_t count = below(32) == 0 ? (int64_t) next() : (int64_t) below(9) - 2;
     const uint32_t places = (uint32_t) below(below(8) == 0 ? 200 : 12), rule = (uint32_t) below(7);
     uint8_t *slots = place(SLOTS_OF_TOTAL, len * sizeof(ratio_slot_i64)), *room = place(ROOM_OF_TOTAL, digits * sizeof(uint64_t));
@@ -275,7 +289,9 @@ static void one_total(void) {
     case 12: returned = ratio_total_round_to_i64(from, len, count, rule, (uint64_t *) room, digits, &answer, 1) + ratio_total_round_to_digits_i64(from, len); break;
     case 13: returned = ratio_total_compare_i64(from, len, (const ratio_slot_i64 *) asked, SLOTS, difference, below(2 * SLOTS + 1), (uint64_t *) room, digits, &order, 1)
                         + ratio_total_compare_digits_i64(from, len, (const ratio_slot_i64 *) asked, SLOTS); break;
-    default: returned = ratio_total_to_f64_i64(from, len, (uint64_t *) room, digits, &value, 1);
+    case 14: returned = ratio_total_to_f64_i64(from, len, (uint64_t *) room, digits, &value, 1); break;
+    default: returned = ratio_total_print_bounded_i64(from, len, places, rule, (uint64_t *) room, digits, texts, size, &text, 1);
+        compare_with_bounded(from, len, places, rule, text, texts);
     }
     test_before(slots), test_before(room), test_before(texts), test_before(header), test_before(asked);
     if (m == 1) memcpy(&totals[chosen].header, header, sizeof(ratio_total_i64));
@@ -289,7 +305,7 @@ static void one_total(void) {
         take((uint8_t *) &order, sizeof order, 1);
     } else if (kind == 14) {
         take((uint8_t *) &value, sizeof value, 1);
-    } else if (kind == 11) {
+    } else if (kind == 11 || kind == 15) {
         take((uint8_t *) &text, sizeof text, 1);
         mix(texts + text.span.start, text.span.end - text.span.start);
     }

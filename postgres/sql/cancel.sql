@@ -33,6 +33,8 @@ SELECT ending('SELECT t::ratio FROM longs') AS sum;
 SELECT ending('SELECT avg(t) FROM longs') AS mean;
 SELECT ending('SELECT t < tie FROM longs') AS comparison;
 SELECT ending('SELECT t::float8 FROM longs') AS float;
+-- the bounds of the sum say what 200000.005 is with one place, but not with two
+SELECT ending('SELECT ratio_round(tie, 2) FROM longs') AS decimal;
 SELECT ratio_round(tie, 1), ratio_round(t, 20) = 0.00009314093224288864 AS is_right FROM longs;
 RESET statement_timeout;
 -- Two workers each hand over some 150,000 denominators, in seconds.

@@ -3,7 +3,7 @@ ghost use Rattle.ratio_totals.specs.Bounds.{BoundsAreNear, BoundsDecide, BoundsH
 ghost use Rattle.ratio_totals.specs.Common.{CommonExists, CommonsAgree, ReadsAgree};
 ghost use Rattle.ratio_totals.specs.JoinedLaws.{JoinedDecimals, JoinedFloats, JoinedMeans, JoinedSigns, JoinedSums};
 ghost use Rattle.ratio_totals.specs.LowestSum.{MeanResultsAgree, SumResultsAgree, SumsAgree};
-ghost use Rattle.ratio_totals.specs.Steps.{StepsJoinAll};
+ghost use Rattle.ratio_totals.specs.Steps.{StepsJoinAll, StepsLeavePairs};
 ghost use Rattle.ratio_totals.specs.TotalLaws.{AdditionsCommute, DenominatorsDiffer, MergesAddEach, MergesUndone, NegatedNumerators, NegatedSums, TableMergesAssociate, TableMergesCommute, TakingOutUndoes};
 
 /// The order of additions does not matter, and taking out undoes an addition.
@@ -60,7 +60,9 @@ pub fn bounds()
 {}
 
 /// Where a room holds the join of a table, each read of the room is that of the table: `Joined::sum` returns what `sum_of` returns.
+/// Where slots were joined in steps, no read of the room is refused, but for a decimal that has too little room.
 pub fn joined_rooms()
+    ensures accepted { StepsLeavePairs }
     ensures sum { JoinedSums }
     ensures mean { JoinedMeans }
     ensures sign { JoinedSigns }

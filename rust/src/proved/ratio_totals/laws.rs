@@ -36,5 +36,6 @@ pub fn steps() {}
 pub fn bounds() {}
 
 /// Where a room holds the join of a table, each read of the room is that of the table: `Joined::sum` returns what `sum_of` returns.
+/// Where slots were joined in steps, no read of the room is refused, but for a decimal that has too little room.
 #[inline]
 pub fn joined_rooms() {}

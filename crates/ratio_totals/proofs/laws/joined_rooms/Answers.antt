@@ -1,5 +1,9 @@
 use Rattle.ratio_totals.proofs.JoinedLemmas.{joined_decimals, joined_floats, joined_means, joined_signs, joined_sums}
+use Rattle.ratio_totals.proofs.StepLemmas.{steps_leave_pairs}
 use Rattle.ratio_totals.proofs.laws.joined_rooms.Goals as goal
+
+pub returns-clause-accepted : goal.returns-clause-accepted
+returns-clause-accepted c = steps_leave_pairs
 
 pub returns-clause-sum : goal.returns-clause-sum
 returns-clause-sum c = joined_sums

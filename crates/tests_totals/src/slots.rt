@@ -76,5 +76,6 @@ fn each_law_is_called(_rt: HostRuntime) {
     laws::tables();
     laws::reads();
     laws::sums();
+    laws::steps();
     laws::joined_rooms();
 }

@@ -15,9 +15,9 @@ zero_or_not (suc n) = inr (λ none. absurd (omega (arith, none)))
 new_or_not : (read : Joined) → IsNew read ⊎ (¬ (IsNew read))
 new_or_not read = elim (zero_or_not read.done) [
   | inl done ↦ elim (zero_or_not read.digits) [
-      | inl digits ↦ inl (record { done = done; digits = digits })
-      | inr some ↦ inr (λ new. some new.digits)
-    ]
+    | inl digits ↦ inl (record { done = done; digits = digits })
+    | inr some ↦ inr (λ new. some new.digits)
+  ]
   | inr some ↦ inr (λ new. some new.done)
 ]
 
@@ -30,9 +30,9 @@ pub ready_holds : (slots : List Slot) (from read : Joined) (room new_room : List
 ready_holds slots from read room new_room begun ready = elim ready [
   | inl new ↦ (begun.yes new).2
   | inr held ↦ elim (new_or_not from) [
-      | inl new ↦ (begun.yes new).2
-      | inr not ↦ moved slots read from new_room room (begun.no not).0 (begun.no not).1 held
-    ]
+    | inl new ↦ (begun.yes new).2
+    | inr not ↦ moved slots read from new_room room (begun.no not).0 (begun.no not).1 held
+  ]
 ]
 
 -- a step that joined slots

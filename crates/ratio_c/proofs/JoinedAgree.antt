@@ -1,53 +1,28 @@
--- Once all slots are joined, the room holds the sum of the slots, and each read of it answers as the read of the total.
-use Rattle.std.specs.Prelude.{◌≡◌, ◌+ℤ◌, ◌*ℤ◌, ◌*◌, ◌<◌, ◌≤◌, ◌<ℤ◌, ℕ, ℤ, pos, List, [], drop, length, Option, Some, None}
+-- Once all slots are joined, each read of the room answers as the read of the total.
+use Rattle.std.specs.Prelude.{◌≡◌, ◌<◌, ◌≤◌, ◌<ℤ◌, ℕ, ℤ, pos, List, drop, length, Option, Some, None}
 use Rattle.std.specs.Float.{binary64}
-use Rattle.std.proofs.Common.{ap, arith, inl, subst, sym, ◌∙◌}
-use Rattle.std.proofs.lemmas.Int.{ints}
-use Rattle.std.proofs.lemmas.List.{drop_all}
-use Rattle.ratio_float.proofs.FloatLawLemmas.{value_only}
+use Rattle.std.proofs.Common.{ap, inl, subst, sym, ◌∙◌}
 use Rattle.ratio_integer.specs.Fraction.{ChecksLowest}
 use Rattle.ratio_integer.proofs.LowestTerms.{held_lowest_moved}
-use Rattle.ratio_long.proofs.DecimalLawLemmas.{decimal_by_value}
-use Rattle.ratio_totals.proofs.DecimalLemmas.{above_zero_ℤ}
-use Rattle.ratio_totals.proofs.DigitLemmas.{few_digits}
+use Rattle.ratio_totals.proofs.JoinLemmas.{steps_join_all}
+use Rattle.ratio_totals.proofs.JoinedLemmas.{joined_decimals, joined_floats, joined_signs}
 use Rattle.ratio_totals.proofs.LowestSumLemmas.{divided_same, nonzero, product_positive}
 use Rattle.ratio_totals.proofs.MergeSums.{sum_positive}
-use Rattle.ratio_totals.proofs.SignLemmas.{same_sign}
-use Rattle.ratio_totals.specs.Common.{above_zero, common_digits, most_digits}
-use Rattle.ratio_totals.specs.DecimalRoom.{HasDecimalRoom, bytes_with, digits_with}
+use Rattle.ratio_totals.proofs.StepLemmas.{steps_leave_pairs}
+use Rattle.ratio_totals.specs.Common.{above_zero}
+use Rattle.ratio_totals.specs.DecimalRoom.{bytes_with, digits_with}
 use Rattle.ratio_totals.specs.Joined.{HasJoinedDecimal, joined_pair}
-use Rattle.ratio_totals.specs.LowestSum.{mean_of_slots, pair_mean}
-use Rattle.ratio_totals.specs.Sums.{SameSum, pair_sum, sum_of_slots}
-use Rattle.ratio_totals.specs.declared.joined.Joined.{Joined}
-use Rattle.ratio_totals.specs.declared.slots.Slot.{Slot}
+use Rattle.ratio_totals.specs.LowestSum.{pair_mean}
+use Rattle.ratio_totals.specs.Sums.{SameSum, sum_of_slots}
 use Rattle.ratio_c.specs.Crossing.{Said, order_number, rule_of}
-use Rattle.ratio_c.specs.JoinedAnswers.{HoldsAll, DecimalsAnswerAlike, FloatsAnswerAlike, JoinedIsSum, MeansAnswerAlike, SignsAnswerAlike, SumsAnswerAlike}
+use Rattle.ratio_c.specs.JoinedAnswers.{DecimalsAnswerAlike, FloatsAnswerAlike, JoinedIsSum, MeansAnswerAlike, SignsAnswerAlike, SumsAnswerAlike}
 use Rattle.ratio_c.specs.Numbers64.{greatest64, least64}
 use Rattle.ratio_c.specs.TotalReads.{SaysLowest}
 use Rattle.ratio_c.proofs.ReadsAgree.{above, fits_moved}
 
-without_rest : (x y : ℤ × ℕ) → SameSum (pair_sum x (pos 0, 1)) y → SameSum x y
-without_rest x y same =
-    let numer : x.0 *ℤ pos 1 +ℤ pos 0 *ℤ pos x.1 ≡ x.0 = omega (arith, ints) in
-    let denom : x.1 * 1 ≡ x.1 = omega arith in
-    subst (λ (d : ℕ). SameSum (x.0, d) y) denom (subst (λ (n : ℤ). SameSum (n, x.1 * 1) y) numer same)
-
-few_most : (slots : List Slot) → common_digits slots ≤ most_digits
-unfolding most_digits
-few_most slots = few_digits slots
-
 pub joined_is_sum : JoinedIsSum
 joined_is_sum slots read room held =
-    let rest : drop read.done slots ≡ [] = drop_all read.done slots (omega (arith, held.all)) in
-    let pair = joined_pair read.digits room in
-    (
-      record {
-        few = omega (arith, held.holds.digits_is, few_most slots);
-        long = omega (arith, held.holds.digits_is, held.holds.room_is);
-        common = held.holds.small.some;
-      },
-      without_rest pair (sum_of_slots slots) (subst (λ (left : List Slot). SameSum (pair_sum pair (sum_of_slots left)) (sum_of_slots slots)) rest held.holds.joining.sum),
-    )
+    (steps_leave_pairs slots read room held.holds, (steps_join_all slots read room held.holds held.all).sum)
 
 -- lowest terms over 64 bits are those of each fraction of the same value
 lowest_moved : (x y : ℤ × ℕ) (r : Option (ℤ × ℤ)) → 0 < x.1 → 0 < y.1 → SameSum x y
@@ -80,52 +55,32 @@ means_answer_alike slots read room count answer held says =
 
 pub signs_answer_alike : SignsAnswerAlike
 signs_answer_alike slots read room answer held says =
-    let is = joined_is_sum slots read room held in
-    let pair = joined_pair read.digits room in
-    let sign = says.yes is.0 in
-    inl (
-      held.holds.room_is,
-      record {
-        code_is = sign.code_is;
-        order_is = sign.order_is ∙ ap order_number (same_sign pair.0 (sum_of_slots slots).0 pair.1 (sum_of_slots slots).1 is.0.common (sum_positive slots) is.1);
-      },
-    )
+    let sign = says.yes (steps_leave_pairs slots read room held.holds) in
+    inl (held.holds.room_is, record { code_is = sign.code_is; order_is = sign.order_is ∙ ap order_number (joined_signs slots read.digits room (steps_join_all slots read room held.holds held.all)) })
 
 pub floats_answer_alike : FloatsAnswerAlike
 floats_answer_alike slots read room code value held says =
-    let is = joined_is_sum slots read room held in
-    let pair = joined_pair read.digits room in
-    let float = says.yes is.0 in
-    inl (
-      held.holds.room_is,
-      record {
-        code_is = float.code_is;
-        value_is = float.value_is ∙ value_only binary64 pair.0 (pos pair.1) _ _ (above_zero_ℤ pair.1 is.0.common) (above_zero_ℤ (sum_of_slots slots).1 (sum_positive slots)) is.1;
-      },
-    )
+    let float = says.yes (steps_leave_pairs slots read room held.holds) in
+    inl (held.holds.room_is, record { code_is = float.code_is; value_is = float.value_is ∙ joined_floats slots read.digits room binary64 (steps_join_all slots read room held.holds held.all) })
 
 pub decimals_answer_alike : DecimalsAnswerAlike
 decimals_answer_alike slots read room places rule end texts answer held enough says =
-    let is = joined_is_sum slots read room held in
-    let pair = joined_pair read.digits room in
     let holds : HasJoinedDecimal read.digits places room end = record {
-      pair = is.0;
+      pair = steps_leave_pairs slots read room held.holds;
       digits_room = subst (λ (n : ℕ). digits_with n places ≤ length room) (sym held.holds.digits_is) enough.digits_room;
       bytes_room = subst (λ (n : ℕ). bytes_with n places ≤ end) (sym held.holds.digits_is) enough.bytes_room;
     } in
     record {
       yes = λ small.
-        let text = (says.yes small).yes holds in
-        inl (
-          enough,
-          record {
-            code_is = text.code_is;
-            text =
-              decimal_by_value (rule_of rule) places pair.0 (pos pair.1) _ _ (drop answer.span.start texts)
-              (above_zero_ℤ pair.1 is.0.common) (above_zero_ℤ (sum_of_slots slots).1 (sum_positive slots)) is.1 text.text;
-            start = text.start;
-            stop = text.stop;
-          },
-        );
+          let text = (says.yes small).yes holds in
+          inl (
+            enough,
+            record {
+              code_is = text.code_is;
+              text = joined_decimals slots read.digits room (rule_of rule) places (drop answer.span.start texts) (steps_join_all slots read room held.holds held.all) text.text;
+              start = text.start;
+              stop = text.stop;
+            },
+          );
       no = says.no;
     }

@@ -9,7 +9,7 @@ use Rattle.ratio_c.specs.Calls.{Tested}
 use Rattle.ratio_c.specs.Codes.{code_bad_option, code_division_by_zero, code_no_total}
 use Rattle.ratio_c.specs.Crossing.{Said, refused}
 use Rattle.ratio_c.specs.TotalFloats.{HasNoFloat, SaysFloat}
-use Rattle.ratio_c.specs.TotalReads.{HasNoSign, HasNoText, IsLongText, SaysLowest, SaysSign}
+use Rattle.ratio_c.specs.TotalReads.{HasNoOrder, HasNoText, IsLongText, SaysLowest, SaysSign}
 
 -- the fraction in the room in lowest terms (`SaysLowest`), or the code 8 if the room holds none
 -- Example: 16, 0 and 252 in a room of 10 digits, with 1 digit: 4/63
@@ -30,7 +30,7 @@ IsMeanOfJoined digits count room answer =
 -- Example: 16, 0 and 252 in a room of 10 digits, with 1 digit: 1
 abbrev pub IsSignOfJoined : ℕ → List ℕ → Order → Type 0
 IsSignOfJoined digits room answer =
-    Tested (HasJoinedPair digits room) (SaysSign (joined_pair digits room) answer) (HasNoSign code_no_total answer)
+    Tested (HasJoinedPair digits room) (SaysSign (joined_pair digits room) answer) (HasNoOrder code_no_total answer)
 
 -- the float nearest to the fraction in the room (`SaysFloat`), or the code 8 if the room holds none
 -- Example: 16, 0 and 252 in a room of 10 digits, with 1 digit: 0.06349206349206349

@@ -73,5 +73,5 @@ pub record HasStopped (slots : List Slot) (room : List ℕ) (old new : Joined64)
   pub says : new ≡ record { code = code_of_join_stop why; done = old.done; digits = old.digits }
 
 -- the header after a step: it joined slots (`HasJoined`), or it was stopped (`HasStopped`)
-abbrev pub IsStep : List Slot → ℕ → List ℕ → List ℕ → Joined64 → Joined64 → Type 0
-IsStep slots most room new_room old new = HasJoined slots most room new_room old new ⊎ HasStopped slots room old new
+abbrev pub IsJoinStep : List Slot → ℕ → List ℕ → List ℕ → Joined64 → Joined64 → Type 0
+IsJoinStep slots most room new_room old new = HasJoined slots most room new_room old new ⊎ HasStopped slots room old new

@@ -23,6 +23,6 @@ abbrev pub IsBoundedDecimalOfTotal : List Slot → ℕ → ℕ → ℕ → ℕ �
 IsBoundedDecimalOfTotal slots places rule room end texts answer =
     Tested (rule < 6)
     (Tested (HasBoundedRoom places room end)
-      (IsLongText (sum_of_slots slots) places rule end texts answer ⊎ IsUndecided slots places rule end answer)
-      (HasNoText code_more_room end answer))
+    (IsLongText (sum_of_slots slots) places rule end texts answer ⊎ IsUndecided slots places rule end answer)
+    (HasNoText code_more_room end answer))
     (HasNoText code_bad_option end answer)

@@ -67,7 +67,7 @@ pub record SaysSign (x : ℤ × ℕ) (answer : Order) : Type 0 where
 
 -- there is no sign, for what the code says, and the order is 0
 -- Example: code 10: 0
-pub record HasNoSign (code : ℕ) (answer : Order) : Type 0 where
+pub record HasNoOrder (code : ℕ) (answer : Order) : Type 0 where
   pub code_is : answer.code ≡ code
   pub order_is : answer.order ≡ pos 0
 
@@ -76,7 +76,7 @@ pub record HasNoSign (code : ℕ) (answer : Order) : Type 0 where
 pub record IsRefusedSign (slots : List Slot) (room : ℕ) (answer : Order) : Type 0 where
   pub why : ReadRefusal
   pub reason : IsReadRefusedFor slots room why
-  pub none : HasNoSign (code_of_read why) answer
+  pub none : HasNoOrder (code_of_read why) answer
 
 -- the order of the sum and 0 (`SaysSign`), with enough room, or a refusal (`IsRefusedSign`)
 -- Example: 1/36, -1/28 with 14 digits of room: -1

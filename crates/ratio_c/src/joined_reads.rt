@@ -133,11 +133,7 @@ pub extern "C" fn ratio_joined_mean_i64(
 
 /// The order of the sum and 0.
 #[unsafe(no_mangle)]
-pub extern "C" fn ratio_joined_sign_i64(
-    digits: u64,
-    room: &mut [u64],
-    answers: &mut [Order],
-) -> u32
+pub extern "C" fn ratio_joined_sign_i64(digits: u64, room: &mut [u64], answers: &mut [Order]) -> u32
     ensures { AnswersOne (IsSignOfJoined digits room.old) room.old room.new answers.old answers.new result }
 {
     if answers.len() != 1 {

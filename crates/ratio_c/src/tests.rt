@@ -613,7 +613,8 @@ fn numbers_of_joined_totals(rt: HostRuntime) {
     assert!(rt; [answers[0].value.numer, answers[0].value.denom] == [2, 63]);
     assert!(rt; ratio_joined_mean_i64(digits, 0, &mut room, &mut answers) == DONE);
     assert!(rt; answers[0].code == DIVISION_BY_ZERO);
-    let digits = join_all(&[Slot::new(1, 1 << 63)], &mut room);
+    let most = [Slot::new(1, 1 << 63)];
+    let digits = join_all(&most, &mut room);
     assert!(rt; ratio_joined_sum_i64(digits, &mut room, &mut answers) == DONE);
     assert!(rt; answers[0].code == NOT_HELD);
     let digits = join_all(&slots, &mut room);
@@ -641,14 +642,10 @@ fn other_reads_of_joined_totals(rt: HostRuntime) {
     // -1/126
     assert!(rt; floats[0].code == ANSWERED && floats[0].value == -0.007936507936507936);
     let digits = join_all(&slots, &mut room);
-    assert!(rt;
-        ratio_joined_print_i64(digits, 4, 1, &mut room, &mut texts, &mut answers) == DONE
-    );
+    assert!(rt; ratio_joined_print_i64(digits, 4, 1, &mut room, &mut texts, &mut answers) == DONE);
     assert!(rt; answers[0].code == ANSWERED && answers[0].span.end == 147);
     assert!(rt; texts.ends_with(b"-0.0079") && answers[0].span.start == 140);
-    assert!(rt;
-        ratio_joined_print_i64(digits, 4, 6, &mut room, &mut texts, &mut answers) == DONE
-    );
+    assert!(rt; ratio_joined_print_i64(digits, 4, 6, &mut room, &mut texts, &mut answers) == DONE);
     assert!(rt; answers[0].code == BAD_OPTION && answers[0].span.start == 147);
     let digits = join_all(&slots, &mut room);
     assert!(rt;

@@ -1,6 +1,6 @@
 //! The struct `Joined64`, the header of a read in steps, and the call for C that joins some slots of a total at a time.
 ghost use Rattle.std.specs.Prelude.{◌≡◌, IfErr, IfOk, MatchOption};
-ghost use Rattle.ratio_c.specs.Joining.{HasBegun, IsShortToBegin, IsStep, IsStepStoppedFor, Joins, code_of_join_stop};
+ghost use Rattle.ratio_c.specs.Joining.{HasBegun, IsShortToBegin, IsJoinStep, IsStepStoppedFor, Joins, code_of_join_stop};
 ghost use Rattle.ratio_c.specs.TotalReads.{WritesOne};
 
 use crate::code::{ANSWERED, MORE_ROOM, NO_TOTAL, TOO_LONG};
@@ -66,7 +66,7 @@ fn code_of(why: JoinStop) -> u32
 
 /// The header after a step. Where that was stopped, only its code is new.
 fn join_answer(slots: &[Slot], most: u64, old: &Joined64, room: &mut [u64]) -> Joined64
-    ensures { IsStep slots.now most room.old room.new old.now result }
+    ensures { IsJoinStep slots.now most room.old room.new old.now result }
 {
     let from = Joined {
         done: old.done as usize,
@@ -86,7 +86,7 @@ fn join_answer(slots: &[Slot], most: u64, old: &Joined64, room: &mut [u64]) -> J
     }
 }
 
-/// At most so many further slots are joined in the room.
+/// Joins further slots of the total in the room, at most so many. A header with no slot joined and no digits begins the read.
 #[unsafe(no_mangle)]
 pub extern "C" fn ratio_total_join_i64(
     slots: &[Slot],
@@ -94,7 +94,7 @@ pub extern "C" fn ratio_total_join_i64(
     joined: &mut [Joined64],
     room: &mut [u64],
 ) -> u32
-    ensures { WritesOne (IsStep slots.now most room.old room.new) room.old room.new joined.old joined.new result }
+    ensures { WritesOne (IsJoinStep slots.now most room.old room.new) room.old room.new joined.old joined.new result }
 {
     if joined.len() != 1 {
         return BAD_LENGTH;

@@ -16,4 +16,4 @@ returns-in-Ok c =
     let same : to_z w64 (of_z w64 c.args.count) ≡ c.args.count = omega (arith, ints) in
     let checks = subst (λ (k : ℤ). ChecksPairMean pair k c.in-Ok.mean) same c.in-Ok.ensures.mean in
     where_held positive (rw (sym c.read_in.ensures) (where_held c.in-Ok.ensures.accepted
-      (short_said _ _ c.narrowed.result _ (mean_checked pair c.args.count c.in-Ok.mean positive checks) c.narrowed.ensures c.checked_fields.ensures)))
+    (short_said _ _ c.narrowed.result _ (mean_checked pair c.args.count c.in-Ok.mean positive checks) c.narrowed.ensures c.checked_fields.ensures)))

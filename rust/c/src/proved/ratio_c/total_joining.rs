@@ -81,7 +81,7 @@ fn join_answer(slots: &[Slot], most: u64, old: &Joined64, room: &mut [u64]) -> J
     }
 }
 
-/// At most so many further slots are joined in the room.
+/// Joins further slots of the total in the room, at most so many. A header with no slot joined and no digits begins the read.
 #[no_mangle]
 pub unsafe extern "C" fn ratio_total_join_i64(slots: *const Slot, slots_len: usize, most: u64, joined: *mut Joined64, joined_len: usize, room: *mut u64, room_len: usize) -> u32 {
     // SAFETY: the header says what the caller owes for each pointer and its length.

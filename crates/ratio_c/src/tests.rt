@@ -617,13 +617,6 @@ fn numbers_of_joined_totals(rt: HostRuntime) {
     let digits = join_all(&most, &mut room);
     assert!(rt; ratio_joined_sum_i64(digits, &mut room, &mut answers) == DONE);
     assert!(rt; answers[0].code == NOT_HELD);
-    let digits = join_all(&slots, &mut room);
-    assert!(rt; ratio_joined_sum_i64(digits, &mut room[1..], &mut answers) == DONE);
-    assert!(rt; answers[0].code == NO_TOTAL);
-    assert!(rt; ratio_joined_sum_i64(0, &mut room, &mut answers) == DONE);
-    assert!(rt; answers[0].code == NO_TOTAL);
-    assert!(rt; ratio_joined_mean_i64(u64::MAX, 2, &mut room, &mut answers) == DONE);
-    assert!(rt; answers[0].code == NO_TOTAL);
 }
 
 #[test]
@@ -652,6 +645,26 @@ fn other_reads_of_joined_totals(rt: HostRuntime) {
         ratio_joined_print_i64(digits, 4, 1, &mut room[1..], &mut texts, &mut answers) == DONE
     );
     assert!(rt; answers[0].code == NO_TOTAL && answers[0].span.start == 147);
+}
+
+#[test]
+fn rooms_without_a_total(rt: HostRuntime) {
+    let slots = [Slot::new(36, 1), Slot::new(28, 1)];
+    let mut room = [7; 14];
+    let mut answers = [no_answer()];
+    let digits = join_all(&slots, &mut room);
+    assert!(rt; ratio_joined_sum_i64(digits, &mut room[1..], &mut answers) == DONE);
+    assert!(rt; answers[0].code == NO_TOTAL);
+    assert!(rt; ratio_joined_sum_i64(0, &mut room, &mut answers) == DONE);
+    assert!(rt; answers[0].code == NO_TOTAL);
+    assert!(rt; ratio_joined_mean_i64(u64::MAX, 2, &mut room, &mut answers) == DONE);
+    assert!(rt; answers[0].code == NO_TOTAL);
+}
+
+#[test]
+fn rooms_of_zeros(rt: HostRuntime) {
+    let mut orders = [Order { code: 9, order: 9 }];
+    let mut floats = [no_float()];
     let mut zeros = [0; 20];
     assert!(rt; ratio_joined_sign_i64(2, &mut zeros, &mut orders) == DONE);
     assert!(rt; orders[0].code == NO_TOTAL && orders[0].order == 0);

@@ -25,6 +25,7 @@ use crate::numbers64::{
 use crate::printing::Text;
 use crate::reading::Span;
 use crate::scaled::Scaled;
+use crate::total_bounded::ratio_total_print_bounded_i64;
 use crate::total_joining::{Joined64, ratio_total_join_i64};
 use crate::total_multiples::{ratio_total_round_to_digits_i64, ratio_total_round_to_i64};
 use crate::total_orders::{ratio_total_compare_digits_i64, ratio_total_compare_i64};
@@ -670,4 +671,31 @@ fn rooms_of_zeros(rt: HostRuntime) {
     assert!(rt; orders[0].code == NO_TOTAL && orders[0].order == 0);
     assert!(rt; ratio_joined_to_f64_i64(2, &mut zeros, &mut floats) == DONE);
     assert!(rt; floats[0].code == NO_TOTAL && floats[0].value == 0.0);
+}
+
+#[test]
+fn decimals_from_bounds(rt: HostRuntime) {
+    let slots = [Slot::new(36, 1), Slot::new(28, 1)];
+    let tie = [Slot::new(3, 1), Slot::new(6, 1)];
+    let mut room = [7; 35];
+    let mut texts = [b'x'; 167];
+    let mut answers = [no_text()];
+    assert!(rt;
+        ratio_total_print_bounded_i64(&slots, 4, 1, &mut room, &mut texts, &mut answers) == DONE
+    );
+    assert!(rt; answers[0].code == ANSWERED && answers[0].span.end == 167);
+    assert!(rt; texts.ends_with(b"0.0635") && answers[0].span.start == 161);
+    assert!(rt;
+        ratio_total_print_bounded_i64(&tie, 0, 1, &mut room, &mut texts, &mut answers) == DONE
+    );
+    assert!(rt; answers[0].code == NOT_HELD && answers[0].span.start == 167);
+    assert!(rt;
+        ratio_total_print_bounded_i64(&slots, 4, 6, &mut room, &mut texts, &mut answers) == DONE
+    );
+    assert!(rt; answers[0].code == BAD_OPTION && answers[0].span.start == 167);
+    assert!(rt;
+        ratio_total_print_bounded_i64(&slots, 4, 1, &mut room[1..], &mut texts, &mut answers)
+            == DONE
+    );
+    assert!(rt; answers[0].code == MORE_ROOM && answers[0].span.start == 167);
 }

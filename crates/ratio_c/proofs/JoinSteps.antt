@@ -1,11 +1,10 @@
 -- How a step of a read in steps follows from its beginning and the slots that it joins.
-use Rattle.std.specs.Prelude.{◌≡◌, ◌≢◌, ◌≤◌, ◌<◌, ◌+◌, ◌⊎◌, ℕ, zero, suc, List, length, min, Option, Some, None, MatchOption}
+use Rattle.std.specs.Prelude.{◌≡◌, ◌≢◌, ◌+◌, ◌⊎◌, ℕ, zero, suc, List, length, min}
 use Rattle.std.proofs.Common.{ap, arith, inl, inr, refl, subst, sym, ◌∙◌}
-use Rattle.ratio_totals.specs.Common.{HasLongCommon, most_common, read_digits}
 use Rattle.ratio_totals.specs.Steps.{HoldsJoined}
 use Rattle.ratio_totals.specs.declared.joined.Joined.{Joined}
 use Rattle.ratio_totals.specs.declared.slots.Slot.{Slot}
-use Rattle.ratio_c.specs.Joining.{HasBegun, IsNew, IsReady, IsShortToBegin, Joins}
+use Rattle.ratio_c.specs.Joining.{HasBegun, IsNew, IsReady, Joins}
 use Rattle.ratio_c.proofs.Cases.{where_held, where_not}
 
 zero_or_not : (n : ℕ) → (n ≡ 0) ⊎ (n ≢ 0)
@@ -26,7 +25,7 @@ moved slots read from new_room room same same_room held =
     subst (λ (r : Joined). HoldsJoined slots r new_room) (sym same) (subst (λ (xs : List ℕ). HoldsJoined slots from xs) (sym same_room) held)
 
 -- what a step needs to hold, after the read has begun
-pub ready_holds : (slots : List Slot) (from read : Joined) (room new_room : List ℕ) → HasBegun slots from room new_room read → IsReady slots from room → HoldsJoined slots read new_room
+ready_holds : (slots : List Slot) (from read : Joined) (room new_room : List ℕ) → HasBegun slots from room new_room read → IsReady slots from room → HoldsJoined slots read new_room
 ready_holds slots from read room new_room begun ready = elim ready [
   | inl new ↦ (begun.yes new).2
   | inr held ↦ elim (new_or_not from) [
@@ -55,9 +54,3 @@ step_joins slots most from read next room middle new_room begun done digits furt
         joined = λ ready. further (ready_holds slots from read room middle begun ready);
       }
 ]
-
--- a step that was stopped by a long common denominator
-pub step_long : (slots : List Slot) (from read : Joined) (room middle : List ℕ) → HasBegun slots from room middle read
-    → (HoldsJoined slots read middle → HasLongCommon slots most_common) → (¬ (IsShortToBegin slots from room)) × (IsReady slots from room → HasLongCommon slots most_common)
-step_long slots from read room middle begun long =
-    (λ short. absurd (omega (arith, short.short, (begun.yes short.first).1)), λ ready. long (ready_holds slots from read room middle begun ready))

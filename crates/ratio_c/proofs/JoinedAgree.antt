@@ -1,5 +1,5 @@
 -- Once all slots are joined, each read of the room answers as the read of the total.
-use Rattle.std.specs.Prelude.{◌≡◌, ◌<◌, ◌≤◌, ◌<ℤ◌, ℕ, ℤ, pos, List, drop, length, Option, Some, None}
+use Rattle.std.specs.Prelude.{◌<◌, ◌≤◌, ◌<ℤ◌, ℕ, ℤ, pos, drop, length, Option, Some, None}
 use Rattle.std.specs.Float.{binary64}
 use Rattle.std.proofs.Common.{ap, inl, subst, sym, ◌∙◌}
 use Rattle.ratio_integer.specs.Fraction.{ChecksLowest}

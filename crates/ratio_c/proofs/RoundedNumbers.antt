@@ -1,5 +1,5 @@
 -- Whole numbers, as answers say them.
-use Rattle.std.specs.Prelude.{◌≡◌, ℤ, pos, Option, None, Some}
+use Rattle.std.specs.Prelude.{ℤ, pos, Option, None, Some}
 use Rattle.std.proofs.Common.{ap, ◌∙◌}
 use Rattle.ratio_decimal.specs.Products.{ChecksRoundedWhole}
 use Rattle.ratio_decimal.specs.declared.rounding_rule.Rounding.{Rounding}

@@ -1,6 +1,6 @@
 -- What the room of a read in steps says: its fraction in lowest terms, divided by a count, its sign, its float and its decimal.
 use Rattle.std.specs.Prelude.{◌≡◌, ◌<◌, ◌<ℤ◌, ℕ, ℤ, pos, List}
-use Rattle.std.specs.Float.{Float, float_zero}
+use Rattle.std.specs.Float.{Float}
 use Rattle.ratio_totals.specs.Joined.{HasJoinedDecimal, HasJoinedPair, joined_pair}
 use Rattle.ratio_totals.specs.LowestSum.{pair_mean}
 use Rattle.ratio_c.specs.declared.compare.Order.{Order}

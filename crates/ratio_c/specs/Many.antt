@@ -1,5 +1,5 @@
 -- The product of many fractions divided by many others.
-use Rattle.std.specs.Prelude.{◌≡◌, ◌≢◌, ◌+◌, ◌*◌, ◌≤◌, ◌<ℤ◌, ℕ, ℤ, pos, All, List, length}
+use Rattle.std.specs.Prelude.{◌≡◌, ◌≢◌, ◌+◌, ◌*◌, ◌≤◌, ◌<ℤ◌, ℕ, pos, All, List, length}
 use Rattle.ratio_integer.specs.Fraction.{ChecksLowest}
 use Rattle.num_rational.specs.ManyProducts.{quotient_of_items}
 use Rattle.ratio_c.specs.declared.numbers64.Fraction64.{Fraction64}

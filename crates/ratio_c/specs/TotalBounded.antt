@@ -1,5 +1,5 @@
 -- What the bounds of a total's sum say: its decimal, where they decide.
-use Rattle.std.specs.Prelude.{◌≡◌, ◌+◌, ◌/◌, ◌^◌, ◌<◌, ◌⊎◌, ℕ, List}
+use Rattle.std.specs.Prelude.{◌+◌, ◌/◌, ◌^◌, ◌<◌, ◌⊎◌, ℕ, List}
 use Rattle.ratio_natural.specs.Number.{base}
 use Rattle.ratio_totals.specs.Bounds.{RoundsApart}
 use Rattle.ratio_totals.specs.DecimalRoom.{HasBoundedRoom}

@@ -1,4 +1,4 @@
-use Rattle.ratio_c.proofs.JoinSteps.{ready_holds, step_joins, step_long}
+use Rattle.ratio_c.proofs.JoinSteps.{step_joins}
 use Rattle.ratio_c.proofs.total_joining.step.Goals as goal
 
 pub returns-in-Ok-clause-joins : goal.returns-in-Ok-clause-joins

@@ -77,5 +77,6 @@ fn each_law_is_called() {
     laws::tables();
     laws::reads();
     laws::sums();
+    laws::steps();
     laws::joined_rooms();
 }

@@ -8,7 +8,7 @@ use Rattle.ratio_totals.proofs.JoinLemmas.{steps_join_all}
 use Rattle.ratio_totals.proofs.JoinedLemmas.{joined_decimals, joined_floats, joined_signs}
 use Rattle.ratio_totals.proofs.LowestSumLemmas.{divided_same, nonzero, product_positive}
 use Rattle.ratio_totals.proofs.MergeSums.{sum_positive}
-use Rattle.ratio_totals.proofs.StepLemmas.{steps_leave_pairs}
+use Rattle.ratio_totals.proofs.StepLemmas.{room_held, steps_leave_pairs}
 use Rattle.ratio_totals.specs.Common.{above_zero}
 use Rattle.ratio_totals.specs.DecimalRoom.{bytes_with, digits_with}
 use Rattle.ratio_totals.specs.Joined.{HasJoinedDecimal, joined_pair}
@@ -37,7 +37,7 @@ said_moved x y answer some other same says =
 pub sums_answer_alike : SumsAnswerAlike
 sums_answer_alike slots read room answer held says =
     let is = joined_is_sum slots read room held in
-    inl (held.holds.room_is, said_moved (joined_pair read.digits room) (sum_of_slots slots) answer is.0.common (sum_positive slots) is.1 (says.yes is.0))
+    inl (room_held slots read room held.holds, said_moved (joined_pair read.digits room) (sum_of_slots slots) answer is.0.common (sum_positive slots) is.1 (says.yes is.0))
 
 mean_moved : (x y : ℤ × ℕ) (count : ℤ) (answer : Said) → 0 < x.1 → 0 < y.1 → SameSum x y → pos 0 <ℤ count → SaysLowest (pair_mean x count) answer → SaysLowest (pair_mean y count) answer
 mean_moved x y count answer some other same positive says =
@@ -49,19 +49,19 @@ pub means_answer_alike : MeansAnswerAlike
 means_answer_alike slots read room count answer held says =
     let is = joined_is_sum slots read room held in
     record {
-      yes = λ positive. inl (held.holds.room_is, mean_moved (joined_pair read.digits room) (sum_of_slots slots) count answer is.0.common (sum_positive slots) is.1 positive ((says.yes positive).yes is.0));
+      yes = λ positive. inl (room_held slots read room held.holds, mean_moved (joined_pair read.digits room) (sum_of_slots slots) count answer is.0.common (sum_positive slots) is.1 positive ((says.yes positive).yes is.0));
       no = says.no;
     }
 
 pub signs_answer_alike : SignsAnswerAlike
 signs_answer_alike slots read room answer held says =
     let sign = says.yes (steps_leave_pairs slots read room held.holds) in
-    inl (held.holds.room_is, record { code_is = sign.code_is; order_is = sign.order_is ∙ ap order_number (joined_signs slots read.digits room (steps_join_all slots read room held.holds held.all)) })
+    inl (room_held slots read room held.holds, record { code_is = sign.code_is; order_is = sign.order_is ∙ ap order_number (joined_signs slots read.digits room (steps_join_all slots read room held.holds held.all)) })
 
 pub floats_answer_alike : FloatsAnswerAlike
 floats_answer_alike slots read room code value held says =
     let float = says.yes (steps_leave_pairs slots read room held.holds) in
-    inl (held.holds.room_is, record { code_is = float.code_is; value_is = float.value_is ∙ joined_floats slots read.digits room binary64 (steps_join_all slots read room held.holds held.all) })
+    inl (room_held slots read room held.holds, record { code_is = float.code_is; value_is = float.value_is ∙ joined_floats slots read.digits room binary64 (steps_join_all slots read room held.holds held.all) })
 
 pub decimals_answer_alike : DecimalsAnswerAlike
 decimals_answer_alike slots read room places rule end texts answer held enough says =

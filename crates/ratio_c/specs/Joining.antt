@@ -1,7 +1,7 @@
 -- A read of a total in steps: what a step does to the header and the room.
 use Rattle.std.specs.Prelude.{◌≡◌, ◌≤◌, ◌<◌, ◌+◌, ◌⊎◌, ℕ, List, length, min}
 use Rattle.ratio_totals.specs.Common.{HasLongCommon, common_digits, most_common, read_digits}
-use Rattle.ratio_totals.specs.Steps.{HoldsJoined}
+use Rattle.ratio_totals.specs.Steps.{HoldsJoined, LooksJoined}
 use Rattle.ratio_totals.specs.declared.joined.Joined.{Joined}
 use Rattle.ratio_totals.specs.declared.slots.Slot.{Slot}
 use Rattle.ratio_c.specs.declared.total_joining.JoinStop.{JoinStop}
@@ -33,19 +33,22 @@ HasBegun slots from room new_room read =
     Tested (IsNew from) ((read.done ≡ 0) × (read_digits slots ≤ length room) × HoldsJoined slots read new_room) ((read ≡ from) × (new_room ≡ room))
 
 -- a step joined further slots: as many as are left, and at most `most`. A read that had not begun has the digits for the common denominator,
--- and the room is long enough. If the step could go on (`IsReady`), the slots that it says are joined in the room
+-- and the room is long enough. The room of any other read looks as the last step left it. If the step could go on (`IsReady`), the slots that it
+-- says are joined in the room
 -- Example: 1/36, 1/28 with at most one slot a step: one slot, 2 digits; then two slots
 pub record Joins (slots : List Slot) (most : ℕ) (from : Joined) (room new_room : List ℕ) (next : Joined) : Type 0 where
   pub done : next.done ≡ min (from.done + most) (length slots)
   pub digits : Tested (IsNew from) ((next.digits ≡ common_digits slots) × (read_digits slots ≤ length room)) (next.digits ≡ from.digits)
+  pub looked : ¬ (IsNew from) → LooksJoined slots from room
   pub joined : IsReady slots from room → HoldsJoined slots next new_room
 
--- why a step was stopped: the room is too short to begin (`IsShortToBegin`), the room does not hold what the read says (`IsReady`), or it does
--- and the common denominator is too long
+-- why a step was stopped: the room is too short to begin (`IsShortToBegin`); the read has begun, and the room does not look as the last step
+-- left it (`LooksJoined`); or neither, and if the step could go on (`IsReady`), the common denominator is too long
 abbrev pub IsStepStoppedFor : List Slot → Joined → List ℕ → JoinStop → Type 0
 IsStepStoppedFor slots from room MoreRoom = IsShortToBegin slots from room
-IsStepStoppedFor slots from room NotJoined = ¬ (IsReady slots from room)
-IsStepStoppedFor slots from room TooLong = (¬ (IsShortToBegin slots from room)) × (IsReady slots from room → HasLongCommon slots most_common)
+IsStepStoppedFor slots from room NotJoined = (¬ (IsNew from)) × (¬ (LooksJoined slots from room))
+IsStepStoppedFor slots from room TooLong =
+    (¬ (IsShortToBegin slots from room)) × (¬ (IsNew from) → LooksJoined slots from room) × (IsReady slots from room → HasLongCommon slots most_common)
 
 -- the code of a stop: 10, 8 or 11
 -- Example: `NotJoined`: 8

@@ -18,9 +18,9 @@ pub struct Joined64 {
 pub enum JoinStop {
     /// The room is too short to begin.
     MoreRoom,
-    /// The room does not hold what the last step left there.
+    /// The room does not look as the last step left it.
     NotJoined,
-    /// The common denominator is not below 2^(2^20).
+    /// The common denominator is not below 2^(2^20), if nothing changed the room.
     TooLong,
 }
 

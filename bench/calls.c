@@ -106,7 +106,7 @@ static uint64_t *joined_room(void) {
     X(total_print_i64, (slots, SLOTS, 2, RATIO_RULE_HALF_EVEN, ROOM, printed, sizeof printed, places, 1))   \
     X(total_print_bounded_i64, (slots, SLOTS, 2, RATIO_RULE_HALF_EVEN, ROOM, printed, sizeof printed, places, 1))
 
-/* Those of a read in steps: all slots in one step, and what the room gives then. */
+/* Those of a read in steps: all slots in one step, and what the room gives then. Each of these reads also copies the room. */
 #define JOINED SLOTS, joined_room(), sizeof room / sizeof *room
 #define STEPS(X)                                                                                            \
     X(total_join_i64, (slots, SLOTS, SLOTS, new_read(), 1, ROOM))                                           \

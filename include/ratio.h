@@ -27,8 +27,8 @@ extern "C" {
 /* What a call returns. The calls split and split_by_weights return a code. */
 enum { RATIO_DONE = 0, RATIO_BAD_LENGTH = 1 };
 
-/* The code of an answer. If it is not RATIO_ANSWERED, the numbers are 0, and the span of a text is empty. The number of a
- * code never changes: a new code gets a new number.
+/* The code of an answer. If it is not RATIO_ANSWERED, the numbers are 0, but for the headers of totals and of reads in steps,
+ * and the span of a text is empty. The number of a code never changes: a new code gets a new number.
  */
 enum {
     RATIO_ANSWERED = 0,
@@ -45,7 +45,7 @@ enum {
     RATIO_NO_TEXT = 6,                  /* of read, read_decimal and read_text: the span does not lie in the texts */
     RATIO_BOUND_NOT_POSITIVE = 7,       /* of nearest: no denominator lies from 1 to the bound */
     RATIO_NO_TOTAL = 8,                 /* of totals: an empty slot has a numerator that is not 0. Of reads in steps: the room does
-                                           not hold what the last step left there */
+                                           not hold what the last step left there. Of joined_print: also too few digits or bytes */
     RATIO_BAD_OPTION = 9,               /* of between, from_scaled, round_to, mul_round, print_decimal, total_print, total_print_bounded,
                                            joined_print and total_round_to: the call has no such flags, scale, parts, places or
                                            rule */
@@ -378,10 +378,12 @@ uint32_t ratio_total_unmerge_i64(const ratio_slot_i64 *asked, size_t asked_len, 
  *                                  RATIO_BAD_OPTION
  *   ratio_total_print_bounded_i64  the same in one pass over the slots, however long the common denominator is. It takes a lower and an
  *                                  upper bound of the sum, and gives RATIO_NOT_HELD if the rule makes two numbers of them: of 1/3 and
- *                                  1/6 without places. That is at a tie or another sum where the rule's result changes, or within
- *                                  1/2^64 of the last place of such a sum. It needs places / 19 * 9 + 35 digits of room, and
- *                                  (places / 19 * 2 + 8) * 20 + places + 3 bytes. What total_print needs is enough if there are 6
- *                                  denominators and two more for each 19 places
+ *                                  1/6 without places by RATIO_RULE_HALF_EVEN. It does so only at a tie or another sum where the rule's
+ *                                  result changes, or within 1/2^64 of the last place of such a sum. It never gives RATIO_TOO_LONG. It
+ *                                  needs places / 19 * 9 + 35 digits of room, and (places / 19 * 2 + 8) * 20 + places + 3 bytes, both
+ *                                  computed in size_t. Up to 177839 places, what total_print needs is enough if there are 6 denominators
+ *                                  and two more for each 19 places. The pass cannot be stopped: over a million denominators it took 0.1
+ *                                  seconds with 20 places, and 8 seconds with 16383
  *   ratio_total_round_to_digits_i64  how many digits of room the next call needs
  *   ratio_total_round_to_i64       the multiple of 1/parts that a rule says of the sum, rounded once, in lowest terms: 3/50 for 1/36 and
  *                                  1/28 with 100 parts by RATIO_RULE_HALF_EVEN. With 1 part it is a whole number over 1. It is
@@ -433,15 +435,16 @@ uint32_t ratio_total_compare_i64(const ratio_slot_i64 *left, size_t left_len, co
  *   if (joined.code == RATIO_ANSWERED && joined.done == slots_len)
  *       ratio_joined_sum_i64(joined.digits, room, room_len, &answer, 1);
  *
- * The room keeps what the steps have joined. Do not change it between two calls, nor the slots. To stop, make no further call.
+ * The room keeps what the steps have joined. Do not change the slots or the room until the answer is read. To stop, make no further call. To
+ * begin again, make the header all zero. `most` is at least 1, else this loop does not end.
  */
 
 /* How far a read in steps has come, and what the last step did. Made all zero, it begins. */
 typedef struct { uint32_t code; uint64_t done; uint64_t digits; } ratio_joined_i64;
 
 /* A step joins at most `most` further slots, and `done` says how many are joined. The read has ended once these are all slots. The first step
- * also begins the read: `digits` becomes the digits of the common denominator. With the longest one, a step of 64 slots takes some 7
- * milliseconds. A step also tests the whole room, so many short steps take longer than few long ones. The code is one of these:
+ * also begins the read: `digits` becomes how many digits the room keeps for the common denominator. With the longest one, a step of 64 slots
+ * takes some 7 milliseconds. A step also tests the whole room, so many short steps take longer than few long ones. The code is one of these:
  *
  *   RATIO_ANSWERED    the slots are joined
  *   RATIO_MORE_ROOM   the read has not begun, since the room has fewer digits than ratio_total_digits_i64 says
@@ -454,19 +457,21 @@ typedef struct { uint32_t code; uint64_t done; uint64_t digits; } ratio_joined_i
 uint32_t ratio_total_join_i64(const ratio_slot_i64 *slots, size_t slots_len, uint64_t most, ratio_joined_i64 *joined, size_t joined_len,
                               uint64_t *room, size_t room_len);
 
-/* The calls that give the answer from the room, once all slots are joined. Each gives what the call of the same name on the total gives, with
- * the same codes, and takes the `digits` of the steps. Before, the sum is that of the slots that are joined.
+/* The calls that give the answer from the room, once all slots are joined. Each gives what the call of the same name on the total gives, but
+ * RATIO_NO_TOTAL where the room holds no sum, is too short, or there are too few bytes. It takes the `digits` of the steps. Before all slots
+ * are joined, the sum is that of the joined ones.
  *
  *   ratio_joined_sum_i64      the sum in lowest terms
  *   ratio_joined_mean_i64     the sum divided by the count, in lowest terms
  *   ratio_joined_sign_i64     the order of the sum and 0
  *   ratio_joined_to_f64_i64   the float nearest to the sum
  *   ratio_joined_print_i64    the sum as a decimal. The room has as many digits as ratio_total_print_digits_i64 says, and is given to
- *                             ratio_total_join_i64 as a whole. ratio_total_print_bytes_i64 says how many bytes there are. Where
- *                             ratio_total_print_bounded_i64 gives a text, it needs no steps: ask it first
+ *                             ratio_total_join_i64 as a whole. ratio_total_print_bytes_i64 says how many bytes there are. Call
+ *                             ratio_total_print_bounded_i64 first, in the same room, before the first step: if it gives a text, you
+ *                             need no steps
  *
- * If the room holds no such sum, or is too short, or there are too few bytes for the text, the code is RATIO_NO_TOTAL. Each call uses the room
- * up: afterwards it may have anything. If `answers_len` is not 1, a call returns RATIO_BAD_LENGTH and writes nothing.
+ * Each call uses the room up: afterwards it may have anything. For a second answer, copy the first 3 * digits + 6 digits of the room before, or
+ * join again. If `answers_len` is not 1, a call returns RATIO_BAD_LENGTH and writes nothing.
  */
 uint32_t ratio_joined_sum_i64(uint64_t digits, uint64_t *room, size_t room_len, ratio_answer_i64 *answers, size_t answers_len);
 uint32_t ratio_joined_mean_i64(uint64_t digits, int64_t count, uint64_t *room, size_t room_len, ratio_answer_i64 *answers, size_t answers_len);

@@ -15,7 +15,7 @@ typedef struct
 
 /* A total of more slots is read in steps, and looks for interrupts between them. The time of a step grows with its slots and with the digits of
  * the common denominator, of which there are at most MOST_DIGITS. STEP slots with so many take some 7 milliseconds. */
-enum { LONG = 1000, STEP = 64, MOST_DIGITS = 16384 };
+enum { LONG_TOTAL = 1000, STEP = 64, MOST_DIGITS = 16384 };
 
 static void
 make_room(Room *room, uint64 length)
@@ -36,7 +36,8 @@ give_back(Room *room)
 		pfree(room->digits);
 }
 
-/* How many slots the next step joins. The digits are at most as many as the slots, so the first steps join more of these. */
+/* How many slots the next step joins. The digits are at most as many as the slots, so the first steps join more of these: the first one joins
+ * 1024. */
 static uint64
 next_step(uint64 done)
 {
@@ -77,7 +78,7 @@ sum_of(const ratio_slot_i64 *slots, size_t many, int64 count, const char *call)
 	Room		room;
 
 	make_room(&room, ratio_total_digits_i64(slots, many));
-	if (many <= LONG)
+	if (many <= LONG_TOTAL)
 		ratio_total_sum_i64(slots, many, room.digits, room.length, &answer, 1);
 	else
 		ratio_joined_sum_i64(join_all(slots, many, &room, call), room.digits, room.length, &answer, 1);
@@ -94,7 +95,7 @@ mean_of(const ratio_slot_i64 *slots, size_t many, int64 count, const char *call)
 	Room		room;
 
 	make_room(&room, ratio_total_digits_i64(slots, many));
-	if (many <= LONG)
+	if (many <= LONG_TOTAL)
 		ratio_total_mean_i64(slots, many, count, room.digits, room.length, &answer, 1);
 	else
 		ratio_joined_mean_i64(join_all(slots, many, &room, call), count, room.digits, room.length, &answer, 1);
@@ -112,7 +113,7 @@ sign_of(const ratio_slot_i64 *slots, size_t many)
 	Room		room;
 
 	make_room(&room, ratio_total_digits_i64(slots, many));
-	if (many <= LONG)
+	if (many <= LONG_TOTAL)
 		ratio_total_sign_i64(slots, many, room.digits, room.length, &answer, 1);
 	else
 		ratio_joined_sign_i64(join_all(slots, many, &room, call), room.digits, room.length, &answer, 1);
@@ -130,7 +131,7 @@ float_of(const ratio_slot_i64 *slots, size_t many)
 	Room		room;
 
 	make_room(&room, ratio_total_digits_i64(slots, many));
-	if (many <= LONG)
+	if (many <= LONG_TOTAL)
 		ratio_total_to_f64_i64(slots, many, room.digits, room.length, &answer, 1);
 	else
 		ratio_joined_to_f64_i64(join_all(slots, many, &room, call), room.digits, room.length, &answer, 1);
@@ -150,7 +151,7 @@ decimal_of(const ratio_slot_i64 *slots, size_t many, int32 places, uint32 rule, 
 	Room		room;
 
 	make_room(&room, ratio_total_print_digits_i64(slots, many, places));
-	if (many <= LONG)
+	if (many <= LONG_TOTAL)
 		ratio_total_print_i64(slots, many, places, rule, room.digits, room.length, (uint8_t *) text, bytes, &answer, 1);
 	else
 	{

@@ -522,32 +522,38 @@ static void joined_totals(void) {
     expect(ratio_joined_to_f64_i64(2, room, 14, value, 1) == RATIO_DONE && value->code == RATIO_ANSWERED && value->value == 0.06349206349206349, "float of a room");
     (void) join_all(sum, 2, 1, room, digits);
     expect(ratio_joined_print_i64(2, 4, 6, room, digits, bytes, size, text, 1) == RATIO_DONE && text->code == RATIO_BAD_OPTION, "no rule in a room");
+    (void) join_all(sum, 2, 1, room, digits);
     expect(ratio_joined_print_i64(2, 4, RATIO_RULE_HALF_EVEN, room, digits, bytes, size, text, 1) == RATIO_DONE && text->code == RATIO_ANSWERED, "decimal of a room");
     expect(text->span.end == size && text->span.start == size - 6 && memcmp(bytes + size - 6, "0.0635", 6) == 0, "text of a decimal of a room");
     (void) join_all(primes, 2, 1, room, 14);
     expect(ratio_joined_sum_i64(2, room, 14, answer, 1) == RATIO_DONE && answer->code == RATIO_NOT_HELD, "a sum above 64 bits in a room");
 }
 
+/* Fills a room of 20 digits: 0 over a common denominator of 2 digits, whose lower digit is given. A read uses the room up, so each one gets it anew. */
+static uint64_t *zero_over(uint64_t common, uint64_t room[20]) {
+    memset(room, 0, 20 * sizeof *room);
+    room[5] = common;
+    return room;
+}
+
 /* Rooms that have no total. */
 static void rooms_of_no_total(void) {
-    uint64_t room[20] = {0};
+    uint64_t room[20];
     uint8_t bytes[147];
     ratio_answer_i64 answer[1];
     ratio_order order[1];
     ratio_float value[1];
     ratio_text text[1];
-    room[5] = 1;
-    expect(ratio_joined_sum_i64(2, room, 14, answer, 0) == RATIO_BAD_LENGTH && room[5] == 1, "no answer from a room");
-    expect(ratio_joined_print_i64(2, 4, 0, room, 20, bytes, 146, text, 1) == RATIO_DONE && text->code == RATIO_NO_TOTAL, "no bytes for a room");
-    expect(ratio_joined_print_i64(2, 4, 0, room, 19, bytes, 147, text, 1) == RATIO_DONE && text->code == RATIO_NO_TOTAL, "no digits for a decimal of a room");
+    expect(ratio_joined_sum_i64(2, zero_over(1, room), 14, answer, 0) == RATIO_BAD_LENGTH && room[5] == 1, "no answer from a room");
+    expect(ratio_joined_print_i64(2, 4, 0, zero_over(1, room), 20, bytes, 146, text, 1) == RATIO_DONE && text->code == RATIO_NO_TOTAL, "no bytes for a room");
+    expect(ratio_joined_print_i64(2, 4, 0, zero_over(1, room), 19, bytes, 147, text, 1) == RATIO_DONE && text->code == RATIO_NO_TOTAL, "no digits for a decimal of a room");
     expect(text->span.start == text->span.end, "span of no text of a room");
-    expect(ratio_joined_sign_i64(0, room, 14, order, 1) == RATIO_DONE && order->code == RATIO_NO_TOTAL && order->order == 0, "a room without digits");
-    expect(ratio_joined_sign_i64(2, room, 13, order, 1) == RATIO_DONE && order->code == RATIO_NO_TOTAL, "a room that is too short");
-    expect(ratio_joined_sign_i64(UINT64_MAX, room, 20, order, 1) == RATIO_DONE && order->code == RATIO_NO_TOTAL, "a room with too many digits");
-    room[5] = 0;
-    expect(ratio_joined_sum_i64(2, room, 14, answer, 1) == RATIO_DONE && answer->code == RATIO_NO_TOTAL, "a sum over 0");
-    expect(ratio_joined_mean_i64(2, 1, room, 14, answer, 1) == RATIO_DONE && answer->code == RATIO_NO_TOTAL, "a mean over 0");
-    expect(ratio_joined_to_f64_i64(2, room, 14, value, 1) == RATIO_DONE && value->code == RATIO_NO_TOTAL && value->value == 0, "a float over 0");
+    expect(ratio_joined_sign_i64(0, zero_over(1, room), 14, order, 1) == RATIO_DONE && order->code == RATIO_NO_TOTAL && order->order == 0, "a room without digits");
+    expect(ratio_joined_sign_i64(2, zero_over(1, room), 13, order, 1) == RATIO_DONE && order->code == RATIO_NO_TOTAL, "a room that is too short");
+    expect(ratio_joined_sign_i64(UINT64_MAX, zero_over(1, room), 20, order, 1) == RATIO_DONE && order->code == RATIO_NO_TOTAL, "a room with too many digits");
+    expect(ratio_joined_sum_i64(2, zero_over(0, room), 14, answer, 1) == RATIO_DONE && answer->code == RATIO_NO_TOTAL, "a sum over 0");
+    expect(ratio_joined_mean_i64(2, 1, zero_over(0, room), 14, answer, 1) == RATIO_DONE && answer->code == RATIO_NO_TOTAL, "a mean over 0");
+    expect(ratio_joined_to_f64_i64(2, zero_over(0, room), 14, value, 1) == RATIO_DONE && value->code == RATIO_NO_TOTAL && value->value == 0, "a float over 0");
 }
 
 /* The multiples of 1/36 + 1/28, and its order beside 1/15. Python's `fractions` computed them. */
@@ -599,8 +605,9 @@ static void long_total(void) {
     expect(ratio_total_compare_i64(slots, slot, slots, 1, both, SLOTS, room, DIGITS, order, 1) == RATIO_DONE && order->code == RATIO_TOO_LONG, "order of a long total");
     joined = join_all(slots, slot, 64, room, DIGITS);
     expect(joined.code == RATIO_TOO_LONG && joined.done < slot && joined.done % 64 == 0 && joined.digits == 16384, "steps of a long total");
-    joined = join_all(slots, joined.done, 1000, room, DIGITS);
-    expect(IS_STEP(joined, RATIO_ANSWERED, joined.done, 16384) && ratio_joined_sum_i64(16384, room, DIGITS, answer, 1) == RATIO_DONE, "steps before that");
+    const size_t before = joined.done;
+    joined = join_all(slots, before, 1000, room, DIGITS);
+    expect(IS_STEP(joined, RATIO_ANSWERED, before, 16384) && ratio_joined_sum_i64(16384, room, DIGITS, answer, 1) == RATIO_DONE, "steps before that");
     expect(answer->code == RATIO_NOT_HELD, "sum of the steps before that");
 }
 

@@ -448,8 +448,9 @@ typedef struct { uint32_t code; uint64_t done; uint64_t digits; } ratio_joined_i
  *
  *   RATIO_ANSWERED    the slots are joined
  *   RATIO_MORE_ROOM   the read has not begun, since the room has fewer digits than ratio_total_digits_i64 says
- *   RATIO_TOO_LONG    the common denominator is not below 2^(2^20)
- *   RATIO_NO_TOTAL    the room does not hold what the last step left there, as far as a step can see
+ *   RATIO_TOO_LONG    the common denominator is not below 2^(2^20), or the room was changed in a way that a step does not see
+ *   RATIO_NO_TOTAL    the room does not look as the last step left it: it has too few digits, the common denominator in it is 0, or the sums
+ *                     are too great for so many slots; or `done` is more than there are slots
  *
  * After any code but RATIO_ANSWERED, `done` and `digits` are as they were, and the room may have anything. If `joined_len` is not 1, the call
  * returns RATIO_BAD_LENGTH and writes nothing.

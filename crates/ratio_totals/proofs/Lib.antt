@@ -28,3 +28,5 @@ pub mod BoundLemmas
 pub mod CutLemmas
 pub mod BoundedLemmas
 pub mod StepLemmas
+pub mod RoomSumLemmas
+pub mod RoomLaws

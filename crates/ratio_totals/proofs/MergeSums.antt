@@ -11,7 +11,7 @@ use Rattle.ratio_totals.specs.declared.slots.Slot.{Slot}
 -- ---- fractions of the same value
 
 -- if a/b has the value of m/k and m/k that of x/y, then a/b has the value of x/y
-same_through : (a m x : ℤ) (b k y : ℕ) → 0 < k → a *ℤ pos k ≡ m *ℤ pos b → m *ℤ pos y ≡ x *ℤ pos k → a *ℤ pos y ≡ x *ℤ pos b
+pub same_through : (a m x : ℤ) (b k y : ℕ) → 0 < k → a *ℤ pos k ≡ m *ℤ pos b → m *ℤ pos y ≡ x *ℤ pos k → a *ℤ pos y ≡ x *ℤ pos b
 same_through a m x b k y positive h g =
     mul_cancel (a *ℤ pos y) (x *ℤ pos b) (pos k) (λ e. omega (arith, ints, positive, e)) (
     scaled_twice a y k
@@ -31,7 +31,7 @@ pub equal_sums : (p q x y : ℤ) → p ≡ x → q ≡ y → p +ℤ q ≡ x +ℤ
 equal_sums p q x y e f = omega (arith, ints, e, f)
 
 -- if a/b has the value of c/f, then c/f + t/u has that of a/b + t/u
-added_same : (a c t : ℤ) (b f u : ℕ) → a *ℤ pos f ≡ c *ℤ pos b → (c *ℤ pos u +ℤ t *ℤ pos f) *ℤ pos (b * u) ≡ (a *ℤ pos u +ℤ t *ℤ pos b) *ℤ pos (f * u)
+pub added_same : (a c t : ℤ) (b f u : ℕ) → a *ℤ pos f ≡ c *ℤ pos b → (c *ℤ pos u +ℤ t *ℤ pos f) *ℤ pos (b * u) ≡ (a *ℤ pos u +ℤ t *ℤ pos b) *ℤ pos (f * u)
 added_same a c t b f u h =
     let l : (c *ℤ pos u +ℤ t *ℤ pos f) *ℤ pos (b * u) ≡ c *ℤ pos (u * (b * u)) +ℤ t *ℤ pos (f * (b * u)) = sum_scaled c t u f (b * u) in
     let r : (a *ℤ pos u +ℤ t *ℤ pos b) *ℤ pos (f * u) ≡ a *ℤ pos (u * (f * u)) +ℤ t *ℤ pos (b * (f * u)) = sum_scaled a t u b (f * u) in

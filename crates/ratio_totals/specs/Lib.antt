@@ -19,3 +19,4 @@ pub mod Multiples
 pub mod AnyOrder
 pub mod Bounds
 pub mod Steps
+pub mod RoomSums

@@ -26,6 +26,8 @@ mod multiples;
 #[cfg(test)]
 mod orders;
 #[cfg(test)]
+mod room_sums;
+#[cfg(test)]
 mod short_sums;
 #[cfg(test)]
 mod slots;

@@ -78,4 +78,5 @@ fn each_law_is_called(_rt: HostRuntime) {
     laws::sums();
     laws::steps();
     laws::joined_rooms();
+    laws::room_sums();
 }

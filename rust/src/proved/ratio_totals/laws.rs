@@ -39,3 +39,7 @@ pub fn bounds() {}
 /// Where slots were joined in steps, no read of the room is refused, but for a decimal that has too little room.
 #[inline]
 pub fn joined_rooms() {}
+
+/// The order and the grouping of sums in rooms do not matter, for their value and for whether it fits. Taking out undoes an addition.
+#[inline]
+pub fn room_sums() {}

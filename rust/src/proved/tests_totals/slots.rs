@@ -79,4 +79,5 @@ fn each_law_is_called() {
     laws::sums();
     laws::steps();
     laws::joined_rooms();
+    laws::room_sums();
 }

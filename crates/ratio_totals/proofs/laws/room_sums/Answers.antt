@@ -1,0 +1,17 @@
+use Rattle.ratio_totals.proofs.RoomLaws.{least_agree, least_associate, room_sums_associate, room_sums_commute, room_sums_undone}
+use Rattle.ratio_totals.proofs.laws.room_sums.Goals as goal
+
+pub returns-clause-commute : goal.returns-clause-commute
+returns-clause-commute c = room_sums_commute
+
+pub returns-clause-associate : goal.returns-clause-associate
+returns-clause-associate c = room_sums_associate
+
+pub returns-clause-undo : goal.returns-clause-undo
+returns-clause-undo c = room_sums_undone
+
+pub returns-clause-one_multiple : goal.returns-clause-one_multiple
+returns-clause-one_multiple c = least_agree
+
+pub returns-clause-one_of_three : goal.returns-clause-one_of_three
+returns-clause-one_of_three c = least_associate

@@ -137,5 +137,5 @@ short_mean_is slots count n d m p sum counted m_is p_is below =
 
 pub short_mean_checked : (slots : List Slot) (count n : ℤ) (d : ℕ) (r : Option (ℤ × ℕ)) → IsShortMean slots count n d → ChecksShortPair (n, d) r → ChecksMeanOfSlots slots count r
 short_mean_checked slots count n d r mean checked =
-    above_zero_mean (sum_of_slots slots) count r mean.counted
+    above_zero_mean base (sum_of_slots slots) count r mean.counted
     (short_moved (n, d) (mean_of_slots slots count) r (product_positive _ _ (sum_positive slots) (above_zero_positive count mean.counted)) mean.value checked)

@@ -27,6 +27,7 @@ pub mod OrderLemmas
 pub mod BoundLemmas
 pub mod CutLemmas
 pub mod BoundedLemmas
+pub mod WideLemmas
 pub mod StepLemmas
 pub mod RoomSumLemmas
 pub mod RoomLaws

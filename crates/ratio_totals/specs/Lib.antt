@@ -20,3 +20,4 @@ pub mod AnyOrder
 pub mod Bounds
 pub mod Steps
 pub mod RoomSums
+pub mod WideReads

@@ -1,5 +1,6 @@
 -- Each read of a room that holds the join of a table is that of the table.
 use Rattle.ratio_long.proofs.DecimalLawLemmas.{decimal_by_value}
+use Rattle.ratio_natural.specs.Number.{base}
 use Rattle.ratio_totals.proofs.DecimalLemmas.{above_zero_ℤ}
 use Rattle.ratio_totals.proofs.FloatLemmas.{float_by_value}
 use Rattle.ratio_totals.proofs.LowestSumLemmas.{mean_moved, short_moved}
@@ -13,7 +14,7 @@ pub joined_sums : JoinedSums
 joined_sums slots digits room r joined checked = short_moved (joined_pair digits room) (sum_of_slots slots) r (sum_positive slots) joined.sum checked
 
 pub joined_means : JoinedMeans
-joined_means slots digits room count r joined checked = mean_moved (joined_pair digits room) (sum_of_slots slots) count r (sum_positive slots) joined.sum checked
+joined_means slots digits room count r joined checked = mean_moved base (joined_pair digits room) (sum_of_slots slots) count r (sum_positive slots) joined.sum checked
 
 pub joined_signs : JoinedSigns
 joined_signs slots digits room joined =

@@ -28,6 +28,7 @@ pub mod BoundLemmas
 pub mod CutLemmas
 pub mod BoundedLemmas
 pub mod WideLemmas
+pub mod WideLawLemmas
 pub mod StepLemmas
 pub mod RoomSumLemmas
 pub mod RoomLaws

@@ -10,12 +10,13 @@ use lib.IntN.{zero-*ℤ}
 use Rattle.ratio_integer.proofs.LowestTerms.{lowest_unique, same_value_chained}
 use Rattle.ratio_integer.proofs.Whole.{add-mul}
 use Rattle.ratio_totals.proofs.CommonLemmas.{common_exists}
+use Rattle.ratio_natural.specs.Number.{base}
 use Rattle.ratio_totals.proofs.LowestSumLemmas.{divided_same, nonzero, product_positive, short_moved}
 use Rattle.ratio_totals.proofs.MergeSums.{equal_sums, sum_positive}
 use Rattle.ratio_totals.proofs.ReadLemmas.{first_alone, over_itself, over_other, second_alone}
 use Rattle.ratio_totals.proofs.SumLemmas.{scaled_alike, scaled_twice, sum_empty, sum_scaled, sum_taken, with_slot}
 use Rattle.ratio_totals.specs.Common.{IsMultipleOfEach}
-use Rattle.ratio_totals.specs.LowestSum.{ChecksMeanOfSlots, ChecksShortPair, HasLongPair, IsShortPair, MeanResultsAgree, SumResultsAgree, SumsAgree, mean_of_slots}
+use Rattle.ratio_totals.specs.LowestSum.{ChecksMeanOfSlots, ChecksPairBelow, ChecksShortPair, HasPairNotBelow, IsPairBelow, MeanResultsAgree, SumResultsAgree, SumsAgree, mean_of_slots}
 use Rattle.ratio_totals.specs.Sums.{numerator_at, numerator_over, sum_of_slots}
 use Rattle.ratio_totals.specs.TotalLaws.{SameNumerators}
 use Rattle.ratio_totals.specs.declared.slots.Slot.{Slot}
@@ -120,26 +121,26 @@ sums_agree left right same =
 
 -- ---- one result
 
-long_or_short : (x : ℤ × ℕ) (p : ℤ) (q : ℕ) → HasLongPair x → IsShortPair x p q → ⊥
-long_or_short x p q long short =
+long_or_short : (bound : ℕ) (x : ℤ × ℕ) (p : ℤ) (q : ℕ) → HasPairNotBelow bound x → IsPairBelow bound x p q → ⊥
+long_or_short bound x p q long short =
     let same = lowest_unique x.0 (pos x.1) _ _ _ _ long.terms short.terms in
     elim long.long [
       | inl h ↦ omega (arith, h, short.numer_short, ap unsigned_abs same.0)
       | inr h ↦ omega (arith, ints, h, short.denom_short, same.1)
     ]
 
-results_agree : (x : ℤ × ℕ) (r s : Option (ℤ × ℕ)) → ChecksShortPair x r → ChecksShortPair x s → r ≡ s
-results_agree x None None a b = refl
-results_agree x None (Some t) a b = absurd (long_or_short x t.0 t.1 a b)
-results_agree x (Some t) None a b = absurd (long_or_short x t.0 t.1 b a)
-results_agree x (Some t) (Some u) a b =
+pub results_agree : (bound : ℕ) (x : ℤ × ℕ) (r s : Option (ℤ × ℕ)) → ChecksPairBelow bound x r → ChecksPairBelow bound x s → r ≡ s
+results_agree bound x None None a b = refl
+results_agree bound x None (Some t) a b = absurd (long_or_short bound x t.0 t.1 a b)
+results_agree bound x (Some t) None a b = absurd (long_or_short bound x t.0 t.1 b a)
+results_agree bound x (Some t) (Some u) a b =
     let same = lowest_unique x.0 (pos x.1) _ _ _ _ a.terms b.terms in
     let denom : t.1 ≡ u.1 = omega (arith, ints, same.1) in
     ap (λ (p : ℤ). Some (p, t.1)) same.0 ∙ ap (λ (q : ℕ). Some (u.0, q)) denom
 
 pub sum_results_agree : SumResultsAgree
 sum_results_agree left right r s same a b =
-    results_agree (sum_of_slots right) r s (short_moved (sum_of_slots left) (sum_of_slots right) r (sum_positive right) (sums_agree left right same) a) b
+    results_agree base (sum_of_slots right) r s (short_moved (sum_of_slots left) (sum_of_slots right) r (sum_positive right) (sums_agree left right same) a) b
 
 -- ---- one mean
 
@@ -158,6 +159,6 @@ mean_results_agree left right (negsuc n) r s same a b = no_mean left (negsuc n) 
 mean_results_agree left right (pos (suc n)) r s same a b =
     let count = pos (suc n) in
     let positive : pos 0 <ℤ count = omega (arith, ints) in
-    results_agree (mean_of_slots right count) r s (
+    results_agree base (mean_of_slots right count) r s (
     short_moved (mean_of_slots left count) (mean_of_slots right count) r (product_positive _ (suc n) (sum_positive right) (omega arith))
     (divided_same (sum_of_slots left) (sum_of_slots right) (suc n) (sums_agree left right same)) (mean_pair left count r positive a)) (mean_pair right count s positive b)

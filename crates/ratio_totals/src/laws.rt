@@ -6,6 +6,7 @@ ghost use Rattle.ratio_totals.specs.LowestSum.{MeanResultsAgree, SumResultsAgree
 ghost use Rattle.ratio_totals.specs.RoomSums.{LeastMultiplesAgree, LeastMultiplesAssociate, RoomSumsAssociate, RoomSumsCommute, RoomSumsUndone};
 ghost use Rattle.ratio_totals.specs.Steps.{StepsJoinAll, StepsLeavePairs};
 ghost use Rattle.ratio_totals.specs.TotalLaws.{AdditionsCommute, DenominatorsDiffer, MergesAddEach, MergesUndone, NegatedNumerators, NegatedSums, TableMergesAssociate, TableMergesCommute, TakingOutUndoes};
+ghost use Rattle.ratio_totals.specs.WideReads.{JoinedWideMeans, JoinedWideMultiples, JoinedWideSums, WideResultsAgree, WideSumsExtend};
 
 /// The order of additions does not matter, and taking out undoes an addition.
 pub fn additions()
@@ -78,4 +79,14 @@ pub fn room_sums()
     ensures undo { RoomSumsUndone }
     ensures one_multiple { LeastMultiplesAgree }
     ensures one_of_three { LeastMultiplesAssociate }
+{}
+
+/// A fraction has one result of `Joined::wide_sum`, and where `Joined::sum` returns a fraction, it is the same one. Where a room holds the
+/// join of a table, each wide read of the room is that of the table.
+pub fn wide_reads()
+    ensures one_result { WideResultsAgree }
+    ensures extend { WideSumsExtend }
+    ensures sum { JoinedWideSums }
+    ensures mean { JoinedWideMeans }
+    ensures multiple { JoinedWideMultiples }
 {}

@@ -79,4 +79,5 @@ fn each_law_is_called(_rt: HostRuntime) {
     laws::steps();
     laws::joined_rooms();
     laws::room_sums();
+    laws::wide_reads();
 }

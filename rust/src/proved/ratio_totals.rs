@@ -34,6 +34,8 @@ mod slots;
 mod steps;
 mod tally;
 mod total;
+mod wide_reads;
+mod wide_terms;
 
 pub use bounded::put_bounded_of;
 pub use comparing::CompareRefusal;
@@ -56,3 +58,4 @@ pub use signs::sign_of;
 pub use slots::Slot;
 pub use tally::{MOST_WEIGHT, Tally};
 pub use total::Total;
+pub use wide_terms::WideFraction;

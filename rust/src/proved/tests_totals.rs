@@ -32,3 +32,5 @@ mod short_sums;
 mod slots;
 #[cfg(test)]
 mod whole_numbers;
+#[cfg(test)]
+mod wide_reads;

@@ -43,3 +43,8 @@ pub fn joined_rooms() {}
 /// The order and the grouping of sums in rooms do not matter, for their value and for whether it fits. Taking out undoes an addition.
 #[inline]
 pub fn room_sums() {}
+
+/// A fraction has one result of `Joined::wide_sum`, and where `Joined::sum` returns a fraction, it is the same one. Where a room holds the
+/// join of a table, each wide read of the room is that of the table.
+#[inline]
+pub fn wide_reads() {}

@@ -80,4 +80,5 @@ fn each_law_is_called() {
     laws::steps();
     laws::joined_rooms();
     laws::room_sums();
+    laws::wide_reads();
 }

@@ -1,6 +1,5 @@
 -- The laws of sums in rooms.
-use Rattle.std.specs.Prelude.{◌≡◌, ◌+◌, ◌*◌, ◌<◌, ◌+ℤ◌, ◌*ℤ◌, ℕ, ℤ, pos, neg_ℤ, true}
-use Rattle.std.specs.Int.{◌∣◌}
+use Rattle.std.specs.Prelude.{◌≡◌, ◌*◌, ◌<◌, ◌+ℤ◌, ◌*ℤ◌, ℕ, ℤ, pos, neg_ℤ, true}
 use Rattle.std.proofs.Common.{sym, ap, subst, arith, ◌∙◌}
 use Rattle.std.proofs.Math.Nat.{dvd_antisymm, dvd_trans}
 use Rattle.std.proofs.lemmas.Int.{ints}
@@ -8,7 +7,7 @@ use Rattle.ratio_integer.proofs.Whole.{add-mul, mul_assoc}
 use Rattle.ratio_totals.proofs.CommonLemmas.{positive_product}
 use Rattle.ratio_totals.proofs.MergeSums.{added_assoc, added_same, same_through}
 use Rattle.ratio_totals.proofs.SumLemmas.{scaled_alike}
-use Rattle.ratio_totals.specs.RoomSums.{IsLeastMultiple, LeastMultiplesAgree, LeastMultiplesAssociate, RoomSumsAssociate, RoomSumsCommute, RoomSumsUndone, turned_pair}
+use Rattle.ratio_totals.specs.RoomSums.{LeastMultiplesAgree, LeastMultiplesAssociate, RoomSumsAssociate, RoomSumsCommute, RoomSumsUndone, turned_pair}
 use Rattle.ratio_totals.specs.Sums.{SameSum, pair_sum}
 
 -- ---- values

@@ -39,8 +39,8 @@ fn below(numer: u128, denom: u128) -> Option<WideFraction> {
 }
 
 /// The room of `(positive - negative)/common`. Its last digits were used before.
-fn room_of(positive: [u64; 4], common: u64, negative: [u64; 4]) -> [u64; 21] {
-    let mut room = [7; 21];
+fn room_of(positive: [u64; 4], common: u64, negative: [u64; 4]) -> [u64; 18] {
+    let mut room = [7; 18];
     room[..4].copy_from_slice(&positive);
     room[4] = common;
     room[5..9].copy_from_slice(&negative);
@@ -51,7 +51,7 @@ fn room_of(positive: [u64; 4], common: u64, negative: [u64; 4]) -> [u64; 21] {
 fn reads_are(
     rt: &impl Abort,
     joined: Joined,
-    room: &[u64; 37],
+    room: &[u64; 34],
     sum: Option<WideFraction>,
     mean_of_two: Option<WideFraction>,
 ) {
@@ -66,12 +66,12 @@ fn reads_are(
 /// The same with one digit for the common denominator.
 fn short_reads_are(
     rt: &impl Abort,
-    room: [u64; 21],
+    room: [u64; 18],
     sum: Option<WideFraction>,
     mean_of_two: Option<WideFraction>,
 ) {
-    let mut longer = [7; 37];
-    longer[..21].copy_from_slice(&room);
+    let mut longer = [7; 34];
+    longer[..18].copy_from_slice(&room);
     reads_are(rt, ONE, &longer, sum, mean_of_two);
 }
 
@@ -118,8 +118,8 @@ fn numerators_of_more_digits(rt: HostRuntime) -> Result<(), Fail> {
 }
 
 /// The room that begins with these digits. Its other digits were used before.
-fn begun(start: &[u64]) -> [u64; 37] {
-    let mut room = [7; 37];
+fn begun(start: &[u64]) -> [u64; 34] {
+    let mut room = [7; 34];
     for (i, digit) in start.iter().enumerate() {
         if i < room.len() {
             room[i] = *digit;
@@ -231,7 +231,7 @@ fn means_of_other_counts(rt: HostRuntime) -> Result<(), Fail> {
 fn multiples_are(
     rt: &impl Abort,
     joined: Joined,
-    room: [u64; 37],
+    room: [u64; 34],
     parts: u128,
     expected: [Option<WideFraction>; 6],
 )
@@ -350,44 +350,68 @@ fn is_refused(rt: &impl Abort, digits: usize, room: &mut [u64]) {
 }
 
 #[test]
-fn a_room_of_21_digits(rt: HostRuntime) -> Result<(), Fail> {
-    is_refused(&rt, 1, &mut [1; 20]);
-    let mut room = [1; 21];
-    assert_eq!(rt; ONE.wide_sum(&mut room), Ok(above(0, 1)));
-    let mut room = [1; 21];
-    assert_eq!(rt; ONE.wide_mean(1, &mut room), Ok(above(0, 1)));
-    let mut room = [1; 21];
-    assert_eq!(rt;
-        ONE.wide_round_to(1, Rounding::Down, &mut room),
-        Ok(above(0, 1))
-    );
+fn the_digits_that_each_read_needs(rt: HostRuntime) -> Result<(), Fail> {
+    is_refused(&rt, 1, &mut [1; 9]);
+    assert_eq!(rt; ONE.wide_sum(&mut [1; 10]), Ok(above(0, 1)));
+    assert_eq!(rt; ONE.wide_mean(1, &mut [1; 10]), Ok(above(0, 1)));
+    let few = ONE.wide_round_to(1, Rounding::Down, &mut [1; 17]);
+    assert_eq!(rt; few, Err(NoSum));
+    let enough = ONE.wide_round_to(1, Rounding::Down, &mut [1; 18]);
+    assert_eq!(rt; enough, Ok(above(0, 1)));
+    // (2^192 - 1)/(2^64 - 1) in the least room
+    let long = [MAX, MAX, MAX, 0, MAX, 0, 0, 0, 0, 0];
+    let mut room = long;
+    assert_eq!(rt; ONE.wide_sum(&mut room), Ok(None));
+    let mut room = long;
+    assert_eq!(rt; ONE.wide_mean(2, &mut room), Ok(None));
     Ok(())
 }
 
 #[test]
 fn rooms_without_a_sum(rt: HostRuntime) -> Result<(), Fail> {
-    is_refused(&rt, 1, &mut [0; 21]);
-    is_refused(&rt, 0, &mut [1; 21]);
-    is_refused(&rt, usize::MAX, &mut [1; 21]);
+    is_refused(&rt, 1, &mut [0; 18]);
+    is_refused(&rt, 0, &mut [1; 18]);
+    is_refused(&rt, usize::MAX, &mut [1; 18]);
     Ok(())
 }
 
-#[test]
-fn the_most_digits(rt: HostRuntime) -> Result<(), Fail> {
-    let mut room = [0; 65_553];
-    room[MOST_DIGITS + 3] = 5;
-    room[0] = 35;
+/// The sum in a room of 35/5, with the most digits for the common denominator.
+fn seven_is_read(rt: &impl Abort, room: &mut [u64]) {
+    room.fill(0);
+    if room.len() > MOST_DIGITS + 3 {
+        room[0] = 35;
+        room[MOST_DIGITS + 3] = 5;
+    }
     let joined = Joined {
         done: 1,
         digits: MOST_DIGITS,
     };
-    assert_eq!(rt; joined.wide_sum(&mut room), Ok(above(7, 1)));
-    is_refused(&rt, MOST_DIGITS, &mut [1; 65_552]);
+    assert_eq!(rt; joined.wide_sum(room), Ok(above(7, 1)));
+}
+
+#[test]
+fn the_most_digits(rt: HostRuntime) -> Result<(), Fail> {
+    seven_is_read(&rt, &mut [0; 65_542]);
+    is_refused(&rt, MOST_DIGITS, &mut [1; 65_541]);
+    Ok(())
+}
+
+#[test]
+fn a_multiple_with_the_most_digits(rt: HostRuntime) -> Result<(), Fail> {
+    let joined = Joined {
+        done: 1,
+        digits: MOST_DIGITS,
+    };
+    let few = joined.wide_round_to(1, Rounding::Down, &mut [1; 65_549]);
+    assert_eq!(rt; few, Err(NoSum));
+    // The common denominator is long, and both sums are the same.
+    let enough = joined.wide_round_to(1, Rounding::Down, &mut [1; 65_550]);
+    assert_eq!(rt; enough, Ok(above(0, 1)));
     Ok(())
 }
 
 #[test]
 fn more_than_the_most_digits(rt: HostRuntime) -> Result<(), Fail> {
-    is_refused(&rt, MOST_DIGITS + 1, &mut [1; 65_557]);
+    is_refused(&rt, MOST_DIGITS + 1, &mut [1; 65_554]);
     Ok(())
 }

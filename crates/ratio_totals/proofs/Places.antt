@@ -34,6 +34,12 @@ place_upper slots d i start e h within here none = record {
   first = λ k lt b. let p : (start ≤ k) × (k < i) = before_upper start k i h (subst (λ (s : ℕ). ComesBefore s k i) (sym e) b) in none k p.0 p.1;
 }
 
+-- the slot where the search begins is open
+pub place_first : (slots : List Slot) (d start : ℕ) → start ≡ home_of d (length slots) → start < length slots
+    → IsOpenTo d (slot_at slots start)
+    → IsPlaceOf slots d start
+place_first slots d start e within here = place_upper slots d start start e (omega arith) within here (λ k low high. absurd (omega (arith, low, high)))
+
 pub place_lower : (slots : List Slot) (d i start : ℕ) → start ≡ home_of d (length slots) → i < start → start ≤ length slots
     → IsOpenTo d (slot_at slots i)
     → ((k : ℕ) → start ≤ k → k < length slots → ¬ (IsOpenTo d (slot_at slots k)))

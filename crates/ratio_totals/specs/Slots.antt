@@ -1,5 +1,5 @@
 -- Tables of slots, and where a denominator is in a table. A slot is empty if its denominator is 0.
-use Rattle.std.specs.Prelude.{◌≡◌, ◌≢◌, ◌*◌, ◌/◌, ◌%◌, ◌^◌, ◌<◌, ◌≤◌, ◌⊎◌, ℕ, pos, List, length, slice_index_or}
+use Rattle.std.specs.Prelude.{◌≡◌, ◌≢◌, ◌+◌, ◌*◌, ◌/◌, ◌%◌, ◌^◌, ◌<◌, ◌≤◌, ◌⊎◌, ℕ, pos, List, length, slice_index_or}
 use Rattle.ratio_totals.specs.declared.slots.Slot.{Slot}
 
 -- a slot without a fraction
@@ -14,10 +14,16 @@ slot_at slots k = slice_index_or slots k empty_slot
 abbrev pub IsOpenTo : ℕ → Slot → Type 0
 IsOpenTo d slot = slot.denom ≢ 0 → slot.denom ≡ d
 
--- the index where the search for d begins, in a table of this length: where d·SPREAD, modulo 2^64, is among the numbers below 2^64
--- Example: 1 in a table of 8 slots: 4, since SPREAD is 0.618 of 2^64
+-- what denominators are stretched by in a table of this length, in parts of 2^32: above 1 and below 5/4, and unlike for most lengths
+-- Example: 5360504449 for 8 slots, which is 1.248 of 2^32
+unfoldable pub factor_of : ℕ → ℕ
+factor_of length = 2 ^ 32 + 1 + length * length * 0x08fe_0b3a % 2 ^ 30
+
+-- the index where the search for d begins, in a table of this length: d is stretched modulo 2^64 and rounded down, and the index is where
+-- that number·SPREAD, modulo 2^64, is among the numbers below 2^64
+-- Example: 12 in a table of 8 slots: it is stretched to 14, and SPREAD is 0.618 of 2^64. 14·0.618 is 8.652, and 0.652·8 is 5.2: the index is 5
 unfoldable pub home_of : ℕ → ℕ → ℕ
-home_of d length = (d * 0x9e37_79b9_7f4a_7c15 % 2 ^ 64) * length / 2 ^ 64
+home_of d length = (d * factor_of length % 2 ^ 64 / 2 ^ 32 * 0x9e37_79b9_7f4a_7c15 % 2 ^ 64) * length / 2 ^ 64
 
 -- k comes before i in a search that begins at start, goes to the end, and then goes on from index 0
 -- Example: from 5 on, 6 comes before 7, and 6 and 0 come before 1

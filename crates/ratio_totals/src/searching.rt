@@ -1,6 +1,6 @@
 //! Where a denominator is in a table, or where it goes.
 ghost use Rattle.std.specs.Prelude.{◌≡◌, ◌≢◌, ◌↔◌, ◌<◌, ◌≤◌, length, IsTrue, MatchOption};
-ghost use Rattle.ratio_totals.specs.Slots.{HasNoPlaceFor, IsOpenTo, IsPlaceOf, IsTable, home_of, slot_at};
+ghost use Rattle.ratio_totals.specs.Slots.{HasNoPlaceFor, IsOpenTo, IsPlaceOf, IsTable, factor_of, home_of, slot_at};
 ghost use Rattle.ratio_totals.specs.Sums.{numerator_at};
 
 use crate::slots::{Slot, denom_at, numer_at};
@@ -8,12 +8,18 @@ use crate::slots::{Slot, denom_at, numer_at};
 /// An odd number near 2^64 divided by the golden ratio: its multiples are spread evenly.
 pub const SPREAD: u64 = 0x9e37_79b9_7f4a_7c15;
 
+/// An even number below 2^30. With it, the denominators of common use seldom collide in short tables and in tables of 2^n slots.
+pub const STRETCH: u64 = 0x08fe_0b3a;
+
 /// The place of a denominator: the slot that holds it, or else the empty slot where it goes. If all slots hold other
 /// denominators, this is `None`.
 pub fn find(slots: &[Slot], denom: u64) -> Option<usize>
     ensures { MatchOption result (HasNoPlaceFor slots.now denom) (IsPlaceOf slots.now denom) }
 {
     let start = home(denom, slots.len());
+    if start < slots.len() && is_open(slots, start, denom) {
+        return Some(start);
+    }
     'upper: for i in start..slots.len() {
         if is_open(slots, i, denom) {
             return Some(i);
@@ -46,15 +52,27 @@ fn is_open(slots: &[Slot], i: usize, denom: u64) -> bool
     ensures { IsTrue result ↔ IsOpenTo denom (slot_at slots.now i) }
 {
     let held = denom_at(slots, i);
-    held == 0 || held == denom
+    held == denom || held == 0
 }
 
 /// Where the search for a denominator begins. It is a pure function of both numbers, and at most the length.
+///
+/// Each length stretches the denominators by another factor, and then they are rounded down. So denominators with one home in tables
+/// of one length have many homes in tables of most other lengths. The numbers from 1 on stay apart, and `SPREAD` spreads them evenly.
 #[inline(always)]
 fn home(denom: u64, length: usize) -> usize
     ensures same { result ≡ home_of denom length }
     ensures within { result ≤ length }
 {
-    let spread = denom.wrapping_mul(SPREAD);
+    let stretched = denom.wrapping_mul(factor(length as u64)) / (1 << 32);
+    let spread = stretched.wrapping_mul(SPREAD);
     ((spread as u128 * length as u128) / (1 << 64)) as usize
+}
+
+/// What denominators are stretched by, in parts of 2^32.
+#[inline(always)]
+fn factor(length: u64) -> u64
+    ensures { result ≡ factor_of length }
+{
+    (1 << 32) + 1 + length.wrapping_mul(length).wrapping_mul(STRETCH) % (1 << 30)
 }

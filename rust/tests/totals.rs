@@ -225,6 +225,34 @@ fn a_table_grows_to_many_denominators() {
     assert_eq!(rest.count(), i64::from(3 * COUNT + 3));
 }
 
+/// The number whose product with this odd one is 1 modulo 2^64.
+#[cfg(feature = "std")]
+fn inverse(odd: u64) -> u64 {
+    (0..6).fold(odd, |x, _| x.wrapping_mul(2u64.wrapping_sub(odd.wrapping_mul(x))))
+}
+
+/// Both chosen lists have one home for all: the first one if the length of the table did not matter, and the second one in each table of
+/// 2^15 slots, 2^16, and so on. If they collided, they would take a thousand times as long.
+#[test]
+#[cfg(feature = "std")]
+fn chosen_denominators_take_no_longer() {
+    let [spread, factor] = [0x9e37_79b9_7f4a_7c15, (1 << 32) + 1].map(inverse);
+    let chosen: [&dyn Fn(u64) -> u64; 2] = [&|n| n.wrapping_mul(spread), &|n| ((1 << 32) + n).wrapping_mul(factor)];
+    let fastest = |denom: &dyn Fn(u64) -> u64| {
+        let fractions: Vec<_> = (1..=30_000).map(|n| of(1, denom(n))).collect();
+        let time = |_| {
+            let start = std::time::Instant::now();
+            assert_eq!(fractions.iter().sum::<Total<u64>>().count(), 30_000);
+            start.elapsed()
+        };
+        (0..5).map(time).min()
+    };
+    let plain = fastest(&|n| n).map(|time| 30 * time);
+    for denom in chosen {
+        assert!(fastest(denom) < plain);
+    }
+}
+
 /// Each type over each thread: `Total` asks nothing of the type for this.
 #[test]
 fn may_be_sent_and_shared() {

@@ -21,8 +21,11 @@ use core::ops::{AddAssign, SubAssign};
 ///
 /// A total has one slot for each denominator that it was given, and takes more memory by itself. `add` takes a few nanoseconds,
 /// and computes no greatest common divisor. Reads take longer. The time of `sum`, `mean` and `to_f64` grows with the square of the number of
-/// denominators, and that of `decimal` with the number, except beside a tie. Someone who chooses the denominators can make
-/// additions slow, but not wrong.
+/// denominators, and that of `decimal` with the number, except beside a tie.
+///
+/// Someone who chose the denominators before can hardly make additions slow. From about 1,000 slots on a table has a random length, and in a
+/// table of another length, other denominators collide. Below that, an addition takes less than a microsecond at worst. Without the feature
+/// `std` no length is random: there, additions of chosen denominators can be slow, but never wrong.
 ///
 /// ```
 /// use num_rational::{Reduced, Rounding, Total};
@@ -91,6 +94,34 @@ const FEWEST: usize = 8;
 /// The additions between two counts in a small table. A full one makes no search long.
 const SHORTEST_PAUSE: usize = 64;
 
+/// From so many slots on, a table has a random length.
+const LONG: usize = 1024;
+
+/// The slots of the table after one with so many: twice as many, or up to an eighth less. In a table of another length, other denominators
+/// collide. So nobody can choose them without the length.
+fn next_length(length: usize) -> usize {
+    let twice = (2 * length).max(FEWEST);
+    if twice < LONG {
+        twice
+    } else {
+        twice - by_chance(twice / 8)
+    }
+}
+
+/// A random number below the bound.
+#[cfg(feature = "std")]
+fn by_chance(bound: usize) -> usize {
+    use core::hash::{BuildHasher, Hasher};
+    let random = std::collections::hash_map::RandomState::new().build_hasher().finish();
+    (random % bound as u64) as usize
+}
+
+/// Without `std` nothing is random.
+#[cfg(not(feature = "std"))]
+fn by_chance(_bound: usize) -> usize {
+    0
+}
+
 impl<T> Total<T> {
     /// The total of no fractions. It takes no memory before the first addition.
     ///
@@ -140,9 +171,9 @@ impl<T> Total<T> {
         self.next_count = self.tally.weight + self.pause;
     }
 
-    /// Moves the total into twice the slots.
+    /// Moves the total into about twice the slots.
     fn grow(&mut self) {
-        let mut slots = vec![Slot::EMPTY; (2 * self.slots.len()).max(FEWEST)];
+        let mut slots = vec![Slot::EMPTY; next_length(self.slots.len())];
         match self.proved().moved_to(&mut slots) {
             Ok(moved) => self.tally = moved.tally,
             Err(_) => unreachable!("these are more slots"),

@@ -317,7 +317,8 @@ uint32_t ratio_split_by_weights_i64(int64_t amount, const int64_t *weights, size
  *   if (total.code != RATIO_ANSWERED) ..         prices[total.done] did not go in
  *
  * Made all zero, as here, it is the total of no fraction. As many slots as unlike denominators are enough. With twice as many, a slot is found
- * sooner. A slot whose numerator falls to 0 stays taken. To copy a total, copy its header and its slots.
+ * sooner. Denominators that another party chose may collide in a table whose length this party knows, and then a search takes long: choose the
+ * length by chance. A slot whose numerator falls to 0 stays taken. To copy a total, copy its header and its slots.
  */
 
 /* A slot: the fraction numer/denom. It is empty if denom is 0. */
@@ -342,7 +343,9 @@ typedef struct { uint32_t code; uint64_t done; int64_t count; } ratio_total_i64;
  *   ratio_total_merge_i64      the slots of another total go into it, as those of workers. An empty slot is done and changes nothing.
  *                              Once all are done, that total's count is added. If `done` is `asked_len` and the code is
  *                              RATIO_NOT_HELD, only the count did not fit
- *   ratio_total_unmerge_i64    the slots of another total go out of it, and once all are done, so does that total's count
+ *   ratio_total_unmerge_i64    a slot with the numerator -2^127 cannot go out, unless it is empty: the code is RATIO_NOT_HELD, though the
+ *                              difference may fit. The other slots of another total go out of it, and once all are done, so does that
+ *                              total's count
  *
  * For more slots, merge the total into slots that are all zero, with a header that is all zero: that moves it. Then go on there. To merge a
  * total into itself, merge a copy of its slots.

@@ -87,7 +87,7 @@ CALL(ratio_combine)
 		State	   *other = (State *) PG_GETARG_POINTER(1);
 
 		settle(other);
-		pour_in_order(state, slots_of(other), pack(slots_of(other), slots_of(other), other->length), other->count);
+		pour_in_whole(state, slots_of(other), pack(slots_of(other), slots_of(other), other->length), other->count);
 		state->totals += other->totals;
 	}
 	PG_RETURN_POINTER(state);
@@ -130,7 +130,7 @@ CALL(ratio_deserialize)
 	size = bytes.len - bytes.cursor;
 	slots = palloc(size);
 	pq_copymsgbytes(&bytes, (char *) slots, size);
-	pour_in_order(state, slots, size / sizeof(*slots), count);
+	pour_in_whole(state, slots, size / sizeof(*slots), count);
 	pfree(slots);
 	pfree(bytes.data);
 	PG_RETURN_POINTER(state);

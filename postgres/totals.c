@@ -1,11 +1,13 @@
 /* Totals that grow: fractions go in and out of slots, one for each denominator. The library adds; this file finds the memory. */
 #include "totals.h"
 
+#include "common/pg_prng.h"
 #include "miscadmin.h"
 #include "utils/memutils.h"
 
-/* So many slots at a time take a few milliseconds. Between them, a long work looks for interrupts. So few are no crowd: see below. */
-enum { PIECE = 1 << 16, CROWD = 64 };
+/* So many slots at a time take a few milliseconds. Between them, a long work looks for interrupts. So few slots go in without a look at the room.
+ * From so many slots on, a table has a random length. */
+enum { PIECE = 1 << 16, HANDFUL = 64, LONG = 1000 };
 
 typedef uint32_t Put(const ratio_i64 *, size_t, ratio_total_i64 *, size_t, ratio_slot_i64 *, size_t);
 typedef uint32_t Pour(const ratio_slot_i64 *, size_t, int64_t, ratio_total_i64 *, size_t, ratio_slot_i64 *, size_t);
@@ -58,17 +60,22 @@ limit_of(size_t length)
 	return length - length / 4;
 }
 
-/* Tables have 5, 10, 21, 42, .. slots: as many as fit 128, 256, 512, .. bytes, since PostgreSQL rounds memory up to these. */
+/* Tables have 5, 10, 21, 42, .. slots: as many as fit 128, 256, 512, .. bytes, since PostgreSQL rounds memory up to these. A long one has up to
+ * an eighth less, by chance: in a table of another length, other denominators collide, so nobody can choose rows that make it slow. */
 static size_t
 length_for(size_t many)
 {
-	size_t		bytes = 128;
+	size_t		bytes = 128,
+				length;
 
 	while ((bytes - sizeof(Table)) / sizeof(ratio_slot_i64) < 2 * many)
 		bytes *= 2;
 	if (bytes / sizeof(ratio_slot_i64) > PG_UINT32_MAX)
 		ereport(ERROR, errcode(ERRCODE_PROGRAM_LIMIT_EXCEEDED), errmsg("a total has too many denominators"));
-	return (bytes - sizeof(Table)) / sizeof(ratio_slot_i64);
+	length = (bytes - sizeof(Table)) / sizeof(ratio_slot_i64);
+	if (length < LONG)
+		return length;
+	return length - pg_prng_uint64_range(&pg_global_prng_state, 0, length / 8);
 }
 
 /* A table with these slots, which must have unlike denominators, and with so many in all. */
@@ -94,7 +101,7 @@ new_table(MemoryContext context, const ratio_slot_i64 *slots, size_t many, size_
 	return table;
 }
 
-/* Moves the slots that are not 0 to a table, which they and so many more fill at most by half. */
+/* Moves the slots that are not 0 to a table, which they and so many more fill by half, or a little more. */
 static pg_noinline void
 move(State *state, size_t more)
 {
@@ -223,12 +230,11 @@ pour_in(State *state, const ratio_slot_i64 *slots, size_t many, int64 count)
 	pour(state, ratio_total_merge_i64, slots, many, count);
 }
 
-/* In the order of a table, many slots would crowd the start of one that is too short for all of them. Then each takes longer than the one before,
- * so there is room for all of them first. */
+/* As if no denominator were in both, there is room for all of them first. Growth on the way would take longer. */
 void
-pour_in_order(State *state, const ratio_slot_i64 *slots, size_t many, int64 count)
+pour_in_whole(State *state, const ratio_slot_i64 *slots, size_t many, int64 count)
 {
-	if (many > CROWD && limit_of(state->length) < state->length - count_free(slots_of(state), state->length) + many)
+	if (many > HANDFUL && limit_of(state->length) < state->length - count_free(slots_of(state), state->length) + many)
 		move(state, many);
 	pour_in(state, slots, many, count);
 }

@@ -62,9 +62,9 @@ extern void settle(State *state);
 /* A fraction goes out. */
 extern void take_out(State *state, const Ratio *value);
 
-/* The slots of another total go in, or out. If they are in the order of a table, they go in by `pour_in_order`. */
+/* The slots of another total go in, or out. Those of a worker go in by `pour_in_whole`. */
 extern void pour_in(State *state, const ratio_slot_i64 *slots, size_t many, int64 count);
-extern void pour_in_order(State *state, const ratio_slot_i64 *slots, size_t many, int64 count);
+extern void pour_in_whole(State *state, const ratio_slot_i64 *slots, size_t many, int64 count);
 extern void pour_out(State *state, const ratio_slot_i64 *slots, size_t many, int64 count);
 
 /* Copies the slots that are not 0, and says how many they are. */

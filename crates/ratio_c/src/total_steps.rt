@@ -42,7 +42,7 @@ pub extern "C" fn ratio_total_merge_i64(
     pour(Way::In, asked, count, total, slots)
 }
 
-/// The slots and the count of another total go out of the total.
+/// The slots and the count of another total go out of the total. A slot with the numerator -2^127 cannot go out, unless it is empty.
 #[unsafe(no_mangle)]
 pub extern "C" fn ratio_total_unmerge_i64(
     asked: &[Slot],

@@ -11,6 +11,9 @@ use crate::proved::ratio_totals::steps::put;
 use crate::proved::ratio_totals::tally::Tally;
 
 /// A total of fractions, in slots that the caller gives. Each denominator has one slot.
+///
+/// Denominators that someone chose may collide in a table whose number of slots he knew. So a caller who takes denominators from others
+/// chooses that number by chance, such as from twice the denominators up to an eighth more.
 pub struct Total<'a> {
     pub slots: &'a mut [Slot],
     pub tally: Tally,

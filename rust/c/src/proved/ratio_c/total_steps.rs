@@ -35,7 +35,7 @@ pub unsafe extern "C" fn ratio_total_merge_i64(asked: *const Slot, asked_len: us
     pour(Way::In, asked, count, total, slots)
 }
 
-/// The slots and the count of another total go out of the total.
+/// The slots and the count of another total go out of the total. A slot with the numerator -2^127 cannot go out, unless it is empty.
 #[no_mangle]
 pub unsafe extern "C" fn ratio_total_unmerge_i64(asked: *const Slot, asked_len: usize, count: i64, total: *mut Total64, total_len: usize, slots: *mut Slot, slots_len: usize) -> u32 {
     // SAFETY: the header says what the caller owes for each pointer and its length.

@@ -7,3 +7,5 @@ pub mod DenominatorLemmas
 pub mod RoundingLemmas
 pub mod DotLemmas
 pub mod ListSumLemmas
+pub mod WideNumberLemmas
+pub mod WideTotalLemmas

@@ -5,3 +5,4 @@ pub mod Products
 pub mod Values
 pub mod Rounding
 pub mod Dots
+pub mod WideTotals

@@ -2,12 +2,14 @@
 use Rattle.std.specs.Prelude.{◌*◌, ◌⊎◌, ◌<ℤ◌, ◌≤ℤ◌, ℕ, ℤ, neg_ℤ, pos, unsigned_abs, Option, Some, None, List, [], ◌∷◌}
 use Rattle.ratio_integer.specs.Fraction.{Fits, IsHeldLowest}
 use Rattle.ratio_totals.specs.Common.{above_zero}
+use Rattle.ratio_totals.specs.Joined.{joined_pair}
 use Rattle.ratio_totals.specs.Sums.{SameSum, pair_sum, sum_of_slots}
 use Rattle.ratio_totals.specs.declared.slots.Slot.{Slot}
 use Rattle.num_rational.specs.declared.reduced.Reduced.{Reduced}
 use Rattle.num_rational.specs.Ratio.{ChecksRatio, denominator, numerator}
 use Rattle.num_rational.specs.Reduced.{ratio_in, ratio_of}
 use Rattle.fraction_totals.specs.declared.total.Total.{Total}
+use Rattle.fraction_totals.specs.declared.wide_total.WideTotal.{WideTotal}
 
 -- the numerator of a fraction, and its denominator as a natural number
 -- Example: -1/2: -1 and 2
@@ -22,6 +24,11 @@ slots_of total = total.table.slots.now
 -- Example: 1/36, 1/28: 64/1008
 abbrev pub value_of : {T : Type 0} → Total T → ℤ × ℕ
 value_of total = sum_of_slots total.table.slots.now
+
+-- the sum of the fractions in a wide total over their common denominator
+-- Example: 1/36, 1/28: 16/252
+abbrev pub wide_value_of : {T : Type 0} → WideTotal T → ℤ × ℕ
+wide_value_of total = joined_pair total.joined.digits total.room.now
 
 -- the pair with the sign of its numerator turned
 -- Example: 1/2: -1/2

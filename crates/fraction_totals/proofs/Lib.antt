@@ -9,3 +9,4 @@ pub mod DotLemmas
 pub mod ListSumLemmas
 pub mod WideNumberLemmas
 pub mod WideTotalLemmas
+pub mod WideSumLemmas

@@ -26,7 +26,7 @@ sum_of_none p =
     let denom : p.1 * 1 ≡ p.1 = omega arith in
     ap (λ (x : ℤ). (x, p.1 * 1)) numer ∙ ap (λ (y : ℕ). (p.0, y)) denom
 
-none_and : (p : ℤ × ℕ) → pair_sum (pos 0, 1) p ≡ p
+pub none_and : (p : ℤ × ℕ) → pair_sum (pos 0, 1) p ≡ p
 none_and p = sum_turned (pos 0, 1) p ∙ sum_of_none p
 
 -- if x and y have the same value, so have old + x and old + y

@@ -6,3 +6,4 @@ pub mod Values
 pub mod Rounding
 pub mod Dots
 pub mod WideTotals
+pub mod WideSums

@@ -25,6 +25,7 @@ mod wide_copy;
 mod wide_joining;
 mod wide_numbers;
 mod wide_reads;
+mod wide_sums;
 mod wide_total;
 mod wide_views;
 
@@ -38,4 +39,5 @@ pub use sums::{SumRefusal, checked_sum_in};
 pub use total::Total;
 pub use wide_copy::ShortRoom;
 pub use wide_joining::WideRefusal;
+pub use wide_sums::{checked_wide_sum_in, wide_total_of};
 pub use wide_total::WideTotal;

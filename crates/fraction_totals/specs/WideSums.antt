@@ -8,11 +8,11 @@ use Rattle.fraction_totals.specs.WideTotals.{HasTotalRoom}
 use Rattle.fraction_totals.specs.declared.wide_joining.WideRefusal.{WideRefusal}
 use Rattle.fraction_totals.specs.declared.wide_joining.WideRefusal.TheVariants.{MoreDigits, MoreRoom, TooMany}
 
--- the room has place for a total with so many digits for its common denominator, and there are 8 spare digits for each of these and 9 more
--- Example: 2 digits, a room of 14 and 25 spare digits
+-- the room has place for a total with so many digits for its common denominator, and there are 8 spare digits for each of these and 6 more
+-- Example: 2 digits, a room of 14 and 22 spare digits
 pub record HasSumRoom (digits room spare : ℕ) : Type 0 where
   pub total : HasTotalRoom digits room
-  pub spare_room : 8 * digits + 9 ≤ spare
+  pub spare_room : 8 * digits + 6 ≤ spare
 
 -- why the sum of the items was not computed: the room or the spare digits are not enough, the items are more than 2^63 - 1, or their common
 -- denominator needs more digits

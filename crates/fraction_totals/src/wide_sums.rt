@@ -19,7 +19,7 @@ use ratio_totals::MOST_DIGITS;
 /// (2^127 - 1)/1 + 1/1 - 1/1 is (2^127 - 1)/1.
 ///
 /// It is refused with `MoreRoom` exactly if `digits` is below 2 or above `MOST_DIGITS`, the room has fewer than `4 * digits + 6`
-/// digits, or the spare digits are fewer than `8 * digits + 9`. `sum` needs no more than these. They may have anything afterwards.
+/// digits, or the spare digits are fewer than `8 * digits + 6`. `sum` needs no more than these. They may have anything afterwards.
 pub fn wide_total_of<'a, T: Primitive>(
     items: &[Reduced<T>],
     digits: usize,
@@ -36,7 +36,7 @@ pub fn wide_total_of<'a, T: Primitive>(
     ensures short { OnOk result (HasShortCommon (table_of pair_of items.now) (base ^ digits)) }
     ensures refused { IfErr result (IsWideSumRefusedFor pair_of items.now digits (length room.old) (length spare.old)) }
 {
-    if digits > MOST_DIGITS || spare.len() < 8 * digits + 9 {
+    if digits > MOST_DIGITS || spare.len() < 8 * digits + 6 {
         return Err(WideRefusal::MoreRoom);
     }
     let Some(mut total) = WideTotal::new(digits, room) else {

@@ -19,12 +19,24 @@ mod rounding;
 mod short;
 mod sums;
 mod total;
+mod wide_changes;
+mod wide_copy;
+mod wide_joining;
+mod wide_numbers;
+mod wide_reads;
+mod wide_sums;
+mod wide_total;
+mod wide_views;
 
 pub use dots::{DotRefusal, dot};
 
 pub use items::total_of;
 pub use products::ProductRefusal;
-pub use crate::proved::ratio_totals::{CompareRefusal, ReadRefusal, Refusal, Slot};
+pub use crate::proved::ratio_totals::{CompareRefusal, Joined, ReadRefusal, Refusal, Slot};
 pub use short::Short;
 pub use sums::{SumRefusal, checked_sum_in};
 pub use total::Total;
+pub use wide_copy::ShortRoom;
+pub use wide_joining::WideRefusal;
+pub use wide_sums::{checked_wide_sum_in, wide_total_of};
+pub use wide_total::WideTotal;

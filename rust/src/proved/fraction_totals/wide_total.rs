@@ -1,0 +1,41 @@
+// Erased from crates/fraction_totals/src/wide_total.rt by rust/erase: not to be edited.
+//! The struct `WideTotal`: a total of fractions over any primitive type, which loses nothing.
+
+use crate::proved::ratio_integer::Primitive;
+use crate::proved::ratio_totals::Joined;
+use core::marker::PhantomData;
+
+/// A total of fractions over any primitive type, also one of 128 bits, as one sum in a room that the caller gives. 1/36 and 1/28 are
+/// 16/252 in it: the common denominator is the least common multiple of all.
+///
+/// `joined.digits` numbers of the room are for the common denominator. `joined.done` is the weight of the total, the number of additions.
+pub struct WideTotal<'a, T> {
+    pub room: &'a mut [u64],
+    pub joined: Joined,
+    pub count: i64,
+    of: PhantomData<T>,
+}
+
+impl<'a, T: Primitive> WideTotal<'a, T> {
+    /// The total of no fractions, with so many digits for the common denominator. It is `None` exactly if `digits` is below 2 or above
+    /// `MOST_DIGITS`, or if the room has fewer than `4 * digits + 6` digits.
+    #[inline]
+    pub fn new(digits: usize, room: &'a mut [u64]) -> Option<WideTotal<'a, T>> {
+        if digits < 2 {
+            return None;
+        }
+        let joined = Joined::zero(digits, room)?;
+        Some(WideTotal {
+            room,
+            joined,
+            count: 0,
+            of: PhantomData,
+        })
+    }
+
+    /// How many fractions went in, less those that went out.
+    #[inline]
+    pub fn count(&self) -> i64 {
+        self.count
+    }
+}

@@ -16,6 +16,7 @@ mod floats;
 mod integer;
 mod list_sums;
 mod many_products;
+mod numbers;
 mod order;
 #[cfg(feature = "num-rational")]
 mod original;
@@ -25,6 +26,8 @@ mod reduced;
 mod reduced_conversions;
 mod reduced_folds;
 mod reduced_order;
+#[cfg(feature = "alloc")]
+mod room_sum;
 mod rounding;
 #[cfg(feature = "serde")]
 mod serialized;
@@ -37,7 +40,7 @@ mod total;
 
 pub use casts::CastError;
 pub use continued::{Convergents, Quotients};
-pub use integer::{Integer, UpTo64};
+pub use integer::Integer;
 pub use ratio::{Ratio, Rational, Rational32, Rational64};
 pub use reduced::{Reduced, Reduced32, Reduced64};
 pub use reduced_conversions::ReducedError;

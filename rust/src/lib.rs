@@ -48,7 +48,7 @@ mod test_support;
 ///
 /// It is a module of its own. So `use num_rational::*` beside `use num_integer::*` brings one `Integer`, that of num-integer.
 pub mod integer {
-    pub use crate::layer::{Integer, UpTo64};
+    pub use crate::layer::Integer;
 }
 
 pub use layer::{CastError, Convergents, Quotients, Ratio, Rational, Rational32, Rational64, Reduced, Reduced32, Reduced64, ReducedError};

@@ -71,20 +71,46 @@ fn steps_in_lowest_terms() {
     assert_eq!(sum(&[of(i64::MIN, 1), of(-1, 3), of(1, 3)]), or_none(Some((i64::MIN, 1))));
 }
 
-/// Over 128 bits each partial sum must fit.
+/// Each first step, or the second one, has no result over the type.
 #[test]
 fn partial_sums_of_128_bits() {
-    let ends = [of(i128::MAX, 1), of(1, 1), of(-1, 1)];
-    assert_eq!(sum(&ends), None);
-    assert_eq!(sum(&[ends[0], ends[2], ends[1]]), Some((i128::MAX, 1)));
+    const MOST: i128 = i128::MAX;
+    let (p, q) = ((1 << 89) - 1, (1 << 107) - 1);
+    let rows: [(&[(i128, i128)], Option<(i128, i128)>); 7] = [
+        (&[(MOST, 1), (1, 1), (-1, 1)], Some((MOST, 1))),
+        (&[(i128::MIN, 1), (-1, 3), (1, 3)], Some((i128::MIN, 1))),
+        (&[(1, p), (1, q), (-1, p)], Some((1, q))),
+        (&[(1, p), (1, q), (-1, p), (1, 2)], Some((162259276829213363391578010288129, 324518553658426726783156020576254))),
+        (&[(1, 3), (MOST, 1), (-MOST, 2), (-1, 3)], Some((MOST, 2))),
+        (&[(1, p), (1, q), (-1, q), (-1, p)], Some((0, 1))),
+        (&[(MOST, 1), (1, 3), (1, 3)], None),
+    ];
+    for (items, answer) in rows {
+        let items: Vec<_> = items.iter().map(|(numer, denom)| of(*numer, *denom)).collect();
+        assert_eq!((sum(&items), folded(&items)), (or_none(answer), None), "{items:?}");
+    }
+    let plain = [of(10i128.pow(38), 140567567005950441), of(1000, 1), of(23191389, 7)];
+    assert_eq!(sum(&plain), Some((100000000000000465848728598229092148507, 140567567005950441)));
+    assert_eq!(sum(&[of(MOST, 1), of(-1, 1), of(1, 1)]), Some((MOST, 1)));
     assert_eq!(sum(&[of(u128::MAX, 2), of(1, 2)]), Some((1 << 127, 1)));
+}
+
+/// Without numbers below 0, a sum may have shorter terms than a partial one.
+#[test]
+fn partial_sums_without_a_sign() {
+    let thirds = [464227514736600367551753145u128, 928455029470403577522428935, 154742504911578531943678927].map(|denom| of(1, denom));
+    assert_eq!((sum(&thirds), folded(&thirds)), (or_none(Some((9, 928455029470403577522428935))), None));
+    let above = [of(u128::MAX, 3), of(1, u128::MAX), of(u128::MAX - 1, u128::MAX)];
+    assert_eq!((sum(&above), folded(&above)), (or_none(Some((113427455640312821154458202477256070486, 1))), None));
+    assert_eq!(sum(&[of(u128::MAX, 1), of(1, u128::MAX)]), None);
 }
 
 /// The sum by fractions of big integers, if it fits.
 fn exact<T: Integer>(items: &[Reduced<T>]) -> Fields<T> {
-    let whole = |number: &T| BigRational::from_i64(number.to_i64().unwrap()).unwrap();
+    let whole = |n: &T| n.to_i128().and_then(BigRational::from_i128).or_else(|| BigRational::from_u128(n.to_u128()?)).unwrap();
     let sum: BigRational = items.iter().map(|x| whole(x.numer()) / whole(x.denom())).sum();
-    Some((T::from(sum.numer().to_i64()?)?, T::from(sum.denom().to_i64()?)?))
+    let number = |n: Option<i128>, m: Option<u128>| n.and_then(T::from).or_else(|| T::from(m?));
+    Some((number(sum.numer().to_i128(), sum.numer().to_u128())?, number(sum.denom().to_i128(), sum.denom().to_u128())?))
 }
 
 /// Optimized runs compare a million lists.
@@ -133,5 +159,14 @@ fn random_lists_of_64_bits() {
     compare_random(LISTS / 10 * 3, |numbers| {
         let most = [6, 1_000, 1 << 40][numbers.below(3) as usize];
         of(numbers.word() as i64 >> numbers.below(8), 1 + numbers.below(most) as i64)
+    });
+}
+
+#[test]
+fn random_lists_of_128_bits() {
+    compare_random(LISTS / 10, |numbers| {
+        let most = [6, 1_000, 1 << 40][numbers.below(3) as usize];
+        let denom = [1, (1 << 64) - 59, (1 << 85) + 1][numbers.below(3) as usize];
+        of(numbers.wide() as i128 >> numbers.below(8), (1 + numbers.below(most) as i128) * denom)
     });
 }

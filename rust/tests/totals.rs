@@ -1,10 +1,11 @@
-//! `Total`: rows, and random totals beside fractions of `i128`. The answers of the rows are from Python's `fractions`.
+//! `Total`: rows, and random totals beside fractions of `i128`. The answers of the rows are from Python's `fractions`. `wide_totals` has
+//! the totals with fractions that no slot takes.
 
 mod support;
 
-use bakhsney::integer::UpTo64;
+use bakhsney::integer::Integer;
 use bakhsney::{Reduced, Reduced64, Rounding, Total};
-use num_integer::Integer;
+use num_integer::Integer as _;
 use std::cmp::Ordering;
 use std::panic::catch_unwind;
 use support::Numbers;
@@ -12,16 +13,16 @@ use support::Numbers;
 const RULES: [Rounding; 6] =
     [Rounding::HalfEven, Rounding::HalfAway, Rounding::Down, Rounding::Up, Rounding::Floor, Rounding::Ceil];
 
-fn of<T: UpTo64>(numer: T, denom: T) -> Reduced<T> {
+fn of<T: Integer>(numer: T, denom: T) -> Reduced<T> {
     Reduced::checked_new(numer, denom).unwrap()
 }
 
 /// The fields of the sum, whose common denominator is never too long here.
-fn sum<T: UpTo64>(total: &Total<T>) -> Option<(T, T)> {
+fn sum<T: Integer>(total: &Total<T>) -> Option<(T, T)> {
     total.sum().unwrap().map(Reduced::into_raw)
 }
 
-fn mean<T: UpTo64>(total: &Total<T>) -> Option<(T, T)> {
+fn mean<T: Integer>(total: &Total<T>) -> Option<(T, T)> {
     total.mean().unwrap().map(Reduced::into_raw)
 }
 
@@ -257,7 +258,7 @@ fn chosen_denominators_take_no_longer() {
 #[test]
 fn may_be_sent_and_shared() {
     fn check<S: Send + Sync>() {}
-    fn of_each<T: UpTo64>() {
+    fn of_each<T: Integer>() {
         check::<Total<T>>();
     }
     of_each::<i64>();
@@ -288,7 +289,7 @@ fn too_many_additions_panic() {
 }
 
 /// The sum of these fractions, in lowest terms, by `i128`. The denominators are small.
-fn exact_sum<T: UpTo64>(signed: &[(bool, Reduced<T>)]) -> (i128, i128) {
+fn exact_sum<T: Integer>(signed: &[(bool, Reduced<T>)]) -> (i128, i128) {
     let fields = signed.iter().map(|(minus, x)| {
         let numer = x.numer().to_i128().unwrap();
         (if *minus { -numer } else { numer }, x.denom().to_i128().unwrap())
@@ -304,7 +305,7 @@ fn lowest(numer: i128, denom: i128) -> (i128, i128) {
 }
 
 /// The same over the type, if both fit.
-fn held<T: UpTo64>((numer, denom): (i128, i128)) -> Option<(T, T)> {
+fn held<T: Integer>((numer, denom): (i128, i128)) -> Option<(T, T)> {
     Some((T::from(numer)?, T::from(denom)?))
 }
 
@@ -323,7 +324,7 @@ fn rounded((numer, denom): (i128, i128), rule: Rounding) -> i128 {
 }
 
 /// Compares what is rounded of a total, and its order beside another one, with the same of the exact sums.
-fn compare_reads<T: UpTo64>(total: &Total<T>, exact: (i128, i128), other: (&Total<T>, (i128, i128)), numbers: &mut Numbers) {
+fn compare_reads<T: Integer>(total: &Total<T>, exact: (i128, i128), other: (&Total<T>, (i128, i128)), numbers: &mut Numbers) {
     let order = |(n, d): (i128, i128), (m, e): (i128, i128)| (n * e).cmp(&(m * d));
     assert_eq!(total.sign(), Ok(exact.0.cmp(&0)));
     assert_eq!(total.compare(other.0), Ok(order(exact, other.1)));
@@ -341,7 +342,7 @@ fn compare_reads<T: UpTo64>(total: &Total<T>, exact: (i128, i128), other: (&Tota
 }
 
 /// Compares random totals of up to 12 fractions. Of the sums, many fit the type and many do not.
-fn compare_random<T: UpTo64>(count: usize, mut fraction: impl FnMut(&mut Numbers) -> Reduced<T>) {
+fn compare_random<T: Integer>(count: usize, mut fraction: impl FnMut(&mut Numbers) -> Reduced<T>) {
     let mut numbers = Numbers(3);
     let mut fitting = 0;
     let mut before = (Total::new(), (0, 1));
@@ -403,31 +404,6 @@ fn random_dots() {
         let total = Total::dot(&left, &right).unwrap();
         assert_eq!((sum(&total), total.count()), (held(exact_sum(&products)), count), "{pairs:?}");
     }
-}
-
-/// Which products of 64 bits go in, by Python's `fractions`.
-#[test]
-fn products_of_64_bits() {
-    const TOP: i64 = i64::MAX;
-    let rows = [
-        ((TOP, 1), (2, 1), true),
-        ((TOP, 1), (3, 1), false),
-        ((1 << 62, 1), (-4, 1), false),
-        ((1, 1 << 62), (1, 2), true),
-        ((1, 1 << 62), (1, 4), false),
-        ((TOP, 2), (2, TOP), true),
-        ((TOP, 5), (-5, TOP), true),
-        ((i64::MIN, 1), (i64::MIN, 1), false),
-    ];
-    let mut total = Total::new();
-    let mut went = 0;
-    for ((n, d), (m, e), fits) in rows {
-        assert_eq!(total.add_product(of(n, d), of(m, e)).is_some(), fits, "{n}/{d} * {m}/{e}");
-        went += i64::from(fits);
-        assert_eq!(total.count(), went);
-    }
-    let great = [of(u64::MAX, 1)];
-    assert!(Total::dot(&great, &great).is_none());
 }
 
 /// The common denominator of 21,000 numbers below 2^64 is too long, but a decimal needs none. Without optimization, a read would take a

@@ -31,32 +31,6 @@ pub trait Integer:
 {
 }
 
-/// One of the ten primitive integer types of at most 64 bits: all but `i128` and `u128`. A `Total` is over one of these.
-///
-/// ```
-/// use num_rational::{integer::UpTo64, Reduced, Total};
-///
-/// fn mean<T: UpTo64>(shares: &[Reduced<T>]) -> Option<Reduced<T>> {
-///     shares.iter().sum::<Total<T>>().mean().ok()?
-/// }
-///
-/// assert_eq!(mean(&[1u8, 2].map(Reduced::from)), Reduced::checked_new(3, 2));
-/// ```
-///
-/// ```compile_fail
-/// num_rational::Total::<i128>::default().mean();
-/// ```
-// rustc 1.63 compiles a loop over `&Reduced<T>` only where it knows that `T` outlives the reference.
-pub trait UpTo64: Integer + 'static {}
-
-macro_rules! up_to_64 {
-    ($($type:ident)*) => {$(
-        impl UpTo64 for $type {}
-    )*};
-}
-
-up_to_64! { i8 i16 i32 i64 isize u8 u16 u32 u64 usize }
-
 /// What `Element` says of a type, under names that no other trait has. As a supertrait of `Integer`, it brings its names into
 /// generic code of this crate's users. So a user's own trait may have a call `of`.
 pub trait Hidden: Copy {

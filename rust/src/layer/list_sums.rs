@@ -1,20 +1,30 @@
 //! Sums of lists, where a partial sum need not fit the type.
 //!
 //! The sum so far is over one common denominator, both in 64 bits. It is put into lowest terms once, behind the last item. Where 64 bits
-//! are too few, the next step is one of `checked_add`. Where such a step does not fit the type, a `Total` takes the sum so far and the rest.
-use super::integer::{Element, Integer};
+//! are too few, the next step is one of `checked_add`. Over 128 bits, each step is. Where such a step does not fit the type, a `Total`
+//! takes the sum so far and the rest.
+use super::integer::Integer;
+#[cfg(feature = "alloc")]
+use super::numbers::Numbers;
+use super::numbers::{is_short, of_short, short};
 use super::reduced::Reduced;
 #[cfg(feature = "alloc")]
 use super::total::Total;
-use crate::proved::ratio_integer::Primitive;
 use crate::proved::ratio_totals::{add_short, short_pair};
 
 /// What `checked_sum` of a `Reduced` returns.
 #[inline]
-pub(super) fn checked_sum<T: Integer>(mut items: impl Iterator<Item = Reduced<T>>) -> Option<Reduced<T>> {
-    if <T as Element>::Proved::BITS > 64 {
-        return items.try_fold(Reduced::ZERO, |sum, item| sum.checked_add(item));
+pub(super) fn checked_sum<T: Integer>(items: impl Iterator<Item = Reduced<T>>) -> Option<Reduced<T>> {
+    if is_short::<T>() {
+        running_sum(items)
+    } else {
+        sum_in_steps(items)
     }
+}
+
+/// The sum over a type of at most 64 bits.
+#[inline]
+fn running_sum<T: Integer>(mut items: impl Iterator<Item = Reduced<T>>) -> Option<Reduced<T>> {
     let mut sum = Running::ZERO;
     while let Some(item) = items.next() {
         sum = match sum.plus(item).or_else(|| sum.plus_in_lowest_terms(item)) {
@@ -25,17 +35,28 @@ pub(super) fn checked_sum<T: Integer>(mut items: impl Iterator<Item = Reduced<T>
     sum.lowest()
 }
 
+/// The sum over `i128` or `u128`. Each step is one of `checked_add`.
+#[inline]
+fn sum_in_steps<T: Integer>(mut items: impl Iterator<Item = Reduced<T>>) -> Option<Reduced<T>> {
+    let mut sum = Reduced::ZERO;
+    while let Some(item) = items.next() {
+        sum = match sum.checked_add(item) {
+            Some(next) => next,
+            None => return sum_of_rest(Running::ZERO, sum, core::iter::once(item).chain(items)),
+        };
+    }
+    Some(sum)
+}
+
 /// The sum so far and the other items, of which the first one is at hand.
 #[cfg(feature = "alloc")]
 #[cold]
 fn sum_of_rest<T: Integer>(sum: Running, item: Reduced<T>, items: impl Iterator<Item = Reduced<T>>) -> Option<Reduced<T>> {
     let mut total = Total::<T>::new();
-    total.add_numbers(sum.numer, sum.common);
-    for item in core::iter::once(item).chain(items) {
-        let (numer, denom) = numbers(item);
-        total.add_numbers(numer, denom);
-    }
-    in_type(total.sum_numbers().ok()??)
+    total.add_numbers(Numbers::Short(sum.numer, sum.common));
+    total.add(item);
+    total.extend(items);
+    total.sum().ok()?
 }
 
 /// A step does not fit, and there is no memory for a total.
@@ -61,7 +82,7 @@ impl Running {
     /// The sum and one more fraction, over the common denominator of both. `None` if 64 bits are too few for it.
     #[inline]
     fn plus<T: Integer>(self, item: Reduced<T>) -> Option<Running> {
-        let (numer, denom) = numbers(item);
+        let (numer, denom) = short(item);
         let (numer, common) = add_short(self.numer, self.common.into(), numer, denom)?;
         Running::of(numer, common.try_into().ok()?)
     }
@@ -69,7 +90,7 @@ impl Running {
     /// The same in lowest terms. `None` if a sum does not fit the type.
     #[cold]
     fn plus_in_lowest_terms<T: Integer>(self, item: Reduced<T>) -> Option<Running> {
-        let (numer, common) = numbers(self.lowest::<T>()?.checked_add(item)?);
+        let (numer, common) = short(self.lowest::<T>()?.checked_add(item)?);
         Running::of(numer, common)
     }
 
@@ -85,22 +106,6 @@ impl Running {
     /// The sum in lowest terms. `None` if they do not fit the type.
     #[inline]
     fn lowest<T: Integer>(self) -> Option<Reduced<T>> {
-        in_type(short_pair(self.numer, self.common.into())?)
+        of_short(short_pair(self.numer, self.common.into())?)
     }
-}
-
-/// The two numbers of a fraction over a type of at most 64 bits, as the proved calls take them.
-#[inline]
-fn numbers<T: Integer>(fraction: Reduced<T>) -> (i128, u64) {
-    let (numer, denom) = fraction.into_raw();
-    match (numer.to_i128(), denom.to_u64()) {
-        (Some(numer), Some(denom)) => (numer, denom),
-        _ => unreachable!("the type has at most 64 bits, and the denominator is above 0"),
-    }
-}
-
-/// The fraction of these numbers in lowest terms. `None` if one does not fit the type.
-#[inline]
-fn in_type<T: Integer>((numer, denom): (i128, u64)) -> Option<Reduced<T>> {
-    Reduced::checked_new(T::from(numer)?, T::from(denom)?)
 }

@@ -2,11 +2,14 @@
 //!
 //! The proved total works in slots that its caller gives, with one slot for each denominator. Here the slots are in a `Vec`. The
 //! proved calls require a denominator above 0 and a numerator below 2^64 in magnitude. Each `Reduced` of at most 64 bits has these.
-use super::integer::UpTo64;
+//! All other fractions go into one `RoomSum`.
+use super::integer::Integer;
+use super::numbers::{is_short, of_short, of_wide, signed, Numbers};
 use super::reduced::Reduced;
+use super::room_sum::{text_from, RoomSum};
 use crate::proved::ratio_decimal::rounding_rule::Rounding;
 use crate::proved::ratio_totals as proved;
-use crate::proved::ratio_totals::{OrderRefusal, ReadRefusal, Refusal, Slot, Tally};
+use crate::proved::ratio_totals::{Joined, NoSum, OrderRefusal, ReadRefusal, Refusal, Slot, Tally, WideFraction};
 use alloc::string::String;
 use alloc::vec;
 use alloc::vec::Vec;
@@ -64,6 +67,8 @@ pub struct Total<T> {
     pause: u64,
     /// The weight at which the next count comes.
     next_count: u64,
+    /// The sum of the fractions that no slot takes.
+    wide: RoomSum,
     of: PhantomData<fn() -> T>,
 }
 
@@ -77,7 +82,7 @@ pub struct Total<T> {
 /// assert_eq!(sum, Ok(Some(Reduced::ZERO)));
 /// ```
 #[derive(Clone, Copy, Debug, PartialEq, Eq)]
-pub struct TooLong(());
+pub struct TooLong(pub(super) ());
 
 impl fmt::Display for TooLong {
     fn fmt(&self, f: &mut fmt::Formatter<'_>) -> fmt::Result {
@@ -132,7 +137,7 @@ impl<T> Total<T> {
     /// ```
     #[inline]
     pub const fn new() -> Total<T> {
-        Total { slots: Vec::new(), tally: Tally { weight: 0, count: 0 }, empty: 0, pause: 0, next_count: 0, of: PhantomData }
+        Total { slots: Vec::new(), tally: Tally { weight: 0, count: 0 }, empty: 0, pause: 0, next_count: 0, wide: RoomSum::EMPTY, of: PhantomData }
     }
 
     /// How many fractions went in, less those that went out.
@@ -182,22 +187,28 @@ impl<T> Total<T> {
         self.slots = slots;
     }
 
-    /// Adds the fraction `numer/denom`. The denominator is above 0, and the numerator below 2^64 without its sign.
-    #[inline]
+    /// Adds the fraction of these numbers.
+    // A call with the numbers in memory would take a fifth longer. So would one of `put`.
+    #[inline(always)]
     #[track_caller]
-    pub(super) fn add_numbers(&mut self, numer: i128, denom: u64) {
-        self.put(numer, denom, |total, numer, denom| total.add(numer, denom));
+    pub(super) fn add_numbers(&mut self, fraction: Numbers) {
+        self.put(fraction, false, |total, numer, denom| total.add(numer, denom));
     }
 
-    /// The sum in lowest terms, or `None` if one of them is 2^64 or more, the numerator without its sign.
-    pub(super) fn sum_numbers(&self) -> Result<Option<(i128, u64)>, TooLong> {
-        self.read_numbers(proved::sum_of)
+    /// Adds a fraction, or takes it out, as `step` does where a slot takes it.
+    #[inline(always)]
+    #[track_caller]
+    fn put(&mut self, fraction: Numbers, out: bool, step: impl Fn(&mut proved::Total<'_>, i128, u64) -> Result<(), Refusal>) {
+        match fraction {
+            Numbers::Short(numer, denom) => self.put_short(numer, denom, step),
+            Numbers::Wide(fraction) => self.put_wide(fraction, out),
+        }
     }
 
     /// Takes one step of the proved total, and more slots where it needs them.
     #[inline]
     #[track_caller]
-    fn put(&mut self, numer: i128, denom: u64, step: impl Fn(&mut proved::Total<'_>, i128, u64) -> Result<(), Refusal>) {
+    fn put_short(&mut self, numer: i128, denom: u64, step: impl Fn(&mut proved::Total<'_>, i128, u64) -> Result<(), Refusal>) {
         if self.tally.weight >= self.next_count {
             self.count_empty();
         }
@@ -214,14 +225,33 @@ impl<T> Total<T> {
         }
     }
 
-    /// Calls `read` with room for its digits.
-    fn read_numbers(&self, read: impl FnOnce(&[Slot], &mut [u64]) -> Result<Option<(i128, u64)>, ReadRefusal>) -> Result<Option<(i128, u64)>, TooLong> {
-        let mut room = vec![0; proved::digits_of_read(&self.slots)];
-        read(&self.slots, &mut room).map_err(refused)
+    /// Adds a fraction that no slot takes, or takes it out.
+    #[inline(never)]
+    #[track_caller]
+    fn put_wide(&mut self, fraction: WideFraction, out: bool) {
+        if self.tally.weight == proved::MOST_WEIGHT || !self.wide.takes(1) {
+            refuse_more();
+        }
+        self.wide.put(fraction, out);
+        self.tally.weight += 1;
+        self.tally.count += if out { -1 } else { 1 };
+    }
+
+    /// Takes this sum in place of the fractions that no slot takes.
+    #[cfg(test)]
+    pub(super) fn hold(&mut self, sum: RoomSum) {
+        self.wide = sum;
+    }
+
+    /// The sum of all fractions, in a room.
+    fn in_room(&self) -> RoomSum {
+        let mut sum = RoomSum::of_slots(&self.slots);
+        sum.put_all(&self.wide, false);
+        sum
     }
 }
 
-impl<T: UpTo64> Total<T> {
+impl<T: Integer> Total<T> {
     /// Adds the fraction. `+=` does the same.
     ///
     /// # Panics
@@ -239,8 +269,7 @@ impl<T: UpTo64> Total<T> {
     #[inline]
     #[track_caller]
     pub fn add(&mut self, fraction: Reduced<T>) {
-        let (numer, denom) = fields(fraction);
-        self.add_numbers(numer, denom);
+        self.add_numbers(Numbers::of(fraction));
     }
 
     /// Takes the fraction out again, whether it was added or not. `-=` does the same.
@@ -260,38 +289,32 @@ impl<T: UpTo64> Total<T> {
     #[inline]
     #[track_caller]
     pub fn subtract(&mut self, fraction: Reduced<T>) {
-        let (numer, denom) = fields(fraction);
-        self.put(numer, denom, |total, numer, denom| total.subtract(numer, denom));
+        self.put(Numbers::of(fraction), true, |total, numer, denom| total.subtract(numer, denom));
     }
 
-    /// Adds the product of two fractions, which need not fit the type. It is `None`, and nothing has changed, if one of the product's
-    /// lowest terms is 2^64 or more, the numerator without its sign. Over a type of at most 32 bits, no product is so great. It is also
-    /// `None` where `add` panics: if the total has had 2^63-1 additions.
+    /// Adds the product of two fractions, which need not fit the type. It is `None`, and nothing has changed, where `add` panics: if
+    /// the total has had 2^63-1 additions. Over `i128` and `u128`, it is also `None` if one of the product's lowest terms is 2^128 or
+    /// more, the numerator without its sign. Over a type of at most 64 bits, no product is so great.
     ///
     /// ```
     /// use num_rational::{Reduced, Total};
     ///
     /// let mut total = Total::new();
-    /// assert_eq!(total.add_product(100i8.into(), 100.into()), Some(()));
-    /// assert_eq!(total.add_product((-100).into(), 99.into()), Some(()));
-    /// assert_eq!(total.sum(), Ok(Some(100.into())));
+    /// assert_eq!(total.add_product(i64::MAX.into(), i64::MAX.into()), Some(()));
+    /// assert_eq!(total.sum(), Ok(None));
+    /// assert_eq!(total.add_product((-i64::MAX).into(), (i64::MAX - 1).into()), Some(()));
+    /// assert_eq!(total.sum(), Ok(Some(i64::MAX.into())));
     /// ```
     pub fn add_product(&mut self, left: Reduced<T>, right: Reduced<T>) -> Option<()> {
-        if self.tally.weight == proved::MOST_WEIGHT {
+        if self.tally.weight == proved::MOST_WEIGHT || !self.wide.takes(1) {
             return None;
         }
-        // If the lowest terms do not fit `i128`, one of them is 2^64 or more.
-        let (numer, denom) = wide(left).checked_mul(wide(right))?.into_raw();
-        if numer.unsigned_abs() > u64::MAX.into() {
-            return None;
-        }
-        let denom = u64::try_from(denom).ok()?;
-        self.add_numbers(numer, denom);
+        self.add_numbers(Numbers::of_product(left, right)?);
         Some(())
     }
 
-    /// The total of the products of two lists, item by item. It is `None` if the lists have different lengths, or if `add_product`
-    /// refuses a product.
+    /// The total of the products of two lists, item by item. It is `None` if the lists have different lengths. Over `i128` and `u128`, it
+    /// is also `None` if one of the lowest terms of a product is 2^128 or more, the numerator without its sign.
     ///
     /// ```
     /// use num_rational::{Reduced64, Total};
@@ -327,7 +350,7 @@ impl<T: UpTo64> Total<T> {
     /// ```
     #[track_caller]
     pub fn merge(&mut self, other: &Total<T>) {
-        self.pour(other, |total, other| total.merge(other));
+        self.pour(other, false, |total, other| total.merge(other));
     }
 
     /// Takes out each fraction of the other total, whether it was added or not. `-=` does the same. So the difference of two totals
@@ -346,17 +369,22 @@ impl<T: UpTo64> Total<T> {
     /// ```
     #[track_caller]
     pub fn take_out(&mut self, other: &Total<T>) {
-        self.pour(other, |total, other| total.take_out(other));
+        self.pour(other, true, |total, other| total.take_out(other));
     }
 
-    /// Takes one step of the proved total with all of another one, and more slots where it needs them.
+    /// Takes one step of the proved total with all slots of another one, and more slots where it needs them. What no slot takes goes in
+    /// or out beside it.
     #[track_caller]
-    fn pour(&mut self, other: &Total<T>, step: impl Fn(&mut proved::Total<'_>, &proved::Total<'_>) -> Result<(), Refusal>) {
+    fn pour(&mut self, other: &Total<T>, out: bool, step: impl Fn(&mut proved::Total<'_>, &proved::Total<'_>) -> Result<(), Refusal>) {
+        if !self.wide.takes(other.wide.fractions()) {
+            refuse_more();
+        }
         // The proved step takes another `Total`, which borrows its slots as its own.
-        let mut other = other.clone();
+        let mut slots = other.slots.clone();
+        let other_total = proved::Total { slots: &mut slots, tally: other.tally };
         loop {
             let mut total = self.proved();
-            match step(&mut total, &other.proved()) {
+            match step(&mut total, &other_total) {
                 Ok(()) => {
                     self.tally = total.tally;
                     break;
@@ -365,6 +393,7 @@ impl<T: UpTo64> Total<T> {
                 Err(Refusal::TooMany) => refuse_more(),
             }
         }
+        self.wide.put_all(&other.wide, out);
         self.count_empty();
     }
 
@@ -386,7 +415,7 @@ impl<T: UpTo64> Total<T> {
     /// assert_eq!(total.sum(), Ok(Some(Reduced::from(127))));
     /// ```
     pub fn sum(&self) -> Result<Option<Reduced<T>>, TooLong> {
-        self.read(proved::sum_of)
+        self.read(proved::digits_of_read, proved::sum_of, Joined::wide_sum)
     }
 
     /// The mean, which is the sum divided by the count, in lowest terms. `None` if they do not fit the type, or if the count is not
@@ -405,7 +434,8 @@ impl<T: UpTo64> Total<T> {
     /// assert_eq!(Total::<i8>::new().mean(), Ok(None));
     /// ```
     pub fn mean(&self) -> Result<Option<Reduced<T>>, TooLong> {
-        self.read(|slots, room| proved::mean_of(slots, self.tally.count, room))
+        let count = self.tally.count;
+        self.read(proved::digits_of_read, |slots, room| proved::mean_of(slots, count, room), |sum, room| sum.wide_mean(count, room))
     }
 
     /// The float nearest to the sum, rounded once, whether the sum fits the type or not. If two are equally near, it is the one
@@ -423,6 +453,9 @@ impl<T: UpTo64> Total<T> {
     /// assert_eq!(total.to_f64(), Ok(7.485470860550345));
     /// ```
     pub fn to_f64(&self) -> Result<f64, TooLong> {
+        if !self.wide.is_empty() {
+            return self.in_room().read(Joined::to_f64);
+        }
         let mut room = vec![0; proved::digits_of_read(&self.slots)];
         proved::float_of(&self.slots, &mut room).map_err(refused)
     }
@@ -452,11 +485,13 @@ impl<T: UpTo64> Total<T> {
     pub fn decimal(&self, places: u32, rule: Rounding) -> Result<String, TooLong> {
         // With 32 bits for a pointer, the proved call could not count so many bytes.
         assert!(u64::from(places) <= (isize::MAX / 4) as u64, "too many places");
+        if !self.wide.is_empty() {
+            return self.in_room().decimal(places, rule);
+        }
         let mut room = vec![0; proved::decimal_digits_of(&self.slots, places)];
         let mut text = vec![0; proved::decimal_bytes_of(&self.slots, places)];
         let start = proved::put_decimal_of(&self.slots, places, rule, &mut room, &mut text).map_err(refused)?;
-        text.drain(..start);
-        Ok(String::from_utf8(text).expect("a decimal is ASCII"))
+        Ok(text_from(text, start))
     }
 
     /// The order of the sum and 0, whether the sum fits the type or not.
@@ -476,6 +511,9 @@ impl<T: UpTo64> Total<T> {
     /// assert_eq!(total.sign(), Ok(Ordering::Equal));
     /// ```
     pub fn sign(&self) -> Result<Ordering, TooLong> {
+        if !self.wide.is_empty() {
+            return self.in_room().read(Joined::sign);
+        }
         let mut room = vec![0; proved::digits_of_read(&self.slots)];
         proved::sign_of(&self.slots, &mut room).map_err(refused)
     }
@@ -498,7 +536,12 @@ impl<T: UpTo64> Total<T> {
     /// assert_eq!(thirds.compare(&whole), Ok(Ordering::Less));
     /// ```
     pub fn compare(&self, other: &Total<T>) -> Result<Ordering, TooLong> {
-        self.against(&other.slots)
+        if self.wide.is_empty() && other.wide.is_empty() {
+            return self.against(&other.slots);
+        }
+        let mut difference = self.in_room();
+        difference.put_all(&other.in_room(), true);
+        difference.read(Joined::sign)
     }
 
     /// The order of this sum and a fraction, as of what was spent and a budget.
@@ -516,11 +559,13 @@ impl<T: UpTo64> Total<T> {
     /// # Ok::<(), num_rational::TooLong>(())
     /// ```
     pub fn compare_with(&self, fraction: Reduced<T>) -> Result<Ordering, TooLong> {
-        let (numer, denom) = fields(fraction);
-        self.against(&[Slot::new(denom, numer)])
+        match Numbers::of(fraction) {
+            Numbers::Short(numer, denom) if self.wide.is_empty() => self.against(&[Slot::new(denom, numer)]),
+            _ => self.compare(&[fraction].iter().sum()),
+        }
     }
 
-    /// The order of this sum and that of the slots.
+    /// The order of this sum and that of the slots. All fractions are in slots.
     fn against(&self, others: &[Slot]) -> Result<Ordering, TooLong> {
         let mut difference = vec![Slot::EMPTY; self.slots.len() + others.len()];
         let mut room = vec![0; proved::digits_of_order(&self.slots, others)];
@@ -547,9 +592,15 @@ impl<T: UpTo64> Total<T> {
     /// assert_eq!(total.to_integer(Rounding::Ceil), Ok(Some(8)));
     /// ```
     pub fn to_integer(&self, rule: Rounding) -> Result<Option<T>, TooLong> {
-        let mut room = vec![0; proved::digits_of_read(&self.slots)];
-        let number = proved::integer_of(&self.slots, rule, &mut room).map_err(refused)?;
-        Ok(number.and_then(T::from))
+        if self.wide.is_empty() {
+            let mut room = vec![0; proved::digits_of_read(&self.slots)];
+            let number = proved::integer_of(&self.slots, rule, &mut room).map_err(refused)?;
+            if number.is_some() || is_short::<T>() {
+                return Ok(number.and_then(T::from));
+            }
+        }
+        let whole = self.in_room().read(|sum, room| sum.wide_round_to(1, rule, room))?;
+        Ok(whole.and_then(|whole| signed(whole.negative, whole.numer)))
     }
 
     /// The sum rounded once to a multiple of `1/parts` by the rule, such as cents for 100. It is `None` if the lowest terms of the
@@ -571,47 +622,36 @@ impl<T: UpTo64> Total<T> {
         if parts <= T::zero() {
             return Ok(None);
         }
-        let parts = match parts.to_u64() {
-            Some(parts) => parts,
-            None => unreachable!("the type has at most 64 bits, and the number is above 0"),
+        let parts = parts.to_u128().expect("it is above 0");
+        let of_slots = |slots: &[Slot], room: &mut [u64]| match u64::try_from(parts) {
+            Ok(parts) => proved::multiple_of(slots, parts, rule, room),
+            Err(_) => Ok(None),
         };
-        let mut room = vec![0; proved::digits_of_multiple(&self.slots)];
-        proved::multiple_of(&self.slots, parts, rule, &mut room).map(held).map_err(refused)
+        self.read(proved::digits_of_multiple, of_slots, |sum, room| sum.wide_round_to(parts, rule, room))
     }
 
-    /// Calls `read`. The numbers that it returns become a fraction, if they fit the type.
-    fn read(&self, read: impl FnOnce(&[Slot], &mut [u64]) -> Result<Option<(i128, u64)>, ReadRefusal>) -> Result<Option<Reduced<T>>, TooLong> {
-        self.read_numbers(read).map(held)
-    }
-}
-
-/// The numbers of a fraction as the proved calls take them.
-#[inline]
-fn fields<T: UpTo64>(fraction: Reduced<T>) -> (i128, u64) {
-    let (numer, denom) = fraction.into_raw();
-    match (numer.to_i128(), denom.to_u64()) {
-        (Some(numer), Some(denom)) => (numer, denom),
-        _ => unreachable!("the type has at most 64 bits, and the denominator is above 0"),
-    }
-}
-
-/// The fraction of two numbers in lowest terms, if they fit the type.
-fn held<T: UpTo64>(lowest: Option<(i128, u64)>) -> Option<Reduced<T>> {
-    let (numer, denom) = lowest?;
-    Reduced::checked_new(T::from(numer)?, T::from(denom)?)
-}
-
-/// The same fraction over `i128`.
-fn wide<T: UpTo64>(fraction: Reduced<T>) -> Reduced<i128> {
-    match fraction.cast() {
-        Some(fraction) => fraction,
-        None => unreachable!("the type has at most 64 bits"),
+    /// Calls `of_slots` with room for so many digits, and `of_room` where a fraction is in no slot, or the type has more than 64 bits
+    /// and `of_slots` has no result. The numbers that they return become a fraction, if they fit the type.
+    fn read(
+        &self,
+        digits: impl Fn(&[Slot]) -> usize,
+        of_slots: impl FnOnce(&[Slot], &mut [u64]) -> Result<Option<(i128, u64)>, ReadRefusal>,
+        of_room: impl FnOnce(Joined, &mut [u64]) -> Result<Option<WideFraction>, NoSum>,
+    ) -> Result<Option<Reduced<T>>, TooLong> {
+        if self.wide.is_empty() {
+            let mut room = vec![0; digits(&self.slots)];
+            let terms = of_slots(&self.slots, &mut room).map_err(refused)?;
+            if terms.is_some() || is_short::<T>() {
+                return Ok(terms.and_then(of_short));
+            }
+        }
+        Ok(self.in_room().read(of_room)?.and_then(of_wide))
     }
 }
 
 #[cold]
 #[track_caller]
-fn refuse_more() -> ! {
+pub(super) fn refuse_more() -> ! {
     panic!("a total of more than 2^63-1 additions")
 }
 
@@ -634,7 +674,7 @@ impl<T> fmt::Debug for Total<T> {
     }
 }
 
-impl<T: UpTo64> AddAssign<Reduced<T>> for Total<T> {
+impl<T: Integer> AddAssign<Reduced<T>> for Total<T> {
     /// # Panics
     ///
     /// If `add` panics.
@@ -645,7 +685,7 @@ impl<T: UpTo64> AddAssign<Reduced<T>> for Total<T> {
     }
 }
 
-impl<T: UpTo64> SubAssign<Reduced<T>> for Total<T> {
+impl<T: Integer> SubAssign<Reduced<T>> for Total<T> {
     /// # Panics
     ///
     /// If `subtract` panics.
@@ -656,7 +696,7 @@ impl<T: UpTo64> SubAssign<Reduced<T>> for Total<T> {
     }
 }
 
-impl<T: UpTo64> AddAssign<&Total<T>> for Total<T> {
+impl<T: Integer> AddAssign<&Total<T>> for Total<T> {
     /// # Panics
     ///
     /// If `merge` panics.
@@ -666,7 +706,7 @@ impl<T: UpTo64> AddAssign<&Total<T>> for Total<T> {
     }
 }
 
-impl<T: UpTo64> SubAssign<&Total<T>> for Total<T> {
+impl<T: Integer> SubAssign<&Total<T>> for Total<T> {
     /// # Panics
     ///
     /// If `take_out` panics.
@@ -679,7 +719,7 @@ impl<T: UpTo64> SubAssign<&Total<T>> for Total<T> {
 /// The items are added by `extend`, and make a total by `collect` and by `sum`.
 macro_rules! adds {
     ($([$($a:lifetime)?] $Item:ty: $item:ident => $fraction:expr;)*) => {$(
-        impl<$($a,)? T: UpTo64> Extend<$Item> for Total<T> {
+        impl<$($a,)? T: Integer $(+ $a)?> Extend<$Item> for Total<T> {
             /// # Panics
             ///
             /// If `add` panics.
@@ -692,7 +732,7 @@ macro_rules! adds {
             }
         }
 
-        impl<$($a,)? T: UpTo64> FromIterator<$Item> for Total<T> {
+        impl<$($a,)? T: Integer $(+ $a)?> FromIterator<$Item> for Total<T> {
             #[inline]
             fn from_iter<I: IntoIterator<Item = $Item>>(items: I) -> Total<T> {
                 let mut total = Total::new();
@@ -701,7 +741,7 @@ macro_rules! adds {
             }
         }
 
-        impl<$($a,)? T: UpTo64> Sum<$Item> for Total<T> {
+        impl<$($a,)? T: Integer $(+ $a)?> Sum<$Item> for Total<T> {
             #[inline]
             fn sum<I: Iterator<Item = $Item>>(items: I) -> Total<T> {
                 items.collect()
@@ -716,7 +756,7 @@ adds! {
 }
 
 /// The total of all parts, as threads that share the work need it.
-impl<T: UpTo64> Sum for Total<T> {
+impl<T: Integer> Sum for Total<T> {
     /// # Panics
     ///
     /// If `merge` panics.

@@ -10,6 +10,9 @@ use support::Numbers;
 
 type Fields<T> = Option<(T, T)>;
 
+/// The fields of items, and those of their sum.
+type Row = (&'static [(i128, i128)], Fields<i128>);
+
 fn of<T: Integer>(numer: T, denom: T) -> Reduced<T> {
     Reduced::checked_new(numer, denom).unwrap()
 }
@@ -75,14 +78,15 @@ fn steps_in_lowest_terms() {
 #[test]
 fn partial_sums_of_128_bits() {
     const MOST: i128 = i128::MAX;
-    let (p, q) = ((1 << 89) - 1, (1 << 107) - 1);
-    let rows: [(&[(i128, i128)], Option<(i128, i128)>); 7] = [
+    const P: i128 = (1 << 89) - 1;
+    const Q: i128 = (1 << 107) - 1;
+    let rows: [Row; 7] = [
         (&[(MOST, 1), (1, 1), (-1, 1)], Some((MOST, 1))),
         (&[(i128::MIN, 1), (-1, 3), (1, 3)], Some((i128::MIN, 1))),
-        (&[(1, p), (1, q), (-1, p)], Some((1, q))),
-        (&[(1, p), (1, q), (-1, p), (1, 2)], Some((162259276829213363391578010288129, 324518553658426726783156020576254))),
+        (&[(1, P), (1, Q), (-1, P)], Some((1, Q))),
+        (&[(1, P), (1, Q), (-1, P), (1, 2)], Some((162259276829213363391578010288129, 324518553658426726783156020576254))),
         (&[(1, 3), (MOST, 1), (-MOST, 2), (-1, 3)], Some((MOST, 2))),
-        (&[(1, p), (1, q), (-1, q), (-1, p)], Some((0, 1))),
+        (&[(1, P), (1, Q), (-1, Q), (-1, P)], Some((0, 1))),
         (&[(MOST, 1), (1, 3), (1, 3)], None),
     ];
     for (items, answer) in rows {

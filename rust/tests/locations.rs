@@ -3,6 +3,7 @@
 // The tests are about these forms. A function instead of a closure would be called through a pointer, which has no caller.
 #![allow(clippy::op_ref, clippy::redundant_closure)]
 
+use bakhsney::integer::Integer;
 use bakhsney::{Ratio, Reduced, Rounding, Total};
 use num_traits::{Inv, Num, Pow, Signed};
 use std::cell::RefCell;
@@ -47,8 +48,8 @@ fn refused() -> Fraction {
 }
 
 /// A total of 2^62 additions. Twice as many are too many.
-fn half_full() -> Total<i8> {
-    let mut total: Total<i8> = [Reduced::ONE].iter().sum();
+fn half_full<T: Integer>() -> Total<T> {
+    let mut total: Total<T> = [Reduced::ONE].iter().sum();
     for _ in 0..62 {
         total.merge(&total.clone());
     }
@@ -56,9 +57,9 @@ fn half_full() -> Total<i8> {
 }
 
 /// A total of 2^63-1 additions.
-fn full() -> Total<i8> {
+fn full<T: Integer>() -> Total<T> {
     let mut total = Total::new();
-    let mut part: Total<i8> = [Reduced::ONE].iter().sum();
+    let mut part: Total<T> = [Reduced::ONE].iter().sum();
     for _ in 0..63 {
         total.merge(&part);
         if total.count() < 1 << 62 {
@@ -159,15 +160,23 @@ const ROUNDING: &[Row] = &[
     ("decimal of no lowest terms", line!(), || done(refused().decimal(2, Rounding::Up))),
 ];
 
+/// A fraction that no slot of a total takes.
+fn wide() -> Reduced<u128> {
+    Reduced::from(1 << 64)
+}
+
 const TOTALS: &[Row] = &[
-    ("Total::add", line!(), || full().add(Reduced::ONE)),
-    ("Total::subtract", line!(), || full().subtract(Reduced::ONE)),
-    ("Total::merge", line!(), || half_full().merge(&half_full())),
-    ("+= of a total", line!(), || done({ let mut x = full(); x += Reduced::ONE; x })),
-    ("-= of a total", line!(), || done({ let mut x = full(); x -= Reduced::ONE; x })),
-    ("+= of two totals", line!(), || done({ let mut x = half_full(); x += &half_full(); x })),
-    ("extend", line!(), || full().extend([Reduced::ONE])),
-    ("extend by references", line!(), || full().extend(&[Reduced::ONE])),
+    ("Total::add", line!(), || full::<i8>().add(Reduced::ONE)),
+    ("Total::subtract", line!(), || full::<i8>().subtract(Reduced::ONE)),
+    ("Total::add, without a slot", line!(), || full().add(wide())),
+    ("Total::subtract, without a slot", line!(), || full().subtract(wide())),
+    ("extend, without a slot", line!(), || full().extend([wide()])),
+    ("Total::merge", line!(), || half_full::<i8>().merge(&half_full())),
+    ("+= of a total", line!(), || done({ let mut x = full::<i8>(); x += Reduced::ONE; x })),
+    ("-= of a total", line!(), || done({ let mut x = full::<i8>(); x -= Reduced::ONE; x })),
+    ("+= of two totals", line!(), || done({ let mut x = half_full::<i8>(); x += &half_full(); x })),
+    ("extend", line!(), || full::<i8>().extend([Reduced::ONE])),
+    ("extend by references", line!(), || full::<i8>().extend(&[Reduced::ONE])),
     ("sum of totals", line!(), || done(<Total<i8> as Sum>::sum([half_full(), half_full()].into_iter()))),
 ];
 
@@ -179,7 +188,7 @@ fn the_callers_line_is_named() {
 }
 
 /// The layer's functions that only the layer calls.
-const OWN: [&str; 6] = ["pub(super) fn ", "fn recip_of_any(", "fn refuse", "fn power<", "fn put(", "fn pour("];
+const OWN: [&str; 6] = ["pub(super) fn ", "fn recip_of_any(", "fn refuse", "fn power<", "fn put", "fn pour("];
 
 /// A call that can panic has `#[track_caller]` and says when it panics. A call that returns an `Option` never panics.
 #[test]

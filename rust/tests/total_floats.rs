@@ -2,7 +2,7 @@
 
 mod support;
 
-use bakhsney::{Reduced64, Total};
+use bakhsney::{Reduced, Reduced64, Total};
 use num_integer::Integer;
 use original::BigRational;
 use support::Numbers;
@@ -85,6 +85,24 @@ fn random_totals() {
             .collect();
         let x = total_of(&fractions).to_f64().unwrap();
         assert!(is_nearest(x, &exact_sum(&fractions)), "{fractions:?}: {x:e}");
+    }
+}
+
+/// Fractions of 128 bits that go in, and products of two that go in.
+#[test]
+fn random_wide_totals() {
+    let mut numbers = Numbers(8);
+    for _ in 0..1000 {
+        let (mut total, mut exact) = (Total::<i128>::new(), value(0));
+        for _ in 0..1 + numbers.below(5) {
+            let (numer, denom) = ((numbers.of_any_length() as i128) >> 1, (numbers.of_any_length() >> 1) as i128);
+            if let Some(x) = Reduced::checked_new(numer, denom) {
+                total.add(x);
+                exact += BigRational::new(numer.into(), denom.into());
+            }
+        }
+        let x = total.to_f64().unwrap();
+        assert!(is_nearest(x, &exact), "{exact}: {x:e}");
     }
 }
 

@@ -503,11 +503,11 @@ impl<T: Integer> Reduced<T> {
     /// The sum of the items, or `None` if its lowest terms do not fit the type. A partial sum may fit no type: over `i8`,
     /// 127/1 + 1/127 - 1/127 is 127/1.
     ///
-    /// There are three cases in which the call may be `None` though the sum fits. In each of them, some partial sum does not fit:
+    /// There are two cases in which the call may be `None` though the sum fits. In each of them, some partial sum does not fit:
     ///
-    /// - over `i128` and `u128`, if a partial sum does not fit;
     /// - without the feature `alloc`, if a partial sum does not fit. It need not be `None` there: most short lists need no memory;
-    /// - if the least common multiple of the denominators is not below 2^(2^20). With at most 16,384 different denominators it always is.
+    /// - if the least common multiple of the denominators is not below 2^(2^20). With at most 16,384 different denominators it always is,
+    ///   if one of 2^64 or more counts as two.
     ///
     /// ```
     /// use num_rational::{Reduced, Reduced64};

@@ -1,7 +1,7 @@
 //! `RoomSum`: a sum of fractions over one common denominator of any length. It takes more memory by itself.
 //!
 //! The proved sums lie in digits that their caller gives. Here these digits are in a `Vec`.
-use super::total::{refuse_more, TooLong};
+use super::total::TooLong;
 use crate::proved::ratio_decimal::rounding_rule::Rounding;
 use crate::proved::ratio_totals::{digits_of_read, AddRefusal, JoinRefusal, Joined, NoSum, Slot, WideFraction, MOST_DIGITS};
 use alloc::string::String;
@@ -104,8 +104,9 @@ impl RoomSum {
                     return;
                 }
                 Err(AddRefusal::MoreDigits) => self.grow(other.digits),
-                Err(AddRefusal::TooMany) => refuse_more(),
-                Err(AddRefusal::NoSum | AddRefusal::MoreRoom) => unreachable!("each room has a sum, and there are enough spare digits"),
+                Err(AddRefusal::NoSum | AddRefusal::MoreRoom | AddRefusal::TooMany) => {
+                    unreachable!("both rooms have sums of few fractions, and there are enough spare digits")
+                }
             }
         }
     }
@@ -187,6 +188,8 @@ mod tests {
             sum.put(WideFraction { denom: (1 << 64) + i, ..ODD }, i % 2 == 0);
         }
         assert_eq!(read(&sum), Ok(Some(ODD)));
+        sum.grow(MOST_DIGITS);
+        assert_eq!((sum.sum.digits, read(&sum)), (MOST_DIGITS, Ok(Some(ODD))));
     }
 
     /// The sum has all the digits that there may be. What has a common divisor with its denominator still goes in.
@@ -213,7 +216,7 @@ mod tests {
         let half: crate::Reduced<i128> = crate::Reduced::checked_new(1, 2).unwrap();
         let odd = crate::Reduced::checked_new(1, i128::MAX).unwrap();
         let mut long = Total::<i128>::new();
-        long.hold(with_digits(MOST_DIGITS));
+        long.wide = with_digits(MOST_DIGITS);
         assert!(long.sign().is_ok());
         let mut first = long.clone();
         first.add(odd);

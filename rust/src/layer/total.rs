@@ -20,7 +20,7 @@ use core::marker::PhantomData;
 use core::ops::{AddAssign, SubAssign};
 
 /// A total of any number of fractions. It loses nothing: each addition is exact, in any order, though a sum on the way may fit no
-/// integer type. The fractions are over an integer type of at most 64 bits. num-rational has no such type.
+/// integer type. num-rational has no such type.
 ///
 /// A total has one slot for each denominator that it was given, and takes more memory by itself. `add` takes a few nanoseconds,
 /// and computes no greatest common divisor. Reads take longer. The time of `sum`, `mean` and `to_f64` grows with the square of the number of
@@ -29,6 +29,10 @@ use core::ops::{AddAssign, SubAssign};
 /// Someone who chose the denominators before can hardly make additions slow. From about 1,000 slots on a table has a random length, and in a
 /// table of another length, other denominators collide. Below that, an addition takes less than a microsecond at worst. Without the feature
 /// `std` no length is random: there, additions of chosen denominators can be slow, but never wrong.
+///
+/// A slot takes numbers below 2^64. Fractions over `i128` and `u128` may have greater ones, and so may products. Such fractions go into one
+/// sum over their common denominator. To add one takes a third of a microsecond while they have one denominator, and as long again for
+/// each other one. With such a fraction in the total, `decimal` takes as long as `sum`: a second with a thousand of their denominators.
 ///
 /// ```
 /// use num_rational::{Reduced, Rounding, Total};
@@ -68,12 +72,12 @@ pub struct Total<T> {
     /// The weight at which the next count comes.
     next_count: u64,
     /// The sum of the fractions that no slot takes.
-    wide: RoomSum,
+    pub(super) wide: RoomSum,
     of: PhantomData<fn() -> T>,
 }
 
-/// The error of the reads of a `Total`, such as `sum`: the least common multiple of the denominators is not below 2^(2^20).
-/// Even then `decimal` mostly has a result.
+/// The error of the reads of a `Total`, such as `sum`: the least common multiple of the denominators that it was given is not below
+/// 2^(2^20). Even then `decimal` mostly has a result.
 ///
 /// ```
 /// use num_rational::{Reduced, TooLong, Total};
@@ -237,12 +241,6 @@ impl<T> Total<T> {
         self.tally.count += if out { -1 } else { 1 };
     }
 
-    /// Takes this sum in place of the fractions that no slot takes.
-    #[cfg(test)]
-    pub(super) fn hold(&mut self, sum: RoomSum) {
-        self.wide = sum;
-    }
-
     /// The sum of all fractions, in a room.
     fn in_room(&self) -> RoomSum {
         let mut sum = RoomSum::of_slots(&self.slots);
@@ -256,7 +254,8 @@ impl<T: Integer> Total<T> {
     ///
     /// # Panics
     ///
-    /// If the total has had 2^63-1 additions. Only merges of merged totals get there.
+    /// If the total has had 2^63-1 additions. Only merges of merged totals get there. Where a pointer has 32 bits, also if 2^30-1
+    /// fractions with a number of 2^64 or more have come before such a fraction.
     ///
     /// ```
     /// use num_rational::{Reduced, Total};
@@ -292,9 +291,9 @@ impl<T: Integer> Total<T> {
         self.put(Numbers::of(fraction), true, |total, numer, denom| total.subtract(numer, denom));
     }
 
-    /// Adds the product of two fractions, which need not fit the type. It is `None`, and nothing has changed, where `add` panics: if
-    /// the total has had 2^63-1 additions. Over `i128` and `u128`, it is also `None` if one of the product's lowest terms is 2^128 or
-    /// more, the numerator without its sign. Over a type of at most 64 bits, no product is so great.
+    /// Adds the product of two fractions, which need not fit the type. Over `i128` and `u128`, it is `None`, and nothing has changed, if
+    /// one of the product's lowest terms is 2^128 or more, the numerator without its sign. Over a type of at most 64 bits, no product is
+    /// so great. It is also `None` where `add` panics: if the total has had 2^63-1 additions.
     ///
     /// ```
     /// use num_rational::{Reduced, Total};
@@ -402,7 +401,7 @@ impl<T: Integer> Total<T> {
     /// # Errors
     ///
     /// `TooLong` if the least common multiple of the denominators is not below 2^(2^20). With at most 16,384 different denominators
-    /// it always is.
+    /// it always is, if one of 2^64 or more counts as two.
     ///
     /// ```
     /// use num_rational::{Reduced, Total};
@@ -464,11 +463,12 @@ impl<T: Integer> Total<T> {
     /// many digits behind the point, and without places no point. A sum that is rounded to 0 has no minus.
     ///
     /// Over many denominators, this takes one pass over them. It takes as long as `sum` only if the sum is a number where the
-    /// rule's result changes, such as a tie, or lies within 1/2^64 of the last place of one.
+    /// rule's result changes, such as a tie, or lies within 1/2^64 of the last place of one, or if a fraction with a number of 2^64 or
+    /// more went in or out.
     ///
     /// # Errors
     ///
-    /// `TooLong` where `sum` returns it, but only beside such a number, or with more than 150,000 places.
+    /// `TooLong` where `sum` returns it, but only beside such a number, after such a fraction, or with more than 150,000 places.
     ///
     /// # Panics
     ///
@@ -595,9 +595,7 @@ impl<T: Integer> Total<T> {
         if self.wide.is_empty() {
             let mut room = vec![0; proved::digits_of_read(&self.slots)];
             let number = proved::integer_of(&self.slots, rule, &mut room).map_err(refused)?;
-            if number.is_some() || is_short::<T>() {
-                return Ok(number.and_then(T::from));
-            }
+            return Ok(number.and_then(T::from));
         }
         let whole = self.in_room().read(|sum, room| sum.wide_round_to(1, rule, room))?;
         Ok(whole.and_then(|whole| signed(whole.negative, whole.numer)))
@@ -651,7 +649,7 @@ impl<T: Integer> Total<T> {
 
 #[cold]
 #[track_caller]
-pub(super) fn refuse_more() -> ! {
+fn refuse_more() -> ! {
     panic!("a total of more than 2^63-1 additions")
 }
 

@@ -114,24 +114,23 @@ CALL(ratio_serialize)
 	PG_RETURN_BYTEA_P(pq_endtypsend(&bytes));
 }
 
+/* The state is for ratio_combine, which only reads it: its slots are in the order that the worker sent. */
 CALL(ratio_deserialize)
 {
 	bytea	   *sent = PG_GETARG_BYTEA_PP(0);
 	StringInfoData bytes;
 	State	   *state = new_state(CurrentMemoryContext);
 	size_t		size;
-	ratio_slot_i64 *slots;
-	int64		count;
 
 	initStringInfo(&bytes);
 	appendBinaryStringInfo(&bytes, VARDATA_ANY(sent), VARSIZE_ANY_EXHDR(sent));
-	count = pq_getmsgint64(&bytes);
+	state->count = pq_getmsgint64(&bytes);
 	state->totals = pq_getmsgint64(&bytes);
 	size = bytes.len - bytes.cursor;
-	slots = palloc(size);
-	pq_copymsgbytes(&bytes, (char *) slots, size);
-	pour_in_whole(state, slots, size / sizeof(*slots), count);
-	pfree(slots);
+	state->length = size / sizeof(ratio_slot_i64);
+	state->table = palloc(offsetof(Table, slots) + size);
+	state->table->due = state->table->interval = PG_UINT32_MAX;
+	pq_copymsgbytes(&bytes, (char *) state->table->slots, size);
 	pfree(bytes.data);
 	PG_RETURN_POINTER(state);
 }

@@ -1,5 +1,5 @@
 -- Numbers of types of at most 128 bits.
-use Rattle.std.specs.Prelude.{◌≡◌, ◌-◌, ◌^◌, ◌<◌, ◌≤◌, ◌+ℤ◌, ◌≤ℤ◌, Bool, true, ℕ, ℤ, neg_ℤ, negsuc, pos}
+use Rattle.std.specs.Prelude.{◌≡◌, ◌-◌, ◌^◌, ◌<◌, ◌≤◌, ◌+ℤ◌, Bool, true, ℕ, ℤ, neg_ℤ, negsuc, pos}
 use Rattle.std.proofs.Common.{ap, arith, inl, inr}
 use Rattle.std.proofs.Math.Nat.{pow-le-pow_right}
 use Rattle.std.proofs.lemmas.Int.{ints}

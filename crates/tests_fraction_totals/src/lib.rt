@@ -13,3 +13,5 @@ mod in_memory;
 mod list_sums;
 #[cfg(test)]
 mod reads;
+#[cfg(test)]
+mod wide_totals;

@@ -1,6 +1,5 @@
-use Rattle.std.specs.Prelude.{◌≡◌, ◌+◌, ◌*◌, ◌<◌, drop}
+use Rattle.std.specs.Prelude.{◌<◌}
 use Rattle.std.proofs.Common.{subst, sym, arith}
-use Rattle.ratio_totals.specs.Joined.{common_in}
 use Rattle.fraction_totals.proofs.WideTotalLemmas.{copied_common, copied_pair}
 use Rattle.fraction_totals.proofs.wide_copy.copy_sum.Goals as goal
 

@@ -1,9 +1,12 @@
 // Erased from crates/fraction_totals/src/lib.rt by rust/erase: not to be edited.
-//! Totals of the library's own fractions that lose nothing, in slots that the caller gives.
+//! Totals of the library's own fractions that lose nothing, in room that the caller gives.
 //!
 //! A `Total<T>` takes fractions `Reduced<T>` over a type of at most 64 bits, and no step of it can fail to fit.
 //! `Total::sum` returns a `Reduced<T>` where the sum fits, however large the totals on the way were: over `i8`,
 //! 127/1 + 1/127 - 1/127 is 127/1.
+//!
+//! A `WideTotal<T>` takes fractions over any primitive type, also `i128` and `u128`. It is one sum over the common denominator, which has
+//! as many digits as the caller gives.
 mod comparing;
 mod crossing;
 mod decimal;
@@ -32,7 +35,7 @@ pub use dots::{DotRefusal, dot};
 
 pub use items::total_of;
 pub use products::ProductRefusal;
-pub use crate::proved::ratio_totals::{CompareRefusal, Joined, ReadRefusal, Refusal, Slot};
+pub use crate::proved::ratio_totals::{CompareRefusal, Joined, MOST_DIGITS, ReadRefusal, Refusal, Slot};
 pub use short::Short;
 pub use sums::{SumRefusal, checked_sum_in};
 pub use total::Total;

@@ -11,3 +11,5 @@ mod fractions;
 mod list_sums;
 #[cfg(test)]
 mod reads;
+#[cfg(test)]
+mod wide_totals;

@@ -23,8 +23,8 @@ pub fn wide_total_of<'a, T: Primitive>(
     if digits > MOST_DIGITS || spare.len() < 8 * digits + 6 {
         return Err(WideRefusal::MoreRoom);
     }
-    let (mut, total) = match WideTotal::new(digits, room) {
-        Some(mut total) => (mut, total),
+    let mut total = match WideTotal::new(digits, room) {
+        Some(total) => total,
         _ => {
             return Err(WideRefusal::MoreRoom);
         }

@@ -103,7 +103,7 @@ fn a_long_common_denominator_needs_digits(rt: HostRuntime) {
     assert_eq!(rt; sum(&[p], 0), Err(WideRefusal::MoreRoom));
     let items = [p];
     let mut room = [7; 14];
-    let mut spare = [7; 25];
+    let mut spare = [7; 22];
     assert_eq!(rt;
         checked_wide_sum_in(&items, 2, &mut room, &mut spare),
         Ok(Some(p))
@@ -113,7 +113,7 @@ fn a_long_common_denominator_needs_digits(rt: HostRuntime) {
         Err(WideRefusal::MoreRoom)
     );
     assert_eq!(rt;
-        checked_wide_sum_in(&items, 2, &mut room, &mut spare[..24]),
+        checked_wide_sum_in(&items, 2, &mut room, &mut spare[..21]),
         Err(WideRefusal::MoreRoom)
     );
     assert_eq!(rt;
@@ -320,18 +320,18 @@ fn a_read_without_room_is_refused(rt: HostRuntime) -> Result<(), Fail> {
     let total = wide_total_of(&items, 2, &mut room, &mut spare)
         .ok()
         .expect(&rt, "the rooms are enough");
-    let mut free = [7; 25];
+    let mut free = [7; 22];
     let mut buf = [b'x'; 147];
     assert_eq!(rt; total.sum(&mut free), Ok(Some(of(&rt, 4, 63))));
     assert_eq!(rt; total.mean(&mut free), Ok(Some(of(&rt, 2, 63))));
-    assert_eq!(rt; total.sum(&mut free[..24]), Err(ShortRoom));
-    assert_eq!(rt; total.mean(&mut free[..24]), Err(ShortRoom));
+    assert_eq!(rt; total.sum(&mut free[..21]), Err(ShortRoom));
+    assert_eq!(rt; total.mean(&mut free[..21]), Err(ShortRoom));
     assert_eq!(rt;
         total.round_to(100, Rounding::Up, &mut free),
         Ok(Some(of(&rt, 7, 100)))
     );
     assert_eq!(rt;
-        total.round_to(100, Rounding::Up, &mut free[..24]),
+        total.round_to(100, Rounding::Up, &mut free[..21]),
         Err(ShortRoom)
     );
     assert_eq!(rt; total.sign(&mut free[..13]), Err(ShortRoom));

@@ -105,7 +105,7 @@ fn a_long_common_denominator_needs_digits() {
     assert_eq!(sum(&[p], 0), Err(WideRefusal::MoreRoom));
     let items = [p];
     let mut room = [7; 14];
-    let mut spare = [7; 25];
+    let mut spare = [7; 22];
     assert_eq!(
         checked_wide_sum_in(&items, 2, &mut room, &mut spare),
         Ok(Some(p))
@@ -115,7 +115,7 @@ fn a_long_common_denominator_needs_digits() {
         Err(WideRefusal::MoreRoom)
     );
     assert_eq!(
-        checked_wide_sum_in(&items, 2, &mut room, &mut spare[..24]),
+        checked_wide_sum_in(&items, 2, &mut room, &mut spare[..21]),
         Err(WideRefusal::MoreRoom)
     );
     assert_eq!(
@@ -325,18 +325,18 @@ fn a_read_without_room_is_refused() -> Result<(), Fail> {
     let total = wide_total_of(&items, 2, &mut room, &mut spare)
         .ok()
         .expect("the rooms are enough");
-    let mut free = [7; 25];
+    let mut free = [7; 22];
     let mut buf = [b'x'; 147];
     assert_eq!(total.sum(&mut free), Ok(Some(of(4, 63))));
     assert_eq!(total.mean(&mut free), Ok(Some(of(2, 63))));
-    assert_eq!(total.sum(&mut free[..24]), Err(ShortRoom));
-    assert_eq!(total.mean(&mut free[..24]), Err(ShortRoom));
+    assert_eq!(total.sum(&mut free[..21]), Err(ShortRoom));
+    assert_eq!(total.mean(&mut free[..21]), Err(ShortRoom));
     assert_eq!(
         total.round_to(100, Rounding::Up, &mut free),
         Ok(Some(of(7, 100)))
     );
     assert_eq!(
-        total.round_to(100, Rounding::Up, &mut free[..24]),
+        total.round_to(100, Rounding::Up, &mut free[..21]),
         Err(ShortRoom)
     );
     assert_eq!(total.sign(&mut free[..13]), Err(ShortRoom));

@@ -5,7 +5,7 @@ mod support;
 
 use bakhsney::integer::Integer;
 use bakhsney::{Reduced, Rounding, Total};
-use num_traits::{FromPrimitive, Signed, ToPrimitive, Zero};
+use num_traits::{FromPrimitive, Pow, Signed, ToPrimitive, Zero};
 use original::BigRational;
 use std::cmp::Ordering;
 use support::Numbers;
@@ -276,8 +276,7 @@ fn rounded(x: &BigRational, rule: Rounding) -> BigRational {
 }
 
 fn decimal(x: &BigRational, places: usize, rule: Rounding) -> String {
-    let scale: BigRational = (0..places).map(|_| whole(10)).product();
-    let number = rounded(&(x * scale), rule).to_integer();
+    let number = rounded(&(x * Pow::pow(whole(10), places as i32)), rule).to_integer();
     let digits = format!("{:0>width$}", number.abs(), width = places + 1);
     let (front, back) = digits.split_at(digits.len() - places);
     format!("{}{front}{}{back}", if number.is_negative() { "-" } else { "" }, if places == 0 { "" } else { "." })
@@ -293,7 +292,7 @@ fn compare_reads<T: Integer>(total: &Total<T>, exact: &BigRational, count: i64, 
     let parts = T::from(numbers.of_any_length() >> 1).unwrap_or_else(T::max_value);
     for rule in RULES {
         assert_eq!(total.to_integer(rule).unwrap(), fitting(&rounded(exact, rule)).map(|(number, _)| number), "{exact}");
-        let places = numbers.below(60) as u32 * if numbers.below(8) == 0 { 30 } else { 1 };
+        let places = numbers.below(60) as u32 * if numbers.below(30) == 0 { 10 } else { 1 };
         assert_eq!(total.decimal(places, rule).unwrap(), decimal(exact, places as usize, rule), "{exact}");
         let multiple = if parts > T::zero() { fitting(&(rounded(&(exact * whole(parts)), rule) / whole(parts))) } else { None };
         assert_eq!(total.round_to(parts, rule).unwrap().map(Reduced::into_raw), multiple, "{exact} in parts of {parts}");
@@ -310,7 +309,7 @@ fn compare_orders<T: Integer>(left: (&Total<T>, &BigRational), right: (&Total<T>
 }
 
 /// How many random totals are compared. Optimized runs compare more.
-const TOTALS: usize = if cfg!(debug_assertions) { 100 } else { 3_000 };
+const TOTALS: usize = if cfg!(debug_assertions) { 40 } else { 3_000 };
 
 /// Compares random totals: fractions go in and out, products go in, totals are merged and taken out. Of the sums, many fit the type and many
 /// do not.

@@ -1,6 +1,4 @@
 //! Totals of fractions over types of 128 bits, and over a short one. Expected values are from Python's `fractions`.
-ghost use Rattle.std.specs.Prelude.{◌≤◌};
-
 use fraction_totals::{ShortRoom, WideRefusal, WideTotal, checked_wide_sum_in, wide_total_of};
 use num_rational::{Reduced, Rounding};
 use ratio_integer::Primitive;
@@ -20,9 +18,10 @@ fn of<T: Primitive>(rt: &impl Abort, numer: T, denom: T) -> Reduced<T> {
 }
 
 /// The sum of the items in rooms that were used before.
-fn sum<T: Primitive>(items: &[Reduced<T>], digits: usize) -> Result<Option<Reduced<T>>, WideRefusal>
-    requires { digits ≤ 10 }
-{
+fn sum<T: Primitive>(
+    items: &[Reduced<T>],
+    digits: usize,
+) -> Result<Option<Reduced<T>>, WideRefusal> {
     let mut room = [7; 46];
     let mut spare = [7; 89];
     checked_wide_sum_in(items, digits, &mut room, &mut spare)
@@ -109,11 +108,11 @@ fn a_long_common_denominator_needs_digits(rt: HostRuntime) {
         Ok(Some(p))
     );
     assert_eq!(rt;
-        checked_wide_sum_in(&items, 2, &mut room[..13], &mut spare),
+        checked_wide_sum_in(&items, 2, &mut [7; 13], &mut spare),
         Err(WideRefusal::MoreRoom)
     );
     assert_eq!(rt;
-        checked_wide_sum_in(&items, 2, &mut room, &mut spare[..21]),
+        checked_wide_sum_in(&items, 2, &mut room, &mut [7; 21]),
         Err(WideRefusal::MoreRoom)
     );
     assert_eq!(rt;
@@ -161,9 +160,9 @@ fn a_refused_fraction_changes_nothing(rt: HostRuntime) -> Result<(), Fail> {
     assert_eq!(rt; total.add(&of(&rt, 1, M), &mut spare), Ok(()));
     assert_eq!(rt; total.add(&q, &mut spare), Ok(()));
     assert_eq!(rt; total.subtract(&of(&rt, 1, M), &mut spare), Ok(()));
-    assert_eq!(rt; total.add(&q, &mut spare[..37]), Err(WideRefusal::MoreRoom));
+    assert_eq!(rt; total.add(&q, &mut [7; 37]), Err(WideRefusal::MoreRoom));
     assert_eq!(rt;
-        total.subtract(&q, &mut spare[..37]),
+        total.subtract(&q, &mut [7; 37]),
         Err(WideRefusal::MoreRoom)
     );
     // With 5, the common denominator has 257 bits, and with 3 it has 256.
@@ -206,7 +205,7 @@ fn wide_totals_are_merged(rt: HostRuntime) -> Result<(), Fail> {
         .ok()
         .expect(&rt, "the rooms are enough");
     assert_eq!(rt; total.count(), 2);
-    assert_eq!(rt; total.merge(&other, &mut spare[..38]), Ok(()));
+    assert_eq!(rt; total.merge(&other, &mut [7; 38]), Ok(()));
     assert_eq!(rt; total.count(), 5);
     assert_eq!(rt; total.sum(&mut [7; 33]), Ok(None));
     // The second total has fewer digits than the first one.
@@ -215,10 +214,10 @@ fn wide_totals_are_merged(rt: HostRuntime) -> Result<(), Fail> {
         Err(WideRefusal::MoreDigits)
     );
     assert_eq!(rt;
-        total.take_out(&other, &mut spare[..37]),
+        total.take_out(&other, &mut [7; 37]),
         Err(WideRefusal::MoreRoom)
     );
-    assert_eq!(rt; total.take_out(&other, &mut spare[..38]), Ok(()));
+    assert_eq!(rt; total.take_out(&other, &mut [7; 38]), Ok(()));
     assert_eq!(rt; total.subtract(&items[0], &mut spare), Ok(()));
     total_is(&rt, &total, items[1], 1);
     assert_eq!(rt; other.subtract(&others[0], &mut spare), Ok(()));
@@ -232,9 +231,7 @@ fn wide_totals_are_merged(rt: HostRuntime) -> Result<(), Fail> {
 }
 
 /// The text of the total with so many places.
-fn decimal_is(rt: &impl Abort, total: &WideTotal<'_, u128>, places: u32, expected: &[u8])
-    requires { places ≤ 38 }
-{
+fn decimal_is(rt: &impl Abort, total: &WideTotal<'_, u128>, places: u32, expected: &[u8]) {
     let mut buf = [b'x'; 221];
     match total.put_decimal(places, Rounding::HalfEven, &mut [7; 24], &mut buf) {
         Ok(start) => assert!(rt; &buf[start..] == expected),
@@ -273,14 +270,14 @@ fn a_sum_that_does_not_fit_is_read(rt: HostRuntime) -> Result<(), Fail> {
         total.round_to(100, Rounding::HalfEven, &mut free),
         Ok(Some(cents))
     );
-    match total.to_f64(&mut free[..14]) {
+    match total.to_f64(&mut [7; 14]) {
         Ok(x) => assert!(rt; x == 1.422803312740941e21),
         Err(_) => assert!(rt; false, "14 digits are enough"),
     }
     assert_eq!(rt; total.add(&items[3], &mut spare), Ok(()));
     assert_eq!(rt; total.sum(&mut free), Ok(None));
     assert_eq!(rt; total.round_to(1, Rounding::Down, &mut free), Ok(None));
-    match total.to_f64(&mut free[..14]) {
+    match total.to_f64(&mut [7; 14]) {
         Ok(x) => assert!(rt; x == 3.402823669209385e38),
         Err(_) => assert!(rt; false, "14 digits are enough"),
     }
@@ -324,29 +321,29 @@ fn a_read_without_room_is_refused(rt: HostRuntime) -> Result<(), Fail> {
     let mut buf = [b'x'; 147];
     assert_eq!(rt; total.sum(&mut free), Ok(Some(of(&rt, 4, 63))));
     assert_eq!(rt; total.mean(&mut free), Ok(Some(of(&rt, 2, 63))));
-    assert_eq!(rt; total.sum(&mut free[..21]), Err(ShortRoom));
-    assert_eq!(rt; total.mean(&mut free[..21]), Err(ShortRoom));
+    assert_eq!(rt; total.sum(&mut [7; 21]), Err(ShortRoom));
+    assert_eq!(rt; total.mean(&mut [7; 21]), Err(ShortRoom));
     assert_eq!(rt;
         total.round_to(100, Rounding::Up, &mut free),
         Ok(Some(of(&rt, 7, 100)))
     );
     assert_eq!(rt;
-        total.round_to(100, Rounding::Up, &mut free[..21]),
+        total.round_to(100, Rounding::Up, &mut [7; 21]),
         Err(ShortRoom)
     );
-    assert_eq!(rt; total.sign(&mut free[..13]), Err(ShortRoom));
-    assert!(rt; total.to_f64(&mut free[..13]).is_err());
+    assert_eq!(rt; total.sign(&mut [7; 13]), Err(ShortRoom));
+    assert!(rt; total.to_f64(&mut [7; 13]).is_err());
     // 4 places need 20 digits and 147 bytes
-    match total.put_decimal(4, Rounding::Down, &mut free[..20], &mut buf) {
+    match total.put_decimal(4, Rounding::Down, &mut [7; 20], &mut buf) {
         Ok(start) => assert!(rt; &buf[start..] == b"0.0634".as_slice()),
         Err(_) => assert!(rt; false, "there is room"),
     }
     assert_eq!(rt;
-        total.put_decimal(4, Rounding::Down, &mut free[..19], &mut buf),
+        total.put_decimal(4, Rounding::Down, &mut [7; 19], &mut buf),
         Err(ShortRoom)
     );
     assert_eq!(rt;
-        total.put_decimal(4, Rounding::Down, &mut free[..20], &mut buf[..146]),
+        total.put_decimal(4, Rounding::Down, &mut [7; 20], &mut [b'x'; 146]),
         Err(ShortRoom)
     );
     Ok(())

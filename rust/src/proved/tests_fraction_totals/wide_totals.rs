@@ -1,6 +1,5 @@
 // Erased from crates/tests_fraction_totals/src/wide_totals.rt by rust/erase: not to be edited.
 //! Totals of fractions over types of 128 bits, and over a short one. Expected values are from Python's `fractions`.
-
 use crate::proved::fraction_totals::{ShortRoom, WideRefusal, WideTotal, checked_wide_sum_in, wide_total_of};
 use crate::proved::num_rational::{Reduced, Rounding};
 use crate::proved::ratio_integer::Primitive;
@@ -21,14 +20,11 @@ fn of<T: Primitive>(numer: T, denom: T) -> Reduced<T> {
 }
 
 /// The sum of the items in rooms that were used before.
-///
-/// # Conditions
-///
-/// The proof requires of the caller:
-///
-/// - `digits ≤ 10`
 #[inline]
-fn sum<T: Primitive>(items: &[Reduced<T>], digits: usize) -> Result<Option<Reduced<T>>, WideRefusal> {
+fn sum<T: Primitive>(
+    items: &[Reduced<T>],
+    digits: usize,
+) -> Result<Option<Reduced<T>>, WideRefusal> {
     let mut room = [7; 46];
     let mut spare = [7; 89];
     checked_wide_sum_in(items, digits, &mut room, &mut spare)
@@ -111,11 +107,11 @@ fn a_long_common_denominator_needs_digits() {
         Ok(Some(p))
     );
     assert_eq!(
-        checked_wide_sum_in(&items, 2, &mut room[..13], &mut spare),
+        checked_wide_sum_in(&items, 2, &mut [7; 13], &mut spare),
         Err(WideRefusal::MoreRoom)
     );
     assert_eq!(
-        checked_wide_sum_in(&items, 2, &mut room, &mut spare[..21]),
+        checked_wide_sum_in(&items, 2, &mut room, &mut [7; 21]),
         Err(WideRefusal::MoreRoom)
     );
     assert_eq!(
@@ -164,9 +160,9 @@ fn a_refused_fraction_changes_nothing() -> Result<(), Fail> {
     assert_eq!(total.add(&of(1, M), &mut spare), Ok(()));
     assert_eq!(total.add(&q, &mut spare), Ok(()));
     assert_eq!(total.subtract(&of(1, M), &mut spare), Ok(()));
-    assert_eq!(total.add(&q, &mut spare[..37]), Err(WideRefusal::MoreRoom));
+    assert_eq!(total.add(&q, &mut [7; 37]), Err(WideRefusal::MoreRoom));
     assert_eq!(
-        total.subtract(&q, &mut spare[..37]),
+        total.subtract(&q, &mut [7; 37]),
         Err(WideRefusal::MoreRoom)
     );
     // With 5, the common denominator has 257 bits, and with 3 it has 256.
@@ -209,7 +205,7 @@ fn wide_totals_are_merged() -> Result<(), Fail> {
         .ok()
         .expect("the rooms are enough");
     assert_eq!(total.count(), 2);
-    assert_eq!(total.merge(&other, &mut spare[..38]), Ok(()));
+    assert_eq!(total.merge(&other, &mut [7; 38]), Ok(()));
     assert_eq!(total.count(), 5);
     assert_eq!(total.sum(&mut [7; 33]), Ok(None));
     // The second total has fewer digits than the first one.
@@ -218,10 +214,10 @@ fn wide_totals_are_merged() -> Result<(), Fail> {
         Err(WideRefusal::MoreDigits)
     );
     assert_eq!(
-        total.take_out(&other, &mut spare[..37]),
+        total.take_out(&other, &mut [7; 37]),
         Err(WideRefusal::MoreRoom)
     );
-    assert_eq!(total.take_out(&other, &mut spare[..38]), Ok(()));
+    assert_eq!(total.take_out(&other, &mut [7; 38]), Ok(()));
     assert_eq!(total.subtract(&items[0], &mut spare), Ok(()));
     total_is(&total, items[1], 1);
     assert_eq!(other.subtract(&others[0], &mut spare), Ok(()));
@@ -235,12 +231,6 @@ fn wide_totals_are_merged() -> Result<(), Fail> {
 }
 
 /// The text of the total with so many places.
-///
-/// # Conditions
-///
-/// The proof requires of the caller:
-///
-/// - `places ≤ 38`
 #[inline]
 fn decimal_is(total: &WideTotal<'_, u128>, places: u32, expected: &[u8]) {
     let mut buf = [b'x'; 221];
@@ -279,14 +269,14 @@ fn a_sum_that_does_not_fit_is_read() -> Result<(), Fail> {
         total.round_to(100, Rounding::HalfEven, &mut free),
         Ok(Some(cents))
     );
-    match total.to_f64(&mut free[..14]) {
+    match total.to_f64(&mut [7; 14]) {
         Ok(x) => assert!(x == 1.422803312740941e21),
         Err(_) => assert!(false, "14 digits are enough"),
     }
     assert_eq!(total.add(&items[3], &mut spare), Ok(()));
     assert_eq!(total.sum(&mut free), Ok(None));
     assert_eq!(total.round_to(1, Rounding::Down, &mut free), Ok(None));
-    match total.to_f64(&mut free[..14]) {
+    match total.to_f64(&mut [7; 14]) {
         Ok(x) => assert!(x == 3.402823669209385e38),
         Err(_) => assert!(false, "14 digits are enough"),
     }
@@ -329,29 +319,29 @@ fn a_read_without_room_is_refused() -> Result<(), Fail> {
     let mut buf = [b'x'; 147];
     assert_eq!(total.sum(&mut free), Ok(Some(of(4, 63))));
     assert_eq!(total.mean(&mut free), Ok(Some(of(2, 63))));
-    assert_eq!(total.sum(&mut free[..21]), Err(ShortRoom));
-    assert_eq!(total.mean(&mut free[..21]), Err(ShortRoom));
+    assert_eq!(total.sum(&mut [7; 21]), Err(ShortRoom));
+    assert_eq!(total.mean(&mut [7; 21]), Err(ShortRoom));
     assert_eq!(
         total.round_to(100, Rounding::Up, &mut free),
         Ok(Some(of(7, 100)))
     );
     assert_eq!(
-        total.round_to(100, Rounding::Up, &mut free[..21]),
+        total.round_to(100, Rounding::Up, &mut [7; 21]),
         Err(ShortRoom)
     );
-    assert_eq!(total.sign(&mut free[..13]), Err(ShortRoom));
-    assert!(total.to_f64(&mut free[..13]).is_err());
+    assert_eq!(total.sign(&mut [7; 13]), Err(ShortRoom));
+    assert!(total.to_f64(&mut [7; 13]).is_err());
     // 4 places need 20 digits and 147 bytes
-    match total.put_decimal(4, Rounding::Down, &mut free[..20], &mut buf) {
+    match total.put_decimal(4, Rounding::Down, &mut [7; 20], &mut buf) {
         Ok(start) => assert!(&buf[start..] == b"0.0634".as_slice()),
         Err(_) => assert!(false, "there is room"),
     }
     assert_eq!(
-        total.put_decimal(4, Rounding::Down, &mut free[..19], &mut buf),
+        total.put_decimal(4, Rounding::Down, &mut [7; 19], &mut buf),
         Err(ShortRoom)
     );
     assert_eq!(
-        total.put_decimal(4, Rounding::Down, &mut free[..20], &mut buf[..146]),
+        total.put_decimal(4, Rounding::Down, &mut [7; 20], &mut [b'x'; 146]),
         Err(ShortRoom)
     );
     Ok(())

@@ -1,6 +1,8 @@
 //! Fractions of GMP, as `gmp.h` declares them.
+use bakhsney::Reduced;
+use std::ffi::CString;
 use std::mem::MaybeUninit;
-use std::os::raw::{c_int, c_long, c_ulong};
+use std::os::raw::{c_char, c_int, c_long, c_ulong};
 
 #[repr(C)]
 struct Number {
@@ -19,6 +21,7 @@ struct Pair {
 extern "C" {
     fn __gmpq_init(x: *mut Pair);
     fn __gmpq_set_si(x: *mut Pair, numer: c_long, denom: c_ulong);
+    fn __gmpq_set_str(x: *mut Pair, text: *const c_char, base: c_int) -> c_int;
     fn __gmpq_add(sum: *mut Pair, x: *const Pair, y: *const Pair);
     fn __gmpq_clear(x: *mut Pair);
 }
@@ -35,6 +38,15 @@ impl Fraction {
             __gmpq_set_si(pair.as_mut_ptr(), numer, denom as c_ulong);
             Fraction(pair.assume_init())
         }
+    }
+
+    pub fn of_wide(x: &Reduced<i128>) -> Fraction {
+        let text = CString::new(x.to_string()).expect("digits and a bar");
+        let mut fraction = Fraction::new(0, 1);
+        // SAFETY: `Fraction::new` made the fraction, and the text ends in 0.
+        let refused = unsafe { __gmpq_set_str(&mut fraction.0, text.as_ptr(), 10) };
+        assert_eq!(refused, 0, "GMP reads {x}");
+        fraction
     }
 }
 

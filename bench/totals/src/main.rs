@@ -1,9 +1,9 @@
 //! Times what it takes to add up a column of 100,000 fractions over `i64`: by a `Total`, by `checked_sum` of `Reduced`, by a fold of its
 //! `checked_add`, by num-rational's `+`, and by `mpq_add` of GMP, which has fractions of any length. A line has nanoseconds a value, each the
-//! median of the rounds. The five take turns. A second table has what a read of a total takes.
+//! median of the rounds. The five take turns. A second table has what a read of a total takes, and a third one has columns over `i128`.
 mod gmp;
 
-use bakhsney::{Reduced64, Rounding, Total};
+use bakhsney::{Reduced, Reduced64, Rounding, Total};
 use num_rational::Ratio;
 use std::hint::black_box;
 use std::time::Instant;
@@ -87,6 +87,39 @@ fn show_reads(name: &str, values: &[Reduced64], rounds: usize) {
     println!("| {name} | {:.1} | {:.1} |", median(sums) / 1000.0, median(decimals) / 1000.0);
 }
 
+/// The fractions over `i128` of a column. Each time another denominator of 100 bits is taken, until there are `different` ones.
+fn wide_column(random: &mut Random, different: usize) -> Vec<Reduced<i128>> {
+    let wide = |random: &mut Random| i128::from(random.below(1 << 50)) << 50 | i128::from(random.below(1 << 50));
+    let denominators: Vec<i128> = (0..different).map(|_| 1 << 99 | wide(random)).collect();
+    let fraction = |i: usize| {
+        let denom = denominators[i % different];
+        let first = wide(random) - (1 << 99);
+        let with_numerator = |numer| Reduced::checked_new(numer, denom).filter(|x| *x.denom() == denom);
+        (first..).find_map(with_numerator).expect("one of so many numerators is coprime")
+    };
+    (0..WIDE_VALUES).map(fraction).collect()
+}
+
+const WIDE_VALUES: usize = 2_000;
+
+/// The ways to add up a column over `i128`, and the read of its total.
+fn show_wide(random: &mut Random, different: usize) {
+    let values = wide_column(random, different);
+    let long: Vec<gmp::Fraction> = values.iter().map(gmp::Fraction::of_wide).collect();
+    let total: Total<i128> = values.iter().sum();
+    let by_total = || nanoseconds(WIDE_VALUES, || values.iter().sum::<Total<i128>>());
+    let by_gmp = || nanoseconds(WIDE_VALUES, || gmp::sum(&long));
+    let read = || nanoseconds(1, || total.sum());
+    let mut times = [vec![], vec![], vec![]];
+    for _ in 0..7 {
+        times[0].push(by_total());
+        times[1].push(by_gmp());
+        times[2].push(read());
+    }
+    let [by_total, by_gmp, read] = times.map(median);
+    println!("| {different} | {by_total:.0} | {by_gmp:.0} | {:.1} |", read / 1000.0);
+}
+
 fn is_prime(n: i64) -> bool {
     (2..).take_while(|d| d * d <= n).all(|d| n % d != 0)
 }
@@ -107,4 +140,8 @@ fn main() {
     let primes: Vec<_> = (2..).filter(|n| is_prime(*n)).take(10_000).filter_map(|denom| Reduced64::checked_new(1, denom)).collect();
     show_reads("the first 10,000 primes", &primes, 5);
     show_reads("20,000 of 62 bits", &long[..20_000], 5);
+    println!("\n| Different denominators of 100 bits | `Total<i128>`, ns a value | GMP | `sum`, microseconds |\n|---|---|---|---|");
+    for different in [1, 10, 100, 1000] {
+        show_wide(&mut random, different);
+    }
 }

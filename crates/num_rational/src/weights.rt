@@ -40,8 +40,6 @@ impl fmt::Display for WeightRefusal {
     }
 }
 
-impl Error for WeightRefusal {}
-
 /// Splits the amount by the weights into the parts. The share of a weight is the weight over the sum of all. The parts
 /// add up to the amount exactly, and each is less than 1 away from the amount times its share. For example, 100 split
 /// by the weights 1, 1 and 1 is 33, 34 and 33. At a refusal no part has changed. The sums of the first shares, times
@@ -106,3 +104,5 @@ fn write_parts<T: Copy + Integer>(amount: T, weights: &[T], total: T, parts: &mu
         mark = next;
     }
 }
+
+impl Error for WeightRefusal {}

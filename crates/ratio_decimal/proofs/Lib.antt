@@ -10,6 +10,7 @@ pub mod LongLemmas
 pub mod PlacesLemmas
 pub mod PrecisionLemmas
 pub mod ProductLemmas
+pub mod ProductPartLemmas
 pub mod QuotientLemmas
 pub mod RoundedLemmas
 pub mod RoundingRuleLaws

@@ -42,8 +42,8 @@ pub(crate) fn rounded<T: Integer>(n: T, d: T, parts: T, rule: Rounding) -> (T, T
     }
 }
 
-// One `1/parts` more.
-fn next<T: Integer>(x: (T, T), parts: T) -> (T, T)
+/// One `1/parts` more.
+pub(crate) fn next<T: Integer>(x: (T, T), parts: T) -> (T, T)
     requires part { IsPart (T.value x.1) (T.value parts) }
     requires room { IsHeld T.lo T.hi (T.value x.0 +ℤ pos 1) }
     ensures part { IsPart (T.value result.1) (T.value parts) }

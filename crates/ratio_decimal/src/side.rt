@@ -109,8 +109,8 @@ fn is_half<T: Integer>(left: T, d: T) -> bool
     d.minus(left) == left
 }
 
-// Whether a multiple is an odd number of `1/parts`.
-fn is_odd<T: Integer>(x: (T, T), parts: T) -> bool
+/// Whether a multiple is an odd number of `1/parts`.
+pub(crate) fn is_odd<T: Integer>(x: (T, T), parts: T) -> bool
     ensures { IsTrue result ↔ (¬ (IsMultiple (T.value x.0 *ℤ T.value parts +ℤ T.value x.1) (pos 2))) }
 {
     if x.0.is_even() || parts.is_even() {

@@ -44,8 +44,6 @@ impl fmt::Display for TextRefusal {
     }
 }
 
-impl Error for TextRefusal {}
-
 /// The lowest terms of what a person types. The text is one of these:
 ///
 /// - a decimal, as `from_decimal` reads it: `-0.5`;
@@ -85,3 +83,5 @@ fn typed_terms(text: &[u8]) -> Result<SignedTerms, TextRefusal>
         },
     }
 }
+
+impl Error for TextRefusal {}

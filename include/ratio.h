@@ -35,7 +35,7 @@ enum {
     RATIO_NOT_HELD = 1,                 /* the answer does not fit in the type, or there is none: no fraction within the bounds of
                                            between, or no convergent at the place. Of total_print_bounded: it needs more than
                                            one pass */
-    RATIO_DIVISION_BY_ZERO = 2,         /* of div, rem and quotient_of, and of pow for 0 to an exponent below 0 */
+    RATIO_DIVISION_BY_ZERO = 2,         /* of div, rem, div_round_to and quotient_of, and of pow for 0 to an exponent below 0 */
     RATIO_DENOMINATOR_NOT_POSITIVE = 3, /* of all others */
     RATIO_ZERO_DENOMINATOR = 4,         /* of compare, equal, hash, reduce and print, which take negative ones, and of read and
                                            read_text */
@@ -46,9 +46,9 @@ enum {
     RATIO_BOUND_NOT_POSITIVE = 7,       /* of nearest: no denominator lies from 1 to the bound */
     RATIO_NO_TOTAL = 8,                 /* of totals: an empty slot has a numerator that is not 0. Of reads in steps: the room does
                                            not hold what the last step left there. Of joined_print: also too few digits or bytes */
-    RATIO_BAD_OPTION = 9,               /* of between, from_scaled, round_to, mul_round, print_decimal, total_print, total_print_bounded,
-                                           joined_print and total_round_to: the call has no such flags, scale, parts, places or
-                                           rule */
+    RATIO_BAD_OPTION = 9,               /* of between, from_scaled, round_to, mul_round, mul_round_to, div_round_to, print_decimal,
+                                           total_print, total_print_bounded, joined_print and total_round_to: the call has no such
+                                           flags, scale, parts, places or rule */
     RATIO_MORE_ROOM = 10,               /* of totals: each slot holds another denominator, or a read has too little room. Of
                                            quotient_of: too little room */
     RATIO_TOO_LONG = 11,                /* of reads of totals: the common denominator is not below 2^(2^20) */
@@ -66,7 +66,9 @@ enum {
     RATIO_HIGH_OPEN = 8      /* there is no upper bound: its fields are not read */
 };
 
-/* The rules of round_to, mul_round, print_decimal, total_print, total_print_bounded, joined_print and total_round_to. */
+/* The rules of round_to, mul_round, mul_round_to, div_round_to, print_decimal, total_print, total_print_bounded, joined_print and
+ * total_round_to.
+ */
 enum {
     RATIO_RULE_HALF_AWAY = 0, /* to the nearer multiple, and a half away from zero: 5/2 to 3 */
     RATIO_RULE_HALF_EVEN = 1, /* to the nearer one, and a half to the even one: 5/2 to 2 */
@@ -125,6 +127,10 @@ typedef struct { ratio_wide number; int32_t scale; } ratio_scaled;
  *   ratio_mul_round_i32  the product of each pair, rounded to a whole number by a rule, over 1: 6/1 for 7/3 and 5/2 by
  *                        RATIO_RULE_HALF_EVEN. RATIO_NOT_HELD only if that number does not fit: the product itself need not. A rule
  *                        that is none gives RATIO_BAD_OPTION
+ *   ratio_mul_round_to_i32  the product of each pair, rounded by a rule to a multiple of 1/parts, in lowest terms: 2249/50, which is 44.98,
+ *                        for 1999/100 and 9/4 with 100 parts. RATIO_NOT_HELD only if these terms do not fit: the product itself need
+ *                        not. Parts that are not above 0, and a rule that is none, give RATIO_BAD_OPTION
+ *   ratio_div_round_to_i32  the quotient of each pair, rounded in the same way. A divisor 0 gives RATIO_DIVISION_BY_ZERO
  *   ratio_reduce_i32     the lowest terms, with the sign in the numerator
  *   ratio_neg_i32        the negative, and the absolute value, over the same denominator, not reduced. If the numerator is the
  *   ratio_abs_i32        least number of the type, its negative gives RATIO_NOT_HELD
@@ -176,6 +182,7 @@ typedef struct { ratio_wide number; int32_t scale; } ratio_scaled;
     typedef struct { ratio_##suffix value; uint32_t place; } ratio_place_##suffix;         \
     typedef struct { ratio_##suffix low, high; uint32_t flags; } ratio_bounds_##suffix;    \
     typedef struct { ratio_##suffix value; number parts; uint32_t rule; } ratio_multiple_##suffix; \
+    typedef struct { ratio_##suffix left, right; number parts; uint32_t rule; } ratio_operands_##suffix; \
     typedef struct { ratio_##suffix value; uint32_t places, rule; } ratio_decimal_##suffix; \
     typedef struct { uint32_t code; ratio_##suffix value; } ratio_answer_##suffix;         \
     uint32_t ratio_compare_##suffix(const ratio_pair_##suffix *asked, size_t asked_len,    \
@@ -200,6 +207,10 @@ typedef struct { ratio_wide number; int32_t scale; } ratio_scaled;
                                 ratio_answer_##suffix *answers, size_t answers_len);       \
     uint32_t ratio_mul_round_##suffix(const ratio_factors_##suffix *asked, size_t asked_len, \
                                       ratio_answer_##suffix *answers, size_t answers_len); \
+    uint32_t ratio_mul_round_to_##suffix(const ratio_operands_##suffix *asked, size_t asked_len, \
+                                         ratio_answer_##suffix *answers, size_t answers_len); \
+    uint32_t ratio_div_round_to_##suffix(const ratio_operands_##suffix *asked, size_t asked_len, \
+                                         ratio_answer_##suffix *answers, size_t answers_len); \
     uint32_t ratio_reduce_##suffix(const ratio_##suffix *asked, size_t asked_len,          \
                                    ratio_answer_##suffix *answers, size_t answers_len);    \
     uint32_t ratio_neg_##suffix(const ratio_##suffix *asked, size_t asked_len,             \
@@ -521,6 +532,7 @@ static_assert(sizeof(ratio_factors_i32) == 20, "the size of ratio_factors_i32");
 static_assert(sizeof(ratio_power_i32) == 12, "the size of ratio_power_i32");
 static_assert(sizeof(ratio_bounded_i32) == 12, "the size of ratio_bounded_i32");
 static_assert(sizeof(ratio_multiple_i32) == 16, "the size of ratio_multiple_i32");
+static_assert(sizeof(ratio_operands_i32) == 24, "the size of ratio_operands_i32");
 static_assert(sizeof(ratio_decimal_i32) == 16, "the size of ratio_decimal_i32");
 static_assert(sizeof(ratio_place_i32) == 12, "the size of ratio_place_i32");
 static_assert(sizeof(ratio_bounds_i32) == 20, "the size of ratio_bounds_i32");
@@ -531,6 +543,7 @@ static_assert(sizeof(ratio_factors_i64) == 40, "the size of ratio_factors_i64");
 static_assert(sizeof(ratio_power_i64) == 24, "the size of ratio_power_i64");
 static_assert(sizeof(ratio_bounded_i64) == 24, "the size of ratio_bounded_i64");
 static_assert(sizeof(ratio_multiple_i64) == 32, "the size of ratio_multiple_i64");
+static_assert(sizeof(ratio_operands_i64) == 48, "the size of ratio_operands_i64");
 static_assert(sizeof(ratio_decimal_i64) == 24, "the size of ratio_decimal_i64");
 static_assert(sizeof(ratio_place_i64) == 24, "the size of ratio_place_i64");
 static_assert(sizeof(ratio_bounds_i64) == 40, "the size of ratio_bounds_i64");
@@ -541,6 +554,7 @@ static_assert(sizeof(ratio_factors_i128) == 72, "the size of ratio_factors_i128"
 static_assert(sizeof(ratio_power_i128) == 40, "the size of ratio_power_i128");
 static_assert(sizeof(ratio_bounded_i128) == 48, "the size of ratio_bounded_i128");
 static_assert(sizeof(ratio_multiple_i128) == 56, "the size of ratio_multiple_i128");
+static_assert(sizeof(ratio_operands_i128) == 88, "the size of ratio_operands_i128");
 static_assert(sizeof(ratio_decimal_i128) == 40, "the size of ratio_decimal_i128");
 static_assert(sizeof(ratio_place_i128) == 40, "the size of ratio_place_i128");
 static_assert(sizeof(ratio_bounds_i128) == 72, "the size of ratio_bounds_i128");

@@ -45,6 +45,42 @@ CALL(ratio_mul_round)
 	PG_RETURN_INT64(answer.value.numer);
 }
 
+static ratio_wide
+wide(int64 n)
+{
+	return (ratio_wide) {n, n < 0 ? -1 : 0};
+}
+
+static ratio_i128
+widened(const Ratio *x)
+{
+	return (ratio_i128) {wide(x->numer), wide(x->denom)};
+}
+
+/* A product or a quotient with so many places. In 128 bits each of two values fits, so only the numeric rounds. */
+static Datum
+to_places(FunctionCallInfo fcinfo, uint32_t (*call) (const ratio_pair_i128 *, size_t, ratio_answer_i128 *, size_t), const char *name)
+{
+	ratio_pair_i128 pair = {widened(ARG(0)), widened(ARG(1))};
+	ratio_decimal_i128 asked = {.places = PG_GETARG_INT32(2), .rule = RATIO_RULE_HALF_AWAY};
+	ratio_answer_i128 answer;
+	char	   *text = palloc(RATIO_DECIMAL_ROOM_I128 + 1);
+	ratio_text	place;
+
+	call(&pair, 1, &answer, 1);
+	asked.value = answer.value;
+	place.code = answer.code;
+	if (likely(answer.code == RATIO_ANSWERED))
+		ratio_print_decimal_i128(&asked, 1, (uint8_t *) text, RATIO_DECIMAL_ROOM_I128, &place, 1);
+	if (unlikely(place.code != RATIO_ANSWERED))
+		refuse(place.code, psprintf("%s(%s, %s, %d)", name, quoted(*ARG(0)), quoted(*ARG(1)), PG_GETARG_INT32(2)));
+	text[place.span.end] = '\0';
+	return number(text, -1);
+}
+
+CALL(ratio_mul_round_places) { return to_places(fcinfo, ratio_mul_i128, "ratio_mul_round"); }
+CALL(ratio_div_round) { return to_places(fcinfo, ratio_div_i128, "ratio_div_round"); }
+
 CALL(ratio_nearest)
 {
 	ratio_bounded_i64 bounded = {*ARG(0), PG_GETARG_INT64(1)};

@@ -86,6 +86,14 @@ static void expect(int holds, const char *what) {
             upper = {.value = FRACTION(N, 5, 2), .parts = N(1), .rule = RATIO_RULE_CEIL},            \
             no_rule = {.value = FRACTION(N, 2, 3), .parts = N(100), .rule = 6},                      \
             no_parts = {.value = FRACTION(N, 2, 3), .parts = N(0), .rule = RATIO_RULE_UP};           \
+        static const ratio_operands_##suffix invoice = {.left = FRACTION(N, 1999, 100), .right = FRACTION(N, 9, 4), .parts = N(100), .rule = RATIO_RULE_HALF_EVEN},\
+            refund = {.left = FRACTION(N, -1999, 100), .right = FRACTION(N, 9, 4), .parts = N(100), .rule = RATIO_RULE_UP},\
+            parted = {.left = FRACTION(N, 1999, 100), .right = FRACTION(N, 4, 9), .parts = N(100), .rule = RATIO_RULE_HALF_EVEN},\
+            for_none = {.left = FRACTION(N, 1999, 100), .right = FRACTION(N, 0, 9), .parts = N(100), .rule = RATIO_RULE_HALF_EVEN},\
+            unparted = {.left = FRACTION(N, 1999, 100), .right = FRACTION(N, 9, 4), .parts = N(0), .rule = RATIO_RULE_HALF_EVEN},\
+            unruled = {.left = FRACTION(N, 1999, 100), .right = FRACTION(N, 9, 4), .parts = N(100), .rule = 6},\
+            unsigned_off = {.left = FRACTION(N, 1999, 100), .right = FRACTION(N, 9, -4), .parts = N(100), .rule = RATIO_RULE_HALF_EVEN};\
+        static const ratio_answer_##suffix billed = ANSWER(N, 2249, 50), refunded = ANSWER(N, -2249, 50), no_cents = ANSWER(N, 0, 1);\
         static const ratio_decimal_##suffix prices[5] = {{.value = FRACTION(N, 2, 3), .places = 2, .rule = RATIO_RULE_HALF_EVEN},\
             {.value = FRACTION(N, 1, -2), .places = 2, .rule = RATIO_RULE_UP},                       \
             {.value = FRACTION(N, -1, 8), .places = 1, .rule = RATIO_RULE_DOWN},                     \
@@ -144,6 +152,17 @@ static void expect(int holds, const char *what) {
         GIVES(suffix, mul_round, to_floor, minus_six)                                                \
         REFUSES(suffix, mul_round, ruleless, RATIO_BAD_OPTION)                                       \
         REFUSES(suffix, mul_round, placeless, RATIO_DENOMINATOR_NOT_POSITIVE)                        \
+        GIVES(suffix, mul_round_to, invoice, billed)                                                 \
+        GIVES(suffix, mul_round_to, refund, refunded)                                                \
+        GIVES(suffix, mul_round_to, for_none, no_cents)                                              \
+        REFUSES(suffix, mul_round_to, unparted, RATIO_BAD_OPTION)                                    \
+        REFUSES(suffix, mul_round_to, unruled, RATIO_BAD_OPTION)                                     \
+        REFUSES(suffix, mul_round_to, unsigned_off, RATIO_DENOMINATOR_NOT_POSITIVE)                  \
+        GIVES(suffix, div_round_to, parted, billed)                                                  \
+        REFUSES(suffix, div_round_to, for_none, RATIO_DIVISION_BY_ZERO)                              \
+        REFUSES(suffix, div_round_to, unparted, RATIO_BAD_OPTION)                                    \
+        REFUSES(suffix, div_round_to, unruled, RATIO_BAD_OPTION)                                     \
+        REFUSES(suffix, div_round_to, unsigned_off, RATIO_DENOMINATOR_NOT_POSITIVE)                  \
         REFUSES(suffix, div, by_zero, RATIO_DIVISION_BY_ZERO)                                        \
         REFUSES(suffix, rem, by_zero, RATIO_DIVISION_BY_ZERO)                                        \
         GIVES(suffix, reduce, loose[0], low)                                                         \
@@ -270,11 +289,17 @@ static void divisors_and_rounded_products(void) {
     const ratio_pair_i64 least = {{INT64_MIN, 1}, {0, 1}}, large = {{INT64_MAX, 2}, {INT64_MAX - 1, 1}};
     const ratio_factors_i64 parts = {{INT64_MAX, 3}, {2, 5}, RATIO_RULE_HALF_EVEN}, too_large = {{INT64_MAX, 3}, {4, 1}, RATIO_RULE_DOWN};
     const ratio_answer_i64 part = {RATIO_ANSWERED, {INT64_C(1229782938247303441), 1}};
+    const ratio_operands_i64 less = {{INT64_MAX, 100}, {999, 1000}, 100, RATIO_RULE_HALF_EVEN},
+        not_in_cents = {{INT64_MAX, 3}, {2, 5}, 100, RATIO_RULE_HALF_EVEN}, by_least = {{-INT64_MAX, 100}, {INT64_MIN, INT64_MAX}, 3, RATIO_RULE_UP};
+    const ratio_answer_i64 discounted = {RATIO_ANSWERED, {INT64_C(9214148664817921031), 100}}, thirds = {RATIO_ANSWERED, {INT64_C(276701161105643275), 3}};
     ratio_answer_i64 answer[1];
     REFUSES(i64, gcd, least, RATIO_NOT_HELD)
     REFUSES(i64, lcm, large, RATIO_NOT_HELD)
     GIVES(i64, mul_round, parts, part)
     REFUSES(i64, mul_round, too_large, RATIO_NOT_HELD)
+    GIVES(i64, mul_round_to, less, discounted)
+    REFUSES(i64, mul_round_to, not_in_cents, RATIO_NOT_HELD)
+    GIVES(i64, div_round_to, by_least, thirds)
 }
 
 /* Products and quotients whose steps do not fit. Python's `fractions` computed them. */

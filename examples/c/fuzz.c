@@ -39,6 +39,8 @@ typedef double ratio_double;
     X(rem_##s, pair_##s, 4, number, answer_##s) X(pow_##s, power_##s, 2, number, answer_##s)                  \
     X(gcd_##s, pair_##s, 4, number, answer_##s) X(lcm_##s, pair_##s, 4, number, answer_##s)                   \
     X(mul_round_##s, factors_##s, 4, number, answer_##s)                                                      \
+    X(mul_round_to_##s, operands_##s, 5, number, answer_##s)                                             \
+    X(div_round_to_##s, operands_##s, 5, number, answer_##s)                                             \
     X(neg_##s, s, 2, number, answer_##s) X(abs_##s, s, 2, number, answer_##s)                                 \
     X(floor_##s, s, 2, number, answer_##s) X(ceil_##s, s, 2, number, answer_##s)                              \
     X(trunc_##s, s, 2, number, answer_##s) X(round_##s, s, 2, number, answer_##s)                             \

@@ -13,10 +13,15 @@ SELECT gcd('1/4'::ratio, '1/6'), lcm('1/4'::ratio, '1/6'), gcd('3/2'::ratio, '-1
     gcd('9223372036854775807/3'::ratio, '9223372036854775807/2'), pg_typeof(gcd(4, 6)), pg_typeof(gcd(4, 6::bigint)), pg_typeof(gcd(4, 1.5)), pg_typeof(gcd(4, '1/2'::ratio));
 SELECT ratio_mul_round('7/3', '5/2'), ratio_mul_round('-5/2', 1), ratio_mul_round('9223372036854775807/3', '2/5'), ratio_mul_round(-9223372036854775808, '1/3'),
     ratio_mul_round('9223372036854775807/2', '9223372036854775806/9223372036854775807');
+-- the same with places: neither a product nor a quotient has to fit, and a half goes away from zero
+SELECT ratio_mul_round('19.99', '2.25', 2), ratio_mul_round('-1/8', '1', 2), ratio_mul_round('9223372036854775807/3', '2/5', 2), ratio_div_round(100, 3, 2),
+    ratio_div_round('-7/2', '4/3', 0), ratio_div_round('9223372036854775807', '-1/9223372036854775807', 1), ratio_mul_round('1/3', '1/3', 38);
+SELECT bool_and(ratio_mul_round(a, b, 2) = round(a::numeric * b::numeric, 2)), bool_and(ratio_div_round(a, b, 3) = round(a::numeric / b::numeric, 3)), count(*)
+    FROM (SELECT (i * 37 % 997 - 500)::ratio / 8, (i * 101 % 991 - 470)::ratio / 4 FROM generate_series(1, 1000) i) pairs(a, b) WHERE b <> 0;
 -- each error has its code, and names the operands
 SELECT q, refusal('SELECT ' || q) FROM unnest(ARRAY['9223372036854775807::ratio + 1', '''-9223372036854775808''::ratio - ''1/2''', '''1/4294967296''::ratio * ''1/4294967296''',
     '9223372036854775807::ratio / ''1/2''', '''1/2''::ratio / 0', '0::ratio / 0', '''1/2''::ratio % 0', '- ''-9223372036854775808''::ratio', 'abs(''-9223372036854775808''::ratio)',
-    'gcd(''-9223372036854775808''::ratio, 0)', 'lcm(''9223372036854775807/2''::ratio, 9223372036854775806)', 'ratio_mul_round(9223372036854775807, ''3/2'')', 'ratio_power(0, -1)', 'ratio_power(3, 40)', 'ratio_power(''1/2'', 64)', 'ratio_nearest(''1/2'', 0)', 'ratio_nearest(''1/2'', -1)', 'ceiling(''1/2''::ratio)']) q;
+    'gcd(''-9223372036854775808''::ratio, 0)', 'lcm(''9223372036854775807/2''::ratio, 9223372036854775806)', 'ratio_mul_round(9223372036854775807, ''3/2'')', 'ratio_mul_round(''1/2'', 3, 39)', 'ratio_mul_round(''1/2'', 3, -1)', 'ratio_div_round(''1/2'', 0, 2)', 'ratio_power(0, -1)', 'ratio_power(3, 40)', 'ratio_power(''1/2'', 64)', 'ratio_nearest(''1/2'', 0)', 'ratio_nearest(''1/2'', -1)', 'ceiling(''1/2''::ratio)']) q;
 -- beside numeric: each operator over pairs of hard fractions gives the lowest terms, and refuses only what does not fit
 CREATE FUNCTION got(operator text, a ratio, b ratio) RETURNS text LANGUAGE plpgsql AS $$
 BEGIN

@@ -22,7 +22,7 @@ SELECT meter, sum(units * rate) FROM readings WHERE meter < 3 GROUP BY meter ORD
 DROP TABLE readings;
 -- a bill split to the cent, a chain of rates, and bars that meet
 SELECT ratio_split(10000, '{1/2, 1/3, 1/6}'), ratio_split_by_weights(10000, '{31, 28, 14}');
-SELECT ratio_product('{254/100, 12, 3, 1760, 1/100000}'), ratio_mul_round(123456, '1.0825'), lcm('1/4'::ratio, '1/6'), gcd('1/4'::ratio, '1/6');
+SELECT ratio_product('{254/100, 12, 3, 1760, 1/100000}'), ratio_mul_round(123456, '1.0825'), ratio_mul_round('19.99', '2.25', 2), lcm('1/4'::ratio, '1/6'), gcd('1/4'::ratio, '1/6');
 -- totals that do not fit 64 bits
 SELECT ratio_round(total(ratio(1, i)), 20) FROM generate_series(1, 1000) i;
 CREATE TABLE months AS

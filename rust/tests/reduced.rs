@@ -384,4 +384,6 @@ fn more_places_than_a_decimal_has() {
 fn no_parts() {
     let third = i8_of(1, 3);
     assert_eq!([-128, -1, 0, 1].map(|parts| third.round_to(parts, Rounding::Up)), [None, None, None, Some(Reduced::ONE)]);
+    assert_eq!([-128, -1, 0, 1].map(|parts| third.checked_mul_round_to(2, parts, Rounding::Up)), [None, None, None, Some(Reduced::ONE)]);
+    assert_eq!([-128, -1, 0, 1].map(|parts| third.checked_div_round_to(2, parts, Rounding::Up)), [None, None, None, Some(Reduced::ONE)]);
 }

@@ -97,6 +97,19 @@ fn rounded_product(pair: Pair) -> Option<i8> {
     i8::try_from(nearest * (a * c).signum()).ok()
 }
 
+/// The product rounded to the nearest multiple of `1/parts`, a half away from 0. The parts are the left denominator.
+fn product_to(pair: Pair) -> Option<Fields> {
+    let ((a, b), (c, d)) = (positive(pair.left)?, positive(pair.right)?);
+    let nearest = (2 * (a * c).abs() * b + b * d) / (2 * b * d);
+    lowest(nearest * (a * c).signum(), b)
+}
+
+/// The greatest multiple of `1/parts` that is not above the quotient. The parts are the left denominator.
+fn floored_quotient_to(pair: Pair) -> Option<Fields> {
+    let ((a, b), (c, d)) = (positive(pair.left)?, pair.right);
+    lowest((a * d * c.signum() * b).div_euclid(b * c.abs().max(1)), b).filter(|_| c != 0)
+}
+
 /// The greatest whole number that is not above the product.
 fn floored_product(pair: Pair) -> Option<i8> {
     let ((a, b), (c, d)) = (positive(pair.left)?, positive(pair.right)?);
@@ -316,6 +329,14 @@ const REDUCED: &[Row<Reduced<i8>>] = rows! { x, y, p:
     x.checked_div_round(&y, Rounding::Floor) => floored_quotient(p);
     x.checked_div_round(*y.numer(), Rounding::HalfAway) => rounded_quotient(p.by_number());
     x.checked_div_round(y.numer(), Rounding::Floor) => floored_quotient(p.by_number());
+    x.checked_mul_round_to(y, *x.denom(), Rounding::HalfAway) => product_to(p);
+    x.checked_mul_round_to(&y, *x.denom(), Rounding::HalfAway) => product_to(p);
+    x.checked_mul_round_to(*y.numer(), *x.denom(), Rounding::HalfAway) => product_to(p.by_number());
+    x.checked_mul_round_to(y.numer(), *x.denom(), Rounding::HalfAway) => product_to(p.by_number());
+    x.checked_div_round_to(y, *x.denom(), Rounding::Floor) => floored_quotient_to(p);
+    x.checked_div_round_to(&y, *x.denom(), Rounding::Floor) => floored_quotient_to(p);
+    x.checked_div_round_to(*y.numer(), *x.denom(), Rounding::Floor) => floored_quotient_to(p.by_number());
+    x.checked_div_round_to(y.numer(), *x.denom(), Rounding::Floor) => floored_quotient_to(p.by_number());
     x.checked_div(y) => quotient(p);
     x.checked_div(&y) => quotient(p);
     x.checked_div(*y.numer()) => quotient(p.by_number());

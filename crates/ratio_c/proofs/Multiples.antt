@@ -1,6 +1,7 @@
 -- Multiples, as answers say them.
-use Rattle.std.specs.Prelude.{◌≡◌, ℤ, Option, Some, None, option_map}
-use Rattle.std.proofs.Common.{subst}
+use Rattle.std.specs.Prelude.{◌≡◌, ◌*ℤ◌, ℤ, Option, Some, None, option_map}
+use Rattle.std.proofs.Common.{ap, subst, ◌∙◌}
+use Rattle.ratio_decimal.specs.Products.{ChecksRoundedQuotientTo}
 use Rattle.ratio_decimal.specs.RoundingRules.{ChecksRounded}
 use Rattle.ratio_decimal.specs.declared.rounding_rule.Rounding.{Rounding}
 use Rattle.ratio_c.specs.Crossing.{Said, Says, said_of}
@@ -20,3 +21,35 @@ rounded_said {R = R} first second lo hi rule other parts more n m d e r answer r
     mapped : (r : Option R) → ChecksRounded first second lo hi other more m e r → ChecksRounded (λ (z : ℤ × ℤ). z.0) (λ (z : ℤ × ℤ). z.1) lo hi other more m e (option_map (λ z. (first z, second z)) r)
     mapped None checks = (checks.0, checks.1, checks.2)
     mapped (Some z) checks = (checks.0, checks.1, checks.2)
+
+-- a multiple, as the pair of its numbers
+multiple_mapped : {R : Type 0} (first second : R → ℤ) (lo hi : ℤ) (rule : Rounding) (parts n d : ℤ) (r : Option R) → ChecksRounded first second lo hi rule parts n d r
+    → ChecksRounded (λ (z : ℤ × ℤ). z.0) (λ (z : ℤ × ℤ). z.1) lo hi rule parts n d (option_map (λ z. (first z, second z)) r)
+multiple_mapped first second lo hi rule parts n d None checks = (checks.0, checks.1, checks.2)
+multiple_mapped first second lo hi rule parts n d (Some z) checks = (checks.0, checks.1, checks.2)
+
+-- the same multiple of a quotient, by the numbers of the input
+pub rounded_quotient_said : {R : Type 0} (first second : R → ℤ) (lo hi : ℤ) (rule other : Rounding) (parts more : ℤ) (x y : ℤ × ℤ) (r : Option R) (answer : Said)
+    → rule ≡ other → parts ≡ more → x ≡ y → ChecksRoundedQuotientTo first second lo hi rule parts x r
+    → answer ≡ said_of (option_map (λ z. (first z, second z)) r) → Says (ChecksRoundedQuotientTo (λ (z : ℤ × ℤ). z.0) (λ (z : ℤ × ℤ). z.1) lo hi other more y) answer
+rounded_quotient_said {R = R} first second lo hi rule other parts more x y r answer rules numbers same told said =
+    record { result = option_map pair r; is_result = subst (λ t. ChecksRoundedQuotientTo (λ (z : ℤ × ℤ). z.0) (λ (z : ℤ × ℤ). z.1) lo hi t more y (option_map pair r)) rules
+        (subst (λ t. ChecksRoundedQuotientTo (λ (z : ℤ × ℤ). z.0) (λ (z : ℤ × ℤ). z.1) lo hi rule t y (option_map pair r)) numbers
+        (subst (λ t. ChecksRoundedQuotientTo (λ (z : ℤ × ℤ). z.0) (λ (z : ℤ × ℤ). z.1) lo hi rule parts t (option_map pair r)) same mapped)); is_said = said }
+  where
+    pair : R → ℤ × ℤ
+    pair z = (first z, second z)
+
+    mapped : ChecksRoundedQuotientTo (λ (z : ℤ × ℤ). z.0) (λ (z : ℤ × ℤ). z.1) lo hi rule parts x (option_map pair r)
+    mapped = record {
+      above = λ h. multiple_mapped first second lo hi rule parts _ _ r (told.above h);
+      below = λ h. multiple_mapped first second lo hi rule parts _ _ r (told.below h);
+      none = λ h. ap (option_map pair) (told.none h);
+    }
+
+-- products and pairs of equal numbers
+pub products_same : (a b c d : ℤ) → a ≡ c → b ≡ d → a *ℤ b ≡ c *ℤ d
+products_same a b c d first second = ap (λ (t : ℤ). t *ℤ b) first ∙ ap (λ (t : ℤ). c *ℤ t) second
+
+pub pairs_same : (a b c d : ℤ) → a ≡ c → b ≡ d → (a, b) ≡ (c, d)
+pairs_same a b c d first second = ap (λ (t : ℤ). (t, b)) first ∙ ap (λ (t : ℤ). (c, t)) second

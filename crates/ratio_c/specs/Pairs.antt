@@ -1,11 +1,12 @@
 -- What the calls on pairs answer that are not sums, products or quotients: divisors, multiples and rounded products.
-use Rattle.std.specs.Prelude.{◌≡◌, ◌<◌, ℕ, ℤ, pos, Option, None, Some}
-use Rattle.ratio_integer.specs.Arithmetic.{product_of}
+use Rattle.std.specs.Prelude.{◌≡◌, ◌<◌, ◌<ℤ◌, ℕ, ℤ, pos, Option, None, Some}
+use Rattle.ratio_integer.specs.Arithmetic.{product_of, quotient_of}
 use Rattle.ratio_integer.specs.Range.{IsHeld}
 use Rattle.ratio_core.specs.Divisors.{ChecksPair, IsGcdOfFractions, IsLcmOfFractions}
-use Rattle.ratio_decimal.specs.RoundingRules.{IsRoundedBy}
+use Rattle.ratio_decimal.specs.Products.{ChecksRoundedQuotientTo}
+use Rattle.ratio_decimal.specs.RoundingRules.{ChecksRounded, IsRoundedBy}
 use Rattle.ratio_decimal.specs.declared.rounding_rule.Rounding.{Rounding}
-use Rattle.ratio_c.specs.Calls.{OfPositive, Tested}
+use Rattle.ratio_c.specs.Calls.{OfDivisor, OfPositive, Tested}
 use Rattle.ratio_c.specs.Codes.{code_answered, code_bad_option, code_not_held}
 use Rattle.ratio_c.specs.Crossing.{Said, Says, refused, rule_of}
 
@@ -31,6 +32,27 @@ pub record SaysRounded (lo hi : ℤ) (rule : Rounding) (x : ℤ × ℤ) (answer 
 abbrev pub IsRoundedProductAnswer : ℤ → ℤ → ℤ × ℤ → ℤ × ℤ → ℕ → Said → Type 0
 IsRoundedProductAnswer lo hi x y rule answer =
     OfPositive x y answer (Tested (rule < 6) (SaysRounded lo hi (rule_of rule) (product_of x.0 x.1 y.0 y.1) answer) (answer ≡ refused code_bad_option))
+
+-- the parts are above 0, the rule is one of 0 to 5, and `Is` holds. Otherwise the answer has the code 9, `code_bad_option`
+abbrev pub OfOptions : ℤ → ℕ → Said → Type 0 → Type 0
+OfOptions parts rule answer Is = Tested (pos 0 <ℤ parts) (Tested (rule < 6) Is (answer ≡ refused code_bad_option)) (answer ≡ refused code_bad_option)
+
+-- `OfPositive` and `OfOptions`: x * y rounded by a rule to a multiple of 1/parts, in lowest terms, or the code 1 where these do not fit
+-- Example: 1999/100 times 5/2 to 100, rule 1: 2499/50
+abbrev pub IsProductToAnswer : ℤ → ℤ → ℤ × ℤ → ℤ × ℤ → ℤ → ℕ → Said → Type 0
+IsProductToAnswer lo hi x y parts rule answer =
+    OfPositive x y answer
+    (OfOptions parts rule answer
+    (Says (ChecksRounded (λ z. z.0) (λ z. z.1) lo hi (rule_of rule) parts (product_of x.0 x.1 y.0 y.1).0 (product_of x.0 x.1 y.0 y.1).1) answer))
+
+-- `OfPositive`, `OfOptions` and `OfDivisor`: x / y rounded by a rule to a multiple of 1/parts, in lowest terms, or the code 1 where these
+-- do not fit
+-- Example: 1999/100 by 2/5 to 100, rule 1: 2499/50
+abbrev pub IsQuotientToAnswer : ℤ → ℤ → ℤ × ℤ → ℤ × ℤ → ℤ → ℕ → Said → Type 0
+IsQuotientToAnswer lo hi x y parts rule answer =
+    OfPositive x y answer
+    (OfOptions parts rule answer
+    (OfDivisor y answer (ChecksRoundedQuotientTo (λ z. z.0) (λ z. z.1) lo hi (rule_of rule) parts (quotient_of x.0 x.1 y.0 y.1))))
 
 -- Inner: the answer is the whole number over 1, or the code 1 for `None`
 -- Example: `Some(6)`: 6/1

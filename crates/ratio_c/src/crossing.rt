@@ -130,6 +130,15 @@ pub trait RuledPair: TwoFractions {
         ensures { result ≡ rule self.now };
 }
 
+/// The same with a number of parts of 1.
+pub trait PartedPair: RuledPair {
+    ghost parts: { Self → ℤ };
+
+    /// The parts, as the library takes them.
+    fn parts(&self) -> Self::Inside
+        ensures { Self.Inside.value result ≡ parts self.now };
+}
+
 /// A fraction and the number of a rule by which it is rounded.
 pub trait Ruled: OneFraction {
     ghost rule: { Self → ℕ };

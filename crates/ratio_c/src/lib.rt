@@ -19,6 +19,7 @@ pub mod laws;
 pub mod lowest_hash;
 pub mod many;
 pub mod multiple;
+pub mod multiple_pair;
 pub mod nearest;
 pub mod numbers128;
 pub mod numbers32;

@@ -7,7 +7,7 @@ ghost use Rattle.ratio_c.specs.Crossing.{wide_number};
 ghost use Rattle.ratio_c.specs.Numbers128.{fraction128, greatest128, least128, said128};
 ghost use Rattle.ratio_c.specs.Numbers32.{greatest32, least32, said32};
 ghost use Rattle.ratio_c.specs.Numbers64.{greatest64, least64, said64};
-ghost use Rattle.ratio_c.specs.Pairs.{IsGcdAnswer, IsLcmAnswer, IsRoundedProductAnswer};
+ghost use Rattle.ratio_c.specs.Pairs.{IsGcdAnswer, IsLcmAnswer, IsProductToAnswer, IsQuotientToAnswer, IsRoundedProductAnswer};
 ghost use Rattle.ratio_c.specs.Texts.{Prints, ShowsDecimal, ShowsFields};
 
 use crate::arithmetic::{Difference, Product, Quotient, Remainder, Sum};
@@ -16,8 +16,8 @@ use crate::cast::Casting;
 use crate::compare::{Comparison, Equality, Order, Truth};
 use crate::convergent::ConvergentAt;
 use crate::crossing::{
-    Bounded, FlaggedBounds, OneFraction, Parted, Placed, Pointed, Raised, Reply, Ruled, RuledPair,
-    TwoFractions,
+    Bounded, FlaggedBounds, OneFraction, Parted, PartedPair, Placed, Pointed, Raised, Reply, Ruled,
+    RuledPair, TwoFractions,
 };
 use crate::decimal::{DecimalTexts, Decimals};
 use crate::divisors::{CommonDivisor, CommonMultiple};
@@ -25,6 +25,7 @@ use crate::each::each;
 use crate::floats::{Float, FromFloat, Rationalizing, ToFloat};
 use crate::hash::{Hash, Hashing};
 use crate::multiple::RoundingTo;
+use crate::multiple_pair::{ProductTo, QuotientTo};
 use crate::nearest::Nearest;
 use crate::numbers32::Answer32;
 use crate::numbers64::Answer64;
@@ -106,6 +107,17 @@ pub struct Bounds128 {
 #[derive(Drop)]
 pub struct Multiple128 {
     pub value: Fraction128,
+    pub parts: Wide,
+    pub rule: u32,
+}
+
+/// Two fractions, a number of parts of 1, and the rule by which their product or quotient is rounded to a multiple of one
+/// part.
+#[repr(C)]
+#[derive(Drop)]
+pub struct Operands128 {
+    pub left: Fraction128,
+    pub right: Fraction128,
     pub parts: Wide,
     pub rule: u32,
 }
@@ -328,6 +340,42 @@ impl RuledPair for Factors128 {
     }
 }
 
+impl TwoFractions for Operands128 {
+    type Inside = i128;
+
+    ghost left = { λ x. fraction128 x.left };
+
+    ghost right = { λ x. fraction128 x.right };
+
+    #[inline(always)]
+    fn left(&self) -> (i128, i128) {
+        (self.left.numer.number(), self.left.denom.number())
+    }
+
+    #[inline(always)]
+    fn right(&self) -> (i128, i128) {
+        (self.right.numer.number(), self.right.denom.number())
+    }
+}
+
+impl RuledPair for Operands128 {
+    ghost rule = { λ x. x.rule };
+
+    #[inline(always)]
+    fn rule(&self) -> u32 {
+        self.rule
+    }
+}
+
+impl PartedPair for Operands128 {
+    ghost parts = { λ x. (wide_number x.parts) };
+
+    #[inline(always)]
+    fn parts(&self) -> i128 {
+        self.parts.number()
+    }
+}
+
 impl Reply<i128> for Answer128 {
     ghost said = { said128 };
 
@@ -427,6 +475,22 @@ pub extern "C" fn ratio_mul_round_i128(asked: &[Factors128], answers: &mut [Answ
     ensures { AnswersEach (λ x answer. IsRoundedProductAnswer least128 greatest128 (fraction128 x.left) (fraction128 x.right) x.rule (said128 answer)) asked.now answers.old answers.new result }
 {
     each(&RoundedProduct, asked, answers)
+}
+
+/// The product of each pair, rounded by a rule to a multiple of 1/parts.
+#[unsafe(no_mangle)]
+pub extern "C" fn ratio_mul_round_to_i128(asked: &[Operands128], answers: &mut [Answer128]) -> u32
+    ensures { AnswersEach (λ x answer. IsProductToAnswer least128 greatest128 (fraction128 x.left) (fraction128 x.right) (wide_number x.parts) x.rule (said128 answer)) asked.now answers.old answers.new result }
+{
+    each(&ProductTo, asked, answers)
+}
+
+/// The quotient of each pair, rounded in the same way.
+#[unsafe(no_mangle)]
+pub extern "C" fn ratio_div_round_to_i128(asked: &[Operands128], answers: &mut [Answer128]) -> u32
+    ensures { AnswersEach (λ x answer. IsQuotientToAnswer least128 greatest128 (fraction128 x.left) (fraction128 x.right) (wide_number x.parts) x.rule (said128 answer)) asked.now answers.old answers.new result }
+{
+    each(&QuotientTo, asked, answers)
 }
 
 /// The lowest terms of each fraction.

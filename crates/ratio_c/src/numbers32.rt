@@ -8,7 +8,7 @@ ghost use Rattle.ratio_c.specs.LowestHash.{IsLowestHashAnswer};
 ghost use Rattle.ratio_c.specs.Numbers32.{fraction32, greatest32, least32, said32};
 ghost use Rattle.ratio_c.specs.Numbers64.{greatest64, least64, said64};
 ghost use Rattle.ratio_c.specs.Numbers128.{greatest128, least128, said128};
-ghost use Rattle.ratio_c.specs.Pairs.{IsGcdAnswer, IsLcmAnswer, IsRoundedProductAnswer};
+ghost use Rattle.ratio_c.specs.Pairs.{IsGcdAnswer, IsLcmAnswer, IsProductToAnswer, IsQuotientToAnswer, IsRoundedProductAnswer};
 ghost use Rattle.ratio_c.specs.Texts.{Prints, ShowsDecimal, ShowsFields};
 
 use crate::arithmetic::{Difference, Product, Quotient, Remainder, Sum};
@@ -17,8 +17,8 @@ use crate::cast::Casting;
 use crate::compare::{Comparison, Equality, Order, Truth};
 use crate::convergent::ConvergentAt;
 use crate::crossing::{
-    Bounded, FlaggedBounds, OneFraction, Parted, Placed, Pointed, Raised, Reply, Ruled, RuledPair,
-    TwoFractions,
+    Bounded, FlaggedBounds, OneFraction, Parted, PartedPair, Placed, Pointed, Raised, Reply, Ruled,
+    RuledPair, TwoFractions,
 };
 use crate::decimal::{DecimalTexts, Decimals};
 use crate::divisors::{CommonDivisor, CommonMultiple};
@@ -27,6 +27,7 @@ use crate::floats::{Float, FromFloat, Rationalizing, ToFloat};
 use crate::hash::{Hash, Hashing};
 use crate::lowest_hash::LowestHashing;
 use crate::multiple::RoundingTo;
+use crate::multiple_pair::{ProductTo, QuotientTo};
 use crate::nearest::Nearest;
 use crate::numbers64::Answer64;
 use crate::numbers128::Answer128;
@@ -107,6 +108,17 @@ pub struct Bounds32 {
 #[derive(Drop)]
 pub struct Multiple32 {
     pub value: Fraction32,
+    pub parts: i32,
+    pub rule: u32,
+}
+
+/// Two fractions, a number of parts of 1, and the rule by which their product or quotient is rounded to a multiple of one
+/// part.
+#[repr(C)]
+#[derive(Drop)]
+pub struct Operands32 {
+    pub left: Fraction32,
+    pub right: Fraction32,
     pub parts: i32,
     pub rule: u32,
 }
@@ -329,6 +341,42 @@ impl RuledPair for Factors32 {
     }
 }
 
+impl TwoFractions for Operands32 {
+    type Inside = i32;
+
+    ghost left = { λ x. fraction32 x.left };
+
+    ghost right = { λ x. fraction32 x.right };
+
+    #[inline(always)]
+    fn left(&self) -> (i32, i32) {
+        (self.left.numer, self.left.denom)
+    }
+
+    #[inline(always)]
+    fn right(&self) -> (i32, i32) {
+        (self.right.numer, self.right.denom)
+    }
+}
+
+impl RuledPair for Operands32 {
+    ghost rule = { λ x. x.rule };
+
+    #[inline(always)]
+    fn rule(&self) -> u32 {
+        self.rule
+    }
+}
+
+impl PartedPair for Operands32 {
+    ghost parts = { λ x. x.parts };
+
+    #[inline(always)]
+    fn parts(&self) -> i32 {
+        self.parts
+    }
+}
+
 impl Reply<i32> for Answer32 {
     ghost said = { said32 };
 
@@ -425,6 +473,22 @@ pub extern "C" fn ratio_mul_round_i32(asked: &[Factors32], answers: &mut [Answer
     ensures { AnswersEach (λ x answer. IsRoundedProductAnswer least32 greatest32 (fraction32 x.left) (fraction32 x.right) x.rule (said32 answer)) asked.now answers.old answers.new result }
 {
     each(&RoundedProduct, asked, answers)
+}
+
+/// The product of each pair, rounded by a rule to a multiple of 1/parts.
+#[unsafe(no_mangle)]
+pub extern "C" fn ratio_mul_round_to_i32(asked: &[Operands32], answers: &mut [Answer32]) -> u32
+    ensures { AnswersEach (λ x answer. IsProductToAnswer least32 greatest32 (fraction32 x.left) (fraction32 x.right) x.parts x.rule (said32 answer)) asked.now answers.old answers.new result }
+{
+    each(&ProductTo, asked, answers)
+}
+
+/// The quotient of each pair, rounded in the same way.
+#[unsafe(no_mangle)]
+pub extern "C" fn ratio_div_round_to_i32(asked: &[Operands32], answers: &mut [Answer32]) -> u32
+    ensures { AnswersEach (λ x answer. IsQuotientToAnswer least32 greatest32 (fraction32 x.left) (fraction32 x.right) x.parts x.rule (said32 answer)) asked.now answers.old answers.new result }
+{
+    each(&QuotientTo, asked, answers)
 }
 
 /// The lowest terms of each fraction.

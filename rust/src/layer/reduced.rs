@@ -1,8 +1,8 @@
 //! The fraction type that is always in lowest terms.
 //!
-//! Two calls of the proved type require something of a plain number, and this module tests it. `decimal` requires at most 38
-//! places, and panics if there are more. `round_to` requires a positive number of parts, and is `None` if it is not positive. The
-//! others require nothing.
+//! Four calls of the proved type require something of a plain number, and this module tests it. `decimal` requires at most 38
+//! places, and panics if there are more. `round_to`, `checked_mul_round_to` and `checked_div_round_to` require a positive number of
+//! parts, and are `None` if it is not positive. The others require nothing.
 use super::continued::{Convergents, Quotients, in_proved};
 use super::floats::Float;
 use super::integer::{Element, Integer, Signs};
@@ -483,6 +483,31 @@ impl<T: Integer> Reduced<T> {
         self.fraction.checked_mul_round(other.into().fraction, rule).map(T::from_proved)
     }
 
+    /// The product, rounded by the rule to a multiple of `1/parts`, such as cents for 100. It is `None` if the lowest terms of the
+    /// multiple do not fit the type, or if `parts` is not above 0. The product itself need not fit. A number may be the right
+    /// operand, too.
+    ///
+    /// ```
+    /// use num_rational::{Reduced64, Rounding};
+    ///
+    /// let price = Reduced64::from_decimal("19.99").unwrap();
+    /// let hours = Reduced64::from_decimal("2.25").unwrap();
+    /// assert_eq!(price.checked_mul_round_to(hours, 100, Rounding::HalfEven), Reduced64::checked_new(2249, 50)); // 44.98
+    /// assert_eq!(price.checked_mul_round_to(3, 0, Rounding::HalfEven), None);
+    /// let most = Reduced64::from_decimal("92233720368547758.07").unwrap();
+    /// let share = Reduced64::from_decimal("0.999").unwrap();
+    /// assert_eq!(most.checked_mul(share), None);
+    /// assert_eq!(most.checked_mul_round_to(share, 100, Rounding::HalfEven), Reduced64::checked_new(9214148664817921031, 100));
+    /// ```
+    #[inline]
+    pub fn checked_mul_round_to<O: Into<Reduced<T>>>(&self, other: O, parts: T, rule: Rounding) -> Option<Reduced<T>> {
+        if T::NUMBER_0 < parts {
+            Reduced::of(self.fraction.checked_mul_round_to(other.into().fraction, parts.into_proved(), rule))
+        } else {
+            None
+        }
+    }
+
     /// The quotient, rounded by the rule to a whole number, or `None` if the divisor is 0 or that number does not fit the type. The
     /// quotient itself need not fit. A number may be the divisor, too.
     ///
@@ -498,6 +523,27 @@ impl<T: Integer> Reduced<T> {
     #[inline]
     pub fn checked_div_round<O: Into<Reduced<T>>>(&self, other: O, rule: Rounding) -> Option<T> {
         self.fraction.checked_div_round(other.into().fraction, rule).map(T::from_proved)
+    }
+
+    /// The quotient, rounded by the rule to a multiple of `1/parts`, such as cents for 100. It is `None` if the divisor is 0, if the
+    /// lowest terms of the multiple do not fit the type, or if `parts` is not above 0. The quotient itself need not fit. A number
+    /// may be the divisor, too.
+    ///
+    /// ```
+    /// use num_rational::{Reduced64, Rounding};
+    ///
+    /// let bill = Reduced64::from_decimal("100").unwrap();
+    /// assert_eq!(bill.checked_div_round_to(3, 100, Rounding::HalfEven), Reduced64::checked_new(3333, 100));
+    /// assert_eq!(bill.checked_div_round_to(0, 100, Rounding::HalfEven), None);
+    /// assert_eq!(bill.checked_div_round_to(3, -100, Rounding::HalfEven), None);
+    /// ```
+    #[inline]
+    pub fn checked_div_round_to<O: Into<Reduced<T>>>(&self, other: O, parts: T, rule: Rounding) -> Option<Reduced<T>> {
+        if T::NUMBER_0 < parts {
+            Reduced::of(self.fraction.checked_div_round_to(other.into().fraction, parts.into_proved(), rule))
+        } else {
+            None
+        }
     }
 
     /// The sum of the items, or `None` if its lowest terms do not fit the type. A partial sum may fit no type: over `i8`,

@@ -14,7 +14,7 @@ mod whole;
 pub use exact::exact_decimal;
 pub use long::write_places;
 pub use places::decimal;
-pub use product::{rounded_product, rounded_quotient};
+pub use product::{rounded_product, rounded_product_to, rounded_quotient, rounded_quotient_to};
 pub use reading::{DecimalRefusal, from_decimal};
 pub use rounded::round_to;
 pub use typed::{TextRefusal, from_text};

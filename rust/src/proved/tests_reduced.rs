@@ -29,6 +29,7 @@ mod precision;
 #[cfg(test)]
 mod refusal_texts;
 #[cfg(test)]
+mod rounded_multiples;
 mod rounded_products;
 #[cfg(test)]
 mod simplest;

@@ -16,7 +16,8 @@ use ratio_core::text::{
 use ratio_core::{BaseTenText, Form, RatioText, Steps};
 use ratio_decimal::rounding_rule::Rounding;
 use ratio_decimal::{
-    decimal, from_decimal, from_text, round_to, rounded_product, rounded_quotient,
+    decimal, from_decimal, from_text, round_to, rounded_product, rounded_product_to,
+    rounded_quotient, rounded_quotient_to,
 };
 use ratio_float::nearest::{to_f32, to_f64};
 use ratio_integer::{both_cancelled, both_lowest_terms, cancelled, lowest_terms};
@@ -32,6 +33,8 @@ fn reducing(rt: HostRuntime) {
         round_to(2i64, 3, 100, Rounding::HalfEven) == Some((67, 100)),
         rounded_product(7i64, 3, 5, 2, Rounding::HalfEven) == Some(6),
         rounded_quotient(7i64, 3, -2, 5, Rounding::HalfEven) == Some(-6),
+        rounded_product_to(7i64, 3, 5, 2, 4, Rounding::HalfEven) == Some((23, 4)),
+        rounded_quotient_to(7i64, 3, -2, 5, 4, Rounding::HalfEven) == Some((-23, 4)),
         to_f64(-7i64, 2) == -3.5,
         to_f32(-7i64, 2) == -3.5,
         recip(-2i64, 3) == (-3, 2),

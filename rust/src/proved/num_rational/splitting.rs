@@ -40,9 +40,6 @@ impl fmt::Display for SplitRefusal {
     }
 }
 
-#[cfg(feature = "std")]
-impl Error for SplitRefusal {}
-
 /// Splits the amount by the shares into the parts. The parts add up to the amount exactly, and each is less than
 /// 1 away from the amount times its share. For example, 100 split by 1/3, 1/3 and 1/3 is 33, 34 and 33. At a
 /// refusal no part has changed. The sums of the first shares, times the amount, are rounded with a half away from
@@ -152,3 +149,6 @@ fn write_parts<T: Copy + Integer, S: Share<T>>(amount: T, shares: &[S], parts: &
         mark = next_mark;
     }
 }
+
+#[cfg(feature = "std")]
+impl Error for SplitRefusal {}

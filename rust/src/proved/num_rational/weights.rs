@@ -34,9 +34,6 @@ impl fmt::Display for WeightRefusal {
     }
 }
 
-#[cfg(feature = "std")]
-impl Error for WeightRefusal {}
-
 /// Splits the amount by the weights into the parts. The share of a weight is the weight over the sum of all. The parts
 /// add up to the amount exactly, and each is less than 1 away from the amount times its share. For example, 100 split
 /// by the weights 1, 1 and 1 is 33, 34 and 33. At a refusal no part has changed. The sums of the first shares, times
@@ -95,3 +92,6 @@ fn write_parts<T: Copy + Integer>(amount: T, weights: &[T], total: T, parts: &mu
         mark = next;
     }
 }
+
+#[cfg(feature = "std")]
+impl Error for WeightRefusal {}

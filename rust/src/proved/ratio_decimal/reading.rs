@@ -34,9 +34,6 @@ impl fmt::Display for DecimalRefusal {
     }
 }
 
-#[cfg(feature = "std")]
-impl Error for DecimalRefusal {}
-
 /// The lowest terms of a decimal: 99/8 for `12.375`. The text is a sign or none, digits with at most one point, and an
 /// exponent or none, such as `e-3`. It has at least one digit before the exponent. The value is exact, however long the
 /// text is: `0.500000000000000000000000000` is 1/2.
@@ -73,3 +70,6 @@ fn signed<T: Primitive>(below: bool, size: u128) -> Option<T> {
         T::from_u128(size)
     }
 }
+
+#[cfg(feature = "std")]
+impl Error for DecimalRefusal {}

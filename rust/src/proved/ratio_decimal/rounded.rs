@@ -44,9 +44,16 @@ pub(crate) fn rounded<T: Integer>(n: T, d: T, parts: T, rule: Rounding) -> (T, T
     }
 }
 
-// One `1/parts` more.
+/// One `1/parts` more.
+///
+/// # Conditions
+///
+/// The proof requires of the caller:
+///
+/// - `part`: `IsPart (T.value x.1) (T.value parts)`
+/// - `room`: `IsHeld T.lo T.hi (T.value x.0 +ℤ pos 1)`
 #[inline]
-fn next<T: Integer>(x: (T, T), parts: T) -> (T, T) {
+pub(crate) fn next<T: Integer>(x: (T, T), parts: T) -> (T, T) {
     let _ = parts.held();
     let part = x.1.plus(T::ONE);
     if part == parts {

@@ -112,9 +112,9 @@ fn is_half<T: Integer>(left: T, d: T) -> bool {
     d.minus(left) == left
 }
 
-// Whether a multiple is an odd number of `1/parts`.
+/// Whether a multiple is an odd number of `1/parts`.
 #[inline]
-fn is_odd<T: Integer>(x: (T, T), parts: T) -> bool {
+pub(crate) fn is_odd<T: Integer>(x: (T, T), parts: T) -> bool {
     if x.0.is_even() || parts.is_even() {
         x.1.is_odd()
     } else {

@@ -38,9 +38,6 @@ impl fmt::Display for TextRefusal {
     }
 }
 
-#[cfg(feature = "std")]
-impl Error for TextRefusal {}
-
 /// The lowest terms of what a person types. The text is one of these:
 ///
 /// - a decimal, as `from_decimal` reads it: `-0.5`;
@@ -78,3 +75,6 @@ fn typed_terms(text: &[u8]) -> Result<SignedTerms, TextRefusal> {
         },
     }
 }
+
+#[cfg(feature = "std")]
+impl Error for TextRefusal {}

@@ -101,6 +101,12 @@ pub trait RuledPair: TwoFractions {
     fn rule(&self) -> u32;
 }
 
+/// The same with a number of parts of 1.
+pub trait PartedPair: RuledPair {
+    /// The parts, as the library takes them.
+    fn parts(&self) -> Self::Inside;
+}
+
 /// A fraction and the number of a rule by which it is rounded.
 pub trait Ruled: OneFraction {
     /// The number of the rule.

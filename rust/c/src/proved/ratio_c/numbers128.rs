@@ -8,8 +8,8 @@ use crate::proved::ratio_c::cast::Casting;
 use crate::proved::ratio_c::compare::{Comparison, Equality, Order, Truth};
 use crate::proved::ratio_c::convergent::ConvergentAt;
 use crate::proved::ratio_c::crossing::{
-    Bounded, FlaggedBounds, OneFraction, Parted, Placed, Pointed, Raised, Reply, Ruled, RuledPair,
-    TwoFractions,
+    Bounded, FlaggedBounds, OneFraction, Parted, PartedPair, Placed, Pointed, Raised, Reply, Ruled,
+    RuledPair, TwoFractions,
 };
 use crate::proved::ratio_c::decimal::{DecimalTexts, Decimals};
 use crate::proved::ratio_c::divisors::{CommonDivisor, CommonMultiple};
@@ -17,6 +17,7 @@ use crate::proved::ratio_c::each::each;
 use crate::proved::ratio_c::floats::{Float, FromFloat, Rationalizing, ToFloat};
 use crate::proved::ratio_c::hash::{Hash, Hashing};
 use crate::proved::ratio_c::multiple::RoundingTo;
+use crate::proved::ratio_c::multiple_pair::{ProductTo, QuotientTo};
 use crate::proved::ratio_c::nearest::Nearest;
 use crate::proved::ratio_c::numbers32::Answer32;
 use crate::proved::ratio_c::numbers64::Answer64;
@@ -90,6 +91,16 @@ pub struct Bounds128 {
 #[repr(C)]
 pub struct Multiple128 {
     pub value: Fraction128,
+    pub parts: Wide,
+    pub rule: u32,
+}
+
+/// Two fractions, a number of parts of 1, and the rule by which their product or quotient is rounded to a multiple of one
+/// part.
+#[repr(C)]
+pub struct Operands128 {
+    pub left: Fraction128,
+    pub right: Fraction128,
     pub parts: Wide,
     pub rule: u32,
 }
@@ -268,6 +279,34 @@ impl RuledPair for Factors128 {
     }
 }
 
+impl TwoFractions for Operands128 {
+    type Inside = i128;
+
+    #[inline(always)]
+    fn left(&self) -> (i128, i128) {
+        (self.left.numer.number(), self.left.denom.number())
+    }
+
+    #[inline(always)]
+    fn right(&self) -> (i128, i128) {
+        (self.right.numer.number(), self.right.denom.number())
+    }
+}
+
+impl RuledPair for Operands128 {
+    #[inline(always)]
+    fn rule(&self) -> u32 {
+        self.rule
+    }
+}
+
+impl PartedPair for Operands128 {
+    #[inline(always)]
+    fn parts(&self) -> i128 {
+        self.parts.number()
+    }
+}
+
 impl Reply<i128> for Answer128 {
     #[inline(always)]
     fn reply(code: u32, numer: i128, denom: i128) -> Answer128 {
@@ -376,6 +415,24 @@ pub unsafe extern "C" fn ratio_mul_round_i128(asked: *const Factors128, asked_le
     let asked = core::slice::from_raw_parts(asked, asked_len);
     let answers = core::slice::from_raw_parts_mut(answers, answers_len);
     each(&RoundedProduct, asked, answers)
+}
+
+/// The product of each pair, rounded by a rule to a multiple of 1/parts.
+#[no_mangle]
+pub unsafe extern "C" fn ratio_mul_round_to_i128(asked: *const Operands128, asked_len: usize, answers: *mut Answer128, answers_len: usize) -> u32 {
+    // SAFETY: the header says what the caller owes for each pointer and its length.
+    let asked = core::slice::from_raw_parts(asked, asked_len);
+    let answers = core::slice::from_raw_parts_mut(answers, answers_len);
+    each(&ProductTo, asked, answers)
+}
+
+/// The quotient of each pair, rounded in the same way.
+#[no_mangle]
+pub unsafe extern "C" fn ratio_div_round_to_i128(asked: *const Operands128, asked_len: usize, answers: *mut Answer128, answers_len: usize) -> u32 {
+    // SAFETY: the header says what the caller owes for each pointer and its length.
+    let asked = core::slice::from_raw_parts(asked, asked_len);
+    let answers = core::slice::from_raw_parts_mut(answers, answers_len);
+    each(&QuotientTo, asked, answers)
 }
 
 /// The lowest terms of each fraction.

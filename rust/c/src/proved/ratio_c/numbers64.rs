@@ -8,8 +8,8 @@ use crate::proved::ratio_c::cast::Casting;
 use crate::proved::ratio_c::compare::{Comparison, Equality, Order, Truth};
 use crate::proved::ratio_c::convergent::ConvergentAt;
 use crate::proved::ratio_c::crossing::{
-    Bounded, FlaggedBounds, OneFraction, Parted, Placed, Pointed, Raised, Reply, Ruled, RuledPair,
-    TwoFractions,
+    Bounded, FlaggedBounds, OneFraction, Parted, PartedPair, Placed, Pointed, Raised, Reply, Ruled,
+    RuledPair, TwoFractions,
 };
 use crate::proved::ratio_c::decimal::{DecimalTexts, Decimals};
 use crate::proved::ratio_c::divisors::{CommonDivisor, CommonMultiple};
@@ -18,6 +18,7 @@ use crate::proved::ratio_c::floats::{Float, FromFloat, Rationalizing, ToFloat};
 use crate::proved::ratio_c::hash::{Hash, Hashing};
 use crate::proved::ratio_c::lowest_hash::LowestHashing;
 use crate::proved::ratio_c::multiple::RoundingTo;
+use crate::proved::ratio_c::multiple_pair::{ProductTo, QuotientTo};
 use crate::proved::ratio_c::nearest::Nearest;
 use crate::proved::ratio_c::numbers32::Answer32;
 use crate::proved::ratio_c::numbers128::Answer128;
@@ -90,6 +91,16 @@ pub struct Bounds64 {
 #[repr(C)]
 pub struct Multiple64 {
     pub value: Fraction64,
+    pub parts: i64,
+    pub rule: u32,
+}
+
+/// Two fractions, a number of parts of 1, and the rule by which their product or quotient is rounded to a multiple of one
+/// part.
+#[repr(C)]
+pub struct Operands64 {
+    pub left: Fraction64,
+    pub right: Fraction64,
     pub parts: i64,
     pub rule: u32,
 }
@@ -268,6 +279,34 @@ impl RuledPair for Factors64 {
     }
 }
 
+impl TwoFractions for Operands64 {
+    type Inside = i64;
+
+    #[inline(always)]
+    fn left(&self) -> (i64, i64) {
+        (self.left.numer, self.left.denom)
+    }
+
+    #[inline(always)]
+    fn right(&self) -> (i64, i64) {
+        (self.right.numer, self.right.denom)
+    }
+}
+
+impl RuledPair for Operands64 {
+    #[inline(always)]
+    fn rule(&self) -> u32 {
+        self.rule
+    }
+}
+
+impl PartedPair for Operands64 {
+    #[inline(always)]
+    fn parts(&self) -> i64 {
+        self.parts
+    }
+}
+
 impl Reply<i64> for Answer64 {
     #[inline(always)]
     fn reply(code: u32, numer: i64, denom: i64) -> Answer64 {
@@ -373,6 +412,24 @@ pub unsafe extern "C" fn ratio_mul_round_i64(asked: *const Factors64, asked_len:
     let asked = core::slice::from_raw_parts(asked, asked_len);
     let answers = core::slice::from_raw_parts_mut(answers, answers_len);
     each(&RoundedProduct, asked, answers)
+}
+
+/// The product of each pair, rounded by a rule to a multiple of 1/parts.
+#[no_mangle]
+pub unsafe extern "C" fn ratio_mul_round_to_i64(asked: *const Operands64, asked_len: usize, answers: *mut Answer64, answers_len: usize) -> u32 {
+    // SAFETY: the header says what the caller owes for each pointer and its length.
+    let asked = core::slice::from_raw_parts(asked, asked_len);
+    let answers = core::slice::from_raw_parts_mut(answers, answers_len);
+    each(&ProductTo, asked, answers)
+}
+
+/// The quotient of each pair, rounded in the same way.
+#[no_mangle]
+pub unsafe extern "C" fn ratio_div_round_to_i64(asked: *const Operands64, asked_len: usize, answers: *mut Answer64, answers_len: usize) -> u32 {
+    // SAFETY: the header says what the caller owes for each pointer and its length.
+    let asked = core::slice::from_raw_parts(asked, asked_len);
+    let answers = core::slice::from_raw_parts_mut(answers, answers_len);
+    each(&QuotientTo, asked, answers)
 }
 
 /// The lowest terms of each fraction.

@@ -38,9 +38,16 @@ fn of_parts<T: Integer>(top: T, b: T, d: T, rule: Rounding) -> Option<T> {
     numerator_of(x.0, carried_on(x.1, up), top)
 }
 
-// The square of `h` by `b`, as a multiple of `top`, a part of it, and a rest.
+/// The square of `h` by `b`, as a multiple of `top`, a part of it, and a rest.
+///
+/// # Conditions
+///
+/// The proof requires of the caller:
+///
+/// - `some`: `pos 1 <ℤ T.value top`
+/// - `positive`: `pos 1 <ℤ T.value b`
 #[inline]
-fn square_over<T: Integer>(top: T, b: T) -> ((T, T), T) {
+pub(super) fn square_over<T: Integer>(top: T, b: T) -> ((T, T), T) {
     let _ = top.held();
     let (quotient, rest) = next_over(top, b);
     let (first, start) = multiple_over(rest, top, b);

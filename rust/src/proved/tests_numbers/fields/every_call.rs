@@ -17,7 +17,8 @@ use crate::proved::ratio_core::text::{
 use crate::proved::ratio_core::{BaseTenText, Form, RatioText, Steps};
 use crate::proved::ratio_decimal::rounding_rule::Rounding;
 use crate::proved::ratio_decimal::{
-    decimal, from_decimal, from_text, round_to, rounded_product, rounded_quotient,
+    decimal, from_decimal, from_text, round_to, rounded_product, rounded_product_to,
+    rounded_quotient, rounded_quotient_to,
 };
 use crate::proved::ratio_float::nearest::{to_f32, to_f64};
 use crate::proved::ratio_integer::{both_cancelled, both_lowest_terms, cancelled, lowest_terms};
@@ -33,6 +34,8 @@ fn reducing() {
         round_to(2i64, 3, 100, Rounding::HalfEven) == Some((67, 100)),
         rounded_product(7i64, 3, 5, 2, Rounding::HalfEven) == Some(6),
         rounded_quotient(7i64, 3, -2, 5, Rounding::HalfEven) == Some(-6),
+        rounded_product_to(7i64, 3, 5, 2, 4, Rounding::HalfEven) == Some((23, 4)),
+        rounded_quotient_to(7i64, 3, -2, 5, 4, Rounding::HalfEven) == Some((-23, 4)),
         to_f64(-7i64, 2) == -3.5,
         to_f32(-7i64, 2) == -3.5,
         recip(-2i64, 3) == (-3, 2),

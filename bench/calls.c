@@ -21,6 +21,7 @@ enum { ITEMS = 8 };
 static ratio_i64 halves[LEN], smalls[LEN];
 static ratio_pair_i64 pairs[LEN];
 static ratio_factors_i64 factors[LEN];
+static ratio_operands_i64 operands[LEN];
 static ratio_power_i64 powers[LEN];
 static ratio_bounded_i64 bounded[LEN];
 static ratio_bounds_i64 bounds[LEN];
@@ -75,6 +76,7 @@ static uint64_t *joined_room(void) {
     X(add_i64, pairs, answers, "half") X(sub_i64, pairs, answers, "half") X(mul_i64, pairs, answers, "half") \
     X(div_i64, pairs, answers, "half") X(rem_i64, pairs, answers, "half")                                   \
     X(gcd_i64, pairs, answers, "half") X(lcm_i64, pairs, answers, "half") X(mul_round_i64, factors, answers, "half") X(pow_i64, powers, answers, "half") \
+    X(mul_round_to_i64, operands, answers, "half") X(div_round_to_i64, operands, answers, "half")           \
     X(reduce_i64, halves, answers, "half") X(neg_i64, halves, answers, "half") X(abs_i64, halves, answers, "half") \
     X(floor_i64, halves, answers, "half") X(ceil_i64, halves, answers, "half") X(trunc_i64, halves, answers, "half") \
     X(round_i64, halves, answers, "half") X(round_to_i64, multiples, answers, "half")                       \
@@ -172,6 +174,10 @@ static void fill(void) {
         factors[i].left = x;
         factors[i].right = y;
         factors[i].rule = RATIO_RULE_HALF_EVEN;
+        operands[i].left = x;
+        operands[i].right = y;
+        operands[i].parts = 100;
+        operands[i].rule = RATIO_RULE_HALF_EVEN;
         smalls[i] = fraction(1000000, 16);
         powers[i].base = fraction(1 << 15, 1 << 15);
         powers[i].exponent = (int32_t) random_below(4) - 1;

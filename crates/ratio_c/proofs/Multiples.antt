@@ -33,9 +33,13 @@ pub rounded_quotient_said : {R : Type 0} (first second : R → ℤ) (lo hi : ℤ
     → rule ≡ other → parts ≡ more → x ≡ y → ChecksRoundedQuotientTo first second lo hi rule parts x r
     → answer ≡ said_of (option_map (λ z. (first z, second z)) r) → Says (ChecksRoundedQuotientTo (λ (z : ℤ × ℤ). z.0) (λ (z : ℤ × ℤ). z.1) lo hi other more y) answer
 rounded_quotient_said {R = R} first second lo hi rule other parts more x y r answer rules numbers same told said =
-    record { result = option_map pair r; is_result = subst (λ t. ChecksRoundedQuotientTo (λ (z : ℤ × ℤ). z.0) (λ (z : ℤ × ℤ). z.1) lo hi t more y (option_map pair r)) rules
-        (subst (λ t. ChecksRoundedQuotientTo (λ (z : ℤ × ℤ). z.0) (λ (z : ℤ × ℤ). z.1) lo hi rule t y (option_map pair r)) numbers
-        (subst (λ t. ChecksRoundedQuotientTo (λ (z : ℤ × ℤ). z.0) (λ (z : ℤ × ℤ). z.1) lo hi rule parts t (option_map pair r)) same mapped)); is_said = said }
+    record {
+      result = option_map pair r;
+      is_result = subst (λ t. ChecksRoundedQuotientTo (λ (z : ℤ × ℤ). z.0) (λ (z : ℤ × ℤ). z.1) lo hi t more y (option_map pair r)) rules
+          (subst (λ t. ChecksRoundedQuotientTo (λ (z : ℤ × ℤ). z.0) (λ (z : ℤ × ℤ). z.1) lo hi rule t y (option_map pair r)) numbers
+          (subst (λ t. ChecksRoundedQuotientTo (λ (z : ℤ × ℤ). z.0) (λ (z : ℤ × ℤ). z.1) lo hi rule parts t (option_map pair r)) same mapped));
+      is_said = said;
+    }
   where
     pair : R → ℤ × ℤ
     pair z = (first z, second z)

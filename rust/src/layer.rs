@@ -8,12 +8,17 @@
 mod approximations;
 mod arithmetic;
 mod as_reduced;
+mod bounds;
 mod casts;
+mod constants;
 mod continued;
 mod conversions;
+mod euclid;
 mod exponents;
+mod float_values;
 mod floats;
 mod integer;
+mod left_numbers;
 mod list_sums;
 mod many_products;
 mod numbers;
@@ -40,6 +45,7 @@ mod total;
 
 pub use casts::CastError;
 pub use continued::{Convergents, Quotients};
+pub use float_values::FloatError;
 pub use integer::Integer;
 pub use ratio::{Ratio, Rational, Rational32, Rational64};
 pub use reduced::{Reduced, Reduced32, Reduced64};

@@ -51,7 +51,7 @@ pub mod integer {
     pub use crate::layer::Integer;
 }
 
-pub use layer::{CastError, Convergents, Quotients, Ratio, Rational, Rational32, Rational64, Reduced, Reduced32, Reduced64, ReducedError};
+pub use layer::{CastError, Convergents, FloatError, Quotients, Ratio, Rational, Rational32, Rational64, Reduced, Reduced32, Reduced64, ReducedError};
 pub use layer::{split, split_by_weights};
 #[cfg(feature = "alloc")]
 pub use layer::{TooLong, Total};

@@ -5,7 +5,7 @@
 
 use bakhsney::integer::Integer;
 use bakhsney::{Ratio, Reduced, Rounding, Total};
-use num_traits::{Inv, Num, Pow, Signed};
+use num_traits::{Euclid, Inv, Num, Pow, Signed};
 use std::cell::RefCell;
 use std::collections::hash_map::DefaultHasher;
 use std::hash::Hash;
@@ -85,6 +85,8 @@ fn place_of(call: fn()) -> (String, u32) {
 const MAKING: &[Row] = &[
     ("new", line!(), || done(Ratio::new(1, 0))),
     ("new of what does not fit", line!(), || done(Ratio::new(1, i32::MIN))),
+    ("const_new", line!(), || done(Fraction::const_new(1, 0))),
+    ("const_new of what does not fit", line!(), || done(Fraction::const_new(1, i32::MIN))),
     ("reduced", line!(), || done(refused().reduced())),
     ("from a pair", line!(), || done(Ratio::from((1, 0)))),
     ("from_str_radix", line!(), || done(Fraction::from_str_radix("1/1", 37))),
@@ -107,6 +109,12 @@ const ARITHMETIC: &[Row] = &[
     ("+= &y", line!(), || done({ let mut x = most(); x += &one(); x })),
     ("+= 1", line!(), || done({ let mut x = most(); x += 1; x })),
     ("+= &1", line!(), || done({ let mut x = most(); x += &1; x })),
+    ("1 + x", line!(), || done(1 + most())),
+    ("1 + &x", line!(), || done(1 + &most())),
+    ("&1 + x", line!(), || done(&1 + most())),
+    ("&1 + &x", line!(), || done(&1 + &most())),
+    ("div_euclid", line!(), || done(one().div_euclid(&zero()))),
+    ("rem_euclid", line!(), || done(one().rem_euclid(&zero()))),
     ("+ of no value", line!(), || done(one() + none())),
     ("sum", line!(), || done(Fraction::sum([most(), one()].into_iter()))),
     ("sum of references", line!(), || done(Fraction::sum([most(), one()].iter()))),

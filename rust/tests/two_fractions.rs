@@ -133,6 +133,18 @@ fn quotient(pair: Pair) -> Option<Fields> {
     lowest(a * d, b * c)
 }
 
+/// The distance of two fractions that have lowest terms.
+fn distance(pair: Pair) -> Option<Fields> {
+    let ((a, b), (c, d)) = (lowest(pair.left.0, pair.left.1)?, lowest(pair.right.0, pair.right.1)?);
+    lowest((a * d - c * b).abs(), b * d)
+}
+
+/// The middle of two fractions that have lowest terms.
+fn middle(pair: Pair) -> Option<Fields> {
+    let ((a, b), (c, d)) = (lowest(pair.left.0, pair.left.1)?, lowest(pair.right.0, pair.right.1)?);
+    lowest(a * d + c * b, 2 * b * d)
+}
+
 /// The product of both and the left one again. No number on the way has to fit.
 fn product_of_three(pair: Pair) -> Option<Fields> {
     let ((a, b), (c, d)) = (positive(pair.left)?, positive(pair.right)?);
@@ -285,6 +297,9 @@ const OTHERS: &[Row<Ratio<i8>>] = rows! { x, y, p:
     x.max(y) => p.chosen(GREATER);
     x.min(y) => p.chosen(AT_MOST);
     x.abs_sub(&y) => or_panic(p.excess());
+    x.checked_abs_diff(&y) => distance(p);
+    x.checked_midpoint(&y) => middle(p);
+    Ratio::<i8>::const_new(*x.numer(), *y.denom()) => or_panic(lowest(p.left.0, p.right.1));
 
     Reduced::from_ratio(&x).map(|x| x == y) => lowest(p.left.0, p.left.1).map(|_| p.is(EQUAL) == Some(true));
     Reduced::from_ratio(&x).map(|x| x < y) => lowest(p.left.0, p.left.1).map(|_| p.is(LESS) == Some(true));

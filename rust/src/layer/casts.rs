@@ -1,4 +1,5 @@
-//! The same fraction over another integer type: `cast`, and the traits `From` and `TryFrom`.
+//! The same fraction over another integer type, by the traits `From` and `TryFrom`. A `Ratio` keeps its fields.
+use super::ratio::Ratio;
 use super::reduced::Reduced;
 use core::fmt;
 
@@ -36,6 +37,14 @@ macro_rules! casts {
                     }
                 }
             }
+
+            impl From<Ratio<$type>> for Ratio<$wide> {
+                #[inline]
+                fn from(fraction: Ratio<$type>) -> Ratio<$wide> {
+                    let (numer, denom) = fraction.into_raw();
+                    Ratio::new_raw(numer.into(), denom.into())
+                }
+            }
         )*
         $(
             impl TryFrom<Reduced<$type>> for Reduced<$other> {
@@ -44,6 +53,19 @@ macro_rules! casts {
                 #[inline]
                 fn try_from(fraction: Reduced<$type>) -> Result<Reduced<$other>, CastError> {
                     fraction.cast().ok_or(CastError(()))
+                }
+            }
+
+            impl TryFrom<Ratio<$type>> for Ratio<$other> {
+                type Error = CastError;
+
+                #[inline]
+                fn try_from(fraction: Ratio<$type>) -> Result<Ratio<$other>, CastError> {
+                    let (numer, denom) = fraction.into_raw();
+                    match (numer.try_into(), denom.try_into()) {
+                        (Ok(numer), Ok(denom)) => Ok(Ratio::new_raw(numer, denom)),
+                        _ => Err(CastError(())),
+                    }
                 }
             }
         )*

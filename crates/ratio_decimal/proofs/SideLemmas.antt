@@ -1,6 +1,6 @@
 -- On which side a rest lies, and what a rule makes of it.
 use Rattle.std.specs.Prelude.{◌≡◌, ◌≢◌, ◌↔◌, ◌≤ℤ◌, ◌<ℤ◌, ◌+ℤ◌, ◌-ℤ◌, ◌*ℤ◌, ℤ, pos, Bool, true, false, IsTrue}
-use Rattle.std.proofs.Common.{refl, sym, ap, arith, ◌∙◌, inl, inr}
+use Rattle.std.proofs.Common.{refl, ap, arith, ◌∙◌, inl, inr}
 use Rattle.std.proofs.lemmas.Int.{ints}
 use Rattle.ratio_integer.proofs.Whole.{add-mul, mul_positive}
 use Rattle.ratio_core.specs.Parts.{IsDivided, IsPart, carried}

@@ -1,8 +1,7 @@
-use Rattle.std.specs.Prelude.{◌≡◌, ◌≤ℤ◌, ◌<ℤ◌, ◌-ℤ◌, ℤ, pos}
-use Rattle.std.proofs.Common.{ap, arith, subst, sym, ◌∙◌}
+use Rattle.std.specs.Prelude.{◌≡◌, ◌≤ℤ◌, ◌<ℤ◌, ◌-ℤ◌, pos}
+use Rattle.std.proofs.Common.{ap, arith, sym, ◌∙◌}
 use Rattle.std.proofs.lemmas.Int.{ints}
 use Rattle.ratio_integer.specs.Comparison.{Tells, no, yes}
-use Rattle.ratio_integer.specs.Range.{IsHeld}
 use Rattle.ratio_core.proofs.PartLemmas.{from_zero_held, part_above_zero}
 use Rattle.ratio_core.proofs.TestLemmas.{if_false}
 use Rattle.ratio_decimal.proofs.SideLemmas.{side_above, side_alone, side_at, side_below}

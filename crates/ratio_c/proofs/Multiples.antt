@@ -1,6 +1,6 @@
 -- Multiples, as answers say them.
-use Rattle.std.specs.Prelude.{◌≡◌, ◌*ℤ◌, ℤ, Option, Some, None, option_map}
-use Rattle.std.proofs.Common.{ap, subst, ◌∙◌}
+use Rattle.std.specs.Prelude.{◌≡◌, ◌*ℤ◌, ℤ, IsNone, Option, Some, None, false, option_map, true}
+use Rattle.std.proofs.Common.{ap, refl, subst, ◌∙◌}
 use Rattle.ratio_decimal.specs.Products.{ChecksRoundedQuotientTo}
 use Rattle.ratio_decimal.specs.RoundingRules.{ChecksRounded}
 use Rattle.ratio_decimal.specs.declared.rounding_rule.Rounding.{Rounding}
@@ -28,6 +28,10 @@ multiple_mapped : {R : Type 0} (first second : R → ℤ) (lo hi : ℤ) (rule : 
 multiple_mapped first second lo hi rule parts n d None checks = (checks.0, checks.1, checks.2)
 multiple_mapped first second lo hi rule parts n d (Some z) checks = (checks.0, checks.1, checks.2)
 
+none_mapped : {A B : Type 0} (f : A → B) (r : Option A) → IsNone r → IsNone (option_map f r)
+none_mapped f None h = refl
+none_mapped f (Some z) h = absurd (let no : true ≡ false = h in cc)
+
 -- the same multiple of a quotient, by the numbers of the input
 pub rounded_quotient_said : {R : Type 0} (first second : R → ℤ) (lo hi : ℤ) (rule other : Rounding) (parts more : ℤ) (x y : ℤ × ℤ) (r : Option R) (answer : Said)
     → rule ≡ other → parts ≡ more → x ≡ y → ChecksRoundedQuotientTo first second lo hi rule parts x r
@@ -48,12 +52,15 @@ rounded_quotient_said {R = R} first second lo hi rule other parts more x y r ans
     mapped = record {
       above = λ h. multiple_mapped first second lo hi rule parts _ _ r (told.above h);
       below = λ h. multiple_mapped first second lo hi rule parts _ _ r (told.below h);
-      none = λ h. ap (option_map pair) (told.none h);
+      none = λ h. none_mapped pair r (told.none h);
     }
 
 -- products and pairs of equal numbers
 pub products_same : (a b c d : ℤ) → a ≡ c → b ≡ d → a *ℤ b ≡ c *ℤ d
 products_same a b c d first second = ap (λ (t : ℤ). t *ℤ b) first ∙ ap (λ (t : ℤ). c *ℤ t) second
 
-pub pairs_same : (a b c d : ℤ) → a ≡ c → b ≡ d → (a, b) ≡ (c, d)
-pairs_same a b c d first second = ap (λ (t : ℤ). (t, b)) first ∙ ap (λ (t : ℤ). (c, t)) second
+pub pairs_same : (a b c d : ℤ) → a ≡ c → b ≡ d → ◌≡◌ {A = ℤ × ℤ} (a, b) (c, d)
+pairs_same a b c d first second =
+    let left : ◌≡◌ {A = ℤ × ℤ} (a, b) (c, b) = ap (λ (t : ℤ). (t, b)) first in
+    let right : ◌≡◌ {A = ℤ × ℤ} (c, b) (c, d) = ap (λ (t : ℤ). (c, t)) second in
+    left ∙ right

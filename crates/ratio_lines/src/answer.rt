@@ -5,67 +5,26 @@ ghost use Rattle.either.specs.Either.{MatchEither};
 ghost use Rattle.either.specs.declared.Either.TheVariants.{Left};
 ghost use Rattle.num_rational.specs.Ratio.{numerator, denominator};
 ghost use Rattle.ratio_core.specs.Refusal.{refusal_text};
-ghost use Rattle.ratio_lines.specs.Answers.{IsAnswer, IsChainAnswer, IsOutcome, IsPartsAnswer, IsTextsAnswer, is_chain, is_space, operator_parts, operators_of, order_text, outcome_of_result, right_parts};
+ghost use Rattle.ratio_lines.specs.Answers.{IsAnswer, IsChainAnswer, IsOutcome, IsPartsAnswer, IsTextsAnswer, is_chain, is_space, operator_parts, operators_of, right_parts};
 ghost use Rattle.ratio_lines.specs.AnswerText.{bytes_of, outcome_of};
-ghost use Rattle.ratio_lines.specs.Operands.{number_of};
 ghost use Rattle.ratio_lines.specs.Parts.{AreChained, OperatesOn, RefusesFirst, parts_of, with_first};
 
-use crate::answer_text::AnswerText;
-use crate::limits::LONGEST_LINE;
 use crate::operand::first_operand;
-use crate::operator::{Operator, operator_named};
-use crate::parts::{all_are_terms, first_part, first_short_part};
+use crate::operator::{Operator, apply_operator, operator_named};
+use crate::parts::{LONGEST_LINE, all_are_terms, first_part, first_short_part};
 use either::Either;
 use num_rational::{RatioErrorKind, Rational64};
-use std::cmp::Ordering;
+
+/// The text of an answer, without a line end. On the left is a known text, on the
+/// right a number that is printed in decimal.
+pub type AnswerText = Either<&'static str, Rational64>;
 
 const WANT_THREE: &str = "error: want LEFT OP RIGHT";
 
 /// The answer to a line that is too long.
 pub const TOO_LONG: &str = "error: line too long";
 
-const DIVISION_BY_ZERO: &str = "error: division by zero";
-
 const UNKNOWN_OPERATOR: &str = "error: unknown operator";
-
-/// A result is the number for the next operator. Without one, the answer is `error: out of range`.
-fn result_outcome(checked: Option<Rational64>) -> AnswerText
-    ensures { outcome_of result ≡ outcome_of_result (number_of checked) }
-{
-    match checked {
-        Some(number) => Either::Right(number),
-        None => Either::Left("error: out of range"),
-    }
-}
-
-/// The text of an order.
-fn order_sign(order: Ordering) -> &'static str
-    ensures { result.now ≡ order_text order }
-{
-    match order {
-        Ordering::Less => "<",
-        Ordering::Equal => "=",
-        Ordering::Greater => ">",
-    }
-}
-
-/// The outcome of an operator between two fractions: a number, or the text that is the answer.
-fn apply_operator(operator: Operator, left: Rational64, right: Rational64) -> AnswerText
-    requires left_positive { pos 0 <ℤ denominator left }
-    requires right_positive { pos 0 <ℤ denominator right }
-    ensures { IsOutcome operator (numerator left, denominator left) (numerator right, denominator right) (outcome_of result) }
-{
-    match operator {
-        Operator::Add => result_outcome(left.checked_add(&right)),
-        Operator::Sub => result_outcome(left.checked_sub(&right)),
-        Operator::Mul => result_outcome(left.checked_mul(&right)),
-        Operator::Div if right.is_zero() => Either::Left(DIVISION_BY_ZERO),
-        Operator::Div => result_outcome(left.checked_div(&right)),
-        Operator::Rem if right.is_zero() => Either::Left(DIVISION_BY_ZERO),
-        Operator::Rem => result_outcome(left.checked_rem(&right)),
-        Operator::Cmp => Either::Left(order_sign(left.cmp(&right))),
-    }
-}
 
 /// The outcome of an operator after others. If these gave a text, it stays the answer.
 fn go_on(so_far: AnswerText, operator: Operator, right: Rational64) -> AnswerText

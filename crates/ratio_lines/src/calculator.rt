@@ -6,9 +6,8 @@ ghost use Rattle.ratio_lines.specs.Run.{ReadsLines, Ran, read_failures, write_fa
 
 use crate::counted::{CalcRead, CalcWrite};
 use crate::fault::CalcFault;
-use crate::gathered::Gathered;
+use crate::gathered::{Gathered, answer_piece, put_answer};
 use crate::line::Line;
-use crate::piece::{answer_piece, put_answer};
 
 /// Reads a piece, and returns the number of its bytes: 0 at the end.
 fn read_piece<R: CalcRead>(reader: &mut R, buffer: &mut [u8; 512]) -> Result<usize, CalcFault>

@@ -2,18 +2,13 @@
 #![tactic(auto)]
 
 pub mod answer;
-pub mod answer_text;
 pub mod calculator;
 pub mod calls;
 pub mod counted;
-pub mod cut;
 pub mod fault;
 pub mod gathered;
 pub mod laws;
-pub mod limits;
 pub mod line;
 pub mod operand;
 pub mod operator;
 pub mod parts;
-pub mod piece;
-pub mod plain_line;

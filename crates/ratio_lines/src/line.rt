@@ -1,12 +1,13 @@
-//! `Line`: the line that is being read, as far as it is kept.
-ghost use Rattle.std.specs.Prelude.{◌≡◌, ℕ, ◌≤◌, List, [], length, Option, Some, None, if◌then◌else◌};
+//! `Line`: the line that is being read, as far as it is kept, and the answer to the line that ends first in a piece of the
+//! input.
+ghost use Rattle.std.specs.Prelude.{◌≡◌, ℕ, ◌≤◌, List, [], length, Option, Some, None, if◌then◌else◌, is_some};
 ghost use Rattle.ratio_lines.specs.AnswerText.{bytes_of};
 ghost use Rattle.ratio_lines.specs.KeptLine.{IsKeptAnswer, extended, is_empty};
 ghost use Rattle.ratio_lines.specs.Lines.{longest_line};
+ghost use Rattle.ratio_lines.specs.PlainLine.{IsNextAnswer};
 
-use crate::answer::{TOO_LONG, answer};
-use crate::answer_text::AnswerText;
-use crate::limits::LONGEST_LINE;
+use crate::answer::{AnswerText, TOO_LONG, answer, answer_two};
+use crate::parts::{LONGEST_LINE, cut, plain_line};
 use arrayvec::ArrayVec;
 use either::Either;
 use std::marker::Model;
@@ -72,4 +73,32 @@ impl Line {
             answer(self.bytes.as_slice())
         }
     }
+}
+
+/// The answer to the line that the bytes begin with, and the bytes after
+/// its line end. `None` if there is no line end.
+fn first_answer(bytes: &[u8]) -> Option<(AnswerText, &[u8])>
+    ensures { IsNextAnswer (Some []) bytes.now result }
+{
+    if let Some(line) = plain_line(bytes) {
+        return Some((answer_two(line.left, line.operator, line.right), line.after));
+    }
+    let (line, after) = cut(bytes, b'\n')?;
+    Some((answer(line), after))
+}
+
+/// The answer to the line that ends first in the bytes, and the bytes after its line end. `None` if
+/// there is no line end. A line that also begins in these bytes is answered without a copy.
+pub(crate) fn next_answer<'a>(line: &mut Line, bytes: &'a [u8]) -> Option<(AnswerText, &'a [u8])>
+    ensures answered { IsNextAnswer line.old bytes.now result }
+    ensures line { line.new ≡ (if is_some result then Some [] else line.old) }
+{
+    if line.is_empty() {
+        return first_answer(bytes);
+    }
+    let (ended, after) = cut(bytes, b'\n')?;
+    line.extend(ended);
+    let answer = line.answer();
+    line.clear();
+    Some((answer, after))
 }

@@ -12,19 +12,23 @@ use num_rational::{ParseRatioError, RatioErrorKind, Rational64};
 use ratio_core::text::leading_fields;
 
 /// The first part of a text, read as an operand, and the rest after its space, if it has one. For
-/// example, `6/4 + 2` gives 3/2 and `+ 2`.
+/// example, `6/4 + 2` gives 3/2 and `+ 2`. Where `leading_operand` gives up, the end of the part is
+/// searched for, and then it is read.
 #[inline(always)]
 pub(crate) fn first_operand(text: &str) -> (Result<Rational64, ParseRatioError>, Option<&str>)
     ensures { ReadsFirst text.now (numbers_of result.0) (parts_of result.1) }
 {
     match leading_operand(text) {
         Some(read) => read,
-        None => searched_operand(text),
+        None => {
+            let (part, rest) = first_part(text);
+            (Rational64::from_str(part), rest)
+        }
     }
 }
 
-// The same for a part whose numbers have digits alone, with a minus or without. `None` says nothing about
-// the text.
+// An operand whose numbers have digits alone, with a minus or without, and what comes after it. Its digits
+// are read before its end is known: to search for the end first takes longer. `None` says nothing about the text.
 #[inline(always)]
 fn leading_operand(text: &str) -> Option<(Result<Rational64, ParseRatioError>, Option<&str>)>
     ensures { IfSome result (λ r. ReadsFirst text.now (numbers_of r.0) (parts_of r.1)) }
@@ -72,13 +76,4 @@ fn in_lowest_terms(numer: i64, denom: i64) -> Option<Result<Rational64, ParseRat
         return Some(Err(ParseRatioError::new(RatioErrorKind::ZeroDenominator)));
     }
     Some(Ok(Rational64::checked_new(numer, denom)?))
-}
-
-// The same for any text: the end of the part is searched for, and then it is read.
-#[inline(always)]
-fn searched_operand(text: &str) -> (Result<Rational64, ParseRatioError>, Option<&str>)
-    ensures { ReadsFirst text.now (numbers_of result.0) (parts_of result.1) }
-{
-    let (part, rest) = first_part(text);
-    (Rational64::from_str(part), rest)
 }

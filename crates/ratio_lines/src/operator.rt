@@ -1,6 +1,14 @@
-//! The enum `Operator`: the operators of the calculator, by their names.
-ghost use Rattle.std.specs.Prelude.{◌≡◌, ◌∷◌, []};
-ghost use Rattle.ratio_lines.specs.Operands.{operator_of};
+//! The enum `Operator`: the operators of the calculator, by their names, and what each gives between two fractions.
+ghost use Rattle.std.specs.Prelude.{◌≡◌, ◌<ℤ◌, ◌∷◌, [], pos};
+ghost use Rattle.num_rational.specs.Ratio.{numerator, denominator};
+ghost use Rattle.ratio_lines.specs.Answers.{IsOutcome, order_text, outcome_of_result};
+ghost use Rattle.ratio_lines.specs.AnswerText.{outcome_of};
+ghost use Rattle.ratio_lines.specs.Operands.{number_of, operator_of};
+
+use crate::answer::AnswerText;
+use either::Either;
+use num_rational::Rational64;
+use std::cmp::Ordering;
 
 /// An operator between two operands.
 #[derive(Clone, Copy, PartialEq, Debug)]
@@ -47,5 +55,46 @@ fn operator_of_byte(byte: u8) -> Option<Operator>
         b'/' => Some(Operator::Div),
         b'%' => Some(Operator::Rem),
         _ => None,
+    }
+}
+
+const DIVISION_BY_ZERO: &str = "error: division by zero";
+
+/// A result is the number for the next operator. Without one, the answer is `error: out of range`.
+fn result_outcome(checked: Option<Rational64>) -> AnswerText
+    ensures { outcome_of result ≡ outcome_of_result (number_of checked) }
+{
+    match checked {
+        Some(number) => Either::Right(number),
+        None => Either::Left("error: out of range"),
+    }
+}
+
+/// The text of an order.
+fn order_sign(order: Ordering) -> &'static str
+    ensures { result.now ≡ order_text order }
+{
+    match order {
+        Ordering::Less => "<",
+        Ordering::Equal => "=",
+        Ordering::Greater => ">",
+    }
+}
+
+/// The outcome of an operator between two fractions: a number, or the text that is the answer.
+pub(crate) fn apply_operator(operator: Operator, left: Rational64, right: Rational64) -> AnswerText
+    requires left_positive { pos 0 <ℤ denominator left }
+    requires right_positive { pos 0 <ℤ denominator right }
+    ensures { IsOutcome operator (numerator left, denominator left) (numerator right, denominator right) (outcome_of result) }
+{
+    match operator {
+        Operator::Add => result_outcome(left.checked_add(&right)),
+        Operator::Sub => result_outcome(left.checked_sub(&right)),
+        Operator::Mul => result_outcome(left.checked_mul(&right)),
+        Operator::Div if right.is_zero() => Either::Left(DIVISION_BY_ZERO),
+        Operator::Div => result_outcome(left.checked_div(&right)),
+        Operator::Rem if right.is_zero() => Either::Left(DIVISION_BY_ZERO),
+        Operator::Rem => result_outcome(left.checked_rem(&right)),
+        Operator::Cmp => Either::Left(order_sign(left.cmp(&right))),
     }
 }

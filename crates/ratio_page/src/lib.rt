@@ -8,7 +8,7 @@ mod room;
 #[cfg(test)]
 mod tests;
 
-use ratio_lines::cut::cut;
+use ratio_lines::parts::cut;
 use room::put_answer;
 
 /// Writes the answers to the lines of `input` to the beginning of `room`, and returns their length. If

@@ -4,8 +4,7 @@ ghost use Rattle.ratio_lines.specs.AnswerText.{bytes_of};
 ghost use Rattle.ratio_page.specs.Page.{IsAnswerPut, IsPut};
 
 use either::Either;
-use ratio_lines::answer::answer;
-use ratio_lines::answer_text::AnswerText;
+use ratio_lines::answer::{AnswerText, answer};
 
 /// Puts the answer to a line, and a line end, at a place, and returns where they end. If they do not
 /// fit, it returns `None`, and their first part fills the room to its end.
@@ -17,7 +16,7 @@ pub fn put_answer(line: &[u8], room: &mut [u8], at: usize) -> Option<usize>
     put(b"\n", room, end)
 }
 
-/// The same for an answer without its line end.
+/// Puts an answer without its line end, as `put` puts its bytes: a known text, or a number in decimal.
 fn put_text(answer: &AnswerText, room: &mut [u8], at: usize) -> Option<usize>
     requires { at ≤ length room.old }
     ensures { IsPut (bytes_of answer.now) at room.old room.new result }
@@ -31,7 +30,8 @@ fn put_text(answer: &AnswerText, room: &mut [u8], at: usize) -> Option<usize>
     }
 }
 
-/// The same for any bytes.
+/// Puts bytes at a place, and returns where they end. If they do not fit, it returns `None`, and their
+/// first part fills the room to its end.
 fn put(bytes: &[u8], room: &mut [u8], at: usize) -> Option<usize>
     requires { at ≤ length room.old }
     ensures { IsPut bytes.now at room.old room.new result }

@@ -4,7 +4,7 @@
 
 mod room;
 
-use crate::proved::ratio_lines::cut::cut;
+use crate::proved::ratio_lines::parts::cut;
 use room::put_answer;
 
 /// Writes the answers to the lines of `input` to the beginning of `room`, and returns their length. If

@@ -1,64 +1,22 @@
 // Erased from crates/ratio_lines/src/answer.rt by rust/erase: not to be edited.
 //! The answer to one line: its operands are read, its operators are applied, or it is refused.
 
-use crate::proved::ratio_lines::answer_text::AnswerText;
-use crate::proved::ratio_lines::limits::LONGEST_LINE;
 use crate::proved::ratio_lines::operand::first_operand;
-use crate::proved::ratio_lines::operator::{Operator, operator_named};
-use crate::proved::ratio_lines::parts::{all_are_terms, first_part, first_short_part};
+use crate::proved::ratio_lines::operator::{Operator, apply_operator, operator_named};
+use crate::proved::ratio_lines::parts::{LONGEST_LINE, all_are_terms, first_part, first_short_part};
 use either::Either;
 use bakhsney::proved::num_rational::{RatioErrorKind, Rational64};
-use std::cmp::Ordering;
+
+/// The text of an answer, without a line end. On the left is a known text, on the
+/// right a number that is printed in decimal.
+pub type AnswerText = Either<&'static str, Rational64>;
 
 const WANT_THREE: &str = "error: want LEFT OP RIGHT";
 
 /// The answer to a line that is too long.
 pub const TOO_LONG: &str = "error: line too long";
 
-const DIVISION_BY_ZERO: &str = "error: division by zero";
-
 const UNKNOWN_OPERATOR: &str = "error: unknown operator";
-
-/// A result is the number for the next operator. Without one, the answer is `error: out of range`.
-#[inline]
-fn result_outcome(checked: Option<Rational64>) -> AnswerText {
-    match checked {
-        Some(number) => Either::Right(number),
-        None => Either::Left("error: out of range"),
-    }
-}
-
-/// The text of an order.
-#[inline]
-fn order_sign(order: Ordering) -> &'static str {
-    match order {
-        Ordering::Less => "<",
-        Ordering::Equal => "=",
-        Ordering::Greater => ">",
-    }
-}
-
-/// The outcome of an operator between two fractions: a number, or the text that is the answer.
-///
-/// # Conditions
-///
-/// The proof requires of the caller:
-///
-/// - `left_positive`: `pos 0 <ℤ denominator left`
-/// - `right_positive`: `pos 0 <ℤ denominator right`
-#[inline]
-fn apply_operator(operator: Operator, left: Rational64, right: Rational64) -> AnswerText {
-    match operator {
-        Operator::Add => result_outcome(left.checked_add(&right)),
-        Operator::Sub => result_outcome(left.checked_sub(&right)),
-        Operator::Mul => result_outcome(left.checked_mul(&right)),
-        Operator::Div if right.is_zero() => Either::Left(DIVISION_BY_ZERO),
-        Operator::Div => result_outcome(left.checked_div(&right)),
-        Operator::Rem if right.is_zero() => Either::Left(DIVISION_BY_ZERO),
-        Operator::Rem => result_outcome(left.checked_rem(&right)),
-        Operator::Cmp => Either::Left(order_sign(left.cmp(&right))),
-    }
-}
 
 /// The outcome of an operator after others. If these gave a text, it stays the answer.
 ///

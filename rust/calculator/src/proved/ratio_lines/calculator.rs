@@ -3,9 +3,8 @@
 
 use crate::proved::ratio_lines::counted::{CalcRead, CalcWrite};
 use crate::proved::ratio_lines::fault::CalcFault;
-use crate::proved::ratio_lines::gathered::Gathered;
+use crate::proved::ratio_lines::gathered::{Gathered, answer_piece, put_answer};
 use crate::proved::ratio_lines::line::Line;
-use crate::proved::ratio_lines::piece::{answer_piece, put_answer};
 
 /// Reads a piece, and returns the number of its bytes: 0 at the end.
 #[inline]

@@ -1,9 +1,13 @@
 // Erased from crates/ratio_lines/src/gathered.rt by rust/erase: not to be edited.
-//! `Gathered`: bytes that wait to be written, so that one call writes many answers.
+//! `Gathered`: bytes that wait to be written, and the answers to a piece of the input put there, so that one call writes
+//! many of them.
 
+use crate::proved::ratio_lines::answer::AnswerText;
 use crate::proved::ratio_lines::counted::CalcWrite;
 use crate::proved::ratio_lines::fault::CalcFault;
+use crate::proved::ratio_lines::line::{Line, next_answer};
 use arrayvec::ArrayVec;
+use either::Either;
 
 /// Bytes that wait to be written, in a fixed array.
 pub struct Gathered {
@@ -59,5 +63,49 @@ fn write_bytes<W: CalcWrite>(writer: &mut W, bytes: &[u8]) -> Result<(), CalcFau
             Err(_) => return Err(CalcFault::Write),
         }
     }
+    Ok(())
+}
+
+/// Gathers an answer without its line end.
+#[inline]
+fn put_text<W: CalcWrite>(
+    gathered: &mut Gathered,
+    writer: &mut W,
+    answer: &AnswerText,
+) -> Result<(), CalcFault> {
+    match answer {
+        Either::Left(text) => gathered.put(writer, text.as_bytes()),
+        Either::Right(number) => {
+            let text = number.base_ten_text();
+            gathered.put(writer, text.as_str().as_bytes())
+        }
+    }
+}
+
+/// Gathers an answer and its line end.
+#[inline]
+pub fn put_answer<W: CalcWrite>(
+    gathered: &mut Gathered,
+    writer: &mut W,
+    answer: &AnswerText,
+) -> Result<(), CalcFault> {
+    put_text(gathered, writer, answer)?;
+    gathered.put(writer, b"\n")
+}
+
+/// Answers each line that ends in the piece, and keeps the bytes after the last line end.
+#[inline]
+pub fn answer_piece<W: CalcWrite>(
+    line: &mut Line,
+    gathered: &mut Gathered,
+    writer: &mut W,
+    piece: &[u8],
+) -> Result<(), CalcFault> {
+    let mut rest = piece;
+    while let Some((answer, after)) = next_answer(line, rest) {
+        put_answer(gathered, writer, &answer)?;
+        rest = after;
+    }
+    line.extend(rest);
     Ok(())
 }

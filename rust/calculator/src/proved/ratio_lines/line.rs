@@ -1,9 +1,9 @@
 // Erased from crates/ratio_lines/src/line.rt by rust/erase: not to be edited.
-//! `Line`: the line that is being read, as far as it is kept.
+//! `Line`: the line that is being read, as far as it is kept, and the answer to the line that ends first in a piece of the
+//! input.
 
-use crate::proved::ratio_lines::answer::{TOO_LONG, answer};
-use crate::proved::ratio_lines::answer_text::AnswerText;
-use crate::proved::ratio_lines::limits::LONGEST_LINE;
+use crate::proved::ratio_lines::answer::{AnswerText, TOO_LONG, answer, answer_two};
+use crate::proved::ratio_lines::parts::{LONGEST_LINE, cut, plain_line};
 use arrayvec::ArrayVec;
 use either::Either;
 
@@ -54,4 +54,29 @@ impl Line {
             answer(self.bytes.as_slice())
         }
     }
+}
+
+/// The answer to the line that the bytes begin with, and the bytes after
+/// its line end. `None` if there is no line end.
+#[inline]
+fn first_answer(bytes: &[u8]) -> Option<(AnswerText, &[u8])> {
+    if let Some(line) = plain_line(bytes) {
+        return Some((answer_two(line.left, line.operator, line.right), line.after));
+    }
+    let (line, after) = cut(bytes, b'\n')?;
+    Some((answer(line), after))
+}
+
+/// The answer to the line that ends first in the bytes, and the bytes after its line end. `None` if
+/// there is no line end. A line that also begins in these bytes is answered without a copy.
+#[inline]
+pub(crate) fn next_answer<'a>(line: &mut Line, bytes: &'a [u8]) -> Option<(AnswerText, &'a [u8])> {
+    if line.is_empty() {
+        return first_answer(bytes);
+    }
+    let (ended, after) = cut(bytes, b'\n')?;
+    line.extend(ended);
+    let answer = line.answer();
+    line.clear();
+    Some((answer, after))
 }

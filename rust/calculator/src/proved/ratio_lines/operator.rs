@@ -1,5 +1,10 @@
 // Erased from crates/ratio_lines/src/operator.rt by rust/erase: not to be edited.
-//! The enum `Operator`: the operators of the calculator, by their names.
+//! The enum `Operator`: the operators of the calculator, by their names, and what each gives between two fractions.
+
+use crate::proved::ratio_lines::answer::AnswerText;
+use either::Either;
+use bakhsney::proved::num_rational::Rational64;
+use std::cmp::Ordering;
 
 /// An operator between two operands.
 #[derive(Clone, Copy, PartialEq, Debug)]
@@ -40,5 +45,48 @@ fn operator_of_byte(byte: u8) -> Option<Operator> {
         b'/' => Some(Operator::Div),
         b'%' => Some(Operator::Rem),
         _ => None,
+    }
+}
+
+const DIVISION_BY_ZERO: &str = "error: division by zero";
+
+/// A result is the number for the next operator. Without one, the answer is `error: out of range`.
+#[inline]
+fn result_outcome(checked: Option<Rational64>) -> AnswerText {
+    match checked {
+        Some(number) => Either::Right(number),
+        None => Either::Left("error: out of range"),
+    }
+}
+
+/// The text of an order.
+#[inline]
+fn order_sign(order: Ordering) -> &'static str {
+    match order {
+        Ordering::Less => "<",
+        Ordering::Equal => "=",
+        Ordering::Greater => ">",
+    }
+}
+
+/// The outcome of an operator between two fractions: a number, or the text that is the answer.
+///
+/// # Conditions
+///
+/// The proof requires of the caller:
+///
+/// - `left_positive`: `pos 0 <ℤ denominator left`
+/// - `right_positive`: `pos 0 <ℤ denominator right`
+#[inline]
+pub(crate) fn apply_operator(operator: Operator, left: Rational64, right: Rational64) -> AnswerText {
+    match operator {
+        Operator::Add => result_outcome(left.checked_add(&right)),
+        Operator::Sub => result_outcome(left.checked_sub(&right)),
+        Operator::Mul => result_outcome(left.checked_mul(&right)),
+        Operator::Div if right.is_zero() => Either::Left(DIVISION_BY_ZERO),
+        Operator::Div => result_outcome(left.checked_div(&right)),
+        Operator::Rem if right.is_zero() => Either::Left(DIVISION_BY_ZERO),
+        Operator::Rem => result_outcome(left.checked_rem(&right)),
+        Operator::Cmp => Either::Left(order_sign(left.cmp(&right))),
     }
 }

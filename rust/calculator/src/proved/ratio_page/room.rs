@@ -2,8 +2,7 @@
 //! Putting answers into a piece of memory, the room, one after another.
 
 use either::Either;
-use crate::proved::ratio_lines::answer::answer;
-use crate::proved::ratio_lines::answer_text::AnswerText;
+use crate::proved::ratio_lines::answer::{AnswerText, answer};
 
 /// Puts the answer to a line, and a line end, at a place, and returns where they end. If they do not
 /// fit, it returns `None`, and their first part fills the room to its end.
@@ -19,7 +18,7 @@ pub fn put_answer(line: &[u8], room: &mut [u8], at: usize) -> Option<usize> {
     put(b"\n", room, end)
 }
 
-/// The same for an answer without its line end.
+/// Puts an answer without its line end, as `put` puts its bytes: a known text, or a number in decimal.
 ///
 /// # Conditions
 ///
@@ -37,7 +36,8 @@ fn put_text(answer: &AnswerText, room: &mut [u8], at: usize) -> Option<usize> {
     }
 }
 
-/// The same for any bytes.
+/// Puts bytes at a place, and returns where they end. If they do not fit, it returns `None`, and their
+/// first part fills the room to its end.
 ///
 /// # Conditions
 ///

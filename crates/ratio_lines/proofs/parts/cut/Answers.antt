@@ -1,6 +1,6 @@
 use Rattle.std.proofs.Common.{arith}
 use Rattle.ratio_lines.proofs.Cuts.{cut_slice, none_at_all, none_before}
-use Rattle.ratio_lines.proofs.cut.cut.Goals as goal
+use Rattle.ratio_lines.proofs.parts.cut.Goals as goal
 
 pub returns-in-Some : goal.returns-in-Some
 returns-in-Some c =

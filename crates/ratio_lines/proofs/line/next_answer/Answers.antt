@@ -1,7 +1,7 @@
 use Rattle.std.proofs.Common.{◌∙◌, sym}
 use Rattle.ratio_lines.proofs.Pieces.{empty_line}
 use Rattle.ratio_lines.proofs.PlainLines.{empty_either_way}
-use Rattle.ratio_lines.proofs.piece.next_answer.Goals as goal
+use Rattle.ratio_lines.proofs.line.next_answer.Goals as goal
 
 pub returns-then-is_empty-clause-answered : goal.returns-then-is_empty-clause-answered
 returns-then-is_empty-clause-answered c =

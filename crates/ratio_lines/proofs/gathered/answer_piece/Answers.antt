@@ -3,7 +3,7 @@ use Rattle.ratio_lines.specs.declared.fault.CalcFault.TheVariants.{Write}
 use Rattle.ratio_lines.specs.KeptLine.{extended}
 use Rattle.ratio_lines.proofs.DeviceCalls.{err_is}
 use Rattle.ratio_lines.proofs.PieceSoFar.{after_shorter, piece_done, piece_goes_on, piece_line, piece_starts, piece_stops, piece_waits, piece_waits_no_more}
-use Rattle.ratio_lines.proofs.piece.answer_piece.Goals as goal
+use Rattle.ratio_lines.proofs.gathered.answer_piece.Goals as goal
 
 pub loop-answer-init : goal.loop-answer-init
 loop-answer-init g c = piece_starts _ _ _ _

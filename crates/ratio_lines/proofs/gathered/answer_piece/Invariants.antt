@@ -1,6 +1,6 @@
 use Rattle.std.proofs.Common.{length}
 use Rattle.ratio_lines.proofs.PieceSoFar.{PieceSoFar}
-use Rattle.ratio_lines.proofs.piece.answer_piece.Given as goal
+use Rattle.ratio_lines.proofs.gathered.answer_piece.Given as goal
 
 abbrev pub invariant-loop-answer : goal.invariant-loop-answer
 invariant-loop-answer g l =

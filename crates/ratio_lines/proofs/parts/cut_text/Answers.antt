@@ -2,7 +2,7 @@ use Rattle.std.proofs.Common.{◌++◌, ◌∷◌, ◌+◌, ◌∙◌, List, ℕ
 use Rattle.std.proofs.lemmas.Str.{IsCharBoundary-after_ascii}
 use Rattle.ratio_lines.specs.Cuts.{HasNone}
 use Rattle.ratio_lines.proofs.Cuts.{cut_at, none_at_all, none_before, small_at}
-use Rattle.ratio_lines.proofs.cut.cut_text.Goals as goal
+use Rattle.ratio_lines.proofs.parts.cut_text.Goals as goal
 
 pub split_at-requires-in-Some : goal.split_at-requires-in-Some
 split_at-requires-in-Some c =

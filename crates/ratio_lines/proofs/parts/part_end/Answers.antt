@@ -1,6 +1,6 @@
 use Rattle.std.proofs.Common.{◌∙◌, arith, sym}
 use Rattle.ratio_lines.proofs.PlainLines.{graphic_more, graphic_start, part_ends}
-use Rattle.ratio_lines.proofs.plain_line.part_end.Goals as goal
+use Rattle.ratio_lines.proofs.parts.part_end.Goals as goal
 
 pub loop-end-init : goal.loop-end-init
 loop-end-init c = (omega arith, c.requires, graphic_start c.args.bytes.now c.args.from)

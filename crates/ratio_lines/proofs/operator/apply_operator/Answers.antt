@@ -4,7 +4,7 @@ use Rattle.num_rational.specs.Ratio.{denominator, numerator}
 use Rattle.ratio_lines.specs.Answers.{order_text}
 use Rattle.ratio_lines.specs.Operands.{greatest, least}
 use Rattle.ratio_lines.proofs.Divisions.{answered_number, divides, lowest_number}
-use Rattle.ratio_lines.proofs.answer.apply_operator.Goals as goal
+use Rattle.ratio_lines.proofs.operator.apply_operator.Goals as goal
 
 pub returns-in-Div-2 : goal.returns-in-Div-2
 returns-in-Div-2 c =

@@ -1,7 +1,7 @@
 use Rattle.std.proofs.Common.{[], ◌∷◌, ◌++◌, ◌∙◌, Err, ap}
 use Rattle.ratio_lines.specs.AnswerText.{bytes_of}
 use Rattle.ratio_lines.proofs.DeviceCalls.{err_is, gathers_after, gathers_part, gathers_stopped, waits_after, waits_stopped}
-use Rattle.ratio_lines.proofs.piece.put_answer.Goals as goal
+use Rattle.ratio_lines.proofs.gathered.put_answer.Goals as goal
 
 pub returns-in_err-put_text-clause-gathered : goal.returns-in_err-put_text-clause-gathered
 returns-in_err-put_text-clause-gathered g c =

@@ -31,4 +31,6 @@ pub mod WideLemmas
 pub mod WideLawLemmas
 pub mod StepLemmas
 pub mod RoomSumLemmas
+pub mod RoomOrderLemmas
+pub mod RoomMoveLemmas
 pub mod RoomLaws

@@ -21,3 +21,5 @@ pub mod Bounds
 pub mod Steps
 pub mod RoomSums
 pub mod WideReads
+pub mod Texts
+pub mod RoomOrders

@@ -3,6 +3,7 @@ ghost use Rattle.ratio_totals.specs.Bounds.{BoundsAreNear, BoundsDecide, BoundsH
 ghost use Rattle.ratio_totals.specs.Common.{CommonExists, CommonsAgree, ReadsAgree};
 ghost use Rattle.ratio_totals.specs.JoinedLaws.{JoinedDecimals, JoinedFloats, JoinedMeans, JoinedSigns, JoinedSums};
 ghost use Rattle.ratio_totals.specs.LowestSum.{MeanResultsAgree, SumResultsAgree, SumsAgree};
+ghost use Rattle.ratio_totals.specs.RoomOrders.{OrdersAreSigns};
 ghost use Rattle.ratio_totals.specs.RoomSums.{LeastMultiplesAgree, LeastMultiplesAssociate, RoomSumsAssociate, RoomSumsCommute, RoomSumsUndone};
 ghost use Rattle.ratio_totals.specs.Steps.{StepsJoinAll, StepsLeavePairs};
 ghost use Rattle.ratio_totals.specs.TotalLaws.{AdditionsCommute, DenominatorsDiffer, MergesAddEach, MergesUndone, NegatedNumerators, NegatedSums, TableMergesAssociate, TableMergesCommute, TakingOutUndoes};
@@ -72,13 +73,15 @@ pub fn joined_rooms()
     ensures decimal { JoinedDecimals }
 {}
 
-/// The order and the grouping of sums in rooms do not matter, for their value and for whether it fits. Taking out undoes an addition.
+/// The order and the grouping of sums in rooms do not matter, for their value and for whether it fits. Taking out undoes an addition, and
+/// leaves what has the sign of the order.
 pub fn room_sums()
     ensures commute { RoomSumsCommute }
     ensures associate { RoomSumsAssociate }
     ensures undo { RoomSumsUndone }
     ensures one_multiple { LeastMultiplesAgree }
     ensures one_of_three { LeastMultiplesAssociate }
+    ensures signs { OrdersAreSigns }
 {}
 
 /// A fraction has one result of `Joined::wide_sum`, and where `Joined::sum` returns a fraction, it is the same one. Where a room holds the

@@ -1,4 +1,4 @@
-//! The step that every change of a total takes: one fraction goes into its slot.
+//! What every change of a total does: one fraction goes into its slot.
 ghost use Rattle.std.specs.Prelude.{◌≡◌, ◌≢◌, ◌<◌, ◌≤◌, ◌^◌, unsigned_abs, MatchResult, OnErr, OnOk};
 ghost use Rattle.ratio_totals.specs.Sums.{GrowsAt, SumGrows};
 ghost use Rattle.ratio_totals.specs.Totals.{IsKept, IsRefusedFor, PutsOne};

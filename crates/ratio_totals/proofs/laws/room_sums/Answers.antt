@@ -1,3 +1,5 @@
+use Rattle.std.proofs.Common.{sym}
+use Rattle.ratio_totals.proofs.DifferenceLemmas.{sign_of_less}
 use Rattle.ratio_totals.proofs.RoomLaws.{least_agree, least_associate, room_sums_associate, room_sums_commute, room_sums_undone}
 use Rattle.ratio_totals.proofs.laws.room_sums.Goals as goal
 
@@ -15,3 +17,6 @@ returns-clause-one_multiple c = least_agree
 
 pub returns-clause-one_of_three : goal.returns-clause-one_of_three
 returns-clause-one_of_three c = least_associate
+
+pub returns-clause-signs : goal.returns-clause-signs
+returns-clause-signs c = λ x y rest some other more same. sym (sign_of_less x y rest some other more same)

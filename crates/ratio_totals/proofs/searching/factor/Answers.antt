@@ -1,4 +1,4 @@
-use Rattle.std.proofs.Common.{ℕ, ◌+◌, ◌*◌, ◌%◌, ◌≡◌, ◌∙◌, ap}
+use Rattle.std.proofs.Common.{ℕ, ◌+◌, ◌*◌, ◌%◌, ◌∙◌, ap}
 use Rattle.std.proofs.Math.Nat.{dvd-mul_left, mod-mod_of_dvd}
 use Rattle.std.proofs.lemmas.Nat.{mul-mod_first}
 use Rattle.ratio_totals.specs.Slots.{factor_of}

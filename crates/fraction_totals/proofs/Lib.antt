@@ -10,3 +10,5 @@ pub mod ListSumLemmas
 pub mod WideNumberLemmas
 pub mod WideTotalLemmas
 pub mod WideSumLemmas
+pub mod WideRoundingLemmas
+pub mod WideProductLemmas

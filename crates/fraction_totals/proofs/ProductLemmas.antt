@@ -6,8 +6,8 @@ use Rattle.ratio_integer.specs.Fraction.{IsLowestTerms, IsLowestTermsOf, SameVal
 use Rattle.ratio_integer.proofs.CrossCancelling.{product_lowest}
 use Rattle.ratio_integer.proofs.LowestTerms.{lowest_own}
 use Rattle.ratio_natural.specs.Number.{base}
-use Rattle.ratio_totals.specs.LowestSum.{ChecksShortPair, IsShortPair}
-use Rattle.ratio_totals.proofs.LowestSumLemmas.{product_positive, short_moved}
+use Rattle.ratio_totals.specs.LowestSum.{ChecksPairBelow, HasPairNotBelow, IsPairBelow}
+use Rattle.ratio_totals.proofs.LowestSumLemmas.{pair_moved, product_positive}
 
 pub size_positive : (q : ℤ) → pos 0 <ℤ q → 0 < unsigned_abs q
 size_positive (pos n) h = omega (arith, ints)
@@ -21,9 +21,9 @@ positive_size (negsuc n) h = absurd (omega (arith, ints))
 size_product : (q t : ℤ) → pos 0 <ℤ q → pos 0 <ℤ t → q *ℤ t ≡ pos (unsigned_abs q * unsigned_abs t)
 size_product q t first second = ap (λ (z : ℤ). z *ℤ t) (positive_size q first) ∙ ap (λ (z : ℤ). pos (unsigned_abs q) *ℤ z) (positive_size t second)
 
--- two short numbers in lowest terms are their own short lowest terms
-pub short_own : (n : ℤ) (d : ℕ) → IsLowestTerms n (pos d) → unsigned_abs n < base → d < base → IsShortPair (n, d) n d
-short_own n d lowest n_short d_short = record { terms = lowest_own n (pos d) lowest; numer_short = n_short; denom_short = d_short }
+-- two numbers below a bound, in lowest terms, are their own lowest terms below it
+pub short_own : (bound : ℕ) (n : ℤ) (d : ℕ) → IsLowestTerms n (pos d) → unsigned_abs n < bound → d < bound → IsPairBelow bound (n, d) n d
+short_own bound n d lowest n_short d_short = record { terms = lowest_own n (pos d) lowest; numer_short = n_short; denom_short = d_short }
 
 pub product_short : (p s : ℤ) (a b r : ℕ) → a ≡ unsigned_abs p → b ≡ unsigned_abs s → r ≡ a * b → r < base → unsigned_abs (p *ℤ s) < base
 product_short p s a b r a_is b_is r_is below =
@@ -49,7 +49,7 @@ module _ (a b c d p q s t : ℤ) (left : IsLowestTerms a b) (right : IsLowestTer
       (subst (λ (z : ℤ). SameValue (p *ℤ s) (q *ℤ t) (a *ℤ c) z) above (sym whole.same))
 
   -- what is the result for them is the result for the product
-  pub crossed_checked : (r : Option (ℤ × ℕ)) → ChecksShortPair (p *ℤ s, unsigned_abs q * unsigned_abs t) r → ChecksShortPair (a *ℤ c, unsigned_abs b * unsigned_abs d) r
-  crossed_checked r checks =
-      short_moved (p *ℤ s, unsigned_abs q * unsigned_abs t) (a *ℤ c, unsigned_abs b * unsigned_abs d) r
+  pub crossed_checked : (bound : ℕ) (r : Option (ℤ × ℕ)) → ChecksPairBelow bound (p *ℤ s, unsigned_abs q * unsigned_abs t) r → ChecksPairBelow bound (a *ℤ c, unsigned_abs b * unsigned_abs d) r
+  crossed_checked bound r checks =
+      pair_moved bound (p *ℤ s, unsigned_abs q * unsigned_abs t) (a *ℤ c, unsigned_abs b * unsigned_abs d) r
       (product_positive _ _ (size_positive b left.positive) (size_positive d right.positive)) crossed_same checks

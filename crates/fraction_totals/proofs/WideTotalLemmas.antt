@@ -1,13 +1,16 @@
 -- Sums in rooms, as wide totals join them.
-use Rattle.std.specs.Prelude.{◌≡◌, ◌+◌, ◌*◌, ◌^◌, ◌≤◌, ◌-ℤ◌, ℕ, ℤ, pos, List, ◌++◌, unsigned_abs, length, take, drop, Result, Ok, Err, OnOk}
+use Rattle.std.specs.Prelude.{◌≡◌, ◌+◌, ◌*◌, ◌^◌, ◌<◌, ◌≤◌, ◌-ℤ◌, ℕ, ℤ, pos, List, ◌++◌, unsigned_abs, length, take, drop, Result, Ok, Err, OnOk}
 use Rattle.std.specs.Int.RustNames.{FitsSigned}
-use Rattle.std.proofs.Common.{sym, ap, subst, arith, length-take-le, ◌∙◌}
+use Rattle.std.proofs.Common.{sym, ap, subst, arith, inl, inr, length-take-le, ◌∙◌}
+use Rattle.std.proofs.lemmas.Bool.{cases_lt}
 use Rattle.std.proofs.lemmas.List.{drop-append-le, length-drop, take-append-drop, take-append-le}
 use Rattle.std.proofs.lemmas.Int.{ints}
 use mir.Syntax.{w64}
 use Rattle.ratio_natural.specs.Number.{base, natural_of}
 use Rattle.ratio_totals.specs.Joined.{common_in, joined_pair, negative_in, positive_in}
+use Rattle.ratio_totals.specs.RoomOrders.{CanOrderRooms, order_digits}
 use Rattle.ratio_totals.specs.RoomSums.{HasShortMultiple}
+use Rattle.ratio_totals.specs.Steps.{HoldsSum}
 use Rattle.ratio_totals.specs.Totals.{most_weight}
 use Rattle.ratio_totals.specs.declared.joined.Joined.{Joined}
 use Rattle.fraction_totals.specs.WideTotals.{CanAddWide, CanMergeWide}
@@ -52,3 +55,17 @@ module _ (digits : ℕ) (xs room others : List ℕ) (is : xs ≡ take (3 * digit
 -- it is an `i64`
 pub count_fits : (count : ℤ) (weight : ℕ) → unsigned_abs count ≤ weight → weight ≤ most_weight → FitsSigned w64 count
 count_fits count weight counted light = omega (arith, ints, counted, light)
+
+-- ---- the order of two sums
+
+-- rooms that hold sums are refused for too few digits alone
+pub short_order : (sum : Joined) (room : List ℕ) (other : Joined) (other_room : List ℕ) (free : ℕ) → HoldsSum sum room → HoldsSum other other_room → ¬ (CanOrderRooms sum.digits room other.digits other_room free)
+    → free < order_digits sum.digits other.digits
+short_order sum room other other_room free left right none = elim (cases_lt free (order_digits sum.digits other.digits)) [
+  | inl less ↦ less
+  | inr enough ↦ absurd (none (record {
+    left = record { few = left.few; long = left.long; common = left.small.some };
+    right = record { few = right.few; long = right.long; common = right.small.some };
+    enough = enough;
+  }))
+]

@@ -1,5 +1,5 @@
 -- Why a sum of a list fails where the call takes memory.
-use Rattle.std.specs.Prelude.{◌<◌, ℕ, ℤ, List, length}
+use Rattle.std.specs.Prelude.{◌<◌, ℕ, ℤ, List, codes, length}
 use Rattle.ratio_totals.specs.Common.{HasLongCommon, most_common}
 use Rattle.ratio_totals.specs.Totals.{most_weight}
 use Rattle.fraction_totals.specs.ListSums.{table_of}
@@ -13,3 +13,10 @@ abbrev pub IsSumFailureFor : {A : Type 0} → (A → ℤ × ℕ) → List A → 
 IsSumFailureFor view items NoMemory = Unit {0}
 IsSumFailureFor view items TooMany = most_weight < length items
 IsSumFailureFor view items TooLong = HasLongCommon (table_of view items) most_common
+
+-- the text that a `SumFailure` prints
+-- Example: `NoMemory`: `an allocation failed`
+abbrev pub sum_failure_text : SumFailure → List ℕ
+sum_failure_text NoMemory = codes "an allocation failed"
+sum_failure_text TooMany = codes "the items are more than 2^63 - 1"
+sum_failure_text TooLong = codes "the common denominator is not below 2^(2^20)"

@@ -7,3 +7,5 @@ pub mod Rounding
 pub mod Dots
 pub mod WideTotals
 pub mod WideSums
+pub mod WideProducts
+pub mod Texts

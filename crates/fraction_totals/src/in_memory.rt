@@ -1,6 +1,7 @@
 //! The sum of a list that loses nothing, with memory for the room that it needs.
-ghost use Rattle.std.specs.Prelude.{◌≡◌, length, IfErr, IfOk};
-ghost use Rattle.fraction_totals.specs.Failures.{IsSumFailureFor};
+ghost use Rattle.std.specs.Fmt.{padded};
+ghost use Rattle.std.specs.Prelude.{◌≡◌, length, IfErr, IfOk, Some};
+ghost use Rattle.fraction_totals.specs.Failures.{IsSumFailureFor, sum_failure_text};
 ghost use Rattle.fraction_totals.specs.ListSums.{IsSumRefusedFor, digits_for};
 ghost use Rattle.fraction_totals.specs.Values.{ChecksReducedTerms, pair_of, sum_of_items};
 
@@ -10,6 +11,8 @@ use crate::sums::{SumRefusal, total_sum};
 use num_rational::Reduced;
 use ratio_totals::{MOST_DIGITS, Slot};
 use std::alloc::{AllocError, Global};
+use std::error::Error;
+use std::fmt;
 
 /// Why a sum of a list was not computed, where the call takes memory.
 #[derive(Clone, Copy, PartialEq, Eq, Debug)]
@@ -20,6 +23,20 @@ pub enum SumFailure {
     TooMany,
     /// The common denominator is 2^(2^20) or more.
     TooLong,
+}
+
+impl fmt::Display for SumFailure {
+    ghost output = { λ why. Some (sum_failure_text why) };
+
+    ghost styled_output = { λ why options. Some (padded options (sum_failure_text why)) };
+
+    fn fmt<W: fmt::Write>(&self, f: &mut fmt::Formatter<W>) -> fmt::Result {
+        f.pad(match self {
+            SumFailure::NoMemory => "an allocation failed",
+            SumFailure::TooMany => "the items are more than 2^63 - 1",
+            SumFailure::TooLong => "the common denominator is not below 2^(2^20)",
+        })
+    }
 }
 
 /// The most slots of the first try. Few lists have more denominators.
@@ -91,3 +108,5 @@ fn room_for(count: usize) -> usize
 {
     4 * count.min(MOST_DIGITS).max(1) + 6
 }
+
+impl Error for SumFailure {}

@@ -1,8 +1,9 @@
 //! The struct `WideTotal`: a total of fractions over any primitive type, which loses nothing.
-ghost use Rattle.std.specs.Prelude.{◌≡◌, pos, length, IfNone, IfSome};
+ghost use Rattle.std.specs.Prelude.{◌≡◌, ◌<◌, ◌≤◌, ◌⊎◌, pos, length, IfNone, IfOk, IfSome, OnErr, OnOk};
 ghost use Rattle.ratio_totals.specs.Joined.{joined_pair};
 ghost use Rattle.fraction_totals.specs.WideTotals.{HasTotalRoom, IsWideKept};
 
+use crate::wide_copy::ShortRoom;
 use ratio_integer::Primitive;
 use ratio_totals::Joined;
 use std::marker::PhantomData;
@@ -40,6 +41,34 @@ impl<'a, T: Primitive> WideTotal<'a, T> {
             room,
             joined,
             count: 0,
+            of: PhantomData,
+        })
+    }
+
+    /// The same total in another room, with so many digits for the common denominator, such as more of them. It is refused exactly if
+    /// `digits` is below those of this total or above `MOST_DIGITS`, or if the room has fewer than `4 * digits + 6` digits.
+    pub fn moved_to<'b>(
+        &self,
+        digits: usize,
+        room: &'b mut [u64],
+    ) -> Result<WideTotal<'b, T>, ShortRoom>
+        ensures same_room { IfOk result (λ total. total.room.ghost_name ≡ room.entry.ghost_name) }
+        ensures room { IfOk result (λ total. length total.room.now ≡ length room.old) }
+        ensures sum { IfOk result (λ total. joined_pair total.joined.digits total.room.now ≡ joined_pair self.now.joined.digits self.now.room.now) }
+        ensures digits { IfOk result (λ total. total.joined.digits ≡ digits) }
+        ensures weight { IfOk result (λ total. total.joined.done ≡ self.now.joined.done) }
+        ensures count { IfOk result (λ total. total.count ≡ self.now.count) }
+        ensures more { OnOk result (self.now.joined.digits ≤ digits) }
+        ensures place { OnOk result (HasTotalRoom digits (length room.old)) }
+        ensures refused { OnErr result ((digits < self.now.joined.digits) ⊎ (¬ (HasTotalRoom digits (length room.old)))) }
+    {
+        let Some(joined) = self.joined.moved_to(self.room, digits, room) else {
+            return Err(ShortRoom);
+        };
+        Ok(WideTotal {
+            room,
+            joined,
+            count: self.count,
             of: PhantomData,
         })
     }

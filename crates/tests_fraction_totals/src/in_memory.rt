@@ -2,6 +2,7 @@
 
 use fraction_totals::{Short, SumFailure, checked_sum};
 use num_rational::Reduced;
+use std::fmt::InlineText;
 use std::process::Abort;
 
 /// The fraction `numer/denom`.
@@ -52,4 +53,21 @@ fn many_denominators_take_more_slots(rt: HostRuntime) {
     }
     let sum: Result<Option<Reduced<i64>>, SumFailure> = checked_sum(rt.alloc(), &items);
     assert_eq!(rt; sum, Ok(None));
+}
+
+/// The failure prints this text.
+fn prints(rt: &impl Abort, failure: SumFailure, want: &str) {
+    let text = InlineText::<80>::of(format_args!("{failure}"));
+    assert!(rt; text.as_str() == want);
+}
+
+#[test]
+fn failures_have_texts(rt: HostRuntime) {
+    prints(&rt, SumFailure::NoMemory, "an allocation failed");
+    prints(&rt, SumFailure::TooMany, "the items are more than 2^63 - 1");
+    prints(
+        &rt,
+        SumFailure::TooLong,
+        "the common denominator is not below 2^(2^20)",
+    );
 }

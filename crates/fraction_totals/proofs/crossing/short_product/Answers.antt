@@ -2,6 +2,7 @@ use Rattle.std.specs.Int.RustNames.{FitsSigned}
 use Rattle.std.proofs.Common.{rules}
 use Rattle.std.proofs.lemmas.Int.{to_z-of_z}
 use mir.Syntax.{w128}
+use Rattle.ratio_natural.specs.Number.{base}
 use Rattle.fraction_totals.proofs.ProductLemmas.{crossed_checked, crossed_lowest}
 use Rattle.fraction_totals.proofs.crossing.short_product.Goals as goal
 
@@ -21,5 +22,5 @@ returns g c =
     crossed_checked _ _ _ _ _ _ _ _ c.denom-2.ensures.lowest c.denom.ensures.lowest
     (rw (c.numer.ensures.value, c.denom.ensures.value) at c.lowest_terms-p.ensures.terms)
     (rw (c.numer-2.ensures.value, c.denom-2.ensures.value) at c.lowest_terms-s.ensures.terms)
-    c.multiplied.result
+    base c.multiplied.result
     (rw (to_z-of_z w128 c.wide.result first, to_z-of_z w128 c.wide-2.result second, c.wide.ensures.number, c.wide-2.ensures.number, c.size.ensures, c.size-2.ensures) at c.multiplied.ensures)

@@ -1,0 +1,54 @@
+-- What the refusals of totals of fractions print.
+use Rattle.std.specs.Prelude.{ℕ, List, codes}
+use Rattle.fraction_totals.specs.declared.products.ProductRefusal.{ProductRefusal}
+use Rattle.fraction_totals.specs.declared.products.ProductRefusal.TheVariants as product_refusal
+use Rattle.fraction_totals.specs.declared.dots.DotRefusal.{DotRefusal}
+use Rattle.fraction_totals.specs.declared.dots.DotRefusal.TheVariants as dot_refusal
+use Rattle.fraction_totals.specs.declared.sums.SumRefusal.{SumRefusal}
+use Rattle.fraction_totals.specs.declared.sums.SumRefusal.TheVariants as sum_refusal
+use Rattle.fraction_totals.specs.declared.wide_joining.WideRefusal.{WideRefusal}
+use Rattle.fraction_totals.specs.declared.wide_joining.WideRefusal.TheVariants as wide_refusal
+use Rattle.fraction_totals.specs.declared.wide_products.WideProductRefusal.{WideProductRefusal}
+use Rattle.fraction_totals.specs.declared.wide_products.WideProductRefusal.TheVariants as wide_product_refusal
+
+-- the text that a `ProductRefusal` prints
+-- Example: `TooGreat`: `one of the lowest terms of the product is 2^64 or more`
+abbrev pub product_refusal_text : ProductRefusal → List ℕ
+product_refusal_text product_refusal.MoreRoom = codes "all slots are taken by other denominators"
+product_refusal_text product_refusal.TooMany = codes "the total has its greatest weight, 2^63 - 1"
+product_refusal_text product_refusal.TooGreat = codes "one of the lowest terms of the product is 2^64 or more"
+
+-- the text that a `DotRefusal` prints
+-- Example: `TooGreat`: `one of the lowest terms of a product is 2^64 or more`
+abbrev pub dot_refusal_text : DotRefusal → List ℕ
+dot_refusal_text dot_refusal.UnlikeLengths = codes "the lists have different lengths"
+dot_refusal_text dot_refusal.MoreRoom = codes "the slots are fewer than the denominators of the products"
+dot_refusal_text dot_refusal.TooMany = codes "the lists have more than 2^63 - 1 items"
+dot_refusal_text dot_refusal.TooGreat = codes "one of the lowest terms of a product is 2^64 or more"
+
+-- the text that a `SumRefusal` prints
+-- Example: `TooLong`: `the common denominator is not below 2^(2^20)`
+abbrev pub sum_refusal_text : SumRefusal → List ℕ
+sum_refusal_text sum_refusal.MoreSlots = codes "the items have more denominators than there are slots"
+sum_refusal_text sum_refusal.MoreRoom = codes "the room is too small"
+sum_refusal_text sum_refusal.TooMany = codes "the items are more than 2^63 - 1"
+sum_refusal_text sum_refusal.TooLong = codes "the common denominator is not below 2^(2^20)"
+
+-- the text that a `WideRefusal` prints
+-- Example: `MoreDigits`: `the common denominator needs more digits`
+abbrev pub wide_refusal_text : WideRefusal → List ℕ
+wide_refusal_text wide_refusal.MoreRoom = codes "the room or the spare digits are too few"
+wide_refusal_text wide_refusal.TooMany = codes "the total has its greatest weight, 2^63 - 1"
+wide_refusal_text wide_refusal.MoreDigits = codes "the common denominator needs more digits"
+
+-- the text that a `WideProductRefusal` prints
+-- Example: `TooGreat`: `one of the lowest terms of the product is 2^128 or more`
+abbrev pub wide_product_refusal_text : WideProductRefusal → List ℕ
+wide_product_refusal_text wide_product_refusal.MoreRoom = codes "the spare digits are too few"
+wide_product_refusal_text wide_product_refusal.TooMany = codes "the total has its greatest weight, 2^63 - 1"
+wide_product_refusal_text wide_product_refusal.MoreDigits = codes "the common denominator needs more digits"
+wide_product_refusal_text wide_product_refusal.TooGreat = codes "one of the lowest terms of the product is 2^128 or more"
+
+-- the text that `ShortRoom` prints
+abbrev pub short_room_text : List ℕ
+short_room_text = codes "the room is too small"

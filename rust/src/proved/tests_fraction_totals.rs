@@ -12,4 +12,12 @@ mod list_sums;
 #[cfg(test)]
 mod reads;
 #[cfg(test)]
+mod refusal_texts;
+#[cfg(test)]
+mod wide_integers;
+#[cfg(test)]
+mod wide_orders;
+#[cfg(test)]
+mod wide_products;
+#[cfg(test)]
 mod wide_totals;

@@ -25,6 +25,10 @@ mod multiples;
 #[cfg(test)]
 mod orders;
 #[cfg(test)]
+mod refusal_texts;
+#[cfg(test)]
+mod room_orders;
+#[cfg(test)]
 mod room_sums;
 #[cfg(test)]
 mod short_sums;

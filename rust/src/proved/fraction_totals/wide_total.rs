@@ -1,6 +1,7 @@
 // Erased from crates/fraction_totals/src/wide_total.rt by rust/erase: not to be edited.
 //! The struct `WideTotal`: a total of fractions over any primitive type, which loses nothing.
 
+use crate::proved::fraction_totals::wide_copy::ShortRoom;
 use crate::proved::ratio_integer::Primitive;
 use crate::proved::ratio_totals::Joined;
 use core::marker::PhantomData;
@@ -29,6 +30,28 @@ impl<'a, T: Primitive> WideTotal<'a, T> {
             room,
             joined,
             count: 0,
+            of: PhantomData,
+        })
+    }
+
+    /// The same total in another room, with so many digits for the common denominator, such as more of them. It is refused exactly if
+    /// `digits` is below those of this total or above `MOST_DIGITS`, or if the room has fewer than `4 * digits + 6` digits.
+    #[inline]
+    pub fn moved_to<'b>(
+        &self,
+        digits: usize,
+        room: &'b mut [u64],
+    ) -> Result<WideTotal<'b, T>, ShortRoom> {
+        let joined = match self.joined.moved_to(self.room, digits, room) {
+            Some(joined) => joined,
+            _ => {
+                return Err(ShortRoom);
+            }
+        };
+        Ok(WideTotal {
+            room,
+            joined,
+            count: self.count,
             of: PhantomData,
         })
     }

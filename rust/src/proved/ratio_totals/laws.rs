@@ -40,7 +40,8 @@ pub fn bounds() {}
 #[inline]
 pub fn joined_rooms() {}
 
-/// The order and the grouping of sums in rooms do not matter, for their value and for whether it fits. Taking out undoes an addition.
+/// The order and the grouping of sums in rooms do not matter, for their value and for whether it fits. Taking out undoes an addition, and
+/// leaves what has the sign of the order.
 #[inline]
 pub fn room_sums() {}
 

@@ -1,5 +1,5 @@
 // Erased from crates/ratio_totals/src/steps.rt by rust/erase: not to be edited.
-//! The step that every change of a total takes: one fraction goes into its slot.
+//! What every change of a total does: one fraction goes into its slot.
 
 use crate::proved::ratio_totals::refusal::Refusal;
 use crate::proved::ratio_totals::searching::find;

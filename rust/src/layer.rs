@@ -8,6 +8,8 @@
 mod approximations;
 mod arithmetic;
 mod as_reduced;
+#[cfg(feature = "num-bigint")]
+mod big;
 mod bounds;
 mod casts;
 mod constants;
@@ -34,15 +36,20 @@ mod reduced_order;
 #[cfg(feature = "alloc")]
 mod room_sum;
 mod rounding;
+mod same;
+mod schoolbook;
 #[cfg(feature = "serde")]
 mod serialized;
 mod sign;
 mod simplest;
 mod splits;
 mod text;
+mod to_numbers;
 #[cfg(feature = "alloc")]
 mod total;
 
+#[cfg(feature = "num-bigint")]
+pub use big::BigRational;
 pub use casts::CastError;
 pub use continued::{Convergents, Quotients};
 pub use float_values::FloatError;

@@ -23,9 +23,6 @@
 #![cfg_attr(not(feature = "std"), no_std)]
 #![warn(missing_docs)]
 
-#[cfg(any(feature = "num-bigint", feature = "num-bigint-std"))]
-compile_error!("bakhsney has no fractions of big integers: leave out the features num-bigint and num-bigint-std, or take num-rational");
-
 #[cfg(not(any(target_pointer_width = "64", target_pointer_width = "32")))]
 compile_error!("isize and usize have proofs of 64 and of 32 bits, and this target has another width");
 
@@ -52,6 +49,8 @@ pub mod integer {
 }
 
 pub use layer::{CastError, Convergents, FloatError, Quotients, Ratio, Rational, Rational32, Rational64, Reduced, Reduced32, Reduced64, ReducedError};
+#[cfg(feature = "num-bigint")]
+pub use layer::BigRational;
 pub use layer::{split, split_by_weights};
 #[cfg(feature = "alloc")]
 pub use layer::{TooLong, Total};

@@ -1,10 +1,10 @@
 //! Fractions near a float, found as num-rational finds them, by the float's continued fraction.
 //!
 //! This module is not proved. Tests compare it with num-rational.
-use super::integer::{Element, Integer};
 use super::ratio::Ratio;
+use num_integer::Integer;
 use num_traits::float::FloatCore;
-use num_traits::{NumCast, Signed, Unsigned};
+use num_traits::{Bounded, NumCast, Signed, Unsigned};
 
 /// A fraction that is nearer to the float than this ends the search.
 const NEAR: f64 = 10e-20;
@@ -12,7 +12,7 @@ const NEAR: f64 = 10e-20;
 /// The search takes at most this many quotients of the continued fraction.
 const ROUNDS: usize = 30;
 
-impl<T: Integer + Signed> Ratio<T> {
+impl<T: Clone + Integer + Signed + Bounded + NumCast> Ratio<T> {
     /// A fraction near the float. This call is not proved.
     ///
     /// It is the last convergent of the float's continued fraction that fits the type. An earlier one is returned if its
@@ -31,7 +31,7 @@ impl<T: Integer + Signed> Ratio<T> {
     }
 }
 
-impl<T: Integer + Unsigned> Ratio<T> {
+impl<T: Clone + Integer + Unsigned + Bounded + NumCast> Ratio<T> {
     /// A fraction near the float, as `approximate_float` returns it, for types without numbers below 0. This call is not
     /// proved.
     ///
@@ -47,22 +47,22 @@ impl<T: Integer + Unsigned> Ratio<T> {
 }
 
 /// A fraction near the float. If the type has numbers below 0, the search is for the magnitude, and the result gets the sign.
-pub(super) fn approximation<T: Integer, F: FloatCore + NumCast>(float: F) -> Option<Ratio<T>> {
-    if T::min_value() < T::NUMBER_0 && float < F::zero() {
+pub(super) fn approximation<T: Clone + Integer + Bounded + NumCast, F: FloatCore + NumCast>(float: F) -> Option<Ratio<T>> {
+    if T::min_value() < T::zero() && float < F::zero() {
         let (numer, denom) = last_convergent::<T, F>(float.abs())?.into_raw();
-        Some(Ratio::new_raw(T::NUMBER_0 - numer, denom))
+        Some(Ratio::new_raw(T::zero() - numer, denom))
     } else {
         last_convergent(float)
     }
 }
 
-fn last_convergent<T: Integer, F: FloatCore + NumCast>(float: F) -> Option<Ratio<T>> {
+fn last_convergent<T: Clone + Integer + Bounded + NumCast, F: FloatCore + NumCast>(float: F) -> Option<Ratio<T>> {
     let near = <F as NumCast>::from(NEAR)?;
     let most = <F as NumCast>::from(T::max_value())?;
     if float < F::zero() || float > most {
         return None;
     }
-    let (mut found, mut rest) = (Convergent::first(), float);
+    let (mut found, mut rest) = (Convergent::<T>::first(), float);
     for _ in 0..ROUNDS {
         let (next, part) = match found.next(rest) {
             Some(step) => step,
@@ -75,8 +75,11 @@ fn last_convergent<T: Integer, F: FloatCore + NumCast>(float: F) -> Option<Ratio
         }
         rest = part.recip();
     }
-    // Before the first step the denominator is 0, and this is `None`. NaN allows no step.
-    Ratio::checked_new(found.numer, found.denom)
+    // Before the first step the denominator is 0. NaN allows no step.
+    if found.denom.is_zero() {
+        return None;
+    }
+    Some(Ratio::new(found.numer, found.denom))
 }
 
 /// A convergent of a continued fraction, and the one before it.
@@ -86,21 +89,27 @@ struct Convergent<T> {
     before: (T, T),
 }
 
-impl<T: Integer> Convergent<T> {
+impl<T: Clone + Integer + Bounded + NumCast> Convergent<T> {
     fn first() -> Convergent<T> {
-        Convergent { numer: T::NUMBER_1, denom: T::NUMBER_0, before: (T::NUMBER_0, T::NUMBER_1) }
+        Convergent { numer: T::one(), denom: T::zero(), before: (T::zero(), T::one()) }
     }
 
     /// The next convergent, whose quotient is the whole part of `rest`, and the part of `rest` behind the point.
     fn next<F: FloatCore + NumCast>(&self, rest: F) -> Option<(Convergent<T>, F)> {
         let whole = <T as NumCast>::from(rest)?;
-        let part = rest - <F as NumCast>::from(whole)?;
-        let numer = whole.checked_mul(&self.numer)?.checked_add(&self.before.0)?;
-        let denom = whole.checked_mul(&self.denom)?.checked_add(&self.before.1)?;
-        Some((Convergent { numer, denom, before: (self.numer, self.denom) }, part))
+        let part = rest - <F as NumCast>::from(whole.clone())?;
+        let numer = times_plus(&whole, &self.numer, &self.before.0)?;
+        let denom = times_plus(&whole, &self.denom, &self.before.1)?;
+        Some((Convergent { numer, denom, before: (self.numer.clone(), self.denom.clone()) }, part))
     }
 
     fn quotient<F: FloatCore + NumCast>(&self) -> Option<F> {
-        Some(<F as NumCast>::from(self.numer)? / <F as NumCast>::from(self.denom)?)
+        Some(<F as NumCast>::from(self.numer.clone())? / <F as NumCast>::from(self.denom.clone())?)
     }
+}
+
+/// `factor * number + more`, or `None` if it is above the greatest number of the type. None of the three is below 0.
+fn times_plus<T: Clone + Integer + Bounded>(factor: &T, number: &T, more: &T) -> Option<T> {
+    let fits = factor.is_zero() || *number <= (T::max_value() - more.clone()) / factor.clone();
+    if fits { Some(factor.clone() * number.clone() + more.clone()) } else { None }
 }

@@ -1,56 +1,95 @@
 //! Sums, differences, products, quotients and remainders: the checked traits, the operators and the folds.
 use super::integer::{Element, Integer};
 use super::ratio::Ratio;
+use super::same::on_machine;
+use super::schoolbook;
 use core::iter::{Product, Sum};
 use core::ops::{Add, AddAssign, Div, DivAssign, Mul, MulAssign, Rem, RemAssign, Sub, SubAssign};
 use num_traits::{CheckedAdd, CheckedDiv, CheckedMul, CheckedRem, CheckedSub};
 
 macro_rules! checked_calls {
-    ($($Checked:ident $checked:ident;)*) => {$(
-        impl<T: Integer> $Checked for Ratio<T> {
+    ($($Checked:ident $checked:ident $($Bound:ident)*;)*) => {$(
+        impl<T: Clone + num_integer::Integer $(+ $Bound)*> $Checked for Ratio<T> {
             #[inline]
             fn $checked(&self, other: &Ratio<T>) -> Option<Ratio<T>> {
-                self.positive()?.$checked(&other.positive()?).map(Ratio::from_proved)
+                on_machine!(T, same => Some(same.back(machine::$checked(&same.fraction(self), &same.fraction(other))?)));
+                schoolbook::$checked(self, other)
             }
         }
     )*};
 }
 
 checked_calls! {
-    CheckedAdd checked_add;
-    CheckedSub checked_sub;
-    CheckedMul checked_mul;
-    CheckedDiv checked_div;
-    CheckedRem checked_rem;
+    CheckedAdd checked_add CheckedMul CheckedAdd;
+    CheckedSub checked_sub CheckedMul CheckedSub;
+    CheckedMul checked_mul CheckedMul;
+    CheckedDiv checked_div CheckedMul;
 }
 
-// Each operator with its checked call, and its two panics if that returns `None`: the first for a divisor of 0, the second for
-// all else. A denominator of 0 has the same panic in each operator.
+/// num-rational has no such trait.
+impl<T: Integer> CheckedRem for Ratio<T> {
+    #[inline]
+    fn checked_rem(&self, other: &Ratio<T>) -> Option<Ratio<T>> {
+        machine::checked_rem(self, other)
+    }
+}
+
+/// The proved calls, for the machine types.
+mod machine {
+    use super::{refuse, Integer, Ratio};
+
+    // Each operator has its checked call, and its two panics if that returns `None`: the first for a divisor of 0, the second for all
+    // else. A denominator of 0 has the same panic in each operator.
+    macro_rules! calls {
+        ($($op:ident $checked:ident $zero:literal $overflow:literal;)*) => {$(
+            #[inline]
+            pub(super) fn $checked<T: Integer>(x: &Ratio<T>, other: &Ratio<T>) -> Option<Ratio<T>> {
+                x.positive()?.$checked(&other.positive()?).map(Ratio::from_proved)
+            }
+
+            #[inline]
+            #[track_caller]
+            pub(super) fn $op<T: Integer>(x: &Ratio<T>, other: &Ratio<T>) -> Ratio<T> {
+                match $checked(x, other) {
+                    Some(answer) => answer,
+                    None => refuse(x, other, $zero, $overflow),
+                }
+            }
+        )*};
+    }
+
+    calls! {
+        add checked_add "attempt to add with overflow" "attempt to add with overflow";
+        sub checked_sub "attempt to subtract with overflow" "attempt to subtract with overflow";
+        mul checked_mul "attempt to multiply with overflow" "attempt to multiply with overflow";
+        div checked_div "denominator == 0" "attempt to multiply with overflow";
+        rem checked_rem "attempt to calculate the remainder with a divisor of zero" "attempt to multiply with overflow";
+    }
+}
+
 macro_rules! operators {
-    ($($Op:ident $op:ident $OpAssign:ident $op_assign:ident $Checked:ident $checked:ident $zero:literal $overflow:literal;)*) => {$(
-        impl<T: Integer> $Op for Ratio<T> {
+    ($($Op:ident $op:ident $OpAssign:ident $op_assign:ident;)*) => {$(
+        impl<T: Clone + num_integer::Integer> $Op for Ratio<T> {
             type Output = Ratio<T>;
 
             /// # Panics
             ///
-            #[doc = concat!("If `", stringify!($checked), "` returns `None`.")]
+            #[doc = concat!("If `checked_", stringify!($op), "` returns `None`.")]
             #[inline]
             #[track_caller]
             fn $op(self, other: Ratio<T>) -> Ratio<T> {
-                match $Checked::$checked(&self, &other) {
-                    Some(answer) => answer,
-                    None => refuse(&self, &other, $zero, $overflow),
-                }
+                on_machine!(T, same => same.back(machine::$op(&same.fraction(&self), &same.fraction(&other))));
+                schoolbook::$op(self, other)
             }
         }
 
-        forms! { $Op $op; Ratio<T>, &Ratio<T>; self, other => self, *other }
-        forms! { $Op $op; &Ratio<T>, Ratio<T>; self, other => *self, other }
-        forms! { $Op $op; &Ratio<T>, &Ratio<T>; self, other => *self, *other }
+        forms! { $Op $op; Ratio<T>, &Ratio<T>; self, other => self, other.clone() }
+        forms! { $Op $op; &Ratio<T>, Ratio<T>; self, other => self.clone(), other }
+        forms! { $Op $op; &Ratio<T>, &Ratio<T>; self, other => self.clone(), other.clone() }
         forms! { $Op $op; Ratio<T>, T; self, other => self, Ratio::from_integer(other) }
-        forms! { $Op $op; Ratio<T>, &T; self, other => self, Ratio::from_integer(*other) }
-        forms! { $Op $op; &Ratio<T>, T; self, other => *self, Ratio::from_integer(other) }
-        forms! { $Op $op; &Ratio<T>, &T; self, other => *self, Ratio::from_integer(*other) }
+        forms! { $Op $op; Ratio<T>, &T; self, other => self, Ratio::from_integer(other.clone()) }
+        forms! { $Op $op; &Ratio<T>, T; self, other => self.clone(), Ratio::from_integer(other) }
+        forms! { $Op $op; &Ratio<T>, &T; self, other => self.clone(), Ratio::from_integer(other.clone()) }
 
         assigning! { $OpAssign $op_assign $Op $op; Ratio<T> }
         assigning! { $OpAssign $op_assign $Op $op; &Ratio<T> }
@@ -61,7 +100,7 @@ macro_rules! operators {
 
 macro_rules! forms {
     ($Op:ident $op:ident; $Left:ty, $Right:ty; $self:ident, $other:ident => $left:expr, $right:expr) => {
-        impl<T: Integer> $Op<$Right> for $Left {
+        impl<T: Clone + num_integer::Integer> $Op<$Right> for $Left {
             type Output = Ratio<T>;
 
             /// # Panics
@@ -78,30 +117,25 @@ macro_rules! forms {
 
 macro_rules! assigning {
     ($OpAssign:ident $op_assign:ident $Op:ident $op:ident; $Right:ty) => {
-        impl<T: Integer> $OpAssign<$Right> for Ratio<T> {
+        impl<T: Clone + num_integer::Integer> $OpAssign<$Right> for Ratio<T> {
             /// # Panics
             ///
             #[doc = concat!("If `checked_", stringify!($op), "` returns `None`.")]
             #[inline]
             #[track_caller]
             fn $op_assign(&mut self, other: $Right) {
-                *self = $Op::$op(*self, other);
+                *self = $Op::$op(self.clone(), other);
             }
         }
     };
 }
 
 operators! {
-    Add add AddAssign add_assign CheckedAdd checked_add
-        "attempt to add with overflow" "attempt to add with overflow";
-    Sub sub SubAssign sub_assign CheckedSub checked_sub
-        "attempt to subtract with overflow" "attempt to subtract with overflow";
-    Mul mul MulAssign mul_assign CheckedMul checked_mul
-        "attempt to multiply with overflow" "attempt to multiply with overflow";
-    Div div DivAssign div_assign CheckedDiv checked_div
-        "denominator == 0" "attempt to multiply with overflow";
-    Rem rem RemAssign rem_assign CheckedRem checked_rem
-        "attempt to calculate the remainder with a divisor of zero" "attempt to multiply with overflow";
+    Add add AddAssign add_assign;
+    Sub sub SubAssign sub_assign;
+    Mul mul MulAssign mul_assign;
+    Div div DivAssign div_assign;
+    Rem rem RemAssign rem_assign;
 }
 
 #[cold]
@@ -120,32 +154,32 @@ fn refuse<T: Integer>(x: &Ratio<T>, other: &Ratio<T>, zero: &str, overflow: &str
 // Each fold is a loop over an operator. A closure has no caller, so a panic in it would name a line of this file.
 // `Sum::sum(items)` names the caller's line. `items.sum()` names a line of core, which calls this.
 macro_rules! folds {
-    ($($Fold:ident $fold:ident $START:ident $op_assign:tt;)*) => {$(
-        impl<T: Integer> $Fold for Ratio<T> {
+    ($($Fold:ident $fold:ident $start:ident $op:tt;)*) => {$(
+        impl<T: Clone + num_integer::Integer> $Fold for Ratio<T> {
             /// # Panics
             ///
             /// If a step panics.
             #[inline]
             #[track_caller]
             fn $fold<I: Iterator<Item = Ratio<T>>>(items: I) -> Ratio<T> {
-                let mut total = Ratio::$START;
+                let mut total = Ratio::from_integer(T::$start());
                 for item in items {
-                    total $op_assign item;
+                    total = total $op item;
                 }
                 total
             }
         }
 
-        impl<'a, T: Integer + 'a> $Fold<&'a Ratio<T>> for Ratio<T> {
+        impl<'a, T: Clone + num_integer::Integer + 'a> $Fold<&'a Ratio<T>> for Ratio<T> {
             /// # Panics
             ///
             /// If a step panics.
             #[inline]
             #[track_caller]
             fn $fold<I: Iterator<Item = &'a Ratio<T>>>(items: I) -> Ratio<T> {
-                let mut total = Ratio::$START;
+                let mut total = Ratio::from_integer(T::$start());
                 for item in items {
-                    total $op_assign item;
+                    total = total $op item;
                 }
                 total
             }
@@ -154,6 +188,6 @@ macro_rules! folds {
 }
 
 folds! {
-    Sum sum ZERO +=;
-    Product product ONE *=;
+    Sum sum zero +;
+    Product product one *;
 }

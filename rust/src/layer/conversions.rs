@@ -1,26 +1,26 @@
 //! Conversions between fractions, pairs and whole numbers, and the constants through their traits.
 use super::approximations::approximation;
-use super::integer::{Element, Integer};
+use super::integer::Integer;
 use super::ratio::{Proved, Ratio};
 use num_traits::{FromPrimitive, One, Zero};
 
-impl<T: Integer> Zero for Ratio<T> {
+impl<T: Clone + num_integer::Integer> Zero for Ratio<T> {
     #[inline]
     fn zero() -> Ratio<T> {
-        Ratio::ZERO
+        Ratio::from_integer(T::zero())
     }
 
     /// Whether the numerator is 0.
     #[inline]
     fn is_zero(&self) -> bool {
-        *self.numer() == T::NUMBER_0
+        self.numer().is_zero()
     }
 }
 
-impl<T: Integer> One for Ratio<T> {
+impl<T: Clone + num_integer::Integer> One for Ratio<T> {
     #[inline]
     fn one() -> Ratio<T> {
-        Ratio::ONE
+        Ratio::from_integer(T::one())
     }
 
     /// Whether the fields are equal. 2/2 is 1, too.
@@ -30,21 +30,21 @@ impl<T: Integer> One for Ratio<T> {
     }
 }
 
-impl<T: Integer> Default for Ratio<T> {
+impl<T: Clone + num_integer::Integer> Default for Ratio<T> {
     #[inline]
     fn default() -> Ratio<T> {
-        Ratio::ZERO
+        Ratio::zero()
     }
 }
 
-impl<T: Integer> From<T> for Ratio<T> {
+impl<T: Clone + num_integer::Integer> From<T> for Ratio<T> {
     #[inline]
     fn from(number: T) -> Ratio<T> {
         Ratio::from_integer(number)
     }
 }
 
-impl<T: Integer> From<(T, T)> for Ratio<T> {
+impl<T: Clone + num_integer::Integer> From<(T, T)> for Ratio<T> {
     /// The lowest terms, as by `new`.
     ///
     /// # Panics
@@ -57,7 +57,7 @@ impl<T: Integer> From<(T, T)> for Ratio<T> {
     }
 }
 
-impl<T: Integer> From<Ratio<T>> for (T, T) {
+impl<T> From<Ratio<T>> for (T, T) {
     #[inline]
     fn from(fraction: Ratio<T>) -> (T, T) {
         fraction.into_raw()

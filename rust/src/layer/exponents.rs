@@ -3,6 +3,8 @@
 //! This module is not proved. Tests compare it with num-rational.
 use super::integer::Integer;
 use super::ratio::Ratio;
+use super::same::on_machine;
+use super::text::write_fields_of_any;
 use core::fmt::{self, Write};
 use core::str;
 
@@ -38,23 +40,28 @@ impl Write for Text {
 }
 
 macro_rules! forms {
-    ($($Form:ident $number:literal $fraction:literal)*) => {$(
+    ($($Form:ident $machine:ident $number:literal $alternate:literal;)*) => {$(
         /// The numerator, a slash and the denominator, each with its own exponent. This is not proved.
-        impl<T: Integer> fmt::$Form for Ratio<T> {
+        impl<T: fmt::$Form + Clone + num_integer::Integer> fmt::$Form for Ratio<T> {
             fn fmt(&self, f: &mut fmt::Formatter<'_>) -> fmt::Result {
-                let mut text = Text::EMPTY;
-                if self.is_integer() {
-                    write!(text, $number, self.numer())?;
-                } else {
-                    write!(text, $fraction, self.numer(), self.denom())?;
-                }
-                text.pad(f)
+                on_machine!(T, same => $machine(&same.fraction(self), f));
+                write_fields_of_any!(self, f: "" $number $alternate)
             }
+        }
+
+        pub(super) fn $machine<T: Integer>(x: &Ratio<T>, f: &mut fmt::Formatter<'_>) -> fmt::Result {
+            let mut text = Text::EMPTY;
+            if x.is_integer() {
+                write!(text, $number, x.numer())?;
+            } else {
+                write!(text, concat!($number, "/", $number), x.numer(), x.denom())?;
+            }
+            text.pad(f)
         }
     )*};
 }
 
 forms! {
-    LowerExp "{:e}" "{:e}/{:e}"
-    UpperExp "{:E}" "{:E}/{:E}"
+    LowerExp lower_exp_of_machine "{:e}" "{:#e}";
+    UpperExp upper_exp_of_machine "{:E}" "{:#E}";
 }

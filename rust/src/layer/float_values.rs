@@ -33,7 +33,7 @@ macro_rules! exact_floats {
             /// The fraction with exactly the value of the float.
             #[inline]
             fn try_from(float: $float) -> Result<$Fraction<T>, FloatError> {
-                $Fraction::$from_float(float).ok_or(FloatError(()))
+                Reduced::$from_float(float).map($Fraction::from).ok_or(FloatError(()))
             }
         }
     )*};

@@ -3,6 +3,7 @@ use crate::proved::num_rational::{Ratio, Reduced};
 use crate::proved::ratio_integer::{Integer as ProvedInteger, Primitive, SignedInteger};
 use core::fmt::{Binary, Debug, Display, LowerExp, LowerHex, Octal, UpperExp, UpperHex};
 use core::hash::Hash;
+use core::str::FromStr;
 use num_traits::{NumAssign, PrimInt};
 
 /// One of the twelve primitive integer types, from `i8` to `u128`, with `isize` and `usize`.
@@ -27,13 +28,26 @@ use num_traits::{NumAssign, PrimInt};
 /// impl num_rational::integer::Integer for Mine {}
 /// ```
 pub trait Integer:
-    Hidden + PrimInt + NumAssign + Hash + Debug + Display + Binary + Octal + LowerHex + UpperHex + LowerExp + UpperExp
+    Hidden + PrimInt + num_integer::Integer + NumAssign + FromStr + Hash + Debug + Display + Binary + Octal + LowerHex + UpperHex + LowerExp + UpperExp
 {
 }
 
+/// What the feature `num-bigint` requires of a type, in generic code, too.
+#[cfg(feature = "num-bigint")]
+pub trait Big: num_bigint::ToBigInt {}
+
+#[cfg(feature = "num-bigint")]
+impl<T: num_bigint::ToBigInt> Big for T {}
+
+#[cfg(not(feature = "num-bigint"))]
+pub trait Big {}
+
+#[cfg(not(feature = "num-bigint"))]
+impl<T> Big for T {}
+
 /// What `Element` says of a type, under names that no other trait has. As a supertrait of `Integer`, it brings its names into
 /// generic code of this crate's users. So a user's own trait may have a call `of`.
-pub trait Hidden: Copy {
+pub trait Hidden: Copy + Big {
     type BakhsneyProved: Primitive;
 
     type BakhsneySigns: Signs<Self::BakhsneyProved>;

@@ -3,20 +3,22 @@
 //! `!=`, `<`, `<=`, `>` and `>=` are written out. Core's own have no caller, so a panic would name a line of core.
 //!
 //! A denominator of 0 gives no value to compare: `partial_cmp` then returns `None`, and the others panic.
-use super::integer::Integer;
 use super::ratio::Ratio;
+use super::same::on_machine;
+use super::schoolbook;
 use core::cmp::Ordering;
 use core::hash::{Hash, Hasher};
 
 #[allow(clippy::partialeq_ne_impl)]
-impl<T: Integer> PartialEq for Ratio<T> {
+impl<T: Clone + num_integer::Integer> PartialEq for Ratio<T> {
     /// # Panics
     ///
     /// If a denominator is 0.
     #[inline]
     #[track_caller]
     fn eq(&self, other: &Ratio<T>) -> bool {
-        self.proved() == other.proved()
+        on_machine!(T, same => same.fraction(self).proved() == same.fraction(other).proved());
+        schoolbook::cmp(self, other).is_eq()
     }
 
     /// # Panics
@@ -29,15 +31,16 @@ impl<T: Integer> PartialEq for Ratio<T> {
     }
 }
 
-impl<T: Integer> Eq for Ratio<T> {}
+impl<T: Clone + num_integer::Integer> Eq for Ratio<T> {}
 
 // It is not `Some(self.cmp(other))`, which would panic.
 #[allow(clippy::non_canonical_partial_ord_impl)]
-impl<T: Integer> PartialOrd for Ratio<T> {
+impl<T: Clone + num_integer::Integer> PartialOrd for Ratio<T> {
     /// The order of the values, or `None` if a denominator is 0.
     #[inline]
     fn partial_cmp(&self, other: &Ratio<T>) -> Option<Ordering> {
-        Some(self.checked_proved()?.cmp(&other.checked_proved()?))
+        on_machine!(T, same => Some(same.fraction(self).checked_proved()?.cmp(&same.fraction(other).checked_proved()?)));
+        Some(schoolbook::cmp(self, other))
     }
 
     /// # Panics
@@ -77,24 +80,26 @@ impl<T: Integer> PartialOrd for Ratio<T> {
     }
 }
 
-impl<T: Integer> Ord for Ratio<T> {
+impl<T: Clone + num_integer::Integer> Ord for Ratio<T> {
     /// # Panics
     ///
     /// If a denominator is 0.
     #[inline]
     #[track_caller]
     fn cmp(&self, other: &Ratio<T>) -> Ordering {
-        self.proved().cmp(&other.proved())
+        on_machine!(T, same => same.fraction(self).proved().cmp(&same.fraction(other).proved()));
+        schoolbook::cmp(self, other)
     }
 }
 
-impl<T: Integer> Hash for Ratio<T> {
+impl<T: Clone + num_integer::Integer + Hash> Hash for Ratio<T> {
     /// # Panics
     ///
     /// If the denominator is 0.
     #[inline]
     #[track_caller]
     fn hash<H: Hasher>(&self, state: &mut H) {
-        self.proved().hash(state);
+        on_machine!(T, same => same.fraction(self).proved().hash(state));
+        schoolbook::hash(self, state);
     }
 }

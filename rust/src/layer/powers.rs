@@ -4,11 +4,13 @@
 //! the others panic.
 use super::integer::{Element, Integer};
 use super::ratio::Ratio;
+use super::same::on_machine;
+use super::schoolbook;
 use crate::proved::num_rational::Exponent;
 use crate::proved::ratio_integer::Integer as _;
 use num_traits::{Inv, Pow};
 
-impl<T: Integer> Ratio<T> {
+impl<T: Clone + num_integer::Integer> Ratio<T> {
     /// The reciprocal.
     ///
     /// # Panics
@@ -22,24 +24,8 @@ impl<T: Integer> Ratio<T> {
     #[inline]
     #[track_caller]
     pub fn recip(&self) -> Ratio<T> {
-        // This has no branch on the sign, since no processor can guess the sign if signs vary. Only the least number has no
-        // negative.
-        let has_reciprocal = (*self.numer() != T::NUMBER_0) & (*self.numer() != T::min_value());
-        if has_reciprocal & (T::NUMBER_0 < *self.denom()) {
-            return Ratio::from_proved(self.proved().recip());
-        }
-        self.recip_of_any()
-    }
-
-    #[inline(never)]
-    #[track_caller]
-    fn recip_of_any(&self) -> Ratio<T> {
-        let fraction = self.expect_positive();
-        let numer = *fraction.numer();
-        if numer.is_zero() || (numer < <T as Element>::Proved::ZERO && <T as Element>::Proved::ZERO.try_minus(numer).is_none()) {
-            refuse(self, "attempt to negate with overflow");
-        }
-        Ratio::from_proved(fraction.recip())
+        on_machine!(T, same => same.back(recip_of_machine(&same.fraction(self))));
+        schoolbook::recip(self.clone())
     }
 
     /// The power: each field to the exponent. It is 1 for the exponent 0.
@@ -60,7 +46,9 @@ impl<T: Integer> Ratio<T> {
     pub fn pow(&self, exponent: i32) -> Ratio<T> {
         power(self, exponent)
     }
+}
 
+impl<T: Integer> Ratio<T> {
     /// The power. It is `None` if `pow` panics.
     ///
     /// ```
@@ -77,7 +65,36 @@ impl<T: Integer> Ratio<T> {
 
 #[inline]
 #[track_caller]
-fn power<T: Integer, E: Exponent>(base: &Ratio<T>, exponent: E) -> Ratio<T> {
+pub(super) fn recip_of_machine<T: Integer>(x: &Ratio<T>) -> Ratio<T> {
+    // This has no branch on the sign, since no processor can guess the sign if signs vary. Only the least number has no negative.
+    let has_reciprocal = (*x.numer() != T::NUMBER_0) & (*x.numer() != T::min_value());
+    if has_reciprocal & (T::NUMBER_0 < *x.denom()) {
+        return Ratio::from_proved(x.proved().recip());
+    }
+    recip_of_any(x)
+}
+
+#[inline(never)]
+#[track_caller]
+fn recip_of_any<T: Integer>(x: &Ratio<T>) -> Ratio<T> {
+    let fraction = x.expect_positive();
+    let numer = *fraction.numer();
+    if numer.is_zero() || (numer < <T as Element>::Proved::ZERO && <T as Element>::Proved::ZERO.try_minus(numer).is_none()) {
+        refuse(x, "attempt to negate with overflow");
+    }
+    Ratio::from_proved(fraction.recip())
+}
+
+#[inline]
+#[track_caller]
+fn power<T: Clone + num_integer::Integer, E: Exponent>(base: &Ratio<T>, exponent: E) -> Ratio<T> {
+    on_machine!(T, same => same.back(power_of_machine(&same.fraction(base), exponent)));
+    schoolbook::power(base, exponent.is_below_zero(), exponent.magnitude())
+}
+
+#[inline]
+#[track_caller]
+pub(super) fn power_of_machine<T: Integer, E: Exponent>(base: &Ratio<T>, exponent: E) -> Ratio<T> {
     match base.expect_positive().checked_pow_with(exponent) {
         Some(power) => Ratio::from_proved(power),
         None => refuse(base, "attempt to multiply with overflow"),
@@ -91,7 +108,7 @@ fn refuse<T: Integer>(base: &Ratio<T>, overflow: &str) -> ! {
     panic!("{}", if *base.numer() == T::NUMBER_0 { "division by zero" } else { overflow })
 }
 
-impl<T: Integer> Inv for Ratio<T> {
+impl<T: Clone + num_integer::Integer> Inv for Ratio<T> {
     type Output = Ratio<T>;
 
     /// # Panics
@@ -104,7 +121,7 @@ impl<T: Integer> Inv for Ratio<T> {
     }
 }
 
-impl<T: Integer> Inv for &Ratio<T> {
+impl<T: Clone + num_integer::Integer> Inv for &Ratio<T> {
     type Output = Ratio<T>;
 
     /// # Panics
@@ -125,7 +142,7 @@ macro_rules! powers {
         powers! { &$exponent, &Ratio<T>; self, exponent => self, (*exponent) }
     )*};
     ($Exponent:ty, $Base:ty; $self:ident, $exponent:ident => $left:expr, $right:expr) => {
-        impl<T: Integer> Pow<$Exponent> for $Base {
+        impl<T: Clone + num_integer::Integer> Pow<$Exponent> for $Base {
             type Output = Ratio<T>;
 
             /// # Panics

@@ -1,5 +1,7 @@
 //! The fraction type, the ways to make a fraction, and how it becomes a fraction of the proved calls.
 use super::integer::{Element, Integer};
+use super::same::on_machine;
+use super::schoolbook;
 use crate::proved::num_rational as proved;
 use crate::proved::ratio_integer::Integer as _;
 
@@ -93,6 +95,62 @@ impl<T> Ratio<T> {
     }
 }
 
+impl<T: Clone + num_integer::Integer> Ratio<T> {
+    /// The lowest terms of `numer/denom`.
+    ///
+    /// # Panics
+    ///
+    /// If the denominator is 0, or if the lowest terms do not fit the type. `checked_new` tests that.
+    ///
+    /// ```
+    /// assert_eq!(num_rational::Ratio::new(4, -6).into_raw(), (-2, 3));
+    /// ```
+    #[inline]
+    #[track_caller]
+    pub fn new(numer: T, denom: T) -> Ratio<T> {
+        on_machine!(T, same => same.back(new_of_machine(same.number(&numer), same.number(&denom))));
+        schoolbook::new(numer, denom)
+    }
+
+    /// The whole number over 1.
+    ///
+    /// ```
+    /// assert_eq!(num_rational::Ratio::from_integer(5).into_raw(), (5, 1));
+    /// ```
+    #[inline]
+    pub fn from_integer(number: T) -> Ratio<T> {
+        Ratio { numer: number, denom: T::one() }
+    }
+
+    /// Whether the denominator is 1. So it is false for 4/2, as `new_raw` makes it.
+    ///
+    /// ```
+    /// use num_rational::Ratio;
+    ///
+    /// assert!(Ratio::new(4, 2).is_integer());
+    /// assert!(!Ratio::new_raw(4, 2).is_integer());
+    /// ```
+    #[inline]
+    pub fn is_integer(&self) -> bool {
+        self.denom.is_one()
+    }
+
+    /// The lowest terms of this fraction.
+    ///
+    /// # Panics
+    ///
+    /// If the denominator is 0, or if the lowest terms do not fit the type. `checked_new` of the fields tests that.
+    ///
+    /// ```
+    /// assert_eq!(num_rational::Ratio::new_raw(4, -6).reduced().into_raw(), (-2, 3));
+    /// ```
+    #[inline]
+    #[track_caller]
+    pub fn reduced(&self) -> Ratio<T> {
+        Ratio::new(self.numer.clone(), self.denom.clone())
+    }
+}
+
 impl<T: Integer> Ratio<T> {
     /// The fraction 0/1.
     ///
@@ -108,24 +166,6 @@ impl<T: Integer> Ratio<T> {
     /// ```
     pub const ONE: Ratio<T> = Ratio { numer: T::NUMBER_1, denom: T::NUMBER_1 };
 
-    /// The lowest terms of `numer/denom`.
-    ///
-    /// # Panics
-    ///
-    /// If the denominator is 0, or if the lowest terms do not fit the type. `checked_new` tests that.
-    ///
-    /// ```
-    /// assert_eq!(num_rational::Ratio::new(4, -6).into_raw(), (-2, 3));
-    /// ```
-    #[inline]
-    #[track_caller]
-    pub fn new(numer: T, denom: T) -> Ratio<T> {
-        match Ratio::checked_new(numer, denom) {
-            Some(lowest) => lowest,
-            None => refuse_new(denom),
-        }
-    }
-
     /// The lowest terms of `numer/denom`, or `None` if the denominator is 0 or they do not fit the type.
     ///
     /// ```
@@ -138,44 +178,6 @@ impl<T: Integer> Ratio<T> {
     #[inline]
     pub fn checked_new(numer: T, denom: T) -> Option<Ratio<T>> {
         Proved::<T>::checked_new(numer.into_proved(), denom.into_proved()).map(Ratio::from_proved)
-    }
-
-    /// The whole number over 1.
-    ///
-    /// ```
-    /// assert_eq!(num_rational::Ratio::from_integer(5).into_raw(), (5, 1));
-    /// ```
-    #[inline]
-    pub fn from_integer(number: T) -> Ratio<T> {
-        Ratio { numer: number, denom: T::NUMBER_1 }
-    }
-
-    /// Whether the denominator is 1. So it is false for 4/2, as `new_raw` makes it.
-    ///
-    /// ```
-    /// use num_rational::Ratio;
-    ///
-    /// assert!(Ratio::new(4, 2).is_integer());
-    /// assert!(!Ratio::new_raw(4, 2).is_integer());
-    /// ```
-    #[inline]
-    pub fn is_integer(&self) -> bool {
-        self.denom == T::NUMBER_1
-    }
-
-    /// The lowest terms of this fraction.
-    ///
-    /// # Panics
-    ///
-    /// If the denominator is 0, or if the lowest terms do not fit the type. `checked_new` of the fields tests that.
-    ///
-    /// ```
-    /// assert_eq!(num_rational::Ratio::new_raw(4, -6).reduced().into_raw(), (-2, 3));
-    /// ```
-    #[inline]
-    #[track_caller]
-    pub fn reduced(&self) -> Ratio<T> {
-        Ratio::new(self.numer, self.denom)
     }
 
     /// The fraction that a proved call returned.
@@ -231,6 +233,15 @@ impl<T: Integer> Ratio<T> {
     #[cold]
     fn turned(&self) -> Option<Proved<T>> {
         Proved::<T>::checked_new(self.numer.into_proved(), self.denom.into_proved())
+    }
+}
+
+#[inline]
+#[track_caller]
+pub(super) fn new_of_machine<T: Integer>(numer: T, denom: T) -> Ratio<T> {
+    match Ratio::checked_new(numer, denom) {
+        Some(lowest) => lowest,
+        None => refuse_new(denom),
     }
 }
 

@@ -14,7 +14,7 @@ use num_traits::{CheckedNeg, Signed, ToPrimitive};
 /// assert_eq!(x.unwrap_err().to_string(), "the denominator is 0, or the lowest terms do not fit the type");
 /// ```
 #[derive(Clone, Copy, Debug, PartialEq, Eq)]
-pub struct ReducedError(());
+pub struct ReducedError(pub(super) ());
 
 impl fmt::Display for ReducedError {
     fn fmt(&self, f: &mut fmt::Formatter<'_>) -> fmt::Result {

@@ -4,9 +4,10 @@
 //! the others panic.
 use super::integer::{Element, Integer};
 use super::ratio::Ratio;
-use num_traits::ToPrimitive;
+use super::same::on_machine;
+use super::schoolbook;
 
-impl<T: Integer> Ratio<T> {
+impl<T: Clone + num_integer::Integer> Ratio<T> {
     /// The greatest whole number that is not above this fraction.
     ///
     /// # Panics
@@ -19,7 +20,8 @@ impl<T: Integer> Ratio<T> {
     #[inline]
     #[track_caller]
     pub fn floor(&self) -> Ratio<T> {
-        Ratio::from_proved(self.expect_positive().floor())
+        on_machine!(T, same => same.back(Ratio::from_proved(same.fraction(self).expect_positive().floor())));
+        Ratio::from_integer(schoolbook::floor(self))
     }
 
     /// The least whole number that is not below this fraction.
@@ -34,7 +36,8 @@ impl<T: Integer> Ratio<T> {
     #[inline]
     #[track_caller]
     pub fn ceil(&self) -> Ratio<T> {
-        Ratio::from_proved(self.expect_positive().ceil())
+        on_machine!(T, same => same.back(Ratio::from_proved(same.fraction(self).expect_positive().ceil())));
+        Ratio::from_integer(schoolbook::ceil(self))
     }
 
     /// The whole number nearest to this fraction. A half is rounded away from zero.
@@ -49,7 +52,8 @@ impl<T: Integer> Ratio<T> {
     #[inline]
     #[track_caller]
     pub fn round(&self) -> Ratio<T> {
-        Ratio::from_proved(self.expect_positive().round())
+        on_machine!(T, same => same.back(Ratio::from_proved(same.fraction(self).expect_positive().round())));
+        Ratio::from_integer(schoolbook::round(self))
     }
 
     /// This fraction cut towards zero.
@@ -64,7 +68,8 @@ impl<T: Integer> Ratio<T> {
     #[inline]
     #[track_caller]
     pub fn trunc(&self) -> Ratio<T> {
-        Ratio::from_proved(self.expect_positive().trunc())
+        on_machine!(T, same => same.back(Ratio::from_proved(same.fraction(self).expect_positive().trunc())));
+        Ratio::from_integer(schoolbook::trunc(self))
     }
 
     /// This fraction minus its `trunc`.
@@ -79,7 +84,8 @@ impl<T: Integer> Ratio<T> {
     #[inline]
     #[track_caller]
     pub fn fract(&self) -> Ratio<T> {
-        Ratio::from_proved(self.expect_positive().fract())
+        on_machine!(T, same => same.back(Ratio::from_proved(same.fraction(self).expect_positive().fract())));
+        schoolbook::fract(self)
     }
 
     /// This fraction cut towards zero.
@@ -94,9 +100,12 @@ impl<T: Integer> Ratio<T> {
     #[inline]
     #[track_caller]
     pub fn to_integer(&self) -> T {
-        T::from_proved(self.expect_positive().to_integer())
+        on_machine!(T, same => same.number_back(Element::from_proved(same.fraction(self).expect_positive().to_integer())));
+        schoolbook::trunc(self)
     }
+}
 
+impl<T: Integer> Ratio<T> {
     /// The nearest fraction to this one with a denominator from 1 to `most`, in lowest terms. Of two that are as near, it is the
     /// one with the smaller denominator, and of two whole numbers the smaller one. It is `None` if `most` is below 1. It is also
     /// `None` if the denominator is 0, or if it is negative and the lowest terms do not fit the type. num-rational has no such
@@ -116,54 +125,5 @@ impl<T: Integer> Ratio<T> {
         } else {
             None
         }
-    }
-}
-
-/// This fraction cut towards zero, or `None` if that does not fit the integer type, or if the denominator is 0. And the nearest
-/// float.
-impl<T: Integer> ToPrimitive for Ratio<T> {
-    #[inline]
-    fn to_i64(&self) -> Option<i64> {
-        self.positive()?.to_i64()
-    }
-
-    #[inline]
-    fn to_u64(&self) -> Option<u64> {
-        self.positive()?.to_u64()
-    }
-
-    #[inline]
-    fn to_i128(&self) -> Option<i128> {
-        self.positive()?.to_i128()
-    }
-
-    #[inline]
-    fn to_u128(&self) -> Option<u128> {
-        self.positive()?.to_u128()
-    }
-
-    /// The nearest `f32`. If two are as near, it is the one whose last binary digit is 0. As in num-rational, a denominator of
-    /// 0 makes it infinite, and 0/0 is `None`. num-rational rounds to an `f64` first, and can return another `f32`.
-    ///
-    /// ```
-    /// use num_traits::ToPrimitive;
-    ///
-    /// assert_eq!(num_rational::Ratio::new(1, 3).to_f32(), Some(0.33333334));
-    /// ```
-    #[inline]
-    fn to_f32(&self) -> Option<f32> {
-        self.nearest_float()
-    }
-
-    /// The nearest `f64`, by the same rules.
-    ///
-    /// ```
-    /// use num_traits::ToPrimitive;
-    ///
-    /// assert_eq!(num_rational::Ratio::new(1, 3).to_f64(), Some(1.0 / 3.0));
-    /// ```
-    #[inline]
-    fn to_f64(&self) -> Option<f64> {
-        self.nearest_float()
     }
 }

@@ -12,11 +12,11 @@ impl<T: Serialize> Serialize for Ratio<T> {
     }
 }
 
-impl<'de, T: Integer + Deserialize<'de>> Deserialize<'de> for Ratio<T> {
+impl<'de, T: Clone + num_integer::Integer + Deserialize<'de>> Deserialize<'de> for Ratio<T> {
     fn deserialize<D: Deserializer<'de>>(format: D) -> Result<Ratio<T>, D::Error> {
         let (numer, denom) = <(T, T)>::deserialize(format)?;
         if denom.is_zero() {
-            return Err(D::Error::invalid_value(Unexpected::Unsigned(0), &"a denominator other than 0"));
+            return Err(D::Error::invalid_value(Unexpected::Signed(0), &"a ratio with non-zero denominator"));
         }
         Ok(Ratio::new_raw(numer, denom))
     }

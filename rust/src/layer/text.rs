@@ -1,6 +1,8 @@
 //! Reading texts as fractions, and writing fractions as texts.
 use super::integer::{Element, Integer};
 use super::ratio::{Proved, Ratio};
+use super::same::on_machine;
+use super::schoolbook;
 use crate::proved::num_rational::ParseRatioError;
 use crate::proved::ratio_core::{text, BaseTenText, DecimalText, Form, RatioText};
 use core::fmt;
@@ -8,12 +10,13 @@ use core::ops::Deref;
 use core::str::FromStr;
 use num_traits::Num;
 
-impl<T: Integer> FromStr for Ratio<T> {
+impl<T: FromStr + Clone + num_integer::Integer> FromStr for Ratio<T> {
     type Err = ParseRatioError;
 
     #[inline]
     fn from_str(text: &str) -> Result<Ratio<T>, ParseRatioError> {
-        Proved::<T>::from_str(text).map(Ratio::from_proved)
+        on_machine!(T, same => Ok(same.back(read_by_machine(text)?)));
+        schoolbook::read(text, true, |number| number.parse().ok())
     }
 }
 
@@ -45,7 +48,7 @@ impl<T: Integer> Ratio<T> {
     }
 }
 
-impl<T: Integer> Num for Ratio<T> {
+impl<T: Clone + num_integer::Integer> Num for Ratio<T> {
     type FromStrRadixErr = ParseRatioError;
 
     /// The lowest terms of a text `N/D` in the radix.
@@ -56,36 +59,88 @@ impl<T: Integer> Num for Ratio<T> {
     #[inline]
     #[track_caller]
     fn from_str_radix(text: &str, radix: u32) -> Result<Ratio<T>, ParseRatioError> {
-        assert!(
-            (2..=36).contains(&radix),
-            "from_str_radix_int: must lie in the range `[2, 36]` - found {}",
-            radix
-        );
-        Proved::<T>::from_str_radix(text, radix).map(Ratio::from_proved)
+        on_machine!(T, same => Ok(same.back(read_radix_by_machine(text, radix)?)));
+        schoolbook::read(text, false, |number| T::from_str_radix(number, radix).ok())
     }
 }
 
-// A fraction with the denominator 0 has no value, so no proved call prints it. Its text is that of its fields, too: `1/0`.
+// The proved calls, for the machine types.
+
+#[inline]
+pub(super) fn read_by_machine<T: Integer>(text: &str) -> Result<Ratio<T>, ParseRatioError> {
+    Proved::<T>::from_str(text).map(Ratio::from_proved)
+}
+
+#[inline]
+#[track_caller]
+pub(super) fn read_radix_by_machine<T: Integer>(text: &str, radix: u32) -> Result<Ratio<T>, ParseRatioError> {
+    assert!(
+        (2..=36).contains(&radix),
+        "from_str_radix_int: must lie in the range `[2, 36]` - found {}",
+        radix
+    );
+    Proved::<T>::from_str_radix(text, radix).map(Ratio::from_proved)
+}
+
+/// Writes a fraction over any type that is no machine type: the numerator, a slash and the denominator. `$number` is how a number is written,
+/// and `$alternate` how one is with `#`. As in num-rational, there are no fill and no width without memory.
+macro_rules! write_fields_of_any {
+    ($x:expr, $f:ident: $prefix:literal $number:literal $alternate:literal) => {{
+        let (numer, denom) = ($x.numer(), $x.denom());
+        #[cfg(feature = "alloc")]
+        {
+            let text = match (denom.is_one(), $f.alternate()) {
+                (true, _) => alloc::format!($number, numer),
+                (false, false) => alloc::format!(concat!($number, "/", $number), numer, denom),
+                (false, true) => alloc::format!(concat!($number, "/", $alternate), numer, denom),
+            };
+            match text.strip_prefix('-') {
+                Some(digits) => $f.pad_integral(false, $prefix, digits),
+                None => $f.pad_integral(true, $prefix, &text),
+            }
+        }
+        #[cfg(not(feature = "alloc"))]
+        {
+            let plus = if $f.sign_plus() && *numer >= T::zero() { "+" } else { "" };
+            match (denom.is_one(), $f.alternate()) {
+                (true, false) => write!($f, concat!("{}", $number), plus, numer),
+                (true, true) => write!($f, concat!("{}", $alternate), plus, numer),
+                (false, false) => write!($f, concat!("{}", $number, "/", $number), plus, numer, denom),
+                (false, true) => write!($f, concat!("{}", $alternate, "/", $alternate), plus, numer, denom),
+            }
+        }
+    }};
+}
+
+pub(super) use write_fields_of_any;
+
 macro_rules! forms {
-    ($($Form:ident $form:ident $prefix:literal;)*) => {$(
-        impl<T: Integer> fmt::$Form for Ratio<T> {
+    ($($Form:ident $form:ident $machine:ident $prefix:literal $number:literal $alternate:literal;)*) => {$(
+        impl<T: fmt::$Form + Clone + num_integer::Integer> fmt::$Form for Ratio<T> {
             #[inline]
             fn fmt(&self, f: &mut fmt::Formatter<'_>) -> fmt::Result {
-                match self.checked_proved() {
-                    Some(fraction) => fmt::$Form::fmt(&fraction, f),
-                    None => write_fields(self, Form::$form, $prefix, f),
-                }
+                on_machine!(T, same => $machine(&same.fraction(self), f));
+                write_fields_of_any!(self, f: $prefix $number $alternate)
+            }
+        }
+
+        // A fraction with the denominator 0 has no value, so no proved call prints it. Its text is that of its fields, too: `1/0`.
+        #[inline]
+        pub(super) fn $machine<T: Integer>(x: &Ratio<T>, f: &mut fmt::Formatter<'_>) -> fmt::Result {
+            match x.checked_proved() {
+                Some(fraction) => fmt::$Form::fmt(&fraction, f),
+                None => write_fields(x, Form::$form, $prefix, f),
             }
         }
     )*};
 }
 
 forms! {
-    Display Decimal "";
-    Binary Binary "0b";
-    Octal Octal "0o";
-    LowerHex LowerHex "0x";
-    UpperHex UpperHex "0x";
+    Display Decimal decimal_of_machine "" "{}" "{:#}";
+    Binary Binary binary_of_machine "0b" "{:b}" "{:#b}";
+    Octal Octal octal_of_machine "0o" "{:o}" "{:#o}";
+    LowerHex LowerHex lower_hex_of_machine "0x" "{:x}" "{:#x}";
+    UpperHex UpperHex upper_hex_of_machine "0x" "{:X}" "{:#X}";
 }
 
 #[cold]

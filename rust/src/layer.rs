@@ -4,6 +4,9 @@
 //! caller, the layer tests that first, in each build. If the test fails, a call that returns an `Option` returns `None`, and the
 //! others panic.
 //!
+//! A `Ratio` takes each integer type of num-rational. If it is a machine type, a call is the proved one: `same` says which type it is. If not,
+//! a call is one of `schoolbook`, which is not proved.
+//!
 //! No proved call is behind fractions near a float and the forms with an exponent. Tests compare these with num-rational.
 mod approximations;
 mod arithmetic;

@@ -1,4 +1,7 @@
-//! Exact fractions of machine integers, with the names and traits of the crate num-rational.
+//! Exact fractions, with the names and traits of the crate num-rational.
+//!
+//! For the twelve machine types, from `i8` to `u128`, `isize` and `usize`, the code that computes was proved: a call never wraps and never
+//! returns a wrong number. For every other integer type, such as `BigInt` or a program's own, it is tested and not proved.
 //!
 //! ```
 //! use num_rational::Ratio;
@@ -15,11 +18,11 @@
 //! num-rational = { package = "bakhsney", path = "../bakhsney/rust" }
 //! ```
 //!
-//! The code that computes was proved in Rattle. `src/proved/` holds this code without its contracts. A layer written by hand,
+//! The proofs are in Rattle. `src/proved/` holds the proved code without its contracts. A layer written by hand,
 //! in `src/layer/`, tests what the proved calls require.
 //!
-//! `from_f64`, `from_f32`, `approximate_float` and the forms `{:e}` and `{:E}` are not proved. The layer computes them, and tests
-//! compare them with num-rational.
+//! `from_f64`, `from_f32`, `approximate_float`, `const_new` and the forms `{:e}` and `{:E}` are not proved. The layer computes them, and tests
+//! compare them with num-rational. The crate's README says what differs from num-rational.
 #![cfg_attr(not(feature = "std"), no_std)]
 #![warn(missing_docs)]
 
@@ -41,7 +44,8 @@ pub mod proved;
 #[cfg(test)]
 mod test_support;
 
-/// The traits of the element types, for generic code.
+/// The trait of the twelve machine types, for generic code. `Reduced` and `Total` require it. `Ratio` takes each type of num-integer's
+/// `Integer`.
 ///
 /// It is a module of its own. So `use num_rational::*` beside `use num_integer::*` brings one `Integer`, that of num-integer.
 pub mod integer {

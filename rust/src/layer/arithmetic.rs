@@ -153,6 +153,8 @@ fn refuse<T: Integer>(x: &Ratio<T>, other: &Ratio<T>, zero: &str, overflow: &str
 
 // Each fold is a loop over an operator. A closure has no caller, so a panic in it would name a line of this file.
 // `Sum::sum(items)` names the caller's line. `items.sum()` names a line of core, which calls this.
+//
+// The assigning operators would clone the total.
 macro_rules! folds {
     ($($Fold:ident $fold:ident $start:ident $op:tt;)*) => {$(
         impl<T: Clone + num_integer::Integer> $Fold for Ratio<T> {
@@ -161,6 +163,7 @@ macro_rules! folds {
             /// If a step panics.
             #[inline]
             #[track_caller]
+            #[allow(clippy::assign_op_pattern)]
             fn $fold<I: Iterator<Item = Ratio<T>>>(items: I) -> Ratio<T> {
                 let mut total = Ratio::from_integer(T::$start());
                 for item in items {
@@ -176,6 +179,7 @@ macro_rules! folds {
             /// If a step panics.
             #[inline]
             #[track_caller]
+            #[allow(clippy::assign_op_pattern)]
             fn $fold<I: Iterator<Item = &'a Ratio<T>>>(items: I) -> Ratio<T> {
                 let mut total = Ratio::from_integer(T::$start());
                 for item in items {

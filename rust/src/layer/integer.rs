@@ -9,7 +9,7 @@ use num_traits::{NumAssign, PrimInt};
 /// One of the twelve primitive integer types, from `i8` to `u128`, with `isize` and `usize`.
 ///
 /// The proofs need only the laws of the integer type, and these laws are proved of the twelve types. So no other type can have
-/// this trait.
+/// this trait. It is for code that needs `Reduced` or `Total`: a `Ratio` takes other types, too.
 ///
 /// ```
 /// use num_rational::{integer::Integer, Ratio};

@@ -76,7 +76,7 @@ pub(super) fn recip_of_machine<T: Integer>(x: &Ratio<T>) -> Ratio<T> {
 
 #[inline(never)]
 #[track_caller]
-fn recip_of_any<T: Integer>(x: &Ratio<T>) -> Ratio<T> {
+pub(super) fn recip_of_any<T: Integer>(x: &Ratio<T>) -> Ratio<T> {
     let fraction = x.expect_positive();
     let numer = *fraction.numer();
     if numer.is_zero() || (numer < <T as Element>::Proved::ZERO && <T as Element>::Proved::ZERO.try_minus(numer).is_none()) {

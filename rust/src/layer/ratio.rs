@@ -6,7 +6,8 @@ use crate::proved::num_rational as proved;
 use crate::proved::ratio_integer::Integer as _;
 
 /// A fraction of two integers. `new` and most calls return lowest terms with a positive denominator. `new_raw` keeps any two
-/// numbers.
+/// numbers. For the twelve machine types the calls are proved, and for every other type they are tested and not proved. What the
+/// documentation says of panics is about the twelve: over another type, a number that does not fit does what the type's own operators do.
 ///
 /// ```
 /// use num_rational::Ratio;

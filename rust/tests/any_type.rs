@@ -302,7 +302,7 @@ fn texts() {
 
 #[test]
 fn floats() {
-    for float in [0.5, -0.75, 3.1416, 1e18, 1e19, f64::NAN, 0.1, -29.97] {
+    for float in [0.5, -0.75, 22.7182, 1e18, 1e19, f64::NAN, 0.1, -29.97] {
         assert_eq!(Ratio::<Own>::approximate_float(float).map(fields), Ratio::<i64>::approximate_float(float).map(Ratio::into_raw), "{float}");
     }
 }

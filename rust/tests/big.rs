@@ -56,7 +56,7 @@ fn hash_of(x: impl Hash) -> u64 {
 }
 
 fn pairs() -> u64 {
-    std::env::var("BAKHSNEY_PAIRS").map_or(2000, |pairs| pairs.parse().unwrap())
+    std::env::var("BAKHSNEY_PAIRS").map_or(300, |pairs| pairs.parse().unwrap())
 }
 
 macro_rules! operators {

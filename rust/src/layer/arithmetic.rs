@@ -12,7 +12,7 @@ macro_rules! checked_calls {
         impl<T: Clone + num_integer::Integer $(+ $Bound)*> $Checked for Ratio<T> {
             #[inline]
             fn $checked(&self, other: &Ratio<T>) -> Option<Ratio<T>> {
-                on_machine!(T, same => Some(same.back(machine::$checked(&same.fraction(self), &same.fraction(other))?)));
+                on_machine!(T, same => Some(same.back(machine::$checked(same.fraction(self), same.fraction(other))?)));
                 schoolbook::$checked(self, other)
             }
         }
@@ -78,7 +78,7 @@ macro_rules! operators {
             #[inline]
             #[track_caller]
             fn $op(self, other: Ratio<T>) -> Ratio<T> {
-                on_machine!(T, same => same.back(machine::$op(&same.fraction(&self), &same.fraction(&other))));
+                on_machine!(T, same => same.back(machine::$op(same.fraction(&self), same.fraction(&other))));
                 schoolbook::$op(self, other)
             }
         }

@@ -44,7 +44,7 @@ macro_rules! forms {
         /// The numerator, a slash and the denominator, each with its own exponent. This is not proved.
         impl<T: fmt::$Form + Clone + num_integer::Integer> fmt::$Form for Ratio<T> {
             fn fmt(&self, f: &mut fmt::Formatter<'_>) -> fmt::Result {
-                on_machine!(T, same => $machine(&same.fraction(self), f));
+                on_machine!(T, same => $machine(same.fraction(self), f));
                 write_fields_of_any!(self, f: "" $number $alternate)
             }
         }

@@ -25,23 +25,33 @@ impl fmt::Display for FloatError {
 #[cfg(feature = "std")]
 impl std::error::Error for FloatError {}
 
-macro_rules! exact_floats {
-    ($($Fraction:ident: $float:ty, $from_float:ident;)*) => {$(
-        impl<T: Integer> TryFrom<$float> for $Fraction<T> {
+macro_rules! values {
+    ($($Fraction:ty $(where $T:ident)?: $float:ty, $from_float:ident;)*) => {$(
+        impl$(<$T: Integer>)? TryFrom<$float> for $Fraction {
             type Error = FloatError;
 
             /// The fraction with exactly the value of the float.
             #[inline]
-            fn try_from(float: $float) -> Result<$Fraction<T>, FloatError> {
-                Reduced::$from_float(float).map($Fraction::from).ok_or(FloatError(()))
+            fn try_from(float: $float) -> Result<$Fraction, FloatError> {
+                Reduced::$from_float(float).map(Self::from).ok_or(FloatError(()))
             }
         }
     )*};
 }
 
-exact_floats! {
-    Ratio: f64, from_float;
-    Ratio: f32, from_float32;
-    Reduced: f64, from_float;
-    Reduced: f32, from_float32;
+values! {
+    Reduced<T> where T: f64, from_float;
+    Reduced<T> where T: f32, from_float32;
 }
+
+// One for each type: one for all of them would be in the way of std's own `TryFrom` for rustc 1.63.
+macro_rules! ratios {
+    ($($type:ident)*) => {$(
+        values! {
+            Ratio<$type>: f64, from_float;
+            Ratio<$type>: f32, from_float32;
+        }
+    )*};
+}
+
+ratios! { i8 i16 i32 i64 i128 isize u8 u16 u32 u64 u128 usize }

@@ -24,7 +24,7 @@ impl<T: Clone + num_integer::Integer> Ratio<T> {
     #[inline]
     #[track_caller]
     pub fn recip(&self) -> Ratio<T> {
-        on_machine!(T, same => same.back(recip_of_machine(&same.fraction(self))));
+        on_machine!(T, same => same.back(recip_of_machine(same.fraction(self))));
         schoolbook::recip(self.clone())
     }
 
@@ -88,7 +88,7 @@ pub(super) fn recip_of_any<T: Integer>(x: &Ratio<T>) -> Ratio<T> {
 #[inline]
 #[track_caller]
 fn power<T: Clone + num_integer::Integer, E: Exponent>(base: &Ratio<T>, exponent: E) -> Ratio<T> {
-    on_machine!(T, same => same.back(power_of_machine(&same.fraction(base), exponent)));
+    on_machine!(T, same => same.back(power_of_machine(same.fraction(base), exponent)));
     schoolbook::power(base, exponent.is_below_zero(), exponent.magnitude())
 }
 

@@ -106,7 +106,8 @@ impl<T: Clone + num_integer::Integer> Ratio<T> {
     /// ```
     /// assert_eq!(num_rational::Ratio::new(4, -6).into_raw(), (-2, 3));
     /// ```
-    #[inline]
+    // Always: else the twelve types in its body keep rustc from copying it to the caller, as it did with the one call.
+    #[inline(always)]
     #[track_caller]
     pub fn new(numer: T, denom: T) -> Ratio<T> {
         on_machine!(T, same => same.back(new_of_machine(same.number(&numer), same.number(&denom))));
@@ -237,7 +238,7 @@ impl<T: Integer> Ratio<T> {
     }
 }
 
-#[inline]
+#[inline(always)]
 #[track_caller]
 pub(super) fn new_of_machine<T: Integer>(numer: T, denom: T) -> Ratio<T> {
     match Ratio::checked_new(numer, denom) {

@@ -52,7 +52,7 @@ impl<T, P: Integer + 'static> Same<T, P> {
     #[inline(always)]
     pub(super) fn number(&self, number: &T) -> P {
         // SAFETY: `T` is `P`, which is `Copy`.
-        unsafe { *(number as *const T).cast() }
+        unsafe { mem::transmute_copy(number) }
     }
 
     #[inline(always)]
@@ -62,14 +62,21 @@ impl<T, P: Integer + 'static> Same<T, P> {
     }
 
     #[inline(always)]
-    pub(super) fn fraction(&self, fraction: &Ratio<T>) -> Ratio<P> {
-        Ratio::new_raw(self.number(fraction.numer()), self.number(fraction.denom()))
+    pub(super) fn fraction<'a>(&self, fraction: &'a Ratio<T>) -> &'a Ratio<P> {
+        // SAFETY: `T` is `P`.
+        unsafe { &*(fraction as *const Ratio<T>).cast() }
     }
 
     #[inline(always)]
     pub(super) fn back(&self, fraction: Ratio<P>) -> Ratio<T> {
         let (numer, denom) = fraction.into_raw();
         Ratio::new_raw(self.number_back(numer), self.number_back(denom))
+    }
+
+    #[inline(always)]
+    pub(super) fn back_if<E: Copy>(&self, fraction: Result<Ratio<P>, E>) -> Result<Ratio<T>, E> {
+        // SAFETY: `T` is `P`, and a `Result` of `Copy` types is `Copy`, too.
+        unsafe { mem::transmute_copy(&fraction) }
     }
 }
 
@@ -93,7 +100,7 @@ pub(super) use on_machine;
 
 #[cfg(test)]
 mod tests {
-    use super::{name, Same};
+    use super::{name, Ratio, Same};
 
     #[allow(dead_code)]
     struct Tagged<'a>(i64, PhantomTag<'a>);
@@ -118,5 +125,8 @@ mod tests {
     fn there_and_back() {
         let same = name::<i128>().and_then(Same::<i128, i128>::of).unwrap();
         assert_eq!([i128::MIN, -1, i128::MAX].map(|x| same.number_back(same.number(&x))), [i128::MIN, -1, i128::MAX]);
+        let fraction = Ratio::new_raw(i128::MIN, -5);
+        assert_eq!(same.back(*same.fraction(&fraction)).into_raw(), (i128::MIN, -5));
+        assert_eq!([Ok(fraction), Err(7)].map(|x| same.back_if(x).map(Ratio::into_raw)), [Ok((i128::MIN, -5)), Err(7)]);
     }
 }

@@ -15,7 +15,7 @@ impl<T: Clone + num_integer::Integer + Neg<Output = T>> Neg for Ratio<T> {
     #[inline]
     #[track_caller]
     fn neg(self) -> Ratio<T> {
-        on_machine!(T, same => same.back(neg_of_machine(&same.fraction(&self))));
+        on_machine!(T, same => same.back(neg_of_machine(same.fraction(&self))));
         let (numer, denom) = self.into_raw();
         Ratio::new_raw(-numer, denom)
     }
@@ -41,7 +41,7 @@ impl<T: Clone + num_integer::Integer + Signed> Signed for Ratio<T> {
     #[inline]
     #[track_caller]
     fn abs(&self) -> Ratio<T> {
-        on_machine!(T, same => same.back(abs_of_machine(&same.fraction(self))));
+        on_machine!(T, same => same.back(abs_of_machine(same.fraction(self))));
         schoolbook::abs(self)
     }
 
@@ -64,7 +64,7 @@ impl<T: Clone + num_integer::Integer + Signed> Signed for Ratio<T> {
     #[inline]
     #[track_caller]
     fn signum(&self) -> Ratio<T> {
-        on_machine!(T, same => same.back(signum_of_machine(&same.fraction(self))));
+        on_machine!(T, same => same.back(signum_of_machine(same.fraction(self))));
         schoolbook::signum(self)
     }
 
@@ -74,7 +74,7 @@ impl<T: Clone + num_integer::Integer + Signed> Signed for Ratio<T> {
     #[inline]
     #[track_caller]
     fn is_positive(&self) -> bool {
-        on_machine!(T, same => is_positive_of_machine(&same.fraction(self)));
+        on_machine!(T, same => is_positive_of_machine(same.fraction(self)));
         schoolbook::is_positive(self)
     }
 
@@ -84,7 +84,7 @@ impl<T: Clone + num_integer::Integer + Signed> Signed for Ratio<T> {
     #[inline]
     #[track_caller]
     fn is_negative(&self) -> bool {
-        on_machine!(T, same => is_negative_of_machine(&same.fraction(self)));
+        on_machine!(T, same => is_negative_of_machine(same.fraction(self)));
         schoolbook::is_negative(self)
     }
 }

@@ -15,7 +15,7 @@ impl<T: FromStr + Clone + num_integer::Integer> FromStr for Ratio<T> {
 
     #[inline]
     fn from_str(text: &str) -> Result<Ratio<T>, ParseRatioError> {
-        on_machine!(T, same => Ok(same.back(read_by_machine(text)?)));
+        on_machine!(T, same => same.back_if(read_by_machine(text)));
         schoolbook::read(text, true, |number| number.parse().ok())
     }
 }
@@ -59,7 +59,7 @@ impl<T: Clone + num_integer::Integer> Num for Ratio<T> {
     #[inline]
     #[track_caller]
     fn from_str_radix(text: &str, radix: u32) -> Result<Ratio<T>, ParseRatioError> {
-        on_machine!(T, same => Ok(same.back(read_radix_by_machine(text, radix)?)));
+        on_machine!(T, same => same.back_if(read_radix_by_machine(text, radix)));
         schoolbook::read(text, false, |number| T::from_str_radix(number, radix).ok())
     }
 }
@@ -119,7 +119,7 @@ macro_rules! forms {
         impl<T: fmt::$Form + Clone + num_integer::Integer> fmt::$Form for Ratio<T> {
             #[inline]
             fn fmt(&self, f: &mut fmt::Formatter<'_>) -> fmt::Result {
-                on_machine!(T, same => $machine(&same.fraction(self), f));
+                on_machine!(T, same => $machine(same.fraction(self), f));
                 write_fields_of_any!(self, f: $prefix $number $alternate)
             }
         }

@@ -34,7 +34,7 @@ macro_rules! to_primitive {
             #[inline]
             fn $name(&self) -> Option<$Number> {
                 on_machine!(T, same => {
-                    let $x = &same.fraction(self);
+                    let $x = same.fraction(self);
                     $machine
                 });
                 let $x = self;

@@ -21,6 +21,7 @@ impl<T: Clone + num_integer::Integer> Ratio<T> {
     /// ```
     /// assert_eq!(num_rational::Ratio::new(-2, 3).recip().into_raw(), (-3, 2));
     /// ```
+    #[doc(alias = "inverse")]
     #[inline]
     #[track_caller]
     pub fn recip(&self) -> Ratio<T> {
@@ -41,6 +42,7 @@ impl<T: Clone + num_integer::Integer> Ratio<T> {
     /// assert_eq!(Ratio::new(-2, 3).pow(3), Ratio::new(-8, 27));
     /// assert_eq!(Ratio::new(-2, 3).pow(-2), Ratio::new(9, 4));
     /// ```
+    #[doc(alias = "powi")]
     #[inline]
     #[track_caller]
     pub fn pow(&self, exponent: i32) -> Ratio<T> {

@@ -18,6 +18,8 @@ use crate::proved::ratio_integer::Integer as _;
 /// assert!(Ratio::new(1u8, 255) < Ratio::new(1, 254));
 /// assert_eq!("7/21".parse(), Ok(third));
 /// ```
+#[doc(alias = "Fraction")]
+#[doc(alias = "Rational")]
 #[derive(Clone, Copy, Debug)]
 pub struct Ratio<T> {
     numer: T,
@@ -80,6 +82,7 @@ impl<T> Ratio<T> {
     /// ```
     /// assert_eq!(*num_rational::Ratio::new(6, 8).numer(), 3);
     /// ```
+    #[doc(alias = "numerator")]
     #[inline]
     pub const fn numer(&self) -> &T {
         &self.numer
@@ -90,6 +93,7 @@ impl<T> Ratio<T> {
     /// ```
     /// assert_eq!(*num_rational::Ratio::new(6, 8).denom(), 4);
     /// ```
+    #[doc(alias = "denominator")]
     #[inline]
     pub const fn denom(&self) -> &T {
         &self.denom

@@ -1,7 +1,7 @@
 //! Fractions beside other types: numbers on the left, other widths, floats, generic code over bounds and Euclid's division, constants.
 
 // The tests are about these forms.
-#![allow(clippy::op_ref)]
+#![allow(clippy::op_ref, clippy::unnecessary_fallible_conversions)]
 
 use bakhsney::integer::Integer;
 use bakhsney::{CastError, FloatError, Ratio, Rational32, Rational64, Reduced};

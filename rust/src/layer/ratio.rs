@@ -110,10 +110,10 @@ impl<T: Clone + num_integer::Integer> Ratio<T> {
     /// ```
     /// assert_eq!(num_rational::Ratio::new(4, -6).into_raw(), (-2, 3));
     /// ```
-    // Always: else the twelve types in its body keep rustc from copying it to the caller, as it did with the one call.
     #[inline(always)]
     #[track_caller]
     pub fn new(numer: T, denom: T) -> Ratio<T> {
+        // This is always copied to the caller: else the twelve calls here keep rustc from it.
         on_machine!(T, same => same.back(new_of_machine(same.number(&numer), same.number(&denom))));
         schoolbook::new(numer, denom)
     }

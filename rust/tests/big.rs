@@ -1,4 +1,4 @@
-//! Each call on fractions of big integers beside num-rational's, by drawn numbers of up to 300 bits. `BAKHSNEY_PAIRS` says how many pairs.
+//! Each call on fractions of big integers beside num-rational's, by drawn numbers of up to 384 bits. `BAKHSNEY_PAIRS` says how many pairs.
 #![cfg(feature = "num-bigint")]
 
 // The tests are about these forms.
@@ -17,7 +17,7 @@ use support::Numbers;
 
 type Pair = (BigRational, Original<BigInt>);
 
-/// A number of up to 300 bits, which is often short.
+/// A number of up to 384 bits, which is often short.
 fn number(numbers: &mut Numbers) -> BigInt {
     let words = numbers.below(6).saturating_sub(1);
     let mut number = BigInt::from(numbers.of_any_length() >> numbers.below(128));

@@ -12,3 +12,4 @@ pub mod WideTotalLemmas
 pub mod WideSumLemmas
 pub mod WideRoundingLemmas
 pub mod WideProductLemmas
+pub mod RoomSplitLemmas

@@ -9,3 +9,4 @@ pub mod WideTotals
 pub mod WideSums
 pub mod WideProducts
 pub mod Texts
+pub mod RoomSplits

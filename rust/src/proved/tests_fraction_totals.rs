@@ -14,6 +14,8 @@ mod reads;
 #[cfg(test)]
 mod refusal_texts;
 #[cfg(test)]
+mod splitting;
+#[cfg(test)]
 mod wide_integers;
 #[cfg(test)]
 mod wide_orders;

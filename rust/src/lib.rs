@@ -78,17 +78,16 @@ pub use proved::num_rational::ParseRatioError;
 /// ```
 #[doc(inline)]
 pub use proved::num_rational::RatioErrorKind;
-/// Why [`split`] does not split an amount by shares: the first of these that applies.
+/// Why [`split`] does not split an amount by shares: the first of these that applies. It is hardly ever `NotHeld` with the feature
+/// `alloc`: [`split`] says when.
 ///
 /// ```
 /// use num_rational::{split, Reduced, SplitRefusal};
 ///
 /// let [third, owed] = [(1i8, 3), (-1, 3)].map(|(numer, denom)| Reduced::checked_new(numer, denom).unwrap());
-/// let [of_127, of_126] = [127i8, 126].map(|denom| Reduced::checked_new(1, denom).unwrap());
 /// let refusal = |shares: &[_]| split(100, shares, &mut [0; 2]).unwrap_err();
 /// assert_eq!(refusal(&[third; 3]), SplitRefusal::Length);
 /// assert_eq!(refusal(&[third, owed]), SplitRefusal::BelowZero);
-/// assert_eq!(refusal(&[of_127, of_126]), SplitRefusal::NotHeld);
 /// assert_eq!(refusal(&[third; 2]), SplitRefusal::NotOne);
 /// ```
 #[doc(inline)]

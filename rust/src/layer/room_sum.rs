@@ -19,19 +19,19 @@ pub(super) struct RoomSum {
 }
 
 /// The digits of the shortest common denominator.
-const FEWEST_DIGITS: usize = 4;
+pub(super) const FEWEST_DIGITS: usize = 4;
 
 /// The most fractions in a sum. With 64 bits, a total's greatest weight comes first. With 32, the fractions of two sums and the slots of
 /// two tables are together below 2^32.
 const MOST_FRACTIONS: usize = if usize::BITS == 64 { usize::MAX } else { usize::MAX / 4 };
 
 /// The digits of a room whose common denominator has so many digits.
-fn digits_of_room(digits: usize) -> usize {
+pub(super) fn digits_of_room(digits: usize) -> usize {
     4 * digits + 6
 }
 
 /// The same, with the spare digits of an addition.
-fn digits_with_spare(digits: usize) -> usize {
+pub(super) fn digits_with_spare(digits: usize) -> usize {
     digits_of_room(digits) + 8 * digits + 6
 }
 

@@ -4,7 +4,14 @@
 //! so have a `Reduced` and the proved one. So the lists are handed on as they are.
 use super::integer::{Element, Integer};
 use super::reduced::{Proved, Reduced};
+#[cfg(feature = "alloc")]
+use super::room_sum::{digits_of_room, digits_with_spare, FEWEST_DIGITS};
+#[cfg(feature = "alloc")]
+use crate::proved::fraction_totals::{split_in, RoomSplitRefusal, WideRefusal, MOST_DIGITS};
 use crate::proved::num_rational::{self as proved, SplitRefusal, WeightRefusal};
+use crate::proved::ratio_integer::Primitive;
+#[cfg(feature = "alloc")]
+use alloc::vec;
 use core::slice;
 
 /// Splits an amount by shares that add up to 1. The parts add up to the amount exactly, and each is less than 1 away from the amount
@@ -22,8 +29,40 @@ use core::slice;
 ///
 /// The sums of the first shares, times the amount, are rounded with a half away from 0: 33, 67 and 100. A part is the difference of
 /// two neighbours. No product has to fit: 10,000,000,000 is split by shares over 9,999,999,999, too.
+///
+/// Nor has a sum of the first shares to fit. Where it does not, the sums take memory. So the answer is `NotHeld` only if the common
+/// denominator of the shares is 2^(2^20) or more. Without the feature `alloc` there is no such memory: then it is `NotHeld` if a sum of
+/// the first shares does not fit, or the amount times it, rounded.
 pub fn split<T: Integer>(amount: T, shares: &[Reduced<T>], parts: &mut [T]) -> Result<(), SplitRefusal> {
-    proved::split(amount.into_proved(), proved_fractions(shares), proved_numbers_mut(parts))
+    let (amount, shares, parts) = (amount.into_proved(), proved_fractions(shares), proved_numbers_mut(parts));
+    match proved::split(amount, shares, parts) {
+        Err(SplitRefusal::NotHeld) => split_in_memory(amount, shares, parts),
+        answer => answer,
+    }
+}
+
+/// The split with its sums over the common denominator of the shares. Each try has twice the digits for it.
+#[cfg(feature = "alloc")]
+#[cold]
+fn split_in_memory<P: Primitive>(amount: P, shares: &[proved::Reduced<P>], parts: &mut [P]) -> Result<(), SplitRefusal> {
+    let mut digits = FEWEST_DIGITS;
+    loop {
+        let mut memory = vec![0; digits_with_spare(digits)];
+        let (room, spare) = memory.split_at_mut(digits_of_room(digits));
+        match split_in(amount, shares, parts, digits, room, spare) {
+            Ok(()) => return Ok(()),
+            Err(RoomSplitRefusal::NotOne) => return Err(SplitRefusal::NotOne),
+            Err(RoomSplitRefusal::Room(WideRefusal::MoreDigits)) if digits < MOST_DIGITS => digits *= 2,
+            Err(_) => return Err(SplitRefusal::NotHeld),
+        }
+    }
+}
+
+/// There is no memory for the sums.
+#[cfg(not(feature = "alloc"))]
+#[cold]
+fn split_in_memory<P: Primitive>(_: P, _: &[proved::Reduced<P>], _: &mut [P]) -> Result<(), SplitRefusal> {
+    Err(SplitRefusal::NotHeld)
 }
 
 /// Splits an amount by weights, such as days or votes. The share of a weight is the weight over the sum of all. The parts add up to

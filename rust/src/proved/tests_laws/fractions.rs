@@ -51,7 +51,18 @@ fn order_of_results() {
 #[test]
 fn parts_of_equals() {
     splits::equal_shares(100, &[fraction(1, 3); 3], &[33, 34, 33]);
+    splits::equal_shares(
+        -5,
+        &[fraction(1, 4), fraction(1, 2), fraction(1, 4)],
+        &[-1, -3, -1],
+    );
     splits::equal_weights(100i64, &[1, 1, 1], &[33, 34, 33]);
+}
+
+#[test]
+fn splits_of_one_amount() {
+    splits::marks_of_one(100, &[fraction(1, 3); 3]);
+    splits::one_split(100, &[fraction(1, 3); 3], &[33, 34, 33], &[33, 34, 33]);
 }
 
 #[test]

@@ -1,5 +1,5 @@
 //! Refusals go through `?` into a `Box<dyn Error>`, which prints what is wrong.
-use bakhsney::{split, split_by_weights, Reduced};
+use bakhsney::{split, split_by_weights, Reduced, SplitRefusal};
 use std::error::Error;
 
 /// Two parts of an amount that is written as a decimal, by shares that a person types.
@@ -20,7 +20,6 @@ fn by_weights(amount: i8, weights: &[i8]) -> Result<[i8; 2], Box<dyn Error>> {
 #[test]
 fn refusals_go_through_a_question_mark() {
     let not_held = "the lowest terms do not fit the type, or a whole number of the fraction is 2^128 or more";
-    let sum_not_held = "a sum of the first shares, or the amount times this sum, rounded, does not fit the type";
     let rows = [
         (by_shares("1,5", ["1/2", "50%"]), "the text is not a decimal such as -12.5 or 1.5e-3"),
         (by_shares("128", ["1/2", "50%"]), "the lowest terms of the decimal do not fit the type"),
@@ -28,7 +27,7 @@ fn refusals_go_through_a_question_mark() {
         (by_shares("100", ["1/2", "1/0"]), "the denominator is 0"),
         (by_shares("100", ["1/2", "200/3"]), not_held),
         (by_shares("100", ["3/2", "-1/2"]), "a share is below 0"),
-        (by_shares("100", ["1/127", "1/126"]), sum_not_held),
+        (by_shares("100", ["1/127", "1/126"]), "the shares do not add up to 1"),
         (by_shares("100", ["1/3", "1/3"]), "the shares do not add up to 1"),
         (by_weights(100, &[1, 1, 1]), "the number of parts is not the number of weights"),
         (by_weights(100, &[2, -1]), "a weight is below 0"),
@@ -42,4 +41,6 @@ fn refusals_go_through_a_question_mark() {
     assert_eq!(by_weights(100, &[1, 1]).unwrap(), [50, 50]);
     let refusal = split(100, &[Reduced::<i8>::from(1)], &mut []).unwrap_err();
     assert_eq!(refusal.to_string(), "the number of parts is not the number of shares");
+    let sum_not_held = "a sum of the first shares, or the amount times this sum, rounded, does not fit the type";
+    assert_eq!(SplitRefusal::NotHeld.to_string(), sum_not_held);
 }

@@ -30,6 +30,7 @@ mod precision;
 mod refusal_texts;
 #[cfg(test)]
 mod rounded_multiples;
+#[cfg(test)]
 mod rounded_products;
 #[cfg(test)]
 mod simplest;

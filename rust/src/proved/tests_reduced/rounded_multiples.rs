@@ -13,10 +13,10 @@ const RULES: [Rounding; 6] = [
     Rounding::Ceil,
 ];
 
-// Whether a result has these two numbers.
+// Whether a given result has these two numbers.
 #[inline]
-fn is<T: Copy + Integer>(result: Option<Reduced<T>>, want: Option<(T, T)>) -> bool {
-    match (result, want) {
+fn is<T: Copy + Integer>(given: Option<Reduced<T>>, want: Option<(T, T)>) -> bool {
+    match (given, want) {
         (Some(x), Some((numer, denom))) => *x.numer() == numer && *x.denom() == denom,
         (None, None) => true,
         _ => false,

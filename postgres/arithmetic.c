@@ -26,11 +26,21 @@ OF_ONE(ratio_ceil, ratio_ceil_i64, "ceil(%s)")
 OF_ONE(ratio_round, ratio_round_i64, "round(%s)")
 OF_ONE(ratio_trunc, ratio_trunc_i64, "trunc(%s)")
 
+/* Below 0, the reciprocal to the positive power: -1/2 to -63 is -2^63, and 2^63 does not fit. Without a reciprocal no power below 0 fits, and of
+ * those to the least exponent only that of 1 and of -1. */
 CALL(ratio_power)
 {
 	ratio_power_i64 power = {*ARG(0), PG_GETARG_INT32(1)};
+	ratio_pair_i64 pair = {{1, 1}, power.base};
+	ratio_answer_i64 reciprocal;
 
-	GIVE(ratio_pow_i64, power, "ratio_power(%s, %d)", quoted(power.base), power.exponent);
+	if (power.exponent < 0 && power.exponent > PG_INT32_MIN)
+	{
+		ratio_div_i64(&pair, 1, &reciprocal, 1);
+		if (likely(reciprocal.code == RATIO_ANSWERED))
+			power = (ratio_power_i64) {reciprocal.value, -power.exponent};
+	}
+	GIVE(ratio_pow_i64, power, "ratio_power(%s, %d)", quoted(*ARG(0)), PG_GETARG_INT32(1));
 }
 
 /* The product rounded to a whole number, a half away from zero, as numeric rounds. */

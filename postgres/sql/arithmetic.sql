@@ -6,6 +6,9 @@ SELECT r, abs(r), sign(r), floor(r), ceil(r), round(r), trunc(r) FROM unnest('{7
 SELECT floor(r), ceil(r), round(r), trunc(r), sign(r) FROM (SELECT '-9223372036854775808'::ratio) least(r);
 SELECT ratio_power('-2/3', 3), ratio_power('-2/3', -3), ratio_power(5, 0), ratio_power(0, 0), ratio_power(-1, -2147483648), ratio_power(-1, 2147483647),
     ratio_power(2, 62), ratio_power(-2, 63), ratio_power('-1/2', -62);
+-- to an exponent below 0, also where the least number is the result
+SELECT ratio_power('-1/512', -7), ratio_power('-1/2', -63), ratio_power('-1/8', -21), ratio_power('-1/9223372036854775807', -1), ratio_power('-9223372036854775808/3', 1), ratio_power('-2/3', -2),
+    ratio_power('3037000499/3037000498', -2), ratio_power(1, -2147483648), ratio_power(-1, -2147483647);
 SELECT ratio_nearest('355/113', 10), ratio_nearest('355/113', 112), ratio_nearest('-355/113', 113), ratio_nearest('9223372036854775806/9223372036854775807', 1000),
     ratio_nearest('1/3', 9223372036854775807), ratio_nearest('1/2', 1), ratio_nearest('-1/2', 1);
 -- divisors, multiples and rounded products
@@ -21,7 +24,7 @@ SELECT bool_and(ratio_mul_round(a, b, 2) = round(a::numeric * b::numeric, 2)), b
 -- each error has its code, and names the operands
 SELECT q, refusal('SELECT ' || q) FROM unnest(ARRAY['9223372036854775807::ratio + 1', '''-9223372036854775808''::ratio - ''1/2''', '''1/4294967296''::ratio * ''1/4294967296''',
     '9223372036854775807::ratio / ''1/2''', '''1/2''::ratio / 0', '0::ratio / 0', '''1/2''::ratio % 0', '- ''-9223372036854775808''::ratio', 'abs(''-9223372036854775808''::ratio)',
-    'gcd(''-9223372036854775808''::ratio, 0)', 'lcm(''9223372036854775807/2''::ratio, 9223372036854775806)', 'ratio_mul_round(9223372036854775807, ''3/2'')', 'ratio_mul_round(''1/2'', 3, 39)', 'ratio_mul_round(''1/2'', 3, -1)', 'ratio_div_round(''1/2'', 0, 2)', 'ratio_power(0, -1)', 'ratio_power(3, 40)', 'ratio_power(''1/2'', 64)', 'ratio_nearest(''1/2'', 0)', 'ratio_nearest(''1/2'', -1)', 'ceiling(''1/2''::ratio)']) q;
+    'gcd(''-9223372036854775808''::ratio, 0)', 'lcm(''9223372036854775807/2''::ratio, 9223372036854775806)', 'ratio_mul_round(9223372036854775807, ''3/2'')', 'ratio_mul_round(''1/2'', 3, 39)', 'ratio_mul_round(''1/2'', 3, -1)', 'ratio_div_round(''1/2'', 0, 2)', 'ratio_power(0, -1)', 'ratio_power(0, -2147483648)', 'ratio_power(3, 40)', 'ratio_power(''1/2'', 64)', 'ratio_power(''1/2'', -63)', 'ratio_power(-2, -63)', 'ratio_power(''-9223372036854775808'', -1)', 'ratio_power(2, -2147483648)', 'ratio_nearest(''1/2'', 0)', 'ratio_nearest(''1/2'', -1)', 'ceiling(''1/2''::ratio)']) q;
 -- beside numeric: each operator over pairs of hard fractions gives the lowest terms, and refuses only what does not fit
 CREATE FUNCTION got(operator text, a ratio, b ratio) RETURNS text LANGUAGE plpgsql AS $$
 BEGIN

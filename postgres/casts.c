@@ -32,6 +32,10 @@ CALL(ratio_to_int8)
 	PG_RETURN_INT64(answer.value.numer);
 }
 
+/* The same number, which PostgreSQL narrows or refuses. */
+CALL(ratio_to_int4) { return DirectFunctionCall1(int84, ratio_to_int8(fcinfo)); }
+CALL(ratio_to_int2) { return DirectFunctionCall1(int82, ratio_to_int8(fcinfo)); }
+
 /* Exactly the value of a float, and the simplest fraction that rounds to it. */
 CALL(ratio_from_float8)
 {
@@ -96,9 +100,12 @@ number(const char *text, int32 typmod)
 /* A half away from zero, as numeric rounds. */
 CALL(ratio_decimal) { PG_RETURN_TEXT_P(cstring_to_text(decimal(fcinfo, PG_GETARG_INT32(1), RATIO_RULE_HALF_AWAY, "ratio_decimal"))); }
 CALL(ratio_round_places) { return number(decimal(fcinfo, PG_GETARG_INT32(1), RATIO_RULE_HALF_AWAY, "ratio_round"), -1); }
+CALL(ratio_trunc_places) { return number(decimal(fcinfo, PG_GETARG_INT32(1), RATIO_RULE_DOWN, "ratio_trunc"), -1); }
 
-/* The cast to numeric, to 16 places, and to numeric(p, s), rounded once, to s places: the lower 11 bits of the typmod. If s is below 0, the
+/* The cast to numeric, to LEAST_PLACES or more, and to numeric(p, s), rounded once, to s places: the lower 11 bits of the typmod. If s is below 0, the
  * library cuts to a whole number, and numeric_in rounds that. To tens, 14.9 is cut to 14 and gives 10, and 15.2 is cut to 15 and gives 20. */
+enum { LEAST_PLACES = 16 };
+
 static bool
 is_plain(int32 typmod)
 {
@@ -108,7 +115,7 @@ is_plain(int32 typmod)
 int32
 places_of(int32 typmod)
 {
-	return is_plain(typmod) ? 16 : (((typmod - VARHDRSZ) & 0x7ff) ^ 1024) - 1024;
+	return is_plain(typmod) ? LEAST_PLACES : (((typmod - VARHDRSZ) & 0x7ff) ^ 1024) - 1024;
 }
 
 Datum
@@ -117,10 +124,25 @@ cast_number(const char *text, int32 typmod)
 	return is_plain(typmod) ? DirectFunctionCall1(numeric_trim_scale, number(text, -1)) : number(text, typmod);
 }
 
-CALL(ratio_to_numeric)
+static Datum
+to_numeric(FunctionCallInfo fcinfo, int32 places)
 {
-	int32		typmod = PG_GETARG_INT32(1),
-				places = places_of(typmod);
-
-	return cast_number(decimal(fcinfo, Max(places, 0), places < 0 ? RATIO_RULE_DOWN : RATIO_RULE_HALF_AWAY, "numeric"), typmod);
+	return cast_number(decimal(fcinfo, Max(places, 0), places < 0 ? RATIO_RULE_DOWN : RATIO_RULE_HALF_AWAY, "numeric"), PG_GETARG_INT32(1));
 }
+
+/* As many places as numeric keeps when it divides the two numbers: at most 36. For a large quotient it keeps fewer than LEAST_PLACES. */
+static int32
+places_of_quotient(const Ratio *x)
+{
+	Datum		quotient;
+
+	if (unlikely(x->denom == 0))
+		return LEAST_PLACES;
+	quotient = DirectFunctionCall2(numeric_div, DirectFunctionCall1(int8_numeric, Int64GetDatum(x->numer)),
+								   DirectFunctionCall1(int8_numeric, Int64GetDatum(x->denom)));
+	return Max(DatumGetInt32(DirectFunctionCall1(numeric_scale, quotient)), LEAST_PLACES);
+}
+
+/* The cast of version 0.1, for what was made over it: an index over such a cast may not change. */
+CALL(ratio_to_numeric) { return to_numeric(fcinfo, places_of(PG_GETARG_INT32(1))); }
+CALL(ratio_numeric) { return to_numeric(fcinfo, is_plain(PG_GETARG_INT32(1)) ? places_of_quotient(ARG(0)) : places_of(PG_GETARG_INT32(1))); }

@@ -24,6 +24,12 @@ CREATE VIEW counts AS SELECT r, (SELECT count(*) FROM t WHERE p.r > t.r) AS lt, 
     (SELECT count(*) FROM t WHERE p.r = t.r) AS eq, (SELECT count(*) FROM t WHERE p.r <= t.r) AS ge, (SELECT count(*) FROM t WHERE p.r < t.r) AS gt FROM hard p WHERE one_in(r, 5);
 SET enable_seqscan = off;
 EXPLAIN (COSTS OFF) SELECT count(*) FROM t WHERE r < '1/7';
+-- it serves integers and decimals without a written cast, also those of another table
+SELECT q, plan_has('SELECT count(*) FROM t WHERE ' || q, 'Cond: \(' || condition || '\)') AS by_index
+FROM (VALUES ('r = 3::bigint', $$r = '3'::ratio$$), ('r < 10', $$r < '10'::ratio$$), ('10 >= r', $$r <= '10'::ratio$$), ('r > 0.5', $$r > '1/2'::ratio$$), ('0.5 <> r AND r = 2::smallint', $$r = '2'::ratio$$),
+    ('r IN (0.5, 3)', $$r = ANY \('\{1/2,3\}'::ratio\[\]\)$$)) rows(q, condition);
+SELECT plan_has('SELECT count(*) FROM numbers JOIN t ON r = n', 'Index Cond: \(r = \(numbers.n\)::ratio\)') AS by_index, (SELECT count(*) FROM numbers JOIN t ON r = n) AS joined,
+    (SELECT count(*) FROM t JOIN numbers ON numerator(r) = n AND denominator(r) = 1) AS wanted;
 CREATE TABLE by_index AS TABLE counts;
 RESET enable_seqscan; SET enable_indexscan = off; SET enable_bitmapscan = off; SET enable_indexonlyscan = off;
 CREATE TABLE by_scan AS TABLE counts;

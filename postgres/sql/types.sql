@@ -50,10 +50,25 @@ CREATE EXTENSION ratio;
 CREATE TABLE beside AS SELECT call, meaning(call) FROM calls;
 SELECT count(*) > 15000 AS are_many, count(*) FILTER (WHERE length(meaning) > 5) > 1500 AS many_have_a_meaning FROM without;
 SELECT call FROM without w FULL JOIN beside b USING (call) WHERE w.meaning IS DISTINCT FROM b.meaning ORDER BY call LIMIT 20;
+-- This sees what the extension lacks. With round(ratio, int), PostgreSQL would not know which round(2, 1) is meant. With < of a ratio and a bigint, it would not for 1.5 < 2::bigint
+SELECT meaning('round(2, 1)') ~ 'funcid 1707 ' AS is_numeric, meaning('1.5 < 2::bigint') ~ 'opno 1754 ' AS is_numeric_lt;
+CREATE FUNCTION round(ratio, int4) RETURNS numeric LANGUAGE sql AS 'SELECT ratio_round($1, $2)';
+CREATE FUNCTION with_bigint(ratio, int8) RETURNS boolean LANGUAGE sql AS 'SELECT $1 < ratio($2)';
+CREATE OPERATOR < (LEFTARG = ratio, RIGHTARG = int8, FUNCTION = with_bigint);
+SELECT meaning('round(2, 1)'), meaning('1.5 < 2::bigint');
+DROP OPERATOR < (ratio, int8);
+DROP FUNCTION with_bigint(ratio, int8), round(ratio, int4);
 -- every function of the extension is immutable, but the one that reads statistics, and safe for parallel workers, and its classes of operators are whole
 SELECT p.oid::regprocedure FROM pg_proc p JOIN pg_depend d ON d.classid = 'pg_proc'::regclass AND d.objid = p.oid AND d.deptype = 'e'
 JOIN pg_extension e ON e.oid = d.refobjid AND e.extname = 'ratio' WHERE p.provolatile <> CASE p.proname WHEN 'ratio_bound_sel' THEN 's' ELSE 'i' END OR p.proparallel <> 's';
 SELECT opcname, amname, amvalidate(c.oid) FROM pg_opclass c JOIN pg_am m ON m.oid = opcmethod WHERE opcname IN ('ratio_ops', 'ratio_total_ops') ORDER BY 1, 2;
+-- a view of version 0.1 keeps its cast to numeric
+DROP EXTENSION ratio;
+CREATE EXTENSION ratio VERSION '0.1';
+CREATE VIEW old AS SELECT '2/3'::ratio::numeric AS kept;
+ALTER EXTENSION ratio UPDATE;
+SELECT kept, '2/3'::ratio::numeric AS changed FROM old;
+DROP VIEW old;
 -- and it goes away without a trace
 DROP EXTENSION ratio;
 DROP VIEW calls, pairs;

@@ -72,6 +72,8 @@ SELECT ratio_round('2/3', 2), ratio_round('-1/200', 2), ratio_round('1/8', 2), r
 SELECT ratio_trunc('2/3', 2), ratio_trunc('-2/3', 2), ratio_trunc('-1/200', 2), ratio_trunc('1/8', 2), ratio_trunc('-5/2', 0), ratio_trunc(5, 2), ratio_trunc(-0.125, 3), ratio_trunc('2/3', 38);
 SELECT ratio_decimal('2/3', 2), ratio_decimal('-1/200', 2), ratio_decimal('-1/300', 2), ratio_decimal(5, 0), ratio_decimal('1/3', 38), ratio_decimal(NULL, 1), ratio_decimal(1, NULL);
 SELECT q, refusal('SELECT ratio_round' || q), refusal('SELECT ratio_decimal' || q), refusal('SELECT ratio_trunc' || q) FROM unnest(ARRAY['(''1/3'', -1)', '(''1/3'', 39)']) q;
+-- just below 1/200, numeric rounds twice
+SELECT round(r::numeric, 2), ratio_round(r, 2), r::numeric(20, 2) FROM (SELECT '46116860184273879/9223372036854775801'::ratio) f(r);
 -- as numeric does: over hard fractions and over multiples of 1/2000
 CREATE FUNCTION numeric_rounded(n numeric, d numeric, places int) RETURNS text LANGUAGE SQL AS $$
     SELECT round(sign(n) * div(2 * abs(n) * ('1e' || places)::numeric + d, 2 * d) * ('1e' || -places)::numeric, places)::text;

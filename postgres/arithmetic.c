@@ -55,19 +55,7 @@ CALL(ratio_mul_round)
 	PG_RETURN_INT64(answer.value.numer);
 }
 
-static ratio_wide
-wide(int64 n)
-{
-	return (ratio_wide) {n, n < 0 ? -1 : 0};
-}
-
-static ratio_i128
-widened(const Ratio *x)
-{
-	return (ratio_i128) {wide(x->numer), wide(x->denom)};
-}
-
-/* A product or a quotient with so many places. In 128 bits each of two values fits, so only the numeric rounds. */
+/* A product or a quotient with so many places. In 128 bits each fits, so only the numeric rounds. */
 static Datum
 to_places(FunctionCallInfo fcinfo, uint32_t (*call) (const ratio_pair_i128 *, size_t, ratio_answer_i128 *, size_t), const char *name)
 {

@@ -11,6 +11,19 @@
 /* A value of the type: 16 bytes, in lowest terms, the denominator positive. */
 typedef ratio_i64 Ratio;
 
+/* The same value in 128 bits. There the sum, the difference and the product of any two values fit. */
+static inline ratio_wide
+wide(int64 n)
+{
+	return (ratio_wide) {n, n < 0 ? -1 : 0};
+}
+
+static inline ratio_i128
+widened(const Ratio *x)
+{
+	return (ratio_i128) {wide(x->numer), wide(x->denom)};
+}
+
 /* The head of a function that SQL calls, and one of its arguments. */
 #define CALL(name) PG_FUNCTION_INFO_V1(name); Datum name(PG_FUNCTION_ARGS)
 #define ARG(n) ((const Ratio *) PG_GETARG_POINTER(n))

@@ -33,3 +33,16 @@ UPDATE months SET costs = costs + '1/3' WHERE month = 1;
 SELECT ratio_round(costs, 10), ratio_count(costs) FROM months WHERE month = 1;
 DROP TABLE months;
 SELECT '{2; 2/2}'::ratio_total = '{1; 1}', '{3; 5, 1/2}'::ratio_total::ratio, total(r) FROM unnest('{1/2,1/2}'::ratio[]) r;
+-- a place of one owner, and steps of a tariff
+CREATE TABLE parts (estate int, owner text, part ratiorange, EXCLUDE USING gist (int4range(estate, estate, '[]') WITH =, part WITH &&));
+INSERT INTO parts VALUES (1, 'Ana', '[0,1/3)'), (1, 'Ben', '[1/3,1)'), (2, 'Ana', '[0,1)');
+SELECT refusal('INSERT INTO parts VALUES (1, ''Cleo'', ''[1/4,1/2)'')');
+SELECT owner FROM parts WHERE estate = 1 AND part @> '2/5'::ratio;
+SELECT estate, range_agg(part) FROM parts GROUP BY estate ORDER BY estate;
+CREATE TABLE tariffs (meter int, used ratiorange, price ratio, EXCLUDE USING gist (int4range(meter, meter, '[]') WITH =, used WITH &&));
+INSERT INTO tariffs VALUES (7, '[0,100)', '1/3'), (7, '[100,)', '1/4');
+SELECT sum((upper(u) - lower(u)) * price) FROM tariffs, LATERAL (SELECT used * ratiorange(0, 125) AS u) part WHERE meter = 7 AND NOT isempty(u);
+DROP TABLE parts, tariffs;
+-- windows and series
+SELECT beat, count(*) OVER (ORDER BY beat RANGE '1/6' PRECEDING) FROM unnest('{0, 1/6, 1/4, 1/2, 7/12}'::ratio[]) beat;
+SELECT array_agg(beat) FROM generate_series(0::ratio, 1, '1/6') beat;

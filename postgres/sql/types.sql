@@ -30,7 +30,7 @@ UNION ALL SELECT format('%I(%s)', name, operand) FROM operands, shared_calls
 UNION ALL SELECT format('%I(%s, %s)', name, a, b) FROM pairs, shared_calls
 UNION ALL SELECT format(f, operand) FROM operands, (VALUES ('power(%s, 2)'), ('power(2, %s)'), ('%s ^ 2'), ('2 ^ %s'), ('mod(%s, 2)'),
     ('greatest(%s, 1.5)'), ('coalesce(%s, 2)'), ('%s BETWEEN 0 AND 2'), ('%s IN (1, 2)'), ('ARRAY[%s, 1.5]'), ('sum(%s) OVER ()'),
-    ('generate_series(1, %s)'), ('CASE WHEN true THEN %s ELSE 2 END'), ('to_char(%s, ''9'')'), ('sqrt(%s)')) other(f);
+    ('generate_series(1, %s)'), ('generate_series(1, 2, %s)'), ('generate_series(%1$s, 5, %1$s)'), ('CASE WHEN true THEN %s ELSE 2 END'), ('to_char(%s, ''9'')'), ('sqrt(%s)')) other(f);
 -- what PostgreSQL takes a call for, as a view keeps it: with the numbers of its operators, functions and types. Or the code of its error
 CREATE FUNCTION meaning(call text) RETURNS text LANGUAGE plpgsql AS $$
 DECLARE kept text;
@@ -61,7 +61,13 @@ DROP FUNCTION with_bigint(ratio, int8), round(ratio, int4);
 -- every function of the extension is immutable, but the one that reads statistics, and safe for parallel workers, and its classes of operators are whole
 SELECT p.oid::regprocedure FROM pg_proc p JOIN pg_depend d ON d.classid = 'pg_proc'::regclass AND d.objid = p.oid AND d.deptype = 'e'
 JOIN pg_extension e ON e.oid = d.refobjid AND e.extname = 'ratio' WHERE p.provolatile <> CASE p.proname WHEN 'ratio_bound_sel' THEN 's' ELSE 'i' END OR p.proparallel <> 's';
-SELECT opcname, amname, amvalidate(c.oid) FROM pg_opclass c JOIN pg_am m ON m.oid = opcmethod WHERE opcname IN ('ratio_ops', 'ratio_total_ops') ORDER BY 1, 2;
+SELECT opcname, amname, amvalidate(c.oid) FROM pg_opclass c JOIN pg_am m ON m.oid = opcmethod WHERE opcname IN ('ratio_ops', 'ratio_total_ops', 'ratio_minmax_ops') ORDER BY 1, 2;
+-- each type, cast and operator has a comment, and so has each function that no other object of the extension calls
+SELECT pg_describe_object(d.classid, d.objid, 0) FROM pg_depend d JOIN pg_extension e ON e.oid = d.refobjid AND d.deptype = 'e' AND e.extname = 'ratio'
+WHERE d.classid IN ('pg_cast'::regclass, 'pg_operator'::regclass, 'pg_proc'::regclass, 'pg_type'::regclass)
+    AND NOT EXISTS (SELECT FROM pg_depend o WHERE (o.refclassid, o.refobjid) = (d.classid, d.objid) AND d.classid = 'pg_proc'::regclass)
+    AND NOT EXISTS (SELECT FROM pg_depend o WHERE (o.classid, o.objid, o.deptype) = (d.classid, d.objid, 'i'))
+    AND obj_description(d.objid, d.classid::regclass::name) IS NULL ORDER BY 1;
 -- a view of version 0.1 keeps its cast to numeric
 DROP EXTENSION ratio;
 CREATE EXTENSION ratio VERSION '0.1';

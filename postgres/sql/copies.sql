@@ -66,6 +66,8 @@ CREATE TABLE pairs AS SELECT n, d, received(n, d), made(n, d) FROM
     unnest('{-9223372036854775808,-9223372036854775807,-6,-5,-1,0,1,2,5,6,4294967296,9223372036854775806,9223372036854775807}'::int8[]) d;
 SELECT count(*), count(*) FILTER (WHERE made <> '22P03') AS taken, count(*) FILTER (WHERE received <> made) AS wrong FROM pairs;
 SELECT * FROM pairs WHERE received <> made ORDER BY n, d LIMIT 5;
+-- by hand: what has a value, but not in lowest terms, and what has none
+SELECT n, d, received(n, d) FROM (VALUES (1, 0, 1), (2, 0, 5), (3, 5, 0), (4, 2, 4), (5, 1, -2), (6, -1, -2), (7, -1, 2), (8, 0, -1)) rows(i, n, d) ORDER BY i;
 DROP TABLE pairs;
 DROP FUNCTION received, made;
 \! rm -f hard.copied bytes.copied
@@ -105,8 +107,9 @@ CREATE TABLE dumped (r ratio PRIMARY KEY, t ratio_total, CHECK (r <> '1/7'));
 INSERT INTO dumped SELECT r, r + ratio_total('2/3') FROM hard;
 CREATE INDEX ON dumped USING hash (r);
 CREATE DATABASE restored;
-\! pg_dump --table=dumped --extension=ratio regression | psql -q -v ON_ERROR_STOP=1 restored >restored.said 2>&1 || cat restored.said
-\! psql -At -c 'SELECT r, t FROM dumped ORDER BY r' restored >restored.rows; psql -At -c 'SELECT r, t FROM dumped ORDER BY r' regression | diff - restored.rows && echo the same rows
+\setenv PGDATABASE :DBNAME
+\! pg_dump --table=dumped --extension=ratio | psql -q -v ON_ERROR_STOP=1 restored >restored.said 2>&1 || cat restored.said
+\! psql -At -c 'SELECT r, t FROM dumped ORDER BY r' restored >restored.rows; psql -At -c 'SELECT r, t FROM dumped ORDER BY r' | diff - restored.rows && echo the same rows
 \! psql -At -v VERBOSITY=sqlstate -c "INSERT INTO dumped VALUES ('1/7')" restored
 \! rm -f restored.said restored.rows
 DROP DATABASE restored;

@@ -30,6 +30,7 @@ END $$;
 CREATE TABLE tried AS SELECT name, format(form, low.mark, high.mark) AS condition FROM marks low JOIN marks high USING (name),
     unnest('{"%%1$I > %L AND %%1$I < %L", "%%1$I >= %L AND %%1$I <= %L", "%2$L >= %%1$I AND %1$L < %%1$I AND %%1$I > %1$L"}'::text[]) form WHERE low.place <= high.place;
 INSERT INTO tried SELECT name, format(form, mark) FROM marks, unnest('{"%%1$I < %L", "%%1$I <= %L", "%%1$I > %L", "%%1$I >= %L", "%L < %%1$I", "NOT %%1$I < %1$L AND NOT %%1$I < %1$L"}'::text[]) form;
+INSERT INTO tried SELECT DISTINCT name, format(form, mark) FROM marks, unnest('{"%%1$I = %L", "%%1$I <> %L", "%%1$I IN (%L, ''3'')"}'::text[]) form WHERE place BETWEEN 1 AND 30000;
 INSERT INTO tried SELECT name, format('%%1$I BETWEEN %L AND %L OR %%1$I BETWEEN %L AND %L', a.mark, b.mark, c.mark, d.mark) FROM marks a JOIN marks b USING (name) JOIN marks c USING (name) JOIN marks d USING (name)
 WHERE a.place = 1 AND b.place = 140 AND c.place = 7000 AND d.place = 22000;
 CREATE VIEW estimates AS SELECT name, condition, counted(format('SELECT FROM spread WHERE ' || condition, name)) AS truth, planned(format('SELECT FROM spread WHERE ' || condition, name)) AS estimate,

@@ -17,3 +17,20 @@ SELECT (SELECT count(*) FROM below) = (SELECT count(*) FROM hard WHERE 3 * numer
     (SELECT min(r) = '1/3' FROM above) AS from_on;
 EXPLAIN (COSTS OFF) SELECT count(*) FROM by_range WHERE r < '1/4';
 DROP TABLE by_hash, by_range;
+-- a million rows, in partitions and by workers. The sums of groups are those of whole numbers over 27720, which each denominator up to 12 divides.
+CREATE TABLE many (i int, r ratio) PARTITION BY HASH (r);
+CREATE TABLE many0 PARTITION OF many FOR VALUES WITH (MODULUS 2, REMAINDER 0) PARTITION BY RANGE (i);
+CREATE TABLE many00 PARTITION OF many0 FOR VALUES FROM (MINVALUE) TO (500000);
+CREATE TABLE many01 PARTITION OF many0 FOR VALUES FROM (500000) TO (MAXVALUE);
+CREATE TABLE many1 PARTITION OF many FOR VALUES WITH (MODULUS 2, REMAINDER 1);
+INSERT INTO many SELECT i, ratio(i % 2001 - 1000, 1 + i % 12) FROM generate_series(1, 1000000) i;
+ANALYZE many;
+SET parallel_setup_cost = 0; SET parallel_tuple_cost = 0; SET min_parallel_table_scan_size = 0; SET enable_partitionwise_aggregate = on;
+EXPLAIN (COSTS OFF) SELECT sum(r) FROM many;
+SELECT count(*), sum(r), sum(r) = ratio((SELECT sum((i % 2001 - 1000) * (27720 / (1 + i % 12))::int8) FROM generate_series(1, 1000000) i)::int8, 27720) AS is_right, min(r), max(r), count(DISTINCT r) FROM many;
+SELECT plan_has('SELECT r, count(*), sum(r) FROM many GROUP BY r', 'Parallel Append') AS by_workers;
+CREATE TABLE by_value AS SELECT r, count(*), sum(r) FROM many GROUP BY r;
+SELECT count(*), sum(count) AS rows, count(*) FILTER (WHERE sum <> r * count) AS wrong FROM by_value;
+SELECT count(*) AS wrong FROM by_value FULL JOIN (SELECT numerator(r) AS n, denominator(r) AS d, count(*) AS rows FROM many GROUP BY 1, 2) numbers ON (numerator(r), denominator(r)) = (n, d) WHERE count IS DISTINCT FROM rows;
+RESET ALL;
+DROP TABLE many, by_value;

@@ -1,6 +1,4 @@
--- What the tests below share. The data of the server and its socket are in the folder of the tests, and no table is vacuumed meanwhile.
-SELECT starts_with(current_setting('unix_socket_directories'), regexp_replace(current_setting('data_directory'), 'build/instance/data$', '')) AS in_the_folder,
-    current_setting('autovacuum') AS autovacuum;
+-- What the tests below share.
 CREATE EXTENSION ratio;
 -- what a query refuses: the code, the message and the detail
 CREATE FUNCTION refusal(query text) RETURNS text LANGUAGE plpgsql AS $$

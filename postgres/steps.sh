@@ -61,7 +61,7 @@ build_extension() {
   local pg_config=$1
   shift
   mkdir -p "$work/build"
-  cp -a "$here"/{Makefile,META.json,ratio.control,server.conf,loads.csv,*.sql,*.c,*.h,sql,expected} "$work/build/"
+  cp -a "$here"/{Makefile,META.json,ratio.control,server.conf,loads.csv,*.sql,*.c,*.h,sql,expected,servers} "$work/build/"
   make -s -C "$work/build" PG_CONFIG="$pg_config" LIBRATIO="$library" RATIO_H="$(realpath "${RATIO_H:-$top/include}")" "$@" install >"$work/made" 2>&1 \
     || { cat "$work/made" >&2; stop "the extension was not built"; }
 }

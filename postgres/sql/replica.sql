@@ -1,0 +1,2 @@
+-- A replica by streaming answers as its server does
+\! servers/replica

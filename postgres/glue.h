@@ -8,6 +8,30 @@
 
 #include "ratio.h"
 
+/* What the releases from 13 to 17 name otherwise. The other files have none of it. */
+#if PG_VERSION_NUM >= 160000
+#include "varatt.h"
+#define nullable_relids incompatible_relids
+#endif
+#if PG_VERSION_NUM >= 150000
+#include "common/pg_prng.h"
+#define compare_keys ssup_datum_signed_cmp
+#define random_up_to(most) pg_prng_uint64_range(&pg_global_prng_state, 0, most)
+#else
+#include "utils/sortsupport.h"
+#define random_up_to(most) ((uint64) random() % ((uint64) (most) + 1))
+static inline int
+compare_keys(Datum x, Datum y, SortSupport sort)
+{
+	return (DatumGetInt64(x) > DatumGetInt64(y)) - (DatumGetInt64(x) < DatumGetInt64(y));
+}
+#endif
+#if PG_VERSION_NUM >= 140000
+#define SORT_TEMPLATE "lib/sort_template.h"
+#else
+#define SORT_TEMPLATE "sort_template_13.h"
+#endif
+
 /* A value of the type: 16 bytes, in lowest terms, the denominator positive. */
 typedef ratio_i64 Ratio;
 

@@ -74,7 +74,7 @@ CALL(ratio_sortsupport)
 #if SIZEOF_DATUM >= 8
 	if (sort->abbreviate)
 	{
-		sort->comparator = ssup_datum_signed_cmp;
+		sort->comparator = compare_keys;
 		sort->abbrev_converter = short_key;
 		sort->abbrev_abort = give_up_keys;
 		sort->abbrev_full_comparator = compare;

@@ -13,7 +13,7 @@
 #define ST_SCOPE static
 #define ST_CHECK_FOR_INTERRUPTS
 #define ST_DEFINE
-#include "lib/sort_template.h"
+#include SORT_TEMPLATE
 
 extern Datum ratio_in(PG_FUNCTION_ARGS);
 

@@ -1,7 +1,6 @@
 /* Totals that grow: fractions go in and out of slots, one for each denominator. The library adds; this file finds the memory. */
 #include "totals.h"
 
-#include "common/pg_prng.h"
 #include "miscadmin.h"
 #include "utils/memutils.h"
 
@@ -75,7 +74,7 @@ length_for(size_t many)
 	length = (bytes - sizeof(Table)) / sizeof(ratio_slot_i64);
 	if (length < LONG)
 		return length;
-	return length - pg_prng_uint64_range(&pg_global_prng_state, 0, length / 8);
+	return length - random_up_to(length / 8);
 }
 
 /* A table with these slots, which must have unlike denominators, and with so many in all. */

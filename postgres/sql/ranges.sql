@@ -57,6 +57,7 @@ SELECT (SELECT count(*) FROM log WHERE r > '100' AND r < '101') AS within, (SELE
     (SELECT count(*) FROM log WHERE r >= '50000/7') AS at_least;
 RESET ALL;
 -- series: beside that of numeric, and at the ends of 64 bits
+SET statement_timeout = '60s';
 SELECT array_agg(x) FROM generate_series(0::ratio, 1, '1/3') x;
 SELECT array_agg(x) FROM generate_series('1/2'::ratio, '-1/2', '-1/4') x;
 SELECT count(*), count(*) FILTER (WHERE x.n IS DISTINCT FROM y.n) AS wrong FROM (SELECT i, r::numeric AS n FROM generate_series('-2'::ratio, 3, '1/64') WITH ORDINALITY s(r, i)) x
@@ -69,6 +70,7 @@ SELECT start, stop, step, (SELECT string_agg(x::text, ' ') FROM generate_series(
 -- a value before the end that does not fit is refused once it is its turn
 SELECT x FROM (SELECT generate_series('1/9223372036854775807'::ratio, 1, '1/2') AS x) s LIMIT 1;
 SELECT refusal('SELECT count(*) FROM generate_series(''1/9223372036854775807''::ratio, 1, ''1/2'')');
+RESET statement_timeout;
 -- damaged values end in an error here, too
 CREATE CAST (point AS ratio) WITHOUT FUNCTION;
 CREATE TABLE damaged (name text, r ratio);

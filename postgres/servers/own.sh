@@ -16,9 +16,23 @@ unix_socket_directories = '$PWD/$name.socket'"
 }
 
 start() {
-  postgres -D "$1" >>"$1.log" 2>&1 &
-  servers[$1]=$!
-  until_so "$1 takes connections" pg_isready -q -h "$PWD/$1.socket"
+  until_so "$1 takes connections" is_up "$1"
+}
+
+# Starts it again if it has ended: what is left of a killed server may not be gone yet.
+is_up() {
+  if ! kill -0 "${servers[$1]:-none}" 2>/dev/null; then
+    postgres -D "$1" >>"$1.log" 2>&1 &
+    servers[$1]=$!
+  fi
+  pg_isready -q -h "$PWD/$1.socket"
+}
+
+# Kills it with all of its processes. It is stopped first, so that it starts no other one meanwhile.
+kill_server() {
+  local process=${servers[$1]}
+  kill -STOP "$process"
+  { kill -9 "$process" $(<"/proc/$process/task/$process/children"); wait; } 2>/dev/null || true
 }
 
 # ask NAME ARGUMENTS..: psql there.

@@ -75,6 +75,12 @@ SELECT query, planned(format(query, 'even', 'ratio')) AS of_ratio, planned(forma
     SELECT FROM unread WHERE %1$I < no_%2$s() AND %1$I > no_%2$s(),
     SELECT FROM unread WHERE %1$I < ''10'' AND %1$I > no_%2$s()
 }'::text[]) query;
+-- ranges with skewed bounds and lengths: PostgreSQL's own estimator takes lengths as floats, and says the same for fractions and for numeric
+CREATE TABLE spans AS SELECT ratiorange(low, low + ratio(x, 4)) AS s, numrange(low_n, low_n + x / 4.0) AS n FROM (SELECT skewed, skewed_n, 1 + numerator(even) % 100 FROM spread) lows(low, low_n, x);
+ANALYZE spans;
+SELECT condition, planned('SELECT FROM spans WHERE s ' || condition) / planned('SELECT FROM spans WHERE n ' || replace(condition, 'ratio', 'num')) BETWEEN 0.99 AND 1.01 AS as_numeric,
+    is_near(planned('SELECT FROM spans WHERE s ' || condition), counted('SELECT FROM spans WHERE n ' || replace(condition, 'ratio', 'num'))) AS is_near
+FROM unnest(ARRAY['<< ratiorange(1000, 1001)', '>> ratiorange(5000000, 5000001)', '&& ratiorange(1000, 100000)', '<@ ratiorange(0, 2000000)', '<@ ratiorange(5000, 5100)']) condition;
 -- operators of another type, and one without a commutator, with the same estimator: a third of the rows by default
 CREATE TABLE whole AS SELECT i, ratio(i) AS r FROM generate_series(1, 9000) i;
 ANALYZE whole;
@@ -115,5 +121,5 @@ SET statement_timeout = '4s';
 SELECT sum(planned(query)) BETWEEN :rows_of_numeric * 0.99 AND :rows_of_numeric * 1.01 AS as_many, peak() BETWEEN 10 AND :peak_of_numeric * 1.5 AS as_small FROM long WHERE name = 'even';
 RESET statement_timeout;
 DROP VIEW estimates;
-DROP TABLE spread, marks, tried, estimated, unread, whole, long;
+DROP TABLE spread, spans, marks, tried, estimated, unread, whole, long;
 DROP FUNCTION planned, counted, is_near, no_ratio, no_numeric, is_below, costed, peak;

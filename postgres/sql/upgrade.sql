@@ -44,6 +44,23 @@ UNION ALL SELECT pg_describe_object('pg_amproc'::regclass, p.oid, 0), NULL, NULL
 UNION ALL SELECT pg_describe_object('pg_amop'::regclass, p.oid, 0), NULL, NULL, NULL, NULL, NULL FROM pg_amop p JOIN pg_opfamily f ON f.oid = amopfamily WHERE opfname ~ '^ratio' ORDER BY 1$$ AS members \gset
 \o old.members
 :members;
+\o
+-- a user who may create objects may create the extension in a schema, and update it
+SET client_min_messages = warning;
+DROP EXTENSION ratio CASCADE;
+CREATE ROLE regress_plain;
+GRANT CREATE ON DATABASE old TO regress_plain;
+SET ROLE regress_plain;
+CREATE SCHEMA mine;
+CREATE EXTENSION ratio VERSION '0.1' SCHEMA mine;
+ALTER EXTENSION ratio UPDATE;
+SELECT rolname, rolsuper, extversion FROM pg_extension JOIN pg_roles r ON r.oid = extowner WHERE extname = 'ratio';
+SELECT '1/2'::mine.ratio OPERATOR(mine.+) '1/3', mine.ratiorange(0, 1) @> '1/2'::mine.ratio, array_agg(x) FROM mine.generate_series(0::mine.ratio, 1, '1/2') x;
+DROP EXTENSION ratio;
+DROP SCHEMA mine;
+RESET ROLE;
+REVOKE CREATE ON DATABASE old FROM regress_plain;
+DROP ROLE regress_plain;
 \c :new
 \o new.members
 :members;

@@ -77,6 +77,7 @@ COMMENT ON FUNCTION gcd(ratio, ratio) IS 'greatest fraction that divides both';
 COMMENT ON FUNCTION lcm(ratio, ratio) IS 'least fraction above 0 that both divide';
 COMMENT ON FUNCTION ratio_power(ratio, int4) IS 'power to a whole exponent';
 COMMENT ON FUNCTION ratio_round(ratio, int4) IS 'numeric with 0 to 38 places, a half away from zero';
+COMMENT ON FUNCTION ratio_to_numeric(ratio, int4) IS 'the cast to numeric of version 0.1, to 16 places, for what was made with it';
 COMMENT ON FUNCTION ratio_trunc(ratio, int4) IS 'numeric with 0 to 38 places, cut towards zero';
 COMMENT ON FUNCTION ratio_round(ratio_total, int4) IS 'numeric with 0 to 16383 places, a half away from zero';
 COMMENT ON FUNCTION ratio_decimal(ratio, int4) IS 'text of a decimal with 0 to 38 places, a half away from zero';

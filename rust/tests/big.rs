@@ -1,14 +1,15 @@
-//! Each call on fractions of big integers beside num-rational's, by drawn numbers of up to 384 bits. `BAKHSNEY_PAIRS` says how many pairs.
+//! Each call on fractions of big integers beside num-rational's, by drawn numbers: short ones, of 64 to 300 binary digits, and of any length up
+//! to 384. `BAKHSNEY_PAIRS` says how many pairs. Each pair gets some 25 calls on two fractions, and each fraction some 50 on one.
 #![cfg(feature = "num-bigint")]
 
 // The tests are about these forms.
-#![allow(clippy::op_ref)]
+#![allow(clippy::op_ref, clippy::nonminimal_bool, clippy::clone_on_copy)]
 
 mod support;
 
 use bakhsney::{BigRational, Ratio, Reduced, Reduced64, ReducedError};
 use num_bigint::{BigInt, BigUint};
-use num_traits::{CheckedAdd, CheckedDiv, CheckedMul, CheckedSub, FromPrimitive, Num, One, Pow, Signed, ToPrimitive, Zero};
+use num_traits::{CheckedAdd, CheckedDiv, CheckedMul, CheckedSub, FromPrimitive, Inv, Num, One, Pow, Signed, ToPrimitive, Zero};
 use original::Ratio as Original;
 use std::collections::hash_map::DefaultHasher;
 use std::hash::{Hash, Hasher};
@@ -16,36 +17,56 @@ use std::panic::catch_unwind;
 use support::Numbers;
 
 type Pair = (BigRational, Original<BigInt>);
+type Fields = (BigInt, BigInt);
 
-/// A number of up to 384 bits, which is often short.
+/// A number of so many words, and of the binary digits before them.
+fn long(numbers: &mut Numbers, first: impl Into<BigInt>, words: u64) -> BigInt {
+    (0..words).fold(first.into(), |number, _| (number << 64) + numbers.word())
+}
+
 fn number(numbers: &mut Numbers) -> BigInt {
-    let words = numbers.below(6).saturating_sub(1);
-    let mut number = BigInt::from(numbers.of_any_length() >> numbers.below(128));
-    for _ in 0..words {
-        number = (number << 64) + numbers.word();
-    }
-    if numbers.below(2) == 0 { -number } else { number }
+    let size = match numbers.below(4) {
+        0 => numbers.below(13).into(),
+        1 => {
+            let (first, words) = (numbers.word() >> numbers.below(64), 1 + numbers.below(4));
+            long(numbers, first, words) >> 20
+        }
+        _ => {
+            let (first, words) = (numbers.of_any_length() >> numbers.below(128), numbers.below(6).saturating_sub(1));
+            long(numbers, first, words)
+        }
+    };
+    if numbers.below(2) == 0 { -size } else { size }
 }
 
-/// A fraction of both crates: in lowest terms, or as it comes over a denominator above 0.
+fn of_both((numer, denom): Fields, is_raw: bool) -> Pair {
+    let (x, y) = ((numer.clone(), denom.clone()), (numer, denom));
+    if is_raw { (Ratio::new_raw(x.0, x.1), Original::new_raw(y.0, y.1)) } else { (Ratio::from(x), Original::from(y)) }
+}
+
+/// A fraction of both crates: in lowest terms, or as it comes over a denominator of either sign.
 fn fraction(numbers: &mut Numbers) -> Pair {
-    let (numer, mut denom) = (number(numbers), number(numbers));
-    if denom.is_zero() {
-        denom = BigInt::one();
-    }
-    if numbers.below(2) == 0 {
-        (Ratio::new(numer.clone(), denom.clone()), Original::new(numer, denom))
-    } else {
-        let denom = denom.abs();
-        (Ratio::new_raw(numer.clone(), denom.clone()), Original::new_raw(numer, denom))
+    let numer = if numbers.below(16) == 0 { BigInt::zero() } else { number(numbers) };
+    let denom = Some(number(numbers)).filter(|denom| !denom.is_zero()).unwrap_or_else(BigInt::one);
+    let is_raw = numbers.below(2) == 0;
+    of_both((numer, if numbers.below(2) == 0 { denom.abs() } else { denom }), is_raw)
+}
+
+/// A fraction to go with another one: the same value in other terms, one over the same denominator, or any.
+fn beside((x, _): &Pair, numbers: &mut Numbers) -> Pair {
+    let factor = number(numbers);
+    match numbers.below(6) {
+        0 if !factor.is_zero() => of_both((x.numer() * &factor, x.denom() * factor), true),
+        1 => of_both((factor, x.denom().clone()), true),
+        _ => fraction(numbers),
     }
 }
 
-fn fields(x: BigRational) -> (BigInt, BigInt) {
+fn fields(x: BigRational) -> Fields {
     x.into_raw()
 }
 
-fn original(x: Original<BigInt>) -> (BigInt, BigInt) {
+fn original(x: Original<BigInt>) -> Fields {
     x.into()
 }
 
@@ -59,49 +80,113 @@ fn pairs() -> u64 {
     std::env::var("BAKHSNEY_PAIRS").map_or(300, |pairs| pairs.parse().unwrap())
 }
 
+/// Each operator: by a fraction and by a number, in one of the four forms, assigning, and checked.
 macro_rules! operators {
-    ($x:ident, $y:ident: $($op:tt $assign:tt $checked:ident)*) => {$(
-        let want = original(&$x.1 $op &$y.1);
-        let mut assigned = $x.0.clone();
-        assigned $assign &$y.0;
-        assert_eq!([fields(&$x.0 $op &$y.0), fields(assigned)], [want.clone(), want], "{} {} {}", $x.0, stringify!($op), $y.0);
-        assert_eq!(fields(&$x.0 $op $y.0.numer()), original(&$x.1 $op $y.1.numer()), "{} {} {}", $x.0, stringify!($op), $y.0.numer());
-        assert_eq!($x.0.$checked(&$y.0).map(fields), $x.1.$checked(&$y.1).map(original), "{} {} {}", $x.0, stringify!($op), $y.0);
-    )*};
+    ($form:ident, $x:ident, $y:ident: $($op:tt $assign:tt $($checked:ident)?,)*) => {{
+        let mut results: Vec<(&str, Fields)> = vec![];
+        let number = $y.numer();
+        $(
+            let (mut by_fraction, mut by_number) = ($x.clone(), $x.clone());
+            let [fraction, whole] = match $form {
+                0 => { by_fraction $assign $y; by_number $assign number; [$x $op $y, $x $op number] }
+                1 => { by_fraction $assign $y.clone(); by_number $assign number.clone(); [$x.clone() $op $y, $x.clone() $op number] }
+                2 => { by_fraction $assign $y; by_number $assign number.clone(); [$x $op $y.clone(), $x $op number.clone()] }
+                _ => { by_fraction $assign $y.clone(); by_number $assign number; [$x.clone() $op $y.clone(), $x.clone() $op number.clone()] }
+            };
+            let checked = [$($x.$checked($y).unwrap())?];
+            results.extend([fraction, whole, by_fraction, by_number].into_iter().chain(checked).map(|result| (stringify!($op), result.into())));
+        )*
+        results
+    }};
+}
+
+macro_rules! arithmetic {
+    ($form:ident, $x:ident, $y:ident) => {{
+        let mut results = operators! { $form, $x, $y: + += checked_add, - -= checked_sub, * *= checked_mul, };
+        if !$y.is_zero() {
+            results.extend(operators! { $form, $x, $y: / /= checked_div, % %=, });
+        }
+        results
+    }};
+}
+
+macro_rules! comparisons {
+    ($x:expr, $y:expr) => {
+        ($x.cmp($y), $x.partial_cmp($y), [$x == $y, $x != $y, $x < $y, $x <= $y, $x > $y, $x >= $y])
+    };
 }
 
 #[test]
 fn calls_on_two() {
-    let mut numbers = Numbers(1);
+    let (mut numbers, mut calls) = (Numbers(1), 0);
     for _ in 0..pairs() {
-        let (x, y) = (fraction(&mut numbers), fraction(&mut numbers));
-        operators! { x, y: + += checked_add - -= checked_sub * *= checked_mul }
-        if !y.1.is_zero() {
-            operators! { x, y: / /= checked_div }
-            assert_eq!(fields(&x.0 % &y.0), original(&x.1 % &y.1), "{} % {}", x.0, y.0);
+        let left = fraction(&mut numbers);
+        let (right, form) = (beside(&left, &mut numbers), numbers.below(4));
+        let ((x, old), (y, other)) = ((&left.0, &left.1), (&right.0, &right.1));
+        let (ours, theirs) = (arithmetic!(form, x, y), arithmetic!(form, old, other));
+        assert_eq!(ours, theirs, "{x:?} and {y:?}");
+        if y.is_zero() {
+            assert_eq!((x.checked_div(y), old.checked_div(other)), (None, None), "{x:?}");
         }
-        assert_eq!((x.0.cmp(&y.0), x.0 == y.0, x.0 < y.0), (x.1.cmp(&y.1), x.1 == y.1, x.1 < y.1), "{} and {}", x.0, y.0);
-        assert_eq!(fields(x.0.abs_sub(&y.0)), original(x.1.abs_sub(&y.1)), "{} and {}", x.0, y.0);
+        // num-rational's order is wrong for negative denominators.
+        let (old, other) = (&old.reduced(), &other.reduced());
+        assert_eq!(comparisons!(x, y), comparisons!(old, other), "{x:?} and {y:?}");
+        assert_eq!(hash_of(x) == hash_of(y), x == y, "{x:?} and {y:?}");
+        let (least, most) = if old <= other { (old, other) } else { (other, old) };
+        assert_eq!([x.min(y), x.max(y)].map(|x| fields(x.reduced())), [least, most].map(|x| original(x.clone())));
+        assert_eq!(fields(x.abs_sub(y).reduced()), original(old.abs_sub(other)), "{x:?} and {y:?}");
+        calls += ours.len() + 12;
     }
+    println!("{calls} calls on two fractions");
+}
+
+/// The fractions that a crate gives for one: signs, powers and reciprocals.
+macro_rules! fractions_of {
+    ($Ratio:ident, $x:ident, $e:ident) => {{
+        let mut all = vec![$x.abs(), $x.signum(), -$x, -$x.clone(), $x.reduced(), $Ratio::<BigInt>::pow($x, $e), Pow::pow($x, $e as u8), Pow::pow($x.clone(), &i64::from($e))];
+        all.extend([Pow::pow($x, &BigUint::from($e as u8)), Pow::pow($x.clone(), BigInt::from($e)), $x.fract(), $x.trunc(), $x.to_integer().into()]);
+        if !$x.is_zero() {
+            all.extend([$x.recip(), $x.inv(), $x.clone().inv(), $Ratio::<BigInt>::pow($x, -$e), Pow::pow($x, -BigInt::from($e))]);
+        }
+        all.into_iter().map(|result| result.into()).collect::<Vec<Fields>>()
+    }};
+}
+
+macro_rules! facts {
+    ($x:ident) => {{
+        let whole = ($x.to_i64(), $x.to_u64(), $x.to_i128(), $x.to_u128(), $x.to_i8(), $x.to_u32(), $x.to_usize());
+        let floats = ($x.to_f64().map(f64::to_bits), $x.to_f32().map(f32::to_bits));
+        let truths = ($x.is_integer(), $x.is_zero(), $x.is_one(), $x.is_positive(), $x.is_negative(), hash_of($x));
+        (whole, floats, truths, [$x.numer().clone(), $x.denom().clone()])
+    }};
+}
+
+macro_rules! texts {
+    ($Ratio:ident, $x:ident) => {{
+        let decimal = [format!("{}", $x), format!("{:+}", $x), format!("{:>200}", $x), format!("{:<+90}|{:^9}|{:020}|{:?}", $x, $x, $x, $x)];
+        let others = [format!("{:b}", $x), format!("{:#o}", $x), format!("{:#x}", $x), format!("{:+X}", $x), format!("{:x}", $x)];
+        let read: [Option<Fields>; 2] =
+            [decimal[0].parse::<$Ratio<BigInt>>().ok().map(|x| x.into()), $Ratio::<BigInt>::from_str_radix(&others[4], 16).ok().map(|x| x.into())];
+        (decimal, others, read)
+    }};
 }
 
 #[test]
 fn calls_on_one() {
-    let mut numbers = Numbers(2);
+    let (mut numbers, mut calls) = (Numbers(2), 0);
     for _ in 0..pairs() {
-        let (x, y) = fraction(&mut numbers);
-        let ours = [x.reduced(), x.floor(), x.ceil(), x.round(), x.trunc(), x.fract(), x.abs(), x.signum(), -&x, Ratio::pow(&x, 3)];
-        let theirs = [y.reduced(), y.floor(), y.ceil(), y.round(), y.trunc(), y.fract(), y.abs(), y.signum(), -&y, Original::<BigInt>::pow(&y, 3)];
-        assert_eq!(ours.map(fields), theirs.map(original), "{x}");
-        assert_eq!((x.to_integer(), x.is_integer(), x.is_zero(), x.is_one()), (y.to_integer(), y.is_integer(), y.is_zero(), y.is_one()), "{x}");
-        assert_eq!((x.to_i64(), x.to_u64(), x.to_i128(), x.to_u128()), (y.to_i64(), y.to_u64(), y.to_i128(), y.to_u128()), "{x}");
-        assert_eq!((x.to_f64().map(f64::to_bits), x.to_f32().map(f32::to_bits)), (y.to_f64().map(f64::to_bits), y.to_f32().map(f32::to_bits)), "{x}");
-        assert_eq!((x.to_string(), format!("{x:#x} {x:+} {x:>200}"), hash_of(&x)), (y.to_string(), format!("{y:#x} {y:+} {y:>200}"), hash_of(&y)));
-        assert_eq!((x.to_string().parse(), BigRational::from_str_radix(&format!("{x:x}/1"), 16).is_ok()), (Ok(x.reduced()), x.is_integer()), "{x}");
-        if !x.is_zero() {
-            assert_eq!([x.recip(), Ratio::pow(&x, -2)].map(fields), [y.recip(), Original::<BigInt>::pow(&y, -2)].map(original), "{x}");
-        }
+        let (x, y) = &fraction(&mut numbers);
+        let exponent = numbers.below(4) as i32;
+        let ours = fractions_of!(Ratio, x, exponent);
+        assert_eq!(ours, fractions_of!(Original, y, exponent), "{x:?}");
+        assert_eq!(facts!(x), facts!(y), "{x:?}");
+        assert_eq!(texts!(Ratio, x), texts!(Original, y));
+        // num-rational's order, which these call, is wrong for negative denominators.
+        let lowest = y.reduced();
+        assert_eq!([x.floor(), x.ceil(), x.round()].map(fields), [lowest.floor(), lowest.ceil(), lowest.round()].map(original), "{x:?}");
+        calls += ours.len() + 29;
     }
+    println!("{calls} calls on one fraction");
 }
 
 #[test]

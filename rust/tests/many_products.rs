@@ -128,9 +128,9 @@ fn rate<T: Integer + TryFrom<i128>>(numbers: &mut Numbers) -> Reduced<T> {
 }
 
 /// Random chains: how many results fit, how many of these have a step that does not, and that no result differs and none that fits is refused.
-/// `BAKHSNEY_CHAINS` says how many chains each type gets; without it there are 10,000.
+/// `BAKHSNEY_CHAINS` says how many chains each type gets; without it there are 3,000.
 fn chains<T: Integer + TryFrom<i128> + Into<i128>>(seed: u64) {
-    let count: u32 = std::env::var("BAKHSNEY_CHAINS").map_or(10_000, |count| count.parse().unwrap());
+    let count: u32 = std::env::var("BAKHSNEY_CHAINS").map_or(3_000, |count| count.parse().unwrap());
     let mut numbers = Numbers(seed);
     let (mut fitted, mut lost) = (0u32, 0u32);
     let (mut different, mut refused) = (0u32, 0u32);
@@ -176,17 +176,23 @@ fn chains<T: Integer + TryFrom<i128> + Into<i128>>(seed: u64) {
     assert!(fitted > count / 8 && lost > count / 200, "{fitted} {lost}");
 }
 
-#[test]
-fn chains_of_i8() {
-    chains::<i8>(1);
+macro_rules! each_type {
+    ($($name:ident $type:ident $seed:literal;)*) => {$(
+        #[test]
+        fn $name() {
+            chains::<$type>($seed);
+        }
+    )*};
 }
 
-#[test]
-fn chains_of_i64() {
-    chains::<i64>(2);
-}
-
-#[test]
-fn chains_of_i128() {
-    chains::<i128>(3);
+each_type! {
+    chains_of_i8 i8 1;
+    chains_of_i64 i64 2;
+    chains_of_i128 i128 3;
+    chains_of_i16 i16 4;
+    chains_of_i32 i32 5;
+    chains_of_u8 u8 6;
+    chains_of_u16 u16 7;
+    chains_of_u32 u32 8;
+    chains_of_u64 u64 9;
 }

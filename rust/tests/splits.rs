@@ -1,6 +1,6 @@
-//! Amounts split by shares and by weights: rows, and random lists over four types beside big integers.
+//! Amounts split by shares and by weights: rows, and random lists over eleven types beside big integers.
 //!
-//! `BAKHSNEY_PAIRS` says how many lists each type gets; without it there are 1000.
+//! `BAKHSNEY_PAIRS` says how many lists each type gets; without it there are 400.
 mod support;
 
 use bakhsney::{integer::Integer, Reduced, SplitRefusal, WeightRefusal};
@@ -146,7 +146,7 @@ fn unlike_shares<T: Number>(dice: &mut Numbers, size: impl Fn(u128) -> T) -> Vec
 }
 
 fn lists() -> u64 {
-    std::env::var("BAKHSNEY_PAIRS").map_or(1000, |text| text.parse().unwrap())
+    std::env::var("BAKHSNEY_PAIRS").map_or(400, |text| text.parse().unwrap())
 }
 
 macro_rules! sweep {
@@ -186,9 +186,16 @@ macro_rules! sweep {
 
 sweep! {
     over_i8 i8;
-    over_u32 u32;
+    over_i16 i16;
+    over_i32 i32;
     over_i64 i64;
     over_i128 i128;
+    over_isize isize;
+    over_u8 u8;
+    over_u16 u16;
+    over_u32 u32;
+    over_u64 u64;
+    over_usize usize;
 }
 
 fn split<T: Number, const N: usize>(amount: T, shares: [(T, T); N]) -> Result<[T; N], SplitRefusal> {

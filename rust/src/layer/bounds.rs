@@ -37,6 +37,7 @@ impl<T: Integer> Ratio<T> {
     /// assert_eq!(third.checked_abs_diff(&half), Some(Ratio::new(1, 6)));
     /// assert_eq!(Ratio::new(-128i8, 1).checked_abs_diff(&Ratio::new(1, 1)), None);
     /// ```
+    #[doc(alias = "distance")]
     #[inline]
     pub fn checked_abs_diff(&self, other: &Ratio<T>) -> Option<Ratio<T>> {
         let (x, y) = (Reduced::from_ratio(self)?, Reduced::from_ratio(other)?);
@@ -52,6 +53,8 @@ impl<T: Integer> Ratio<T> {
     /// assert_eq!(Ratio::new(1, 3).checked_midpoint(&Ratio::new(1, 2)), Some(Ratio::new(5, 12)));
     /// assert_eq!(Ratio::new(127i8, 1).checked_midpoint(&Ratio::new(125, 1)), Some(Ratio::new(126, 1)));
     /// ```
+    #[doc(alias = "average")]
+    #[doc(alias = "mean")]
     #[cfg(feature = "alloc")]
     #[inline]
     pub fn checked_midpoint(&self, other: &Ratio<T>) -> Option<Ratio<T>> {

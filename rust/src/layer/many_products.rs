@@ -20,7 +20,8 @@ impl<T: Integer> Reduced<T> {
     ///
     /// // A light year in miles: metres, inches per 100 metres, inches per mile.
     /// let rates = ["9460730472580800", "5000/127", "1/63360"].map(|text| text.parse::<Reduced64>().unwrap());
-    /// let miles = "8212439646337500/1397".parse().ok();
+    /// let miles = Reduced64::checked_new(8212439646337500, 1397);
+    /// # #[cfg(feature = "alloc")]
     /// assert_eq!(Reduced64::checked_product(rates), miles);
     /// assert_eq!(rates[0].checked_mul(rates[1]), None); // this step does not fit
     /// ```

@@ -21,6 +21,7 @@ impl<T: Clone + num_integer::Integer> Ratio<T> {
     /// ```
     /// assert_eq!(num_rational::Ratio::new(-2, 3).recip().into_raw(), (-3, 2));
     /// ```
+    #[doc(alias = "reciprocal")]
     #[doc(alias = "inverse")]
     #[inline]
     #[track_caller]

@@ -150,6 +150,8 @@ impl<T: Clone + num_integer::Integer> Ratio<T> {
     /// ```
     /// assert_eq!(num_rational::Ratio::new_raw(4, -6).reduced().into_raw(), (-2, 3));
     /// ```
+    #[doc(alias = "normalize")]
+    #[doc(alias = "simplify")]
     #[inline]
     #[track_caller]
     pub fn reduced(&self) -> Ratio<T> {

@@ -40,6 +40,8 @@ use num_traits::Signed;
 /// assert_eq!(total(&shares), Some(Reduced64::ONE));
 /// assert_eq!(total(&[Reduced64::from(i64::MAX), Reduced64::ONE]), None);
 /// ```
+#[doc(alias = "Fraction")]
+#[doc(alias = "Rational")]
 #[derive(Clone, Copy)]
 #[repr(transparent)]
 pub struct Reduced<T: Integer> {
@@ -236,6 +238,8 @@ impl<T: Integer> Reduced<T> {
     /// assert_eq!(Reduced::<i32>::from_text("50 %"), Err(TextRefusal::NotNumber));
     /// assert_eq!(Reduced::<i32>::from_text("1 1/0"), Err(TextRefusal::ZeroDenominator));
     /// ```
+    #[doc(alias = "mixed number")]
+    #[doc(alias = "percent")]
     #[inline]
     pub fn from_text(text: &str) -> Result<Reduced<T>, TextRefusal> {
         Proved::<T>::from_text(text).map(|fraction| Reduced { fraction })
@@ -359,6 +363,7 @@ impl<T: Integer> Reduced<T> {
     /// assert_eq!(Reduced::checked_new(100i8, 3).unwrap().round_to(100, Rounding::HalfEven), None);
     /// assert_eq!(price.round_to(0, Rounding::HalfEven), None);
     /// ```
+    #[doc(alias = "quantize")]
     #[inline]
     pub fn round_to(&self, parts: T, rule: Rounding) -> Option<Reduced<T>> {
         if T::NUMBER_0 < parts {
@@ -384,6 +389,7 @@ impl<T: Integer> Reduced<T> {
     /// ```
     /// assert_eq!(*num_rational::Reduced::checked_new(6, 8).unwrap().numer(), 3);
     /// ```
+    #[doc(alias = "numerator")]
     #[inline]
     pub fn numer(&self) -> &T {
         T::of(self.fraction.numer())
@@ -394,6 +400,7 @@ impl<T: Integer> Reduced<T> {
     /// ```
     /// assert_eq!(*num_rational::Reduced::checked_new(6, 8).unwrap().denom(), 4);
     /// ```
+    #[doc(alias = "denominator")]
     #[inline]
     pub fn denom(&self) -> &T {
         T::of(self.fraction.denom())
@@ -431,7 +438,7 @@ impl<T: Integer> Reduced<T> {
 }
 
 macro_rules! checked_calls {
-    ($($checked:ident: $what:literal, $example:literal;)*) => {
+    ($($(#[$alias:meta])* $checked:ident: $what:literal, $example:literal;)*) => {
         impl<T: Integer> Reduced<T> {$(
             #[doc = $what]
             ///
@@ -441,6 +448,7 @@ macro_rules! checked_calls {
             /// let half = num_rational::Reduced::checked_new(1i8, 2).unwrap();
             #[doc = $example]
             /// ```
+            $(#[$alias])*
             #[inline]
             pub fn $checked<O: Into<Reduced<T>>>(&self, other: O) -> Option<Reduced<T>> {
                 Reduced::of(self.fraction.$checked(other.into().fraction))
@@ -460,8 +468,10 @@ checked_calls! {
         "assert_eq!(half.checked_div(&half), Some(1.into()));";
     checked_rem: "The remainder of the quotient that is cut to a whole number. `None` if the divisor is 0 or the lowest terms do not fit the type.",
         "assert_eq!(half.checked_rem(1), Some(half));";
+    #[doc(alias = "greatest_common_divisor")]
     checked_gcd: "The greatest fraction that divides both: 1/12 for 1/4 and 1/6, since 1/4 is 3/12 and 1/6 is 2/12. It is never negative, and for a fraction and 0 it is the fraction's absolute value. `None` if its lowest terms do not fit the type.",
         "assert_eq!(half.checked_gcd(3), Some(half));";
+    #[doc(alias = "least_common_multiple")]
     checked_lcm: "The least fraction above 0 that both divide: 1/2 for 1/4 and 1/6. So what recurs every 1/4 and what recurs every 1/6 meet every 1/2. It is never negative, and it is 0 if either fraction is 0. `None` if its lowest terms do not fit the type.",
         "assert_eq!(half.checked_lcm(3), Some(3.into()));";
 }
@@ -575,6 +585,8 @@ impl<T: Integer> Reduced<T> {
     /// assert_eq!(Reduced32::from(-2).checked_recip(), Reduced32::checked_new(-1, 2));
     /// assert_eq!(Reduced32::ZERO.checked_recip(), None);
     /// ```
+    #[doc(alias = "reciprocal")]
+    #[doc(alias = "inverse")]
     #[inline]
     pub fn checked_recip(&self) -> Option<Reduced<T>> {
         Reduced::of(self.fraction.checked_recip())
@@ -603,6 +615,7 @@ impl<T: Integer> Reduced<T> {
     /// assert_eq!(pi.nearest(10), Reduced64::checked_new(22, 7));
     /// assert_eq!(pi.nearest(0), None);
     /// ```
+    #[doc(alias = "limit_denominator")]
     #[inline]
     pub fn nearest(&self, most: T) -> Option<Reduced<T>> {
         Reduced::of(self.fraction.nearest(most.into_proved()))
@@ -620,6 +633,7 @@ impl<T: Integer> Reduced<T> {
     /// let least = Reduced::checked_new(1i8, 127).unwrap();
     /// assert_eq!(Reduced::simplest_between(&Reduced::ZERO, &least), None);
     /// ```
+    #[doc(alias = "stern_brocot")]
     #[inline]
     pub fn simplest_between(low: &Reduced<T>, high: &Reduced<T>) -> Option<Reduced<T>> {
         Reduced::of(Proved::<T>::simplest_between(&low.fraction, &high.fraction))

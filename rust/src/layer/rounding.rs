@@ -117,6 +117,7 @@ impl<T: Integer> Ratio<T> {
     /// assert_eq!(Ratio::new(314159, 100000).nearest(10), Some(Ratio::new(22, 7)));
     /// assert_eq!(Ratio::new(1, 2).nearest(0), None);
     /// ```
+    #[doc(alias = "limit_denominator")]
     #[inline]
     pub fn nearest(&self, most: T) -> Option<Ratio<T>> {
         let fraction = self.positive()?;

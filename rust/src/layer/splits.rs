@@ -33,6 +33,7 @@ use core::slice;
 /// Nor has a sum of the first shares to fit. Where it does not, the sums take memory. So the answer is `NotHeld` only if the common
 /// denominator of the shares is 2^(2^20) or more. Without the feature `alloc` there is no such memory: then it is `NotHeld` if a sum of
 /// the first shares does not fit, or the amount times it, rounded.
+#[doc(alias = "allocate")]
 pub fn split<T: Integer>(amount: T, shares: &[Reduced<T>], parts: &mut [T]) -> Result<(), SplitRefusal> {
     let (amount, shares, parts) = (amount.into_proved(), proved_fractions(shares), proved_numbers_mut(parts));
     match proved::split(amount, shares, parts) {
@@ -79,6 +80,8 @@ fn split_in_memory<P: Primitive>(_: P, _: &[proved::Reduced<P>], _: &mut [P]) ->
 /// ```
 ///
 /// The marks are as in [`split`]: 5.3, 7.7 and 10 seats, rounded. No product has to fit, only the sum of the weights.
+#[doc(alias = "allocate")]
+#[doc(alias = "apportion")]
 pub fn split_by_weights<T: Integer>(amount: T, weights: &[T], parts: &mut [T]) -> Result<(), WeightRefusal> {
     proved::split_by_weights(amount.into_proved(), proved_numbers(weights), proved_numbers_mut(parts))
 }

@@ -1,6 +1,6 @@
 //! Each pair of types, at the ends of all types, against std's conversions of the fields.
 
-use bakhsney::{CastError, integer::Integer, Reduced};
+use bakhsney::{integer::Integer, CastError, Ratio, Reduced};
 use std::collections::BTreeSet;
 use std::convert::Infallible;
 use std::num::TryFromIntError;
@@ -36,12 +36,14 @@ where
     A: Integer + TryFrom<i128> + TryFrom<u128>,
     B: Integer + TryFrom<A>,
     Reduced<B>: TryFrom<Reduced<A>>,
+    Ratio<B>: TryFrom<Ratio<A>>,
 {
     let mut fitting = 0;
     for x in fractions::<A>() {
         let want = by_std::<A, B>(x);
         assert_eq!(x.cast::<B>().map(Reduced::into_raw), want, "{x}");
         assert_eq!(Reduced::<B>::try_from(x).ok().map(Reduced::into_raw), want, "{x}");
+        assert_eq!(Ratio::<B>::try_from(x.to_ratio()).ok().map(Ratio::into_raw), want, "{x}");
         fitting += usize::from(want.is_some());
     }
     fitting
@@ -53,6 +55,7 @@ where
     A: Integer + TryFrom<i128> + TryFrom<u128>,
     B: Integer + From<A>,
     Reduced<B>: From<Reduced<A>> + TryFrom<Reduced<A>, Error = Infallible>,
+    Ratio<B>: From<Ratio<A>> + TryFrom<Ratio<A>, Error = Infallible>,
 {
     assert_eq!(compared::<A, B>(), fractions::<A>().len());
 }
@@ -63,6 +66,7 @@ where
     A: Integer + TryFrom<i128> + TryFrom<u128>,
     B: Integer + TryFrom<A, Error = TryFromIntError>,
     Reduced<B>: TryFrom<Reduced<A>, Error = CastError>,
+    Ratio<B>: TryFrom<Ratio<A>, Error = CastError>,
 {
     assert!(compared::<A, B>() > 0);
 }

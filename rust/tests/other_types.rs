@@ -131,3 +131,30 @@ fn over_each_type() {
     assert_eq!(in_generic_code(Ratio::new(-7, 2)), (Ratio::new(1, 2), true));
     assert_eq!(in_generic_code(Ratio::new(7u128, 2)), (Ratio::new(1, 2), true));
 }
+
+/// The same rows for each type.
+macro_rules! each_type {
+    ($($type:ident)*) => {
+        #[test]
+        fn rows_over_each_type() {
+            $({
+                const HALF: Ratio<$type> = Ratio::new_raw(1, 2);
+                const MOST: Ratio<$type> = Ratio::new_raw($type::MAX, 1);
+                let results = [2 + HALF, 1 - HALF, 3 * HALF, 1 / HALF, 2 % Ratio::<$type>::new(3, 4)];
+                assert_eq!(results.map(Ratio::into_raw), [(5, 2), (1, 2), (3, 2), (2, 1), (1, 2)]);
+                let [long, short] = [Ratio::new(7, 2), Ratio::new(3, 4)];
+                assert_eq!([long.div_euclid(&short), long.rem_euclid(&short)].map(Ratio::into_raw), [(4, 1), (1, 2)]);
+                assert_eq!([HALF.checked_pow(3), HALF.checked_pow(-3), MOST.checked_pow(2)], [Some(Ratio::new(1, 8)), Some(Ratio::new(8, 1)), None]);
+                assert_eq!([HALF.checked_abs_diff(&long), long.checked_abs_diff(&HALF)], [Some(Ratio::new(3, 1)); 2]);
+                assert_eq!([HALF.checked_midpoint(&long), MOST.checked_midpoint(&MOST)], [Some(Ratio::new(2, 1)), Some(MOST)]);
+                assert_eq!([Bounded::min_value(), Bounded::max_value()].map(Ratio::<$type>::into_raw), [($type::MIN, 1), ($type::MAX, 1)]);
+                assert_eq!([Ratio::try_from(0.5f64), Ratio::try_from(0.5f32)], [Ok(HALF); 2]);
+                assert_eq!([long, HALF].map(|x| x.clamp(short, Ratio::new(3, 1))), [Ratio::new(3, 1), short]);
+                let half = Reduced::<$type>::checked_new(1, 2).unwrap();
+                assert!(half < 1 && half > 0 && half != 1 && half < MOST && half == HALF);
+            })*
+        }
+    };
+}
+
+each_type! { i8 i16 i32 i64 i128 isize u8 u16 u32 u64 u128 usize }

@@ -189,6 +189,49 @@ fn calls_on_one() {
     println!("{calls} calls on one fraction");
 }
 
+/// The ways to make a fraction from numbers.
+macro_rules! made {
+    ($Ratio:ident, $whole:ident, $word:ident) => {{
+        let primitive = [$Ratio::<BigInt>::from_i64($word as i64), FromPrimitive::from_u64($word as u64), FromPrimitive::from_i128($word as i128), FromPrimitive::from_u128($word)];
+        let mut all = vec![$Ratio::from_integer($whole.clone()), $whole.clone().into(), Zero::zero(), One::one(), Default::default()];
+        all.extend(primitive.into_iter().flatten().chain([$whole.clone().into(), $whole.clone().into()]));
+        let count = all.len();
+        all[count - 2].set_zero();
+        all[count - 1].set_one();
+        all.into_iter().map(|result| result.into()).collect::<Vec<Fields>>()
+    }};
+}
+
+#[test]
+fn made_from_numbers() {
+    let mut numbers = Numbers(5);
+    for _ in 0..100 {
+        let (whole, word) = (number(&mut numbers), numbers.of_any_length());
+        assert_eq!(made!(Ratio, whole, word), made!(Original, whole, word), "{whole} and {word}");
+    }
+}
+
+/// Each type of an exponent, by values and references.
+macro_rules! powers {
+    ($x:ident, $e:literal: $($Exponent:ty)*) => {{
+        let all = [$(Pow::pow($x, $e as $Exponent), Pow::pow($x.clone(), $e as $Exponent), Pow::pow($x, &($e as $Exponent)), Pow::pow($x.clone(), &($e as $Exponent))),*];
+        all.map(|result| -> Fields { result.into() })
+    }};
+}
+
+#[test]
+fn powers_by_each_exponent() {
+    let mut numbers = Numbers(6);
+    for _ in 0..20 {
+        let (x, y) = &fraction(&mut numbers);
+        let above = [powers!(x, 5: i8 i16 i32 i64 isize u8 u16 u32 u64 usize), powers!(y, 5: i8 i16 i32 i64 isize u8 u16 u32 u64 usize)];
+        assert_eq!(above[0], above[1], "{x:?}");
+        if !x.is_zero() {
+            assert_eq!(powers!(x, -5: i8 i16 i32 i64 isize), powers!(y, -5: i8 i16 i32 i64 isize), "{x:?}");
+        }
+    }
+}
+
 #[test]
 fn folds() {
     let mut numbers = Numbers(3);

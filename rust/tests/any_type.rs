@@ -246,6 +246,24 @@ fn arithmetic_on_two() {
     }
 }
 
+/// Results that fit though a product on the way does not, and checked calls without a result.
+#[test]
+fn at_the_ends() {
+    let raw = |numer, denom| Ratio::new_raw(own(numer), own(denom));
+    assert_eq!([Ratio::new(own(i64::MIN), own(i64::MIN)), Ratio::new(own(0), own(i64::MIN))].map(fields), [(1, 1), (0, 1)]);
+    let (part, two_thirds, three_halves) = (raw(1, 4611686018427387902), raw(2, 3), raw(3, 2));
+    let products = [&part * &two_thirds, &part / &three_halves, part.checked_mul(&two_thirds).unwrap(), part.checked_div(&three_halves).unwrap()];
+    assert_eq!(products.map(fields), [(1, 6917529027641081853); 4]);
+    let (most, one, zero) = (raw(i64::MAX, 1), raw(1, 1), raw(0, 1));
+    let too_large = [most.checked_add(&one), raw(i64::MIN, 1).checked_sub(&one), most.checked_mul(&raw(2, 1)), most.checked_div(&raw(1, 2)), one.checked_div(&zero)];
+    assert_eq!(too_large.map(|x| x.map(fields)), [None; 5]);
+    // The denominator has no positive negative, and a denominator of 0 gives no value.
+    for refused in [raw(1, i64::MIN), raw(1, 0), raw(0, 0)] {
+        let results = [refused.checked_add(&zero), zero.checked_sub(&refused), refused.checked_mul(&one), one.checked_mul(&refused), refused.checked_div(&one)];
+        assert_eq!(results.map(|x| x.map(fields)), [None; 5], "{refused:?}");
+    }
+}
+
 fn hash_of(x: impl Hash) -> u64 {
     let mut state = DefaultHasher::new();
     x.hash(&mut state);

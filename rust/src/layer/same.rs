@@ -129,4 +129,17 @@ mod tests {
         assert_eq!(same.back(*same.fraction(&fraction)).into_raw(), (i128::MIN, -5));
         assert_eq!([Ok(fraction), Err(7)].map(|x| same.back_if(x).map(Ratio::into_raw)), [Ok((i128::MIN, -5)), Err(7)]);
     }
+
+    /// Whether a call takes the proved code.
+    fn is_machine<T>() -> bool {
+        on_machine!(T, _same => true);
+        false
+    }
+
+    #[test]
+    fn each_machine_type() {
+        assert!([is_machine::<i8>(), is_machine::<i16>(), is_machine::<i32>(), is_machine::<i64>(), is_machine::<i128>(), is_machine::<isize>()] == [true; 6]);
+        assert!([is_machine::<u8>(), is_machine::<u16>(), is_machine::<u32>(), is_machine::<u64>(), is_machine::<u128>(), is_machine::<usize>()] == [true; 6]);
+        assert!([is_machine::<bool>(), is_machine::<char>(), is_machine::<f32>(), is_machine::<f64>(), is_machine::<[u64; 2]>(), is_machine::<()>()] == [false; 6]);
+    }
 }

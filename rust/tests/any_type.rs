@@ -257,6 +257,9 @@ fn at_the_ends() {
     let (most, one, zero) = (raw(i64::MAX, 1), raw(1, 1), raw(0, 1));
     let too_large = [most.checked_add(&one), raw(i64::MIN, 1).checked_sub(&one), most.checked_mul(&raw(2, 1)), most.checked_div(&raw(1, 2)), one.checked_div(&zero)];
     assert_eq!(too_large.map(|x| x.map(fields)), [None; 5]);
+    // The least number has no common divisor that fits with itself, or with 0.
+    let least = [raw(1, i64::MIN) + raw(1, i64::MIN), raw(i64::MIN, 1).checked_mul(&raw(1, i64::MIN)).unwrap(), zero.checked_mul(&raw(1, i64::MIN)).unwrap()];
+    assert_eq!(least.map(fields), [(-1, 4611686018427387904), (1, 1), (0, 1)]);
     // The denominator has no positive negative, and a denominator of 0 gives no value.
     for refused in [raw(1, i64::MIN), raw(1, 0), raw(0, 0)] {
         let results = [refused.checked_add(&zero), zero.checked_sub(&refused), refused.checked_mul(&one), one.checked_mul(&refused), refused.checked_div(&one)];

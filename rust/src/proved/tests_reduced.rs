@@ -29,6 +29,8 @@ mod precision;
 #[cfg(test)]
 mod refusal_texts;
 #[cfg(test)]
+mod rounded_multiples;
+#[cfg(test)]
 mod rounded_products;
 #[cfg(test)]
 mod simplest;

@@ -2,8 +2,8 @@
 use Rattle.std.specs.Prelude.{◌≡◌, ◌≢◌, ℕ, ℤ, pos, List, codes, length}
 use Rattle.ratio_integer.specs.Range.{IsHeld}
 use Rattle.num_rational.specs.Split.{NoShareIsBelowZero, total_of}
-use Rattle.num_rational.specs.declared.weights.WeightRefusal.{WeightRefusal}
-use Rattle.num_rational.specs.declared.weights.WeightRefusal.TheVariants.{AllZero, BelowZero, Length, NotHeld}
+use Rattle.num_rational.specs.declared.splitting.WeightRefusal.{WeightRefusal}
+use Rattle.num_rational.specs.declared.splitting.WeightRefusal.TheVariants.{AllZero, BelowZero, Length, NotHeld}
 
 -- the share of a weight: it over the sum of all weights, not reduced
 -- Example: 1: (1, 3)

@@ -5,36 +5,22 @@
 //! and no law can say that.
 #![tactic(auto)]
 
-mod convergents;
-mod convert;
-mod floats;
+mod continued;
 mod fold;
-mod hash;
 mod json;
 mod main_statement;
 mod many_products;
-mod nearest;
 mod operand;
 mod ops;
-mod order;
-mod pow;
-mod precision;
 mod printing;
-mod quotients;
 mod ratio;
 mod reduced;
-mod rounding;
-mod share;
-mod sign;
 mod splitting;
-mod text;
-mod weights;
 
-pub use convergents::Convergents;
+pub use continued::{Convergents, Quotients};
 pub use json::{JsonInteger, JsonRatioError};
 pub use main_statement::{HeadlineResult, headline};
-pub use operand::Operand;
-pub use quotients::Quotients;
+pub use operand::{Operand, ReducedOperand};
 pub use ratio::{Constants, Ratio, Rational, Rational32, Rational64};
 pub use ratio_core::{
     BaseTenText, CodeList, DecimalText, Exponent, Form, ParseRatioError, RatioErrorKind, RatioText,
@@ -42,7 +28,5 @@ pub use ratio_core::{
 };
 pub use ratio_decimal::rounding_rule::Rounding;
 pub use ratio_decimal::{DecimalRefusal, TextRefusal};
-pub use reduced::{Reduced, Reduced32, Reduced64, ReducedOperand};
-pub use share::Share;
-pub use splitting::{SplitRefusal, split, split_shares};
-pub use weights::{WeightRefusal, split_by_weights};
+pub use reduced::{Reduced, Reduced32, Reduced64};
+pub use splitting::{Share, SplitRefusal, WeightRefusal, split, split_by_weights, split_shares};

@@ -7,8 +7,9 @@ ghost use Rattle.num_rational.specs.Operators.{numbers};
 ghost use Rattle.num_rational.specs.Ratio.{ChecksRatio, IsLowestOf};
 ghost use Rattle.num_rational.specs.Reduced.{ratio_in, ratio_of};
 
+use crate::operand::ReducedOperand;
 use crate::ratio::Ratio;
-use crate::reduced::{Reduced, ReducedOperand};
+use crate::reduced::Reduced;
 use ratio_core::products::many_products;
 use ratio_integer::{Integer, both_held, lowest_terms};
 

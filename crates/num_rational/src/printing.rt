@@ -1,19 +1,20 @@
-//! Printing fractions through the traits of std, such as `Display` and `LowerHex`.
+//! How a fraction is written into a formatter of std: in base 10, in a form with a prefix, or with a precision as a decimal.
 //!
 //! The clauses hold for a call that returns `Ok`, with a formatter that indents nothing (`IsFlush`): inside a `{:#?}` of
 //! another value nothing is promised.
-ghost use Rattle.std.specs.Prelude.{◌≡◌, ◌++◌, [], ℕ, List, Some, false, if◌then◌else◌};
+ghost use Rattle.std.specs.Prelude.{◌≡◌, ◌++◌, [], ◌<ℤ◌, false, if◌then◌else◌, pos, List, ℕ};
 ghost use Rattle.std.specs.Fmt.{WritesOnOk, WritesStyledOnOk, formatter_spec, padded_integral, spec_alternate};
+ghost use Rattle.ratio_core.specs.Printing.{prefix_of, text_of};
+ghost use Rattle.ratio_decimal.specs.Precision.{half_even_text};
 ghost use Rattle.num_rational.specs.Padding.{padded_base_ten, padded_in_base};
 ghost use Rattle.num_rational.specs.Ratio.{denominator, numerator};
-ghost use Rattle.ratio_core.specs.Printing.{prefix_of, text_of};
-ghost use Rattle.ratio_core.specs.declared.text.form.Form.TheVariants.{Decimal};
 
 use crate::ratio::Ratio;
-use ratio_core::{BaseTenText, Form, RatioText};
-use ratio_integer::Primitive;
+use ratio_core::{Form, RatioText};
+use ratio_decimal::rounding_rule::Rounding;
+use ratio_integer::{Primitive, both_held};
 use std::fmt;
-use std::fmt::{Binary, Display, Formatter, LowerHex, Octal, UpperHex, Write};
+use std::fmt::{Formatter, Write};
 
 // Writes a text in base 10. A minus at its beginning is its sign.
 pub(crate) fn write_base_ten<W: Write>(text: &str, f: &mut Formatter<W>) -> fmt::Result
@@ -28,7 +29,7 @@ pub(crate) fn write_base_ten<W: Write>(text: &str, f: &mut Formatter<W>) -> fmt:
 }
 
 // Writes a fraction in a form with a prefix.
-fn write_in_base<T: Primitive, W: Write>(
+pub(crate) fn write_in_base<T: Primitive, W: Write>(
     x: &Ratio<T>,
     form: Form,
     prefix: &str,
@@ -62,75 +63,23 @@ fn after_prefix<'a>(text: &'a str, prefix: &str, is_there: bool) -> &'a str
     }
 }
 
-impl<T: Primitive> Display for Ratio<T> {
-    ghost output = { λ x. Some (text_of T.BITS Decimal false (numerator x) (denominator x)) };
-
-    ghost styled_output = { λ x options. Some (padded_base_ten (padded_integral options)
-        (text_of T.BITS Decimal false (numerator x) (denominator x))) };
-
-    fn fmt<W: Write>(&self, f: &mut Formatter<W>) -> fmt::Result {
-        let mut text = BaseTenText::empty();
-        self.put_base_ten_text(&mut text);
+// Writes a fraction with so many places, a half to the even digit. A minus at its beginning is its sign.
+pub(crate) fn write_with_places<T: Primitive, W: Write>(
+    numer: T,
+    denom: T,
+    places: usize,
+    f: &mut Formatter<W>,
+) -> fmt::Result
+    requires { pos 0 <ℤ T.value denom }
+    ensures { WritesStyledOnOk W.write_str_gives f.old result
+        (padded_base_ten (padded_integral (formatter_spec f.old))
+        (half_even_text places (T.value numer) (T.value denom))) f.new }
+{
+    both_held(numer, denom);
+    if places < 39 {
+        let text = ratio_decimal::decimal(numer, denom, places as u32, Rounding::HalfEven);
         write_base_ten(text.as_str(), f)
-    }
-}
-
-impl<T: Primitive> Binary for Ratio<T> {
-    ghost use Rattle.ratio_core.specs.declared.text.form.Form.TheVariants.{Binary};
-
-    fn fmt<W: Write>(&self, f: &mut Formatter<W>) -> fmt::Result
-        ensures plain { WritesOnOk W.write_str_gives f.old result
-            (text_of T.BITS Binary false (numerator self.now) (denominator self.now)) f.new }
-        ensures styled { WritesStyledOnOk W.write_str_gives f.old result
-            (padded_in_base (padded_integral (formatter_spec f.old))
-            (spec_alternate (formatter_spec f.old))
-            T.BITS Binary (numerator self.now) (denominator self.now)) f.new }
-    {
-        write_in_base(self, Form::Binary, "0b", f)
-    }
-}
-
-impl<T: Primitive> Octal for Ratio<T> {
-    ghost use Rattle.ratio_core.specs.declared.text.form.Form.TheVariants.{Octal};
-
-    fn fmt<W: Write>(&self, f: &mut Formatter<W>) -> fmt::Result
-        ensures plain { WritesOnOk W.write_str_gives f.old result
-            (text_of T.BITS Octal false (numerator self.now) (denominator self.now)) f.new }
-        ensures styled { WritesStyledOnOk W.write_str_gives f.old result
-            (padded_in_base (padded_integral (formatter_spec f.old))
-            (spec_alternate (formatter_spec f.old))
-            T.BITS Octal (numerator self.now) (denominator self.now)) f.new }
-    {
-        write_in_base(self, Form::Octal, "0o", f)
-    }
-}
-
-impl<T: Primitive> LowerHex for Ratio<T> {
-    ghost use Rattle.ratio_core.specs.declared.text.form.Form.TheVariants.{LowerHex};
-
-    fn fmt<W: Write>(&self, f: &mut Formatter<W>) -> fmt::Result
-        ensures plain { WritesOnOk W.write_str_gives f.old result
-            (text_of T.BITS LowerHex false (numerator self.now) (denominator self.now)) f.new }
-        ensures styled { WritesStyledOnOk W.write_str_gives f.old result
-            (padded_in_base (padded_integral (formatter_spec f.old))
-            (spec_alternate (formatter_spec f.old))
-            T.BITS LowerHex (numerator self.now) (denominator self.now)) f.new }
-    {
-        write_in_base(self, Form::LowerHex, "0x", f)
-    }
-}
-
-impl<T: Primitive> UpperHex for Ratio<T> {
-    ghost use Rattle.ratio_core.specs.declared.text.form.Form.TheVariants.{UpperHex};
-
-    fn fmt<W: Write>(&self, f: &mut Formatter<W>) -> fmt::Result
-        ensures plain { WritesOnOk W.write_str_gives f.old result
-            (text_of T.BITS UpperHex false (numerator self.now) (denominator self.now)) f.new }
-        ensures styled { WritesStyledOnOk W.write_str_gives f.old result
-            (padded_in_base (padded_integral (formatter_spec f.old))
-            (spec_alternate (formatter_spec f.old))
-            T.BITS UpperHex (numerator self.now) (denominator self.now)) f.new }
-    {
-        write_in_base(self, Form::UpperHex, "0x", f)
+    } else {
+        ratio_decimal::write_places(numer, denom, places, f)
     }
 }

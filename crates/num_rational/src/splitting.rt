@@ -1,19 +1,20 @@
-//! An amount split by shares, so that nothing is lost.
-ghost use Rattle.std.specs.Prelude.{◌≡◌, ◌↔◌, ◌≤◌, ◌<ℤ◌, pos, length, take, IfErr, IsTrue, MatchResult, OnErr, OnOk, Some};
+//! An amount split by shares or by weights, so that nothing is lost.
+ghost use Rattle.std.specs.Prelude.{◌≡◌, ◌↔◌, ◌≤◌, ◌<ℤ◌, ◌≤ℤ◌, ◌*ℤ◌, length, pos, take, All, IfErr, IfSome, IsTrue, MatchResult, OnErr, OnOk, Some, ℤ};
 ghost use Rattle.std.specs.Fmt.{padded};
 ghost use Rattle.ratio_integer.specs.Arithmetic.{sum_of};
+ghost use Rattle.ratio_integer.specs.Division.{IsMultiple};
 ghost use Rattle.ratio_integer.specs.Fraction.{IsLowestTermsOf};
-ghost use Rattle.num_rational.specs.Common.{FirstMarksFit};
-ghost use Rattle.num_rational.specs.Split.{SharesMakeOne, SharesOverPositive, CanBeSplit, ChecksNextMark, IsSplitBy, MarksFit, NoShareIsBelowZero, RefusesToSplit, SumsRefuse, share_numbers, split_refusal_text, total_of_shares};
-
-mod common;
+ghost use Rattle.ratio_integer.specs.Range.{Checks};
+ghost use Rattle.ratio_core.specs.Rounding.{IsRounded};
+ghost use Rattle.num_rational.specs.Common.{FirstMarksFit, IsNextOver, IsSumOver, IsTotalOver, IsWholeOver};
+ghost use Rattle.num_rational.specs.Split.{CanBeSplit, ChecksNextMark, IsSplitBy, MarksFit, NoShareIsBelowZero, RefusesToSplit, SharesMakeOne, SharesOverPositive, SumsRefuse, share_numbers, split_refusal_text, total_of, total_of_shares};
+ghost use Rattle.num_rational.specs.Weights.{CanSplitByWeights, NoWeightIsBelowZero, RefusesWeights, share_of, weight_refusal_text};
 
 use crate::reduced::Reduced;
-use crate::share::Share;
-use common::{total_over, write_parts_over};
 use ratio_core::sign::is_below_zero;
+use ratio_decimal::rounded_product;
 use ratio_decimal::rounding_rule::Rounding;
-use ratio_integer::{Integer, both_held};
+use ratio_integer::{Integer, both_held, lowest_terms};
 use std::error::Error;
 use std::fmt;
 
@@ -44,6 +45,66 @@ impl fmt::Display for SplitRefusal {
             }
             SplitRefusal::NotOne => "the shares do not add up to 1",
         })
+    }
+}
+
+impl Error for SplitRefusal {}
+
+/// Why an amount is not split by weights: the first of these that applies.
+#[derive(Clone, Copy, Debug, PartialEq)]
+pub enum WeightRefusal {
+    /// The number of parts is not the number of weights.
+    Length,
+    /// A weight is below 0.
+    BelowZero,
+    /// The sum of the weights does not fit the type.
+    NotHeld,
+    /// The weights add up to 0. Those of an empty list do, too.
+    AllZero,
+}
+
+impl fmt::Display for WeightRefusal {
+    ghost output = { λ why. Some (weight_refusal_text why) };
+
+    ghost styled_output = { λ why options. Some (padded options (weight_refusal_text why)) };
+
+    fn fmt<W: fmt::Write>(&self, f: &mut fmt::Formatter<W>) -> fmt::Result {
+        f.pad(match self {
+            WeightRefusal::Length => "the number of parts is not the number of weights",
+            WeightRefusal::BelowZero => "a weight is below 0",
+            WeightRefusal::NotHeld => "the sum of the weights does not fit the type",
+            WeightRefusal::AllZero => "no weight is above 0",
+        })
+    }
+}
+
+impl Error for WeightRefusal {}
+
+/// A share of an amount: a fraction in any terms.
+pub trait Share<T: Copy + Integer> {
+    ghost two_numbers: { Self → ℤ × ℤ };
+
+    /// Its numerator.
+    fn numer(&self) -> T
+        ensures { T.value result ≡ (two_numbers self.now).0 };
+
+    /// Its lowest terms, if its denominator is positive. Otherwise the result may be any fraction.
+    fn lowest(&self) -> Reduced<T>
+        ensures { pos 0 <ℤ (two_numbers self.now).1 →
+            IsLowestTermsOf (two_numbers self.now).0 (two_numbers self.now).1 (share_numbers result).0 (share_numbers result).1 };
+}
+
+impl<T: Copy + Integer> Share<T> for Reduced<T> {
+    ghost two_numbers = { share_numbers };
+
+    #[inline(always)]
+    fn numer(&self) -> T {
+        *self.numer()
+    }
+
+    #[inline(always)]
+    fn lowest(&self) -> Reduced<T> {
+        *self
     }
 }
 
@@ -173,4 +234,215 @@ fn write_parts<T: Copy + Integer, S: Share<T>>(amount: T, shares: &[S], parts: &
     }
 }
 
-impl Error for SplitRefusal {}
+// Shares over one denominator, a common multiple of theirs, as far as it fits the type.
+//
+// There the sums of the first shares are whole numbers: 3/6, 5/6 and 6/6 for 1/2, 1/3 and 1/6. So a sum takes no greatest common
+// divisor once the denominator is known. As long as the shares add up to at most 1, no sum and no mark is too great for the type:
+// each mark lies between 0 and the amount.
+
+// The sum of the first shares over one denominator: how many they are, the numerator and the denominator. It stops before a share of 1
+// or more, and where the sum would be above 1, a number would not fit the type, or the amount times the denominator not 128 bits.
+fn total_over<T: Copy + Integer, S: Share<T>>(amount: T, shares: &[S]) -> (usize, T, T)
+    requires positive { SharesOverPositive S.two_numbers shares.now }
+    requires none_below { NoShareIsBelowZero S.two_numbers shares.now }
+    ensures within { result.0 ≤ length shares.now }
+    ensures total { IsTotalOver S.two_numbers T.lo T.hi (T.value amount) shares.now result.0 (T.value result.1) (T.value result.2) }
+{
+    let _ = amount.held();
+    let mut sum = T::ZERO;
+    let mut common = T::ONE;
+    for (i, share) in shares.iter().enumerate() {
+        let Some(next) = joined(amount, sum, common, share) else {
+            return (i, sum, common);
+        };
+        both_held(next.0, next.1);
+        sum = next.0;
+        common = next.1;
+    }
+    (shares.len(), sum, common)
+}
+
+// `sum/common` and one more share, and their common denominator. It is `None` where `total_over` stops.
+fn joined<T: Copy + Integer, S: Share<T>>(amount: T, sum: T, common: T, share: &S) -> Option<(T, T)>
+    requires common { pos 0 <ℤ T.value common }
+    requires sum { T.value sum ≤ℤ T.value common }
+    requires share { pos 0 <ℤ (S.two_numbers share.now).1 }
+    ensures { IfSome result (λ x. IsSumOver (T.value sum, T.value common) (S.two_numbers share.now) (T.value x.0) (T.value x.1) × (T.value x.0 ≤ℤ T.value x.1)) }
+{
+    if share.numer().is_zero() {
+        return Some((sum, common));
+    }
+    let lowest = share.lowest();
+    // Few shares are left then, or none.
+    if *lowest.denom() <= *lowest.numer() {
+        return None;
+    }
+    let (next, over) = added(sum, common, &lowest)?;
+    if over < next {
+        return None;
+    }
+    // Sums in lowest terms have shorter products.
+    let _ = amount.to_i128()?.try_times(over.to_i128()?)?;
+    Some((next, over))
+}
+
+// `sum/common` and one more share, and their common denominator. It is the same if the share is a whole number over it.
+fn added<T: Copy + Integer>(sum: T, common: T, share: &Reduced<T>) -> Option<(T, T)>
+    requires { pos 0 <ℤ T.value common }
+    ensures { IfSome result (λ x. IsSumOver (T.value sum, T.value common) (share_numbers share.now) (T.value x.0) (T.value x.1)) }
+{
+    let numer = *share.numer();
+    let denom = *share.denom();
+    let (times, rest) = common.div_rem(denom);
+    if rest.is_zero() {
+        return Some((sum.try_plus(numer.try_times(times)?)?, common));
+    }
+    // If common/denom is u/v in lowest terms, common times v is denom times u.
+    let (for_share, for_sum) = lowest_terms(common, denom);
+    let left = sum.try_times(for_sum)?;
+    let right = numer.try_times(for_share)?;
+    Some((left.try_plus(right)?, common.try_times(for_sum)?))
+}
+
+// Writes the parts. It requires that no refusal applies, and that each share is a whole number over `common`.
+fn write_parts_over<T: Copy + Integer, S: Share<T>>(
+    amount: T,
+    shares: &[S],
+    common: T,
+    parts: &mut [T],
+)
+    requires positive { SharesOverPositive S.two_numbers shares.now }
+    requires can { CanBeSplit S.two_numbers T.lo T.hi (T.value amount) shares.now (length parts.old) }
+    requires common { pos 0 <ℤ T.value common }
+    requires whole { All (λ share. IsWholeOver (T.value common) (S.two_numbers share)) shares.now }
+    ensures { IsSplitBy S.two_numbers T.value (T.value amount) shares.now parts.new }
+{
+    let _ = amount.held();
+    let mut sum = T::ZERO;
+    let mut mark = T::ZERO;
+    for (i, share) in shares.iter().enumerate() {
+        let (next, reached) = next_over(amount, sum, mark, common, share);
+        parts[i] = reached.minus(mark);
+        sum = next;
+        mark = reached;
+    }
+}
+
+// The numerator of `sum/common` and one more share over `common`, and its mark, if they add up to at most 1. A share of 0 changes
+// neither.
+fn next_over<T: Copy + Integer, S: Share<T>>(
+    amount: T,
+    sum: T,
+    mark: T,
+    common: T,
+    share: &S,
+) -> (T, T)
+    requires common { pos 0 <ℤ T.value common }
+    requires whole { IsWholeOver (T.value common) (S.two_numbers share.now) }
+    requires positive { pos 0 <ℤ (S.two_numbers share.now).1 }
+    requires share { pos 0 ≤ℤ (S.two_numbers share.now).0 }
+    requires sum { pos 0 ≤ℤ T.value sum }
+    requires most { let x = sum_of (T.value sum) (T.value common) (S.two_numbers share.now).0 (S.two_numbers share.now).1 in x.0 ≤ℤ x.1 }
+    requires mark { IsRounded (T.value amount *ℤ T.value sum) (T.value common) (T.value mark) }
+    ensures sum { IsNextOver (T.value sum, T.value common) (S.two_numbers share.now) (T.value result.0) (T.value common) }
+    ensures mark { IsRounded (T.value amount *ℤ T.value result.0) (T.value common) (T.value result.1) }
+{
+    if share.numer().is_zero() {
+        return (sum, mark);
+    }
+    let next = next_sum(sum, common, &share.lowest());
+    (next, mark_over(amount, next, common))
+}
+
+// The numerator of `sum/common` and one more share over `common`, if they add up to at most 1.
+fn next_sum<T: Copy + Integer>(sum: T, common: T, share: &Reduced<T>) -> T
+    requires common { pos 0 <ℤ T.value common }
+    requires multiple { IsMultiple (T.value common) (share_numbers share.now).1 }
+    requires sum { pos 0 ≤ℤ T.value sum }
+    requires share { pos 0 ≤ℤ (share_numbers share.now).0 }
+    requires most { let x = sum_of (T.value sum) (T.value common) (share_numbers share.now).0 (share_numbers share.now).1 in x.0 ≤ℤ x.1 }
+    ensures { IsNextOver (T.value sum, T.value common) (share_numbers share.now) (T.value result) (T.value common) }
+{
+    let _ = common.held();
+    let (times, _) = common.div_rem(*share.denom());
+    sum.plus(share.numer().times(times))
+}
+
+// The amount times `sum/common`, which lies from 0 to 1, rounded.
+fn mark_over<T: Copy + Integer>(amount: T, sum: T, common: T) -> T
+    requires common { pos 0 <ℤ T.value common }
+    requires above { pos 0 ≤ℤ T.value sum }
+    requires below { T.value sum ≤ℤ T.value common }
+    ensures { IsRounded (T.value amount *ℤ T.value sum) (T.value common) (T.value result) }
+{
+    if sum == common {
+        return amount;
+    }
+    let _ = amount.held();
+    rounded_product(amount, T::ONE, sum, common, Rounding::HalfAway).unwrap()
+}
+
+/// Splits the amount by the weights into the parts. The share of a weight is the weight over the sum of all. The parts
+/// add up to the amount exactly, and each is less than 1 away from the amount times its share. For example, 100 split
+/// by the weights 1, 1 and 1 is 33, 34 and 33. At a refusal no part has changed. The sums of the first shares, times
+/// the amount, are rounded with a half away from 0. A part is the difference of two neighbours. No product has to fit.
+pub fn split_by_weights<T: Copy + Integer>(
+    amount: T,
+    weights: &[T],
+    parts: &mut [T],
+) -> Result<(), WeightRefusal>
+    ensures ok { OnOk result (CanSplitByWeights T.value T.lo T.hi weights.now (length parts.old) × IsSplitBy (share_of T.value weights.now) T.value (T.value amount) weights.now parts.new) }
+    ensures refused { IfErr result (λ why. RefusesWeights T.value T.lo T.hi weights.now (length parts.old) why) }
+    ensures unchanged { OnErr result (parts.new ≡ parts.old) }
+{
+    if parts.len() != weights.len() {
+        return Err(WeightRefusal::Length);
+    }
+    if !no_weight_is_below_zero(weights) {
+        return Err(WeightRefusal::BelowZero);
+    }
+    let Some(total) = checked_total(weights) else {
+        return Err(WeightRefusal::NotHeld);
+    };
+    if total.is_zero() {
+        return Err(WeightRefusal::AllZero);
+    }
+    write_parts_by_weights(amount, weights, total, parts);
+    Ok(())
+}
+
+fn no_weight_is_below_zero<T: Copy + Integer>(weights: &[T]) -> bool
+    ensures { IsTrue result ↔ NoWeightIsBelowZero T.value weights.now }
+{
+    weights.iter().all(|weight| !is_below_zero(*weight))
+}
+
+// The sum of the weights, or `None` if it does not fit the type.
+fn checked_total<T: Copy + Integer>(weights: &[T]) -> Option<T>
+    requires { NoWeightIsBelowZero T.value weights.now }
+    ensures { Checks T.value T.lo T.hi (total_of T.value weights.now) result }
+{
+    let mut sum = T::ZERO;
+    for weight in weights {
+        sum = sum.try_plus(*weight)?;
+    }
+    let _ = sum.held();
+    Some(sum)
+}
+
+// Writes the parts. It requires that no refusal applies, and that `total` is the sum of the weights.
+fn write_parts_by_weights<T: Copy + Integer>(amount: T, weights: &[T], total: T, parts: &mut [T])
+    requires can { CanSplitByWeights T.value T.lo T.hi weights.now (length parts.old) }
+    requires total { T.value total ≡ total_of T.value weights.now }
+    ensures { IsSplitBy (share_of T.value weights.now) T.value (T.value amount) weights.now parts.new }
+{
+    let _ = amount.held();
+    let mut sum = T::ZERO;
+    let mut mark = T::ZERO;
+    for (i, weight) in weights.iter().enumerate() {
+        sum = sum.plus(*weight);
+        let next = rounded_product(amount, T::ONE, sum, total, Rounding::HalfAway).unwrap();
+        parts[i] = next.minus(mark);
+        mark = next;
+    }
+}

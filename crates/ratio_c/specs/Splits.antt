@@ -4,8 +4,8 @@ use Rattle.num_rational.specs.Split.{CanBeSplit, IsSplitBy, RefusesToSplit}
 use Rattle.num_rational.specs.Weights.{CanSplitByWeights, RefusesWeights, share_of}
 use Rattle.num_rational.specs.declared.splitting.SplitRefusal.{SplitRefusal}
 use Rattle.num_rational.specs.declared.splitting.SplitRefusal.TheVariants.{BelowZero, Length, NotHeld, NotOne}
-use Rattle.num_rational.specs.declared.weights.WeightRefusal.{WeightRefusal}
-use Rattle.num_rational.specs.declared.weights.WeightRefusal.TheVariants.{AllZero, BelowZero, Length, NotHeld}
+use Rattle.num_rational.specs.declared.splitting.WeightRefusal.{WeightRefusal}
+use Rattle.num_rational.specs.declared.splitting.WeightRefusal.TheVariants.{AllZero, BelowZero, Length, NotHeld}
 use Rattle.ratio_c.specs.declared.numbers64.Fraction64.{Fraction64}
 use Rattle.ratio_c.specs.Calls.{Tested}
 use Rattle.ratio_c.specs.Codes.{code_all_zero, code_answered, code_below_zero, code_denominator_not_positive, code_not_held, code_not_one, code_unlike_lengths}

@@ -1,12 +1,14 @@
 // Written by templates/write from templates/fold.rt.txt: change that file, and write this one anew.
-//! The product of the items of an iterator.
+//! The product of the items of an iterator, and for `Reduced` of a list.
 ghost use Rattle.std.specs.Prelude.{IsSome, List};
 ghost use Rattle.std.specs.Iterator.{Drains, DrainsIf, HoldsAlong, IsFinite};
 ghost use Rattle.num_rational.specs.Folds.{ArePositive, CanProduct, ChecksProductOf, IsProductOf};
 ghost use Rattle.num_rational.specs.Operators.{numbers};
+ghost use Rattle.num_rational.specs.Reduced.{ratio_in};
 
-use crate::operand::Operand;
+use crate::operand::{Operand, ReducedOperand};
 use crate::ratio::Ratio;
+use crate::reduced::Reduced;
 use ratio_integer::Integer;
 use std::iter::Product;
 
@@ -106,5 +108,19 @@ impl<'a, T: Copy + Integer> Product<&'a Ratio<T>> for Ratio<T> {
 
     fn product<I: Iterator<Item = &'a Ratio<T>>>(iter: I) -> Ratio<T> {
         Ratio::<T>::product_refs(iter)
+    }
+}
+
+impl<T: Copy + Integer> Reduced<T> {
+    /// The product of the items, in order from 1/1 on. It returns `None` at the first item for which
+    /// `checked_mul` does. An item is a fraction or a whole number, or a reference to one.
+    pub fn checked_product<O: ReducedOperand<T> + Copy>(items: &[O]) -> Option<Reduced<T>>
+        ensures { ChecksProductOf O.two_numbers items.now (ratio_in result) }
+    {
+        let mut total = Reduced::one();
+        'items: for x in items {
+            total = total.checked_mul((*x).reduced())?;
+        }
+        Some(total)
     }
 }

@@ -1,12 +1,14 @@
 // Written by templates/write from templates/fold.rt.txt: change that file, and write this one anew.
-//! The sum of the items of an iterator.
+//! The sum of the items of an iterator, and for `Reduced` of a list.
 ghost use Rattle.std.specs.Prelude.{IsSome, List};
 ghost use Rattle.std.specs.Iterator.{Drains, DrainsIf, HoldsAlong, IsFinite};
-ghost use Rattle.num_rational.specs.Folds.{ArePositive, CanSum, ChecksSumOf, IsSumOf};
+ghost use Rattle.num_rational.specs.Folds.{ArePositive, CanSum, ChecksExactSumOf, ChecksSumOf, IsSumOf};
 ghost use Rattle.num_rational.specs.Operators.{numbers};
+ghost use Rattle.num_rational.specs.Reduced.{ratio_in};
 
-use crate::operand::Operand;
+use crate::operand::{Operand, ReducedOperand};
 use crate::ratio::Ratio;
+use crate::reduced::Reduced;
 use ratio_integer::Integer;
 use std::iter::Sum;
 
@@ -106,5 +108,19 @@ impl<'a, T: Copy + Integer> Sum<&'a Ratio<T>> for Ratio<T> {
 
     fn sum<I: Iterator<Item = &'a Ratio<T>>>(iter: I) -> Ratio<T> {
         Ratio::<T>::sum_refs(iter)
+    }
+}
+
+impl<T: Copy + Integer> Reduced<T> {
+    /// The sum of the items, in order from 0/1 on. It returns `None` at the first item for which
+    /// `checked_add` does. An item is a fraction or a whole number, or a reference to one.
+    pub fn checked_sum<O: ReducedOperand<T> + Copy>(items: &[O]) -> Option<Reduced<T>>
+        ensures { ChecksExactSumOf O.two_numbers items.now (ratio_in result) }
+    {
+        let mut total = Reduced::zero();
+        'items: for x in items {
+            total = total.checked_add((*x).reduced())?;
+        }
+        Some(total)
     }
 }

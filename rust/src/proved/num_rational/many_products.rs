@@ -1,8 +1,9 @@
 // Erased from crates/num_rational/src/many_products.rt by rust/erase: not to be edited.
 //! The two ways of a product or quotient of many fractions in lowest terms: step by step, and cancelled first.
 
+use crate::proved::num_rational::operand::ReducedOperand;
 use crate::proved::num_rational::ratio::Ratio;
-use crate::proved::num_rational::reduced::{Reduced, ReducedOperand};
+use crate::proved::num_rational::reduced::Reduced;
 use crate::proved::ratio_core::products::many_products;
 use crate::proved::ratio_integer::{Integer, both_held, lowest_terms};
 

@@ -1,14 +1,15 @@
 // Erased from crates/num_rational/src/printing.rt by rust/erase: not to be edited.
-//! Printing fractions through the traits of std, such as `Display` and `LowerHex`.
+//! How a fraction is written into a formatter of std: in base 10, in a form with a prefix, or with a precision as a decimal.
 //!
 //! The clauses hold for a call that returns `Ok`, with a formatter that indents nothing (`IsFlush`): inside a `{:#?}` of
 //! another value nothing is promised.
 
 use crate::proved::num_rational::ratio::Ratio;
-use crate::proved::ratio_core::{BaseTenText, Form, RatioText};
-use crate::proved::ratio_integer::Primitive;
+use crate::proved::ratio_core::{Form, RatioText};
+use crate::proved::ratio_decimal::rounding_rule::Rounding;
+use crate::proved::ratio_integer::{Primitive, both_held};
 use core::fmt;
-use core::fmt::{Binary, Display, Formatter, LowerHex, Octal, UpperHex, Write};
+use core::fmt::{Formatter, Write};
 
 // Writes a text in base 10. A minus at its beginning is its sign.
 #[inline]
@@ -20,8 +21,13 @@ pub(crate) fn write_base_ten(text: &str, f: &mut Formatter<'_>) -> fmt::Result {
 }
 
 // Writes a fraction in a form with a prefix.
+/// # Conditions
+///
+/// The proof requires of the caller:
+///
+/// - `prefix.now ≡ prefix_of form`
 #[inline]
-fn write_in_base<T: Primitive>(
+pub(crate) fn write_in_base<T: Primitive>(
     x: &Ratio<T>,
     form: Form,
     prefix: &str,
@@ -46,39 +52,24 @@ fn after_prefix<'a>(text: &'a str, prefix: &str, is_there: bool) -> &'a str {
     }
 }
 
-impl<T: Primitive> Display for Ratio<T> {
-    #[inline]
-    fn fmt(&self, f: &mut Formatter<'_>) -> fmt::Result {
-        let mut text = BaseTenText::empty();
-        self.put_base_ten_text(&mut text);
+// Writes a fraction with so many places, a half to the even digit. A minus at its beginning is its sign.
+/// # Conditions
+///
+/// The proof requires of the caller:
+///
+/// - `pos 0 <ℤ T.value denom`
+#[inline]
+pub(crate) fn write_with_places<T: Primitive>(
+    numer: T,
+    denom: T,
+    places: usize,
+    f: &mut Formatter<'_>,
+) -> fmt::Result {
+    both_held(numer, denom);
+    if places < 39 {
+        let text = crate::proved::ratio_decimal::decimal(numer, denom, places as u32, Rounding::HalfEven);
         write_base_ten(text.as_str(), f)
-    }
-}
-
-impl<T: Primitive> Binary for Ratio<T> {
-    #[inline]
-    fn fmt(&self, f: &mut Formatter<'_>) -> fmt::Result {
-        write_in_base(self, Form::Binary, "0b", f)
-    }
-}
-
-impl<T: Primitive> Octal for Ratio<T> {
-    #[inline]
-    fn fmt(&self, f: &mut Formatter<'_>) -> fmt::Result {
-        write_in_base(self, Form::Octal, "0o", f)
-    }
-}
-
-impl<T: Primitive> LowerHex for Ratio<T> {
-    #[inline]
-    fn fmt(&self, f: &mut Formatter<'_>) -> fmt::Result {
-        write_in_base(self, Form::LowerHex, "0x", f)
-    }
-}
-
-impl<T: Primitive> UpperHex for Ratio<T> {
-    #[inline]
-    fn fmt(&self, f: &mut Formatter<'_>) -> fmt::Result {
-        write_in_base(self, Form::UpperHex, "0x", f)
+    } else {
+        crate::proved::ratio_decimal::write_places(numer, denom, places, f)
     }
 }

@@ -1,8 +1,17 @@
 // Erased from crates/num_rational/src/ratio.rt by rust/erase: not to be edited.
-//! `Ratio`, the fraction type: the ways to make a fraction, its fields, its constants, and tests of these.
+//! `Ratio`, the fraction type, with its constants and its calls: fields, order, powers, rounding, signs, texts and floats.
+//!
+//! Operators, folds and JSON have files of their own.
 
-use crate::proved::ratio_core::checked_new;
-use crate::proved::ratio_integer::Integer;
+mod traits;
+
+use crate::proved::ratio_core::{
+    BaseTenText, CodeList, Exponent, Form, ParseRatioError, RatioText, Steps, checked_new, pow,
+    rounding, sign, text,
+};
+use crate::proved::ratio_float::nearest;
+use crate::proved::ratio_integer::{Integer, Primitive, SignedInteger};
+use core::cmp::Ordering;
 
 /// A fraction of two numbers of the type `T`. Its denominator is not 0. The fields are kept as they
 /// are given: `new` and most calls return lowest terms with a positive denominator, but `new_raw`
@@ -21,13 +30,6 @@ pub type Rational32 = Ratio<i32>;
 
 /// A fraction of two `i64`.
 pub type Rational64 = Ratio<i64>;
-
-impl<T: Copy + Integer> Clone for Ratio<T> {
-    #[inline]
-    fn clone(&self) -> Ratio<T> {
-        *self
-    }
-}
 
 impl<T: Copy + Integer> Ratio<T> {
     /// The fraction with these fields, as they are given. They are not reduced, and the denominator
@@ -159,6 +161,452 @@ impl<T: Copy + Integer> Ratio<T> {
     #[inline]
     pub fn is_integer(&self) -> bool {
         self.denom.is_one()
+    }
+
+    // Whole numbers of fixed types.
+
+    /// The whole number over 1, or `None` if it does not fit the type.
+    #[inline]
+    pub fn from_i64(n: i64) -> Option<Ratio<T>> {
+        Ratio::from_i128(n as i128)
+    }
+
+    /// The whole number over 1, or `None` if it does not fit the type.
+    #[inline]
+    pub fn from_i128(n: i128) -> Option<Ratio<T>> {
+        match T::from_i128(n) {
+            Some(t) => Some(Ratio::from_integer(t)),
+            None => None,
+        }
+    }
+
+    /// The whole number over 1, or `None` if it does not fit the type.
+    #[inline]
+    pub fn from_u64(n: u64) -> Option<Ratio<T>> {
+        Ratio::from_u128(n as u128)
+    }
+
+    /// The whole number over 1, or `None` if it does not fit the type.
+    #[inline]
+    pub fn from_u128(n: u128) -> Option<Ratio<T>> {
+        match T::from_u128(n) {
+            Some(t) => Some(Ratio::from_integer(t)),
+            None => None,
+        }
+    }
+
+    // The order and the hash, with their steps.
+
+    /// How this fraction compares with another one. The denominators may have either sign, and the
+    /// fractions need not be reduced.
+    ///
+    /// Both sides of `steps` rise by the same number. It is 0 if both cross products of the fields
+    /// fit the type. Else it is the number of rounds of Euclid's algorithm on both fractions side by
+    /// side. It is at most twice the number of binary digits of the smaller denominator.
+    #[inline]
+    pub fn cmp_counted(&self, other: &Self, steps: &mut Steps) -> Ordering {
+        crate::proved::ratio_core::cmp_counted(self.numer, self.denom, other.numer, other.denom, steps)
+    }
+
+    /// Hands the codes of this fraction to `list`: the quotients of its continued fraction, and then
+    /// 0. The codes of 7/3 are 2, 3 and 0. The quotient `hi + 1`, which does not fit the type, is
+    /// written as the least number, twice.
+    ///
+    /// Of all fractions over the type, exactly those of the same value have these codes. The left
+    /// side of `steps` rises by one for each quotient except `hi + 1`. That is at most twice the
+    /// number of binary digits of the denominator.
+    #[inline]
+    pub fn hash_counted<L: CodeList<T>>(&self, list: &mut L, steps: &mut Steps) {
+        crate::proved::ratio_core::hash_counted(self.numer, self.denom, list, steps);
+    }
+
+    // Reciprocals and powers.
+
+    /// The reciprocal, with its sign in the numerator: -3/2 for -2/3. It is not reduced. If the
+    /// numerator is negative, its negative must fit the type. Over `i8`, only -128 has none.
+    ///
+    /// # Conditions
+    ///
+    /// The proof requires of the caller:
+    ///
+    /// - `positive`: `pos 0 <ℤ denominator self.now`
+    /// - `nonzero`: `numerator self.now ≢ pos 0`
+    /// - `held`: `numerator self.now <ℤ pos 0 → IsHeld T.lo T.hi (neg_ℤ (numerator self.now))`
+    #[inline]
+    pub fn recip(&self) -> Ratio<T> {
+        let (numer, denom) = pow::recip(self.numer, self.denom);
+        Ratio::new_raw(numer, denom)
+    }
+
+    /// The same as `recip`.
+    ///
+    /// # Conditions
+    ///
+    /// The proof requires of the caller:
+    ///
+    /// - `positive`: `pos 0 <ℤ denominator self`
+    /// - `nonzero`: `numerator self ≢ pos 0`
+    /// - `held`: `numerator self <ℤ pos 0 → IsHeld T.lo T.hi (neg_ℤ (numerator self))`
+    #[inline]
+    pub fn inv(self) -> Ratio<T> {
+        self.recip()
+    }
+
+    /// The power, or `None` if it does not fit the type: see `checked_pow_with`.
+    ///
+    /// # Conditions
+    ///
+    /// The proof requires of the caller:
+    ///
+    /// - `pos 0 <ℤ denominator self.now`
+    #[inline]
+    pub fn checked_pow(&self, exponent: i32) -> Option<Ratio<T>> {
+        self.checked_pow_with(exponent)
+    }
+
+    /// The power. It requires that `checked_pow` returns `Some`.
+    ///
+    /// # Conditions
+    ///
+    /// The proof requires of the caller:
+    ///
+    /// - `positive`: `pos 0 <ℤ denominator self.now`
+    /// - `answered`: `PowerCondition T.lo T.hi (numerator self.now) (denominator self.now) exponent`
+    #[inline]
+    pub fn pow(&self, exponent: i32) -> Ratio<T> {
+        self.checked_pow(exponent).unwrap()
+    }
+
+    /// The power: each field to the exponent, not reduced. For the exponent 0 it is 1/1, also for
+    /// 0/1. For a negative exponent it is the reciprocal of the power with its magnitude: 2/4 to the
+    /// -2 is 16/4.
+    ///
+    /// The call returns `None` exactly if one of the two powers does not fit the type or, for a
+    /// negative exponent, if the numerator is 0 or the sign cannot be moved. All powers of 0/1, 1/1
+    /// and -1/1 fit, but 0 has no negative power.
+    ///
+    /// # Conditions
+    ///
+    /// The proof requires of the caller:
+    ///
+    /// - `pos 0 <ℤ denominator self.now`
+    #[inline]
+    pub fn checked_pow_with<E: Exponent>(&self, exponent: E) -> Option<Ratio<T>> {
+        match pow::checked_pow_with(self.numer, self.denom, exponent) {
+            Some((numer, denom)) => Some(Ratio::new_raw(numer, denom)),
+            None => None,
+        }
+    }
+
+    /// The power. It requires that `checked_pow_with` returns `Some`.
+    ///
+    /// # Conditions
+    ///
+    /// The proof requires of the caller:
+    ///
+    /// - `positive`: `pos 0 <ℤ denominator self.now`
+    /// - `answered`: `PowerCondition T.lo T.hi (numerator self.now) (denominator self.now) (E.number exponent)`
+    #[inline]
+    pub fn pow_with<E: Exponent>(&self, exponent: E) -> Ratio<T> {
+        self.checked_pow_with(exponent).unwrap()
+    }
+
+    // Whole numbers near a fraction, and its fractional part. Each call requires only a positive denominator, and no step overflows.
+
+    /// The greatest whole number that is not above this fraction, over 1: -4/1 for -7/2.
+    ///
+    /// # Conditions
+    ///
+    /// The proof requires of the caller:
+    ///
+    /// - `pos 0 <ℤ denominator self.now`
+    #[inline]
+    pub fn floor(&self) -> Ratio<T> {
+        Ratio::from_integer(rounding::floor(self.numer, self.denom))
+    }
+
+    /// The least whole number that is not below this fraction, over 1: -3/1 for -7/2.
+    ///
+    /// # Conditions
+    ///
+    /// The proof requires of the caller:
+    ///
+    /// - `pos 0 <ℤ denominator self.now`
+    #[inline]
+    pub fn ceil(&self) -> Ratio<T> {
+        Ratio::from_integer(rounding::ceil(self.numer, self.denom))
+    }
+
+    /// The whole number nearest to this fraction, over 1. A half is rounded away from zero: 5/2 to
+    /// 3/1.
+    ///
+    /// # Conditions
+    ///
+    /// The proof requires of the caller:
+    ///
+    /// - `pos 0 <ℤ denominator self.now`
+    #[inline]
+    pub fn round(&self) -> Ratio<T> {
+        Ratio::from_integer(rounding::round(self.numer, self.denom))
+    }
+
+    /// This fraction cut towards zero, over 1: -3/1 for -7/2.
+    ///
+    /// # Conditions
+    ///
+    /// The proof requires of the caller:
+    ///
+    /// - `pos 0 <ℤ denominator self.now`
+    #[inline]
+    pub fn trunc(&self) -> Ratio<T> {
+        Ratio::from_integer(self.to_integer())
+    }
+
+    /// This fraction minus its `trunc`: -1/2 for -7/2. The denominator is kept: 4/2, as `new_raw`
+    /// makes it, gives 0/2.
+    ///
+    /// # Conditions
+    ///
+    /// The proof requires of the caller:
+    ///
+    /// - `pos 0 <ℤ denominator self.now`
+    #[inline]
+    pub fn fract(&self) -> Ratio<T> {
+        Ratio::new_raw(rounding::fract(self.numer, self.denom), self.denom)
+    }
+
+    /// This fraction cut towards zero: -3 for -7/2.
+    ///
+    /// # Conditions
+    ///
+    /// The proof requires of the caller:
+    ///
+    /// - `pos 0 <ℤ denominator self.now`
+    #[inline]
+    pub fn to_integer(&self) -> T {
+        rounding::to_integer(self.numer, self.denom)
+    }
+
+    /// This fraction cut towards zero, as an `i64`, or `None` if that does not fit an `i64`.
+    ///
+    /// # Conditions
+    ///
+    /// The proof requires of the caller:
+    ///
+    /// - `pos 0 <ℤ denominator self.now`
+    #[inline]
+    pub fn to_i64(&self) -> Option<i64> {
+        rounding::to_i64(self.numer, self.denom)
+    }
+
+    /// This fraction cut towards zero, as an `i128`, or `None` if that does not fit an `i128`.
+    ///
+    /// # Conditions
+    ///
+    /// The proof requires of the caller:
+    ///
+    /// - `pos 0 <ℤ denominator self.now`
+    #[inline]
+    pub fn to_i128(&self) -> Option<i128> {
+        rounding::to_i128(self.numer, self.denom)
+    }
+
+    /// This fraction cut towards zero, as a `u64`, or `None` if that does not fit a `u64`. It is 0
+    /// for -1/2.
+    ///
+    /// # Conditions
+    ///
+    /// The proof requires of the caller:
+    ///
+    /// - `pos 0 <ℤ denominator self.now`
+    #[inline]
+    pub fn to_u64(&self) -> Option<u64> {
+        rounding::to_u64(self.numer, self.denom)
+    }
+
+    /// This fraction cut towards zero, as a `u128`, or `None` if that does not fit a `u128`.
+    ///
+    /// # Conditions
+    ///
+    /// The proof requires of the caller:
+    ///
+    /// - `pos 0 <ℤ denominator self.now`
+    #[inline]
+    pub fn to_u128(&self) -> Option<u128> {
+        rounding::to_u128(self.numer, self.denom)
+    }
+
+    /// The nearest fraction to this one with a denominator from 1 to `most`, in lowest terms. For
+    /// 355/113 and 100 it is 311/99. Of two that are as near, it is the one with the smaller
+    /// denominator, and of two whole numbers the smaller one: for 1/2 and 1 it is 0/1. It never
+    /// fails.
+    ///
+    /// # Conditions
+    ///
+    /// The proof requires of the caller:
+    ///
+    /// - `positive`: `pos 0 <ℤ denominator self.now`
+    /// - `room`: `pos 0 <ℤ T.value most`
+    #[inline]
+    pub fn nearest(&self, most: T) -> Ratio<T> {
+        let (numer, denom) = crate::proved::ratio_approximation::nearest::nearest(self.numer, self.denom, most);
+        Ratio::new_raw(numer, denom)
+    }
+}
+
+impl<T: Copy + SignedInteger> Ratio<T> {
+    /// The negative, over the same denominator, also by the symbol `-`. The negative of the numerator
+    /// must fit the type. Over `i8`, only -128 has none.
+    ///
+    /// # Conditions
+    ///
+    /// The proof requires of the caller:
+    ///
+    /// - `IsHeld T.lo T.hi (neg_ℤ (numerator self))`
+    #[inline]
+    pub fn neg(self) -> Ratio<T> {
+        Ratio::new_raw(sign::neg(self.numer), self.denom)
+    }
+
+    /// The absolute value, over the same denominator: -1/-2 for 1/-2.
+    ///
+    /// # Conditions
+    ///
+    /// The proof requires of the caller:
+    ///
+    /// - `IsNegative (numerator self.now) (denominator self.now) → IsHeld T.lo T.hi (neg_ℤ (numerator self.now))`
+    #[inline]
+    pub fn abs(&self) -> Ratio<T> {
+        Ratio::new_raw(sign::abs(self.numer, self.denom), self.denom)
+    }
+
+    /// The difference in lowest terms if this fraction is above the other one, and else 0/1. If it is
+    /// above, the call requires that `checked_sub` returns `Some`.
+    ///
+    /// # Conditions
+    ///
+    /// The proof requires of the caller:
+    ///
+    /// - `left_positive`: `pos 0 <ℤ denominator self.now`
+    /// - `right_positive`: `pos 0 <ℤ denominator other.now`
+    /// - `answered`: `PositiveDifferenceCondition T.EXACT_SUMS T.lo T.hi (numerator self.now) (denominator self.now) (numerator other.now) (denominator other.now)`
+    #[inline]
+    pub fn abs_sub(&self, other: &Ratio<T>) -> Ratio<T> {
+        let (numer, denom) = sign::abs_sub(self.numer, self.denom, other.numer, other.denom);
+        Ratio::new_raw(numer, denom)
+    }
+
+    /// The sign: -1/1, 0/1 or 1/1.
+    #[inline]
+    pub fn signum(&self) -> Ratio<T> {
+        Ratio::from_integer(sign::signum(self.numer, self.denom))
+    }
+
+    /// Whether the value is above 0.
+    #[inline]
+    pub fn is_positive(&self) -> bool {
+        sign::is_positive(self.numer, self.denom)
+    }
+
+    /// Whether the value is below 0.
+    #[inline]
+    pub fn is_negative(&self) -> bool {
+        sign::is_negative(self.numer, self.denom)
+    }
+}
+
+impl<T: Primitive> Ratio<T> {
+    /// The fraction of a text in base 10, in lowest terms. The text is `N/D` for two number texts, or
+    /// `N`, which means `N/1`: `6/4` gives 3/2. A number text is one or more digits, after an
+    /// optional `+`. For a signed type, the sign may be `-`. Leading zeros are allowed, and nothing
+    /// else.
+    ///
+    /// The refusals come in this order: a parse error if a part is not a number text or its number
+    /// does not fit the type, a zero denominator, and a parse error if the lowest terms do not fit
+    /// the type.
+    #[inline]
+    pub fn from_str(text: &str) -> Result<Ratio<T>, ParseRatioError> {
+        match text::from_str::<T>(text) {
+            Ok((numer, denom)) => Ok(Ratio::new_raw(numer, denom)),
+            Err(refusal) => Err(refusal),
+        }
+    }
+
+    /// The fraction of a text `N/D` in the radix, from 2 to 36, in lowest terms: in base 16, `a/C`
+    /// gives 5/6. Number texts are as for `from_str`. The digits above 9 are letters of either case,
+    /// and no prefix such as `0x` is allowed. A text without a slash is a parse error. The other
+    /// refusals are as for `from_str`.
+    ///
+    /// # Conditions
+    ///
+    /// The proof requires of the caller:
+    ///
+    /// - `low`: `2 ≤ radix`
+    /// - `high`: `radix ≤ 36`
+    #[inline]
+    pub fn from_str_radix(text: &str, radix: u32) -> Result<Ratio<T>, ParseRatioError> {
+        match text::from_str_radix::<T>(text, radix) {
+            Ok((numer, denom)) => Ok(Ratio::new_raw(numer, denom)),
+            Err(refusal) => Err(refusal),
+        }
+    }
+
+    /// The text of the fields as they are: the numerator and, unless the denominator is 1, a slash
+    /// and the denominator. With `alternate`, the prefix of the base comes before each number:
+    /// `0x2/0x4` for 2/4. Decimal has no prefix.
+    ///
+    /// Reading the text in base 10 of a fraction with a positive denominator gives its lowest terms. So
+    /// does reading a text without prefixes in its base, if no number is below 0 and there is a
+    /// slash.
+    #[inline]
+    pub fn text(&self, form: Form, alternate: bool) -> RatioText {
+        text::text(self.numer, self.denom, form, alternate)
+    }
+
+    /// Writes that text into `text`, in place of what was there. So no array is moved.
+    #[inline]
+    pub fn put_text(&self, form: Form, alternate: bool, text: &mut RatioText) {
+        text::put_text(self.numer, self.denom, form, alternate, text);
+    }
+
+    /// The text in base 10, in a smaller array, which takes less time to make.
+    #[inline]
+    pub fn base_ten_text(&self) -> BaseTenText {
+        text::base_ten_text(self.numer, self.denom)
+    }
+
+    /// Writes the text in base 10 into `text`, in place of what was there.
+    #[inline]
+    pub fn put_base_ten_text(&self, text: &mut BaseTenText) {
+        text::put_base_ten_text(self.numer, self.denom, text);
+    }
+
+    // Floats.
+
+    /// The float nearest to this fraction: 0.3333333333333333 for 1/3. If two are equally near, it is
+    /// the one whose last bit is 0. A numerator 0 gives 0.0.
+    ///
+    /// # Conditions
+    ///
+    /// The proof requires of the caller:
+    ///
+    /// - `pos 0 <ℤ denominator self.now`
+    #[inline]
+    pub fn to_f64(&self) -> f64 {
+        nearest::to_f64(self.numer, self.denom)
+    }
+
+    /// The same for a float of 32 bits: 0.33333334 for 1/3. It is infinite if the size of the fraction
+    /// is at least 2^128-2^103.
+    ///
+    /// # Conditions
+    ///
+    /// The proof requires of the caller:
+    ///
+    /// - `pos 0 <ℤ denominator self.now`
+    #[inline]
+    pub fn to_f32(&self) -> f32 {
+        nearest::to_f32(self.numer, self.denom)
     }
 }
 

@@ -1,14 +1,11 @@
 // Erased from crates/num_rational/src/splitting.rt by rust/erase: not to be edited.
-//! An amount split by shares, so that nothing is lost.
-
-mod common;
+//! An amount split by shares or by weights, so that nothing is lost.
 
 use crate::proved::num_rational::reduced::Reduced;
-use crate::proved::num_rational::share::Share;
-use common::{total_over, write_parts_over};
 use crate::proved::ratio_core::sign::is_below_zero;
+use crate::proved::ratio_decimal::rounded_product;
 use crate::proved::ratio_decimal::rounding_rule::Rounding;
-use crate::proved::ratio_integer::{Integer, both_held};
+use crate::proved::ratio_integer::{Integer, both_held, lowest_terms};
 #[cfg(feature = "std")]
 use std::error::Error;
 use core::fmt;
@@ -37,6 +34,58 @@ impl fmt::Display for SplitRefusal {
             }
             SplitRefusal::NotOne => "the shares do not add up to 1",
         })
+    }
+}
+
+#[cfg(feature = "std")]
+impl Error for SplitRefusal {}
+
+/// Why an amount is not split by weights: the first of these that applies.
+#[derive(Clone, Copy, Debug, PartialEq)]
+pub enum WeightRefusal {
+    /// The number of parts is not the number of weights.
+    Length,
+    /// A weight is below 0.
+    BelowZero,
+    /// The sum of the weights does not fit the type.
+    NotHeld,
+    /// The weights add up to 0. Those of an empty list do, too.
+    AllZero,
+}
+
+impl fmt::Display for WeightRefusal {
+    #[inline]
+    fn fmt(&self, f: &mut fmt::Formatter<'_>) -> fmt::Result {
+        f.pad(match self {
+            WeightRefusal::Length => "the number of parts is not the number of weights",
+            WeightRefusal::BelowZero => "a weight is below 0",
+            WeightRefusal::NotHeld => "the sum of the weights does not fit the type",
+            WeightRefusal::AllZero => "no weight is above 0",
+        })
+    }
+}
+
+#[cfg(feature = "std")]
+impl Error for WeightRefusal {}
+
+/// A share of an amount: a fraction in any terms.
+pub trait Share<T: Copy + Integer> {
+    /// Its numerator.
+    fn numer(&self) -> T;
+
+    /// Its lowest terms, if its denominator is positive. Otherwise the result may be any fraction.
+    fn lowest(&self) -> Reduced<T>;
+}
+
+impl<T: Copy + Integer> Share<T> for Reduced<T> {
+    #[inline(always)]
+    fn numer(&self) -> T {
+        *self.numer()
+    }
+
+    #[inline(always)]
+    fn lowest(&self) -> Reduced<T> {
+        *self
     }
 }
 
@@ -150,5 +199,178 @@ fn write_parts<T: Copy + Integer, S: Share<T>>(amount: T, shares: &[S], parts: &
     }
 }
 
-#[cfg(feature = "std")]
-impl Error for SplitRefusal {}
+// Shares over one denominator, a common multiple of theirs, as far as it fits the type.
+//
+// There the sums of the first shares are whole numbers: 3/6, 5/6 and 6/6 for 1/2, 1/3 and 1/6. So a sum takes no greatest common
+// divisor once the denominator is known. As long as the shares add up to at most 1, no sum and no mark is too great for the type:
+// each mark lies between 0 and the amount.
+
+// The sum of the first shares over one denominator: how many they are, the numerator and the denominator. It stops before a share of 1
+// or more, and where the sum would be above 1, a number would not fit the type, or the amount times the denominator not 128 bits.
+#[inline]
+fn total_over<T: Copy + Integer, S: Share<T>>(amount: T, shares: &[S]) -> (usize, T, T) {
+    let _ = amount.held();
+    let mut sum = T::ZERO;
+    let mut common = T::ONE;
+    for (i, share) in shares.iter().enumerate() {
+        let next = match joined(amount, sum, common, share) {
+            Some(next) => next,
+            _ => {
+                return (i, sum, common);
+            }
+        };
+        both_held(next.0, next.1);
+        sum = next.0;
+        common = next.1;
+    }
+    (shares.len(), sum, common)
+}
+
+// `sum/common` and one more share, and their common denominator. It is `None` where `total_over` stops.
+#[inline]
+fn joined<T: Copy + Integer, S: Share<T>>(amount: T, sum: T, common: T, share: &S) -> Option<(T, T)> {
+    if share.numer().is_zero() {
+        return Some((sum, common));
+    }
+    let lowest = share.lowest();
+    // Few shares are left then, or none.
+    if *lowest.denom() <= *lowest.numer() {
+        return None;
+    }
+    let (next, over) = added(sum, common, &lowest)?;
+    if over < next {
+        return None;
+    }
+    // Sums in lowest terms have shorter products.
+    let _ = amount.to_i128()?.try_times(over.to_i128()?)?;
+    Some((next, over))
+}
+
+// `sum/common` and one more share, and their common denominator. It is the same if the share is a whole number over it.
+#[inline]
+fn added<T: Copy + Integer>(sum: T, common: T, share: &Reduced<T>) -> Option<(T, T)> {
+    let numer = *share.numer();
+    let denom = *share.denom();
+    let (times, rest) = common.div_rem(denom);
+    if rest.is_zero() {
+        return Some((sum.try_plus(numer.try_times(times)?)?, common));
+    }
+    // If common/denom is u/v in lowest terms, common times v is denom times u.
+    let (for_share, for_sum) = lowest_terms(common, denom);
+    let left = sum.try_times(for_sum)?;
+    let right = numer.try_times(for_share)?;
+    Some((left.try_plus(right)?, common.try_times(for_sum)?))
+}
+
+// Writes the parts. It requires that no refusal applies, and that each share is a whole number over `common`.
+#[inline]
+fn write_parts_over<T: Copy + Integer, S: Share<T>>(
+    amount: T,
+    shares: &[S],
+    common: T,
+    parts: &mut [T],
+) {
+    let _ = amount.held();
+    let mut sum = T::ZERO;
+    let mut mark = T::ZERO;
+    for (i, share) in shares.iter().enumerate() {
+        let (next, reached) = next_over(amount, sum, mark, common, share);
+        parts[i] = reached.minus(mark);
+        sum = next;
+        mark = reached;
+    }
+}
+
+// The numerator of `sum/common` and one more share over `common`, and its mark, if they add up to at most 1. A share of 0 changes
+// neither.
+#[inline]
+fn next_over<T: Copy + Integer, S: Share<T>>(
+    amount: T,
+    sum: T,
+    mark: T,
+    common: T,
+    share: &S,
+) -> (T, T) {
+    if share.numer().is_zero() {
+        return (sum, mark);
+    }
+    let next = next_sum(sum, common, &share.lowest());
+    (next, mark_over(amount, next, common))
+}
+
+// The numerator of `sum/common` and one more share over `common`, if they add up to at most 1.
+#[inline]
+fn next_sum<T: Copy + Integer>(sum: T, common: T, share: &Reduced<T>) -> T {
+    let _ = common.held();
+    let (times, _) = common.div_rem(*share.denom());
+    sum.plus(share.numer().times(times))
+}
+
+// The amount times `sum/common`, which lies from 0 to 1, rounded.
+#[inline]
+fn mark_over<T: Copy + Integer>(amount: T, sum: T, common: T) -> T {
+    if sum == common {
+        return amount;
+    }
+    let _ = amount.held();
+    rounded_product(amount, T::ONE, sum, common, Rounding::HalfAway).unwrap()
+}
+
+/// Splits the amount by the weights into the parts. The share of a weight is the weight over the sum of all. The parts
+/// add up to the amount exactly, and each is less than 1 away from the amount times its share. For example, 100 split
+/// by the weights 1, 1 and 1 is 33, 34 and 33. At a refusal no part has changed. The sums of the first shares, times
+/// the amount, are rounded with a half away from 0. A part is the difference of two neighbours. No product has to fit.
+#[inline]
+pub fn split_by_weights<T: Copy + Integer>(
+    amount: T,
+    weights: &[T],
+    parts: &mut [T],
+) -> Result<(), WeightRefusal> {
+    if parts.len() != weights.len() {
+        return Err(WeightRefusal::Length);
+    }
+    if !no_weight_is_below_zero(weights) {
+        return Err(WeightRefusal::BelowZero);
+    }
+    let total = match checked_total(weights) {
+        Some(total) => total,
+        _ => {
+            return Err(WeightRefusal::NotHeld);
+        }
+    };
+    if total.is_zero() {
+        return Err(WeightRefusal::AllZero);
+    }
+    write_parts_by_weights(amount, weights, total, parts);
+    Ok(())
+}
+
+#[inline]
+fn no_weight_is_below_zero<T: Copy + Integer>(weights: &[T]) -> bool {
+    weights.iter().all(|weight| !is_below_zero(*weight))
+}
+
+// The sum of the weights, or `None` if it does not fit the type.
+#[inline]
+fn checked_total<T: Copy + Integer>(weights: &[T]) -> Option<T> {
+    let mut sum = T::ZERO;
+    for weight in weights {
+        sum = sum.try_plus(*weight)?;
+    }
+    let _ = sum.held();
+    Some(sum)
+}
+
+// Writes the parts. It requires that no refusal applies, and that `total` is the sum of the weights.
+#[inline]
+fn write_parts_by_weights<T: Copy + Integer>(amount: T, weights: &[T], total: T, parts: &mut [T]) {
+    let _ = amount.held();
+    let mut sum = T::ZERO;
+    let mut mark = T::ZERO;
+    for (i, weight) in weights.iter().enumerate() {
+        sum = sum.plus(*weight);
+        let next = rounded_product(amount, T::ONE, sum, total, Rounding::HalfAway).unwrap();
+        parts[i] = next.minus(mark);
+        mark = next;
+    }
+}

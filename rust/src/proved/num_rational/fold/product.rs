@@ -1,9 +1,10 @@
 // Erased from crates/num_rational/src/fold/product.rt by rust/erase: not to be edited.
 // Written by templates/write from templates/fold.rt.txt: change that file, and write this one anew.
-//! The product of the items of an iterator.
+//! The product of the items of an iterator, and for `Reduced` of a list.
 
-use crate::proved::num_rational::operand::Operand;
+use crate::proved::num_rational::operand::{Operand, ReducedOperand};
 use crate::proved::num_rational::ratio::Ratio;
+use crate::proved::num_rational::reduced::Reduced;
 use crate::proved::ratio_integer::Integer;
 use core::iter::Product;
 
@@ -107,5 +108,18 @@ impl<'a, T: Copy + Integer + 'a> Product<&'a Ratio<T>> for Ratio<T> {
     #[inline]
     fn product<I: Iterator<Item = &'a Ratio<T>>>(iter: I) -> Ratio<T> {
         Ratio::<T>::product_refs(iter)
+    }
+}
+
+impl<T: Copy + Integer> Reduced<T> {
+    /// The product of the items, in order from 1/1 on. It returns `None` at the first item for which
+    /// `checked_mul` does. An item is a fraction or a whole number, or a reference to one.
+    #[inline]
+    pub fn checked_product<O: ReducedOperand<T> + Copy>(items: &[O]) -> Option<Reduced<T>> {
+        let mut total = Reduced::one();
+        for x in items {
+            total = total.checked_mul((*x).reduced())?;
+        }
+        Some(total)
     }
 }

@@ -1,9 +1,10 @@
 // Erased from crates/num_rational/src/fold/sum.rt by rust/erase: not to be edited.
 // Written by templates/write from templates/fold.rt.txt: change that file, and write this one anew.
-//! The sum of the items of an iterator.
+//! The sum of the items of an iterator, and for `Reduced` of a list.
 
-use crate::proved::num_rational::operand::Operand;
+use crate::proved::num_rational::operand::{Operand, ReducedOperand};
 use crate::proved::num_rational::ratio::Ratio;
+use crate::proved::num_rational::reduced::Reduced;
 use crate::proved::ratio_integer::Integer;
 use core::iter::Sum;
 
@@ -107,5 +108,18 @@ impl<'a, T: Copy + Integer + 'a> Sum<&'a Ratio<T>> for Ratio<T> {
     #[inline]
     fn sum<I: Iterator<Item = &'a Ratio<T>>>(iter: I) -> Ratio<T> {
         Ratio::<T>::sum_refs(iter)
+    }
+}
+
+impl<T: Copy + Integer> Reduced<T> {
+    /// The sum of the items, in order from 0/1 on. It returns `None` at the first item for which
+    /// `checked_add` does. An item is a fraction or a whole number, or a reference to one.
+    #[inline]
+    pub fn checked_sum<O: ReducedOperand<T> + Copy>(items: &[O]) -> Option<Reduced<T>> {
+        let mut total = Reduced::zero();
+        for x in items {
+            total = total.checked_add((*x).reduced())?;
+        }
+        Some(total)
     }
 }

@@ -1,4 +1,0 @@
-use Rattle.num_rational.proofs.order.RatioOrd.cmp.Goals as goal
-
-pub returns : goal.returns
-returns g c = c.cross_order.ensures.order

@@ -1,3 +1,0 @@
-//! Sums and products of the items of a list, in two files.
-mod product;
-mod sum;

@@ -1,4 +1,0 @@
-// Erased from crates/num_rational/src/reduced/fold.rt by rust/erase: not to be edited.
-//! Sums and products of the items of a list, in two files.
-mod product;
-mod sum;

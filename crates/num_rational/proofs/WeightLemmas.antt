@@ -146,11 +146,12 @@ module _ {A P : Type 0} (value : A → ℤ) (value_of : P → ℤ) (lo hi amount
     pub sum_held : IsHeld lo hi (sum +ℤ value weight)
     sum_held = subst (IsHeld lo hi) (sym sum_next) (first_held value lo hi weights (k + 1) range can.none_below can.held)
 
+    pub next_between : (pos 0 ≤ℤ (sum +ℤ value weight)) × ((sum +ℤ value weight) ≤ℤ t)
+    next_between = subst (λ (z : ℤ). (pos 0 ≤ℤ z) × (z ≤ℤ t)) (sym sum_next) (first_weights value (k + 1) weights can.none_below)
+
     module _ (next : ℤ) (rounded : IsRounded (amount *ℤ (sum +ℤ value weight)) t next) where
       pub next_held : IsHeld lo hi amount → IsHeld lo hi next
-      next_held held =
-          let first = subst (λ (z : ℤ). (pos 0 ≤ℤ z) × (z ≤ℤ t)) (sym sum_next) (first_weights value (k + 1) weights can.none_below) in
-          mark_held amount (sum +ℤ value weight) t next t_up first.0 first.1 rounded lo hi range held
+      next_held held = mark_held amount (sum +ℤ value weight) t next t_up next_between.0 next_between.1 rounded lo hi range held
 
       module _ (parts : List P) (mark : ℤ) (written : P) (room : k < length parts) (so_far : IsSplitSoFar (share_of value weights) value_of amount weights parts k (sum, t) mark) where
         abbrev before : ℤ × ℤ

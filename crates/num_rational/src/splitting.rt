@@ -441,7 +441,7 @@ fn write_parts_by_weights<T: Copy + Integer>(amount: T, weights: &[T], total: T,
     let mut mark = T::ZERO;
     for (i, weight) in weights.iter().enumerate() {
         sum = sum.plus(*weight);
-        let next = rounded_product(amount, T::ONE, sum, total, Rounding::HalfAway).unwrap();
+        let next = mark_over(amount, sum, total);
         parts[i] = next.minus(mark);
         mark = next;
     }

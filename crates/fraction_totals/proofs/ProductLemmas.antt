@@ -6,7 +6,7 @@ use Rattle.ratio_integer.specs.Fraction.{IsLowestTerms, IsLowestTermsOf, SameVal
 use Rattle.ratio_integer.proofs.CrossCancelling.{product_lowest}
 use Rattle.ratio_integer.proofs.LowestTerms.{lowest_own}
 use Rattle.ratio_natural.specs.Number.{base}
-use Rattle.ratio_totals.specs.LowestSum.{ChecksPairBelow, HasPairNotBelow, IsPairBelow}
+use Rattle.ratio_totals.specs.LowestSum.{ChecksPairBelow, IsPairBelow}
 use Rattle.ratio_totals.proofs.LowestSumLemmas.{pair_moved, product_positive}
 
 pub size_positive : (q : ℤ) → pos 0 <ℤ q → 0 < unsigned_abs q

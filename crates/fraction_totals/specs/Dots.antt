@@ -7,8 +7,8 @@ use Rattle.ratio_totals.specs.Totals.{most_weight}
 use Rattle.fraction_totals.specs.Items.{denominators_of}
 use Rattle.fraction_totals.specs.Products.{product_of_pairs}
 use Rattle.fraction_totals.specs.Values.{sum_of_items}
-use Rattle.fraction_totals.specs.declared.dots.DotRefusal.{DotRefusal}
-use Rattle.fraction_totals.specs.declared.dots.DotRefusal.TheVariants.{MoreRoom, TooGreat, TooMany, UnlikeLengths}
+use Rattle.fraction_totals.specs.declared.total.DotRefusal.{DotRefusal}
+use Rattle.fraction_totals.specs.declared.total.DotRefusal.TheVariants.{MoreRoom, TooGreat, TooMany, UnlikeLengths}
 
 -- the product of two items, not reduced
 -- Example: 2/3 and 3/4: 6/12

@@ -4,8 +4,8 @@ use Rattle.ratio_totals.specs.Common.{HasLongCommon, most_common, most_digits}
 use Rattle.ratio_totals.specs.Totals.{most_weight}
 use Rattle.ratio_totals.specs.declared.slots.Slot.{Slot}
 use Rattle.fraction_totals.specs.Items.{denominators_of}
-use Rattle.fraction_totals.specs.declared.sums.SumRefusal.{SumRefusal}
-use Rattle.fraction_totals.specs.declared.sums.SumRefusal.TheVariants.{MoreRoom, MoreSlots, TooLong, TooMany}
+use Rattle.fraction_totals.specs.declared.list_sums.SumRefusal.{SumRefusal}
+use Rattle.fraction_totals.specs.declared.list_sums.SumRefusal.TheVariants.{MoreRoom, MoreSlots, TooLong, TooMany}
 
 -- the items as a table with a slot for each of them
 -- Example: 1/36, 1/28, 5/36: the table 36, 28, 36

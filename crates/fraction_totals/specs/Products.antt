@@ -6,8 +6,8 @@ use Rattle.ratio_totals.specs.Totals.{IsAccepted, IsRefusedFor}
 use Rattle.ratio_totals.specs.declared.refusal.Refusal.{Refusal}
 use Rattle.ratio_totals.specs.declared.refusal.Refusal.TheVariants as refusal
 use Rattle.ratio_totals.specs.declared.slots.Slot.{Slot}
-use Rattle.fraction_totals.specs.declared.products.ProductRefusal.{ProductRefusal}
-use Rattle.fraction_totals.specs.declared.products.ProductRefusal.TheVariants.{MoreRoom, TooGreat, TooMany}
+use Rattle.fraction_totals.specs.declared.total.ProductRefusal.{ProductRefusal}
+use Rattle.fraction_totals.specs.declared.total.ProductRefusal.TheVariants.{MoreRoom, TooGreat, TooMany}
 
 -- the product of two fractions, not reduced
 -- Example: 2/3 and 3/4: 6/12

@@ -1,15 +1,15 @@
 -- What the refusals of totals of fractions print.
 use Rattle.std.specs.Prelude.{ℕ, List, codes}
-use Rattle.fraction_totals.specs.declared.products.ProductRefusal.{ProductRefusal}
-use Rattle.fraction_totals.specs.declared.products.ProductRefusal.TheVariants as product_refusal
-use Rattle.fraction_totals.specs.declared.dots.DotRefusal.{DotRefusal}
-use Rattle.fraction_totals.specs.declared.dots.DotRefusal.TheVariants as dot_refusal
-use Rattle.fraction_totals.specs.declared.sums.SumRefusal.{SumRefusal}
-use Rattle.fraction_totals.specs.declared.sums.SumRefusal.TheVariants as sum_refusal
-use Rattle.fraction_totals.specs.declared.wide_joining.WideRefusal.{WideRefusal}
-use Rattle.fraction_totals.specs.declared.wide_joining.WideRefusal.TheVariants as wide_refusal
-use Rattle.fraction_totals.specs.declared.wide_products.WideProductRefusal.{WideProductRefusal}
-use Rattle.fraction_totals.specs.declared.wide_products.WideProductRefusal.TheVariants as wide_product_refusal
+use Rattle.fraction_totals.specs.declared.total.ProductRefusal.{ProductRefusal}
+use Rattle.fraction_totals.specs.declared.total.ProductRefusal.TheVariants as product_refusal
+use Rattle.fraction_totals.specs.declared.total.DotRefusal.{DotRefusal}
+use Rattle.fraction_totals.specs.declared.total.DotRefusal.TheVariants as dot_refusal
+use Rattle.fraction_totals.specs.declared.list_sums.SumRefusal.{SumRefusal}
+use Rattle.fraction_totals.specs.declared.list_sums.SumRefusal.TheVariants as sum_refusal
+use Rattle.fraction_totals.specs.declared.wide_changes.WideRefusal.{WideRefusal}
+use Rattle.fraction_totals.specs.declared.wide_changes.WideRefusal.TheVariants as wide_refusal
+use Rattle.fraction_totals.specs.declared.wide_changes.WideProductRefusal.{WideProductRefusal}
+use Rattle.fraction_totals.specs.declared.wide_changes.WideProductRefusal.TheVariants as wide_product_refusal
 
 -- the text that a `ProductRefusal` prints
 -- Example: `TooGreat`: `one of the lowest terms of the product is 2^64 or more`

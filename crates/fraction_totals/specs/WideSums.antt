@@ -5,8 +5,8 @@ use Rattle.ratio_totals.specs.Common.{HasLongCommon}
 use Rattle.ratio_totals.specs.Totals.{most_weight}
 use Rattle.fraction_totals.specs.ListSums.{table_of}
 use Rattle.fraction_totals.specs.WideTotals.{HasTotalRoom}
-use Rattle.fraction_totals.specs.declared.wide_joining.WideRefusal.{WideRefusal}
-use Rattle.fraction_totals.specs.declared.wide_joining.WideRefusal.TheVariants.{MoreDigits, MoreRoom, TooMany}
+use Rattle.fraction_totals.specs.declared.wide_changes.WideRefusal.{WideRefusal}
+use Rattle.fraction_totals.specs.declared.wide_changes.WideRefusal.TheVariants.{MoreDigits, MoreRoom, TooMany}
 
 -- the room has place for a total with so many digits for its common denominator, and there are 8 spare digits for each of these and 6 more
 -- Example: 2 digits, a room of 14 and 22 spare digits

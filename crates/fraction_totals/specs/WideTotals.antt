@@ -7,8 +7,8 @@ use Rattle.ratio_totals.specs.RoomSums.{HasLongMultiple, HasShortMultiple}
 use Rattle.ratio_totals.specs.Steps.{HoldsSum}
 use Rattle.ratio_totals.specs.Totals.{most_weight}
 use Rattle.ratio_totals.specs.declared.joined.Joined.{Joined}
-use Rattle.fraction_totals.specs.declared.wide_joining.WideRefusal.{WideRefusal}
-use Rattle.fraction_totals.specs.declared.wide_joining.WideRefusal.TheVariants.{MoreDigits, MoreRoom, TooMany}
+use Rattle.fraction_totals.specs.declared.wide_changes.WideRefusal.{WideRefusal}
+use Rattle.fraction_totals.specs.declared.wide_changes.WideRefusal.TheVariants.{MoreDigits, MoreRoom, TooMany}
 
 -- a room of so many digits has place for a total, with `digits` digits for the common denominator: these are at least the 2 of a denominator of
 -- 128 bits and at most 16384, and the room has four times as many and 6 more

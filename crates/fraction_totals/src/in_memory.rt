@@ -1,13 +1,12 @@
 //! The sum of a list that loses nothing, with memory for the room that it needs.
 ghost use Rattle.std.specs.Fmt.{padded};
-ghost use Rattle.std.specs.Prelude.{◌≡◌, length, IfErr, IfOk, Some};
+ghost use Rattle.std.specs.Prelude.{◌≡◌, IfErr, IfOk, Some};
 ghost use Rattle.fraction_totals.specs.Failures.{IsSumFailureFor, sum_failure_text};
 ghost use Rattle.fraction_totals.specs.ListSums.{IsSumRefusedFor, digits_for};
 ghost use Rattle.fraction_totals.specs.Values.{ChecksReducedTerms, pair_of, sum_of_items};
 
-use crate::quick::{quick_sum, reduced};
+use crate::list_sums::{SumRefusal, quick_sum, reduced, total_sum};
 use crate::short::Short;
-use crate::sums::{SumRefusal, total_sum};
 use num_rational::Reduced;
 use ratio_totals::{MOST_DIGITS, Slot};
 use std::alloc::{AllocError, Global};

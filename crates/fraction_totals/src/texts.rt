@@ -1,14 +1,14 @@
 //! What the refusals of totals of fractions print.
-ghost use Rattle.std.specs.Prelude.{Some};
 ghost use Rattle.std.specs.Fmt.{padded};
+ghost use Rattle.std.specs.Prelude.{Some};
+ghost use Rattle.fraction_totals.specs.RoomSplits.{room_split_refusal_text};
 ghost use Rattle.fraction_totals.specs.Texts.{dot_refusal_text, product_refusal_text, short_room_text, sum_refusal_text, wide_product_refusal_text, wide_refusal_text};
 
-use crate::dots::DotRefusal;
-use crate::products::ProductRefusal;
-use crate::sums::SumRefusal;
-use crate::wide_copy::ShortRoom;
-use crate::wide_joining::WideRefusal;
-use crate::wide_products::WideProductRefusal;
+use crate::list_sums::SumRefusal;
+use crate::splitting::RoomSplitRefusal;
+use crate::total::{DotRefusal, ProductRefusal};
+use crate::wide_changes::{WideProductRefusal, WideRefusal};
+use crate::wide_total::ShortRoom;
 use std::error::Error;
 use std::fmt;
 
@@ -97,6 +97,21 @@ impl fmt::Display for ShortRoom {
     }
 }
 
+impl fmt::Display for RoomSplitRefusal {
+    ghost output = { λ why. Some (room_split_refusal_text why) };
+
+    ghost styled_output = { λ why options. Some (padded options (room_split_refusal_text why)) };
+
+    fn fmt<W: fmt::Write>(&self, f: &mut fmt::Formatter<W>) -> fmt::Result {
+        f.pad(match self {
+            RoomSplitRefusal::Length => "the number of parts is not the number of shares",
+            RoomSplitRefusal::BelowZero => "a share is below 0",
+            RoomSplitRefusal::Room(_) => "the sum of the shares has no place in the room",
+            RoomSplitRefusal::NotOne => "the shares do not add up to 1",
+        })
+    }
+}
+
 impl Error for ProductRefusal {}
 
 impl Error for DotRefusal {}
@@ -108,3 +123,5 @@ impl Error for WideRefusal {}
 impl Error for WideProductRefusal {}
 
 impl Error for ShortRoom {}
+
+impl Error for RoomSplitRefusal {}

@@ -3,7 +3,6 @@ ghost use Rattle.std.specs.Prelude.{◌≡◌, ◌<◌, ◌≤◌, ◌⊎◌, po
 ghost use Rattle.ratio_totals.specs.Joined.{joined_pair};
 ghost use Rattle.fraction_totals.specs.WideTotals.{HasTotalRoom, IsWideKept};
 
-use crate::wide_copy::ShortRoom;
 use ratio_integer::Primitive;
 use ratio_totals::Joined;
 use std::marker::PhantomData;
@@ -20,6 +19,10 @@ pub struct WideTotal<'a, T> {
     of: PhantomData<T>,
     pub ghost kept: { IsWideKept joined room.now count },
 }
+
+/// The free digits are too few for a read of a wide total, or the bytes for its text.
+#[derive(Clone, Copy, PartialEq, Eq, Debug)]
+pub struct ShortRoom;
 
 impl<'a, T: Primitive> WideTotal<'a, T> {
     /// The total of no fractions, with so many digits for the common denominator. It is `None` exactly if `digits` is below 2 or above

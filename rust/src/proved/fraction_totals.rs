@@ -7,46 +7,22 @@
 //!
 //! A `WideTotal<T>` takes fractions over any primitive type, also `i128` and `u128`. It is one sum over the common denominator, which has
 //! as many digits as the caller gives.
-mod comparing;
-mod crossing;
-mod decimal;
-mod dots;
-mod float;
 
-mod items;
-mod lowest;
+mod list_sums;
 mod numbers;
-mod products;
-mod quick;
-mod rounding;
 mod short;
 mod splitting;
-mod sums;
 mod texts;
 mod total;
+mod total_reads;
 mod wide_changes;
-mod wide_copy;
-mod wide_crossing;
-mod wide_joining;
-mod wide_numbers;
-mod wide_orders;
-mod wide_products;
 mod wide_reads;
-mod wide_sums;
 mod wide_total;
-mod wide_views;
 
-pub use dots::{DotRefusal, dot};
-
-pub use items::total_of;
-pub use products::ProductRefusal;
+pub use list_sums::{SumRefusal, checked_sum_in, checked_wide_sum_in};
 pub use crate::proved::ratio_totals::{CompareRefusal, Joined, MOST_DIGITS, ReadRefusal, Refusal, Slot};
 pub use short::Short;
 pub use splitting::{RoomSplitRefusal, split_in};
-pub use sums::{SumRefusal, checked_sum_in};
-pub use total::Total;
-pub use wide_copy::ShortRoom;
-pub use wide_joining::WideRefusal;
-pub use wide_products::WideProductRefusal;
-pub use wide_sums::{checked_wide_sum_in, wide_total_of};
-pub use wide_total::WideTotal;
+pub use total::{DotRefusal, ProductRefusal, Total, dot, total_of};
+pub use wide_changes::{WideProductRefusal, WideRefusal, wide_total_of};
+pub use wide_total::{ShortRoom, WideTotal};

@@ -1,12 +1,11 @@
 // Erased from crates/fraction_totals/src/texts.rt by rust/erase: not to be edited.
 //! What the refusals of totals of fractions print.
 
-use crate::proved::fraction_totals::dots::DotRefusal;
-use crate::proved::fraction_totals::products::ProductRefusal;
-use crate::proved::fraction_totals::sums::SumRefusal;
-use crate::proved::fraction_totals::wide_copy::ShortRoom;
-use crate::proved::fraction_totals::wide_joining::WideRefusal;
-use crate::proved::fraction_totals::wide_products::WideProductRefusal;
+use crate::proved::fraction_totals::list_sums::SumRefusal;
+use crate::proved::fraction_totals::splitting::RoomSplitRefusal;
+use crate::proved::fraction_totals::total::{DotRefusal, ProductRefusal};
+use crate::proved::fraction_totals::wide_changes::{WideProductRefusal, WideRefusal};
+use crate::proved::fraction_totals::wide_total::ShortRoom;
 #[cfg(feature = "std")]
 use std::error::Error;
 use core::fmt;
@@ -78,6 +77,18 @@ impl fmt::Display for ShortRoom {
     }
 }
 
+impl fmt::Display for RoomSplitRefusal {
+    #[inline]
+    fn fmt(&self, f: &mut fmt::Formatter<'_>) -> fmt::Result {
+        f.pad(match self {
+            RoomSplitRefusal::Length => "the number of parts is not the number of shares",
+            RoomSplitRefusal::BelowZero => "a share is below 0",
+            RoomSplitRefusal::Room(_) => "the sum of the shares has no place in the room",
+            RoomSplitRefusal::NotOne => "the shares do not add up to 1",
+        })
+    }
+}
+
 #[cfg(feature = "std")]
 impl Error for ProductRefusal {}
 
@@ -95,3 +106,6 @@ impl Error for WideProductRefusal {}
 
 #[cfg(feature = "std")]
 impl Error for ShortRoom {}
+
+#[cfg(feature = "std")]
+impl Error for RoomSplitRefusal {}

@@ -1,7 +1,6 @@
 // Erased from crates/fraction_totals/src/wide_total.rt by rust/erase: not to be edited.
 //! The struct `WideTotal`: a total of fractions over any primitive type, which loses nothing.
 
-use crate::proved::fraction_totals::wide_copy::ShortRoom;
 use crate::proved::ratio_integer::Primitive;
 use crate::proved::ratio_totals::Joined;
 use core::marker::PhantomData;
@@ -16,6 +15,10 @@ pub struct WideTotal<'a, T> {
     pub count: i64,
     of: PhantomData<T>,
 }
+
+/// The free digits are too few for a read of a wide total, or the bytes for its text.
+#[derive(Clone, Copy, PartialEq, Eq, Debug)]
+pub struct ShortRoom;
 
 impl<'a, T: Primitive> WideTotal<'a, T> {
     /// The total of no fractions, with so many digits for the common denominator. It is `None` exactly if `digits` is below 2 or above

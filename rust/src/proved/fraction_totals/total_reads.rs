@@ -1,0 +1,148 @@
+// Erased from crates/fraction_totals/src/total_reads.rt by rust/erase: not to be edited.
+//! The reads of a total: the sum and the mean as fractions, a decimal, a whole number, a multiple of `1/parts` and a float, the sign,
+//! and the order of two totals or of a total and a fraction.
+
+use crate::proved::fraction_totals::numbers::{fraction, parts, size};
+use crate::proved::fraction_totals::short::Short;
+use crate::proved::fraction_totals::total::Total;
+use crate::proved::num_rational::{Reduced, Rounding};
+use crate::proved::ratio_totals::{CompareRefusal, ReadRefusal, Slot};
+use core::cmp::Ordering;
+
+impl<'a, T: Short> Total<'a, T> {
+    /// The sum: 4/63 for 1/36 and 1/28, and 0/1 for no fraction. It is `None` exactly if its lowest terms do not fit the
+    /// type. It needs `read_digits` numbers of room, which may have any digits afterwards.
+    #[inline]
+    pub fn sum(&self, room: &mut [u64]) -> Result<Option<Reduced<T>>, ReadRefusal> {
+        match self.table.sum(room)? {
+            Some((numer, denom)) => Ok(fraction(numer, denom)),
+            None => Ok(None),
+        }
+    }
+
+    /// The mean, which is the sum divided by the count: 2/63 for 1/36 and 1/28. It is `None` exactly if the count is 0 or
+    /// less, or if its lowest terms do not fit the type. Its room and its refusals are those of `sum`.
+    #[inline]
+    pub fn mean(&self, room: &mut [u64]) -> Result<Option<Reduced<T>>, ReadRefusal> {
+        match self.table.mean(room)? {
+            Some((numer, denom)) => Ok(fraction(numer, denom)),
+            None => Ok(None),
+        }
+    }
+
+    /// The whole number that the rule says of the sum: that of 5/2 is 2 by `HalfEven` and `Down`, and 3 by `HalfAway`. It is
+    /// `None` exactly if that number does not fit the type. Its room and its refusals are those of `sum`.
+    #[inline]
+    pub fn to_integer(&self, rule: Rounding, room: &mut [u64]) -> Result<Option<T>, ReadRefusal> {
+        match self.table.to_integer(rule, room)? {
+            Some(number) => Ok(T::from_i128(number)),
+            None => Ok(None),
+        }
+    }
+
+    /// The multiple of `1/parts` that the rule says of the sum, such as cents for 100. The sum is rounded once, whether it fits the
+    /// type or not: 1/36 + 1/28 in hundredths is 6/100, so 3/50. The call requires that `parts` is above 0. It is `None` exactly
+    /// if the lowest terms of the multiple do not fit the type. It needs `multiple_digits` numbers of room, which may have any
+    /// digits afterwards.
+    ///
+    /// # Conditions
+    ///
+    /// The proof requires of the caller:
+    ///
+    /// - `pos 0 <ℤ T.value parts`
+    #[inline]
+    pub fn round_to(
+        &self,
+        parts: T,
+        rule: Rounding,
+        room: &mut [u64],
+    ) -> Result<Option<Reduced<T>>, ReadRefusal> {
+        match self.table.round_to(size(parts), rule, room)? {
+            Some((numer, denom)) => Ok(fraction(numer, denom)),
+            None => Ok(None),
+        }
+    }
+
+    /// The float nearest to the sum, rounded once, even if the sum does not fit the type: that of 1/36 + 1/28 is
+    /// 0.06349206349206349. If two are equally near, it is the one whose last bit is 0. The total of no fractions is 0.0. It
+    /// needs `read_digits` numbers of room; with fewer of them the call returns `MoreRoom`. The room may have anything
+    /// afterwards.
+    #[inline]
+    pub fn to_f64(&self, room: &mut [u64]) -> Result<f64, ReadRefusal> {
+        self.table.to_f64(room)
+    }
+
+    /// Writes the sum as a decimal, even if it does not fit the type: the multiple of 1/10^places that the rule says, with
+    /// all its places, so that the text ends where `buf` ends. It returns where the text starts: 1/36 + 1/28 with 4 places
+    /// is `0.0635`. A sum that is rounded to 0 has no minus.
+    ///
+    /// `room` needs `decimal_digits` numbers and `buf` needs `decimal_bytes` bytes; with fewer of them the call returns
+    /// `MoreRoom`. Both may have anything afterwards.
+    #[inline]
+    pub fn put_decimal(
+        &self,
+        places: u32,
+        rule: Rounding,
+        room: &mut [u64],
+        buf: &mut [u8],
+    ) -> Result<usize, ReadRefusal> {
+        self.table.put_decimal(places, rule, room, buf)
+    }
+
+    /// The order of the sum and 0, even if the sum does not fit the type: that of 1/36 - 1/28 is `Less`. Its room and its refusals
+    /// are those of `sum`.
+    #[inline]
+    pub fn sign(&self, room: &mut [u64]) -> Result<Ordering, ReadRefusal> {
+        self.table.sign(room)
+    }
+
+    /// The order of this total and another one, even if their sums do not fit the type: that of 1/36 and 1/28 is `Less`. It needs
+    /// as many slots as both have denominators, and `4 * n + 6` numbers of room for `n` denominators. Both may have anything
+    /// afterwards.
+    #[inline]
+    pub fn compare(
+        &self,
+        other: &Total<'_, T>,
+        slots: &mut [Slot],
+        room: &mut [u64],
+    ) -> Result<Ordering, CompareRefusal> {
+        self.table.compare(&other.table, slots, room)
+    }
+
+    /// The order of this total and a fraction, as of what was spent and a budget: that of 1/36 + 1/28 and 1/15 is `Less`. Its room
+    /// and its refusals are those of `compare` with the total of this one fraction.
+    #[inline]
+    pub fn compare_with(
+        &self,
+        x: &Reduced<T>,
+        slots: &mut [Slot],
+        room: &mut [u64],
+    ) -> Result<Ordering, CompareRefusal> {
+        let (numer, denom) = parts(x);
+        self.table.compare_with(numer, denom, slots, room)
+    }
+
+    /// How many numbers of room `sum`, `mean` and `to_f64` need.
+    #[inline]
+    pub fn read_digits(&self) -> usize {
+        self.table.read_digits()
+    }
+
+    /// How many numbers of room `put_decimal` needs.
+    #[inline]
+    pub fn decimal_digits(&self, places: u32) -> usize {
+        self.table.decimal_digits(places)
+    }
+
+    /// How many bytes the buffer of `put_decimal` needs.
+    #[inline]
+    pub fn decimal_bytes(&self, places: u32) -> usize {
+        self.table.decimal_bytes(places)
+    }
+
+    /// How many numbers of room `round_to` needs.
+    #[inline]
+    pub fn multiple_digits(&self) -> usize {
+        self.table.multiple_digits()
+    }
+}

@@ -11,7 +11,7 @@ use Rattle.ratio_totals.proofs.LowestSumLemmas.{product_positive}
 use Rattle.ratio_totals.specs.LowestSum.{IsShortPair}
 use Rattle.ratio_totals.specs.Slots.{HasNoPlaceFor}
 use Rattle.ratio_totals.specs.Sums.{Puts}
-use Rattle.ratio_totals.specs.declared.refusal.Refusal.TheVariants as refusal
+use Rattle.ratio_totals.specs.declared.total.Refusal.TheVariants as refusal
 use Rattle.ratio_totals.specs.declared.slots.Slot.{Slot}
 use Rattle.fraction_totals.specs.Dots.{HasProductSlots, LacksProductSlots, product_of_both}
 use Rattle.fraction_totals.specs.Items.{denominators_of, has_denominator}

@@ -8,8 +8,8 @@ use Rattle.ratio_totals.specs.Merging.{free_of, holds}
 use Rattle.ratio_totals.specs.Slots.{IsTable}
 use Rattle.ratio_totals.specs.Sums.{Puts}
 use Rattle.ratio_totals.specs.Totals.{HasNoFraction, IsRefusedFor}
-use Rattle.ratio_totals.specs.declared.refusal.Refusal.{Refusal}
-use Rattle.ratio_totals.specs.declared.refusal.Refusal.TheVariants.{MoreRoom, TooMany}
+use Rattle.ratio_totals.specs.declared.total.Refusal.{Refusal}
+use Rattle.ratio_totals.specs.declared.total.Refusal.TheVariants.{MoreRoom, TooMany}
 use Rattle.ratio_totals.specs.declared.slots.Slot.{Slot}
 use Rattle.fraction_totals.specs.Items.{AreRefusedFor, denominators_of}
 use Rattle.fraction_totals.proofs.DenominatorLemmas.{all_new, held_in, item_put, new_items, none_left}

@@ -3,8 +3,8 @@ use Rattle.std.specs.Prelude.{◌*◌, ◌*ℤ◌, ℕ, ℤ, List}
 use Rattle.ratio_totals.specs.LowestSum.{HasLongPair, IsShortPair}
 use Rattle.ratio_totals.specs.Sums.{GrowsAt, Puts}
 use Rattle.ratio_totals.specs.Totals.{IsAccepted, IsRefusedFor}
-use Rattle.ratio_totals.specs.declared.refusal.Refusal.{Refusal}
-use Rattle.ratio_totals.specs.declared.refusal.Refusal.TheVariants as refusal
+use Rattle.ratio_totals.specs.declared.total.Refusal.{Refusal}
+use Rattle.ratio_totals.specs.declared.total.Refusal.TheVariants as refusal
 use Rattle.ratio_totals.specs.declared.slots.Slot.{Slot}
 use Rattle.fraction_totals.specs.declared.total.ProductRefusal.{ProductRefusal}
 use Rattle.fraction_totals.specs.declared.total.ProductRefusal.TheVariants.{MoreRoom, TooGreat, TooMany}

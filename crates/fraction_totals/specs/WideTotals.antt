@@ -1,7 +1,7 @@
 -- Totals of fractions over any primitive type, each as one sum in a room.
 use Rattle.std.specs.Prelude.{◌≡◌, ◌+◌, ◌*◌, ◌^◌, ◌<◌, ◌≤◌, ◌⊎◌, ℕ, ℤ, List, unsigned_abs}
 use Rattle.ratio_natural.specs.Number.{base}
-use Rattle.ratio_totals.specs.Common.{most_digits}
+use Rattle.ratio_totals.specs.Common.{most_digits, room_digits}
 use Rattle.ratio_totals.specs.Joined.{common_in}
 use Rattle.ratio_totals.specs.RoomSums.{HasLongMultiple, HasShortMultiple}
 use Rattle.ratio_totals.specs.Steps.{HoldsSum}
@@ -16,7 +16,7 @@ use Rattle.fraction_totals.specs.declared.wide_changes.WideRefusal.TheVariants.{
 pub record HasTotalRoom (digits room : ℕ) : Type 0 where
   pub some : 2 ≤ digits
   pub few : digits ≤ most_digits
-  pub long : 4 * digits + 6 ≤ room
+  pub long : room_digits digits ≤ room
 
 -- the room holds the sum of a total, with at least 2 digits for the common denominator. `done` is its weight, the number of additions: it is at
 -- most 2^63 - 1, and the count is at most the weight

@@ -4,8 +4,8 @@ use Rattle.std.specs.List.{AllZip}
 use Rattle.ratio_totals.specs.AnyOrder.{CanOrder, IsOrderRefusedFor}
 use Rattle.ratio_totals.specs.SumOrder.{pair_cmp}
 use Rattle.ratio_totals.specs.Sums.{sum_of_slots}
-use Rattle.ratio_totals.specs.declared.ordering.OrderRefusal.{OrderRefusal}
-use Rattle.ratio_totals.specs.declared.ordering.OrderRefusal.TheVariants.{MoreRoom, MoreSlots, TooGreat, TooLong}
+use Rattle.ratio_totals.specs.declared.orders.OrderRefusal.{OrderRefusal}
+use Rattle.ratio_totals.specs.declared.orders.OrderRefusal.TheVariants.{MoreRoom, MoreSlots, TooGreat, TooLong}
 use Rattle.ratio_totals.specs.declared.slots.Slot.{Slot}
 use Rattle.ratio_c.specs.declared.compare.Order.{Order}
 use Rattle.ratio_c.specs.Calls.{Tested}

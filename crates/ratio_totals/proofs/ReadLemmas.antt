@@ -10,8 +10,8 @@ use Rattle.ratio_totals.specs.Slots.{HasNoPlaceFor, IsPlaceOf, IsTable, slot_at}
 use Rattle.ratio_totals.specs.Sums.{numerator_at, numerator_over}
 use Rattle.ratio_totals.specs.TotalLaws.{SameNumerators}
 use Rattle.ratio_totals.specs.Totals.{HasNoFraction, most_weight}
-use Rattle.ratio_totals.specs.declared.refusal.Refusal.{Refusal}
-use Rattle.ratio_totals.specs.declared.refusal.Refusal.TheVariants.{MoreRoom, TooMany}
+use Rattle.ratio_totals.specs.declared.total.Refusal.{Refusal}
+use Rattle.ratio_totals.specs.declared.total.Refusal.TheVariants.{MoreRoom, TooMany}
 use Rattle.ratio_totals.specs.declared.slots.Slot.{Slot}
 
 -- ---- the numerator over a denominator

@@ -10,7 +10,7 @@ use Rattle.ratio_totals.proofs.SumsAgree.{results_agree}
 use Rattle.ratio_totals.specs.Joined.{joined_pair}
 use Rattle.ratio_totals.specs.Sums.{sum_of_slots}
 use Rattle.ratio_totals.specs.WideReads.{HasItsSign, JoinedWideMeans, JoinedWideMultiples, JoinedWideSums, WideResultsAgree, WideSumsExtend, wide_pair}
-use Rattle.ratio_totals.specs.declared.wide_terms.WideFraction.{WideFraction}
+use Rattle.ratio_totals.specs.declared.wide_reads.WideFraction.{WideFraction}
 
 -- a fraction with its sign is known from its pair
 same_terms : (t u : WideFraction) → HasItsSign t → HasItsSign u → Some (wide_pair t) ≡ Some (wide_pair u) → t ≡ u

@@ -3,8 +3,8 @@ use Rattle.std.specs.Prelude.{◌≡◌, ◌≢◌, ◌+◌, ◌*◌, ◌-◌, �
 use Rattle.ratio_totals.specs.Slots.{IsTable, slot_at}
 use Rattle.ratio_totals.specs.Sums.{SameSum, pair_sum, numerator_at, sum_of_slots}
 use Rattle.ratio_totals.specs.Totals.{most_weight}
-use Rattle.ratio_totals.specs.declared.refusal.Refusal.{Refusal}
-use Rattle.ratio_totals.specs.declared.refusal.Refusal.TheVariants.{MoreRoom, TooMany}
+use Rattle.ratio_totals.specs.declared.total.Refusal.{Refusal}
+use Rattle.ratio_totals.specs.declared.total.Refusal.TheVariants.{MoreRoom, TooMany}
 use Rattle.ratio_totals.specs.declared.slots.Slot.{Slot}
 
 -- whether some slot holds the denominator d

@@ -1,19 +1,19 @@
 -- What the refusals of totals print.
 use Rattle.std.specs.Prelude.{ℕ, List, codes}
-use Rattle.ratio_totals.specs.declared.refusal.Refusal.{Refusal}
-use Rattle.ratio_totals.specs.declared.refusal.Refusal.TheVariants as refusal
+use Rattle.ratio_totals.specs.declared.total.Refusal.{Refusal}
+use Rattle.ratio_totals.specs.declared.total.Refusal.TheVariants as refusal
 use Rattle.ratio_totals.specs.declared.reading.ReadRefusal.{ReadRefusal}
 use Rattle.ratio_totals.specs.declared.reading.ReadRefusal.TheVariants as read_refusal
-use Rattle.ratio_totals.specs.declared.comparing.CompareRefusal.{CompareRefusal}
-use Rattle.ratio_totals.specs.declared.comparing.CompareRefusal.TheVariants as compare_refusal
-use Rattle.ratio_totals.specs.declared.ordering.OrderRefusal.{OrderRefusal}
-use Rattle.ratio_totals.specs.declared.ordering.OrderRefusal.TheVariants as order_refusal
-use Rattle.ratio_totals.specs.declared.loose.LooseRefusal.{LooseRefusal}
-use Rattle.ratio_totals.specs.declared.loose.LooseRefusal.TheVariants as loose_refusal
-use Rattle.ratio_totals.specs.declared.joining.JoinRefusal.{JoinRefusal}
-use Rattle.ratio_totals.specs.declared.joining.JoinRefusal.TheVariants as join_refusal
-use Rattle.ratio_totals.specs.declared.room_sums.AddRefusal.{AddRefusal}
-use Rattle.ratio_totals.specs.declared.room_sums.AddRefusal.TheVariants as add_refusal
+use Rattle.ratio_totals.specs.declared.total_reads.CompareRefusal.{CompareRefusal}
+use Rattle.ratio_totals.specs.declared.total_reads.CompareRefusal.TheVariants as compare_refusal
+use Rattle.ratio_totals.specs.declared.orders.OrderRefusal.{OrderRefusal}
+use Rattle.ratio_totals.specs.declared.orders.OrderRefusal.TheVariants as order_refusal
+use Rattle.ratio_totals.specs.declared.changes.LooseRefusal.{LooseRefusal}
+use Rattle.ratio_totals.specs.declared.changes.LooseRefusal.TheVariants as loose_refusal
+use Rattle.ratio_totals.specs.declared.joined.JoinRefusal.{JoinRefusal}
+use Rattle.ratio_totals.specs.declared.joined.JoinRefusal.TheVariants as join_refusal
+use Rattle.ratio_totals.specs.declared.rooms.AddRefusal.{AddRefusal}
+use Rattle.ratio_totals.specs.declared.rooms.AddRefusal.TheVariants as add_refusal
 
 -- the text that a `Refusal` prints
 -- Example: `MoreRoom`: `all slots are taken by other denominators`

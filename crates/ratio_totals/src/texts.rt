@@ -1,16 +1,15 @@
 //! What the refusals of totals print.
-ghost use Rattle.std.specs.Prelude.{Some};
 ghost use Rattle.std.specs.Fmt.{padded};
+ghost use Rattle.std.specs.Prelude.{Some};
 ghost use Rattle.ratio_totals.specs.Texts.{add_refusal_text, compare_refusal_text, join_refusal_text, loose_refusal_text, no_sum_text, order_refusal_text, read_refusal_text, total_refusal_text};
 
-use crate::comparing::CompareRefusal;
-use crate::joined::NoSum;
-use crate::joining::JoinRefusal;
-use crate::loose::LooseRefusal;
-use crate::ordering::OrderRefusal;
+use crate::changes::LooseRefusal;
+use crate::joined::{JoinRefusal, NoSum};
+use crate::orders::OrderRefusal;
 use crate::reading::ReadRefusal;
-use crate::refusal::Refusal;
-use crate::room_sums::AddRefusal;
+use crate::rooms::AddRefusal;
+use crate::total::Refusal;
+use crate::total_reads::CompareRefusal;
 use std::error::Error;
 use std::fmt;
 

@@ -1,21 +1,13 @@
 //! The struct `Total`: fractions go in and out, and nothing is lost.
-ghost use Rattle.std.specs.Prelude.{◌≡◌, ◌≢◌, ◌+◌, ◌<◌, ◌+ℤ◌, ◌-ℤ◌, ◌^◌, neg_ℤ, pos, unsigned_abs, length, take, drop, ◌≤◌, IfErr, IfOk, OnErr, OnOk};
-ghost use Rattle.ratio_natural.specs.Number.{natural_of};
-ghost use Rattle.ratio_totals.specs.Common.{IsOverCommon, IsReadRefusedFor, common_digits, most_common, read_digits};
+ghost use Rattle.std.specs.Prelude.{◌≡◌, ◌≢◌, ◌+◌, ◌<◌, ◌+ℤ◌, ◌-ℤ◌, ◌^◌, ◌≤◌, neg_ℤ, pos, unsigned_abs, length, IfErr, IfOk, OnErr, OnOk};
 ghost use Rattle.ratio_totals.specs.Merging.{AddsEach, CanMerge, HoldsBoth, IsMergeRefusedFor, SumAdds, TakesSlots, free_of, taken_of};
 ghost use Rattle.ratio_totals.specs.Sums.{GrowsAt, Puts, SumGrows, numerator_at};
 ghost use Rattle.ratio_totals.specs.TotalLaws.{SameDenominators, SameNumerators};
 ghost use Rattle.ratio_totals.specs.Totals.{HasNoFraction, IsAccepted, IsKept, IsRefusedFor};
 ghost use Rattle.ratio_totals.specs.Turning.{negated};
 
-use crate::clearing::clear;
-use crate::merging::merge_slots;
-use crate::reading::{OverCommon, ReadRefusal, digits_of_read, read_slots};
-use crate::refusal::Refusal;
-use crate::searching::numerator_in;
-use crate::slots::Slot;
-use crate::steps::put;
-use crate::tally::Tally;
+use crate::changes::{merge_slots, put};
+use crate::slots::{Slot, clear, numerator_in};
 
 /// A total of fractions, in slots that the caller gives. Each denominator has one slot.
 ///
@@ -26,6 +18,25 @@ pub struct Total<'a> {
     pub slots: &'a mut [Slot],
     pub tally: Tally,
     pub ghost kept: { IsKept slots.now tally.weight tally.count },
+}
+
+/// The greatest weight of a total.
+pub const MOST_WEIGHT: u64 = i64::MAX as u64;
+
+/// The weight is the number of additions. The count is the number of fractions that went in, less those that went out.
+#[derive(Clone, Copy)]
+pub struct Tally {
+    pub weight: u64,
+    pub count: i64,
+}
+
+/// Why a call changed nothing.
+#[derive(Clone, Copy, PartialEq, Eq, Debug)]
+pub enum Refusal {
+    /// All slots are taken by other denominators. A larger room takes the total: see `Total::moved_to`.
+    MoreRoom,
+    /// The total has its greatest weight, 2^63 - 1.
+    TooMany,
 }
 
 impl<'a> Total<'a> {
@@ -156,25 +167,5 @@ impl<'a> Total<'a> {
         ensures { result ≡ self.now.tally.count }
     {
         self.tally.count
-    }
-    /// The total over its common denominator, which is the least common multiple of the denominators: 1/36 + 1/28 is 16/252.
-    /// It writes both numbers into the room, as `OverCommon` says, and needs `read_digits` digits there. If it refuses, the
-    /// room may have any digits. Its time grows with the square of the number of denominators.
-    pub fn over_common(&self, room: &mut [u64]) -> Result<OverCommon, ReadRefusal>
-        ensures value { IfOk result (λ read. IsOverCommon self.now.slots.now read.negative (natural_of (take read.numer_digits room.new)) (natural_of (take read.denom_digits (drop read.numer_digits room.new)))) }
-        ensures below { IfOk result (λ read. natural_of (take read.denom_digits (drop read.numer_digits room.new)) < most_common) }
-        ensures numer_digits { IfOk result (λ read. read.numer_digits ≡ common_digits self.now.slots.now + 3) }
-        ensures denom_digits { IfOk result (λ read. read.denom_digits ≡ common_digits self.now.slots.now) }
-        ensures room { OnOk result (read_digits self.now.slots.now ≤ length room.old) }
-        ensures refused { IfErr result (IsReadRefusedFor self.now.slots.now (length room.old)) }
-    {
-        read_slots(self.slots, room)
-    }
-
-    /// How many digits of room `over_common` needs.
-    pub fn read_digits(&self) -> usize
-        ensures { result ≡ read_digits self.now.slots.now }
-    {
-        digits_of_read(self.slots)
     }
 }

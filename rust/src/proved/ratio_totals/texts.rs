@@ -1,14 +1,13 @@
 // Erased from crates/ratio_totals/src/texts.rt by rust/erase: not to be edited.
 //! What the refusals of totals print.
 
-use crate::proved::ratio_totals::comparing::CompareRefusal;
-use crate::proved::ratio_totals::joined::NoSum;
-use crate::proved::ratio_totals::joining::JoinRefusal;
-use crate::proved::ratio_totals::loose::LooseRefusal;
-use crate::proved::ratio_totals::ordering::OrderRefusal;
+use crate::proved::ratio_totals::changes::LooseRefusal;
+use crate::proved::ratio_totals::joined::{JoinRefusal, NoSum};
+use crate::proved::ratio_totals::orders::OrderRefusal;
 use crate::proved::ratio_totals::reading::ReadRefusal;
-use crate::proved::ratio_totals::refusal::Refusal;
-use crate::proved::ratio_totals::room_sums::AddRefusal;
+use crate::proved::ratio_totals::rooms::AddRefusal;
+use crate::proved::ratio_totals::total::Refusal;
+use crate::proved::ratio_totals::total_reads::CompareRefusal;
 #[cfg(feature = "std")]
 use std::error::Error;
 use core::fmt;

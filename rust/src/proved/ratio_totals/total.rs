@@ -1,14 +1,8 @@
 // Erased from crates/ratio_totals/src/total.rt by rust/erase: not to be edited.
 //! The struct `Total`: fractions go in and out, and nothing is lost.
 
-use crate::proved::ratio_totals::clearing::clear;
-use crate::proved::ratio_totals::merging::merge_slots;
-use crate::proved::ratio_totals::reading::{OverCommon, ReadRefusal, digits_of_read, read_slots};
-use crate::proved::ratio_totals::refusal::Refusal;
-use crate::proved::ratio_totals::searching::numerator_in;
-use crate::proved::ratio_totals::slots::Slot;
-use crate::proved::ratio_totals::steps::put;
-use crate::proved::ratio_totals::tally::Tally;
+use crate::proved::ratio_totals::changes::{merge_slots, put};
+use crate::proved::ratio_totals::slots::{Slot, clear, numerator_in};
 
 /// A total of fractions, in slots that the caller gives. Each denominator has one slot.
 ///
@@ -17,6 +11,25 @@ use crate::proved::ratio_totals::tally::Tally;
 pub struct Total<'a> {
     pub slots: &'a mut [Slot],
     pub tally: Tally,
+}
+
+/// The greatest weight of a total.
+pub const MOST_WEIGHT: u64 = i64::MAX as u64;
+
+/// The weight is the number of additions. The count is the number of fractions that went in, less those that went out.
+#[derive(Clone, Copy)]
+pub struct Tally {
+    pub weight: u64,
+    pub count: i64,
+}
+
+/// Why a call changed nothing.
+#[derive(Clone, Copy, PartialEq, Eq, Debug)]
+pub enum Refusal {
+    /// All slots are taken by other denominators. A larger room takes the total: see `Total::moved_to`.
+    MoreRoom,
+    /// The total has its greatest weight, 2^63 - 1.
+    TooMany,
 }
 
 impl<'a> Total<'a> {
@@ -99,18 +112,5 @@ impl<'a> Total<'a> {
     #[inline]
     pub fn count(&self) -> i64 {
         self.tally.count
-    }
-    /// The total over its common denominator, which is the least common multiple of the denominators: 1/36 + 1/28 is 16/252.
-    /// It writes both numbers into the room, as `OverCommon` says, and needs `read_digits` digits there. If it refuses, the
-    /// room may have any digits. Its time grows with the square of the number of denominators.
-    #[inline]
-    pub fn over_common(&self, room: &mut [u64]) -> Result<OverCommon, ReadRefusal> {
-        read_slots(self.slots, room)
-    }
-
-    /// How many digits of room `over_common` needs.
-    #[inline]
-    pub fn read_digits(&self) -> usize {
-        digits_of_read(self.slots)
     }
 }

@@ -4,7 +4,7 @@ use Rattle.std.proofs.Common.{ap, arith, below_more, refl, rules, sym}
 use Rattle.std.proofs.lemmas.List.{drop_all}
 use Rattle.ratio_totals.proofs.MergeSums.{sum_positive}
 use Rattle.ratio_totals.specs.Totals.{most_weight}
-use Rattle.ratio_totals.specs.declared.refusal.Refusal.TheVariants as refusal
+use Rattle.ratio_totals.specs.declared.total.Refusal.TheVariants as refusal
 use Rattle.fraction_totals.specs.Dots.{HasShortPair, product_of_both}
 use Rattle.fraction_totals.specs.Values.{pair_of, slots_of, value_of}
 use Rattle.fraction_totals.proofs.DenominatorLemmas.{held_in, new_items}

@@ -63,7 +63,7 @@ fn divides_to<T: Integer>(
 
 // The first row whose product is rounded otherwise by some rule.
 #[inline]
-fn first_wrong_product<T: Integer>(rows: &[Row<T>]) -> Option<usize> {
+fn first_wrong_product<T: Copy + Integer>(rows: &[Row<T>]) -> Option<usize> {
     for (i, &(left, right, parts, wants)) in rows.iter().enumerate() {
         for (rule, want) in RULES.iter().zip(&wants) {
             if !multiplies_to(left, right, parts, *rule, *want) {
@@ -76,7 +76,7 @@ fn first_wrong_product<T: Integer>(rows: &[Row<T>]) -> Option<usize> {
 
 // The first row whose quotient is rounded otherwise by some rule.
 #[inline]
-fn first_wrong_quotient<T: Integer>(rows: &[Row<T>]) -> Option<usize> {
+fn first_wrong_quotient<T: Copy + Integer>(rows: &[Row<T>]) -> Option<usize> {
     for (i, &(left, right, parts, wants)) in rows.iter().enumerate() {
         for (rule, want) in RULES.iter().zip(&wants) {
             if !divides_to(left, right, parts, *rule, *want) {

@@ -116,8 +116,50 @@ fn rounds<T: Integer>(n: T, d: T, parts: T, rule: Rounding, want: Option<(T, T)>
     }
 }
 
+// Whether the multiple of `1/parts` that the product is rounded to has these fields, or is `None`.
+fn multiplies_to<T: Integer>(
+    left: (T, T),
+    right: (T, T),
+    parts: T,
+    rule: Rounding,
+    want: Option<(T, T)>,
+) -> bool {
+    if T::ZERO < parts {
+        match Reduced::checked_new(left.0, left.1) {
+            Some(x) => match Reduced::checked_new(right.0, right.1) {
+                Some(y) => gives(x.checked_mul_round_to(y, parts, rule), want),
+                None => false,
+            },
+            None => false,
+        }
+    } else {
+        false
+    }
+}
+
+// Whether the multiple of `1/parts` that the quotient is rounded to has these fields, or is `None`.
+fn divides_to<T: Integer>(
+    left: (T, T),
+    right: (T, T),
+    parts: T,
+    rule: Rounding,
+    want: Option<(T, T)>,
+) -> bool {
+    if T::ZERO < parts {
+        match Reduced::checked_new(left.0, left.1) {
+            Some(x) => match Reduced::checked_new(right.0, right.1) {
+                Some(y) => gives(x.checked_div_round_to(y, parts, rule), want),
+                None => false,
+            },
+            None => false,
+        }
+    } else {
+        false
+    }
+}
+
 // Whether the result has these fields, or both are `None`.
-pub(crate) fn gives<T: Integer>(answer: Option<Reduced<T>>, want: Option<(T, T)>) -> bool {
+fn gives<T: Integer>(answer: Option<Reduced<T>>, want: Option<(T, T)>) -> bool {
     match answer {
         Some(x) => want == Some(x.into_raw()),
         None => want.is_none(),
@@ -190,4 +232,14 @@ fn longest(rt: HostRuntime) {
         length_of_all(i128::MIN, 1) == Some(40),
     ];
     each_holds(&rt, &facts);
+}
+
+#[test]
+fn products_and_quotients_in_parts(rt: HostRuntime) {
+    let half_even = Rounding::HalfEven;
+    assert!(rt; multiplies_to((1999i64, 100), (3, 1), 100, half_even, Some((5997, 100))));
+    assert!(rt; multiplies_to((100i8, 3), (3, 100), 100, half_even, Some((1, 1))));
+    assert!(rt; multiplies_to((127i8, 2), (1, 3), 100, half_even, None));
+    assert!(rt; divides_to((10i64, 1), (3, 1), 100, half_even, Some((333, 100))));
+    assert!(rt; divides_to((1i8, 1), (0, 1), 100, half_even, None));
 }

@@ -30,8 +30,6 @@ mod precision;
 #[cfg(test)]
 mod refusal_texts;
 #[cfg(test)]
-mod rounded_multiples;
-#[cfg(test)]
 mod rounded_products;
 #[cfg(test)]
 mod simplest;

@@ -1,6 +1,7 @@
 //! Greatest common divisors and least common multiples of fractions, beside big integers: random pairs over all twelve types.
 //!
 //! Each result that fits the type must be given. `BAKHSNEY_PAIRS` says how many pairs each type gets; without it there are 300. Each pair has two results.
+#[macro_use]
 mod support;
 
 use bakhsney::{integer::Integer, Reduced};
@@ -74,17 +75,4 @@ macro_rules! sweep {
     )*};
 }
 
-sweep! {
-    over_i8 i8;
-    over_i16 i16;
-    over_i32 i32;
-    over_i64 i64;
-    over_i128 i128;
-    over_isize isize;
-    over_u8 u8;
-    over_u16 u16;
-    over_u32 u32;
-    over_u64 u64;
-    over_u128 u128;
-    over_usize usize;
-}
+each_type! { sweep }

@@ -2,6 +2,7 @@
 //! of the six rules.
 //!
 //! `BAKHSNEY_PAIRS` says how many pairs each type gets; without it there are 300. Of each pair, 36 results are compared.
+#[macro_use]
 mod support;
 
 use bakhsney::{integer::Integer, Reduced, Rounding};
@@ -124,17 +125,4 @@ fn compare_multiples<T: Integer + NumCast + core::fmt::Debug>(left: &Reduced<T>,
     }
 }
 
-sweep! {
-    over_i8 i8;
-    over_i16 i16;
-    over_i32 i32;
-    over_i64 i64;
-    over_i128 i128;
-    over_isize isize;
-    over_u8 u8;
-    over_u16 u16;
-    over_u32 u32;
-    over_u64 u64;
-    over_u128 u128;
-    over_usize usize;
-}
+each_type! { sweep }

@@ -33,6 +33,27 @@ impl Numbers {
     }
 }
 
+/// Hands a macro a name and a type for each of the twelve machine types.
+#[allow(unused_macros)]
+macro_rules! each_type {
+    ($sweep:ident) => {
+        $sweep! {
+            over_i8 i8;
+            over_i16 i16;
+            over_i32 i32;
+            over_i64 i64;
+            over_i128 i128;
+            over_isize isize;
+            over_u8 u8;
+            over_u16 u16;
+            over_u32 u32;
+            over_u64 u64;
+            over_u128 u128;
+            over_usize usize;
+        }
+    };
+}
+
 /// A test for each quarter of the rows, so that the quarters run side by side: it walks the rows whose place leaves this rest.
 #[allow(unused_macros)]
 macro_rules! quarters {

@@ -6,6 +6,7 @@
 
 #include "fmgr.h"
 
+#define RATIO_CHECKED /* the calls here always get arrays of the lengths that they require */
 #include "ratio.h"
 
 /* What the releases from 13 to 17 name otherwise. The other files have none of it. */

@@ -32,29 +32,14 @@ new_folder() {
   export TMPDIR=$work/tmp
 }
 
-is_proved() {
-  [ -e "$1" ] && [ -z "$(find "$top"/crates.txt "$top"/crates/*/src "$top"/crates/*/specs "$top"/crates/*/proofs -newer "$1" -print -quit)" ]
-}
-
-# Chooses the library, and says which. The path goes to the variable library.
-choose_library() {
-  library=$top/crates/ratio_c/out/libratio_c.a
-  if [ -n "${LIBRATIO:-}" ]; then
-    library=$(realpath -e "$LIBRATIO") || stop "LIBRATIO names no file"
-    echo "$me: over the library that LIBRATIO names, $library"
-  elif is_proved "$library"; then
-    echo "$me: over the proved library, crates/ratio_c/out/libratio_c.a"
-  else
-    [ -e "$top/rust/c/build" ] || stop "there is no library: set LIBRATIO"
-    tar -C "$top" --exclude=target -cf - rust | tar -C "$work" -xf -
-    # cargo writes into its own folder, too. Its settings, such as a mirror of crates.io, come along.
-    mkdir "$work/cargo"
-    cp "${CARGO_HOME:-${HOME:-}/.cargo}"/config{,.toml} "$work/cargo/" 2>/dev/null || true
-    CARGO_HOME=$work/cargo "$work/rust/c/build" || stop "cargo built no library"
-    library=$work/rust/c/target/release/libratio_c.a
-    echo "$me: over the library that cargo built of rust/c, which is not proved on this machine"
-  fi
-}
+# Which library to build on. Where this folder is alone, LIBRATIO must name one.
+if [ -e "$top/include/library.sh" ]; then
+  source "$top/include/library.sh"
+else
+  choose_library() {
+    library=$(realpath -e "${LIBRATIO:-/set/LIBRATIO}") || stop "LIBRATIO names no file"
+  }
+fi
 
 # Builds the extension in $work/build, and installs it into the files of the pg_config.
 build_extension() {

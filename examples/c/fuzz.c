@@ -234,13 +234,21 @@ static void put_share(uint8_t *at) {
     memcpy(at, &x, sizeof x);
 }
 
+/* Stops if a call that has the place for one answer returns that it wrote none. */
+static void done(enum ratio_return returned) {
+    if (returned != RATIO_DONE) {
+        fputs("fuzz: a call with the place for one answer wrote none\n", stderr);
+        exit(1);
+    }
+}
+
 /* Stops if a decimal in one pass is not the one of the other call. */
 static void compare_with_bounded(const ratio_slot_i64 *slots, size_t len, uint32_t places, uint32_t rule, ratio_text text, const uint8_t *texts) {
     static uint64_t room[4 * SLOTS + 64];
     static uint8_t other[2 * TEXT + 200];
     ratio_text whole = {0};
     if (text.code != RATIO_ANSWERED) return;
-    ratio_total_print_i64(slots, len, places, rule, room, sizeof room / sizeof *room, other, sizeof other, &whole, 1);
+    done(ratio_total_print_i64(slots, len, places, rule, room, sizeof room / sizeof *room, other, sizeof other, &whole, 1));
     if (whole.code != RATIO_ANSWERED || whole.span.end - whole.span.start != text.span.end - text.span.start
         || memcmp(texts + text.span.start, other + whole.span.start, text.span.end - text.span.start) != 0) {
         fputs("fuzz: a decimal in one pass is not the one of the other call\n", stderr);
@@ -337,11 +345,11 @@ static said at_once(const read_of_total *r, const ratio_slot_i64 *slots, size_t 
     ratio_float value = {0};
     ratio_text text = {0};
     switch (r->kind) {
-    case 0: ratio_total_sum_i64(slots, len, r->room, r->digits, &fraction, 1); break;
-    case 1: ratio_total_mean_i64(slots, len, r->count, r->room, r->digits, &fraction, 1); break;
-    case 2: ratio_total_sign_i64(slots, len, r->room, r->digits, &order, 1); break;
-    case 3: ratio_total_to_f64_i64(slots, len, r->room, r->digits, &value, 1); break;
-    default: ratio_total_print_i64(slots, len, r->places, r->rule, r->room, r->digits, r->texts, r->size, &text, 1);
+    case 0: done(ratio_total_sum_i64(slots, len, r->room, r->digits, &fraction, 1)); break;
+    case 1: done(ratio_total_mean_i64(slots, len, r->count, r->room, r->digits, &fraction, 1)); break;
+    case 2: done(ratio_total_sign_i64(slots, len, r->room, r->digits, &order, 1)); break;
+    case 3: done(ratio_total_to_f64_i64(slots, len, r->room, r->digits, &value, 1)); break;
+    default: done(ratio_total_print_i64(slots, len, r->places, r->rule, r->room, r->digits, r->texts, r->size, &text, 1));
     }
     return said_of(r->kind, fraction, order, value, text);
 }
@@ -352,11 +360,11 @@ static said from_room(const read_of_total *r, uint64_t digits) {
     ratio_float value = {0};
     ratio_text text = {0};
     switch (r->kind) {
-    case 0: ratio_joined_sum_i64(digits, r->room, r->digits, &fraction, 1); break;
-    case 1: ratio_joined_mean_i64(digits, r->count, r->room, r->digits, &fraction, 1); break;
-    case 2: ratio_joined_sign_i64(digits, r->room, r->digits, &order, 1); break;
-    case 3: ratio_joined_to_f64_i64(digits, r->room, r->digits, &value, 1); break;
-    default: ratio_joined_print_i64(digits, r->places, r->rule, r->room, r->digits, r->texts, r->size, &text, 1);
+    case 0: done(ratio_joined_sum_i64(digits, r->room, r->digits, &fraction, 1)); break;
+    case 1: done(ratio_joined_mean_i64(digits, r->count, r->room, r->digits, &fraction, 1)); break;
+    case 2: done(ratio_joined_sign_i64(digits, r->room, r->digits, &order, 1)); break;
+    case 3: done(ratio_joined_to_f64_i64(digits, r->room, r->digits, &value, 1)); break;
+    default: done(ratio_joined_print_i64(digits, r->places, r->rule, r->room, r->digits, r->texts, r->size, &text, 1));
     }
     return said_of(r->kind, fraction, order, value, text);
 }

@@ -26,7 +26,7 @@ static void show(const char *name, const shop *total) {
 static void add(shop *total, const ratio_i64 *entries, size_t count) {
     done(ratio_total_add_i64(entries, count, &total->header, 1, total->slots, SLOTS));
     if (total->header.code == RATIO_ANSWERED) return;
-    printf("entry %" PRIu64 " not added: %s\n", total->header.done + 1, reason(total->header.code));
+    printf("entry %" PRIu64 " not added: %s\n", total->header.done + 1, ratio_code_text(total->header.code));
 }
 
 static void join(shop *total, const shop *other) {

@@ -48,13 +48,13 @@ int main(void) {
             print_money(answer.value);
             done(ratio_total_add_i64(&answer.value, 1, &total, 1, slots, LINES));
         } else {
-            printf("%s\n", reason(answer.code));
+            printf("%s\n", ratio_code_text(answer.code));
         }
     }
     done(ratio_total_sum_i64(slots, LINES, room, 4 * LINES + 6, &sum, 1));
     printf("sum: ");
     if (sum.code != RATIO_ANSWERED) {
-        printf("%s\n", reason(sum.code));
+        printf("%s\n", ratio_code_text(sum.code));
         return 1;
     }
     print_money(sum.value);

@@ -52,7 +52,7 @@ int main(void) {
     for (size_t i = 0; i < count; i++) {
         ratio_key key;
         if (answers[i].code != RATIO_ANSWERED) {
-            printf("%.*s: %s\n", rows[i].name_length, rows[i].name, reason(answers[i].code));
+            printf("%.*s: %s\n", rows[i].name_length, rows[i].name, ratio_code_text(answers[i].code));
             continue;
         }
         done(ratio_key_i64(&answers[i].value, 1, &key, 1));

@@ -11,7 +11,7 @@ static int is_fraction(ratio_answer_i64 answer, int64_t numer, int64_t denom) {
 int main(void) {
     ratio_pair_i64 pairs[2] = {{{1, 2}, {1, 3}}, {{7, 2}, {0, 5}}};
     ratio_answer_i64 answers[2];
-    ratio_div_i64(pairs, 2, answers, 2);   /* 3/2, and RATIO_DIVISION_BY_ZERO */
+    if (ratio_div_i64(pairs, 2, answers, 2) != RATIO_DONE) return 1;   /* 3/2, and RATIO_DIVISION_BY_ZERO */
 
     if (is_fraction(answers[0], 3, 2) && answers[1].code == RATIO_DIVISION_BY_ZERO) return 0;
     printf("wrong: the example of README.md\n");

@@ -9,6 +9,9 @@ pub mod EqualityLaws
 pub mod FieldLemmas
 pub mod Floored
 pub mod Following
+pub mod HalfDigitLemmas
+pub mod HalfDigitOrder
+pub mod HalfDigitProducts
 pub mod HashLaws
 pub mod Hashing
 pub mod JoinedLemmas
@@ -55,7 +58,4 @@ pub mod Ticks
 pub mod TwosComplement
 pub mod WideRemainders
 pub mod WidthLemmas
-pub mod WordLemmas
 pub mod WordMultiples
-pub mod WordOrder
-pub mod WordProducts

@@ -28,9 +28,10 @@ pub record AreProductsHeld (lo hi n d m e : ℤ) : Type 0 where
   pub left : IsHeld lo hi (n *ℤ e)
   pub right : IsHeld lo hi (m *ℤ d)
 
--- Inner: the product z of two numbers of a type, which may be out of range, as words: its low half, and the two halves of its high half
+-- Inner: the product z of two numbers of a type, which may be out of range, as half digits: low and middle are below the half base,
+-- and high is what is left
 -- Example: 100·100 over `i8`: 39, 1 and 0, since 10000 is (39·16 + 1)·16 + 0
-pub record AreWords (lo hi z high middle low : ℤ) : Type 0 where
+pub record AreHalfDigits (lo hi z high middle low : ℤ) : Type 0 where
   pub rest : ℤ
   pub last : AreHalves lo hi z rest low
   pub first : AreHalves lo hi rest high middle

@@ -10,6 +10,7 @@ mod code_list;
 pub mod divisors;
 mod exponent;
 mod hash;
+mod magnitudes;
 pub mod order;
 mod parse_error;
 pub mod pow;

@@ -6,7 +6,8 @@ ghost use Rattle.ratio_core.specs.Conditions.{IsHeldLowestOf};
 
 mod long_remainder;
 pub mod lowest_remainder;
-pub(crate) mod wide;
+pub mod lowest_remainders;
+pub mod reducing;
 
 use crate::scaling::scaled;
 use ratio_integer::{Integer, lowest_terms};

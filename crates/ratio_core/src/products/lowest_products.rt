@@ -10,7 +10,7 @@ ghost use Rattle.ratio_integer.specs.Arithmetic.{product_of, quotient_of};
 ghost use Rattle.ratio_integer.specs.Fraction.{ChecksLowest, IsLowestTerms};
 
 use crate::checked_new::{checked_new, sign_moved};
-use crate::remainder::wide::has_short_numbers;
+use crate::magnitudes::has_short_numbers;
 use ratio_integer::{Integer, both_cancelled, both_lowest_terms, lowest_terms};
 
 /// The lowest terms of `a/b * c/d`, or `None` if they do not fit the type. Both fractions must be in lowest terms.
@@ -61,13 +61,14 @@ pub(crate) fn crossed_product<T: Integer>(a: T, b: T, c: T, d: T) -> Option<(T, 
     if has_short_numbers::<T>()
         && !(a.is_one() || b.is_one() || c.is_one() || d.is_one() || a == d || b == c)
     {
-        product_together(a, b, c, d)
-    } else {
-        product_in_turn(a, b, c, d)
+        return product_together(a, b, c, d);
     }
+    let (p, t) = lowest_terms(a, d);
+    let (s, q) = lowest_terms(c, b);
+    multiplied(p, q, s, t)
 }
 
-// The same with both gcds together. It is a call of its own, since its code is long: where it is not needed, a product takes less time without it.
+// The product with both gcds together. It is a call of its own, since its code is long: where it is not needed, a product takes less time without it.
 #[inline(never)]
 fn product_together<T: Integer>(a: T, b: T, c: T, d: T) -> Option<(T, T)>
     requires left { IsLowestTerms (T.value a) (T.value b) }
@@ -76,18 +77,6 @@ fn product_together<T: Integer>(a: T, b: T, c: T, d: T) -> Option<(T, T)>
         (product_of (T.value a) (T.value b) (T.value c) (T.value d)) result }
 {
     let ((p, t), (s, q)) = both_lowest_terms(a, d, c, b);
-    multiplied(p, q, s, t)
-}
-
-// The same with one gcd after the other.
-fn product_in_turn<T: Integer>(a: T, b: T, c: T, d: T) -> Option<(T, T)>
-    requires left { IsLowestTerms (T.value a) (T.value b) }
-    requires right { IsLowestTerms (T.value c) (T.value d) }
-    ensures { ChecksLowest (λ r. T.value r.0) (λ r. T.value r.1) T.lo T.hi
-        (product_of (T.value a) (T.value b) (T.value c) (T.value d)) result }
-{
-    let (p, t) = lowest_terms(a, d);
-    let (s, q) = lowest_terms(c, b);
     multiplied(p, q, s, t)
 }
 
@@ -108,7 +97,7 @@ pub(crate) fn crossed_quotient<T: Integer>(a: T, b: T, c: T, d: T) -> Option<(T,
     }
 }
 
-// The same with both gcds together, and by a call of its own, too. If `a/c` needs no gcd, at most one gcd is left.
+// The quotient with both gcds together, by a call of its own as the product. If `a/c` needs no gcd, at most one gcd is left.
 #[inline(never)]
 fn quotient_together<T: Integer>(a: T, b: T, c: T, d: T) -> Option<(T, T)>
     requires left { IsLowestTerms (T.value a) (T.value b) }
@@ -124,7 +113,7 @@ fn quotient_together<T: Integer>(a: T, b: T, c: T, d: T) -> Option<(T, T)>
     multiplied(p, q, s, t)
 }
 
-// The same with one gcd after the other.
+// The quotient with one gcd after the other.
 #[inline(always)]
 fn quotient_in_turn<T: Integer>(a: T, b: T, c: T, d: T) -> Option<(T, T)>
     requires left { IsLowestTerms (T.value a) (T.value b) }

@@ -1,18 +1,21 @@
-//! Sums and differences of fractions as mixed numbers: the whole numbers and the parts of 1 are added
-//! separately.
+//! Sums and differences of fractions as mixed numbers: the whole numbers and the parts of 1 are added separately.
 //!
 //! Over `i8`, 3/2 + 5/6 is 1 and 0, and 1/2 + 5/6, which is a carry and 1/3. So it is 2 and 1/3: 7/3. If a
 //! number on the way does not fit, the lowest terms do not fit either.
-ghost use Rattle.std.specs.Prelude.{◌≤ℤ◌, ◌<ℤ◌, ◌+ℤ◌, ◌*ℤ◌, neg_ℤ, pos};
+//!
+//! The sum of the parts is in lowest terms, and no number on the way leaves the type. Let `g` be the greatest common divisor of the
+//! denominators `b` and `d`. The sum of `p/b` and `r/d` is `t` over `b/g * d/g * g`, where `t` is `p * d/g + r * b/g`. Both products are
+//! formed as a quotient and a rest by `g`, so `t` is never formed as one number. The rest of `p` is below `g`, so times `d/g` it is below
+//! `d`, and in range. What divides `t` and the denominator divides the rest and `g`.
+ghost use Rattle.std.specs.Prelude.{◌≡◌, ◌≤ℤ◌, ◌<ℤ◌, ◌+ℤ◌, ◌*ℤ◌, neg_ℤ, pos};
 ghost use Rattle.ratio_integer.specs.Arithmetic.{difference_of, sum_of};
 ghost use Rattle.ratio_integer.specs.Division.{IsGcdOf};
 ghost use Rattle.ratio_integer.specs.Fraction.{ChecksLowest, IsLowestTerms};
-ghost use Rattle.ratio_integer.specs.Range.{Checks, IsHeld};
-ghost use Rattle.ratio_core.specs.Parts.{IsDivided};
+ghost use Rattle.ratio_integer.specs.Range.{Checks};
+ghost use Rattle.ratio_core.specs.Parts.{ChecksPartsSum, IsDivided, IsPart, carried};
 
-use crate::sums::multiple::carried_on;
-use crate::sums::parts::parts_sum;
-use ratio_integer::Integer;
+use crate::sums::multiple::{carried_on, product_over, sum_over};
+use ratio_integer::{Integer, both_held, cancelled};
 
 /// The lowest terms of `a/b + c/d`, from the floors of both, or `None` if they do not fit. `g` is the gcd of the denominators.
 #[cold]
@@ -81,4 +84,61 @@ pub fn numerator_of<T: Integer>(whole: T, part: T, denom: T) -> Option<T>
     }
     let product = whole.try_times(denom)?;
     product.try_plus(part)
+}
+
+// `p/b + r/d`: whether it is 1 or more, and the part below 1 in lowest terms. `None` if their denominator
+// does not fit. So 1/36 and 1/28 give 4/63, and 5/6 and 1/2 give 1/3 and a carry. `g` is the gcd of the denominators.
+fn parts_sum<T: Integer>(p: T, b: T, r: T, d: T, g: T) -> Option<(bool, T, T)>
+    requires left { IsPart (T.value p) (T.value b) }
+    requires right { IsPart (T.value r) (T.value d) }
+    requires left_lowest { IsLowestTerms (T.value p) (T.value b) }
+    requires right_lowest { IsLowestTerms (T.value r) (T.value d) }
+    requires gcd { IsGcdOf (T.value b) (T.value d) (T.value g) }
+    ensures { ChecksPartsSum T.value T.lo T.hi (sum_of (T.value p) (T.value b) (T.value r) (T.value d)) result }
+{
+    both_held(b, d);
+    let (for_right, _) = b.div_rem(g);
+    let (for_left, _) = d.div_rem(g);
+    let common = for_right.try_times(for_left)?;
+    let x = scaled_over(p, for_left, g);
+    let y = scaled_over(r, for_right, g);
+    let (carry, quotient, rest) = carried_sum(x, y, common, g);
+    let (last, factor) = cancelled(rest, g);
+    let denom = common.try_times(factor)?;
+    Some((carry, quotient.times(factor).plus(last), denom))
+}
+
+// `number` times `factor`, as a quotient and a rest by `g`.
+fn scaled_over<T: Integer>(number: T, factor: T, g: T) -> (T, T)
+    requires number { pos 0 ≤ℤ T.value number }
+    requires factor { pos 0 <ℤ T.value factor }
+    requires divisor { pos 0 <ℤ T.value g }
+    requires room { (T.value number *ℤ T.value factor) <ℤ (T.hi *ℤ T.value g) }
+    requires multiple { (T.value g *ℤ T.value factor) ≤ℤ T.hi }
+    ensures { IsDivided (T.value number *ℤ T.value factor) (T.value g) (T.value result.0) (T.value result.1) }
+{
+    let (quotient, rest) = number.div_rem(g);
+    if factor.is_one() {
+        return (quotient, rest);
+    }
+    let (more, rest) = product_over(rest, factor, g);
+    (quotient.times(factor).plus(more), rest)
+}
+
+// The sum of two numbers below `common * g`, each a quotient and a rest by `g`: whether it reaches
+// `common * g`, and the quotient and the rest of what remains.
+fn carried_sum<T: Integer>(x: (T, T), y: (T, T), common: T, g: T) -> (bool, T, T)
+    requires left { IsPart (T.value x.0) (T.value common) }
+    requires right { IsPart (T.value y.0) (T.value common) }
+    requires left_rest { IsPart (T.value x.1) (T.value g) }
+    requires right_rest { IsPart (T.value y.1) (T.value g) }
+    ensures sum { (T.value x.0 *ℤ T.value g +ℤ T.value x.1) +ℤ (T.value y.0 *ℤ T.value g +ℤ T.value y.1)
+        ≡ (carried result.0 *ℤ T.value common +ℤ T.value result.1) *ℤ T.value g +ℤ T.value result.2 }
+    ensures quotient { IsPart (T.value result.1) (T.value common) }
+    ensures rest { IsPart (T.value result.2) (T.value g) }
+{
+    let _ = common.held();
+    let (more, rest) = sum_over(x.1, y.1, g);
+    let (carry, quotient) = sum_over(x.0, carried_on(y.0, more), common);
+    (carry, quotient, rest)
 }

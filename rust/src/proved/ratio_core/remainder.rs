@@ -3,7 +3,8 @@
 
 mod long_remainder;
 pub mod lowest_remainder;
-pub(crate) mod wide;
+pub mod lowest_remainders;
+pub mod reducing;
 
 use crate::proved::ratio_core::scaling::scaled;
 use crate::proved::ratio_integer::{Integer, lowest_terms};

@@ -8,7 +8,7 @@
 //! time of one of 120 bits. So fields that fit an `i64` are cancelled across if both products are longer than that, and unequal.
 
 use crate::proved::ratio_core::checked_new::{checked_new, sign_moved};
-use crate::proved::ratio_core::remainder::wide::has_short_numbers;
+use crate::proved::ratio_core::magnitudes::has_short_numbers;
 use crate::proved::ratio_integer::{Integer, both_cancelled, both_lowest_terms, lowest_terms};
 
 /// The lowest terms of `a/b * c/d`, or `None` if they do not fit the type. Both fractions must be in lowest terms.
@@ -68,24 +68,17 @@ pub(crate) fn crossed_product<T: Integer>(a: T, b: T, c: T, d: T) -> Option<(T, 
     if has_short_numbers::<T>()
         && !(a.is_one() || b.is_one() || c.is_one() || d.is_one() || a == d || b == c)
     {
-        product_together(a, b, c, d)
-    } else {
-        product_in_turn(a, b, c, d)
+        return product_together(a, b, c, d);
     }
-}
-
-// The same with both gcds together. It is a call of its own, since its code is long: where it is not needed, a product takes less time without it.
-#[inline(never)]
-fn product_together<T: Integer>(a: T, b: T, c: T, d: T) -> Option<(T, T)> {
-    let ((p, t), (s, q)) = both_lowest_terms(a, d, c, b);
+    let (p, t) = lowest_terms(a, d);
+    let (s, q) = lowest_terms(c, b);
     multiplied(p, q, s, t)
 }
 
-// The same with one gcd after the other.
-#[inline]
-fn product_in_turn<T: Integer>(a: T, b: T, c: T, d: T) -> Option<(T, T)> {
-    let (p, t) = lowest_terms(a, d);
-    let (s, q) = lowest_terms(c, b);
+// The product with both gcds together. It is a call of its own, since its code is long: where it is not needed, a product takes less time without it.
+#[inline(never)]
+fn product_together<T: Integer>(a: T, b: T, c: T, d: T) -> Option<(T, T)> {
+    let ((p, t), (s, q)) = both_lowest_terms(a, d, c, b);
     multiplied(p, q, s, t)
 }
 
@@ -109,7 +102,7 @@ pub(crate) fn crossed_quotient<T: Integer>(a: T, b: T, c: T, d: T) -> Option<(T,
     }
 }
 
-// The same with both gcds together, and by a call of its own, too. If `a/c` needs no gcd, at most one gcd is left.
+// The quotient with both gcds together, by a call of its own as the product. If `a/c` needs no gcd, at most one gcd is left.
 #[inline(never)]
 fn quotient_together<T: Integer>(a: T, b: T, c: T, d: T) -> Option<(T, T)> {
     if c.is_zero() || a.is_zero() || a == c {
@@ -120,7 +113,7 @@ fn quotient_together<T: Integer>(a: T, b: T, c: T, d: T) -> Option<(T, T)> {
     multiplied(p, q, s, t)
 }
 
-// The same with one gcd after the other.
+// The quotient with one gcd after the other.
 #[inline(always)]
 fn quotient_in_turn<T: Integer>(a: T, b: T, c: T, d: T) -> Option<(T, T)> {
     let (s, t) = lowest_terms(d, b);

@@ -5,7 +5,6 @@ use Rattle.ratio_core.proofs.products.many_products.checked_quotient_of_products
 
 pub returns-then-has_zero-2 : goal.returns-then-has_zero-2
 returns-then-has_zero-2 g c =
-    let v = g.T.Integer.value in
     rw (c.ZERO-then-has_zero-2.ensures, c.ONE-then-has_zero-2.ensures) (zero_over _ _ _ _ _ _
     (c.has_zero-2.ensures.0 c.if-has_zero-2.true)
     (tells_nonzero _ c.has_zero.result c.has_zero.ensures c.if-has_zero.false)

@@ -8,7 +8,6 @@ use Rattle.ratio_core.proofs.sums.mixed.ceiling.Goals as goal
 pub returns-then-is_zero : goal.returns-then-is_zero
 returns-then-is_zero g c =
     let v = g.T.Integer.value in
-    let m = g.met.T.Integer in
     negative_divided _ _ _ _ (from_floored (v c.args.c) (v c.args.d) (v c.div_mod_floor-floor.result.0) (v c.div_mod_floor-floor.result.1) c.requires c.div_mod_floor-floor.ensures) (c.is_zero.ensures.0 c.if-is_zero.true)
 
 pub plus-requires : goal.plus-requires

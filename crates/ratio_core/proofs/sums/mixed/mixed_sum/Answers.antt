@@ -7,32 +7,24 @@ use Rattle.ratio_core.proofs.sums.mixed.mixed_sum.Goals as goal
 pub parts_sum-requires-clause-left : goal.parts_sum-requires-clause-left
 parts_sum-requires-clause-left g c =
     let v = g.T.Integer.value in
-    let m = g.met.T.Integer in
     let left = from_floored (v c.args.a) (v c.args.b) (v c.div_mod_floor-floor.result.0) (v c.div_mod_floor-floor.result.1) c.requires.left.positive c.div_mod_floor-floor.ensures in
-    let right = from_floored (v c.args.c) (v c.args.d) (v c.div_mod_floor-other.result.0) (v c.div_mod_floor-other.result.1) c.requires.right.positive c.div_mod_floor-other.ensures in
     left.rest
 
 pub parts_sum-requires-clause-right : goal.parts_sum-requires-clause-right
 parts_sum-requires-clause-right g c =
     let v = g.T.Integer.value in
-    let m = g.met.T.Integer in
-    let left = from_floored (v c.args.a) (v c.args.b) (v c.div_mod_floor-floor.result.0) (v c.div_mod_floor-floor.result.1) c.requires.left.positive c.div_mod_floor-floor.ensures in
     let right = from_floored (v c.args.c) (v c.args.d) (v c.div_mod_floor-other.result.0) (v c.div_mod_floor-other.result.1) c.requires.right.positive c.div_mod_floor-other.ensures in
     right.rest
 
 pub parts_sum-requires-clause-left_lowest : goal.parts_sum-requires-clause-left_lowest
 parts_sum-requires-clause-left_lowest g c =
     let v = g.T.Integer.value in
-    let m = g.met.T.Integer in
     let left = from_floored (v c.args.a) (v c.args.b) (v c.div_mod_floor-floor.result.0) (v c.div_mod_floor-floor.result.1) c.requires.left.positive c.div_mod_floor-floor.ensures in
-    let right = from_floored (v c.args.c) (v c.args.d) (v c.div_mod_floor-other.result.0) (v c.div_mod_floor-other.result.1) c.requires.right.positive c.div_mod_floor-other.ensures in
     rest_lowest _ _ _ _ c.requires.left left
 
 pub parts_sum-requires-clause-right_lowest : goal.parts_sum-requires-clause-right_lowest
 parts_sum-requires-clause-right_lowest g c =
     let v = g.T.Integer.value in
-    let m = g.met.T.Integer in
-    let left = from_floored (v c.args.a) (v c.args.b) (v c.div_mod_floor-floor.result.0) (v c.div_mod_floor-floor.result.1) c.requires.left.positive c.div_mod_floor-floor.ensures in
     let right = from_floored (v c.args.c) (v c.args.d) (v c.div_mod_floor-other.result.0) (v c.div_mod_floor-other.result.1) c.requires.right.positive c.div_mod_floor-other.ensures in
     rest_lowest (v c.args.c) (v c.args.d) (v c.div_mod_floor-other.result.0) (v c.div_mod_floor-other.result.1) c.requires.right right
 

@@ -1,0 +1,98 @@
+// Erased from crates/ratio_core/src/remainder/lowest_remainders.rt by rust/erase: not to be edited.
+//! Remainders of fractions in lowest terms: over a type of exact remainders, `Some` exactly if the lowest terms fit.
+//!
+//! Over types of at most 64 bits, the numerators are first divided over the product of the denominators: 3/4 by 1/2 is 6 by 4 over 8. So the
+//! gcd of the denominators is needed only where a product does not fit. Then the numerators are divided over the least common denominator: 3
+//! by 2 over 4. If a number there does not fit, as 127 * 127 for 127/1 by 1/127 over `i8`, magnitudes are divided in `u128`. Both ways use
+//! the gcd.
+//!
+//! A type of 128 bits begins with the gcd, since divisions of longer numbers cost more there. So does every type if 16 divides both
+//! denominators, as for 1/1024 by 1/256: over 1024, the numbers are much shorter than over the product.
+
+use crate::proved::ratio_core::magnitudes::{has_short_numbers, magnitude, with_sign_of};
+use crate::proved::ratio_core::remainder;
+use crate::proved::ratio_core::remainder::long_remainder::long_remainder;
+use crate::proved::ratio_core::remainder::truncated_rest;
+use crate::proved::ratio_integer::{Integer, cancelled, lowest_terms};
+
+/// The lowest terms of `x - t*y`. Here `x` is `a/b`, `y` is `c/d`, and `t` is their quotient cut towards zero. Both fractions must be in
+/// lowest terms, so fewer greatest common divisors are needed than for any fractions.
+///
+/// If `EXACT_REMAINDERS` is true, the call returns `None` exactly if `c` is 0 or the lowest terms of the remainder do not fit the type. If it
+/// is false, the call returns what `remainder::checked_rem` returns.
+///
+/// # Conditions
+///
+/// The proof requires of the caller:
+///
+/// - `left`: `IsLowestTerms (T.value a) (T.value b)`
+/// - `right`: `IsLowestTerms (T.value c) (T.value d)`
+#[inline(always)]
+pub fn checked_rem<T: Integer>(a: T, b: T, c: T, d: T) -> Option<(T, T)> {
+    if T::EXACT_REMAINDERS {
+        if c.is_zero() {
+            return None;
+        }
+        return exact_rem(a, b, c, d);
+    }
+    remainder::checked_rem(a, b, c, d)
+}
+
+// The lowest terms of the remainder, or `None` if they do not fit.
+#[inline]
+fn exact_rem<T: Integer>(a: T, b: T, c: T, d: T) -> Option<(T, T)> {
+    if b == d {
+        return Some(lowest_terms(truncated_rest(a, c), b));
+    }
+    if has_short_numbers::<T>() && !are_multiples_of_16(b, d) {
+        if let Some(rest) = expanded_rest(a, b, c, b, d) {
+            return Some(rest);
+        }
+    }
+    let (for_right, for_left) = cancelled(b, d);
+    if let Some(rest) = expanded_rest(a, b, c, for_right, for_left) {
+        return Some(rest);
+    }
+    wide_rem_of_lowest(a, b, c, d, for_right, for_left)
+}
+
+// Whether 16 divides both numbers.
+#[inline(always)]
+fn are_multiples_of_16<T: Integer>(b: T, d: T) -> bool {
+    match (b.to_u128(), d.to_u128()) {
+        (Some(b), Some(d)) => b % 16 == 0 && d % 16 == 0,
+        _ => false,
+    }
+}
+
+// The lowest terms of the rest of `a * for_left` by `c * for_right`, over `b * for_left`, or `None` if one of the three
+// products does not fit.
+#[inline(always)]
+fn expanded_rest<T: Integer>(a: T, b: T, c: T, for_right: T, for_left: T) -> Option<(T, T)> {
+    let left = a.try_times(for_left)?;
+    let right = c.try_times(for_right)?;
+    let common = b.try_times(for_left)?;
+    Some(lowest_terms(truncated_rest(left, right), common))
+}
+
+// The lowest terms of the remainder from magnitudes, or `None` if they do not fit. `for_right` and `for_left` are `b` and `d`, divided by
+// their gcd, which the caller has needed: so one gcd is left, at most.
+#[cold]
+fn wide_rem_of_lowest<T: Integer>(
+    a: T,
+    b: T,
+    c: T,
+    d: T,
+    for_right: T,
+    for_left: T,
+) -> Option<(T, T)> {
+    let (numer, denom) = long_remainder(
+        magnitude(a),
+        magnitude(b),
+        magnitude(c),
+        magnitude(d),
+        magnitude(for_right),
+        magnitude(for_left),
+    )?;
+    Some((with_sign_of(a, numer)?, T::from_u128(denom)?))
+}

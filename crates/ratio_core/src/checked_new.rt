@@ -28,7 +28,7 @@ pub fn checked_new<T: Integer>(n: T, d: T) -> Option<(T, T)>
     sign_moved(numer, denom)
 }
 
-/// The same fraction with a positive denominator, or `None` if it does not fit the type.
+/// `a/b` with a positive denominator, or `None` if it does not fit the type: -3/2 for 3/-2.
 pub(crate) fn sign_moved<T: Integer>(a: T, b: T) -> Option<(T, T)>
     requires { IsCancelled (T.value a) (T.value b) }
     ensures { ChecksLowest (λ r. T.value r.0) (λ r. T.value r.1) T.lo T.hi (T.value a, T.value b) result }

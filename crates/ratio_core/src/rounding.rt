@@ -66,7 +66,7 @@ pub fn fract<T: Integer>(n: T, d: T) -> T
     cut(n, d).1
 }
 
-/// The same as `trunc`.
+/// What `trunc` returns, by the name of the call of `num-rational` whose result is a number and no fraction.
 pub fn to_integer<T: Integer>(n: T, d: T) -> T
     requires { pos 0 <ℤ T.value d }
     ensures { IsTruncation (T.value n) (T.value d) (T.value result) }

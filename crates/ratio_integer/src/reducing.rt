@@ -31,7 +31,7 @@ pub fn cancelled<T: Integer>(n: T, d: T) -> (T, T)
     divided(n, d, n.gcd(d))
 }
 
-/// The same, with a given gcd.
+/// Both numbers, divided by their gcd, which the caller has found: `gcds` finds those of two pairs together.
 pub(crate) fn divided<T: Integer>(n: T, d: T, divisor: T) -> (T, T)
     requires fraction { T.value d ≢ pos 0 }
     requires greatest { IsGcdOf (T.value n) (T.value d) (T.value divisor) }

@@ -7,10 +7,10 @@ pub enum Form {
     Decimal,
     /// The two's complement in base 2, in the width of the type: `11111111` for -1 over `i8`. Its prefix is `0b`.
     Binary,
-    /// The same in base 8, with the prefix `0o`.
+    /// The two's complement in base 8: `377` for -1 over `i8`. Its prefix is `0o`.
     Octal,
-    /// The same in base 16, with the digits `a` to `f` and the prefix `0x`.
+    /// The two's complement in base 16, with the digits `a` to `f`: `ff` for -1 over `i8`. Its prefix is `0x`.
     LowerHex,
-    /// The same with the digits `A` to `F`.
+    /// The two's complement in base 16, with the digits `A` to `F`: `FF` for -1 over `i8`. Its prefix is `0x`, too.
     UpperHex,
 }

@@ -104,7 +104,7 @@ fn put_prefixed<T: Primitive>(
     }
 }
 
-// The same for the prefix alone.
+// Writes the prefix of the form so that it ends at `end`, and returns where it starts. A decimal has none.
 fn put_prefix(form: Form, buf: &mut [u8], end: usize) -> usize
     requires room { 2 ≤ end }
     requires inside { end ≤ length buf.old }
@@ -124,7 +124,7 @@ fn put_prefix(form: Form, buf: &mut [u8], end: usize) -> usize
     end - 2
 }
 
-// The same for the number alone.
+// Writes the number without a prefix so that it ends at `end`, and returns where it starts.
 fn put_number<T: Primitive>(t: T, form: Form, buf: &mut [u8], end: usize) -> usize
     requires room { 128 ≤ end }
     requires inside { end ≤ length buf.old }

@@ -33,7 +33,7 @@ pub fn leading_fields<T: Primitive>(bytes: &[u8]) -> Option<(T, T, usize)>
     Some((numer, denom, at + 1 + count))
 }
 
-/// The same in any radix, for a text with a slash.
+/// The two numbers of a text in any radix, with a slash and without a plus sign, not reduced. `None` says nothing about the text.
 pub(crate) fn quick_slashed_fields<T: Primitive>(bytes: &[u8], radix: u32) -> Option<(T, T)>
     requires low { 2 ≤ radix }
     requires high { radix ≤ 36 }

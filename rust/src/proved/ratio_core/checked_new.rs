@@ -25,7 +25,7 @@ pub fn checked_new<T: Integer>(n: T, d: T) -> Option<(T, T)> {
     sign_moved(numer, denom)
 }
 
-/// The same fraction with a positive denominator, or `None` if it does not fit the type.
+/// `a/b` with a positive denominator, or `None` if it does not fit the type: -3/2 for 3/-2.
 ///
 /// # Conditions
 ///

@@ -84,7 +84,7 @@ pub fn fract<T: Integer>(n: T, d: T) -> T {
     cut(n, d).1
 }
 
-/// The same as `trunc`.
+/// What `trunc` returns, by the name of the call of `num-rational` whose result is a number and no fraction.
 ///
 /// # Conditions
 ///

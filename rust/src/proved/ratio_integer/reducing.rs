@@ -37,7 +37,7 @@ pub fn cancelled<T: Integer>(n: T, d: T) -> (T, T) {
     divided(n, d, n.gcd(d))
 }
 
-/// The same, with a given gcd.
+/// Both numbers, divided by their gcd, which the caller has found: `gcds` finds those of two pairs together.
 ///
 /// # Conditions
 ///

@@ -45,7 +45,7 @@ fn groups(n: u128) -> u128 {
     guess + ((left / 8) as u64 / (GROUP / 8)) as u128
 }
 
-/// The same for a number of 64 bits. The bounds are tested once for four digits.
+/// Writes a number of 64 bits as `put_digits` does, with divisions of 64 bits. The bounds are tested once for four digits.
 ///
 /// # Conditions
 ///

@@ -77,7 +77,7 @@ fn put_prefixed<T: Primitive>(
     }
 }
 
-// The same for the prefix alone.
+// Writes the prefix of the form so that it ends at `end`, and returns where it starts. A decimal has none.
 #[inline]
 fn put_prefix(form: Form, buf: &mut [u8], end: usize) -> usize {
     let letter = match form {
@@ -92,7 +92,7 @@ fn put_prefix(form: Form, buf: &mut [u8], end: usize) -> usize {
     end - 2
 }
 
-// The same for the number alone.
+// Writes the number without a prefix so that it ends at `end`, and returns where it starts.
 #[inline]
 fn put_number<T: Primitive>(t: T, form: Form, buf: &mut [u8], end: usize) -> usize {
     match form {

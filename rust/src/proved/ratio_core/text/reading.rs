@@ -23,8 +23,8 @@ pub fn from_str<T: Primitive>(text: &str) -> Result<(T, T), ParseRatioError> {
     }
 }
 
-/// The same in a radix, for a text `N/D` only: a text without a slash is a parse error. The digits above 9
-/// are the letters, in either case. A number has no prefix such as `0x`.
+/// The fraction of a text `N/D` in a radix, in lowest terms, with the refusals of `from_str`. A text without a slash is a parse error, as
+/// `num-rational` has it. The digits above 9 are the letters, in either case. A number has no prefix such as `0x`.
 ///
 /// # Conditions
 ///
@@ -103,7 +103,7 @@ fn nonzero<T: Integer>(numer: T, denom: T) -> Result<(T, T), ParseRatioError> {
     }
 }
 
-// The same for any text, with a search for the slash.
+// What `fields` returns, by a search for the slash: for what `quick_fields` leaves, such as a plus sign, a long number or no number.
 #[inline]
 fn long_fields<T: Primitive>(text: &str) -> Result<(T, T), ParseRatioError> {
     match text.split_once('/') {

@@ -1,9 +1,10 @@
 // Erased from crates/ratio_core/src/order.rt by rust/erase: not to be edited.
 //! The order of two fractions, by what decides it soonest.
 //!
-//! If the denominators are one positive number, the numerators have the order of the fractions. Else the cross products decide, if both fit
-//! the type, and else unlike signs. What is left `compare` and `cmp_counted` decide by rounds of divisions. `cross_order` first tries to form
-//! the cross products as half digits.
+//! `compare` and `cross_order` make three tests first. If the denominators are one positive number, the numerators have the order of the
+//! fractions. If both cross products fit the type, these have it. If the denominators are positive and just one numerator is below 0, the
+//! numerators have it again. What is left, `compare` decides by rounds of divisions, as `cmp_counted` does wherever a product does not fit.
+//! `cross_order` tries half digits of the products before it divides.
 
 pub mod dividing;
 mod half_digits;

@@ -10,7 +10,7 @@
  *
  * Threads: the library keeps no state, so all calls may run at once, if none writes an array that another one uses.
  *
- * Signals: a handler may make each call, since none takes a lock, sets errno or allocates memory.
+ * Signals: a handler may make each call with arrays of its own, since none takes a lock, sets errno or allocates memory.
  *
  * Stability: no call, struct or number of this header changes or goes while the shared library is libratio_c.so.0. New ones may come.
  *

@@ -207,6 +207,8 @@ public:
 
 private:
     friend class total;
+    template <class Iterator>
+    friend std::optional<ratio> try_product(Iterator first, Iterator last);
 
     static ratio taken(const ratio_answer_i64 &answer) {
         detail::need(answer.code);
@@ -350,6 +352,18 @@ private:
 template <class Iterator>
 std::optional<ratio> try_sum(Iterator first, Iterator last) {
     return total(first, last).sum();
+}
+
+/// The exact product of many fractions, in the same way.
+template <class Iterator>
+std::optional<ratio> try_product(Iterator first, Iterator last) {
+    const ratio_i64 one{1, 1};
+    std::vector<ratio_i64> factors(1, one);
+    for (; first != last; ++first) factors.push_back(ratio(*first).value());
+    std::vector<std::int64_t> room(2 * factors.size());
+    ratio_answer_i64 answer{};
+    detail::done(ratio_quotient_of_i64(factors.data(), factors.size(), &one, 0, room.data(), room.size(), &answer, 1));
+    return ratio::maybe(answer);
 }
 
 inline namespace literals {

@@ -167,6 +167,10 @@ static void totals() {
     EXPECT(moved.decimal(3) == before);
     const std::vector<ratio> back = {ratio(most), ratio(1, most), ratio(-1, most)};
     EXPECT(*bakhsney::try_sum(back.begin(), back.end()) == ratio(most));
+    const std::vector<ratio> factors = {ratio(most, 3), 3, ratio(1, most)};
+    const std::vector<int> large(64, 2);
+    EXPECT(*bakhsney::try_product(factors.begin(), factors.end()) == 1 && *bakhsney::try_product(factors.begin(), factors.begin()) == 1);
+    EXPECT(*bakhsney::try_product(large.begin(), large.begin() + 62) == ratio(std::int64_t{1} << 62) && !bakhsney::try_product(large.begin(), large.end()));
     bakhsney::total small;
     small += ratio(1, 36);
     small += ratio(1, 28);

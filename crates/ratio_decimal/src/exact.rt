@@ -76,7 +76,7 @@ fn put_exact(n: u128, d: u128, places: usize, below: bool, buf: &mut [u8]) -> us
     start
 }
 
-// The same without a sign.
+// Writes the digits, without a sign.
 fn put_cut(n: u128, d: u128, places: usize, buf: &mut [u8]) -> usize
     requires positive { 0 < d }
     requires few { 2 ^ places ≤ d }

@@ -10,7 +10,6 @@ mod rounded;
 pub mod rounding_rule;
 mod side;
 mod typed;
-mod whole;
 
 pub use exact::exact_decimal;
 pub use long::write_places;

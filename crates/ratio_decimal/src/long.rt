@@ -48,7 +48,7 @@ pub fn write_places<T: Primitive, W: Write>(
     )
 }
 
-// The same for n/d, after a minus if the fraction is below 0.
+// Writes n/d, after a minus if `below`.
 fn write_long<W: Write>(
     n: u128,
     d: u128,

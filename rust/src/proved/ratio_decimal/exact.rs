@@ -66,7 +66,7 @@ fn put_exact(n: u128, d: u128, places: usize, below: bool, buf: &mut [u8]) -> us
     start
 }
 
-// The same without a sign.
+// Writes the digits, without a sign.
 #[inline]
 fn put_cut(n: u128, d: u128, places: usize, buf: &mut [u8]) -> usize {
     if places == 0 {

@@ -45,7 +45,7 @@ pub fn write_places<T: Primitive>(
     )
 }
 
-// The same for n/d, after a minus if the fraction is below 0.
+// Writes n/d, after a minus if `below`.
 #[inline]
 fn write_long(
     n: u128,

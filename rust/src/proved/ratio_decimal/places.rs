@@ -74,7 +74,7 @@ fn has_minus(whole: u128, part: u128, below: bool) -> bool {
     below && (whole != 0 || part != 0)
 }
 
-// The same without a sign. The places are written after a 1, which keeps their leading zeros. The point overwrites it.
+// Writes the magnitude. The places are written after a 1, which keeps their leading zeros. The point overwrites it.
 #[inline]
 fn put_unsigned(whole: u128, part: u128, power: u128, places: u32, buf: &mut [u8]) -> usize {
     if places == 0 {

@@ -1,10 +1,31 @@
 // Erased from crates/ratio_decimal/src/rounded.rt by rust/erase: not to be edited.
-//! A fraction rounded to a multiple of `1/parts`, such as cents or quarters.
+//! A fraction rounded to a whole number, or to a multiple of `1/parts`, such as cents or quarters.
 
 use crate::proved::ratio_decimal::rounding_rule::Rounding;
 use crate::proved::ratio_decimal::side::{side_of, takes_next};
-use crate::proved::ratio_core::sums::{multiple_over, numerator_of};
+use crate::proved::ratio_core::sums::{carried_on, multiple_over, numerator_of};
 use crate::proved::ratio_integer::{Integer, both_held, lowest_terms};
+
+/// The whole number that the rule gives of `n/d`. It always fits the type: `d` is at least 1.
+///
+/// # Conditions
+///
+/// The proof requires of the caller:
+///
+/// - `pos 0 <ℤ T.value d`
+#[inline]
+pub(crate) fn rounded_whole<T: Integer>(n: T, d: T, rule: Rounding) -> T {
+    both_held(n, d);
+    if d.is_one() {
+        return n;
+    }
+    let (floor, left) = n.div_mod_floor(d);
+    let _ = floor.held();
+    let up = takes_next(rule, (floor, T::ZERO), T::ONE, side_of(left, d));
+    let whole = carried_on(floor, up);
+    let _ = whole.held();
+    whole
+}
 
 /// The multiple of `1/parts` that the rule says, in lowest terms, or `None` if they do not fit the type. Over `i8`,
 /// 100/3 in hundredths does not fit.

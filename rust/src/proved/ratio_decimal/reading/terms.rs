@@ -94,8 +94,8 @@ fn digit_before(digit: u128, behind: Terms) -> Option<Terms> {
     Some(Terms { numer, denom })
 }
 
-// The same for a part whose denominator has at most 18 digits, so that all numbers fit 64 bits. Each divisor is a constant, and the
-// compiler divides by a constant with a product.
+// The quick way for a denominator of at most 18 digits, where all numbers fit 64 bits. Each divisor is a constant, and the compiler
+// divides by a constant with a product.
 #[inline(always)]
 fn short_digit_before(digit: u64, numer: u64, denom: u64) -> Terms {
     let all = digit * denom + numer;

@@ -32,7 +32,7 @@ pub(crate) fn lowest(whole: &[u8], part: &[u8], down: bool, exponent: &[u8]) -> 
     }
 }
 
-/// The same, divided by 100: the exponent is 2 lower.
+/// The lowest terms of the decimal by 100, for a percentage: the exponent is 2 lower.
 ///
 /// # Conditions
 ///

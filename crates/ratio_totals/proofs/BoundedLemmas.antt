@@ -6,7 +6,7 @@ use Rattle.ratio_integer.proofs.Whole.{mul-swap_last, mul_assoc}
 use Rattle.ratio_core.proofs.ProductOrder.{times_le}
 use Rattle.ratio_decimal.specs.RoundingRules.{IsRoundedBy, signed}
 use Rattle.ratio_decimal.specs.declared.rounding_rule.Rounding.{Rounding}
-use Rattle.ratio_decimal.proofs.RoundingRuleLaws.{each_by, rounded_monotone}
+use Rattle.ratio_decimal.proofs.RoundingRuleLaws.{each_by, one_by, rounded_monotone}
 use Rattle.ratio_long.specs.Decimals.{IsLongDecimalOf, long_decimal}
 use Rattle.ratio_long.proofs.DecimalLemmas.{signed_times}
 use Rattle.ratio_natural.specs.Number.{base}
@@ -14,7 +14,7 @@ use Rattle.ratio_natural.proofs.NumberLemmas.{pow_positive}
 use Rattle.ratio_totals.proofs.BoundLemmas.{bounds_hold}
 use Rattle.ratio_totals.proofs.DecimalLemmas.{above_zero_ℤ, signed_whole}
 use Rattle.ratio_totals.proofs.MergeSums.{sum_positive}
-use Rattle.ratio_totals.specs.Bounds.{BoundsDecide, LiesBetween, high_of, low_of}
+use Rattle.ratio_totals.specs.Bounds.{BoundsDecide, LiesBetween, RoundsApart, high_of, low_of}
 use Rattle.ratio_totals.specs.Common.{whole_number}
 use Rattle.ratio_totals.specs.Sums.{sum_of_slots}
 use Rattle.ratio_totals.specs.declared.slots.Slot.{Slot}
@@ -70,6 +70,14 @@ bounds_decide rule places parts slots z some low_is high_is = record {
   rounded = rounded_between rule (10 ^ places) slots parts (low_of parts slots) (high_of parts slots) z some (bounds_hold slots parts) low_is high_is;
   written = refl;
 }
+
+-- such bounds are not apart
+pub not_apart : (rule : Rounding) (places k : ℕ) (slots : List Slot) (low high : ℤ) → low ≡ high
+    → IsRoundedBy rule (low_of (base ^ k) slots *ℤ pos (10 ^ places)) (pos (base ^ k)) low → IsRoundedBy rule (high_of (base ^ k) slots *ℤ pos (10 ^ places)) (pos (base ^ k)) high
+    → ¬ (RoundsApart rule places slots (base ^ k))
+not_apart rule places k slots low high same low_is high_is =
+    let unit = above_zero_ℤ (base ^ k) (pow_positive k) in
+    λ apart. apart.apart (one_by rule _ _ apart.low low unit apart.low_is low_is ∙ same ∙ one_by rule _ _ high apart.high unit high_is apart.high_is)
 
 -- the same of a text
 pub decimal_between : (rule : Rounding) (places k : ℕ) (slots : List Slot) (low high : ℤ) (text : List ℕ) → low ≡ high

@@ -32,5 +32,4 @@ pub mod WideLawLemmas
 pub mod StepLemmas
 pub mod RoomSumLemmas
 pub mod RoomOrderLemmas
-pub mod RoomMoveLemmas
 pub mod RoomLaws

@@ -6,7 +6,7 @@ use Rattle.ratio_decimal.specs.declared.rounding_rule.Rounding.{Rounding}
 use Rattle.ratio_float.specs.Floats.{nearest_float}
 use Rattle.ratio_long.specs.Decimals.{IsLongDecimalOf}
 use Rattle.ratio_totals.specs.Common.{IsJoined}
-use Rattle.ratio_totals.specs.Joined.{common_in, joined_pair, negative_in, positive_in}
+use Rattle.ratio_totals.specs.Joined.{joined_pair, three_in}
 use Rattle.ratio_totals.specs.LowestSum.{ChecksMeanOfSlots, ChecksPairMean, ChecksShortPair}
 use Rattle.ratio_totals.specs.SumOrder.{sign_of_slots}
 use Rattle.ratio_totals.specs.Sums.{sum_of_slots}
@@ -15,7 +15,7 @@ use Rattle.ratio_totals.specs.declared.slots.Slot.{Slot}
 -- the room holds the join of the table, with so many digits for the common denominator
 -- Example: 1/36, 1/28 with 1 digit, in the room 16, 0, 0, 0, 252, 0, 0, 0, 0, 0
 abbrev pub IsJoinedIn : List Slot → ℕ → List ℕ → Type 0
-IsJoinedIn slots digits room = IsJoined slots (common_in digits room) (positive_in digits room) (negative_in digits room)
+IsJoinedIn slots digits room = IsJoined slots (three_in digits room)
 
 -- the sum of the room in lowest terms is that of the table
 abbrev pub JoinedSums : Type 0

@@ -7,6 +7,7 @@ pub mod Sums
 pub mod Totals
 pub mod Merging
 pub mod TotalLaws
+pub mod Numbers
 pub mod Common
 pub mod Joined
 pub mod JoinedLaws

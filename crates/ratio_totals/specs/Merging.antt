@@ -3,6 +3,7 @@ use Rattle.std.specs.Prelude.{◌≡◌, ◌≢◌, ◌+◌, ◌*◌, ◌-◌, �
 use Rattle.ratio_totals.specs.Slots.{IsTable, slot_at}
 use Rattle.ratio_totals.specs.Sums.{SameSum, pair_sum, numerator_at, sum_of_slots}
 use Rattle.ratio_totals.specs.Totals.{most_weight}
+use Rattle.ratio_totals.specs.Turning.{turned_slots}
 use Rattle.ratio_totals.specs.declared.total.Refusal.{Refusal}
 use Rattle.ratio_totals.specs.declared.total.Refusal.TheVariants.{MoreRoom, TooMany}
 use Rattle.ratio_totals.specs.declared.slots.Slot.{Slot}
@@ -54,6 +55,13 @@ pub record SumAdds (old other new : List Slot) : Type 0 where
 -- Example: 36, 28, empty, empty merged with 36, 12: one slot is empty afterwards
 pub record TakesSlots (old other new : List Slot) : Type 0 where
   pub free : free_of new + new_of old other ≡ free_of old
+
+-- Inner: each fraction of the other table went into the old one, or out of it, and all that this changes is said
+pub record IsMerged (out : Bool) (old other new : List Slot) : Type 0 where
+  pub numerators : AddsEach old (turned_slots out other) new
+  pub sum : SumAdds old (turned_slots out other) new
+  pub held : HoldsBoth old other new
+  pub free : TakesSlots old other new
 
 -- the weights leave room for each other, and there is an empty slot for each denominator that is new
 pub record CanMerge (slots : List Slot) (weight : ℕ) (other : List Slot) (more : ℕ) : Type 0 where

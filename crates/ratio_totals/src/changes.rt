@@ -1,11 +1,11 @@
 //! What goes into slots and out of them: one fraction, those of another table, and one fraction where the slots may hold anything.
 ghost use Rattle.std.specs.Prelude.{◌≡◌, ◌≢◌, ◌<◌, ◌≤◌, ◌^◌, ◌+◌, ◌+ℤ◌, ◌↔◌, unsigned_abs, length, IfErr, IsTrue, MatchResult, OnErr, OnOk};
 ghost use Rattle.ratio_totals.specs.Loose.{IsClean, IsLooseRefusedFor, TakesLoose};
-ghost use Rattle.ratio_totals.specs.Merging.{AddsEach, CanMerge, HoldsBoth, IsMergeRefusedFor, SumAdds, TakesSlots};
+ghost use Rattle.ratio_totals.specs.Merging.{CanMerge, IsMergeRefusedFor, IsMerged};
 ghost use Rattle.ratio_totals.specs.Slots.{slot_at};
 ghost use Rattle.ratio_totals.specs.Sums.{GrowsAt, Has128Bits, Puts, SumGrows};
 ghost use Rattle.ratio_totals.specs.Totals.{IsKept, IsRefusedFor, PutsOne};
-ghost use Rattle.ratio_totals.specs.Turning.{turned, turned_slots};
+ghost use Rattle.ratio_totals.specs.Turning.{turned};
 
 use crate::slots::{Slot, count_free, count_new, denom_at, find, grow_at, numer_at};
 use crate::total::{MOST_WEIGHT, Refusal, Tally};
@@ -54,10 +54,7 @@ pub(crate) fn merge_slots(
     requires kept { IsKept slots.old tally.old.weight tally.old.count }
     requires other { IsKept other.now more.weight more.count }
     ensures kept { IsKept slots.new tally.new.weight tally.new.count }
-    ensures numerators { OnOk result (AddsEach slots.old (turned_slots out other.now) slots.new) }
-    ensures sum { OnOk result (SumAdds slots.old (turned_slots out other.now) slots.new) }
-    ensures held { OnOk result (HoldsBoth slots.old other.now slots.new) }
-    ensures free { OnOk result (TakesSlots slots.old other.now slots.new) }
+    ensures merged { OnOk result (IsMerged out slots.old other.now slots.new) }
     ensures count { OnOk result (tally.new.count ≡ tally.old.count +ℤ turned out more.count) }
     ensures weight { OnOk result (tally.new.weight ≡ tally.old.weight + more.weight) }
     ensures accepted { OnOk result (CanMerge slots.old tally.old.weight other.now more.weight) }
@@ -91,10 +88,7 @@ fn pour(slots: &mut [Slot], tally: Tally, other: &[Slot], more: Tally, out: bool
     requires other { IsKept other.now more.weight more.count }
     requires room { CanMerge slots.old tally.weight other.now more.weight }
     ensures kept { IsKept slots.new (tally.weight + more.weight) (tally.count +ℤ turned out more.count) }
-    ensures numerators { AddsEach slots.old (turned_slots out other.now) slots.new }
-    ensures sum { SumAdds slots.old (turned_slots out other.now) slots.new }
-    ensures held { HoldsBoth slots.old other.now slots.new }
-    ensures free { TakesSlots slots.old other.now slots.new }
+    ensures merged { IsMerged out slots.old other.now slots.new }
 {
     'pouring: for i in 0..other.len() {
         let denom = denom_at(other, i);

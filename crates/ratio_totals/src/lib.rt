@@ -20,6 +20,7 @@ mod rooms;
 mod rounding;
 mod short_sums;
 mod slots;
+mod sums;
 mod texts;
 mod total;
 mod total_reads;

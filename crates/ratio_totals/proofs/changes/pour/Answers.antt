@@ -1,9 +1,11 @@
+use Rattle.std.specs.Prelude.{◌≤◌, length}
 use Rattle.std.proofs.Common.{arith, rules}
 use mir.Facts.{to_z-of_z}
 use mir.Syntax.{w128}
 use mir.Val.{SFits}
 use Rattle.ratio_totals.proofs.PourLemmas.{free_ends, held_ends, pour_held, poured_kept, pouring_begins, pouring_ends, pouring_has_place, pouring_skips, pouring_steps, sum_ends}
 use Rattle.ratio_totals.proofs.TurnLemmas.{can_turned, holds_turned, kept_turned, takes_turned, turned_length, turned_read}
+use Rattle.ratio_totals.specs.Turning.{turned_slots}
 use Rattle.ratio_totals.proofs.changes.pour.Goals as goal
 
 pub pouring-init : goal.pouring-init
@@ -35,18 +37,13 @@ returns-clause-kept c =
     let out = c.args.out in
     poured_kept _ _ _ _ _ c.pouring.i _ _ (omega (arith, turned_length out c.args.other.now, c.pouring-test.false)) c.pouring.invariant c.requires.kept (kept_turned out _ _ _ c.requires.other) (can_turned out _ _ _ _ c.requires.room)
 
-pub returns-clause-numerators : goal.returns-clause-numerators
-returns-clause-numerators c = pouring_ends _ _ _ _ _ c.pouring.i (omega (arith, turned_length c.args.out c.args.other.now, c.pouring-test.false)) c.pouring.invariant
-
-pub returns-clause-sum : goal.returns-clause-sum
-returns-clause-sum c = sum_ends _ _ _ _ _ c.pouring.i (omega (arith, turned_length c.args.out c.args.other.now, c.pouring-test.false)) c.pouring.invariant
-
-pub returns-clause-held : goal.returns-clause-held
-returns-clause-held c =
+pub returns-clause-merged : goal.returns-clause-merged
+returns-clause-merged c =
     let out = c.args.out in
-    holds_turned out _ _ _ (held_ends _ _ _ _ _ c.pouring.i (omega (arith, turned_length out c.args.other.now, c.pouring-test.false)) c.pouring.invariant)
-
-pub returns-clause-free : goal.returns-clause-free
-returns-clause-free c =
-    let out = c.args.out in
-    takes_turned out _ _ _ (free_ends _ _ _ _ _ c.pouring.i (omega (arith, turned_length out c.args.other.now, c.pouring-test.false)) c.pouring.invariant)
+    let done : length (turned_slots out c.args.other.now) ≤ c.pouring.i = omega (arith, turned_length out c.args.other.now, c.pouring-test.false) in
+    record {
+      numerators = pouring_ends _ _ _ _ _ c.pouring.i done c.pouring.invariant;
+      sum = sum_ends _ _ _ _ _ c.pouring.i done c.pouring.invariant;
+      held = holds_turned out _ _ _ (held_ends _ _ _ _ _ c.pouring.i done c.pouring.invariant);
+      free = takes_turned out _ _ _ (free_ends _ _ _ _ _ c.pouring.i done c.pouring.invariant);
+    }

@@ -21,10 +21,10 @@ use Rattle.ratio_core.proofs.Floored.{one-mul}
 use Rattle.ratio_core.proofs.LawLemmas.{same_value_sums}
 use Rattle.ratio_core.proofs.ProductOrder.{times_le, whole_at_most}
 use Rattle.ratio_core.proofs.RoundingLawLemmas.{each_rounded}
-use Rattle.num_rational.specs.Common.{IsNextOver, IsSumOver, IsTotalOver, IsWholeOver}
+use Rattle.num_rational.specs.Common.{AreSharesOver, IsPartOver, IsSumOver, IsTotalOver, IsWholeOver}
 use Rattle.num_rational.specs.Split.{CanBeSplit, IsRoundedShare, MarkFits, MarksFit, NoShareIsBelowZero, SharesMakeOne, SharesOverPositive, total_of_shares}
-use Rattle.num_rational.proofs.SplitLemmas.{IsSplitSoFar, fits_moved, last_mark, next_part_held, next_same, part_held, rounded_moved, sign_up, split_more, total_next}
-use Rattle.num_rational.proofs.WeightLemmas.{mark_held}
+use Rattle.num_rational.proofs.SplitLemmas.{IsSplitSoFar, fits_moved, next_part_held, next_same, part_held, rounded_moved, sign_up, split_more, total_next}
+use Rattle.num_rational.proofs.WeightLemmas.{mark_held, share_more}
 
 -- a product is at most another with the same positive factor only if the other factors are
 pub at_most : (x y d : ℤ) → pos 0 <ℤ d → (x *ℤ d) ≤ℤ (y *ℤ d) → x ≤ℤ y
@@ -44,11 +44,22 @@ one_moved x y x_up y_up same below =
     let times = times_le x.0 x.1 y.1 below (above_zero y.1 y_up) in
     at_most y.0 y.1 x.1 x_up (rw (sym same, *ℤ_comm y.1 x.1) times)
 
+-- what has the value of a fraction that is not below 0 is not below 0
+pub above_moved : (x y : ℤ × ℤ) → pos 0 <ℤ x.1 → pos 0 <ℤ y.1 → SameValue x.0 x.1 y.0 y.1 → pos 0 ≤ℤ x.0 → pos 0 ≤ℤ y.0
+above_moved x y x_up y_up same above =
+    let some = sign_up x.0 y.1 above (above_zero y.1 y_up) in
+    at_most (pos 0) y.0 x.1 x_up (rw (zero-*ℤ x.1, sym same) some)
+
 -- a fraction is at most 1 if it is with another one that is not below 0
 less_is_one : (x y : ℤ × ℤ) → pos 0 <ℤ x.1 → pos 0 <ℤ y.1 → pos 0 ≤ℤ y.0 → (sum_of x.0 x.1 y.0 y.1).0 ≤ℤ (sum_of x.0 x.1 y.0 y.1).1 → x.0 ≤ℤ x.1
 less_is_one x y x_up y_up above below =
     let more = sign_up y.0 x.1 above (above_zero x.1 x_up) in
     at_most x.0 x.1 y.1 y_up (omega (arith, ints))
+
+second_is_one : (x y : ℤ × ℤ) → pos 0 <ℤ x.1 → pos 0 <ℤ y.1 → pos 0 ≤ℤ x.0 → (sum_of x.0 x.1 y.0 y.1).0 ≤ℤ (sum_of x.0 x.1 y.0 y.1).1 → y.0 ≤ℤ y.1
+second_is_one x y x_up y_up above below =
+    let more = sign_up x.0 y.1 above (above_zero y.1 y_up) in
+    at_most y.0 y.1 x.1 x_up (rw (*ℤ_comm y.1 x.1) (omega (arith, ints)))
 
 module _ {A : Type 0} (view : A → ℤ × ℤ) where
   abbrev more : ℤ × ℤ → A → ℤ × ℤ
@@ -138,6 +149,9 @@ module _ {A : Type 0} {view : A → ℤ × ℤ} {lo hi a : ℤ} {xs : List A} {n
   pub can_split : (parts : ℕ) → parts ≡ length xs → s ≡ c → CanBeSplit view lo hi a xs parts
   can_split parts many same = record { as_many = many; none_below = none; fit = all_fit; one = shares_one same }
 
+  pub shares_over : s ≡ c → AreSharesOver view c xs
+  shares_over same = record { common = total.up; positive = positive; none_below = none; one = shares_one same; whole = λ k x below. total.whole k (omega (arith, all, below)) x }
+
 -- ---- whole numbers over a denominator
 
 -- the denominator of the lowest terms of w/c divides c
@@ -194,6 +208,10 @@ sum_over_apart s c n d u v l r m w up low l_is r_is m_is w_is = record {
   second = whole_by_multiple w (n, d) (u, w_is ∙ low.same);
 }
 
+-- the numerator of 0
+pub numer_none : (c m : ℤ) (y : ℤ × ℤ) → y.0 ≡ pos 0 → m ≡ pos 0 → SameValue y.0 y.1 m c
+numer_none c m y nought m_is = ap (λ (z : ℤ). z *ℤ c) nought ∙ zero-*ℤ c ∙ sym (zero-*ℤ y.1) ∙ ap (λ (z : ℤ). z *ℤ y.1) (sym m_is)
+
 -- a share of 0 changes nothing
 none_same : (s c : ℤ) (y : ℤ × ℤ) → y.0 ≡ pos 0 → SameValue (sum_of s c y.0 y.1).0 (sum_of s c y.0 y.1).1 s c
 none_same s c y nought =
@@ -205,7 +223,7 @@ sum_over_none s c y up nought = record {
   up = up;
   same = none_same s c y nought;
   first = own_multiple c;
-  second = record { number = pos 0; same = ap (λ (z : ℤ). z *ℤ c) nought ∙ zero-*ℤ c ∙ sym (zero-*ℤ y.1) };
+  second = record { number = pos 0; same = numer_none c (pos 0) y nought refl };
 }
 
 -- a share in other terms
@@ -232,55 +250,21 @@ exact_by c d t multiple t_is = ap (λ (z : ℤ). z *ℤ d) t_is ∙ exact_quotie
 pub no_rest : (c d t r : ℤ) → t ≡ int_div c d → r ≡ int_rem c d → r ≡ pos 0 → t *ℤ d ≡ c
 no_rest c d t r t_is r_is none = ap (λ (z : ℤ). z *ℤ d) t_is ∙ sym (+ℤ_idr (int_div c d *ℤ d)) ∙ ap (λ (z : ℤ). int_div c d *ℤ d +ℤ z) (sym none ∙ r_is) ∙ quot-rem c d
 
--- s/c + n/d is at most 1, and c is t times d
-module _ (s c n d t : ℤ) (c_up : pos 0 <ℤ c) (d_up : pos 0 <ℤ d) (s_up : pos 0 ≤ℤ s) (n_up : pos 0 ≤ℤ n) (below : (s *ℤ d +ℤ n *ℤ c) ≤ℤ (c *ℤ d)) (c_is : t *ℤ d ≡ c) where
-  t_up : pos 0 ≤ℤ t
-  t_up = above_zero t (positive_factor t d d_up (rw c_is c_up))
+-- the numerator over c of a fraction that lies from 0 to 1, by its lowest terms, whose denominator times t is c
+module _ (c : ℤ) (y low : ℤ × ℤ) (t : ℤ) (up : pos 0 <ℤ c) (part : IsPartOver c y) (is : IsLowestTermsOf y.0 y.1 low.0 low.1) (c_is : t *ℤ low.1 ≡ c) where
+  times_up : pos 0 ≤ℤ t
+  times_up = above_zero t (positive_factor t low.1 is.lowest.positive (rw c_is up))
 
-  part_up : pos 0 ≤ℤ (n *ℤ t)
-  part_up = sign_up n t n_up t_up
+  numer_below : (low.0 *ℤ t) ≤ℤ c
+  numer_below = subst (λ (z : ℤ). (low.0 *ℤ t) ≤ℤ z) (*ℤ_comm low.1 t ∙ c_is) (times_le low.0 low.1 t (one_moved y low part.up is.lowest.positive is.same part.below) times_up)
 
-  sum_below : (s +ℤ n *ℤ t) ≤ℤ c
-  sum_below =
-      let right : n *ℤ c ≡ (n *ℤ t) *ℤ d = ap (λ (z : ℤ). n *ℤ z) (sym c_is) ∙ sym (mul_assoc n t d) in
-      let both : s *ℤ d +ℤ n *ℤ c ≡ (s +ℤ n *ℤ t) *ℤ d = ap (λ (z : ℤ). s *ℤ d +ℤ z) right ∙ sym (add-mul s (n *ℤ t) d) in
-      at_most (s +ℤ n *ℤ t) c d d_up (rw both at below)
+  pub numer_held : (lo hi : ℤ) → IsRange lo hi → IsHeld lo hi c → IsHeld lo hi (low.0 *ℤ t)
+  numer_held lo hi range held = part_held lo hi (low.0 *ℤ t) c range (inl (sign_up low.0 t (above_moved y low part.up is.lowest.positive is.same part.above) times_up, numer_below)) held
 
-  pub part_held_over : (lo hi : ℤ) → IsRange lo hi → IsHeld lo hi c → IsHeld lo hi (n *ℤ t)
-  part_held_over lo hi range held = let most = sum_below in part_held lo hi (n *ℤ t) c range (inl (part_up, omega (arith, ints))) held
-
-  pub sum_held_over : (lo hi p : ℤ) → IsRange lo hi → IsHeld lo hi c → p ≡ n *ℤ t → IsHeld lo hi (s +ℤ p)
-  sum_held_over lo hi p range held p_is = rw p_is (part_held lo hi (s +ℤ n *ℤ t) c range (inl (both_above _ _ s_up part_up, sum_below)) held)
-
-  pub next_over : (p m : ℤ) → p ≡ n *ℤ t → m ≡ s +ℤ p → IsNextOver (s, c) (n, d) m c
-  next_over p m p_is m_is = rw (m_is, p_is) (record { same = joined_same s c n d t c_is; above = both_above _ _ s_up part_up; below = sum_below })
-
--- ---- the next sum over the same denominator
-
-pub low_above : (y low : ℤ × ℤ) → pos 0 <ℤ y.1 → pos 0 ≤ℤ y.0 → IsLowestTermsOf y.0 y.1 low.0 low.1 → pos 0 ≤ℤ low.0
-low_above y low y_up y_above is =
-    let some = sign_up y.0 low.1 y_above (above_zero low.1 is.lowest.positive) in
-    at_most (pos 0) low.0 y.1 y_up (rw (zero-*ℤ y.1, sym is.same) some)
-
-pub most_moved : (s c : ℤ) (y low : ℤ × ℤ) → pos 0 <ℤ c → pos 0 <ℤ y.1 → IsLowestTermsOf y.0 y.1 low.0 low.1 → (sum_of s c y.0 y.1).0 ≤ℤ (sum_of s c y.0 y.1).1 → (sum_of s c low.0 low.1).0 ≤ℤ (sum_of s c low.0 low.1).1
-most_moved s c y low up y_up is below =
-    one_moved (sum_of s c y.0 y.1) (sum_of s c low.0 low.1) (mul_positive c y.1 up y_up) (mul_positive c low.1 up is.lowest.positive) (sums_moved s c y low is) below
-
-pub next_over_none : (s c : ℤ) (y : ℤ × ℤ) → pos 0 <ℤ c → pos 0 <ℤ y.1 → pos 0 ≤ℤ s → y.0 ≡ pos 0 → (sum_of s c y.0 y.1).0 ≤ℤ (sum_of s c y.0 y.1).1 → IsNextOver (s, c) y s c
-next_over_none s c y up y_up above nought below = record {
-  same = none_same s c y nought;
-  above = above;
-  below = one_moved (sum_of s c y.0 y.1) (s, c) (mul_positive c y.1 up y_up) up (none_same s c y nought) below;
-}
-
-pub next_over_moved : (s c m : ℤ) (y low : ℤ × ℤ) → pos 0 <ℤ c → IsLowestTermsOf y.0 y.1 low.0 low.1 → IsNextOver (s, c) low m c → IsNextOver (s, c) y m c
-next_over_moved s c m y low up is next = record { same = same_moved s c m c y low up is next.same; above = next.above; below = next.below }
-
--- the amount itself is the mark of 1
-pub whole_mark : (a s c : ℤ) → pos 0 <ℤ c → s ≡ c → IsRounded (a *ℤ s) c a
-whole_mark a s c up same =
-    let some = each_rounded (a *ℤ c) c up in
-    subst (λ (n : ℤ). IsRounded (a *ℤ n) c a) (sym same) (subst (λ (z : ℤ). IsRounded (a *ℤ c) c z) (last_mark a c some.0 up some.1) some.1)
+  pub numer_is : (m : ℤ) → m ≡ low.0 *ℤ t → SameValue y.0 y.1 m c
+  numer_is m m_is =
+      same_value_chained y.0 y.1 low.0 low.1 m c (positive_nonzero low.1 is.lowest.positive) is.same
+      (ap (λ (z : ℤ). low.0 *ℤ z) (sym c_is) ∙ sym (mul_assoc low.0 t low.1) ∙ ap (λ (z : ℤ). z *ℤ low.1) (sym m_is))
 
 -- ---- the sum of the first shares
 
@@ -341,46 +325,68 @@ total_lowest {view = view} {shares = shares} {n = n} {s = s} {c = c} total posit
 
 -- ---- a part by the sums over the denominator
 
-module _ {A P : Type 0} (view : A → ℤ × ℤ) (value_of : P → ℤ) (lo hi amount : ℤ) (shares : List A) (range : IsRange lo hi) (positive : SharesOverPositive view shares) (none : NoShareIsBelowZero view shares) (one : SharesMakeOne view shares) (c : ℤ) (c_up : pos 0 <ℤ c)
-    (k : ℕ) (s mark : ℤ) (parts : List P) (x : A) (below : k < length shares) (is : x ≡ get_or shares k x) (so_far : IsSplitSoFar view value_of amount shares parts k (s, c) mark) where
+module _ {A P : Type 0} {view : A → ℤ × ℤ} {value_of : P → ℤ} {amount c s mark : ℤ} {shares : List A} {parts : List P} {k : ℕ} {x : A} (over : AreSharesOver view c shares)
+    (below : k < length shares) (is : x ≡ get_or shares k x) (so_far : IsSplitSoFar view value_of amount shares parts k (s, c) mark) where
   abbrev begun : ℤ × ℤ
   begun = total_of_shares view (take k shares)
 
-  pub share_up : pos 0 <ℤ (view x).1
-  share_up = subst (λ y. pos 0 <ℤ (view y).1) (sym is) (positive k x below)
+  abbrev grown : ℤ × ℤ
+  grown = sum_of begun.0 begun.1 (view x).0 (view x).1
 
-  pub share_above : pos 0 ≤ℤ (view x).0
-  share_above = subst (λ y. pos 0 ≤ℤ (view y).0) (sym is) (none k x below)
+  share_up : pos 0 <ℤ (view x).1
+  share_up = subst (λ y. pos 0 <ℤ (view y).1) (sym is) (over.positive k x below)
 
-  joined_up : pos 0 <ℤ (begun.1 *ℤ (view x).1)
-  joined_up = mul_positive begun.1 (view x).1 so_far.up share_up
+  share_above : pos 0 ≤ℤ (view x).0
+  share_above = subst (λ y. pos 0 ≤ℤ (view y).0) (sym is) (over.none_below k x below)
 
-  over_up : pos 0 <ℤ (c *ℤ (view x).1)
-  over_up = mul_positive c (view x).1 c_up share_up
+  grown_up : pos 0 <ℤ grown.1
+  grown_up = mul_positive begun.1 (view x).1 so_far.up share_up
 
-  sums_same : SameValue (sum_of begun.0 begun.1 (view x).0 (view x).1).0 (sum_of begun.0 begun.1 (view x).0 (view x).1).1 (sum_of s c (view x).0 (view x).1).0 (sum_of s c (view x).0 (view x).1).1
-  sums_same = next_same begun (s, c) (view x) so_far.same
+  grown_above : pos 0 ≤ℤ grown.0
+  grown_above = both_above _ _ (sign_up begun.0 (view x).1 so_far.above (above_zero _ share_up)) (sign_up (view x).0 begun.1 share_above (above_zero _ so_far.up))
+
+  grown_below : grown.0 ≤ℤ grown.1
+  grown_below =
+      let one : (total_of_shares view shares).0 ≡ (total_of_shares view shares).1 = over.one in
+      subst (λ y. y.0 ≤ℤ y.1) (total_next view shares k x below is) (first_shares_one view (k + 1) shares over.positive over.none_below (omega (arith, ints)))
+
+  pub share_part : IsPartOver c (view x)
+  share_part = record {
+    up = share_up;
+    above = share_above;
+    below = second_is_one begun (view x) so_far.up share_up so_far.above grown_below;
+    whole = subst (λ y. IsWholeOver c (view y)) (sym is) (over.whole k x below);
+  }
 
   -- the mark of the sum over the denominator
   pub mark_so_far : IsRounded (amount *ℤ s) c mark
-  mark_so_far = rounded_moved amount begun (s, c) so_far.up c_up (sym so_far.same) mark so_far.rounded
+  mark_so_far = rounded_moved amount begun (s, c) so_far.up over.common (sym so_far.same) mark so_far.rounded
 
-  -- the sum with the next share is at most 1, too
-  pub next_at_most : (sum_of s c (view x).0 (view x).1).0 ≤ℤ (sum_of s c (view x).0 (view x).1).1
-  next_at_most = one_moved (sum_of begun.0 begun.1 (view x).0 (view x).1) (sum_of s c (view x).0 (view x).1) joined_up over_up sums_same
-      (subst (λ y. y.0 ≤ℤ y.1) (total_next view shares k x below is) (first_shares_one view (k + 1) shares positive none (omega (arith, ints))))
+  -- m is the numerator of the next share, and n the next sum
+  module _ (m : ℤ) {n : ℤ} (m_is : SameValue (view x).0 (view x).1 m c) (n_is : n ≡ s +ℤ m) where
+    same_over : SameValue grown.0 grown.1 n c
+    same_over = rw n_is (
+        same_value_chained _ _ (sum_of begun.0 begun.1 m c).0 (sum_of begun.0 begun.1 m c).1 (s +ℤ m) c (positive_nonzero _ (mul_positive begun.1 c so_far.up over.common))
+        (same_value_sums begun.0 begun.1 (view x).0 (view x).1 begun.0 begun.1 m c refl m_is)
+        (share_more begun s c m so_far.same))
 
-  module _ (n z : ℤ) (next : IsNextOver (s, c) (view x) n c) (rounded : IsRounded (amount *ℤ n) c z) where
-    same_over : SameValue (sum_of begun.0 begun.1 (view x).0 (view x).1).0 (sum_of begun.0 begun.1 (view x).0 (view x).1).1 n c
-    same_over = same_value_chained _ _ (sum_of s c (view x).0 (view x).1).0 (sum_of s c (view x).0 (view x).1).1 n c (positive_nonzero _ over_up) sums_same next.same
+    pub next_above : pos 0 ≤ℤ n
+    next_above = above_moved grown (n, c) grown_up over.common same_over grown_above
 
-    share_rounded : IsRoundedShare amount (sum_of begun.0 begun.1 (view x).0 (view x).1) z
-    share_rounded = rounded_moved amount (n, c) (sum_of begun.0 begun.1 (view x).0 (view x).1) c_up joined_up same_over z rounded
+    pub next_below : n ≤ℤ c
+    next_below = one_moved grown (n, c) grown_up over.common same_over grown_below
 
-    pub part_fits_over : P → k < length parts → IsHeld lo hi amount → IsHeld lo hi (z -ℤ mark)
-    part_fits_over written room held =
-        next_part_held view value_of amount shares parts k (s, c) mark x (n, c) z written below room is so_far share_up share_above same_over share_rounded lo hi range
-        (mark_held amount n c z c_up next.above next.below rounded lo hi range held)
+    pub next_held : {lo hi : ℤ} → IsRange lo hi → IsHeld lo hi c → IsHeld lo hi n
+    next_held {lo} {hi} range held = part_held lo hi n c range (inl (next_above, next_below)) held
 
-    pub split_more_over : (written : P) → k < length parts → value_of written ≡ z -ℤ mark → IsSplitSoFar view value_of amount shares (set parts k written) (k + 1) (n, c) z
-    split_more_over written room part_is = split_more view value_of amount shares parts k (s, c) mark x (n, c) z written below room is so_far share_up share_above same_over share_rounded part_is
+    module _ {z : ℤ} (rounded : IsRounded (amount *ℤ n) c z) (written : P) (room : k < length parts) where
+      share_rounded : IsRoundedShare amount grown z
+      share_rounded = rounded_moved amount (n, c) grown over.common grown_up same_over z rounded
+
+      pub part_fits_over : {lo hi : ℤ} → IsRange lo hi → IsHeld lo hi amount → IsHeld lo hi (z -ℤ mark)
+      part_fits_over {lo} {hi} range held =
+          next_part_held view value_of amount shares parts k (s, c) mark x (n, c) z written below room is so_far share_up share_above same_over share_rounded lo hi range
+          (mark_held amount n c z over.common next_above next_below rounded lo hi range held)
+
+      pub split_more_over : value_of written ≡ z -ℤ mark → IsSplitSoFar view value_of amount shares (set parts k written) (k + 1) (n, c) z
+      split_more_over part_is = split_more view value_of amount shares parts k (s, c) mark x (n, c) z written below room is so_far share_up share_above same_over share_rounded part_is

@@ -1,23 +1,22 @@
 -- Shares by weights: the sum of the first weights lies between 0 and the sum of all, so a mark lies between 0 and the amount, and fits.
 use Rattle.std.specs.Prelude.{◌≡◌, ◌≢◌, ◌⊎◌, ◌+◌, ◌<◌, ◌≤ℤ◌, ◌<ℤ◌, ◌+ℤ◌, ◌-ℤ◌, ◌*ℤ◌, ℕ, zero, suc, ℤ, pos, All, List, [], ◌∷◌, fold, length, slice_index_or, take}
-use Rattle.std.proofs.Common.{sym, ap, subst, ◌∙◌, arith, inl, inr, get_or}
-use Rattle.std.proofs.Math.ListN.{set}
-use Rattle.std.proofs.Math.Seq.{take-length}
+use Rattle.std.proofs.Common.{refl, sym, ap, subst, ◌∙◌, arith, inl, inr}
 use Rattle.std.proofs.lemmas.Int.{ints}
 use lib.IntN.{*ℤ_comm, *ℤ-zero, zero-*ℤ}
 use Rattle.ratio_integer.specs.Arithmetic.{sum_of}
 use Rattle.ratio_integer.specs.Fraction.{SameValue}
 use Rattle.ratio_integer.specs.Range.{IsHeld, IsRange}
-use Rattle.ratio_integer.proofs.Whole.{add-mul, mul_assoc, mul-sub, mul_cancel, mul_positive, positive_nonzero}
+use Rattle.ratio_integer.proofs.Whole.{add-mul, mul_assoc, mul-sub, mul_cancel, positive_nonzero}
 use Rattle.ratio_core.specs.Rounding.{IsRounded}
 use Rattle.ratio_core.proofs.Floored.{one-mul}
 use Rattle.ratio_core.proofs.ProductOrder.{times_le}
 use Rattle.ratio_core.proofs.RoundingLawLemmas.{each_rounded}
 use Rattle.ratio_decimal.specs.declared.rounding_rule.Rounding.TheVariants.{HalfAway}
 use Rattle.ratio_decimal.proofs.RoundingRuleLaws.{rounded_monotone}
-use Rattle.num_rational.specs.Split.{IsRoundedShare, IsSplitBy, total_of, total_of_shares}
-use Rattle.num_rational.specs.Weights.{CanSplitByWeights, NoWeightIsBelowZero, share_of}
-use Rattle.num_rational.proofs.SplitLemmas.{IsSplitSoFar, first_mark, fold_next, last_mark, next_part_held, part_held, rounded_moved, sign_down, sign_up, split_more, split_whole, times-one}
+use Rattle.num_rational.specs.Common.{AreSharesOver}
+use Rattle.num_rational.specs.Split.{total_of, total_of_shares}
+use Rattle.num_rational.specs.Weights.{NoWeightIsBelowZero}
+use Rattle.num_rational.proofs.SplitLemmas.{first_mark, fold_next, last_mark, part_held, sign_down, sign_up, times-one}
 
 -- ---- the sum of the first weights
 
@@ -77,12 +76,34 @@ share_more x s t w same =
     ap (λ (z : ℤ). (z +ℤ w *ℤ x.1) *ℤ t) same ∙ ap (λ (z : ℤ). z *ℤ t) (sym (add-mul s w x.1)) ∙ mul_assoc (s +ℤ w) x.1 t
 
 -- the shares add up to 1
-pub shares_make_one : (x : ℤ × ℤ) (t : ℤ) → pos 0 <ℤ t → SameValue x.0 x.1 t t → x.0 ≡ x.1
+shares_make_one : (x : ℤ × ℤ) (t : ℤ) → pos 0 <ℤ t → SameValue x.0 x.1 t t → x.0 ≡ x.1
 shares_make_one x t up same = mul_cancel x.0 x.1 t (positive_nonzero t up) (same ∙ *ℤ_comm t x.1)
+
+module _ {A : Type 0} (value : A → ℤ) (t : ℤ) where
+  abbrev over : A → ℤ × ℤ
+  over weight = (value weight, t)
+
+  shares_same : (x : ℤ × ℤ) (s : ℤ) (xs : List A) → SameValue x.0 x.1 s t
+      → SameValue (fold (λ sum weight. sum_of sum.0 sum.1 (over weight).0 (over weight).1) x xs).0 (fold (λ sum weight. sum_of sum.0 sum.1 (over weight).0 (over weight).1) x xs).1 (fold (λ sum weight. sum +ℤ value weight) s xs) t
+  shares_same x s [] same = same
+  shares_same x s (y ∷ ys) same = shares_same (sum_of x.0 x.1 (value y) t) (s +ℤ value y) ys (share_more x s t (value y) same)
+
+  -- weights over their sum are shares over it
+  pub weights_over : (xs : List A) → NoWeightIsBelowZero value xs → total_of value xs ≢ pos 0 → t ≡ total_of value xs → AreSharesOver over t xs
+  weights_over xs none some is =
+      let up : pos 0 <ℤ t = subst (λ (z : ℤ). pos 0 <ℤ z) (sym is) (total_up value xs none some) in
+      record {
+        common = up;
+        positive = λ k x below. up;
+        none_below = none;
+        one = shares_make_one (total_of_shares over xs) t up (subst (λ (z : ℤ). SameValue (total_of_shares over xs).0 (total_of_shares over xs).1 z t) (sym is) (shares_same (pos 0, pos 1) (pos 0) xs (zero-*ℤ t ∙ sym (zero-*ℤ (pos 1)))));
+        whole = λ k x below. record { number = value (slice_index_or xs k x); same = refl };
+      }
 
 -- ---- a mark lies between 0 and the amount
 
-whole_rounded : (a t : ℤ) → pos 0 <ℤ t → IsRounded (a *ℤ t) t a
+-- the amount itself is the mark of 1
+pub whole_rounded : (a t : ℤ) → pos 0 <ℤ t → IsRounded (a *ℤ t) t a
 whole_rounded a t up = let some = each_rounded (a *ℤ t) t up in subst (IsRounded (a *ℤ t) t) (last_mark a t some.0 up some.1) some.1
 
 module _ (a s t z : ℤ) (t_up : pos 0 <ℤ t) (s_up : pos 0 ≤ℤ s) (s_below : s ≤ℤ t) (is : IsRounded (a *ℤ s) t z) where
@@ -129,54 +150,3 @@ module _ (a s t z : ℤ) (t_up : pos 0 <ℤ t) (s_up : pos 0 ≤ℤ s) (s_below 
 pub mark_computed : (a s o t w u z : ℤ) → s ≡ w → o ≡ pos 1 → t ≡ u → IsRounded (a *ℤ s) (o *ℤ t) z → IsRounded (a *ℤ w) u z
 mark_computed a s o t w u z s_is one t_is is =
     subst (λ (n : ℤ). IsRounded (a *ℤ n) u z) s_is (subst (λ (d : ℤ). IsRounded (a *ℤ s) d z) (ap (λ (n : ℤ). n *ℤ t) one ∙ one-mul t ∙ t_is) is)
-
--- ---- one more weight
-
-module _ {A P : Type 0} (value : A → ℤ) (value_of : P → ℤ) (lo hi amount : ℤ) (weights : List A) (range : IsRange lo hi) (can : CanSplitByWeights value lo hi weights (length weights)) where
-  abbrev t : ℤ
-  t = total_of value weights
-
-  t_up : pos 0 <ℤ t
-  t_up = total_up value weights can.none_below can.some
-
-  module _ (k : ℕ) (sum : ℤ) (weight : A) (below : k < length weights) (is : weight ≡ get_or weights k weight) (sum_is : sum ≡ total_of value (take k weights)) where
-    pub sum_next : sum +ℤ value weight ≡ total_of value (take (k + 1) weights)
-    sum_next = ap (λ (z : ℤ). z +ℤ value weight) sum_is ∙ sym (weights_next value weights k weight below is)
-
-    pub sum_held : IsHeld lo hi (sum +ℤ value weight)
-    sum_held = subst (IsHeld lo hi) (sym sum_next) (first_held value lo hi weights (k + 1) range can.none_below can.held)
-
-    pub next_between : (pos 0 ≤ℤ (sum +ℤ value weight)) × ((sum +ℤ value weight) ≤ℤ t)
-    next_between = subst (λ (z : ℤ). (pos 0 ≤ℤ z) × (z ≤ℤ t)) (sym sum_next) (first_weights value (k + 1) weights can.none_below)
-
-    module _ (next : ℤ) (rounded : IsRounded (amount *ℤ (sum +ℤ value weight)) t next) where
-      pub next_held : IsHeld lo hi amount → IsHeld lo hi next
-      next_held held = mark_held amount (sum +ℤ value weight) t next t_up next_between.0 next_between.1 rounded lo hi range held
-
-      module _ (parts : List P) (mark : ℤ) (written : P) (room : k < length parts) (so_far : IsSplitSoFar (share_of value weights) value_of amount weights parts k (sum, t) mark) where
-        abbrev before : ℤ × ℤ
-        before = total_of_shares (share_of value weights) (take k weights)
-
-        same : SameValue (sum_of before.0 before.1 (value weight) t).0 (sum_of before.0 before.1 (value weight) t).1 (sum +ℤ value weight) t
-        same = share_more before sum t (value weight) so_far.same
-
-        share_rounded : IsRoundedShare amount (sum_of before.0 before.1 (value weight) t) next
-        share_rounded = rounded_moved amount (sum +ℤ value weight, t) (sum_of before.0 before.1 (value weight) t) t_up (mul_positive before.1 t so_far.up t_up) same next rounded
-
-        weight_up : pos 0 ≤ℤ value weight
-        weight_up = subst (λ x. pos 0 ≤ℤ value x) (sym is) (can.none_below k weight below)
-
-        pub part_fits : IsHeld lo hi next → IsHeld lo hi (next -ℤ mark)
-        part_fits held = next_part_held (share_of value weights) value_of amount weights parts k (sum, t) mark weight (sum +ℤ value weight, t) next written below room is so_far t_up weight_up same share_rounded lo hi range held
-
-        pub weights_more : value_of written ≡ next -ℤ mark → IsSplitSoFar (share_of value weights) value_of amount weights (set parts k written) (k + 1) (sum +ℤ value weight, t) next
-        weights_more part_is = split_more (share_of value weights) value_of amount weights parts k (sum, t) mark weight (sum +ℤ value weight, t) next written below room is so_far t_up weight_up same share_rounded part_is
-
-  pub weights_whole : (parts : List P) (k : ℕ) (sum mark : ℤ) → k ≡ length weights → length parts ≡ length weights → sum ≡ total_of value (take k weights) → IsSplitSoFar (share_of value weights) value_of amount weights parts k (sum, t) mark → IsSplitBy (share_of value weights) value_of amount weights parts
-  weights_whole parts k sum mark whole alike sum_is so_far =
-      let all : take k weights ≡ weights = ap (λ n. take n weights) whole ∙ take-length weights in
-      let same = subst (λ xs. SameValue (total_of_shares (share_of value weights) xs).0 (total_of_shares (share_of value weights) xs).1 sum t) all so_far.same in
-      let last : sum ≡ t = sum_is ∙ ap (total_of value) all in
-      split_whole (share_of value weights) value_of amount weights parts k (sum, t) mark whole alike
-      (shares_make_one (total_of_shares (share_of value weights) weights) t t_up (subst (λ (z : ℤ). SameValue (total_of_shares (share_of value weights) weights).0 (total_of_shares (share_of value weights) weights).1 z t) last same))
-      so_far

@@ -1,9 +1,9 @@
 -- Shares over a common denominator. In the examples the shares are 1/2, 1/3 and 1/6.
-use Rattle.std.specs.Prelude.{◌+◌, ◌<◌, ◌≤ℤ◌, ◌<ℤ◌, ℕ, ℤ, pos, List, slice_index_or, take}
+use Rattle.std.specs.Prelude.{◌+◌, ◌<◌, ◌≤ℤ◌, ◌<ℤ◌, ℕ, ℤ, pos, All, List, slice_index_or, take}
 use Rattle.ratio_integer.specs.Arithmetic.{sum_of}
 use Rattle.ratio_integer.specs.Division.{IsMultiple}
 use Rattle.ratio_integer.specs.Fraction.{SameValue}
-use Rattle.num_rational.specs.Split.{MarkFits, total_of_shares}
+use Rattle.num_rational.specs.Split.{MarkFits, NoShareIsBelowZero, SharesMakeOne, SharesOverPositive, total_of_shares}
 
 -- Inner: x is a whole number over c
 -- Example: 1/3 is 2/6
@@ -32,8 +32,19 @@ pub record IsTotalOver {A : Type 0} (view : A → ℤ × ℤ) (lo hi amount : �
   pub whole : (k : ℕ) → k < n → (share : A) → IsWholeOver c (view (slice_index_or shares k share))
   pub fit : FirstMarksFit view lo hi amount shares n
 
--- Inner: s/c is x + y, and lies from 0 to 1
-pub record IsNextOver (x y : ℤ × ℤ) (s c : ℤ) : Type 0 where
-  pub same : SameValue (sum_of x.0 x.1 y.0 y.1).0 (sum_of x.0 x.1 y.0 y.1).1 s c
-  pub above : pos 0 ≤ℤ s
-  pub below : s ≤ℤ c
+-- Inner: x lies from 0 to 1, and is a whole number over c
+-- Example: 1/3, for c = 6
+pub record IsPartOver (c : ℤ) (x : ℤ × ℤ) : Type 0 where
+  pub up : pos 0 <ℤ x.1
+  pub above : pos 0 ≤ℤ x.0
+  pub below : x.0 ≤ℤ x.1
+  pub whole : IsWholeOver c x
+
+-- Inner: the shares add up to 1, none is below 0, and each is a whole number over c, which is above 0
+-- Example: c = 6
+pub record AreSharesOver {A : Type 0} (view : A → ℤ × ℤ) (c : ℤ) (shares : List A) : Type 0 where
+  pub common : pos 0 <ℤ c
+  pub positive : SharesOverPositive view shares
+  pub none_below : NoShareIsBelowZero view shares
+  pub one : SharesMakeOne view shares
+  pub whole : All (λ share. IsWholeOver c (view share)) shares

@@ -1,12 +1,11 @@
 //! An amount split by shares or by weights, so that nothing is lost.
-ghost use Rattle.std.specs.Prelude.{◌≡◌, ◌↔◌, ◌≤◌, ◌<ℤ◌, ◌≤ℤ◌, ◌*ℤ◌, length, pos, take, All, IfErr, IfSome, IsTrue, MatchResult, OnErr, OnOk, Some, ℤ};
+ghost use Rattle.std.specs.Prelude.{◌≡◌, ◌↔◌, ◌≤◌, ◌<ℤ◌, ◌≤ℤ◌, ◌*ℤ◌, length, pos, take, IfErr, IfSome, IsTrue, MatchResult, OnErr, OnOk, Some, ℤ};
 ghost use Rattle.std.specs.Fmt.{padded};
 ghost use Rattle.ratio_integer.specs.Arithmetic.{sum_of};
-ghost use Rattle.ratio_integer.specs.Division.{IsMultiple};
-ghost use Rattle.ratio_integer.specs.Fraction.{IsLowestTermsOf};
+ghost use Rattle.ratio_integer.specs.Fraction.{IsLowestTermsOf, SameValue};
 ghost use Rattle.ratio_integer.specs.Range.{Checks};
 ghost use Rattle.ratio_core.specs.Rounding.{IsRounded};
-ghost use Rattle.num_rational.specs.Common.{FirstMarksFit, IsNextOver, IsSumOver, IsTotalOver, IsWholeOver};
+ghost use Rattle.num_rational.specs.Common.{AreSharesOver, FirstMarksFit, IsPartOver, IsSumOver, IsTotalOver};
 ghost use Rattle.num_rational.specs.Split.{CanBeSplit, ChecksNextMark, IsSplitBy, MarksFit, NoShareIsBelowZero, RefusesToSplit, SharesMakeOne, SharesOverPositive, SumsRefuse, share_numbers, split_refusal_text, total_of, total_of_shares};
 ghost use Rattle.num_rational.specs.Weights.{CanSplitByWeights, NoWeightIsBelowZero, RefusesWeights, share_of, weight_refusal_text};
 
@@ -125,7 +124,7 @@ pub fn split<T: Copy + Integer>(
     split_shares(amount, shares, parts)
 }
 
-/// The same for shares in any terms, whose denominators are above 0.
+/// Splits the amount as `split` does, by shares that need not be in lowest terms. Their denominators are above 0.
 pub fn split_shares<T: Copy + Integer, S: Share<T>>(
     amount: T,
     shares: &[S],
@@ -149,7 +148,7 @@ pub fn split_shares<T: Copy + Integer, S: Share<T>>(
         return Ok(());
     }
     if sum == common {
-        write_parts_over(amount, shares, common, parts);
+        write_parts_over::<T, S, Fractions>(amount, shares, common, parts);
         Ok(())
     } else {
         Err(SplitRefusal::NotOne)
@@ -304,68 +303,71 @@ fn added<T: Copy + Integer>(sum: T, common: T, share: &Reduced<T>) -> Option<(T,
     Some((left.try_plus(right)?, common.try_times(for_sum)?))
 }
 
-// Writes the parts. It requires that no refusal applies, and that each share is a whole number over `common`.
-fn write_parts_over<T: Copy + Integer, S: Share<T>>(
+// A way to read shares as whole numbers over a common denominator.
+trait Numerators<T: Copy + Integer, S> {
+    // The two numbers of a share, where the denominator is this one.
+    ghost over: { ℤ → S → ℤ × ℤ };
+
+    // The numerator of a share over the denominator.
+    fn numer_over(share: &S, common: T) -> T
+        requires common { pos 0 <ℤ T.value common }
+        requires share { IsPartOver (T.value common) (over (T.value common) share.now) }
+        ensures { SameValue (over (T.value common) share.now).0 (over (T.value common) share.now).1 (T.value result) (T.value common) };
+}
+
+// Shares that are fractions.
+struct Fractions;
+
+impl<T: Copy + Integer, S: Share<T>> Numerators<T, S> for Fractions {
+    ghost over = { λ _ share. S.two_numbers share };
+
+    fn numer_over(share: &S, common: T) -> T {
+        if share.numer().is_zero() {
+            return T::ZERO;
+        }
+        let lowest = share.lowest();
+        let _ = common.held();
+        let (times, _) = common.div_rem(*lowest.denom());
+        lowest.numer().times(times)
+    }
+}
+
+// Shares that are weights. The denominator is the sum of all.
+struct Weights;
+
+impl<T: Copy + Integer> Numerators<T, T> for Weights {
+    ghost over = { λ common weight. (T.value weight, common) };
+
+    fn numer_over(weight: &T, _: T) -> T {
+        *weight
+    }
+}
+
+// Writes the parts of shares over a common denominator. It requires that they add up to 1, and that no share is below 0.
+fn write_parts_over<T: Copy + Integer, S, N: Numerators<T, S>>(
     amount: T,
     shares: &[S],
     common: T,
     parts: &mut [T],
 )
-    requires positive { SharesOverPositive S.two_numbers shares.now }
-    requires can { CanBeSplit S.two_numbers T.lo T.hi (T.value amount) shares.now (length parts.old) }
-    requires common { pos 0 <ℤ T.value common }
-    requires whole { All (λ share. IsWholeOver (T.value common) (S.two_numbers share)) shares.now }
-    ensures { IsSplitBy S.two_numbers T.value (T.value amount) shares.now parts.new }
+    requires as_many { length parts.old ≡ length shares.now }
+    requires shares { AreSharesOver (N.over (T.value common)) (T.value common) shares.now }
+    ensures { IsSplitBy (N.over (T.value common)) T.value (T.value amount) shares.now parts.new }
 {
-    let _ = amount.held();
+    both_held(amount, common);
     let mut sum = T::ZERO;
     let mut mark = T::ZERO;
     for (i, share) in shares.iter().enumerate() {
-        let (next, reached) = next_over(amount, sum, mark, common, share);
-        parts[i] = reached.minus(mark);
-        sum = next;
-        mark = reached;
+        let numer = N::numer_over(share, common);
+        if numer.is_zero() {
+            parts[i] = T::ZERO;
+            continue;
+        }
+        sum = sum.plus(numer);
+        let next = mark_over(amount, sum, common);
+        parts[i] = next.minus(mark);
+        mark = next;
     }
-}
-
-// The numerator of `sum/common` and one more share over `common`, and its mark, if they add up to at most 1. A share of 0 changes
-// neither.
-fn next_over<T: Copy + Integer, S: Share<T>>(
-    amount: T,
-    sum: T,
-    mark: T,
-    common: T,
-    share: &S,
-) -> (T, T)
-    requires common { pos 0 <ℤ T.value common }
-    requires whole { IsWholeOver (T.value common) (S.two_numbers share.now) }
-    requires positive { pos 0 <ℤ (S.two_numbers share.now).1 }
-    requires share { pos 0 ≤ℤ (S.two_numbers share.now).0 }
-    requires sum { pos 0 ≤ℤ T.value sum }
-    requires most { let x = sum_of (T.value sum) (T.value common) (S.two_numbers share.now).0 (S.two_numbers share.now).1 in x.0 ≤ℤ x.1 }
-    requires mark { IsRounded (T.value amount *ℤ T.value sum) (T.value common) (T.value mark) }
-    ensures sum { IsNextOver (T.value sum, T.value common) (S.two_numbers share.now) (T.value result.0) (T.value common) }
-    ensures mark { IsRounded (T.value amount *ℤ T.value result.0) (T.value common) (T.value result.1) }
-{
-    if share.numer().is_zero() {
-        return (sum, mark);
-    }
-    let next = next_sum(sum, common, &share.lowest());
-    (next, mark_over(amount, next, common))
-}
-
-// The numerator of `sum/common` and one more share over `common`, if they add up to at most 1.
-fn next_sum<T: Copy + Integer>(sum: T, common: T, share: &Reduced<T>) -> T
-    requires common { pos 0 <ℤ T.value common }
-    requires multiple { IsMultiple (T.value common) (share_numbers share.now).1 }
-    requires sum { pos 0 ≤ℤ T.value sum }
-    requires share { pos 0 ≤ℤ (share_numbers share.now).0 }
-    requires most { let x = sum_of (T.value sum) (T.value common) (share_numbers share.now).0 (share_numbers share.now).1 in x.0 ≤ℤ x.1 }
-    ensures { IsNextOver (T.value sum, T.value common) (share_numbers share.now) (T.value result) (T.value common) }
-{
-    let _ = common.held();
-    let (times, _) = common.div_rem(*share.denom());
-    sum.plus(share.numer().times(times))
 }
 
 // The amount times `sum/common`, which lies from 0 to 1, rounded.
@@ -407,7 +409,7 @@ pub fn split_by_weights<T: Copy + Integer>(
     if total.is_zero() {
         return Err(WeightRefusal::AllZero);
     }
-    write_parts_by_weights(amount, weights, total, parts);
+    write_parts_over::<T, T, Weights>(amount, weights, total, parts);
     Ok(())
 }
 
@@ -428,21 +430,4 @@ fn checked_total<T: Copy + Integer>(weights: &[T]) -> Option<T>
     }
     let _ = sum.held();
     Some(sum)
-}
-
-// Writes the parts. It requires that no refusal applies, and that `total` is the sum of the weights.
-fn write_parts_by_weights<T: Copy + Integer>(amount: T, weights: &[T], total: T, parts: &mut [T])
-    requires can { CanSplitByWeights T.value T.lo T.hi weights.now (length parts.old) }
-    requires total { T.value total ≡ total_of T.value weights.now }
-    ensures { IsSplitBy (share_of T.value weights.now) T.value (T.value amount) weights.now parts.new }
-{
-    let _ = amount.held();
-    let mut sum = T::ZERO;
-    let mut mark = T::ZERO;
-    for (i, weight) in weights.iter().enumerate() {
-        sum = sum.plus(*weight);
-        let next = mark_over(amount, sum, total);
-        parts[i] = next.minus(mark);
-        mark = next;
-    }
 }

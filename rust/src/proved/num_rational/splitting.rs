@@ -103,7 +103,7 @@ pub fn split<T: Copy + Integer>(
     split_shares(amount, shares, parts)
 }
 
-/// The same for shares in any terms, whose denominators are above 0.
+/// Splits the amount as `split` does, by shares that need not be in lowest terms. Their denominators are above 0.
 ///
 /// # Conditions
 ///
@@ -129,7 +129,7 @@ pub fn split_shares<T: Copy + Integer, S: Share<T>>(
         return Ok(());
     }
     if sum == common {
-        write_parts_over(amount, shares, common, parts);
+        write_parts_over::<T, S, Fractions>(amount, shares, common, parts);
         Ok(())
     } else {
         Err(SplitRefusal::NotOne)
@@ -262,48 +262,60 @@ fn added<T: Copy + Integer>(sum: T, common: T, share: &Reduced<T>) -> Option<(T,
     Some((left.try_plus(right)?, common.try_times(for_sum)?))
 }
 
-// Writes the parts. It requires that no refusal applies, and that each share is a whole number over `common`.
+// A way to read shares as whole numbers over a common denominator.
+trait Numerators<T: Copy + Integer, S> {
+    // The numerator of a share over the denominator.
+    fn numer_over(share: &S, common: T) -> T;
+}
+
+// Shares that are fractions.
+struct Fractions;
+
+impl<T: Copy + Integer, S: Share<T>> Numerators<T, S> for Fractions {
+    #[inline]
+    fn numer_over(share: &S, common: T) -> T {
+        if share.numer().is_zero() {
+            return T::ZERO;
+        }
+        let lowest = share.lowest();
+        let _ = common.held();
+        let (times, _) = common.div_rem(*lowest.denom());
+        lowest.numer().times(times)
+    }
+}
+
+// Shares that are weights. The denominator is the sum of all.
+struct Weights;
+
+impl<T: Copy + Integer> Numerators<T, T> for Weights {
+    #[inline]
+    fn numer_over(weight: &T, _: T) -> T {
+        *weight
+    }
+}
+
+// Writes the parts of shares over a common denominator. It requires that they add up to 1, and that no share is below 0.
 #[inline]
-fn write_parts_over<T: Copy + Integer, S: Share<T>>(
+fn write_parts_over<T: Copy + Integer, S, N: Numerators<T, S>>(
     amount: T,
     shares: &[S],
     common: T,
     parts: &mut [T],
 ) {
-    let _ = amount.held();
+    both_held(amount, common);
     let mut sum = T::ZERO;
     let mut mark = T::ZERO;
     for (i, share) in shares.iter().enumerate() {
-        let (next, reached) = next_over(amount, sum, mark, common, share);
-        parts[i] = reached.minus(mark);
-        sum = next;
-        mark = reached;
+        let numer = N::numer_over(share, common);
+        if numer.is_zero() {
+            parts[i] = T::ZERO;
+            continue;
+        }
+        sum = sum.plus(numer);
+        let next = mark_over(amount, sum, common);
+        parts[i] = next.minus(mark);
+        mark = next;
     }
-}
-
-// The numerator of `sum/common` and one more share over `common`, and its mark, if they add up to at most 1. A share of 0 changes
-// neither.
-#[inline]
-fn next_over<T: Copy + Integer, S: Share<T>>(
-    amount: T,
-    sum: T,
-    mark: T,
-    common: T,
-    share: &S,
-) -> (T, T) {
-    if share.numer().is_zero() {
-        return (sum, mark);
-    }
-    let next = next_sum(sum, common, &share.lowest());
-    (next, mark_over(amount, next, common))
-}
-
-// The numerator of `sum/common` and one more share over `common`, if they add up to at most 1.
-#[inline]
-fn next_sum<T: Copy + Integer>(sum: T, common: T, share: &Reduced<T>) -> T {
-    let _ = common.held();
-    let (times, _) = common.div_rem(*share.denom());
-    sum.plus(share.numer().times(times))
 }
 
 // The amount times `sum/common`, which lies from 0 to 1, rounded.
@@ -341,7 +353,7 @@ pub fn split_by_weights<T: Copy + Integer>(
     if total.is_zero() {
         return Err(WeightRefusal::AllZero);
     }
-    write_parts_by_weights(amount, weights, total, parts);
+    write_parts_over::<T, T, Weights>(amount, weights, total, parts);
     Ok(())
 }
 
@@ -359,18 +371,4 @@ fn checked_total<T: Copy + Integer>(weights: &[T]) -> Option<T> {
     }
     let _ = sum.held();
     Some(sum)
-}
-
-// Writes the parts. It requires that no refusal applies, and that `total` is the sum of the weights.
-#[inline]
-fn write_parts_by_weights<T: Copy + Integer>(amount: T, weights: &[T], total: T, parts: &mut [T]) {
-    let _ = amount.held();
-    let mut sum = T::ZERO;
-    let mut mark = T::ZERO;
-    for (i, weight) in weights.iter().enumerate() {
-        sum = sum.plus(*weight);
-        let next = mark_over(amount, sum, total);
-        parts[i] = next.minus(mark);
-        mark = next;
-    }
 }

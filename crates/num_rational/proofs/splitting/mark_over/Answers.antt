@@ -2,14 +2,14 @@ use Rattle.std.specs.Prelude.{◌≡◌, ◌*ℤ◌}
 use Rattle.std.proofs.Common.{ap, refl, subst, sym, ◌∙◌}
 use Rattle.ratio_core.specs.Rounding.{IsRounded}
 use Rattle.ratio_core.proofs.MultipleLemmas.{number_is, some_if_held}
-use Rattle.num_rational.proofs.CommonLemmas.{whole_mark}
-use Rattle.num_rational.proofs.WeightLemmas.{mark_computed, mark_held}
+use Rattle.num_rational.proofs.WeightLemmas.{mark_computed, mark_held, whole_rounded}
 use Rattle.num_rational.proofs.splitting.mark_over.Goals as goal
 
 pub returns-then-eq : goal.returns-then-eq
 returns-then-eq g c =
     let T = g.T.Integer in
-    whole_mark (T.value c.args.amount) (T.value c.args.sum) (T.value c.args.common) c.requires.common ((g.met.T.Integer.eq_law c.args.sum c.args.common).0 (sym c.eq.ensures ∙ c.if-eq.true))
+    let same : T.value c.args.sum ≡ T.value c.args.common = (g.met.T.Integer.eq_law c.args.sum c.args.common).0 (sym c.eq.ensures ∙ c.if-eq.true) in
+    subst (λ n. IsRounded (T.value c.args.amount *ℤ n) (T.value c.args.common) (T.value c.args.amount)) (sym same) (whole_rounded (T.value c.args.amount) (T.value c.args.common) c.requires.common)
 
 pub unwrap-requires : goal.unwrap-requires
 unwrap-requires g c =

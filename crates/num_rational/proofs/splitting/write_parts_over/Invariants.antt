@@ -1,9 +1,5 @@
-use Rattle.std.specs.Prelude.{◌≤ℤ◌, pos}
 use Rattle.num_rational.proofs.SplitLemmas.{IsSplitSoFar}
 use Rattle.num_rational.proofs.splitting.write_parts_over.Given as goal
 
 abbrev pub invariant-loop-i : goal.invariant-loop-i
-invariant-loop-i g l = let T = g.T.Integer in record {
-  above : pos 0 ≤ℤ T.value l.sum;
-  so_far : IsSplitSoFar g.S.Share.two_numbers T.value (T.value l.amount) l.shares l.parts l.i (T.value l.sum, T.value l.common) (T.value l.mark);
-}
+invariant-loop-i g l = let T = g.T.Integer in IsSplitSoFar (g.N.Numerators.over (T.value l.common)) T.value (T.value l.amount) l.shares l.parts l.i (T.value l.sum, T.value l.common) (T.value l.mark)

@@ -1,5 +1,5 @@
 -- A fraction rounded to a whole number, or to a multiple of 1/parts, that may or may not fit a type. The fraction is a pair of whole numbers.
-use Rattle.std.specs.Prelude.{◌≡◌, ◌⊎◌, ◌<ℤ◌, ℤ, pos, neg_ℤ, IsNone, Option}
+use Rattle.std.specs.Prelude.{◌≡◌, ◌<ℤ◌, ℤ, pos, neg_ℤ, IsNone, Option}
 use Rattle.ratio_integer.specs.Range.{Checks}
 use Rattle.ratio_decimal.specs.RoundingRules.{ChecksRounded, IsRoundedBy}
 use Rattle.ratio_decimal.specs.declared.rounding_rule.Rounding.{Rounding}
@@ -25,8 +25,3 @@ pub record ChecksRoundedQuotientTo {R : Type 0} (numer denom : R → ℤ) (lo hi
   pub above : pos 0 <ℤ x.1 → ChecksRounded numer denom lo hi rule parts x.0 x.1 result
   pub below : x.1 <ℤ pos 0 → ChecksRounded numer denom lo hi rule parts (neg_ℤ x.0) (neg_ℤ x.1) result
   pub none : x.1 ≡ pos 0 → IsNone result
-
--- Inner: n/e is d/c, and e is above 0: if c is below 0, both signs turn
--- Example: -3/2: -2/3
-abbrev pub IsReciprocal : ℤ → ℤ → ℤ → ℤ → Type 0
-IsReciprocal c d n e = ((pos 0 <ℤ c) × (n ≡ d) × (e ≡ c)) ⊎ ((c <ℤ pos 0) × (n ≡ neg_ℤ d) × (e ≡ neg_ℤ c))

@@ -24,7 +24,7 @@ pub(crate) fn simplest_inside<T: Primitive>(
     Some((signed_numer, T::from_u128(denom)?))
 }
 
-// The same above 0. Small ends need a power of two that has more than 128 digits. The numerator is 1 there.
+// The simplest fraction between the ends. Small ends need a power of two that has more than 128 digits. The numerator is 1 there.
 fn simplest_size(low: u64, high: u64, down: u64) -> Option<(u128, u128)>
     requires low { 0 < low }
     requires room { low + 2 ≤ high }
@@ -41,7 +41,7 @@ fn simplest_size(low: u64, high: u64, down: u64) -> Option<(u128, u128)>
     Some((1, denom))
 }
 
-// The same over a number of 64 digits, which takes less time.
+// The search over a number of 64 digits takes less time.
 fn over_short(low: u64, high: u64, denom: u64) -> Option<(u128, u128)>
     requires room { low + 2 ≤ high }
     requires denom { 0 < denom }
@@ -51,7 +51,7 @@ fn over_short(low: u64, high: u64, denom: u64) -> Option<(u128, u128)>
     Some((numer as u128, denom as u128))
 }
 
-// The same over a number of up to 128 digits. The search is for the reciprocal of the result, which is `whole` or more. What it has above
+// Over a number of up to 128 digits, the search is for the reciprocal of the result, which is `whole` or more. What it has above
 // `whole` is found with numbers of 64 digits, which takes less time. If `whole + 1` is below the reciprocal of the low end, it is the result's.
 fn over_long(low: u64, high: u64, power: u128) -> Option<(u128, u128)>
     requires low { 0 < low }

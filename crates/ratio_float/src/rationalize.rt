@@ -23,7 +23,7 @@ pub fn rationalize<T: Primitive>(x: f64) -> Option<(T, T)>
     rationalized::<T, f64>(x)
 }
 
-/// The same for a float of 32 bits, whose neighbours are further away: 1/3 for 0.33333334.
+/// The simplest fraction that rounds to a float of 32 bits, whose neighbours are further away: 1/3 for 0.33333334.
 pub fn rationalize32<T: Primitive>(x: f32) -> Option<(T, T)>
     ensures rational { ChecksRationalized T.value T.lo T.hi binary32 x result }
     ensures lowest { IfSome result (λ r. IsLowestTerms (T.value r.0) (T.value r.1)) }

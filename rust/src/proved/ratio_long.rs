@@ -6,10 +6,8 @@ mod float;
 pub mod laws;
 mod places;
 mod rounding;
-mod whole;
 
 pub use decimal::put_decimal;
 pub use float::nearest_f64;
 pub use places::put_places;
-pub use rounding::round_quotient;
-pub use whole::round_fraction;
+pub use rounding::{round_fraction, round_quotient};

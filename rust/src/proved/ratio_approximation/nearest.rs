@@ -22,7 +22,7 @@ pub fn nearest<T: Integer>(n: T, d: T, most: T) -> (T, T) {
     nearest_counted(n, d, most, &mut Steps::new())
 }
 
-/// The same by Euclid's algorithm, counting each division. The left side divides the rests of `n/d`, and the
+/// `nearest` with its divisions counted, by Euclid's algorithm. The left side divides the rests of `n/d`, and the
 /// right side divides the room below `most`.
 ///
 /// The right side divides once for each convergent of `n/d` with a denominator of at most `most`, except for `n/d` itself.

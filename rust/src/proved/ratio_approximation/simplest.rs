@@ -29,7 +29,7 @@ pub fn simplest_between<T: Integer>(n: T, d: T, m: T, e: T) -> Option<(T, T)> {
     simplest_between_counted(n, d, m, e, &mut Steps::new())
 }
 
-/// The same, counting each division. Each side divides at most twice for each binary digit of the
+/// `simplest_between` with its divisions counted. Each side divides at most twice for each binary digit of the
 /// smaller one of `d` and `e`.
 ///
 /// # Conditions

@@ -20,7 +20,7 @@ pub fn to_f64<T: Primitive>(numer: T, denom: T) -> f64 {
     nearest::<T, f64>(numer, denom)
 }
 
-/// The same for a float of 32 bits: 0.33333334 for 1/3. It is infinite if the size of the fraction is at least 2^128-2^103.
+/// The float of 32 bits nearest to the fraction: 0.33333334 for 1/3. It is infinite if the size of the fraction is at least 2^128-2^103.
 ///
 /// # Conditions
 ///

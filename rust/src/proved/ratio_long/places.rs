@@ -22,7 +22,7 @@ pub fn put_places(a: &mut [u64], places: usize, below: bool, buf: &mut [u8]) -> 
     start - 1
 }
 
-// The same without a sign.
+// Writes the magnitude.
 #[inline]
 fn put_unsigned(a: &mut [u64], places: usize, buf: &mut [u8]) -> usize {
     if places == 0 {

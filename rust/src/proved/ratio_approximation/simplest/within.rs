@@ -30,15 +30,8 @@ pub fn simplest_within<T: Integer>(low: Bound<(T, T)>, high: Bound<(T, T)>) -> O
     Some((numer, denom))
 }
 
-/// The same for two ends. If the low end is below the high one, the result is the simplest fraction strictly
-/// between, or an included end that is simpler.
-///
-/// # Conditions
-///
-/// The proof requires of the caller:
-///
-/// - `low`: `pos 0 <ℤ T.value low.now.denom`
-/// - `high`: `pos 0 <ℤ T.value high.now.denom`
+// The simplest fraction within two ends. If the low one is below the high one, it is the simplest fraction strictly
+// between, or an included end that is simpler.
 #[inline]
 fn within_ends<T: Integer>(low: &End<T>, high: &End<T>) -> Option<(T, T)> {
     let order = cross_order(

@@ -17,8 +17,8 @@ pub fn products<T: Copy + Integer, O: ReducedOperand<T> + Copy>(
     ensures parts { MultipliesManyInParts O.two_numbers x.now first.now second.now }
 {}
 
-/// The same items above and the same items below have the same quotient, in each order. It is the product of the items above divided by the product
-/// of those below, if these two products are `Some`.
+/// Items above and items below have one quotient, in each order. It is the product of the items above divided by the product of those below,
+/// if these two products are `Some`.
 pub fn quotients<T: Copy + Integer, O: ReducedOperand<T> + Copy, P: ReducedOperand<T> + Copy>(
     x: &Reduced<T>,
     above: &[O],

@@ -269,7 +269,7 @@ impl<T: Copy + Integer> Ratio<T> {
         Ratio::new_raw(numer, denom)
     }
 
-    /// The same as `recip`.
+    /// The reciprocal, as `recip` gives it, of a fraction that is passed by value: `num-rational` has both names.
     pub fn inv(self) -> Ratio<T>
         requires positive { pos 0 <ℤ denominator self }
         requires nonzero { numerator self ≢ pos 0 }
@@ -583,8 +583,8 @@ impl<T: Primitive> Ratio<T> {
         nearest::to_f64(self.numer, self.denom)
     }
 
-    /// The same for a float of 32 bits: 0.33333334 for 1/3. It is infinite if the size of the fraction
-    /// is at least 2^128-2^103.
+    /// The float of 32 bits nearest to this fraction, with ties as in `to_f64`: 0.33333334 for 1/3. It is
+    /// infinite if the size of the fraction is at least 2^128-2^103.
     pub fn to_f32(&self) -> f32
         requires { pos 0 <ℤ denominator self.now }
         ensures { result ≡ nearest_float binary32 (numerator self.now) (denominator self.now) }

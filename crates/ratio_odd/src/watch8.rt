@@ -58,7 +58,7 @@ pub struct Watched<C: Counter> {
 /// The numbers of `i8`, with two cells as counters.
 pub type Watch8<'a> = Watched<&'a Cell<u32>>;
 
-/// The same numbers, with halves. A division by 16 gives the halves of a number, and it is counted.
+/// Numbers as those of `Watch8`, with halves. A division by 16 gives the halves of a number, and it is counted.
 pub type HalvedWatch8<'a> = Watched<Halving<'a>>;
 
 /// The two counters of a watched number.

@@ -18,7 +18,7 @@ pub fn convert(amount: &Reduced64, rates: &[Reduced64]) -> Option<Reduced64>
     Some(total)
 }
 
-/// The same rates in another order convert an amount to the same one, if both chains have a result.
+/// Rates convert an amount to one result in each order, if both chains have a result.
 pub fn any_order()
     ensures { OrderIsFree }
 {}

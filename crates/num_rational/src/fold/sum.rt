@@ -35,7 +35,8 @@ impl<T: Copy + Integer> Ratio<T> {
         sum_of_operands(iter)
     }
 
-    /// The same as `checked_sum`, for references to fractions.
+    /// The sum as `checked_sum` gives it, of an iterator over references to fractions, such as
+    /// `list.iter()`.
     pub fn checked_sum_refs<'a, I: Iterator<Item = &'a Ratio<T>>>(iter: I) -> Option<Ratio<T>>
     where
         T: 'a,
@@ -47,8 +48,8 @@ impl<T: Copy + Integer> Ratio<T> {
         checked_sum_of_operands(iter)
     }
 
-    /// The same as `sum`, for references to fractions. It requires that `checked_sum_refs` returns
-    /// `Some`.
+    /// The sum of an iterator over references to fractions. It requires that `checked_sum_refs`
+    /// returns `Some`.
     pub fn sum_refs<'a, I: Iterator<Item = &'a Ratio<T>>>(iter: I) -> Ratio<T>
     where
         T: 'a,
@@ -75,7 +76,7 @@ fn sum_of_operands<T: Copy + Integer, O: Operand<T>, I: Iterator<Item = O>>(iter
     total
 }
 
-// The same by the checked call.
+// The sum by the checked call, or `None` at the first item for which this is `None`.
 fn checked_sum_of_operands<T: Copy + Integer, O: Operand<T>, I: Iterator<Item = O>>(
     iter: I,
 ) -> Option<Ratio<T>>

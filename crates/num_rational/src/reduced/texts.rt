@@ -159,8 +159,8 @@ impl<T: Primitive> Reduced<T> {
         self.ratio.to_f64()
     }
 
-    /// The same for a float of 32 bits: 0.33333334 for 1/3. It is infinite if the size of the fraction
-    /// is at least 2^128-2^103.
+    /// The float of 32 bits nearest to this fraction, with ties as in `to_f64`: 0.33333334 for 1/3. It is
+    /// infinite if the size of the fraction is at least 2^128-2^103.
     pub fn to_f32(&self) -> f32
         ensures { result ≡ nearest_float binary32 (numerator (ratio_of self.now)) (denominator (ratio_of self.now)) }
     {
@@ -183,7 +183,8 @@ impl<T: Primitive> Reduced<T> {
         })
     }
 
-    /// The same for a float of 32 bits, whose neighbours are further away: 1/3 for 0.33333334.
+    /// The simplest fraction that rounds to the float of 32 bits, as `rationalize` finds it. Its neighbours are
+    /// further away: 1/3 for 0.33333334.
     pub fn rationalize32(x: f32) -> Option<Reduced<T>>
         ensures { ChecksRationalized T.value T.lo T.hi binary32 x (fields_in result) }
     {
@@ -209,7 +210,8 @@ impl<T: Copy + Integer> Reduced<T> {
         }
     }
 
-    /// The same for a float of 32 bits: 13421773/134217728 for 0.1.
+    /// The fraction with exactly the value of the float of 32 bits, or `None` as in `from_float`:
+    /// 13421773/134217728 for 0.1.
     pub fn from_float32(x: f32) -> Option<Reduced<T>>
         ensures { ChecksRatio (fraction_of_float x) (ratio_in result) }
     {

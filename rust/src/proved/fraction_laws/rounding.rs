@@ -15,7 +15,7 @@ pub fn distances<T: Copy + Integer>(x: &Reduced<T>) {
     both_held(*x.numer(), *x.denom());
 }
 
-/// The floor of x + n is the floor of x plus n, for a whole number n. The same holds of the ceiling.
+/// The floor of x + n is the floor of x plus n, for a whole number n. The ceiling of x + n is the ceiling of x plus n.
 #[inline]
 pub fn sums<T: Copy + Integer>(x: &Reduced<T>, n: &Reduced<T>) {}
 

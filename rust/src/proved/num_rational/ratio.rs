@@ -238,7 +238,7 @@ impl<T: Copy + Integer> Ratio<T> {
         Ratio::new_raw(numer, denom)
     }
 
-    /// The same as `recip`.
+    /// The reciprocal, as `recip` gives it, of a fraction that is passed by value: `num-rational` has both names.
     ///
     /// # Conditions
     ///
@@ -596,8 +596,8 @@ impl<T: Primitive> Ratio<T> {
         nearest::to_f64(self.numer, self.denom)
     }
 
-    /// The same for a float of 32 bits: 0.33333334 for 1/3. It is infinite if the size of the fraction
-    /// is at least 2^128-2^103.
+    /// The float of 32 bits nearest to this fraction, with ties as in `to_f64`: 0.33333334 for 1/3. It is
+    /// infinite if the size of the fraction is at least 2^128-2^103.
     ///
     /// # Conditions
     ///

@@ -58,7 +58,7 @@ impl<T: Copy + Integer> Reduced<T> {
         Reduced::checked_new(*ratio.numer(), *ratio.denom())
     }
 
-    /// The same fraction as a `Ratio`.
+    /// This fraction as a `Ratio`.
     #[inline]
     pub fn to_ratio(&self) -> Ratio<T> {
         self.ratio
@@ -632,7 +632,7 @@ impl<T: Copy + SignedInteger> Reduced<T> {
 }
 
 impl<T: Primitive> Reduced<T> {
-    /// The same fraction over the type `U`, or `None` if its numerator or its denominator does not fit
+    /// This fraction over the type `U`, or `None` if its numerator or its denominator does not fit
     /// that type. Over `i8`, 1/127 is `Some`, and 1/128 is `None`.
     #[inline]
     pub fn cast<U: Copy + Integer>(&self) -> Option<Reduced<U>> {
@@ -644,7 +644,7 @@ impl<T: Primitive> Reduced<T> {
     }
 }
 
-// The same number over the type `U`, or `None` if it does not fit that type. A number that does not fit `i128`
+// The number over the type `U`, or `None` if it does not fit that type. A number that does not fit `i128`
 // fits `u128`.
 #[inline]
 fn number<T: Primitive, U: Integer>(t: T) -> Option<U> {

@@ -39,7 +39,8 @@ impl<T: Copy + Integer> Ratio<T> {
         product_of_operands(iter)
     }
 
-    /// The same as `checked_product`, for references to fractions.
+    /// The product as `checked_product` gives it, of an iterator over references to fractions, such
+    /// as `list.iter()`.
     ///
     /// # Conditions
     ///
@@ -56,8 +57,8 @@ impl<T: Copy + Integer> Ratio<T> {
         checked_product_of_operands(iter)
     }
 
-    /// The same as `product`, for references to fractions. It requires that `checked_product_refs`
-    /// returns `Some`.
+    /// The product of an iterator over references to fractions. It requires that
+    /// `checked_product_refs` returns `Some`.
     ///
     /// # Conditions
     ///
@@ -85,7 +86,7 @@ fn product_of_operands<T: Copy + Integer, O: Operand<T>, I: Iterator<Item = O>>(
     total
 }
 
-// The same by the checked call.
+// The product by the checked call, or `None` at the first item for which this is `None`.
 #[inline]
 fn checked_product_of_operands<T: Copy + Integer, O: Operand<T>, I: Iterator<Item = O>>(
     iter: I,

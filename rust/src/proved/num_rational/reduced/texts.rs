@@ -125,8 +125,8 @@ impl<T: Primitive> Reduced<T> {
         self.ratio.to_f64()
     }
 
-    /// The same for a float of 32 bits: 0.33333334 for 1/3. It is infinite if the size of the fraction
-    /// is at least 2^128-2^103.
+    /// The float of 32 bits nearest to this fraction, with ties as in `to_f64`: 0.33333334 for 1/3. It is
+    /// infinite if the size of the fraction is at least 2^128-2^103.
     #[inline]
     pub fn to_f32(&self) -> f32 {
         self.ratio.to_f32()
@@ -147,7 +147,8 @@ impl<T: Primitive> Reduced<T> {
         })
     }
 
-    /// The same for a float of 32 bits, whose neighbours are further away: 1/3 for 0.33333334.
+    /// The simplest fraction that rounds to the float of 32 bits, as `rationalize` finds it. Its neighbours are
+    /// further away: 1/3 for 0.33333334.
     #[inline]
     pub fn rationalize32(x: f32) -> Option<Reduced<T>> {
         let (numer, denom) = rationalize::rationalize32(x)?;
@@ -171,7 +172,8 @@ impl<T: Copy + Integer> Reduced<T> {
         }
     }
 
-    /// The same for a float of 32 bits: 13421773/134217728 for 0.1.
+    /// The fraction with exactly the value of the float of 32 bits, or `None` as in `from_float`:
+    /// 13421773/134217728 for 0.1.
     #[inline]
     pub fn from_float32(x: f32) -> Option<Reduced<T>> {
         Reduced::from_float(f64::from(x))

@@ -1085,5 +1085,6 @@ RATIO_SIZE(ratio_slot_i64, 24);
 RATIO_SIZE(ratio_total_i64, 24);
 RATIO_SIZE(ratio_joined_i64, 24);
 #endif
+#undef RATIO_SIZE
 
 #endif

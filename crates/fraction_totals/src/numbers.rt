@@ -55,8 +55,17 @@ pub(crate) fn wide_parts<T: Primitive>(x: &Reduced<T>) -> WideFraction
     ensures pair { wide_pair result ≡ pair_of x.now }
     ensures denom { 0 < result.denom }
 {
-    let (negative, numer) = magnitude(*x.numer());
-    let (_, denom) = magnitude(*x.denom());
+    wide_of(*x.numer(), *x.denom())
+}
+
+/// The fraction of two numbers, with the sign of the first one.
+pub(crate) fn wide_of<T: Primitive>(numer: T, denom: T) -> WideFraction
+    ensures numer { whole_number result.negative result.numer ≡ T.value numer }
+    ensures size { result.numer ≡ unsigned_abs (T.value numer) }
+    ensures denom { result.denom ≡ unsigned_abs (T.value denom) }
+{
+    let (negative, numer) = magnitude(numer);
+    let (_, denom) = magnitude(denom);
     WideFraction {
         negative,
         numer,

@@ -48,7 +48,7 @@ impl<'a, T: Primitive> WideTotal<'a, T> {
         })
     }
 
-    /// The same total in another room, with so many digits for the common denominator, such as more of them. It is refused exactly if
+    /// This total moved to another room, with so many digits for the common denominator, such as more of them. It is refused exactly if
     /// `digits` is below those of this total or above `MOST_DIGITS`, or if the room has fewer than `4 * digits + 6` digits.
     pub fn moved_to<'b>(
         &self,

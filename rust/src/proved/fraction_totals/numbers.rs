@@ -44,8 +44,14 @@ pub(crate) fn fraction<T: Short>(numer: i128, denom: u64) -> Option<Reduced<T>> 
 /// The sign of the numerator, the numerator without it, and the denominator.
 #[inline]
 pub(crate) fn wide_parts<T: Primitive>(x: &Reduced<T>) -> WideFraction {
-    let (negative, numer) = magnitude(*x.numer());
-    let (_, denom) = magnitude(*x.denom());
+    wide_of(*x.numer(), *x.denom())
+}
+
+/// The fraction of two numbers, with the sign of the first one.
+#[inline]
+pub(crate) fn wide_of<T: Primitive>(numer: T, denom: T) -> WideFraction {
+    let (negative, numer) = magnitude(numer);
+    let (_, denom) = magnitude(denom);
     WideFraction {
         negative,
         numer,

@@ -91,7 +91,7 @@ impl<'a, T: Short> Total<'a, T> {
         }
     }
 
-    /// The same total in other slots, such as more of them. It empties these slots first. If they are fewer than the
+    /// This total moved to other slots, such as more of them. It empties these slots first. If they are fewer than the
     /// denominators, it returns `MoreRoom`.
     #[inline]
     pub fn moved_to<'b>(&self, slots: &'b mut [Slot]) -> Result<Total<'b, T>, Refusal> {

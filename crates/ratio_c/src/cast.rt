@@ -1,4 +1,4 @@
-//! The same fraction over a type of another width.
+//! A fraction taken to a type of another width.
 ghost use Rattle.std.specs.Prelude.{◌≡◌};
 ghost use Rattle.ratio_core.specs.Power.{ChecksBoth};
 ghost use Rattle.ratio_c.specs.Calls.{IsCastAnswer};

@@ -130,7 +130,7 @@ pub trait RuledPair: TwoFractions {
         ensures { result ≡ rule self.now };
 }
 
-/// The same with a number of parts of 1.
+/// Two fractions, the number of a rule, and the parts of 1 to a multiple of which their product or quotient is rounded.
 pub trait PartedPair: RuledPair {
     ghost parts: { Self → ℤ };
 
@@ -148,7 +148,7 @@ pub trait Ruled: OneFraction {
         ensures { result ≡ rule self.now };
 }
 
-/// The same with a number of parts of 1.
+/// A fraction, the number of a rule, and the parts of 1 to a multiple of which it is rounded.
 pub trait Parted: Ruled {
     ghost parts: { Self → ℤ };
 
@@ -157,7 +157,7 @@ pub trait Parted: Ruled {
         ensures { Self.Inside.value result ≡ parts self.now };
 }
 
-/// The same with a number of decimal places.
+/// A fraction, the number of a rule, and the decimal places to which it is rounded.
 pub trait Pointed: Ruled {
     ghost places: { Self → ℕ };
 
@@ -195,7 +195,7 @@ pub fn checked<T: Copy + Primitive, A: Reply<T>>(answer: Option<Ratio<T>>) -> A
     }
 }
 
-/// The same for a call that returned the two numbers.
+/// The answer for two numbers, which the calls of the crates below `num_rational` return without a `Ratio`.
 #[inline(always)]
 pub fn checked_fields<T: Copy + Primitive, A: Reply<T>>(answer: Option<(T, T)>) -> A
     ensures { A.said result ≡ said_of (option_map (λ x. (T.value x.0, T.value x.1)) answer) }

@@ -646,7 +646,7 @@ pub extern "C" fn ratio_read_i128(texts: &[u8], spans: &[Span], answers: &mut [A
     each(&Reading { texts, reader }, spans, answers)
 }
 
-/// The same for texts that are decimals, such as `-1.5e-3`.
+/// The fraction of each decimal in `texts`, such as `-1.5e-3`, which the spans name.
 #[unsafe(no_mangle)]
 pub extern "C" fn ratio_read_decimal_i128(
     texts: &[u8],
@@ -659,7 +659,7 @@ pub extern "C" fn ratio_read_decimal_i128(
     each(&Reading { texts, reader }, spans, answers)
 }
 
-/// The same for texts that a person typed, such as `-1 1/2` and `12.5%`.
+/// The fraction of each text that a person typed, such as `-1 1/2` and `12.5%`. The spans name the texts.
 #[unsafe(no_mangle)]
 pub extern "C" fn ratio_read_text_i128(
     texts: &[u8],

@@ -652,7 +652,7 @@ pub extern "C" fn ratio_read_i32(texts: &[u8], spans: &[Span], answers: &mut [An
     each(&Reading { texts, reader }, spans, answers)
 }
 
-/// The same for texts that are decimals, such as `-1.5e-3`.
+/// The fraction of each decimal in `texts`, such as `-1.5e-3`, which the spans name.
 #[unsafe(no_mangle)]
 pub extern "C" fn ratio_read_decimal_i32(
     texts: &[u8],
@@ -665,7 +665,7 @@ pub extern "C" fn ratio_read_decimal_i32(
     each(&Reading { texts, reader }, spans, answers)
 }
 
-/// The same for texts that a person typed, such as `-1 1/2` and `12.5%`.
+/// The fraction of each text that a person typed, such as `-1 1/2` and `12.5%`. The spans name the texts.
 #[unsafe(no_mangle)]
 pub extern "C" fn ratio_read_text_i32(texts: &[u8], spans: &[Span], answers: &mut [Answer32]) -> u32
     ensures { AnswersEach (λ span answer. IsReadAnswer (SaysTyped least32 greatest32) texts.now span.start span.end (said32 answer)) spans.now answers.old answers.new result }

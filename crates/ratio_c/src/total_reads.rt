@@ -30,7 +30,7 @@ pub(crate) fn code_of(why: ReadRefusal) -> u32
     }
 }
 
-/// The same two numbers over 64 bits, or `None` if one does not fit.
+/// The two numbers in 64 bits, or `None` if one does not fit.
 pub(crate) fn narrowed(terms: Option<(i128, u64)>) -> Option<(i64, i64)>
     ensures { Narrows terms result }
 {

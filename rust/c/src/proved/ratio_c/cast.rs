@@ -1,5 +1,5 @@
 // Erased from crates/ratio_c/src/cast.rt by rust/erase: not to be edited.
-//! The same fraction over a type of another width.
+//! A fraction taken to a type of another width.
 
 use crate::proved::ratio_c::code::DENOMINATOR_NOT_POSITIVE;
 use crate::proved::ratio_c::crossing::{Digest, OneFraction, Reply, checked_fields, refused};

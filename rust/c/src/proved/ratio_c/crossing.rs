@@ -101,7 +101,7 @@ pub trait RuledPair: TwoFractions {
     fn rule(&self) -> u32;
 }
 
-/// The same with a number of parts of 1.
+/// Two fractions, the number of a rule, and the parts of 1 to a multiple of which their product or quotient is rounded.
 pub trait PartedPair: RuledPair {
     /// The parts, as the library takes them.
     fn parts(&self) -> Self::Inside;
@@ -113,13 +113,13 @@ pub trait Ruled: OneFraction {
     fn rule(&self) -> u32;
 }
 
-/// The same with a number of parts of 1.
+/// A fraction, the number of a rule, and the parts of 1 to a multiple of which it is rounded.
 pub trait Parted: Ruled {
     /// The parts, as the library takes them.
     fn parts(&self) -> Self::Inside;
 }
 
-/// The same with a number of decimal places.
+/// A fraction, the number of a rule, and the decimal places to which it is rounded.
 pub trait Pointed: Ruled {
     /// The places.
     fn places(&self) -> u32;
@@ -146,7 +146,7 @@ pub fn checked<T: Copy + Primitive, A: Reply<T>>(answer: Option<Ratio<T>>) -> A 
     }
 }
 
-/// The same for a call that returned the two numbers.
+/// The answer for two numbers, which the calls of the crates below `num_rational` return without a `Ratio`.
 #[inline(always)]
 pub fn checked_fields<T: Copy + Primitive, A: Reply<T>>(answer: Option<(T, T)>) -> A {
     match answer {

@@ -614,7 +614,7 @@ pub unsafe extern "C" fn ratio_read_i32(texts: *const u8, texts_len: usize, span
     each(&Reading { texts, reader }, spans, answers)
 }
 
-/// The same for texts that are decimals, such as `-1.5e-3`.
+/// The fraction of each decimal in `texts`, such as `-1.5e-3`, which the spans name.
 #[no_mangle]
 pub unsafe extern "C" fn ratio_read_decimal_i32(texts: *const u8, texts_len: usize, spans: *const Span, spans_len: usize, answers: *mut Answer32, answers_len: usize) -> u32 {
     // SAFETY: the header says what the caller owes for each pointer and its length.
@@ -625,7 +625,7 @@ pub unsafe extern "C" fn ratio_read_decimal_i32(texts: *const u8, texts_len: usi
     each(&Reading { texts, reader }, spans, answers)
 }
 
-/// The same for texts that a person typed, such as `-1 1/2` and `12.5%`.
+/// The fraction of each text that a person typed, such as `-1 1/2` and `12.5%`. The spans name the texts.
 #[no_mangle]
 pub unsafe extern "C" fn ratio_read_text_i32(texts: *const u8, texts_len: usize, spans: *const Span, spans_len: usize, answers: *mut Answer32, answers_len: usize) -> u32 {
     // SAFETY: the header says what the caller owes for each pointer and its length.

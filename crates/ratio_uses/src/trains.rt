@@ -46,8 +46,12 @@ pub fn nearest_train(wanted: &Reduced64, least: u16, most: u16) -> Option<Train>
     if *wanted.numer() < 1 || least < 1 || most < least {
         return None;
     }
-    let (numer, denom) = (wanted.numer().unsigned_abs(), wanted.denom().unsigned_abs());
-    let (first, second) = nearest_pairs(numer, denom, least, most);
+    let (first, second) = nearest_pairs(Request {
+        numer: wanted.numer().unsigned_abs(),
+        denom: wanted.denom().unsigned_abs(),
+        least,
+        most,
+    });
     let (drivers, driven) = teeth(first, second);
     Some(Train {
         first,
@@ -56,18 +60,27 @@ pub fn nearest_train(wanted: &Reduced64, least: u16, most: u16) -> Option<Train>
     })
 }
 
+// What is wanted: a ratio, and the least and the greatest number of teeth of each wheel.
+#[derive(Clone, Copy)]
+struct Request {
+    numer: u64,
+    denom: u64,
+    least: u16,
+    most: u16,
+    ghost ratio: { 0 < denom },
+    ghost teeth: { 0 < least },
+    ghost range: { least ≤ most },
+}
+
 // The pairs of the nearest train. Of all trains with the same products, it is the one whose second pair has the fewest teeth.
-fn nearest_pairs(numer: u64, denom: u64, least: u16, most: u16) -> (Pair, Pair)
-    requires denom { 0 < denom }
-    requires least { 0 < least }
-    requires most { least ≤ most }
-    ensures nearest { AreNearestPairs (pos numer, pos denom) least most result.0 result.1 }
-    ensures drivers { AreWheelsOf least most (driver_teeth result.0 result.1) result.0.driver result.1.driver }
-    ensures driven { AreWheelsOf least most (driven_teeth result.0 result.1) result.0.driven result.1.driven }
+fn nearest_pairs(request: Request) -> (Pair, Pair)
+    ensures nearest { AreNearestPairs (pos request.numer, pos request.denom) request.least request.most result.0 result.1 }
+    ensures drivers { AreWheelsOf request.least request.most (driver_teeth result.0 result.1) result.0.driver result.1.driver }
+    ensures driven { AreWheelsOf request.least request.most (driven_teeth result.0 result.1) result.0.driven result.1.driven }
 {
-    let (drivers, driven) = nearest_products(numer, denom, least, most);
-    let (first_driver, second_driver) = wheels_of(drivers, least, most);
-    let (first_driven, second_driven) = wheels_of(driven, least, most);
+    let (drivers, driven) = nearest_products(request);
+    let (first_driver, second_driver) = wheels_of(drivers, request.least, request.most);
+    let (first_driven, second_driven) = wheels_of(driven, request.least, request.most);
     let first = Pair {
         driver: first_driver,
         driven: first_driven,
@@ -80,19 +93,16 @@ fn nearest_pairs(numer: u64, denom: u64, least: u16, most: u16) -> (Pair, Pair)
 }
 
 // The products of the drivers' and of the driven wheels' teeth in the nearest train.
-fn nearest_products(numer: u64, denom: u64, least: u16, most: u16) -> (u32, u32)
-    requires denom { 0 < denom }
-    requires least { 0 < least }
-    requires most { least ≤ most }
-    ensures { AreNearestProducts (pos numer, pos denom) least most result.0 result.1 }
+fn nearest_products(request: Request) -> (u32, u32)
+    ensures { AreNearestProducts (pos request.numer, pos request.denom) request.least request.most result.0 result.1 }
 {
-    let start = least as u32 * least as u32;
+    let start = request.least as u32 * request.least as u32;
     let mut nearest = (start, start);
-    if least == most {
+    if request.least == request.most {
         return nearest;
     }
-    for small in least as u32..most as u32 + 1 {
-        nearest = nearest_with(numer, denom, least, most, small, nearest);
+    for small in request.least as u32..request.most as u32 + 1 {
+        nearest = nearest_with(request, small, nearest);
     }
     nearest
 }
@@ -100,30 +110,22 @@ fn nearest_products(numer: u64, denom: u64, least: u16, most: u16) -> (u32, u32)
 // The products of the first train of this one and of all with a driven wheel of `small` teeth and another of as many or more.
 // For each product of the driven wheels, `best` is the best one of the drivers, and mostly no whole number. A product is
 // whole. So where even the nearest whole number is farther than the nearest train so far, no drivers are looked for.
-fn nearest_with(
-    numer: u64,
-    denom: u64,
-    least: u16,
-    most: u16,
-    small: u32,
-    nearest: (u32, u32),
-) -> (u32, u32)
-    requires denom { 0 < denom }
-    requires least { 0 < least }
-    requires small { IsWheel least most small }
-    requires nearest_drivers { IsProductOfTwo least most nearest.0 }
-    requires nearest_driven { IsProductOfTwo least most nearest.1 }
-    ensures { AreFirstOver (pos numer, pos denom) least most (IsMultipleOf small most) nearest result }
+fn nearest_with(request: Request, small: u32, nearest: (u32, u32)) -> (u32, u32)
+    requires small { IsWheel request.least request.most small }
+    requires nearest_drivers { IsProductOfTwo request.least request.most nearest.0 }
+    requires nearest_driven { IsProductOfTwo request.least request.most nearest.1 }
+    ensures { AreFirstOver (pos request.numer, pos request.denom) request.least request.most (IsMultipleOf small request.most) nearest result }
 {
+    let (numer, denom) = (request.numer, request.denom);
     let step = divided(numer as u128 * small as u128, denom);
     let mut best = divided(numer as u128 * (small * small) as u128, denom);
     let mut first = nearest;
     let mut gap = gap_of(numer as u128, denom as u128, first.0, first.1);
-    for large in small..most as u32 + 1 {
+    for large in small..request.most as u32 + 1 {
         let driven = large * small;
         let near = best.1.min(denom as u128 - best.1);
         if near * first.1 as u128 <= gap * driven as u128 {
-            first = nearer(numer, denom, least, most, driven, best.0, first);
+            first = nearer(request, driven, best.0, first);
             gap = gap_of(numer as u128, denom as u128, first.0, first.1);
         }
         best = sum_of(best, step, denom);
@@ -134,25 +136,16 @@ fn nearest_with(
 // The products of the first train of this one and of all whose driven wheels have this product of teeth. The best product
 // of the drivers lies from `best` to the next whole number. Drivers are looked for only where one of these two would come
 // before the nearest train so far, and there only the products next to the best one can be the nearest.
-fn nearer(
-    numer: u64,
-    denom: u64,
-    least: u16,
-    most: u16,
-    driven: u32,
-    best: u128,
-    nearest: (u32, u32),
-) -> (u32, u32)
-    requires denom { 0 < denom }
-    requires least { 0 < least }
-    requires most { least ≤ most }
-    requires best_at_most { best * denom ≤ numer * driven }
-    requires best_next { numer * driven < best * denom + denom }
-    requires driven { IsProductOfTwo least most driven }
-    requires nearest_drivers { IsProductOfTwo least most nearest.0 }
-    requires nearest_driven { IsProductOfTwo least most nearest.1 }
-    ensures { AreFirstOver (pos numer, pos denom) least most (λ y. y ≡ driven) nearest result }
+fn nearer(request: Request, driven: u32, best: u128, nearest: (u32, u32)) -> (u32, u32)
+    requires best_at_most { best * request.denom ≤ request.numer * driven }
+    requires best_next { request.numer * driven < best * request.denom + request.denom }
+    requires driven { IsProductOfTwo request.least request.most driven }
+    requires nearest_drivers { IsProductOfTwo request.least request.most nearest.0 }
+    requires nearest_driven { IsProductOfTwo request.least request.most nearest.1 }
+    ensures { AreFirstOver (pos request.numer, pos request.denom) request.least request.most (λ y. y ≡ driven) nearest result }
 {
+    let (numer, denom) = (request.numer, request.denom);
+    let (least, most) = (request.least, request.most);
     let lowest = least as u32 * least as u32;
     let highest = most as u32 * most as u32;
     if best < lowest as u128 {

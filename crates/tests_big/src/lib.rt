@@ -1,0 +1,15 @@
+//! Tests of fractions of any size: rows from outside, and each call once.
+#![tactic(auto)]
+
+#[cfg(test)]
+mod edges;
+#[cfg(test)]
+mod long_sums;
+#[cfg(test)]
+mod made;
+#[cfg(test)]
+mod orders;
+#[cfg(test)]
+mod signs;
+#[cfg(test)]
+mod wide;

@@ -253,28 +253,6 @@ all_go_on wanted least most next earlier between products least_up high earlier_
     cases y this (inl before) = inl (record { small = this.small; at_least = this.at_least; before = before; multiple = this.multiple })
     cases y this (inr last) = inr (subst (λ t. IsMultipleOf t most y) last this.multiple)
 
--- where all wheels have the same number of teeth there is one train
-pub one_train : (wanted : ℤ × ℤ) (least most : ℕ) → least ≡ most → AreNearestProducts wanted least most (least * least) (least * least)
-one_train wanted least most same = record {
-  drivers_two = square;
-  driven_two = square;
-  nearest = λ x y x_in y_in. first x y (only x x_in) (only y y_in);
-}
-  where
-    square : IsProductOfTwo least most (least * least)
-    square = let least_in = wheel_least least most (omega arith) in product_of least most least least least_in least_in
-
-    only : (x : ℕ) → IsProductOfTwo least most x → least * least ≡ x
-    only x is =
-        let low = product_at_least least most x is in
-        let high = product_at_most least most x is in
-        let top : least * least ≡ most * most = ap (λ (t : ℕ). t * t) same in
-        omega arith
-
-    first : (x y : ℕ) → least * least ≡ x → least * least ≡ y → PairComesFirst wanted (least * least) (least * least) x y
-    first x y drivers driven = subst (λ t. PairComesFirst wanted (least * least) (least * least) t y) drivers
-        (subst (λ t. PairComesFirst wanted (least * least) (least * least) (least * least) t) driven (itself_first _ (pos (least * least)) (pos (least * least))))
-
 -- each product has one wheel with no more teeth than the other
 pub all_end : (wanted : ℤ × ℤ) (least most next : ℕ) (earlier products : ℕ × ℕ) → most < next → AreFirstOver wanted least most (IsProductBefore least most next) earlier products → AreNearestProducts wanted least most products.0 products.1
 all_end wanted least most next earlier products ends so_far = record {

@@ -34,7 +34,7 @@ def compiled():
 def contents():
     """What is in the wheel: each name with its bytes."""
     about = f"bakhsney-{version()}.dist-info"
-    files = {f"bakhsney/{path.name}": path.read_bytes() for path in sorted((HERE / "bakhsney").glob("*")) if path.is_file()}
+    files = {f"bakhsney/{path.name}": path.read_bytes() for path in sorted((HERE / "package").glob("*")) if path.is_file()}
     files[f"bakhsney/_ratio{sysconfig.get_config_var('EXT_SUFFIX')}"] = compiled()
     files[f"{about}/METADATA"] = f"Metadata-Version: 2.1\nName: bakhsney\nVersion: {version()}\nSummary: Exact fractions over proved calls\nLicense: Apache-2.0 OR MIT\nRequires-Python: >=3.9\n".encode()
     files[f"{about}/WHEEL"] = f"Wheel-Version: 1.0\nGenerator: bakhsney\nRoot-Is-Purelib: false\nTag: {tag()}\n".encode()

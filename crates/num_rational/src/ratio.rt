@@ -1,4 +1,5 @@
-//! `Ratio`, the fraction type, with its constants and its calls: fields, order, powers, rounding, signs, texts and floats.
+//! `Ratio`, the fraction type, with its constants and its calls: fields, order, powers, rounding, signs, floats,
+//! and texts, which the traits hand on to.
 //!
 //! Operators, folds and JSON have files of their own.
 ghost use Rattle.std.specs.Prelude.{◌≡◌, ◌≢◌, ◌↔◌, ◌+◌, ◌++◌, ◌<ℤ◌, ◌-◌, ◌^◌, ◌≤◌, ◌≤ℤ◌, false, fold, length, neg_ℤ, negsuc, pos, IsTrue, List, ℕ, ℤ};

@@ -1,4 +1,4 @@
-//! The struct `Total64`, the header of a total, and how items go into its slots one after another, until one is stopped.
+//! The struct `Total64`, the header of a total, and how items, or the slots of another total, go into its slots one after another, until one is stopped.
 ghost use Rattle.std.specs.Prelude.{◌≡◌, ◌+ℤ◌, Option, IfErr, IfOk, MatchOption, OnErr};
 ghost use Rattle.ratio_integer.specs.Range.{IsHeld};
 ghost use Rattle.ratio_totals.specs.Sums.{Has128Bits};

@@ -1,5 +1,5 @@
 // Erased from crates/ratio_c/src/totals.rt by rust/erase: not to be edited.
-//! The struct `Total64`, the header of a total, and how items go into its slots one after another, until one is stopped.
+//! The struct `Total64`, the header of a total, and how items, or the slots of another total, go into its slots one after another, until one is stopped.
 
 use crate::proved::ratio_c::code::{ANSWERED, DENOMINATOR_NOT_POSITIVE, MORE_ROOM, NO_TOTAL, NOT_HELD};
 use crate::proved::ratio_c::each::{BAD_LENGTH, DONE};

@@ -1,6 +1,6 @@
 // Erased from crates/ratio_laws/src/laws.rt by rust/erase: not to be edited.
-//! The laws of sums, products, rounding, decimals, powers, fractions near others and floats. Each function does nothing: its contract is
-//! the law. If `checked_add` or `checked_mul` returns `Some`, that is a sum or a product as the laws mean it.
+//! The laws of sums, of what they require, of products, rounding, decimals, powers, fractions near others and floats. Each function does
+//! nothing: its contract is the law. If `checked_add` or `checked_mul` returns `Some`, that is a sum or a product as the laws mean it.
 
 pub mod texts;
 

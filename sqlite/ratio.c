@@ -3,20 +3,15 @@
  * A fraction is a text such as 3/4, -2 or 0.75, or an integer. What a function gives is a text in lowest terms, so that a column of fractions
  * has one type: SQLite compares by a collation only texts with texts.
  */
-#include "sqlite3ext.h"
+#include "operands.h"
 SQLITE_EXTENSION_INIT1
-
-#define RATIO_CHECKED /* the calls here always get arrays of the lengths that they require */
-#include "ratio.h"
 
 #include <string.h>
 
 /* ---- errors */
 
-/* Ends the statement with a reason, behind the name of the function and its operands as SQL writes them: ratio_div('1/2', 0): division by zero. */
-static void refuse(sqlite3_context *call, const char *name, int count, sqlite3_value **operands, const char *reason) {
-    sqlite3_str *text = sqlite3_str_new(sqlite3_context_db_handle(call));
-    char *whole;
+char *ratio_refusal(sqlite3 *database, const char *name, int count, sqlite3_value **operands, const char *reason) {
+    sqlite3_str *text = sqlite3_str_new(database);
     int i;
     sqlite3_str_appendf(text, "%s(", name);
     for (i = 0; i < count; i++) {
@@ -29,7 +24,12 @@ static void refuse(sqlite3_context *call, const char *name, int count, sqlite3_v
         }
     }
     sqlite3_str_appendf(text, "): %s", reason);
-    whole = sqlite3_str_finish(text);
+    return sqlite3_str_finish(text);
+}
+
+/* Ends the statement with a reason. */
+static void refuse(sqlite3_context *call, const char *name, int count, sqlite3_value **operands, const char *reason) {
+    char *whole = ratio_refusal(sqlite3_context_db_handle(call), name, count, operands, reason);
     if (whole) sqlite3_result_error(call, whole, -1);
     else sqlite3_result_error_nomem(call);
     sqlite3_free(whole);
@@ -37,34 +37,37 @@ static void refuse(sqlite3_context *call, const char *name, int count, sqlite3_v
 
 /* ---- operands and results */
 
-/* Reads an operand. It says whether the operand is a fraction. Else the result is an error, or NULL for NULL. */
-static int is_read(sqlite3_context *call, const char *name, int count, sqlite3_value **operands, int which, ratio_i64 *fraction) {
-    sqlite3_value *operand = operands[which];
+ratio_answer_i64 ratio_of_value(sqlite3_value *operand) {
     ratio_answer_i64 answer = {RATIO_PARSE_ERROR, {0, 0}};
     ratio_span all = {0, 0};
     const unsigned char *text;
     double number;
     switch (sqlite3_value_type(operand)) {
-    case SQLITE_NULL: sqlite3_result_null(call); return 0;
     case SQLITE_INTEGER:
-        fraction->numer = sqlite3_value_int64(operand);
-        fraction->denom = 1;
-        return 1;
+        answer.code = RATIO_ANSWERED;
+        answer.value.numer = sqlite3_value_int64(operand);
+        answer.value.denom = 1;
+        break;
     case SQLITE_FLOAT:
         number = sqlite3_value_double(operand);
         ratio_rationalize_i64(&number, 1, &answer, 1);
         break;
     case SQLITE_TEXT:
         text = sqlite3_value_text(operand);
-        if (!text) {
-            sqlite3_result_error_nomem(call);
-            return 0;
-        }
         all.end = (size_t) sqlite3_value_bytes(operand);
-        ratio_read_text_i64(text, all.end, &all, 1, &answer, 1);
+        if (text) ratio_read_text_i64(text, all.end, &all, 1, &answer, 1);
+        else answer.code = RATIO_NO_TEXT;
     }
-    if (answer.code != RATIO_ANSWERED) refuse(call, name, count, operands, ratio_code_text(answer.code));
+    return answer;
+}
+
+/* Reads an operand. It says whether the operand is a fraction. Else the result is an error, or NULL for NULL. */
+static int is_read(sqlite3_context *call, const char *name, int count, sqlite3_value **operands, int which, ratio_i64 *fraction) {
+    const ratio_answer_i64 answer = ratio_of_value(operands[which]);
     *fraction = answer.value;
+    if (sqlite3_value_type(operands[which]) == SQLITE_NULL) sqlite3_result_null(call);
+    else if (answer.code == RATIO_NO_TEXT) sqlite3_result_error_nomem(call);
+    else if (answer.code != RATIO_ANSWERED) refuse(call, name, count, operands, ratio_code_text(answer.code));
     return answer.code == RATIO_ANSWERED;
 }
 
@@ -457,5 +460,6 @@ int sqlite3_ratio_init(sqlite3 *database, char **message, const sqlite3_api_rout
     for (i = 0; status == SQLITE_OK && i < sizeof sums / sizeof *sums; i++) {
         status = sqlite3_create_window_function(database, sums[i].name, sums[i].operands, flags, (void *) &sums[i], put_in, end, value, take_out, NULL);
     }
-    return status == SQLITE_OK ? sqlite3_create_collation(database, "ratio", SQLITE_UTF8, NULL, collate) : status;
+    if (status == SQLITE_OK) status = sqlite3_create_collation(database, "ratio", SQLITE_UTF8, NULL, collate);
+    return status == SQLITE_OK ? ratio_splits_init(database) : status;
 }

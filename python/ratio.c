@@ -3,28 +3,13 @@
  * A Ratio is a fraction in lowest terms whose numbers fit 64 bits. Where an operand or a result does not fit, or an operand is no fraction,
  * Python's own Fraction answers, and its answer becomes a Ratio where it fits. So each value is Fraction's, and no number is refused.
  */
-#define PY_SSIZE_T_CLEAN
-#include <Python.h>
+#include "glue.h"
 
-#define RATIO_CHECKED /* the calls here always get arrays of the lengths that they require */
-#include "ratio.h"
-
-#include <string.h>
-
-typedef struct {
-    PyObject_HEAD
-    ratio_i64 value;
-} ratio_object;
-
-static PyTypeObject ratio_type;
-static PyTypeObject *fraction_type; /* fractions.Fraction */
-
-#define IS_RATIO(object) PyObject_TypeCheck(object, &ratio_type)
-#define VALUE(object) (((ratio_object *) (object))->value)
+PyTypeObject *fraction_type;
 
 /* ---- reading and making */
 
-static PyObject *made(PyTypeObject *type, ratio_i64 value) {
+PyObject *made(PyTypeObject *type, ratio_i64 value) {
     PyObject *self = type->tp_alloc(type, 0);
     if (self) VALUE(self) = value;
     return self;
@@ -48,8 +33,7 @@ static int is_part_read(PyObject *fraction, const char *name, int64_t *number) {
     return is_read;
 }
 
-/* Reads a Ratio, an integer or a Fraction, and says whether it is one that fits 64 bits. */
-static int is_read(PyObject *object, ratio_i64 *value) {
+int is_read(PyObject *object, ratio_i64 *value) {
     ratio_answer_i64 answer;
     if (IS_RATIO(object)) {
         *value = VALUE(object);
@@ -109,15 +93,13 @@ static PyObject *nearest_float(PyObject *self) {
 
 /* ---- what Fraction does */
 
-/* The operand, with a Fraction in place of a Ratio. */
-static PyObject *widened(PyObject *object) {
+PyObject *widened(PyObject *object) {
     if (IS_RATIO(object)) return PyObject_CallFunction((PyObject *) fraction_type, "LL", (long long) VALUE(object).numer, (long long) VALUE(object).denom);
     Py_INCREF(object);
     return object;
 }
 
-/* The answer, with a Ratio in place of a Fraction that fits. It takes the reference, which may be NULL for an error. */
-static PyObject *narrowed(PyTypeObject *type, PyObject *answer) {
+PyObject *narrowed(PyTypeObject *type, PyObject *answer) {
     ratio_i64 value;
     if (!answer || !PyObject_TypeCheck(answer, fraction_type) || !is_read(answer, &value)) return answer;
     Py_DECREF(answer);
@@ -374,10 +356,6 @@ static PyObject *truncated(PyObject *self) {
     return whole_of(self, ratio_trunc_i64);
 }
 
-#define METHOD(name) static PyObject *name(PyObject *self, PyObject *Py_UNUSED(unused))
-#define WITH_NAMES(name) static PyObject *name(PyObject *self, PyObject *operands, PyObject *names)
-#define PROPERTY(name) static PyObject *name(PyObject *self, void *Py_UNUSED(unused))
-
 METHOD(to_trunc) { return truncated(self); }
 METHOD(to_floor) { return whole_of(self, ratio_floor_i64); }
 METHOD(to_ceil) { return whole_of(self, ratio_ceil_i64); }
@@ -499,7 +477,7 @@ static PyGetSetDef properties[] = {
     {NULL, NULL, NULL, NULL, NULL},
 };
 
-static PyTypeObject ratio_type = {
+PyTypeObject ratio_type = {
     PyVarObject_HEAD_INIT(NULL, 0)
     .tp_name = "bakhsney.Ratio",
     .tp_doc = "Ratio(numerator=0, denominator=None)\n--\n\nAn exact fraction, made as fractions.Fraction is. What does not fit 64 bits becomes such a Fraction.",
@@ -523,9 +501,8 @@ PyMODINIT_FUNC PyInit__ratio(void) {
     if (!fractions) return NULL;
     fraction_type = (PyTypeObject *) PyObject_GetAttrString(fractions, "Fraction");
     Py_DECREF(fractions);
-    if (!fraction_type || PyType_Ready(&ratio_type) < 0) return NULL;
+    if (!fraction_type || PyType_Ready(&ratio_type) < 0 || !is_total_ready()) return NULL;
     self = PyModule_Create(&module);
-    Py_INCREF(&ratio_type);
-    if (self && PyModule_AddObject(self, "Ratio", (PyObject *) &ratio_type) < 0) Py_CLEAR(self);
+    if (self && (PyModule_AddType(self, &ratio_type) < 0 || PyModule_AddType(self, &total_type) < 0)) Py_CLEAR(self);
     return self;
 }

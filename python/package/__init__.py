@@ -1,8 +1,8 @@
 """Exact fractions over proved calls. README.md of the folder python/ says what they do."""
 from numbers import Rational
 
-from bakhsney._ratio import Ratio
+from bakhsney._ratio import Ratio, Total
 
-__all__ = ["Ratio"]
+__all__ = ["Ratio", "Total"]
 
 Rational.register(Ratio)

@@ -1,0 +1,43 @@
+/* What the files of the extension share. */
+#ifndef BAKHSNEY_GLUE_H
+#define BAKHSNEY_GLUE_H
+
+#define PY_SSIZE_T_CLEAN
+#include <Python.h>
+
+#define RATIO_CHECKED /* the calls here always get arrays of the lengths that they require */
+#include "ratio.h"
+
+#include <string.h>
+
+typedef struct {
+    PyObject_HEAD
+    ratio_i64 value;
+} ratio_object;
+
+extern PyTypeObject ratio_type, total_type;
+extern PyTypeObject *fraction_type; /* fractions.Fraction */
+
+#define IS_RATIO(object) PyObject_TypeCheck(object, &ratio_type)
+#define VALUE(object) (((ratio_object *) (object))->value)
+
+#define METHOD(name) static PyObject *name(PyObject *self, PyObject *Py_UNUSED(unused))
+#define WITH_NAMES(name) static PyObject *name(PyObject *self, PyObject *operands, PyObject *names)
+#define PROPERTY(name) static PyObject *name(PyObject *self, void *Py_UNUSED(unused))
+
+/* A new Ratio. */
+PyObject *made(PyTypeObject *type, ratio_i64 value);
+
+/* Reads a Ratio, an integer or a Fraction, and says whether it is one that fits 64 bits. */
+int is_read(PyObject *object, ratio_i64 *value);
+
+/* The operand, with a Fraction in place of a Ratio. */
+PyObject *widened(PyObject *object);
+
+/* The answer, with a Ratio in place of a Fraction that fits. It takes the reference, which may be NULL for an error. */
+PyObject *narrowed(PyTypeObject *type, PyObject *answer);
+
+/* Makes the type Total ready. */
+int is_total_ready(void);
+
+#endif

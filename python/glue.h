@@ -16,6 +16,7 @@ typedef struct {
 } ratio_object;
 
 extern PyTypeObject ratio_type, total_type;
+extern PyMethodDef column_methods[];
 extern PyTypeObject *fraction_type; /* fractions.Fraction */
 
 #define IS_RATIO(object) PyObject_TypeCheck(object, &ratio_type)
@@ -36,6 +37,13 @@ PyObject *widened(PyObject *object);
 
 /* The answer, with a Ratio in place of a Fraction that fits. It takes the reference, which may be NULL for an error. */
 PyObject *narrowed(PyTypeObject *type, PyObject *answer);
+
+/* A new Total, which is empty. */
+PyObject *made_total(PyTypeObject *type);
+
+/* Puts a column into a Total that no other thread has. Python's lock need not be held. It gives RATIO_ANSWERED, RATIO_MORE_ROOM where memory
+ * is wanting, or why the item at `place` did not go in. */
+uint32_t add_column(PyObject *total, const int64_t *numers, const int64_t *denoms, size_t length, size_t *place);
 
 /* Makes the type Total ready. */
 int is_total_ready(void);

@@ -494,7 +494,7 @@ PyTypeObject ratio_type = {
     .tp_getset = properties,
 };
 
-static struct PyModuleDef module = {PyModuleDef_HEAD_INIT, "bakhsney._ratio", NULL, -1, NULL, NULL, NULL, NULL, NULL};
+static struct PyModuleDef module = {PyModuleDef_HEAD_INIT, "bakhsney._ratio", NULL, -1, column_methods, NULL, NULL, NULL, NULL};
 
 PyMODINIT_FUNC PyInit__ratio(void) {
     PyObject *fractions = PyImport_ImportModule("fractions"), *self;

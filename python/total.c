@@ -23,9 +23,7 @@ enum { FIRST_LENGTH = 8, MOST_PLACES = 16383 };
 /* ---- the slots */
 
 static ratio_slot_i64 *new_slots(size_t length) {
-    ratio_slot_i64 *slots = PyMem_RawCalloc(length, sizeof *slots);
-    if (!slots) PyErr_NoMemory();
-    return slots;
+    return PyMem_RawCalloc(length, sizeof(ratio_slot_i64));
 }
 
 /* A number by chance, so that nobody can choose denominators that collide in a table. */
@@ -47,7 +45,7 @@ static size_t taken(const total_object *self) {
     return count;
 }
 
-/* Moves the slots into twice as many as those taken and `more`. Denominators without a numerator stay behind. */
+/* Moves the slots into twice as many as those taken and `more`, and says whether there was memory. Denominators without a numerator stay behind. */
 static int is_moved(total_object *self, size_t more) {
     ratio_total_i64 header = {0, 0, 0};
     ratio_slot_i64 *slots;
@@ -67,13 +65,14 @@ static int is_moved(total_object *self, size_t more) {
     return 1;
 }
 
-static PyObject *made_total(PyTypeObject *type) {
+PyObject *made_total(PyTypeObject *type) {
     total_object *self = (total_object *) type->tp_alloc(type, 0);
     if (!self) return NULL;
     self->length = FIRST_LENGTH;
     self->slots = new_slots(self->length);
-    if (!self->slots) Py_CLEAR(self);
-    return (PyObject *) self;
+    if (self->slots) return (PyObject *) self;
+    Py_DECREF(self);
+    return PyErr_NoMemory();
 }
 
 static void end(PyObject *object) {
@@ -113,7 +112,28 @@ static int is_changed(total_object *self, PyObject *number, int is_added) {
         else ratio_total_subtract_i64(&value, 1, &self->header, 1, self->slots, self->length);
         if (self->header.code == RATIO_ANSWERED) return 1;
     } while (self->header.code == RATIO_MORE_ROOM && is_moved(self, 0));
+    if (self->header.code == RATIO_MORE_ROOM) PyErr_NoMemory();
     return self->header.code == RATIO_NOT_HELD && is_changed_beside(self, number, is_added);
+}
+
+enum { BLOCK = 512 };
+
+uint32_t add_column(PyObject *total, const int64_t *numers, const int64_t *denoms, size_t length, size_t *place) {
+    total_object *self = (total_object *) total;
+    ratio_i64 values[BLOCK];
+    *place = 0;
+    while (*place < length) {
+        const size_t count = length - *place < BLOCK ? length - *place : BLOCK;
+        size_t i;
+        for (i = 0; i < count; i++) {
+            values[i].numer = numers[*place + i];
+            values[i].denom = denoms[*place + i];
+        }
+        ratio_total_add_i64(values, count, &self->header, 1, self->slots, self->length);
+        *place += self->header.done;
+        if (self->header.code != RATIO_ANSWERED && !(self->header.code == RATIO_MORE_ROOM && is_moved(self, 0))) return self->header.code;
+    }
+    return RATIO_ANSWERED;
 }
 
 static PyObject *add(PyObject *self, PyObject *number) {
@@ -149,7 +169,10 @@ static PyObject *new(PyTypeObject *type, PyObject *operands, PyObject *names) {
 static total_object *merged(const total_object *self, const total_object *other, int is_added) {
     total_object *both = (total_object *) made_total(&total_type);
     if (!both) return NULL;
-    if (!is_moved(both, taken(self) + taken(other))) goto fails;
+    if (!is_moved(both, taken(self) + taken(other))) {
+        PyErr_NoMemory();
+        goto fails;
+    }
     ratio_total_merge_i64(self->slots, self->length, self->header.count, &both->header, 1, both->slots, both->length);
     if (is_added) ratio_total_merge_i64(other->slots, other->length, other->header.count, &both->header, 1, both->slots, both->length);
     else ratio_total_unmerge_i64(other->slots, other->length, other->header.count, &both->header, 1, both->slots, both->length);

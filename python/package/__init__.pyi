@@ -4,7 +4,9 @@ from numbers import Rational
 from typing import Any, Iterable, Union, overload
 from typing_extensions import TypeAlias
 
-__all__ = ["Ratio", "Total"]
+from bakhsney import columns
+
+__all__ = ["Ratio", "Total", "columns"]
 
 # What 64 bits do not hold is a Fraction.
 _Exact: TypeAlias = Union[Ratio, Fraction]

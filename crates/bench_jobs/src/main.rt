@@ -1,4 +1,15 @@
 //! A program for the benchmark: the jobs that a user of this library waits for, on made inputs. It prints a digest of all results.
+//!
+//! | Module | What is in it |
+//! |---|---|
+//! | `ledger` | A ledger is added up and read: columns of cents, of shares of them, of days, and of fractions of any kind. |
+//! | `ordering` | Fractions are sorted, searched and grouped. |
+//! | `amounts` | Amounts are split, converted, read and printed, and voices play in exact beats. |
+//! | `wheels` | A workshop looks for wheels: two and four of them for a wanted ratio, and simple fractions near it. |
+//! | `lines` | A file of lines is answered. |
+//! | `wide` | Numbers of 128 bits, as chains of rates make them. |
+//! | `made` | Made inputs: numbers and fractions from a seed, the same at each run. |
+//! | `digest` | A digest of many results: one number that nearly any other result would change. |
 #![tactic(auto)]
 
 mod amounts;

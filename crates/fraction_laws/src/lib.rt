@@ -1,4 +1,23 @@
 //! Laws of the calls of `Reduced` and `Ratio`, for the proofs of callers. Each function changes nothing: its contract is the law.
+//!
+//! | Module | What is in it |
+//! |---|---|
+//! | `reduced` | The first laws of `Reduced`: of sums, products, powers, reciprocals, parts, order, hash and continued fractions. |
+//! | `neutral` | The laws of 0 and 1 as operands and as exponents of `Reduced`. |
+//! | `order` | The laws of the order of results: sums, products and negatives of two `Reduced`. |
+//! | `signs` | The laws of negatives, absolute values and signs of `Reduced`. |
+//! | `remainder` | The laws of the remainder of `Reduced`. |
+//! | `powers` | The laws of powers of powers, of products and of reciprocals of `Reduced`, for all whole numbers as exponents. |
+//! | `divisors` | The laws of the greatest common divisor and the least common multiple of `Reduced`. |
+//! | `rounding` | The laws of whole numbers near a `Reduced`. |
+//! | `nearest` | The laws of the nearest fraction with a bounded denominator, as `Reduced` returns it. |
+//! | `reading` | The laws of reading what a `Reduced` prints, as a text or as a decimal. |
+//! | `undoing` | The laws of calls of `Reduced` that undo one another, or that can stand for one another. |
+//! | `folds` | The laws of sums and products of lists, as `Reduced` returns them. |
+//! | `many_products` | The laws of products and quotients of many fractions, as `checked_product_of` and `checked_quotient_of` of `Reduced` return them with room for two numbers an item. |
+//! | `splits` | The laws of amounts split by shares or by weights. |
+//! | `values` | The laws of fractions as `Ratio` with equal values: 1/2 and 2/4. |
+//! | `told_apart` | The law of the numbers of a primitive type before a hasher: no two feed it the same. |
 #![tactic(auto)]
 
 pub mod divisors;

@@ -1,8 +1,33 @@
-//! Exact fractions of machine integers.
+//! Exact fractions of machine integers. `Ratio<T>` is a fraction whose denominator is not 0, and `Reduced<T>` one that is always in lowest
+//! terms. Most calls hand the two numbers on to a function in a crate below: `Ratio::floor` calls `floor` of `ratio_core`.
 //!
 //! `both_held(n, d);` and `let _ = d.held();` do nothing at run time. They tell the prover that d lies
 //! between the type's least and greatest number: over `i8`, from -128 to 127. A value in hand is in range,
 //! and no law can say that.
+//!
+//! | Module | What is in it |
+//! |---|---|
+//! | `ratio` | `Ratio`, the fraction type, with its constants and its calls: fields, order, powers, rounding, signs, floats, and texts, which the traits hand on to. |
+//! | `ratio::traits` | The traits of std and of `num_traits` for `Ratio`, except operators and folds. |
+//! | `reduced` | `Reduced`, the fraction type that is always in lowest terms, with its calls: fields, the five checked calls, powers, divisors, products of many, rounding, fractions near others, signs and casts. |
+//! | `reduced::texts` | The calls of `Reduced` for texts, decimals and floats. |
+//! | `reduced::traits` | The traits of std for `Reduced`. |
+//! | `ops` | The five operators, each in a file of its own. |
+//! | `ops::add` | Sums: the checked call, the call that requires a result, and the symbols `+` and `+=`. |
+//! | `ops::sub` | Differences: the checked call, the call that requires a result, and the symbols `-` and `-=`. |
+//! | `ops::mul` | Products: the checked call, the call that requires a result, and the symbols `*` and `*=`. |
+//! | `ops::div` | Quotients: the checked call, the call that requires a result, and the symbols `/` and `/=`. |
+//! | `ops::rem` | Remainders: the checked call, the call that requires a result, and the symbols `%` and `%=`. |
+//! | `operand` | The traits `Operand` and `ReducedOperand`: the right operand of a symbol or of a checked call, a fraction or a whole number. |
+//! | `fold` | Sums and products of the items of an iterator or of a list, in two files. |
+//! | `fold::sum` | The sum of the items of an iterator, and for `Reduced` of a list. |
+//! | `fold::product` | The product of the items of an iterator, and for `Reduced` of a list. |
+//! | `many_products` | The two ways of a product or quotient of many fractions in lowest terms: step by step, and cancelled first. |
+//! | `continued` | Two iterators over a fraction's continued fraction: `Quotients`, and `Convergents`, each from a quotient and the two before it. |
+//! | `splitting` | An amount split by shares or by weights, so that nothing is lost. |
+//! | `printing` | How a fraction is written into a formatter of std: in base 10, in a form with a prefix, or with a precision as a decimal. |
+//! | `json` | Fractions as JSON: a list of the two fields. |
+//! | `main_statement` | The main promise of the library as one call, `headline`: its contract is one definition. |
 #![tactic(auto)]
 
 mod continued;

@@ -1,5 +1,18 @@
 //! The fractions near others, over the two numbers of each: the nearest one with a bounded denominator, the simplest one between two others,
 //! and the fraction with given quotients.
+//!
+//! | Module | What is in it |
+//! |---|---|
+//! | `nearest` | The nearest fraction whose denominator is at most a bound. |
+//! | `nearest::neighbour` | A `Neighbour`: in the search for the nearest fraction, one close to it, and the steps that bring two of them nearer. |
+//! | `simplest` | The simplest fraction strictly between two fractions, and within two bounds. |
+//! | `simplest::search` | The search for the simplest fraction, between two neighbours around both ends. |
+//! | `simplest::side` | A `Side`: in the search for the simplest fraction, one on one side of both ends, and the steps that bring two of them nearer. |
+//! | `simplest::wholes` | Whole numbers between two ends: the last one below an end, and the one nearest to 0. |
+//! | `simplest::within` | The simplest fraction within two bounds. |
+//! | `simplest::within::end` | An `End` of a range of fractions: a bound, or the type's least or greatest number in place of an open one. |
+//! | `simplest::within::choice` | The choice between two fractions within bounds by how simple they are. |
+//! | `continued` | The fraction of a list of quotients, as a continued fraction has them, and whether it has one. |
 #![tactic(auto)]
 
 pub mod continued;

@@ -1,4 +1,14 @@
 //! Floats as fractions, the floats nearest to fractions, and the simplest fractions that round to floats.
+//!
+//! | Module | What is in it |
+//! |---|---|
+//! | `exact` | The fraction with exactly the value of a float, and its powers of 2. |
+//! | `nearest` | The float nearest to a fraction: its leading digits, cut and rounded at the last one, and its bits. |
+//! | `quotient` | The leading binary digits of the quotient of two numbers of 128 bits. |
+//! | `leading` | The float nearest to a fraction of any size, from the leading digits of a quotient. |
+//! | `format` | The trait `FloatType`: the bits, the limits and the quotients of `f64` and `f32`, as the rounding needs them. |
+//! | `rationalize` | The simplest fraction that rounds to a float, from the float's parts. |
+//! | `gap` | The search for the simplest fraction in the gap around a float, between two ends over one denominator. |
 #![tactic(auto)]
 
 pub mod exact;

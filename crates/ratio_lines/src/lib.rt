@@ -1,4 +1,19 @@
-//! The calculator as a library. It answers each line of an input with a line of an output.
+//! The calculator as a library. It answers each line of an input with a line of an output. For every reader and writer, a run reads all
+//! input and writes exactly its answers, or it stops at the first fault.
+//!
+//! | Module | What is in it |
+//! |---|---|
+//! | `calculator` | The calculator, from the bytes read to the bytes written: `run` and its steps, each for one piece of the input. |
+//! | `fault` | Why a run stopped, and what the program prints then. |
+//! | `gathered` | `Gathered`: bytes that wait to be written, and the answers to a piece of the input put there, so that one call writes many of them. |
+//! | `line` | `Line`: the line that is being read, as far as it is kept, and the answer to the line that ends first in a piece of the input. |
+//! | `answer` | The answer to one line: its operands are read, its operators are applied, or it is refused. |
+//! | `operand` | The operand that a text begins with, which is read while its end is looked for. |
+//! | `operator` | The enum `Operator`: the operators of the calculator, by their names, and what each gives between two fractions. |
+//! | `parts` | The limit of a line, and how a line is cut: from the bytes after it, into its parts, and a plain line in one pass. |
+//! | `counted` | `Counted`: readers and writers whose calls a contract can follow, and the traits `CalcRead` and `CalcWrite`. |
+//! | `calls` | `Calls`: what the calls of a device did so far. |
+//! | `laws` | The laws of answers: inputs one after another, and that each input has answers. |
 #![tactic(auto)]
 
 pub mod answer;

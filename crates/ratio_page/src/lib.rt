@@ -1,5 +1,10 @@
-//! The calculator over memory, as one exported call. The lines of a text go in, and their answers come
-//! out.
+//! The calculator over memory, as one exported call. The lines of a text go in, and their answers come out, with their length. If they do
+//! not fit, their first part comes out, and the length is 2^64-1.
+//!
+//! | Module | What is in it |
+//! |---|---|
+//! | `room` | Putting answers into a piece of memory, the room, one after another. |
+//! | `tests` | Tests of what a room holds after a call. |
 #![tactic(auto)]
 
 ghost use Rattle.ratio_page.specs.Page.{Shows};

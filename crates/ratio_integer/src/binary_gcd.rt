@@ -1,3 +1,4 @@
+// Written by templates/write from templates/binary_gcd.rt.txt: change that file, and write this one anew.
 //! The greatest common divisor of two magnitudes (`u64` or `u128`) by halving and subtracting, without a
 //! division, and its steps.
 //!
@@ -10,17 +11,6 @@
 ghost use Rattle.std.specs.Prelude.{◌≡◌, ◌≢◌, ◌≤◌, ◌%◌, ◌^◌, ℕ, MatchOption};
 ghost use Rattle.std.specs.Int.{IsGcd, abs_diff, trailing_zeros, w64, w128};
 ghost use Rattle.ratio_integer.specs.OddPart.{IsOddPart};
-
-mod above;
-mod above_wide;
-mod pair;
-mod plain;
-mod wide;
-
-use above_wide::odd_gcd_above_wide;
-use pair::odd_gcds;
-use plain::odd_gcd;
-use wide::odd_gcd_wide;
 
 /// The number without its factors of 2.
 #[inline(always)]
@@ -151,4 +141,121 @@ pub(crate) fn gcd_above(a: u128, b: u128, bound: u128) -> Option<u128>
         None => None,
         Some(divisor) => Some(divisor << shift),
     }
+}
+
+/// The greatest common divisors of `a` and `b` and of `c` and `d`. Once one pair has ended, the other one goes
+/// on alone. Each step of a pair waits for the step before it. A processor does a step of the other pair
+/// meanwhile.
+fn odd_gcds(a: u64, b: u64, c: u64, d: u64) -> (u64, u64)
+    requires first { a % 2 ≡ 1 }
+    requires second { b % 2 ≡ 1 }
+    requires third { c % 2 ≡ 1 }
+    requires fourth { d % 2 ≡ 1 }
+    ensures left { IsGcd a b result.0 }
+    ensures right { IsGcd c d result.1 }
+{
+    let mut x = a;
+    let mut y = b;
+    let mut u = c;
+    let mut v = d;
+    'steps: while x != y && x != 1 && u != v && u != 1 {
+        let rest = odd_distance(x, y);
+        let other = odd_distance(u, v);
+        x = x.min(y);
+        y = rest;
+        u = u.min(v);
+        v = other;
+    }
+    (odd_gcd(x, y), odd_gcd(u, v))
+}
+
+/// The greatest common divisor of two odd numbers. It divides the smaller number of each step, so it is 1
+/// once that number is 1.
+fn odd_gcd(a: u64, b: u64) -> u64
+    requires left { a % 2 ≡ 1 }
+    requires right { b % 2 ≡ 1 }
+    ensures { IsGcd a b result }
+{
+    let mut x = a;
+    let mut y = b;
+    'steps: while x != y && x != 1 {
+        let rest = odd_distance(x, y);
+        x = x.min(y);
+        y = rest;
+    }
+    x
+}
+
+/// The greatest common divisor of two odd numbers. It divides the smaller number of each step, so it is 1
+/// once that number is 1.
+/// A step in 128 bits costs several in 64, so the loop goes on in 64 bits once both numbers fit.
+fn odd_gcd_wide(a: u128, b: u128) -> u128
+    requires left { a % 2 ≡ 1 }
+    requires right { b % 2 ≡ 1 }
+    ensures { IsGcd a b result }
+{
+    let mut x = a;
+    let mut y = b;
+    'steps: while x != y && x != 1 {
+        if x <= u64::MAX as u128 && y <= u64::MAX as u128 {
+            return odd_gcd(x as u64, y as u64) as u128;
+        }
+        let rest = odd_distance_wide(x, y);
+        x = x.min(y);
+        y = rest;
+    }
+    x
+}
+
+/// The greatest common divisor of two odd numbers. It divides the smaller number of each step, so it is 1
+/// once that number is 1.
+/// The result is `None` only if the divisor is at most `bound`.
+fn odd_gcd_above(a: u64, b: u64, bound: u64) -> Option<u64>
+    requires left { a % 2 ≡ 1 }
+    requires right { b % 2 ≡ 1 }
+    ensures { MatchOption result ((g : ℕ) → IsGcd a b g → g ≤ bound) (λ g. IsGcd a b g) }
+{
+    // One comparison a step tells both ends: `x` is at most the bound, or it is 1.
+    let limit = bound.max(1);
+    let mut x = a;
+    let mut y = b;
+    'steps: while x != y {
+        if x <= limit {
+            return if bound == 0 { Some(1) } else { None };
+        }
+        let rest = odd_distance(x, y);
+        x = x.min(y);
+        y = rest;
+    }
+    Some(x)
+}
+
+/// The greatest common divisor of two odd numbers. It divides the smaller number of each step, so it is 1
+/// once that number is 1.
+/// The result is `None` only if the divisor is at most `bound`.
+/// A step in 128 bits costs several in 64, so the loop goes on in 64 bits once both numbers fit.
+fn odd_gcd_above_wide(a: u128, b: u128, bound: u128) -> Option<u128>
+    requires left { a % 2 ≡ 1 }
+    requires right { b % 2 ≡ 1 }
+    ensures { MatchOption result ((g : ℕ) → IsGcd a b g → g ≤ bound) (λ g. IsGcd a b g) }
+{
+    // One comparison a step tells both ends: `x` is at most the bound, or it is 1.
+    let limit = bound.max(1);
+    let mut x = a;
+    let mut y = b;
+    'steps: while x != y {
+        if x <= limit {
+            return if bound == 0 { Some(1) } else { None };
+        }
+        if x <= u64::MAX as u128 && y <= u64::MAX as u128 {
+            return match odd_gcd_above(x as u64, y as u64, bound as u64) {
+                None => None,
+                Some(divisor) => Some(divisor as u128),
+            };
+        }
+        let rest = odd_distance_wide(x, y);
+        x = x.min(y);
+        y = rest;
+    }
+    Some(x)
 }

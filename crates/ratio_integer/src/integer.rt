@@ -1,5 +1,6 @@
-//! The trait `Integer`: range, constants, arithmetic, divisors, conversions and laws of an integer type.
-ghost use Rattle.std.specs.Prelude.{◌≡◌, ◌≢◌, ◌↔◌, ◌≤ℤ◌, ◌<ℤ◌, ◌+ℤ◌, ◌-ℤ◌, ◌*ℤ◌, ◌-◌, ◌^◌, ℕ, ℤ, pos, negsuc, Bool, List, Some, IsNone, IsTrue, IfSome, int_div, int_rem};
+//! The traits of integer types: `Integer` has range, constants, arithmetic, divisors, conversions and laws,
+//! `SignedInteger` negatives, and `Primitive` a fixed number of bits.
+ghost use Rattle.std.specs.Prelude.{◌≡◌, ◌≢◌, ◌↔◌, ◌≤◌, ◌≤ℤ◌, ◌<ℤ◌, ◌+ℤ◌, ◌-ℤ◌, ◌*ℤ◌, ◌-◌, ◌^◌, ℕ, ℤ, pos, negsuc, neg_ℤ, Bool, List, Some, IsNone, IsTrue, IfSome, int_div, int_rem};
 ghost use Rattle.std.specs.Bool.{OnFalse, OnTrue};
 ghost use Rattle.std.specs.Ordering.{int_cmp, partial_lt};
 ghost use Rattle.ratio_integer.specs.Arithmetic.{difference_of, sum_of};
@@ -380,4 +381,45 @@ pub trait Integer: Copy + Ord + Hash {
 
     // If remainders are exact, each magnitude fits a `u128`.
     ghost exact_remainders_law: { OnTrue EXACT_REMAINDERS (FitsIn128 lo hi) };
+}
+
+/// A type that has the negative of each of its numbers, except perhaps of the least.
+pub trait SignedInteger: Integer {
+    /// The negative. It requires that `try_negate` returns `Some`.
+    fn negate(self) -> Self
+        requires { IsHeld Self.lo Self.hi (neg_ℤ (Self.value self)) }
+        ensures { Self.value result ≡ neg_ℤ (Self.value self) }
+    {
+        Self::ZERO.minus(self)
+    }
+
+    /// The negative, or `None` if it does not fit the type. That can only be for the least number, such as -128 over `i8`.
+    fn try_negate(self) -> Option<Self>
+        ensures { Checks Self.value Self.lo Self.hi (neg_ℤ (Self.value self)) result }
+    {
+        Self::ZERO.try_minus(self)
+    }
+
+    ghost below_law: { Self.lo <ℤ pos 0 };
+}
+
+/// A type that has every whole number of `BITS` bits, signed or unsigned.
+pub trait Primitive: Integer {
+    // The width, at most 128.
+    ghost BITS: { ℕ };
+
+    const BITS: u32;
+
+    ghost width_law: { (BITS ≤ 128) × (Self.hi +ℤ pos 1 ≡ Self.lo +ℤ pos (2 ^ BITS)) };
+}
+
+/// Does nothing at run time. Its contract tells that both numbers lie between the type's least and
+/// greatest number: a value in hand is in range, and no law can say that.
+#[inline(always)]
+pub fn both_held<T: Integer>(first: T, second: T)
+    ensures first { IsHeld T.lo T.hi (T.value first) }
+    ensures second { IsHeld T.lo T.hi (T.value second) }
+{
+    let _ = first.held();
+    let _ = second.held();
 }

@@ -39,19 +39,11 @@
 #![tactic(auto)]
 
 mod binary_gcd;
-mod exact_sum;
-mod half_width;
-mod held;
 mod impls;
 mod integer;
 pub mod laws;
-mod narrow;
-mod primitive;
 mod reducing;
-mod signed;
+mod widths;
 
-pub use held::both_held;
-pub use integer::Integer;
-pub use primitive::Primitive;
+pub use integer::{Integer, Primitive, SignedInteger, both_held};
 pub use reducing::{both_cancelled, both_lowest_terms, cancelled, lowest_terms};
-pub use signed::SignedInteger;

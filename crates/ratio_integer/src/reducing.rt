@@ -3,8 +3,7 @@ ghost use Rattle.std.specs.Prelude.{◌≢◌, ◌<ℤ◌, pos};
 ghost use Rattle.ratio_integer.specs.Division.{IsGcdAboveMax, IsGcdOf};
 ghost use Rattle.ratio_integer.specs.Fraction.{IsCancelledOf, IsHeldLowest};
 
-use crate::held::both_held;
-use crate::integer::Integer;
+use crate::integer::{Integer, both_held};
 
 /// The lowest terms of `n/d`, for a positive `d`. They always fit the type. So does the gcd on the way, since
 /// it is at most `d`. A number over 1 is returned at once.

@@ -1,4 +1,5 @@
 // Erased from crates/ratio_integer/src/binary_gcd.rt by rust/erase: not to be edited.
+// Written by templates/write from templates/binary_gcd.rt.txt: change that file, and write this one anew.
 //! The greatest common divisor of two magnitudes (`u64` or `u128`) by halving and subtracting, without a
 //! division, and its steps.
 //!
@@ -8,17 +9,6 @@
 //!
 //! A processor would guess a branch on the smaller number wrong every other step. `min` and `abs_diff`
 //! choose without a branch, and one shift by `trailing_zeros` halves as often as possible.
-
-mod above;
-mod above_wide;
-mod pair;
-mod plain;
-mod wide;
-
-use above_wide::odd_gcd_above_wide;
-use pair::odd_gcds;
-use plain::odd_gcd;
-use wide::odd_gcd_wide;
 
 /// The number without its factors of 2.
 ///
@@ -152,4 +142,140 @@ pub(crate) fn gcd_above(a: u128, b: u128, bound: u128) -> Option<u128> {
         None => None,
         Some(divisor) => Some(divisor << shift),
     }
+}
+
+/// The greatest common divisors of `a` and `b` and of `c` and `d`. Once one pair has ended, the other one goes
+/// on alone. Each step of a pair waits for the step before it. A processor does a step of the other pair
+/// meanwhile.
+///
+/// # Conditions
+///
+/// The proof requires of the caller:
+///
+/// - `first`: `a % 2 ≡ 1`
+/// - `second`: `b % 2 ≡ 1`
+/// - `third`: `c % 2 ≡ 1`
+/// - `fourth`: `d % 2 ≡ 1`
+#[inline]
+fn odd_gcds(a: u64, b: u64, c: u64, d: u64) -> (u64, u64) {
+    let mut x = a;
+    let mut y = b;
+    let mut u = c;
+    let mut v = d;
+    while x != y && x != 1 && u != v && u != 1 {
+        let rest = odd_distance(x, y);
+        let other = odd_distance(u, v);
+        x = x.min(y);
+        y = rest;
+        u = u.min(v);
+        v = other;
+    }
+    (odd_gcd(x, y), odd_gcd(u, v))
+}
+
+/// The greatest common divisor of two odd numbers. It divides the smaller number of each step, so it is 1
+/// once that number is 1.
+///
+/// # Conditions
+///
+/// The proof requires of the caller:
+///
+/// - `left`: `a % 2 ≡ 1`
+/// - `right`: `b % 2 ≡ 1`
+#[inline]
+fn odd_gcd(a: u64, b: u64) -> u64 {
+    let mut x = a;
+    let mut y = b;
+    while x != y && x != 1 {
+        let rest = odd_distance(x, y);
+        x = x.min(y);
+        y = rest;
+    }
+    x
+}
+
+/// The greatest common divisor of two odd numbers. It divides the smaller number of each step, so it is 1
+/// once that number is 1.
+/// A step in 128 bits costs several in 64, so the loop goes on in 64 bits once both numbers fit.
+///
+/// # Conditions
+///
+/// The proof requires of the caller:
+///
+/// - `left`: `a % 2 ≡ 1`
+/// - `right`: `b % 2 ≡ 1`
+#[inline]
+fn odd_gcd_wide(a: u128, b: u128) -> u128 {
+    let mut x = a;
+    let mut y = b;
+    while x != y && x != 1 {
+        if x <= u64::MAX as u128 && y <= u64::MAX as u128 {
+            return odd_gcd(x as u64, y as u64) as u128;
+        }
+        let rest = odd_distance_wide(x, y);
+        x = x.min(y);
+        y = rest;
+    }
+    x
+}
+
+/// The greatest common divisor of two odd numbers. It divides the smaller number of each step, so it is 1
+/// once that number is 1.
+/// The result is `None` only if the divisor is at most `bound`.
+///
+/// # Conditions
+///
+/// The proof requires of the caller:
+///
+/// - `left`: `a % 2 ≡ 1`
+/// - `right`: `b % 2 ≡ 1`
+#[inline]
+fn odd_gcd_above(a: u64, b: u64, bound: u64) -> Option<u64> {
+    // One comparison a step tells both ends: `x` is at most the bound, or it is 1.
+    let limit = bound.max(1);
+    let mut x = a;
+    let mut y = b;
+    while x != y {
+        if x <= limit {
+            return if bound == 0 { Some(1) } else { None };
+        }
+        let rest = odd_distance(x, y);
+        x = x.min(y);
+        y = rest;
+    }
+    Some(x)
+}
+
+/// The greatest common divisor of two odd numbers. It divides the smaller number of each step, so it is 1
+/// once that number is 1.
+/// The result is `None` only if the divisor is at most `bound`.
+/// A step in 128 bits costs several in 64, so the loop goes on in 64 bits once both numbers fit.
+///
+/// # Conditions
+///
+/// The proof requires of the caller:
+///
+/// - `left`: `a % 2 ≡ 1`
+/// - `right`: `b % 2 ≡ 1`
+#[inline]
+fn odd_gcd_above_wide(a: u128, b: u128, bound: u128) -> Option<u128> {
+    // One comparison a step tells both ends: `x` is at most the bound, or it is 1.
+    let limit = bound.max(1);
+    let mut x = a;
+    let mut y = b;
+    while x != y {
+        if x <= limit {
+            return if bound == 0 { Some(1) } else { None };
+        }
+        if x <= u64::MAX as u128 && y <= u64::MAX as u128 {
+            return match odd_gcd_above(x as u64, y as u64, bound as u64) {
+                None => None,
+                Some(divisor) => Some(divisor as u128),
+            };
+        }
+        let rest = odd_distance_wide(x, y);
+        x = x.min(y);
+        y = rest;
+    }
+    Some(x)
 }

@@ -1,5 +1,6 @@
 // Erased from crates/ratio_integer/src/integer.rt by rust/erase: not to be edited.
-//! The trait `Integer`: range, constants, arithmetic, divisors, conversions and laws of an integer type.
+//! The traits of integer types: `Integer` has range, constants, arithmetic, divisors, conversions and laws,
+//! `SignedInteger` negatives, and `Primitive` a fixed number of bits.
 
 use core::hash::Hash;
 
@@ -342,4 +343,38 @@ pub trait Integer: Copy + Ord + Hash {
         let (_, rest) = self.div_rem(o);
         rest.is_zero()
     }
+}
+
+/// A type that has the negative of each of its numbers, except perhaps of the least.
+pub trait SignedInteger: Integer {
+    /// The negative. It requires that `try_negate` returns `Some`.
+    ///
+    /// # Conditions
+    ///
+    /// The proof requires of the caller:
+    ///
+    /// - `IsHeld Self.lo Self.hi (neg_ℤ (Self.value self))`
+    #[inline]
+    fn negate(self) -> Self {
+        Self::ZERO.minus(self)
+    }
+
+    /// The negative, or `None` if it does not fit the type. That can only be for the least number, such as -128 over `i8`.
+    #[inline]
+    fn try_negate(self) -> Option<Self> {
+        Self::ZERO.try_minus(self)
+    }
+}
+
+/// A type that has every whole number of `BITS` bits, signed or unsigned.
+pub trait Primitive: Integer {
+    const BITS: u32;
+}
+
+/// Does nothing at run time. Its contract tells that both numbers lie between the type's least and
+/// greatest number: a value in hand is in range, and no law can say that.
+#[inline(always)]
+pub fn both_held<T: Integer>(first: T, second: T) {
+    let _ = first.held();
+    let _ = second.held();
 }

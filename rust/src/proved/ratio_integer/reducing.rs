@@ -1,8 +1,7 @@
 // Erased from crates/ratio_integer/src/reducing.rt by rust/erase: not to be edited.
 //! The two numbers of a fraction divided by their gcd, and its lowest terms.
 
-use crate::proved::ratio_integer::held::both_held;
-use crate::proved::ratio_integer::integer::Integer;
+use crate::proved::ratio_integer::integer::{Integer, both_held};
 
 /// The lowest terms of `n/d`, for a positive `d`. They always fit the type. So does the gcd on the way, since
 /// it is at most `d`. A number over 1 is returned at once.

@@ -1,7 +1,6 @@
 -- The results of two fractions a/b and c/d as pairs that are not reduced, and when a sum, a difference and a remainder can be computed.
 use Rattle.std.specs.Prelude.{◌≡◌, ◌≢◌, ◌≤ℤ◌, ◌<ℤ◌, ◌+ℤ◌, ◌-ℤ◌, ◌*ℤ◌, ℤ, pos, int_div}
-use Rattle.ratio_integer.specs.Division.{IsMultiple}
-use Rattle.ratio_integer.specs.Range.{IsHeld}
+use Rattle.ratio_integer.specs.{Division.IsMultiple, Range.IsHeld}
 
 -- a/b times c/d, not reduced: (ac)/(bd)
 -- Example: 3/4 and 1/2: 3/8

@@ -1,8 +1,7 @@
 -- What a comparison of two values tells about their numbers.
 use Rattle.std.specs.Prelude.{◌≡◌, ◌⊎◌, ◌≤ℤ◌, ◌<ℤ◌, ℤ, Bool, true, false, Option, Some}
 use Rattle.std.specs.Ordering.{int_cmp, is_lt, partial_lt, partial_le, partial_gt, partial_ge, is_le, is_gt, is_ge, MatchOrdering}
-use Rattle.std.specs.declared.cmp.Ordering.{Ordering}
-use Rattle.std.specs.declared.cmp.Ordering.TheVariants.{Less, Equal, Greater}
+use Rattle.std.specs.declared.cmp.Ordering.{Ordering, TheVariants.Less, TheVariants.Equal, TheVariants.Greater}
 use Rattle.std.proofs.Common.{refl, sym, inl, inr, arith, ◌∙◌}
 use Rattle.std.proofs.lemmas.Int.{ints}
 use Rattle.std.proofs.lemmas.Cmp.{int_ranked}
@@ -32,7 +31,6 @@ ge_rank x y Less m b e = inr (e, m)
 ge_rank x y Equal m b e = inl (e, omega (arith, ints))
 ge_rank x y Greater m b e = inl (e, omega (arith, ints))
 
--- the four operators, if R orders the values by their numbers
 module _ {A : Type 0} (R : A → A → Option Ordering) (v : A → ℤ) (law : (a b : A) → R a b ≡ Some (int_cmp (v a) (v b))) (a b : A) where
   -- Law: if R orders values by their numbers, `a < b` tells whether the number of a is below that of b, or not
   pub lt_tells : Tells (partial_lt R a b) (v a <ℤ v b) (v b ≤ℤ v a)

@@ -1,5 +1,4 @@
--- Multiples, floored division, divisors and common multiples, each by its property. Proofs say more: for b not 0 there is exactly one
--- floored quotient and one remainder (`proofs/FlooredDivision.antt`).
+-- Multiples, floored division, divisors and common multiples. For b not 0, exactly one quotient and rest exist (`proofs/FlooredDivision.antt`).
 use Rattle.std.specs.Prelude.{◌≡◌, ◌⊎◌, ◌≤ℤ◌, ◌<ℤ◌, ◌+ℤ◌, ◌-ℤ◌, ◌*ℤ◌, ℕ, ℤ, pos, negsuc, neg_ℤ, unsigned_abs, Option, Some, None}
 use Rattle.std.specs.Int.{◌∣◌, IsGcd}
 use Rattle.ratio_integer.specs.Range.{IsHeld}
@@ -9,8 +8,7 @@ use Rattle.ratio_integer.specs.Range.{IsHeld}
 abbrev pub IsMultiple : ℤ → ℤ → Type 0
 IsMultiple a b = (k : ℤ) × (a ≡ k *ℤ b)
 
--- q is the floored quotient of a by b, and r is the rest: a is q·b + r, with 0 ≤ r < b or b < r ≤ 0. So r is 0 or has the sign of b, and it
--- is nearer to 0 than b
+-- q is the floored quotient of a by b, and r is the rest: a is q·b + r, with 0 ≤ r < b or b < r ≤ 0. So r is 0 or has the sign of b
 -- Example: -7 by 2: q = -4, r = 1
 pub record IsFloored (a b q r : ℤ) : Type 0 where
   pub sum : a ≡ q *ℤ b +ℤ r
@@ -39,15 +37,13 @@ pub record IsFlooredRemainder (a b r : ℤ) : Type 0 where
   pub quotient : ℤ
   pub floored : IsFloored a b quotient r
 
--- g is the greatest common divisor of a and b: it divides both, each number that divides both divides it, and it is never negative. For 0
--- and 0 it is 0
+-- g is the greatest common divisor of a and b: it divides both, what divides both divides it, and it is never negative. For 0 and 0 it is 0
 -- Example: 12 and -18: 6
 pub record IsGcdOf (a b g : ℤ) : Type 0 where
   pub sign : pos 0 ≤ℤ g
   pub divisor : IsGcd (unsigned_abs a) (unsigned_abs b) (unsigned_abs g)
 
--- one of a and b is -hi-1, and the other is -hi-1 or 0. Their greatest common divisor is hi+1; no other two numbers of a type up to hi have
--- one above hi
+-- one of a and b is -hi-1, and the other is -hi-1 or 0. Their greatest common divisor is hi+1; no others of a type up to hi have one above hi
 -- Example: -128 and 0
 abbrev pub IsGcdAboveMax : ℤ → ℤ → ℤ → Type 0
 IsGcdAboveMax hi a b =
@@ -59,8 +55,7 @@ IsGcdAboveMax hi a b =
 pub record GcdHeld (lo hi a b : ℤ) : Type 0 where
   pub each : (g : ℤ) → IsGcdOf a b g → IsHeld lo hi g
 
--- l is the least common multiple of a and b: both divide it, it divides each number that both divide, and it is never negative. If a or b
--- is 0, it is 0
+-- l is the least common multiple of a and b: both divide it, it divides what both divide, and it is never negative. If a or b is 0, it is 0
 -- Example: 4 and 6: 12
 pub record IsLcmOf (a b l : ℤ) : Type 0 where
   pub sign : pos 0 ≤ℤ l

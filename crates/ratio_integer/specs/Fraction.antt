@@ -1,9 +1,7 @@
--- Fractions as pairs of whole numbers, and their lowest terms. The second number is not 0. Proofs say more: each n/d with d not 0 has
--- exactly one pair of lowest terms (`proofs/LowestTerms.antt`).
+-- Fractions as pairs of whole numbers, the second not 0, and their lowest terms: exactly one pair for each (`proofs/LowestTerms.antt`).
 use Rattle.std.specs.Prelude.{◌≡◌, ◌≢◌, ◌<ℤ◌, ◌*ℤ◌, ℕ, ℤ, pos, unsigned_abs, Option, Some, None}
 use Rattle.std.specs.Int.{◌∣◌}
-use Rattle.ratio_integer.specs.Division.{IsGcdOf}
-use Rattle.ratio_integer.specs.Range.{IsHeld}
+use Rattle.ratio_integer.specs.{Division.IsGcdOf, Range.IsHeld}
 
 -- n/d and a/b have the same value: n·b is a·d
 -- Example: 1/2 and 2/4

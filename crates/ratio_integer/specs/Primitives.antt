@@ -5,8 +5,7 @@ use Rattle.std.proofs.Common.{refl, ap, arith, inl, inr}
 use Rattle.std.proofs.lemmas.Int.{ints}
 use Rattle.std.proofs.lemmas.Bool.Decides.{Decides-int_eq}
 use Rattle.num_traits.specs.Ints.{unsigned-eq}
-use Rattle.ratio_integer.specs.Laws.{IsLawful}
-use Rattle.ratio_integer.specs.Range.{IsHeld}
+use Rattle.ratio_integer.specs.{Laws.IsLawful, Range.IsHeld}
 
 -- Law: the whole numbers from -h-1 to h are lawful, if h is at least 2; each is its own value
 -- Example: h = 127: `i8`

@@ -11,42 +11,28 @@ use Rattle.std.proofs.lemmas.Cmp.{int_ranked}
 abbrev pub Tells : Bool → Type 0 → Type 0 → Type 0
 Tells b P Q = ((b ≡ true) × P) ⊎ ((b ≡ false) × Q)
 
-lt_rank : (x y : ℤ) (r : Ordering) → MatchOrdering r (x <ℤ y) (x ≡ y) (y <ℤ x) → (b : Bool) → b ≡ is_lt r → Tells b (x <ℤ y) (y ≤ℤ x)
-lt_rank x y Less m b e = inl (e, m)
-lt_rank x y Equal m b e = inr (e, omega (arith, ints))
-lt_rank x y Greater m b e = inr (e, omega (arith, ints))
-
-le_rank : (x y : ℤ) (r : Ordering) → MatchOrdering r (x <ℤ y) (x ≡ y) (y <ℤ x) → (b : Bool) → b ≡ is_le r → Tells b (x ≤ℤ y) (y <ℤ x)
-le_rank x y Less m b e = inl (e, omega (arith, ints))
-le_rank x y Equal m b e = inl (e, omega (arith, ints))
-le_rank x y Greater m b e = inr (e, m)
-
-gt_rank : (x y : ℤ) (r : Ordering) → MatchOrdering r (x <ℤ y) (x ≡ y) (y <ℤ x) → (b : Bool) → b ≡ is_gt r → Tells b (y <ℤ x) (x ≤ℤ y)
-gt_rank x y Less m b e = inr (e, omega (arith, ints))
-gt_rank x y Equal m b e = inr (e, omega (arith, ints))
-gt_rank x y Greater m b e = inl (e, m)
-
-ge_rank : (x y : ℤ) (r : Ordering) → MatchOrdering r (x <ℤ y) (x ≡ y) (y <ℤ x) → (b : Bool) → b ≡ is_ge r → Tells b (y ≤ℤ x) (x <ℤ y)
-ge_rank x y Less m b e = inr (e, m)
-ge_rank x y Equal m b e = inl (e, omega (arith, ints))
-ge_rank x y Greater m b e = inl (e, omega (arith, ints))
+told : {P Q : Type 0} (x y : ℤ) (r : Ordering) → MatchOrdering r (x <ℤ y) (x ≡ y) (y <ℤ x) → (test : Ordering → Bool) (b : Bool) → b ≡ test r
+    → (x <ℤ y → Tells (test Less) P Q) → (x ≡ y → Tells (test Equal) P Q) → (y <ℤ x → Tells (test Greater) P Q) → Tells b P Q
+told x y Less m test b e less equal greater = rw e (less m)
+told x y Equal m test b e less equal greater = rw e (equal m)
+told x y Greater m test b e less equal greater = rw e (greater m)
 
 module _ {A : Type 0} (R : A → A → Option Ordering) (v : A → ℤ) (law : (a b : A) → R a b ≡ Some (int_cmp (v a) (v b))) (a b : A) where
   -- Law: if R orders values by their numbers, `a < b` tells whether the number of a is below that of b, or not
   pub lt_tells : Tells (partial_lt R a b) (v a <ℤ v b) (v b ≤ℤ v a)
-  lt_tells = lt_rank (v a) (v b) (int_cmp (v a) (v b)) (int_ranked (v a) (v b) _ refl) (partial_lt R a b) (rw (law a b))
+  lt_tells = told (v a) (v b) (int_cmp (v a) (v b)) (int_ranked (v a) (v b) _ refl) is_lt (partial_lt R a b) (rw (law a b)) (λ m. inl (refl, m)) (λ m. inr (refl, omega (arith, ints))) (λ m. inr (refl, omega (arith, ints)))
 
   -- Law: if R orders values by their numbers, `a <= b` tells whether the number of a is at most that of b, or above it
   pub le_tells : Tells (partial_le R a b) (v a ≤ℤ v b) (v b <ℤ v a)
-  le_tells = le_rank (v a) (v b) (int_cmp (v a) (v b)) (int_ranked (v a) (v b) _ refl) (partial_le R a b) (rw (law a b))
+  le_tells = told (v a) (v b) (int_cmp (v a) (v b)) (int_ranked (v a) (v b) _ refl) is_le (partial_le R a b) (rw (law a b)) (λ m. inl (refl, omega (arith, ints))) (λ m. inl (refl, omega (arith, ints))) (λ m. inr (refl, m))
 
   -- Law: if R orders values by their numbers, `a > b` tells whether the number of a is above that of b, or not
   pub gt_tells : Tells (partial_gt R a b) (v b <ℤ v a) (v a ≤ℤ v b)
-  gt_tells = gt_rank (v a) (v b) (int_cmp (v a) (v b)) (int_ranked (v a) (v b) _ refl) (partial_gt R a b) (rw (law a b))
+  gt_tells = told (v a) (v b) (int_cmp (v a) (v b)) (int_ranked (v a) (v b) _ refl) is_gt (partial_gt R a b) (rw (law a b)) (λ m. inr (refl, omega (arith, ints))) (λ m. inr (refl, omega (arith, ints))) (λ m. inl (refl, m))
 
   -- Law: if R orders values by their numbers, `a >= b` tells whether the number of a is at least that of b, or below it
   pub ge_tells : Tells (partial_ge R a b) (v b ≤ℤ v a) (v a <ℤ v b)
-  ge_tells = ge_rank (v a) (v b) (int_cmp (v a) (v b)) (int_ranked (v a) (v b) _ refl) (partial_ge R a b) (rw (law a b))
+  ge_tells = told (v a) (v b) (int_cmp (v a) (v b)) (int_ranked (v a) (v b) _ refl) is_ge (partial_ge R a b) (rw (law a b)) (λ m. inr (refl, m)) (λ m. inl (refl, omega (arith, ints))) (λ m. inl (refl, omega (arith, ints)))
 
 -- the fact P that holds if a test is true
 pub yes : {P Q : Type 0} (b : Bool) → Tells b P Q → b ≡ true → P

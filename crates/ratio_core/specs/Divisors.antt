@@ -1,16 +1,13 @@
 -- Divisors and multiples of fractions, as pairs of whole numbers. The second number of each pair is not 0.
 use Rattle.std.specs.Prelude.{◌≢◌, ◌≤ℤ◌, ◌*ℤ◌, ℤ, pos, Option, None, Some}
-use Rattle.ratio_integer.specs.Division.{GcdHeld, IsGcdOf}
-use Rattle.ratio_integer.specs.Fraction.{IsLowestTerms, SameValue}
-use Rattle.ratio_integer.specs.Range.{IsHeld}
+use Rattle.ratio_integer.specs.{Division.GcdHeld, Division.IsGcdOf, Fraction.IsLowestTerms, Fraction.SameValue, Range.IsHeld}
 
 -- u/v divides a/b: a/b is a whole number times u/v
 -- Example: 1/12 divides 1/4, which is 3 times 1/12; 0/1 divides only 0
 abbrev pub DividesFraction : ℤ → ℤ → ℤ → ℤ → Type 0
 DividesFraction u v a b = (k : ℤ) × SameValue a b (k *ℤ u) v
 
--- g/h is the greatest common divisor of a/b and c/d, in lowest terms: it divides both, each fraction that divides both divides it, and it
--- is never negative. For 0 and 0 it is 0
+-- g/h is the greatest common divisor of a/b and c/d in lowest terms, not below 0: it divides both, and what divides both divides it. For 0 and 0: 0
 -- Example: 1/4 and 1/6: 1/12
 pub record IsGcdOfFractions (a b c d g h : ℤ) : Type 0 where
   pub lowest : IsLowestTerms g h
@@ -19,8 +16,7 @@ pub record IsGcdOfFractions (a b c d g h : ℤ) : Type 0 where
   pub second : DividesFraction g h c d
   pub greatest : (u v : ℤ) → v ≢ pos 0 → DividesFraction u v a b → DividesFraction u v c d → DividesFraction u v g h
 
--- l/m is the least common multiple of a/b and c/d, in lowest terms: both divide it, it divides each fraction that both divide, and it is
--- never negative. If a/b or c/d is 0, it is 0
+-- l/m is the least common multiple of a/b and c/d in lowest terms, not below 0: both divide it, and it divides what both divide. If one is 0: 0
 -- Example: 1/4 and 1/6: 1/2
 pub record IsLcmOfFractions (a b c d l m : ℤ) : Type 0 where
   pub lowest : IsLowestTerms l m
@@ -41,8 +37,7 @@ pub record HasHeldPair (lo hi : ℤ) (P : ℤ → ℤ → Type 0) : Type 0 where
   pub second : ℤ
   pub held : IsHeldPair lo hi P first second
 
--- the result is two numbers in range with the property P, where there are such; elsewhere it is `None`. `first` and `second` give its two
--- numbers
+-- the result is two numbers in range with the property P, by `first` and `second`, where there are such; elsewhere it is `None`
 -- Example: over `i8`, the least common multiple of 127/2 and 126/1: `None`
 abbrev pub ChecksPair : {R : Type 0} → (R → ℤ) → (R → ℤ) → ℤ → ℤ → (ℤ → ℤ → Type 0) → Option R → Type 0
 ChecksPair first second lo hi P None = ¬ (HasHeldPair lo hi P)

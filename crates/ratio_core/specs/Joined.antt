@@ -1,8 +1,6 @@
 -- Sums over the product of two denominators, and over their least common multiple.
 use Rattle.std.specs.Prelude.{◌≡◌, ◌+ℤ◌, ◌*ℤ◌, ℤ}
-use Rattle.ratio_integer.specs.Division.{IsGcdOf}
-use Rattle.ratio_integer.specs.Fraction.{IsLowestTerms}
-use Rattle.ratio_integer.specs.Range.{IsHeld}
+use Rattle.ratio_integer.specs.{Division.IsGcdOf, Fraction.IsLowestTerms, Range.IsHeld}
 
 -- Inner: n/m is the sum of two fractions in lowest terms, over the product of their denominators b and d
 -- Example: 28/60 is 1/6 + 3/10

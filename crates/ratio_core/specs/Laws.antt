@@ -1,8 +1,7 @@
 -- The laws of sums and products of fractions in lowest terms. A fraction is a pair here.
 use Rattle.std.specs.Prelude.{◌≡◌, ◌<ℤ◌, ℤ, Bool, pos}
 use Rattle.ratio_integer.specs.Arithmetic.{DifferenceHeld, SumHeld, difference_of, product_of, sum_of}
-use Rattle.ratio_integer.specs.Fraction.{Fits, IsLowestTermsOf}
-use Rattle.ratio_integer.specs.Range.{IsRange}
+use Rattle.ratio_integer.specs.{Fraction.Fits, Fraction.IsLowestTermsOf, Range.IsRange}
 use Rattle.ratio_core.specs.Conditions.{SumCondition}
 
 -- z is x + y in lowest terms

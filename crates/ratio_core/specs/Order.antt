@@ -2,9 +2,7 @@
 use Rattle.std.specs.Prelude.{◌≡◌, ◌≢◌, ◌⊎◌, ◌≤ℤ◌, ◌<ℤ◌, ◌*ℤ◌, ℕ, ℤ, pos, negsuc, Result, Ok, Err}
 use Rattle.std.specs.Ordering.{MatchOrdering, int_cmp}
 use Rattle.std.specs.declared.cmp.Ordering.{Ordering}
-use Rattle.ratio_integer.specs.Division.{IsFloored}
-use Rattle.ratio_integer.specs.Halves.{AreHalves, IsHalfBase}
-use Rattle.ratio_integer.specs.Range.{IsHeld}
+use Rattle.ratio_integer.specs.{Division.IsFloored, Halves.AreHalves, Halves.IsHalfBase, Range.IsHeld}
 
 -- -1 for a number below 0, and else 1
 -- Example: 0: 1
@@ -28,8 +26,7 @@ pub record AreProductsHeld (lo hi n d m e : ℤ) : Type 0 where
   pub left : IsHeld lo hi (n *ℤ e)
   pub right : IsHeld lo hi (m *ℤ d)
 
--- Inner: the product z of two numbers of a type, which may be out of range, as half digits: low and middle are below the half base,
--- and high is what is left
+-- Inner: the product z of two numbers, in range or not, as half digits: low and middle are below the half base, and high is the rest
 -- Example: 100·100 over `i8`: 39, 1 and 0, since 10000 is (39·16 + 1)·16 + 0
 pub record AreHalfDigits (lo hi z high middle low : ℤ) : Type 0 where
   pub rest : ℤ
@@ -45,8 +42,7 @@ pub record AreLowHalves (lo hi a b : ℤ) : Type 0 where
   pub right_above : pos 0 ≤ℤ b
   pub right_below : b <ℤ pos base
 
--- both denominators are positive, and the denominators are equal or exactly one numerator is below 0; then the numerators have the order of the
--- fractions
+-- both denominators are positive, and they are equal or just one numerator is below 0; then the numerators have the order of the fractions
 -- Example: -1/2 and 1/3
 abbrev pub DoNumeratorsDecide : ℤ → ℤ → ℤ → ℤ → Type 0
 DoNumeratorsDecide n d m e = (pos 0 <ℤ d) × (pos 0 <ℤ e) × ((d ≡ e) ⊎ HaveUnlikeSigns n m)
@@ -64,8 +60,7 @@ abbrev pub FollowsQuotient : {T : Type 0} → (T → ℤ) → ℤ → ℤ → �
 FollowsQuotient value hi q n d (Ok rest) = IsFloored n d q (value rest)
 FollowsQuotient value hi q n d (Err order) = IsOrderOfQuotients hi q n d order
 
--- Inner: o is the order of the whole parts p and q. If these are equal, a fraction without a rest is below one with a rest, and two without
--- a rest are equal; r and s are the rests
+-- Inner: o is the order of the whole parts p and q with the rests r and s. If p is q, no rest is below a rest, and two without one are equal
 abbrev pub IsOrderOfParts : ℤ → ℤ → ℤ → ℤ → Ordering → Type 0
 IsOrderOfParts p r q s o =
     MatchOrdering o

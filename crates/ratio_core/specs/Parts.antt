@@ -1,7 +1,6 @@
 -- Parts of 1, division by a positive number, and the sum of two parts. Two parts below 1 *carry* if they add up to 1 or more.
 use Rattle.std.specs.Prelude.{◌≡◌, ◌≤ℤ◌, ◌<ℤ◌, ◌+ℤ◌, ◌*ℤ◌, ℤ, pos, Bool, true, false, Option, Some, None}
-use Rattle.ratio_integer.specs.Fraction.{IsLowestTermsOf}
-use Rattle.ratio_integer.specs.Range.{IsHeld}
+use Rattle.ratio_integer.specs.{Fraction.IsLowestTermsOf, Range.IsHeld}
 
 -- Inner: r/d is a part of 1: from 0 to below 1
 -- Example: 2/3; not 3/3
@@ -20,8 +19,7 @@ abbrev pub carried : Bool → ℤ
 carried true = pos 1
 carried false = pos 0
 
--- Inner: the factor is `count` times the power, plus `left`; `count` times x is q times d plus r, where `left` is below the power, and r/d
--- is a part of 1
+-- Inner: the factor is `count` times the power plus `left`, which is below the power; `count` times x is q times d plus r, and r/d is a part of 1
 pub record IsTaken (x power factor d left q r : ℤ) : Type 0 where
   pub count : ℤ
   pub taken : IsDivided factor power count left

@@ -32,8 +32,7 @@ pub record PowersHeld (lo hi n d : ℤ) (m : ℕ) : Type 0 where
   pub numer : IsHeld lo hi (int_pow n m)
   pub denom : IsHeld lo hi (int_pow d m)
 
--- where n/d to the e is `Some`: both powers for the magnitude of e are in range (`PowersHeld`) and, for a negative e, they have a
--- reciprocal (`ReciprocalCondition`)
+-- where n/d to the e is `Some`: `PowersHeld` for the magnitude of e and, for a negative e, `ReciprocalCondition` of these powers
 -- Example: not (-1/2)^-7
 abbrev pub PowerCondition : ℤ → ℤ → ℤ → ℤ → ℤ → Type 0
 PowerCondition lo hi n d (pos m) = PowersHeld lo hi n d m

@@ -1,11 +1,8 @@
 -- The laws of reciprocals, powers and the two parts of a fraction. A fraction is a pair here.
 use Rattle.std.specs.Prelude.{◌≡◌, ◌≢◌, ◌<ℤ◌, ◌+◌, ◌+ℤ◌, ◌*ℤ◌, ℕ, ℤ, Bool, pos}
 use Rattle.std.specs.Int.{int_pow}
-use Rattle.ratio_integer.specs.Arithmetic.{product_of}
-use Rattle.ratio_integer.specs.Fraction.{SameValue}
-use Rattle.ratio_integer.specs.Range.{IsHeld, IsRange}
-use Rattle.ratio_core.specs.Conditions.{SumCondition}
-use Rattle.ratio_core.specs.Laws.{IsProduct, IsSum}
+use Rattle.ratio_integer.specs.{Arithmetic.product_of, Fraction.SameValue, Range.IsHeld, Range.IsRange}
+use Rattle.ratio_core.specs.{Conditions.SumCondition, Laws.IsProduct, Laws.IsSum}
 use Rattle.ratio_core.specs.Power.{IsPower, IsReciprocal, PowerCondition}
 use Rattle.ratio_core.specs.Rounding.{IsFractionalPart, IsTruncation}
 

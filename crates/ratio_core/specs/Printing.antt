@@ -49,8 +49,7 @@ abbrev pub twos_complement : ℕ → ℤ → ℕ
 twos_complement bits (pos n) = n
 twos_complement bits (negsuc n) = 2 ^ bits - suc n
 
--- in decimal, the text that std prints: the digits, after a minus if the number is below 0. In base 2, 8 or 16, the numeral of its two's
--- complement
+-- in decimal, the text that std prints: the digits, after a minus if it is below 0. In base 2, 8 or 16, the numeral of its two's complement
 -- Example: -1 in base 16: `ff`
 abbrev pub number_text : ℕ → Form → ℤ → List ℕ
 number_text bits Decimal z = signed_decimal z

@@ -2,10 +2,8 @@
 use Rattle.std.specs.Prelude.{◌≡◌, ◌≢◌, ◌⊎◌, ◌<ℤ◌, ◌+◌, ◌*◌, ◌^◌, ℕ, ℤ, pos, neg_ℤ, List, [], ◌∷◌, ◌++◌, length, Option, Some, None, Result, Ok, Err}
 use Rattle.std.specs.Char.{digit_value}
 use Rattle.std.specs.Str.Parse.{IsNumeral}
-use Rattle.ratio_integer.specs.Fraction.{Fits, IsHeldLowest}
-use Rattle.ratio_integer.specs.Range.{IsHeld}
-use Rattle.ratio_core.specs.declared.parse_error.RatioErrorKind.{RatioErrorKind}
-use Rattle.ratio_core.specs.declared.parse_error.RatioErrorKind.TheVariants.{ParseError, ZeroDenominator}
+use Rattle.ratio_integer.specs.{Fraction.Fits, Fraction.IsHeldLowest, Range.IsHeld}
+use Rattle.ratio_core.specs.declared.parse_error.RatioErrorKind.{RatioErrorKind, TheVariants.ParseError, TheVariants.ZeroDenominator}
 
 -- the byte of a plus sign, which is 43
 -- Example: `+`

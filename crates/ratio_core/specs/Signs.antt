@@ -2,8 +2,7 @@
 use Rattle.std.specs.Prelude.{◌≡◌, ◌≢◌, ◌<ℤ◌, ◌*ℤ◌, ℕ, ℤ, Bool, false, true, pos, negsuc, neg_ℤ}
 use Rattle.std.specs.declared.cmp.Ordering.TheVariants.{Greater}
 use Rattle.ratio_integer.specs.Arithmetic.{difference_of}
-use Rattle.ratio_core.specs.Conditions.{DifferenceCondition, IsHeldLowestOf}
-use Rattle.ratio_core.specs.Order.{cross_cmp}
+use Rattle.ratio_core.specs.{Conditions.DifferenceCondition, Conditions.IsHeldLowestOf, Order.cross_cmp}
 
 -- a natural number n, negated if the sign s is set
 -- Example: 3 with the sign: -3

@@ -10,8 +10,8 @@ use Rattle.ratio_integer.specs.Range.{IsHeld, IsRange}
 use Rattle.ratio_integer.proofs.LowestTerms.{lowest_unique}
 use Rattle.ratio_core.specs.declared.parse_error.RatioErrorKind.{RatioErrorKind}
 use Rattle.ratio_core.specs.declared.parse_error.RatioErrorKind.TheVariants.{ParseError, ZeroDenominator}
-use Rattle.ratio_core.specs.declared.text.form.Form.{Form}
-use Rattle.ratio_core.specs.declared.text.form.Form.TheVariants.{Binary, Decimal, LowerHex, Octal, UpperHex}
+use Rattle.ratio_core.specs.declared.text.Form.{Form}
+use Rattle.ratio_core.specs.declared.text.Form.TheVariants.{Binary, Decimal, LowerHex, Octal, UpperHex}
 use Rattle.ratio_core.specs.Printing.{ReadsBack, base_of, number_text, shown_prefix, text_of, twos_complement}
 use Rattle.ratio_core.specs.Reading.{AnswersText, IsNumberText, IsSlashedText, digits_sum, slash}
 use Rattle.ratio_core.proofs.CutLemmas.{HasNoSlash, no_slash, no_slashed, only_number, same_cut}

@@ -3,8 +3,8 @@ use Rattle.std.specs.Prelude.{◌≡◌, ◌≢◌, ◌≤ℤ◌, ◌<ℤ◌, �
 use Rattle.ratio_core.specs.declared.parse_error.RatioErrorKind.{RatioErrorKind}
 use Rattle.ratio_core.specs.declared.parse_error.RatioErrorKind.TheVariants.{ParseError}
 use Rattle.ratio_decimal.specs.declared.rounding_rule.Rounding.{Rounding}
-use Rattle.ratio_core.specs.declared.text.form.Form.{Form}
-use Rattle.ratio_core.specs.declared.text.form.Form.TheVariants.{Decimal}
+use Rattle.ratio_core.specs.declared.text.Form.{Form}
+use Rattle.ratio_core.specs.declared.text.Form.TheVariants.{Decimal}
 use Rattle.ratio_decimal.specs.declared.reading.DecimalRefusal.{DecimalRefusal}
 use Rattle.ratio_decimal.specs.Decimal.{IsDecimalOf, IsExactDecimal}
 use Rattle.ratio_laws.specs.DecimalLaws.{IsReadNear}

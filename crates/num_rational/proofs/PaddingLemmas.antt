@@ -7,7 +7,7 @@ use Rattle.std.specs.declared.fmt.Formatter.{Formatter}
 use Rattle.std.specs.declared.fmt.Error.{Error}
 use Rattle.std.proofs.lemmas.Bool.{ne_eqb}
 use Rattle.std.proofs.lemmas.List.{append-nil}
-use Rattle.ratio_core.specs.declared.text.form.Form.{Form}
+use Rattle.ratio_core.specs.declared.text.Form.{Form}
 use Rattle.ratio_core.specs.Printing.{body_of, text_of}
 
 cond_same : {A : Type 0} (t : Bool) (x : A) → cond t x x ≡ x

@@ -1,8 +1,8 @@
 -- How a fraction is printed under the options in a pair of braces.
 use Rattle.std.specs.Prelude.{ℕ, ℤ, Bool, true, false, List, [], Option, None, Some, drop, if◌then◌else◌}
 use Rattle.std.specs.Str.Parse.{starts_with_minus}
-use Rattle.ratio_core.specs.declared.text.form.Form.{Form}
-use Rattle.ratio_core.specs.declared.text.form.Form.TheVariants.{Decimal}
+use Rattle.ratio_core.specs.declared.text.Form.{Form}
+use Rattle.ratio_core.specs.declared.text.Form.TheVariants.{Decimal}
 use Rattle.ratio_decimal.specs.Precision.{half_even_text}
 use Rattle.ratio_core.specs.Printing.{body_of, prefix_of, text_of}
 

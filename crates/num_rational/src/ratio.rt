@@ -12,7 +12,7 @@ ghost use Rattle.ratio_core.specs.Printing.{ReadsBack, base_of, base_ten_room, t
 ghost use Rattle.ratio_core.specs.Reading.{AnswersText, IsFractionText, IsSlashedText};
 ghost use Rattle.ratio_core.specs.Rounding.{ChecksTruncation, IsCeiling, IsFloor, IsFractionalPart, IsRounded, IsTruncation};
 ghost use Rattle.ratio_core.specs.Signs.{IsAbsolute, IsNegative, IsPositive, IsPositiveDifference, IsSign, PositiveDifferenceCondition};
-ghost use Rattle.ratio_core.specs.declared.text.form.Form.TheVariants.{Decimal};
+ghost use Rattle.ratio_core.specs.declared.text.Form.TheVariants.{Decimal};
 ghost use Rattle.ratio_approximation.specs.Nearest.{IsNearest};
 ghost use Rattle.ratio_float.specs.Floats.{nearest_float};
 

@@ -13,7 +13,7 @@ use Rattle.ratio_core.specs.Printing.{last_digits}
 use Rattle.ratio_decimal.specs.Decimal.{IsDecimalOf, places_text, point, unsigned_places}
 use Rattle.ratio_core.specs.Printing.{text_of}
 use Rattle.ratio_core.specs.Reading.{minus, slash}
-use Rattle.ratio_core.specs.declared.text.form.Form.TheVariants.{Decimal}
+use Rattle.ratio_core.specs.declared.text.Form.TheVariants.{Decimal}
 use Rattle.ratio_decimal.specs.declared.rounding_rule.Rounding.{Rounding}
 use Rattle.ratio_c.specs.Texts.{decimal_longest}
 use Rattle.ratio_core.proofs.DigitGroups.{length_group, some_digit}

@@ -16,7 +16,7 @@ use Rattle.ratio_integer.specs.Range.{Checks, IsHeld}
 use Rattle.ratio_core.specs.declared.parse_error.RatioErrorKind.{RatioErrorKind}
 use Rattle.ratio_core.specs.declared.parse_error.RatioErrorKind.TheVariants.{ParseError, ZeroDenominator}
 use Rattle.ratio_core.specs.Reading.{digits_sum, AnswersFields, IsFractionText, IsSlashedText, ReadsAs, minus, slash}
-use Rattle.ratio_core.specs.declared.text.quick_fields.TheConstants.{DIGITS}
+use Rattle.ratio_core.specs.declared.text.reading.TheConstants.{DIGITS}
 use Rattle.ratio_core.proofs.NumberLemmas.{digits_after, digits_value_sum}
 
 -- ---- the digits

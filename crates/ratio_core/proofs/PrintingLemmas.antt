@@ -12,8 +12,8 @@ use Rattle.std.proofs.lemmas.Str.{IsAscii-append}
 use Rattle.std.proofs.lemmas.Str.Ascii.{IsAscii-cons, IsAscii-nil}
 use Rattle.ratio_integer.specs.Range.{Checks, IsHeld, IsRange}
 use Rattle.ratio_integer.proofs.DivisionLemmas.{low_below}
-use Rattle.ratio_core.specs.declared.text.form.Form.{Form}
-use Rattle.ratio_core.specs.declared.text.form.Form.TheVariants.{Binary, Decimal, LowerHex, Octal, UpperHex}
+use Rattle.ratio_core.specs.declared.text.Form.{Form}
+use Rattle.ratio_core.specs.declared.text.Form.TheVariants.{Binary, Decimal, LowerHex, Octal, UpperHex}
 use Rattle.ratio_core.specs.Printing.{number_text, shown_prefix, text_of, twos_complement}
 use Rattle.ratio_core.specs.Reading.{slash}
 use Rattle.ratio_core.proofs.Numerals.{numeral_ascii}

@@ -11,8 +11,8 @@ use Rattle.ratio_integer.specs.Fraction.{Fits, IsLowestTermsOf}
 use Rattle.ratio_integer.specs.Range.{IsHeld, IsRange}
 use Rattle.ratio_core.specs.declared.parse_error.RatioErrorKind.{RatioErrorKind}
 use Rattle.ratio_core.specs.declared.parse_error.RatioErrorKind.TheVariants.{ParseError, ZeroDenominator}
-use Rattle.ratio_core.specs.declared.text.form.Form.{Form}
-use Rattle.ratio_core.specs.declared.text.form.Form.TheVariants.{Binary, Decimal, LowerHex, Octal, UpperHex}
+use Rattle.ratio_core.specs.declared.text.Form.{Form}
+use Rattle.ratio_core.specs.declared.text.Form.TheVariants.{Binary, Decimal, LowerHex, Octal, UpperHex}
 use Rattle.ratio_core.specs.Printing.{ReadsBack, base_of, number_text, shown_prefix, text_of}
 use Rattle.ratio_core.specs.Reading.{digits_sum, IsFractionText, IsNumberText, IsSlashedText, ReadsAs, Refuses, slash}
 use Rattle.ratio_core.proofs.CutLemmas.{only_fraction, only_slashed}

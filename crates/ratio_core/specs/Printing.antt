@@ -5,8 +5,8 @@ use Rattle.std.specs.Int.Digits.{digits_of}
 use Rattle.std.specs.Ordering.{int_eq}
 use Rattle.ratio_integer.specs.Fraction.{IsLowestTermsOf}
 use Rattle.ratio_core.specs.declared.parse_error.RatioErrorKind.{RatioErrorKind}
-use Rattle.ratio_core.specs.declared.text.form.Form.{Form}
-use Rattle.ratio_core.specs.declared.text.form.Form.TheVariants.{Binary, Decimal, LowerHex, Octal, UpperHex}
+use Rattle.ratio_core.specs.declared.text.Form.{Form}
+use Rattle.ratio_core.specs.declared.text.Form.TheVariants.{Binary, Decimal, LowerHex, Octal, UpperHex}
 use Rattle.ratio_core.specs.Reading.{ReadsLowest, Refuses, slash}
 
 -- the base of each printed form

@@ -1,11 +1,55 @@
-//! The codes by which a fraction is hashed, handed to a list while the steps are counted.
-ghost use Rattle.std.specs.Prelude.{◌≡◌, ◌≢◌, ◌+◌, ℕ, ℤ, pos, fold, List, ◌++◌};
+//! The codes by which a fraction is hashed: handed to a `CodeList` while the steps are counted, and kept for contracts in a `Taken`.
+ghost use Rattle.std.specs.Prelude.{◌≡◌, ◌≢◌, ◌+◌, ◌++◌, ◌∷◌, [], fold, List, pos, ℕ, ℤ};
+ghost use Rattle.std.specs.Borrow.{ftrue};
 ghost use Rattle.ratio_core.specs.ContinuedFraction.{AreCodesCounted, IsCodeCount, IsCodesOf, TellsApart};
 
-use crate::code_list::CodeList;
 use crate::order::dividing::{divide_left, is_above_max};
 use crate::steps::Steps;
 use ratio_integer::{Integer, both_held};
+use std::marker::Model;
+
+/// A list that takes integers at its end: an array that keeps them, or a hasher that is fed with them.
+/// Contracts see all numbers that it has taken. A list that does not keep its numbers has a `Taken` for them.
+pub trait CodeList<T: Integer> {
+    // The numbers taken so far.
+    ghost taken: { Self → List ℤ };
+
+    // The list after it took a value of this number.
+    ghost after: { Self → ℤ → Self };
+
+    /// Takes `t` at the end.
+    fn take(&mut self, t: T)
+        ensures { self.new ≡ after self.old (T.value t) };
+
+    ghost end_law: { (list : Self) (z : ℤ) → taken (after list z) ≡ taken list ++ z ∷ [] };
+}
+
+/// The numbers of all codes that a list has taken, in their order. It takes no memory. A list that keeps no
+/// codes, such as one over a hasher, has a `Taken` for them.
+#[derive(Drop)]
+pub struct Taken {
+    pub ghost codes: { List ℤ },
+}
+
+const _: () = prove!(size_of::<Taken>() == 0);
+
+impl Model for Taken {
+    ghost also_owns = { λ _. ftrue };
+}
+
+impl Taken {
+    /// No code yet.
+    pub fn none() -> Taken
+        ensures { result ≡ record { codes = [] } }
+    {
+        Taken {}
+    }
+
+    /// Adds one code at the end.
+    pub fn note<T: Integer>(&mut self, _t: &T)
+        ensures { self.new ≡ record { codes = self.old.codes ++ T.value _t.now ∷ [] } }
+    {}
+}
 
 /// Hands the codes of `n/d` to `list`: the quotients of its continued fraction, and then 0. The codes of 7/3
 /// are 2, 3 and 0. The quotient `hi + 1`, which does not fit the type, is written as the least number, twice.

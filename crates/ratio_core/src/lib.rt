@@ -50,7 +50,6 @@
 #![tactic(auto)]
 
 pub mod checked_new;
-mod code_list;
 pub mod divisors;
 mod exponent;
 mod hash;
@@ -61,18 +60,14 @@ pub mod pow;
 pub mod products;
 pub mod remainder;
 pub mod rounding;
-mod scaling;
 pub mod sign;
 mod steps;
 pub mod sums;
-mod taken;
 pub mod text;
 
-pub use code_list::CodeList;
 pub use exponent::Exponent;
-pub use hash::hash_counted;
+pub use hash::{CodeList, Taken, hash_counted};
 pub use order::{cmp_counted, compare, cross_order};
 pub use parse_error::{ParseRatioError, RatioErrorKind};
 pub use steps::Steps;
-pub use taken::Taken;
 pub use text::{BaseTenText, DecimalText, Form, RatioText};

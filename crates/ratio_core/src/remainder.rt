@@ -9,7 +9,7 @@ pub mod lowest_remainder;
 pub mod lowest_remainders;
 pub mod reducing;
 
-use crate::scaling::scaled;
+use crate::sums::scaled;
 use ratio_integer::{Integer, lowest_terms};
 
 /// The lowest terms of `x - t*y`. Here `x` is `a/b`, `y` is `c/d`, and `t` is their quotient cut towards

@@ -1,10 +1,10 @@
-//! Signs, negatives, absolute values and positive differences of fractions. A denominator may have either sign.
-ghost use Rattle.std.specs.Prelude.{◌≡◌, ◌≢◌, ◌↔◌, ◌<ℤ◌, pos, neg_ℤ, IsTrue};
+//! Signs of numbers and of fractions, and the negatives, absolute values and positive differences of fractions. A denominator may have either sign.
+ghost use Rattle.std.specs.Prelude.{◌≡◌, ◌≢◌, ◌↔◌, ◌<ℤ◌, IsTrue, neg_ℤ, pos};
 ghost use Rattle.ratio_integer.specs.Range.{IsHeld};
+ghost use Rattle.ratio_core.specs.Order.{HaveUnlikeSigns};
 ghost use Rattle.ratio_core.specs.Signs.{IsAbsolute, IsNegative, IsPositive, IsPositiveDifference, IsSign, PositiveDifferenceCondition};
 
 use crate::order::cross_order;
-pub use crate::order::signs::{is_above_zero, is_below_zero};
 use crate::steps::Steps;
 use crate::sums::sub;
 use ratio_integer::{Integer, SignedInteger};
@@ -77,4 +77,25 @@ pub fn is_negative<T: SignedInteger>(n: T, d: T) -> bool
     } else {
         is_below_zero(n)
     }
+}
+
+/// Whether the number is below 0.
+pub fn is_below_zero<T: Integer>(a: T) -> bool
+    ensures { IsTrue result ↔ (T.value a <ℤ pos 0) }
+{
+    a < T::ZERO
+}
+
+/// Whether the number is above 0.
+pub fn is_above_zero<T: Integer>(a: T) -> bool
+    ensures { IsTrue result ↔ (pos 0 <ℤ T.value a) }
+{
+    T::ZERO < a
+}
+
+/// Whether exactly one of the two is below 0.
+pub fn have_unlike_signs<T: Integer>(d: T, e: T) -> bool
+    ensures { IsTrue result ↔ HaveUnlikeSigns (T.value d) (T.value e) }
+{
+    is_below_zero(d) != is_below_zero(e)
 }

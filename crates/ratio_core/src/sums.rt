@@ -1,4 +1,4 @@
-//! Sums and differences of fractions with positive denominators, in lowest terms.
+//! Sums and differences of fractions with positive denominators, in lowest terms, and two fractions over their least common denominator.
 //!
 //! The calls here take the fields as they are. If the sums of a type are exact, the calls return `Some` exactly where the lowest terms fit. For
 //! other types they form the sum over the least common denominator, and return `None` where a number on the way does not fit. The calls of
@@ -6,7 +6,7 @@
 ghost use Rattle.std.specs.Prelude.{◌<ℤ◌, pos};
 ghost use Rattle.ratio_integer.specs.Arithmetic.{difference_of, sum_of};
 ghost use Rattle.ratio_integer.specs.Fraction.{AnswersLowest};
-ghost use Rattle.ratio_core.specs.Conditions.{DifferenceCondition, IsHeldLowestOf, SumCondition};
+ghost use Rattle.ratio_core.specs.Conditions.{ChecksScaled, DifferenceCondition, IsHeldLowestOf, SumCondition};
 
 pub mod lowest_sums;
 mod mixed;
@@ -14,10 +14,9 @@ pub(crate) mod multiple;
 pub mod reducing;
 mod words;
 
-use crate::scaling::scaled;
 pub use mixed::numerator_of;
 pub use multiple::{carried_on, multiple_over, sum_over};
-use ratio_integer::{Integer, lowest_terms};
+use ratio_integer::{Integer, both_held, lowest_terms};
 
 /// The lowest terms of `a/b + c/d`. If `EXACT_SUMS` is true, the call returns `None` exactly if they do
 /// not fit the type. If it is false, the call returns `None` exactly if one of these does not fit: the least
@@ -95,4 +94,29 @@ pub fn sub<T: Integer>(a: T, b: T, c: T, d: T) -> (T, T)
         Some(difference) => difference,
         None => unreachable!(),
     }
+}
+
+/// The numerators of `a/b` and `c/d` over their least common denominator, and then this denominator. For 3/4
+/// and 1/6 they are 9, 2 and 12. `None` if one of the three does not fit the type.
+///
+/// The fields are taken as they are, not reduced. Equal denominators cost no
+/// division. Those without a common divisor cost only the gcd.
+pub(crate) fn scaled<T: Integer>(a: T, b: T, c: T, d: T) -> Option<(T, T, T)>
+    requires left_positive { pos 0 <ℤ T.value b }
+    requires right_positive { pos 0 <ℤ T.value d }
+    ensures { ChecksScaled T.value T.lo T.hi (T.value a) (T.value b) (T.value c) (T.value d) result }
+{
+    if b == d {
+        both_held(a, b);
+        let _ = c.held();
+        return Some((a, c, b));
+    }
+    // Each fraction is expanded by the other's part of b/d in lowest terms. For
+    // 3/4 and 1/6, 4/6 is 2/3: 3/4 by 3, and 1/6 by 2.
+    let (for_right, for_left) = lowest_terms(b, d);
+    Some((
+        a.try_times(for_left)?,
+        c.try_times(for_right)?,
+        b.try_times(for_left)?,
+    ))
 }

@@ -7,9 +7,7 @@ ghost use Rattle.ratio_decimal.specs.RoundingRules.{signed};
 
 use ratio_core::sign::is_below_zero;
 use ratio_core::sums::multiple_over;
-use ratio_core::text::digits::{put_digits, put_word};
-use ratio_core::text::fixed_text::DecimalText;
-use ratio_core::text::printing::magnitude;
+use ratio_core::text::{DecimalText, magnitude, put_digits, put_word};
 use ratio_integer::{Primitive, both_held};
 
 /// All of the fraction as a decimal, `12.375` for 99/8, or `None` if its digits do not end, as those of 1/3. They end

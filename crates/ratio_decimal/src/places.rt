@@ -6,9 +6,7 @@ ghost use Rattle.ratio_decimal.specs.RoundingRules.{mirrored, signed};
 use crate::rounded::rounded;
 use crate::rounding_rule::Rounding;
 use ratio_core::sign::is_below_zero;
-use ratio_core::text::digits::put_digits;
-use ratio_core::text::fixed_text::DecimalText;
-use ratio_core::text::printing::magnitude;
+use ratio_core::text::{DecimalText, magnitude, put_digits};
 use ratio_integer::{Primitive, both_held};
 
 /// The fraction as a decimal: the multiple of `1/10^places` that the rule says, with all its places. A fraction that

@@ -8,7 +8,7 @@ ghost use Rattle.ratio_float.specs.Floats.{IsCutQuotient, nearest_float};
 use crate::format::FloatType;
 use crate::quotient::leading_digits;
 use ratio_core::sign::is_below_zero;
-use ratio_core::text::printing::magnitude;
+use ratio_core::text::magnitude;
 use ratio_integer::Primitive;
 
 /// The float nearest to the fraction: 0.3333333333333333 for 1/3. If two are equally near, it is the one whose last

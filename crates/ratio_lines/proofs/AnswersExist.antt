@@ -13,7 +13,7 @@ use Rattle.ratio_integer.specs.Range.{IsRange}
 use Rattle.ratio_core.specs.Order.{cross_cmp}
 use Rattle.ratio_core.specs.Printing.{text_of}
 use Rattle.ratio_core.specs.Refusal.{refusal_text}
-use Rattle.ratio_core.specs.declared.text.form.Form.TheVariants.{Decimal}
+use Rattle.ratio_core.specs.declared.text.Form.TheVariants.{Decimal}
 use Rattle.ratio_core.specs.declared.parse_error.RatioErrorKind.{RatioErrorKind}
 use Rattle.ratio_core.proofs.NumbersExist.{lowest_checked, remainder_checked}
 use Rattle.ratio_core.proofs.ReadingExists.{text_answer_exists}

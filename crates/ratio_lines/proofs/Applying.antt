@@ -9,7 +9,7 @@ use Rattle.num_rational.specs.declared.ratio.Ratio.{Ratio}
 use Rattle.ratio_core.specs.Printing.{text_of}
 use Rattle.ratio_core.specs.Refusal.{refusal_text}
 use Rattle.ratio_core.specs.declared.parse_error.RatioErrorKind.{RatioErrorKind}
-use Rattle.ratio_core.specs.declared.text.form.Form.TheVariants.{Decimal}
+use Rattle.ratio_core.specs.declared.text.Form.TheVariants.{Decimal}
 use Rattle.ratio_lines.specs.AnswerText.{bytes_of, outcome_of}
 use Rattle.ratio_lines.specs.Answers.{AreRead, IsApplied, IsOperandsAnswer, IsOutcome, IsTextsAnswer, Outcome, operator_parts, operators_of, right_parts}
 use Rattle.ratio_lines.specs.Operands.{IsOperand, operator_of}

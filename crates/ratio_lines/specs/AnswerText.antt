@@ -6,7 +6,7 @@ use Rattle.either.specs.declared.Either.TheVariants.{Left, Right}
 use Rattle.num_rational.specs.Ratio.{numerator, denominator}
 use Rattle.num_rational.specs.declared.ratio.Ratio.{Ratio}
 use Rattle.ratio_core.specs.Printing.{text_of}
-use Rattle.ratio_core.specs.declared.text.form.Form.TheVariants.{Decimal}
+use Rattle.ratio_core.specs.declared.text.Form.TheVariants.{Decimal}
 use Rattle.ratio_lines.specs.Answers.{Outcome}
 
 -- the bytes of an answer that is a known text or a number, which is printed in decimal

@@ -14,7 +14,7 @@ use Rattle.ratio_core.specs.Order.{cross_cmp}
 use Rattle.ratio_core.specs.Printing.{text_of}
 use Rattle.ratio_core.specs.Refusal.{refusal_text}
 use Rattle.ratio_core.specs.declared.parse_error.RatioErrorKind.{RatioErrorKind}
-use Rattle.ratio_core.specs.declared.text.form.Form.TheVariants.{Decimal}
+use Rattle.ratio_core.specs.declared.text.Form.TheVariants.{Decimal}
 use Rattle.ratio_lines.specs.Lines.{front_of, lines_of, longest_line, whole_lines}
 use Rattle.ratio_lines.specs.Operands.{IsOperand, greatest, least, operator_of}
 use Rattle.ratio_lines.specs.declared.operator.Operator.{Operator}

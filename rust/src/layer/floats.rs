@@ -4,7 +4,7 @@
 use super::integer::{Element, Integer};
 use super::ratio::Ratio;
 use crate::proved::ratio_float::nearest;
-use crate::proved::ratio_core::text::printing::magnitude;
+use crate::proved::ratio_core::text::magnitude;
 use crate::proved::ratio_integer::Primitive;
 use core::ops::Neg;
 

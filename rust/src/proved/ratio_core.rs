@@ -5,7 +5,6 @@
 //! between the type's least and greatest number: over `i8`, from -128 to 127. A value in hand is in range,
 //! and no law can say that.
 pub mod checked_new;
-mod code_list;
 pub mod divisors;
 mod exponent;
 mod hash;
@@ -16,18 +15,14 @@ pub mod pow;
 pub mod products;
 pub mod remainder;
 pub mod rounding;
-mod scaling;
 pub mod sign;
 mod steps;
 pub mod sums;
-mod taken;
 pub mod text;
 
-pub use code_list::CodeList;
 pub use exponent::Exponent;
-pub use hash::hash_counted;
+pub use hash::{CodeList, Taken, hash_counted};
 pub use order::{cmp_counted, compare, cross_order};
 pub use parse_error::{ParseRatioError, RatioErrorKind};
 pub use steps::Steps;
-pub use taken::Taken;
 pub use text::{BaseTenText, DecimalText, Form, RatioText};

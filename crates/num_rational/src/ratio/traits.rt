@@ -11,7 +11,7 @@ ghost use Rattle.ratio_core.proofs.EqualityLaws.{same_agrees, same_equivalence, 
 ghost use Rattle.ratio_core.proofs.OrderLaws.{cross_total};
 ghost use Rattle.ratio_core.specs.ContinuedFraction.{IsCodesOf};
 ghost use Rattle.ratio_core.specs.Printing.{text_of};
-ghost use Rattle.ratio_core.specs.declared.text.form.Form.TheVariants.{Decimal};
+ghost use Rattle.ratio_core.specs.declared.text.Form.TheVariants.{Decimal};
 ghost use Rattle.num_rational.specs.Comparison.{AreEqual, HaveSameFields, IsInLowestTerms, order_of, same_value};
 ghost use Rattle.num_rational.specs.Hashing.{writes_of};
 ghost use Rattle.num_rational.specs.Negation.{IsNegated};
@@ -237,7 +237,7 @@ impl<T: Primitive> Display for Ratio<T> {
 }
 
 impl<T: Primitive> Binary for Ratio<T> {
-    ghost use Rattle.ratio_core.specs.declared.text.form.Form.TheVariants.{Binary};
+    ghost use Rattle.ratio_core.specs.declared.text.Form.TheVariants.{Binary};
 
     fn fmt<W: Write>(&self, f: &mut Formatter<W>) -> fmt::Result
         ensures plain { WritesOnOk W.write_str_gives f.old result
@@ -252,7 +252,7 @@ impl<T: Primitive> Binary for Ratio<T> {
 }
 
 impl<T: Primitive> Octal for Ratio<T> {
-    ghost use Rattle.ratio_core.specs.declared.text.form.Form.TheVariants.{Octal};
+    ghost use Rattle.ratio_core.specs.declared.text.Form.TheVariants.{Octal};
 
     fn fmt<W: Write>(&self, f: &mut Formatter<W>) -> fmt::Result
         ensures plain { WritesOnOk W.write_str_gives f.old result
@@ -267,7 +267,7 @@ impl<T: Primitive> Octal for Ratio<T> {
 }
 
 impl<T: Primitive> LowerHex for Ratio<T> {
-    ghost use Rattle.ratio_core.specs.declared.text.form.Form.TheVariants.{LowerHex};
+    ghost use Rattle.ratio_core.specs.declared.text.Form.TheVariants.{LowerHex};
 
     fn fmt<W: Write>(&self, f: &mut Formatter<W>) -> fmt::Result
         ensures plain { WritesOnOk W.write_str_gives f.old result
@@ -282,7 +282,7 @@ impl<T: Primitive> LowerHex for Ratio<T> {
 }
 
 impl<T: Primitive> UpperHex for Ratio<T> {
-    ghost use Rattle.ratio_core.specs.declared.text.form.Form.TheVariants.{UpperHex};
+    ghost use Rattle.ratio_core.specs.declared.text.Form.TheVariants.{UpperHex};
 
     fn fmt<W: Write>(&self, f: &mut Formatter<W>) -> fmt::Result
         ensures plain { WritesOnOk W.write_str_gives f.old result

@@ -4,7 +4,7 @@ ghost use Rattle.std.specs.Float.{binary32, binary64};
 ghost use Rattle.ratio_core.specs.Printing.{ReadsBack, base_of, base_ten_room, text_of};
 ghost use Rattle.ratio_core.specs.Reading.{AnswersText, IsFractionText, IsSlashedText};
 ghost use Rattle.ratio_core.specs.declared.parse_error.RatioErrorKind.TheVariants.{ParseError};
-ghost use Rattle.ratio_core.specs.declared.text.form.Form.TheVariants.{Decimal};
+ghost use Rattle.ratio_core.specs.declared.text.Form.TheVariants.{Decimal};
 ghost use Rattle.ratio_float.specs.Floats.{fraction_of_float, nearest_float};
 ghost use Rattle.ratio_float.specs.Rationalize.{ChecksRationalized};
 ghost use Rattle.ratio_decimal.specs.Decimal.{ChecksExactDecimal, IsDecimalOf};

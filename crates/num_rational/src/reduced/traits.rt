@@ -9,7 +9,7 @@ ghost use Rattle.ratio_core.proofs.EqualityLaws.{same_agrees, same_equivalence, 
 ghost use Rattle.ratio_core.proofs.FieldLemmas.{same_writes_by_fields};
 ghost use Rattle.ratio_core.proofs.OrderLaws.{cross_total};
 ghost use Rattle.ratio_core.specs.Printing.{text_of};
-ghost use Rattle.ratio_core.specs.declared.text.form.Form.TheVariants.{Decimal};
+ghost use Rattle.ratio_core.specs.declared.text.Form.TheVariants.{Decimal};
 ghost use Rattle.num_rational.specs.Comparison.{AreEqual, HaveSameFields, order_of, same_value};
 ghost use Rattle.num_rational.specs.Padding.{padded_base_ten, padded_in_base, text_under};
 ghost use Rattle.num_rational.specs.Ratio.{IsWhole, denominator, numerator};
@@ -149,7 +149,7 @@ impl<T: Primitive> Display for Reduced<T> {
 }
 
 impl<T: Primitive> Binary for Reduced<T> {
-    ghost use Rattle.ratio_core.specs.declared.text.form.Form.TheVariants.{Binary};
+    ghost use Rattle.ratio_core.specs.declared.text.Form.TheVariants.{Binary};
 
     fn fmt<W: Write>(&self, f: &mut Formatter<W>) -> fmt::Result
         ensures plain { WritesOnOk W.write_str_gives f.old result
@@ -164,7 +164,7 @@ impl<T: Primitive> Binary for Reduced<T> {
 }
 
 impl<T: Primitive> Octal for Reduced<T> {
-    ghost use Rattle.ratio_core.specs.declared.text.form.Form.TheVariants.{Octal};
+    ghost use Rattle.ratio_core.specs.declared.text.Form.TheVariants.{Octal};
 
     fn fmt<W: Write>(&self, f: &mut Formatter<W>) -> fmt::Result
         ensures plain { WritesOnOk W.write_str_gives f.old result
@@ -179,7 +179,7 @@ impl<T: Primitive> Octal for Reduced<T> {
 }
 
 impl<T: Primitive> LowerHex for Reduced<T> {
-    ghost use Rattle.ratio_core.specs.declared.text.form.Form.TheVariants.{LowerHex};
+    ghost use Rattle.ratio_core.specs.declared.text.Form.TheVariants.{LowerHex};
 
     fn fmt<W: Write>(&self, f: &mut Formatter<W>) -> fmt::Result
         ensures plain { WritesOnOk W.write_str_gives f.old result
@@ -194,7 +194,7 @@ impl<T: Primitive> LowerHex for Reduced<T> {
 }
 
 impl<T: Primitive> UpperHex for Reduced<T> {
-    ghost use Rattle.ratio_core.specs.declared.text.form.Form.TheVariants.{UpperHex};
+    ghost use Rattle.ratio_core.specs.declared.text.Form.TheVariants.{UpperHex};
 
     fn fmt<W: Write>(&self, f: &mut Formatter<W>) -> fmt::Result
         ensures plain { WritesOnOk W.write_str_gives f.old result

@@ -7,7 +7,7 @@ ghost use Rattle.ratio_integer.specs.Range.{IsHeld};
 ghost use Rattle.ratio_core.specs.ContinuedFraction.{Compares, IsCompared};
 ghost use Rattle.ratio_core.specs.Order.{FollowsQuotient, IsOrderOfParts};
 
-use crate::order::signs::is_below_zero;
+use crate::sign::is_below_zero;
 use crate::steps::Steps;
 use ratio_integer::{Integer, both_held};
 use std::cmp::Ordering;

@@ -2,16 +2,17 @@
 use crate::asserting::{each_holds, reads};
 use ratio_core::checked_new::checked_new;
 use ratio_core::order::dividing::{divide_left, divide_right};
-use ratio_core::order::signs::have_unlike_signs;
 use ratio_core::pow::{checked_pow, checked_pow_with, checked_recip, pow, pow_with, recip};
 use ratio_core::rounding::{
     ceil, floor, fract, round, to_i64, to_i128, to_integer, to_u64, to_u128, trunc,
 };
-use ratio_core::sign::{abs, abs_sub, is_above_zero, is_negative, is_positive, neg, signum};
+use ratio_core::sign::{
+    abs, abs_sub, have_unlike_signs, is_above_zero, is_negative, is_positive, neg, signum,
+};
 use ratio_core::sums::{carried_on, checked_sub, multiple_over, numerator_of, sum_over};
-use ratio_core::text::digits::put_digits;
 use ratio_core::text::{
-    base_ten_text, from_str, from_str_radix, leading_fields, put_base_ten_text, put_text,
+    base_ten_text, from_str, from_str_radix, leading_fields, put_base_ten_text, put_digits,
+    put_text,
 };
 use ratio_core::{BaseTenText, Form, RatioText, Steps};
 use ratio_decimal::rounding_rule::Rounding;

@@ -1,10 +1,34 @@
 // Erased from crates/ratio_core/src/hash.rt by rust/erase: not to be edited.
-//! The codes by which a fraction is hashed, handed to a list while the steps are counted.
+//! The codes by which a fraction is hashed: handed to a `CodeList` while the steps are counted, and kept for contracts in a `Taken`.
 
-use crate::proved::ratio_core::code_list::CodeList;
 use crate::proved::ratio_core::order::dividing::{divide_left, is_above_max};
 use crate::proved::ratio_core::steps::Steps;
 use crate::proved::ratio_integer::{Integer, both_held};
+
+/// A list that takes integers at its end: an array that keeps them, or a hasher that is fed with them.
+/// Contracts see all numbers that it has taken. A list that does not keep its numbers has a `Taken` for them.
+pub trait CodeList<T: Integer> {
+    /// Takes `t` at the end.
+    fn take(&mut self, t: T);
+}
+
+/// The numbers of all codes that a list has taken, in their order. It takes no memory. A list that keeps no
+/// codes, such as one over a hasher, has a `Taken` for them.
+pub struct Taken {}
+
+const _: () = assert!(core::mem::size_of::<Taken>() == 0);
+
+impl Taken {
+    /// No code yet.
+    #[inline]
+    pub fn none() -> Taken {
+        Taken {}
+    }
+
+    /// Adds one code at the end.
+    #[inline]
+    pub fn note<T: Integer>(&mut self, _t: &T) {}
+}
 
 /// Hands the codes of `n/d` to `list`: the quotients of its continued fraction, and then 0. The codes of 7/3
 /// are 2, 3 and 0. The quotient `hi + 1`, which does not fit the type, is written as the least number, twice.

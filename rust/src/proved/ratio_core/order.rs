@@ -8,11 +8,10 @@
 
 pub mod dividing;
 mod half_digits;
-pub mod signs;
 
 use crate::proved::ratio_core::order::dividing::cmp_by_rounds;
 use crate::proved::ratio_core::order::half_digits::order_by_half_digits;
-use crate::proved::ratio_core::order::signs::have_unlike_signs;
+use crate::proved::ratio_core::sign::have_unlike_signs;
 use crate::proved::ratio_core::steps::Steps;
 use crate::proved::ratio_integer::Integer;
 use core::cmp::Ordering;

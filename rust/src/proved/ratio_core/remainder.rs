@@ -6,7 +6,7 @@ pub mod lowest_remainder;
 pub mod lowest_remainders;
 pub mod reducing;
 
-use crate::proved::ratio_core::scaling::scaled;
+use crate::proved::ratio_core::sums::scaled;
 use crate::proved::ratio_integer::{Integer, lowest_terms};
 
 /// The lowest terms of `x - t*y`. Here `x` is `a/b`, `y` is `c/d`, and `t` is their quotient cut towards

@@ -1,8 +1,7 @@
 // Erased from crates/ratio_core/src/sign.rt by rust/erase: not to be edited.
-//! Signs, negatives, absolute values and positive differences of fractions. A denominator may have either sign.
+//! Signs of numbers and of fractions, and the negatives, absolute values and positive differences of fractions. A denominator may have either sign.
 
 use crate::proved::ratio_core::order::cross_order;
-pub use crate::proved::ratio_core::order::signs::{is_above_zero, is_below_zero};
 use crate::proved::ratio_core::steps::Steps;
 use crate::proved::ratio_core::sums::sub;
 use crate::proved::ratio_integer::{Integer, SignedInteger};
@@ -99,4 +98,22 @@ pub fn is_negative<T: SignedInteger>(n: T, d: T) -> bool {
     } else {
         is_below_zero(n)
     }
+}
+
+/// Whether the number is below 0.
+#[inline]
+pub fn is_below_zero<T: Integer>(a: T) -> bool {
+    a < T::ZERO
+}
+
+/// Whether the number is above 0.
+#[inline]
+pub fn is_above_zero<T: Integer>(a: T) -> bool {
+    T::ZERO < a
+}
+
+/// Whether exactly one of the two is below 0.
+#[inline]
+pub fn have_unlike_signs<T: Integer>(d: T, e: T) -> bool {
+    is_below_zero(d) != is_below_zero(e)
 }

@@ -1,5 +1,5 @@
 // Erased from crates/ratio_core/src/sums.rt by rust/erase: not to be edited.
-//! Sums and differences of fractions with positive denominators, in lowest terms.
+//! Sums and differences of fractions with positive denominators, in lowest terms, and two fractions over their least common denominator.
 //!
 //! The calls here take the fields as they are. If the sums of a type are exact, the calls return `Some` exactly where the lowest terms fit. For
 //! other types they form the sum over the least common denominator, and return `None` where a number on the way does not fit. The calls of
@@ -11,10 +11,9 @@ pub(crate) mod multiple;
 pub mod reducing;
 mod words;
 
-use crate::proved::ratio_core::scaling::scaled;
 pub use mixed::numerator_of;
 pub use multiple::{carried_on, multiple_over, sum_over};
-use crate::proved::ratio_integer::{Integer, lowest_terms};
+use crate::proved::ratio_integer::{Integer, both_held, lowest_terms};
 
 /// The lowest terms of `a/b + c/d`. If `EXACT_SUMS` is true, the call returns `None` exactly if they do
 /// not fit the type. If it is false, the call returns `None` exactly if one of these does not fit: the least
@@ -100,4 +99,33 @@ pub fn sub<T: Integer>(a: T, b: T, c: T, d: T) -> (T, T) {
         Some(difference) => difference,
         None => unreachable!(),
     }
+}
+
+/// The numerators of `a/b` and `c/d` over their least common denominator, and then this denominator. For 3/4
+/// and 1/6 they are 9, 2 and 12. `None` if one of the three does not fit the type.
+///
+/// The fields are taken as they are, not reduced. Equal denominators cost no
+/// division. Those without a common divisor cost only the gcd.
+///
+/// # Conditions
+///
+/// The proof requires of the caller:
+///
+/// - `left_positive`: `pos 0 <ℤ T.value b`
+/// - `right_positive`: `pos 0 <ℤ T.value d`
+#[inline]
+pub(crate) fn scaled<T: Integer>(a: T, b: T, c: T, d: T) -> Option<(T, T, T)> {
+    if b == d {
+        both_held(a, b);
+        let _ = c.held();
+        return Some((a, c, b));
+    }
+    // Each fraction is expanded by the other's part of b/d in lowest terms. For
+    // 3/4 and 1/6, 4/6 is 2/3: 3/4 by 3, and 1/6 by 2.
+    let (for_right, for_left) = lowest_terms(b, d);
+    Some((
+        a.try_times(for_left)?,
+        c.try_times(for_right)?,
+        b.try_times(for_left)?,
+    ))
 }

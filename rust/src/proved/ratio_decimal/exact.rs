@@ -3,9 +3,7 @@
 
 use crate::proved::ratio_core::sign::is_below_zero;
 use crate::proved::ratio_core::sums::multiple_over;
-use crate::proved::ratio_core::text::digits::{put_digits, put_word};
-use crate::proved::ratio_core::text::fixed_text::DecimalText;
-use crate::proved::ratio_core::text::printing::magnitude;
+use crate::proved::ratio_core::text::{DecimalText, magnitude, put_digits, put_word};
 use crate::proved::ratio_integer::{Primitive, both_held};
 
 /// All of the fraction as a decimal, `12.375` for 99/8, or `None` if its digits do not end, as those of 1/3. They end

@@ -4,9 +4,7 @@
 use crate::proved::ratio_decimal::rounded::rounded;
 use crate::proved::ratio_decimal::rounding_rule::Rounding;
 use crate::proved::ratio_core::sign::is_below_zero;
-use crate::proved::ratio_core::text::digits::put_digits;
-use crate::proved::ratio_core::text::fixed_text::DecimalText;
-use crate::proved::ratio_core::text::printing::magnitude;
+use crate::proved::ratio_core::text::{DecimalText, magnitude, put_digits};
 use crate::proved::ratio_integer::{Primitive, both_held};
 
 /// The fraction as a decimal: the multiple of `1/10^places` that the rule says, with all its places. A fraction that

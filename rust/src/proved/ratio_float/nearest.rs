@@ -4,7 +4,7 @@
 use crate::proved::ratio_float::format::FloatType;
 use crate::proved::ratio_float::quotient::leading_digits;
 use crate::proved::ratio_core::sign::is_below_zero;
-use crate::proved::ratio_core::text::printing::magnitude;
+use crate::proved::ratio_core::text::magnitude;
 use crate::proved::ratio_integer::Primitive;
 
 /// The float nearest to the fraction: 0.3333333333333333 for 1/3. If two are equally near, it is the one whose last

@@ -4,8 +4,7 @@ ghost use Rattle.ratio_integer.specs.Comparison.{Tells};
 ghost use Rattle.ratio_approximation.specs.EndChoice.{ChecksWithEnd, IsAsSimple, IsFirstOfTwo};
 
 use crate::simplest::within::end::End;
-use ratio_core::order::signs::have_unlike_signs;
-use ratio_core::sign::is_below_zero;
+use ratio_core::sign::{have_unlike_signs, is_below_zero};
 use ratio_integer::{Integer, both_held, lowest_terms};
 
 /// What was found, or an included end if it is simpler or nothing was found.

@@ -2,7 +2,7 @@
 //! Comparing fractions by rounds of Euclid's algorithm on both, and its counted divisions, which hashing and other searches call too.
 //! A round takes one step a side.
 
-use crate::proved::ratio_core::order::signs::is_below_zero;
+use crate::proved::ratio_core::sign::is_below_zero;
 use crate::proved::ratio_core::steps::Steps;
 use crate::proved::ratio_integer::{Integer, both_held};
 use core::cmp::Ordering;

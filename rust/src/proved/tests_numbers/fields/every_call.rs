@@ -3,16 +3,17 @@
 use crate::proved::tests_numbers::asserting::{each_holds, reads};
 use crate::proved::ratio_core::checked_new::checked_new;
 use crate::proved::ratio_core::order::dividing::{divide_left, divide_right};
-use crate::proved::ratio_core::order::signs::have_unlike_signs;
 use crate::proved::ratio_core::pow::{checked_pow, checked_pow_with, checked_recip, pow, pow_with, recip};
 use crate::proved::ratio_core::rounding::{
     ceil, floor, fract, round, to_i64, to_i128, to_integer, to_u64, to_u128, trunc,
 };
-use crate::proved::ratio_core::sign::{abs, abs_sub, is_above_zero, is_negative, is_positive, neg, signum};
+use crate::proved::ratio_core::sign::{
+    abs, abs_sub, have_unlike_signs, is_above_zero, is_negative, is_positive, neg, signum,
+};
 use crate::proved::ratio_core::sums::{carried_on, checked_sub, multiple_over, numerator_of, sum_over};
-use crate::proved::ratio_core::text::digits::put_digits;
 use crate::proved::ratio_core::text::{
-    base_ten_text, from_str, from_str_radix, leading_fields, put_base_ten_text, put_text,
+    base_ten_text, from_str, from_str_radix, leading_fields, put_base_ten_text, put_digits,
+    put_text,
 };
 use crate::proved::ratio_core::{BaseTenText, Form, RatioText, Steps};
 use crate::proved::ratio_decimal::rounding_rule::Rounding;

@@ -2,8 +2,7 @@
 //! The choice between two fractions within bounds by how simple they are.
 
 use crate::proved::ratio_approximation::simplest::within::end::End;
-use crate::proved::ratio_core::order::signs::have_unlike_signs;
-use crate::proved::ratio_core::sign::is_below_zero;
+use crate::proved::ratio_core::sign::{have_unlike_signs, is_below_zero};
 use crate::proved::ratio_integer::{Integer, both_held, lowest_terms};
 
 /// What was found, or an included end if it is simpler or nothing was found.

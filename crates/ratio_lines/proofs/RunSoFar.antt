@@ -4,7 +4,7 @@ use Rattle.std.proofs.lemmas.List.{append-nil}
 use Rattle.std.specs.Prelude.{OnOk}
 use Rattle.ratio_lines.specs.declared.fault.CalcFault.{CalcFault}
 use Rattle.ratio_lines.specs.declared.fault.CalcFault.TheVariants.{Read, Write, Endless}
-use Rattle.ratio_lines.specs.declared.calls.Calls.{Calls}
+use Rattle.ratio_lines.specs.declared.counted.Calls.{Calls}
 use Rattle.ratio_lines.specs.Answers.{AreAnswersOf, AreWholeAnswers}
 use Rattle.ratio_lines.specs.Lines.{begun_line, if_begun, whole_lines}
 use Rattle.ratio_lines.specs.Devices.{Device, Ended, Failed, Flushes, Gave, Took, TookSome, after_ending, after_failing, after_flushing}

@@ -1,4 +1,4 @@
--- What the calls of a reader and of a writer do. The `Calls` of `src/calls.rt` say what the calls of a device (a reader or a writer) did:
+-- What the calls of a reader and of a writer do. The `Calls` of `src/counted.rt` say what the calls of a device (a reader or a writer) did:
 -- the bytes moved; how many calls failed, flushed, or said that the reader ended; and how many bytes had moved at the last flush, the
 -- *mark*. For example, a reader gives 4 bytes of `1 + 1\n`, then 2, then `Ok(0)`. Its `Calls` say that 6 bytes moved, no call failed, and
 -- one read said that the reader has ended. A word that ends in `For` says this of some bytes with a given property.
@@ -6,7 +6,7 @@ use Rattle.std.specs.Prelude.{◌≡◌, ℕ, ◌+◌, ◌<◌, ◌≤◌, List,
 use Rattle.std.specs.Io.KnownBytes.{Appends, Consumes, IsAtEnd, Keeps}
 use Rattle.ratio_lines.specs.declared.fault.CalcFault.{CalcFault}
 use Rattle.ratio_lines.specs.declared.fault.CalcFault.TheVariants.{Read, Write}
-use Rattle.ratio_lines.specs.declared.calls.Calls.{Calls}
+use Rattle.ratio_lines.specs.declared.counted.Calls.{Calls}
 
 -- no call was made
 abbrev pub no_calls : Calls

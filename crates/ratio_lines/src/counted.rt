@@ -1,17 +1,83 @@
-//! `Counted`: readers and writers whose calls a contract can follow, and the traits `CalcRead` and `CalcWrite`.
-ghost use Rattle.std.specs.Prelude.{◌≡◌, ℕ};
+//! `Counted`: readers and writers whose calls a contract can follow, what these calls did, and the traits `CalcRead` and `CalcWrite`.
+ghost use Rattle.std.specs.Prelude.{◌≡◌, List, ℕ};
+ghost use Rattle.std.specs.Borrow.{ftrue};
 ghost use Rattle.std.specs.Io.{ReadsAtMost, WritesAtMost};
 ghost use Rattle.std.specs.Io.KnownBytes.{ReadConsumes, WriteAppends, Keeps};
-ghost use Rattle.ratio_lines.specs.Devices.{Followed, after_read, after_write, after_flush, no_calls};
-ghost use Rattle.ratio_lines.specs.declared.calls.Calls.{Calls};
 
-use crate::calls::Calls;
 use std::io;
 use std::io::{Read, Write};
 use std::marker::Model;
 
+/// What the calls of a reader or a writer did so far. The fields are unbounded numbers and lists. They
+/// exist only in contracts and proofs, and take no memory. Only its own functions change them.
+#[derive(Drop)]
+pub struct Calls {
+    /// The bytes that calls gave or took.
+    pub ghost moved: { List ℕ },
+    /// How many calls failed.
+    pub ghost failures: { ℕ },
+    /// How many reads said that the reader has ended.
+    pub ghost ends: { ℕ },
+    /// How many flushes returned `Ok`.
+    pub ghost flushes: { ℕ },
+    /// How many bytes had moved at the last such flush.
+    pub ghost mark: { ℕ },
+}
+
+impl Model for Calls {
+    ghost also_owns = { λ _. ftrue };
+}
+
+impl Calls {
+    ghost use Rattle.ratio_lines.specs.Devices.{after_moving, after_failing, after_ending, after_flushing, no_calls};
+
+    /// No call was made.
+    pub fn none() -> Calls
+        ensures { result ≡ no_calls }
+    {
+        Calls {}
+    }
+
+    // Changes the calls to `next`, which the caller chooses. Nothing happens at run time.
+    fn note(&mut self, _bytes: &[u8])
+        ghost next: { Calls }
+        ensures { self.new ≡ next }
+    {}
+
+    /// A call moved these bytes.
+    pub fn note_moved(&mut self, bytes: &[u8])
+        ensures { self.new ≡ after_moving self.old bytes.now }
+    {
+        self.note(bytes)
+    }
+
+    /// A call failed.
+    pub fn note_failed(&mut self)
+        ensures { self.new ≡ after_failing self.old }
+    {
+        self.note(&[])
+    }
+
+    /// A read said that the reader has ended.
+    pub fn note_ended(&mut self)
+        ensures { self.new ≡ after_ending self.old }
+    {
+        self.note(&[])
+    }
+
+    /// A flush returned `Ok`.
+    pub fn note_flushed(&mut self)
+        ensures { self.new ≡ after_flushing self.old }
+    {
+        self.note(&[])
+    }
+}
+
 /// A reader whose calls are followed.
 pub trait CalcRead: Read {
+    ghost use Rattle.ratio_lines.specs.declared.counted.Calls.{Calls};
+    ghost use Rattle.ratio_lines.specs.Devices.{after_read};
+
     /// What the calls did so far.
     ghost calls: { Self → Calls };
 
@@ -24,6 +90,9 @@ pub trait CalcRead: Read {
 
 /// A writer whose calls are followed.
 pub trait CalcWrite: Write {
+    ghost use Rattle.ratio_lines.specs.declared.counted.Calls.{Calls};
+    ghost use Rattle.ratio_lines.specs.Devices.{after_flush, after_write};
+
     /// What the calls did so far.
     ghost calls: { Self → Calls };
 
@@ -49,12 +118,16 @@ pub struct Counted<D> {
 }
 
 impl<D> Model for Counted<D> {
+    ghost use Rattle.ratio_lines.specs.Devices.{Followed};
+
     ghost Value = { Followed D };
 
     ghost view = { λ c. record { device = c.device; reads = c.reads; writes = c.writes } };
 }
 
 impl<D> Counted<D> {
+    ghost use Rattle.ratio_lines.specs.Devices.{no_calls};
+
     /// The device. No call has been made.
     pub fn new(device: D) -> Counted<D>
         ensures { result ≡ record { device = device; reads = no_calls; writes = no_calls } }
@@ -75,6 +148,8 @@ impl<D> Counted<D> {
 }
 
 impl<D: Read> Read for Counted<D> {
+    ghost use Rattle.ratio_lines.specs.Devices.{after_read};
+
     ghost remaining = { λ c. D.remaining c.device };
 
     fn read(&mut self, buf: &mut [u8]) -> io::Result<usize>
@@ -108,6 +183,8 @@ impl<D: Read> CalcRead for Counted<D> {
 }
 
 impl<D: Write> Write for Counted<D> {
+    ghost use Rattle.ratio_lines.specs.Devices.{after_flush, after_write};
+
     ghost contents = { λ c. D.contents c.device };
 
     fn write(&mut self, buf: &[u8]) -> io::Result<usize>

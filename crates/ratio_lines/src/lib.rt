@@ -18,7 +18,6 @@
 
 pub mod answer;
 pub mod calculator;
-pub mod calls;
 pub mod counted;
 pub mod fault;
 pub mod gathered;

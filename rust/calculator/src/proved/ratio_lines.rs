@@ -2,7 +2,6 @@
 //! The calculator as a library. It answers each line of an input with a line of an output.
 pub mod answer;
 pub mod calculator;
-pub mod calls;
 pub mod counted;
 pub mod fault;
 pub mod gathered;

@@ -1,9 +1,48 @@
 // Erased from crates/ratio_lines/src/counted.rt by rust/erase: not to be edited.
-//! `Counted`: readers and writers whose calls a contract can follow, and the traits `CalcRead` and `CalcWrite`.
+//! `Counted`: readers and writers whose calls a contract can follow, what these calls did, and the traits `CalcRead` and `CalcWrite`.
 
-use crate::proved::ratio_lines::calls::Calls;
 use std::io;
 use std::io::{Read, Write};
+
+/// What the calls of a reader or a writer did so far. The fields are unbounded numbers and lists. They
+/// exist only in contracts and proofs, and take no memory. Only its own functions change them.
+pub struct Calls {}
+
+impl Calls {
+    /// No call was made.
+    #[inline]
+    pub fn none() -> Calls {
+        Calls {}
+    }
+
+    // Changes the calls to `next`, which the caller chooses. Nothing happens at run time.
+    #[inline]
+    fn note(&mut self, _bytes: &[u8]) {}
+
+    /// A call moved these bytes.
+    #[inline]
+    pub fn note_moved(&mut self, bytes: &[u8]) {
+        self.note(bytes)
+    }
+
+    /// A call failed.
+    #[inline]
+    pub fn note_failed(&mut self) {
+        self.note(&[])
+    }
+
+    /// A read said that the reader has ended.
+    #[inline]
+    pub fn note_ended(&mut self) {
+        self.note(&[])
+    }
+
+    /// A flush returned `Ok`.
+    #[inline]
+    pub fn note_flushed(&mut self) {
+        self.note(&[])
+    }
+}
 
 /// A reader whose calls are followed.
 pub trait CalcRead: Read {

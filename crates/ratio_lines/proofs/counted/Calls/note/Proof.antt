@@ -15,10 +15,10 @@ use denote.Signature.{plain}
 use denote.Slice.{ShrSlice, shr_slice_vals, shr_slice_Tells}
 use denote.Steps.{opens, closes}
 use denote.Triple.Walked.{Stays, walk_of, says, stay_ref, stay_none_slice, Goes-ref, Goes-none_slice, ends_at}
-use Rattle.ratio_lines.specs.contracts.calls.Calls.note as f
-use Rattle.ratio_lines.proofs.calls.Calls.note.Statement.{statement}
-use Rattle.ratio_lines.proofs.calls.Calls.note.Code as code
-use Rattle.ratio_lines.specs.contracts.calls.Calls.{the_row as R}
+use Rattle.ratio_lines.specs.contracts.counted.Calls.note as f
+use Rattle.ratio_lines.proofs.counted.Calls.note.Statement.{statement}
+use Rattle.ratio_lines.proofs.counted.Calls.note.Code as code
+use Rattle.ratio_lines.specs.contracts.counted.Calls.{the_row as R}
 
 abbrev stayed : Stays f.ended.signature.params f.ended.kept
 stayed = (stay_ref (0 ∷ []) tt (plain (λ _. R)), (stay_none_slice (1 ∷ []) tt (plain (λ _. u8)) yes, tt))

@@ -9,11 +9,11 @@ use types.Part.{agg}
 use types.ByLocal.{alloc_all, pass_all, free_all, look_at, sets}
 use denote.Shadow.{pure_i}
 use denote.Triple.Walked.{Stays, walk_of, says, ends_at}
-use Rattle.ratio_lines.specs.contracts.calls.Calls.none as f
-use Rattle.ratio_lines.proofs.calls.Calls.none.Statement.{statement}
-use Rattle.ratio_lines.proofs.calls.Calls.none.Code as code
-use Rattle.ratio_lines.specs.contracts.calls.Calls.{the_row as R}
-use Rattle.ratio_lines.specs.declared.calls.Calls.{Calls}
+use Rattle.ratio_lines.specs.contracts.counted.Calls.none as f
+use Rattle.ratio_lines.proofs.counted.Calls.none.Statement.{statement}
+use Rattle.ratio_lines.proofs.counted.Calls.none.Code as code
+use Rattle.ratio_lines.specs.contracts.counted.Calls.{the_row as R}
+use Rattle.ratio_lines.specs.declared.counted.Calls.{Calls}
 
 abbrev stayed : Stays f.ended.signature.params f.ended.kept
 stayed = tt

@@ -9,44 +9,35 @@
 //! |---|---|
 //! | `checked_new` | The lowest terms of a fraction, with its sign moved to the numerator, if they fit the type. |
 //! | `order` | The order of two fractions, by what decides it soonest. |
-//! | `order::signs` | Signs of numbers: whether one is below or above 0, and whether exactly one of two is below 0. |
-//! | `order::half_digits` | Comparing fractions by their cross products in half digits, which are digits of half the type's width. |
-//! | `order::dividing` | Comparing fractions by rounds of Euclid's algorithm on both, and its counted divisions, which hashing and other searches call too. |
+//! | `order::half_digits` | Comparing fractions by their cross products in half digits, which are digits of half the type's width, and the `Side` that a step counts for. |
+//! | `order::dividing` | Comparing fractions by rounds of Euclid's algorithm on both, with the one pair whose quotient does not fit, and its counted divisions, which hashing and other searches call too. |
 //! | `steps` | `Steps`: how many steps each side of a comparison took, a count that only contracts see. |
-//! | `hash` | The codes by which a fraction is hashed, handed to a list while the steps are counted. |
-//! | `code_list` | The trait `CodeList`: a list that takes the codes of a fraction, one after another. |
-//! | `taken` | `Taken`: the codes that a list has taken, which only contracts see. |
-//! | `sums` | Sums and differences of fractions with positive denominators, in lowest terms. |
-//! | `sums::lowest_sums` | Sums and differences of fractions in lowest terms: `Some` exactly if the lowest terms fit. |
+//! | `hash` | The codes by which a fraction is hashed: handed to a `CodeList` while the steps are counted, and kept for contracts in a `Taken`. |
+//! | `sums` | Sums and differences of fractions with positive denominators, in lowest terms, and two fractions over their least common denominator. |
+//! | `sums::lowest_sums` | Sums and differences of fractions in lowest terms: `Some` exactly if the lowest terms fit; among them the sum over the product of the denominators, reduced by short gcds. |
 //! | `sums::reducing` | Sums and differences of any fractions with positive denominators: `Some` exactly if the lowest terms fit. |
-//! | `sums::mixed` | Sums and differences of fractions as mixed numbers: the whole numbers and the parts of 1 are added separately. |
-//! | `sums::multiple` | A multiple of a part of 1, as a whole number and a part of 1. |
+//! | `sums::mixed` | Sums and differences of fractions as mixed numbers: the whole numbers and the parts of 1 are added separately, and give one numerator again. |
+//! | `sums::multiple` | A multiple of a part of 1, and the sum of two such parts, each as a whole number and a part of 1. |
 //! | `sums::words` | A multiple of a part of 1 by words: of the factor 60 binary digits at a time, from the highest ones on, and of the divisor its 63 highest, rounded up. |
-//! | `scaling` | Two fractions over their least common denominator: the numerators and it. |
 //! | `products` | Products and quotients of any fractions in lowest terms, which are `Some` exactly if these fit the type. |
-//! | `products::lowest_products` | Products and quotients of fractions that are already in lowest terms. |
-//! | `products::many_products` | The product of many numbers divided by the product of many others. |
+//! | `products::lowest_products` | Products and quotients of fractions that are already in lowest terms, multiplied together or crosswise, where that is quicker. |
+//! | `products::many_products` | The product of many numbers divided by the product of many others: each is cancelled against each before anything is multiplied. |
 //! | `remainder` | The remainder of one fraction by another in lowest terms, over any type. |
 //! | `remainder::lowest_remainders` | Remainders of fractions in lowest terms: over a type of exact remainders, `Some` exactly if the lowest terms fit. |
 //! | `remainder::reducing` | Remainders of any fractions with positive denominators: over a type of exact remainders, `Some` exactly if the lowest terms fit. |
 //! | `remainder::long_remainder` | The remainder of two fractions whose numbers fit a `u128`, though the products of two may not. |
-//! | `remainder::lowest_remainder` | Other names of two calls: `checked_rem` of `reducing`, for any fractions, and `checked_rem` of `lowest_remainders`, here `checked_rem_of_lowest`. |
+//! | `remainder::lowest_remainder` | Two calls of the other files under the names that they had: `checked_rem` of `reducing`, and `checked_rem_of_lowest`. |
 //! | `pow` | Reciprocals and powers of fractions, not reduced. |
 //! | `pow::lowest_powers` | Powers of fractions in lowest terms, which are `Some` exactly if the lowest terms of the power fit the type. |
 //! | `exponent` | The trait `Exponent`: whole numbers of any primitive type that may be an exponent, by sign and magnitude. |
 //! | `divisors` | The greatest common divisor and the least common multiple of two fractions in lowest terms. |
-//! | `sign` | Signs, negatives, absolute values and positive differences of fractions. |
+//! | `sign` | Signs of numbers and of fractions, and the negatives, absolute values and positive differences of fractions. |
 //! | `magnitudes` | The magnitudes of numbers as a `u128`, numbers made from a magnitude and a sign, and the types whose numbers are short or long. |
 //! | `rounding` | Whole numbers near a fraction (floor, ceiling, truncation, rounded), its fractional part, and its whole part as a machine integer. |
-//! | `text` | Fractions as texts. |
-//! | `text::reading` | Reading a fraction from a text in any base: its two sides, the number of each, and the lowest terms. |
-//! | `text::quick_fields` | Reading the two numbers of a text in one pass over its bytes, with each digit, as many at a time as a `u64` holds. |
-//! | `parse_error` | Why a text is refused as a fraction. |
-//! | `text::form` | The enum `Form`: the forms in which numbers are printed. |
-//! | `text::printing` | Printing a fraction as a text, written from the last byte to the first. |
-//! | `text::digits` | The decimal digits of a number, written into an array from the last to the first. |
+//! | `text` | Printing a fraction as a text, from the last byte to the first: the forms, their prefixes, an array for the text, and decimal digits. |
 //! | `text::numeral` | A number in base 2, 8 or 16, and its two's complement, written from the last digit to the first. |
-//! | `text::fixed_text` | `FixedText`: the text of a fraction, in an array of a fixed length. |
+//! | `text::reading` | Reading a fraction from a text in any base, in lowest terms: in one pass over its bytes where it is short, or else side by side of its slash. |
+//! | `parse_error` | Why a text is refused as a fraction: `ParseRatioError`, its kinds, and what it prints. |
 #![tactic(auto)]
 
 pub mod checked_new;

@@ -1,4 +1,4 @@
-//! Why a text is refused as a fraction.
+//! Why a text is refused as a fraction: `ParseRatioError`, its kinds, and what it prints.
 ghost use Rattle.std.specs.Prelude.{◌≡◌, Some};
 ghost use Rattle.std.specs.Fmt.{padded};
 ghost use Rattle.ratio_core.specs.Refusal.{refusal_text};

@@ -1,6 +1,6 @@
 // Written by templates/write from templates/binary_gcd.rt.txt: change that file, and write this one anew.
-//! The greatest common divisor of two magnitudes (`u64` or `u128`) by halving and subtracting, without a
-//! division, and its steps.
+//! The greatest common divisor of one or two pairs of magnitudes (`u64` or `u128`) by halving and
+//! subtracting, without a division, or only if it is above a bound.
 //!
 //! This is Stein's algorithm (1967). It uses three rules. A factor of 2 of both numbers is a factor of
 //! the result. A factor of 2 of only one number is not. Of two odd numbers, their difference may replace

@@ -1,5 +1,5 @@
-//! The traits of integer types: `Integer` has range, constants, arithmetic, divisors, conversions and laws,
-//! `SignedInteger` negatives, and `Primitive` a fixed number of bits.
+//! The traits of integer types: `Integer` has range, constants, arithmetic, divisors, halves of the width,
+//! conversions and laws, `SignedInteger` negatives, and `Primitive` a fixed number of bits; and `both_held`.
 ghost use Rattle.std.specs.Prelude.{◌≡◌, ◌≢◌, ◌↔◌, ◌≤◌, ◌≤ℤ◌, ◌<ℤ◌, ◌+ℤ◌, ◌-ℤ◌, ◌*ℤ◌, ◌-◌, ◌^◌, ℕ, ℤ, pos, negsuc, neg_ℤ, Bool, List, Some, IsNone, IsTrue, IfSome, int_div, int_rem};
 ghost use Rattle.std.specs.Bool.{OnFalse, OnTrue};
 ghost use Rattle.std.specs.Ordering.{int_cmp, partial_lt};

@@ -1,4 +1,5 @@
-//! The two numbers of a fraction divided by their gcd, and its lowest terms.
+//! The two numbers of a fraction, or of two fractions, divided by their gcd, with their signs as they are or
+//! as lowest terms.
 ghost use Rattle.std.specs.Prelude.{◌≢◌, ◌<ℤ◌, pos};
 ghost use Rattle.ratio_integer.specs.Division.{IsGcdAboveMax, IsGcdOf};
 ghost use Rattle.ratio_integer.specs.Fraction.{IsCancelledOf, IsHeldLowest};

@@ -1,5 +1,6 @@
 // Erased from crates/num_rational/src/lib.rt by rust/erase: not to be edited.
-//! Exact fractions of machine integers.
+//! Exact fractions of machine integers. `Ratio<T>` is a fraction whose denominator is not 0, and `Reduced<T>` one that is always in lowest
+//! terms. Most calls hand the two numbers on to a function in a crate below: `Ratio::floor` calls `floor` of `ratio_core`.
 //!
 //! `both_held(n, d);` and `let _ = d.held();` do nothing at run time. They tell the prover that d lies
 //! between the type's least and greatest number: over `i8`, from -128 to 127. A value in hand is in range,

@@ -1,6 +1,7 @@
 // Erased from crates/ratio_integer/src/lib.rt by rust/erase: not to be edited.
-//! Types of the whole numbers from a least to a greatest one: a trait, its laws, and the twelve
-//! primitive integer types.
+//! Types of the whole numbers from a least to a greatest one: a trait, its laws, and the twelve primitive integer types. Arithmetic is
+//! exact: a checked call is `None` exactly if the result does not fit. Here are also the lowest terms of two numbers, and exact sums of
+//! fractions over types of at most 64 bits.
 //!
 //! `both_held(n, d);` and `let _ = n.held();` do nothing at run time. They tell the prover that n lies
 //! between the type's least and greatest number: over `i8`, from -128 to 127. A value in hand is in range,

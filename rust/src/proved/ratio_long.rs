@@ -1,6 +1,6 @@
 // Erased from crates/ratio_long/src/lib.rt by rust/erase: not to be edited.
-//! Fractions of natural numbers of any length: their rounded values, and their texts as decimals. The numbers are digits of
-//! `ratio_natural`, in room that the caller gives.
+//! Fractions of natural numbers of any length: their rounded values, their texts as decimals, and the nearest floats. The numbers are
+//! digits of `ratio_natural`, in room that the caller gives. Each result is exact or rounded once.
 mod decimal;
 mod float;
 pub mod laws;

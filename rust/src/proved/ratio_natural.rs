@@ -1,6 +1,7 @@
 // Erased from crates/ratio_natural/src/lib.rt by rust/erase: not to be edited.
-//! Natural numbers of any length, over slices of digits of 64 bits, the lowest digit first. The caller gives
-//! the room, so no call takes memory.
+//! Natural numbers of any length, over slices of digits of 64 bits, the lowest digit first. The caller gives the room, so no call takes
+//! memory. Each result is exact: order, sums, products, quotients, greatest common divisors, lowest terms that fit 64 bits, shifts, and
+//! decimal texts.
 //!
 //! Leading zeros are allowed everywhere: they are the last digits of a slice.
 mod adding;

@@ -1,5 +1,6 @@
 // Erased from crates/ratio_totals/src/lib.rt by rust/erase: not to be edited.
-//! Totals of fractions that lose nothing: a table with one slot for each denominator, in room that the caller gives.
+//! Totals of fractions that lose nothing: a table with one slot for each denominator, in room that the caller gives. Fractions and whole
+//! tables go in and out again; a refusal changes nothing.
 //!
 //! 1/36 + 1/28 takes two slots, one for the denominator 36 and one for 28. Adding 5/36 changes one number: the first slot
 //! then says 6/36. No gcd is computed, and no addition overflows.

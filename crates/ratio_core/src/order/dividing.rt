@@ -1,5 +1,5 @@
-//! Comparing fractions by rounds of Euclid's algorithm on both, and its counted divisions, which hashing and other searches call too.
-//! A round takes one step a side.
+//! Comparing fractions by rounds of Euclid's algorithm on both, with the one pair whose quotient does not fit, and its counted
+//! divisions, which hashing and other searches call too. A round takes one step a side.
 ghost use Rattle.std.specs.Prelude.{◌≡◌, ◌≢◌, ◌↔◌, ◌≤ℤ◌, ◌<ℤ◌, ◌+ℤ◌, ◌+◌, ℤ, pos, cond, IfSome, IsTrue, MatchOption};
 ghost use Rattle.std.specs.Ordering.{ordering_reverse};
 ghost use Rattle.ratio_integer.specs.Division.{IsAboveMax, IsFloored};

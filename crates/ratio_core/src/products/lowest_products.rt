@@ -1,4 +1,5 @@
-//! Products and quotients of fractions that are already in lowest terms.
+//! Products and quotients of fractions that are already in lowest terms, multiplied together or crosswise,
+//! where that is quicker.
 //!
 //! If both products of the fields fit the type, one gcd reduces them, with an exception below. Else the fractions are cancelled
 //! across, with two gcds, which types of at most 64 bits compute together.

@@ -1,8 +1,8 @@
-//! The product of many numbers divided by the product of many others.
+//! The product of many numbers divided by the product of many others: each is cancelled against each before
+//! anything is multiplied.
 //!
-//! Each number above is cancelled against each number below before anything is multiplied. Then the products are already
-//! in lowest terms, and no part of a product is larger than the whole. So the result is `None` only if its lowest terms do
-//! not fit. Over `i8`, 100 * 3 over 3 * 100 is 1/1, though 300 does not fit.
+//! The products are then already in lowest terms, and no part of a product is larger than the whole. So the result is
+//! `None` only if its lowest terms do not fit. Over `i8`, 100 * 3 over 3 * 100 is 1/1, though 300 does not fit.
 ghost use Rattle.std.specs.Prelude.{◌≡◌, ◌≢◌, ◌↔◌, ◌<ℤ◌, ◌*ℤ◌, pos, unsigned_abs, IsTrue};
 ghost use Rattle.ratio_integer.specs.Fraction.{ChecksLowest};
 ghost use Rattle.ratio_integer.specs.Range.{Checks};

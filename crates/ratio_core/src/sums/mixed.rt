@@ -1,4 +1,5 @@
-//! Sums and differences of fractions as mixed numbers: the whole numbers and the parts of 1 are added separately.
+//! Sums and differences of fractions as mixed numbers: the whole numbers and the parts of 1 are added
+//! separately, and give one numerator again.
 //!
 //! Over `i8`, 3/2 + 5/6 is 1 and 0, and 1/2 + 5/6, which is a carry and 1/3. So it is 2 and 1/3: 7/3. If a
 //! number on the way does not fit, the lowest terms do not fit either.

@@ -1,5 +1,6 @@
 // Erased from crates/ratio_c/src/lib.rt by rust/erase: not to be edited.
-//! Calls of the library over slices, for programs in other languages. `include/ratio.h` declares them.
+//! Calls of the library over slices, for programs in other languages. `include/ratio.h` declares them. Each answer has a code, and the
+//! numbers that C gives have no condition. The pointers are not tested.
 pub mod arithmetic;
 pub mod between;
 pub mod cast;

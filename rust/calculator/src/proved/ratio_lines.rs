@@ -1,5 +1,6 @@
 // Erased from crates/ratio_lines/src/lib.rt by rust/erase: not to be edited.
-//! The calculator as a library. It answers each line of an input with a line of an output.
+//! The calculator as a library. It answers each line of an input with a line of an output. For every reader and writer, a run reads all
+//! input and writes exactly its answers, or it stops at the first fault.
 pub mod answer;
 pub mod calculator;
 pub mod counted;

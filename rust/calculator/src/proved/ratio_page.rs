@@ -1,6 +1,6 @@
 // Erased from crates/ratio_page/src/lib.rt by rust/erase: not to be edited.
-//! The calculator over memory, as one exported call. The lines of a text go in, and their answers come
-//! out.
+//! The calculator over memory, as one exported call. The lines of a text go in, and their answers come out, with their length. If they do
+//! not fit, their first part comes out, and the length is 2^64-1.
 
 mod room;
 

@@ -1,5 +1,5 @@
 // Erased from crates/ratio_core/src/parse_error.rt by rust/erase: not to be edited.
-//! Why a text is refused as a fraction.
+//! Why a text is refused as a fraction: `ParseRatioError`, its kinds, and what it prints.
 
 #[cfg(feature = "std")]
 use std::error::Error;

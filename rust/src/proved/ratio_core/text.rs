@@ -1,5 +1,6 @@
 // Erased from crates/ratio_core/src/text.rt by rust/erase: not to be edited.
-//! Printing a fraction as a text, from the last byte to the first: the forms, an array for the text, and decimal digits.
+//! Printing a fraction as a text, from the last byte to the first: the forms, their prefixes, an array for
+//! the text, and decimal digits.
 //!
 //! `numeral` prints numbers in base 2, 8 and 16, and `reading` reads texts.
 

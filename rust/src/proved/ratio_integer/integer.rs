@@ -1,6 +1,6 @@
 // Erased from crates/ratio_integer/src/integer.rt by rust/erase: not to be edited.
-//! The traits of integer types: `Integer` has range, constants, arithmetic, divisors, conversions and laws,
-//! `SignedInteger` negatives, and `Primitive` a fixed number of bits.
+//! The traits of integer types: `Integer` has range, constants, arithmetic, divisors, halves of the width,
+//! conversions and laws, `SignedInteger` negatives, and `Primitive` a fixed number of bits; and `both_held`.
 
 use core::hash::Hash;
 

@@ -1,5 +1,6 @@
 // Erased from crates/ratio_integer/src/reducing.rt by rust/erase: not to be edited.
-//! The two numbers of a fraction divided by their gcd, and its lowest terms.
+//! The two numbers of a fraction, or of two fractions, divided by their gcd, with their signs as they are or
+//! as lowest terms.
 
 use crate::proved::ratio_integer::integer::{Integer, both_held};
 

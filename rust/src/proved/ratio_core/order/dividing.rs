@@ -1,6 +1,6 @@
 // Erased from crates/ratio_core/src/order/dividing.rt by rust/erase: not to be edited.
-//! Comparing fractions by rounds of Euclid's algorithm on both, and its counted divisions, which hashing and other searches call too.
-//! A round takes one step a side.
+//! Comparing fractions by rounds of Euclid's algorithm on both, with the one pair whose quotient does not fit, and its counted
+//! divisions, which hashing and other searches call too. A round takes one step a side.
 
 use crate::proved::ratio_core::sign::is_below_zero;
 use crate::proved::ratio_core::steps::Steps;

@@ -1,5 +1,6 @@
 // Erased from crates/ratio_core/src/products/lowest_products.rt by rust/erase: not to be edited.
-//! Products and quotients of fractions that are already in lowest terms.
+//! Products and quotients of fractions that are already in lowest terms, multiplied together or crosswise,
+//! where that is quicker.
 //!
 //! If both products of the fields fit the type, one gcd reduces them, with an exception below. Else the fractions are cancelled
 //! across, with two gcds, which types of at most 64 bits compute together.

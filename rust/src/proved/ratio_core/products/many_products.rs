@@ -1,9 +1,9 @@
 // Erased from crates/ratio_core/src/products/many_products.rt by rust/erase: not to be edited.
-//! The product of many numbers divided by the product of many others.
+//! The product of many numbers divided by the product of many others: each is cancelled against each before
+//! anything is multiplied.
 //!
-//! Each number above is cancelled against each number below before anything is multiplied. Then the products are already
-//! in lowest terms, and no part of a product is larger than the whole. So the result is `None` only if its lowest terms do
-//! not fit. Over `i8`, 100 * 3 over 3 * 100 is 1/1, though 300 does not fit.
+//! The products are then already in lowest terms, and no part of a product is larger than the whole. So the result is
+//! `None` only if its lowest terms do not fit. Over `i8`, 100 * 3 over 3 * 100 is 1/1, though 300 does not fit.
 
 use crate::proved::ratio_core::sign::is_below_zero;
 use crate::proved::ratio_integer::{Integer, both_held};

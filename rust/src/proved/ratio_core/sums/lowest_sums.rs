@@ -1,5 +1,6 @@
 // Erased from crates/ratio_core/src/sums/lowest_sums.rt by rust/erase: not to be edited.
-//! Sums and differences of fractions in lowest terms: `Some` exactly if the lowest terms fit.
+//! Sums and differences of fractions in lowest terms: `Some` exactly if the lowest terms fit; among them the
+//! sum over the product of the denominators, reduced by short gcds.
 //!
 //! Types of exact sums form the sum over the product of the denominators, and reduce it by short gcds, by Henrici's method (1956). Let `g` be
 //! the greatest common divisor of the denominators. If it is 1, the sum over their product is in lowest terms: 5/6 for 1/2 + 1/3. Else both

@@ -12,8 +12,8 @@ use Rattle.ratio_decimal.specs.RoundingRules.{GoesUp, IsRoundedBy}
 use Rattle.ratio_decimal.specs.Sides.{IsSide, quarters}
 use Rattle.ratio_decimal.specs.declared.rounding_rule.Rounding.{Rounding}
 use Rattle.ratio_decimal.specs.declared.rounding_rule.Rounding.TheVariants.{HalfAway, HalfEven, Down, Up, Floor, Ceil}
-use Rattle.ratio_decimal.specs.declared.side.Side.{Side}
-use Rattle.ratio_decimal.specs.declared.side.Side.TheVariants.{Zero, BelowHalf, Half, AboveHalf}
+use Rattle.ratio_decimal.specs.declared.rounding_rule.Side.{Side}
+use Rattle.ratio_decimal.specs.declared.rounding_rule.Side.TheVariants.{Zero, BelowHalf, Half, AboveHalf}
 use Rattle.ratio_decimal.proofs.RoundingRuleLemmas.{rises, stays}
 
 -- ---- a rest and the quarters of its side

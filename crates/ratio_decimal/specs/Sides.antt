@@ -1,7 +1,7 @@
 -- Where a part r/d of 1 lies, and what a rule asks of it.
 use Rattle.std.specs.Prelude.{◌≡◌, ◌<ℤ◌, ◌+ℤ◌, ℤ, pos}
-use Rattle.ratio_decimal.specs.declared.side.Side.{Side}
-use Rattle.ratio_decimal.specs.declared.side.Side.TheVariants.{Zero, BelowHalf, Half, AboveHalf}
+use Rattle.ratio_decimal.specs.declared.rounding_rule.Side.{Side}
+use Rattle.ratio_decimal.specs.declared.rounding_rule.Side.TheVariants.{Zero, BelowHalf, Half, AboveHalf}
 
 -- Inner: r/d lies on the side
 -- Example: 1/3 and `BelowHalf`

@@ -9,8 +9,7 @@ ghost use Rattle.ratio_decimal.specs.Decimal.{point, unsigned_places};
 ghost use Rattle.ratio_core.specs.Printing.{last_digits};
 ghost use Rattle.ratio_decimal.specs.Precision.{half_even};
 
-use crate::rounded::rounded;
-use crate::rounding_rule::Rounding;
+use crate::rounding_rule::{Rounding, rounded};
 use ratio_core::sign::is_below_zero;
 use ratio_core::sums::multiple_over;
 use ratio_core::text::{BaseTenText, magnitude, put_digits};

@@ -3,8 +3,7 @@ ghost use Rattle.std.specs.Prelude.{◌≡◌, ◌↔◌, ◌+◌, ◌*◌, ◌^
 ghost use Rattle.ratio_decimal.specs.Decimal.{IsDecimalOf, places_text, unsigned_places};
 ghost use Rattle.ratio_decimal.specs.RoundingRules.{mirrored, signed};
 
-use crate::rounded::rounded;
-use crate::rounding_rule::Rounding;
+use crate::rounding_rule::{Rounding, rounded};
 use ratio_core::sign::is_below_zero;
 use ratio_core::text::{DecimalText, magnitude, put_digits};
 use ratio_integer::{Primitive, both_held};

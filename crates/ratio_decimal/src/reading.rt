@@ -1,7 +1,5 @@
 //! Reading a decimal, such as `12.375` or `-1.5e-3`, as a fraction.
 pub(crate) mod cut;
-pub(crate) mod digits;
-mod short;
 pub(crate) mod terms;
 pub(crate) mod value;
 

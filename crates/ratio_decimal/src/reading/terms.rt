@@ -11,7 +11,7 @@ ghost use Rattle.ratio_integer.specs.Fraction.{IsLowestTerms};
 ghost use Rattle.ratio_decimal.specs.DecimalCuts.{ChecksPart, ChecksTerms, IsPartTerms};
 ghost use Rattle.ratio_core.specs.Reading.{digits_sum};
 
-use crate::reading::digits::digit_at;
+use crate::reading::cut::digit_at;
 
 /// The lowest terms of a number that is not below 0.
 #[derive(Clone, Copy)]

@@ -7,7 +7,7 @@ ghost use Rattle.ratio_core.specs.Reading.{digits_sum};
 ghost use Rattle.ratio_decimal.specs.TypedTerms.{ChecksTyped};
 ghost use Rattle.ratio_decimal.specs.TypedText.{share};
 
-use crate::reading::digits::number_after;
+use crate::reading::cut::number_after;
 use crate::reading::terms::{Terms, whole_before};
 use crate::typed::TextRefusal;
 use ratio_integer::{cancelled, lowest_terms};

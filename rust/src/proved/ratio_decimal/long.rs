@@ -4,8 +4,7 @@
 //! A denominator of 128 bits is below 2 * 10^39. So no fraction is less than half of 1/10^39 below a whole number, and
 //! a carry passes at most 38 nines. All but the last 39 digits are written before the fraction is rounded.
 
-use crate::proved::ratio_decimal::rounded::rounded;
-use crate::proved::ratio_decimal::rounding_rule::Rounding;
+use crate::proved::ratio_decimal::rounding_rule::{Rounding, rounded};
 use crate::proved::ratio_core::sign::is_below_zero;
 use crate::proved::ratio_core::sums::multiple_over;
 use crate::proved::ratio_core::text::{BaseTenText, magnitude, put_digits};

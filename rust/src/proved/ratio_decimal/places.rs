@@ -1,8 +1,7 @@
 // Erased from crates/ratio_decimal/src/places.rt by rust/erase: not to be edited.
 //! Printing a fraction as a decimal with a given number of places, at most 38.
 
-use crate::proved::ratio_decimal::rounded::rounded;
-use crate::proved::ratio_decimal::rounding_rule::Rounding;
+use crate::proved::ratio_decimal::rounding_rule::{Rounding, rounded};
 use crate::proved::ratio_core::sign::is_below_zero;
 use crate::proved::ratio_core::text::{DecimalText, magnitude, put_digits};
 use crate::proved::ratio_integer::{Primitive, both_held};

@@ -6,7 +6,7 @@
 //! lowest terms need no search for a common divisor, and their denominators only grow: if one of them does not
 //! fit, the last one does not either.
 
-use crate::proved::ratio_decimal::reading::digits::digit_at;
+use crate::proved::ratio_decimal::reading::cut::digit_at;
 
 /// The lowest terms of a number that is not below 0.
 #[derive(Clone, Copy)]

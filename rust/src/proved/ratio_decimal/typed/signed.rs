@@ -1,7 +1,7 @@
 // Erased from crates/ratio_decimal/src/typed/signed.rt by rust/erase: not to be edited.
 //! The lowest terms of fractions and mixed numbers, from the digits of their whole numbers.
 
-use crate::proved::ratio_decimal::reading::digits::number_after;
+use crate::proved::ratio_decimal::reading::cut::number_after;
 use crate::proved::ratio_decimal::reading::terms::{Terms, whole_before};
 use crate::proved::ratio_decimal::typed::TextRefusal;
 use crate::proved::ratio_integer::{cancelled, lowest_terms};

@@ -12,16 +12,9 @@
 //! | `reduced` | `Reduced`, the fraction type that is always in lowest terms, with its calls: fields, the five checked calls, powers, divisors, products of many, rounding, fractions near others, signs and casts. |
 //! | `reduced::texts` | The calls of `Reduced` for texts, decimals and floats. |
 //! | `reduced::traits` | The traits of std for `Reduced`. |
-//! | `ops` | The five operators, each in a file of its own. |
-//! | `ops::add` | Sums: the checked call, the call that requires a result, and the symbols `+` and `+=`. |
-//! | `ops::sub` | Differences: the checked call, the call that requires a result, and the symbols `-` and `-=`. |
-//! | `ops::mul` | Products: the checked call, the call that requires a result, and the symbols `*` and `*=`. |
-//! | `ops::div` | Quotients: the checked call, the call that requires a result, and the symbols `/` and `/=`. |
-//! | `ops::rem` | Remainders: the checked call, the call that requires a result, and the symbols `%` and `%=`. |
+//! | `ops` | The five operators, each as a checked call, as a call that requires a result, and as its two symbols, such as `+` and `+=`. |
 //! | `operand` | The traits `Operand` and `ReducedOperand`: the right operand of a symbol or of a checked call, a fraction or a whole number. |
-//! | `fold` | Sums and products of the items of an iterator or of a list, in two files. |
-//! | `fold::sum` | The sum of the items of an iterator, and for `Reduced` of a list. |
-//! | `fold::product` | The product of the items of an iterator, and for `Reduced` of a list. |
+//! | `fold` | The sum and the product of the items of an iterator, and for `Reduced` of a list. |
 //! | `many_products` | The two ways of a product or quotient of many fractions in lowest terms: step by step, and cancelled first. |
 //! | `continued` | Two iterators over a fraction's continued fraction: `Quotients`, and `Convergents`, each from a quotient and the two before it. |
 //! | `splitting` | An amount split by shares or by weights, so that nothing is lost. |

@@ -4,7 +4,7 @@ use Rattle.ratio_core.proofs.SumLemmas.{fits_by}
 use Rattle.ratio_core.specs.Laws.{IsProduct}
 use Rattle.num_rational.specs.Operators.{CanMultiply, numbers}
 use Rattle.num_rational.proofs.FoldLemmas.{gave_more, next_positive, one_product, step_more, step_refused}
-use Rattle.num_rational.proofs.fold.product.checked_product_of_operands.Goals as goal
+use Rattle.num_rational.proofs.fold.checked_product_of_operands.Goals as goal
 
 pub checked_mul-requires-clause-right_positive : goal.checked_mul-requires-clause-right_positive
 checked_mul-requires-clause-right_positive g c =

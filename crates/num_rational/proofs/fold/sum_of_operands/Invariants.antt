@@ -1,7 +1,7 @@
 -- Written by templates/write from templates/fold_invariants.antt.txt: change that file, and write this one anew.
-use Rattle.num_rational.specs.Folds.{IsProductOf}
+use Rattle.num_rational.specs.Folds.{IsSumOf}
 use Rattle.num_rational.specs.Operators.{numbers}
-use Rattle.num_rational.proofs.fold.product.product_of_operands.Given as goal
+use Rattle.num_rational.proofs.fold.sum_of_operands.Given as goal
 
 abbrev pub invariant-items : goal.invariant-items
-invariant-items g l = IsProductOf g.O.Operand.two_numbers l.yielded (numbers l.total)
+invariant-items g l = IsSumOf g.O.Operand.two_numbers l.yielded (numbers l.total)

@@ -3,7 +3,7 @@ use Rattle.std.proofs.Common.{pos}
 use Rattle.ratio_core.specs.Laws.{IsSum}
 use Rattle.num_rational.specs.Operators.{CanAdd, numbers}
 use Rattle.num_rational.proofs.FoldLemmas.{StepsSoFar}
-use Rattle.num_rational.proofs.fold.sum.checked_sum_of_operands.Given as goal
+use Rattle.num_rational.proofs.fold.checked_sum_of_operands.Given as goal
 
 abbrev pub invariant-items : goal.invariant-items
 invariant-items g l = let T = g.T.Integer in StepsSoFar g.O.Operand.two_numbers (CanAdd T.EXACT_SUMS T.lo T.hi) IsSum (pos 0, pos 1) l.yielded (numbers l.total)

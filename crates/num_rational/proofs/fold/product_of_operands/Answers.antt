@@ -4,7 +4,7 @@ use Rattle.std.proofs.lemmas.Fn.{FoldsTo-push}
 use Rattle.ratio_core.specs.Laws.{IsProduct}
 use Rattle.num_rational.specs.Operators.{CanMultiply, numbers}
 use Rattle.num_rational.proofs.FoldLemmas.{next_along}
-use Rattle.num_rational.proofs.fold.product.product_of_operands.Goals as goal
+use Rattle.num_rational.proofs.fold.product_of_operands.Goals as goal
 
 pub mul-total-requires : goal.mul-total-requires
 mul-total-requires g c =

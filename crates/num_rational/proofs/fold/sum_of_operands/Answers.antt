@@ -4,7 +4,7 @@ use Rattle.std.proofs.lemmas.Fn.{FoldsTo-push}
 use Rattle.ratio_core.specs.Laws.{IsSum}
 use Rattle.num_rational.specs.Operators.{CanAdd, numbers}
 use Rattle.num_rational.proofs.FoldLemmas.{next_along}
-use Rattle.num_rational.proofs.fold.sum.sum_of_operands.Goals as goal
+use Rattle.num_rational.proofs.fold.sum_of_operands.Goals as goal
 
 pub add-total-requires : goal.add-total-requires
 add-total-requires g c =

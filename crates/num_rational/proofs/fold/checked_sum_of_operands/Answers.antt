@@ -3,7 +3,7 @@ use Rattle.std.proofs.Common.{pos, rules, [], ◌∷◌, ◌++◌}
 use Rattle.ratio_core.specs.Laws.{IsSum}
 use Rattle.num_rational.specs.Operators.{CanAdd, numbers}
 use Rattle.num_rational.proofs.FoldLemmas.{gave_more, next_positive, one_sum, step_more, step_refused}
-use Rattle.num_rational.proofs.fold.sum.checked_sum_of_operands.Goals as goal
+use Rattle.num_rational.proofs.fold.checked_sum_of_operands.Goals as goal
 
 pub checked_add-requires-clause-right_positive : goal.checked_add-requires-clause-right_positive
 checked_add-requires-clause-right_positive g c =

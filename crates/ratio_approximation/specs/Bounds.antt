@@ -1,8 +1,6 @@
--- Bounds of a range of fractions. A bound is a fraction that is included or excluded, or there is none (*open*). `Bound` of std has these
--- three.
+-- Bounds of a range of fractions, the three of std's `Bound`: a fraction that is included or excluded, or none (*open*).
 use Rattle.std.specs.Prelude.{◌≤ℤ◌, ◌<ℤ◌, ◌*ℤ◌, ℤ, pos, ⊤}
-use Rattle.std.specs.declared.ops.Bound.{Bound}
-use Rattle.std.specs.declared.ops.Bound.TheVariants.{Included, Excluded, Unbounded}
+use Rattle.std.specs.declared.ops.Bound.{Bound, TheVariants.Included, TheVariants.Excluded, TheVariants.Unbounded}
 
 -- the bound with the numbers of its values
 -- Example: excluded 5/2

@@ -1,11 +1,8 @@
 -- Inner steps of the search within bounds: both ends, and the choice among the fractions that may be the simplest.
 use Rattle.std.specs.Prelude.{◌≡◌, ◌⊎◌, ◌≤◌, ◌<ℤ◌, ℤ, pos, unsigned_abs, Bool, true, false, Option, Some, None}
-use Rattle.std.specs.declared.ops.Bound.{Bound}
-use Rattle.std.specs.declared.ops.Bound.TheVariants.{Included, Excluded, Unbounded}
-use Rattle.ratio_integer.specs.Fraction.{IsHeldLowest, SameValue}
-use Rattle.ratio_integer.specs.Range.{IsHeld}
-use Rattle.ratio_approximation.specs.Bounds.{IsWithin}
-use Rattle.ratio_approximation.specs.SimplestWithin.{HoldsNoneWithin}
+use Rattle.std.specs.declared.ops.Bound.{Bound, TheVariants.Included, TheVariants.Excluded, TheVariants.Unbounded}
+use Rattle.ratio_integer.specs.{Fraction.IsHeldLowest, Fraction.SameValue, Range.IsHeld}
+use Rattle.ratio_approximation.specs.{Bounds.IsWithin, SimplestWithin.HoldsNoneWithin}
 
 -- Inner: the bound n/d, included or not
 abbrev pub end_bound : Bool → ℤ → ℤ → Bound (ℤ × ℤ)

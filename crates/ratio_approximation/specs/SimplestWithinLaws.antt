@@ -1,11 +1,8 @@
 -- The laws of the simplest fraction within two bounds.
 use Rattle.std.specs.Prelude.{◌≡◌, ◌↔◌, ℤ, ⊤}
-use Rattle.std.specs.declared.ops.Bound.{Bound}
-use Rattle.std.specs.declared.ops.Bound.TheVariants.{Included, Excluded, Unbounded}
+use Rattle.std.specs.declared.ops.Bound.{Bound, TheVariants.Included, TheVariants.Excluded, TheVariants.Unbounded}
 use Rattle.ratio_integer.specs.Fraction.{IsLowestTerms, SameValue}
-use Rattle.ratio_approximation.specs.Bounds.{HasPositiveDenominator}
-use Rattle.ratio_approximation.specs.Simplest.{IsSimplest}
-use Rattle.ratio_approximation.specs.SimplestWithin.{IsSimplestWithin}
+use Rattle.ratio_approximation.specs.{Bounds.HasPositiveDenominator, Simplest.IsSimplest, SimplestWithin.IsSimplestWithin}
 
 -- Law: at most one fraction is the simplest within the bounds
 abbrev pub OneIsSimplestWithin : Type 0

@@ -29,8 +29,7 @@ abbrev pub RationalizedComesBack : Type 0
 RationalizedComesBack = (f : Format) (s : Bool) (k : ℕ) (e lo hi n d : ℤ) → T (fits f (fin s k e)) → ChecksRationalized (λ z. z) lo hi f (fin s k e) (Some (n, d))
     → (0 < k → nearest_float f n d ≡ fin s k e) × (k ≡ 0 → nearest_float f n d ≡ fin false 0 (pos 0))
 
--- Law: for a float that is not whole: a fraction a/d exactly halfway to one of its neighbours has a greater denominator than the float
--- itself
+-- Law: for a float that is not whole, a fraction exactly halfway to a neighbour has a greater denominator than the float itself
 abbrev pub EndsHaveGreaterDenominators : Type 0
 EndsHaveGreaterDenominators = (f : Format) (s : Bool) (m e : ℕ) (a d : ℤ) → T (fits f (fin s m (negsuc e))) → pos 0 <ℤ d →
     let b = size_bits f (fin s m (negsuc e)) in

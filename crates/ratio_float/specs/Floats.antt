@@ -1,5 +1,4 @@
--- Floats and fractions. A float is a NaN, an infinity, or `fin s m e`: m * 2^e, negated if s is true. So 0.75 is `fin false 3 -2`. Floats
--- of 32 and of 64 bits have this one type.
+-- Floats of 32 and 64 bits, as one type: a NaN, an infinity, or `fin s m e`: m * 2^e, negated if s is true. So 0.75 is `fin false 3 -2`.
 use Rattle.std.specs.Prelude.{◌≡◌, ◌+◌, ◌*◌, ◌<◌, ℕ, suc, ℤ, pos, negsuc, unsigned_abs, Bool, true, false}
 use Rattle.std.specs.Bool.{OnFalse, OnTrue}
 use Rattle.std.specs.Float.{Float, Format, nan, inf, fin}

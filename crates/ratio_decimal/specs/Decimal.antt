@@ -1,8 +1,7 @@
 -- What text a fraction n/d has as a decimal, where d is above 0.
 use Rattle.std.specs.Prelude.{◌≡◌, ◌≢◌, ◌⊎◌, ◌≤◌, ◌*◌, ◌/◌, ◌%◌, ◌^◌, ◌*ℤ◌, ℕ, zero, suc, ℤ, pos, negsuc, List, ◌∷◌, ◌++◌, decimal, Option, Some, None}
 use Rattle.std.specs.Int.{◌∣◌}
-use Rattle.ratio_core.specs.Printing.{last_digits}
-use Rattle.ratio_core.specs.Reading.{minus}
+use Rattle.ratio_core.specs.{Printing.last_digits, Reading.minus}
 use Rattle.ratio_decimal.specs.RoundingRules.{IsRoundedBy}
 use Rattle.ratio_decimal.specs.declared.rounding_rule.Rounding.{Rounding}
 

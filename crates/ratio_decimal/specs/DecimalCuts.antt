@@ -2,11 +2,9 @@
 use Rattle.std.specs.Prelude.{◌≡◌, ◌≢◌, ◌⊎◌, ◌<◌, ◌≤◌, ◌-◌, ◌*◌, ◌%◌, ◌^◌, ℕ, ℤ, pos, Bool, true, false, List, [], ◌∷◌, ◌++◌, Option, Some, None}
 use Rattle.std.specs.Char.{digit_value}
 use Rattle.std.specs.Str.Parse.{AllDigits}
-use Rattle.ratio_integer.specs.Fraction.{IsLowestTermsOf}
-use Rattle.ratio_integer.specs.Range.{Checks, IsHeld}
+use Rattle.ratio_integer.specs.{Fraction.IsLowestTermsOf, Range.Checks, Range.IsHeld}
 use Rattle.ratio_decimal.specs.Decimal.{point}
-use Rattle.ratio_core.specs.Signs.{with_sign}
-use Rattle.ratio_core.specs.Reading.{minus, plus}
+use Rattle.ratio_core.specs.{Signs.with_sign, Reading.minus, Reading.plus}
 use Rattle.ratio_decimal.specs.declared.reading.terms.Terms.{Terms}
 
 -- Inner: the text does not begin with a sign

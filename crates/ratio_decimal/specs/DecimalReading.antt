@@ -5,8 +5,7 @@ use Rattle.ratio_integer.specs.Fraction.{Fits}
 use Rattle.ratio_decimal.specs.Decimal.{places_text, point}
 use Rattle.ratio_core.specs.Signs.{with_sign}
 use Rattle.ratio_core.specs.Reading.{ReadsLowest, digits_sum, minus, plus}
-use Rattle.ratio_decimal.specs.declared.reading.DecimalRefusal.{DecimalRefusal}
-use Rattle.ratio_decimal.specs.declared.reading.DecimalRefusal.TheVariants.{NotDecimal, NotHeld}
+use Rattle.ratio_decimal.specs.declared.reading.DecimalRefusal.{DecimalRefusal, TheVariants.NotDecimal, TheVariants.NotHeld}
 
 -- a sign is a minus, or else a plus or nothing; `below` says whether it is a minus
 -- Example: none, in `.5`
@@ -62,8 +61,7 @@ abbrev pub tens_below : Bool → ℕ → ℕ
 tens_below false e = 1
 tens_below true e = 10 ^ e
 
--- the text is a decimal, and its value is n/d: all of its digits as one number, over 10 to the count of those behind the point, times 10 to
--- the exponent
+-- the text is a decimal of n/d: all digits as one number, over 10 to the count of those behind the point, times 10 to the exponent
 -- Example: `-1.50e3`: -150000/100
 pub record IsDecimalText (text : List ℕ) (n d : ℤ) : Type 0 where
   pub below : Bool

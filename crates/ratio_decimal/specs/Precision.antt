@@ -1,7 +1,6 @@
 -- The text of a fraction n/d under a precision, as in `{:.2}`, where d is above 0.
 use Rattle.std.specs.Prelude.{◌+◌, ◌*◌, ◌/◌, ◌%◌, ◌^◌, ◌<ℤ◌, ℕ, ℤ, pos, List, nat_lt, int_lt, unsigned_abs, if◌then◌else◌}
-use Rattle.ratio_decimal.specs.Decimal.{IsDecimalOf, places_text}
-use Rattle.ratio_decimal.specs.RoundingRules.{signed}
+use Rattle.ratio_decimal.specs.{Decimal.IsDecimalOf, Decimal.places_text, RoundingRules.signed}
 use Rattle.ratio_decimal.specs.declared.rounding_rule.Rounding.TheVariants.{HalfEven}
 
 -- n/d rounded, a half to the even number

@@ -1,8 +1,7 @@
 -- The six rules by which n/d is rounded to a whole number, where d is above 0, and their laws. The rules are the `Rounding` of
 -- `src/rounding_rule.rt`: `HalfAway`, `HalfEven`, `Down`, `Up`, `Floor` and `Ceil`.
 use Rattle.std.specs.Prelude.{◌≡◌, ◌⊎◌, ◌≤ℤ◌, ◌<ℤ◌, ◌+ℤ◌, ◌-ℤ◌, ◌*ℤ◌, ℕ, ℤ, pos, neg_ℤ, Bool, true, false, Option}
-use Rattle.ratio_integer.specs.Division.{IsMultiple}
-use Rattle.ratio_integer.specs.Fraction.{ChecksLowest}
+use Rattle.ratio_integer.specs.{Division.IsMultiple, Fraction.ChecksLowest}
 use Rattle.ratio_core.specs.Rounding.{IsCeiling, IsFloor, IsRounded, IsTruncation, IsWithinHalf}
 use Rattle.ratio_decimal.specs.declared.rounding_rule.Rounding.{Rounding}
 use Rattle.ratio_decimal.specs.declared.rounding_rule.Rounding.TheVariants.{HalfAway, HalfEven, Down, Up, Floor, Ceil}

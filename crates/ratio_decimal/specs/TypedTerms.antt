@@ -5,8 +5,7 @@ use Rattle.ratio_decimal.specs.DecimalCuts.{IsDigitsCut, IsWide}
 use Rattle.ratio_core.specs.Signs.{with_sign}
 use Rattle.ratio_decimal.specs.TypedText.{AreSmall}
 use Rattle.ratio_decimal.specs.declared.reading.terms.Terms.{Terms}
-use Rattle.ratio_decimal.specs.declared.typed.TextRefusal.{TextRefusal}
-use Rattle.ratio_decimal.specs.declared.typed.TextRefusal.TheVariants.{NotNumber, ZeroDenominator, NotHeld}
+use Rattle.ratio_decimal.specs.declared.typed.TextRefusal.{TextRefusal, TheVariants.NotNumber, TheVariants.ZeroDenominator, TheVariants.NotHeld}
 use Rattle.ratio_decimal.specs.declared.typed.signed.SignedTerms.{SignedTerms}
 
 -- Inner: all digits that the text begins with are taken off (`IsDigitsCut`), and there is one at least

@@ -4,10 +4,8 @@ use Rattle.std.specs.Prelude.{◌≡◌, ◌≢◌, ◌⊎◌, ◌<◌, ◌+◌,
 use Rattle.std.specs.Str.Parse.{IsNumeral}
 use Rattle.ratio_integer.specs.Fraction.{Fits, IsHeldLowest}
 use Rattle.ratio_decimal.specs.DecimalReading.{IsDecimalText, IsWrittenSign}
-use Rattle.ratio_core.specs.Signs.{with_sign}
-use Rattle.ratio_core.specs.Reading.{digits_sum, slash}
-use Rattle.ratio_decimal.specs.declared.typed.TextRefusal.{TextRefusal}
-use Rattle.ratio_decimal.specs.declared.typed.TextRefusal.TheVariants.{NotNumber, ZeroDenominator, NotHeld}
+use Rattle.ratio_core.specs.{Signs.with_sign, Reading.digits_sum, Reading.slash}
+use Rattle.ratio_decimal.specs.declared.typed.TextRefusal.{TextRefusal, TheVariants.NotNumber, TheVariants.ZeroDenominator, TheVariants.NotHeld}
 
 -- the byte of a space, which is 32
 -- Example: ` `

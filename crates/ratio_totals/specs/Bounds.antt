@@ -3,8 +3,7 @@ use Rattle.std.specs.Prelude.{◌≡◌, ◌≢◌, ◌+◌, ◌*◌, ◌/◌, �
 use Rattle.ratio_decimal.specs.RoundingRules.{IsRoundedBy}
 use Rattle.ratio_decimal.specs.declared.rounding_rule.Rounding.{Rounding}
 use Rattle.ratio_long.specs.Decimals.{IsLongDecimalOf, long_decimal}
-use Rattle.ratio_totals.specs.Common.{above_zero, below_zero}
-use Rattle.ratio_totals.specs.Sums.{sum_of_slots}
+use Rattle.ratio_totals.specs.{Common.above_zero, Common.below_zero, Sums.sum_of_slots}
 use Rattle.ratio_totals.specs.declared.slots.Slot.{Slot}
 
 -- 1 if n/d is cut to a whole number, and 0 if it is one

@@ -1,15 +1,12 @@
 -- Laws of a room that holds the join of a table: each read of the room is that of the table.
 use Rattle.std.specs.Prelude.{◌≡◌, ℕ, ℤ, pos, List, Option}
-use Rattle.std.specs.Float.{Format}
-use Rattle.std.specs.Ordering.{int_cmp}
+use Rattle.std.specs.{Float.Format, Ordering.int_cmp}
 use Rattle.ratio_decimal.specs.declared.rounding_rule.Rounding.{Rounding}
 use Rattle.ratio_float.specs.Floats.{nearest_float}
 use Rattle.ratio_long.specs.Decimals.{IsLongDecimalOf}
-use Rattle.ratio_totals.specs.Common.{IsJoined}
-use Rattle.ratio_totals.specs.Joined.{joined_pair, three_in}
+use Rattle.ratio_totals.specs.{Common.IsJoined, Joined.joined_pair, Joined.three_in}
 use Rattle.ratio_totals.specs.LowestSum.{ChecksMeanOfSlots, ChecksPairMean, ChecksShortPair}
-use Rattle.ratio_totals.specs.SumOrder.{sign_of_slots}
-use Rattle.ratio_totals.specs.Sums.{sum_of_slots}
+use Rattle.ratio_totals.specs.{SumOrder.sign_of_slots, Sums.sum_of_slots}
 use Rattle.ratio_totals.specs.declared.slots.Slot.{Slot}
 
 -- the room holds the join of the table, with so many digits for the common denominator

@@ -2,8 +2,7 @@
 use Rattle.std.specs.Prelude.{◌≡◌, ◌≢◌, ◌+ℤ◌, ℕ, ℤ, pos, List}
 use Rattle.ratio_totals.specs.Slots.{HasNoPlaceFor, IsPlaceOf, slot_at}
 use Rattle.ratio_totals.specs.Sums.{Has128Bits}
-use Rattle.ratio_totals.specs.declared.changes.LooseRefusal.{LooseRefusal}
-use Rattle.ratio_totals.specs.declared.changes.LooseRefusal.TheVariants.{MoreRoom, NotEmpty, TooGreat}
+use Rattle.ratio_totals.specs.declared.changes.LooseRefusal.{LooseRefusal, TheVariants.MoreRoom, TheVariants.NotEmpty, TheVariants.TooGreat}
 use Rattle.ratio_totals.specs.declared.slots.Slot.{Slot}
 
 -- an empty slot has the numerator 0

@@ -2,9 +2,7 @@
 use Rattle.std.specs.Prelude.{◌≡◌, ◌*◌, ◌<◌, ◌≤◌, ◌⊎◌, ◌<ℤ◌, ◌≤ℤ◌, ℕ, ℤ, pos, unsigned_abs, List, Option, Some, None}
 use Rattle.ratio_integer.specs.Fraction.{IsLowestTermsOf}
 use Rattle.ratio_natural.specs.Number.{base}
-use Rattle.ratio_totals.specs.Common.{above_zero}
-use Rattle.ratio_totals.specs.Sums.{SameSum, sum_of_slots}
-use Rattle.ratio_totals.specs.TotalLaws.{SameNumerators}
+use Rattle.ratio_totals.specs.{Common.above_zero, Sums.SameSum, Sums.sum_of_slots, TotalLaws.SameNumerators}
 use Rattle.ratio_totals.specs.declared.slots.Slot.{Slot}
 
 -- p/q is the fraction x in lowest terms, and both numbers are below the bound, the numerator without its sign
@@ -53,15 +51,13 @@ pair_mean x count = (x.0, x.1 * above_zero count)
 abbrev pub mean_of_slots : List Slot → ℤ → ℤ × ℕ
 mean_of_slots slots count = pair_mean (sum_of_slots slots) count
 
--- the result is the fraction x divided by the count in lowest terms, where the count is above 0 and both numbers are below the bound;
--- elsewhere it is `None`
+-- the result is x divided by the count in lowest terms, if the count is above 0 and both numbers are below the bound; elsewhere it is `None`
 -- Example: below 100, 64/1008 and 2: `Some((2, 63))`
 abbrev pub ChecksMeanBelow : ℕ → ℤ × ℕ → ℤ → Option (ℤ × ℕ) → Type 0
 ChecksMeanBelow bound x count None = (count ≤ℤ pos 0) ⊎ HasPairNotBelow bound (pair_mean x count)
 ChecksMeanBelow bound x count (Some t) = (pos 0 <ℤ count) × IsPairBelow bound (pair_mean x count) t.0 t.1
 
--- the result is the fraction x divided by the count in lowest terms, where the count is above 0 and both numbers are below 2^64; elsewhere
--- it is `None`
+-- the result is x divided by the count in lowest terms, if the count is above 0 and both numbers are below 2^64; elsewhere it is `None`
 -- Example: 64/1008 and 2: `Some((2, 63))`
 abbrev pub ChecksPairMean : ℤ × ℕ → ℤ → Option (ℤ × ℕ) → Type 0
 ChecksPairMean = ChecksMeanBelow base

@@ -2,10 +2,8 @@
 use Rattle.std.specs.Prelude.{◌≡◌, ◌≢◌, ◌+◌, ◌*◌, ◌-◌, ◌^◌, ◌<◌, ◌≤◌, ◌==◌, ◌+ℤ◌, Bool, true, false, ℕ, List, [], ◌∷◌, if◌then◌else◌, unsigned_abs}
 use Rattle.ratio_totals.specs.Slots.{IsTable, slot_at}
 use Rattle.ratio_totals.specs.Sums.{SameSum, pair_sum, numerator_at, sum_of_slots}
-use Rattle.ratio_totals.specs.Totals.{most_weight}
-use Rattle.ratio_totals.specs.Turning.{turned_slots}
-use Rattle.ratio_totals.specs.declared.total.Refusal.{Refusal}
-use Rattle.ratio_totals.specs.declared.total.Refusal.TheVariants.{MoreRoom, TooMany}
+use Rattle.ratio_totals.specs.{Totals.most_weight, Turning.turned_slots}
+use Rattle.ratio_totals.specs.declared.total.Refusal.{Refusal, TheVariants.MoreRoom, TheVariants.TooMany}
 use Rattle.ratio_totals.specs.declared.slots.Slot.{Slot}
 
 -- whether some slot holds the denominator d

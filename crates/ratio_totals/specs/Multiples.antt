@@ -5,20 +5,17 @@ use Rattle.ratio_decimal.specs.declared.rounding_rule.Rounding.{Rounding}
 use Rattle.ratio_natural.specs.Number.{base}
 use Rattle.ratio_totals.specs.Common.{HasLongCommon, most_common, read_digits}
 use Rattle.ratio_totals.specs.LowestSum.{ChecksPairBelow}
-use Rattle.ratio_totals.specs.declared.reading.ReadRefusal.{ReadRefusal}
-use Rattle.ratio_totals.specs.declared.reading.ReadRefusal.TheVariants.{MoreRoom, TooLong}
+use Rattle.ratio_totals.specs.declared.reading.ReadRefusal.{ReadRefusal, TheVariants.MoreRoom, TheVariants.TooLong}
 use Rattle.ratio_totals.specs.declared.slots.Slot.{Slot}
 
--- the result is z/parts in lowest terms, where z is the whole number that the rule gives of x times parts, if both numbers are below the
--- bound; elsewhere it is `None`
+-- the result is z/parts in lowest terms, where z is x times parts, rounded by the rule, if both are below the bound; elsewhere it is `None`
 -- Example: below 100, 16/252 in hundredths by `HalfEven`: 6/100, so `Some((3, 50))`
 pub record ChecksMultipleBelow (bound : ℕ) (rule : Rounding) (parts : ℕ) (x : ℤ × ℕ) (result : Option (ℤ × ℕ)) : Type 0 where
   pub number : ℤ
   pub rounded : IsRoundedBy rule (x.0 *ℤ pos parts) (pos x.1) number
   pub terms : ChecksPairBelow bound (number, parts) result
 
--- the result is z/parts in lowest terms, where z is the whole number that the rule gives of x times parts, if both numbers are below 2^64;
--- elsewhere it is `None`
+-- the result is z/parts in lowest terms, where z is x times parts, rounded by the rule, if both numbers are below 2^64; elsewhere it is `None`
 -- Example: 16/252 in hundredths by `HalfEven`: 6/100, so `Some((3, 50))`
 abbrev pub ChecksMultiple : Rounding → ℕ → ℤ × ℕ → Option (ℤ × ℕ) → Type 0
 ChecksMultiple = ChecksMultipleBelow base

@@ -1,8 +1,6 @@
 -- The sum of a table in machine numbers.
 use Rattle.std.specs.Prelude.{◌≡◌, ◌*◌, ◌^◌, ◌<◌, ◌<ℤ◌, ◌+ℤ◌, ◌*ℤ◌, ℕ, ℤ, pos, List}
-use Rattle.ratio_totals.specs.Common.{AreParts, IsCommonOf}
-use Rattle.ratio_totals.specs.LowestSum.{mean_of_slots}
-use Rattle.ratio_totals.specs.Sums.{SameSum, sum_of_slots}
+use Rattle.ratio_totals.specs.{Common.AreParts, Common.IsCommonOf, LowestSum.mean_of_slots, Sums.SameSum, Sums.sum_of_slots}
 use Rattle.ratio_totals.specs.declared.slots.Slot.{Slot}
 
 -- n/d has the value of the sum of the table, d is the common denominator, and d is below 2^127

@@ -1,7 +1,6 @@
 -- Laws of totals, over what their calls promise.
 use Rattle.std.specs.Prelude.{◌≡◌, ◌≢◌, ◌<◌, ℕ, ℤ, List, length, neg_ℤ}
-use Rattle.ratio_totals.specs.Merging.{AddsEach, holds}
-use Rattle.ratio_totals.specs.Slots.{IsTable, slot_at}
+use Rattle.ratio_totals.specs.{Merging.AddsEach, Merging.holds, Slots.IsTable, Slots.slot_at}
 use Rattle.ratio_totals.specs.Sums.{GrowsAt, numerator_at, sum_of_slots}
 use Rattle.ratio_totals.specs.Turning.{negated}
 use Rattle.ratio_totals.specs.declared.slots.Slot.{Slot}

@@ -2,8 +2,7 @@
 use Rattle.std.specs.Prelude.{◌≡◌, ◌+◌, ◌*◌, ◌^◌, ◌-◌, ◌<◌, ◌≤◌, ◌+ℤ◌, ℕ, ℤ, List, length, unsigned_abs}
 use Rattle.ratio_totals.specs.Slots.{HasNoPlaceFor, IsPlaceOf, IsTable, empty_slot, slot_at}
 use Rattle.ratio_totals.specs.Sums.{Puts}
-use Rattle.ratio_totals.specs.declared.total.Refusal.{Refusal}
-use Rattle.ratio_totals.specs.declared.total.Refusal.TheVariants.{MoreRoom, TooMany}
+use Rattle.ratio_totals.specs.declared.total.Refusal.{Refusal, TheVariants.MoreRoom, TheVariants.TooMany}
 use Rattle.ratio_totals.specs.declared.slots.Slot.{Slot}
 
 -- each slot is empty

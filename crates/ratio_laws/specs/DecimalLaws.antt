@@ -1,13 +1,10 @@
 -- The laws of decimals to so many places, as `decimal` prints them. `multiple` is the number of 1/10^places that the text has.
 use Rattle.std.specs.Prelude.{◌≡◌, ◌<◌, ◌≤◌, ◌*◌, ◌^◌, ◌≤ℤ◌, ◌<ℤ◌, ◌+ℤ◌, ◌-ℤ◌, ◌*ℤ◌, ℕ, ℤ, pos, unsigned_abs, List, Result, Ok, Err}
-use Rattle.ratio_decimal.specs.Decimal.{IsDecimalOf}
-use Rattle.ratio_decimal.specs.DecimalReading.{IsDecimalText}
-use Rattle.ratio_core.specs.Reading.{ReadsLowest}
-use Rattle.ratio_core.specs.Rounding.{IsWithinHalf}
+use Rattle.ratio_decimal.specs.{Decimal.IsDecimalOf, DecimalReading.IsDecimalText}
+use Rattle.ratio_core.specs.{Reading.ReadsLowest, Rounding.IsWithinHalf}
 use Rattle.ratio_decimal.specs.declared.rounding_rule.Rounding.{Rounding}
 use Rattle.ratio_decimal.specs.declared.rounding_rule.Rounding.TheVariants.{HalfAway, HalfEven, Down, Up, Floor, Ceil}
-use Rattle.ratio_decimal.specs.declared.reading.DecimalRefusal.{DecimalRefusal}
-use Rattle.ratio_decimal.specs.declared.reading.DecimalRefusal.TheVariants.{NotHeld}
+use Rattle.ratio_decimal.specs.declared.reading.DecimalRefusal.{DecimalRefusal, TheVariants.NotHeld}
 
 -- Law: by one rule and to as many places, the decimal of a greater fraction is never smaller
 -- Example: 1/3 and 2/5: `0.33`, `0.40`

@@ -1,7 +1,6 @@
 -- Bounds that are fractions in lowest terms, and the simplest fraction within two of them.
 use Rattle.std.specs.Prelude.{ℤ, Option, None, Some}
-use Rattle.std.specs.declared.ops.Bound.{Bound}
-use Rattle.std.specs.declared.ops.Bound.TheVariants.{Included, Excluded, Unbounded}
+use Rattle.std.specs.declared.ops.Bound.{Bound, TheVariants.Included, TheVariants.Excluded, TheVariants.Unbounded}
 use Rattle.ratio_approximation.specs.SimplestWithin.{HoldsNoneWithin, IsSimplestWithin}
 use Rattle.num_rational.specs.declared.reduced.Reduced.{Reduced}
 use Rattle.num_rational.specs.Ratio.{denominator, numerator}

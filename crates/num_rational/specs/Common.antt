@@ -1,8 +1,6 @@
 -- Shares over a common denominator. In the examples the shares are 1/2, 1/3 and 1/6.
 use Rattle.std.specs.Prelude.{◌+◌, ◌<◌, ◌≤ℤ◌, ◌<ℤ◌, ℕ, ℤ, pos, All, List, slice_index_or, take}
-use Rattle.ratio_integer.specs.Arithmetic.{sum_of}
-use Rattle.ratio_integer.specs.Division.{IsMultiple}
-use Rattle.ratio_integer.specs.Fraction.{SameValue}
+use Rattle.ratio_integer.specs.{Arithmetic.sum_of, Division.IsMultiple, Fraction.SameValue}
 use Rattle.num_rational.specs.Split.{MarkFits, NoShareIsBelowZero, SharesMakeOne, SharesOverPositive, total_of_shares}
 
 -- Inner: x is a whole number over c

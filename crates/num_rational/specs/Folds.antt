@@ -17,8 +17,7 @@ abbrev pub AnswersFrom : {A : Type 0} → (A → ℤ × ℤ) → (ℤ × ℤ →
 AnswersFrom view Can Gives total [] = ⊤
 AnswersFrom view Can Gives total (x ∷ xs) = Can total (view x) × ((next : ℤ × ℤ) → Gives total (view x) next → AnswersFrom view Can Gives next xs)
 
--- each step that adds an item, from 0/1 on, meets its condition (`CanAdd`), over a type with the numbers from lo to hi, whose sums are
--- exact or not
+-- each step that adds an item, from 0/1 on, meets its condition (`CanAdd`), over a type from lo to hi, whose sums are exact or not
 -- Example: not 100, 100, -100
 pub record CanSum {A : Type 0} (exact : Bool) (lo hi : ℤ) (view : A → ℤ × ℤ) (xs : List A) : Type 0 where
   pub answered : AnswersFrom view (CanAdd exact lo hi) IsSum (pos 0, pos 1) xs

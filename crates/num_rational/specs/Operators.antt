@@ -98,8 +98,7 @@ GivesRemainder x y r = IsLowestOf (remainder_of x.0 x.1 y.0 y.1) r
 abbrev pub ChecksRemainder : {T : _} {i : _} {o : _} {e : _} {p : _} {h : _} → ℤ × ℤ → ℤ × ℤ → Option (Ratio T i o e p h) → Type 0
 ChecksRemainder {i = i} x y result = AnswersLowest numerator denominator i.lo i.hi (RemainderHeld i.lo i.hi x.0 x.1 y.0 y.1) (remainder_of x.0 x.1 y.0 y.1) result
 
--- for `Reduced`: the result is x % y in lowest terms if `RemainderCondition` holds, and else `None`: over a type of exact remainders, if y
--- is not 0 and the lowest terms are in range
+-- for `Reduced`: the result is x % y in lowest terms if `RemainderCondition` (over exact remainders: y is not 0, and they fit), and else `None`
 -- Example: 127/1 % 1/127: `Some(0/1)`
 abbrev pub ChecksLowestRemainder : {T : _} {i : _} {o : _} {e : _} {p : _} {h : _} → ℤ × ℤ → ℤ × ℤ → Option (Ratio T i o e p h) → Type 0
 ChecksLowestRemainder {i = i} x y result = AnswersLowest numerator denominator i.lo i.hi (RemainderCondition i.EXACT_REMAINDERS i.lo i.hi x.0 x.1 y.0 y.1) (remainder_of x.0 x.1 y.0 y.1) result

@@ -1,8 +1,7 @@
 -- How a fraction is printed under the options in a pair of braces.
 use Rattle.std.specs.Prelude.{ℕ, ℤ, Bool, true, false, List, [], Option, None, Some, drop, if◌then◌else◌}
 use Rattle.std.specs.Str.Parse.{starts_with_minus}
-use Rattle.ratio_core.specs.declared.text.Form.{Form}
-use Rattle.ratio_core.specs.declared.text.Form.TheVariants.{Decimal}
+use Rattle.ratio_core.specs.declared.text.Form.{Form, TheVariants.Decimal}
 use Rattle.ratio_decimal.specs.Precision.{half_even_text}
 use Rattle.ratio_core.specs.Printing.{body_of, prefix_of, text_of}
 
@@ -12,8 +11,7 @@ abbrev pub text_under : Option ℕ → ℕ → ℤ → ℤ → List ℕ
 text_under None bits n d = text_of bits Decimal false n d
 text_under (Some places) bits n d = half_even_text places n d
 
--- a text in base 10, padded as a number. `pad` writes a number from its sign, its prefix and its digits. A minus at the text's beginning is
--- the sign, and the rest counts as the digits
+-- a text in base 10, padded as a number (`pad`): a minus at its beginning counts as the sign, and the rest as the digits
 -- Example: -1/2 in `{:06}`: `-001/2`
 abbrev pub padded_base_ten : (Bool → List ℕ → List ℕ → List ℕ) → List ℕ → List ℕ
 padded_base_ten pad text = if starts_with_minus text then pad true [] (drop 1 text) else pad false [] text

@@ -5,8 +5,7 @@ use Rattle.ratio_core.specs.Power.{ChecksPower, IsPower, IsReciprocal, power_of}
 use Rattle.num_rational.specs.declared.ratio.Ratio.{Ratio}
 use Rattle.num_rational.specs.Ratio.{ChecksRatio, denominator, numerator}
 
--- what `recip` requires: the denominator is positive, the numerator is not 0 and, if it is negative, its negative is in range
--- (`ReciprocalCondition`)
+-- what `recip` requires: the denominator is positive, and the numerator has its `ReciprocalCondition`
 -- Example: not -128/3
 pub record CanInvert {T : _} {i : _} {o : _} {e : _} {p : _} {h : _} (x : Ratio T i o e p h) : Type 0 where
   pub positive : pos 0 <ℤ denominator x

@@ -39,8 +39,7 @@ abbrev pub ChecksNearest : {T : _} {i : _} {o : _} {e : _} {p : _} {h : _} → R
 ChecksNearest x most None = most ≤ℤ pos 0
 ChecksNearest x most (Some r) = IsNearest (numerator x.ratio) (denominator x.ratio) most (numerator r.ratio) (denominator r.ratio)
 
--- the result is the simplest fraction strictly between low and high (`IsSimplest`), and `None` exactly if their type has no fraction
--- between them
+-- the result is the simplest fraction strictly between low and high (`IsSimplest`), and `None` exactly if their type has none there
 -- Example: 1/3 and 1/2: `Some(2/5)`; 0/1 and 1/127: `None`
 abbrev pub ChecksSimplestBetween : {T : _} {i : _} {o : _} {e : _} {p : _} {h : _} → Reduced T i o e p h → Reduced T i o e p h → Option (Reduced T i o e p h) → Type 0
 ChecksSimplestBetween {i = i} low high None = HoldsNoneBetween i.lo i.hi (numerator low.ratio) (denominator low.ratio) (numerator high.ratio) (denominator high.ratio)

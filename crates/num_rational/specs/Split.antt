@@ -1,13 +1,9 @@
--- An amount split by shares. A share is a pair of whole numbers here, by `view`, and a part is a whole number, by `value`. In the examples 100
--- is split by 1/3, 1/3 and 1/3.
+-- An amount split by shares: 100 by 1/3, 1/3 and 1/3 in the examples. `view` gives a share as two whole numbers, and `value` a part as one.
 use Rattle.std.specs.Prelude.{◌≡◌, ◌≢◌, ◌+◌, ◌<◌, ◌≤ℤ◌, ◌<ℤ◌, ◌+ℤ◌, ◌-ℤ◌, ◌*ℤ◌, ℕ, ℤ, pos, All, List, None, Option, Some, codes, fold, length, slice_index_or, take}
-use Rattle.ratio_integer.specs.Arithmetic.{sum_of}
-use Rattle.ratio_integer.specs.Fraction.{Fits, IsLowestTermsOf}
-use Rattle.ratio_integer.specs.Range.{IsHeld}
+use Rattle.ratio_integer.specs.{Arithmetic.sum_of, Fraction.Fits, Fraction.IsLowestTermsOf, Range.IsHeld}
 use Rattle.ratio_core.specs.Rounding.{IsRounded}
 use Rattle.num_rational.specs.declared.reduced.Reduced.{Reduced}
-use Rattle.num_rational.specs.Operators.{numbers}
-use Rattle.num_rational.specs.Reduced.{ratio_of}
+use Rattle.num_rational.specs.{Operators.numbers, Reduced.ratio_of}
 use Rattle.num_rational.specs.declared.splitting.SplitRefusal.{SplitRefusal}
 use Rattle.num_rational.specs.declared.splitting.SplitRefusal.TheVariants.{BelowZero, Length, NotHeld, NotOne}
 

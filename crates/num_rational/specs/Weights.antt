@@ -15,8 +15,7 @@ share_of value weights weight = (value weight, total_of value weights)
 abbrev pub NoWeightIsBelowZero : {A : Type 0} → (A → ℤ) → List A → Type 0
 NoWeightIsBelowZero value weights = NoShareIsBelowZero (share_of value weights) weights
 
--- the weights can split an amount into `parts` parts: there are as many parts as weights, `NoWeightIsBelowZero`, the sum of the weights
--- fits, and it is not 0
+-- the weights can split an amount into `parts` parts: there are as many, `NoWeightIsBelowZero`, and their sum fits and is not 0
 pub record CanSplitByWeights {A : Type 0} (value : A → ℤ) (lo hi : ℤ) (weights : List A) (parts : ℕ) : Type 0 where
   pub as_many : parts ≡ length weights
   pub none_below : NoWeightIsBelowZero value weights

@@ -2,11 +2,8 @@
 use Rattle.std.specs.Prelude.{◌≢◌, ◌<◌, ◌≤◌, ℕ, ℤ, pos, List, length}
 use Rattle.std.specs.List.{All, AllZip, Any, zip}
 use Rattle.ratio_integer.specs.Fraction.{IsLowestTermsOf}
-use Rattle.ratio_totals.specs.LowestSum.{HasLongPair, IsShortPair}
-use Rattle.ratio_totals.specs.Totals.{most_weight}
-use Rattle.fraction_totals.specs.Items.{denominators_of}
-use Rattle.fraction_totals.specs.Products.{product_of_pairs}
-use Rattle.fraction_totals.specs.Values.{sum_of_items}
+use Rattle.ratio_totals.specs.{LowestSum.HasLongPair, LowestSum.IsShortPair, Totals.most_weight}
+use Rattle.fraction_totals.specs.{Items.denominators_of, Products.product_of_pairs, Values.sum_of_items}
 use Rattle.fraction_totals.specs.declared.total.DotRefusal.{DotRefusal}
 use Rattle.fraction_totals.specs.declared.total.DotRefusal.TheVariants.{MoreRoom, TooGreat, TooMany, UnlikeLengths}
 

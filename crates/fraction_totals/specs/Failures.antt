@@ -1,13 +1,10 @@
 -- Why a sum of a list fails where the call takes memory.
 use Rattle.std.specs.Prelude.{◌<◌, ℕ, ℤ, List, codes, length}
-use Rattle.ratio_totals.specs.Common.{HasLongCommon, most_common}
-use Rattle.ratio_totals.specs.Totals.{most_weight}
+use Rattle.ratio_totals.specs.{Common.HasLongCommon, Common.most_common, Totals.most_weight}
 use Rattle.fraction_totals.specs.ListSums.{table_of}
-use Rattle.fraction_totals.specs.declared.in_memory.SumFailure.{SumFailure}
-use Rattle.fraction_totals.specs.declared.in_memory.SumFailure.TheVariants.{NoMemory, TooLong, TooMany}
+use Rattle.fraction_totals.specs.declared.in_memory.SumFailure.{SumFailure, TheVariants.NoMemory, TheVariants.TooLong, TheVariants.TooMany}
 
--- why the sum of the items was not computed: they are more than 2^63 - 1, or their common denominator is too long. That an allocation
--- failed says nothing of the items
+-- why the items have no sum: they are more than 2^63 - 1, or their common denominator is too long. A failed allocation says nothing of them
 -- Example: 1/p for 20,000 primes p of 64 bits: `TooLong`
 abbrev pub IsSumFailureFor : {A : Type 0} → (A → ℤ × ℕ) → List A → SumFailure → Type 0
 IsSumFailureFor view items NoMemory = Unit {0}

@@ -1,9 +1,7 @@
 -- How many different denominators a list of fractions has. `view` gives an item as a numerator and a denominator.
 use Rattle.std.specs.Prelude.{◌≡◌, ◌≢◌, ◌+◌, ◌<◌, ◌==◌, ℕ, ℤ, Bool, true, false, List, [], ◌∷◌, if◌then◌else◌, length}
-use Rattle.ratio_totals.specs.Merging.{holds}
-use Rattle.ratio_totals.specs.Totals.{most_weight}
-use Rattle.ratio_totals.specs.declared.total.Refusal.{Refusal}
-use Rattle.ratio_totals.specs.declared.total.Refusal.TheVariants.{MoreRoom, TooMany}
+use Rattle.ratio_totals.specs.{Merging.holds, Totals.most_weight}
+use Rattle.ratio_totals.specs.declared.total.Refusal.{Refusal, TheVariants.MoreRoom, TheVariants.TooMany}
 use Rattle.ratio_totals.specs.declared.slots.Slot.{Slot}
 
 -- whether an item has the denominator d

@@ -1,13 +1,10 @@
 -- Products of two fractions that go into a total.
 use Rattle.std.specs.Prelude.{◌*◌, ◌*ℤ◌, ℕ, ℤ, List}
-use Rattle.ratio_totals.specs.LowestSum.{HasLongPair, IsShortPair}
-use Rattle.ratio_totals.specs.Sums.{GrowsAt, Puts}
-use Rattle.ratio_totals.specs.Totals.{IsAccepted, IsRefusedFor}
+use Rattle.ratio_totals.specs.{LowestSum.HasLongPair, LowestSum.IsShortPair, Sums.GrowsAt, Sums.Puts, Totals.IsAccepted, Totals.IsRefusedFor}
 use Rattle.ratio_totals.specs.declared.total.Refusal.{Refusal}
 use Rattle.ratio_totals.specs.declared.total.Refusal.TheVariants as refusal
 use Rattle.ratio_totals.specs.declared.slots.Slot.{Slot}
-use Rattle.fraction_totals.specs.declared.total.ProductRefusal.{ProductRefusal}
-use Rattle.fraction_totals.specs.declared.total.ProductRefusal.TheVariants.{MoreRoom, TooGreat, TooMany}
+use Rattle.fraction_totals.specs.declared.total.ProductRefusal.{ProductRefusal, TheVariants.MoreRoom, TheVariants.TooGreat, TheVariants.TooMany}
 
 -- the product of two fractions, not reduced
 -- Example: 2/3 and 3/4: 6/12

@@ -1,12 +1,9 @@
--- An amount split by shares whose sums lie in a room. `view` gives a share as a numerator and a denominator, and `pair` the same with the
--- denominator as a natural number.
+-- An amount split by shares whose sums lie in a room. `view` gives a share's two numbers, and `pair` the same with a natural denominator.
 use Rattle.std.specs.Prelude.{◌≡◌, ◌≢◌, ◌^◌, ◌≤◌, ℕ, ℤ, List, codes, length}
 use Rattle.ratio_natural.specs.Number.{base}
-use Rattle.ratio_totals.specs.SumOrder.{HasShortCommon}
-use Rattle.ratio_totals.specs.Totals.{most_weight}
+use Rattle.ratio_totals.specs.{SumOrder.HasShortCommon, Totals.most_weight}
 use Rattle.num_rational.specs.Split.{NoShareIsBelowZero, SharesMakeOne}
-use Rattle.fraction_totals.specs.ListSums.{table_of}
-use Rattle.fraction_totals.specs.WideSums.{HasSumRoom, IsWideSumRefusedFor}
+use Rattle.fraction_totals.specs.{ListSums.table_of, WideSums.HasSumRoom, WideSums.IsWideSumRefusedFor}
 use Rattle.fraction_totals.specs.declared.splitting.RoomSplitRefusal.{RoomSplitRefusal}
 use Rattle.fraction_totals.specs.declared.splitting.RoomSplitRefusal.TheVariants.{BelowZero, Length, NotOne, Room}
 

@@ -1,8 +1,7 @@
 -- Fractions as a total takes them, and the sum of a total.
 use Rattle.std.specs.Prelude.{◌*◌, ◌⊎◌, ◌<ℤ◌, ◌≤ℤ◌, ℕ, ℤ, neg_ℤ, pos, unsigned_abs, Option, Some, None, List, [], ◌∷◌}
 use Rattle.ratio_integer.specs.Fraction.{Fits, IsHeldLowest}
-use Rattle.ratio_totals.specs.Common.{above_zero}
-use Rattle.ratio_totals.specs.Joined.{joined_pair}
+use Rattle.ratio_totals.specs.{Common.above_zero, Joined.joined_pair}
 use Rattle.ratio_totals.specs.Sums.{SameSum, pair_sum, sum_of_slots}
 use Rattle.ratio_totals.specs.declared.slots.Slot.{Slot}
 use Rattle.num_rational.specs.declared.reduced.Reduced.{Reduced}

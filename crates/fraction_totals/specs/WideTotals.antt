@@ -1,14 +1,10 @@
 -- Totals of fractions over any primitive type, each as one sum in a room.
 use Rattle.std.specs.Prelude.{◌≡◌, ◌+◌, ◌*◌, ◌^◌, ◌<◌, ◌≤◌, ◌⊎◌, ℕ, ℤ, List, unsigned_abs}
 use Rattle.ratio_natural.specs.Number.{base}
-use Rattle.ratio_totals.specs.Common.{most_digits, room_digits}
-use Rattle.ratio_totals.specs.Joined.{common_in}
-use Rattle.ratio_totals.specs.RoomSums.{HasLongMultiple, HasShortMultiple}
-use Rattle.ratio_totals.specs.Steps.{HoldsSum}
-use Rattle.ratio_totals.specs.Totals.{most_weight}
+use Rattle.ratio_totals.specs.{Common.most_digits, Common.room_digits, Joined.common_in, RoomSums.HasLongMultiple, RoomSums.HasShortMultiple}
+use Rattle.ratio_totals.specs.{Steps.HoldsSum, Totals.most_weight}
 use Rattle.ratio_totals.specs.declared.joined.Joined.{Joined}
-use Rattle.fraction_totals.specs.declared.wide_changes.WideRefusal.{WideRefusal}
-use Rattle.fraction_totals.specs.declared.wide_changes.WideRefusal.TheVariants.{MoreDigits, MoreRoom, TooMany}
+use Rattle.fraction_totals.specs.declared.wide_changes.WideRefusal.{WideRefusal, TheVariants.MoreDigits, TheVariants.MoreRoom, TheVariants.TooMany}
 
 -- a room of so many digits has place for a total, with `digits` digits for the common denominator: these are at least the 2 of a denominator of
 -- 128 bits and at most 16384, and the room has four times as many and 6 more

@@ -5,8 +5,7 @@ use Rattle.ratio_core.specs.Divisors.{DividesFraction}
 use Rattle.num_rational.specs.declared.reduced.Reduced.{Reduced}
 use Rattle.num_rational.specs.Comparison.{order_of}
 use Rattle.num_rational.specs.Operators.{ChecksFractionGcd, ChecksFractionLcm, numbers}
-use Rattle.num_rational.specs.Ratio.{denominator, numerator}
-use Rattle.num_rational.specs.Reduced.{ratio_in, ratio_of}
+use Rattle.num_rational.specs.{Ratio.denominator, Ratio.numerator, Reduced.ratio_in, Reduced.ratio_of}
 use Rattle.fraction_laws.specs.ReducedLaws.{AnswersAbsolute, AnswersProduct, AnswersQuotient, AreOneAnswer}
 
 -- the checked call for the greatest common divisor of x and y (`checked_gcd`) returns r
@@ -55,8 +54,7 @@ HasNoMultipleBelow {T} {i} {o} {e} {p} {h} x y =
     → Divides y other
     → order_of (ratio_of multiple) (ratio_of other) ≢ Greater
 
--- the greatest common divisor times the least common multiple, and |x * y|, are one result, `None` included, if these two and x * y are
--- `Some`
+-- the greatest common divisor times the least common multiple is |x * y|, `None` included, if these two and x * y are `Some`
 -- Example: 1/4 and 1/6: 1/12 times 1/2 is 1/24
 abbrev pub MultipliesToProduct : {T : _} {i : _} {o : _} {e : _} {p : _} {h : _} → Reduced T i o e p h → Reduced T i o e p h → Type 0
 MultipliesToProduct {T} {i} {o} {e} {p} {h} x y =

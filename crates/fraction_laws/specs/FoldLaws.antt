@@ -1,5 +1,4 @@
--- Sums and products of lists, as `Reduced` returns them. A premise only says what a call returned. `view` gives the two numbers
--- of an item.
+-- Sums and products of lists, as `Reduced` returns them. A premise only says what a call returned. `view` gives an item's two numbers.
 use Rattle.std.specs.Prelude.{ℤ, true, List, ◌++◌, Option, None, Some, IsPermutation}
 use Rattle.std.specs.List.{FoldsTo}
 use Rattle.ratio_core.specs.Laws.{IsProduct, IsSum}

@@ -2,9 +2,7 @@
 -- and `shows` give the two numbers of an item.
 use Rattle.std.specs.Prelude.{ℤ, List, ◌++◌, Option, Some, IsPermutation}
 use Rattle.num_rational.specs.declared.reduced.Reduced.{Reduced}
-use Rattle.num_rational.specs.ManyProducts.{product_of_items, quotient_of_items}
-use Rattle.num_rational.specs.Ratio.{ChecksRatio}
-use Rattle.num_rational.specs.Reduced.{ratio_in}
+use Rattle.num_rational.specs.{ManyProducts.product_of_items, ManyProducts.quotient_of_items, Ratio.ChecksRatio, Reduced.ratio_in}
 use Rattle.fraction_laws.specs.ReducedLaws.{AnswersProduct, AnswersQuotient, AreOneAnswer}
 
 -- the product of the items (`checked_product_of`) returns r

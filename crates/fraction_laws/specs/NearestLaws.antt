@@ -2,8 +2,7 @@
 use Rattle.std.specs.Prelude.{◌*◌, ◌≤◌, ◌≤ℤ◌, ◌<ℤ◌, ℕ, ℤ, pos, unsigned_abs, IsSome, Option, Some}
 use Rattle.ratio_approximation.specs.Nearest.{gap}
 use Rattle.num_rational.specs.declared.reduced.Reduced.{Reduced}
-use Rattle.num_rational.specs.Ratio.{denominator, numerator}
-use Rattle.num_rational.specs.Reduced.{ChecksNearest, ratio_of}
+use Rattle.num_rational.specs.{Ratio.denominator, Ratio.numerator, Reduced.ChecksNearest, Reduced.ratio_of}
 use Rattle.fraction_laws.specs.ReducedLaws.{AreOneAnswer}
 
 -- the distance of r from x, times both denominators

@@ -1,8 +1,7 @@
 -- 0 and 1 as operands and as exponents of `Reduced`. A premise only says what a call returned.
 use Rattle.std.specs.Prelude.{pos, Option, Some}
 use Rattle.num_rational.specs.declared.reduced.Reduced.{Reduced}
-use Rattle.num_rational.specs.Ratio.{IsWhole}
-use Rattle.num_rational.specs.Reduced.{ratio_of}
+use Rattle.num_rational.specs.{Ratio.IsWhole, Reduced.ratio_of}
 use Rattle.fraction_laws.specs.ReducedLaws.{AnswersPower, AnswersProduct, AnswersQuotient, AnswersSum, AreOneAnswer}
 
 -- x + 0 and 0 + x are `Some` of x

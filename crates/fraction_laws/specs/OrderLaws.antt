@@ -1,9 +1,7 @@
 -- The order of results of `Reduced`. A premise only says what a call returned.
 use Rattle.std.specs.Prelude.{◌≡◌, ◌<ℤ◌, pos, Some}
 use Rattle.num_rational.specs.declared.reduced.Reduced.{Reduced}
-use Rattle.num_rational.specs.Comparison.{order_of}
-use Rattle.num_rational.specs.Ratio.{numerator}
-use Rattle.num_rational.specs.Reduced.{ratio_of}
+use Rattle.num_rational.specs.{Comparison.order_of, Ratio.numerator, Reduced.ratio_of}
 use Rattle.fraction_laws.specs.ReducedLaws.{AnswersNegative, AnswersProduct, AnswersSum}
 
 -- x + z and y + z have the order of x and y, if both are `Some`

@@ -1,20 +1,15 @@
 -- What reading a printed `Reduced` returns. A premise only says what a call returned.
 use Rattle.std.specs.Prelude.{◌≡◌, ◌≢◌, ◌≤ℤ◌, ◌<ℤ◌, ℕ, pos, Bool, false, List, Result, Ok, Err}
-use Rattle.ratio_core.specs.declared.parse_error.RatioErrorKind.{RatioErrorKind}
-use Rattle.ratio_core.specs.declared.parse_error.RatioErrorKind.TheVariants.{ParseError}
+use Rattle.ratio_core.specs.declared.parse_error.RatioErrorKind.{RatioErrorKind, TheVariants.ParseError}
 use Rattle.ratio_decimal.specs.declared.rounding_rule.Rounding.{Rounding}
-use Rattle.ratio_core.specs.declared.text.Form.{Form}
-use Rattle.ratio_core.specs.declared.text.Form.TheVariants.{Decimal}
+use Rattle.ratio_core.specs.declared.text.Form.{Form, TheVariants.Decimal}
 use Rattle.ratio_decimal.specs.declared.reading.DecimalRefusal.{DecimalRefusal}
 use Rattle.ratio_decimal.specs.Decimal.{IsDecimalOf, IsExactDecimal}
 use Rattle.ratio_laws.specs.DecimalLaws.{IsReadNear}
 use Rattle.ratio_decimal.specs.DecimalReading.{AnswersDecimal, IsReadDecimal}
-use Rattle.ratio_core.specs.Printing.{base_of, text_of}
-use Rattle.ratio_core.specs.Reading.{AnswersText, IsSlashedText}
+use Rattle.ratio_core.specs.{Printing.base_of, Printing.text_of, Reading.AnswersText, Reading.IsSlashedText}
 use Rattle.num_rational.specs.declared.reduced.Reduced.{Reduced}
-use Rattle.num_rational.specs.Comparison.{HaveSameFields}
-use Rattle.num_rational.specs.Ratio.{denominator, numerator}
-use Rattle.num_rational.specs.Reduced.{ReadsReduced, ratio_of}
+use Rattle.num_rational.specs.{Comparison.HaveSameFields, Ratio.denominator, Ratio.numerator, Reduced.ReadsReduced, Reduced.ratio_of}
 
 -- the result is `Ok` of x
 abbrev pub IsReadAs : {T : _} {i : _} {o : _} {e : _} {p : _} {h : _} → Reduced T i o e p h → Result (Reduced T i o e p h) RatioErrorKind → Type 0
@@ -54,8 +49,7 @@ RefusesWholeInBase {T} {i} {o} {e} {p} {h} bits x =
     → ReadsInBase radix (printed bits form alternate x) result
     → result ≡ Err ParseError
 
--- a number below 0 is printed in two's complement in another base than 10. That number does not fit the type, so by `from_str_radix` it is
--- a parse error
+-- in another base than 10, a number below 0 is printed in two's complement. That number does not fit, so `from_str_radix` gives a parse error
 -- Example: `ff/2` for -1/2
 abbrev pub RefusesBelowZeroInBase : {T : _} {i : _} {o : _} {e : _} {p : _} {h : _} → ℕ → Reduced T i o e p h → Type 0
 RefusesBelowZeroInBase {T} {i} {o} {e} {p} {h} bits x =
@@ -73,8 +67,7 @@ ReadsItsDecimal {T} {i} {o} {e} {p} {h} x =
     → AnswersDecimal (λ y. numerator (ratio_of y)) (λ y. denominator (ratio_of y)) i.lo i.hi text result
     → IsReadDecimal (λ y. numerator (ratio_of y)) (λ y. denominator (ratio_of y)) (numerator (ratio_of x)) (denominator (ratio_of x)) result
 
--- reading a decimal of x to so many places gives a fraction that is as near to x as the rule says, where it fits the type, and else
--- `NotHeld`
+-- reading a decimal of x to so many places gives what the rule says of x, where it fits the type, and else `NotHeld`
 abbrev pub ReadsItsRoundedDecimal : {T : _} {i : _} {o : _} {e : _} {p : _} {h : _} → Reduced T i o e p h → Type 0
 ReadsItsRoundedDecimal {T} {i} {o} {e} {p} {h} x =
     (rule : Rounding) (places : ℕ) (text : List ℕ) (result : Result (Reduced T i o e p h) DecimalRefusal)

@@ -2,8 +2,7 @@
 use Rattle.std.specs.Prelude.{◌≡◌, ◌+ℤ◌, ℤ, pos, neg_ℤ, unsigned_abs, List, Option, None, Some, ⊤}
 use Rattle.ratio_core.specs.ContinuedFraction.{IsPartialQuotients}
 use Rattle.ratio_approximation.specs.FromQuotients.{ChecksFraction}
-use Rattle.ratio_core.specs.Power.{ChecksReciprocal}
-use Rattle.ratio_core.specs.Rounding.{IsFractionalPart, IsTruncation}
+use Rattle.ratio_core.specs.{Power.ChecksReciprocal, Rounding.IsFractionalPart, Rounding.IsTruncation}
 use Rattle.num_rational.specs.declared.reduced.Reduced.{Reduced}
 use Rattle.num_rational.specs.Comparison.{HaveSameFields}
 use Rattle.num_rational.specs.Operators.{ChecksExactDifference, ChecksExactSum, ChecksProduct, ChecksQuotient, numbers}

@@ -2,8 +2,7 @@
 use Rattle.std.specs.Prelude.{◌*◌, ◌<◌, ◌≤ℤ◌, ◌+ℤ◌, ◌*ℤ◌, ℤ, pos, int_div, unsigned_abs, Option, Some}
 use Rattle.ratio_integer.specs.Fraction.{SameValue}
 use Rattle.num_rational.specs.declared.reduced.Reduced.{Reduced}
-use Rattle.num_rational.specs.Operators.{ChecksLowestRemainder, numbers}
-use Rattle.num_rational.specs.Ratio.{denominator, numerator}
+use Rattle.num_rational.specs.{Operators.ChecksLowestRemainder, Operators.numbers, Ratio.denominator, Ratio.numerator}
 use Rattle.num_rational.specs.Reduced.{ratio_in, ratio_of}
 
 -- the checked call for x % y (`checked_rem`) returns r

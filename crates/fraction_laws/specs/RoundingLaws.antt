@@ -3,12 +3,9 @@
 use Rattle.std.specs.Prelude.{◌≡◌, ◌≢◌, ◌*◌, ◌≤ℤ◌, ◌<ℤ◌, pos, unsigned_abs, Option, None, Some}
 use Rattle.std.specs.declared.cmp.Ordering.TheVariants.{Greater}
 use Rattle.ratio_decimal.specs.RoundingRules.{IsRoundedBy}
-use Rattle.ratio_decimal.specs.declared.rounding_rule.Rounding.{Rounding}
-use Rattle.ratio_decimal.specs.declared.rounding_rule.Rounding.TheVariants.{HalfAway, Floor, Ceil}
+use Rattle.ratio_decimal.specs.declared.rounding_rule.Rounding.{Rounding, TheVariants.HalfAway, TheVariants.Floor, TheVariants.Ceil}
 use Rattle.num_rational.specs.declared.reduced.Reduced.{Reduced}
-use Rattle.num_rational.specs.Comparison.{HaveSameFields, order_of}
-use Rattle.num_rational.specs.Ratio.{denominator, numerator}
-use Rattle.num_rational.specs.Reduced.{ratio_of}
+use Rattle.num_rational.specs.{Comparison.HaveSameFields, Comparison.order_of, Ratio.denominator, Ratio.numerator, Reduced.ratio_of}
 use Rattle.fraction_laws.specs.ReducedLaws.{AnswersDifference, AnswersNegative, AnswersSum, AreOneAnswer}
 
 -- r is x rounded to a whole number by the rule

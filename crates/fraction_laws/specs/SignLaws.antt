@@ -3,9 +3,7 @@ use Rattle.std.specs.Prelude.{◌≡◌, ◌≢◌, ◌*ℤ◌, ℤ, pos, Option
 use Rattle.std.specs.declared.cmp.Ordering.TheVariants.{Greater}
 use Rattle.ratio_core.specs.Signs.{IsSign}
 use Rattle.num_rational.specs.declared.reduced.Reduced.{Reduced}
-use Rattle.num_rational.specs.Comparison.{order_of}
-use Rattle.num_rational.specs.Ratio.{denominator, numerator}
-use Rattle.num_rational.specs.Reduced.{ratio_of}
+use Rattle.num_rational.specs.{Comparison.order_of, Ratio.denominator, Ratio.numerator, Reduced.ratio_of}
 use Rattle.fraction_laws.specs.ReducedLaws.{AnswersAbsolute, AnswersNegative, AnswersProduct, AnswersSum, AreOneAnswer}
 
 -- s is the sign of x: -1, 0 or 1

@@ -1,8 +1,7 @@
 -- Calls of `Reduced` that undo one another, or that can stand for one another. A premise only says what a call returned.
 use Rattle.std.specs.Prelude.{◌≢◌, pos, Option, Some}
 use Rattle.num_rational.specs.declared.reduced.Reduced.{Reduced}
-use Rattle.num_rational.specs.Ratio.{IsWhole, numerator}
-use Rattle.num_rational.specs.Reduced.{ratio_of}
+use Rattle.num_rational.specs.{Ratio.IsWhole, Ratio.numerator, Reduced.ratio_of}
 use Rattle.fraction_laws.specs.ReducedLaws.{AnswersDifference, AnswersNegative, AnswersProduct, AnswersQuotient, AnswersReciprocal, AnswersSum, AreOneAnswer}
 
 -- (x + y) - y is `Some` of x, if x + y is `Some`

@@ -3,8 +3,7 @@ use Rattle.std.specs.Prelude.{◌≡◌, ℕ, ℤ, pos, List, Some}
 use Rattle.std.specs.Ordering.{int_cmp, int_eq}
 use Rattle.std.proofs.Common.{refl}
 use Rattle.std.proofs.lemmas.Bool.Decides.{Decides-int_eq}
-use Rattle.ratio_integer.specs.Laws.{IsLawful}
-use Rattle.ratio_integer.specs.Range.{IsRange}
+use Rattle.ratio_integer.specs.{Laws.IsLawful, Range.IsRange}
 
 -- Law: a type T with the numbers from lo to hi is lawful, if `number` of `of z` is z, and the numbers compare and hash the values
 -- Example: -5 to 5

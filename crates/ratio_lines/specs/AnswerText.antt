@@ -1,8 +1,7 @@
 -- The bytes of an answer.
 use Rattle.std.specs.Prelude.{ℕ, List, false}
 use Rattle.std.specs.Borrow.{Bor}
-use Rattle.either.specs.declared.Either.{Either}
-use Rattle.either.specs.declared.Either.TheVariants.{Left, Right}
+use Rattle.either.specs.declared.Either.{Either, TheVariants.Left, TheVariants.Right}
 use Rattle.num_rational.specs.Ratio.{numerator, denominator}
 use Rattle.num_rational.specs.declared.ratio.Ratio.{Ratio}
 use Rattle.ratio_core.specs.Printing.{text_of}

@@ -2,17 +2,12 @@
 use Rattle.std.specs.Prelude.{◌≡◌, ℕ, ℤ, pos, List, [], ◌∷◌, ◌++◌, length, Bool, true, false, not, ◌&&◌, ◌==◌, ◌%◌, ◌⊎◌, nat_lt, Option, Some, None, Result, Ok, Err, if◌then◌else◌, codes, option_and_then, option_map, MatchBool}
 use Rattle.std.specs.List.{list_all, list_any, slice_split}
 use Rattle.either.specs.Either.{MatchEither}
-use Rattle.either.specs.declared.Either.{Either}
-use Rattle.either.specs.declared.Either.TheVariants.{Left, Right}
-use Rattle.std.specs.Ordering.{int_eq}
-use Rattle.std.specs.Str.{is_utf8}
-use Rattle.std.specs.declared.cmp.Ordering.{Ordering}
-use Rattle.std.specs.declared.cmp.Ordering.TheVariants.{Less, Equal, Greater}
+use Rattle.either.specs.declared.Either.{Either, TheVariants.Left, TheVariants.Right}
+use Rattle.std.specs.{Ordering.int_eq, Str.is_utf8}
+use Rattle.std.specs.declared.cmp.Ordering.{Ordering, TheVariants.Less, TheVariants.Equal, TheVariants.Greater}
 use Rattle.ratio_integer.specs.Arithmetic.{RemainderHeld, difference_of, product_of, quotient_of, remainder_of, sum_of}
 use Rattle.ratio_integer.specs.Fraction.{AnswersLowest, ChecksLowest}
-use Rattle.ratio_core.specs.Order.{cross_cmp}
-use Rattle.ratio_core.specs.Printing.{text_of}
-use Rattle.ratio_core.specs.Refusal.{refusal_text}
+use Rattle.ratio_core.specs.{Order.cross_cmp, Printing.text_of, Refusal.refusal_text}
 use Rattle.ratio_core.specs.declared.parse_error.RatioErrorKind.{RatioErrorKind}
 use Rattle.ratio_core.specs.declared.text.Form.TheVariants.{Decimal}
 use Rattle.ratio_lines.specs.Lines.{front_of, lines_of, longest_line, whole_lines}
@@ -72,8 +67,7 @@ IsOutcome Div x y outcome = IsDivisionOutcome y (IsLowestResult (quotient_of x.0
 IsOutcome Rem x y outcome = IsDivisionOutcome y (IsRemainderResult x y) outcome
 IsOutcome Cmp x y outcome = outcome ≡ Left (order_text (cross_cmp x.0 x.1 y.0 y.1))
 
--- operators apply from left to right, each to the fraction so far and the next operand. The first text is the answer. If there is none, the
--- answer is the last fraction
+-- operators apply from left to right, each to the fraction so far and the next operand. The answer is the first text, or else the last fraction
 -- Example: `1 - 2 * 3`: `-3`
 abbrev pub IsApplied : List Operator → ℤ × ℤ → List (ℤ × ℤ) → List ℕ → Type 0
 IsApplied [] x ys answer = answer ≡ text_of 64 Decimal false x.0 x.1

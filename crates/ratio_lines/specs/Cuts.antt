@@ -1,7 +1,6 @@
 -- Where bytes are cut.
 use Rattle.std.specs.Prelude.{◌≡◌, ℕ, List, ◌∷◌, ◌++◌, ◌==◌, false, Option, None, Some}
-use Rattle.std.specs.Borrow.{Bor}
-use Rattle.std.specs.List.{list_any}
+use Rattle.std.specs.{Borrow.Bor, List.list_any}
 
 -- no byte here has this value
 -- Example: `/` in `abc`

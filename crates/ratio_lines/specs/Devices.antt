@@ -4,8 +4,7 @@
 -- one read said that the reader has ended. A word that ends in `For` says this of some bytes with a given property.
 use Rattle.std.specs.Prelude.{◌≡◌, ℕ, ◌+◌, ◌<◌, ◌≤◌, List, [], ◌++◌, ◌==◌, ◌&&◌, not, length, take, Option, Result, Ok, Err, if◌then◌else◌, MatchBool}
 use Rattle.std.specs.Io.KnownBytes.{Appends, Consumes, IsAtEnd, Keeps}
-use Rattle.ratio_lines.specs.declared.fault.CalcFault.{CalcFault}
-use Rattle.ratio_lines.specs.declared.fault.CalcFault.TheVariants.{Read, Write}
+use Rattle.ratio_lines.specs.declared.fault.CalcFault.{CalcFault, TheVariants.Read, TheVariants.Write}
 use Rattle.ratio_lines.specs.declared.counted.Calls.{Calls}
 
 -- no call was made
@@ -28,8 +27,7 @@ after_ending calls = record calls { ends = calls.ends + 1 }
 abbrev pub after_flushing : Calls → Calls
 after_flushing calls = record calls { flushes = calls.flushes + 1; mark = length calls.moved }
 
--- what a reader's call did. `Ok(n)` gave the first n bytes of the buffer. But `Ok(0)` with room in the buffer says that the reader has
--- ended. An error is a failure
+-- what a reader's call did: `Ok(n)` gave the first n bytes of the buffer, `Ok(0)` with room in it says that the reader ended, an error is a failure
 abbrev pub after_read : {E : Type 0} → Calls → Result ℕ E → List ℕ → Calls
 after_read calls (Ok n) buffer = if (n == 0) && not (length buffer == 0) then after_ending calls else after_moving calls (take n buffer)
 after_read calls (Err e) buffer = after_failing calls
@@ -119,14 +117,12 @@ pub record WritesFor {T : Type 0} (Is : List ℕ → Type 0) (writer : Change) (
   pub are : Is bytes
   pub writes : Writes writer bytes result
 
--- `bytes` come after those that waited. The writer took a beginning of all these, and the rest waits now. Or a call failed after a
--- beginning
+-- `bytes` come after those that waited. The writer took a beginning of all these, and the rest waits. Or a call failed after a beginning
 abbrev pub Gathers : {T : Type 0} → Change → List ℕ → List ℕ → List ℕ → Result T CalcFault → Type 0
 Gathers writer waited waits bytes (Ok x) = (written : List ℕ) × Took writer.old writer.new written × (waited ++ bytes ≡ written ++ waits)
 Gathers writer waited waits bytes (Err fault) = (fault ≡ Write) × TookSome writer.old writer.new (waited ++ bytes)
 
--- if the bytes that waited and `bytes` are at most 1,024 together, nothing is written, and all of them wait. A call fails only if they are
--- more
+-- if the bytes that waited and `bytes` are at most 1,024 together, all wait and nothing is written. A call fails only if they are more
 -- Example: 1,000 and 24 wait
 abbrev pub Waits : {T : Type 0} → Change → List ℕ → List ℕ → List ℕ → Result T CalcFault → Type 0
 Waits writer waited waits bytes (Ok x) = length waited + length bytes ≤ 1024 → (writer.new ≡ writer.old) × (waits ≡ waited ++ bytes)

@@ -1,7 +1,6 @@
 -- What is kept of the line that is being read: its bytes, or `None` if they are more than a line may have.
 use Rattle.std.specs.Prelude.{◌≡◌, ℕ, List, [], ◌∷◌, ◌++◌, length, Bool, false, ◌==◌, nat_lt, Option, None, Some, if◌then◌else◌, codes, MatchBool}
-use Rattle.ratio_lines.specs.Answers.{IsAnswer}
-use Rattle.ratio_lines.specs.Lines.{is_line_end, longest_line}
+use Rattle.ratio_lines.specs.{Answers.IsAnswer, Lines.is_line_end, Lines.longest_line}
 
 -- what is kept of a line: all of it, or `None` if it is longer than `longest_line`
 abbrev pub kept : List ℕ → Option (List ℕ)

@@ -1,5 +1,4 @@
--- The lines of an input: the whole ones, and the begun one. Proofs say more: the whole lines, each with its line end, and then the begun
--- line are the input (`proofs/LineLaws.antt`).
+-- The lines of an input: the whole ones and the begun one, which with the line ends are the input (`proofs/LineLaws.antt`).
 use Rattle.std.specs.Prelude.{ℕ, List, [], ◌∷◌, ◌++◌, Bool, ◌==◌}
 use Rattle.std.specs.List.{slice_split}
 

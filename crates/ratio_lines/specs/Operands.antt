@@ -16,8 +16,7 @@ least = negsuc (2 ^ 63 - 1)
 abbrev pub greatest : ℤ
 greatest = pos (2 ^ 63 - 1)
 
--- what a text gives as an operand: the two numbers of its fraction in lowest terms, or a refusal that applies (`AnswersText`, from `least`
--- to `greatest`)
+-- what a text gives as an operand: its fraction in lowest terms, or a refusal that applies (`AnswersText`, from `least` to `greatest`)
 -- Example: `6/4`: 3 and 2
 abbrev pub IsOperand : List ℕ → Result (ℤ × ℤ) RatioErrorKind → Type 0
 IsOperand text operand = AnswersText (λ x. x.0) (λ x. x.1) least greatest (IsFractionText least greatest text) operand

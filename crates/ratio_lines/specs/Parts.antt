@@ -5,8 +5,7 @@ use Rattle.std.specs.List.{list_all, list_any, slice_split}
 use Rattle.ratio_core.specs.Refusal.{refusal_text}
 use Rattle.ratio_core.specs.declared.parse_error.RatioErrorKind.{RatioErrorKind}
 use Rattle.ratio_lines.specs.Answers.{IsOutcome, Outcome, has_byte, is_cmp, is_space, operators_of}
-use Rattle.ratio_lines.specs.Lines.{front_of}
-use Rattle.ratio_lines.specs.Operands.{IsOperand}
+use Rattle.ratio_lines.specs.{Lines.front_of, Operands.IsOperand}
 use Rattle.ratio_lines.specs.declared.operator.Operator.{Operator}
 
 -- the parts that are left: none, or the parts of a text

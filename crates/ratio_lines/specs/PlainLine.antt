@@ -1,15 +1,9 @@
 -- The line that ends first in some bytes. A plain line is cut into its parts while its end is looked for.
 use Rattle.std.specs.Prelude.{◌≡◌, ℕ, ◌+◌, ◌-◌, ◌<◌, ◌≤◌, List, ◌∷◌, ◌++◌, length, take, drop, true, Option, None, Some}
-use Rattle.std.specs.Borrow.{Bor}
-use Rattle.std.specs.Char.{is_ascii_graphic}
-use Rattle.std.specs.List.{list_all}
+use Rattle.std.specs.{Borrow.Bor, Char.is_ascii_graphic, List.list_all}
 use Rattle.either.specs.declared.Either.{Either}
 use Rattle.num_rational.specs.declared.ratio.Ratio.{Ratio}
-use Rattle.ratio_lines.specs.AnswerText.{bytes_of}
-use Rattle.ratio_lines.specs.Answers.{has_byte}
-use Rattle.ratio_lines.specs.Cuts.{HasNone}
-use Rattle.ratio_lines.specs.KeptLine.{IsKeptAnswer, extended}
-use Rattle.ratio_lines.specs.Operands.{operator_of}
+use Rattle.ratio_lines.specs.{AnswerText.bytes_of, Answers.has_byte, Cuts.HasNone, KeptLine.IsKeptAnswer, KeptLine.extended, Operands.operator_of}
 use Rattle.ratio_lines.specs.declared.operator.Operator.{Operator}
 use Rattle.ratio_lines.specs.Lines.{longest_line}
 
@@ -46,8 +40,7 @@ pub record IsFirstAnswer (line : Option (List ℕ)) (bytes after answer : List �
   pub split : bytes ≡ ended ++ 10 ∷ after
   pub answers : IsKeptAnswer (extended line ended) answer
 
--- the result is the answer to the line that the first line end ends, and the bytes after it (`IsFirstAnswer`), or `None` where there is no
--- line end
+-- the result is the answer to the first line and the bytes after its end (`IsFirstAnswer`), or `None` where no line ends
 abbrev pub IsNextAnswer : {T : _} {i : _} {o : _} {e : _} {p : _} {h : _} → Option (List ℕ) → List ℕ → Option (Either (Bor (List ℕ)) (Ratio T i o e p h) × Bor (List ℕ)) → Type 0
 IsNextAnswer line bytes None = HasNone 10 bytes
 IsNextAnswer line bytes (Some next) = IsFirstAnswer line bytes next.1.now (bytes_of next.0)

@@ -1,12 +1,10 @@
 -- What one run of the calculator does.
 use Rattle.std.specs.Prelude.{◌≡◌, ℕ, ◌-◌, ◌^◌, ◌≤◌, List, ◌++◌, length, Option, Result, Ok, Err, MatchResult, codes}
 use Rattle.std.specs.Io.KnownBytes.{Consumes, Appends, IsAtEnd}
-use Rattle.ratio_lines.specs.Answers.{AreAnswersOf, AreWholeAnswers}
-use Rattle.ratio_lines.specs.Lines.{begun_line}
+use Rattle.ratio_lines.specs.{Answers.AreAnswersOf, Answers.AreWholeAnswers, Lines.begun_line}
 use Rattle.ratio_lines.specs.Devices.{Change, Device, Ended, Failed, Gave, Took, TookSome}
 use Rattle.ratio_lines.specs.KeptLine.{kept}
-use Rattle.ratio_lines.specs.declared.fault.CalcFault.{CalcFault}
-use Rattle.ratio_lines.specs.declared.fault.CalcFault.TheVariants.{Read, Write, Endless}
+use Rattle.ratio_lines.specs.declared.fault.CalcFault.{CalcFault, TheVariants.Read, TheVariants.Write, TheVariants.Endless}
 
 -- what the program prints at a fault
 -- Example: `ratio_calc: read failed`

@@ -1,7 +1,6 @@
 -- The bounds that flags say.
 use Rattle.std.specs.Prelude.{◌≡◌, ◌==◌, ◌/◌, ◌%◌, ◌<◌, ℕ, ℤ, Bool, true, false, ◌&&◌}
-use Rattle.std.specs.declared.ops.Bound.{Bound}
-use Rattle.std.specs.declared.ops.Bound.TheVariants.{Included, Excluded, Unbounded}
+use Rattle.std.specs.declared.ops.Bound.{Bound, TheVariants.Included, TheVariants.Excluded, TheVariants.Unbounded}
 use Rattle.ratio_approximation.specs.Bounds.{HasPositiveDenominator, numbers_in}
 use Rattle.ratio_c.specs.Codes.{code_high_included, code_high_open, code_low_included, code_low_open}
 

@@ -4,17 +4,14 @@ use Rattle.std.specs.List.{AllZip}
 use Rattle.std.specs.Float.{Float, binary64, float_zero}
 use Rattle.std.specs.Str.{IsUtf8}
 use Rattle.ratio_core.specs.Reading.{AnswersText, IsFractionText}
-use Rattle.ratio_core.specs.declared.parse_error.RatioErrorKind.{RatioErrorKind}
-use Rattle.ratio_core.specs.declared.parse_error.RatioErrorKind.TheVariants.{ParseError, ZeroDenominator}
+use Rattle.ratio_core.specs.declared.parse_error.RatioErrorKind.{RatioErrorKind, TheVariants.ParseError, TheVariants.ZeroDenominator}
 use Rattle.ratio_integer.specs.Arithmetic.{difference_of, product_of, quotient_of, remainder_of, sum_of}
 use Rattle.ratio_integer.specs.Fraction.{AnswersLowest, ChecksLowest, SameValue}
-use Rattle.ratio_core.specs.Conditions.{RemainderCondition}
-use Rattle.ratio_core.specs.ContinuedFraction.{IsCodesOf}
+use Rattle.ratio_core.specs.{Conditions.RemainderCondition, ContinuedFraction.IsCodesOf}
 use Rattle.ratio_decimal.specs.DecimalReading.{AnswersDecimal}
 use Rattle.ratio_float.specs.Floats.{fraction_of_float, nearest_float}
 use Rattle.ratio_approximation.specs.Nearest.{IsNearest}
-use Rattle.ratio_core.specs.Order.{cross_cmp}
-use Rattle.ratio_core.specs.Power.{ChecksBoth, ChecksPower}
+use Rattle.ratio_core.specs.{Order.cross_cmp, Power.ChecksBoth, Power.ChecksPower}
 use Rattle.ratio_float.specs.Rationalize.{ChecksRationalized}
 use Rattle.ratio_decimal.specs.RoundingRules.{ChecksRounded}
 use Rattle.ratio_approximation.specs.SimplestWithin.{ChecksSimplestWithin}
@@ -27,8 +24,7 @@ use Rattle.ratio_core.specs.Rounding.{IsCeiling, IsFloor, IsRounded, IsTruncatio
 use Rattle.ratio_c.specs.Crossing.{Said, Says, code_of_wide, mixed, order_number, refused, rule_of, said_of_decimal, said_of_typed}
 use Rattle.ratio_c.specs.Codes.{code_answered, code_bad_option, code_bound_not_positive, code_denominator_not_positive, code_division_by_zero, code_no_text, code_parse_error, code_zero_denominator, return_bad_length, return_done}
 
--- each answer is right for the item at its place, and the call returns 0. If the slices have unlike lengths, it returns 1 and writes
--- nothing
+-- each answer is right for the item at its place, and the call returns 0. If the lengths are unlike, it returns 1 and writes nothing
 abbrev pub AnswersEach : {A B : Type 0} → (A → B → Type 0) → List A → List B → List B → ℕ → Type 0
 AnswersEach Gives asked old new result =
     MatchBool (length asked == length old) ((result ≡ return_done) × AllZip Gives asked new) ((result ≡ return_bad_length) × (new ≡ old))
@@ -71,8 +67,7 @@ OfDivisor y answer Is = Tested (y.0 ≡ pos 0) (answer ≡ refused code_division
 abbrev pub IsQuotientAnswer : ℤ → ℤ → ℤ × ℤ → ℤ × ℤ → Said → Type 0
 IsQuotientAnswer lo hi x y answer = OfPositive x y answer (OfDivisor y answer (ChecksLowest (λ z. z.0) (λ z. z.1) lo hi (quotient_of x.0 x.1 y.0 y.1)))
 
--- `OfPositive` and `OfDivisor`: x % y in lowest terms, or the code 1 where these do not fit. If `exact` is false, the condition is
--- `RemainderHeld`
+-- `OfPositive` and `OfDivisor`: x % y in lowest terms, or the code 1 where these do not fit (if `exact` is false: without `RemainderHeld`)
 abbrev pub IsRemainderAnswer : Bool → ℤ → ℤ → ℤ × ℤ → ℤ × ℤ → Said → Type 0
 IsRemainderAnswer exact lo hi x y answer =
     OfPositive x y answer
@@ -155,8 +150,7 @@ pub record SaysNearest (x : ℤ × ℤ) (most : ℤ) (answer : Said) : Type 0 wh
   pub is_nearest : IsNearest x.0 x.1 most nearest.0 nearest.1
   pub is_said : answer ≡ (code_answered, nearest)
 
--- `OfOne`: the nearest fraction (`SaysNearest`), or the code 7, `code_bound_not_positive`, where the bound of its denominator is not
--- positive
+-- `OfOne`: the nearest fraction (`SaysNearest`), or the code 7, `code_bound_not_positive`, where the bound is not positive
 -- Example: 355/113 within 10: 22/7
 abbrev pub IsNearestAnswer : ℤ × ℤ → ℤ → Said → Type 0
 IsNearestAnswer x most answer = OfOne x answer (Tested (pos 0 <ℤ most) (SaysNearest x most answer) (answer ≡ refused code_bound_not_positive))
@@ -200,8 +194,7 @@ abbrev pub IsToFloatAnswer : ℤ × ℤ → ℕ → Float → Type 0
 IsToFloatAnswer x code value =
     Tested (pos 0 <ℤ x.1) ((code ≡ code_answered) × (value ≡ nearest_float binary64 x.0 x.1)) ((code ≡ code_denominator_not_positive) × (value ≡ float_zero))
 
--- `OfOne`: the multiple of 1/parts that a rule says, in lowest terms, or the code 1 where these do not fit. The code 9 is for parts below 1
--- or a rule above 5
+-- `OfOne`: the multiple of 1/parts by a rule, in lowest terms, or the code 1 where these do not fit. For parts below 1 or a rule above 5 it is 9
 -- Example: 2/3, 100 parts, rule 1: 67/100
 abbrev pub IsRoundToAnswer : ℤ → ℤ → ℤ × ℤ → ℤ → ℕ → Said → Type 0
 IsRoundToAnswer lo hi x parts rule answer =
@@ -224,8 +217,7 @@ IsPowerAnswer lo hi x exponent answer =
     (Tested ((x.0 ≡ pos 0) × (exponent <ℤ pos 0)) (answer ≡ refused code_division_by_zero)
     (Says (ChecksPower (λ z. z.0) (λ z. z.1) lo hi x.0 x.1 exponent) answer))
 
--- the hash of a fraction: starting from 0, it takes each code of the continued fraction (`IsCodesOf`) by `mixed`. All fractions of one
--- value have the same codes
+-- the hash of a fraction: from 0 on, it takes each code (`IsCodesOf`) by `mixed`. All fractions of one value have the same codes
 -- Example: 1/2 and 2/4 have the same
 pub record IsHashOf (lo hi : ℤ) (x : ℤ × ℤ) (hash : ℕ) : Type 0 where
   pub codes : List ℤ
@@ -277,8 +269,7 @@ pub record SaysTyped (lo hi : ℤ) (text : List ℕ) (answer : Said) : Type 0 wh
   pub is_read : AnswersTyped (λ z. z.0) (λ z. z.1) lo hi text read
   pub is_said : answer ≡ said_of_typed read
 
--- the text from `start` to `end` is read, if it lies in `texts`. Otherwise the code is 6, `code_no_text`. A text that is not UTF-8 has the
--- code 5, `code_parse_error`
+-- the text from `start` to `end` is read. The code is 6, `code_no_text`, if it is not in `texts`, and 5, `code_parse_error`, if it is not UTF-8
 abbrev pub IsReadAnswer : (List ℕ → Said → Type 0) → List ℕ → ℕ → ℕ → Said → Type 0
 IsReadAnswer SaysText texts start end answer =
     let text = slice_range texts start end in

@@ -1,5 +1,4 @@
--- The numbers that a C program sees in include/ratio.h, and the multiplier of the hash. An *answer* here is a struct of the header: a code
--- and, for most calls, a fraction's two numbers.
+-- The numbers that C sees in include/ratio.h, and the multiplier of the hash. An *answer* is a struct there: a code and, mostly, two numbers.
 use Rattle.std.specs.Prelude.{ℕ}
 
 -- what a call returns that wrote its answers: 0

@@ -1,14 +1,10 @@
 -- Fractions and answers as they cross from a caller and back.
 use Rattle.std.specs.Prelude.{◌≡◌, ◌+◌, ◌*◌, ◌%◌, ◌+ℤ◌, ◌*ℤ◌, ◌^◌, ◌==◌, if◌then◌else◌, unsigned_abs, ℕ, ℤ, pos, negsuc, Option, Some, None, Result, Ok, Err}
 use Rattle.std.specs.Int.{int_rem_euclid}
-use Rattle.std.specs.declared.cmp.Ordering.{Ordering}
-use Rattle.std.specs.declared.cmp.Ordering.TheVariants.{Less, Equal, Greater}
-use Rattle.ratio_core.specs.declared.parse_error.RatioErrorKind.{RatioErrorKind}
-use Rattle.ratio_core.specs.declared.parse_error.RatioErrorKind.TheVariants.{ParseError, ZeroDenominator}
-use Rattle.ratio_decimal.specs.declared.reading.DecimalRefusal.{DecimalRefusal}
-use Rattle.ratio_decimal.specs.declared.reading.DecimalRefusal.TheVariants.{NotDecimal, NotHeld}
-use Rattle.ratio_decimal.specs.declared.typed.TextRefusal.{TextRefusal}
-use Rattle.ratio_decimal.specs.declared.typed.TextRefusal.TheVariants.{NotNumber, ZeroDenominator, NotHeld}
+use Rattle.std.specs.declared.cmp.Ordering.{Ordering, TheVariants.Less, TheVariants.Equal, TheVariants.Greater}
+use Rattle.ratio_core.specs.declared.parse_error.RatioErrorKind.{RatioErrorKind, TheVariants.ParseError, TheVariants.ZeroDenominator}
+use Rattle.ratio_decimal.specs.declared.reading.DecimalRefusal.{DecimalRefusal, TheVariants.NotDecimal, TheVariants.NotHeld}
+use Rattle.ratio_decimal.specs.declared.typed.TextRefusal.{TextRefusal, TheVariants.NotNumber, TheVariants.ZeroDenominator, TheVariants.NotHeld}
 use Rattle.ratio_decimal.specs.declared.rounding_rule.Rounding.{Rounding}
 use Rattle.ratio_decimal.specs.declared.rounding_rule.Rounding.TheVariants.{HalfAway, HalfEven, Down, Up, Floor, Ceil}
 use Rattle.ratio_c.specs.declared.wide.Wide.{Wide}
@@ -56,8 +52,7 @@ residue z = unsigned_abs (int_rem_euclid z (pos (2 ^ 64)))
 abbrev pub mixed : ℕ → ℤ → ℕ
 mixed hash code = ((hash * hash_multiplier) % 2 ^ 64 + residue code) % 2 ^ 64
 
--- the code of a text that has no fraction over a narrower type, by what it reads as over 128 bits: 1 for a fraction, which does not fit; 5
--- for a parse error; 4 for a denominator of 0
+-- the code of a text with no fraction over a narrower type, by how it reads over 128 bits: 1 for a fraction, 5 for a parse error, 4 for n/0
 -- Example: `x`: 5
 abbrev pub code_of_wide : Result (ℤ × ℤ) RatioErrorKind → ℕ
 code_of_wide (Ok x) = code_not_held

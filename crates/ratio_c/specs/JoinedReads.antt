@@ -7,8 +7,7 @@ use Rattle.ratio_c.specs.declared.compare.Order.{Order}
 use Rattle.ratio_c.specs.declared.printing.Text.{Text}
 use Rattle.ratio_c.specs.Calls.{Tested}
 use Rattle.ratio_c.specs.Codes.{code_bad_option, code_division_by_zero, code_no_total}
-use Rattle.ratio_c.specs.Crossing.{Said, refused}
-use Rattle.ratio_c.specs.TotalFloats.{HasNoFloat, SaysFloat}
+use Rattle.ratio_c.specs.{Crossing.Said, Crossing.refused, TotalFloats.HasNoFloat, TotalFloats.SaysFloat}
 use Rattle.ratio_c.specs.TotalReads.{HasNoOrder, HasNoText, IsLongText, SaysLowest, SaysSign}
 
 -- the fraction in the room in lowest terms (`SaysLowest`), or the code 8 if the room holds none
@@ -17,8 +16,7 @@ abbrev pub IsSumOfJoined : ℕ → List ℕ → Said → Type 0
 IsSumOfJoined digits room answer =
     Tested (HasJoinedPair digits room) (SaysLowest (joined_pair digits room) answer) (answer ≡ refused code_no_total)
 
--- the fraction in the room divided by the count, in lowest terms (`SaysLowest`), or the code 8 if the room holds none. If the count is 0 or
--- less, it is the code 2
+-- the fraction in the room divided by the count, in lowest terms (`SaysLowest`), or the code 8 if it holds none. A count of 0 or less gives 2
 -- Example: 16, 0 and 252 in a room of 10 digits, with 1 digit and the count 2: 2/63
 abbrev pub IsMeanOfJoined : ℕ → ℤ → List ℕ → Said → Type 0
 IsMeanOfJoined digits count room answer =
@@ -38,8 +36,7 @@ abbrev pub IsFloatOfJoined : ℕ → List ℕ → ℕ → Float → Type 0
 IsFloatOfJoined digits room code value =
     Tested (HasJoinedPair digits room) (SaysFloat (joined_pair digits room) code value) (HasNoFloat code_no_total code value)
 
--- the fraction in the room as a decimal (`IsLongText`), or the code 8 if the room holds none, or has too few digits or bytes for the
--- decimal. A rule above 5 gives the code 9
+-- the fraction in the room as a decimal (`IsLongText`), or the code 8 if it holds none or has too little room. A rule above 5 gives the code 9
 -- Example: 16, 0 and 252 in a room of 16 digits, with 1 digit, four places and the rule 1: `0.0635`
 abbrev pub IsDecimalOfJoined : ℕ → ℕ → ℕ → List ℕ → ℕ → List ℕ → Text → Type 0
 IsDecimalOfJoined digits places rule room end texts answer =

@@ -4,8 +4,7 @@ use Rattle.ratio_totals.specs.Common.{HasLongCommon, common_digits, most_common,
 use Rattle.ratio_totals.specs.Steps.{HoldsJoined, LooksJoined}
 use Rattle.ratio_totals.specs.declared.joined.Joined.{Joined}
 use Rattle.ratio_totals.specs.declared.slots.Slot.{Slot}
-use Rattle.ratio_c.specs.declared.total_joining.JoinStop.{JoinStop}
-use Rattle.ratio_c.specs.declared.total_joining.JoinStop.TheVariants.{MoreRoom, NotJoined, TooLong}
+use Rattle.ratio_c.specs.declared.total_joining.JoinStop.{JoinStop, TheVariants.MoreRoom, TheVariants.NotJoined, TheVariants.TooLong}
 use Rattle.ratio_c.specs.declared.total_joining.Joined64.{Joined64}
 use Rattle.ratio_c.specs.Calls.{Tested}
 use Rattle.ratio_c.specs.Codes.{code_answered, code_more_room, code_no_total, code_too_long}

@@ -2,8 +2,7 @@
 use Rattle.std.specs.Prelude.{◌≡◌, ◌<ℤ◌, ◌≤ℤ◌, ◌*ℤ◌, ℕ, ℤ, pos, negsuc, neg_ℤ, to_bits, unsigned_abs}
 use Rattle.std.specs.Float.{binary64, ◌<ᶠ◌}
 use Rattle.ratio_float.specs.Floats.{nearest_float}
-use Rattle.ratio_c.specs.Calls.{Tested}
-use Rattle.ratio_c.specs.Codes.{code_answered, code_denominator_not_positive}
+use Rattle.ratio_c.specs.{Calls.Tested, Codes.code_answered, Codes.code_denominator_not_positive}
 
 -- the bits of the float of 64 bits nearest to n/d
 -- Example: 1/1, which is 1.0: 1023·2^52

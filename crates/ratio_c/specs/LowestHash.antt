@@ -1,11 +1,9 @@
 -- The hash of a fraction in lowest terms, from its two numbers.
 use Rattle.std.specs.Prelude.{◌≡◌, ◌+◌, ◌*◌, ◌/◌, ◌%◌, ◌^◌, ◌<ℤ◌, ℕ, ℤ, pos}
-use Rattle.ratio_integer.specs.Fraction.{IsLowestTerms, SameValue}
-use Rattle.ratio_integer.specs.Range.{IsHeld}
+use Rattle.ratio_integer.specs.{Fraction.IsLowestTerms, Fraction.SameValue, Range.IsHeld}
 use Rattle.ratio_c.specs.Calls.{Tested}
 use Rattle.ratio_c.specs.Codes.{code_answered, code_denominator_not_positive, hash_multiplier}
-use Rattle.ratio_c.specs.Crossing.{residue}
-use Rattle.ratio_c.specs.Numbers64.{greatest64, least64}
+use Rattle.ratio_c.specs.{Crossing.residue, Numbers64.greatest64, Numbers64.least64}
 
 -- the upper and the lower 32 bits of a number of 64 bits, exchanged
 -- Example: 1: 2^32

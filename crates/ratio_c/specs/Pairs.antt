@@ -1,10 +1,8 @@
 -- What the calls on pairs answer that are not sums, products or quotients: divisors, multiples and rounded products.
 use Rattle.std.specs.Prelude.{◌≡◌, ◌<◌, ◌<ℤ◌, ℕ, ℤ, pos, Option, None, Some}
-use Rattle.ratio_integer.specs.Arithmetic.{product_of, quotient_of}
-use Rattle.ratio_integer.specs.Range.{IsHeld}
+use Rattle.ratio_integer.specs.{Arithmetic.product_of, Arithmetic.quotient_of, Range.IsHeld}
 use Rattle.ratio_core.specs.Divisors.{ChecksPair, IsGcdOfFractions, IsLcmOfFractions}
-use Rattle.ratio_decimal.specs.Products.{ChecksRoundedQuotientTo}
-use Rattle.ratio_decimal.specs.RoundingRules.{ChecksRounded, IsRoundedBy}
+use Rattle.ratio_decimal.specs.{Products.ChecksRoundedQuotientTo, RoundingRules.ChecksRounded, RoundingRules.IsRoundedBy}
 use Rattle.ratio_decimal.specs.declared.rounding_rule.Rounding.{Rounding}
 use Rattle.ratio_c.specs.Calls.{OfDivisor, OfPositive, Tested}
 use Rattle.ratio_c.specs.Codes.{code_answered, code_bad_option, code_not_held}
@@ -45,8 +43,7 @@ IsProductToAnswer lo hi x y parts rule answer =
     (OfOptions parts rule answer
     (Says (ChecksRounded (λ z. z.0) (λ z. z.1) lo hi (rule_of rule) parts (product_of x.0 x.1 y.0 y.1).0 (product_of x.0 x.1 y.0 y.1).1) answer))
 
--- `OfPositive`, `OfOptions` and `OfDivisor`: x / y rounded by a rule to a multiple of 1/parts, in lowest terms, or the code 1 where these
--- do not fit
+-- `OfPositive`, `OfOptions`, `OfDivisor`: x / y rounded by a rule to a multiple of 1/parts, in lowest terms, or the code 1 if these do not fit
 -- Example: 1999/100 by 2/5 to 100, rule 1: 2499/50
 abbrev pub IsQuotientToAnswer : ℤ → ℤ → ℤ × ℤ → ℤ × ℤ → ℤ → ℕ → Said → Type 0
 IsQuotientToAnswer lo hi x y parts rule answer =

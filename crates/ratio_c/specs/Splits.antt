@@ -41,8 +41,7 @@ pub record IsSplitRefused {Why : Type 0} (code_of : Why → ℕ) (Refuses : Why 
   pub code_is : result ≡ code_of why
   pub kept : new ≡ old
 
--- the amount is split by the shares, where `CanBeSplit` holds. Elsewhere the code says why not, and no part has changed. The code is 3 where a
--- denominator is not positive
+-- the amount is split by the shares, where `CanBeSplit`. Else no part has changed, and the code says why: 3 where a denominator is not positive
 -- Example: 100 by 1/3, 1/3 and 1/3: code 0, and 33, 34 and 33; by 1/3 and 1/3: code 13
 abbrev pub SplitsByShares : ℤ → List Fraction64 → List ℤ → List ℤ → ℕ → Type 0
 SplitsByShares amount shares old new result =

@@ -1,7 +1,6 @@
 -- What the calls that print write.
 use Rattle.std.specs.Prelude.{◌≡◌, ◌+◌, ◌*◌, ◌<◌, ◌≤◌, ◌<ℤ◌, ℕ, ℤ, pos, List, [], ◌++◌, length, take, drop, get_or, max, slice_index_or, false}
-use Rattle.std.specs.Fmt.{signed_decimal}
-use Rattle.std.specs.List.{concat}
+use Rattle.std.specs.{Fmt.signed_decimal, List.concat}
 use Rattle.ratio_decimal.specs.Decimal.{IsDecimalOf}
 use Rattle.ratio_core.specs.declared.text.Form.TheVariants.{Decimal}
 use Rattle.ratio_core.specs.Printing.{text_of}
@@ -16,8 +15,7 @@ abbrev pub ShowsFields : ℕ → ℤ × ℤ → ℕ → List ℕ → Type 0
 ShowsFields bits x code text =
     Tested (x.1 ≡ pos 0) ((code ≡ code_zero_denominator) × (text ≡ [])) ((code ≡ code_answered) × (text ≡ text_of bits Decimal false x.0 x.1))
 
--- the code and the text of a fraction as a decimal. The code is 3 where the denominator is not positive, and 9 for more than 38 places or a
--- rule above 5
+-- the code and the text of a fraction as a decimal. A denominator not positive has the code 3, and more than 38 places or a rule above 5 have 9
 -- Example: 2/3 with two places by the rule 1: `0.67`
 abbrev pub ShowsDecimal : ℤ × ℤ → ℕ → ℕ → ℕ → List ℕ → Type 0
 ShowsDecimal x places rule code text =
@@ -45,8 +43,7 @@ pub record ArePrinted {A : Type 0} (Shows : A → ℕ → List ℕ → Type 0) (
   pub each : (k : ℕ) → k < length asked → (x : A) (answer : Text)
       → IsTextAnswer (Shows (slice_index_or asked k x)) (length (concat (take k texts))) (get_or texts k []) (slice_index_or answers k answer)
 
--- if there is one answer for each item, and `room` bytes for each, the texts are printed (`ArePrinted`) and the call returns 0. Otherwise
--- it returns 1 and writes nothing
+-- with an answer and `room` bytes for each item, the call prints the texts (`ArePrinted`) and returns 0. Else it returns 1 and writes nothing
 abbrev pub Prints : {A : Type 0} → (A → ℕ → List ℕ → Type 0) → ℕ → List A → List ℕ → List ℕ → List Text → List Text → ℕ → Type 0
 Prints Shows room asked old new places answers result =
     Tested ((length asked ≡ length places) × (length asked * room ≤ length old)) ((result ≡ return_done) × ArePrinted Shows asked old new answers)

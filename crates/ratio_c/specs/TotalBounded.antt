@@ -1,15 +1,12 @@
 -- What the bounds of a total's sum say: its decimal, where they decide.
 use Rattle.std.specs.Prelude.{◌+◌, ◌/◌, ◌^◌, ◌<◌, ◌⊎◌, ℕ, List}
 use Rattle.ratio_natural.specs.Number.{base}
-use Rattle.ratio_totals.specs.Bounds.{RoundsApart}
-use Rattle.ratio_totals.specs.DecimalRoom.{HasBoundedRoom}
-use Rattle.ratio_totals.specs.Sums.{sum_of_slots}
+use Rattle.ratio_totals.specs.{Bounds.RoundsApart, DecimalRoom.HasBoundedRoom, Sums.sum_of_slots}
 use Rattle.ratio_totals.specs.declared.slots.Slot.{Slot}
 use Rattle.ratio_c.specs.declared.printing.Text.{Text}
 use Rattle.ratio_c.specs.Calls.{Tested}
 use Rattle.ratio_c.specs.Codes.{code_bad_option, code_more_room, code_not_held}
-use Rattle.ratio_c.specs.Crossing.{rule_of}
-use Rattle.ratio_c.specs.TotalReads.{HasNoText, IsLongText}
+use Rattle.ratio_c.specs.{Crossing.rule_of, TotalReads.HasNoText, TotalReads.IsLongText}
 
 -- the bounds of the sum do not decide: the rule rounds them to different numbers, and the code is 1
 -- Example: 1/3, 1/6 without places by the rule 1: code 1

@@ -2,12 +2,10 @@
 use Rattle.std.specs.Prelude.{◌≡◌, ◌≤◌, ◌⊎◌, ℕ, ℤ, pos, List}
 use Rattle.std.specs.Float.{Float, binary64, float_zero}
 use Rattle.ratio_float.specs.Floats.{nearest_float}
-use Rattle.ratio_totals.specs.Common.{IsReadRefusedFor, read_digits}
-use Rattle.ratio_totals.specs.Sums.{sum_of_slots}
+use Rattle.ratio_totals.specs.{Common.IsReadRefusedFor, Common.read_digits, Sums.sum_of_slots}
 use Rattle.ratio_totals.specs.declared.reading.ReadRefusal.{ReadRefusal}
 use Rattle.ratio_totals.specs.declared.slots.Slot.{Slot}
-use Rattle.ratio_c.specs.Codes.{code_answered}
-use Rattle.ratio_c.specs.TotalReads.{code_of_read}
+use Rattle.ratio_c.specs.{Codes.code_answered, TotalReads.code_of_read}
 
 -- the float of 64 bits nearest to a fraction; of two as near, the one whose last bit is 0
 -- Example: 64/1008: 0.06349206349206349

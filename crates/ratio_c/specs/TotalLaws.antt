@@ -1,20 +1,14 @@
 -- The laws of totals.
 use Rattle.std.specs.Prelude.{◌≡◌, ◌≢◌, ◌+◌, ◌++◌, ◌<ℤ◌, ◌+ℤ◌, ℕ, ℤ, pos, List, [], ◌∷◌, length, Option, Some, None, IsPermutation}
-use Rattle.ratio_totals.specs.Merging.{AddsEach}
-use Rattle.ratio_totals.specs.LowestSum.{mean_of_slots}
-use Rattle.ratio_totals.specs.SumOrder.{sign_of_slots}
+use Rattle.ratio_totals.specs.{Merging.AddsEach, LowestSum.mean_of_slots, SumOrder.sign_of_slots}
 use Rattle.ratio_totals.specs.Sums.{numerator_at, numerator_over, sum_of_slots}
-use Rattle.ratio_totals.specs.TotalLaws.{SameNumerators}
-use Rattle.ratio_totals.specs.Totals.{HasNoFraction}
+use Rattle.ratio_totals.specs.{TotalLaws.SameNumerators, Totals.HasNoFraction}
 use Rattle.ratio_totals.specs.declared.slots.Slot.{Slot}
 use Rattle.ratio_c.specs.declared.numbers64.Fraction64.{Fraction64}
 use Rattle.ratio_c.specs.declared.totals.Piece.{Piece}
 use Rattle.ratio_c.specs.declared.totals.Total64.{Total64}
-use Rattle.ratio_c.specs.declared.totals.Way.{Way}
-use Rattle.ratio_c.specs.declared.totals.Way.TheVariants.{In, Out}
-use Rattle.ratio_c.specs.Codes.{code_answered}
-use Rattle.ratio_c.specs.Crossing.{Said}
-use Rattle.ratio_c.specs.TotalReads.{SaysLowest}
+use Rattle.ratio_c.specs.declared.totals.Way.{Way, TheVariants.In, TheVariants.Out}
+use Rattle.ratio_c.specs.{Codes.code_answered, Crossing.Said, TotalReads.SaysLowest}
 use Rattle.ratio_c.specs.Totals.{AllGo, GoUntil, Held, piece_of_fraction, piece_of_slot, directed}
 
 -- what an item brings over the denominator e: its numerator if it is over e; elsewhere 0

@@ -1,15 +1,12 @@
 -- The sum of a total's slots, rounded to a multiple of 1/parts.
 use Rattle.std.specs.Prelude.{◌≡◌, ◌⊎◌, ◌<◌, ◌≤◌, ◌<ℤ◌, ℕ, ℤ, pos, List}
 use Rattle.ratio_decimal.specs.RoundingRules.{ChecksRounded}
-use Rattle.ratio_totals.specs.Multiples.{IsMultipleRefusedFor, multiple_digits}
-use Rattle.ratio_totals.specs.Sums.{sum_of_slots}
+use Rattle.ratio_totals.specs.{Multiples.IsMultipleRefusedFor, Multiples.multiple_digits, Sums.sum_of_slots}
 use Rattle.ratio_totals.specs.declared.reading.ReadRefusal.{ReadRefusal}
 use Rattle.ratio_totals.specs.declared.slots.Slot.{Slot}
-use Rattle.ratio_c.specs.Calls.{Tested}
-use Rattle.ratio_c.specs.Codes.{code_bad_option}
+use Rattle.ratio_c.specs.{Calls.Tested, Codes.code_bad_option}
 use Rattle.ratio_c.specs.Crossing.{Said, Says, refused, rule_of}
-use Rattle.ratio_c.specs.Numbers64.{greatest64, least64}
-use Rattle.ratio_c.specs.TotalReads.{code_of_read}
+use Rattle.ratio_c.specs.{Numbers64.greatest64, Numbers64.least64, TotalReads.code_of_read}
 
 -- the multiple of 1/parts that a rule says of the sum, in lowest terms over 64 bits, or the code 1 where these do not fit
 -- Example: 64/1008, 100 parts, rule 1: 3/50
@@ -23,8 +20,7 @@ pub record IsRefusedMultiple (slots : List Slot) (room : ℕ) (answer : Said) : 
   pub reason : IsMultipleRefusedFor slots room why
   pub says : answer ≡ refused (code_of_read why)
 
--- the sum of the slots rounded to a multiple of 1/parts (`SaysMultiple`), or a refusal (`IsRefusedMultiple`). The code 9 is for parts below 1
--- or a rule above 5
+-- the sum rounded to a multiple of 1/parts (`SaysMultiple`), or a refusal (`IsRefusedMultiple`). Parts below 1 or a rule above 5 give the code 9
 -- Example: 1/36, 1/28, 100 parts, rule 1 with 20 digits of room: 3/50
 abbrev pub IsMultipleOfTotal : List Slot → ℤ → ℕ → ℕ → Said → Type 0
 IsMultipleOfTotal slots parts rule room answer =

@@ -1,9 +1,7 @@
 -- The order of two totals: of the sums of their slots.
 use Rattle.std.specs.Prelude.{◌≡◌, ◌⊎◌, ℕ, pos, List, length}
 use Rattle.std.specs.List.{AllZip}
-use Rattle.ratio_totals.specs.AnyOrder.{CanOrder, IsOrderRefusedFor}
-use Rattle.ratio_totals.specs.SumOrder.{pair_cmp}
-use Rattle.ratio_totals.specs.Sums.{sum_of_slots}
+use Rattle.ratio_totals.specs.{AnyOrder.CanOrder, AnyOrder.IsOrderRefusedFor, SumOrder.pair_cmp, Sums.sum_of_slots}
 use Rattle.ratio_totals.specs.declared.orders.OrderRefusal.{OrderRefusal}
 use Rattle.ratio_totals.specs.declared.orders.OrderRefusal.TheVariants.{MoreRoom, MoreSlots, TooGreat, TooLong}
 use Rattle.ratio_totals.specs.declared.slots.Slot.{Slot}

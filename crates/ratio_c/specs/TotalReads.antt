@@ -1,16 +1,12 @@
 -- What a total's slots say: their sum, their mean, their sign and their decimal.
 use Rattle.std.specs.Prelude.{◌≡◌, ◌≤◌, ◌<◌, ◌⊎◌, ◌<ℤ◌, ℕ, ℤ, pos, List, length, drop, Option, Some, None}
-use Rattle.std.specs.List.{AllZip}
-use Rattle.std.specs.Ordering.{int_cmp}
+use Rattle.std.specs.{List.AllZip, Ordering.int_cmp}
 use Rattle.ratio_core.specs.Power.{ChecksBoth}
 use Rattle.ratio_integer.specs.Fraction.{ChecksLowest}
 use Rattle.ratio_long.specs.Decimals.{IsLongDecimalOf}
-use Rattle.ratio_totals.specs.Common.{IsReadRefusedFor, read_digits}
-use Rattle.ratio_totals.specs.DecimalRoom.{HasDecimalRoom, IsDecimalRefusedFor}
-use Rattle.ratio_totals.specs.LowestSum.{mean_of_slots}
-use Rattle.ratio_totals.specs.Sums.{sum_of_slots}
-use Rattle.ratio_totals.specs.declared.reading.ReadRefusal.{ReadRefusal}
-use Rattle.ratio_totals.specs.declared.reading.ReadRefusal.TheVariants.{MoreRoom, TooLong}
+use Rattle.ratio_totals.specs.{Common.IsReadRefusedFor, Common.read_digits, DecimalRoom.HasDecimalRoom, DecimalRoom.IsDecimalRefusedFor}
+use Rattle.ratio_totals.specs.{LowestSum.mean_of_slots, Sums.sum_of_slots}
+use Rattle.ratio_totals.specs.declared.reading.ReadRefusal.{ReadRefusal, TheVariants.MoreRoom, TheVariants.TooLong}
 use Rattle.ratio_totals.specs.declared.slots.Slot.{Slot}
 use Rattle.ratio_c.specs.declared.compare.Order.{Order}
 use Rattle.ratio_c.specs.declared.printing.Text.{Text}
@@ -47,8 +43,7 @@ SaysLowest x answer = Says (ChecksLowest (λ z. z.0) (λ z. z.1) least64 greates
 abbrev pub IsSumOfTotal : List Slot → ℕ → Said → Type 0
 IsSumOfTotal slots room answer = IsRead slots room (SaysLowest (sum_of_slots slots)) answer
 
--- the sum of the slots divided by the count, in lowest terms (`SaysLowest`), or a refusal (`IsRead`). If the count is 0 or less, it is the
--- code 2
+-- the sum of the slots divided by the count, in lowest terms (`SaysLowest`), or a refusal (`IsRead`). A count of 0 or less gives the code 2
 -- Example: 1/36, 1/28 with the count 2: 2/63
 abbrev pub IsMeanOfTotal : List Slot → ℤ → ℕ → Said → Type 0
 IsMeanOfTotal slots count room answer =
@@ -113,8 +108,7 @@ IsDecimalOfTotal slots places rule room end texts answer =
     ((HasDecimalRoom slots places room end × IsLongText (sum_of_slots slots) places rule end texts answer) ⊎ IsRefusedText slots places room end answer)
     (HasNoText code_bad_option end answer)
 
--- the call writes the one answer that it is given room for, as `Writes` says of the answer before and after. If it is not given just one, it
--- returns 1 and writes nothing
+-- the call writes one answer, as `Writes` says of it before and after. If it is not given room for just one, it returns 1 and writes nothing
 -- Example: two answers: 1
 abbrev pub WritesOne : {B R : Type 0} → (B → B → Type 0) → List R → List R → List B → List B → ℕ → Type 0
 WritesOne Writes room new_room old new result =

@@ -3,8 +3,7 @@
 use Rattle.std.specs.Prelude.{suc, ◌≡◌, ◌≢◌, ◌<◌, ◌⊎◌, ◌+ℤ◌, ℕ, zero, ℤ, pos, negsuc, neg_ℤ, List, length, take, slice_index_or, Option, Some, None}
 use Rattle.std.specs.List.{AllZip, FoldsTo}
 use Rattle.ratio_integer.specs.Range.{IsHeld}
-use Rattle.ratio_totals.specs.Loose.{HasDirtyPlace, HasFullPlace}
-use Rattle.ratio_totals.specs.Slots.{HasNoPlaceFor}
+use Rattle.ratio_totals.specs.{Loose.HasDirtyPlace, Loose.HasFullPlace, Slots.HasNoPlaceFor}
 use Rattle.ratio_totals.specs.Sums.{GrowsAt, Has128Bits, Puts, SumGrows}
 use Rattle.ratio_totals.specs.declared.slots.Slot.{Slot}
 use Rattle.ratio_c.specs.declared.numbers64.Fraction64.{Fraction64}
@@ -12,8 +11,7 @@ use Rattle.ratio_c.specs.declared.totals.Piece.{Piece}
 use Rattle.ratio_c.specs.declared.totals.Stop.{Stop}
 use Rattle.ratio_c.specs.declared.totals.Stop.TheVariants.{NotPositive, MoreRoom, NotEmpty, NotHeld}
 use Rattle.ratio_c.specs.declared.totals.Total64.{Total64}
-use Rattle.ratio_c.specs.declared.totals.Way.{Way}
-use Rattle.ratio_c.specs.declared.totals.Way.TheVariants.{In, Out}
+use Rattle.ratio_c.specs.declared.totals.Way.{Way, TheVariants.In, TheVariants.Out}
 use Rattle.ratio_c.specs.Calls.{Tested}
 use Rattle.ratio_c.specs.Codes.{code_answered, code_denominator_not_positive, code_more_room, code_no_total, code_not_held, return_bad_length, return_done}
 use Rattle.ratio_c.specs.Numbers64.{greatest64, least64}
@@ -72,8 +70,7 @@ LeavesType way piece held =
     (¬ (Has128Bits (directed way piece.numer)))
     ⊎ ((¬ (IsHeld least64 greatest64 (held.1 +ℤ directed way piece.count))) ⊎ HasFullPlace held.0 piece.denom (directed way piece.numer))
 
--- why a piece does not go in or out: all slots are taken by other denominators, the empty slot where it goes has a numerator that is not 0,
--- or a number leaves its type
+-- why a piece does not go in or out: other denominators take all slots, the empty slot for it has a numerator not 0, or a number leaves its type
 -- Example: 1/12 into 1/36, 1/28 without an empty slot: `MoreRoom`
 abbrev pub IsPieceStoppedFor : Way → Piece → Held → Stop → Type 0
 IsPieceStoppedFor way piece held NotPositive = ⊥

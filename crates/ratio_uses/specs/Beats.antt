@@ -1,7 +1,6 @@
 -- Voices of a polyrhythm and their beats. A time and a period are pairs of whole numbers here.
 use Rattle.std.specs.Prelude.{◌≡◌, ◌⊎◌, ◌-◌, ◌^◌, ◌<◌, ◌≤ℤ◌, ◌<ℤ◌, ◌+ℤ◌, ◌*ℤ◌, ℕ, ℤ, pos, negsuc, All, Any, Bool, List, length, slice_index_or, true, false, Option, Some, None}
-use Rattle.ratio_integer.specs.Fraction.{SameValue}
-use Rattle.ratio_integer.specs.Range.{IsHeld}
+use Rattle.ratio_integer.specs.{Fraction.SameValue, Range.IsHeld}
 use Rattle.num_rational.specs.declared.reduced.Reduced.{Reduced}
 use Rattle.ratio_uses.specs.Held.{FitsIn64, HasValue, lowest_numbers}
 use Rattle.ratio_uses.specs.declared.beats.Voice.{Voice}
@@ -108,8 +107,7 @@ pub record IsMeeting (voices : List Voice) (time : ℤ × ℤ) : Type 0 where
   pub all : All (λ voice. HasBeatAt time (period_of voice)) voices
   pub first : (other : ℤ × ℤ) → pos 0 <ℤ other.0 → pos 0 <ℤ other.1 → All (λ voice. HasBeatAt other (period_of voice)) voices → IsUpTo time other
 
--- the result is the first time above 0 at which all voices have a beat (`IsMeeting`). It is `None` exactly if there is no such time that
--- fits in 64 bits
+-- the result is the first time above 0 at which all voices have a beat (`IsMeeting`), and `None` exactly if none such fits in 64 bits
 abbrev pub ChecksMeeting : {T : _} {i : _} {o : _} {e : _} {p : _} {h : _} → List Voice → Option (Reduced T i o e p h) → Type 0
 ChecksMeeting voices None = (time : ℤ × ℤ) → pos 0 <ℤ time.1 → IsMeeting voices time → ¬ (FitsIn64 time)
 ChecksMeeting voices (Some time) = IsMeeting voices (lowest_numbers time)

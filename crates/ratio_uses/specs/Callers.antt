@@ -3,8 +3,7 @@ use Rattle.std.specs.Prelude.{ℕ, ℤ, pos, List, Option, None, Some, Result, O
 use Rattle.ratio_integer.specs.Arithmetic.{quotient_of, sum_of}
 use Rattle.ratio_core.specs.declared.parse_error.RatioErrorKind.{RatioErrorKind}
 use Rattle.num_rational.specs.declared.reduced.Reduced.{Reduced}
-use Rattle.num_rational.specs.Operators.{ChecksQuotient, whole}
-use Rattle.num_rational.specs.Reduced.{ReadsReduced, ratio_in}
+use Rattle.num_rational.specs.{Operators.ChecksQuotient, Operators.whole, Reduced.ReadsReduced, Reduced.ratio_in}
 use Rattle.ratio_uses.specs.Held.{FitsIn64, HasValue, lowest_numbers}
 
 -- the result is the fraction of the text divided by 3, or `None` if that does not fit. For a text that is refused it is the refusal

@@ -6,8 +6,7 @@ use Rattle.ratio_integer.specs.Range.{IsHeld}
 use Rattle.num_rational.specs.declared.reduced.Reduced.{Reduced}
 use Rattle.num_rational.specs.Split.{AreSharesFor, IsRoundedShare, IsSplitBy, RefusesShares, total_of_shares}
 use Rattle.ratio_uses.specs.Held.{FitsIn64, lowest_numbers}
-use Rattle.ratio_uses.specs.declared.ledger.cents.Refusal.{Refusal}
-use Rattle.ratio_uses.specs.declared.ledger.cents.Refusal.TheVariants.{NotMultiple, Shares}
+use Rattle.ratio_uses.specs.declared.ledger.cents.Refusal.{Refusal, TheVariants.NotMultiple, TheVariants.Shares}
 
 -- x has the value of count/units
 -- Example: 5/4 is 125 cents; 10/1: 1000
@@ -38,8 +37,7 @@ PartsFit view units count shares =
 abbrev pub CanSplitTo : {A : Type 0} → (A → ℤ × ℤ) → ℤ → ℤ × ℤ → List A → ℕ → Type 0
 CanSplitTo view units amount shares parts = (count : ℤ) × IsCount units amount count × AreSharesFor view (PartsFit view units count shares) shares parts
 
--- the amount is no multiple of 1/units, or it is one, and the refusal names the first condition of the shares that does not hold
--- (`RefusesShares`)
+-- the amount is no multiple of 1/units, or it is one, and the refusal names the first condition of the shares that fails (`RefusesShares`)
 -- Example: 1/3 in cents: `NotMultiple`
 abbrev pub RefusesSplitTo : {A : Type 0} → (A → ℤ × ℤ) → ℤ → ℤ × ℤ → List A → ℕ → Refusal → Type 0
 RefusesSplitTo view units amount shares parts NotMultiple = ¬ ((count : ℤ) × IsCount units amount count)

@@ -1,8 +1,7 @@
 -- Two wheels whose ratio of teeth is near a wanted one. The ratio is a pair of whole numbers here.
 use Rattle.std.specs.Prelude.{◌⊎◌, ◌+◌, ◌*◌, ◌<◌, ◌≤◌, ◌≤ℤ◌, ◌<ℤ◌, ◌≡◌, ℕ, ℤ, pos, Option, Some, None}
 use Rattle.ratio_approximation.specs.Nearest.{ComesFirst, gap}
-use Rattle.num_rational.specs.Operators.{ChecksExactDifference}
-use Rattle.num_rational.specs.Reduced.{ratio_in}
+use Rattle.num_rational.specs.{Operators.ChecksExactDifference, Reduced.ratio_in}
 use Rattle.ratio_uses.specs.declared.gears.Gears.{Gears}
 
 -- a wheel has from `least` to `most` teeth
@@ -52,8 +51,7 @@ pub record IsQuotient (x d whole rest : ℕ) : Type 0 where
   pub same : x ≡ whole * d + rest
   pub less : rest < d
 
--- Inner: this first wheel is best with each second one for which the best first wheel, the wanted ratio times the second, has this whole
--- quotient and this rest over d
+-- Inner: this first wheel is best with each second one for which the wanted ratio times the second has this whole quotient and this rest over d
 -- Example: 3 and 2 over 4, as from 14/4 with 1 and from 7/4 with 2: 3
 abbrev pub IsBestFor : ℕ → ℕ → ℕ → ℕ → ℕ → ℕ → Type 0
 IsBestFor d whole rest least most first = (n s : ℕ) → 0 < s → IsQuotient (n * s) d whole rest → IsBestFirst (pos n, pos d) least most first s

@@ -1,8 +1,7 @@
 -- Fractions in 64 bits. A fraction is a pair of whole numbers here.
 use Rattle.std.specs.Prelude.{◌-◌, ◌^◌, ℤ, pos, negsuc}
 use Rattle.ratio_integer.specs.Fraction.{Fits, IsLowestTermsOf}
-use Rattle.num_rational.specs.Operators.{numbers}
-use Rattle.num_rational.specs.Reduced.{ratio_of}
+use Rattle.num_rational.specs.{Operators.numbers, Reduced.ratio_of}
 use Rattle.num_rational.specs.declared.reduced.Reduced.{Reduced}
 
 -- the two numbers of a fraction in lowest terms (a `Reduced`)

@@ -1,7 +1,6 @@
 -- Two pairs of wheels, one after the other, whose ratio is near a wanted one. The ratio is a pair of whole numbers here.
 use Rattle.std.specs.Prelude.{◌⊎◌, ◌*◌, ◌<◌, ◌≤◌, ◌≤ℤ◌, ◌<ℤ◌, ◌≡◌, ℕ, ℤ, pos, Bool, true, false, Option, Some, None}
-use Rattle.num_rational.specs.Operators.{ChecksExactDifference}
-use Rattle.num_rational.specs.Reduced.{ratio_in}
+use Rattle.num_rational.specs.{Operators.ChecksExactDifference, Reduced.ratio_in}
 use Rattle.ratio_uses.specs.Gears.{IsWheel, PairComesFirst}
 use Rattle.ratio_uses.specs.declared.trains.Pair.{Pair}
 use Rattle.ratio_uses.specs.declared.trains.Train.{Train}
@@ -22,8 +21,7 @@ driver_teeth first second = first.driver * second.driver
 abbrev pub driven_teeth : Pair → Pair → ℕ
 driven_teeth first second = first.driven * second.driven
 
--- the train of the first two pairs comes before the train of the last two by its distance from the wanted ratio, or both have the same products
--- of teeth (`PairComesFirst`)
+-- the first two pairs' train comes before the last two's by its distance from the wanted ratio, or has the same products (`PairComesFirst`)
 -- Example: from 355/113: 19/11 times 20/11 before 11/7 times 14/7
 abbrev pub TrainComesFirst : ℤ × ℤ → Pair → Pair → Pair → Pair → Type 0
 TrainComesFirst wanted first second x y = PairComesFirst wanted (driver_teeth first second) (driven_teeth first second) (driver_teeth x y) (driven_teeth x y)
@@ -92,8 +90,7 @@ pub record IsLeastAbove (least most bound product : ℕ) : Type 0 where
   pub above : bound < product
   pub least_of_all : (x : ℕ) → IsProductOfTwo least most x → bound < x → product ≤ x
 
--- Inner: a product of the drivers' teeth and one of the driven wheels' teeth. Of all such products they come first by their distance from the
--- wanted ratio
+-- Inner: a product of the drivers' teeth and one of the driven wheels', which come first of all such by their distance from the wanted ratio
 pub record AreNearestProducts (wanted : ℤ × ℤ) (least most drivers driven : ℕ) : Type 0 where
   pub drivers_two : IsProductOfTwo least most drivers
   pub driven_two : IsProductOfTwo least most driven

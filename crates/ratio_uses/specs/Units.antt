@@ -43,8 +43,7 @@ pub record DoublingFails (x : ℤ × ℤ) : Type 0 where
   pub below_one : (x.0 *ℤ pos (2 ^ doublings)) <ℤ x.1
   pub out : ¬ (FitsIn64 (x.0 *ℤ pos (2 ^ (doublings + 1)), x.1))
 
--- the result is the interval in the octave from 1 to 2. It is `None` only if the interval is not above 0 or a doubling fails
--- (`DoublingFails`)
+-- the result is the interval in the octave from 1 to 2, and `None` only if it is not above 0 or a doubling fails (`DoublingFails`)
 -- Example: 3/1: `Some(3/2)`
 abbrev pub ChecksOctave : {T : _} {i : _} {o : _} {e : _} {p : _} {h : _} → ℤ × ℤ → Option (Reduced T i o e p h) → Type 0
 ChecksOctave x None = (x.0 ≤ℤ pos 0) ⊎ DoublingFails x

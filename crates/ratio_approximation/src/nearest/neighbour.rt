@@ -1,5 +1,5 @@
-//! A `Neighbour`: in the search for the nearest fraction, one close to it, and the steps that bring two of them
-//! nearer.
+//! A `Neighbour`: in the search for the nearest fraction, one close to it, the steps that bring two of them nearer, and which of two comes
+//! first.
 ghost use Rattle.std.specs.Prelude.{◌≡◌, ◌⊎◌, ◌<ℤ◌, ◌+ℤ◌, ◌-ℤ◌, ◌*ℤ◌, ◌+◌, pos, unsigned_abs};
 ghost use Rattle.ratio_integer.specs.Division.{IsFlooredQuotient};
 ghost use Rattle.ratio_integer.specs.Range.{IsHeld};

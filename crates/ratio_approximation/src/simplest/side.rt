@@ -1,5 +1,5 @@
-//! A `Side`: in the search for the simplest fraction, one on one side of both ends, and the steps that
-//! bring two of them nearer.
+//! A `Side`: in the search for the simplest fraction, one on one side of both ends, the steps that bring two of them nearer, and the
+//! fraction beyond these steps.
 ghost use Rattle.std.specs.Prelude.{◌≡◌, ◌≤ℤ◌, ◌<ℤ◌, ◌+ℤ◌, ◌-ℤ◌, ◌*ℤ◌, ◌+◌, pos};
 ghost use Rattle.ratio_approximation.specs.Enclosing.{ChecksStep, IsOnOneSide, IsRoom};
 ghost use Rattle.ratio_approximation.specs.Moving.{CanMove};

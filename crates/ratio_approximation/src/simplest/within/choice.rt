@@ -1,4 +1,4 @@
-//! The choice between two fractions within bounds by how simple they are.
+//! The simpler one of what was found within bounds and of an included end.
 ghost use Rattle.std.specs.Prelude.{◌<ℤ◌, ◌<◌, ◌≤◌, pos, unsigned_abs};
 ghost use Rattle.ratio_integer.specs.Comparison.{Tells};
 ghost use Rattle.ratio_approximation.specs.EndChoice.{ChecksWithEnd, IsAsSimple, IsFirstOfTwo};

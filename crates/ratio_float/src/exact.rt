@@ -1,4 +1,4 @@
-//! The fraction with exactly the value of a float, and its powers of 2.
+//! The fraction with exactly the value of a float, and numbers with a sign times powers of 2.
 ghost use Rattle.std.specs.Prelude.{◌≡◌, ◌≢◌, ◌*◌, ◌^◌, ◌<◌, ◌≤◌, pos};
 ghost use Rattle.ratio_integer.specs.Fraction.{ChecksLowest};
 ghost use Rattle.ratio_integer.specs.Range.{Checks};

@@ -1,4 +1,4 @@
-//! The search for the simplest fraction in the gap around a float, between two ends over one denominator.
+//! The simplest fraction between two ends over one denominator, such as those halfway to a float's neighbours.
 ghost use Rattle.std.specs.Prelude.{◌≡◌, ◌+◌, ◌*◌, ◌^◌, ◌<◌, ◌≤◌};
 ghost use Rattle.ratio_float.specs.Rationalizing.{ChecksFirstOver, ChecksInside, ChecksSize};
 

@@ -1,4 +1,4 @@
-//! The simplest fraction that rounds to a float, from the float's parts.
+//! The simplest fraction that rounds to a float, from the float's parts and the gap around it.
 ghost use Rattle.std.specs.Prelude.{◌≡◌, ◌+◌, ◌*◌, ◌%◌, ◌^◌, ◌<◌, ◌≤◌, ◌↔◌, IfSome, IsTrue};
 ghost use Rattle.std.specs.Float.{binary32, binary64};
 ghost use Rattle.std.specs.Float.Ieee.{hid};

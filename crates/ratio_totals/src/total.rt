@@ -1,4 +1,4 @@
-//! The struct `Total`: fractions go in and out, and nothing is lost.
+//! The structs `Total` and `Tally`: fractions go in and out, and nothing is lost.
 ghost use Rattle.std.specs.Prelude.{◌≡◌, ◌≢◌, ◌+◌, ◌<◌, ◌+ℤ◌, ◌-ℤ◌, ◌^◌, ◌≤◌, neg_ℤ, pos, unsigned_abs, length, IfErr, IfOk, OnErr, OnOk};
 ghost use Rattle.ratio_totals.specs.Merging.{AddsEach, CanMerge, HoldsBoth, IsMergeRefusedFor, SumAdds, TakesSlots, free_of, taken_of};
 ghost use Rattle.ratio_totals.specs.Sums.{GrowsAt, Puts, SumGrows, numerator_at};

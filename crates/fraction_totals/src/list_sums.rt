@@ -1,4 +1,4 @@
-//! The sum of a list of fractions that loses nothing, in room that the caller gives.
+//! The sum of a list of fractions that loses nothing, in room that the caller gives: quickly, or by a total.
 ghost use Rattle.std.specs.Prelude.{◌<◌, ◌^◌, length, IfErr, IfOk, IfSome, OnOk};
 ghost use Rattle.ratio_natural.specs.Number.{base};
 ghost use Rattle.ratio_totals.specs.ShortSum.{IsShortSum};

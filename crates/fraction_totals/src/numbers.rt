@@ -1,4 +1,4 @@
-//! The numbers of a fraction as totals take them, and back.
+//! The numbers of a fraction as totals take them, with a sign or as a sign and a magnitude, and back.
 ghost use Rattle.std.specs.Prelude.{◌≡◌, ◌<◌, ◌^◌, ◌≤◌, pos, unsigned_abs, neg_ℤ, true};
 ghost use Rattle.ratio_integer.specs.Fraction.{IsLowestTerms};
 ghost use Rattle.ratio_integer.specs.Range.{Checks};

@@ -1,5 +1,5 @@
-//! The reads of a total: the sum and the mean as fractions, a decimal, a whole number, a multiple of `1/parts` and a float, the sign,
-//! and the order of two totals or of a total and a fraction.
+//! The reads of a total, and the room that each needs: the sum and the mean as fractions, a decimal, a whole number, a multiple of `1/parts`
+//! and a float, the sign, and the order of two totals or of a total and a fraction.
 ghost use Rattle.std.specs.Float.{binary64};
 ghost use Rattle.std.specs.Ordering.{int_cmp};
 ghost use Rattle.std.specs.Prelude.{◌≤◌, ◌≡◌, ◌<ℤ◌, ◌<◌, length, pos, drop, IfErr, IfOk, OnOk};

@@ -1,4 +1,4 @@
-//! The sum, difference, product, quotient and remainder of a pair of fractions.
+//! The sum, difference, product, quotient and remainder of a pair of fractions, and whether both denominators are positive.
 ghost use Rattle.std.specs.Prelude.{◌≡◌, MatchOption};
 ghost use Rattle.num_rational.specs.Operators.{numbers};
 ghost use Rattle.ratio_c.specs.Calls.{BothPositive, IsDifferenceAnswer, IsProductAnswer, IsQuotientAnswer, IsRemainderAnswer, IsSumAnswer};

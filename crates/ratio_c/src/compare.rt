@@ -1,4 +1,4 @@
-//! The order of a pair, and whether it is equal.
+//! The order of a pair, and whether it is equal, each as a number.
 ghost use Rattle.std.specs.Prelude.{◌≡◌, IsTrue};
 ghost use Rattle.ratio_c.specs.Calls.{IsEqualAnswer, IsOrderAnswer, IsTruth};
 ghost use Rattle.ratio_c.specs.Crossing.{order_number};

@@ -1,4 +1,5 @@
-//! The traits of inputs and answers, as they cross from a caller and back, and of the numbers that a hash takes.
+//! The traits of inputs and answers, as they cross from a caller and back, the answers of checked calls and of refusals, and the numbers
+//! that a hash takes.
 ghost use Rattle.std.specs.Prelude.{◌≡◌, ℕ, ℤ, option_map, pos};
 ghost use Rattle.num_rational.specs.Operators.{numbers};
 ghost use Rattle.ratio_c.specs.Crossing.{Said, refused, residue, said_of};

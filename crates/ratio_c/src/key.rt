@@ -1,4 +1,4 @@
-//! Keys for sorting: 64 bits whose order never contradicts that of the values.
+//! Keys for sorting: 64 bits, from the nearest float, whose order never contradicts that of the values.
 ghost use Rattle.std.specs.Prelude.{◌≡◌, ◌<◌, pos};
 ghost use Rattle.ratio_c.specs.Calls.{AnswersEach};
 ghost use Rattle.ratio_c.specs.Keys.{IsKeyAnswer, nearest_bits};

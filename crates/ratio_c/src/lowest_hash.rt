@@ -1,4 +1,4 @@
-//! The hash of a fraction in lowest terms, which takes two products.
+//! The hash of a fraction in lowest terms, which stirs its two numbers by two products.
 ghost use Rattle.std.specs.Prelude.{◌≡◌, ◌+◌, ◌%◌, ◌^◌};
 ghost use Rattle.ratio_c.specs.LowestHash.{IsLowestHashAnswer, stirred};
 

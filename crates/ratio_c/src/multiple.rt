@@ -1,4 +1,4 @@
-//! A fraction rounded to a multiple of `1/parts`, by a rule.
+//! A fraction rounded to a multiple of `1/parts`, by a rule, and the rules by their numbers.
 ghost use Rattle.std.specs.Prelude.{◌≡◌, ◌<◌, ◌≤◌, ◌<ℤ◌, pos, MatchOption};
 ghost use Rattle.ratio_c.specs.Calls.{IsRoundToAnswer};
 ghost use Rattle.ratio_c.specs.Crossing.{rule_of};

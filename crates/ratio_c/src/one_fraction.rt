@@ -1,4 +1,5 @@
-//! Lowest terms, floor, ceiling, truncation, rounding to a whole number, and powers of one fraction.
+//! Lowest terms, floor, ceiling, truncation, rounding to a whole number, and powers of one fraction, and whether its denominator is
+//! positive.
 ghost use Rattle.std.specs.Prelude.{◌≡◌, ◌<ℤ◌, pos, MatchOption};
 ghost use Rattle.num_rational.specs.Operators.{numbers};
 ghost use Rattle.ratio_c.specs.Calls.{IsCeilingAnswer, IsFloorAnswer, IsLowestAnswer, IsPowerAnswer, IsRoundAnswer, IsTruncationAnswer};

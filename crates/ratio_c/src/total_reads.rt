@@ -1,4 +1,4 @@
-//! The calls for C that read a total: its sum, its mean, its sign, its decimal, and the room that these need.
+//! The calls for C that read a total, and the room that these need: its empty slots, its sum, its mean, its sign and its decimal.
 ghost use Rattle.std.specs.Prelude.{◌≡◌, length};
 ghost use Rattle.ratio_totals.specs.Common.{read_digits};
 ghost use Rattle.ratio_totals.specs.DecimalRoom.{decimal_bytes, decimal_digits};

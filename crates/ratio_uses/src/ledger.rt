@@ -1,4 +1,4 @@
-//! A ledger over the library's `split` and `split_by_weights`, so that no cent is lost.
+//! A rent split among tenants by their days, over the library's `split` and `split_by_weights`, so that no cent is lost.
 mod cents;
 
 ghost use Rattle.std.specs.Prelude.{◌≡◌, ◌-◌, ◌^◌, length, negsuc, pos, IfErr, OnErr, OnOk};

@@ -1,4 +1,4 @@
-//! Whole quotients and rests of numbers over one denominator, from one to the next without a division.
+//! Whole quotients and rests of numbers over one denominator, from one to the next, and of their sums, without a division.
 ghost use Rattle.std.specs.Prelude.{◌+◌, ◌*◌, ◌<◌, ◌^◌};
 ghost use Rattle.ratio_uses.specs.Gears.{IsQuotient};
 

@@ -10,15 +10,15 @@
 //! | Module | What is in it |
 //! |---|---|
 //! | `total` | The struct `Total`: fractions, products of two and lists of both go in and out, and nothing is lost. |
-//! | `total_reads` | The reads of a total: the sum and the mean as fractions, a decimal, a whole number, a multiple of `1/parts` and a float, the sign, and the order of two totals or of a total and a fraction. |
-//! | `list_sums` | The sum of a list of fractions that loses nothing, in room that the caller gives. |
+//! | `total_reads` | The reads of a total, and the room that each needs: the sum and the mean as fractions, a decimal, a whole number, a multiple of `1/parts` and a float, the sign, and the order of two totals or of a total and a fraction. |
+//! | `list_sums` | The sum of a list of fractions that loses nothing, in room that the caller gives: quickly, or by a total. |
 //! | `in_memory` | The sum of a list that loses nothing, with memory for the room that it needs. |
-//! | `numbers` | The numbers of a fraction as totals take them, and back. |
+//! | `numbers` | The numbers of a fraction as totals take them, with a sign or as a sign and a magnitude, and back. |
 //! | `short` | The trait `Short`: primitive types of at most 64 bits. |
 //! | `wide_total` | The struct `WideTotal`: a total of fractions over any primitive type, which loses nothing. |
 //! | `wide_changes` | Fractions over any primitive type and products of two that go into a wide total, and out of it, one by one or all of another total. |
 //! | `wide_reads` | The reads of a wide total: the sum and the mean as fractions, a whole number, a multiple of `1/parts`, a float and a decimal, the sign, and the order of two wide totals or of a wide total and a fraction. |
-//! | `splitting` | An amount split by shares, whose sums lie in a room that the caller gives. |
+//! | `splitting` | An amount split by shares, whose sums, the marks, lie in a room that the caller gives. |
 //! | `texts` | What the refusals of totals of fractions print. |
 #![tactic(auto)]
 

@@ -4,15 +4,15 @@
 //! | Module | What is in it |
 //! |---|---|
 //! | `nearest` | The nearest fraction whose denominator is at most a bound. |
-//! | `nearest::neighbour` | A `Neighbour`: in the search for the nearest fraction, one close to it, and the steps that bring two of them nearer. |
+//! | `nearest::neighbour` | A `Neighbour`: in the search for the nearest fraction, one close to it, the steps that bring two of them nearer, and which of two comes first. |
 //! | `simplest` | The simplest fraction strictly between two fractions, and within two bounds. |
 //! | `simplest::search` | The search for the simplest fraction, between two neighbours around both ends. |
-//! | `simplest::side` | A `Side`: in the search for the simplest fraction, one on one side of both ends, and the steps that bring two of them nearer. |
+//! | `simplest::side` | A `Side`: in the search for the simplest fraction, one on one side of both ends, the steps that bring two of them nearer, and the fraction beyond these steps. |
 //! | `simplest::wholes` | Whole numbers between two ends: the last one below an end, and the one nearest to 0. |
 //! | `simplest::within` | The simplest fraction within two bounds. |
 //! | `simplest::within::end` | An `End` of a range of fractions: a bound, or the type's least or greatest number in place of an open one. |
-//! | `simplest::within::choice` | The choice between two fractions within bounds by how simple they are. |
-//! | `continued` | The fraction of a list of quotients, as a continued fraction has them, and whether it has one. |
+//! | `simplest::within::choice` | The simpler one of what was found within bounds and of an included end. |
+//! | `continued` | The fraction of a list of quotients, as a continued fraction has them, and whether a quotient can follow others. |
 #![tactic(auto)]
 
 pub mod continued;

@@ -7,22 +7,22 @@
 //! | `numbers64` | The structs of C with fractions of `i64`, and the exported calls over slices of them. |
 //! | `numbers128` | The structs of C with fractions of `i128`, and the exported calls over slices of them. |
 //! | `wide` | `Wide`: an `i128` as it crosses, in two halves. |
-//! | `crossing` | The traits of inputs and answers, as they cross from a caller and back, and of the numbers that a hash takes. |
+//! | `crossing` | The traits of inputs and answers, as they cross from a caller and back, the answers of checked calls and of refusals, and the numbers that a hash takes. |
 //! | `code` | The codes of answers. |
 //! | `each` | The trait `Call`, and `each`: one call for each item of a slice. |
 //! | `cast` | A fraction taken to a type of another width. |
-//! | `compare` | The order of a pair, and whether it is equal. |
+//! | `compare` | The order of a pair, and whether it is equal, each as a number. |
 //! | `hash` | The hash of a fraction, by its value. |
-//! | `lowest_hash` | The hash of a fraction in lowest terms, which takes two products. |
-//! | `key` | Keys for sorting: 64 bits whose order never contradicts that of the values. |
-//! | `arithmetic` | The sum, difference, product, quotient and remainder of a pair of fractions. |
+//! | `lowest_hash` | The hash of a fraction in lowest terms, which stirs its two numbers by two products. |
+//! | `key` | Keys for sorting: 64 bits, from the nearest float, whose order never contradicts that of the values. |
+//! | `arithmetic` | The sum, difference, product, quotient and remainder of a pair of fractions, and whether both denominators are positive. |
 //! | `divisors` | The greatest common divisor and the least common multiple of a pair of fractions. |
 //! | `sign` | The negative and the absolute value of a fraction, over the same denominator. |
-//! | `one_fraction` | Lowest terms, floor, ceiling, truncation, rounding to a whole number, and powers of one fraction. |
+//! | `one_fraction` | Lowest terms, floor, ceiling, truncation, rounding to a whole number, and powers of one fraction, and whether its denominator is positive. |
 //! | `nearest` | The nearest fraction with a bounded denominator. |
 //! | `between` | The simplest fraction within two bounds, which flags describe. |
 //! | `convergent` | The convergents of a fraction, each by its place. |
-//! | `multiple` | A fraction rounded to a multiple of `1/parts`, by a rule. |
+//! | `multiple` | A fraction rounded to a multiple of `1/parts`, by a rule, and the rules by their numbers. |
 //! | `rounded_product` | The product of two fractions, rounded to a whole number by a rule. |
 //! | `multiple_pair` | The product and the quotient of two fractions, rounded to a multiple of `1/parts` by a rule. |
 //! | `many` | The call for C that multiplies many fractions and divides by many, where no number on the way has to fit. |
@@ -35,7 +35,7 @@
 //! | `floats` | Fractions with the values of floats, the simplest ones that round to floats, and the floats nearest to fractions. |
 //! | `totals` | The struct `Total64`, the header of a total, and how items, or the slots of another total, go into its slots one after another, until one is stopped. |
 //! | `total_steps` | The calls for C that change a total: fractions go in or out, and so do the slots of another total. |
-//! | `total_reads` | The calls for C that read a total: its sum, its mean, its sign, its decimal, and the room that these need. |
+//! | `total_reads` | The calls for C that read a total, and the room that these need: its empty slots, its sum, its mean, its sign and its decimal. |
 //! | `total_orders` | The calls for C that compare two totals, and the room that this needs. |
 //! | `total_multiples` | The calls for C that round a total to a multiple of `1/parts`, and the room that this needs. |
 //! | `total_floats` | The call for C that reads a total as a float. |

@@ -9,22 +9,22 @@
 //!
 //! | Module | What is in it |
 //! |---|---|
-//! | `total` | The struct `Total`: fractions go in and out, and nothing is lost. |
+//! | `total` | The structs `Total` and `Tally`: fractions go in and out, and nothing is lost. |
 //! | `slots` | The struct `Slot`, which holds a denominator and the sum of the numerators over it, and tables of slots: where a denominator is, and how many slots are taken, empty or new to another table. |
 //! | `changes` | What goes into slots and out of them: one fraction, those of another table, and one fraction where the slots may hold anything. |
-//! | `total_reads` | The reads of a total: over its common denominator, the sum and the mean in lowest terms, a whole number, a multiple of `1/parts`, a float and a decimal, the sign, and the order of two totals or of a total and a fraction. |
-//! | `common` | The sum of a table over its common denominator, which is the least common multiple of the denominators. |
-//! | `reading` | Any slots read over their common denominator, in room that the caller gives. |
+//! | `total_reads` | The reads of a total, and the room that each needs: over its common denominator, the sum and the mean in lowest terms, a whole number, a multiple of `1/parts`, a float and a decimal, the sign, and the order of two totals or of a total and a fraction. |
+//! | `common` | The slots of a table joined one after another: their common denominator, which is the least common multiple of the denominators, and the sums over it. |
+//! | `reading` | Any slots read over their common denominator, in room that the caller gives, and how many digits that needs. |
 //! | `short_sums` | The sum of a table in machine numbers, where 128 bits are enough on the way. |
-//! | `lowest` | The sum and the mean of any slots in lowest terms, where these fit 64 bits. |
-//! | `rounding` | The sum of any slots rounded to a whole number, to a multiple of `1/parts` such as cents, and to the nearest float. |
-//! | `decimal` | The sum of any slots as a decimal: in machine numbers where it is short, else from its bounds where both are rounded to the same number, and else from its common denominator. |
+//! | `lowest` | The sum and the mean of any slots, and of what a read left in the room, in lowest terms, where these fit 64 bits. |
+//! | `rounding` | The sum of any slots rounded to a whole number, to a multiple of `1/parts` such as cents, and to the nearest float, and the room that this needs. |
+//! | `decimal` | The sum of any slots as a decimal, and the room that this needs: in machine numbers where it is short, else from its bounds where both are rounded to the same number, and else from its common denominator. |
 //! | `bounds` | Bounds of the sum of a table, in one pass: each quotient is cut to a whole number of parts of 1, and what is cut is counted. |
-//! | `orders` | The sign of the sum of any slots, and the order of the sums of two lists of slots, such as those that a program in C hands over. |
+//! | `orders` | The sign of the sum of any slots, and the order of the sums of two lists of slots, such as those that a program in C hands over, from their difference. |
 //! | `joined` | The struct `Joined`: a read of a total in steps, and the reads of the numbers that the steps leave in the room. |
 //! | `rooms` | Sums in rooms: a fraction as such a sum, one sum added to another one, taken out of it, moved to another room, or compared with another one. |
-//! | `sums` | The struct `Sum`: the three numbers of a sum, found in its room. |
-//! | `wide_reads` | The reads of a sum in a room whose numbers have up to 128 bits. |
+//! | `sums` | The struct `Sum`: the three numbers of a sum, found in its room, and exchanged where a sum goes out. |
+//! | `wide_reads` | The reads of a sum in a room whose numbers have up to 128 bits: the fraction in lowest terms, divided by a count, and rounded to a multiple of `1/parts`. |
 //! | `texts` | What the refusals of totals print. |
 //! | `laws` | The laws of totals. |
 #![tactic(auto)]

@@ -8,14 +8,14 @@
 //! | `callers` | Callers of `Reduced`: the greatest amount, the mean of two, and places between, before and after others. |
 //! | `conditions` | Callers of `Ratio`: the sum of two shares and the product of rates, with what these require. |
 //! | `accounts` | Two accounts, and a part that moves from one to the other. |
-//! | `ledger` | A ledger over the library's `split` and `split_by_weights`, so that no cent is lost. |
+//! | `ledger` | A rent split among tenants by their days, over the library's `split` and `split_by_weights`, so that no cent is lost. |
 //! | `ledger::cents` | An amount split by shares into multiples of a unit, such as cents, so that no cent is lost. |
 //! | `beats` | The voices of a polyrhythm: their beats in order of time, without drift. |
 //! | `gears` | Two wheels whose ratio of teeth is near a wanted one. |
 //! | `trains` | Two pairs of wheels, one after the other, whose ratio is near a wanted one. |
 //! | `trains::products` | The products of the teeth of two wheels, next to a number, and the wheels of such a product. |
-//! | `units` | Amounts converted by a chain of rates, and intervals brought into one octave. |
-//! | `quotients` | Whole quotients and rests of numbers over one denominator, from one to the next without a division. |
+//! | `units` | Amounts converted by a chain of rates, and intervals brought into one octave by doublings and halvings. |
+//! | `quotients` | Whole quotients and rests of numbers over one denominator, from one to the next, and of their sums, without a division. |
 #![tactic(auto)]
 
 pub mod accounts;

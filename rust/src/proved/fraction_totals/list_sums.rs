@@ -1,5 +1,5 @@
 // Erased from crates/fraction_totals/src/list_sums.rt by rust/erase: not to be edited.
-//! The sum of a list of fractions that loses nothing, in room that the caller gives.
+//! The sum of a list of fractions that loses nothing, in room that the caller gives: quickly, or by a total.
 
 use crate::proved::fraction_totals::numbers::{fraction, parts};
 use crate::proved::fraction_totals::short::Short;

@@ -1,5 +1,5 @@
 // Erased from crates/fraction_totals/src/numbers.rt by rust/erase: not to be edited.
-//! The numbers of a fraction as totals take them, and back.
+//! The numbers of a fraction as totals take them, with a sign or as a sign and a magnitude, and back.
 
 use crate::proved::fraction_totals::short::Short;
 use crate::proved::num_rational::Reduced;

@@ -1,6 +1,6 @@
 // Erased from crates/fraction_totals/src/total_reads.rt by rust/erase: not to be edited.
-//! The reads of a total: the sum and the mean as fractions, a decimal, a whole number, a multiple of `1/parts` and a float, the sign,
-//! and the order of two totals or of a total and a fraction.
+//! The reads of a total, and the room that each needs: the sum and the mean as fractions, a decimal, a whole number, a multiple of `1/parts`
+//! and a float, the sign, and the order of two totals or of a total and a fraction.
 
 use crate::proved::fraction_totals::numbers::{fraction, parts, size};
 use crate::proved::fraction_totals::short::Short;

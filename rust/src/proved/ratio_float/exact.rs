@@ -1,5 +1,5 @@
 // Erased from crates/ratio_float/src/exact.rt by rust/erase: not to be edited.
-//! The fraction with exactly the value of a float, and its powers of 2.
+//! The fraction with exactly the value of a float, and numbers with a sign times powers of 2.
 
 use crate::proved::ratio_integer::Integer;
 

@@ -1,5 +1,5 @@
 // Erased from crates/ratio_float/src/gap.rt by rust/erase: not to be edited.
-//! The search for the simplest fraction in the gap around a float, between two ends over one denominator.
+//! The simplest fraction between two ends over one denominator, such as those halfway to a float's neighbours.
 
 use crate::proved::ratio_float::exact::signed;
 use crate::proved::ratio_approximation::simplest::simplest_between;

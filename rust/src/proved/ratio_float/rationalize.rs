@@ -1,5 +1,5 @@
 // Erased from crates/ratio_float/src/rationalize.rt by rust/erase: not to be edited.
-//! The simplest fraction that rounds to a float, from the float's parts.
+//! The simplest fraction that rounds to a float, from the float's parts and the gap around it.
 
 use crate::proved::ratio_float::exact::scaled_by_powers;
 use crate::proved::ratio_float::format::FloatType;

@@ -1,5 +1,5 @@
 // Erased from crates/ratio_long/src/places.rt by rust/erase: not to be edited.
-//! The text of a long number as a decimal with places.
+//! The text of a long number as a decimal with places, with its sign and without it.
 
 use crate::proved::ratio_natural::{is_zero, put_decimal, put_last_digits};
 

@@ -1,5 +1,5 @@
 // Erased from crates/ratio_totals/src/sums.rt by rust/erase: not to be edited.
-//! The struct `Sum`: the three numbers of a sum, found in its room.
+//! The struct `Sum`: the three numbers of a sum, found in its room, and exchanged where a sum goes out.
 
 /// The numbers of a sum in the order of its room: `(positive - negative)/common`.
 #[derive(Clone, Copy)]

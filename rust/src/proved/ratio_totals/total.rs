@@ -1,5 +1,5 @@
 // Erased from crates/ratio_totals/src/total.rt by rust/erase: not to be edited.
-//! The struct `Total`: fractions go in and out, and nothing is lost.
+//! The structs `Total` and `Tally`: fractions go in and out, and nothing is lost.
 
 use crate::proved::ratio_totals::changes::{merge_slots, put};
 use crate::proved::ratio_totals::slots::{Slot, clear, numerator_in};

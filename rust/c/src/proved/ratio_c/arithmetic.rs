@@ -1,5 +1,5 @@
 // Erased from crates/ratio_c/src/arithmetic.rt by rust/erase: not to be edited.
-//! The sum, difference, product, quotient and remainder of a pair of fractions.
+//! The sum, difference, product, quotient and remainder of a pair of fractions, and whether both denominators are positive.
 
 use crate::proved::ratio_c::code::{DENOMINATOR_NOT_POSITIVE, DIVISION_BY_ZERO};
 use crate::proved::ratio_c::crossing::{Reply, TwoFractions, checked, checked_fields, refused};

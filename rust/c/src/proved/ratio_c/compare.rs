@@ -1,5 +1,5 @@
 // Erased from crates/ratio_c/src/compare.rt by rust/erase: not to be edited.
-//! The order of a pair, and whether it is equal.
+//! The order of a pair, and whether it is equal, each as a number.
 
 use crate::proved::ratio_c::code::{ANSWERED, ZERO_DENOMINATOR};
 use crate::proved::ratio_c::crossing::TwoFractions;

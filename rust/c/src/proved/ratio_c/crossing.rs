@@ -1,5 +1,6 @@
 // Erased from crates/ratio_c/src/crossing.rt by rust/erase: not to be edited.
-//! The traits of inputs and answers, as they cross from a caller and back, and of the numbers that a hash takes.
+//! The traits of inputs and answers, as they cross from a caller and back, the answers of checked calls and of refusals, and the numbers
+//! that a hash takes.
 
 use crate::proved::ratio_c::code::{ANSWERED, NOT_HELD};
 use bakhsney::proved::num_rational::Ratio;

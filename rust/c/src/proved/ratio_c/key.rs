@@ -1,5 +1,5 @@
 // Erased from crates/ratio_c/src/key.rt by rust/erase: not to be edited.
-//! Keys for sorting: 64 bits whose order never contradicts that of the values.
+//! Keys for sorting: 64 bits, from the nearest float, whose order never contradicts that of the values.
 
 use crate::proved::ratio_c::code::{ANSWERED, DENOMINATOR_NOT_POSITIVE};
 use crate::proved::ratio_c::each::{Call, each};

@@ -1,5 +1,5 @@
 // Erased from crates/ratio_c/src/lowest_hash.rt by rust/erase: not to be edited.
-//! The hash of a fraction in lowest terms, which takes two products.
+//! The hash of a fraction in lowest terms, which stirs its two numbers by two products.
 
 use crate::proved::ratio_c::code::{ANSWERED, DENOMINATOR_NOT_POSITIVE};
 use crate::proved::ratio_c::crossing::{Digest, OneFraction};

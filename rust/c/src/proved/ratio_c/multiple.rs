@@ -1,5 +1,5 @@
 // Erased from crates/ratio_c/src/multiple.rt by rust/erase: not to be edited.
-//! A fraction rounded to a multiple of `1/parts`, by a rule.
+//! A fraction rounded to a multiple of `1/parts`, by a rule, and the rules by their numbers.
 
 use crate::proved::ratio_c::code::{
     BAD_OPTION, DENOMINATOR_NOT_POSITIVE, RULE_CEIL, RULE_DOWN, RULE_FLOOR, RULE_HALF_AWAY,

@@ -1,5 +1,6 @@
 // Erased from crates/ratio_c/src/one_fraction.rt by rust/erase: not to be edited.
-//! Lowest terms, floor, ceiling, truncation, rounding to a whole number, and powers of one fraction.
+//! Lowest terms, floor, ceiling, truncation, rounding to a whole number, and powers of one fraction, and whether its denominator is
+//! positive.
 
 use crate::proved::ratio_c::code::{DENOMINATOR_NOT_POSITIVE, DIVISION_BY_ZERO, ZERO_DENOMINATOR};
 use crate::proved::ratio_c::crossing::{OneFraction, Raised, Reply, checked, refused};

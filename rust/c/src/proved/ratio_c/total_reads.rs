@@ -1,5 +1,5 @@
 // Erased from crates/ratio_c/src/total_reads.rt by rust/erase: not to be edited.
-//! The calls for C that read a total: its sum, its mean, its sign, its decimal, and the room that these need.
+//! The calls for C that read a total, and the room that these need: its empty slots, its sum, its mean, its sign and its decimal.
 
 use crate::proved::ratio_c::cast::cast;
 use crate::proved::ratio_c::code::{ANSWERED, BAD_OPTION, DIVISION_BY_ZERO, MORE_ROOM, TOO_LONG};

@@ -1,6 +1,6 @@
 // Erased from crates/ratio_approximation/src/nearest/neighbour.rt by rust/erase: not to be edited.
-//! A `Neighbour`: in the search for the nearest fraction, one close to it, and the steps that bring two of them
-//! nearer.
+//! A `Neighbour`: in the search for the nearest fraction, one close to it, the steps that bring two of them nearer, and which of two comes
+//! first.
 
 use crate::proved::ratio_core::Steps;
 use crate::proved::ratio_core::order::dividing::{divide_left, divide_right};

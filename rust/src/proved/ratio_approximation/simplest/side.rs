@@ -1,6 +1,6 @@
 // Erased from crates/ratio_approximation/src/simplest/side.rt by rust/erase: not to be edited.
-//! A `Side`: in the search for the simplest fraction, one on one side of both ends, and the steps that
-//! bring two of them nearer.
+//! A `Side`: in the search for the simplest fraction, one on one side of both ends, the steps that bring two of them nearer, and the
+//! fraction beyond these steps.
 
 use crate::proved::ratio_core::Steps;
 use crate::proved::ratio_core::order::dividing::divide_right;

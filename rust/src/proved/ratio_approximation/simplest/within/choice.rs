@@ -1,5 +1,5 @@
 // Erased from crates/ratio_approximation/src/simplest/within/choice.rt by rust/erase: not to be edited.
-//! The choice between two fractions within bounds by how simple they are.
+//! The simpler one of what was found within bounds and of an included end.
 
 use crate::proved::ratio_approximation::simplest::within::end::End;
 use crate::proved::ratio_core::sign::{have_unlike_signs, is_below_zero};

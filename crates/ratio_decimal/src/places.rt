@@ -1,4 +1,4 @@
-//! Printing a fraction as a decimal with a given number of places, at most 38.
+//! Printing a fraction as a decimal with a given number of places, at most 38: its sign, and its magnitude by a rule.
 ghost use Rattle.std.specs.Prelude.{◌≡◌, ◌↔◌, ◌+◌, ◌*◌, ◌^◌, ◌<◌, ◌≤◌, ◌<ℤ◌, drop, length, pos, true, IsAscii, IsTrue, if◌then◌else◌};
 ghost use Rattle.ratio_decimal.specs.Decimal.{IsDecimalOf, places_text, unsigned_places};
 ghost use Rattle.ratio_decimal.specs.RoundingRules.{mirrored, signed};

@@ -1,4 +1,4 @@
-//! Reading a decimal, such as `12.375` or `-1.5e-3`, as a fraction.
+//! Reading a decimal, such as `12.375` or `-1.5e-3`, as a fraction, and why it is refused.
 pub(crate) mod cut;
 pub(crate) mod terms;
 pub(crate) mod value;

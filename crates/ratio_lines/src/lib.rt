@@ -8,7 +8,7 @@
 //! | `gathered` | `Gathered`: bytes that wait to be written, and the answers to a piece of the input put there, so that one call writes many of them. |
 //! | `line` | `Line`: the line that is being read, as far as it is kept, and the answer to the line that ends first in a piece of the input. |
 //! | `answer` | The answer to one line: its operands are read, its operators are applied, or it is refused. |
-//! | `operand` | The operand that a text begins with, which is read while its end is looked for. |
+//! | `operand` | The operand that a text begins with, in lowest terms, which is read while its end is looked for. |
 //! | `operator` | The enum `Operator`: the operators of the calculator, by their names, and what each gives between two fractions. |
 //! | `parts` | The limit of a line, and how a line is cut: from the bytes after it, into its parts, and a plain line in one pass. |
 //! | `counted` | `Counted`: readers and writers whose calls a contract can follow, what these calls did, and the traits `CalcRead` and `CalcWrite`. |

@@ -1,4 +1,4 @@
-//! The operand that a text begins with, which is read while its end is looked for.
+//! The operand that a text begins with, in lowest terms, which is read while its end is looked for.
 ghost use Rattle.std.specs.Prelude.{◌≡◌, ◌≤◌, ◌∷◌, ℕ, List, IfSome, length, take};
 ghost use Rattle.std.specs.List.{slice_split};
 ghost use Rattle.ratio_core.specs.Reading.{AnswersText, IsFractionText};

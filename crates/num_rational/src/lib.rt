@@ -7,9 +7,9 @@
 //!
 //! | Module | What is in it |
 //! |---|---|
-//! | `ratio` | `Ratio`, the fraction type, with its constants and its calls: fields, order, powers, rounding, signs, floats, and texts, which the traits hand on to. |
+//! | `ratio` | `Ratio`, the fraction type, with its constants and its calls: constructors, fields, order, hash, powers, rounding, the nearest fraction, signs, floats, and texts, which the traits hand on to. |
 //! | `ratio::traits` | The traits of std and of `num_traits` for `Ratio`, except operators and folds. |
-//! | `reduced` | `Reduced`, the fraction type that is always in lowest terms, with its calls: fields, the five checked calls, powers, divisors, products of many, rounding, fractions near others, signs and casts. |
+//! | `reduced` | `Reduced`, the fraction type that is always in lowest terms, with its calls: constructors, fields, the five checked calls, powers, divisors, products of many, rounding, fractions near others, continued fractions, signs and casts. |
 //! | `reduced::texts` | The calls of `Reduced` for texts, decimals and floats. |
 //! | `reduced::traits` | The traits of std for `Reduced`. |
 //! | `ops` | The five operators, each as a checked call, as a call that requires a result, and as its two symbols, such as `+` and `+=`. |
@@ -17,7 +17,7 @@
 //! | `fold` | The sum and the product of the items of an iterator, and for `Reduced` of a list. |
 //! | `many_products` | The two ways of a product or quotient of many fractions in lowest terms: step by step, and cancelled first. |
 //! | `continued` | Two iterators over a fraction's continued fraction: `Quotients`, and `Convergents`, each from a quotient and the two before it. |
-//! | `splitting` | An amount split by shares or by weights, so that nothing is lost. |
+//! | `splitting` | An amount split by shares or by weights, so that nothing is lost: at marks, which are the amount times the sums of the first shares, rounded. |
 //! | `printing` | How a fraction is written into a formatter of std: in base 10, in a form with a prefix, or with a precision as a decimal. |
 //! | `json` | Fractions as JSON: a list of the two fields. |
 //! | `main_statement` | The main promise of the library as one call, `headline`: its contract is one definition. |

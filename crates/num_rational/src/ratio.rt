@@ -1,5 +1,5 @@
-//! `Ratio`, the fraction type, with its constants and its calls: fields, order, powers, rounding, signs, floats,
-//! and texts, which the traits hand on to.
+//! `Ratio`, the fraction type, with its constants and its calls: constructors, fields, order, hash, powers, rounding, the nearest fraction,
+//! signs, floats, and texts, which the traits hand on to.
 //!
 //! Operators, folds and JSON have files of their own.
 ghost use Rattle.std.specs.Prelude.{◌≡◌, ◌≢◌, ◌↔◌, ◌+◌, ◌++◌, ◌<ℤ◌, ◌-◌, ◌^◌, ◌≤◌, ◌≤ℤ◌, false, fold, length, neg_ℤ, negsuc, pos, IsTrue, List, ℕ, ℤ};

@@ -10,7 +10,7 @@
 //! | `product::rest` | A number divided as a multiple of some parts and a rest, and what is left of a product after its first division, rounded to a multiple of `1/parts`. |
 //! | `product::quotient` | A quotient of two fractions, also by the number after the greatest one of a type, rounded to a whole number or to a multiple of `1/parts`, such as cents. |
 //! | `reading` | Reading a decimal, such as `12.375` or `-1.5e-3`, as a fraction, and why it is refused. |
-//! | `reading::cut` | Cutting a decimal text into its sign, its digits before and behind a point, and its exponent, and the numbers of digits. |
+//! | `reading::cut` | Cutting a decimal text into its sign, its digits before and behind a point, and its exponent, and the number that digits write. |
 //! | `reading::value` | The lowest terms of a decimal whose parts are cut, or of its 100th part, after its point has moved: from one number of 64 bits, if the decimal is short. |
 //! | `reading::terms` | The lowest terms of digits behind a point, and of those of a whole number, from the last digit on. |
 //! | `typed` | Reading what a person types into one field as a fraction: `-0.5`, `3/4`, `-1 1/2` or `12.5%`. |

@@ -1,6 +1,6 @@
 // Erased from crates/num_rational/src/ratio.rt by rust/erase: not to be edited.
-//! `Ratio`, the fraction type, with its constants and its calls: fields, order, powers, rounding, signs, floats,
-//! and texts, which the traits hand on to.
+//! `Ratio`, the fraction type, with its constants and its calls: constructors, fields, order, hash, powers, rounding, the nearest fraction,
+//! signs, floats, and texts, which the traits hand on to.
 //!
 //! Operators, folds and JSON have files of their own.
 

@@ -1,6 +1,6 @@
 // Erased from crates/num_rational/src/reduced.rt by rust/erase: not to be edited.
-//! `Reduced`, the fraction type that is always in lowest terms, with its calls: fields, the five checked calls, powers, divisors, products
-//! of many, rounding, fractions near others, signs and casts.
+//! `Reduced`, the fraction type that is always in lowest terms, with its calls: constructors, fields, the five checked calls, powers,
+//! divisors, products of many, rounding, fractions near others, continued fractions, signs and casts.
 //!
 //! A contract sees such a fraction as the `Ratio` of its fields, by `ratio_of`. No named call requires anything of its caller,
 //! except `decimal`, at most 38 places, and `round_to`, a positive number of parts.

@@ -1,5 +1,6 @@
 // Erased from crates/num_rational/src/splitting.rt by rust/erase: not to be edited.
-//! An amount split by shares or by weights, so that nothing is lost.
+//! An amount split by shares or by weights, so that nothing is lost: at marks, which are the amount times the sums of the first shares,
+//! rounded.
 
 use crate::proved::num_rational::reduced::Reduced;
 use crate::proved::ratio_core::sign::is_below_zero;

@@ -1,5 +1,5 @@
 // Erased from crates/ratio_decimal/src/places.rt by rust/erase: not to be edited.
-//! Printing a fraction as a decimal with a given number of places, at most 38.
+//! Printing a fraction as a decimal with a given number of places, at most 38: its sign, and its magnitude by a rule.
 
 use crate::proved::ratio_decimal::rounding_rule::{Rounding, rounded};
 use crate::proved::ratio_core::sign::is_below_zero;

@@ -1,5 +1,5 @@
 // Erased from crates/ratio_decimal/src/reading.rt by rust/erase: not to be edited.
-//! Reading a decimal, such as `12.375` or `-1.5e-3`, as a fraction.
+//! Reading a decimal, such as `12.375` or `-1.5e-3`, as a fraction, and why it is refused.
 pub(crate) mod cut;
 pub(crate) mod terms;
 pub(crate) mod value;

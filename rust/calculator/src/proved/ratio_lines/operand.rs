@@ -1,5 +1,5 @@
 // Erased from crates/ratio_lines/src/operand.rt by rust/erase: not to be edited.
-//! The operand that a text begins with, which is read while its end is looked for.
+//! The operand that a text begins with, in lowest terms, which is read while its end is looked for.
 
 use crate::proved::ratio_lines::parts::first_part;
 use bakhsney::proved::num_rational::{ParseRatioError, RatioErrorKind, Rational64};

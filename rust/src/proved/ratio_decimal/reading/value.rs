@@ -1,5 +1,6 @@
 // Erased from crates/ratio_decimal/src/reading/value.rt by rust/erase: not to be edited.
-//! The lowest terms of a decimal whose parts are cut, or of its 100th part, after its point has moved.
+//! The lowest terms of a decimal whose parts are cut, or of its 100th part, after its point has moved: from one number of 64 bits, if the
+//! decimal is short.
 //!
 //! The digits of a short decimal are a number of 64 bits over a power of 10. What divides both is a product of twos and fives, and there
 //! are at most 19 of each. So they are taken out by divisions by 2 and by 5, which the compiler turns into products.

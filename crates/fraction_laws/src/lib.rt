@@ -2,7 +2,7 @@
 //!
 //! | Module | What is in it |
 //! |---|---|
-//! | `reduced` | The first laws of `Reduced`: of sums, products, powers, reciprocals, parts, order, hash and continued fractions. |
+//! | `reduced` | The first laws of `Reduced`: of sums, products, powers, parts, order, hash and continued fractions. |
 //! | `neutral` | The laws of 0 and 1 as operands and as exponents of `Reduced`. |
 //! | `order` | The laws of the order of results: sums, products and negatives of two `Reduced`. |
 //! | `signs` | The laws of negatives, absolute values and signs of `Reduced`. |
@@ -12,7 +12,7 @@
 //! | `rounding` | The laws of whole numbers near a `Reduced`. |
 //! | `nearest` | The laws of the nearest fraction with a bounded denominator, as `Reduced` returns it. |
 //! | `reading` | The laws of reading what a `Reduced` prints, as a text or as a decimal. |
-//! | `undoing` | The laws of calls of `Reduced` that undo one another, or that can stand for one another. |
+//! | `undoing` | The laws of calls of `Reduced` that undo one another, or that can stand for one another, as the quotient x / y for x times the reciprocal of y. |
 //! | `folds` | The laws of sums and products of lists, as `Reduced` returns them. |
 //! | `many_products` | The laws of products and quotients of many fractions, as `checked_product_of` and `checked_quotient_of` of `Reduced` return them with room for two numbers an item. |
 //! | `splits` | The laws of amounts split by shares or by weights. |

@@ -1,6 +1,6 @@
-//! The first laws of `Reduced`: of sums, products, powers, reciprocals, parts, order, hash and continued fractions. Each function changes
-//! nothing: its contract is the law, for the fractions that it is given. A premise only says what a call returned. `hashes` also has one
-//! about the type.
+//! The first laws of `Reduced`: of sums, products, powers, parts, order, hash and continued fractions. Each function
+//! changes nothing: its contract is the law, for the fractions that it is given. A premise only says what a call
+//! returned. `hashes` also has one about the type.
 ghost use Rattle.std.specs.Prelude.{◌≡◌, ◌↔◌};
 ghost use Rattle.std.specs.declared.cmp.Ordering.TheVariants.{Equal};
 ghost use Rattle.num_rational.specs.Comparison.{HaveSameFields, order_of};

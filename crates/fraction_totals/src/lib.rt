@@ -9,7 +9,7 @@
 //!
 //! | Module | What is in it |
 //! |---|---|
-//! | `total` | The struct `Total`: fractions, products of two and lists of both go in and out, and nothing is lost. |
+//! | `total` | The struct `Total`: fractions, products of two, lists of both and all of another total go in and out, and nothing is lost. |
 //! | `total_reads` | The reads of a total, and the room that each needs: the sum and the mean as fractions, a decimal, a whole number, a multiple of `1/parts` and a float, the sign, and the order of two totals or of a total and a fraction. |
 //! | `list_sums` | The sum of a list of fractions that loses nothing, in room that the caller gives: quickly, or by a total. |
 //! | `in_memory` | The sum of a list that loses nothing, with memory for the room that it needs. |

@@ -1,4 +1,5 @@
-//! The struct `Total`: fractions, products of two and lists of both go in and out, and nothing is lost.
+//! The struct `Total`: fractions, products of two, lists of both and all of another total go in and out, and nothing is
+//! lost.
 ghost use Rattle.std.specs.Prelude.{◌≡◌, ◌+◌, ◌<◌, ◌≤◌, ◌+ℤ◌, ◌-ℤ◌, ◌*◌, ◌^◌, ◌*ℤ◌, pos, length, unsigned_abs, IfErr, IfOk, MatchOption, OnErr, OnOk};
 ghost use Rattle.ratio_integer.specs.Fraction.{IsLowestTerms};
 ghost use Rattle.ratio_totals.specs.LowestSum.{ChecksShortPair};

@@ -1,7 +1,7 @@
 // Erased from crates/fraction_laws/src/reduced.rt by rust/erase: not to be edited.
-//! The first laws of `Reduced`: of sums, products, powers, reciprocals, parts, order, hash and continued fractions. Each function changes
-//! nothing: its contract is the law, for the fractions that it is given. A premise only says what a call returned. `hashes` also has one
-//! about the type.
+//! The first laws of `Reduced`: of sums, products, powers, parts, order, hash and continued fractions. Each function
+//! changes nothing: its contract is the law, for the fractions that it is given. A premise only says what a call
+//! returned. `hashes` also has one about the type.
 
 use crate::proved::num_rational::Reduced;
 use crate::proved::ratio_integer::{Integer, both_held};

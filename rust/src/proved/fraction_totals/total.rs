@@ -1,5 +1,6 @@
 // Erased from crates/fraction_totals/src/total.rt by rust/erase: not to be edited.
-//! The struct `Total`: fractions, products of two and lists of both go in and out, and nothing is lost.
+//! The struct `Total`: fractions, products of two, lists of both and all of another total go in and out, and nothing is
+//! lost.
 
 use crate::proved::fraction_totals::numbers::{parts, size, wide};
 use crate::proved::fraction_totals::short::Short;

@@ -93,13 +93,13 @@ impl<T: Copy + Integer> Reduced<T> {
     /// The numerator.
     #[inline]
     pub fn numer(&self) -> &T {
-        self.ratio.numer()
+        &self.ratio.numer
     }
 
     /// The denominator. It is positive, and has no common divisor above 1 with the numerator.
     #[inline]
     pub fn denom(&self) -> &T {
-        self.ratio.denom()
+        &self.ratio.denom
     }
 
     /// Whether the fraction is 0.

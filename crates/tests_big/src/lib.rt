@@ -4,11 +4,17 @@
 #[cfg(test)]
 mod edges;
 #[cfg(test)]
+mod equality;
+#[cfg(test)]
 mod long_sums;
 #[cfg(test)]
 mod made;
 #[cfg(test)]
 mod orders;
+#[cfg(test)]
+mod powers;
+#[cfg(test)]
+mod rounding;
 #[cfg(test)]
 mod signs;
 #[cfg(test)]

@@ -2,9 +2,13 @@
 #![tactic(auto)]
 
 #[cfg(test)]
+mod decimals;
+#[cfg(test)]
 mod edges;
 #[cfg(test)]
 mod equality;
+#[cfg(test)]
+mod floats;
 #[cfg(test)]
 mod long_sums;
 #[cfg(test)]
@@ -17,5 +21,7 @@ mod powers;
 mod rounding;
 #[cfg(test)]
 mod signs;
+#[cfg(test)]
+mod texts;
 #[cfg(test)]
 mod wide;

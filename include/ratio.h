@@ -6,7 +6,7 @@
  * totals, near the end, take one total or give one answer, and those that split an amount return a code.
  *
  * No call overflows, stops the program or allocates memory, whatever the numbers are. The arrays that a call writes may not overlap any
- * other array, and no pointer may be null.
+ * other array. A pointer may be null only where its length is 0: then there are no items, as in an empty std::vector.
  *
  * Threads: the library keeps no state, so all calls may run at once, if none writes an array that another one uses.
  *

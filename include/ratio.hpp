@@ -224,9 +224,7 @@ private:
     static ratio_answer_i64 read(std::string_view text) {
         const ratio_span all{0, text.size()};
         ratio_answer_i64 answer{};
-        // The library takes no null pointer, which an empty view may have.
-        const char *bytes = text.empty() ? "" : text.data();
-        detail::done(ratio_read_text_i64(reinterpret_cast<const std::uint8_t *>(bytes), text.size(), &all, 1, &answer, 1));
+        detail::done(ratio_read_text_i64(reinterpret_cast<const std::uint8_t *>(text.data()), text.size(), &all, 1, &answer, 1));
         return answer;
     }
 

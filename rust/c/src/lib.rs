@@ -9,6 +9,28 @@ extern "C" {
     fn abort() -> !;
 }
 
+/// The items that a caller hands over. Where there are none, the pointer may be null, or anything else.
+///
+/// # Safety
+/// If the count is not 0, so many items are at the pointer.
+unsafe fn items<'a, T>(start: *const T, count: usize) -> &'a [T] {
+    if count == 0 {
+        return &[];
+    }
+    core::slice::from_raw_parts(start, count)
+}
+
+/// The same for items that the call writes.
+///
+/// # Safety
+/// As for `items`. No other array has any of them.
+unsafe fn items_mut<'a, T>(start: *mut T, count: usize) -> &'a mut [T] {
+    if count == 0 {
+        return &mut [];
+    }
+    core::slice::from_raw_parts_mut(start, count)
+}
+
 /// No call panics, as the proofs show. If one did, the program would end here.
 #[panic_handler]
 fn panic(_: &core::panic::PanicInfo) -> ! {

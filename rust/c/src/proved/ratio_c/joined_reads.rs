@@ -96,8 +96,8 @@ fn print_answer(digits: u64, places: u32, rule: u32, room: &mut [u64], texts: &m
 #[no_mangle]
 pub unsafe extern "C" fn ratio_joined_sum_i64(digits: u64, room: *mut u64, room_len: usize, answers: *mut Answer64, answers_len: usize) -> u32 {
     // SAFETY: the header says what the caller owes for each pointer and its length.
-    let room = core::slice::from_raw_parts_mut(room, room_len);
-    let answers = core::slice::from_raw_parts_mut(answers, answers_len);
+    let room = crate::items_mut(room, room_len);
+    let answers = crate::items_mut(answers, answers_len);
     if answers.len() != 1 {
         return BAD_LENGTH;
     }
@@ -109,8 +109,8 @@ pub unsafe extern "C" fn ratio_joined_sum_i64(digits: u64, room: *mut u64, room_
 #[no_mangle]
 pub unsafe extern "C" fn ratio_joined_mean_i64(digits: u64, count: i64, room: *mut u64, room_len: usize, answers: *mut Answer64, answers_len: usize) -> u32 {
     // SAFETY: the header says what the caller owes for each pointer and its length.
-    let room = core::slice::from_raw_parts_mut(room, room_len);
-    let answers = core::slice::from_raw_parts_mut(answers, answers_len);
+    let room = crate::items_mut(room, room_len);
+    let answers = crate::items_mut(answers, answers_len);
     if answers.len() != 1 {
         return BAD_LENGTH;
     }
@@ -122,8 +122,8 @@ pub unsafe extern "C" fn ratio_joined_mean_i64(digits: u64, count: i64, room: *m
 #[no_mangle]
 pub unsafe extern "C" fn ratio_joined_sign_i64(digits: u64, room: *mut u64, room_len: usize, answers: *mut Order, answers_len: usize) -> u32 {
     // SAFETY: the header says what the caller owes for each pointer and its length.
-    let room = core::slice::from_raw_parts_mut(room, room_len);
-    let answers = core::slice::from_raw_parts_mut(answers, answers_len);
+    let room = crate::items_mut(room, room_len);
+    let answers = crate::items_mut(answers, answers_len);
     if answers.len() != 1 {
         return BAD_LENGTH;
     }
@@ -135,8 +135,8 @@ pub unsafe extern "C" fn ratio_joined_sign_i64(digits: u64, room: *mut u64, room
 #[no_mangle]
 pub unsafe extern "C" fn ratio_joined_to_f64_i64(digits: u64, room: *mut u64, room_len: usize, answers: *mut Float, answers_len: usize) -> u32 {
     // SAFETY: the header says what the caller owes for each pointer and its length.
-    let room = core::slice::from_raw_parts_mut(room, room_len);
-    let answers = core::slice::from_raw_parts_mut(answers, answers_len);
+    let room = crate::items_mut(room, room_len);
+    let answers = crate::items_mut(answers, answers_len);
     if answers.len() != 1 {
         return BAD_LENGTH;
     }
@@ -148,9 +148,9 @@ pub unsafe extern "C" fn ratio_joined_to_f64_i64(digits: u64, room: *mut u64, ro
 #[no_mangle]
 pub unsafe extern "C" fn ratio_joined_print_i64(digits: u64, places: u32, rule: u32, room: *mut u64, room_len: usize, texts: *mut u8, texts_len: usize, answers: *mut Text, answers_len: usize) -> u32 {
     // SAFETY: the header says what the caller owes for each pointer and its length.
-    let room = core::slice::from_raw_parts_mut(room, room_len);
-    let texts = core::slice::from_raw_parts_mut(texts, texts_len);
-    let answers = core::slice::from_raw_parts_mut(answers, answers_len);
+    let room = crate::items_mut(room, room_len);
+    let texts = crate::items_mut(texts, texts_len);
+    let answers = crate::items_mut(answers, answers_len);
     if answers.len() != 1 {
         return BAD_LENGTH;
     }

@@ -51,7 +51,7 @@ fn size_key(n: u64, d: u64) -> i64 {
 #[no_mangle]
 pub unsafe extern "C" fn ratio_key_i64(asked: *const Fraction64, asked_len: usize, answers: *mut Key, answers_len: usize) -> u32 {
     // SAFETY: the header says what the caller owes for each pointer and its length.
-    let asked = core::slice::from_raw_parts(asked, asked_len);
-    let answers = core::slice::from_raw_parts_mut(answers, answers_len);
+    let asked = crate::items(asked, asked_len);
+    let answers = crate::items_mut(answers, answers_len);
     each(&Keying, asked, answers)
 }

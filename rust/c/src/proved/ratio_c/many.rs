@@ -67,10 +67,10 @@ fn quotient_answer(above: &[Fraction64], below: &[Fraction64], room: &mut [i64])
 #[no_mangle]
 pub unsafe extern "C" fn ratio_quotient_of_i64(above: *const Fraction64, above_len: usize, below: *const Fraction64, below_len: usize, room: *mut i64, room_len: usize, answers: *mut Answer64, answers_len: usize) -> u32 {
     // SAFETY: the header says what the caller owes for each pointer and its length.
-    let above = core::slice::from_raw_parts(above, above_len);
-    let below = core::slice::from_raw_parts(below, below_len);
-    let room = core::slice::from_raw_parts_mut(room, room_len);
-    let answers = core::slice::from_raw_parts_mut(answers, answers_len);
+    let above = crate::items(above, above_len);
+    let below = crate::items(below, below_len);
+    let room = crate::items_mut(room, room_len);
+    let answers = crate::items_mut(answers, answers_len);
     if answers.len() != 1 {
         return BAD_LENGTH;
     }

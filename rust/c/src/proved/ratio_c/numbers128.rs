@@ -322,8 +322,8 @@ impl Reply<i128> for Answer128 {
 #[no_mangle]
 pub unsafe extern "C" fn ratio_compare_i128(asked: *const Pair128, asked_len: usize, answers: *mut Order, answers_len: usize) -> u32 {
     // SAFETY: the header says what the caller owes for each pointer and its length.
-    let asked = core::slice::from_raw_parts(asked, asked_len);
-    let answers = core::slice::from_raw_parts_mut(answers, answers_len);
+    let asked = crate::items(asked, asked_len);
+    let answers = crate::items_mut(answers, answers_len);
     each(&Comparison, asked, answers)
 }
 
@@ -331,8 +331,8 @@ pub unsafe extern "C" fn ratio_compare_i128(asked: *const Pair128, asked_len: us
 #[no_mangle]
 pub unsafe extern "C" fn ratio_equal_i128(asked: *const Pair128, asked_len: usize, answers: *mut Truth, answers_len: usize) -> u32 {
     // SAFETY: the header says what the caller owes for each pointer and its length.
-    let asked = core::slice::from_raw_parts(asked, asked_len);
-    let answers = core::slice::from_raw_parts_mut(answers, answers_len);
+    let asked = crate::items(asked, asked_len);
+    let answers = crate::items_mut(answers, answers_len);
     each(&Equality, asked, answers)
 }
 
@@ -340,8 +340,8 @@ pub unsafe extern "C" fn ratio_equal_i128(asked: *const Pair128, asked_len: usiz
 #[no_mangle]
 pub unsafe extern "C" fn ratio_hash_i128(asked: *const Fraction128, asked_len: usize, answers: *mut Hash, answers_len: usize) -> u32 {
     // SAFETY: the header says what the caller owes for each pointer and its length.
-    let asked = core::slice::from_raw_parts(asked, asked_len);
-    let answers = core::slice::from_raw_parts_mut(answers, answers_len);
+    let asked = crate::items(asked, asked_len);
+    let answers = crate::items_mut(answers, answers_len);
     each(&Hashing, asked, answers)
 }
 
@@ -349,8 +349,8 @@ pub unsafe extern "C" fn ratio_hash_i128(asked: *const Fraction128, asked_len: u
 #[no_mangle]
 pub unsafe extern "C" fn ratio_add_i128(asked: *const Pair128, asked_len: usize, answers: *mut Answer128, answers_len: usize) -> u32 {
     // SAFETY: the header says what the caller owes for each pointer and its length.
-    let asked = core::slice::from_raw_parts(asked, asked_len);
-    let answers = core::slice::from_raw_parts_mut(answers, answers_len);
+    let asked = crate::items(asked, asked_len);
+    let answers = crate::items_mut(answers, answers_len);
     each(&Sum, asked, answers)
 }
 
@@ -358,8 +358,8 @@ pub unsafe extern "C" fn ratio_add_i128(asked: *const Pair128, asked_len: usize,
 #[no_mangle]
 pub unsafe extern "C" fn ratio_sub_i128(asked: *const Pair128, asked_len: usize, answers: *mut Answer128, answers_len: usize) -> u32 {
     // SAFETY: the header says what the caller owes for each pointer and its length.
-    let asked = core::slice::from_raw_parts(asked, asked_len);
-    let answers = core::slice::from_raw_parts_mut(answers, answers_len);
+    let asked = crate::items(asked, asked_len);
+    let answers = crate::items_mut(answers, answers_len);
     each(&Difference, asked, answers)
 }
 
@@ -367,8 +367,8 @@ pub unsafe extern "C" fn ratio_sub_i128(asked: *const Pair128, asked_len: usize,
 #[no_mangle]
 pub unsafe extern "C" fn ratio_mul_i128(asked: *const Pair128, asked_len: usize, answers: *mut Answer128, answers_len: usize) -> u32 {
     // SAFETY: the header says what the caller owes for each pointer and its length.
-    let asked = core::slice::from_raw_parts(asked, asked_len);
-    let answers = core::slice::from_raw_parts_mut(answers, answers_len);
+    let asked = crate::items(asked, asked_len);
+    let answers = crate::items_mut(answers, answers_len);
     each(&Product, asked, answers)
 }
 
@@ -376,8 +376,8 @@ pub unsafe extern "C" fn ratio_mul_i128(asked: *const Pair128, asked_len: usize,
 #[no_mangle]
 pub unsafe extern "C" fn ratio_div_i128(asked: *const Pair128, asked_len: usize, answers: *mut Answer128, answers_len: usize) -> u32 {
     // SAFETY: the header says what the caller owes for each pointer and its length.
-    let asked = core::slice::from_raw_parts(asked, asked_len);
-    let answers = core::slice::from_raw_parts_mut(answers, answers_len);
+    let asked = crate::items(asked, asked_len);
+    let answers = crate::items_mut(answers, answers_len);
     each(&Quotient, asked, answers)
 }
 
@@ -385,8 +385,8 @@ pub unsafe extern "C" fn ratio_div_i128(asked: *const Pair128, asked_len: usize,
 #[no_mangle]
 pub unsafe extern "C" fn ratio_rem_i128(asked: *const Pair128, asked_len: usize, answers: *mut Answer128, answers_len: usize) -> u32 {
     // SAFETY: the header says what the caller owes for each pointer and its length.
-    let asked = core::slice::from_raw_parts(asked, asked_len);
-    let answers = core::slice::from_raw_parts_mut(answers, answers_len);
+    let asked = crate::items(asked, asked_len);
+    let answers = crate::items_mut(answers, answers_len);
     each(&Remainder, asked, answers)
 }
 
@@ -394,8 +394,8 @@ pub unsafe extern "C" fn ratio_rem_i128(asked: *const Pair128, asked_len: usize,
 #[no_mangle]
 pub unsafe extern "C" fn ratio_gcd_i128(asked: *const Pair128, asked_len: usize, answers: *mut Answer128, answers_len: usize) -> u32 {
     // SAFETY: the header says what the caller owes for each pointer and its length.
-    let asked = core::slice::from_raw_parts(asked, asked_len);
-    let answers = core::slice::from_raw_parts_mut(answers, answers_len);
+    let asked = crate::items(asked, asked_len);
+    let answers = crate::items_mut(answers, answers_len);
     each(&CommonDivisor, asked, answers)
 }
 
@@ -403,8 +403,8 @@ pub unsafe extern "C" fn ratio_gcd_i128(asked: *const Pair128, asked_len: usize,
 #[no_mangle]
 pub unsafe extern "C" fn ratio_lcm_i128(asked: *const Pair128, asked_len: usize, answers: *mut Answer128, answers_len: usize) -> u32 {
     // SAFETY: the header says what the caller owes for each pointer and its length.
-    let asked = core::slice::from_raw_parts(asked, asked_len);
-    let answers = core::slice::from_raw_parts_mut(answers, answers_len);
+    let asked = crate::items(asked, asked_len);
+    let answers = crate::items_mut(answers, answers_len);
     each(&CommonMultiple, asked, answers)
 }
 
@@ -412,8 +412,8 @@ pub unsafe extern "C" fn ratio_lcm_i128(asked: *const Pair128, asked_len: usize,
 #[no_mangle]
 pub unsafe extern "C" fn ratio_mul_round_i128(asked: *const Factors128, asked_len: usize, answers: *mut Answer128, answers_len: usize) -> u32 {
     // SAFETY: the header says what the caller owes for each pointer and its length.
-    let asked = core::slice::from_raw_parts(asked, asked_len);
-    let answers = core::slice::from_raw_parts_mut(answers, answers_len);
+    let asked = crate::items(asked, asked_len);
+    let answers = crate::items_mut(answers, answers_len);
     each(&RoundedProduct, asked, answers)
 }
 
@@ -421,8 +421,8 @@ pub unsafe extern "C" fn ratio_mul_round_i128(asked: *const Factors128, asked_le
 #[no_mangle]
 pub unsafe extern "C" fn ratio_mul_round_to_i128(asked: *const Operands128, asked_len: usize, answers: *mut Answer128, answers_len: usize) -> u32 {
     // SAFETY: the header says what the caller owes for each pointer and its length.
-    let asked = core::slice::from_raw_parts(asked, asked_len);
-    let answers = core::slice::from_raw_parts_mut(answers, answers_len);
+    let asked = crate::items(asked, asked_len);
+    let answers = crate::items_mut(answers, answers_len);
     each(&ProductTo, asked, answers)
 }
 
@@ -430,8 +430,8 @@ pub unsafe extern "C" fn ratio_mul_round_to_i128(asked: *const Operands128, aske
 #[no_mangle]
 pub unsafe extern "C" fn ratio_div_round_to_i128(asked: *const Operands128, asked_len: usize, answers: *mut Answer128, answers_len: usize) -> u32 {
     // SAFETY: the header says what the caller owes for each pointer and its length.
-    let asked = core::slice::from_raw_parts(asked, asked_len);
-    let answers = core::slice::from_raw_parts_mut(answers, answers_len);
+    let asked = crate::items(asked, asked_len);
+    let answers = crate::items_mut(answers, answers_len);
     each(&QuotientTo, asked, answers)
 }
 
@@ -439,8 +439,8 @@ pub unsafe extern "C" fn ratio_div_round_to_i128(asked: *const Operands128, aske
 #[no_mangle]
 pub unsafe extern "C" fn ratio_reduce_i128(asked: *const Fraction128, asked_len: usize, answers: *mut Answer128, answers_len: usize) -> u32 {
     // SAFETY: the header says what the caller owes for each pointer and its length.
-    let asked = core::slice::from_raw_parts(asked, asked_len);
-    let answers = core::slice::from_raw_parts_mut(answers, answers_len);
+    let asked = crate::items(asked, asked_len);
+    let answers = crate::items_mut(answers, answers_len);
     each(&LowestTerms, asked, answers)
 }
 
@@ -448,8 +448,8 @@ pub unsafe extern "C" fn ratio_reduce_i128(asked: *const Fraction128, asked_len:
 #[no_mangle]
 pub unsafe extern "C" fn ratio_neg_i128(asked: *const Fraction128, asked_len: usize, answers: *mut Answer128, answers_len: usize) -> u32 {
     // SAFETY: the header says what the caller owes for each pointer and its length.
-    let asked = core::slice::from_raw_parts(asked, asked_len);
-    let answers = core::slice::from_raw_parts_mut(answers, answers_len);
+    let asked = crate::items(asked, asked_len);
+    let answers = crate::items_mut(answers, answers_len);
     each(&Negation, asked, answers)
 }
 
@@ -457,8 +457,8 @@ pub unsafe extern "C" fn ratio_neg_i128(asked: *const Fraction128, asked_len: us
 #[no_mangle]
 pub unsafe extern "C" fn ratio_abs_i128(asked: *const Fraction128, asked_len: usize, answers: *mut Answer128, answers_len: usize) -> u32 {
     // SAFETY: the header says what the caller owes for each pointer and its length.
-    let asked = core::slice::from_raw_parts(asked, asked_len);
-    let answers = core::slice::from_raw_parts_mut(answers, answers_len);
+    let asked = crate::items(asked, asked_len);
+    let answers = crate::items_mut(answers, answers_len);
     each(&Absolute, asked, answers)
 }
 
@@ -466,8 +466,8 @@ pub unsafe extern "C" fn ratio_abs_i128(asked: *const Fraction128, asked_len: us
 #[no_mangle]
 pub unsafe extern "C" fn ratio_floor_i128(asked: *const Fraction128, asked_len: usize, answers: *mut Answer128, answers_len: usize) -> u32 {
     // SAFETY: the header says what the caller owes for each pointer and its length.
-    let asked = core::slice::from_raw_parts(asked, asked_len);
-    let answers = core::slice::from_raw_parts_mut(answers, answers_len);
+    let asked = crate::items(asked, asked_len);
+    let answers = crate::items_mut(answers, answers_len);
     each(&Floor, asked, answers)
 }
 
@@ -475,8 +475,8 @@ pub unsafe extern "C" fn ratio_floor_i128(asked: *const Fraction128, asked_len: 
 #[no_mangle]
 pub unsafe extern "C" fn ratio_ceil_i128(asked: *const Fraction128, asked_len: usize, answers: *mut Answer128, answers_len: usize) -> u32 {
     // SAFETY: the header says what the caller owes for each pointer and its length.
-    let asked = core::slice::from_raw_parts(asked, asked_len);
-    let answers = core::slice::from_raw_parts_mut(answers, answers_len);
+    let asked = crate::items(asked, asked_len);
+    let answers = crate::items_mut(answers, answers_len);
     each(&Ceiling, asked, answers)
 }
 
@@ -484,8 +484,8 @@ pub unsafe extern "C" fn ratio_ceil_i128(asked: *const Fraction128, asked_len: u
 #[no_mangle]
 pub unsafe extern "C" fn ratio_trunc_i128(asked: *const Fraction128, asked_len: usize, answers: *mut Answer128, answers_len: usize) -> u32 {
     // SAFETY: the header says what the caller owes for each pointer and its length.
-    let asked = core::slice::from_raw_parts(asked, asked_len);
-    let answers = core::slice::from_raw_parts_mut(answers, answers_len);
+    let asked = crate::items(asked, asked_len);
+    let answers = crate::items_mut(answers, answers_len);
     each(&Truncation, asked, answers)
 }
 
@@ -493,8 +493,8 @@ pub unsafe extern "C" fn ratio_trunc_i128(asked: *const Fraction128, asked_len: 
 #[no_mangle]
 pub unsafe extern "C" fn ratio_round_i128(asked: *const Fraction128, asked_len: usize, answers: *mut Answer128, answers_len: usize) -> u32 {
     // SAFETY: the header says what the caller owes for each pointer and its length.
-    let asked = core::slice::from_raw_parts(asked, asked_len);
-    let answers = core::slice::from_raw_parts_mut(answers, answers_len);
+    let asked = crate::items(asked, asked_len);
+    let answers = crate::items_mut(answers, answers_len);
     each(&RoundingToWhole, asked, answers)
 }
 
@@ -502,8 +502,8 @@ pub unsafe extern "C" fn ratio_round_i128(asked: *const Fraction128, asked_len: 
 #[no_mangle]
 pub unsafe extern "C" fn ratio_pow_i128(asked: *const Power128, asked_len: usize, answers: *mut Answer128, answers_len: usize) -> u32 {
     // SAFETY: the header says what the caller owes for each pointer and its length.
-    let asked = core::slice::from_raw_parts(asked, asked_len);
-    let answers = core::slice::from_raw_parts_mut(answers, answers_len);
+    let asked = crate::items(asked, asked_len);
+    let answers = crate::items_mut(answers, answers_len);
     each(&Raising, asked, answers)
 }
 
@@ -511,8 +511,8 @@ pub unsafe extern "C" fn ratio_pow_i128(asked: *const Power128, asked_len: usize
 #[no_mangle]
 pub unsafe extern "C" fn ratio_nearest_i128(asked: *const Bounded128, asked_len: usize, answers: *mut Answer128, answers_len: usize) -> u32 {
     // SAFETY: the header says what the caller owes for each pointer and its length.
-    let asked = core::slice::from_raw_parts(asked, asked_len);
-    let answers = core::slice::from_raw_parts_mut(answers, answers_len);
+    let asked = crate::items(asked, asked_len);
+    let answers = crate::items_mut(answers, answers_len);
     each(&Nearest, asked, answers)
 }
 
@@ -520,8 +520,8 @@ pub unsafe extern "C" fn ratio_nearest_i128(asked: *const Bounded128, asked_len:
 #[no_mangle]
 pub unsafe extern "C" fn ratio_between_i128(asked: *const Bounds128, asked_len: usize, answers: *mut Answer128, answers_len: usize) -> u32 {
     // SAFETY: the header says what the caller owes for each pointer and its length.
-    let asked = core::slice::from_raw_parts(asked, asked_len);
-    let answers = core::slice::from_raw_parts_mut(answers, answers_len);
+    let asked = crate::items(asked, asked_len);
+    let answers = crate::items_mut(answers, answers_len);
     each(&Between, asked, answers)
 }
 
@@ -529,8 +529,8 @@ pub unsafe extern "C" fn ratio_between_i128(asked: *const Bounds128, asked_len: 
 #[no_mangle]
 pub unsafe extern "C" fn ratio_round_to_i128(asked: *const Multiple128, asked_len: usize, answers: *mut Answer128, answers_len: usize) -> u32 {
     // SAFETY: the header says what the caller owes for each pointer and its length.
-    let asked = core::slice::from_raw_parts(asked, asked_len);
-    let answers = core::slice::from_raw_parts_mut(answers, answers_len);
+    let asked = crate::items(asked, asked_len);
+    let answers = crate::items_mut(answers, answers_len);
     each(&RoundingTo, asked, answers)
 }
 
@@ -538,8 +538,8 @@ pub unsafe extern "C" fn ratio_round_to_i128(asked: *const Multiple128, asked_le
 #[no_mangle]
 pub unsafe extern "C" fn ratio_from_scaled_i128(asked: *const Scaled, asked_len: usize, answers: *mut Answer128, answers_len: usize) -> u32 {
     // SAFETY: the header says what the caller owes for each pointer and its length.
-    let asked = core::slice::from_raw_parts(asked, asked_len);
-    let answers = core::slice::from_raw_parts_mut(answers, answers_len);
+    let asked = crate::items(asked, asked_len);
+    let answers = crate::items_mut(answers, answers_len);
     each(&Scaling::<i128>::new(), asked, answers)
 }
 
@@ -547,8 +547,8 @@ pub unsafe extern "C" fn ratio_from_scaled_i128(asked: *const Scaled, asked_len:
 #[no_mangle]
 pub unsafe extern "C" fn ratio_convergent_i128(asked: *const Place128, asked_len: usize, answers: *mut Answer128, answers_len: usize) -> u32 {
     // SAFETY: the header says what the caller owes for each pointer and its length.
-    let asked = core::slice::from_raw_parts(asked, asked_len);
-    let answers = core::slice::from_raw_parts_mut(answers, answers_len);
+    let asked = crate::items(asked, asked_len);
+    let answers = crate::items_mut(answers, answers_len);
     each(&ConvergentAt, asked, answers)
 }
 
@@ -556,8 +556,8 @@ pub unsafe extern "C" fn ratio_convergent_i128(asked: *const Place128, asked_len
 #[no_mangle]
 pub unsafe extern "C" fn ratio_from_f64_i128(asked: *const f64, asked_len: usize, answers: *mut Answer128, answers_len: usize) -> u32 {
     // SAFETY: the header says what the caller owes for each pointer and its length.
-    let asked = core::slice::from_raw_parts(asked, asked_len);
-    let answers = core::slice::from_raw_parts_mut(answers, answers_len);
+    let asked = crate::items(asked, asked_len);
+    let answers = crate::items_mut(answers, answers_len);
     each(&FromFloat::<i128>::new(), asked, answers)
 }
 
@@ -565,8 +565,8 @@ pub unsafe extern "C" fn ratio_from_f64_i128(asked: *const f64, asked_len: usize
 #[no_mangle]
 pub unsafe extern "C" fn ratio_rationalize_i128(asked: *const f64, asked_len: usize, answers: *mut Answer128, answers_len: usize) -> u32 {
     // SAFETY: the header says what the caller owes for each pointer and its length.
-    let asked = core::slice::from_raw_parts(asked, asked_len);
-    let answers = core::slice::from_raw_parts_mut(answers, answers_len);
+    let asked = crate::items(asked, asked_len);
+    let answers = crate::items_mut(answers, answers_len);
     each(&Rationalizing::<i128>::new(), asked, answers)
 }
 
@@ -574,8 +574,8 @@ pub unsafe extern "C" fn ratio_rationalize_i128(asked: *const f64, asked_len: us
 #[no_mangle]
 pub unsafe extern "C" fn ratio_to_f64_i128(asked: *const Fraction128, asked_len: usize, answers: *mut Float, answers_len: usize) -> u32 {
     // SAFETY: the header says what the caller owes for each pointer and its length.
-    let asked = core::slice::from_raw_parts(asked, asked_len);
-    let answers = core::slice::from_raw_parts_mut(answers, answers_len);
+    let asked = crate::items(asked, asked_len);
+    let answers = crate::items_mut(answers, answers_len);
     each(&ToFloat, asked, answers)
 }
 
@@ -583,8 +583,8 @@ pub unsafe extern "C" fn ratio_to_f64_i128(asked: *const Fraction128, asked_len:
 #[no_mangle]
 pub unsafe extern "C" fn ratio_cast_i128_to_i32(asked: *const Fraction128, asked_len: usize, answers: *mut Answer32, answers_len: usize) -> u32 {
     // SAFETY: the header says what the caller owes for each pointer and its length.
-    let asked = core::slice::from_raw_parts(asked, asked_len);
-    let answers = core::slice::from_raw_parts_mut(answers, answers_len);
+    let asked = crate::items(asked, asked_len);
+    let answers = crate::items_mut(answers, answers_len);
     each(&Casting::<i32>::new(), asked, answers)
 }
 
@@ -592,8 +592,8 @@ pub unsafe extern "C" fn ratio_cast_i128_to_i32(asked: *const Fraction128, asked
 #[no_mangle]
 pub unsafe extern "C" fn ratio_cast_i128_to_i64(asked: *const Fraction128, asked_len: usize, answers: *mut Answer64, answers_len: usize) -> u32 {
     // SAFETY: the header says what the caller owes for each pointer and its length.
-    let asked = core::slice::from_raw_parts(asked, asked_len);
-    let answers = core::slice::from_raw_parts_mut(answers, answers_len);
+    let asked = crate::items(asked, asked_len);
+    let answers = crate::items_mut(answers, answers_len);
     each(&Casting::<i64>::new(), asked, answers)
 }
 
@@ -601,9 +601,9 @@ pub unsafe extern "C" fn ratio_cast_i128_to_i64(asked: *const Fraction128, asked
 #[no_mangle]
 pub unsafe extern "C" fn ratio_read_i128(texts: *const u8, texts_len: usize, spans: *const Span, spans_len: usize, answers: *mut Answer128, answers_len: usize) -> u32 {
     // SAFETY: the header says what the caller owes for each pointer and its length.
-    let texts = core::slice::from_raw_parts(texts, texts_len);
-    let spans = core::slice::from_raw_parts(spans, spans_len);
-    let answers = core::slice::from_raw_parts_mut(answers, answers_len);
+    let texts = crate::items(texts, texts_len);
+    let spans = crate::items(spans, spans_len);
+    let answers = crate::items_mut(answers, answers_len);
     let reader = Fractions::<i128>::new();
     each(&Reading { texts, reader }, spans, answers)
 }
@@ -612,9 +612,9 @@ pub unsafe extern "C" fn ratio_read_i128(texts: *const u8, texts_len: usize, spa
 #[no_mangle]
 pub unsafe extern "C" fn ratio_read_decimal_i128(texts: *const u8, texts_len: usize, spans: *const Span, spans_len: usize, answers: *mut Answer128, answers_len: usize) -> u32 {
     // SAFETY: the header says what the caller owes for each pointer and its length.
-    let texts = core::slice::from_raw_parts(texts, texts_len);
-    let spans = core::slice::from_raw_parts(spans, spans_len);
-    let answers = core::slice::from_raw_parts_mut(answers, answers_len);
+    let texts = crate::items(texts, texts_len);
+    let spans = crate::items(spans, spans_len);
+    let answers = crate::items_mut(answers, answers_len);
     let reader = DecimalTexts::<i128>::new();
     each(&Reading { texts, reader }, spans, answers)
 }
@@ -623,9 +623,9 @@ pub unsafe extern "C" fn ratio_read_decimal_i128(texts: *const u8, texts_len: us
 #[no_mangle]
 pub unsafe extern "C" fn ratio_read_text_i128(texts: *const u8, texts_len: usize, spans: *const Span, spans_len: usize, answers: *mut Answer128, answers_len: usize) -> u32 {
     // SAFETY: the header says what the caller owes for each pointer and its length.
-    let texts = core::slice::from_raw_parts(texts, texts_len);
-    let spans = core::slice::from_raw_parts(spans, spans_len);
-    let answers = core::slice::from_raw_parts_mut(answers, answers_len);
+    let texts = crate::items(texts, texts_len);
+    let spans = crate::items(spans, spans_len);
+    let answers = crate::items_mut(answers, answers_len);
     let reader = TypedTexts::<i128>::new();
     each(&Reading { texts, reader }, spans, answers)
 }
@@ -634,9 +634,9 @@ pub unsafe extern "C" fn ratio_read_text_i128(texts: *const u8, texts_len: usize
 #[no_mangle]
 pub unsafe extern "C" fn ratio_print_i128(asked: *const Fraction128, asked_len: usize, texts: *mut u8, texts_len: usize, answers: *mut Text, answers_len: usize) -> u32 {
     // SAFETY: the header says what the caller owes for each pointer and its length.
-    let asked = core::slice::from_raw_parts(asked, asked_len);
-    let texts = core::slice::from_raw_parts_mut(texts, texts_len);
-    let answers = core::slice::from_raw_parts_mut(answers, answers_len);
+    let asked = crate::items(asked, asked_len);
+    let texts = crate::items_mut(texts, texts_len);
+    let answers = crate::items_mut(answers, answers_len);
     print(&Fields, asked, ROOM, texts, answers)
 }
 
@@ -644,8 +644,8 @@ pub unsafe extern "C" fn ratio_print_i128(asked: *const Fraction128, asked_len: 
 #[no_mangle]
 pub unsafe extern "C" fn ratio_print_decimal_i128(asked: *const Decimal128, asked_len: usize, texts: *mut u8, texts_len: usize, answers: *mut Text, answers_len: usize) -> u32 {
     // SAFETY: the header says what the caller owes for each pointer and its length.
-    let asked = core::slice::from_raw_parts(asked, asked_len);
-    let texts = core::slice::from_raw_parts_mut(texts, texts_len);
-    let answers = core::slice::from_raw_parts_mut(answers, answers_len);
+    let asked = crate::items(asked, asked_len);
+    let texts = crate::items_mut(texts, texts_len);
+    let answers = crate::items_mut(answers, answers_len);
     print(&Decimals, asked, DECIMAL_ROOM, texts, answers)
 }

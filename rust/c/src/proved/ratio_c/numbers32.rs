@@ -319,8 +319,8 @@ impl Reply<i32> for Answer32 {
 #[no_mangle]
 pub unsafe extern "C" fn ratio_compare_i32(asked: *const Pair32, asked_len: usize, answers: *mut Order, answers_len: usize) -> u32 {
     // SAFETY: the header says what the caller owes for each pointer and its length.
-    let asked = core::slice::from_raw_parts(asked, asked_len);
-    let answers = core::slice::from_raw_parts_mut(answers, answers_len);
+    let asked = crate::items(asked, asked_len);
+    let answers = crate::items_mut(answers, answers_len);
     each(&Comparison, asked, answers)
 }
 
@@ -328,8 +328,8 @@ pub unsafe extern "C" fn ratio_compare_i32(asked: *const Pair32, asked_len: usiz
 #[no_mangle]
 pub unsafe extern "C" fn ratio_equal_i32(asked: *const Pair32, asked_len: usize, answers: *mut Truth, answers_len: usize) -> u32 {
     // SAFETY: the header says what the caller owes for each pointer and its length.
-    let asked = core::slice::from_raw_parts(asked, asked_len);
-    let answers = core::slice::from_raw_parts_mut(answers, answers_len);
+    let asked = crate::items(asked, asked_len);
+    let answers = crate::items_mut(answers, answers_len);
     each(&Equality, asked, answers)
 }
 
@@ -337,8 +337,8 @@ pub unsafe extern "C" fn ratio_equal_i32(asked: *const Pair32, asked_len: usize,
 #[no_mangle]
 pub unsafe extern "C" fn ratio_hash_i32(asked: *const Fraction32, asked_len: usize, answers: *mut Hash, answers_len: usize) -> u32 {
     // SAFETY: the header says what the caller owes for each pointer and its length.
-    let asked = core::slice::from_raw_parts(asked, asked_len);
-    let answers = core::slice::from_raw_parts_mut(answers, answers_len);
+    let asked = crate::items(asked, asked_len);
+    let answers = crate::items_mut(answers, answers_len);
     each(&Hashing, asked, answers)
 }
 
@@ -346,8 +346,8 @@ pub unsafe extern "C" fn ratio_hash_i32(asked: *const Fraction32, asked_len: usi
 #[no_mangle]
 pub unsafe extern "C" fn ratio_add_i32(asked: *const Pair32, asked_len: usize, answers: *mut Answer32, answers_len: usize) -> u32 {
     // SAFETY: the header says what the caller owes for each pointer and its length.
-    let asked = core::slice::from_raw_parts(asked, asked_len);
-    let answers = core::slice::from_raw_parts_mut(answers, answers_len);
+    let asked = crate::items(asked, asked_len);
+    let answers = crate::items_mut(answers, answers_len);
     each(&Sum, asked, answers)
 }
 
@@ -355,8 +355,8 @@ pub unsafe extern "C" fn ratio_add_i32(asked: *const Pair32, asked_len: usize, a
 #[no_mangle]
 pub unsafe extern "C" fn ratio_sub_i32(asked: *const Pair32, asked_len: usize, answers: *mut Answer32, answers_len: usize) -> u32 {
     // SAFETY: the header says what the caller owes for each pointer and its length.
-    let asked = core::slice::from_raw_parts(asked, asked_len);
-    let answers = core::slice::from_raw_parts_mut(answers, answers_len);
+    let asked = crate::items(asked, asked_len);
+    let answers = crate::items_mut(answers, answers_len);
     each(&Difference, asked, answers)
 }
 
@@ -364,8 +364,8 @@ pub unsafe extern "C" fn ratio_sub_i32(asked: *const Pair32, asked_len: usize, a
 #[no_mangle]
 pub unsafe extern "C" fn ratio_mul_i32(asked: *const Pair32, asked_len: usize, answers: *mut Answer32, answers_len: usize) -> u32 {
     // SAFETY: the header says what the caller owes for each pointer and its length.
-    let asked = core::slice::from_raw_parts(asked, asked_len);
-    let answers = core::slice::from_raw_parts_mut(answers, answers_len);
+    let asked = crate::items(asked, asked_len);
+    let answers = crate::items_mut(answers, answers_len);
     each(&Product, asked, answers)
 }
 
@@ -373,8 +373,8 @@ pub unsafe extern "C" fn ratio_mul_i32(asked: *const Pair32, asked_len: usize, a
 #[no_mangle]
 pub unsafe extern "C" fn ratio_div_i32(asked: *const Pair32, asked_len: usize, answers: *mut Answer32, answers_len: usize) -> u32 {
     // SAFETY: the header says what the caller owes for each pointer and its length.
-    let asked = core::slice::from_raw_parts(asked, asked_len);
-    let answers = core::slice::from_raw_parts_mut(answers, answers_len);
+    let asked = crate::items(asked, asked_len);
+    let answers = crate::items_mut(answers, answers_len);
     each(&Quotient, asked, answers)
 }
 
@@ -382,8 +382,8 @@ pub unsafe extern "C" fn ratio_div_i32(asked: *const Pair32, asked_len: usize, a
 #[no_mangle]
 pub unsafe extern "C" fn ratio_rem_i32(asked: *const Pair32, asked_len: usize, answers: *mut Answer32, answers_len: usize) -> u32 {
     // SAFETY: the header says what the caller owes for each pointer and its length.
-    let asked = core::slice::from_raw_parts(asked, asked_len);
-    let answers = core::slice::from_raw_parts_mut(answers, answers_len);
+    let asked = crate::items(asked, asked_len);
+    let answers = crate::items_mut(answers, answers_len);
     each(&Remainder, asked, answers)
 }
 
@@ -391,8 +391,8 @@ pub unsafe extern "C" fn ratio_rem_i32(asked: *const Pair32, asked_len: usize, a
 #[no_mangle]
 pub unsafe extern "C" fn ratio_gcd_i32(asked: *const Pair32, asked_len: usize, answers: *mut Answer32, answers_len: usize) -> u32 {
     // SAFETY: the header says what the caller owes for each pointer and its length.
-    let asked = core::slice::from_raw_parts(asked, asked_len);
-    let answers = core::slice::from_raw_parts_mut(answers, answers_len);
+    let asked = crate::items(asked, asked_len);
+    let answers = crate::items_mut(answers, answers_len);
     each(&CommonDivisor, asked, answers)
 }
 
@@ -400,8 +400,8 @@ pub unsafe extern "C" fn ratio_gcd_i32(asked: *const Pair32, asked_len: usize, a
 #[no_mangle]
 pub unsafe extern "C" fn ratio_lcm_i32(asked: *const Pair32, asked_len: usize, answers: *mut Answer32, answers_len: usize) -> u32 {
     // SAFETY: the header says what the caller owes for each pointer and its length.
-    let asked = core::slice::from_raw_parts(asked, asked_len);
-    let answers = core::slice::from_raw_parts_mut(answers, answers_len);
+    let asked = crate::items(asked, asked_len);
+    let answers = crate::items_mut(answers, answers_len);
     each(&CommonMultiple, asked, answers)
 }
 
@@ -409,8 +409,8 @@ pub unsafe extern "C" fn ratio_lcm_i32(asked: *const Pair32, asked_len: usize, a
 #[no_mangle]
 pub unsafe extern "C" fn ratio_mul_round_i32(asked: *const Factors32, asked_len: usize, answers: *mut Answer32, answers_len: usize) -> u32 {
     // SAFETY: the header says what the caller owes for each pointer and its length.
-    let asked = core::slice::from_raw_parts(asked, asked_len);
-    let answers = core::slice::from_raw_parts_mut(answers, answers_len);
+    let asked = crate::items(asked, asked_len);
+    let answers = crate::items_mut(answers, answers_len);
     each(&RoundedProduct, asked, answers)
 }
 
@@ -418,8 +418,8 @@ pub unsafe extern "C" fn ratio_mul_round_i32(asked: *const Factors32, asked_len:
 #[no_mangle]
 pub unsafe extern "C" fn ratio_mul_round_to_i32(asked: *const Operands32, asked_len: usize, answers: *mut Answer32, answers_len: usize) -> u32 {
     // SAFETY: the header says what the caller owes for each pointer and its length.
-    let asked = core::slice::from_raw_parts(asked, asked_len);
-    let answers = core::slice::from_raw_parts_mut(answers, answers_len);
+    let asked = crate::items(asked, asked_len);
+    let answers = crate::items_mut(answers, answers_len);
     each(&ProductTo, asked, answers)
 }
 
@@ -427,8 +427,8 @@ pub unsafe extern "C" fn ratio_mul_round_to_i32(asked: *const Operands32, asked_
 #[no_mangle]
 pub unsafe extern "C" fn ratio_div_round_to_i32(asked: *const Operands32, asked_len: usize, answers: *mut Answer32, answers_len: usize) -> u32 {
     // SAFETY: the header says what the caller owes for each pointer and its length.
-    let asked = core::slice::from_raw_parts(asked, asked_len);
-    let answers = core::slice::from_raw_parts_mut(answers, answers_len);
+    let asked = crate::items(asked, asked_len);
+    let answers = crate::items_mut(answers, answers_len);
     each(&QuotientTo, asked, answers)
 }
 
@@ -436,8 +436,8 @@ pub unsafe extern "C" fn ratio_div_round_to_i32(asked: *const Operands32, asked_
 #[no_mangle]
 pub unsafe extern "C" fn ratio_reduce_i32(asked: *const Fraction32, asked_len: usize, answers: *mut Answer32, answers_len: usize) -> u32 {
     // SAFETY: the header says what the caller owes for each pointer and its length.
-    let asked = core::slice::from_raw_parts(asked, asked_len);
-    let answers = core::slice::from_raw_parts_mut(answers, answers_len);
+    let asked = crate::items(asked, asked_len);
+    let answers = crate::items_mut(answers, answers_len);
     each(&LowestTerms, asked, answers)
 }
 
@@ -445,8 +445,8 @@ pub unsafe extern "C" fn ratio_reduce_i32(asked: *const Fraction32, asked_len: u
 #[no_mangle]
 pub unsafe extern "C" fn ratio_neg_i32(asked: *const Fraction32, asked_len: usize, answers: *mut Answer32, answers_len: usize) -> u32 {
     // SAFETY: the header says what the caller owes for each pointer and its length.
-    let asked = core::slice::from_raw_parts(asked, asked_len);
-    let answers = core::slice::from_raw_parts_mut(answers, answers_len);
+    let asked = crate::items(asked, asked_len);
+    let answers = crate::items_mut(answers, answers_len);
     each(&Negation, asked, answers)
 }
 
@@ -454,8 +454,8 @@ pub unsafe extern "C" fn ratio_neg_i32(asked: *const Fraction32, asked_len: usiz
 #[no_mangle]
 pub unsafe extern "C" fn ratio_abs_i32(asked: *const Fraction32, asked_len: usize, answers: *mut Answer32, answers_len: usize) -> u32 {
     // SAFETY: the header says what the caller owes for each pointer and its length.
-    let asked = core::slice::from_raw_parts(asked, asked_len);
-    let answers = core::slice::from_raw_parts_mut(answers, answers_len);
+    let asked = crate::items(asked, asked_len);
+    let answers = crate::items_mut(answers, answers_len);
     each(&Absolute, asked, answers)
 }
 
@@ -463,8 +463,8 @@ pub unsafe extern "C" fn ratio_abs_i32(asked: *const Fraction32, asked_len: usiz
 #[no_mangle]
 pub unsafe extern "C" fn ratio_floor_i32(asked: *const Fraction32, asked_len: usize, answers: *mut Answer32, answers_len: usize) -> u32 {
     // SAFETY: the header says what the caller owes for each pointer and its length.
-    let asked = core::slice::from_raw_parts(asked, asked_len);
-    let answers = core::slice::from_raw_parts_mut(answers, answers_len);
+    let asked = crate::items(asked, asked_len);
+    let answers = crate::items_mut(answers, answers_len);
     each(&Floor, asked, answers)
 }
 
@@ -472,8 +472,8 @@ pub unsafe extern "C" fn ratio_floor_i32(asked: *const Fraction32, asked_len: us
 #[no_mangle]
 pub unsafe extern "C" fn ratio_ceil_i32(asked: *const Fraction32, asked_len: usize, answers: *mut Answer32, answers_len: usize) -> u32 {
     // SAFETY: the header says what the caller owes for each pointer and its length.
-    let asked = core::slice::from_raw_parts(asked, asked_len);
-    let answers = core::slice::from_raw_parts_mut(answers, answers_len);
+    let asked = crate::items(asked, asked_len);
+    let answers = crate::items_mut(answers, answers_len);
     each(&Ceiling, asked, answers)
 }
 
@@ -481,8 +481,8 @@ pub unsafe extern "C" fn ratio_ceil_i32(asked: *const Fraction32, asked_len: usi
 #[no_mangle]
 pub unsafe extern "C" fn ratio_trunc_i32(asked: *const Fraction32, asked_len: usize, answers: *mut Answer32, answers_len: usize) -> u32 {
     // SAFETY: the header says what the caller owes for each pointer and its length.
-    let asked = core::slice::from_raw_parts(asked, asked_len);
-    let answers = core::slice::from_raw_parts_mut(answers, answers_len);
+    let asked = crate::items(asked, asked_len);
+    let answers = crate::items_mut(answers, answers_len);
     each(&Truncation, asked, answers)
 }
 
@@ -490,8 +490,8 @@ pub unsafe extern "C" fn ratio_trunc_i32(asked: *const Fraction32, asked_len: us
 #[no_mangle]
 pub unsafe extern "C" fn ratio_round_i32(asked: *const Fraction32, asked_len: usize, answers: *mut Answer32, answers_len: usize) -> u32 {
     // SAFETY: the header says what the caller owes for each pointer and its length.
-    let asked = core::slice::from_raw_parts(asked, asked_len);
-    let answers = core::slice::from_raw_parts_mut(answers, answers_len);
+    let asked = crate::items(asked, asked_len);
+    let answers = crate::items_mut(answers, answers_len);
     each(&RoundingToWhole, asked, answers)
 }
 
@@ -499,8 +499,8 @@ pub unsafe extern "C" fn ratio_round_i32(asked: *const Fraction32, asked_len: us
 #[no_mangle]
 pub unsafe extern "C" fn ratio_pow_i32(asked: *const Power32, asked_len: usize, answers: *mut Answer32, answers_len: usize) -> u32 {
     // SAFETY: the header says what the caller owes for each pointer and its length.
-    let asked = core::slice::from_raw_parts(asked, asked_len);
-    let answers = core::slice::from_raw_parts_mut(answers, answers_len);
+    let asked = crate::items(asked, asked_len);
+    let answers = crate::items_mut(answers, answers_len);
     each(&Raising, asked, answers)
 }
 
@@ -508,8 +508,8 @@ pub unsafe extern "C" fn ratio_pow_i32(asked: *const Power32, asked_len: usize, 
 #[no_mangle]
 pub unsafe extern "C" fn ratio_nearest_i32(asked: *const Bounded32, asked_len: usize, answers: *mut Answer32, answers_len: usize) -> u32 {
     // SAFETY: the header says what the caller owes for each pointer and its length.
-    let asked = core::slice::from_raw_parts(asked, asked_len);
-    let answers = core::slice::from_raw_parts_mut(answers, answers_len);
+    let asked = crate::items(asked, asked_len);
+    let answers = crate::items_mut(answers, answers_len);
     each(&Nearest, asked, answers)
 }
 
@@ -517,8 +517,8 @@ pub unsafe extern "C" fn ratio_nearest_i32(asked: *const Bounded32, asked_len: u
 #[no_mangle]
 pub unsafe extern "C" fn ratio_between_i32(asked: *const Bounds32, asked_len: usize, answers: *mut Answer32, answers_len: usize) -> u32 {
     // SAFETY: the header says what the caller owes for each pointer and its length.
-    let asked = core::slice::from_raw_parts(asked, asked_len);
-    let answers = core::slice::from_raw_parts_mut(answers, answers_len);
+    let asked = crate::items(asked, asked_len);
+    let answers = crate::items_mut(answers, answers_len);
     each(&Between, asked, answers)
 }
 
@@ -526,8 +526,8 @@ pub unsafe extern "C" fn ratio_between_i32(asked: *const Bounds32, asked_len: us
 #[no_mangle]
 pub unsafe extern "C" fn ratio_round_to_i32(asked: *const Multiple32, asked_len: usize, answers: *mut Answer32, answers_len: usize) -> u32 {
     // SAFETY: the header says what the caller owes for each pointer and its length.
-    let asked = core::slice::from_raw_parts(asked, asked_len);
-    let answers = core::slice::from_raw_parts_mut(answers, answers_len);
+    let asked = crate::items(asked, asked_len);
+    let answers = crate::items_mut(answers, answers_len);
     each(&RoundingTo, asked, answers)
 }
 
@@ -535,8 +535,8 @@ pub unsafe extern "C" fn ratio_round_to_i32(asked: *const Multiple32, asked_len:
 #[no_mangle]
 pub unsafe extern "C" fn ratio_from_scaled_i32(asked: *const Scaled, asked_len: usize, answers: *mut Answer32, answers_len: usize) -> u32 {
     // SAFETY: the header says what the caller owes for each pointer and its length.
-    let asked = core::slice::from_raw_parts(asked, asked_len);
-    let answers = core::slice::from_raw_parts_mut(answers, answers_len);
+    let asked = crate::items(asked, asked_len);
+    let answers = crate::items_mut(answers, answers_len);
     each(&Scaling::<i32>::new(), asked, answers)
 }
 
@@ -544,8 +544,8 @@ pub unsafe extern "C" fn ratio_from_scaled_i32(asked: *const Scaled, asked_len: 
 #[no_mangle]
 pub unsafe extern "C" fn ratio_convergent_i32(asked: *const Place32, asked_len: usize, answers: *mut Answer32, answers_len: usize) -> u32 {
     // SAFETY: the header says what the caller owes for each pointer and its length.
-    let asked = core::slice::from_raw_parts(asked, asked_len);
-    let answers = core::slice::from_raw_parts_mut(answers, answers_len);
+    let asked = crate::items(asked, asked_len);
+    let answers = crate::items_mut(answers, answers_len);
     each(&ConvergentAt, asked, answers)
 }
 
@@ -553,8 +553,8 @@ pub unsafe extern "C" fn ratio_convergent_i32(asked: *const Place32, asked_len: 
 #[no_mangle]
 pub unsafe extern "C" fn ratio_from_f64_i32(asked: *const f64, asked_len: usize, answers: *mut Answer32, answers_len: usize) -> u32 {
     // SAFETY: the header says what the caller owes for each pointer and its length.
-    let asked = core::slice::from_raw_parts(asked, asked_len);
-    let answers = core::slice::from_raw_parts_mut(answers, answers_len);
+    let asked = crate::items(asked, asked_len);
+    let answers = crate::items_mut(answers, answers_len);
     each(&FromFloat::<i32>::new(), asked, answers)
 }
 
@@ -562,8 +562,8 @@ pub unsafe extern "C" fn ratio_from_f64_i32(asked: *const f64, asked_len: usize,
 #[no_mangle]
 pub unsafe extern "C" fn ratio_rationalize_i32(asked: *const f64, asked_len: usize, answers: *mut Answer32, answers_len: usize) -> u32 {
     // SAFETY: the header says what the caller owes for each pointer and its length.
-    let asked = core::slice::from_raw_parts(asked, asked_len);
-    let answers = core::slice::from_raw_parts_mut(answers, answers_len);
+    let asked = crate::items(asked, asked_len);
+    let answers = crate::items_mut(answers, answers_len);
     each(&Rationalizing::<i32>::new(), asked, answers)
 }
 
@@ -571,8 +571,8 @@ pub unsafe extern "C" fn ratio_rationalize_i32(asked: *const f64, asked_len: usi
 #[no_mangle]
 pub unsafe extern "C" fn ratio_to_f64_i32(asked: *const Fraction32, asked_len: usize, answers: *mut Float, answers_len: usize) -> u32 {
     // SAFETY: the header says what the caller owes for each pointer and its length.
-    let asked = core::slice::from_raw_parts(asked, asked_len);
-    let answers = core::slice::from_raw_parts_mut(answers, answers_len);
+    let asked = crate::items(asked, asked_len);
+    let answers = crate::items_mut(answers, answers_len);
     each(&ToFloat, asked, answers)
 }
 
@@ -580,8 +580,8 @@ pub unsafe extern "C" fn ratio_to_f64_i32(asked: *const Fraction32, asked_len: u
 #[no_mangle]
 pub unsafe extern "C" fn ratio_hash_lowest_i32(asked: *const Fraction32, asked_len: usize, answers: *mut Hash, answers_len: usize) -> u32 {
     // SAFETY: the header says what the caller owes for each pointer and its length.
-    let asked = core::slice::from_raw_parts(asked, asked_len);
-    let answers = core::slice::from_raw_parts_mut(answers, answers_len);
+    let asked = crate::items(asked, asked_len);
+    let answers = crate::items_mut(answers, answers_len);
     each(&LowestHashing, asked, answers)
 }
 
@@ -589,8 +589,8 @@ pub unsafe extern "C" fn ratio_hash_lowest_i32(asked: *const Fraction32, asked_l
 #[no_mangle]
 pub unsafe extern "C" fn ratio_cast_i32_to_i64(asked: *const Fraction32, asked_len: usize, answers: *mut Answer64, answers_len: usize) -> u32 {
     // SAFETY: the header says what the caller owes for each pointer and its length.
-    let asked = core::slice::from_raw_parts(asked, asked_len);
-    let answers = core::slice::from_raw_parts_mut(answers, answers_len);
+    let asked = crate::items(asked, asked_len);
+    let answers = crate::items_mut(answers, answers_len);
     each(&Casting::<i64>::new(), asked, answers)
 }
 
@@ -598,8 +598,8 @@ pub unsafe extern "C" fn ratio_cast_i32_to_i64(asked: *const Fraction32, asked_l
 #[no_mangle]
 pub unsafe extern "C" fn ratio_cast_i32_to_i128(asked: *const Fraction32, asked_len: usize, answers: *mut Answer128, answers_len: usize) -> u32 {
     // SAFETY: the header says what the caller owes for each pointer and its length.
-    let asked = core::slice::from_raw_parts(asked, asked_len);
-    let answers = core::slice::from_raw_parts_mut(answers, answers_len);
+    let asked = crate::items(asked, asked_len);
+    let answers = crate::items_mut(answers, answers_len);
     each(&Casting::<i128>::new(), asked, answers)
 }
 
@@ -607,9 +607,9 @@ pub unsafe extern "C" fn ratio_cast_i32_to_i128(asked: *const Fraction32, asked_
 #[no_mangle]
 pub unsafe extern "C" fn ratio_read_i32(texts: *const u8, texts_len: usize, spans: *const Span, spans_len: usize, answers: *mut Answer32, answers_len: usize) -> u32 {
     // SAFETY: the header says what the caller owes for each pointer and its length.
-    let texts = core::slice::from_raw_parts(texts, texts_len);
-    let spans = core::slice::from_raw_parts(spans, spans_len);
-    let answers = core::slice::from_raw_parts_mut(answers, answers_len);
+    let texts = crate::items(texts, texts_len);
+    let spans = crate::items(spans, spans_len);
+    let answers = crate::items_mut(answers, answers_len);
     let reader = Fractions::<i32>::new();
     each(&Reading { texts, reader }, spans, answers)
 }
@@ -618,9 +618,9 @@ pub unsafe extern "C" fn ratio_read_i32(texts: *const u8, texts_len: usize, span
 #[no_mangle]
 pub unsafe extern "C" fn ratio_read_decimal_i32(texts: *const u8, texts_len: usize, spans: *const Span, spans_len: usize, answers: *mut Answer32, answers_len: usize) -> u32 {
     // SAFETY: the header says what the caller owes for each pointer and its length.
-    let texts = core::slice::from_raw_parts(texts, texts_len);
-    let spans = core::slice::from_raw_parts(spans, spans_len);
-    let answers = core::slice::from_raw_parts_mut(answers, answers_len);
+    let texts = crate::items(texts, texts_len);
+    let spans = crate::items(spans, spans_len);
+    let answers = crate::items_mut(answers, answers_len);
     let reader = DecimalTexts::<i32>::new();
     each(&Reading { texts, reader }, spans, answers)
 }
@@ -629,9 +629,9 @@ pub unsafe extern "C" fn ratio_read_decimal_i32(texts: *const u8, texts_len: usi
 #[no_mangle]
 pub unsafe extern "C" fn ratio_read_text_i32(texts: *const u8, texts_len: usize, spans: *const Span, spans_len: usize, answers: *mut Answer32, answers_len: usize) -> u32 {
     // SAFETY: the header says what the caller owes for each pointer and its length.
-    let texts = core::slice::from_raw_parts(texts, texts_len);
-    let spans = core::slice::from_raw_parts(spans, spans_len);
-    let answers = core::slice::from_raw_parts_mut(answers, answers_len);
+    let texts = crate::items(texts, texts_len);
+    let spans = crate::items(spans, spans_len);
+    let answers = crate::items_mut(answers, answers_len);
     let reader = TypedTexts::<i32>::new();
     each(&Reading { texts, reader }, spans, answers)
 }
@@ -640,9 +640,9 @@ pub unsafe extern "C" fn ratio_read_text_i32(texts: *const u8, texts_len: usize,
 #[no_mangle]
 pub unsafe extern "C" fn ratio_print_i32(asked: *const Fraction32, asked_len: usize, texts: *mut u8, texts_len: usize, answers: *mut Text, answers_len: usize) -> u32 {
     // SAFETY: the header says what the caller owes for each pointer and its length.
-    let asked = core::slice::from_raw_parts(asked, asked_len);
-    let texts = core::slice::from_raw_parts_mut(texts, texts_len);
-    let answers = core::slice::from_raw_parts_mut(answers, answers_len);
+    let asked = crate::items(asked, asked_len);
+    let texts = crate::items_mut(texts, texts_len);
+    let answers = crate::items_mut(answers, answers_len);
     print(&Fields, asked, ROOM, texts, answers)
 }
 
@@ -650,8 +650,8 @@ pub unsafe extern "C" fn ratio_print_i32(asked: *const Fraction32, asked_len: us
 #[no_mangle]
 pub unsafe extern "C" fn ratio_print_decimal_i32(asked: *const Decimal32, asked_len: usize, texts: *mut u8, texts_len: usize, answers: *mut Text, answers_len: usize) -> u32 {
     // SAFETY: the header says what the caller owes for each pointer and its length.
-    let asked = core::slice::from_raw_parts(asked, asked_len);
-    let texts = core::slice::from_raw_parts_mut(texts, texts_len);
-    let answers = core::slice::from_raw_parts_mut(answers, answers_len);
+    let asked = crate::items(asked, asked_len);
+    let texts = crate::items_mut(texts, texts_len);
+    let answers = crate::items_mut(answers, answers_len);
     print(&Decimals, asked, DECIMAL_ROOM, texts, answers)
 }

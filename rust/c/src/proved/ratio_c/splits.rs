@@ -57,8 +57,8 @@ fn code_of_weights(why: WeightRefusal) -> u32 {
 #[no_mangle]
 pub unsafe extern "C" fn ratio_split_i64(amount: i64, shares: *const Fraction64, shares_len: usize, parts: *mut i64, parts_len: usize) -> u32 {
     // SAFETY: the header says what the caller owes for each pointer and its length.
-    let shares = core::slice::from_raw_parts(shares, shares_len);
-    let parts = core::slice::from_raw_parts_mut(parts, parts_len);
+    let shares = crate::items(shares, shares_len);
+    let parts = crate::items_mut(parts, parts_len);
     if !are_positive(shares) {
         return DENOMINATOR_NOT_POSITIVE;
     }
@@ -72,8 +72,8 @@ pub unsafe extern "C" fn ratio_split_i64(amount: i64, shares: *const Fraction64,
 #[no_mangle]
 pub unsafe extern "C" fn ratio_split_by_weights_i64(amount: i64, weights: *const i64, weights_len: usize, parts: *mut i64, parts_len: usize) -> u32 {
     // SAFETY: the header says what the caller owes for each pointer and its length.
-    let weights = core::slice::from_raw_parts(weights, weights_len);
-    let parts = core::slice::from_raw_parts_mut(parts, parts_len);
+    let weights = crate::items(weights, weights_len);
+    let parts = crate::items_mut(parts, parts_len);
     match split_by_weights(amount, weights, parts) {
         Ok(()) => ANSWERED,
         Err(why) => code_of_weights(why),

@@ -38,10 +38,10 @@ fn bounded_answer(
 #[no_mangle]
 pub unsafe extern "C" fn ratio_total_print_bounded_i64(slots: *const Slot, slots_len: usize, places: u32, rule: u32, room: *mut u64, room_len: usize, texts: *mut u8, texts_len: usize, answers: *mut Text, answers_len: usize) -> u32 {
     // SAFETY: the header says what the caller owes for each pointer and its length.
-    let slots = core::slice::from_raw_parts(slots, slots_len);
-    let room = core::slice::from_raw_parts_mut(room, room_len);
-    let texts = core::slice::from_raw_parts_mut(texts, texts_len);
-    let answers = core::slice::from_raw_parts_mut(answers, answers_len);
+    let slots = crate::items(slots, slots_len);
+    let room = crate::items_mut(room, room_len);
+    let texts = crate::items_mut(texts, texts_len);
+    let answers = crate::items_mut(answers, answers_len);
     if answers.len() != 1 {
         return BAD_LENGTH;
     }

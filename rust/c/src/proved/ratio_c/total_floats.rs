@@ -26,9 +26,9 @@ fn float_answer(slots: &[Slot], room: &mut [u64]) -> Float {
 #[no_mangle]
 pub unsafe extern "C" fn ratio_total_to_f64_i64(slots: *const Slot, slots_len: usize, room: *mut u64, room_len: usize, answers: *mut Float, answers_len: usize) -> u32 {
     // SAFETY: the header says what the caller owes for each pointer and its length.
-    let slots = core::slice::from_raw_parts(slots, slots_len);
-    let room = core::slice::from_raw_parts_mut(room, room_len);
-    let answers = core::slice::from_raw_parts_mut(answers, answers_len);
+    let slots = crate::items(slots, slots_len);
+    let room = crate::items_mut(room, room_len);
+    let answers = crate::items_mut(answers, answers_len);
     if answers.len() != 1 {
         return BAD_LENGTH;
     }

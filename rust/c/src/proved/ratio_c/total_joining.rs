@@ -85,9 +85,9 @@ fn join_answer(slots: &[Slot], most: u64, old: &Joined64, room: &mut [u64]) -> J
 #[no_mangle]
 pub unsafe extern "C" fn ratio_total_join_i64(slots: *const Slot, slots_len: usize, most: u64, joined: *mut Joined64, joined_len: usize, room: *mut u64, room_len: usize) -> u32 {
     // SAFETY: the header says what the caller owes for each pointer and its length.
-    let slots = core::slice::from_raw_parts(slots, slots_len);
-    let joined = core::slice::from_raw_parts_mut(joined, joined_len);
-    let room = core::slice::from_raw_parts_mut(room, room_len);
+    let slots = crate::items(slots, slots_len);
+    let joined = crate::items_mut(joined, joined_len);
+    let room = crate::items_mut(room, room_len);
     if joined.len() != 1 {
         return BAD_LENGTH;
     }

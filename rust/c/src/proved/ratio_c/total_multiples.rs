@@ -31,7 +31,7 @@ fn multiple_answer(slots: &[Slot], parts: i64, rule: u32, room: &mut [u64]) -> A
 #[no_mangle]
 pub unsafe extern "C" fn ratio_total_round_to_digits_i64(slots: *const Slot, slots_len: usize) -> u64 {
     // SAFETY: the header says what the caller owes for each pointer and its length.
-    let slots = core::slice::from_raw_parts(slots, slots_len);
+    let slots = crate::items(slots, slots_len);
     digits_of_multiple(slots) as u64
 }
 
@@ -39,9 +39,9 @@ pub unsafe extern "C" fn ratio_total_round_to_digits_i64(slots: *const Slot, slo
 #[no_mangle]
 pub unsafe extern "C" fn ratio_total_round_to_i64(slots: *const Slot, slots_len: usize, parts: i64, rule: u32, room: *mut u64, room_len: usize, answers: *mut Answer64, answers_len: usize) -> u32 {
     // SAFETY: the header says what the caller owes for each pointer and its length.
-    let slots = core::slice::from_raw_parts(slots, slots_len);
-    let room = core::slice::from_raw_parts_mut(room, room_len);
-    let answers = core::slice::from_raw_parts_mut(answers, answers_len);
+    let slots = crate::items(slots, slots_len);
+    let room = crate::items_mut(room, room_len);
+    let answers = crate::items_mut(answers, answers_len);
     if answers.len() != 1 {
         return BAD_LENGTH;
     }

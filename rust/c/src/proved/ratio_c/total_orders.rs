@@ -36,8 +36,8 @@ fn order_answer(left: &[Slot], right: &[Slot], slots: &mut [Slot], room: &mut [u
 #[no_mangle]
 pub unsafe extern "C" fn ratio_total_compare_digits_i64(left: *const Slot, left_len: usize, right: *const Slot, right_len: usize) -> u64 {
     // SAFETY: the header says what the caller owes for each pointer and its length.
-    let left = core::slice::from_raw_parts(left, left_len);
-    let right = core::slice::from_raw_parts(right, right_len);
+    let left = crate::items(left, left_len);
+    let right = crate::items(right, right_len);
     digits_of_order(left, right) as u64
 }
 
@@ -45,11 +45,11 @@ pub unsafe extern "C" fn ratio_total_compare_digits_i64(left: *const Slot, left_
 #[no_mangle]
 pub unsafe extern "C" fn ratio_total_compare_i64(left: *const Slot, left_len: usize, right: *const Slot, right_len: usize, slots: *mut Slot, slots_len: usize, room: *mut u64, room_len: usize, answers: *mut Order, answers_len: usize) -> u32 {
     // SAFETY: the header says what the caller owes for each pointer and its length.
-    let left = core::slice::from_raw_parts(left, left_len);
-    let right = core::slice::from_raw_parts(right, right_len);
-    let slots = core::slice::from_raw_parts_mut(slots, slots_len);
-    let room = core::slice::from_raw_parts_mut(room, room_len);
-    let answers = core::slice::from_raw_parts_mut(answers, answers_len);
+    let left = crate::items(left, left_len);
+    let right = crate::items(right, right_len);
+    let slots = crate::items_mut(slots, slots_len);
+    let room = crate::items_mut(room, room_len);
+    let answers = crate::items_mut(answers, answers_len);
     if answers.len() != 1 {
         return BAD_LENGTH;
     }

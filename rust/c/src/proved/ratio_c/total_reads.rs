@@ -92,7 +92,7 @@ fn print_answer(slots: &[Slot], places: u32, rule: u32, room: &mut [u64], texts:
 #[no_mangle]
 pub unsafe extern "C" fn ratio_total_free_i64(slots: *const Slot, slots_len: usize) -> u64 {
     // SAFETY: the header says what the caller owes for each pointer and its length.
-    let slots = core::slice::from_raw_parts(slots, slots_len);
+    let slots = crate::items(slots, slots_len);
     count_free(slots) as u64
 }
 
@@ -100,7 +100,7 @@ pub unsafe extern "C" fn ratio_total_free_i64(slots: *const Slot, slots_len: usi
 #[no_mangle]
 pub unsafe extern "C" fn ratio_total_digits_i64(slots: *const Slot, slots_len: usize) -> u64 {
     // SAFETY: the header says what the caller owes for each pointer and its length.
-    let slots = core::slice::from_raw_parts(slots, slots_len);
+    let slots = crate::items(slots, slots_len);
     digits_of_read(slots) as u64
 }
 
@@ -108,7 +108,7 @@ pub unsafe extern "C" fn ratio_total_digits_i64(slots: *const Slot, slots_len: u
 #[no_mangle]
 pub unsafe extern "C" fn ratio_total_print_digits_i64(slots: *const Slot, slots_len: usize, places: u32) -> u64 {
     // SAFETY: the header says what the caller owes for each pointer and its length.
-    let slots = core::slice::from_raw_parts(slots, slots_len);
+    let slots = crate::items(slots, slots_len);
     decimal_digits_of(slots, places) as u64
 }
 
@@ -116,7 +116,7 @@ pub unsafe extern "C" fn ratio_total_print_digits_i64(slots: *const Slot, slots_
 #[no_mangle]
 pub unsafe extern "C" fn ratio_total_print_bytes_i64(slots: *const Slot, slots_len: usize, places: u32) -> u64 {
     // SAFETY: the header says what the caller owes for each pointer and its length.
-    let slots = core::slice::from_raw_parts(slots, slots_len);
+    let slots = crate::items(slots, slots_len);
     decimal_bytes_of(slots, places) as u64
 }
 
@@ -124,9 +124,9 @@ pub unsafe extern "C" fn ratio_total_print_bytes_i64(slots: *const Slot, slots_l
 #[no_mangle]
 pub unsafe extern "C" fn ratio_total_sum_i64(slots: *const Slot, slots_len: usize, room: *mut u64, room_len: usize, answers: *mut Answer64, answers_len: usize) -> u32 {
     // SAFETY: the header says what the caller owes for each pointer and its length.
-    let slots = core::slice::from_raw_parts(slots, slots_len);
-    let room = core::slice::from_raw_parts_mut(room, room_len);
-    let answers = core::slice::from_raw_parts_mut(answers, answers_len);
+    let slots = crate::items(slots, slots_len);
+    let room = crate::items_mut(room, room_len);
+    let answers = crate::items_mut(answers, answers_len);
     if answers.len() != 1 {
         return BAD_LENGTH;
     }
@@ -138,9 +138,9 @@ pub unsafe extern "C" fn ratio_total_sum_i64(slots: *const Slot, slots_len: usiz
 #[no_mangle]
 pub unsafe extern "C" fn ratio_total_mean_i64(slots: *const Slot, slots_len: usize, count: i64, room: *mut u64, room_len: usize, answers: *mut Answer64, answers_len: usize) -> u32 {
     // SAFETY: the header says what the caller owes for each pointer and its length.
-    let slots = core::slice::from_raw_parts(slots, slots_len);
-    let room = core::slice::from_raw_parts_mut(room, room_len);
-    let answers = core::slice::from_raw_parts_mut(answers, answers_len);
+    let slots = crate::items(slots, slots_len);
+    let room = crate::items_mut(room, room_len);
+    let answers = crate::items_mut(answers, answers_len);
     if answers.len() != 1 {
         return BAD_LENGTH;
     }
@@ -152,9 +152,9 @@ pub unsafe extern "C" fn ratio_total_mean_i64(slots: *const Slot, slots_len: usi
 #[no_mangle]
 pub unsafe extern "C" fn ratio_total_sign_i64(slots: *const Slot, slots_len: usize, room: *mut u64, room_len: usize, answers: *mut Order, answers_len: usize) -> u32 {
     // SAFETY: the header says what the caller owes for each pointer and its length.
-    let slots = core::slice::from_raw_parts(slots, slots_len);
-    let room = core::slice::from_raw_parts_mut(room, room_len);
-    let answers = core::slice::from_raw_parts_mut(answers, answers_len);
+    let slots = crate::items(slots, slots_len);
+    let room = crate::items_mut(room, room_len);
+    let answers = crate::items_mut(answers, answers_len);
     if answers.len() != 1 {
         return BAD_LENGTH;
     }
@@ -166,10 +166,10 @@ pub unsafe extern "C" fn ratio_total_sign_i64(slots: *const Slot, slots_len: usi
 #[no_mangle]
 pub unsafe extern "C" fn ratio_total_print_i64(slots: *const Slot, slots_len: usize, places: u32, rule: u32, room: *mut u64, room_len: usize, texts: *mut u8, texts_len: usize, answers: *mut Text, answers_len: usize) -> u32 {
     // SAFETY: the header says what the caller owes for each pointer and its length.
-    let slots = core::slice::from_raw_parts(slots, slots_len);
-    let room = core::slice::from_raw_parts_mut(room, room_len);
-    let texts = core::slice::from_raw_parts_mut(texts, texts_len);
-    let answers = core::slice::from_raw_parts_mut(answers, answers_len);
+    let slots = crate::items(slots, slots_len);
+    let room = crate::items_mut(room, room_len);
+    let texts = crate::items_mut(texts, texts_len);
+    let answers = crate::items_mut(answers, answers_len);
     if answers.len() != 1 {
         return BAD_LENGTH;
     }

@@ -9,9 +9,9 @@ use bakhsney::proved::ratio_totals::Slot;
 #[no_mangle]
 pub unsafe extern "C" fn ratio_total_add_i64(asked: *const Fraction64, asked_len: usize, total: *mut Total64, total_len: usize, slots: *mut Slot, slots_len: usize) -> u32 {
     // SAFETY: the header says what the caller owes for each pointer and its length.
-    let asked = core::slice::from_raw_parts(asked, asked_len);
-    let total = core::slice::from_raw_parts_mut(total, total_len);
-    let slots = core::slice::from_raw_parts_mut(slots, slots_len);
+    let asked = crate::items(asked, asked_len);
+    let total = crate::items_mut(total, total_len);
+    let slots = crate::items_mut(slots, slots_len);
     gather(Way::In, asked, total, slots)
 }
 
@@ -19,9 +19,9 @@ pub unsafe extern "C" fn ratio_total_add_i64(asked: *const Fraction64, asked_len
 #[no_mangle]
 pub unsafe extern "C" fn ratio_total_subtract_i64(asked: *const Fraction64, asked_len: usize, total: *mut Total64, total_len: usize, slots: *mut Slot, slots_len: usize) -> u32 {
     // SAFETY: the header says what the caller owes for each pointer and its length.
-    let asked = core::slice::from_raw_parts(asked, asked_len);
-    let total = core::slice::from_raw_parts_mut(total, total_len);
-    let slots = core::slice::from_raw_parts_mut(slots, slots_len);
+    let asked = crate::items(asked, asked_len);
+    let total = crate::items_mut(total, total_len);
+    let slots = crate::items_mut(slots, slots_len);
     gather(Way::Out, asked, total, slots)
 }
 
@@ -29,9 +29,9 @@ pub unsafe extern "C" fn ratio_total_subtract_i64(asked: *const Fraction64, aske
 #[no_mangle]
 pub unsafe extern "C" fn ratio_total_merge_i64(asked: *const Slot, asked_len: usize, count: i64, total: *mut Total64, total_len: usize, slots: *mut Slot, slots_len: usize) -> u32 {
     // SAFETY: the header says what the caller owes for each pointer and its length.
-    let asked = core::slice::from_raw_parts(asked, asked_len);
-    let total = core::slice::from_raw_parts_mut(total, total_len);
-    let slots = core::slice::from_raw_parts_mut(slots, slots_len);
+    let asked = crate::items(asked, asked_len);
+    let total = crate::items_mut(total, total_len);
+    let slots = crate::items_mut(slots, slots_len);
     pour(Way::In, asked, count, total, slots)
 }
 
@@ -39,8 +39,8 @@ pub unsafe extern "C" fn ratio_total_merge_i64(asked: *const Slot, asked_len: us
 #[no_mangle]
 pub unsafe extern "C" fn ratio_total_unmerge_i64(asked: *const Slot, asked_len: usize, count: i64, total: *mut Total64, total_len: usize, slots: *mut Slot, slots_len: usize) -> u32 {
     // SAFETY: the header says what the caller owes for each pointer and its length.
-    let asked = core::slice::from_raw_parts(asked, asked_len);
-    let total = core::slice::from_raw_parts_mut(total, total_len);
-    let slots = core::slice::from_raw_parts_mut(slots, slots_len);
+    let asked = crate::items(asked, asked_len);
+    let total = crate::items_mut(total, total_len);
+    let slots = crate::items_mut(slots, slots_len);
     pour(Way::Out, asked, count, total, slots)
 }

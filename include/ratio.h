@@ -156,8 +156,14 @@ typedef struct ratio_hash { uint32_t code; uint64_t hash; } ratio_hash;
 /* A float. */
 typedef struct ratio_float { uint32_t code; double value; } ratio_float;
 
+/* A hash that may be below 0, as in Python. */
+typedef struct ratio_residue { uint32_t code; int64_t hash; } ratio_residue;
+
 /* A key for sorting: 64 bits. */
 typedef struct ratio_key { uint32_t code; int64_t key; } ratio_key;
+
+/* Bytes for sorting. */
+typedef struct ratio_sortable { uint32_t code; uint8_t bytes[24]; } ratio_sortable;
 
 /* The bytes of a text: from start on, and before end. */
 typedef struct ratio_span { size_t start, end; } ratio_span;
@@ -800,6 +806,43 @@ RATIO_CHECKED enum ratio_return ratio_hash_lowest_i64(const ratio_i64 *asked, si
 RATIO_CHECKED enum ratio_return ratio_key_i64(const ratio_i64 *asked, size_t asked_len,
     ratio_key *answers, size_t answers_len);
 
+/* The bytes of each fraction, for sorting: memcmp of two gives the order of the values, and equal values have the same bytes. They are the
+ * number (value + 2^63) * 2^128, rounded down, with the highest byte first: those of 1/2 are 80 00 00 00 00 00 00 00, then 80, and then 0.
+ * So a file or a database that orders bytes keeps fractions in their order. */
+RATIO_CHECKED enum ratio_return ratio_sortable_i64(const ratio_i64 *asked, size_t asked_len,
+    ratio_sortable *answers, size_t answers_len);
+
+/* The hash of each fraction in Python: hash(Fraction(numer, denom)). For a whole number it is that of the int, and for a float's exact
+ * value that of the float. It is the numerator of the lowest terms times the inverse of the denominator modulo 2^61 - 1, with the sign of
+ * the fraction, and -2 in place of -1: 1/2 has 1152921504606846976, and -1/1 has -2. A denominator without an inverse gives 314159. */
+RATIO_CHECKED enum ratio_return ratio_hash_mod61_i64(const ratio_i64 *asked, size_t asked_len,
+    ratio_residue *answers, size_t answers_len);
+
+/* The sum of each pair, whose two fractions lie in two arrays, as for `ratio_add_i64`. So the answers of one call are operands of the next, without a copy.
+ *
+ * `left` points to the numerator of the first fraction, and `left_len` is how many numbers of 64 bits there are from it on. Each further numerator is `left_stride` numbers after the one before: 2 in an array of ratio_i64, and 3 in an array of ratio_answer_i64. With the stride 0 it is the same fraction each time. So `&answers->value.numer, 3 * n - 1, 3` stands for the values of n answers, and `&rate.numer, 2, 0` for one rate. The same holds of `right`.
+ *
+ * If the numbers of a side have fewer fractions than there are answers, the call returns RATIO_BAD_LENGTH and writes nothing. An answer without a value has the denominator 0, so the next call refuses it: RATIO_DENOMINATOR_NOT_POSITIVE, or from a comparison RATIO_ZERO_DENOMINATOR.
+ */
+RATIO_CHECKED enum ratio_return ratio_add_strided_i64(const int64_t *left, size_t left_len, uint64_t left_stride,
+    const int64_t *right, size_t right_len, uint64_t right_stride, ratio_answer_i64 *answers, size_t answers_len);
+
+/* The difference of each pair, whose two fractions lie in two arrays: see `ratio_add_strided_i64`. */
+RATIO_CHECKED enum ratio_return ratio_sub_strided_i64(const int64_t *left, size_t left_len, uint64_t left_stride,
+    const int64_t *right, size_t right_len, uint64_t right_stride, ratio_answer_i64 *answers, size_t answers_len);
+
+/* The product of each pair, whose two fractions lie in two arrays: see `ratio_add_strided_i64`. */
+RATIO_CHECKED enum ratio_return ratio_mul_strided_i64(const int64_t *left, size_t left_len, uint64_t left_stride,
+    const int64_t *right, size_t right_len, uint64_t right_stride, ratio_answer_i64 *answers, size_t answers_len);
+
+/* The quotient of each pair, whose two fractions lie in two arrays: see `ratio_add_strided_i64`. */
+RATIO_CHECKED enum ratio_return ratio_div_strided_i64(const int64_t *left, size_t left_len, uint64_t left_stride,
+    const int64_t *right, size_t right_len, uint64_t right_stride, ratio_answer_i64 *answers, size_t answers_len);
+
+/* The order of each pair, whose two fractions lie in two arrays: see `ratio_add_strided_i64`. */
+RATIO_CHECKED enum ratio_return ratio_compare_strided_i64(const int64_t *left, size_t left_len, uint64_t left_stride,
+    const int64_t *right, size_t right_len, uint64_t right_stride, ratio_order *answers, size_t answers_len);
+
 /* The product of the fractions `above` divided by each fraction `below`, in lowest terms: 4/35 for 2/3 and 3/7 above and 5/2 below. No
  * number on the way has to fit: 9223372036854775807/3, 3/1 and 1/9223372036854775807 give 1/1 in each order. Without fractions above, it
  * is 1 divided by those below. The two lists are not changed.
@@ -1044,7 +1087,9 @@ RATIO_SIZE(ratio_order, 8);
 RATIO_SIZE(ratio_truth, 8);
 RATIO_SIZE(ratio_hash, 16);
 RATIO_SIZE(ratio_float, 16);
+RATIO_SIZE(ratio_residue, 16);
 RATIO_SIZE(ratio_key, 16);
+RATIO_SIZE(ratio_sortable, 28);
 RATIO_SIZE(ratio_span, 16);
 RATIO_SIZE(ratio_text, 24);
 RATIO_SIZE(ratio_scaled, 24);

@@ -271,32 +271,10 @@ static PyObject *compare(PyObject *self, PyObject *other, int order) {
 
 /* ---- the hash, which is the same for equal numbers of all of Python's types */
 
-enum { MODULUS_BITS = 61 };
-static const uint64_t MODULUS = ((uint64_t) 1 << MODULUS_BITS) - 1;
-
-/* The inverse of a number modulo the modulus, by the extended algorithm of Euclid. The number is from 1 up to the modulus. */
-static uint64_t inverse(uint64_t number) {
-    int64_t rest = (int64_t) number, next = (int64_t) MODULUS, factor = 1, next_factor = 0;
-    while (next != 0) {
-        const int64_t quotient = rest / next, after = rest - quotient * next, factor_after = factor - quotient * next_factor;
-        rest = next;
-        next = after;
-        factor = next_factor;
-        next_factor = factor_after;
-    }
-    return factor < 0 ? (uint64_t) (factor + (int64_t) MODULUS) : (uint64_t) factor;
-}
-
-/* The numerator times the inverse of the denominator, modulo 2^61 - 1, with the sign of the numerator. */
 static Py_hash_t hash(PyObject *self) {
-    const ratio_i64 value = VALUE(self);
-    const uint64_t numer = (value.numer < 0 ? 0 - (uint64_t) value.numer : (uint64_t) value.numer) % MODULUS, denom = (uint64_t) value.denom % MODULUS;
-    Py_hash_t result;
-    if (denom == 0) result = _PyHASH_INF;
-    else if (denom == 1) result = (Py_hash_t) numer;
-    else result = (Py_hash_t) ((unsigned __int128) numer * inverse(denom) % MODULUS);
-    if (value.numer < 0) result = -result;
-    return result == -1 ? -2 : result;
+    ratio_residue answer;
+    ratio_hash_mod61_i64(&VALUE(self), 1, &answer, 1);
+    return (Py_hash_t) answer.hash;
 }
 
 /* ---- texts */

@@ -648,8 +648,84 @@ static void keys(void) {
     expect(key[5].code == RATIO_DENOMINATOR_NOT_POSITIVE && key[5].key == 0, "no key");
 }
 
+/* Python gave the hashes: hash(Fraction(numer, denom)). 2^61 - 1, the modulus, is 2305843009213693951. */
+static void python_hashes(void) {
+    static const struct { ratio_i64 x; int64_t hash; } rows[] = {
+        {{0, 7}, 0}, {{1, 1}, 1}, {{-1, 1}, -2}, {{-3, 3}, -2}, {{2, 4}, INT64_C(1152921504606846976)}, {{-1, 2}, -INT64_C(1152921504606846976)},
+        {{127, 50}, INT64_C(1060687784238299220)}, {{INT64_MAX, 1}, 3}, {{INT64_MIN, 1}, -4},
+        {{INT64_MIN, INT64_MAX}, -INT64_C(1537228672809129302)}, {{INT64_MAX, INT64_MAX - 1}, INT64_C(1152921504606846977)},
+        {{INT64_C(2305843009213693951), 1}, 0}, {{-INT64_C(2305843009213693952), 1}, -2}, {{1, INT64_C(2305843009213693951)}, 314159},
+        {{-1, INT64_C(2305843009213693951)}, -314159}, {{3, INT64_C(9223372036854775804)}, 314159}, {{0, INT64_C(2305843009213693951)}, 0},
+        {{INT64_C(2305843009213693951), INT64_C(4611686018427387902)}, INT64_C(1152921504606846976)},
+        {{-INT64_C(2305843009213693951), INT64_C(2305843009213693951)}, -2},
+    };
+    static const ratio_i64 none[2] = {{1, 0}, {1, -1}};
+    ratio_residue hash[2];
+    for (size_t i = 0; i < sizeof rows / sizeof rows[0]; i++) {
+        expect(ratio_hash_mod61_i64(&rows[i].x, 1, hash, 1) == RATIO_DONE, "hash of Python");
+        expect(hash[0].code == RATIO_ANSWERED && hash[0].hash == rows[i].hash, "the hash that Python gives");
+    }
+    expect(ratio_hash_mod61_i64(none, 2, hash, 2) == RATIO_DONE, "no hash of Python");
+    for (size_t i = 0; i < 2; i++) expect(hash[i].code == RATIO_DENOMINATOR_NOT_POSITIVE && hash[i].hash == 0, "no hash of Python");
+}
+
+/* Python's whole numbers gave the bytes: (x + 2^63) * 2^128, rounded down. The fractions rise. */
+static void sortable_bytes(void) {
+    static const struct { ratio_i64 x; uint8_t bytes[24]; } rows[] = {
+        {{INT64_MIN, 1}, {0}},
+        {{-1, 1}, {0x7f, 0xff, 0xff, 0xff, 0xff, 0xff, 0xff, 0xff}},
+        {{-1, 3}, {0x7f, 0xff, 0xff, 0xff, 0xff, 0xff, 0xff, 0xff, 0xaa, 0xaa, 0xaa, 0xaa, 0xaa, 0xaa, 0xaa, 0xaa, 0xaa, 0xaa, 0xaa, 0xaa, 0xaa, 0xaa, 0xaa, 0xaa}},
+        {{-1, INT64_MAX}, {0x7f, 0xff, 0xff, 0xff, 0xff, 0xff, 0xff, 0xff, 0xff, 0xff, 0xff, 0xff, 0xff, 0xff, 0xff, 0xfd, 0xff, 0xff, 0xff, 0xff, 0xff, 0xff, 0xff, 0xfb}},
+        {{0, 5}, {0x80}},
+        {{2, 4}, {0x80, 0, 0, 0, 0, 0, 0, 0, 0x80}},
+        {{INT64_MAX - 1, INT64_MAX}, {0x80, 0, 0, 0, 0, 0, 0, 0, 0xff, 0xff, 0xff, 0xff, 0xff, 0xff, 0xff, 0xfd, 0xff, 0xff, 0xff, 0xff, 0xff, 0xff, 0xff, 0xfb}},
+        {{INT64_MAX, 1}, {0xff, 0xff, 0xff, 0xff, 0xff, 0xff, 0xff, 0xff}},
+    };
+    static const uint8_t zeros[24] = {0};
+    static const ratio_i64 half = {1, 2}, none = {1, 0};
+    ratio_sortable key, again;
+    for (size_t i = 0; i < sizeof rows / sizeof rows[0]; i++) {
+        expect(ratio_sortable_i64(&rows[i].x, 1, &key, 1) == RATIO_DONE && key.code == RATIO_ANSWERED, "bytes for sorting");
+        expect(memcmp(key.bytes, rows[i].bytes, 24) == 0, "the bytes for sorting");
+    }
+    expect(ratio_sortable_i64(&rows[5].x, 1, &key, 1) == RATIO_DONE && ratio_sortable_i64(&half, 1, &again, 1) == RATIO_DONE, "bytes of equal values");
+    expect(memcmp(key.bytes, again.bytes, 24) == 0, "bytes of equal values");
+    expect(ratio_sortable_i64(&none, 1, &key, 1) == RATIO_DONE && key.code == RATIO_DENOMINATOR_NOT_POSITIVE, "no bytes for sorting");
+    expect(memcmp(key.bytes, zeros, 24) == 0, "no bytes for sorting");
+}
+
+/* The answers of one call, and one fraction for all, as operands of the next: 1/2 + 1/3 and 1/2 - 1/3, times 6/5, by 1/2, and so on. */
+static void chained_calls(void) {
+    static const ratio_pair_i64 pairs[3] = {{{1, 2}, {1, 3}}, {{1, 2}, {-1, 3}}, {{INT64_MAX, 1}, {1, 1}}};
+    static const ratio_i64 halves[3] = {{1, 2}, {1, 2}, {1, 2}}, rate = {6, 5};
+    static const uint8_t untouched[sizeof(ratio_answer_i64)] = {9};
+    ratio_answer_i64 sums[3], products[3], quotients[3], rests[3], again[3], kept;
+    ratio_order orders[3];
+    const int64_t *sum = &sums->value.numer, *product = &products->value.numer, *quotient = &quotients->value.numer, *half = &halves->numer;
+    expect(ratio_add_i64(pairs, 3, sums, 3) == RATIO_DONE && sums[2].code == RATIO_NOT_HELD, "the first sums");
+    expect(ratio_mul_strided_i64(sum, 8, 3, &rate.numer, 2, 0, products, 3) == RATIO_DONE, "answers times one rate");
+    expect(products[0].value.numer == 1 && products[0].value.denom == 1 && products[1].value.numer == 1 && products[1].value.denom == 5, "answers times one rate");
+    expect(products[2].code == RATIO_DENOMINATOR_NOT_POSITIVE && products[2].value.denom == 0, "an answer without a value");
+    expect(ratio_div_strided_i64(product, 8, 3, half, 6, 2, quotients, 3) == RATIO_DONE, "answers by an array");
+    expect(quotients[0].value.numer == 2 && quotients[0].value.denom == 1 && quotients[1].value.numer == 2 && quotients[1].value.denom == 5, "answers by an array");
+    expect(ratio_sub_strided_i64(half, 6, 2, quotient, 5, 3, rests, 2) == RATIO_DONE, "an array less answers");
+    expect(rests[0].value.numer == -3 && rests[0].value.denom == 2 && rests[1].value.numer == 1 && rests[1].value.denom == 10, "an array less answers");
+    expect(ratio_add_strided_i64(quotient, 5, 3, product, 5, 3, again, 2) == RATIO_DONE, "answers and answers");
+    expect(again[0].value.numer == 3 && again[0].value.denom == 1 && again[1].value.numer == 3 && again[1].value.denom == 5, "answers and answers");
+    expect(ratio_compare_strided_i64(quotient, 8, 3, half, 2, 0, orders, 3) == RATIO_DONE, "orders of answers");
+    expect(orders[0].order == 1 && orders[1].order == -1 && orders[2].code == RATIO_ZERO_DENOMINATOR, "orders of answers");
+    memcpy(&kept, untouched, sizeof kept);
+    expect(ratio_add_strided_i64(half, 1, 0, half, 2, 0, &kept, 1) == RATIO_BAD_LENGTH, "half a fraction");
+    expect(ratio_add_strided_i64(half, 6, 0, half, 0, 2, &kept, 1) == RATIO_BAD_LENGTH, "no fraction");
+    expect(memcmp(&kept, untouched, sizeof kept) == 0, "nothing is written");
+    expect(ratio_add_strided_i64(half, 6, UINT64_MAX, half, 6, 2, &kept, 1) == RATIO_DONE && kept.value.numer == 1, "a stride that is not taken");
+    expect(ratio_add_strided_i64(half, 4, 2, half, 3, 2, again, 2) == RATIO_BAD_LENGTH && ratio_add_strided_i64(half, 4, UINT64_MAX, half, 4, 2, again, 2) == RATIO_BAD_LENGTH, "too few fractions");
+    expect(again[0].value.numer == 3 && again[1].value.denom == 5, "nothing is written here");
+}
+
 /* A null pointer with the length 0 is an array without items. */
 #define NO_ITEMS(call) expect(ratio_##call(NULL, 0, NULL, 0) == RATIO_DONE, "no items: " #call);
+#define NO_PAIRS(call) expect(ratio_##call(NULL, 0, 0, NULL, 0, 0, NULL, 0) == RATIO_DONE, "no items: " #call);
 #define NO_TEXTS(call) expect(ratio_##call(NULL, 0, NULL, 0, NULL, 0) == RATIO_DONE, "no items: " #call);
 #define NO_ITEMS_OF(s)                                                                                                   \
     NO_ITEMS(compare_##s) NO_ITEMS(equal_##s) NO_ITEMS(hash_##s) NO_ITEMS(add_##s) NO_ITEMS(sub_##s) NO_ITEMS(mul_##s)   \
@@ -666,8 +742,9 @@ static void no_items(void) {
     NO_ITEMS_OF(i32)
     NO_ITEMS_OF(i64)
     NO_ITEMS_OF(i128)
-    NO_ITEMS(hash_lowest_i32) NO_ITEMS(hash_lowest_i64) NO_ITEMS(key_i64)
+    NO_ITEMS(hash_lowest_i32) NO_ITEMS(hash_lowest_i64) NO_ITEMS(hash_mod61_i64) NO_ITEMS(key_i64) NO_ITEMS(sortable_i64)
     NO_ITEMS(cast_i32_to_i64) NO_ITEMS(cast_i32_to_i128) NO_ITEMS(cast_i64_to_i32)
+    NO_PAIRS(add_strided_i64) NO_PAIRS(sub_strided_i64) NO_PAIRS(mul_strided_i64) NO_PAIRS(div_strided_i64) NO_PAIRS(compare_strided_i64)
     NO_ITEMS(cast_i64_to_i128) NO_ITEMS(cast_i128_to_i32) NO_ITEMS(cast_i128_to_i64)
     memcpy(&answer, before, sizeof answer);
     expect(ratio_add_i64(NULL, 0, &answer, 1) == RATIO_BAD_LENGTH && memcmp(&answer, before, sizeof answer) == 0, "no items and one answer");
@@ -720,6 +797,9 @@ int main(void) {
     multiples_and_orders_of_totals();
     long_total();
     keys();
+    python_hashes();
+    sortable_bytes();
+    chained_calls();
     no_items();
     refusals();
     return wrong;

@@ -29,7 +29,8 @@ typedef struct { plain *plain; with_texts *reads, *prints; size_t asked, numbers
 typedef double ratio_double;
 
 /* Each call by its name, with what it is asked, how many numbers of which type begin that, and its answer. Options are behind the numbers.
- * The calls on totals are in `one_total` and `one_read_in_steps`, and those on lists in `one_list`.
+ * The calls on totals are in `one_total` and `one_read_in_steps`, those on lists in `one_list`, and those on fractions apart in
+ * `one_chained_call`.
  */
 #define PLAIN(X, s, number)                                                                                   \
     X(compare_##s, pair_##s, 4, number, order) X(equal_##s, pair_##s, 4, number, truth)                       \
@@ -52,7 +53,8 @@ typedef double ratio_double;
 #define ALL_PLAIN(X)                                                                                          \
     PLAIN(X, i32, int32_t) PLAIN(X, i64, int64_t) PLAIN(X, i128, ratio_wide)                                  \
     X(hash_lowest_i32, i32, 2, int32_t, hash) X(hash_lowest_i64, i64, 2, int64_t, hash)                       \
-    X(key_i64, i64, 2, int64_t, key)                                                                          \
+    X(key_i64, i64, 2, int64_t, key) X(hash_mod61_i64, i64, 2, int64_t, residue)                              \
+    X(sortable_i64, i64, 2, int64_t, sortable)                                                                \
     X(cast_i32_to_i64, i32, 2, int32_t, answer_i64) X(cast_i32_to_i128, i32, 2, int32_t, answer_i128)         \
     X(cast_i64_to_i32, i64, 2, int64_t, answer_i32) X(cast_i64_to_i128, i64, 2, int64_t, answer_i128)         \
     X(cast_i128_to_i32, i128, 2, ratio_wide, answer_i32) X(cast_i128_to_i64, i128, 2, ratio_wide, answer_i64)
@@ -466,6 +468,37 @@ static void one_list(void) {
     mix((const uint8_t *) &returned, sizeof returned);
 }
 
+/* How many numbers have so many fractions, each so many numbers after the one before, and now and then one less or more. */
+static size_t numbers_for(size_t count, uint64_t stride) {
+    const size_t exact = count > 0 ? (count - 1) * stride + 2 : 0;
+    return below(6) > 0 || exact == 0 ? exact + (below(8) == 0) : exact - 1;
+}
+
+/* A call on pairs whose fractions lie apart in two arrays. */
+static void one_chained_call(void) {
+    const size_t n = below(MOST), kind = below(5), size = kind == 4 ? sizeof(ratio_order) : sizeof(ratio_answer_i64);
+    const uint64_t left_stride = below(4), right_stride = below(4);
+    const size_t left_len = numbers_for(n, left_stride), right_len = numbers_for(n, right_stride);
+    int64_t *left = (int64_t *) place(ASKED, left_len * sizeof(int64_t)), *right = (int64_t *) place(SLOTS_OF_TOTAL, right_len * sizeof(int64_t));
+    uint8_t *answers = place(ANSWERS, n * size);
+    ratio_answer_i64 *values = (ratio_answer_i64 *) answers;
+    uint32_t returned;
+    is_short = below(2) == 0;
+    for (size_t i = 0; i < left_len; i++) put_number((uint8_t *) &left[i], sizeof *left, below(2) == 0);
+    for (size_t i = 0; i < right_len; i++) put_number((uint8_t *) &right[i], sizeof *right, below(2) == 0);
+    switch (kind) {
+    case 0: returned = ratio_add_strided_i64(left, left_len, left_stride, right, right_len, right_stride, values, n); break;
+    case 1: returned = ratio_sub_strided_i64(left, left_len, left_stride, right, right_len, right_stride, values, n); break;
+    case 2: returned = ratio_mul_strided_i64(left, left_len, left_stride, right, right_len, right_stride, values, n); break;
+    case 3: returned = ratio_div_strided_i64(left, left_len, left_stride, right, right_len, right_stride, values, n); break;
+    default: returned = ratio_compare_strided_i64(left, left_len, left_stride, right, right_len, right_stride, (ratio_order *) answers, n);
+    }
+    test_before((uint8_t *) left), test_before((uint8_t *) right), test_before(answers);
+    if (returned == RATIO_DONE) take(answers, size, n);
+    else mix(answers, n * size);
+    mix((const uint8_t *) &returned, sizeof returned);
+}
+
 int main(int argc, char **argv) {
     const uint64_t seed = argc == 4 ? strtoull(argv[1], NULL, 10) : 0, count = argc == 4 ? strtoull(argv[2], NULL, 10) : 0;
     const uint64_t every = argc == 4 ? strtoull(argv[3], NULL, 10) : 0;
@@ -479,6 +512,7 @@ int main(int argc, char **argv) {
         if (below(12) == 0) one_total();
         else if (below(24) == 0) one_list();
         else if (below(24) == 0) one_read_in_steps();
+        else if (below(24) == 0) one_chained_call();
         else one_call(&calls[below(sizeof calls / sizeof *calls)]);
         if (i % every == 0) printf("%" PRIu64 " %016" PRIx64 "\n", i, checksum);
     }

@@ -17,3 +17,7 @@ pub mod SameDivisors
 pub mod RoundedNumbers
 pub mod JoinSteps
 pub mod JoinedAgree
+pub mod Inverses
+pub mod Mod61Hashes
+pub mod SortedBytes
+pub mod StridedPlaces

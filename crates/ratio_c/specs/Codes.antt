@@ -143,3 +143,11 @@ decimal_room128 = 79
 -- a hash is multiplied by this, 0x9e3779b97f4a7c15, before it takes the next code
 abbrev pub hash_multiplier : ℕ
 hash_multiplier = 0x9e37_79b9_7f4a_7c15
+
+-- the modulus of the hash that Python gives a number, a prime number: 2^61 - 1
+abbrev pub hash_modulus : ℕ
+hash_modulus = 0x1fff_ffff_ffff_ffff
+
+-- the hash that Python gives infinity, and a fraction whose denominator has no inverse modulo 2^61 - 1: 314159
+abbrev pub hash_infinite : ℕ
+hash_infinite = 314_159

@@ -21,3 +21,6 @@ pub mod Joining
 pub mod JoinedReads
 pub mod JoinedAnswers
 pub mod TotalBounded
+pub mod HashMod61
+pub mod Sortable
+pub mod Strided

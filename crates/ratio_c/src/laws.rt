@@ -1,8 +1,10 @@
-//! The laws of hashes, of keys and of totals. Each function does nothing: its contract is the law.
+//! The laws of hashes, of keys, of bytes for sorting and of totals. Each function does nothing: its contract is the law.
 ghost use Rattle.ratio_c.specs.Calls.{EqualValuesHaveOneHash};
+ghost use Rattle.ratio_c.specs.HashMod61.{EqualValuesHaveOneMod61Hash, WholeNumbersHashAsInts};
 ghost use Rattle.ratio_c.specs.JoinedAnswers.{DecimalsAnswerAlike, FloatsAnswerAlike, JoinedIsSum, MeansAnswerAlike, SignsAnswerAlike, SumsAnswerAlike};
 ghost use Rattle.ratio_c.specs.Keys.{KeysKeepOrder, KeysTellFloats};
 ghost use Rattle.ratio_c.specs.LowestHash.{DenominatorsHaveUnlikeHashes, EqualHaveOneHash, NumeratorsHaveUnlikeHashes};
+ghost use Rattle.ratio_c.specs.Sortable.{BytesKeepOrder};
 ghost use Rattle.ratio_c.specs.TotalLaws.{CallsFollow, EachIsBrought, EachIsCounted, MergeAddsEach, MeansReadAlike, MergeMoves, OutUndoesIn, PartsMerge, SignsAgree, SumsReadAlike, TotalsInAnyOrder, UnmergeUndoes};
 
 /// Which fractions have the same hash in lowest terms.
@@ -55,4 +57,15 @@ pub fn joined_totals()
 pub fn keys()
     ensures order { KeysKeepOrder }
     ensures floats { KeysTellFloats }
+{}
+
+/// Bytes for sorting have the order of the values.
+pub fn sortable()
+    ensures { BytesKeepOrder }
+{}
+
+/// The hash of Python is one for all fractions of a value, and that of a whole number is the hash of an `int`.
+pub fn hashes_mod61()
+    ensures equal { EqualValuesHaveOneMod61Hash }
+    ensures whole { WholeNumbersHashAsInts }
 {}

@@ -42,8 +42,12 @@
 //! | `total_bounded` | The call for C that prints a total from the bounds of its sum, in one pass. |
 //! | `total_joining` | The struct `Joined64`, the header of a read in steps, and the call for C that joins some slots of a total at a time. |
 //! | `joined_reads` | The calls for C that read a total from the room where all its slots are joined: its sum, its mean, its sign, its float and its decimal. |
-//! | `laws` | The laws of hashes, of keys and of totals. |
+//! | `laws` | The laws of hashes, of keys, of bytes for sorting and of totals. |
 //! | `tests` | Tests of all calls over slices: worked rows. |
+//! | `hash_mod61` | The hash of a fraction in Python: the residue modulo 2^61 - 1, with the sign of the fraction. |
+//! | `mod61` | Products and inverses modulo 2^61 - 1. |
+//! | `sortable` | Bytes for sorting: 24 bytes whose order is that of the values. |
+//! | `strided` | Calls for C on pairs whose fractions lie apart in memory, such as the answers of another call. |
 #![tactic(auto)]
 
 pub mod arithmetic;
@@ -58,11 +62,13 @@ pub mod divisors;
 pub mod each;
 pub mod floats;
 pub mod hash;
+pub mod hash_mod61;
 pub mod joined_reads;
 pub mod key;
 pub mod laws;
 pub mod lowest_hash;
 pub mod many;
+pub mod mod61;
 pub mod multiple;
 pub mod multiple_pair;
 pub mod nearest;
@@ -75,7 +81,9 @@ pub mod reading;
 pub mod rounded_product;
 pub mod scaled;
 pub mod sign;
+pub mod sortable;
 pub mod splits;
+pub mod strided;
 #[cfg(test)]
 mod tests;
 pub mod total_bounded;

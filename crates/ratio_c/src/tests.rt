@@ -8,6 +8,7 @@ use crate::compare::{Order, Truth};
 use crate::each::{BAD_LENGTH, DONE};
 use crate::floats::Float;
 use crate::hash::Hash;
+use crate::hash_mod61::{Residue, ratio_hash_mod61_i64};
 use crate::joined_reads::{
     ratio_joined_mean_i64, ratio_joined_print_i64, ratio_joined_sign_i64, ratio_joined_sum_i64,
     ratio_joined_to_f64_i64,
@@ -25,6 +26,8 @@ use crate::numbers64::{
 use crate::printing::Text;
 use crate::reading::Span;
 use crate::scaled::Scaled;
+use crate::sortable::{Sortable, ratio_sortable_i64};
+use crate::strided::ratio_add_strided_i64;
 use crate::total_bounded::ratio_total_print_bounded_i64;
 use crate::total_joining::{Joined64, ratio_total_join_i64};
 use crate::total_multiples::{ratio_total_round_to_digits_i64, ratio_total_round_to_i64};
@@ -69,6 +72,17 @@ fn no_float() -> Float {
     Float {
         code: 9,
         value: 9.0,
+    }
+}
+
+fn no_residue() -> Residue {
+    Residue { code: 9, hash: 9 }
+}
+
+fn no_bytes() -> Sortable {
+    Sortable {
+        code: 9,
+        bytes: [9; 24],
     }
 }
 
@@ -307,6 +321,38 @@ fn keys(rt: HostRuntime) {
         [first.key, second.key, third.key] == [-4599676419421066581, 4602678819172646912, 0]
     );
     assert!(rt; third.code == DENOMINATOR_NOT_POSITIVE);
+}
+
+#[test]
+fn python_hashes(rt: HostRuntime) {
+    let asked = [fraction(-2, 4), fraction(-3, 3), fraction(1, 0)];
+    let mut answers = [no_residue(), no_residue(), no_residue()];
+    assert!(rt; ratio_hash_mod61_i64(&asked, &mut answers) == DONE);
+    let [first, second, third] = answers;
+    assert!(rt; [first.hash, second.hash, third.hash] == [-1152921504606846976, -2, 0]);
+    assert!(rt; third.code == DENOMINATOR_NOT_POSITIVE);
+}
+
+#[test]
+fn bytes_for_sorting(rt: HostRuntime) {
+    let asked = [fraction(-1, 2), fraction(1, 0)];
+    let mut answers = [no_bytes(), no_bytes()];
+    assert!(rt; ratio_sortable_i64(&asked, &mut answers) == DONE);
+    let [first, second] = answers;
+    let mut bytes = [0; 24];
+    bytes[..9].copy_from_slice(b"\x7f\xff\xff\xff\xff\xff\xff\xff\x80");
+    assert!(rt; first.bytes == bytes);
+    assert!(rt; second.code == DENOMINATOR_NOT_POSITIVE);
+}
+
+#[test]
+fn fractions_apart(rt: HostRuntime) {
+    let words = [1, 2, 9, 1, 3];
+    let mut answers = [no_answer(), no_answer()];
+    assert!(rt; ratio_add_strided_i64(&words, 3, &[1, 6], 0, &mut answers) == DONE);
+    let [first, second] = answers;
+    assert!(rt; [first.value.numer, first.value.denom] == [2, 3]);
+    assert!(rt; [second.value.numer, second.value.denom] == [1, 2]);
 }
 
 #[test]

@@ -1,5 +1,5 @@
 // Erased from crates/ratio_c/src/laws.rt by rust/erase: not to be edited.
-//! The laws of hashes, of keys and of totals. Each function does nothing: its contract is the law.
+//! The laws of hashes, of keys, of bytes for sorting and of totals. Each function does nothing: its contract is the law.
 
 /// Which fractions have the same hash in lowest terms.
 #[inline]
@@ -28,3 +28,11 @@ pub fn joined_totals() {}
 /// If one value is at most another, so is its key. If the nearest float of one value is below that of another, so is its key.
 #[inline]
 pub fn keys() {}
+
+/// Bytes for sorting have the order of the values.
+#[inline]
+pub fn sortable() {}
+
+/// The hash of Python is one for all fractions of a value, and that of a whole number is the hash of an `int`.
+#[inline]
+pub fn hashes_mod61() {}

@@ -1,0 +1,96 @@
+// Erased from crates/ratio_c/src/hash_mod61.rt by rust/erase: not to be edited.
+//! The hash of a fraction in Python: the residue modulo 2^61 - 1, with the sign of the fraction.
+
+use crate::proved::ratio_c::code::{ANSWERED, DENOMINATOR_NOT_POSITIVE};
+use crate::proved::ratio_c::each::{Call, each};
+use crate::proved::ratio_c::mod61::{MODULUS, inverse, product};
+use crate::proved::ratio_c::numbers64::Fraction64;
+use bakhsney::proved::ratio_integer::lowest_terms;
+
+/// The hash of a fraction whose denominator has no inverse, as Python gives it to infinity.
+pub const INFINITE: u64 = 314_159;
+
+/// A hash that may be below 0. If there is none, the code says why, and `hash` is 0.
+#[repr(C)]
+pub struct Residue {
+    pub code: u32,
+    pub hash: i64,
+}
+
+/// The hash of a fraction in Python.
+#[derive(Clone, Copy)]
+pub struct HashingMod61;
+
+impl Call<Fraction64, Residue> for HashingMod61 {
+    #[inline(always)]
+    fn answer(&self, x: &Fraction64) -> Residue {
+        if x.denom <= 0 {
+            return Residue {
+                code: DENOMINATOR_NOT_POSITIVE,
+                hash: 0,
+            };
+        }
+        Residue {
+            code: ANSWERED,
+            hash: hash_of(x.numer, x.denom),
+        }
+    }
+}
+
+/// The hash of `n/d`. An inverse of the denominator serves as well where the terms are not lowest.
+///
+/// # Conditions
+///
+/// The proof requires of the caller:
+///
+/// - `pos 0 <ℤ d`
+#[inline(always)]
+fn hash_of(n: i64, d: i64) -> i64 {
+    match inverse(d.unsigned_abs() % MODULUS) {
+        Some(factor) => with_sign(n, product(n.unsigned_abs() % MODULUS, factor)),
+        None => hash_of_lowest(n, d),
+    }
+}
+
+/// The hash of `n/d` by its lowest terms.
+///
+/// # Conditions
+///
+/// The proof requires of the caller:
+///
+/// - `pos 0 <ℤ d`
+#[inline]
+fn hash_of_lowest(n: i64, d: i64) -> i64 {
+    let (a, b) = lowest_terms(n, d);
+    match inverse(b.unsigned_abs() % MODULUS) {
+        Some(factor) => with_sign(a, product(a.unsigned_abs() % MODULUS, factor)),
+        None => with_sign(a, INFINITE),
+    }
+}
+
+/// The hash with the sign of the number, and -2 in place of -1.
+///
+/// # Conditions
+///
+/// The proof requires of the caller:
+///
+/// - `hash < 2 ^ 61`
+#[inline(always)]
+fn with_sign(n: i64, hash: u64) -> i64 {
+    if n >= 0 {
+        hash as i64
+    } else if hash == 1 {
+        -2
+    } else {
+        -(hash as i64)
+    }
+}
+
+/// The hash of each fraction in Python.
+#[no_mangle]
+pub unsafe extern "C" fn ratio_hash_mod61_i64(asked: *const Fraction64, asked_len: usize, answers: *mut Residue, answers_len: usize) -> u32 {
+    // SAFETY: the header says what the caller owes for each pointer and its length.
+    let asked = crate::items(asked, asked_len);
+    let answers = crate::items_mut(answers, answers_len);
+    each(&HashingMod61, asked, answers)
+}

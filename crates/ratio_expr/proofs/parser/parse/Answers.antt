@@ -1,0 +1,14 @@
+use Rattle.ratio_expr.proofs.ParserAnswers.{found_in, begun_at, stopped_at, unfinished_at}
+use Rattle.ratio_expr.proofs.parser.parse.Goals as goal
+
+pub returns-clause-found : goal.returns-clause-found
+returns-clause-found c = found_in (λ v. v.items) c.args.tokens.now c.read_all.result c.read_all.ensures
+
+pub returns-clause-begun : goal.returns-clause-begun
+returns-clause-begun c = begun_at (λ v. v.items) c.args.tokens.now c.read_all.result c.read_all.ensures
+
+pub returns-clause-stopped : goal.returns-clause-stopped
+returns-clause-stopped c = stopped_at (λ v. v.items) c.args.tokens.now c.read_all.result c.read_all.ensures
+
+pub returns-clause-unfinished : goal.returns-clause-unfinished
+returns-clause-unfinished c = unfinished_at (λ v. v.items) c.args.tokens.now c.read_all.result c.read_all.ensures

@@ -1,0 +1,4 @@
+pub mod Expression
+pub mod Grammar
+pub mod Reading
+pub mod Tokens

@@ -1,0 +1,46 @@
+//! The tree of a text, or the first place that no expression has there, and the column of a place.
+ghost use Rattle.std.specs.Prelude.{◌≡◌, ◌+◌, ◌≤◌, ℕ, length, take, count_by, IfOk, IsErrOf};
+ghost use Rattle.ratio_expr.specs.Grammar.{Tree, postfix};
+ghost use Rattle.ratio_expr.specs.Expression.{IsExpression, IsRefusal, begins_character};
+
+use crate::lexer::tokens;
+use crate::parser::{ParseError, parse};
+use crate::step::Step;
+use std::alloc::Global;
+
+/// The tree of a text, in postfix order, or the first place that no expression has there. `2 + 3 * 4` is 2, 3, 4, `*`, `+`, and
+/// `2 + )` is refused at 4.
+pub fn tree_of(alloc: Global, text: &[u8]) -> Result<Vec<Step>, ParseError>
+    // What is returned is the tree of the text.
+    ensures found { IfOk result (λ steps. (t : Tree) × IsExpression text.now t × (steps.items ≡ postfix t)) }
+    // Before the place the text begins an expression, and with what is there it does not.
+    ensures refused { (at : ℕ) → IsErrOf result (ParseError.Refused at) → IsRefusal text.now at }
+{
+    let cut = tokens(alloc, text)?;
+    match parse(alloc, &cut.tokens) {
+        Ok(steps) => {
+            if cut.end == text.len() {
+                Ok(steps)
+            } else {
+                Err(ParseError::Refused(cut.end))
+            }
+        }
+        Err(ParseError::Refused(at)) => {
+            if at < cut.tokens.len() {
+                Err(ParseError::Refused(cut.tokens[at].span.start))
+            } else {
+                Err(ParseError::Refused(cut.end))
+            }
+        }
+        Err(ParseError::Memory) => Err(ParseError::Memory),
+    }
+}
+
+/// The column of a place in a text in UTF-8, for a caret: 1 and the number of characters before the place.
+pub fn column(text: &[u8], place: usize) -> usize
+    requires { place ≤ length text.now }
+    ensures { result ≡ count_by begins_character (take place text.now) + 1 }
+{
+    let before = text[..place].iter().filter(|byte| **byte < 0x80 || **byte >= 0xC0);
+    before.count() + 1
+}

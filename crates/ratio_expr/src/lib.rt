@@ -1,0 +1,22 @@
+//! Expressions such as `2 + 3 * 4`, from a text to a tree.
+//!
+//! | Module | What is in it |
+//! |---|---|
+//! | `token` | `Token`: a number, a name, an operator or a parenthesis, and its place in the text. |
+//! | `expression` | The tree of a text, or the first place that no expression has there, and the column of a place. |
+//! | `lexer` | The tokens of a text, or the first place where none begins. |
+//! | `step` | `Step`: one step of a tree in postfix order, as a parser returns it. |
+//! | `parser` | The tree of a list of tokens, or the first token that no expression has there. |
+//! | `parser::mark` | `Mark`: an operator or a parenthesis that waits for what is right of it. |
+//! | `laws` | The laws that a text has at most one list of tokens, and that these have at most one tree. |
+#![tactic(auto)]
+
+pub mod expression;
+pub mod laws;
+pub mod lexer;
+pub mod parser;
+pub mod step;
+pub mod token;
+
+#[cfg(test)]
+mod tests;

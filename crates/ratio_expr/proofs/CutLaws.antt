@@ -6,7 +6,7 @@ use Rattle.std.proofs.lemmas.List.{get_or-drop, drop_all}
 use Rattle.ratio_expr.specs.declared.token.Span.{Span}
 use Rattle.ratio_expr.specs.declared.token.Kind.{Kind}
 use Rattle.ratio_expr.specs.declared.token.Token.{Token}
-use Rattle.ratio_expr.specs.Tokens.{first_token, number, name, symbol, digits, led, longest, IsBlank, IsTokenAt, IsCut, BeginsNone}
+use Rattle.ratio_expr.specs.Tokens.{first_token, number, name, symbol, digits, led, longest, IsBlank, IsTokenAt, IsCutInto, BeginsNone}
 
 no_symbol : (a b c : Bool) → longest (if a then None else None) (if b then None else None) (if c then None else None) ≡ None
 no_symbol true true true = refl
@@ -80,13 +80,13 @@ first_same : (text : List ℕ) (from : ℕ) (t u : Token) → IsBlank text from 
 first_same text from t u bt ht bu hu = same_token text t u (same_start text from t u bt ht bu hu) ht hu
 
 -- a text is cut into tokens in one way
-pub one_cut : (text : List ℕ) (from : ℕ) (ts us : List Token) → IsCut text from (length text) ts → IsCut text from (length text) us → ts ≡ us
+pub one_cut : (text : List ℕ) (from : ℕ) (ts us : List Token) → IsCutInto text from (length text) ts → IsCutInto text from (length text) us → ts ≡ us
 one_cut text from [] [] h g = refl
 one_cut text from [] (u ∷ us) h g = absurd (omega (arith, inside text u g.1, not_before text from (length text) u h g.1 g.0.ordered))
 one_cut text from (t ∷ ts) [] h g = absurd (omega (arith, inside text t h.1, not_before text from (length text) t g h.1 h.0.ordered))
 one_cut text from (t ∷ ts) (u ∷ us) h g =
     let e = first_same text from t u h.0 h.1 g.0 g.1 in
-    let rest = one_cut text u.span.end ts us (subst (λ (v : Token). IsCut text v.span.end (length text) ts) e h.2) g.2 in
+    let rest = one_cut text u.span.end ts us (subst (λ (v : Token). IsCutInto text v.span.end (length text) ts) e h.2) g.2 in
     cc
 
 -- a token is where one begins
@@ -94,18 +94,18 @@ no_token : (text : List ℕ) (at : ℕ) (t : Token) → IsTokenAt text t → fir
 no_token text at t h none e = let here = ap (λ n. first_token (drop n text)) e in let some = h.first in cc
 
 module _ (text : List ℕ) (at : ℕ) (s : BeginsNone text at) where
-  no_cut_from : (from : ℕ) (ts us : List Token) → IsCut text from at ts → IsCut text from (length text) us → ⊥
+  no_cut_from : (from : ℕ) (ts us : List Token) → IsCutInto text from at ts → IsCutInto text from (length text) us → ⊥
   no_cut_from from [] [] h g = s.no_space (g.spaces at h.ordered s.within)
   no_cut_from from [] (u ∷ us) h g =
       ⊎_elim
-        (λ p. no_token text at u g.1 s.none (omega (arith, p.1, not_before text from at u h g.1 g.0.ordered)))
-        (λ p. s.no_space (g.0.spaces at h.ordered p.1))
-        (leb_tells u.span.start at)
+      (λ p. no_token text at u g.1 s.none (omega (arith, p.1, not_before text from at u h g.1 g.0.ordered)))
+      (λ p. s.no_space (g.0.spaces at h.ordered p.1))
+      (leb_tells u.span.start at)
   no_cut_from from (t ∷ ts) [] h g = absurd (omega (arith, inside text t h.1, not_before text from (length text) t g h.1 h.0.ordered))
   no_cut_from from (t ∷ ts) (u ∷ us) h g =
       let e = first_same text from t u h.0 h.1 g.0 g.1 in
-      no_cut_from u.span.end ts us (subst (λ (v : Token). IsCut text v.span.end at ts) e h.2) g.2
+      no_cut_from u.span.end ts us (subst (λ (v : Token). IsCutInto text v.span.end at ts) e h.2) g.2
 
 -- a text in which a place begins no token isn't cut into tokens
-pub no_cut : (text : List ℕ) (at : ℕ) (ts : List Token) → IsCut text 0 at ts → BeginsNone text at → (us : List Token) → ¬ IsCut text 0 (length text) us
+pub no_cut : (text : List ℕ) (at : ℕ) (ts : List Token) → IsCutInto text 0 at ts → BeginsNone text at → (us : List Token) → ¬ IsCutInto text 0 (length text) us
 no_cut text at ts cut s us g = no_cut_from text at s 0 ts us cut g

@@ -4,13 +4,13 @@ use Rattle.std.proofs.lemmas.Bool.Decides.{leb_tells}
 use Rattle.std.proofs.lemmas.List.{take_more, append-nil, take_all}
 use Rattle.ratio_expr.specs.declared.token.Token.{Token}
 use Rattle.ratio_expr.specs.Grammar.{Tree, HasTree, IsBegun}
-use Rattle.ratio_expr.specs.Tokens.{IsCut, IsTokenAt, BeginsNone, IsCutTo}
+use Rattle.ratio_expr.specs.Tokens.{IsCutInto, IsTokenAt, BeginsNone, IsCutTo}
 use Rattle.ratio_expr.specs.Expression.{IsExpression, IsRefusal}
 use Rattle.ratio_expr.proofs.CutLaws.{one_cut}
 use Rattle.ratio_expr.proofs.ParserLaws.{one_of_tokens}
 
 -- the front of a cut
-front_cut : (text : List ℕ) (from to : ℕ) (ts : List Token) (i : ℕ) (d : Token) → i < length ts → IsCut text from to ts → IsCut text from (get_or ts i d).span.start (take i ts) × IsTokenAt text (get_or ts i d)
+front_cut : (text : List ℕ) (from to : ℕ) (ts : List Token) (i : ℕ) (d : Token) → i < length ts → IsCutInto text from to ts → IsCutInto text from (get_or ts i d).span.start (take i ts) × IsTokenAt text (get_or ts i d)
 front_cut text from to [] i d h cut = absurd (omega arith)
 front_cut text from to (t ∷ ts) zero d h cut = (cut.0, cut.1)
 front_cut text from to (t ∷ ts) (suc i) d h cut =
@@ -18,11 +18,15 @@ front_cut text from to (t ∷ ts) (suc i) d h cut =
     ((cut.0, cut.1, rest.0), rest.1)
 
 -- a token is refused
-pub refused_token : (text : List ℕ) (to : ℕ) (ts : List Token) (i : ℕ) (d : Token) → i < length ts → IsCut text 0 to ts → IsBegun (take i ts) → (IsBegun (take (i + 1) ts) → ⊥) → IsRefusal text (get_or ts i d).span.start
+pub refused_token : (text : List ℕ) (to : ℕ) (ts : List Token) (i : ℕ) (d : Token) → i < length ts → IsCutInto text 0 to ts → IsBegun (take i ts) → (IsBegun (take (i + 1) ts) → ⊥) → IsRefusal text (get_or ts i d).span.start
 refused_token text to ts i d h cut begun stopped =
     let front = front_cut text 0 to ts i d h cut in
-    record { tokens = take i ts; cut = front.0; begun = begun;
-      refuses = inl (get_or ts i d, front.1, refl, λ b. stopped (subst IsBegun (sym (take_more ts i d h)) b)) }
+    record {
+      tokens = take i ts;
+      cut = front.0;
+      begun = begun;
+      refuses = inl (get_or ts i d, front.1, refl, λ b. stopped (subst IsBegun (sym (take_more ts i d h)) b));
+    }
 
 -- the place where the text is cut no further is refused
 pub refused_none : (text : List ℕ) (to : ℕ) (ts : List Token) → IsCutTo text to ts → to ≢ length text → IsBegun ts → IsRefusal text to
@@ -43,12 +47,12 @@ pub refused_past : (text : List ℕ) (to : ℕ) (ts : List Token) (i : ℕ) → 
 refused_past text to ts i cut past begun none =
     let whole = begun_past ts i past begun in
     ⊎_elim
-      (λ p. ⊎_elim
-        (λ q. refused_end_of text to ts cut (omega (arith, p.1, q.1)) whole none)
-        (λ q. refused_none text to ts cut (omega (arith, q.1)) whole)
-        (leb_tells (length text) to))
-      (λ p. refused_none text to ts cut (omega (arith, p.1)) whole)
-      (leb_tells to (length text))
+    (λ p. ⊎_elim
+    (λ q. refused_end_of text to ts cut (omega (arith, p.1, q.1)) whole none)
+    (λ q. refused_none text to ts cut (omega (arith, q.1)) whole)
+    (leb_tells (length text) to))
+    (λ p. refused_none text to ts cut (omega (arith, p.1)) whole)
+    (leb_tells to (length text))
 
 -- a text has at most one tree
 pub one_of_text : (text : List ℕ) (t u : Tree) → IsExpression text t → IsExpression text u → t ≡ u

@@ -115,20 +115,20 @@ settled n one (Inside c s) t sound proper fits tight =
     unsettled n (Inside c s) t sound proper fits tight (stays n (Opened s) (marks_of c) (steps_of c ++ postfix t) one)
 settled n one (Minus c s) t sound proper fits tight =
     ⊎_elim
-      (λ h. settled_more n (Minus c s) t c (Negative s t)
-        (pops n (Negated s) (marks_of c) (steps_of c ++ postfix t) h ∙ ap (settle n (marks_of c)) (append_assoc (steps_of c) (postfix t) (steps.Negate s ∷ [])))
-        (behind_minus (front_of c) (record { kind = kinds.Operator Subtract; span = s }) (spelling t))
-        (settled n one c (Negative s t) sound (fits, proper) (room_four c) h))
-      (λ h. unsettled n (Minus c s) t sound proper fits tight (stays n (Negated s) (marks_of c) (steps_of c ++ postfix t) h))
-      (at_or_above n 4)
+    (λ h. settled_more n (Minus c s) t c (Negative s t)
+    (pops n (Negated s) (marks_of c) (steps_of c ++ postfix t) h ∙ ap (settle n (marks_of c)) (append_assoc (steps_of c) (postfix t) (steps.Negate s ∷ [])))
+    (behind_minus (front_of c) (record { kind = kinds.Operator Subtract; span = s }) (spelling t))
+    (settled n one c (Negative s t) sound (fits, proper) (room_four c) h))
+    (λ h. unsettled n (Minus c s) t sound proper fits tight (stays n (Negated s) (marks_of c) (steps_of c ++ postfix t) h))
+    (at_or_above n 4)
 settled n one (Left c a o s) t sound proper fits tight =
     ⊎_elim
-      (λ h. settled_more n (Left c a o s) t c (Between o s a t)
-        (pops n (Half o s) (marks_of c) ((steps_of c ++ postfix a) ++ postfix t) h ∙ ap (settle n (marks_of c)) (steps_left (steps_of c) (postfix a) (postfix t) (steps.Apply o s)))
-        (behind_left (front_of c) (spelling a) (record { kind = kinds.Operator o; span = s }) (spelling t))
-        (settled n one c (Between o s a t) sound.3 (sound.0, fits, sound.1, proper) sound.2 h))
-      (λ h. unsettled n (Left c a o s) t sound proper fits tight (stays n (Half o s) (marks_of c) ((steps_of c ++ postfix a) ++ postfix t) h))
-      (at_or_above n (level (rank o)))
+    (λ h. settled_more n (Left c a o s) t c (Between o s a t)
+    (pops n (Half o s) (marks_of c) ((steps_of c ++ postfix a) ++ postfix t) h ∙ ap (settle n (marks_of c)) (steps_left (steps_of c) (postfix a) (postfix t) (steps.Apply o s)))
+    (behind_left (front_of c) (spelling a) (record { kind = kinds.Operator o; span = s }) (spelling t))
+    (settled n one c (Between o s a t) sound.3 (sound.0, fits, sound.1, proper) sound.2 h))
+    (λ h. unsettled n (Left c a o s) t sound proper fits tight (stays n (Half o s) (marks_of c) ((steps_of c ++ postfix a) ++ postfix t) h))
+    (at_or_above n (level (rank o)))
 
 -- an operand comes next
 record Wanting (ts : List Token) (w : Work) : Type 0 where
@@ -157,15 +157,22 @@ Stands ts x = StandsIn x.wants ts x.work
 
 with_leaf : (t : Tree) (x : Token) (ts : List Token) (w : Work) → 6 ≤ binds t → IsProper t → spelling t ≡ x ∷ [] → Wanting ts w → Having (ts ++ x ∷ []) (record { marks = w.marks; written = w.written ++ postfix t })
 with_leaf t x ts w tight proper e h = record {
-    context = h.context; tree = t; sound = h.sound; proper = proper; tight = tight;
-    work = ap (λ (v : Work). let r : Work = record { marks = v.marks; written = v.written ++ postfix t } in r) h.work;
-    front = ap (λ l. front_of h.context ++ l) e ∙ ap (λ f. f ++ x ∷ []) h.front }
+  context = h.context;
+  tree = t;
+  sound = h.sound;
+  proper = proper;
+  tight = tight;
+  work = ap (λ (v : Work). let r : Work = record { marks = v.marks; written = v.written ++ postfix t } in r) h.work;
+  front = ap (λ l. front_of h.context ++ l) e ∙ ap (λ f. f ++ x ∷ []) h.front;
+}
 
 with_mark_of : (m : Mark) (c : Context) (x : Token) (ts : List Token) (w : Work) → IsSound c → marks_of c ≡ m ∷ w.marks → steps_of c ≡ w.written → front_of c ≡ ts ++ x ∷ [] → Wanting (ts ++ x ∷ []) (record { marks = m ∷ w.marks; written = w.written })
 with_mark_of m c x ts w sound e1 e2 e3 = record {
-    context = c; sound = sound;
-    work = ap (λ (l : List Mark). let r : Work = record { marks = l; written = w.written } in r) (sym e1) ∙ ap (λ (l : List Step). let r : Work = record { marks = marks_of c; written = l } in r) (sym e2);
-    front = e3 }
+  context = c;
+  sound = sound;
+  work = ap (λ (l : List Mark). let r : Work = record { marks = l; written = w.written } in r) (sym e1) ∙ ap (λ (l : List Step). let r : Work = record { marks = marks_of c; written = l } in r) (sym e2);
+  front = e3;
+}
 
 operand_stands : (k : Kind) (s : Span) (ts : List Token) (w : Work) → Wanting ts w → IfSome (at_operand k s w) (λ x. Stands (ts ++ record { kind = k; span = s } ∷ []) x)
 operand_stands kinds.Number s ts w h = with_leaf (Number s) (record { kind = kinds.Number; span = s }) ts w (omega arith) tt refl h
@@ -192,9 +199,9 @@ operator_stands o s c t ts sound proper tight front =
     let next : State = record { work = record { marks = Half o s ∷ marks_of c; written = steps_of c ++ postfix t }; wants = true } in
     let P : Bool → Type 0 = λ b. IfSome (if b then Some next else None) (λ x. Stands (ts ++ record { kind = kinds.Operator o; span = s } ∷ []) x) in
     ⊎_elim
-      (λ p. let r : Wanting (ts ++ x ∷ []) next.work = record { context = Left c t o s; sound = (tight, proper, p.1, sound); work = refl; front = sym (append_assoc (front_of c) (spelling t) (x ∷ [])) ∙ ap (λ f. f ++ x ∷ []) front } in subst P (sym p.0) r)
-      (λ p. subst P (sym p.0) tt)
-      (leb_tells (room (marks_of c)) (level (rank o)))
+    (λ p. let r : Wanting (ts ++ x ∷ []) next.work = record { context = Left c t o s; sound = (tight, proper, p.1, sound); work = refl; front = sym (append_assoc (front_of c) (spelling t) (x ∷ [])) ∙ ap (λ f. f ++ x ∷ []) front } in subst P (sym p.0) r)
+    (λ p. subst P (sym p.0) tt)
+    (leb_tells (room (marks_of c)) (level (rank o)))
 
 close_stands : (e : Span) (c : Context) (t : Tree) (ts : List Token) → IsSound c → IsProper t → 2 ≤ binds t → front_of c ++ spelling t ≡ ts
     → IfSome (with_close e (marks_of c) (steps_of c ++ postfix t)) (λ x. Stands (ts ++ record { kind = kinds.Close; span = e } ∷ []) x)
@@ -202,9 +209,14 @@ close_stands e Bottom t ts sound proper tight front = tt
 close_stands e (Minus c s) t ts sound proper tight front = tt
 close_stands e (Left c a o s) t ts sound proper tight front = tt
 close_stands e (Inside c s) t ts sound proper tight front = record {
-    context = c; tree = Group s t e; sound = sound; proper = (tight, proper); tight = omega arith;
-    work = ap (λ (l : List Step). let r : Work = record { marks = marks_of c; written = l } in r) (append_assoc (steps_of c) (postfix t) (steps.Group s e ∷ []));
-    front = inside (front_of c) (record { kind = kinds.Open; span = s }) (spelling t) (record { kind = kinds.Close; span = e }) ∙ ap (λ f. f ++ record { kind = kinds.Close; span = e } ∷ []) front }
+  context = c;
+  tree = Group s t e;
+  sound = sound;
+  proper = (tight, proper);
+  tight = omega arith;
+  work = ap (λ (l : List Step). let r : Work = record { marks = marks_of c; written = l } in r) (append_assoc (steps_of c) (postfix t) (steps.Group s e ∷ []));
+  front = inside (front_of c) (record { kind = kinds.Open; span = s }) (spelling t) (record { kind = kinds.Close; span = e }) ∙ ap (λ f. f ++ record { kind = kinds.Close; span = e } ∷ []) front;
+}
 
 behind_stands : (k : Kind) (s : Span) (ts : List Token) (w : Work) → Having ts w → IfSome (behind_operand k s w) (λ x. Stands (ts ++ record { kind = k; span = s } ∷ []) x)
 behind_stands kinds.Number s ts w h = tt
@@ -214,13 +226,13 @@ behind_stands (kinds.Operator o) s ts w h =
     let n = left_level (rank o) in
     let r = settled n (left_one (rank o)) h.context h.tree h.sound h.proper (omega (arith, room_four h.context, h.tight)) (omega (arith, left_six (rank o), h.tight)) in
     subst (λ (v : Work). IfSome (with_operator o s v) (λ x. Stands (ts ++ record { kind = kinds.Operator o; span = s } ∷ []) x))
-      (sym (ap (λ (v : Work). settle n v.marks v.written) h.work ∙ r.work))
-      (operator_stands o s r.context r.tree ts r.sound r.proper r.tight (r.front ∙ h.front))
+    (sym (ap (λ (v : Work). settle n v.marks v.written) h.work ∙ r.work))
+    (operator_stands o s r.context r.tree ts r.sound r.proper r.tight (r.front ∙ h.front))
 behind_stands kinds.Close s ts w h =
     let r = settled 2 (omega arith) h.context h.tree h.sound h.proper (omega (arith, room_four h.context, h.tight)) (omega (arith, h.tight)) in
     subst (λ (v : Work). IfSome (with_close s v.marks v.written) (λ x. Stands (ts ++ record { kind = kinds.Close; span = s } ∷ []) x))
-      (sym (ap (λ (v : Work). settle 2 v.marks v.written) h.work ∙ r.work))
-      (close_stands s r.context r.tree ts r.sound r.proper r.tight (r.front ∙ h.front))
+    (sym (ap (λ (v : Work). settle 2 v.marks v.written) h.work ∙ r.work))
+    (close_stands s r.context r.tree ts r.sound r.proper r.tight (r.front ∙ h.front))
 
 next_stands : (b : Bool) (k : Kind) (s : Span) (ts : List Token) (w : Work) → StandsIn b ts w → IfSome (next_state b k s w) (λ x. Stands (ts ++ record { kind = k; span = s } ∷ []) x)
 next_stands true k s ts w h = operand_stands k s ts w h
@@ -251,7 +263,7 @@ whole_in true ts w out h e = absurd (cc)
 whole_in false ts w out h e =
     let r = settled 1 (omega arith) h.context h.tree h.sound h.proper (omega (arith, room_four h.context, h.tight)) (omega (arith, h.tight)) in
     whole_of r.context r.tree ts out r.proper (r.front ∙ h.front)
-      (sym (ap (λ (v : Work). if_settled v.marks v.written) (ap (λ (v : Work). settle 1 v.marks v.written) h.work ∙ r.work)) ∙ e)
+    (sym (ap (λ (v : Work). if_settled v.marks v.written) (ap (λ (v : Work). settle 1 v.marks v.written) h.work ∙ r.work)) ∙ e)
 
 whole_option : (x : Option State) (ts : List Token) (out : List Step) → IfSome x (λ v. Stands ts v) → finish x ≡ Some out → (u : Tree) × HasTree ts u × (out ≡ postfix u)
 whole_option None ts out h e = absurd (cc)
@@ -276,7 +288,7 @@ begun_with (Left c a o s) t ts sound proper fits front =
 begun_with (Inside c s) t ts sound proper fits front =
     let y : Token = record { kind = kinds.Close; span = s } in
     shorter ts (y ∷ []) (begun_with c (Group s t s) (ts ++ y ∷ []) sound (fits, proper) (omega (arith, room_four c))
-      (inside (front_of c) (record { kind = kinds.Open; span = s }) (spelling t) y ∙ ap (λ f. f ++ y ∷ []) front))
+    (inside (front_of c) (record { kind = kinds.Open; span = s }) (spelling t) y ∙ ap (λ f. f ++ y ∷ []) front))
 
 begun_in : (b : Bool) (ts : List Token) (w : Work) → StandsIn b ts w → IsBegun ts
 begun_in true ts w h =

@@ -6,20 +6,20 @@ use Rattle.std.proofs.Math.Seq.{take-length}
 use Rattle.ratio_expr.specs.declared.token.Token.{Token}
 use Rattle.ratio_expr.specs.declared.step.Step.{Step}
 use Rattle.ratio_expr.specs.declared.parser.mark.Mark.{Mark}
-use Rattle.ratio_expr.specs.Reading.{Work, State, work_of, state_of, next_state, settle, run, start, finish, if_settled, IsNext, IsRefusedAt}
+use Rattle.ratio_expr.specs.Reading.{Work, State, work_of, state_of, next_state, settle, run, start, finish, if_settled, IsNextState, IsRefusedAt}
 use Rattle.ratio_expr.proofs.Completeness.{run-append}
 
 module _ (tokens : List Token) (at : ℕ) (x : State) (d : Token) (read : run (take at tokens) start ≡ Some x) (within : at < length tokens) where
   next_read : run (take (at + 1) tokens) start ≡ next_state x.wants (get_or tokens at d).kind (get_or tokens at d).span x.work
   next_read = ap (λ l. run l start) (take_more tokens at d within) ∙ run-append (take at tokens) (get_or tokens at d ∷ []) start ∙ ap (run (get_or tokens at d ∷ [])) read
 
-  pub refused_here : (marks : List Mark) (written : List Step) (r : Option Bool) → IsNext (next_state x.wants (get_or tokens at d).kind (get_or tokens at d).span x.work) marks written r → r ≡ None → IsRefusedAt tokens at
+  pub refused_here : (marks : List Mark) (written : List Step) (r : Option Bool) → IsNextState (next_state x.wants (get_or tokens at d).kind (get_or tokens at d).span x.work) marks written r → r ≡ None → IsRefusedAt tokens at
   refused_here marks written r next none =
-      let e : next_state x.wants (get_or tokens at d).kind (get_or tokens at d).span x.work ≡ None = subst (λ o. IsNext (next_state x.wants (get_or tokens at d).kind (get_or tokens at d).span x.work) marks written o) none next in
+      let e : next_state x.wants (get_or tokens at d).kind (get_or tokens at d).span x.work ≡ None = subst (λ o. IsNextState (next_state x.wants (get_or tokens at d).kind (get_or tokens at d).span x.work) marks written o) none next in
       record { before = x; read = read; within = λ h. next_read ∙ e; end = λ h. absurd (omega arith) }
 
-  pub goes_on : (marks : List Mark) (written : List Step) (r : Option Bool) (wants : Bool) → IsNext (next_state x.wants (get_or tokens at d).kind (get_or tokens at d).span x.work) marks written r → r ≡ Some wants → run (take (at + 1) tokens) start ≡ Some (state_of marks written wants)
-  goes_on marks written r wants next some = next_read ∙ subst (λ o. IsNext (next_state x.wants (get_or tokens at d).kind (get_or tokens at d).span x.work) marks written o) some next
+  pub goes_on : (marks : List Mark) (written : List Step) (r : Option Bool) (wants : Bool) → IsNextState (next_state x.wants (get_or tokens at d).kind (get_or tokens at d).span x.work) marks written r → r ≡ Some wants → run (take (at + 1) tokens) start ≡ Some (state_of marks written wants)
+  goes_on marks written r wants next some = next_read ∙ subst (λ o. IsNextState (next_state x.wants (get_or tokens at d).kind (get_or tokens at d).span x.work) marks written o) some next
 
 -- all tokens are read, and the end is refused
 pub refused_end : (tokens : List Token) (at : ℕ) (x : State) → run (take at tokens) start ≡ Some x → at ≤ length tokens → length tokens ≤ at → finish (Some x) ≡ None → IsRefusedAt tokens (length tokens)

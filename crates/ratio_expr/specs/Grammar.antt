@@ -31,6 +31,7 @@ pub data Rank : Type 0 where
   Product : Rank
   Raising : Rank
 
+-- the rank of each operator
 abbrev pub rank : Operator → Rank
 rank Less = Comparison
 rank AtMost = Comparison

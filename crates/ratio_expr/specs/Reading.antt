@@ -126,9 +126,9 @@ abbrev pub state_of : List Mark → List Step → Bool → State
 state_of marks written wants = record { work = work_of marks written; wants = wants }
 
 -- Inner: what reading a token returns is whether an operand comes next in the state, or `None` if there is none
-abbrev pub IsNext : Option State → List Mark → List Step → Option Bool → Type 0
-IsNext next marks written None = next ≡ None
-IsNext next marks written (Some wants) = next ≡ Some (state_of marks written wants)
+abbrev pub IsNextState : Option State → List Mark → List Step → Option Bool → Type 0
+IsNextState next marks written None = next ≡ None
+IsNextState next marks written (Some wants) = next ≡ Some (state_of marks written wants)
 
 -- Inner: the tokens before this one are read, and this one is not. Or all are read, and the end is refused
 pub record IsRefusedAt (tokens : List Token) (at : ℕ) : Type 0 where
@@ -137,10 +137,11 @@ pub record IsRefusedAt (tokens : List Token) (at : ℕ) : Type 0 where
   pub within : at < length tokens → run (take (at + 1) tokens) start ≡ None
   pub end : length tokens ≤ at → finish (run tokens start) ≡ None
 
--- Inner: the result is the steps of the tokens, or the place where they are refused, or memory ran out
+-- Inner: all tokens are read, and these are their steps
 abbrev pub Gives : List Token → List Step → Type 0
 Gives tokens written = finish (run tokens start) ≡ Some written
 
+-- Inner: the tokens are refused at this place, or memory ran out
 abbrev pub Fails : List Token → ParseError → Type 0
 Fails tokens errors.Memory = Unit {0}
 Fails tokens (errors.Refused at) = IsRefusedAt tokens at

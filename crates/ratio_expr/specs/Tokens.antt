@@ -19,23 +19,23 @@ led c text = if (slice_index text 0 == c) && nat_lt 0 (digits (drop 1 text)) the
 
 -- how long the second part of a mixed number is: a space, digits, a slash and digits
 -- Example: ` 1/2*3`: 4
-unfoldable pub mixed : List ℕ → ℕ
-mixed text = if nat_lt 0 (led 32 text) && nat_lt 0 (led 47 (drop (led 32 text) text)) then led 32 text + led 47 (drop (led 32 text) text) else 0
+unfoldable pub mixed_tail : List ℕ → ℕ
+mixed_tail text = if nat_lt 0 (led 32 text) && nat_lt 0 (led 47 (drop (led 32 text) text)) then led 32 text + led 47 (drop (led 32 text) text) else 0
 
 -- how long a sign of an exponent is
 -- Example: `-3`: 1
-unfoldable pub sign : List ℕ → ℕ
-sign text = if (slice_index text 0 == 45) || (slice_index text 0 == 43) then 1 else 0
+unfoldable pub exponent_sign : List ℕ → ℕ
+exponent_sign text = if (slice_index text 0 == 45) || (slice_index text 0 == 43) then 1 else 0
 
 -- how long a sign or none and digits are, or 0 if there is no digit
 -- Example: `-3*4`: 2
-unfoldable pub signed : List ℕ → ℕ
-signed text = if nat_lt 0 (digits (drop (sign text) text)) then sign text + digits (drop (sign text) text) else 0
+unfoldable pub signed_digits : List ℕ → ℕ
+signed_digits text = if nat_lt 0 (digits (drop (exponent_sign text) text)) then exponent_sign text + digits (drop (exponent_sign text) text) else 0
 
 -- how long an exponent is: an e, and a sign or none and digits
 -- Example: `e-3*4`: 3
 unfoldable pub exponent : List ℕ → ℕ
-exponent text = if ((slice_index text 0 == 101) || (slice_index text 0 == 69)) && nat_lt 0 (signed (drop 1 text)) then signed (drop 1 text) + 1 else 0
+exponent text = if ((slice_index text 0 == 101) || (slice_index text 0 == 69)) && nat_lt 0 (signed_digits (drop 1 text)) then signed_digits (drop 1 text) + 1 else 0
 
 -- how long a point with digits and an exponent are, each if it is there
 -- Example: `.5e-3`: 5
@@ -54,18 +54,18 @@ percent text = if slice_index text 0 == 37 then 1 else 0
 
 -- the same with a percent sign, if it is there
 -- Example: `.5%`: 3
-unfoldable pub share : List ℕ → ℕ
-share text = part text + percent (drop (part text) text)
+unfoldable pub part_with_percent : List ℕ → ℕ
+part_with_percent text = part text + percent (drop (part text) text)
 
 -- how long what follows the digits of a number is
 -- Example: `.5%`: 3; ` 1/2`: 4
 unfoldable pub tail : List ℕ → ℕ
-tail text = if nat_lt 0 (mixed text) then mixed text else share text
+tail text = if nat_lt 0 (mixed_tail text) then mixed_tail text else part_with_percent text
 
 -- how long the number is that the text begins with, or 0
 -- Example: `12.5%*80`: 5; `1/2/3`: 3; `1 1/2`: 5; `.5`: 2
 unfoldable pub number : List ℕ → ℕ
-number text = if nat_lt 0 (digits text) then digits text + tail (drop (digits text) text) else (if nat_lt 0 (led 46 text) then share text else 0)
+number text = if nat_lt 0 (digits text) then digits text + tail (drop (digits text) text) else (if nat_lt 0 (led 46 text) then part_with_percent text else 0)
 
 -- a letter or an underscore
 abbrev pub starts_name : ℕ → Bool
@@ -96,13 +96,18 @@ two_bytes b c = if (b == 60) && (c == 61) then Some (kinds.Operator AtMost) else
 abbrev pub three_bytes : ℕ → ℕ → ℕ → Option Kind
 three_bytes a b c = if (a == 226) && ((b == 136) && (c == 146)) then Some (kinds.Operator Subtract) else None
 
--- the operator or the parenthesis of the first byte of a text, or of its first two or three
+-- the operator or the parenthesis of the first byte of a text
+-- Example: `<=3`: `<`
 abbrev pub first_byte : List ℕ → Option Kind
 first_byte text = if nat_le 1 (length text) then one_byte (slice_index text 0) else None
 
+-- the operator of the first two bytes of a text
+-- Example: `<=3`: `<=`
 abbrev pub first_two : List ℕ → Option Kind
 first_two text = if nat_le 2 (length text) then two_bytes (slice_index text 0) (slice_index text 1) else None
 
+-- the operator of the first three bytes of a text
+-- Example: none, of `<=3`
 abbrev pub first_three : List ℕ → Option Kind
 first_three text = if nat_le 3 (length text) then three_bytes (slice_index text 0) (slice_index text 1) (slice_index text 2) else None
 
@@ -136,9 +141,9 @@ pub record IsTokenAt (text : List ℕ) (t : Token) : Type 0 where
   pub first : first_token (drop t.span.start text) ≡ Some (t.kind, long)
 
 -- from one place to another, the text is these tokens, with blanks between them
-abbrev pub IsCut : List ℕ → ℕ → ℕ → List Token → Type 0
-IsCut text from to [] = IsBlank text from to
-IsCut text from to (t ∷ ts) = IsBlank text from t.span.start × IsTokenAt text t × IsCut text t.span.end to ts
+abbrev pub IsCutInto : List ℕ → ℕ → ℕ → List Token → Type 0
+IsCutInto text from to [] = IsBlank text from to
+IsCutInto text from to (t ∷ ts) = IsBlank text from t.span.start × IsTokenAt text t × IsCutInto text t.span.end to ts
 
 -- at this place is no space, and no token begins there
 pub record BeginsNone (text : List ℕ) (at : ℕ) : Type 0 where
@@ -148,5 +153,5 @@ pub record BeginsNone (text : List ℕ) (at : ℕ) : Type 0 where
 
 -- the text is these tokens up to its end, or else up to the first place where none begins
 pub record IsCutTo (text : List ℕ) (end : ℕ) (tokens : List Token) : Type 0 where
-  pub cut : IsCut text 0 end tokens
+  pub cut : IsCutInto text 0 end tokens
   pub stop : end ≢ length text → BeginsNone text end

@@ -41,6 +41,8 @@ pub fn column(text: &[u8], place: usize) -> usize
     requires { place ≤ length text.now }
     ensures { result ≡ count_by begins_character (take place text.now) + 1 }
 {
-    let before = text[..place].iter().filter(|byte| **byte < 0x80 || **byte >= 0xC0);
+    let before = text[..place]
+        .iter()
+        .filter(|byte| **byte < 0x80 || **byte >= 0xC0);
     before.count() + 1
 }

@@ -3,35 +3,30 @@ ghost use Rattle.std.specs.Prelude.{◌≡◌, ℕ, List, length};
 ghost use Rattle.ratio_expr.specs.declared.token.Token.{Token};
 ghost use Rattle.ratio_expr.specs.Grammar.{Tree, HasTree, postfix};
 ghost use Rattle.ratio_expr.specs.Expression.{IsExpression};
-ghost use Rattle.ratio_expr.specs.Tokens.{IsCut, BeginsNone};
+ghost use Rattle.ratio_expr.specs.Tokens.{IsCutInto, BeginsNone};
 
 /// A list of tokens has at most one tree.
 pub fn one_tree()
     ensures { (tokens : List Token) (t u : Tree) → HasTree tokens t → HasTree tokens u → t ≡ u }
-{
-}
+{}
 
 /// No two trees have the same steps.
 pub fn one_tree_of_steps()
     ensures { (t u : Tree) → postfix t ≡ postfix u → t ≡ u }
-{
-}
+{}
 
 /// A text is cut into tokens in one way.
 pub fn one_cut()
-    ensures { (text : List ℕ) (ts us : List Token) → IsCut text 0 (length text) ts → IsCut text 0 (length text) us → ts ≡ us }
-{
-}
+    ensures { (text : List ℕ) (ts us : List Token) → IsCutInto text 0 (length text) ts → IsCutInto text 0 (length text) us → ts ≡ us }
+{}
 
 /// A text in which a place begins no token is cut in none.
 pub fn no_cut()
-    ensures { (text : List ℕ) (at : ℕ) (ts : List Token) → IsCut text 0 at ts → BeginsNone text at
-        → (us : List Token) → ¬ IsCut text 0 (length text) us }
-{
-}
+    ensures { (text : List ℕ) (at : ℕ) (ts : List Token) → IsCutInto text 0 at ts → BeginsNone text at
+        → (us : List Token) → ¬ IsCutInto text 0 (length text) us }
+{}
 
 /// A text has at most one tree.
 pub fn one_tree_of_text()
     ensures { (text : List ℕ) (t u : Tree) → IsExpression text t → IsExpression text u → t ≡ u }
-{
-}
+{}

@@ -3,12 +3,16 @@
 //! | Module | What is in it |
 //! |---|---|
 //! | `token` | `Token`: a number, a name, an operator or a parenthesis, and its place in the text. |
-//! | `expression` | The tree of a text, or the first place that no expression has there, and the column of a place. |
 //! | `lexer` | The tokens of a text, or the first place where none begins. |
+//! | `lexer::number` | How long the number or the name is that a text begins with. |
+//! | `lexer::symbol` | The operator or the parenthesis that a text begins with. |
 //! | `step` | `Step`: one step of a tree in postfix order, as a parser returns it. |
 //! | `parser` | The tree of a list of tokens, or the first token that no expression has there. |
+//! | `parser::error` | Why a list of tokens has no tree. |
 //! | `parser::mark` | `Mark`: an operator or a parenthesis that waits for what is right of it. |
+//! | `expression` | The tree of a text, or the first place that no expression has there, and the column of a place. |
 //! | `laws` | The laws that a text has at most one list of tokens, and that these have at most one tree. |
+//! | `tests` | Tests of texts: rows with their steps, and rows that are refused, with their columns. |
 #![tactic(auto)]
 
 pub mod expression;
@@ -16,7 +20,6 @@ pub mod laws;
 pub mod lexer;
 pub mod parser;
 pub mod step;
-pub mod token;
-
 #[cfg(test)]
 mod tests;
+pub mod token;

@@ -5,14 +5,15 @@ mod mark;
 ghost use Rattle.std.specs.Prelude.{◌≡◌, ◌<◌, ◌≤◌, ◌+◌, ◌++◌, ℕ, [], ◌∷◌, length, take, reverse, Some, None, IfOk, OnOk, IfErr, MatchResult, IsErrOf, Option, List, true, false};
 ghost use Rattle.ratio_expr.specs.declared.step.Step.{Step};
 ghost use Rattle.ratio_expr.specs.Grammar.{Tree, HasTree, IsBegun, left_level, rank, postfix};
-ghost use Rattle.ratio_expr.specs.Reading.{Gives, Fails, IsNext, settle, next_state, at_operand, behind_operand, with_operator, with_close, work_of, state_of};
+ghost use Rattle.ratio_expr.specs.Reading.{Gives, Fails, IsNextState, settle, next_state, at_operand, behind_operand, with_operator, with_close, work_of, state_of};
 
-use crate::parser::mark::{Mark, left_level_of, level_of, level_of_mark, room_of_mark, step_of_mark};
+use crate::parser::mark::{
+    Mark, left_level_of, level_of, level_of_mark, room_of_mark, step_of_mark,
+};
 use crate::step::Step;
 use crate::token::{Kind, Operator, Span, Token};
-use std::alloc::{AllocError, Global};
-
 pub use error::ParseError;
+use std::alloc::{AllocError, Global};
 
 /// The tree of a list of tokens, in postfix order, or the first token that no expression has there.
 pub fn parse(alloc: Global, tokens: &[Token]) -> Result<Vec<Step>, ParseError>
@@ -60,7 +61,7 @@ fn read_token(
     steps: &mut Vec<Step>,
     wants: bool,
 ) -> Result<Option<bool>, AllocError>
-    ensures { IfOk result (λ next. IsNext (next_state wants token.kind token.span (work_of marks.old.items steps.old.items))
+    ensures { IfOk result (λ next. IsNextState (next_state wants token.kind token.span (work_of marks.old.items steps.old.items))
         marks.new.items steps.new.items next) }
 {
     if wants {
@@ -76,7 +77,7 @@ fn read_operand(
     marks: &mut Vec<Mark>,
     steps: &mut Vec<Step>,
 ) -> Result<Option<bool>, AllocError>
-    ensures { IfOk result (λ next. IsNext (at_operand token.kind token.span (work_of marks.old.items steps.old.items))
+    ensures { IfOk result (λ next. IsNextState (at_operand token.kind token.span (work_of marks.old.items steps.old.items))
         marks.new.items steps.new.items next) }
 {
     match token.kind {
@@ -94,7 +95,7 @@ fn read_behind(
     marks: &mut Vec<Mark>,
     steps: &mut Vec<Step>,
 ) -> Result<Option<bool>, AllocError>
-    ensures { IfOk result (λ next. IsNext (behind_operand token.kind token.span (work_of marks.old.items steps.old.items))
+    ensures { IfOk result (λ next. IsNextState (behind_operand token.kind token.span (work_of marks.old.items steps.old.items))
         marks.new.items steps.new.items next) }
 {
     match token.kind {
@@ -127,8 +128,12 @@ fn put_mark(mark: Mark, marks: &mut Vec<Mark>) -> Result<Option<bool>, AllocErro
 }
 
 // Reads an operator, if there is room for it behind what waits.
-fn read_operator(operator: Operator, span: Span, marks: &mut Vec<Mark>) -> Result<Option<bool>, AllocError>
-    ensures { (steps : List Step) → IfOk result (λ next. IsNext (with_operator operator span (work_of marks.old.items steps))
+fn read_operator(
+    operator: Operator,
+    span: Span,
+    marks: &mut Vec<Mark>,
+) -> Result<Option<bool>, AllocError>
+    ensures { (steps : List Step) → IfOk result (λ next. IsNextState (with_operator operator span (work_of marks.old.items steps))
         marks.new.items steps next) }
 {
     match marks.pop() {
@@ -147,7 +152,7 @@ fn read_close(
     marks: &mut Vec<Mark>,
     steps: &mut Vec<Step>,
 ) -> Result<Option<bool>, AllocError>
-    ensures { IfOk result (λ next. IsNext (with_close span (reverse marks.old.items) steps.old.items) marks.new.items
+    ensures { IfOk result (λ next. IsNextState (with_close span (reverse marks.old.items) steps.old.items) marks.new.items
         steps.new.items next) }
 {
     match marks.pop() {

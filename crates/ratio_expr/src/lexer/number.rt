@@ -1,7 +1,7 @@
 //! How long the number or the name is that a text begins with.
 ghost use Rattle.std.specs.Prelude.{◌≡◌, ◌≤◌, length};
 ghost use Rattle.std.specs.List.{take_while};
-ghost use Rattle.ratio_expr.specs.Tokens.{digits, led, mixed, sign, signed, exponent, decimal, part, percent, share, tail, number, name, is_name_byte, starts_name};
+ghost use Rattle.ratio_expr.specs.Tokens.{digits, led, mixed_tail, exponent_sign, signed_digits, exponent, decimal, part, percent, part_with_percent, tail, number, name, is_name_byte, starts_name};
 
 /// How long the number is that a text begins with, or 0.
 #[tactic(auto, unfolding(crate::specs::Tokens::number))]
@@ -73,20 +73,24 @@ fn led_length(byte: u8, text: &[u8]) -> usize
 }
 
 // How long the second part of a mixed number is.
-#[tactic(auto, unfolding(crate::specs::Tokens::mixed))]
+#[tactic(auto, unfolding(crate::specs::Tokens::mixed_tail))]
 fn mixed_length(text: &[u8]) -> usize
-    ensures is { result ≡ mixed text.now }
+    ensures is { result ≡ mixed_tail text.now }
     ensures fits { result ≤ length text.now }
 {
     let numer = led_length(b' ', text);
     let denom = led_length(b'/', &text[numer..]);
-    if numer > 0 && denom > 0 { numer + denom } else { 0 }
+    if numer > 0 && denom > 0 {
+        numer + denom
+    } else {
+        0
+    }
 }
 
 // How long a sign of an exponent is.
-#[tactic(auto, unfolding(crate::specs::Tokens::sign))]
+#[tactic(auto, unfolding(crate::specs::Tokens::exponent_sign))]
 fn sign_length(text: &[u8]) -> usize
-    ensures is { result ≡ sign text.now }
+    ensures is { result ≡ exponent_sign text.now }
     ensures fits { result ≤ length text.now }
 {
     match text {
@@ -96,9 +100,9 @@ fn sign_length(text: &[u8]) -> usize
 }
 
 // How long a sign or none and digits are, or 0 if there is no digit.
-#[tactic(auto, unfolding(crate::specs::Tokens::signed))]
+#[tactic(auto, unfolding(crate::specs::Tokens::signed_digits))]
 fn signed_length(text: &[u8]) -> usize
-    ensures is { result ≡ signed text.now }
+    ensures is { result ≡ signed_digits text.now }
     ensures fits { result ≤ length text.now }
 {
     let sign = sign_length(text);
@@ -138,13 +142,17 @@ fn part_length(text: &[u8]) -> usize
     ensures fits { result ≤ length text.now }
 {
     let denom = led_length(b'/', text);
-    if denom > 0 { denom } else { decimal_length(text) }
+    if denom > 0 {
+        denom
+    } else {
+        decimal_length(text)
+    }
 }
 
 // The same with a percent sign, if it is there.
-#[tactic(auto, unfolding(crate::specs::Tokens::share))]
+#[tactic(auto, unfolding(crate::specs::Tokens::part_with_percent))]
 fn share_length(text: &[u8]) -> usize
-    ensures is { result ≡ share text.now }
+    ensures is { result ≡ part_with_percent text.now }
     ensures fits { result ≤ length text.now }
 {
     let part = part_length(text);

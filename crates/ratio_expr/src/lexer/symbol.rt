@@ -26,21 +26,33 @@ fn kind_of_three(text: &[u8]) -> Option<Kind>
     ensures is { result ≡ first_three text.now }
     ensures fits { IsSome result → 3 ≤ length text.now }
 {
-    if text.len() >= 3 { of_three(text[0], text[1], text[2]) } else { None }
+    if text.len() >= 3 {
+        of_three(text[0], text[1], text[2])
+    } else {
+        None
+    }
 }
 
 fn kind_of_two(text: &[u8]) -> Option<Kind>
     ensures is { result ≡ first_two text.now }
     ensures fits { IsSome result → 2 ≤ length text.now }
 {
-    if text.len() >= 2 { of_two(text[0], text[1]) } else { None }
+    if text.len() >= 2 {
+        of_two(text[0], text[1])
+    } else {
+        None
+    }
 }
 
 fn kind_of_one(text: &[u8]) -> Option<Kind>
     ensures is { result ≡ first_byte text.now }
     ensures fits { IsSome result → 1 ≤ length text.now }
 {
-    if text.len() >= 1 { of_one(text[0]) } else { None }
+    if text.len() >= 1 {
+        of_one(text[0])
+    } else {
+        None
+    }
 }
 
 // The sign of subtraction, in UTF-8.

@@ -29,8 +29,15 @@ extern PyTypeObject *fraction_type; /* fractions.Fraction */
 /* A new Ratio. */
 PyObject *made(PyTypeObject *type, ratio_i64 value);
 
-/* Reads a Ratio, an integer or a Fraction, and says whether it is one that fits 64 bits. */
-int is_read(PyObject *object, ratio_i64 *value);
+/* Reads an integer, a Fraction or a Ratio of a subclass, and says whether it is one that fits 64 bits. */
+int is_other_read(PyObject *object, ratio_i64 *value);
+
+/* The same, also for a Ratio. */
+static inline int is_read(PyObject *object, ratio_i64 *value) {
+    if (Py_TYPE(object) != &ratio_type) return is_other_read(object, value);
+    *value = VALUE(object);
+    return 1;
+}
 
 /* The operand, with a Fraction in place of a Ratio. */
 PyObject *widened(PyObject *object);

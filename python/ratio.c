@@ -9,10 +9,23 @@ PyTypeObject *fraction_type;
 
 /* ---- reading and making */
 
+/* Memory of Ratios that have ended, which the next ones get. Python's lock guards it. */
+enum { MOST_KEPT = 32 };
+static PyObject *kept[MOST_KEPT];
+static int kept_count;
+
 PyObject *made(PyTypeObject *type, ratio_i64 value) {
-    PyObject *self = type->tp_alloc(type, 0);
+    PyObject *self;
+    if (type != &ratio_type) self = type->tp_alloc(type, 0);
+    else if (kept_count > 0) self = PyObject_Init(kept[--kept_count], type);
+    else self = (PyObject *) PyObject_New(ratio_object, type);
     if (self) VALUE(self) = value;
     return self;
+}
+
+static void end(PyObject *self) {
+    if (Py_TYPE(self) == &ratio_type && kept_count < MOST_KEPT) kept[kept_count++] = self;
+    else Py_TYPE(self)->tp_free(self);
 }
 
 /* Reads an integer, and says whether it is one of 64 bits. */
@@ -33,15 +46,15 @@ static int is_part_read(PyObject *fraction, const char *name, int64_t *number) {
     return is_read;
 }
 
-int is_read(PyObject *object, ratio_i64 *value) {
+int is_other_read(PyObject *object, ratio_i64 *value) {
     ratio_answer_i64 answer;
-    if (IS_RATIO(object)) {
-        *value = VALUE(object);
-        return 1;
-    }
     if (PyLong_Check(object)) {
         value->denom = 1;
         return is_whole_read(object, &value->numer);
+    }
+    if (IS_RATIO(object)) {
+        *value = VALUE(object);
+        return 1;
     }
     if (!PyObject_TypeCheck(object, fraction_type)) return 0;
     if (!is_part_read(object, "numerator", &value->numer) || !is_part_read(object, "denominator", &value->denom)) return 0;
@@ -462,6 +475,7 @@ PyTypeObject ratio_type = {
     .tp_basicsize = sizeof(ratio_object),
     .tp_flags = Py_TPFLAGS_DEFAULT | Py_TPFLAGS_BASETYPE,
     .tp_new = new,
+    .tp_dealloc = end,
     .tp_vectorcall = new_quick,
     .tp_as_number = &operators,
     .tp_richcompare = compare,

@@ -171,6 +171,15 @@ CALL(to_float) {
     sqlite3_result_double(call, answer.value);
 }
 
+/* ratio_sortable(x): bytes in the order of the values */
+CALL(to_sortable) {
+    ratio_i64 x;
+    ratio_sortable answer;
+    if (!is_read(call, SELF, 0, &x)) return;
+    ratio_sortable_i64(&x, 1, &answer, 1);
+    sqlite3_result_blob(call, answer.bytes, sizeof answer.bytes, SQLITE_TRANSIENT);
+}
+
 /* ratio_decimal(x, places [, rule]) */
 CALL(to_decimal) {
     ratio_decimal_i64 asked;
@@ -438,6 +447,7 @@ static const row rows[] = {
     {{"ratio_numer", 1, 0, 0, 0}, numer},
     {{"ratio_denom", 1, 0, 0, 0}, denom},
     {{"ratio_float", 1, 0, 0, 0}, to_float},
+    {{"ratio_sortable", 1, 0, 0, 0}, to_sortable},
     {{"ratio_decimal", 2, 0, 0, 0}, to_decimal},
     {{"ratio_decimal", 3, 0, 0, 0}, to_decimal},
     {{"ratio_round_to", 2, 0, 0, 0}, round_to},

@@ -12,7 +12,6 @@
 //! | `parser::mark` | `Mark`: an operator or a parenthesis that waits for what is right of it. |
 //! | `expression` | The tree of a text, or the first place that no expression has there, and the column of a place. |
 //! | `laws` | The laws that a text has at most one list of tokens, and that these have at most one tree. |
-//! | `tests` | Tests of texts: rows with their steps, and rows that are refused, with their columns. |
 #![tactic(auto)]
 
 pub mod expression;
@@ -20,6 +19,4 @@ pub mod laws;
 pub mod lexer;
 pub mod parser;
 pub mod step;
-#[cfg(test)]
-mod tests;
 pub mod token;

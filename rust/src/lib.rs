@@ -35,6 +35,8 @@ extern crate alloc;
 extern crate std;
 
 mod layer;
+#[cfg(all(feature = "alloc", target_pointer_width = "64"))]
+mod memory;
 mod newer;
 #[cfg(not(feature = "proved-calls"))]
 mod proved;

@@ -13,6 +13,8 @@ pub mod fraction_totals;
 pub mod itoa;
 pub mod num_rational;
 pub mod ratio_approximation;
+#[cfg(all(feature = "alloc", target_pointer_width = "64"))]
+pub mod ratio_big;
 pub mod ratio_core;
 pub mod ratio_decimal;
 pub mod ratio_float;
@@ -21,6 +23,8 @@ pub mod ratio_laws;
 pub mod ratio_long;
 pub mod ratio_natural;
 pub mod ratio_totals;
+#[cfg(all(test, feature = "std", target_pointer_width = "64"))]
+mod tests_big;
 #[cfg(all(test, target_pointer_width = "64"))]
 mod tests_fraction_totals;
 #[cfg(all(test, target_pointer_width = "64"))]

@@ -1,0 +1,162 @@
+//! What Rattle's std has for memory, over Rust's own: each call that takes memory returns an error where there is none. The proved calls use it.
+
+// Some of these have callers only among the proved tests.
+#![allow(dead_code)]
+
+use alloc::{string, vec};
+use core::fmt;
+use core::ops::{Deref, DerefMut};
+
+/// The memory of the program.
+#[derive(Clone, Copy)]
+pub struct Global;
+
+/// The error of a call for which there is not enough memory.
+#[derive(Clone, Copy, Debug, PartialEq, Eq)]
+pub struct AllocError;
+
+impl fmt::Display for AllocError {
+    fn fmt(&self, f: &mut fmt::Formatter<'_>) -> fmt::Result {
+        f.pad("memory allocation failed")
+    }
+}
+
+#[cfg(feature = "std")]
+impl std::error::Error for AllocError {}
+
+/// A list in memory.
+pub struct Vec<T>(vec::Vec<T>);
+
+impl<T: Copy> Vec<T> {
+    #[inline]
+    pub fn new(_: Global) -> Vec<T> {
+        Vec(vec::Vec::new())
+    }
+
+    #[inline]
+    pub fn with_capacity(_: Global, count: usize) -> Result<Vec<T>, AllocError> {
+        let mut items = vec::Vec::new();
+        items.try_reserve_exact(count).map_err(|_| AllocError)?;
+        Ok(Vec(items))
+    }
+
+    #[inline]
+    pub fn from_slice(alloc: Global, items: &[T]) -> Result<Vec<T>, AllocError> {
+        let mut copy = Vec::with_capacity(alloc, items.len())?;
+        copy.0.extend_from_slice(items);
+        Ok(copy)
+    }
+
+    #[inline]
+    pub fn push(&mut self, item: T) -> Result<(), AllocError> {
+        self.more(1)?;
+        self.0.push(item);
+        Ok(())
+    }
+
+    #[inline]
+    pub fn extend_from_slice(&mut self, items: &[T]) -> Result<(), AllocError> {
+        self.more(items.len())?;
+        self.0.extend_from_slice(items);
+        Ok(())
+    }
+
+    #[inline]
+    pub fn resize(&mut self, count: usize, item: T) -> Result<(), AllocError> {
+        self.more(count.saturating_sub(self.0.len()))?;
+        self.0.resize(count, item);
+        Ok(())
+    }
+
+    #[inline]
+    pub fn truncate(&mut self, count: usize) {
+        self.0.truncate(count);
+    }
+
+    #[inline]
+    pub fn clear(&mut self) {
+        self.0.clear();
+    }
+
+    #[inline]
+    pub fn as_slice(&self) -> &[T] {
+        &self.0
+    }
+
+    #[inline]
+    pub fn as_mut_slice(&mut self) -> &mut [T] {
+        &mut self.0
+    }
+
+    /// Rust's own list, with the same memory.
+    #[inline]
+    pub fn into_std(self) -> vec::Vec<T> {
+        self.0
+    }
+
+    /// Makes room for so many more items.
+    #[inline]
+    fn more(&mut self, count: usize) -> Result<(), AllocError> {
+        self.0.try_reserve(count).map_err(|_| AllocError)
+    }
+}
+
+impl<T> Deref for Vec<T> {
+    type Target = [T];
+
+    #[inline]
+    fn deref(&self) -> &[T] {
+        &self.0
+    }
+}
+
+impl<T> DerefMut for Vec<T> {
+    #[inline]
+    fn deref_mut(&mut self) -> &mut [T] {
+        &mut self.0
+    }
+}
+
+/// A text in memory.
+pub struct String(string::String);
+
+impl String {
+    #[inline]
+    pub fn new(_: Global) -> String {
+        String(string::String::new())
+    }
+
+    #[inline]
+    pub fn from_str(alloc: Global, text: &str) -> Result<String, AllocError> {
+        let mut copy = String::new(alloc);
+        copy.push_str(text)?;
+        Ok(copy)
+    }
+
+    #[inline]
+    pub fn push_str(&mut self, text: &str) -> Result<(), AllocError> {
+        self.0.try_reserve(text.len()).map_err(|_| AllocError)?;
+        self.0.push_str(text);
+        Ok(())
+    }
+
+    #[inline]
+    pub fn as_str(&self) -> &str {
+        &self.0
+    }
+
+    /// Rust's own text, with the same memory.
+    #[inline]
+    pub fn into_std(self) -> string::String {
+        self.0
+    }
+}
+
+impl Deref for String {
+    type Target = str;
+
+    #[inline]
+    fn deref(&self) -> &str {
+        &self.0
+    }
+}

@@ -1,0 +1,28 @@
+// Erased from crates/ratio_big/src/lib.rt by rust/erase: not to be edited.
+//! Fractions of any size, always in lowest terms: no sum, difference, product or quotient is out of range.
+//!
+//! A `BigFraction` takes no memory while its two numbers fit an `i64`. Beyond that its numbers are as long as they have to be, and a call
+//! can fail only for want of memory.
+mod arithmetic;
+mod cancelling;
+mod comparing;
+mod cuts;
+mod decimal_cuts;
+mod decimals;
+mod digits;
+mod equality;
+mod exchange;
+mod floats;
+mod fraction;
+mod making;
+mod parts;
+mod powers;
+mod products;
+mod reading;
+mod remainders;
+mod rounding;
+mod signs;
+mod sums;
+mod texts;
+
+pub use fraction::BigFraction;

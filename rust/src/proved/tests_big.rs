@@ -1,0 +1,26 @@
+// Erased from crates/tests_big/src/lib.rt by rust/erase: not to be edited.
+//! Tests of fractions of any size: rows from outside, and each call once.
+#[cfg(test)]
+mod decimals;
+#[cfg(test)]
+mod edges;
+#[cfg(test)]
+mod equality;
+#[cfg(test)]
+mod floats;
+#[cfg(test)]
+mod long_sums;
+#[cfg(test)]
+mod made;
+#[cfg(test)]
+mod orders;
+#[cfg(test)]
+mod powers;
+#[cfg(test)]
+mod rounding;
+#[cfg(test)]
+mod signs;
+#[cfg(test)]
+mod texts;
+#[cfg(test)]
+mod wide;

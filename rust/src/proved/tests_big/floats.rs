@@ -1,0 +1,60 @@
+// Erased from crates/tests_big/src/floats.rt by rust/erase: not to be edited.
+//! Fractions and floats. Expected values are from Python's `fractions` and `float`.
+
+use crate::memory::Global;
+use crate::proved::tests_big::made::{is_long, is_short};
+use crate::proved::ratio_big::BigFraction;
+
+use crate::test_support::Fail;
+
+/// The float nearest to the fraction of the decimal has these bits.
+#[inline]
+fn is_near(alloc: Global, text: &str, bits: u64) -> Result<(), Fail> {
+    let x = BigFraction::from_text(alloc, text)??;
+    let near = x.to_f64(alloc)?;
+    assert!(!near.is_nan());
+    assert_eq!(near.to_bits(), bits, "the float of {text}");
+    Ok(())
+}
+
+/// 2^64 and a half of the last bit that a float keeps is a tie. A bit more is none.
+#[test]
+fn nearest_floats() -> Result<(), Fail> {
+    let alloc = Global;
+    is_near(alloc, "0.1", 0x3fb999999999999a)?;
+    is_near(alloc, "18446744073709553664", 0x43f0000000000000)?;
+    is_near(alloc, "18446744073709553665", 0x43f0000000000001)?;
+    is_near(alloc, "-18446744073709557760", 0xc3f0000000000002)?;
+    is_near(
+        alloc,
+        "14466636279520351160221518043104131447711/2788815009188499086581352357412492142272",
+        0x4014bfdfe4591243,
+    )?;
+    is_near(alloc, "1e400", 0x7ff0000000000000)?;
+    is_near(alloc, "-1e400", 0xfff0000000000000)?;
+    is_near(alloc, "1e-400", 0)?;
+    is_near(alloc, "5e-324", 1)?;
+    Ok(())
+}
+
+#[test]
+fn exact_values() -> Result<(), Fail> {
+    let alloc = Global;
+    let tenth = BigFraction::from_f64(alloc, 0.1)?.ok_or("no value")?;
+    is_short(&tenth, 3602879701896397, 36028797018963968);
+    let zero = BigFraction::from_f64(alloc, -0.0)?.ok_or("no value")?;
+    is_short(&zero, 0, 1);
+    let small = BigFraction::from_f64(alloc, -0.00000000015)?.ok_or("no value")?;
+    is_long(alloc, &small, true, &[1450710983537555], &[0, 1 << 19])?;
+    let great = BigFraction::from_f64(alloc, 73786976294838206464.0)?.ok_or("no value")?;
+    is_long(alloc, &great, false, &[0, 4], &[1])?;
+    let least = BigFraction::from_f64(alloc, f64::from_bits(1))?.ok_or("no value")?;
+    assert_eq!(least.denom_digits(alloc)?.len(), 17);
+    assert_eq!(least.to_f64(alloc)?.to_bits(), 1);
+    let most = BigFraction::from_f64(alloc, f64::MAX)?.ok_or("no value")?;
+    assert_eq!(most.to_f64(alloc)?.to_bits(), 0x7fefffffffffffff);
+    assert!(BigFraction::from_f64(alloc, f64::INFINITY)?.is_none());
+    assert!(BigFraction::from_f64(alloc, f64::NEG_INFINITY)?.is_none());
+    assert!(BigFraction::from_f64(alloc, f64::NAN)?.is_none());
+    Ok(())
+}

@@ -8,11 +8,27 @@
 //! a call is one of `schoolbook`, which is not proved.
 //!
 //! No proved call is behind fractions near a float and the forms with an exponent. Tests compare these with num-rational.
+//!
+//! The calls of `BigFraction` take memory. If there is none, one of them with `try_` returns an error.
 mod approximations;
 mod arithmetic;
 mod as_reduced;
 #[cfg(feature = "num-bigint")]
 mod big;
+#[cfg(all(feature = "alloc", target_pointer_width = "64"))]
+mod big_fraction;
+#[cfg(all(feature = "alloc", target_pointer_width = "64"))]
+mod big_fraction_conversions;
+#[cfg(all(feature = "alloc", target_pointer_width = "64"))]
+mod big_fraction_operators;
+#[cfg(all(feature = "alloc", target_pointer_width = "64"))]
+mod big_fraction_order;
+#[cfg(all(feature = "alloc", target_pointer_width = "64"))]
+mod big_fraction_rounding;
+#[cfg(all(feature = "alloc", target_pointer_width = "64"))]
+mod big_fraction_texts;
+#[cfg(all(feature = "alloc", target_pointer_width = "64"))]
+mod big_fraction_traits;
 mod bounds;
 mod casts;
 mod constants;
@@ -53,6 +69,8 @@ mod total;
 
 #[cfg(feature = "num-bigint")]
 pub use big::BigRational;
+#[cfg(all(feature = "alloc", target_pointer_width = "64"))]
+pub use big_fraction::BigFraction;
 pub use casts::CastError;
 pub use continued::{Convergents, Quotients};
 pub use float_values::FloatError;

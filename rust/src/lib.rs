@@ -1,7 +1,8 @@
 //! Exact fractions, with the names and traits of the crate num-rational.
 //!
 //! For the twelve machine types, from `i8` to `u128`, `isize` and `usize`, the code that computes was proved: a call never wraps and never
-//! returns a wrong number. For every other integer type, such as `BigInt` or a program's own, it is tested and not proved.
+//! returns a wrong number. For every other integer type, such as `BigInt` or a program's own, it is tested and not proved. `BigFraction` has
+//! numbers of any size, and its code was proved, too.
 //!
 //! ```
 //! use num_rational::Ratio;
@@ -21,8 +22,8 @@
 //! The proofs are in Rattle. `src/proved/` holds the proved code without its contracts. A layer written by hand,
 //! in `src/layer/`, tests what the proved calls require.
 //!
-//! `from_f64`, `from_f32`, `approximate_float`, `const_new` and the forms `{:e}` and `{:E}` are not proved. The layer computes them, and tests
-//! compare them with num-rational. The crate's README says what differs from num-rational.
+//! `from_f64`, `from_f32`, `approximate_float`, `const_new`, the forms `{:e}` and `{:E}`, and `from_str_radix` of a `BigFraction` are not proved.
+//! The layer computes them, and tests compare them with num-rational. The crate's README says what differs from num-rational.
 #![cfg_attr(not(feature = "std"), no_std)]
 #![warn(missing_docs)]
 
@@ -60,6 +61,10 @@ pub use layer::BigRational;
 pub use layer::{split, split_by_weights};
 #[cfg(feature = "alloc")]
 pub use layer::{TooLong, Total};
+#[cfg(all(feature = "alloc", target_pointer_width = "64"))]
+pub use layer::BigFraction;
+#[cfg(all(feature = "alloc", target_pointer_width = "64"))]
+pub use memory::AllocError;
 /// The error of `parse`: the text is not a fraction, or its lowest terms do not fit the type.
 ///
 /// ```

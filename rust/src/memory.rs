@@ -1,4 +1,5 @@
-//! What Rattle's std has for memory, over Rust's own: each call that takes memory returns an error where there is none. The proved calls use it.
+//! What Rattle's std has for memory, over Rust's own: each call that takes memory returns an error where there is none. The proved calls use
+//! it, and so does the layer over them.
 
 // Some of these have callers only among the proved tests.
 #![allow(dead_code)]
@@ -12,6 +13,17 @@ use core::ops::{Deref, DerefMut};
 pub struct Global;
 
 /// The error of a call for which there is not enough memory.
+///
+/// ```
+/// use num_rational::{AllocError, BigFraction};
+///
+/// fn twice(x: &BigFraction) -> Result<BigFraction, AllocError> {
+///     x.try_add(x)
+/// }
+///
+/// assert_eq!(twice(&BigFraction::new(1, 2)).unwrap(), BigFraction::from(1));
+/// assert_eq!(AllocError.to_string(), "memory allocation failed");
+/// ```
 #[derive(Clone, Copy, Debug, PartialEq, Eq)]
 pub struct AllocError;
 

@@ -71,7 +71,7 @@ impl Numbers {
 
 /// The number without its sign.
 #[cfg(feature = "alloc")]
-fn magnitude<T: Integer>(number: T) -> u128 {
+pub(super) fn magnitude<T: Integer>(number: T) -> u128 {
     match number.to_i128() {
         Some(number) => number.unsigned_abs(),
         None => number.to_u128().expect("it is 2^127 or more"),

@@ -431,6 +431,12 @@ impl<T: Integer> Reduced<T> {
         Reduced { fraction }
     }
 
+    #[cfg(all(feature = "alloc", target_pointer_width = "64"))]
+    #[inline]
+    pub(super) fn into_proved(self) -> Proved<T> {
+        self.fraction
+    }
+
     #[inline]
     fn of(answer: Option<Proved<T>>) -> Option<Reduced<T>> {
         answer.map(Reduced::new)

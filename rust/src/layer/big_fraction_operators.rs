@@ -1,0 +1,197 @@
+//! The operators of `BigFraction` in all forms, the checked traits, and `sum` and `product`. A whole number of each type may be on either side.
+use super::big_fraction::{divided, taken, BigFraction};
+use core::iter::{Product, Sum};
+use core::ops::{Add, AddAssign, Div, DivAssign, Mul, MulAssign, Neg, Sub, SubAssign};
+use num_traits::{CheckedAdd, CheckedDiv, CheckedMul, CheckedSub, Inv};
+
+macro_rules! operators {
+    ($($Op:ident $op:ident $OpAssign:ident $op_assign:ident $($zero:literal)?: $x:ident, $y:ident => $result:expr;)*) => {$(
+        impl $Op<&BigFraction> for &BigFraction {
+            type Output = BigFraction;
+
+            /// # Panics
+            ///
+            #[doc = concat!("For want of memory", $(", or with `", $zero, "` if the right side is 0",)? ".")]
+            #[inline]
+            #[track_caller]
+            fn $op(self, $y: &BigFraction) -> BigFraction {
+                let $x = self;
+                $result
+            }
+        }
+
+        forms! { $Op $op; BigFraction, BigFraction; x, y => &x, &y }
+        forms! { $Op $op; BigFraction, &BigFraction; x, y => &x, y }
+        forms! { $Op $op; &BigFraction, BigFraction; x, y => x, &y }
+        assigning! { $OpAssign $op_assign $Op $op; BigFraction }
+        assigning! { $OpAssign $op_assign $Op $op; &BigFraction }
+        with_numbers! { $Op $op $OpAssign $op_assign: i8 i16 i32 i64 i128 isize u8 u16 u32 u64 u128 usize }
+    )*};
+}
+
+macro_rules! forms {
+    ($Op:ident $op:ident; $Left:ty, $Right:ty; $x:ident, $y:ident => $left:expr, $right:expr) => {
+        impl $Op<$Right> for $Left {
+            type Output = BigFraction;
+
+            /// # Panics
+            ///
+            /// As for two references.
+            #[inline]
+            #[track_caller]
+            fn $op(self, $y: $Right) -> BigFraction {
+                let $x = self;
+                $Op::<&BigFraction>::$op($left, $right)
+            }
+        }
+    };
+}
+
+macro_rules! with_numbers {
+    ($Op:ident $op:ident $OpAssign:ident $op_assign:ident: $($type:ident)*) => {$(
+        forms! { $Op $op; BigFraction, $type; x, y => &x, &BigFraction::from_integer(y) }
+        forms! { $Op $op; BigFraction, &$type; x, y => &x, &BigFraction::from_integer(*y) }
+        forms! { $Op $op; &BigFraction, $type; x, y => x, &BigFraction::from_integer(y) }
+        forms! { $Op $op; &BigFraction, &$type; x, y => x, &BigFraction::from_integer(*y) }
+        forms! { $Op $op; $type, BigFraction; x, y => &BigFraction::from_integer(x), &y }
+        forms! { $Op $op; $type, &BigFraction; x, y => &BigFraction::from_integer(x), y }
+        forms! { $Op $op; &$type, BigFraction; x, y => &BigFraction::from_integer(*x), &y }
+        forms! { $Op $op; &$type, &BigFraction; x, y => &BigFraction::from_integer(*x), y }
+        assigning! { $OpAssign $op_assign $Op $op; $type }
+        assigning! { $OpAssign $op_assign $Op $op; &$type }
+    )*};
+}
+
+macro_rules! assigning {
+    ($OpAssign:ident $op_assign:ident $Op:ident $op:ident; $Right:ty) => {
+        impl $OpAssign<$Right> for BigFraction {
+            /// # Panics
+            ///
+            /// As for two references.
+            #[inline]
+            #[track_caller]
+            fn $op_assign(&mut self, other: $Right) {
+                *self = $Op::$op(&*self, other);
+            }
+        }
+    };
+}
+pub(super) use {assigning, forms, operators, with_numbers};
+
+operators! {
+    Add add AddAssign add_assign: x, y => taken(x.try_add(y));
+    Sub sub SubAssign sub_assign: x, y => taken(x.try_sub(y));
+    Mul mul MulAssign mul_assign: x, y => taken(x.try_mul(y));
+    Div div DivAssign div_assign "denominator == 0": x, y => divided(x.try_div(y), "denominator == 0");
+}
+
+impl Neg for &BigFraction {
+    type Output = BigFraction;
+
+    /// # Panics
+    ///
+    /// For want of memory.
+    #[inline]
+    #[track_caller]
+    fn neg(self) -> BigFraction {
+        taken(self.try_neg())
+    }
+}
+
+impl Neg for BigFraction {
+    type Output = BigFraction;
+
+    /// # Panics
+    ///
+    /// For want of memory.
+    #[inline]
+    #[track_caller]
+    fn neg(self) -> BigFraction {
+        -&self
+    }
+}
+
+impl Inv for &BigFraction {
+    type Output = BigFraction;
+
+    /// # Panics
+    ///
+    /// If the fraction is 0, or for want of memory.
+    #[inline]
+    #[track_caller]
+    fn inv(self) -> BigFraction {
+        self.recip()
+    }
+}
+
+impl Inv for BigFraction {
+    type Output = BigFraction;
+
+    /// # Panics
+    ///
+    /// If the fraction is 0, or for want of memory.
+    #[inline]
+    #[track_caller]
+    fn inv(self) -> BigFraction {
+        self.recip()
+    }
+}
+
+macro_rules! checked {
+    ($($(#[$doc:meta])* $Checked:ident $checked:ident: $x:ident, $y:ident => $result:expr;)*) => {$(
+        impl $Checked for BigFraction {
+            $(#[$doc])*
+            #[inline]
+            fn $checked(&self, $y: &BigFraction) -> Option<BigFraction> {
+                let $x = self;
+                $result
+            }
+        }
+    )*};
+}
+pub(super) use checked;
+
+checked! {
+    /// The sum, or `None` for want of memory.
+    CheckedAdd checked_add: x, y => x.try_add(y).ok();
+
+    /// The difference, or `None` for want of memory.
+    CheckedSub checked_sub: x, y => x.try_sub(y).ok();
+
+    /// The product, or `None` for want of memory.
+    CheckedMul checked_mul: x, y => x.try_mul(y).ok();
+
+    /// The quotient, or `None` if the divisor is 0 or for want of memory.
+    CheckedDiv checked_div: x, y => x.try_div(y).ok().flatten();
+}
+
+macro_rules! folds {
+    ($($Fold:ident $fold:ident $start:literal $op:tt;)*) => {$(
+        impl $Fold for BigFraction {
+            /// # Panics
+            ///
+            /// For want of memory.
+            #[inline]
+            #[track_caller]
+            fn $fold<I: Iterator<Item = BigFraction>>(items: I) -> BigFraction {
+                items.fold(BigFraction::from($start), |total, item| total $op item)
+            }
+        }
+
+        impl<'a> $Fold<&'a BigFraction> for BigFraction {
+            /// # Panics
+            ///
+            /// For want of memory.
+            #[inline]
+            #[track_caller]
+            fn $fold<I: Iterator<Item = &'a BigFraction>>(items: I) -> BigFraction {
+                items.fold(BigFraction::from($start), |total, item| total $op item)
+            }
+        }
+    )*};
+}
+
+folds! {
+    Sum sum 0 +;
+    Product product 1 *;
+}

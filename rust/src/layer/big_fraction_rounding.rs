@@ -1,0 +1,170 @@
+//! Whole numbers near a `BigFraction`, remainders and powers.
+use super::big_fraction::{divided, taken, tries, BigFraction};
+use super::big_fraction_operators::{assigning, checked, forms, operators, with_numbers};
+use super::integer::{Element, Integer};
+use crate::memory::{AllocError, Global};
+use core::ops::{Rem, RemAssign};
+use num_traits::{CheckedRem, Pow};
+
+macro_rules! whole_numbers {
+    ($($(#[$doc:meta])* $name:ident by $try:ident;)*) => {
+        /// Whole numbers over 1, and what cutting leaves. These calls panic for want of memory. A fraction of `i64` needs none.
+        impl BigFraction {$(
+            $(#[$doc])*
+            #[inline]
+            #[track_caller]
+            pub fn $name(&self) -> BigFraction {
+                taken(self.$try())
+            }
+        )*}
+
+        tries! {$(
+            #[doc = concat!("The call `", stringify!($name), "`, or an error.")]
+            $try() by $name;
+        )*}
+    };
+}
+
+whole_numbers! {
+    /// The greatest whole number that is not above the fraction.
+    ///
+    /// ```
+    /// use num_rational::BigFraction;
+    ///
+    /// assert_eq!(BigFraction::new(-7, 2).floor(), BigFraction::from(-4));
+    /// ```
+    floor by try_floor;
+
+    /// The least whole number that is not below the fraction.
+    ///
+    /// ```
+    /// use num_rational::BigFraction;
+    ///
+    /// assert_eq!(BigFraction::new(-7, 2).ceil(), BigFraction::from(-3));
+    /// ```
+    ceil by try_ceil;
+
+    /// The nearest whole number. A half is rounded away from 0.
+    ///
+    /// ```
+    /// use num_rational::BigFraction;
+    ///
+    /// assert_eq!(BigFraction::new(-7, 2).round(), BigFraction::from(-4));
+    /// ```
+    round by try_round;
+
+    /// The fraction cut towards 0.
+    ///
+    /// ```
+    /// use num_rational::BigFraction;
+    ///
+    /// assert_eq!(BigFraction::new(-7, 2).trunc(), BigFraction::from(-3));
+    /// ```
+    trunc by try_trunc;
+
+    /// What `trunc` leaves.
+    ///
+    /// ```
+    /// use num_rational::BigFraction;
+    ///
+    /// assert_eq!(BigFraction::new(-7, 2).fract(), BigFraction::new(-1, 2));
+    /// ```
+    fract by try_fract;
+}
+
+tries! { divisions:
+    /// The remainder: the fraction minus the divisor times their quotient cut towards 0.
+    ///
+    /// ```
+    /// use num_rational::BigFraction;
+    ///
+    /// assert_eq!(BigFraction::new(-3, 4).try_rem(&BigFraction::new(1, 2)), Ok(Some(BigFraction::new(-1, 4))));
+    /// assert_eq!(BigFraction::new(-3, 4).try_rem(&BigFraction::from(0)), Ok(None));
+    /// ```
+    try_rem(other) by remainder;
+}
+
+operators! {
+    Rem rem RemAssign rem_assign "attempt to calculate the remainder with a divisor of zero":
+        x, y => divided(x.try_rem(y), "attempt to calculate the remainder with a divisor of zero");
+}
+
+checked! {
+    /// The remainder, or `None` if the divisor is 0 or for want of memory.
+    CheckedRem checked_rem: x, y => x.try_rem(y).ok().flatten();
+}
+
+impl BigFraction {
+    /// The power. It is 1 for the exponent 0.
+    ///
+    /// # Panics
+    ///
+    /// If the fraction is 0 and the exponent negative, or for want of memory.
+    ///
+    /// ```
+    /// use num_rational::BigFraction;
+    ///
+    /// assert_eq!(BigFraction::new(-2, 3).pow(-2), BigFraction::new(9, 4));
+    /// assert_eq!(BigFraction::from(2).pow(100), BigFraction::from(1u128 << 100));
+    /// ```
+    #[inline]
+    #[track_caller]
+    pub fn pow(&self, exponent: i32) -> BigFraction {
+        power(self, exponent.into())
+    }
+
+    /// The power, or `None` if the fraction is 0 and the exponent negative. An error for want of memory.
+    ///
+    /// ```
+    /// use num_rational::BigFraction;
+    ///
+    /// assert_eq!(BigFraction::new(-2, 3).try_pow(3), Ok(Some(BigFraction::new(-8, 27))));
+    /// assert_eq!(BigFraction::from(0).try_pow(-1), Ok(None));
+    /// ```
+    #[inline]
+    pub fn try_pow(&self, exponent: i64) -> Result<Option<BigFraction>, AllocError> {
+        Ok(self.0.pow(Global, exponent)?.map(BigFraction))
+    }
+}
+
+#[inline]
+#[track_caller]
+fn power(base: &BigFraction, exponent: i64) -> BigFraction {
+    divided(base.try_pow(exponent), "denominator == 0")
+}
+
+/// The exponent. One beyond `i64` becomes the outermost one that is odd or even as it is: no memory has room for either power, and the powers
+/// of -1, 0 and 1 are the same.
+fn exponent_of<T: Integer>(number: T) -> i64 {
+    match number.to_i64() {
+        Some(exponent) => exponent,
+        None if number < T::NUMBER_0 => i64::MIN + i64::from(number.is_odd()),
+        None => i64::MAX - i64::from(number.is_even()),
+    }
+}
+
+macro_rules! powers {
+    ($($type:ident)*) => {$(
+        powers! { BigFraction, $type; base, exponent => &base, exponent }
+        powers! { BigFraction, &$type; base, exponent => &base, *exponent }
+        powers! { &BigFraction, $type; base, exponent => base, exponent }
+        powers! { &BigFraction, &$type; base, exponent => base, *exponent }
+    )*};
+    ($Base:ty, $Exponent:ty; $base:ident, $exponent:ident => $left:expr, $right:expr) => {
+        impl Pow<$Exponent> for $Base {
+            type Output = BigFraction;
+
+            /// # Panics
+            ///
+            /// If the fraction is 0 and the exponent negative, or for want of memory.
+            #[inline]
+            #[track_caller]
+            fn pow(self, $exponent: $Exponent) -> BigFraction {
+                let $base = self;
+                power($left, exponent_of($right))
+            }
+        }
+    };
+}
+
+powers! { i8 i16 i32 i64 i128 isize u8 u16 u32 u64 u128 usize }

@@ -1,0 +1,190 @@
+//! `BigFraction` as texts, decimals and floats, printed and read.
+use super::big_fraction::{taken, BigFraction};
+use crate::memory::{AllocError, Global};
+use crate::proved::num_rational::ParseRatioError;
+use crate::proved::ratio_big::BigFraction as Proved;
+use crate::proved::ratio_decimal::rounding_rule::Rounding;
+use crate::proved::ratio_decimal::{DecimalRefusal, TextRefusal};
+use alloc::string::String;
+use core::fmt;
+use core::str::FromStr;
+
+/// The text `n/d`, or `n` for a whole number. With a precision it is a decimal, rounded to the nearest, a half to the even digit.
+///
+/// ```
+/// use num_rational::BigFraction;
+///
+/// let x = BigFraction::new(-1, 8) * (1u128 << 100);
+/// assert_eq!(format!("{x} {:.1} {:>5}", BigFraction::new(1, 4), BigFraction::new(1, 2)), "-158456325028528675187087900672 0.2   1/2");
+/// ```
+impl fmt::Display for BigFraction {
+    fn fmt(&self, f: &mut fmt::Formatter<'_>) -> fmt::Result {
+        let text = match f.precision() {
+            None => self.0.to_text(Global),
+            Some(places) => self.0.decimal(Global, u32::try_from(places).map_err(|_| fmt::Error)?, Rounding::HalfEven),
+        };
+        let text = text.map_err(|_| fmt::Error)?;
+        match text.strip_prefix('-') {
+            Some(digits) => f.pad_integral(false, "", digits),
+            None => f.pad_integral(true, "", &text),
+        }
+    }
+}
+
+impl fmt::Debug for BigFraction {
+    fn fmt(&self, f: &mut fmt::Formatter<'_>) -> fmt::Result {
+        write!(f, "BigFraction({self})")
+    }
+}
+
+impl FromStr for BigFraction {
+    type Err = ParseRatioError;
+
+    /// # Panics
+    ///
+    /// For want of memory.
+    #[track_caller]
+    fn from_str(text: &str) -> Result<BigFraction, ParseRatioError> {
+        taken(BigFraction::try_from_str(text))
+    }
+}
+
+impl BigFraction {
+    /// The fraction of a text of any length, as `parse` reads it. An outer error is for want of memory.
+    ///
+    /// ```
+    /// use num_rational::BigFraction;
+    ///
+    /// assert_eq!(BigFraction::try_from_str("6/-4").unwrap(), Ok(BigFraction::new(-3, 2)));
+    /// assert_eq!("340282366920938463463374607431768211456".parse(), Ok(BigFraction::from(1u128 << 127) * 2));
+    /// assert!(BigFraction::try_from_str("1/0").unwrap().is_err());
+    /// ```
+    pub fn try_from_str(text: &str) -> Result<Result<BigFraction, ParseRatioError>, AllocError> {
+        Ok(Proved::from_str(Global, text)?.map(BigFraction))
+    }
+
+    /// The decimal with so many places.
+    ///
+    /// # Panics
+    ///
+    /// For want of memory.
+    ///
+    /// ```
+    /// use num_rational::{BigFraction, Rounding};
+    ///
+    /// assert_eq!(BigFraction::new(2, 3).decimal(50, Rounding::HalfEven), format!("0.{}7", "6".repeat(49)));
+    /// ```
+    #[track_caller]
+    pub fn decimal(&self, places: u32, rule: Rounding) -> String {
+        taken(self.try_decimal(places, rule))
+    }
+
+    /// The same, or an error for want of memory.
+    ///
+    /// ```
+    /// use num_rational::{BigFraction, Rounding};
+    ///
+    /// assert_eq!(BigFraction::new(2, 3).try_decimal(2, Rounding::Down).unwrap(), "0.66");
+    /// ```
+    pub fn try_decimal(&self, places: u32, rule: Rounding) -> Result<String, AllocError> {
+        Ok(self.0.decimal(Global, places, rule)?.into_std())
+    }
+
+    /// The fraction of a decimal of any length, as `from_decimal` of a `Reduced` reads it.
+    ///
+    /// # Errors
+    ///
+    /// `NotDecimal` if the text is no decimal. It is never `NotHeld`.
+    ///
+    /// # Panics
+    ///
+    /// For want of memory. A short text can ask for much: `1e1000000000` takes a quarter of 1 GB and very long.
+    ///
+    /// ```
+    /// use num_rational::BigFraction;
+    ///
+    /// assert_eq!(BigFraction::from_decimal("12.375"), Ok(BigFraction::new(99, 8)));
+    /// assert_eq!(BigFraction::from_decimal("1e30"), Ok(BigFraction::from(10).pow(30)));
+    /// ```
+    #[track_caller]
+    pub fn from_decimal(text: &str) -> Result<BigFraction, DecimalRefusal> {
+        taken(BigFraction::try_from_decimal(text))
+    }
+
+    /// The same, or an error for want of memory.
+    ///
+    /// ```
+    /// use num_rational::{BigFraction, DecimalRefusal};
+    ///
+    /// assert_eq!(BigFraction::try_from_decimal("12,5").unwrap(), Err(DecimalRefusal::NotDecimal));
+    /// ```
+    pub fn try_from_decimal(text: &str) -> Result<Result<BigFraction, DecimalRefusal>, AllocError> {
+        let read = Proved::from_decimal(Global, text)?;
+        Ok(read.map(BigFraction).ok_or(DecimalRefusal::NotDecimal))
+    }
+
+    /// The fraction of what a person types, as `from_text` of a `Reduced` reads it.
+    ///
+    /// # Errors
+    ///
+    /// `NotNumber` or `ZeroDenominator`, as there. It is never `NotHeld`.
+    ///
+    /// # Panics
+    ///
+    /// As `from_decimal`.
+    ///
+    /// ```
+    /// use num_rational::BigFraction;
+    ///
+    /// assert_eq!(BigFraction::from_text("-1 1/2"), Ok(BigFraction::new(-3, 2)));
+    /// assert_eq!(BigFraction::from_text("12.5%"), Ok(BigFraction::new(1, 8)));
+    /// ```
+    #[track_caller]
+    pub fn from_text(text: &str) -> Result<BigFraction, TextRefusal> {
+        taken(BigFraction::try_from_text(text))
+    }
+
+    /// The same, or an error for want of memory.
+    ///
+    /// ```
+    /// use num_rational::{BigFraction, TextRefusal};
+    ///
+    /// assert_eq!(BigFraction::try_from_text("1/0").unwrap(), Err(TextRefusal::ZeroDenominator));
+    /// ```
+    pub fn try_from_text(text: &str) -> Result<Result<BigFraction, TextRefusal>, AllocError> {
+        Ok(Proved::from_text(Global, text)?.map(BigFraction))
+    }
+
+    /// The fraction with exactly the value of the float, or `None` if it is infinite or no number.
+    ///
+    /// ```
+    /// use num_rational::BigFraction;
+    ///
+    /// assert_eq!(BigFraction::from_float(-0.75), Some(BigFraction::new(-3, 4)));
+    /// assert_eq!(BigFraction::from_float(2f64.powi(200)), Some(BigFraction::from(2).pow(200)));
+    /// assert_eq!(BigFraction::from_float(f64::NAN), None);
+    /// ```
+    pub fn from_float(float: f64) -> Option<BigFraction> {
+        BigFraction::try_from_float(float).ok().flatten()
+    }
+
+    /// The same, or an error for want of memory.
+    ///
+    /// ```
+    /// assert_eq!(num_rational::BigFraction::try_from_float(f64::INFINITY), Ok(None));
+    /// ```
+    pub fn try_from_float(float: f64) -> Result<Option<BigFraction>, AllocError> {
+        Ok(Proved::from_f64(Global, float)?.map(BigFraction))
+    }
+
+    /// The nearest float, or an error for want of memory. If two are as near, it is the one whose last binary digit is 0.
+    ///
+    /// ```
+    /// use num_rational::BigFraction;
+    ///
+    /// assert_eq!((BigFraction::new(1, 3).pow(1000) * BigFraction::from(3).pow(999)).try_to_f64(), Ok(1.0 / 3.0));
+    /// ```
+    pub fn try_to_f64(&self) -> Result<f64, AllocError> {
+        self.0.to_f64(Global)
+    }
+}

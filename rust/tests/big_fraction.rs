@@ -1,0 +1,424 @@
+//! Each call of `BigFraction` beside num-rational's `BigRational`, by drawn numbers: most are short or next to the ends of an `i64`, and some
+//! have up to 5,000 decimal digits. `BAKHSNEY_PAIRS` says how many pairs. Each pair gets some 70 calls on two fractions, and each fraction some
+//! 80 on one.
+#![cfg(all(feature = "num-bigint", target_pointer_width = "64"))]
+
+// The tests are about these forms.
+#![allow(clippy::op_ref, clippy::nonminimal_bool, clippy::clone_on_copy)]
+
+mod support;
+
+use bakhsney::{AllocError, BigFraction, BigRational, DecimalRefusal, Reduced, Reduced64, ReducedError, Rounding, TextRefusal};
+use num_bigint::{BigInt, Sign};
+use num_traits::{CheckedAdd, CheckedDiv, CheckedMul, CheckedRem, CheckedSub, FromPrimitive, Inv, Num, One, Pow, Signed, ToPrimitive, Zero};
+use original::Ratio as Original;
+use std::collections::hash_map::DefaultHasher;
+use std::hash::{Hash, Hasher};
+use std::panic::catch_unwind;
+use support::Numbers;
+
+type Fields = (BigInt, BigInt);
+type Pair = (BigFraction, Original<BigInt>);
+
+/// Each call and what it must return. Gives the number of calls.
+macro_rules! rows {
+    ($about:expr; $($ours:expr => $theirs:expr;)*) => {{
+        $(assert_eq!($ours, $theirs, "{} of {:?}", stringify!($ours), $about);)*
+        count(&[$(stringify!($ours)),*])
+    }};
+}
+
+fn count(rows: &[&str]) -> usize {
+    rows.len()
+}
+
+fn pairs() -> u64 {
+    std::env::var("BAKHSNEY_PAIRS").map_or(300, |pairs| pairs.parse().unwrap())
+}
+
+/// The words of a number: one next to the ends of an `i64`, or of any length.
+fn words(numbers: &mut Numbers) -> Vec<u64> {
+    let most = match numbers.below(256) {
+        0 => 260,
+        1..=15 => 32,
+        16..=95 => 4,
+        _ => 1,
+    };
+    let count = 1 + numbers.below(most);
+    let mut words: Vec<u64> = (1..count).map(|_| if numbers.below(8) == 0 { 0 } else { numbers.word() }).collect();
+    words.push(match numbers.below(4) {
+        0 => numbers.below(13),
+        1 => (1 << 63) + numbers.below(3) - 1,
+        _ => numbers.word() >> numbers.below(64),
+    });
+    words
+}
+
+fn number(words: &[u64]) -> BigInt {
+    words.iter().rev().fold(BigInt::zero(), |number, word| (number << 64) + word)
+}
+
+/// A fraction of both, from the same words.
+fn fraction(numbers: &mut Numbers) -> Pair {
+    let (is_negative, numer, mut denom) = (numbers.below(2) == 0, words(numbers), words(numbers));
+    if denom.iter().all(|&word| word == 0) {
+        denom = vec![1];
+    }
+    let size = number(&numer);
+    let theirs = Original::new(if is_negative { -size } else { size }, number(&denom));
+    (BigFraction::from_digits(is_negative, &numer, &denom).unwrap(), theirs)
+}
+
+/// A fraction to go with another one: the same, its negative, one next to it, or any.
+fn beside((x, y): &Pair, numbers: &mut Numbers) -> Pair {
+    match numbers.below(8) {
+        0 => (x.clone(), y.clone()),
+        1 => (-x, -y),
+        2 => {
+            let (step, other) = fraction(numbers);
+            (x + step, y + other)
+        }
+        3 if !y.is_zero() => {
+            let (factor, other) = fraction(numbers);
+            (x.recip() * factor, y.recip() * other)
+        }
+        _ => fraction(numbers),
+    }
+}
+
+fn fields(x: BigFraction) -> Fields {
+    BigRational::from(x).into_raw()
+}
+
+fn original(x: Original<BigInt>) -> Fields {
+    x.into()
+}
+
+fn tried(x: Result<Option<BigFraction>, AllocError>) -> Option<Fields> {
+    x.unwrap().map(fields)
+}
+
+fn hash_of(x: impl Hash) -> u64 {
+    let mut state = DefaultHasher::new();
+    x.hash(&mut state);
+    state.finish()
+}
+
+/// An operator in each form: all that it gives must be the same.
+macro_rules! forms {
+    ($x:ident $op:tt $y:ident, $assign:tt) => {{
+        let (mut by_value, mut by_reference) = ($x.clone(), $x.clone());
+        by_value $assign $y.clone();
+        by_reference $assign $y;
+        let all = [$x $op $y, $x.clone() $op $y, $x $op $y.clone(), $x.clone() $op $y.clone(), by_value, by_reference];
+        all.map(fields)
+    }};
+}
+
+/// An operator with a whole number on either side.
+macro_rules! with_number {
+    ($x:ident $op:tt $n:ident, $assign:tt) => {{
+        let (mut by_value, mut by_reference) = ($x.clone(), $x.clone());
+        by_value $assign $n;
+        by_reference $assign &$n;
+        [$x $op $n, $x.clone() $op $n, $x $op &$n, $x.clone() $op &$n, by_value, by_reference].map(fields)
+    }};
+    ($n:ident $op:tt $x:ident) => {
+        [$n $op $x, $n $op $x.clone(), &$n $op $x, &$n $op $x.clone()].map(fields)
+    };
+}
+
+fn all<const N: usize>(x: Original<BigInt>) -> [Fields; N] {
+    [(); N].map(|_| original(x.clone()))
+}
+
+macro_rules! comparisons {
+    ($x:expr, $y:expr) => {
+        ($x.cmp($y), $x.partial_cmp($y), [$x == $y, $x != $y, $x < $y, $x <= $y, $x > $y, $x >= $y])
+    };
+}
+
+#[test]
+fn calls_on_two() {
+    let (mut numbers, mut calls) = (Numbers(1), 0);
+    for _ in 0..pairs() {
+        let left = fraction(&mut numbers);
+        let right = beside(&left, &mut numbers);
+        let ((x, old), (y, other)) = ((&left.0, &left.1), (&right.0, &right.1));
+        calls += rows! { (x, y);
+            forms!(x + y, +=) => all(old + other);
+            forms!(x - y, -=) => all(old - other);
+            forms!(x * y, *=) => all(old * other);
+            [x.try_add(y), x.try_sub(y), x.try_mul(y)].map(|x| fields(x.unwrap())) => [old + other, old - other, old * other].map(original);
+            [x.checked_add(y), x.checked_sub(y), x.checked_mul(y)].map(|x| x.map(fields)) => [old + other, old - other, old * other].map(|x| Some(original(x)));
+            [x.checked_div(y).map(fields), tried(x.try_div(y))] => [(); 2].map(|_| old.checked_div(other).map(original));
+            [x.checked_rem(y).map(fields), tried(x.try_rem(y))] => [(); 2].map(|_| if other.is_zero() { None } else { Some(original(old % other)) });
+            comparisons!(x, y) => comparisons!(old, other);
+            x.try_cmp(y) => Ok(old.cmp(other));
+            hash_of(x) == hash_of(y) => x == y;
+            fields(x.abs_sub(y)) => original(old.abs_sub(other));
+        };
+        if !other.is_zero() {
+            calls += rows! { (x, y);
+                forms!(x / y, /=) => all(old / other);
+                forms!(x % y, %=) => all(old % other);
+            };
+        }
+    }
+    println!("{} calls on two fractions", calls * 4);
+}
+
+#[test]
+fn calls_with_a_number() {
+    let mut numbers = Numbers(7);
+    for _ in 0..pairs() {
+        let (x, old) = &fraction(&mut numbers);
+        let (n, m, wide) = (numbers.word() as i64, numbers.below(5) as u8, numbers.wide() as i128);
+        let [n_old, m_old, wide_old] = [BigInt::from(n), BigInt::from(m), BigInt::from(wide)].map(Original::from);
+        rows! { (x, n, m, wide);
+            with_number!(x + n, +=) => all(old + &n_old);
+            with_number!(x - m, -=) => all(old - &m_old);
+            with_number!(x * wide, *=) => all(old * &wide_old);
+            with_number!(n + x) => all(&n_old + old);
+            with_number!(m - x) => all(&m_old - old);
+            with_number!(wide * x) => all(&wide_old * old);
+        };
+        if m != 0 && n != 0 && !x.is_zero() {
+            rows! { (x, n, m, wide);
+                with_number!(x / n, /=) => all(old / &n_old);
+                with_number!(x % m, %=) => all(old % &m_old);
+                with_number!(n / x) => all(&n_old / old);
+                with_number!(wide % x) => all(&wide_old % old);
+            };
+        }
+    }
+}
+
+#[test]
+fn calls_on_one() {
+    let (mut numbers, mut calls) = (Numbers(2), 0);
+    for _ in 0..pairs() {
+        let (x, old) = &fraction(&mut numbers);
+        let (numer, denom) = (old.numer(), old.denom());
+        let reduced = || Some((numer.to_i64()?, denom.to_i64()?));
+        calls += rows! { x;
+            [x.clone(), x.try_clone().unwrap()].map(fields) => all(old.clone());
+            [-x, -x.clone(), x.try_neg().unwrap()].map(fields) => all(-old);
+            [x.abs(), x.try_abs().unwrap()].map(fields) => all(old.abs());
+            fields(x.signum()) => original(old.signum());
+            (x.is_zero(), x.is_one(), x.is_positive(), x.is_negative()) => (old.is_zero(), old.is_one(), old.is_positive(), old.is_negative());
+            x.is_integer() => old.is_integer();
+            [x.floor(), x.try_floor().unwrap()].map(fields) => all(old.floor());
+            [x.ceil(), x.try_ceil().unwrap()].map(fields) => all(old.ceil());
+            [x.round(), x.try_round().unwrap()].map(fields) => all(old.round());
+            [x.trunc(), x.try_trunc().unwrap()].map(fields) => all(old.trunc());
+            [x.fract(), x.try_fract().unwrap()].map(fields) => all(old.fract());
+            (x.to_i64(), x.to_u64(), x.to_i128(), x.to_u128(), x.to_i8(), x.to_u32()) => {
+                let whole = old.to_integer();
+                (whole.to_i64(), whole.to_u64(), whole.to_i128(), whole.to_u128(), whole.to_i8(), whole.to_u32())
+            };
+            (x.to_f64(), x.try_to_f64().ok()) => (old.to_f64(), old.to_f64());
+            (x.numer_digits(), x.denom_digits()) => (numer.magnitude().to_u64_digits(), denom.magnitude().to_u64_digits());
+            BigFraction::try_from(&BigRational::new_raw(numer * 6, denom * -6)) => Ok(-x);
+            BigFraction::try_from(&BigRational::new_raw(numer * -6, denom * -6)) => Ok(x.clone());
+            Reduced64::try_from(x).ok().map(Reduced::into_raw) => reduced();
+            Reduced::<u128>::try_from(x).ok().map(Reduced::into_raw) => numer.to_u128().and_then(|numer| Some((numer, denom.to_u128()?)));
+        };
+        if let Some((numer, denom)) = reduced() {
+            let short = Reduced::checked_new(numer, denom).unwrap();
+            calls += rows! { x;
+                hash_of(x) => hash_of(short);
+                BigFraction::from(short) => *x;
+                BigFraction::try_from_reduced(short).as_ref() => Ok(x);
+                BigFraction::new(numer, denom) => *x;
+            };
+        }
+        if !x.is_zero() {
+            calls += rows! { x;
+                [x.recip(), x.inv(), x.clone().inv()].map(fields) => all(old.recip());
+                tried(x.try_recip()) => Some(original(old.recip()));
+            };
+        }
+    }
+    println!("{} calls on one fraction", calls * 2);
+}
+
+#[test]
+fn texts() {
+    let mut numbers = Numbers(3);
+    for _ in 0..pairs() {
+        let (x, old) = &fraction(&mut numbers);
+        let (plain, radix) = (old.to_string(), numbers.below(35) as u32 + 2);
+        let in_radix = format!("{}/{}", old.numer().to_str_radix(radix), old.denom().to_str_radix(radix));
+        rows! { x;
+            [format!("{x}"), format!("{x:+}"), format!("{x:>90}"), format!("{x:<+90}|{x:^9}|{x:020}"), format!("{x:?}")] => [plain.clone(), format!("{old:+}"), format!("{old:>90}"), format!("{old:<+90}|{old:^9}|{old:020}"), format!("BigFraction({old})")];
+            plain.parse() => Ok(x.clone());
+            BigFraction::try_from_str(&plain) => Ok(Ok(x.clone()));
+            BigFraction::from_str_radix(&in_radix, radix) => Ok(x.clone());
+            BigFraction::from_text(&plain) => Ok(x.clone());
+            BigFraction::try_from_text(&plain) => Ok(Ok(x.clone()));
+        };
+    }
+}
+
+/// The decimal with so many places, cut towards 0.
+fn cut(old: &Original<BigInt>, places: u32) -> String {
+    let scaled = (old * BigInt::from(10).pow(places)).to_integer();
+    let digits = format!("{:0>width$}", scaled.magnitude(), width = places as usize + 1);
+    let sign = if scaled.sign() == Sign::Minus { "-" } else { "" };
+    let (whole, part) = digits.split_at(digits.len() - places as usize);
+    format!("{sign}{whole}{}{part}", if places == 0 { "" } else { "." })
+}
+
+#[test]
+fn decimals() {
+    let mut numbers = Numbers(4);
+    for _ in 0..pairs() {
+        let (x, old) = &fraction(&mut numbers);
+        let places = numbers.below(60) as u32;
+        let text = cut(old, places);
+        let of_text = Original::new(text.replace('.', "").parse().unwrap(), BigInt::from(10).pow(places));
+        rows! { (x, places);
+            x.decimal(places, Rounding::Down) => text.clone();
+            x.try_decimal(places, Rounding::Down) => Ok(text.clone());
+            BigFraction::from_decimal(&text).map(fields) => Ok(original(of_text.clone()));
+            BigFraction::try_from_decimal(&text).unwrap().map(fields) => Ok(original(of_text));
+        };
+    }
+    assert_eq!(format!("{:.2} {:.0} {:+.1}", BigFraction::new(1, 8), BigFraction::new(5, 2), BigFraction::new(2, 3)), "0.12 2 +0.7");
+    assert_eq!(BigFraction::from_decimal("1e-40").map(|x| x.recip()), Ok(BigFraction::from(10).pow(40)));
+}
+
+#[test]
+fn folds_and_powers() {
+    let mut numbers = Numbers(5);
+    for _ in 0..pairs() / 10 {
+        let (ours, theirs): (Vec<_>, Vec<_>) = (0..5).map(|_| fraction(&mut numbers)).unzip();
+        assert_eq!(fields(ours.iter().sum()), original(theirs.iter().sum()));
+        assert_eq!(fields(ours.iter().product()), original(theirs.iter().product()));
+        let (x, old) = (&ours[0], &theirs[0]);
+        for exponent in if x.is_zero() { 0..4i32 } else { -3..4 } {
+            let (wide, power) = (i64::from(exponent), original(Pow::pow(old, exponent)));
+            rows! { (x, exponent);
+                fields(x.pow(exponent)) => power;
+                tried(x.try_pow(wide)) => Some(power.clone());
+                [Pow::pow(x, exponent), Pow::pow(x.clone(), &exponent), Pow::pow(x, &wide), Pow::pow(x.clone(), wide)].map(fields) => [(); 4].map(|_| power.clone());
+            };
+        }
+        assert_eq!(fields(ours.into_iter().sum()), original(theirs.iter().sum()));
+    }
+}
+
+#[test]
+fn floats() {
+    let mut numbers = Numbers(6);
+    let drawn = (0..pairs()).map(|_| f64::from_bits(numbers.word()));
+    for float in drawn.chain([0.0, -0.75, 0.1, 1e300, 1e-300, f64::MIN_POSITIVE, 5e-324, f64::MAX, f64::NAN, f64::INFINITY]) {
+        let old = Original::from_float(float);
+        let want = || old.clone().map(original);
+        rows! { float;
+            BigFraction::from_float(float).map(fields) => want();
+            tried(BigFraction::try_from_float(float)) => want();
+            BigFraction::from_f64(float).map(fields) => want();
+            BigFraction::from_f32(float as f32).map(fields) => Original::from_float(float as f32).map(original);
+            BigFraction::from_float(float).and_then(|x| x.to_f64()) => old.and(Some(float + 0.0));
+        };
+    }
+}
+
+#[test]
+fn made_from_numbers() {
+    rows! { "numbers";
+        [BigFraction::from_i64(-3), BigFraction::from_u64(3), BigFraction::from_i128(-3), BigFraction::from_u128(3)] => [-3, 3, -3, 3].map(|n| Some(BigFraction::from(n)));
+        [BigFraction::zero(), BigFraction::default(), BigFraction::from_integer(0u8)] => [0, 0, 0].map(BigFraction::from);
+        BigFraction::one() => BigFraction::from(1u128);
+        BigFraction::from(i128::MIN).to_string() => i128::MIN.to_string();
+        BigFraction::from(u128::MAX).to_string() => u128::MAX.to_string();
+        BigFraction::new(-128i8, -1).to_string() => "128";
+        BigFraction::new(1i8, -128).to_string() => "-1/128";
+        BigFraction::new(i128::MIN, 3).to_string() => format!("{}/3", i128::MIN);
+        BigFraction::new(i128::MIN, -3).to_string() => format!("{}/3", 1u128 << 127);
+        BigFraction::new(5, i128::MIN).to_string() => format!("-5/{}", 1u128 << 127);
+        (BigFraction::checked_new(6, -4), BigFraction::checked_new(1, 0)) => (Some(BigFraction::new(-3, 2)), None);
+        (BigFraction::try_new(6u8, 4), BigFraction::try_new(0, 0)) => (Ok(Some(BigFraction::new(3, 2))), Ok(None));
+        BigFraction::try_from_digits(true, &[6, 0, 0], &[4, 0]) => Ok(Some(BigFraction::new(-3, 2)));
+        BigFraction::from_digits(true, &[6], &[0, 0]) => None;
+        Reduced::<i8>::try_from(BigFraction::new(1, 128)).map_err(|error: ReducedError| error.to_string()).is_err() => true;
+        BigFraction::try_from(&BigRational::new_raw(BigInt::one(), BigInt::zero())).is_err() => true;
+    };
+}
+
+#[test]
+fn refused_texts() {
+    for text in ["", "-", "+", "/", "1/", "/1", "1/x", "1//2", "--1", "1 /2", "1/2/3", "0x1"] {
+        assert_eq!((text.parse::<BigFraction>().is_err(), BigFraction::from_str_radix(text, 10).is_err()), (true, true), "{text}");
+    }
+    let zero = |error: bakhsney::ParseRatioError| error.to_string();
+    let want = "1/0".parse::<Original<BigInt>>().unwrap_err().to_string();
+    assert_eq!("1/0".parse::<BigFraction>().map_err(zero), Err(want.clone()));
+    assert_eq!(BigFraction::from_str_radix("1/0", 7).map_err(zero), Err(want));
+    assert!(BigFraction::from_str_radix("12", 10).is_err(), "as num-rational's, it needs a slash");
+    assert_eq!(BigFraction::from_str_radix("+zz/-7", 36), Ok(BigFraction::new(-1295, 7)));
+    assert_eq!(BigFraction::from_decimal("1,5"), Err(DecimalRefusal::NotDecimal));
+    assert_eq!([BigFraction::from_text("1 /2"), BigFraction::from_text("1/0")], [Err(TextRefusal::NotNumber), Err(TextRefusal::ZeroDenominator)]);
+}
+
+/// The message of the panic.
+fn message<R>(call: impl FnOnce() -> R + std::panic::UnwindSafe) -> String {
+    let cause = catch_unwind(call).err().expect("the call must panic");
+    cause.downcast_ref::<String>().cloned().or_else(|| cause.downcast_ref::<&str>().map(|text| text.to_string())).unwrap()
+}
+
+#[test]
+fn division_by_0() {
+    let (half, zero) = (|| BigFraction::new(1, 2), || BigFraction::from(0));
+    let messages = [message(|| half() / zero()), message(|| half() / 0), message(|| 1 / zero()), message(|| zero().recip()), message(|| zero().pow(-1)), message(|| BigFraction::new(1, 0))];
+    assert_eq!(messages, [(); 6].map(|_| "denominator == 0"));
+    assert_eq!(message(|| half() % zero()), "attempt to calculate the remainder with a divisor of zero");
+    assert_eq!(message(|| BigFraction::from_str_radix("1/2", 37)), "from_str_radix_int: must lie in the range `[2, 36]` - found 37");
+}
+
+#[test]
+fn exponents_of_any_size() {
+    let powers = |n: i8| [Pow::pow(BigFraction::from(n), u128::MAX), Pow::pow(BigFraction::from(n), u128::MAX - 1)];
+    assert_eq!([powers(-1), powers(0), powers(1)], [[-1, 1], [0, 0], [1, 1]].map(|row| row.map(BigFraction::from)));
+    assert_eq!([i128::MIN, i128::MIN + 1].map(|exponent| Pow::pow(BigFraction::from(-1), exponent)), [1, -1].map(BigFraction::from));
+}
+
+/// The texts are those of num-rational's `BigRational`, which num-bigint's feature `serde` writes.
+#[cfg(feature = "serde")]
+#[test]
+fn serialized() {
+    let text = |x: &BigFraction| serde_json::to_string(x).unwrap();
+    let read = |text: &str| serde_json::from_str::<BigFraction>(text).ok();
+    let wide = BigFraction::new(-(1i128 << 64), 3);
+    rows! { "texts";
+        [text(&BigFraction::new(-1, 3)), text(&BigFraction::from(0)), text(&wide)] => ["[[-1,[1]],[1,[3]]]", "[[0,[]],[1,[1]]]", "[[-1,[0,0,1]],[1,[3]]]"];
+        text(&BigFraction::new(5i64 << 32, 3)) => "[[1,[0,5]],[1,[3]]]";
+        [read("[[1,[6]],[-1,[4]]]"), read("[[0,[6]],[1,[4]]]"), read("[[-1,[0,0,2,0]],[1,[6,0]]]")] => [Some(BigFraction::new(-3, 2)), Some(BigFraction::from(0)), Some(wide)];
+        ["[[1,[1]],[1,[]]]", "[[1,[1]],[0,[1]]]", "[[2,[1]],[1,[1]]]", "[[1,[1]],[-2,[1]]]", "[[1,[4294967296]],[1,[1]]]", "[1,2]"].map(read) => [(); 6].map(|_| None);
+    };
+    let mut numbers = Numbers(8);
+    for _ in 0..pairs() / 10 {
+        let (x, _) = fraction(&mut numbers);
+        assert_eq!(read(&text(&x)), Some(x));
+    }
+}
+
+/// The example of the crate's README with fewer sales, beside num-rational.
+#[test]
+fn sales() {
+    let mut ours = vec![BigFraction::new(1, 10); 10];
+    for sale in 0..200 {
+        let sold = &ours[sale % 10] / (sale % 8 + 3);
+        ours[sale % 10] -= &sold;
+        ours[(sale + 1) % 10] += sold;
+    }
+    let mut theirs = vec![Original::new(BigInt::from(1), BigInt::from(10)); 10];
+    for sale in 0..200 {
+        let sold = &theirs[sale % 10] / BigInt::from(sale % 8 + 3);
+        theirs[sale % 10] -= &sold;
+        theirs[(sale + 1) % 10] += sold;
+    }
+    assert!(ours.into_iter().map(fields).eq(theirs.into_iter().map(original)));
+}

@@ -1,0 +1,187 @@
+//! `BigFraction` where memory is wanting: the allocator of this program refuses the one request that a test names. Each call with `try_` then returns
+//! an error, one with an `Option` returns `None`, and each other one panics. The operands stay as they were. Short fractions ask for nothing.
+#![cfg(all(feature = "alloc", target_pointer_width = "64"))]
+
+use bakhsney::{AllocError, BigFraction, Rounding};
+use num_traits::{CheckedAdd, CheckedDiv, CheckedMul, CheckedRem, CheckedSub, Num, Signed, ToPrimitive};
+use std::alloc::{GlobalAlloc, Layout, System};
+use std::cell::Cell;
+use std::panic::{catch_unwind, AssertUnwindSafe};
+
+struct Refusing;
+
+const NEVER: u64 = u64::MAX;
+
+thread_local! {
+    /// How many requests of this thread come before the one that is refused.
+    static BEFORE: Cell<u64> = const { Cell::new(NEVER) };
+}
+
+fn is_refused() -> bool {
+    let next = |before: &Cell<u64>| match before.get() {
+        NEVER => false,
+        0 => {
+            before.set(NEVER);
+            true
+        }
+        count => {
+            before.set(count - 1);
+            false
+        }
+    };
+    BEFORE.try_with(next).unwrap_or(false)
+}
+
+// SAFETY: what it returns is null, or comes from the system's allocator.
+unsafe impl GlobalAlloc for Refusing {
+    unsafe fn alloc(&self, layout: Layout) -> *mut u8 {
+        if is_refused() { std::ptr::null_mut() } else { System.alloc(layout) }
+    }
+
+    unsafe fn dealloc(&self, place: *mut u8, layout: Layout) {
+        System.dealloc(place, layout);
+    }
+
+    unsafe fn realloc(&self, place: *mut u8, layout: Layout, size: usize) -> *mut u8 {
+        if is_refused() { std::ptr::null_mut() } else { System.realloc(place, layout, size) }
+    }
+}
+
+#[global_allocator]
+static ALLOCATOR: Refusing = Refusing;
+
+/// What the call returns if the request after `before` others is refused, and whether there was such a request.
+fn refused<R>(before: u64, call: impl FnOnce() -> R) -> (R, bool) {
+    BEFORE.with(|cell| cell.set(before));
+    let result = call();
+    let was_refused = BEFORE.with(|cell| cell.replace(NEVER)) == NEVER;
+    (result, was_refused)
+}
+
+type Call<'a, R> = (&'a str, Box<dyn Fn() -> R + 'a>);
+
+macro_rules! calls {
+    ($($call:expr;)*) => {
+        vec![$((stringify!($call), Box::new(|| $call) as Box<dyn Fn() -> _>)),*]
+    };
+}
+
+/// Refuses each request of the calls in turn. `is_refusal` tests what a call then returns.
+fn each_request<R>(calls: Vec<Call<R>>, is_refusal: impl Fn(&R) -> bool) {
+    for (name, call) in calls {
+        let requests = (0..).find(|&before| {
+            let (result, was_refused) = refused(before, &call);
+            assert_eq!(is_refusal(&result), was_refused, "{name} where request {before} is refused");
+            !was_refused
+        });
+        assert!(requests > Some(0), "{name} asked for no memory");
+    }
+}
+
+/// Two fractions that do not fit an `i64`, with a common factor in their denominators.
+fn long() -> (BigFraction, BigFraction) {
+    let x = BigFraction::from_digits(true, &[1, 2, 3], &[0, 6]).unwrap();
+    let y = BigFraction::from_digits(false, &[5, 1], &[0, 0, 7]).unwrap();
+    (x, y)
+}
+
+const LONG: &str = "-123456789012345678901234567890/7";
+
+#[test]
+fn tried() {
+    let (x, y) = &long();
+    let before = (x.to_string(), y.to_string());
+    let ok = |result: Result<BigFraction, AllocError>| result.map(drop);
+    let some = |result: Result<Option<BigFraction>, AllocError>| result.map(|fraction| drop(fraction.expect("it exists")));
+    let calls = calls! {
+        ok(x.try_add(y));
+        ok(x.try_sub(y));
+        ok(x.try_mul(y));
+        some(x.try_div(y));
+        some(x.try_rem(y));
+        ok(x.try_neg());
+        ok(x.try_abs());
+        ok(x.try_clone());
+        some(x.try_recip());
+        some(x.try_pow(-5));
+        [x.try_floor(), x.try_ceil(), x.try_round(), x.try_trunc(), x.try_fract()].into_iter().try_for_each(ok);
+        x.try_cmp(y).map(drop);
+        x.try_decimal(5, Rounding::Floor).map(drop);
+        x.try_to_f64().map(drop);
+        some(BigFraction::try_new(1, u128::MAX));
+        some(BigFraction::try_from_digits(false, &[0, 1], &[3]));
+        some(BigFraction::try_from_float(1e300));
+        BigFraction::try_from_str(LONG).map(|read| drop(read.unwrap()));
+        BigFraction::try_from_decimal("1e50").map(|read| drop(read.unwrap()));
+        BigFraction::try_from_text("1e22%").map(|read| drop(read.unwrap()));
+    };
+    each_request(calls, |result| *result == Err(AllocError));
+    assert_eq!((x.to_string(), y.to_string()), before);
+}
+
+#[test]
+fn options() {
+    let (x, y) = &long();
+    let calls = calls! {
+        x.checked_add(y).map(drop);
+        x.checked_sub(y).map(drop);
+        x.checked_mul(y).map(drop);
+        x.checked_div(y).map(drop);
+        x.checked_rem(y).map(drop);
+        BigFraction::checked_new(1, u128::MAX).map(drop);
+        BigFraction::from_digits(false, &[0, 1], &[3]).map(drop);
+        BigFraction::from_float(1e300).map(drop);
+        x.to_f64().map(drop);
+        x.to_i64().map(drop);
+    };
+    each_request(calls, Option::is_none);
+}
+
+#[test]
+fn panics() {
+    let (x, y) = &long();
+    let calls = calls! {
+        drop(x + y);
+        drop(x - y);
+        drop(x * y);
+        drop(x / y);
+        drop(x % y);
+        drop(-x);
+        drop(x.clone());
+        drop(x.abs());
+        drop(x.recip());
+        drop(x.pow(3));
+        drop((x.floor(), x.ceil(), x.round(), x.trunc(), x.fract()));
+        assert!(x < y);
+        drop((x.numer_digits(), x.denom_digits()));
+        drop(x.decimal(3, Rounding::Up));
+        drop(LONG.parse::<BigFraction>());
+        drop(BigFraction::from_str_radix("100000000000000000000/7", 16));
+        drop(BigFraction::from_decimal("1e50"));
+        drop(BigFraction::from_text("1e50"));
+        drop(BigFraction::from(u128::MAX));
+        drop(BigFraction::new(u128::MAX, 2));
+    };
+    std::panic::set_hook(Box::new(|_| {}));
+    let all = calls.into_iter().map(|(name, call)| {
+        let caught = move || {
+            let cause = catch_unwind(AssertUnwindSafe(&call)).err()?;
+            let text = cause.downcast_ref::<String>().cloned();
+            text.or_else(|| cause.downcast_ref::<&str>().map(|text| text.to_string()))
+        };
+        (name, Box::new(caught) as Box<dyn Fn() -> Option<String>>)
+    });
+    each_request(all.collect(), |message| message.as_deref() == Some("memory allocation failed"));
+}
+
+#[test]
+fn short_ones_take_no_memory() {
+    let (x, y) = (BigFraction::new(-7, 6), BigFraction::new(5, 4));
+    let (_, was_refused) = refused(0, || {
+        let all = [&x + &y, &x - &y, &x * &y, &x / &y, &x % &y, -&x, x.abs(), x.clone(), x.recip(), x.pow(20)];
+        assert!(all.iter().all(|result| result < &BigFraction::from(i64::MAX)));
+        assert!(x.floor() < x.ceil() && x.round() == x.trunc() && x == x.clone() && x.fract().is_negative());
+        assert_eq!(("-7/6".parse(), BigFraction::from_float(0.5), x.to_i64()), (Ok(x), Some(BigFraction::new(1, 2)), Some(-1)));
+    });
+    assert!(!was_refused);
+}

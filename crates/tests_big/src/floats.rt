@@ -6,13 +6,17 @@ use std::alloc::Global;
 use std::process::Abort;
 use std::test::Fail;
 
-/// The float nearest to the fraction of the decimal has these bits.
-fn is_near(rt: &impl Abort, alloc: Global, text: &str, bits: u64) -> Result<(), Fail> {
-    let x = BigFraction::from_text(alloc, text)??;
+/// The float nearest to the fraction has these bits.
+fn has_float(rt: &impl Abort, alloc: Global, x: &BigFraction, bits: u64) -> Result<(), Fail> {
     let near = x.to_f64(alloc)?;
     assert!(rt; !near.is_nan());
-    assert_eq!(rt; near.to_bits(), bits, "the float of {text}");
+    assert_eq!(rt; near.to_bits(), bits);
     Ok(())
+}
+
+/// The float nearest to the fraction of the text has these bits.
+fn is_near(rt: &impl Abort, alloc: Global, text: &str, bits: u64) -> Result<(), Fail> {
+    has_float(rt, alloc, &BigFraction::from_text(alloc, text)??, bits)
 }
 
 /// 2^64 and a half of the last bit that a float keeps is a tie. A bit more is none.
@@ -47,11 +51,11 @@ fn exact_values(rt: HostRuntime) -> Result<(), Fail> {
     is_long(&rt, alloc, &small, true, &[1450710983537555], &[0, 1 << 19])?;
     let great = BigFraction::from_f64(alloc, 73786976294838206464.0)?.ok_or("no value")?;
     is_long(&rt, alloc, &great, false, &[0, 4], &[1])?;
-    let least = BigFraction::from_f64(alloc, f64::from_bits(1))?.ok_or("no value")?;
+    let least = BigFraction::from_f64(alloc, 5e-324)?.ok_or("no value")?;
     assert_eq!(rt; least.denom_digits(alloc)?.len(), 17);
-    assert_eq!(rt; least.to_f64(alloc)?.to_bits(), 1);
+    has_float(&rt, alloc, &least, 1)?;
     let most = BigFraction::from_f64(alloc, f64::MAX)?.ok_or("no value")?;
-    assert_eq!(rt; most.to_f64(alloc)?.to_bits(), 0x7fefffffffffffff);
+    has_float(&rt, alloc, &most, 0x7fefffffffffffff)?;
     assert!(rt; BigFraction::from_f64(alloc, f64::INFINITY)?.is_none());
     assert!(rt; BigFraction::from_f64(alloc, f64::NEG_INFINITY)?.is_none());
     assert!(rt; BigFraction::from_f64(alloc, f64::NAN)?.is_none());

@@ -7,14 +7,19 @@ use crate::proved::ratio_big::BigFraction;
 
 use crate::test_support::Fail;
 
-/// The float nearest to the fraction of the decimal has these bits.
+/// The float nearest to the fraction has these bits.
 #[inline]
-fn is_near(alloc: Global, text: &str, bits: u64) -> Result<(), Fail> {
-    let x = BigFraction::from_text(alloc, text)??;
+fn has_float(alloc: Global, x: &BigFraction, bits: u64) -> Result<(), Fail> {
     let near = x.to_f64(alloc)?;
     assert!(!near.is_nan());
-    assert_eq!(near.to_bits(), bits, "the float of {text}");
+    assert_eq!(near.to_bits(), bits);
     Ok(())
+}
+
+/// The float nearest to the fraction of the text has these bits.
+#[inline]
+fn is_near(alloc: Global, text: &str, bits: u64) -> Result<(), Fail> {
+    has_float(alloc, &BigFraction::from_text(alloc, text)??, bits)
 }
 
 /// 2^64 and a half of the last bit that a float keeps is a tie. A bit more is none.
@@ -48,11 +53,11 @@ fn exact_values() -> Result<(), Fail> {
     is_long(alloc, &small, true, &[1450710983537555], &[0, 1 << 19])?;
     let great = BigFraction::from_f64(alloc, 73786976294838206464.0)?.ok_or("no value")?;
     is_long(alloc, &great, false, &[0, 4], &[1])?;
-    let least = BigFraction::from_f64(alloc, f64::from_bits(1))?.ok_or("no value")?;
+    let least = BigFraction::from_f64(alloc, 5e-324)?.ok_or("no value")?;
     assert_eq!(least.denom_digits(alloc)?.len(), 17);
-    assert_eq!(least.to_f64(alloc)?.to_bits(), 1);
+    has_float(alloc, &least, 1)?;
     let most = BigFraction::from_f64(alloc, f64::MAX)?.ok_or("no value")?;
-    assert_eq!(most.to_f64(alloc)?.to_bits(), 0x7fefffffffffffff);
+    has_float(alloc, &most, 0x7fefffffffffffff)?;
     assert!(BigFraction::from_f64(alloc, f64::INFINITY)?.is_none());
     assert!(BigFraction::from_f64(alloc, f64::NEG_INFINITY)?.is_none());
     assert!(BigFraction::from_f64(alloc, f64::NAN)?.is_none());

@@ -41,14 +41,16 @@ else
   }
 fi
 
-# Builds the extension in $work/build, and installs it into the files of the pg_config.
+# Builds the extension in $work/build, and copies it into the folders of the pg_config.
 build_extension() {
-  local pg_config=$1
+  local pg_config=$1 options
   shift
+  options=(-s -C "$work/build" PG_CONFIG="$pg_config" LIBRATIO="$library" RATIO_H="$(realpath "${RATIO_H:-$top/include}")" "$@")
   mkdir -p "$work/build"
   cp -a "$here"/{Makefile,META.json,ratio.control,server.conf,loads.csv,*.sql,*.c,*.h,sql,expected,servers} "$work/build/"
-  make -s -C "$work/build" PG_CONFIG="$pg_config" LIBRATIO="$library" RATIO_H="$(realpath "${RATIO_H:-$top/include}")" "$@" install >"$work/made" 2>&1 \
-    || { cat "$work/made" >&2; stop "the extension was not built"; }
+  make "${options[@]}" all >"$work/made" 2>&1 || { cat "$work/made" >&2; stop "the extension was not built"; }
+  make "${options[@]}" install >"$work/made" 2>&1 \
+    || { cat "$work/made" >&2; stop "the extension was built, but not copied into PostgreSQL's folders: run this as root, or as a user who may write there"; }
 }
 
 # Copies the files of the server, and builds the extension into the copy, whose programs are in $bin.

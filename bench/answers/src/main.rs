@@ -82,8 +82,8 @@ fn main() {
             ours(harmonic()),
         ),
         (
-            "2^63-1 plus 1, in 64 bits",
-            "9223372036854775807::bigint + 1",
+            "2^63-1 plus 1",
+            "9223372036854775807::numeric + 1",
             "9223372036854775807.0 + 1",
             theirs(|| Ratio::from_integer(i64::MAX) + 1),
             ours(Reduced64::from(i64::MAX).checked_add(1)),

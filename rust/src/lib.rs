@@ -36,7 +36,7 @@ extern crate alloc;
 extern crate std;
 
 mod layer;
-#[cfg(all(feature = "alloc", target_pointer_width = "64"))]
+#[cfg(feature = "alloc")]
 mod memory;
 mod newer;
 #[cfg(not(feature = "proved-calls"))]
@@ -63,7 +63,7 @@ pub use layer::{split, split_by_weights};
 pub use layer::{TooLong, Total};
 #[cfg(all(feature = "alloc", target_pointer_width = "64"))]
 pub use layer::BigFraction;
-#[cfg(all(feature = "alloc", target_pointer_width = "64"))]
+#[cfg(feature = "alloc")]
 pub use memory::AllocError;
 /// The error of `parse`: the text is not a fraction, or its lowest terms do not fit the type.
 ///

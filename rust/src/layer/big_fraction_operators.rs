@@ -165,6 +165,7 @@ checked! {
     CheckedDiv checked_div: x, y => x.try_div(y).ok().flatten();
 }
 
+// Each fold is a loop: a panic in a closure would name a line of this file.
 macro_rules! folds {
     ($($Fold:ident $fold:ident $start:literal $op:tt;)*) => {$(
         impl $Fold for BigFraction {
@@ -173,8 +174,13 @@ macro_rules! folds {
             /// For want of memory.
             #[inline]
             #[track_caller]
+            #[allow(clippy::assign_op_pattern)]
             fn $fold<I: Iterator<Item = BigFraction>>(items: I) -> BigFraction {
-                items.fold(BigFraction::from($start), |total, item| total $op item)
+                let mut total = BigFraction::from($start);
+                for item in items {
+                    total = total $op item;
+                }
+                total
             }
         }
 
@@ -184,8 +190,13 @@ macro_rules! folds {
             /// For want of memory.
             #[inline]
             #[track_caller]
+            #[allow(clippy::assign_op_pattern)]
             fn $fold<I: Iterator<Item = &'a BigFraction>>(items: I) -> BigFraction {
-                items.fold(BigFraction::from($start), |total, item| total $op item)
+                let mut total = BigFraction::from($start);
+                for item in items {
+                    total = total $op item;
+                }
+                total
             }
         }
     )*};

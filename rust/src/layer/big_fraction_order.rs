@@ -24,6 +24,9 @@ impl PartialEq for BigFraction {
 impl Eq for BigFraction {}
 
 impl PartialOrd for BigFraction {
+    /// # Panics
+    ///
+    /// As `cmp`.
     #[inline]
     #[track_caller]
     fn partial_cmp(&self, other: &BigFraction) -> Option<Ordering> {

@@ -8,9 +8,13 @@ use num_traits::{CheckedRem, Pow};
 
 macro_rules! whole_numbers {
     ($($(#[$doc:meta])* $name:ident by $try:ident;)*) => {
-        /// Whole numbers over 1, and what cutting leaves. These calls panic for want of memory. A fraction of `i64` needs none.
+        /// Whole numbers over 1, and what cutting leaves. A fraction of `i64` needs no memory.
         impl BigFraction {$(
             $(#[$doc])*
+            ///
+            /// # Panics
+            ///
+            /// For want of memory.
             #[inline]
             #[track_caller]
             pub fn $name(&self) -> BigFraction {
@@ -127,6 +131,9 @@ impl BigFraction {
     }
 }
 
+/// # Panics
+///
+/// As `pow`.
 #[inline]
 #[track_caller]
 fn power(base: &BigFraction, exponent: i64) -> BigFraction {

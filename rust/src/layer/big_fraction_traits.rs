@@ -2,7 +2,7 @@
 use super::big_fraction::{taken, BigFraction};
 use super::integer::Integer;
 use super::reduced::Reduced;
-use crate::memory::{Global, Vec};
+use crate::memory::{AllocError, Global, Vec};
 use crate::proved::num_rational::{ParseRatioError, RatioErrorKind};
 use crate::proved::ratio_natural::times_plus;
 use num_traits::{FromPrimitive, Num, Signed, ToPrimitive, Zero};
@@ -19,10 +19,13 @@ impl Num for BigFraction {
     fn from_str_radix(text: &str, radix: u32) -> Result<BigFraction, ParseRatioError> {
         assert!((2..=36).contains(&radix), "from_str_radix_int: must lie in the range `[2, 36]` - found {}", radix);
         let refusal = |kind| Err(ParseRatioError::new(kind));
-        let parts = text.split_once('/').and_then(|(numer, denom)| Some((signed_digits(numer, radix)?, signed_digits(denom, radix)?)));
-        let ((is_negative, numer), (is_under_0, denom)) = match parts {
+        let (numer, denom) = match text.split_once('/') {
             Some(parts) => parts,
             None => return refusal(RatioErrorKind::ParseError),
+        };
+        let ((is_negative, numer), (is_under_0, denom)) = match (taken(signed_digits(numer, radix)), taken(signed_digits(denom, radix))) {
+            (Some(numer), Some(denom)) => (numer, denom),
+            _ => return refusal(RatioErrorKind::ParseError),
         };
         match taken(BigFraction::try_from_digits(is_negative != is_under_0, &numer, &denom)) {
             Some(fraction) => Ok(fraction),
@@ -32,22 +35,21 @@ impl Num for BigFraction {
 }
 
 /// Whether the number is below 0, and its digits. `None` if the text is no number.
-#[track_caller]
-fn signed_digits(text: &str, radix: u32) -> Option<(bool, Vec<u64>)> {
+fn signed_digits(text: &str, radix: u32) -> Result<Option<(bool, Vec<u64>)>, AllocError> {
     let (is_negative, text) = match text.strip_prefix('-') {
         Some(text) => (true, text),
         None => (false, text.strip_prefix('+').unwrap_or(text)),
     };
-    if text.is_empty() {
-        return None;
-    }
     let mut digits = Vec::new(Global);
     // A digit of a radix up to 36 has less than 6 bits.
-    taken(digits.resize(text.len() / 10 + 1, 0));
+    digits.resize(text.len() / 10 + 1, 0)?;
     for digit in text.chars() {
-        times_plus(&mut digits, radix.into(), digit.to_digit(radix)?.into());
+        match digit.to_digit(radix) {
+            Some(digit) => times_plus(&mut digits, radix.into(), digit.into()),
+            None => return Ok(None),
+        };
     }
-    Some((is_negative, digits))
+    Ok(if text.is_empty() { None } else { Some((is_negative, digits)) })
 }
 
 impl Signed for BigFraction {

@@ -33,7 +33,7 @@ fn pairs() -> u64 {
     std::env::var("BAKHSNEY_PAIRS").map_or(200, |pairs| pairs.parse().unwrap())
 }
 
-/// The digits of a number. One of 16 is of any length up to 5,000 decimal digits.
+/// The digits of a number. One of 32 is of any length up to 5,000 decimal digits.
 fn drawn(numbers: &mut Numbers) -> Vec<u64> {
     let most = match numbers.below(32) {
         0 => 260,

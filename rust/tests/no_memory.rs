@@ -6,6 +6,7 @@ use bakhsney::{AllocError, BigFraction, Rounding};
 use num_traits::{CheckedAdd, CheckedDiv, CheckedMul, CheckedRem, CheckedSub, Num, Signed, ToPrimitive};
 use std::alloc::{GlobalAlloc, Layout, System};
 use std::cell::Cell;
+use std::fmt::Write;
 use std::panic::{catch_unwind, AssertUnwindSafe};
 
 struct Refusing;
@@ -85,6 +86,15 @@ fn long() -> (BigFraction, BigFraction) {
     (x, y)
 }
 
+/// Takes any text, without memory.
+struct Nowhere;
+
+impl Write for Nowhere {
+    fn write_str(&mut self, _: &str) -> std::fmt::Result {
+        Ok(())
+    }
+}
+
 const LONG: &str = "-123456789012345678901234567890/7";
 
 #[test]
@@ -107,6 +117,7 @@ fn tried() {
         [x.try_floor(), x.try_ceil(), x.try_round(), x.try_trunc(), x.try_fract()].into_iter().try_for_each(ok);
         x.try_cmp(y).map(drop);
         x.try_decimal(5, Rounding::Floor).map(drop);
+        x.try_to_string().map(drop);
         x.try_to_f64().map(drop);
         some(BigFraction::try_new(1, u128::MAX));
         some(BigFraction::try_from_digits(false, &[0, 1], &[3]));
@@ -117,6 +128,15 @@ fn tried() {
     };
     each_request(calls, |result| *result == Err(AllocError));
     assert_eq!((x.to_string(), y.to_string()), before);
+}
+
+/// num-bigint's own requests are not refused: a program ends there.
+#[cfg(feature = "num-bigint")]
+#[test]
+fn of_big_integers() {
+    let number = num_bigint::BigInt::from(i128::MIN);
+    let fraction = bakhsney::BigRational::new_raw(number.clone(), number + 1);
+    each_request(calls! { BigFraction::try_from(&fraction).map(drop); }, Result::is_err);
 }
 
 #[test]
@@ -155,6 +175,7 @@ fn panics() {
         assert!(x < y);
         drop((x.numer_digits(), x.denom_digits()));
         drop(x.decimal(3, Rounding::Up));
+        write!(Nowhere, "{x} {x:.3} {x:?}").unwrap();
         drop(LONG.parse::<BigFraction>());
         drop(BigFraction::from_str_radix("100000000000000000000/7", 16));
         drop(BigFraction::from_decimal("1e50"));

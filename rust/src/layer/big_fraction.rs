@@ -89,7 +89,7 @@ impl BigFraction {
         divided(BigFraction::try_new(numer, denom), "denominator == 0")
     }
 
-    /// The same, or `None` if the denominator is 0.
+    /// The same, or `None` if the denominator is 0 or for want of memory.
     ///
     /// ```
     /// assert!(num_rational::BigFraction::checked_new(1, 0).is_none());
@@ -143,7 +143,8 @@ impl BigFraction {
         Proved::from_wide::<<T as Element>::Proved>(Global, &fraction.into_proved()).map(BigFraction)
     }
 
-    /// The lowest terms of a fraction whose numbers have these digits of 64 bits, the lowest first. `None` if the denominator is 0.
+    /// The lowest terms of a fraction whose numbers have these digits of 64 bits, the lowest first. `None` if the denominator is 0 or
+    /// for want of memory.
     ///
     /// ```
     /// use num_rational::BigFraction;

@@ -2,6 +2,7 @@
 use super::big_fraction::{taken, BigFraction};
 use super::integer::Integer;
 use super::numbers::signed;
+use super::ratio::Ratio;
 use super::reduced::Reduced;
 use super::reduced_conversions::ReducedError;
 use crate::proved::ratio_big::BigFraction as Proved;
@@ -56,6 +57,17 @@ impl<T: Integer> From<Reduced<T>> for BigFraction {
     }
 }
 
+impl<T: Integer> TryFrom<Ratio<T>> for BigFraction {
+    type Error = ReducedError;
+
+    /// The lowest terms, or an error if the denominator is 0 or for want of memory.
+    #[inline]
+    fn try_from(fraction: Ratio<T>) -> Result<BigFraction, ReducedError> {
+        let (numer, denom) = fraction.into_raw();
+        BigFraction::checked_new(numer, denom).ok_or(ReducedError(()))
+    }
+}
+
 impl<T: Integer> TryFrom<&BigFraction> for Reduced<T> {
     type Error = ReducedError;
 
@@ -94,10 +106,11 @@ fn number(digits: &[u64]) -> Option<u128> {
 #[cfg(feature = "num-bigint")]
 mod big {
     use super::super::ratio::Ratio;
-    use super::{BigFraction, ReducedError};
+    use super::{taken, BigFraction, ReducedError};
+    use crate::memory::{self, AllocError, Global};
     use alloc::vec::Vec;
     use num_bigint::{BigInt, BigUint, Sign};
-    use num_traits::Zero;
+    use num_traits::{One, Zero};
 
     impl From<&BigFraction> for Ratio<BigInt> {
         /// The same numbers.
@@ -119,10 +132,42 @@ mod big {
 
         /// The lowest terms, or an error if the denominator is 0 or for want of memory.
         fn try_from(fraction: &Ratio<BigInt>) -> Result<BigFraction, ReducedError> {
-            let is_negative = (fraction.numer().sign() == Sign::Minus) != (fraction.denom().sign() == Sign::Minus);
-            let [numer, denom] = [fraction.numer(), fraction.denom()].map(|number| number.magnitude().to_u64_digits());
-            BigFraction::from_digits(is_negative, &numer, &denom).ok_or(ReducedError(()))
+            of_numbers(fraction.numer(), fraction.denom()).ok().flatten().ok_or(ReducedError(()))
         }
+    }
+
+    impl TryFrom<Ratio<BigInt>> for BigFraction {
+        type Error = ReducedError;
+
+        /// The lowest terms, or an error if the denominator is 0 or for want of memory.
+        fn try_from(fraction: Ratio<BigInt>) -> Result<BigFraction, ReducedError> {
+            BigFraction::try_from(&fraction)
+        }
+    }
+
+    impl From<BigInt> for BigFraction {
+        /// # Panics
+        ///
+        /// For want of memory.
+        #[track_caller]
+        fn from(number: BigInt) -> BigFraction {
+            taken(of_numbers(&number, &BigInt::one())).unwrap_or_else(|| unreachable!("the denominator is 1"))
+        }
+    }
+
+    fn of_numbers(numer: &BigInt, denom: &BigInt) -> Result<Option<BigFraction>, AllocError> {
+        let is_negative = (numer.sign() == Sign::Minus) != (denom.sign() == Sign::Minus);
+        BigFraction::try_from_digits(is_negative, &digits(numer)?, &digits(denom)?)
+    }
+
+    /// As num-bigint's `to_u64_digits`, which ends the program for want of memory.
+    fn digits(number: &BigInt) -> Result<memory::Vec<u64>, AllocError> {
+        let all = number.magnitude().iter_u64_digits();
+        let mut digits = memory::Vec::with_capacity(Global, all.len())?;
+        for digit in all {
+            digits.push(digit)?;
+        }
+        Ok(digits)
     }
 
     fn whole(digits: &[u64]) -> BigUint {

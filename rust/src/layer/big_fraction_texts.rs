@@ -18,12 +18,14 @@ use core::str::FromStr;
 /// assert_eq!(format!("{x} {:.1} {:>5}", BigFraction::new(1, 4), BigFraction::new(1, 2)), "-158456325028528675187087900672 0.2   1/2");
 /// ```
 impl fmt::Display for BigFraction {
+    /// # Panics
+    ///
+    /// For want of memory. That is also said of 2^32 places or more.
     fn fmt(&self, f: &mut fmt::Formatter<'_>) -> fmt::Result {
-        let text = match f.precision() {
+        let text = taken(match f.precision() {
             None => self.0.to_text(Global),
-            Some(places) => self.0.decimal(Global, u32::try_from(places).map_err(|_| fmt::Error)?, Rounding::HalfEven),
-        };
-        let text = text.map_err(|_| fmt::Error)?;
+            Some(places) => u32::try_from(places).map_err(|_| AllocError).and_then(|places| self.0.decimal(Global, places, Rounding::HalfEven)),
+        });
         match text.strip_prefix('-') {
             Some(digits) => f.pad_integral(false, "", digits),
             None => f.pad_integral(true, "", &text),
@@ -50,6 +52,15 @@ impl FromStr for BigFraction {
 }
 
 impl BigFraction {
+    /// The text that `{}` writes, or an error for want of memory.
+    ///
+    /// ```
+    /// assert_eq!(num_rational::BigFraction::new(6, -4).try_to_string().unwrap(), "-3/2");
+    /// ```
+    pub fn try_to_string(&self) -> Result<String, AllocError> {
+        Ok(self.0.to_text(Global)?.into_std())
+    }
+
     /// The fraction of a text of any length, as `parse` reads it. An outer error is for want of memory.
     ///
     /// ```
@@ -98,7 +109,7 @@ impl BigFraction {
     ///
     /// # Panics
     ///
-    /// For want of memory. A short text can ask for much: `1e1000000000` takes a quarter of 1 GB and very long.
+    /// For want of memory. A short text can ask for much: `1e10000000` takes minutes, and `1e1000000000` takes weeks and 0.42 GB for its digits.
     ///
     /// ```
     /// use num_rational::BigFraction;
@@ -155,16 +166,16 @@ impl BigFraction {
         Ok(Proved::from_text(Global, text)?.map(BigFraction))
     }
 
-    /// The fraction with exactly the value of the float, or `None` if it is infinite or no number.
+    /// The fraction with exactly the value of an `f64` or `f32`. `None` if it is infinite or no number, or for want of memory.
     ///
     /// ```
     /// use num_rational::BigFraction;
     ///
-    /// assert_eq!(BigFraction::from_float(-0.75), Some(BigFraction::new(-3, 4)));
+    /// assert_eq!(BigFraction::from_float(-0.75f32), Some(BigFraction::new(-3, 4)));
     /// assert_eq!(BigFraction::from_float(2f64.powi(200)), Some(BigFraction::from(2).pow(200)));
     /// assert_eq!(BigFraction::from_float(f64::NAN), None);
     /// ```
-    pub fn from_float(float: f64) -> Option<BigFraction> {
+    pub fn from_float<F: Into<f64>>(float: F) -> Option<BigFraction> {
         BigFraction::try_from_float(float).ok().flatten()
     }
 
@@ -173,8 +184,8 @@ impl BigFraction {
     /// ```
     /// assert_eq!(num_rational::BigFraction::try_from_float(f64::INFINITY), Ok(None));
     /// ```
-    pub fn try_from_float(float: f64) -> Result<Option<BigFraction>, AllocError> {
-        Ok(Proved::from_f64(Global, float)?.map(BigFraction))
+    pub fn try_from_float<F: Into<f64>>(float: F) -> Result<Option<BigFraction>, AllocError> {
+        Ok(Proved::from_f64(Global, float.into())?.map(BigFraction))
     }
 
     /// The nearest float, or an error for want of memory. If two are as near, it is the one whose last binary digit is 0.

@@ -107,7 +107,7 @@ impl FromPrimitive for BigFraction {
     }
 
     fn from_f32(float: f32) -> Option<BigFraction> {
-        BigFraction::from_float(float.into())
+        BigFraction::from_float(float)
     }
 
     fn from_f64(float: f64) -> Option<BigFraction> {

@@ -5,20 +5,20 @@ use super::reduced::Reduced;
 use core::fmt;
 use num_traits::{CheckedNeg, Signed, ToPrimitive};
 
-/// The error of `try_from` for a pair or a `Ratio`: there are no lowest terms that fit the type.
+/// The error of `try_from` for a pair or a `Ratio`: there are no lowest terms that fit the type, or the memory.
 ///
 /// ```
 /// use num_rational::{Reduced, ReducedError};
 ///
 /// let x: Result<Reduced<i8>, ReducedError> = (1, 0).try_into();
-/// assert_eq!(x.unwrap_err().to_string(), "the denominator is 0, or the lowest terms do not fit the type");
+/// assert_eq!(x.unwrap_err().to_string(), "the denominator is 0, or the lowest terms do not fit the type or the memory");
 /// ```
 #[derive(Clone, Copy, Debug, PartialEq, Eq)]
 pub struct ReducedError(pub(super) ());
 
 impl fmt::Display for ReducedError {
     fn fmt(&self, f: &mut fmt::Formatter<'_>) -> fmt::Result {
-        f.pad("the denominator is 0, or the lowest terms do not fit the type")
+        f.pad("the denominator is 0, or the lowest terms do not fit the type or the memory")
     }
 }
 

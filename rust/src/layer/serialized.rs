@@ -101,8 +101,12 @@ mod big {
         fn visit_seq<A: SeqAccess<'de>>(self, mut sequence: A) -> Result<Digits<Vec<u64>>, A::Error> {
             let mut digits = Vec::new(Global);
             while let Some(low) = sequence.next_element::<u32>()? {
-                let high = sequence.next_element::<u32>()?.unwrap_or(0);
-                digits.push(u64::from(high) << 32 | u64::from(low)).map_err(A::Error::custom)?;
+                let high = sequence.next_element::<u32>()?;
+                digits.push(u64::from(high.unwrap_or(0)) << 32 | u64::from(low)).map_err(A::Error::custom)?;
+                if high.is_none() {
+                    // No format has to say twice that a sequence is over.
+                    break;
+                }
             }
             Ok(Digits(digits))
         }

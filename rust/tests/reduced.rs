@@ -243,7 +243,7 @@ fn conversions_of_pairs_and_ratios() {
         assert_eq!(made.map(|made| made.ok().map(<(i8, i8)>::from)), [want; 2], "{pair:?}");
     }
     let error: Box<dyn std::error::Error> = Box::new(Reduced::try_from((1u8, 0)).unwrap_err());
-    assert_eq!(error.to_string(), "the denominator is 0, or the lowest terms do not fit the type");
+    assert_eq!(error.to_string(), "the denominator is 0, or the lowest terms do not fit the type or the memory");
     assert_eq!(Ratio::from(i8_of(-6, 4)).into_raw(), (-3, 2));
 }
 

@@ -21,6 +21,7 @@ impl fmt::Display for BigFraction {
     /// # Panics
     ///
     /// For want of memory. That is also said of 2^32 places or more.
+    #[track_caller]
     fn fmt(&self, f: &mut fmt::Formatter<'_>) -> fmt::Result {
         let text = taken(match f.precision() {
             None => self.0.to_text(Global),

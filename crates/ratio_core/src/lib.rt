@@ -36,7 +36,7 @@
 //! | `rounding` | Whole numbers near a fraction (floor, ceiling, truncation, rounded), its fractional part, and its whole part as a machine integer. |
 //! | `text` | Printing a fraction as a text, from the last byte to the first: the forms, their prefixes, an array for the text, and decimal digits. |
 //! | `text::numeral` | A number in base 2, 8 or 16, and its two's complement, written from the last digit to the first. |
-//! | `text::reading` | Reading a fraction from a text in any base, in lowest terms: in one pass over its bytes where it is short, or else side by side of its slash. |
+//! | `text::reading` | Reading a fraction from a text in any base, in lowest terms: in one pass over its bytes where it is short, or else each side of its slash alone. |
 //! | `parse_error` | Why a text is refused as a fraction: `ParseRatioError`, its kinds, and what it prints. |
 #![tactic(auto)]
 

@@ -9,7 +9,8 @@
 //! | Module | What is in it |
 //! |---|---|
 //! | `integer` | The traits of integer types: `Integer` has range, constants, arithmetic, divisors, halves of the width, conversions and laws, `SignedInteger` negatives, and `Primitive` a fixed number of bits; and `both_held`. |
-//! | `impls` | The traits `Integer`, `SignedInteger` and `Primitive` for the twelve primitive types, each with the same calls in the same order. |
+//! | `signed_types` | The traits `Integer`, `SignedInteger` and `Primitive` for the six signed types, each with the same calls in the same order. |
+//! | `unsigned_types` | The traits `Integer` and `Primitive` for the six unsigned types, with the calls in the order that the signed types have. |
 //! | `reducing` | The two numbers of a fraction, or of two fractions, divided by their gcd, with their signs as they are or as lowest terms. |
 //! | `binary_gcd` | The greatest common divisor of one or two pairs of magnitudes (`u64` or `u128`) by halving and subtracting, without a division, or only if it is above a bound. |
 //! | `widths` | Arithmetic in another width: sums and differences of fractions over at most 64 bits are computed and reduced in `i128` (the trait `Narrow`), and products, quotients and remainders of 128 bits in 64, if both numbers fit. |
@@ -17,10 +18,11 @@
 #![tactic(auto)]
 
 mod binary_gcd;
-mod impls;
 mod integer;
 pub mod laws;
 mod reducing;
+mod signed_types;
+mod unsigned_types;
 mod widths;
 
 pub use integer::{Integer, Primitive, SignedInteger, both_held};

@@ -4,7 +4,7 @@ use Rattle.std.proofs.Common.{arith, get_or, refl, subst, sym}
 use Rattle.std.proofs.lemmas.Int.{ints}
 use Rattle.ratio_integer.specs.Arithmetic.{quotient_of}
 use Rattle.ratio_integer.specs.Fraction.{ChecksLowest, IsHeldLowest}
-use Rattle.ratio_integer.specs.contracts.impls.I64Integer.TheImpl.{ghosts}
+use Rattle.ratio_integer.specs.contracts.signed_types.I64Integer.TheImpl.{ghosts}
 use Rattle.ratio_integer.proofs.Whole.{positive_nonzero}
 use Rattle.ratio_core.specs.Laws.{IsProduct, IsSum}
 use Rattle.ratio_core.proofs.NumbersExist.{fits_decided}

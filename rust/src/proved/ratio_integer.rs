@@ -7,10 +7,11 @@
 //! between the type's least and greatest number: over `i8`, from -128 to 127. A value in hand is in range,
 //! and no law can say that, since in a law an `i8` is any whole number.
 mod binary_gcd;
-mod impls;
 mod integer;
 pub mod laws;
 mod reducing;
+mod signed_types;
+mod unsigned_types;
 mod widths;
 
 pub use integer::{Integer, Primitive, SignedInteger, both_held};

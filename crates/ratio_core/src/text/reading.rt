@@ -1,5 +1,5 @@
 //! Reading a fraction from a text in any base, in lowest terms: in one pass over its bytes where it is short,
-//! or else side by side of its slash.
+//! or else each side of its slash alone.
 ghost use Rattle.std.specs.Prelude.{◌≡◌, ◌≤◌, ◌+◌, ◌^◌, ◌<◌, drop, get_or, IfSome, length, take};
 ghost use Rattle.std.specs.Char.{digit_value};
 ghost use Rattle.std.specs.Str.Parse.{AllDigits, digits_value, starts_with_minus};

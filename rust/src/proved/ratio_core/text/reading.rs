@@ -1,6 +1,6 @@
 // Erased from crates/ratio_core/src/text/reading.rt by rust/erase: not to be edited.
 //! Reading a fraction from a text in any base, in lowest terms: in one pass over its bytes where it is short,
-//! or else side by side of its slash.
+//! or else each side of its slash alone.
 
 use crate::proved::ratio_core::checked_new::checked_new;
 use crate::proved::ratio_core::parse_error::{ParseRatioError, RatioErrorKind};

@@ -1,7 +1,0 @@
--- Written by templates/write from templates/half_base_answers.antt.txt: change that file, and write this one anew.
-use Rattle.std.proofs.Common.{◌-◌, ◌^◌, lit≤}
-use Rattle.ratio_integer.proofs.HalfLemmas.{signed_number}
-use Rattle.ratio_integer.proofs.impls.I64Integer.half_base.Goals as goal
-
-pub returns : goal.returns
-returns c = signed_number (2 ^ (32 - 1)) (lit≤ tt)

@@ -1,6 +1,0 @@
-use Rattle.std.specs.Int.{w16}
-use Rattle.ratio_integer.proofs.MachineGcd.{unsigned_answer}
-use Rattle.ratio_integer.proofs.impls.U16Integer.gcd.Goals as goal
-
-pub overflow_cast-result : goal.overflow_cast-result
-overflow_cast-result c = unsigned_answer w16 _ c.ranges.self c.ranges.o c.requires c.binary_gcd.ensures

@@ -1,0 +1,9 @@
+use Rattle.std.specs.Int.{w32}
+use Rattle.ratio_integer.proofs.MachineGcd.{signed_answer}
+use Rattle.ratio_integer.proofs.signed_types.I32Integer.gcd.Goals as goal
+
+pub overflow_cast-result : goal.overflow_cast-result
+overflow_cast-result c = (signed_answer w32 _ c.ranges.self c.ranges.o c.requires c.unsigned_abs.ensures.value c.unsigned_abs-2.ensures.value c.binary_gcd.ensures).0
+
+pub returns : goal.returns
+returns c = (signed_answer w32 _ c.ranges.self c.ranges.o c.requires c.unsigned_abs.ensures.value c.unsigned_abs-2.ensures.value c.binary_gcd.ensures).1

@@ -1,13 +1,15 @@
 -- Results of `Reduced` from values: calls whose unreduced results have one value return one result.
-use Rattle.std.specs.Prelude.{◌≢◌, ◌*ℤ◌, ℤ, pos, Option, None, Some}
+use Rattle.std.specs.Prelude.{◌≢◌, ◌-◌, ◌^◌, ◌*ℤ◌, ℤ, pos, negsuc, Option, None, Some}
 use Rattle.ratio_integer.specs.Fraction.{SameValue}
 use Rattle.ratio_integer.specs.Range.{IsHeld}
+use Rattle.ratio_integer.specs.contracts.signed_types.I64Integer.TheImpl.{ghosts}
 use Rattle.ratio_integer.proofs.LowestTerms.{checks_lowest_moved, lowest_unique}
 use Rattle.ratio_integer.proofs.Whole.{mul_nonzero, positive_nonzero}
+use Rattle.ratio_core.proofs.NumbersExist.{fits_decided}
 use Rattle.num_rational.specs.declared.reduced.Reduced.{Reduced}
 use Rattle.num_rational.specs.Ratio.{ChecksRatio, denominator, numerator}
 use Rattle.num_rational.specs.Reduced.{ratio_in}
-use Rattle.fraction_laws.specs.ReducedLaws.{AreOneAnswer}
+use Rattle.fraction_laws.specs.ReducedLaws.{AnswersSum, AreOneAnswer}
 
 pub denominator_nonzero : {T : _} {i : _} {o : _} {e : _} {p : _} {h : _} → (x : Reduced T i o e p h) → denominator x.ratio ≢ pos 0
 denominator_nonzero x = positive_nonzero (denominator x.ratio) x.lowest.positive
@@ -42,3 +44,12 @@ pub one_value : {T : _} {i : _} {o : _} {e : _} {p : _} {h : _} → (n d : ℤ) 
     → IsHeld i.lo i.hi (numerator z.ratio) → IsHeld i.lo i.hi (denominator z.ratio) → ChecksRatio (n, d) (ratio_in answer) → AreOneAnswer answer (Some z)
 one_value n d z answer nonzero same numer denom told =
     same_answers n d answer (Some z) told (record { terms = record { fraction = nonzero; same = same; lowest = z.lowest }; numer_held = numer; denom_held = denom })
+
+-- if x + y over `i64` returns nothing but z, it returns z: a sum that fits is a fraction of the type
+pub sum_known : {o : _} {e : _} {p : _} {h : _} (x y z : Reduced ℤ ghosts o e p h) → ((r : Option (Reduced ℤ ghosts o e p h)) → AnswersSum x y r → AreOneAnswer r (Some z)) → AnswersSum x y (Some z)
+sum_known x y z law =
+    elim (fits_decided (negsuc (2 ^ 63 - 1)) (pos (2 ^ 63 - 1)) _ _) [
+      | no out ↦ absurd (law None out)
+      | yes fits ↦ let same = law (Some (record { ratio = record { numer = fits.numer; denom = fits.denom; nonzero = positive_nonzero _ fits.low.terms.lowest.positive }; lowest = fits.low.terms.lowest })) fits.low in
+          rw (← same.0, ← same.1) fits.low
+    ]

@@ -9,6 +9,7 @@ pub mod PaddingLemmas
 pub mod PrecisionLemmas
 pub mod QuotientLemmas
 pub mod RatioLemmas
+pub mod RunningSums
 pub mod SplitLemmas
 pub mod TotalLemmas
 pub mod ValueLemmas

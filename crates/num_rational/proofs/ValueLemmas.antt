@@ -1,5 +1,5 @@
 -- Fractions as pairs that are not reduced: equal values have equal results, and calls that undo one another.
-use Rattle.std.specs.Prelude.{◌≡◌, ◌≢◌, ◌+◌, ◌*◌, ◌≤ℤ◌, ◌<ℤ◌, ◌+ℤ◌, ◌-ℤ◌, ◌*ℤ◌, ℤ, pos, negsuc, neg_ℤ, unsigned_abs}
+use Rattle.std.specs.Prelude.{◌≡◌, ◌≢◌, ◌+◌, ◌*◌, ◌≤ℤ◌, ◌<ℤ◌, ◌+ℤ◌, ◌-ℤ◌, ◌*ℤ◌, ℤ, pos, negsuc, neg_ℤ, unsigned_abs, Option, None, Some}
 use Rattle.std.specs.Cmp.{int_ranks}
 use Rattle.std.specs.Ordering.{MatchOrdering, int_cmp}
 use Rattle.std.specs.declared.cmp.Ordering.{Ordering}
@@ -8,8 +8,9 @@ use Rattle.std.proofs.Common.{refl, sym, ap, arith, inl, inr, ◌∙◌}
 use Rattle.std.proofs.lemmas.Int.{ints, unsigned_abs-mul}
 use borrow.Author.Differences.{up, down, product_is, same_in}
 use lib.IntN.{*ℤ_comm}
-use Rattle.ratio_integer.specs.Fraction.{SameValue}
-use Rattle.ratio_integer.proofs.LowestTerms.{same_value_chained, same_value_products}
+use Rattle.ratio_integer.specs.Arithmetic.{product_of}
+use Rattle.ratio_integer.specs.Fraction.{ChecksLowest, Fits, IsHeldLowest, IsLowestTermsOf, SameValue}
+use Rattle.ratio_integer.proofs.LowestTerms.{checks_lowest_moved, same_value_chained, same_value_products}
 use Rattle.ratio_integer.proofs.Whole.{add-mul, mul_assoc, mul_cancel, mul_nonzero, mul_positive, mul-swap_inner, neg-mul, positive_nonzero, sub-mul, unsigned_abs-products}
 use Rattle.ratio_core.specs.Order.{HaveUnlikeSigns, cross_cmp}
 use Rattle.ratio_core.proofs.CrossOrder.{cross-along}
@@ -40,6 +41,22 @@ zero_times z = omega (arith, ints)
 pub numer_nonzero : (a b p q : ℤ) → q ≢ pos 0 → SameValue a b p q → a ≢ pos 0 → p ≢ pos 0
 numer_nonzero a b p q q_nonzero same nonzero none =
     nonzero (mul_cancel a (pos 0) q q_nonzero (same ∙ ap (λ (t : ℤ). t *ℤ b) none ∙ zero_times b ∙ sym (zero_times q)))
+
+-- a product with the lowest terms of a pair fits exactly if the product with the pair does, and has the same lowest terms
+module _ (lo hi : ℤ) (x t y : ℤ × ℤ) (low : IsLowestTermsOf x.0 x.1 t.0 t.1) (positive : pos 0 <ℤ y.1) where
+  moved : (r : Option (ℤ × ℤ)) → ChecksLowest (λ p. p.0) (λ p. p.1) lo hi (product_of t.0 t.1 y.0 y.1) r → ChecksLowest (λ p. p.0) (λ p. p.1) lo hi (product_of x.0 x.1 y.0 y.1) r
+  moved r =
+      let fraction = positive_nonzero y.1 positive in
+      checks_lowest_moved (λ p. p.0) (λ p. p.1) lo hi (t.0 *ℤ y.0) (t.1 *ℤ y.1) (x.0 *ℤ y.0) (x.1 *ℤ y.1) r
+      (mul_nonzero t.1 y.1 (positive_nonzero t.1 low.lowest.positive) fraction)
+      (mul_nonzero x.1 y.1 low.fraction fraction)
+      (same_value_products x.0 x.1 y.0 y.1 t.0 t.1 y.0 y.1 low.same refl)
+
+  pub product_held : (a b : ℤ) → IsHeldLowest lo hi (t.0 *ℤ y.0) (t.1 *ℤ y.1) a b → IsHeldLowest lo hi (x.0 *ℤ y.0) (x.1 *ℤ y.1) a b
+  product_held a b held = moved (Some (a, b)) held
+
+  pub product_out : ¬ (Fits lo hi (t.0 *ℤ y.0) (t.1 *ℤ y.1)) → ¬ (Fits lo hi (x.0 *ℤ y.0) (x.1 *ℤ y.1))
+  product_out out = moved None out
 
 -- ---- products of the same factors
 

@@ -6,6 +6,7 @@ pub mod ConvergentSteps
 pub mod Folds
 pub mod Hashing
 pub mod Headline
+pub mod In64Bits
 pub mod Json
 pub mod ManyProducts
 pub mod Negation

@@ -8,6 +8,7 @@ use Rattle.ratio_core.specs.Reading.{AnswersText, IsFractionText}
 use Rattle.ratio_approximation.specs.Simplest.{HoldsNoneBetween, IsSimplest}
 use Rattle.num_rational.specs.declared.ratio.Ratio.{Ratio}
 use Rattle.num_rational.specs.declared.reduced.Reduced.{Reduced}
+use Rattle.num_rational.specs.Operators.{numbers}
 use Rattle.num_rational.specs.Ratio.{denominator, from_integer, numerator}
 
 -- a `Reduced` as the `Ratio` of the same fields
@@ -18,6 +19,11 @@ ratio_of x = x.ratio
 abbrev pub ratio_in : {T : _} {i : _} {o : _} {e : _} {p : _} {h : _} → Option (Reduced T i o e p h) → Option (Ratio T i o e p h)
 ratio_in None = None
 ratio_in (Some x) = Some x.ratio
+
+-- the two numbers of a fraction in lowest terms (a `Reduced`)
+-- Example: 1/2: (1, 2)
+abbrev pub lowest_numbers : {T : _} {i : _} {o : _} {e : _} {p : _} {h : _} → Reduced T i o e p h → ℤ × ℤ
+lowest_numbers x = numbers (ratio_of x)
 
 -- the `Reduced` with c and `ONE` as its fields
 -- Example: 5: 5/1

@@ -20,11 +20,11 @@ use Rattle.ratio_integer.proofs.Whole.{add-mul, mul_assoc, mul_positive, mul-swa
 use Rattle.ratio_core.specs.Rounding.{IsFloor}
 use Rattle.ratio_core.proofs.ProductOrder.{more-times, times_le, whole_at_most}
 use Rattle.ratio_core.proofs.SumLemmas.{fits_by}
+use Rattle.num_rational.specs.In64Bits.{FitsIn64}
 use Rattle.num_rational.specs.Ratio.{ChecksRatio}
-use Rattle.num_rational.specs.Reduced.{ratio_in}
+use Rattle.num_rational.specs.Reduced.{lowest_numbers, ratio_in}
 use Rattle.num_rational.specs.declared.reduced.Reduced.{Reduced}
 use Rattle.ratio_uses.specs.Beats.{AllAreHeld, AllHaveHad, BeatIsHeld, ChecksBeatNumbers, ChecksCount, ChecksEarliest, CountIsHeld, CountsBeat, CountsEach, HasHad, IsBefore, IsEarliest, IsNextBeat, IsUpTo, StartsEach, next_time, period_of, periods}
-use Rattle.ratio_uses.specs.Held.{FitsIn64, lowest_numbers}
 use Rattle.ratio_uses.specs.declared.beats.Voice.{Voice}
 use Rattle.num_rational.proofs.SplitLemmas.{cancel_less}
 use Rattle.ratio_uses.proofs.OctaveLemmas.{less_times}

@@ -24,6 +24,7 @@ use Rattle.ratio_core.proofs.SumLemmas.{fits_by}
 use Rattle.ratio_decimal.specs.Products.{ChecksRoundedWhole}
 use Rattle.ratio_decimal.specs.declared.rounding_rule.Rounding.TheVariants.{HalfAway}
 use Rattle.num_rational.specs.declared.reduced.Reduced.{Reduced}
+use Rattle.num_rational.specs.In64Bits.{FitsIn64}
 use Rattle.num_rational.specs.Ratio.{ChecksRatio, denominator, numerator}
 use Rattle.num_rational.specs.Reduced.{ChecksCast, ratio_in}
 use Rattle.num_rational.specs.Split.{IsRoundedShare, NoShareIsBelowZero, RefusesShares, SharesMakeOne, SumsRefuse, total_of_shares}
@@ -32,7 +33,6 @@ use Rattle.num_rational.specs.declared.splitting.SplitRefusal.TheVariants.{Below
 use Rattle.num_rational.proofs.SplitLemmas.{IsSplitSoFar, first_mark, fits_moved, last_mark, next_same, rounded_moved, split_more, split_none, split_whole, times-one, total_next}
 use Rattle.num_rational.proofs.WeightLemmas.{mark_computed}
 use Rattle.ratio_uses.specs.Cents.{ChecksCount, ChecksNextPart, HeldIn128, IsCount, IsCountSplit, IsStep, PartFits}
-use Rattle.ratio_uses.specs.Held.{FitsIn64}
 use Rattle.ratio_uses.proofs.BeatLemmas.{number_held}
 
 -- ---- the count of an amount

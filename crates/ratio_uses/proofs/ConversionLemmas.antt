@@ -1,12 +1,10 @@
 -- One more rate of a chain.
-use Rattle.std.specs.Prelude.{◌≡◌, ◌<ℤ◌, ◌*ℤ◌, ◌+◌, ◌<◌, ℕ, ℤ, pos, List, [], ◌∷◌, ◌++◌, length, take, Option, Some, None}
-use Rattle.std.proofs.Common.{refl, sym, ap, ◌∙◌, add-one, get_or}
+use Rattle.std.specs.Prelude.{◌≡◌, ◌*ℤ◌, ◌+◌, ◌<◌, ℕ, ℤ, pos, List, [], ◌∷◌, ◌++◌, length, take}
+use Rattle.std.proofs.Common.{sym, ap, ◌∙◌, add-one, get_or}
 use Rattle.std.proofs.Math.Seq.{take-suc}
 use lib.IntN.{*ℤ_comm}
 use Rattle.ratio_integer.specs.Arithmetic.{product_of}
-use Rattle.ratio_integer.specs.Fraction.{ChecksLowest, Fits, IsHeldLowest, IsLowestTermsOf}
-use Rattle.ratio_integer.proofs.LowestTerms.{checks_lowest_moved, same_value_products}
-use Rattle.ratio_integer.proofs.Whole.{mul_assoc, mul_nonzero, positive_nonzero}
+use Rattle.ratio_integer.proofs.Whole.{mul_assoc}
 use Rattle.ratio_core.specs.ManyProducts.{product_by}
 use Rattle.ratio_uses.specs.Units.{converted}
 
@@ -30,19 +28,3 @@ module _ {A : Type 0} (view : A → ℤ × ℤ) (amount : ℤ × ℤ) where
       ap (λ n. converted view amount (take n xs)) (add-one k)
       ∙ ap (converted view amount) (take-suc xs k x below ∙ ap (λ y. take k xs ++ y ∷ []) (sym is))
       ∙ converted-more (take k xs) x
-
--- a product with the lowest terms of a pair fits exactly if the product with the pair does, and has the same lowest terms
-module _ (lo hi : ℤ) (x t y : ℤ × ℤ) (low : IsLowestTermsOf x.0 x.1 t.0 t.1) (positive : pos 0 <ℤ y.1) where
-  moved : (r : Option (ℤ × ℤ)) → ChecksLowest (λ p. p.0) (λ p. p.1) lo hi (product_of t.0 t.1 y.0 y.1) r → ChecksLowest (λ p. p.0) (λ p. p.1) lo hi (product_of x.0 x.1 y.0 y.1) r
-  moved r =
-      let fraction = positive_nonzero y.1 positive in
-      checks_lowest_moved (λ p. p.0) (λ p. p.1) lo hi (t.0 *ℤ y.0) (t.1 *ℤ y.1) (x.0 *ℤ y.0) (x.1 *ℤ y.1) r
-      (mul_nonzero t.1 y.1 (positive_nonzero t.1 low.lowest.positive) fraction)
-      (mul_nonzero x.1 y.1 low.fraction fraction)
-      (same_value_products x.0 x.1 y.0 y.1 t.0 t.1 y.0 y.1 low.same refl)
-
-  pub product_held : (a b : ℤ) → IsHeldLowest lo hi (t.0 *ℤ y.0) (t.1 *ℤ y.1) a b → IsHeldLowest lo hi (x.0 *ℤ y.0) (x.1 *ℤ y.1) a b
-  product_held a b held = moved (Some (a, b)) held
-
-  pub product_out : ¬ (Fits lo hi (t.0 *ℤ y.0) (t.1 *ℤ y.1)) → ¬ (Fits lo hi (x.0 *ℤ y.0) (x.1 *ℤ y.1))
-  product_out out = moved None out

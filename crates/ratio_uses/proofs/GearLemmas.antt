@@ -14,11 +14,11 @@ use Rattle.ratio_integer.proofs.CommonDivisors.{gcd_exists}
 use Rattle.ratio_integer.proofs.LowestTerms.{checks_lowest_moved, gcd_held_positive, held_lowest_quotients}
 use Rattle.ratio_integer.proofs.Whole.{mul_positive, positive_nonzero}
 use Rattle.ratio_core.proofs.SumLemmas.{fits_by}
+use Rattle.num_rational.specs.In64Bits.{FitsIn64}
 use Rattle.num_rational.specs.Operators.{ChecksExactDifference}
 use Rattle.num_rational.specs.Ratio.{denominator, numerator}
 use Rattle.num_rational.specs.declared.ratio.Ratio.{Ratio}
 use Rattle.num_rational.proofs.ValueLemmas.{same_value_differences}
-use Rattle.ratio_uses.specs.Held.{FitsIn64}
 use Rattle.ratio_uses.specs.Gears.{AreNearestWheels, IsBestFirst, IsQuotient, IsRoundedDown, IsWheel, PairComesFirst}
 
 pub gap_is : (n d p q : ℕ) → gap (pos n) (pos d) (pos p) (pos q) ≡ (n * q - p * d) + (p * d - n * q)

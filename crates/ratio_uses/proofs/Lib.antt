@@ -1,5 +1,4 @@
 pub mod BeatLemmas
-pub mod CallerLemmas
 pub mod CentLemmas
 pub mod ChainOrder
 pub mod ConversionLemmas

@@ -14,12 +14,12 @@ use Rattle.ratio_integer.proofs.LowestTerms.{lowest_exist, same_value_chained, s
 use Rattle.ratio_integer.proofs.Whole.{mul_assoc, mul_positive, positive_factor, positive_nonzero, unsigned_abs-products}
 use Rattle.ratio_core.proofs.LawLemmas.{product_by_left}
 use Rattle.ratio_core.proofs.ProductOrder.{more-times, times_le}
+use Rattle.num_rational.specs.In64Bits.{FitsIn64}
 use Rattle.num_rational.specs.Ratio.{ChecksRatio}
 use Rattle.num_rational.specs.Reduced.{ratio_in}
 use Rattle.num_rational.specs.declared.reduced.Reduced.{Reduced}
-use Rattle.ratio_uses.specs.Held.{FitsIn64}
+use Rattle.num_rational.proofs.ValueLemmas.{product_out}
 use Rattle.ratio_uses.specs.Units.{DoublingFails, IsDoubled, IsHalved, IsInOctave}
-use Rattle.ratio_uses.proofs.ConversionLemmas.{product_out}
 
 -- ---- fractions of one value compare with 1 alike
 

@@ -2,7 +2,8 @@
 use Rattle.std.specs.Prelude.{◌≡◌, ◌⊎◌, ◌-◌, ◌^◌, ◌<◌, ◌≤ℤ◌, ◌<ℤ◌, ◌+ℤ◌, ◌*ℤ◌, ℕ, ℤ, pos, negsuc, All, Any, Bool, List, length, slice_index_or, true, false, Option, Some, None}
 use Rattle.ratio_integer.specs.{Fraction.SameValue, Range.IsHeld}
 use Rattle.num_rational.specs.declared.reduced.Reduced.{Reduced}
-use Rattle.ratio_uses.specs.Held.{FitsIn64, HasValue, lowest_numbers}
+use Rattle.num_rational.specs.In64Bits.{FitsIn64, HasValue}
+use Rattle.num_rational.specs.Reduced.{lowest_numbers}
 use Rattle.ratio_uses.specs.declared.beats.Voice.{Voice}
 
 -- k times a period

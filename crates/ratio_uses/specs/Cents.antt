@@ -4,8 +4,9 @@ use Rattle.std.specs.Prelude.{◌≡◌, ◌+◌, ◌<◌, ◌-◌, ◌^◌, ◌
 use Rattle.ratio_integer.specs.Fraction.{IsHeldLowest, IsLowestTermsOf, SameValue}
 use Rattle.ratio_integer.specs.Range.{IsHeld}
 use Rattle.num_rational.specs.declared.reduced.Reduced.{Reduced}
+use Rattle.num_rational.specs.In64Bits.{FitsIn64}
+use Rattle.num_rational.specs.Reduced.{lowest_numbers}
 use Rattle.num_rational.specs.Split.{AreSharesFor, IsRoundedShare, IsSplitBy, RefusesShares, total_of_shares}
-use Rattle.ratio_uses.specs.Held.{FitsIn64, lowest_numbers}
 use Rattle.ratio_uses.specs.declared.ledger.cents.Refusal.{Refusal, TheVariants.NotMultiple, TheVariants.Shares}
 
 -- x has the value of count/units

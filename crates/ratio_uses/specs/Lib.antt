@@ -1,4 +1,3 @@
-pub mod Held
 pub mod Callers
 pub mod Accounts
 pub mod Gears

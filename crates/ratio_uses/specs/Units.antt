@@ -3,7 +3,8 @@ use Rattle.std.specs.Prelude.{◌≡◌, ◌⊎◌, ◌+◌, ◌<◌, ◌^◌, �
 use Rattle.ratio_integer.specs.Fraction.{IsLowestTermsOf, SameValue}
 use Rattle.ratio_core.specs.ManyProducts.{product_by}
 use Rattle.num_rational.specs.declared.reduced.Reduced.{Reduced}
-use Rattle.ratio_uses.specs.Held.{FitsIn64, HasValue, lowest_numbers}
+use Rattle.num_rational.specs.In64Bits.{FitsIn64, HasValue}
+use Rattle.num_rational.specs.Reduced.{lowest_numbers}
 
 -- an amount times all rates: the product of the numerators over the product of the denominators
 abbrev pub converted : {A : Type 0} → (A → ℤ × ℤ) → ℤ × ℤ → List A → ℤ × ℤ

@@ -3,8 +3,8 @@
 //! A voice beats once in each of its periods. Its k-th beat comes at exactly k periods.
 ghost use Rattle.std.specs.Prelude.{◌↔◌, All, IsTrue};
 ghost use Rattle.ratio_integer.specs.Fraction.{SameValue};
+ghost use Rattle.num_rational.specs.Reduced.{lowest_numbers};
 ghost use Rattle.ratio_uses.specs.Beats.{AllAreHeld, BeatIsHeld, ChecksBeat, ChecksBeatNumbers, ChecksCount, ChecksEarliest, ChecksMeeting, ChecksNextBeat, ChecksStart, CountIsHeld, CountsBeat, CountsEach, IsBefore, IsEarliest, IsUpTo, StartsEach, next_time, period_of};
-ghost use Rattle.ratio_uses.specs.Held.{lowest_numbers};
 
 use num_rational::Reduced64;
 use ratio_core::rounding::floor;

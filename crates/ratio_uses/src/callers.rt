@@ -5,9 +5,8 @@ ghost use Rattle.std.specs.declared.cmp.Ordering.TheVariants.{Greater};
 ghost use Rattle.std.specs.declared.ops.Bound.TheVariants.{Excluded, Unbounded};
 ghost use Rattle.num_rational.specs.Bounds.{ChecksSimplestWithinBounds};
 ghost use Rattle.num_rational.specs.Comparison.{order_of};
-ghost use Rattle.num_rational.specs.Reduced.{ChecksSimplestBetween, ratio_of};
-ghost use Rattle.ratio_uses.specs.Callers.{ChecksMean};
-ghost use Rattle.ratio_uses.specs.Held.{lowest_numbers};
+ghost use Rattle.num_rational.specs.In64Bits.{ChecksMean};
+ghost use Rattle.num_rational.specs.Reduced.{ChecksSimplestBetween, lowest_numbers, ratio_of};
 
 use num_rational::Reduced64;
 use std::ops::Bound;

@@ -2,9 +2,8 @@
 ghost use Rattle.std.specs.Prelude.{◌≡◌, ◌+◌, ◌*◌, ◌<◌, ◌≤◌, ◌^◌, pos};
 ghost use Rattle.ratio_approximation.specs.Nearest.{gap};
 ghost use Rattle.num_rational.specs.Operators.{ChecksExactDifference};
-ghost use Rattle.num_rational.specs.Reduced.{ratio_in};
+ghost use Rattle.num_rational.specs.Reduced.{lowest_numbers, ratio_in};
 ghost use Rattle.ratio_uses.specs.Gears.{AreNearestWheels, ChecksGears, IsBestFor, IsRoundedDown};
-ghost use Rattle.ratio_uses.specs.Held.{lowest_numbers};
 
 use crate::quotients::{divided, sum_of};
 use num_rational::Reduced64;

@@ -3,9 +3,8 @@
 ghost use Rattle.std.specs.Prelude.{◌≡◌};
 ghost use Rattle.num_rational.specs.Comparison.{order_of};
 ghost use Rattle.num_rational.specs.Folds.{ChecksExactSumOf};
-ghost use Rattle.num_rational.specs.Reduced.{ratio_in, ratio_of};
+ghost use Rattle.num_rational.specs.Reduced.{lowest_numbers, ratio_in, ratio_of};
 ghost use Rattle.ratio_uses.specs.Callers.{ReadsThird};
-ghost use Rattle.ratio_uses.specs.Held.{lowest_numbers};
 
 use num_rational::{ParseRatioError, Reduced64};
 use std::cmp::Ordering;

@@ -2,8 +2,8 @@
 mod products;
 
 ghost use Rattle.std.specs.Prelude.{◌≡◌, ◌+◌, ◌*◌, ◌<◌, ◌≤◌, pos};
+ghost use Rattle.num_rational.specs.Reduced.{lowest_numbers};
 ghost use Rattle.ratio_uses.specs.Gears.{IsWheel};
-ghost use Rattle.ratio_uses.specs.Held.{lowest_numbers};
 ghost use Rattle.ratio_uses.specs.Trains.{AreFirstOver, AreNearestPairs, AreNearestProducts, AreWheelsOf, ChecksTrain, FirstOfTwo, IsFirstRatio, IsMultipleOf, IsProductOfTwo, driven_teeth, driver_teeth};
 
 use crate::gears::{gap_of, off_from};

@@ -1,6 +1,6 @@
 //! Amounts converted by a chain of rates, and intervals brought into one octave by doublings and halvings.
 ghost use Rattle.std.specs.Prelude.{◌≤ℤ◌, ◌<ℤ◌, ◌*ℤ◌, pos};
-ghost use Rattle.ratio_uses.specs.Held.{lowest_numbers};
+ghost use Rattle.num_rational.specs.Reduced.{lowest_numbers};
 ghost use Rattle.ratio_uses.specs.Units.{ChecksConversion, ChecksDoubled, ChecksOctave, IsHalved, OrderIsFree};
 
 use num_rational::Reduced64;

@@ -6,10 +6,9 @@ ghost use Rattle.ratio_decimal.specs.Decimal.{IsDecimalOf};
 ghost use Rattle.ratio_decimal.specs.declared.rounding_rule.Rounding.TheVariants.{HalfEven};
 ghost use Rattle.ratio_integer.specs.Arithmetic.{sum_of};
 ghost use Rattle.num_rational.specs.Ratio.{ChecksRatio};
-ghost use Rattle.num_rational.specs.Reduced.{ratio_in};
+ghost use Rattle.num_rational.specs.Reduced.{lowest_numbers, ratio_in};
 ghost use Rattle.num_rational.specs.Split.{AreSharesFor, NoShareIsBelowZero, RefusesShares, SharesMakeOne, SumsRefuse};
 ghost use Rattle.ratio_uses.specs.Cents.{CanSplitTo, ChecksCount, ChecksNextPart, IsCountSplit, IsSplitTo, PartsFit, RefusesSplitTo};
-ghost use Rattle.ratio_uses.specs.Held.{lowest_numbers};
 
 use num_rational::{DecimalText, Reduced, Reduced64, Rounding, SplitRefusal};
 use ratio_decimal::rounded_product;

@@ -1,4 +1,4 @@
-use Rattle.ratio_uses.proofs.CallerLemmas.{sum_known}
+use Rattle.fraction_laws.proofs.ResultLemmas.{sum_known}
 use Rattle.ratio_uses.proofs.accounts.move_part.Goals as goal
 
 pub returns-clause-accounts : goal.returns-clause-accounts

@@ -2,7 +2,7 @@ use Rattle.std.proofs.Common.{◌∙◌}
 use Rattle.std.proofs.lemmas.Int.{to_z-of_z}
 use mir.Syntax.{w64}
 use mir.Val.{SFits}
-use Rattle.ratio_uses.specs.Held.{lowest_numbers}
+use Rattle.num_rational.specs.Reduced.{lowest_numbers}
 use Rattle.ratio_uses.proofs.BeatLemmas.{beat_is, count_out, time_out, fits_next}
 use Rattle.ratio_uses.proofs.beats.beat_after.Goals as goal
 

@@ -2,8 +2,8 @@ use Rattle.std.proofs.Common.{inl, inr, refl, rules}
 use Rattle.std.proofs.lemmas.Int.{to_z-of_z}
 use mir.Syntax.{w64}
 use mir.Val.{SFits}
+use Rattle.num_rational.specs.Reduced.{lowest_numbers}
 use Rattle.ratio_uses.specs.Beats.{next_time}
-use Rattle.ratio_uses.specs.Held.{lowest_numbers}
 use Rattle.ratio_uses.proofs.BeatLemmas.{beat_numbers_some, comes_after, comes_then}
 use Rattle.ratio_uses.proofs.beats.count_after.Goals as goal
 

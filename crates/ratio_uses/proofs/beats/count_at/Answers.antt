@@ -5,7 +5,7 @@ use Rattle.std.proofs.lemmas.Int.{ints, to_z-of_z}
 use mir.Syntax.{w64, w128}
 use mir.Val.{SFits}
 use Rattle.ratio_integer.proofs.Whole.{mul_positive}
-use Rattle.ratio_uses.specs.Held.{lowest_numbers}
+use Rattle.num_rational.specs.Reduced.{lowest_numbers}
 use Rattle.ratio_uses.proofs.BeatLemmas.{count_answers, floor_had, no_period, product_fits, wide_fits}
 use Rattle.ratio_uses.proofs.beats.count_at.Goals as goal
 

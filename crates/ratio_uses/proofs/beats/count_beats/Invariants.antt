@@ -1,4 +1,4 @@
-use Rattle.ratio_uses.specs.Held.{lowest_numbers}
+use Rattle.num_rational.specs.Reduced.{lowest_numbers}
 use Rattle.ratio_uses.proofs.BeatLemmas.{ChangedSoFar, IsCounted}
 use Rattle.ratio_uses.proofs.beats.count_beats.Given as goal
 

@@ -1,4 +1,4 @@
-use Rattle.ratio_uses.specs.Held.{lowest_numbers}
+use Rattle.num_rational.specs.Reduced.{lowest_numbers}
 use Rattle.ratio_uses.proofs.BeatLemmas.{count_told}
 use Rattle.ratio_uses.proofs.beats.has_count.Goals as goal
 

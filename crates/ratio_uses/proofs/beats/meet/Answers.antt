@@ -3,8 +3,8 @@ use Rattle.std.specs.Prelude.{◌<◌, ◌-◌, ◌^◌, ◌≡◌, ◌≤ℤ◌
 use Rattle.std.proofs.lemmas.Int.{ints}
 use mir.Syntax.{w64}
 use mir.Val.{SFits}
+use Rattle.num_rational.specs.Reduced.{lowest_numbers}
 use Rattle.ratio_uses.specs.Beats.{period_of}
-use Rattle.ratio_uses.specs.Held.{lowest_numbers}
 use Rattle.ratio_uses.specs.declared.beats.Voice.{Voice}
 use Rattle.ratio_uses.proofs.BeatLemmas.{number_held}
 use Rattle.ratio_uses.proofs.MeetLemmas.{MeetSoFar, meet_begins, meet_ends, meet_more, meet_out, never_meet, no_voices}

@@ -1,4 +1,4 @@
-use Rattle.ratio_uses.specs.Held.{lowest_numbers}
+use Rattle.num_rational.specs.Reduced.{lowest_numbers}
 use Rattle.ratio_uses.proofs.BeatLemmas.{is_next_beat}
 use Rattle.ratio_uses.proofs.beats.next_beat.Goals as goal
 

@@ -2,7 +2,7 @@ use Rattle.std.proofs.Common.{rules}
 use Rattle.std.proofs.lemmas.Int.{to_z-of_z}
 use mir.Syntax.{w64}
 use mir.Val.{SFits}
-use Rattle.ratio_uses.specs.Held.{lowest_numbers}
+use Rattle.num_rational.specs.Reduced.{lowest_numbers}
 use Rattle.ratio_uses.proofs.BeatLemmas.{fits_next, quick_beat}
 use Rattle.ratio_uses.proofs.beats.next_numbers.Goals as goal
 

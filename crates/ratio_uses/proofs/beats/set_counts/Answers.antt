@@ -3,8 +3,8 @@ use Rattle.std.specs.Prelude.{◌<◌, length}
 use Rattle.std.proofs.lemmas.Int.{to_z-of_z}
 use mir.Syntax.{w64}
 use mir.Val.{SFits}
+use Rattle.num_rational.specs.Reduced.{lowest_numbers}
 use Rattle.ratio_uses.specs.Beats.{CountIsHeld, period_of}
-use Rattle.ratio_uses.specs.Held.{lowest_numbers}
 use Rattle.ratio_uses.specs.declared.beats.Voice.{Voice}
 use Rattle.ratio_uses.proofs.BeatLemmas.{IsStarted, changed_begins, changed_more, count_some, starts_each}
 use Rattle.ratio_uses.proofs.beats.set_counts.Goals as goal

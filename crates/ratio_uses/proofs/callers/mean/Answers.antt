@@ -1,5 +1,5 @@
-use Rattle.ratio_uses.specs.Held.{lowest_numbers}
-use Rattle.ratio_uses.proofs.CallerLemmas.{sum_halved}
+use Rattle.num_rational.specs.Reduced.{lowest_numbers}
+use Rattle.num_rational.proofs.RunningSums.{sum_halved}
 use Rattle.ratio_uses.proofs.callers.mean.Goals as goal
 
 pub returns : goal.returns

@@ -1,4 +1,4 @@
-use Rattle.ratio_uses.proofs.CallerLemmas.{product_more, product_refused}
+use Rattle.num_rational.proofs.RunningSums.{product_more, product_refused}
 use Rattle.ratio_uses.proofs.conditions.chained.Goals as goal
 
 pub returns-in_err-product-clause-product : goal.returns-in_err-product-clause-product

@@ -1,4 +1,4 @@
-use Rattle.ratio_uses.proofs.CallerLemmas.{IsProductSoFar}
+use Rattle.num_rational.proofs.RunningSums.{IsProductSoFar}
 use Rattle.ratio_uses.proofs.conditions.chained.Given as goal
 
 abbrev pub invariant-loop-rate : goal.invariant-loop-rate

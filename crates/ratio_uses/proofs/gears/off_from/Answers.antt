@@ -3,7 +3,7 @@ use Rattle.std.specs.Prelude.{◌<◌, ◌<ℤ◌, pos}
 use Rattle.std.proofs.lemmas.Int.{ints, to_z-of_z}
 use mir.Syntax.{w64}
 use mir.Val.{SFits}
-use Rattle.ratio_uses.specs.Held.{lowest_numbers}
+use Rattle.num_rational.specs.Reduced.{lowest_numbers}
 use Rattle.ratio_uses.proofs.GearLemmas.{difference_moved, teeth_fit}
 use Rattle.ratio_uses.proofs.gears.off_from.Goals as goal
 

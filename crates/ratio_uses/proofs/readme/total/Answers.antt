@@ -1,4 +1,4 @@
-use Rattle.ratio_uses.proofs.CallerLemmas.{sum_more, sum_refused}
+use Rattle.num_rational.proofs.RunningSums.{sum_more, sum_refused}
 use Rattle.ratio_uses.proofs.readme.total.Goals as goal
 
 pub returns-in_err-sum : goal.returns-in_err-sum

@@ -1,4 +1,4 @@
-use Rattle.ratio_uses.proofs.CallerLemmas.{IsSumSoFar}
+use Rattle.num_rational.proofs.RunningSums.{IsSumSoFar}
 use Rattle.ratio_uses.proofs.readme.total.Given as goal
 
 abbrev pub invariant-loop-share : goal.invariant-loop-share

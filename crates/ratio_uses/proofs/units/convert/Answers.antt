@@ -3,9 +3,11 @@ use Rattle.std.specs.Prelude.{◌-◌, ◌^◌, pos, negsuc}
 use borrow.Author.Count.{below_more}
 use Rattle.ratio_integer.specs.Fraction.{IsLowestTermsOf}
 use Rattle.ratio_core.proofs.SumLemmas.{fits_by}
-use Rattle.ratio_uses.specs.Held.{FitsIn64, lowest_numbers}
+use Rattle.num_rational.specs.In64Bits.{FitsIn64}
+use Rattle.num_rational.specs.Reduced.{lowest_numbers}
+use Rattle.num_rational.proofs.ValueLemmas.{product_held, product_out}
 use Rattle.ratio_uses.specs.Units.{converted}
-use Rattle.ratio_uses.proofs.ConversionLemmas.{converted-next, product_held, product_out}
+use Rattle.ratio_uses.proofs.ConversionLemmas.{converted-next}
 use Rattle.ratio_uses.proofs.units.convert.Goals as goal
 
 pub returns-in_err-total : goal.returns-in_err-total

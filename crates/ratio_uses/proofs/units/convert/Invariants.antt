@@ -1,5 +1,6 @@
 use Rattle.std.proofs.Common.{ℕ, ◌+◌, ◌<◌, take}
-use Rattle.ratio_uses.specs.Held.{FitsIn64, HasValue, lowest_numbers}
+use Rattle.num_rational.specs.In64Bits.{FitsIn64, HasValue}
+use Rattle.num_rational.specs.Reduced.{lowest_numbers}
 use Rattle.ratio_uses.specs.Units.{converted}
 use Rattle.ratio_uses.proofs.units.convert.Given as goal
 

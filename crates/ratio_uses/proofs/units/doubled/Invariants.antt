@@ -1,6 +1,6 @@
 use Rattle.std.proofs.Common.{◌-◌, pos}
 use Rattle.std.specs.Prelude.{◌<ℤ◌, unsigned_abs}
-use Rattle.ratio_uses.specs.Held.{lowest_numbers}
+use Rattle.num_rational.specs.Reduced.{lowest_numbers}
 use Rattle.ratio_uses.specs.Units.{IsDoubled}
 use Rattle.ratio_uses.proofs.units.doubled.Given as goal
 

@@ -4,7 +4,7 @@ use Rattle.std.proofs.lemmas.Int.{ints}
 use mir.Syntax.{w64}
 use mir.Val.{SFits}
 use Rattle.ratio_integer.proofs.LowestTerms.{lowest_own}
-use Rattle.ratio_uses.specs.Held.{lowest_numbers}
+use Rattle.num_rational.specs.Reduced.{lowest_numbers}
 use Rattle.ratio_uses.proofs.OctaveLemmas.{answered, half_fits, halved_more, halving_nearer, no_halving}
 use Rattle.ratio_uses.proofs.units.halved.Goals as goal
 

@@ -10,9 +10,9 @@ use borrow.Author.Count.{below_more}
 use Rattle.ratio_integer.specs.Arithmetic.{sum_of}
 use Rattle.ratio_integer.specs.Fraction.{IsLowestTermsOf, SameValue}
 use Rattle.ratio_integer.proofs.Whole.{positive_nonzero}
+use Rattle.num_rational.specs.Reduced.{lowest_numbers}
 use Rattle.num_rational.specs.Split.{total_of_shares}
 use Rattle.num_rational.proofs.SplitLemmas.{one_told}
-use Rattle.ratio_uses.specs.Held.{lowest_numbers}
 use Rattle.ratio_uses.proofs.CentLemmas.{cents_more, cents_none, cents_whole, marked, marked_more, part_fits, step_answered, step_fits, wide_fits}
 use Rattle.ratio_uses.proofs.ledger.cents.check_parts.Goals as goal
 

@@ -1,7 +1,7 @@
 use Rattle.std.specs.Prelude.{◌+◌, ◌<◌, ℕ, ℤ, take}
+use Rattle.num_rational.specs.Reduced.{lowest_numbers}
 use Rattle.num_rational.specs.Split.{IsRoundedShare, total_of_shares}
 use Rattle.ratio_uses.specs.Cents.{PartFits}
-use Rattle.ratio_uses.specs.Held.{lowest_numbers}
 use Rattle.ratio_uses.proofs.CentLemmas.{IsMarkedSoFar}
 use Rattle.ratio_uses.proofs.ledger.cents.check_parts.Given as goal
 

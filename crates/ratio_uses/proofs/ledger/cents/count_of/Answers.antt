@@ -2,7 +2,7 @@ use Rattle.std.proofs.Common.{rules}
 use Rattle.std.proofs.lemmas.Int.{to_z-of_z}
 use mir.Syntax.{w128, w64}
 use mir.Val.{SFits}
-use Rattle.ratio_uses.specs.Held.{lowest_numbers}
+use Rattle.num_rational.specs.Reduced.{lowest_numbers}
 use Rattle.ratio_uses.proofs.BeatLemmas.{number_held}
 use Rattle.ratio_uses.proofs.CentLemmas.{count_told, multiple_told, wide_fits}
 use Rattle.ratio_uses.proofs.ledger.cents.count_of.Goals as goal

@@ -6,9 +6,9 @@ use Rattle.std.specs.Prelude.{◌-ℤ◌}
 use Rattle.std.proofs.Common.{subst, sym}
 use Rattle.ratio_integer.specs.Arithmetic.{sum_of}
 use Rattle.ratio_integer.proofs.Whole.{mul_positive}
+use Rattle.num_rational.specs.Reduced.{lowest_numbers}
 use Rattle.num_rational.specs.Split.{IsRoundedShare}
 use Rattle.ratio_uses.specs.Cents.{HeldIn128}
-use Rattle.ratio_uses.specs.Held.{lowest_numbers}
 use Rattle.ratio_uses.proofs.BeatLemmas.{number_held}
 use Rattle.ratio_uses.proofs.CentLemmas.{held_fits, mark_out, part_out, step_is, step_rounded, wide_fits, wide_part}
 use Rattle.ratio_uses.proofs.ledger.cents.next_part.Goals as goal

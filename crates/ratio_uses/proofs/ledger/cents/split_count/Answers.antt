@@ -4,10 +4,10 @@ use mir.Syntax.{w128, w64}
 use mir.Val.{SFits}
 use Rattle.std.specs.Prelude.{◌≡◌, length}
 use Rattle.std.proofs.Common.{arith}
+use Rattle.num_rational.specs.Reduced.{lowest_numbers}
 use Rattle.num_rational.specs.Split.{NoShareIsBelowZero, RefusesShares, SharesMakeOne, SumsRefuse}
 use Rattle.num_rational.specs.declared.splitting.SplitRefusal.{SplitRefusal}
 use Rattle.ratio_uses.specs.Cents.{PartsFit}
-use Rattle.ratio_uses.specs.Held.{lowest_numbers}
 use Rattle.ratio_uses.proofs.CentLemmas.{sums_refused, wide_fits}
 use Rattle.ratio_uses.proofs.ledger.cents.split_count.Goals as goal
 

@@ -1,25 +1,20 @@
--- Sums and products that a loop forms over a list, half the sum of two fractions, and a sum that a law knows.
+-- Sums and products that a loop forms over a list, and half the sum of two fractions.
 use Rattle.std.specs.Prelude.{◌≡◌, ◌-◌, ◌^◌, ◌+◌, ◌<◌, ◌<ℤ◌, ℕ, ℤ, pos, negsuc, true, List, length, take, Option, None, Some}
 use Rattle.std.proofs.Common.{arith, get_or, refl, subst, sym}
 use Rattle.std.proofs.lemmas.Int.{ints}
 use Rattle.ratio_integer.specs.Arithmetic.{quotient_of}
 use Rattle.ratio_integer.specs.Fraction.{ChecksLowest, IsHeldLowest}
-use Rattle.ratio_integer.specs.contracts.signed_types.I64Integer.TheImpl.{ghosts}
-use Rattle.ratio_integer.proofs.Whole.{positive_nonzero}
 use Rattle.ratio_core.specs.Laws.{IsProduct, IsSum}
-use Rattle.ratio_core.proofs.NumbersExist.{fits_decided}
 use Rattle.ratio_core.proofs.SumLemmas.{fits_by}
 use Rattle.num_rational.specs.Folds.{ArePositive, ChecksExactSumOf, ChecksProductOf}
+use Rattle.num_rational.specs.In64Bits.{ChecksMean, sum_of_two}
 use Rattle.num_rational.specs.Operators.{CanAdd, CanMultiply, ChecksExactSum, ChecksProduct, numbers}
 use Rattle.num_rational.specs.Ratio.{denominator, numerator}
-use Rattle.num_rational.specs.Reduced.{ratio_in, ratio_of}
+use Rattle.num_rational.specs.Reduced.{lowest_numbers, ratio_in, ratio_of}
 use Rattle.num_rational.specs.declared.ratio.Ratio.{Ratio}
 use Rattle.num_rational.specs.declared.reduced.Reduced.{Reduced}
 use Rattle.num_rational.proofs.FoldLemmas.{StepsSoFar, list_more, list_refused, one_product, one_sum}
-use Rattle.fraction_laws.specs.ReducedLaws.{AnswersSum, AreOneAnswer}
-use Rattle.ratio_uses.specs.Callers.{ChecksMean, sum_of_two}
-use Rattle.ratio_uses.specs.Held.{lowest_numbers}
-use Rattle.ratio_uses.proofs.ConversionLemmas.{product_held, product_out}
+use Rattle.num_rational.proofs.ValueLemmas.{product_held, product_out}
 
 -- ---- a sum
 
@@ -67,14 +62,3 @@ sum_halved x y s None sum out = λ both. product_out _ _ (sum_of_two x y) s (pos
 sum_halved x y s (Some half) sum held =
     let moved = product_held _ _ (sum_of_two x y) s (pos 1, pos 2) sum.terms two_up (lowest_numbers half).0 (lowest_numbers half).1 held in
     (fits_by _ _ _ _ s.0 s.1 sum, fits_by _ _ _ _ (lowest_numbers half).0 (lowest_numbers half).1 moved, moved.terms)
-
--- ---- a sum that a law knows
-
--- if x + y over `i64` returns nothing but z, it returns z: a sum that fits is a fraction of the type
-pub sum_known : {o : _} {e : _} {p : _} {h : _} (x y z : Reduced ℤ ghosts o e p h) → ((r : Option (Reduced ℤ ghosts o e p h)) → AnswersSum x y r → AreOneAnswer r (Some z)) → AnswersSum x y (Some z)
-sum_known x y z law =
-    elim (fits_decided (negsuc (2 ^ 63 - 1)) (pos (2 ^ 63 - 1)) _ _) [
-      | no out ↦ absurd (law None out)
-      | yes fits ↦ let same = law (Some (record { ratio = record { numer = fits.numer; denom = fits.denom; nonzero = positive_nonzero _ fits.low.terms.lowest.positive }; lowest = fits.low.terms.lowest })) fits.low in
-          rw (← same.0, ← same.1) fits.low
-    ]

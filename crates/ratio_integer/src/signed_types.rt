@@ -12,23 +12,37 @@ use num_traits::cast;
 
 impl Integer for i8 {
     ghost lo = { negsuc (2 ^ 7 - 1) };
+
     ghost hi = { pos (2 ^ 7 - 1) };
+
     ghost value = { λ x. x };
+
     ghost number_hash_input = { hash.i8 };
+
     ghost ZERO = { pos 0 };
+
     ghost ONE = { pos 1 };
+
     ghost MIN = { negsuc (2 ^ 7 - 1) };
+
     ghost MAX = { pos (2 ^ 7 - 1) };
 
     ghost EXACT_SUMS = { false };
+
     ghost EXACT_REMAINDERS = { true };
+
     ghost one_number = { refl };
 
     const ZERO: i8 = 0;
+
     const ONE: i8 = 1;
+
     const MIN: i8 = i8::MIN;
+
     const MAX: i8 = i8::MAX;
+
     const EXACT_SUMS: bool = false;
+
     const EXACT_REMAINDERS: bool = true;
 
     fn plus(self, o: i8) -> i8 {
@@ -132,23 +146,37 @@ impl Primitive for i8 {
 
 impl Integer for i16 {
     ghost lo = { negsuc (2 ^ 15 - 1) };
+
     ghost hi = { pos (2 ^ 15 - 1) };
+
     ghost value = { λ x. x };
+
     ghost number_hash_input = { hash.i16 };
+
     ghost ZERO = { pos 0 };
+
     ghost ONE = { pos 1 };
+
     ghost MIN = { negsuc (2 ^ 15 - 1) };
+
     ghost MAX = { pos (2 ^ 15 - 1) };
 
     ghost EXACT_SUMS = { false };
+
     ghost EXACT_REMAINDERS = { true };
+
     ghost one_number = { refl };
 
     const ZERO: i16 = 0;
+
     const ONE: i16 = 1;
+
     const MIN: i16 = i16::MIN;
+
     const MAX: i16 = i16::MAX;
+
     const EXACT_SUMS: bool = false;
+
     const EXACT_REMAINDERS: bool = true;
 
     fn plus(self, o: i16) -> i16 {
@@ -252,23 +280,37 @@ impl Primitive for i16 {
 
 impl Integer for i32 {
     ghost lo = { negsuc (2 ^ 31 - 1) };
+
     ghost hi = { pos (2 ^ 31 - 1) };
+
     ghost value = { λ x. x };
+
     ghost number_hash_input = { hash.i32 };
+
     ghost ZERO = { pos 0 };
+
     ghost ONE = { pos 1 };
+
     ghost MIN = { negsuc (2 ^ 31 - 1) };
+
     ghost MAX = { pos (2 ^ 31 - 1) };
 
     ghost EXACT_SUMS = { true };
+
     ghost EXACT_REMAINDERS = { true };
+
     ghost one_number = { refl };
 
     const ZERO: i32 = 0;
+
     const ONE: i32 = 1;
+
     const MIN: i32 = i32::MIN;
+
     const MAX: i32 = i32::MAX;
+
     const EXACT_SUMS: bool = true;
+
     const EXACT_REMAINDERS: bool = true;
 
     fn plus(self, o: i32) -> i32 {
@@ -372,23 +414,37 @@ impl Primitive for i32 {
 
 impl Integer for i64 {
     ghost lo = { negsuc (2 ^ 63 - 1) };
+
     ghost hi = { pos (2 ^ 63 - 1) };
+
     ghost value = { λ x. x };
+
     ghost number_hash_input = { hash.i64 };
+
     ghost ZERO = { pos 0 };
+
     ghost ONE = { pos 1 };
+
     ghost MIN = { negsuc (2 ^ 63 - 1) };
+
     ghost MAX = { pos (2 ^ 63 - 1) };
 
     ghost EXACT_SUMS = { true };
+
     ghost EXACT_REMAINDERS = { true };
+
     ghost one_number = { refl };
 
     const ZERO: i64 = 0;
+
     const ONE: i64 = 1;
+
     const MIN: i64 = i64::MIN;
+
     const MAX: i64 = i64::MAX;
+
     const EXACT_SUMS: bool = true;
+
     const EXACT_REMAINDERS: bool = true;
 
     fn plus(self, o: i64) -> i64 {
@@ -501,23 +557,37 @@ impl Primitive for i64 {
 
 impl Integer for i128 {
     ghost lo = { negsuc (2 ^ 127 - 1) };
+
     ghost hi = { pos (2 ^ 127 - 1) };
+
     ghost value = { λ x. x };
+
     ghost number_hash_input = { hash.i128 };
+
     ghost ZERO = { pos 0 };
+
     ghost ONE = { pos 1 };
+
     ghost MIN = { negsuc (2 ^ 127 - 1) };
+
     ghost MAX = { pos (2 ^ 127 - 1) };
 
     ghost EXACT_SUMS = { false };
+
     ghost EXACT_REMAINDERS = { true };
+
     ghost one_number = { refl };
 
     const ZERO: i128 = 0;
+
     const ONE: i128 = 1;
+
     const MIN: i128 = i128::MIN;
+
     const MAX: i128 = i128::MAX;
+
     const EXACT_SUMS: bool = false;
+
     const EXACT_REMAINDERS: bool = true;
 
     fn plus(self, o: i128) -> i128 {
@@ -630,23 +700,37 @@ impl Primitive for i128 {
 
 impl Integer for isize {
     ghost lo = { negsuc (2 ^ 63 - 1) };
+
     ghost hi = { pos (2 ^ 63 - 1) };
+
     ghost value = { λ x. x };
+
     ghost number_hash_input = { hash.isize };
+
     ghost ZERO = { pos 0 };
+
     ghost ONE = { pos 1 };
+
     ghost MIN = { negsuc (2 ^ 63 - 1) };
+
     ghost MAX = { pos (2 ^ 63 - 1) };
 
     ghost EXACT_SUMS = { false };
+
     ghost EXACT_REMAINDERS = { true };
+
     ghost one_number = { refl };
 
     const ZERO: isize = 0;
+
     const ONE: isize = 1;
+
     const MIN: isize = isize::MIN;
+
     const MAX: isize = isize::MAX;
+
     const EXACT_SUMS: bool = false;
+
     const EXACT_REMAINDERS: bool = true;
 
     fn plus(self, o: isize) -> isize {

@@ -12,23 +12,37 @@ use num_traits::cast;
 
 impl Integer for u8 {
     ghost lo = { pos 0 };
+
     ghost hi = { pos (2 ^ 8 - 1) };
+
     ghost value = { λ x. pos x };
+
     ghost number_hash_input = { λ z. hash.u8 (unsigned_abs z) };
+
     ghost ZERO = { 0 };
+
     ghost ONE = { 1 };
+
     ghost MIN = { 0 };
+
     ghost MAX = { 2 ^ 8 - 1 };
 
     ghost EXACT_SUMS = { false };
+
     ghost EXACT_REMAINDERS = { true };
+
     ghost one_number = { refl };
 
     const ZERO: u8 = 0;
+
     const ONE: u8 = 1;
+
     const MIN: u8 = u8::MIN;
+
     const MAX: u8 = u8::MAX;
+
     const EXACT_SUMS: bool = false;
+
     const EXACT_REMAINDERS: bool = true;
 
     fn plus(self, o: u8) -> u8 {
@@ -115,23 +129,37 @@ impl Primitive for u8 {
 
 impl Integer for u16 {
     ghost lo = { pos 0 };
+
     ghost hi = { pos (2 ^ 16 - 1) };
+
     ghost value = { λ x. pos x };
+
     ghost number_hash_input = { λ z. hash.u16 (unsigned_abs z) };
+
     ghost ZERO = { 0 };
+
     ghost ONE = { 1 };
+
     ghost MIN = { 0 };
+
     ghost MAX = { 2 ^ 16 - 1 };
 
     ghost EXACT_SUMS = { false };
+
     ghost EXACT_REMAINDERS = { true };
+
     ghost one_number = { refl };
 
     const ZERO: u16 = 0;
+
     const ONE: u16 = 1;
+
     const MIN: u16 = u16::MIN;
+
     const MAX: u16 = u16::MAX;
+
     const EXACT_SUMS: bool = false;
+
     const EXACT_REMAINDERS: bool = true;
 
     fn plus(self, o: u16) -> u16 {
@@ -218,23 +246,37 @@ impl Primitive for u16 {
 
 impl Integer for u32 {
     ghost lo = { pos 0 };
+
     ghost hi = { pos (2 ^ 32 - 1) };
+
     ghost value = { λ x. pos x };
+
     ghost number_hash_input = { λ z. hash.u32 (unsigned_abs z) };
+
     ghost ZERO = { 0 };
+
     ghost ONE = { 1 };
+
     ghost MIN = { 0 };
+
     ghost MAX = { 2 ^ 32 - 1 };
 
     ghost EXACT_SUMS = { false };
+
     ghost EXACT_REMAINDERS = { true };
+
     ghost one_number = { refl };
 
     const ZERO: u32 = 0;
+
     const ONE: u32 = 1;
+
     const MIN: u32 = u32::MIN;
+
     const MAX: u32 = u32::MAX;
+
     const EXACT_SUMS: bool = false;
+
     const EXACT_REMAINDERS: bool = true;
 
     fn plus(self, o: u32) -> u32 {
@@ -321,23 +363,37 @@ impl Primitive for u32 {
 
 impl Integer for u64 {
     ghost lo = { pos 0 };
+
     ghost hi = { pos (2 ^ 64 - 1) };
+
     ghost value = { λ x. pos x };
+
     ghost number_hash_input = { λ z. hash.u64 (unsigned_abs z) };
+
     ghost ZERO = { 0 };
+
     ghost ONE = { 1 };
+
     ghost MIN = { 0 };
+
     ghost MAX = { 2 ^ 64 - 1 };
 
     ghost EXACT_SUMS = { false };
+
     ghost EXACT_REMAINDERS = { true };
+
     ghost one_number = { refl };
 
     const ZERO: u64 = 0;
+
     const ONE: u64 = 1;
+
     const MIN: u64 = u64::MIN;
+
     const MAX: u64 = u64::MAX;
+
     const EXACT_SUMS: bool = false;
+
     const EXACT_REMAINDERS: bool = true;
 
     fn plus(self, o: u64) -> u64 {
@@ -432,23 +488,37 @@ impl Primitive for u64 {
 
 impl Integer for u128 {
     ghost lo = { pos 0 };
+
     ghost hi = { pos (2 ^ 128 - 1) };
+
     ghost value = { λ x. pos x };
+
     ghost number_hash_input = { λ z. hash.u128 (unsigned_abs z) };
+
     ghost ZERO = { 0 };
+
     ghost ONE = { 1 };
+
     ghost MIN = { 0 };
+
     ghost MAX = { 2 ^ 128 - 1 };
 
     ghost EXACT_SUMS = { false };
+
     ghost EXACT_REMAINDERS = { true };
+
     ghost one_number = { refl };
 
     const ZERO: u128 = 0;
+
     const ONE: u128 = 1;
+
     const MIN: u128 = u128::MIN;
+
     const MAX: u128 = u128::MAX;
+
     const EXACT_SUMS: bool = false;
+
     const EXACT_REMAINDERS: bool = true;
 
     fn plus(self, o: u128) -> u128 {
@@ -543,23 +613,37 @@ impl Primitive for u128 {
 
 impl Integer for usize {
     ghost lo = { pos 0 };
+
     ghost hi = { pos (2 ^ 64 - 1) };
+
     ghost value = { λ x. pos x };
+
     ghost number_hash_input = { λ z. hash.usize (unsigned_abs z) };
+
     ghost ZERO = { 0 };
+
     ghost ONE = { 1 };
+
     ghost MIN = { 0 };
+
     ghost MAX = { 2 ^ 64 - 1 };
 
     ghost EXACT_SUMS = { false };
+
     ghost EXACT_REMAINDERS = { true };
+
     ghost one_number = { refl };
 
     const ZERO: usize = 0;
+
     const ONE: usize = 1;
+
     const MIN: usize = usize::MIN;
+
     const MAX: usize = usize::MAX;
+
     const EXACT_SUMS: bool = false;
+
     const EXACT_REMAINDERS: bool = true;
 
     fn plus(self, o: usize) -> usize {

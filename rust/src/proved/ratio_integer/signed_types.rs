@@ -9,10 +9,15 @@ use num_traits::cast;
 
 impl Integer for i8 {
     const ZERO: i8 = 0;
+
     const ONE: i8 = 1;
+
     const MIN: i8 = i8::MIN;
+
     const MAX: i8 = i8::MAX;
+
     const EXACT_SUMS: bool = false;
+
     const EXACT_REMAINDERS: bool = true;
 
     #[inline]
@@ -125,10 +130,15 @@ impl Primitive for i8 {
 
 impl Integer for i16 {
     const ZERO: i16 = 0;
+
     const ONE: i16 = 1;
+
     const MIN: i16 = i16::MIN;
+
     const MAX: i16 = i16::MAX;
+
     const EXACT_SUMS: bool = false;
+
     const EXACT_REMAINDERS: bool = true;
 
     #[inline]
@@ -241,10 +251,15 @@ impl Primitive for i16 {
 
 impl Integer for i32 {
     const ZERO: i32 = 0;
+
     const ONE: i32 = 1;
+
     const MIN: i32 = i32::MIN;
+
     const MAX: i32 = i32::MAX;
+
     const EXACT_SUMS: bool = true;
+
     const EXACT_REMAINDERS: bool = true;
 
     #[inline]
@@ -357,10 +372,15 @@ impl Primitive for i32 {
 
 impl Integer for i64 {
     const ZERO: i64 = 0;
+
     const ONE: i64 = 1;
+
     const MIN: i64 = i64::MIN;
+
     const MAX: i64 = i64::MAX;
+
     const EXACT_SUMS: bool = true;
+
     const EXACT_REMAINDERS: bool = true;
 
     #[inline]
@@ -484,10 +504,15 @@ impl Primitive for i64 {
 
 impl Integer for i128 {
     const ZERO: i128 = 0;
+
     const ONE: i128 = 1;
+
     const MIN: i128 = i128::MIN;
+
     const MAX: i128 = i128::MAX;
+
     const EXACT_SUMS: bool = false;
+
     const EXACT_REMAINDERS: bool = true;
 
     #[inline]
@@ -611,10 +636,15 @@ impl Primitive for i128 {
 
 impl Integer for isize {
     const ZERO: isize = 0;
+
     const ONE: isize = 1;
+
     const MIN: isize = isize::MIN;
+
     const MAX: isize = isize::MAX;
+
     const EXACT_SUMS: bool = false;
+
     const EXACT_REMAINDERS: bool = true;
 
     #[inline]

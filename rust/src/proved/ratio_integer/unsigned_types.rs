@@ -9,10 +9,15 @@ use num_traits::cast;
 
 impl Integer for u8 {
     const ZERO: u8 = 0;
+
     const ONE: u8 = 1;
+
     const MIN: u8 = u8::MIN;
+
     const MAX: u8 = u8::MAX;
+
     const EXACT_SUMS: bool = false;
+
     const EXACT_REMAINDERS: bool = true;
 
     #[inline]
@@ -108,10 +113,15 @@ impl Primitive for u8 {
 
 impl Integer for u16 {
     const ZERO: u16 = 0;
+
     const ONE: u16 = 1;
+
     const MIN: u16 = u16::MIN;
+
     const MAX: u16 = u16::MAX;
+
     const EXACT_SUMS: bool = false;
+
     const EXACT_REMAINDERS: bool = true;
 
     #[inline]
@@ -207,10 +217,15 @@ impl Primitive for u16 {
 
 impl Integer for u32 {
     const ZERO: u32 = 0;
+
     const ONE: u32 = 1;
+
     const MIN: u32 = u32::MIN;
+
     const MAX: u32 = u32::MAX;
+
     const EXACT_SUMS: bool = false;
+
     const EXACT_REMAINDERS: bool = true;
 
     #[inline]
@@ -306,10 +321,15 @@ impl Primitive for u32 {
 
 impl Integer for u64 {
     const ZERO: u64 = 0;
+
     const ONE: u64 = 1;
+
     const MIN: u64 = u64::MIN;
+
     const MAX: u64 = u64::MAX;
+
     const EXACT_SUMS: bool = false;
+
     const EXACT_REMAINDERS: bool = true;
 
     #[inline]
@@ -415,10 +435,15 @@ impl Primitive for u64 {
 
 impl Integer for u128 {
     const ZERO: u128 = 0;
+
     const ONE: u128 = 1;
+
     const MIN: u128 = u128::MIN;
+
     const MAX: u128 = u128::MAX;
+
     const EXACT_SUMS: bool = false;
+
     const EXACT_REMAINDERS: bool = true;
 
     #[inline]
@@ -524,10 +549,15 @@ impl Primitive for u128 {
 
 impl Integer for usize {
     const ZERO: usize = 0;
+
     const ONE: usize = 1;
+
     const MIN: usize = usize::MIN;
+
     const MAX: usize = usize::MAX;
+
     const EXACT_SUMS: bool = false;
+
     const EXACT_REMAINDERS: bool = true;
 
     #[inline]

@@ -24,9 +24,13 @@ unsigned_room w32 = lit≤ tt
 unsigned_room w64 = lit≤ tt
 unsigned_room w128 = lit≤ tt
 
-signed_held : (w : Width) (x : ℤ) → SFits w x → IsHeld (negsuc (2 ^ hbits w - 1)) (pos (2 ^ hbits w - 1)) x
+pub signed_held : (w : Width) (x : ℤ) → SFits w x → IsHeld (negsuc (2 ^ hbits w - 1)) (pos (2 ^ hbits w - 1)) x
 signed_held w (pos n) fits = let small = fits.sfits in record { above = omega (arith, ints); below = omega (arith, ints) }
 signed_held w (negsuc n) fits = let small = fits.sfits in record { above = omega (arith, ints); below = omega (arith, ints) }
+
+pub held_fits : (w : Width) (x : ℤ) → IsHeld (negsuc (2 ^ hbits w - 1)) (pos (2 ^ hbits w - 1)) x → SFits w x
+held_fits w (pos n) held = let below = held.below in let room : 0 < 2 ^ hbits w = pow_pos (hbits w) in record { sfits = omega (arith, ints) }
+held_fits w (negsuc n) held = let above = held.above in let room : 0 < 2 ^ hbits w = pow_pos (hbits w) in record { sfits = omega (arith, ints) }
 
 unsigned_held : (w : Width) (a : ℕ) → Fits w a → IsHeld (pos 0) (pos (2 ^ bits w - 1)) (pos a)
 unsigned_held w a fits = let small = fits.fits in record { above = omega (arith, ints); below = omega (arith, ints) }

@@ -125,36 +125,11 @@ pub(crate) fn binary_gcds_wide(a: u128, b: u128, c: u128, d: u128) -> (u128, u12
     (binary_gcd_wide(a, b), binary_gcd_wide(c, d))
 }
 
-/// The greatest common divisor of magnitudes of at most 64 bits. It is `None` only if the divisor is at
-/// most `bound`.
-fn short_gcd_above(a: u64, b: u64, bound: u64) -> Option<u64>
-    ensures { MatchOption result ((g : ℕ) → IsGcd a b g → g ≤ bound) (λ g. IsGcd a b g) }
-{
-    if a == 0 {
-        return Some(b);
-    }
-    if b == 0 {
-        return Some(a);
-    }
-    let shift = a.trailing_zeros().min(b.trailing_zeros());
-    match odd_gcd_above(odd_part(a), odd_part(b), bound >> shift) {
-        None => None,
-        Some(divisor) => Some(divisor << shift),
-    }
-}
-
 /// The greatest common divisor of magnitudes of at most 128 bits. It is `None` only if the divisor is at
-/// most `bound`. Most numbers fit 64 bits, where each step takes less time.
+/// most `bound`.
 pub(crate) fn gcd_above(a: u128, b: u128, bound: u128) -> Option<u128>
     ensures { MatchOption result ((g : ℕ) → IsGcd a b g → g ≤ bound) (λ g. IsGcd a b g) }
 {
-    let most = u64::MAX as u128;
-    if a <= most && b <= most && bound <= most {
-        return match short_gcd_above(a as u64, b as u64, bound as u64) {
-            None => None,
-            Some(divisor) => Some(divisor as u128),
-        };
-    }
     if a == 0 {
         return Some(b);
     }

@@ -812,15 +812,15 @@ RATIO_CHECKED enum ratio_return ratio_key_i64(const ratio_i64 *asked, size_t ask
 RATIO_CHECKED enum ratio_return ratio_sortable_i64(const ratio_i64 *asked, size_t asked_len,
     ratio_sortable *answers, size_t answers_len);
 
-/* The hash of each fraction in Python: hash(Fraction(numer, denom)). For a whole number it is that of the int, and for a float's exact
- * value that of the float. It is the numerator of the lowest terms times the inverse of the denominator modulo 2^61 - 1, with the sign of
- * the fraction, and -2 in place of -1: 1/2 has 1152921504606846976, and -1/1 has -2. A denominator without an inverse gives 314159. */
+/* The hash of each fraction in a 64-bit Python: hash(Fraction(numer, denom)). A whole number has that of its int, and a float's exact value
+ * that of the float. It is the numerator of the lowest terms times the inverse of the denominator modulo 2^61 - 1, with the sign of the
+ * fraction, and -2 in place of -1: 1/2 has 1152921504606846976, and -1/1 has -2. A denominator without an inverse gives 314159. */
 RATIO_CHECKED enum ratio_return ratio_hash_mod61_i64(const ratio_i64 *asked, size_t asked_len,
     ratio_residue *answers, size_t answers_len);
 
 /* The sum of each pair, whose two fractions lie in two arrays, as for `ratio_add_i64`. So the answers of one call are operands of the next, without a copy.
  *
- * `left` points to the numerator of the first fraction, and `left_len` is how many numbers of 64 bits there are from it on. Each further numerator is `left_stride` numbers after the one before: 2 in an array of ratio_i64, and 3 in an array of ratio_answer_i64. With the stride 0 it is the same fraction each time. So `&answers->value.numer, 3 * n - 1, 3` stands for the values of n answers, and `&rate.numer, 2, 0` for one rate. The same holds of `right`.
+ * `left` points to the numerator of the first fraction, and `left_len` is how many numbers of 64 bits there are from it on. Each further numerator is `left_stride` numbers after the one before: 2 in an array of ratio_i64, and 3 in an array of ratio_answer_i64. With the stride 0 it is the same fraction each time. The numbers between the fractions are not read, so the code and the padding of an answer may be anything. So `&answers->value.numer, 3 * n - 1, 3` stands for the values of n answers, and `&rate.numer, 2, 0` for one rate. The same holds of `right`.
  *
  * If the numbers of a side have fewer fractions than there are answers, the call returns RATIO_BAD_LENGTH and writes nothing. An answer without a value has the denominator 0, so the next call refuses it: RATIO_DENOMINATOR_NOT_POSITIVE, or from a comparison RATIO_ZERO_DENOMINATOR.
  */

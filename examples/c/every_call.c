@@ -723,38 +723,6 @@ static void chained_calls(void) {
     expect(again[0].value.numer == 3 && again[1].value.denom == 5, "nothing is written here");
 }
 
-/* A null pointer with the length 0 is an array without items. */
-#define NO_ITEMS(call) expect(ratio_##call(NULL, 0, NULL, 0) == RATIO_DONE, "no items: " #call);
-#define NO_PAIRS(call) expect(ratio_##call(NULL, 0, 0, NULL, 0, 0, NULL, 0) == RATIO_DONE, "no items: " #call);
-#define NO_TEXTS(call) expect(ratio_##call(NULL, 0, NULL, 0, NULL, 0) == RATIO_DONE, "no items: " #call);
-#define NO_ITEMS_OF(s)                                                                                                   \
-    NO_ITEMS(compare_##s) NO_ITEMS(equal_##s) NO_ITEMS(hash_##s) NO_ITEMS(add_##s) NO_ITEMS(sub_##s) NO_ITEMS(mul_##s)   \
-    NO_ITEMS(div_##s) NO_ITEMS(rem_##s) NO_ITEMS(gcd_##s) NO_ITEMS(lcm_##s) NO_ITEMS(mul_round_##s)                      \
-    NO_ITEMS(mul_round_to_##s) NO_ITEMS(div_round_to_##s) NO_ITEMS(reduce_##s) NO_ITEMS(neg_##s) NO_ITEMS(abs_##s)       \
-    NO_ITEMS(floor_##s) NO_ITEMS(ceil_##s) NO_ITEMS(trunc_##s) NO_ITEMS(round_##s) NO_ITEMS(round_to_##s)                \
-    NO_ITEMS(pow_##s) NO_ITEMS(nearest_##s) NO_ITEMS(between_##s) NO_ITEMS(convergent_##s) NO_ITEMS(from_scaled_##s)     \
-    NO_ITEMS(from_f64_##s) NO_ITEMS(rationalize_##s) NO_ITEMS(to_f64_##s)                                                \
-    NO_TEXTS(read_##s) NO_TEXTS(read_decimal_##s) NO_TEXTS(read_text_##s) NO_TEXTS(print_##s) NO_TEXTS(print_decimal_##s)
-
-static void no_items(void) {
-    static const uint8_t before[sizeof(ratio_answer_i64)] = {7};
-    ratio_answer_i64 answer;
-    NO_ITEMS_OF(i32)
-    NO_ITEMS_OF(i64)
-    NO_ITEMS_OF(i128)
-    NO_ITEMS(hash_lowest_i32) NO_ITEMS(hash_lowest_i64) NO_ITEMS(hash_mod61_i64) NO_ITEMS(key_i64) NO_ITEMS(sortable_i64)
-    NO_ITEMS(cast_i32_to_i64) NO_ITEMS(cast_i32_to_i128) NO_ITEMS(cast_i64_to_i32)
-    NO_PAIRS(add_strided_i64) NO_PAIRS(sub_strided_i64) NO_PAIRS(mul_strided_i64) NO_PAIRS(div_strided_i64) NO_PAIRS(compare_strided_i64)
-    NO_ITEMS(cast_i64_to_i128) NO_ITEMS(cast_i128_to_i32) NO_ITEMS(cast_i128_to_i64)
-    memcpy(&answer, before, sizeof answer);
-    expect(ratio_add_i64(NULL, 0, &answer, 1) == RATIO_BAD_LENGTH && memcmp(&answer, before, sizeof answer) == 0, "no items and one answer");
-    expect(ratio_split_i64(100, NULL, 0, NULL, 0) == RATIO_NOT_ONE && ratio_split_by_weights_i64(100, NULL, 0, NULL, 0) == RATIO_ALL_ZERO, "no parts");
-    expect(ratio_quotient_of_i64(NULL, 0, NULL, 0, NULL, 0, &answer, 1) == RATIO_DONE, "a product of none");
-    expect(answer.code == RATIO_ANSWERED && answer.value.numer == 1 && answer.value.denom == 1, "a product of none");
-    expect(ratio_total_free_i64(NULL, 0) == 0, "no slots");
-    expect(ratio_total_sum_i64(NULL, 0, NULL, 0, &answer, 1) == RATIO_DONE && answer.code == RATIO_MORE_ROOM, "a total without room");
-}
-
 /* A text that is no fraction, and ones that need more bits than the type has. */
 static void refusals(void) {
     static const char text[] = "x2147483648/39223372036854775808/318446744073709551616/0170141183460469231731687303715884105728";
@@ -800,7 +768,6 @@ int main(void) {
     python_hashes();
     sortable_bytes();
     chained_calls();
-    no_items();
     refusals();
     return wrong;
 }

@@ -5,7 +5,7 @@
  */
 #include "glue.h"
 
-enum { BLOCK = 512, MOST_ARRAYS = 7 };
+enum { BLOCK = 32, MOST_ARRAYS = 7 };
 
 /* ---- arrays */
 

@@ -1,0 +1,11 @@
+//! Each law, called once.
+use ratio_expr::laws::{no_cut, one_cut, one_tree, one_tree_of_steps, one_tree_of_text};
+
+#[test]
+fn each_law_is_called() {
+    one_tree();
+    one_tree_of_steps();
+    one_cut();
+    no_cut();
+    one_tree_of_text();
+}

@@ -1,0 +1,35 @@
+//! Texts that are refused, with their columns.
+use crate::shown::refuses;
+use std::test::Fail;
+
+#[test]
+fn end_is_missing(rt: HostRuntime) -> Result<(), Fail> {
+    let alloc = rt.alloc();
+    refuses(&rt, alloc, "", 1)?;
+    refuses(&rt, alloc, "2 +", 4)?;
+    refuses(&rt, alloc, "2 + (3", 7)
+}
+
+#[test]
+fn token_is_wrong(rt: HostRuntime) -> Result<(), Fail> {
+    let alloc = rt.alloc();
+    refuses(&rt, alloc, "2 + )", 5)?;
+    refuses(&rt, alloc, "2)", 2)?;
+    refuses(&rt, alloc, "2 3", 3)?;
+    refuses(&rt, alloc, "2 3 $", 3)
+}
+
+#[test]
+fn no_token_begins(rt: HostRuntime) -> Result<(), Fail> {
+    let alloc = rt.alloc();
+    refuses(&rt, alloc, "1..2", 2)?;
+    refuses(&rt, alloc, "2 $ 3", 3)?;
+    refuses(&rt, alloc, "2 × $", 5)
+}
+
+#[test]
+fn comparisons_are_single(rt: HostRuntime) -> Result<(), Fail> {
+    let alloc = rt.alloc();
+    refuses(&rt, alloc, "1 < 2 < 3", 7)?;
+    refuses(&rt, alloc, "(1 < 2)", 4)
+}

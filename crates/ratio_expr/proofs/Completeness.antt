@@ -1,6 +1,6 @@
 -- The tokens of a proper tree are read, and its steps are written.
-use Rattle.std.proofs.Common.{◌≡◌, ◌<◌, ◌≤◌, ℕ, Bool, true, false, List, [], ◌∷◌, ◌++◌, Option, Some, None, refl, ap, sym, ◌∙◌, subst, arith, append_assoc, leb, le-leb}
-use Rattle.std.specs.Prelude.{nat_le, if◌then◌else◌}
+use Rattle.std.proofs.Common.{◌≡◌, ◌<◌, ◌≤◌, ℕ, true, false, List, [], ◌∷◌, ◌++◌, Option, Some, None, refl, ap, ◌∙◌, arith, append_assoc, le-leb}
+use Rattle.std.specs.Prelude.{if◌then◌else◌}
 use Rattle.std.proofs.lemmas.Bool.{lt-leb}
 use Rattle.ratio_expr.specs.declared.token.Span.{Span}
 use Rattle.ratio_expr.specs.declared.token.Operator.{Operator}
@@ -10,7 +10,7 @@ use Rattle.ratio_expr.specs.declared.step.Step.{Step}
 use Rattle.ratio_expr.specs.declared.step.Step.TheVariants as steps
 use Rattle.ratio_expr.specs.declared.parser.mark.Mark.{Mark}
 use Rattle.ratio_expr.specs.declared.parser.mark.Mark.TheVariants.{Negated, Half, Opened}
-use Rattle.ratio_expr.specs.Grammar.{Tree, Number, Name, Negative, Between, Group, spelling, Rank, Comparison, Sum, Product, Raising, rank, level, left_level, right_level, binds, IsProper, HasTree, postfix}
+use Rattle.ratio_expr.specs.Grammar.{Tree, Number, Name, Negative, Between, Group, spelling, Rank, Comparison, Sum, Product, Raising, rank, level, left_level, right_level, binds, IsProper, postfix}
 use Rattle.ratio_expr.specs.Reading.{Work, State, step_of, mark_level, mark_room, room, settle, with_operator, with_close, with_token, run, start, finish, if_settled}
 
 -- an operand comes next

@@ -1,9 +1,8 @@
 -- A text is cut into tokens in one way, and a text in which a place begins no token is cut in none.
-use Rattle.std.proofs.Common.{◌≡◌, ◌≢◌, ◌<◌, ◌≤◌, ◌+◌, ℕ, Bool, true, false, List, [], ◌∷◌, length, drop, Option, Some, None, refl, ap, sym, ◌∙◌, subst, arith, ⊎_elim}
+use Rattle.std.proofs.Common.{◌≡◌, ◌≢◌, ◌<◌, ◌≤◌, ◌+◌, ℕ, Bool, true, false, List, [], ◌∷◌, ◌++◌, length, drop, Some, None, refl, ap, sym, ◌∙◌, subst, arith, ⊎_elim}
 use Rattle.std.specs.Prelude.{slice_index, nat_le, if◌then◌else◌}
 use Rattle.std.proofs.lemmas.Bool.Decides.{leb_tells}
 use Rattle.std.proofs.lemmas.List.{get_or-drop, drop_all}
-use Rattle.ratio_expr.specs.declared.token.Span.{Span}
 use Rattle.ratio_expr.specs.declared.token.Kind.{Kind}
 use Rattle.ratio_expr.specs.declared.token.Token.{Token}
 use Rattle.ratio_expr.specs.Tokens.{first_token, number, name, symbol, digits, led, longest, IsBlank, IsTokenAt, IsCutInto, BeginsNone}
@@ -34,7 +33,7 @@ nothing_first = refl
 
 module _ (text : List ℕ) (t : Token) (h : IsTokenAt text t) where
   -- a token begins with no space, and before the end
-  begins : slice_index text t.span.start ≢ 32
+  pub begins : slice_index text t.span.start ≢ 32
   begins e =
       let whole : t.span.start ≡ t.span.start + 0 = omega arith in
       let here : slice_index (drop t.span.start text) 0 ≡ 32 = get_or-drop t.span.start text 0 0 ∙ ap (slice_index text) (sym whole) ∙ e in
@@ -42,7 +41,7 @@ module _ (text : List ℕ) (t : Token) (h : IsTokenAt text t) where
       let some = h.first in
       cc
 
-  inside : t.span.start < length text
+  pub inside : t.span.start < length text
   inside = ⊎_elim
       (λ p. let none : first_token (drop t.span.start text) ≡ None = ap first_token (drop_all t.span.start text p.1) ∙ nothing_first in let some = h.first in absurd (cc))
       (λ p. p.1)
@@ -64,7 +63,7 @@ made kind start end = record { kind = kind; span = record { start = start; end =
 same_made : (k l : Kind) (m n i j : ℕ) → k ≡ l → m ≡ n → i ≡ j → made k m i ≡ made l n j
 same_made k l m n i j p q r = ap (λ x. made x m i) p ∙ ap (λ x. made l x i) q ∙ ap (λ x. made l n x) r
 
-same_token : (text : List ℕ) (t u : Token) → t.span.start ≡ u.span.start → IsTokenAt text t → IsTokenAt text u → t ≡ u
+pub same_token : (text : List ℕ) (t u : Token) → t.span.start ≡ u.span.start → IsTokenAt text t → IsTokenAt text u → t ≡ u
 unfolding made
 same_token text t u e ht hu =
     let p : Kind × ℕ = (t.kind, ht.long) in
@@ -90,7 +89,7 @@ one_cut text from (t ∷ ts) (u ∷ us) h g =
     cc
 
 -- a token is where one begins
-no_token : (text : List ℕ) (at : ℕ) (t : Token) → IsTokenAt text t → first_token (drop at text) ≡ None → t.span.start ≡ at → ⊥
+pub no_token : (text : List ℕ) (at : ℕ) (t : Token) → IsTokenAt text t → first_token (drop at text) ≡ None → t.span.start ≡ at → ⊥
 no_token text at t h none e = let here = ap (λ n. first_token (drop n text)) e in let some = h.first in cc
 
 module _ (text : List ℕ) (at : ℕ) (s : BeginsNone text at) where
@@ -109,3 +108,36 @@ module _ (text : List ℕ) (at : ℕ) (s : BeginsNone text at) where
 -- a text in which a place begins no token isn't cut into tokens
 pub no_cut : (text : List ℕ) (at : ℕ) (ts : List Token) → IsCutInto text 0 at ts → BeginsNone text at → (us : List Token) → ¬ IsCutInto text 0 (length text) us
 no_cut text at ts cut s us g = no_cut_from text at s 0 ts us cut g
+
+-- a cut goes forward
+pub cut_ordered : (text : List ℕ) (from to : ℕ) (ts : List Token) → IsCutInto text from to ts → from ≤ to
+cut_ordered text from to [] h = h.ordered
+cut_ordered text from to (t ∷ ts) h = omega (arith, h.0.ordered, h.1.end, cut_ordered text t.span.end to ts h.2)
+
+-- tokens that go on behind others, by a token at this place
+pub record GoesOn (text : List ℕ) (at : ℕ) (ts us : List Token) : Type 0 where
+  pub token : Token
+  pub rest : List Token
+  pub split : us ≡ ts ++ (token ∷ rest)
+  pub here : IsTokenAt text token
+  pub place : token.span.start ≡ at
+
+module _ (text : List ℕ) (at to : ℕ) (later : at < to) (no_space : slice_index text at ≢ 32) where
+  -- a longer cut has the tokens of a shorter one, and then one at its end, if no space is there
+  pub goes_on : (from : ℕ) (ts us : List Token) → IsCutInto text from at ts → IsCutInto text from to us → GoesOn text at ts us
+  goes_on from [] [] h g = absurd (no_space (g.spaces at h.ordered later))
+  goes_on from [] (u ∷ us) h g =
+      let low : at ≤ u.span.start = not_before text from at u h g.1 g.0.ordered in
+      let here : u.span.start ≡ at = ⊎_elim (λ p. omega (arith, low, p.1)) (λ p. absurd (no_space (g.0.spaces at h.ordered p.1))) (leb_tells u.span.start at) in
+      record { token = u; rest = us; split = refl; here = g.1; place = here }
+  goes_on from (t ∷ ts) [] h g =
+      absurd (omega (arith, later, h.1.end, cut_ordered text t.span.end at ts h.2, not_before text from to t g h.1 h.0.ordered))
+  goes_on from (t ∷ ts) (u ∷ us) h g =
+      let e = first_same text from t u h.0 h.1 g.0 g.1 in
+      let r = goes_on u.span.end ts us (subst (λ (v : Token). IsCutInto text v.span.end at ts) e h.2) g.2 in
+      record { token = r.token; rest = r.rest; split = ap (λ l. u ∷ l) r.split ∙ ap (λ (v : Token). v ∷ (ts ++ (r.token ∷ r.rest))) (sym e); here = r.here; place = r.place }
+
+-- a text with tokens isn't empty
+pub some_text : (text : List ℕ) (to : ℕ) (ts : List Token) → IsCutInto text 0 to ts → 0 < length ts → 0 < length text
+some_text text to [] h some = absurd (omega arith)
+some_text text to (t ∷ ts) h some = omega (arith, inside text t h.1)

@@ -1,12 +1,10 @@
 -- The tree of a list of tokens is the only one, and what is refused has none.
-use Rattle.std.proofs.Common.{◌≡◌, ◌<◌, ◌≤◌, ◌+◌, ℕ, List, [], ◌∷◌, ◌++◌, take, length, Option, Some, None, refl, ap, sym, ◌∙◌, append_assoc}
-use Rattle.std.proofs.lemmas.List.{append-nil}
-use Rattle.ratio_expr.specs.declared.token.Span.{Span}
+use Rattle.std.proofs.Common.{◌≡◌, List, [], ◌∷◌, ◌++◌, Some, None, refl, ap, sym, ◌∙◌, append_assoc}
 use Rattle.ratio_expr.specs.declared.token.Token.{Token}
 use Rattle.ratio_expr.specs.declared.step.Step.{Step}
 use Rattle.ratio_expr.specs.declared.step.Step.TheVariants as steps
-use Rattle.ratio_expr.specs.Grammar.{Tree, Number, Name, Negative, Between, Group, spelling, HasTree, IsBegun, postfix}
-use Rattle.ratio_expr.specs.Reading.{State, run, start, finish}
+use Rattle.ratio_expr.specs.Grammar.{Tree, Number, Name, Negative, Between, Group, HasTree, IsBegun, postfix}
+use Rattle.ratio_expr.specs.Reading.{run, start, finish}
 use Rattle.ratio_expr.proofs.Completeness.{reads_all, run-append, run-none}
 
 -- the trees that the steps make, the last first, behind others

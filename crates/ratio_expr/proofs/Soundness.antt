@@ -1,6 +1,6 @@
 -- What was read is the front of an expression, and its steps are those of its tree.
-use Rattle.std.proofs.Common.{◌≡◌, ◌<◌, ◌≤◌, ◌+◌, ℕ, Bool, true, false, List, [], ◌∷◌, ◌++◌, take, Option, Some, None, refl, ap, sym, ◌∙◌, subst, arith, append_assoc, ⊎_elim, ◌⊎◌, inl, inr}
-use Rattle.std.specs.Prelude.{nat_le, IfSome, if◌then◌else◌}
+use Rattle.std.proofs.Common.{◌≡◌, ◌<◌, ◌≤◌, ℕ, Bool, true, false, List, [], ◌∷◌, ◌++◌, Option, Some, None, refl, ap, sym, ◌∙◌, subst, arith, append_assoc, ⊎_elim, ◌⊎◌, inl, inr}
+use Rattle.std.specs.Prelude.{IfSome, if◌then◌else◌}
 use Rattle.std.proofs.lemmas.Bool.Decides.{leb_tells}
 use Rattle.std.proofs.lemmas.List.{append-nil}
 use Rattle.ratio_expr.specs.declared.token.Span.{Span}
@@ -14,7 +14,7 @@ use Rattle.ratio_expr.specs.declared.step.Step.TheVariants as steps
 use Rattle.ratio_expr.specs.declared.parser.mark.Mark.{Mark}
 use Rattle.ratio_expr.specs.declared.parser.mark.Mark.TheVariants.{Negated, Half, Opened}
 use Rattle.ratio_expr.specs.Grammar.{Tree, Number, Name, Negative, Between, Group, spelling, Rank, Comparison, Sum, Product, Raising, rank, level, left_level, right_level, binds, IsProper, HasTree, IsBegun, postfix}
-use Rattle.ratio_expr.specs.Reading.{Work, State, step_of, mark_level, mark_room, room, settle, at_operand, behind_operand, next_state, with_operator, with_close, with_token, run, start, finish, if_settled}
+use Rattle.ratio_expr.specs.Reading.{Work, State, room, settle, at_operand, behind_operand, next_state, with_operator, with_close, with_token, run, start, finish, if_settled}
 use Rattle.ratio_expr.proofs.Completeness.{pops, stays}
 
 -- what was read before an operand: what waits, with the trees on the left

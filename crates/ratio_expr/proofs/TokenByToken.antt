@@ -1,5 +1,5 @@
 -- One token more is read, or refused, or none is left.
-use Rattle.std.proofs.Common.{◌≡◌, ◌<◌, ◌≤◌, ◌+◌, ℕ, zero, suc, Bool, true, false, List, [], ◌∷◌, ◌++◌, get_or, take, length, reverse, Option, Some, None, refl, ap, sym, ◌∙◌, subst, arith}
+use Rattle.std.proofs.Common.{◌≡◌, ◌<◌, ◌≤◌, ◌+◌, ℕ, zero, suc, Bool, false, List, [], ◌∷◌, get_or, take, length, reverse, Option, Some, None, refl, ap, sym, ◌∙◌, subst, arith}
 use Rattle.std.specs.Prelude.{◌==◌}
 use Rattle.std.proofs.lemmas.List.{take_more, length-reverse}
 use Rattle.std.proofs.Math.Seq.{take-length}
@@ -16,7 +16,7 @@ module _ (tokens : List Token) (at : ℕ) (x : State) (d : Token) (read : run (t
   pub refused_here : (marks : List Mark) (written : List Step) (r : Option Bool) → IsNextState (next_state x.wants (get_or tokens at d).kind (get_or tokens at d).span x.work) marks written r → r ≡ None → IsRefusedAt tokens at
   refused_here marks written r next none =
       let e : next_state x.wants (get_or tokens at d).kind (get_or tokens at d).span x.work ≡ None = subst (λ o. IsNextState (next_state x.wants (get_or tokens at d).kind (get_or tokens at d).span x.work) marks written o) none next in
-      record { before = x; read = read; within = λ h. next_read ∙ e; end = λ h. absurd (omega arith) }
+      record { bound = omega arith; before = x; read = read; within = λ h. next_read ∙ e; end = λ h. absurd (omega arith) }
 
   pub goes_on : (marks : List Mark) (written : List Step) (r : Option Bool) (wants : Bool) → IsNextState (next_state x.wants (get_or tokens at d).kind (get_or tokens at d).span x.work) marks written r → r ≡ Some wants → run (take (at + 1) tokens) start ≡ Some (state_of marks written wants)
   goes_on marks written r wants next some = next_read ∙ subst (λ o. IsNextState (next_state x.wants (get_or tokens at d).kind (get_or tokens at d).span x.work) marks written o) some next
@@ -26,7 +26,7 @@ pub refused_end : (tokens : List Token) (at : ℕ) (x : State) → run (take at 
 refused_end tokens at x read below above none =
     let here : at ≡ length tokens = omega arith in
     let all : run (take (length tokens) tokens) start ≡ Some x = subst (λ n. run (take n tokens) start ≡ Some x) here read in
-    record { before = x; read = all; within = λ h. absurd (omega arith); end = λ h. ap (λ l. finish (run l start)) (sym (take-length tokens)) ∙ ap finish all ∙ none }
+    record { bound = omega arith; before = x; read = all; within = λ h. absurd (omega arith); end = λ h. ap (λ l. finish (run l start)) (sym (take-length tokens)) ∙ ap finish all ∙ none }
 
 waits : (l : List Mark) (out : List Step) → 0 < length l → if_settled l out ≡ None
 waits [] out h = absurd (omega arith)

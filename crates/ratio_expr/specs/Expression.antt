@@ -1,5 +1,5 @@
 -- Which tree a text has, and where a text stops being an expression.
-use Rattle.std.specs.Prelude.{◌≡◌, ◌≢◌, ◌⊎◌, ◌<◌, ℕ, Bool, List, [], ◌∷◌, ◌++◌, length, drop, None, nat_lt, nat_le, ◌||◌, slice_index}
+use Rattle.std.specs.Prelude.{◌≡◌, ◌⊎◌, ℕ, Bool, List, [], ◌∷◌, ◌++◌, length, nat_lt, nat_le, ◌||◌}
 use Rattle.ratio_expr.specs.declared.token.Token.{Token}
 use Rattle.ratio_expr.specs.Grammar.{Tree, HasTree, IsBegun}
 use Rattle.ratio_expr.specs.Tokens.{IsCutInto, IsTokenAt, BeginsNone}

@@ -2,7 +2,7 @@
 use Rattle.std.specs.Prelude.{◌≡◌, ◌<◌, ◌≤◌, ◌+◌, ℕ, Bool, true, false, List, [], ◌∷◌, ◌++◌, length, take, reverse, Option, Some, None, nat_le, if◌then◌else◌}
 use Rattle.ratio_expr.specs.declared.token.Span.{Span}
 use Rattle.ratio_expr.specs.declared.token.Operator.{Operator}
-use Rattle.ratio_expr.specs.declared.token.Operator.TheVariants.{Less, AtMost, Equal, NotEqual, AtLeast, Greater, Add, Subtract, Multiply, Divide, Remainder, Power}
+use Rattle.ratio_expr.specs.declared.token.Operator.TheVariants.{Subtract}
 use Rattle.ratio_expr.specs.declared.token.Kind.{Kind}
 use Rattle.ratio_expr.specs.declared.token.Kind.TheVariants as kinds
 use Rattle.ratio_expr.specs.declared.token.Token.{Token}
@@ -132,6 +132,7 @@ IsNextState next marks written (Some wants) = next ≡ Some (state_of marks writ
 
 -- Inner: the tokens before this one are read, and this one is not. Or all are read, and the end is refused
 pub record IsRefusedAt (tokens : List Token) (at : ℕ) : Type 0 where
+  pub bound : at ≤ length tokens
   pub before : State
   pub read : run (take at tokens) start ≡ Some before
   pub within : at < length tokens → run (take (at + 1) tokens) start ≡ None
@@ -144,4 +145,4 @@ Gives tokens written = finish (run tokens start) ≡ Some written
 -- Inner: the tokens are refused at this place, or memory ran out
 abbrev pub Fails : List Token → ParseError → Type 0
 Fails tokens errors.Memory = Unit {0}
-Fails tokens (errors.Refused at) = IsRefusedAt tokens at
+Fails tokens (errors.RefusedToken at) = IsRefusedAt tokens at

@@ -1,20 +1,27 @@
 //! The tree of a text, or the first place that no expression has there, and the column of a place.
-ghost use Rattle.std.specs.Prelude.{◌≡◌, ◌+◌, ◌≤◌, ℕ, length, take, count_by, IfOk, IsErrOf};
+mod error;
+
+ghost use Rattle.std.specs.Prelude.{◌≡◌, ◌+◌, ◌<◌, ◌≤◌, ℕ, length, take, count_by, IfOk, IsErrOf};
 ghost use Rattle.ratio_expr.specs.Grammar.{Tree, postfix};
 ghost use Rattle.ratio_expr.specs.Expression.{IsExpression, IsRefusal, begins_character};
 
 use crate::lexer::tokens;
 use crate::parser::{ParseError, parse};
 use crate::step::Step;
+pub use error::TreeError;
 use std::alloc::Global;
 
 /// The tree of a text, in postfix order, or the first place that no expression has there. `2 + 3 * 4` is 2, 3, 4, `*`, `+`, and
 /// `2 + )` is refused at 4.
-pub fn tree_of(alloc: Global, text: &[u8]) -> Result<Vec<Step>, ParseError>
+pub fn tree_of(alloc: Global, text: &[u8]) -> Result<Vec<Step>, TreeError>
     // What is returned is the tree of the text.
     ensures found { IfOk result (λ steps. (t : Tree) × IsExpression text.now t × (steps.items ≡ postfix t)) }
     // Before the place the text begins an expression, and with what is there it does not.
-    ensures refused { (at : ℕ) → IsErrOf result (ParseError.Refused at) → IsRefusal text.now at }
+    ensures refused { (at : ℕ) → IsErrOf result (TreeError.Refused at) → IsRefusal text.now at }
+    // A caret has room there.
+    ensures within { (at : ℕ) → IsErrOf result (TreeError.Refused at) → at ≤ length text.now }
+    // An empty text takes no memory.
+    ensures memory { IsErrOf result TreeError.Memory → 0 < length text.now }
 {
     let cut = tokens(alloc, text)?;
     match parse(alloc, &cut.tokens) {
@@ -22,17 +29,17 @@ pub fn tree_of(alloc: Global, text: &[u8]) -> Result<Vec<Step>, ParseError>
             if cut.end == text.len() {
                 Ok(steps)
             } else {
-                Err(ParseError::Refused(cut.end))
+                Err(TreeError::Refused(cut.end))
             }
         }
-        Err(ParseError::Refused(at)) => {
+        Err(ParseError::RefusedToken(at)) => {
             if at < cut.tokens.len() {
-                Err(ParseError::Refused(cut.tokens[at].span.start))
+                Err(TreeError::Refused(cut.tokens[at].span.start))
             } else {
-                Err(ParseError::Refused(cut.end))
+                Err(TreeError::Refused(cut.end))
             }
         }
-        Err(ParseError::Memory) => Err(ParseError::Memory),
+        Err(ParseError::Memory) => Err(TreeError::Memory),
     }
 }
 

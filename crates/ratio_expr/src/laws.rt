@@ -1,8 +1,8 @@
-//! The laws that a text has at most one list of tokens, and that these have at most one tree.
+//! The laws that a text has at most one tree or is refused at one place, and not both.
 ghost use Rattle.std.specs.Prelude.{◌≡◌, ℕ, List, length};
 ghost use Rattle.ratio_expr.specs.declared.token.Token.{Token};
 ghost use Rattle.ratio_expr.specs.Grammar.{Tree, HasTree, postfix};
-ghost use Rattle.ratio_expr.specs.Expression.{IsExpression};
+ghost use Rattle.ratio_expr.specs.Expression.{IsExpression, IsRefusal};
 ghost use Rattle.ratio_expr.specs.Tokens.{IsCutInto, BeginsNone};
 
 /// A list of tokens has at most one tree.
@@ -29,4 +29,14 @@ pub fn no_cut()
 /// A text has at most one tree.
 pub fn one_tree_of_text()
     ensures { (text : List ℕ) (t u : Tree) → IsExpression text t → IsExpression text u → t ≡ u }
+{}
+
+/// A text is refused at one place at most.
+pub fn one_refusal()
+    ensures { (text : List ℕ) (at other : ℕ) → IsRefusal text at → IsRefusal text other → at ≡ other }
+{}
+
+/// A text that is refused has no tree.
+pub fn refused_has_no_tree()
+    ensures { (text : List ℕ) (at : ℕ) (t : Tree) → IsRefusal text at → ¬ IsExpression text t }
 {}

@@ -2,7 +2,7 @@
 mod number;
 mod symbol;
 
-ghost use Rattle.std.specs.Prelude.{◌≡◌, ◌<◌, ◌≤◌, length, IfOk, IfSome};
+ghost use Rattle.std.specs.Prelude.{◌≡◌, ◌<◌, ◌≤◌, length, IfOk, IsErr, IfSome};
 ghost use Rattle.ratio_expr.specs.Tokens.{IsCutTo, first_token};
 
 use crate::lexer::number::{name_length, number_length};
@@ -24,7 +24,10 @@ pub struct Cut {
 ///   one space (`1 1/2`). A percent sign that touches it belongs to it, so a remainder needs a space: `7 % 3`.
 /// - A name is a letter or an underscore, and letters, digits and underscores.
 pub fn tokens(alloc: Global, text: &[u8]) -> Result<Cut, AllocError>
-    ensures { IfOk result (λ cut. IsCutTo text.now cut.end cut.tokens.items) }
+    // The tokens are those of the text up to the place.
+    ensures cut { IfOk result (λ cut. IsCutTo text.now cut.end cut.tokens.items) }
+    // An empty text takes no memory.
+    ensures memory { IsErr result → 0 < length text.now }
 {
     let mut found = Vec::new(alloc);
     let mut at = 0;

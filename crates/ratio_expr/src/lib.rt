@@ -11,7 +11,8 @@
 //! | `parser::error` | Why a list of tokens has no tree. |
 //! | `parser::mark` | `Mark`: an operator or a parenthesis that waits for what is right of it. |
 //! | `expression` | The tree of a text, or the first place that no expression has there, and the column of a place. |
-//! | `laws` | The laws that a text has at most one list of tokens, and that these have at most one tree. |
+//! | `laws` | The laws that a text has at most one tree or is refused at one place, and not both. |
+//! | `expression::error` | Why a text has no tree. |
 #![tactic(auto)]
 
 pub mod expression;

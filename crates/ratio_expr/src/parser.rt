@@ -20,36 +20,41 @@ pub fn parse(alloc: Global, tokens: &[Token]) -> Result<Vec<Step>, ParseError>
     // What is returned is the tree of the tokens.
     ensures found { IfOk result (λ steps. (t : Tree) × HasTree tokens.now t × (steps.items ≡ postfix t)) }
     // The tokens before the refused one begin an expression.
-    ensures begun { (at : ℕ) → IsErrOf result (ParseError.Refused at) → IsBegun (take at tokens.now) }
+    ensures begun { (at : ℕ) → IsErrOf result (ParseError.RefusedToken at) → IsBegun (take at tokens.now) }
     // With the refused one they do not.
-    ensures stopped { (at : ℕ) → IsErrOf result (ParseError.Refused at) → at < length tokens.now
+    ensures stopped { (at : ℕ) → IsErrOf result (ParseError.RefusedToken at) → at < length tokens.now
         → ¬ IsBegun (take (at + 1) tokens.now) }
     // If all tokens are read, they have no tree.
-    ensures unfinished { (at : ℕ) → IsErrOf result (ParseError.Refused at) → length tokens.now ≤ at
+    ensures unfinished { (at : ℕ) → IsErrOf result (ParseError.RefusedToken at) → length tokens.now ≤ at
         → (t : Tree) → ¬ HasTree tokens.now t }
+    // It is one of the tokens, or their end.
+    ensures within { (at : ℕ) → IsErrOf result (ParseError.RefusedToken at) → at ≤ length tokens.now }
+    // No tokens take no memory.
+    ensures memory { IsErrOf result ParseError.Memory → 0 < length tokens.now }
 {
     read_all(alloc, tokens)
 }
 
 // The steps of all tokens.
 fn read_all(alloc: Global, tokens: &[Token]) -> Result<Vec<Step>, ParseError>
-    ensures { MatchResult result (λ steps. Gives tokens.now steps.items) (λ e. Fails tokens.now e) }
+    ensures read { MatchResult result (λ steps. Gives tokens.now steps.items) (λ e. Fails tokens.now e) }
+    ensures memory { IsErrOf result ParseError.Memory → 0 < length tokens.now }
 {
     let mut marks = Vec::new(alloc);
     let mut steps = Vec::new(alloc);
     let mut wants = true;
     for (at, token) in tokens.iter().enumerate() {
         match read_token(*token, &mut marks, &mut steps, wants)? {
-            None => return Err(ParseError::Refused(at)),
+            None => return Err(ParseError::RefusedToken(at)),
             Some(next) => wants = next,
         }
     }
     if wants {
-        return Err(ParseError::Refused(tokens.len()));
+        return Err(ParseError::RefusedToken(tokens.len()));
     }
     settle_marks(1, &mut marks, &mut steps)?;
     if !marks.is_empty() {
-        return Err(ParseError::Refused(tokens.len()));
+        return Err(ParseError::RefusedToken(tokens.len()));
     }
     Ok(steps)
 }

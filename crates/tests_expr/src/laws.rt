@@ -1,5 +1,8 @@
 //! Each law, called once.
-use ratio_expr::laws::{no_cut, one_cut, one_tree, one_tree_of_steps, one_tree_of_text};
+use ratio_expr::laws::{
+    no_cut, one_cut, one_refusal, one_tree, one_tree_of_steps, one_tree_of_text,
+    refused_has_no_tree,
+};
 
 #[test]
 fn each_law_is_called() {
@@ -8,4 +11,6 @@ fn each_law_is_called() {
     one_cut();
     no_cut();
     one_tree_of_text();
+    one_refusal();
+    refused_has_no_tree();
 }

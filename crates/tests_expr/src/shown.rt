@@ -1,6 +1,5 @@
 //! How tests show a tree, and a refusal.
-use ratio_expr::expression::{column, tree_of};
-use ratio_expr::parser::ParseError;
+use ratio_expr::expression::{TreeError, column, tree_of};
 use ratio_expr::step::Step;
 use std::alloc::Global;
 use std::process::Abort;
@@ -31,8 +30,7 @@ pub fn reads(rt: &impl Abort, alloc: Global, text: &str, steps: &str) -> Result<
 /// The text is refused at this column.
 pub fn refuses(rt: &impl Abort, alloc: Global, text: &str, place: usize) -> Result<(), Fail> {
     match tree_of(alloc, text.as_bytes()) {
-        Err(ParseError::Refused(at)) => {
-            assert!(rt; at <= text.len(), "a place in {text}");
+        Err(TreeError::Refused(at)) => {
             assert_eq!(rt; column(text.as_bytes(), at), place, "the column of {text}");
         }
         _ => assert!(rt; false, "{text} is read"),

@@ -11,7 +11,7 @@ pub enum ParseError {
     Memory,
     /// Counted from 0, the token where it stops: an expression begins with the tokens before this one, and none with this
     /// one too. Or the number of all tokens: they begin an expression, but its end is missing.
-    Refused(usize),
+    RefusedToken(usize),
 }
 
 impl From<AllocError> for ParseError {

@@ -1,4 +1,3 @@
-use Rattle.std.proofs.Common.{◌≡◌}
 use Rattle.ratio_expr.proofs.parser.read_behind.Goals as goal
 
 pub returns-in_ok-settle_marks-in-Operator : goal.returns-in_ok-settle_marks-in-Operator

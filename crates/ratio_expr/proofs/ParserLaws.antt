@@ -3,7 +3,7 @@ use Rattle.std.proofs.Common.{◌≡◌, List, [], ◌∷◌, ◌++◌, Some, No
 use Rattle.ratio_expr.specs.declared.token.Token.{Token}
 use Rattle.ratio_expr.specs.declared.step.Step.{Step}
 use Rattle.ratio_expr.specs.declared.step.Step.TheVariants as steps
-use Rattle.ratio_expr.specs.Grammar.{Tree, Number, Name, Negative, Between, Group, HasTree, IsBegun, postfix}
+use Rattle.ratio_expr.specs.Grammar.{Tree, Number, Name, Negative, Between, Group, Call, Listed, arguments, HasTree, IsBegun, postfix}
 use Rattle.ratio_expr.specs.Reading.{run, start, finish}
 use Rattle.ratio_expr.proofs.Completeness.{reads_all, run-append, run-none}
 
@@ -18,6 +18,11 @@ grown (steps.Apply o s) (b ∷ []) = []
 grown (steps.Apply o s) (b ∷ (a ∷ ts)) = Between o s a b ∷ ts
 grown (steps.Group s e) [] = []
 grown (steps.Group s e) (t ∷ ts) = Group s t e ∷ ts
+grown (steps.Call c) [] = []
+grown (steps.Call c) (t ∷ ts) = Call c.name c.opening t c.closing ∷ ts
+grown (steps.Comma s) [] = []
+grown (steps.Comma s) (b ∷ []) = []
+grown (steps.Comma s) (b ∷ (a ∷ ts)) = Listed a s b ∷ ts
 
 abbrev decode : List Step → List Tree → List Tree
 decode [] ts = ts
@@ -28,6 +33,13 @@ decode-postfix (Number s) xs ts = refl
 decode-postfix (Name s) xs ts = refl
 decode-postfix (Negative s t) xs ts = ap (λ l. decode l ts) (append_assoc (postfix t) (steps.Negate s ∷ []) xs) ∙ decode-postfix t (steps.Negate s ∷ xs) ts
 decode-postfix (Group s t e) xs ts = ap (λ l. decode l ts) (append_assoc (postfix t) (steps.Group s e ∷ []) xs) ∙ decode-postfix t (steps.Group s e ∷ xs) ts
+decode-postfix (Call n s t e) xs ts =
+    let x : Step = steps.Call (record { name = n; opening = s; closing = e; arguments = arguments t }) in
+    ap (λ l. decode l ts) (append_assoc (postfix t) (x ∷ []) xs) ∙ decode-postfix t (x ∷ xs) ts
+decode-postfix (Listed a s b) xs ts =
+    ap (λ l. decode l ts) (append_assoc (postfix a) (postfix b ++ steps.Comma s ∷ []) xs ∙ ap (λ l. postfix a ++ l) (append_assoc (postfix b) (steps.Comma s ∷ []) xs))
+    ∙ decode-postfix a (postfix b ++ (steps.Comma s ∷ xs)) ts
+    ∙ decode-postfix b (steps.Comma s ∷ xs) (a ∷ ts)
 decode-postfix (Between o s a b) xs ts =
     ap (λ l. decode l ts) (append_assoc (postfix a) (postfix b ++ steps.Apply o s ∷ []) xs ∙ ap (λ l. postfix a ++ l) (append_assoc (postfix b) (steps.Apply o s ∷ []) xs))
     ∙ decode-postfix a (postfix b ++ (steps.Apply o s ∷ xs)) ts
@@ -42,12 +54,12 @@ one_of_steps t u e =
 -- a list of tokens has at most one tree
 pub one_of_tokens : (tokens : List Token) (t u : Tree) → HasTree tokens t → HasTree tokens u → t ≡ u
 one_of_tokens tokens t u p q =
-    let same : Some (postfix t) ≡ Some (postfix u) = sym (reads_all t p.proper) ∙ ap (λ l. finish (run l start)) (p.spelled ∙ sym q.spelled) ∙ reads_all u q.proper in
+    let same : Some (postfix t) ≡ Some (postfix u) = sym (reads_all t p.proper p.single) ∙ ap (λ l. finish (run l start)) (p.spelled ∙ sym q.spelled) ∙ reads_all u q.proper q.single in
     one_of_steps t u (cc)
 
 -- what has a tree is read as a whole
 reads_tree : (tokens : List Token) (t : Tree) → HasTree tokens t → finish (run tokens start) ≡ Some (postfix t)
-reads_tree tokens t p = sym (ap (λ l. finish (run l start)) p.spelled) ∙ reads_all t p.proper
+reads_tree tokens t p = sym (ap (λ l. finish (run l start)) p.spelled) ∙ reads_all t p.proper p.single
 
 -- where reading stops, no expression goes on
 pub not_begun : (ts : List Token) → run ts start ≡ None → ¬ IsBegun ts

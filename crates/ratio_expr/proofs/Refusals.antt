@@ -39,7 +39,7 @@ pub refused_end_of : (text : List ℕ) (to : ℕ) (ts : List Token) → IsCutTo 
 refused_end_of text to ts cut same begun none = record { tokens = ts; cut = cut.cut; begun = begun; refuses = inr (inr (same, none)) }
 
 pub begun_whole : (ts : List Token) (t : Tree) → HasTree ts t → IsBegun ts
-begun_whole ts t h = record { more = []; tree = t; has = record { spelled = h.spelled ∙ sym (append-nil ts); proper = h.proper } }
+begun_whole ts t h = record { more = []; tree = t; has = record { spelled = h.spelled ∙ sym (append-nil ts); single = h.single; proper = h.proper } }
 
 pub begun_past : (ts : List Token) (i : ℕ) → length ts ≤ i → IsBegun (take i ts) → IsBegun ts
 begun_past ts i h b = subst IsBegun (take_all i ts h) b

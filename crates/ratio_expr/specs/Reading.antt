@@ -9,7 +9,7 @@ use Rattle.ratio_expr.specs.declared.token.Token.{Token}
 use Rattle.ratio_expr.specs.declared.step.Step.{Step}
 use Rattle.ratio_expr.specs.declared.step.Step.TheVariants as steps
 use Rattle.ratio_expr.specs.declared.parser.mark.Mark.{Mark}
-use Rattle.ratio_expr.specs.declared.parser.mark.Mark.TheVariants.{Negated, Half, Opened}
+use Rattle.ratio_expr.specs.declared.parser.mark.Mark.TheVariants.{Negated, Half, Opened, Called, Comma}
 use Rattle.ratio_expr.specs.declared.parser.error.ParseError.{ParseError}
 use Rattle.ratio_expr.specs.declared.parser.error.ParseError.TheVariants as errors
 use Rattle.ratio_expr.specs.Grammar.{rank, level, left_level, right_level}
@@ -29,18 +29,24 @@ abbrev pub step_of : Mark → Step
 step_of (Negated s) = steps.Negate s
 step_of (Half o s) = steps.Apply o s
 step_of (Opened s) = steps.Group s s
+step_of (Called n s k) = steps.Call (record { name = n; opening = s; closing = s; arguments = k })
+step_of (Comma s) = steps.Comma s
 
 -- Inner: how tightly the expression binds that a mark becomes; a parenthesis becomes none
 abbrev pub mark_level : Mark → ℕ
-mark_level (Negated s) = 4
+mark_level (Negated s) = 5
 mark_level (Half o s) = level (rank o)
 mark_level (Opened s) = 0
+mark_level (Called n s k) = 0
+mark_level (Comma s) = 2
 
 -- Inner: how tightly an expression must bind to stand right of a mark
 abbrev pub mark_room : Mark → ℕ
-mark_room (Negated s) = 4
+mark_room (Negated s) = 5
 mark_room (Half o s) = right_level (rank o)
-mark_room (Opened s) = 2
+mark_room (Opened s) = 3
+mark_room (Called n s k) = 2
+mark_room (Comma s) = 3
 
 -- Inner: the same for what waits
 abbrev pub room : List Mark → ℕ
@@ -62,6 +68,28 @@ with_close e [] out = None
 with_close e (Negated s ∷ ms) out = None
 with_close e (Half o s ∷ ms) out = None
 with_close e (Opened s ∷ ms) out = Some (record { work = record { marks = ms; written = out ++ steps.Group s e ∷ [] }; wants = false })
+with_close e (Called n s k ∷ ms) out = Some (record { work = record { marks = ms; written = out ++ steps.Call (record { name = n; opening = s; closing = e; arguments = k }) ∷ [] }; wants = false })
+with_close e (Comma s ∷ ms) out = None
+
+-- Inner: a comma is read in a call, when what is before it is settled
+abbrev pub with_comma : Span → List Mark → List Step → Option State
+with_comma e [] out = None
+with_comma e (Negated s ∷ ms) out = None
+with_comma e (Half o s ∷ ms) out = None
+with_comma e (Opened s ∷ ms) out = None
+with_comma e (Called n s k ∷ ms) out = Some (record { work = record { marks = Comma e ∷ (Called n s (k + 1) ∷ ms); written = out }; wants = true })
+with_comma e (Comma s ∷ ms) out = None
+
+-- Inner: an opening parenthesis is read behind a name; the steps are the last first
+abbrev pub with_call : Span → List Mark → List Step → Option State
+with_call s ms [] = None
+with_call s ms (steps.Number n ∷ out) = None
+with_call s ms (steps.Name n ∷ out) = Some (record { work = record { marks = Called n s 1 ∷ ms; written = reverse out }; wants = true })
+with_call s ms (steps.Negate n ∷ out) = None
+with_call s ms (steps.Apply o n ∷ out) = None
+with_call s ms (steps.Group n e ∷ out) = None
+with_call s ms (steps.Comma n ∷ out) = None
+with_call s ms (steps.Call n ∷ out) = None
 
 -- Inner: an operand is read
 abbrev pub with_operand : Step → Work → Option State
@@ -79,14 +107,16 @@ at_operand (kinds.Operator Subtract) s w = with_mark (Negated s) w
 at_operand (kinds.Operator o) s w = None
 at_operand kinds.Open s w = with_mark (Opened s) w
 at_operand kinds.Close s w = None
+at_operand kinds.Comma s w = None
 
 -- Inner: a token is read behind an operand
 abbrev pub behind_operand : Kind → Span → Work → Option State
 behind_operand kinds.Number s w = None
 behind_operand kinds.Name s w = None
 behind_operand (kinds.Operator o) s w = with_operator o s (settle (left_level (rank o)) w.marks w.written)
-behind_operand kinds.Open s w = None
+behind_operand kinds.Open s w = with_call s w.marks (reverse w.written)
 behind_operand kinds.Close s w = let v = settle 2 w.marks w.written in with_close s v.marks v.written
+behind_operand kinds.Comma s w = let v = settle 2 w.marks w.written in with_comma s v.marks v.written
 
 -- Inner: a token is read
 abbrev pub next_state : Bool → Kind → Span → Work → Option State

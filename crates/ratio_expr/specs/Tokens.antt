@@ -80,11 +80,11 @@ is_name_byte c = is_ascii_alphanumeric c || (c == 95)
 unfoldable pub name : List ℕ → ℕ
 name text = if starts_name (slice_index text 0) then length (take_while is_name_byte text) else 0
 
--- the comparison or the parenthesis of one byte
+-- the comparison, the parenthesis or the comma of one byte
 abbrev pub comparison_byte : ℕ → Option Kind
-comparison_byte c = if c == 60 then Some (kinds.Operator Less) else (if c == 61 then Some (kinds.Operator Equal) else (if c == 62 then Some (kinds.Operator Greater) else (if c == 40 then Some kinds.Open else (if c == 41 then Some kinds.Close else None))))
+comparison_byte c = if c == 60 then Some (kinds.Operator Less) else (if c == 61 then Some (kinds.Operator Equal) else (if c == 62 then Some (kinds.Operator Greater) else (if c == 40 then Some kinds.Open else (if c == 41 then Some kinds.Close else (if c == 44 then Some kinds.Comma else None)))))
 
--- the operator or the parenthesis of one byte: `+ - * / % ^ < = > ( )`
+-- the operator, the parenthesis or the comma of one byte: `+ - * / % ^ < = > ( ) ,`
 abbrev pub one_byte : ℕ → Option Kind
 one_byte c = if c == 43 then Some (kinds.Operator Add) else (if c == 45 then Some (kinds.Operator Subtract) else (if c == 42 then Some (kinds.Operator Multiply) else (if c == 47 then Some (kinds.Operator Divide) else (if c == 37 then Some (kinds.Operator Remainder) else (if c == 94 then Some (kinds.Operator Power) else comparison_byte c)))))
 
@@ -96,7 +96,7 @@ two_bytes b c = if (b == 60) && (c == 61) then Some (kinds.Operator AtMost) else
 abbrev pub three_bytes : ℕ → ℕ → ℕ → Option Kind
 three_bytes a b c = if (a == 226) && ((b == 136) && (c == 146)) then Some (kinds.Operator Subtract) else None
 
--- the operator or the parenthesis of the first byte of a text
+-- the operator, the parenthesis or the comma of the first byte of a text
 -- Example: `<=3`: `<`
 abbrev pub first_byte : List ℕ → Option Kind
 first_byte text = if nat_le 1 (length text) then one_byte (slice_index text 0) else None
@@ -118,12 +118,12 @@ longest None (Some k) one = Some (k, 2)
 longest None None (Some k) = Some (k, 1)
 longest None None None = None
 
--- the operator or the parenthesis that a text begins with, and its length
+-- the operator, the parenthesis or the comma that a text begins with, and its length
 -- Example: `<=3`: `<=`, 2
 unfoldable pub symbol : List ℕ → Option (Kind × ℕ)
 symbol text = longest (first_three text) (first_two text) (first_byte text)
 
--- what a text begins with, and its length: the longest number, the longest name, or the longest operator or parenthesis
+-- what a text begins with, and its length: the longest number, the longest name, or the longest operator, parenthesis or comma
 -- Example: `12.5%*80`: a number, 5
 abbrev pub first_token : List ℕ → Option (Kind × ℕ)
 first_token text = if nat_lt 0 (number text) then Some (kinds.Number, number text) else (if nat_lt 0 (name text) then Some (kinds.Name, name text) else symbol text)

@@ -2,10 +2,10 @@
 //!
 //! | Module | What is in it |
 //! |---|---|
-//! | `token` | `Token`: a number, a name, an operator or a parenthesis, and its place in the text. |
+//! | `token` | `Token`: a number, a name, an operator, a parenthesis or a comma, and its place in the text. |
 //! | `lexer` | The tokens of a text, or the first place where none begins. |
 //! | `lexer::number` | How long the number or the name is that a text begins with. |
-//! | `lexer::symbol` | The operator or the parenthesis that a text begins with. |
+//! | `lexer::symbol` | The operator, the parenthesis or the comma that a text begins with. |
 //! | `step` | `Step`: one step of a tree in postfix order, as a parser returns it. |
 //! | `parser` | The tree of a list of tokens, or the first token that no expression has there. |
 //! | `parser::error` | Why a list of tokens has no tree. |

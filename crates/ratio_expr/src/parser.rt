@@ -5,12 +5,12 @@ mod mark;
 ghost use Rattle.std.specs.Prelude.{◌≡◌, ◌<◌, ◌≤◌, ◌+◌, ◌++◌, ℕ, [], ◌∷◌, length, take, reverse, Some, None, IfOk, OnOk, IfErr, MatchResult, IsErrOf, Option, List, true, false};
 ghost use Rattle.ratio_expr.specs.declared.step.Step.{Step};
 ghost use Rattle.ratio_expr.specs.Grammar.{Tree, HasTree, IsBegun, left_level, rank, postfix};
-ghost use Rattle.ratio_expr.specs.Reading.{Gives, Fails, IsNextState, settle, next_state, at_operand, behind_operand, with_operator, with_close, work_of, state_of};
+ghost use Rattle.ratio_expr.specs.Reading.{Gives, Fails, IsNextState, settle, next_state, at_operand, behind_operand, with_operator, with_close, with_call, with_comma, work_of, state_of};
 
 use crate::parser::mark::{
     Mark, left_level_of, level_of, level_of_mark, room_of_mark, step_of_mark,
 };
-use crate::step::Step;
+use crate::step::{Call, Step};
 use crate::token::{Kind, Operator, Span, Token};
 pub use error::ParseError;
 use std::alloc::{AllocError, Global};
@@ -90,7 +90,7 @@ fn read_operand(
         Kind::Name => put_operand(Step::Name(token.span), steps),
         Kind::Operator(Operator::Subtract) => put_mark(Mark::Negated(token.span), marks),
         Kind::Open => put_mark(Mark::Opened(token.span), marks),
-        Kind::Operator(_) | Kind::Close => Ok(None),
+        Kind::Operator(_) | Kind::Close | Kind::Comma => Ok(None),
     }
 }
 
@@ -112,7 +112,12 @@ fn read_behind(
             settle_marks(2, marks, steps)?;
             read_close(token.span, marks, steps)
         }
-        Kind::Number | Kind::Name | Kind::Open => Ok(None),
+        Kind::Comma => {
+            settle_marks(2, marks, steps)?;
+            read_comma(token.span, marks)
+        }
+        Kind::Open => read_call(token.span, marks, steps),
+        Kind::Number | Kind::Name => Ok(None),
     }
 }
 
@@ -151,7 +156,37 @@ fn read_operator(
     }
 }
 
-// Reads a closing parenthesis, if the last mark is an opening one.
+// Reads an opening parenthesis behind an operand, if the operand is a name.
+fn read_call(
+    span: Span,
+    marks: &mut Vec<Mark>,
+    steps: &mut Vec<Step>,
+) -> Result<Option<bool>, AllocError>
+    ensures { IfOk result (λ next. IsNextState (with_call span (reverse marks.old.items) (reverse steps.old.items)) marks.new.items
+        steps.new.items next) }
+{
+    match steps.pop() {
+        Some(Step::Name(name)) => put_mark(Mark::Called(name, span, 1), marks),
+        _ => Ok(None),
+    }
+}
+
+// Reads a comma, if what waits last is a call. No memory has as many tokens as could not be counted.
+fn read_comma(span: Span, marks: &mut Vec<Mark>) -> Result<Option<bool>, AllocError>
+    ensures { (steps : List Step) → IfOk result (λ next. IsNextState (with_comma span (reverse marks.old.items) steps)
+        marks.new.items steps next) }
+{
+    match marks.pop() {
+        Some(Mark::Called(name, open, count)) => {
+            let more = count.checked_add(1).ok_or(AllocError)?;
+            marks.push(Mark::Called(name, open, more))?;
+            put_mark(Mark::Comma(span), marks)
+        }
+        _ => Ok(None),
+    }
+}
+
+// Reads a closing parenthesis, if what waits last is an opening one or a call.
 fn read_close(
     span: Span,
     marks: &mut Vec<Mark>,
@@ -162,6 +197,15 @@ fn read_close(
 {
     match marks.pop() {
         Some(Mark::Opened(open)) => put_operand(Step::Group(open, span), steps),
+        Some(Mark::Called(name, open, arguments)) => {
+            let call = Call {
+                name,
+                opening: open,
+                closing: span,
+                arguments,
+            };
+            put_operand(Step::Call(call), steps)
+        }
         _ => Ok(None),
     }
 }

@@ -1,4 +1,4 @@
-//! `Token`: a number, a name, an operator or a parenthesis, and its place in the text.
+//! `Token`: a number, a name, an operator, a parenthesis or a comma, and its place in the text.
 
 /// Where a token is: from its first byte to the byte behind it. The first byte of a text is at 0.
 #[derive(Clone, Copy, PartialEq, Debug)]
@@ -46,6 +46,8 @@ pub enum Kind {
     Open,
     /// A closing parenthesis.
     Close,
+    /// A comma between two arguments of a call.
+    Comma,
 }
 
 /// A piece of a text that belongs together: what it is, and where.

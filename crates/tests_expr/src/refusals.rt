@@ -33,3 +33,22 @@ fn comparisons_are_single(rt: HostRuntime) -> Result<(), Fail> {
     refuses(&rt, alloc, "1 < 2 < 3", 7)?;
     refuses(&rt, alloc, "(1 < 2)", 4)
 }
+
+#[test]
+fn commas_are_in_calls(rt: HostRuntime) -> Result<(), Fail> {
+    let alloc = rt.alloc();
+    refuses(&rt, alloc, "1, 2", 2)?;
+    refuses(&rt, alloc, "(1, 2)", 3)?;
+    refuses(&rt, alloc, "f((1, 2), 3)", 5)?;
+    refuses(&rt, alloc, "f(1, 2", 7)
+}
+
+#[test]
+fn calls_have_arguments(rt: HostRuntime) -> Result<(), Fail> {
+    let alloc = rt.alloc();
+    refuses(&rt, alloc, "f()", 3)?;
+    refuses(&rt, alloc, "f(1, )", 6)?;
+    refuses(&rt, alloc, "f(, 1)", 3)?;
+    refuses(&rt, alloc, "f(1 < 2)", 5)?;
+    refuses(&rt, alloc, "2 (3)", 3)
+}

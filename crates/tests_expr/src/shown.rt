@@ -5,14 +5,16 @@ use std::alloc::Global;
 use std::process::Abort;
 use std::test::Fail;
 
-// The byte that shows a step: of a token its first byte, `~` for a minus before an operand, and `g` for parentheses.
+// The byte that shows a step: of a token its first byte, `~` for a minus before an operand, `g` for parentheses, and for a call the
+// number of its arguments.
 fn byte_of(text: &[u8], step: Step) -> u8 {
     match step {
-        Step::Number(span) | Step::Name(span) | Step::Apply(_, span) => {
+        Step::Number(span) | Step::Name(span) | Step::Apply(_, span) | Step::Comma(span) => {
             text.get(span.start).copied().unwrap_or(b'?')
         }
         Step::Negate(_) => b'~',
         Step::Group(_, _) => b'g',
+        Step::Call(call) => b"0123456789".get(call.arguments).copied().unwrap_or(b'?'),
     }
 }
 

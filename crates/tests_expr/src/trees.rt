@@ -56,3 +56,11 @@ fn parentheses_and_names(rt: HostRuntime) -> Result<(), Fail> {
     reads(&rt, alloc, "(1/2 + 1/3) * 6", "11+g6*")?;
     reads(&rt, alloc, "x + 1 <= 2 * y", "x1+2y*<")
 }
+
+#[test]
+fn calls_of_names(rt: HostRuntime) -> Result<(), Fail> {
+    let alloc = rt.alloc();
+    reads(&rt, alloc, "abs(-3)", "3~1")?;
+    reads(&rt, alloc, "max (a, b + 1, 2)", "ab1+,2,3")?;
+    reads(&rt, alloc, "2 * f(g(x), (y))^2", "2x1yg,22^*")
+}

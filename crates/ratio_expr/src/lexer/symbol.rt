@@ -1,10 +1,10 @@
-//! The operator or the parenthesis that a text begins with.
+//! The operator, the parenthesis or the comma that a text begins with.
 ghost use Rattle.std.specs.Prelude.{◌≡◌, ◌<◌, ◌≤◌, length, IsSome, IfSome};
 ghost use Rattle.ratio_expr.specs.Tokens.{comparison_byte, one_byte, two_bytes, three_bytes, first_byte, first_two, first_three, symbol};
 
 use crate::token::{Kind, Operator};
 
-/// The operator or the parenthesis that a text begins with, and its length.
+/// The operator, the parenthesis or the comma that a text begins with, and its length.
 #[tactic(auto, unfolding(crate::specs::Tokens::symbol))]
 pub(crate) fn symbol_at(text: &[u8]) -> Option<(Kind, usize)>
     ensures is { result ≡ symbol text.now }
@@ -94,7 +94,7 @@ fn of_one(byte: u8) -> Option<Kind>
     }
 }
 
-// The comparisons and the parentheses of one byte.
+// The comparisons, the parentheses and the comma.
 fn comparison_of(byte: u8) -> Option<Kind>
     ensures { result ≡ comparison_byte byte }
 {
@@ -104,6 +104,7 @@ fn comparison_of(byte: u8) -> Option<Kind>
         b'>' => Some(Kind::Operator(Operator::Greater)),
         b'(' => Some(Kind::Open),
         b')' => Some(Kind::Close),
+        b',' => Some(Kind::Comma),
         _ => None,
     }
 }

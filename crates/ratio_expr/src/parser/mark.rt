@@ -3,11 +3,14 @@ ghost use Rattle.std.specs.Prelude.{◌≡◌};
 ghost use Rattle.ratio_expr.specs.Grammar.{level, left_level, right_level, rank};
 ghost use Rattle.ratio_expr.specs.Reading.{step_of, mark_level, mark_room};
 
-use crate::step::Step;
+use crate::step::{Call, Step};
 use crate::token::{Operator, Span};
 
 // How tightly a minus before an operand binds: less tightly than `^`, and more tightly than `*`.
-const MINUS_LEVEL: u8 = 4;
+const MINUS_LEVEL: u8 = 5;
+
+// How tightly arguments with a comma between them bind: less tightly than `+`, and more tightly than a comparison, which is no argument.
+const COMMA_LEVEL: u8 = 2;
 
 /// An operator or an opening parenthesis that waits for what is right of it.
 #[derive(Clone, Copy, PartialEq, Debug)]
@@ -18,6 +21,10 @@ pub(crate) enum Mark {
     Half(Operator, Span),
     /// An opening parenthesis.
     Opened(Span),
+    /// A name and the opening parenthesis of its call, and the number of arguments so far, with the one that is begun.
+    Called(Span, Span, usize),
+    /// A comma, whose left side is read.
+    Comma(Span),
 }
 
 /// The step that a mark becomes when what is right of it is read.
@@ -28,6 +35,13 @@ pub(crate) fn step_of_mark(mark: Mark) -> Step
         Mark::Negated(span) => Step::Negate(span),
         Mark::Half(operator, span) => Step::Apply(operator, span),
         Mark::Opened(span) => Step::Group(span, span),
+        Mark::Called(name, open, arguments) => Step::Call(Call {
+            name,
+            opening: open,
+            closing: open,
+            arguments,
+        }),
+        Mark::Comma(span) => Step::Comma(span),
     }
 }
 
@@ -38,7 +52,8 @@ pub(crate) fn level_of_mark(mark: Mark) -> u8
     match mark {
         Mark::Negated(_) => MINUS_LEVEL,
         Mark::Half(operator, _) => level_of(operator),
-        Mark::Opened(_) => 0,
+        Mark::Opened(_) | Mark::Called(_, _, _) => 0,
+        Mark::Comma(_) => COMMA_LEVEL,
     }
 }
 
@@ -49,7 +64,8 @@ pub(crate) fn room_of_mark(mark: Mark) -> u8
     match mark {
         Mark::Negated(_) => MINUS_LEVEL,
         Mark::Half(operator, _) => right_level_of(operator),
-        Mark::Opened(_) => 2,
+        Mark::Opened(_) | Mark::Comma(_) => 3,
+        Mark::Called(_, _, _) => COMMA_LEVEL,
     }
 }
 
@@ -64,9 +80,9 @@ pub(crate) fn level_of(operator: Operator) -> u8
         | Operator::NotEqual
         | Operator::AtLeast
         | Operator::Greater => 1,
-        Operator::Add | Operator::Subtract => 2,
-        Operator::Multiply | Operator::Divide | Operator::Remainder => 3,
-        Operator::Power => 5,
+        Operator::Add | Operator::Subtract => 3,
+        Operator::Multiply | Operator::Divide | Operator::Remainder => 4,
+        Operator::Power => 6,
     }
 }
 
@@ -75,9 +91,9 @@ pub(crate) fn left_level_of(operator: Operator) -> u8
     ensures { result ≡ left_level (rank operator) }
 {
     match level_of(operator) {
-        1 | 2 => 2,
-        3 => 3,
-        _ => 6,
+        1 | 3 => 3,
+        4 => 4,
+        _ => 7,
     }
 }
 
@@ -86,8 +102,8 @@ fn right_level_of(operator: Operator) -> u8
     ensures { result ≡ right_level (rank operator) }
 {
     match level_of(operator) {
-        1 => 2,
-        2 => 3,
-        _ => 4,
+        1 => 3,
+        3 => 4,
+        _ => 5,
     }
 }

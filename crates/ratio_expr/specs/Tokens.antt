@@ -92,9 +92,13 @@ one_byte c = if c == 43 then Some (kinds.Operator Add) else (if c == 45 then Som
 abbrev pub two_bytes : ℕ → ℕ → Option Kind
 two_bytes b c = if (b == 60) && (c == 61) then Some (kinds.Operator AtMost) else (if (b == 62) && (c == 61) then Some (kinds.Operator AtLeast) else (if (b == 33) && (c == 61) then Some (kinds.Operator NotEqual) else (if (b == 195) && (c == 151) then Some (kinds.Operator Multiply) else (if (b == 195) && (c == 183) then Some (kinds.Operator Divide) else None))))
 
--- the operator of three bytes: the sign of subtraction, in UTF-8
+-- the comparison by the last of the three bytes of its sign, in UTF-8: `≠ ≤ ≥`
+abbrev pub sign_of_comparison : ℕ → Option Kind
+sign_of_comparison c = if c == 160 then Some (kinds.Operator NotEqual) else (if c == 164 then Some (kinds.Operator AtMost) else (if c == 165 then Some (kinds.Operator AtLeast) else None))
+
+-- the operator of three bytes: the signs of subtraction and of three comparisons, in UTF-8
 abbrev pub three_bytes : ℕ → ℕ → ℕ → Option Kind
-three_bytes a b c = if (a == 226) && ((b == 136) && (c == 146)) then Some (kinds.Operator Subtract) else None
+three_bytes a b c = if (a == 226) && ((b == 136) && (c == 146)) then Some (kinds.Operator Subtract) else (if (a == 226) && (b == 137) then sign_of_comparison c else None)
 
 -- the operator, the parenthesis or the comma of the first byte of a text
 -- Example: `<=3`: `<`

@@ -16,7 +16,8 @@ fn token_is_wrong(rt: HostRuntime) -> Result<(), Fail> {
     refuses(&rt, alloc, "2 + )", 5)?;
     refuses(&rt, alloc, "2)", 2)?;
     refuses(&rt, alloc, "2 3", 3)?;
-    refuses(&rt, alloc, "2 3 $", 3)
+    refuses(&rt, alloc, "2 3 $", 3)?;
+    refuses(&rt, alloc, "1 1/2%", 7)
 }
 
 #[test]

@@ -1,6 +1,7 @@
 //! How tests show a tree, and a refusal.
 use ratio_expr::expression::{TreeError, column, tree_of};
 use ratio_expr::step::Step;
+use ratio_expr::token::Operator;
 use std::alloc::Global;
 use std::process::Abort;
 use std::test::Fail;
@@ -26,6 +27,23 @@ pub fn reads(rt: &impl Abort, alloc: Global, text: &str, steps: &str) -> Result<
         shown.push(byte_of(bytes, *step))?;
     }
     assert_eq!(rt; shown.as_slice(), steps.as_bytes(), "the steps of {text}");
+    Ok(())
+}
+
+/// The tree of the text has these operators, from left to right.
+pub fn shows(
+    rt: &impl Abort,
+    alloc: Global,
+    text: &str,
+    operators: &[Operator],
+) -> Result<(), Fail> {
+    let mut shown = Vec::new(alloc);
+    for step in tree_of(alloc, text.as_bytes())?.iter() {
+        if let Step::Apply(operator, _) = step {
+            shown.push(*operator)?;
+        }
+    }
+    assert_eq!(rt; shown.as_slice(), operators, "the operators of {text}");
     Ok(())
 }
 

@@ -1,5 +1,6 @@
 //! Texts that have a tree, with its steps.
-use crate::shown::reads;
+use crate::shown::{reads, shows};
+use ratio_expr::token::Operator;
 use std::test::Fail;
 
 #[test]
@@ -63,4 +64,18 @@ fn calls_of_names(rt: HostRuntime) -> Result<(), Fail> {
     reads(&rt, alloc, "abs(-3)", "3~1")?;
     reads(&rt, alloc, "max (a, b + 1, 2)", "ab1+,2,3")?;
     reads(&rt, alloc, "2 * f(g(x), (y))^2", "2x1yg,22^*")
+}
+
+#[test]
+fn signs_of_other_keyboards(rt: HostRuntime) -> Result<(), Fail> {
+    let alloc = rt.alloc();
+    shows(
+        &rt,
+        alloc,
+        "2 × 3 ÷ 4 − 5",
+        &[Operator::Multiply, Operator::Divide, Operator::Subtract],
+    )?;
+    shows(&rt, alloc, "1 ≤ 2", &[Operator::AtMost])?;
+    shows(&rt, alloc, "1 ≥ 2", &[Operator::AtLeast])?;
+    shows(&rt, alloc, "1 ≠ 2", &[Operator::NotEqual])
 }

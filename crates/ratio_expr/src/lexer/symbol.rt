@@ -1,6 +1,6 @@
 //! The operator, the parenthesis or the comma that a text begins with.
 ghost use Rattle.std.specs.Prelude.{◌≡◌, ◌<◌, ◌≤◌, length, IsSome, IfSome};
-ghost use Rattle.ratio_expr.specs.Tokens.{comparison_byte, one_byte, two_bytes, three_bytes, first_byte, first_two, first_three, symbol};
+ghost use Rattle.ratio_expr.specs.Tokens.{comparison_byte, one_byte, two_bytes, sign_of_comparison, three_bytes, first_byte, first_two, first_three, symbol};
 
 use crate::token::{Kind, Operator};
 
@@ -55,12 +55,25 @@ fn kind_of_one(text: &[u8]) -> Option<Kind>
     }
 }
 
-// The sign of subtraction, in UTF-8.
+// The signs of subtraction and of three comparisons, in UTF-8: `− ≠ ≤ ≥`.
 fn of_three(a: u8, b: u8, c: u8) -> Option<Kind>
     ensures { result ≡ three_bytes a b c }
 {
     match (a, b, c) {
         (0xE2, 0x88, 0x92) => Some(Kind::Operator(Operator::Subtract)),
+        (0xE2, 0x89, last) => sign_of(last),
+        _ => None,
+    }
+}
+
+// The comparison by the last byte of its sign.
+fn sign_of(byte: u8) -> Option<Kind>
+    ensures { result ≡ sign_of_comparison byte }
+{
+    match byte {
+        0xA0 => Some(Kind::Operator(Operator::NotEqual)),
+        0xA4 => Some(Kind::Operator(Operator::AtMost)),
+        0xA5 => Some(Kind::Operator(Operator::AtLeast)),
         _ => None,
     }
 }

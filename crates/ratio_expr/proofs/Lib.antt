@@ -1,6 +1,7 @@
 pub mod Completeness
 pub mod CutLaws
 pub mod Cuts
+pub mod DepthLaws
 pub mod ParserAnswers
 pub mod ParserLaws
 pub mod Refusals

@@ -12,7 +12,7 @@ use Rattle.ratio_expr.proofs.ParserLaws.{one_of_tokens}
 use Rattle.ratio_expr.proofs.Soundness.{shorter}
 
 -- the front of a cut
-front_cut : (text : List ℕ) (from to : ℕ) (ts : List Token) (i : ℕ) (d : Token) → i < length ts → IsCutInto text from to ts → IsCutInto text from (get_or ts i d).span.start (take i ts) × IsTokenAt text (get_or ts i d)
+pub front_cut : (text : List ℕ) (from to : ℕ) (ts : List Token) (i : ℕ) (d : Token) → i < length ts → IsCutInto text from to ts → IsCutInto text from (get_or ts i d).span.start (take i ts) × IsTokenAt text (get_or ts i d)
 front_cut text from to [] i d h cut = absurd (omega arith)
 front_cut text from to (t ∷ ts) zero d h cut = (cut.0, cut.1)
 front_cut text from to (t ∷ ts) (suc i) d h cut =

@@ -1,4 +1,5 @@
 pub mod Expression
 pub mod Grammar
+pub mod Nesting
 pub mod Reading
 pub mod Tokens

@@ -3,6 +3,7 @@ ghost use Rattle.std.specs.Prelude.{◌≡◌, ℕ, List, length};
 ghost use Rattle.ratio_expr.specs.declared.token.Token.{Token};
 ghost use Rattle.ratio_expr.specs.Grammar.{Tree, HasTree, postfix};
 ghost use Rattle.ratio_expr.specs.Expression.{IsExpression, IsRefusal};
+ghost use Rattle.ratio_expr.specs.Nesting.{IsTooDeep};
 ghost use Rattle.ratio_expr.specs.Tokens.{IsCutInto, BeginsNone};
 
 /// A list of tokens has at most one tree.
@@ -39,4 +40,9 @@ pub fn one_refusal()
 /// A text that is refused has no tree.
 pub fn refused_has_no_tree()
     ensures { (text : List ℕ) (at : ℕ) (t : Tree) → IsRefusal text at → ¬ IsExpression text t }
+{}
+
+/// A text is too deep at one place at most.
+pub fn one_too_deep()
+    ensures { (text : List ℕ) (at other : ℕ) → IsTooDeep text at → IsTooDeep text other → at ≡ other }
 {}

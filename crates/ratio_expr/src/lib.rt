@@ -10,11 +10,13 @@
 //! | `parser` | The tree of a list of tokens, or the first token that no expression has there. |
 //! | `parser::error` | Why a list of tokens has no tree. |
 //! | `parser::mark` | `Mark`: an operator or a parenthesis that waits for what is right of it. |
+//! | `depth` | The first parenthesis that is too deep. |
 //! | `expression` | The tree of a text, or the first place that no expression has there, and the column of a place. |
 //! | `laws` | The laws that a text has at most one tree or is refused at one place, and not both. |
 //! | `expression::error` | Why a text has no tree. |
 #![tactic(auto)]
 
+pub mod depth;
 pub mod expression;
 pub mod laws;
 pub mod lexer;

@@ -1,6 +1,6 @@
 //! Each law, called once.
 use ratio_expr::laws::{
-    no_cut, one_cut, one_refusal, one_tree, one_tree_of_steps, one_tree_of_text,
+    no_cut, one_cut, one_refusal, one_too_deep, one_tree, one_tree_of_steps, one_tree_of_text,
     refused_has_no_tree,
 };
 
@@ -13,4 +13,5 @@ fn each_law_is_called() {
     one_tree_of_text();
     one_refusal();
     refused_has_no_tree();
+    one_too_deep();
 }

@@ -11,6 +11,8 @@ pub enum TreeError {
     Memory,
     /// The place, in bytes from 0, where the text stops being an expression. The length of the text, if its end is missing.
     Refused(usize),
+    /// The place, in bytes from 0, of the first parenthesis with which more than `MOST_OPEN` of `depth` are open.
+    TooDeep(usize),
 }
 
 impl From<AllocError> for TreeError {

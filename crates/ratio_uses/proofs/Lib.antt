@@ -6,4 +6,5 @@ pub mod GearLemmas
 pub mod MeetLemmas
 pub mod OctaveLemmas
 pub mod ProductLemmas
+pub mod ShareLemmas
 pub mod TrainLemmas

@@ -1,5 +1,6 @@
 pub mod Callers
 pub mod Accounts
+pub mod Shareholders
 pub mod Gears
 pub mod Beats
 pub mod Cents

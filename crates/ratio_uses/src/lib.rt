@@ -8,6 +8,7 @@
 //! | `callers` | Callers of `Reduced`: the greatest amount, the mean of two, and places between, before and after others. |
 //! | `conditions` | Callers of `Ratio`: the sum of two shares and the product of rates, with what these require. |
 //! | `accounts` | Two accounts, and a part that moves from one to the other. |
+//! | `shareholders` | A sale of a part of a share, over fractions of any size: nothing is rounded, and no share is lost. |
 //! | `ledger` | A rent split among tenants by their days, over the library's `split` and `split_by_weights`, so that no cent is lost. |
 //! | `ledger::cents` | An amount split by shares into multiples of a unit, such as cents, so that no cent is lost. |
 //! | `beats` | The voices of a polyrhythm: their beats in order of time, without drift. |
@@ -26,5 +27,6 @@ pub mod gears;
 pub mod ledger;
 mod quotients;
 pub mod readme;
+pub mod shareholders;
 pub mod trains;
 pub mod units;

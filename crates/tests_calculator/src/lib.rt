@@ -13,6 +13,8 @@ mod faults;
 #[cfg(test)]
 mod lines;
 #[cfg(test)]
+mod shareholders;
+#[cfg(test)]
 mod small_programs;
 #[cfg(test)]
 mod trains;

@@ -86,6 +86,11 @@ impl<T: Copy> Vec<T> {
     }
 
     #[inline]
+    pub fn shrink_to_fit(&mut self) {
+        self.0.shrink_to_fit();
+    }
+
+    #[inline]
     pub fn clear(&mut self) {
         self.0.clear();
     }

@@ -14,6 +14,7 @@ mod equality;
 mod exchange;
 mod floats;
 mod fraction;
+mod lowest_sums;
 mod making;
 mod parts;
 mod powers;

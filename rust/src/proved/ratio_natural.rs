@@ -5,6 +5,7 @@
 //!
 //! Leading zeros are allowed everywhere: they are the last digits of a slice.
 mod adding;
+mod common_divisor;
 mod comparing;
 mod decimal;
 mod dividing;
@@ -14,11 +15,12 @@ mod long_division;
 mod multiplying;
 
 pub use adding::{add, add_digit, subtract, subtract_digit, subtract_times};
+pub use common_divisor::gcd;
 pub use comparing::{bits, compare, is_zero, used};
 pub use decimal::{put_decimal, put_last_digits, read_decimal};
 pub use dividing::{divide, remainder};
 pub use joining::join_share;
-pub use long_division::{divide_long, gcd, lowest_terms, quotient_digit};
+pub use long_division::{divide_long, lowest_terms, quotient_digit};
 pub use multiplying::{
     add_times, multiply, shift_left, shift_right, times_plus, times_power_of_ten,
 };

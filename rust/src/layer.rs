@@ -20,6 +20,8 @@ mod big_fraction;
 #[cfg(all(feature = "alloc", target_pointer_width = "64"))]
 mod big_fraction_conversions;
 #[cfg(all(feature = "alloc", target_pointer_width = "64"))]
+mod big_fraction_near;
+#[cfg(all(feature = "alloc", target_pointer_width = "64"))]
 mod big_fraction_operators;
 #[cfg(all(feature = "alloc", target_pointer_width = "64"))]
 mod big_fraction_order;

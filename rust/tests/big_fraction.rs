@@ -242,6 +242,47 @@ fn calls_on_one() {
     }
 }
 
+/// The whole number that the rule gives.
+fn rounded(x: &Original<BigInt>, rule: Rounding) -> Original<BigInt> {
+    let half = Original::new(BigInt::from(1), BigInt::from(2));
+    match rule {
+        Rounding::HalfAway => x.round(),
+        Rounding::HalfEven if (x + &half).is_integer() => Original::from(BigInt::from(2)) * (x / BigInt::from(2)).round(),
+        Rounding::HalfEven => (x + half).floor(),
+        Rounding::Down => x.trunc(),
+        Rounding::Up if x.is_negative() => x.floor(),
+        Rounding::Up | Rounding::Ceil => x.ceil(),
+        Rounding::Floor => x.floor(),
+    }
+}
+
+#[test]
+fn fractions_near() {
+    let mut numbers = Numbers(9);
+    let rules = [Rounding::HalfAway, Rounding::HalfEven, Rounding::Down, Rounding::Up, Rounding::Floor, Rounding::Ceil];
+    for _ in 0..pairs() / 10 {
+        let left = fraction(&mut numbers);
+        let (step, width) = beside(&left, &mut numbers);
+        let (x, old) = (&left.0, &left.1);
+        let (step, width) = (&step.abs(), width.abs());
+        for rule in rules {
+            let multiple = || if width.is_zero() { None } else { Some(original(rounded(&(old / &width), rule) * &width)) };
+            rows! { (x, step);
+                tried(x.try_round_to(step, rule)) => multiple();
+                tried(x.try_round_to(&-step, rule)) => None;
+            };
+            if !step.is_zero() {
+                rows! { (x, step);
+                    Some(fields(x.round_to(step, rule))) => multiple();
+                };
+            }
+        }
+    }
+    let half = BigFraction::new(1, 2);
+    assert_eq!(rules.map(|rule| half.round_to(&BigFraction::one(), rule)), [1, 0, 0, 1, 0, 1].map(BigFraction::from));
+    assert_eq!(message(|| BigFraction::new(1, 2).round_to(&BigFraction::from(0), Rounding::Up)), "the step is not above 0");
+}
+
 #[test]
 fn texts() {
     let mut numbers = Numbers(3);

@@ -16,6 +16,7 @@ mod floats;
 mod fraction;
 mod lowest_sums;
 mod making;
+mod multiples;
 mod parts;
 mod powers;
 mod products;

@@ -13,6 +13,8 @@ mod long_sums;
 #[cfg(test)]
 mod made;
 #[cfg(test)]
+mod near;
+#[cfg(test)]
 mod orders;
 #[cfg(test)]
 mod powers;

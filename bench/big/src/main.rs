@@ -1,55 +1,153 @@
 //! Times fractions of any size: the plain Rust crate's `BigFraction` and num-rational's `BigRational`. The jobs are a ledger of 1,000 prices times
-//! quantities, whose sum is short, the sums 1/1 + 1/2 + .. + 1/n, the powers of 2/3 up to the 200th, each from the one before, and ten sums and ten
-//! products of fractions whose numbers have 200 digits.
+//! quantities, whose sum is short, how many prices are below their quantities, determinants of 8 by 8 and of 16 by 16 short fractions, the sums
+//! 1/1 + 1/2 + .. + 1/n, the powers of 2/3 up to the 200th, each from the one before, ten sums and ten products of fractions whose numbers have 200
+//! digits, and ten texts of 1,000 digits, read and printed. The first two are done over `Reduced64`, too, for what short fractions cost.
 //!
 //!     big                   a table of microseconds for each job, medians of rounds in turn
-//!     big JOB WAY TIMES     does a job so many times in one way, `ours` or `theirs`, for a counter of instructions, and prints its result
-use bakhsney::BigFraction;
+//!     big JOB WAY TIMES     does a job so many times in one way, `ours`, `theirs` or `reduced`, for a counter of instructions, and prints its result
+use bakhsney::{BigFraction, Reduced64};
 use num_rational::BigRational;
-use std::fmt::Display;
+use std::fmt::{self, Display, Formatter};
 use std::hint::black_box;
-use std::ops::{Add, Mul};
+use std::ops::{Add, Div, Sub};
 use std::str::FromStr;
 use std::time::Instant;
 
-const JOBS: [&str; 7] = ["ledger", "harmonic_20", "harmonic_200", "harmonic_1000", "powers", "long_sums", "long_products"];
+const JOBS: [&str; 12] = [
+    "ledger",
+    "orders",
+    "determinant_8",
+    "determinant_16",
+    "harmonic_20",
+    "harmonic_200",
+    "harmonic_1000",
+    "powers",
+    "long_sums",
+    "long_products",
+    "reading",
+    "printing",
+];
 const ROUNDS: usize = 31;
 
-trait Fraction: Display + FromStr + Sized {
+/// The operators of the jobs over short fractions.
+trait Short: Display + FromStr + PartialOrd + Sized + Add<Output = Self> {
     fn of(numer: i64, denom: i64) -> Self;
+
+    fn times(&self, other: &Self) -> Self;
+}
+
+/// Those of the other jobs.
+trait Fraction: Short + Div<Output = Self> + Sub<Output = Self> {
+    fn plus(&self, other: &Self) -> Self;
+
+    fn over(&self, other: &Self) -> Self;
+}
+
+impl Short for BigFraction {
+    fn of(numer: i64, denom: i64) -> BigFraction {
+        BigFraction::new(numer, denom)
+    }
+
+    fn times(&self, other: &BigFraction) -> BigFraction {
+        self * other
+    }
 }
 
 impl Fraction for BigFraction {
-    fn of(numer: i64, denom: i64) -> BigFraction {
-        BigFraction::new(numer, denom)
+    fn plus(&self, other: &BigFraction) -> BigFraction {
+        self + other
+    }
+
+    fn over(&self, other: &BigFraction) -> BigFraction {
+        self / other
+    }
+}
+
+impl Short for BigRational {
+    fn of(numer: i64, denom: i64) -> BigRational {
+        BigRational::new(numer.into(), denom.into())
+    }
+
+    fn times(&self, other: &BigRational) -> BigRational {
+        self * other
     }
 }
 
 impl Fraction for BigRational {
-    fn of(numer: i64, denom: i64) -> BigRational {
-        BigRational::new(numer.into(), denom.into())
+    fn plus(&self, other: &BigRational) -> BigRational {
+        self + other
     }
+
+    fn over(&self, other: &BigRational) -> BigRational {
+        self / other
+    }
+}
+
+/// A fraction of 64 bits whose operators end the program where a result does not fit.
+#[derive(PartialEq, PartialOrd)]
+struct Fitting(Reduced64);
+
+impl Display for Fitting {
+    fn fmt(&self, f: &mut Formatter<'_>) -> fmt::Result {
+        self.0.fmt(f)
+    }
+}
+
+impl FromStr for Fitting {
+    type Err = <Reduced64 as FromStr>::Err;
+
+    fn from_str(text: &str) -> Result<Fitting, Self::Err> {
+        text.parse().map(Fitting)
+    }
+}
+
+impl Add for Fitting {
+    type Output = Fitting;
+
+    fn add(self, other: Fitting) -> Fitting {
+        Fitting(self.0.checked_add(&other.0).expect("a sum that fits"))
+    }
+}
+
+impl Short for Fitting {
+    fn of(numer: i64, denom: i64) -> Fitting {
+        Fitting(Reduced64::checked_new(numer, denom).expect("a denominator that is not 0"))
+    }
+
+    fn times(&self, other: &Fitting) -> Fitting {
+        Fitting(self.0.checked_mul(&other.0).expect("a product that fits"))
+    }
+}
+
+/// Prices in cents and quantities in eighths.
+fn rows<F: Short>() -> Vec<(F, F)> {
+    (0..1000).map(|k| (F::of(1 + k * 7919 % 100_000, 100), F::of(1 + k * 104_729 % 8_000, 8))).collect()
 }
 
 /// What the jobs begin with.
 struct Data<F> {
-    /// Prices in cents and quantities in eighths.
     rows: Vec<(F, F)>,
     long: Vec<(F, F)>,
+    /// Texts of 1,000 digits with their numbers.
+    texts: Vec<(String, F)>,
 }
 
 impl<F: Fraction> Data<F> {
     fn new() -> Data<F> {
         Data {
-            rows: (0..1000).map(|k| (F::of(1 + k * 7919 % 100_000, 100), F::of(1 + k * 104_729 % 8_000, 8))).collect(),
+            rows: rows(),
             long: (0..10).map(|k| (long(k), long(k + 10))).collect(),
+            texts: (0..10).map(|k| (0..5).map(|part| digits(100 + 5 * k + part)).collect::<String>()).map(|text| (text.clone(), read(&text))).collect(),
         }
     }
 }
 
 /// A fraction whose numbers have 200 digits. `peers.c` has the same ones.
 fn long<F: Fraction>(number: u64) -> F {
-    let text = format!("{}/{}", digits(2 * number + 1), digits(2 * number + 2));
+    read(&format!("{}/{}", digits(2 * number + 1), digits(2 * number + 2)))
+}
+
+fn read<F: Fraction>(text: &str) -> F {
     text.parse().unwrap_or_else(|_| panic!("no fraction: {text}"))
 }
 
@@ -62,44 +160,78 @@ fn digits(seed: u64) -> String {
     std::iter::once('7').chain(digits).collect()
 }
 
-fn ledger<F: Fraction>(rows: &[(F, F)]) -> F
-where
-    F: Add<F, Output = F>,
-    for<'a> &'a F: Mul<&'a F, Output = F>,
-{
-    rows.iter().fold(F::of(0, 1), |sum, (price, quantity)| sum + price * quantity)
+fn ledger<F: Short>(rows: &[(F, F)]) -> F {
+    rows.iter().fold(F::of(0, 1), |sum, (price, quantity)| sum + price.times(quantity))
 }
 
-fn harmonic<F: Fraction + Add<F, Output = F>>(most: i64) -> F {
+fn orders<F: Short>(rows: &[(F, F)]) -> F {
+    F::of(rows.iter().filter(|(price, quantity)| black_box(price) < black_box(quantity)).count() as i64, 1)
+}
+
+/// The determinant of a matrix of short fractions, by elimination.
+fn determinant<F: Fraction>(size: i64) -> F {
+    let mut rows: Vec<Vec<F>> = (0..size).map(|i| (0..size).map(|j| F::of((i * i * 7 + j * 13 + i * j) % 19 - 9, (i * 5 + j * 3) % 7 + 1)).collect()).collect();
+    let mut product = F::of(1, 1);
+    while let Some(place) = rows.iter().position(|row| row[0] != F::of(0, 1)) {
+        if place % 2 == 1 {
+            product = F::of(0, 1) - product;
+        }
+        let pivot = rows.remove(place);
+        product = product.times(&pivot[0]);
+        for row in &mut rows {
+            let factor = row[0].over(&pivot[0]);
+            *row = row.drain(1..).zip(&pivot[1..]).map(|(x, y)| x - factor.times(y)).collect();
+        }
+        if rows.is_empty() {
+            return product;
+        }
+    }
+    F::of(0, 1)
+}
+
+fn harmonic<F: Fraction>(most: i64) -> F {
     (1..=most).fold(F::of(0, 1), |sum, k| sum + F::of(1, k))
 }
 
-fn powers<F: Fraction>() -> F
-where
-    for<'a> &'a F: Mul<&'a F, Output = F>,
-{
+fn powers<F: Fraction>() -> F {
     let base = F::of(2, 3);
-    (0..200).fold(F::of(1, 1), |power, _| &power * &base)
+    (0..200).fold(F::of(1, 1), |power, _| power.times(&base))
 }
 
-/// Does it with each pair, and returns the last result.
-fn each<F: Fraction>(pairs: &[(F, F)], of: impl Fn(&F, &F) -> F) -> F {
-    pairs.iter().fold(F::of(0, 1), |_, (x, y)| black_box(of(x, y)))
+/// Does it with each item, and returns the last result.
+fn each<F: Short, T>(items: &[T], of: impl Fn(&T) -> F) -> F {
+    items.iter().fold(F::of(0, 1), |_, item| black_box(of(item)))
+}
+
+/// The result of a job over short fractions, if it is one.
+fn of_short<F: Short>(job: &str, rows: &[(F, F)]) -> Option<F> {
+    match job {
+        "ledger" => Some(ledger(rows)),
+        "orders" => Some(orders(rows)),
+        _ => None,
+    }
+}
+
+/// The result of a job.
+fn of_any<F: Fraction>(job: &str, data: &Data<F>) -> F {
+    match job {
+        "powers" => powers(),
+        "long_sums" => each(&data.long, |(x, y)| x.plus(y)),
+        "long_products" => each(&data.long, |(x, y)| x.times(y)),
+        "reading" => each(&data.texts, |(text, _)| read(text)),
+        "printing" => each(&data.texts, |(_, number)| F::of(number.to_string().len() as i64, 1)),
+        _ => match (job.strip_prefix("harmonic_"), job.strip_prefix("determinant_")) {
+            (Some(most), _) => harmonic(most.parse().expect("a number")),
+            (_, Some(size)) => determinant(size.parse().expect("a number")),
+            _ => panic!("no job: {job}"),
+        },
+    }
 }
 
 /// The microseconds of one round of the job, and its result.
-fn round<F: Fraction + Add<F, Output = F>>(job: &str, data: &Data<F>) -> (f64, F)
-where
-    for<'a> &'a F: Add<&'a F, Output = F> + Mul<&'a F, Output = F>,
-{
+fn round<F: Fraction>(job: &str, data: &Data<F>) -> (f64, F) {
     let start = Instant::now();
-    let result = black_box(match job {
-        "ledger" => ledger(&data.rows),
-        "powers" => powers(),
-        "long_sums" => each(&data.long, |x, y| x + y),
-        "long_products" => each(&data.long, |x, y| x * y),
-        _ => harmonic(job["harmonic_".len()..].parse().expect("a number")),
-    });
+    let result = black_box(of_short(job, &data.rows).unwrap_or_else(|| of_any(job, data)));
     (start.elapsed().as_nanos() as f64 / 1000.0, result)
 }
 
@@ -124,15 +256,20 @@ fn table() {
     }
 }
 
-fn repeated<F: Fraction + Add<F, Output = F>>(job: &str, times: usize)
-where
-    for<'a> &'a F: Add<&'a F, Output = F> + Mul<&'a F, Output = F>,
-{
+fn repeated<F: Fraction>(job: &str, times: usize) {
     let data = Data::<F>::new();
     for _ in 1..times {
         black_box(round(job, &data));
     }
     println!("{}", round(job, &data).1);
+}
+
+fn repeated_in_64_bits(job: &str, times: usize) {
+    let rows = rows::<Fitting>();
+    for _ in 1..times {
+        black_box(of_short(job, &rows));
+    }
+    println!("{}", of_short(job, &rows).expect("a job over short fractions"));
 }
 
 fn main() {
@@ -141,8 +278,12 @@ fn main() {
         [] => table(),
         [job, way, times] if JOBS.contains(&job) => {
             let times = times.parse().expect("a number of rounds");
-            if way == "ours" { repeated::<BigFraction>(job, times) } else { repeated::<BigRational>(job, times) }
+            match way {
+                "ours" => repeated::<BigFraction>(job, times),
+                "theirs" => repeated::<BigRational>(job, times),
+                _ => repeated_in_64_bits(job, times),
+            }
         }
-        _ => panic!("usage: big [JOB ours|theirs TIMES]"),
+        _ => panic!("usage: big [JOB ours|theirs|reduced TIMES]"),
     }
 }

@@ -39,12 +39,33 @@ impl std::error::Error for AllocError {}
 /// A list in memory.
 pub struct Vec<T>(vec::Vec<T>);
 
-impl<T: Copy> Vec<T> {
+impl<T> Vec<T> {
     #[inline]
     pub fn new(_: Global) -> Vec<T> {
         Vec(vec::Vec::new())
     }
 
+    #[inline]
+    pub fn push(&mut self, item: T) -> Result<(), AllocError> {
+        self.more(1)?;
+        self.0.push(item);
+        Ok(())
+    }
+
+    /// Rust's own list, with the same memory.
+    #[inline]
+    pub fn into_std(self) -> vec::Vec<T> {
+        self.0
+    }
+
+    /// Makes room for so many more items.
+    #[inline]
+    fn more(&mut self, count: usize) -> Result<(), AllocError> {
+        self.0.try_reserve(count).map_err(|_| AllocError)
+    }
+}
+
+impl<T: Copy> Vec<T> {
     #[inline]
     pub fn with_capacity(_: Global, count: usize) -> Result<Vec<T>, AllocError> {
         let mut items = vec::Vec::new();
@@ -57,13 +78,6 @@ impl<T: Copy> Vec<T> {
         let mut copy = Vec::with_capacity(alloc, items.len())?;
         copy.0.extend_from_slice(items);
         Ok(copy)
-    }
-
-    #[inline]
-    pub fn push(&mut self, item: T) -> Result<(), AllocError> {
-        self.more(1)?;
-        self.0.push(item);
-        Ok(())
     }
 
     #[inline]
@@ -85,9 +99,14 @@ impl<T: Copy> Vec<T> {
         self.0.truncate(count);
     }
 
+    /// Gives back the memory that the list does not need, and keeps it if there is none for a copy: the call of Rust's own list would end the program.
     #[inline]
     pub fn shrink_to_fit(&mut self) {
-        self.0.shrink_to_fit();
+        let mut copy = vec::Vec::new();
+        if copy.try_reserve_exact(self.0.len()).is_ok() {
+            copy.extend_from_slice(&self.0);
+            self.0 = copy;
+        }
     }
 
     #[inline]
@@ -103,18 +122,6 @@ impl<T: Copy> Vec<T> {
     #[inline]
     pub fn as_mut_slice(&mut self) -> &mut [T] {
         &mut self.0
-    }
-
-    /// Rust's own list, with the same memory.
-    #[inline]
-    pub fn into_std(self) -> vec::Vec<T> {
-        self.0
-    }
-
-    /// Makes room for so many more items.
-    #[inline]
-    fn more(&mut self, count: usize) -> Result<(), AllocError> {
-        self.0.try_reserve(count).map_err(|_| AllocError)
     }
 }
 

@@ -256,6 +256,18 @@ fn rounded(x: &Original<BigInt>, rule: Rounding) -> Original<BigInt> {
     }
 }
 
+/// The quotients of the continued fraction, by Euclid's algorithm.
+fn quotients(x: &Original<BigInt>) -> Vec<BigInt> {
+    let floor = x.floor().to_integer();
+    let (mut n, mut d) = (x.denom().clone(), x.numer() - &floor * x.denom());
+    let mut quotients = vec![floor];
+    while !d.is_zero() {
+        quotients.push(&n / &d);
+        (n, d) = (d.clone(), n % d);
+    }
+    quotients
+}
+
 #[test]
 fn fractions_near() {
     let mut numbers = Numbers(9);
@@ -265,6 +277,10 @@ fn fractions_near() {
         let (step, width) = beside(&left, &mut numbers);
         let (x, old) = (&left.0, &left.1);
         let (step, width) = (&step.abs(), width.abs());
+        rows! { x;
+            x.continued_fraction() => quotients(old).into_iter().map(BigFraction::from).collect::<Vec<_>>();
+            x.try_continued_fraction().unwrap().len() => quotients(old).len();
+        };
         for rule in rules {
             let multiple = || if width.is_zero() { None } else { Some(original(rounded(&(old / &width), rule) * &width)) };
             rows! { (x, step);

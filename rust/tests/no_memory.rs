@@ -118,6 +118,7 @@ fn tried() {
         some(x.try_recip());
         some(x.try_pow(-5));
         some(x.try_round_to(y, Rounding::Up));
+        x.try_continued_fraction().map(drop);
         [x.try_floor(), x.try_ceil(), x.try_round(), x.try_trunc(), x.try_fract()].into_iter().try_for_each(ok);
         x.try_cmp(y).map(drop);
         x.try_decimal(5, Rounding::Floor).map(drop);
@@ -176,6 +177,7 @@ fn panics() {
         drop(x.recip());
         drop(x.pow(3));
         drop(x.round_to(y, Rounding::Up));
+        drop(x.continued_fraction());
         drop((x.floor(), x.ceil(), x.round(), x.trunc(), x.fract()));
         assert!(x < y);
         drop((x.numer_digits(), x.denom_digits()));

@@ -1,7 +1,8 @@
-//! Multiples of a step near a `BigFraction`.
-use super::big_fraction::{divided, BigFraction};
-use crate::memory::{AllocError, Global};
+//! Multiples of a step near a `BigFraction`, and its continued fraction.
+use super::big_fraction::{divided, taken, BigFraction};
+use crate::memory::{self, AllocError, Global};
 use crate::proved::ratio_decimal::rounding_rule::Rounding;
+use alloc::vec::Vec;
 
 impl BigFraction {
     /// The multiple of `step` that the rule says, such as cents for 1/100.
@@ -34,5 +35,37 @@ impl BigFraction {
             return Ok(None);
         }
         self.0.round_to(Global, &step.0, rule).map(|multiple| Some(BigFraction(multiple)))
+    }
+
+    /// The quotients of the continued fraction, each over 1. The first is the floor, and each later one is at least 1.
+    ///
+    /// # Panics
+    ///
+    /// For want of memory.
+    ///
+    /// ```
+    /// use num_rational::BigFraction;
+    ///
+    /// // 4 + 1/(2 + 1/(6 + 1/7))
+    /// assert_eq!(BigFraction::new(415, 93).continued_fraction(), [4, 2, 6, 7].map(BigFraction::from));
+    /// ```
+    #[track_caller]
+    pub fn continued_fraction(&self) -> Vec<BigFraction> {
+        taken(self.try_continued_fraction())
+    }
+
+    /// The same, or an error for want of memory.
+    ///
+    /// ```
+    /// use num_rational::BigFraction;
+    ///
+    /// assert_eq!(BigFraction::new(-7, 3).try_continued_fraction(), Ok([-3, 1, 2].map(BigFraction::from).to_vec()));
+    /// ```
+    pub fn try_continued_fraction(&self) -> Result<Vec<BigFraction>, AllocError> {
+        let mut quotients = memory::Vec::new(Global);
+        for quotient in self.0.continued_fraction(Global)?.into_std() {
+            quotients.push(BigFraction(quotient))?;
+        }
+        Ok(quotients.into_std())
     }
 }

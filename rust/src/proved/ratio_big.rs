@@ -6,6 +6,7 @@
 mod arithmetic;
 mod cancelling;
 mod comparing;
+mod continued;
 mod cuts;
 mod decimal_cuts;
 mod decimals;

@@ -1,7 +1,8 @@
 // Erased from crates/tests_big/src/near.rt by rust/erase: not to be edited.
-//! Multiples of a step near fractions. Expected values are from Python's `fractions`.
+//! Multiples of a step near fractions, and continued fractions. Expected values are from Python's `fractions`.
 
 use crate::memory::Global;
+use crate::proved::tests_big::made::{is_long, short};
 use crate::proved::ratio_big::BigFraction;
 use crate::proved::ratio_decimal::rounding_rule::Rounding;
 
@@ -10,6 +11,10 @@ use crate::test_support::Fail;
 /// 1/1 + 1/2 + .. + 1/100.
 const HUNDRED_PARTS: &str =
     "14466636279520351160221518043104131447711/2788815009188499086581352357412492142272";
+
+/// Both numbers have 100 digits.
+const NEAR_ROOT_OF_TWO: &str =
+    "1662065719567264387595620839613920483911723740125085355030801429665220366155075897997802501222942737/1175257941083711279465456977691532980497533808327824270765753191808758291738555073278938547461890828";
 
 const RULES: [Rounding; 6] = [
     Rounding::HalfAway,
@@ -101,5 +106,76 @@ fn long_multiples() -> Result<(), Fail> {
         step,
         [down, down, down, up, down, up],
     )?;
+    Ok(())
+}
+
+/// The quotients of the continued fraction are these numbers.
+#[inline]
+fn continues(
+    alloc: Global,
+    x: &BigFraction,
+    expected: &[i64],
+) -> Result<(), Fail> {
+    let quotients = x.continued_fraction(alloc)?;
+    assert_eq!(quotients.len(), expected.len());
+    for (quotient, number) in quotients.iter().zip(expected) {
+        assert!(*quotient == BigFraction::from_integer(*number));
+    }
+    Ok(())
+}
+
+#[test]
+fn continued_fractions() -> Result<(), Fail> {
+    let alloc = Global;
+    continues(alloc, &short(415, 93), &[4, 2, 6, 7])?;
+    continues(alloc, &short(-7, 3), &[-3, 1, 2])?;
+    continues(alloc, &short(5, 1), &[5])?;
+    continues(alloc, &short(-5, 1), &[-5])?;
+    continues(alloc, &BigFraction::zero(), &[0])?;
+    let x = BigFraction::from_str(alloc, HUNDRED_PARTS)??;
+    let later = [
+        4, 2, 1, 31, 4, 1, 7, 2, 4, 1, 2, 16, 1, 1, 1, 31, 5, 2, 121, 3, 10, 10, 1, 2, 6, 1, 9, 67,
+        1, 2, 1, 19, 1, 3, 2, 6, 2, 12, 1, 1, 10, 1, 1, 3, 18, 2, 1, 1, 9, 2, 6, 625, 1, 57, 1, 1,
+        6, 1, 1, 4, 2, 1, 1, 1, 1, 4, 5,
+    ];
+    let below = x.negate(alloc)?.continued_fraction(alloc)?;
+    assert_eq!(below.len(), later.len() + 2);
+    assert!(below[0] == BigFraction::from_integer(-6));
+    assert!(below[1] == BigFraction::one());
+    for (quotient, number) in below[2..].iter().zip(&later) {
+        assert!(*quotient == BigFraction::from_integer(*number));
+    }
+    Ok(())
+}
+
+/// A fraction near the square root of 2: the quotients are 1 and then 259 times 2.
+#[test]
+fn hundred_digits() -> Result<(), Fail> {
+    let alloc = Global;
+    let x = BigFraction::from_str(alloc, NEAR_ROOT_OF_TWO)??;
+    let quotients = x.continued_fraction(alloc)?;
+    assert_eq!(quotients.len(), 260);
+    assert!(quotients[0] == BigFraction::one());
+    let two = BigFraction::from_integer(2);
+    for quotient in quotients[1..].iter() {
+        assert!(*quotient == two);
+    }
+    Ok(())
+}
+
+/// 2^64 + 1/7, and 1/2^100.
+#[test]
+fn long_quotients() -> Result<(), Fail> {
+    let alloc = Global;
+    let x = BigFraction::from_digits(alloc, false, &[1, 7], &[7])?.ok_or("not 0")?;
+    let quotients = x.continued_fraction(alloc)?;
+    assert_eq!(quotients.len(), 2);
+    is_long(alloc, &quotients[0], false, &[0, 1], &[1])?;
+    assert!(quotients[1] == BigFraction::from_integer(7));
+    let x = BigFraction::from_digits(alloc, false, &[1], &[0, 1 << 36])?.ok_or("not 0")?;
+    let quotients = x.continued_fraction(alloc)?;
+    assert_eq!(quotients.len(), 2);
+    assert!(quotients[0].is_zero());
+    is_long(alloc, &quotients[1], false, &[0, 1 << 36], &[1])?;
     Ok(())
 }

@@ -213,3 +213,13 @@ fn short_ones_take_no_memory() {
     });
     assert!(!was_refused);
 }
+
+#[test]
+fn refused_texts_take_no_memory() {
+    let (_, was_refused) = refused(0, || {
+        for text in ["x", "1/x", "123456789012345678901234567890/0", "1/0000000000000000000000000"] {
+            assert!(matches!(BigFraction::try_from_str(text), Ok(Err(_))), "{text}");
+        }
+    });
+    assert!(!was_refused);
+}

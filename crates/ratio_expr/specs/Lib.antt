@@ -1,5 +1,14 @@
+pub mod Answers
+pub mod Bound
 pub mod Expression
 pub mod Grammar
+pub mod Lines
 pub mod Nesting
+pub mod Numbers
+pub mod Operators
 pub mod Reading
+pub mod Reasons
+pub mod Stacks
 pub mod Tokens
+pub mod Values
+pub mod Worths

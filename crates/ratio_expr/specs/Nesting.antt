@@ -49,3 +49,7 @@ pub record IsTooDeep (text : List ℕ) (at : ℕ) : Type 0 where
   pub place : token.span.start ≡ at
   pub before : depth tokens ≤ most_open
   pub deep : most_open < depth (tokens ++ token ∷ [])
+
+-- at no place more than 1,000 parentheses are open
+abbrev pub IsShallow : List ℕ → Type 0
+IsShallow text = (at : ℕ) → ¬ (IsTooDeep text at)

@@ -1,4 +1,4 @@
-//! Expressions such as `2 + 3 * 4`, from a text to a tree.
+//! Expressions such as `2 + 3 * 4`, from a text to a tree and its value, of any size.
 //!
 //! | Module | What is in it |
 //! |---|---|
@@ -14,12 +14,34 @@
 //! | `expression` | The tree of a text, or the first place that no expression has there, and the column of a place. |
 //! | `laws` | The laws that a text has at most one tree or is refused at one place, and not both. |
 //! | `expression::error` | Why a text has no tree. |
+//! | `refusal` | Why a text has no value, and where. |
+//! | `value` | `Value`: what an expression is worth. |
+//! | `names` | `Names`: values by name. |
+//! | `number` | The number that a piece of a text says. |
+//! | `operation` | What an operator gives of two values, or why it refuses them. |
+//! | `power` | The power of two numbers, if it is not too large to be worth it. |
+//! | `evaluation` | The value of the steps of a tree, over a stack of values. |
+//! | `answer` | The value of a text, or its first refusal. |
+//! | `assignment` | The name that a line gives its value, and the expression of this value. |
+//! | `line` | The value of a line, which gives it names: `x = 3/7`. |
+//! | `value_laws` | The laws that a text is worth at most one value, that it has at most one refusal, and never both. |
 #![tactic(auto)]
 
+pub mod answer;
+mod assignment;
 pub mod depth;
+mod evaluation;
 pub mod expression;
 pub mod laws;
 pub mod lexer;
+pub mod line;
+pub mod names;
+mod number;
+mod operation;
 pub mod parser;
+mod power;
+pub mod refusal;
 pub mod step;
 pub mod token;
+pub mod value;
+pub mod value_laws;

@@ -1,5 +1,8 @@
 //! Texts with many parentheses.
+use ratio_expr::answer::value_of;
 use ratio_expr::expression::{TreeError, tree_of};
+use ratio_expr::names::Names;
+use ratio_expr::refusal::{Reason, Refusal, ValueError};
 use std::alloc::{AllocError, Global};
 use std::test::Fail;
 
@@ -35,6 +38,21 @@ fn more_are_too_deep(rt: HostRuntime) -> Result<(), Fail> {
     assert_eq!(rt;
         tree_of(rt.alloc(), &open).err(),
         Some(TreeError::TooDeep(1000))
+    );
+    Ok(())
+}
+
+#[test]
+fn too_deep_has_no_value(rt: HostRuntime) -> Result<(), Fail> {
+    let open = nested(rt.alloc(), 10_000, 0)?;
+    let names = Names::new(rt.alloc());
+    let refusal = Refusal {
+        reason: Reason::TooDeep,
+        place: 1000,
+    };
+    assert_eq!(rt;
+        value_of(rt.alloc(), &open, &names).err(),
+        Some(ValueError::Refused(refusal))
     );
     Ok(())
 }

@@ -3,6 +3,7 @@ use ratio_expr::laws::{
     no_cut, one_cut, one_refusal, one_too_deep, one_tree, one_tree_of_steps, one_tree_of_text,
     refused_has_no_tree,
 };
+use ratio_expr::value_laws;
 
 #[test]
 fn each_law_is_called() {
@@ -14,4 +15,7 @@ fn each_law_is_called() {
     one_refusal();
     refused_has_no_tree();
     one_too_deep();
+    value_laws::one_worth();
+    value_laws::worth_or_refusal();
+    value_laws::one_refusal();
 }

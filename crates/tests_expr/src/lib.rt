@@ -1,4 +1,4 @@
-//! Tests of expressions: texts with their steps, and texts that are refused, with their columns. The rows are by hand.
+//! Tests of expressions: texts with their steps and values, and texts that are refused, with their columns. The rows are by hand.
 #![tactic(auto)]
 
 #[cfg(test)]
@@ -6,8 +6,16 @@ mod depths;
 #[cfg(test)]
 mod laws;
 #[cfg(test)]
+mod lines;
+#[cfg(test)]
 mod refusals;
 #[cfg(test)]
 mod shown;
 #[cfg(test)]
 mod trees;
+#[cfg(test)]
+mod unvalued;
+#[cfg(test)]
+mod values;
+#[cfg(test)]
+mod worths;

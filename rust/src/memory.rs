@@ -5,7 +5,9 @@
 #![allow(dead_code)]
 
 use alloc::{string, vec};
+use core::borrow::Borrow;
 use core::fmt;
+use core::mem;
 use core::ops::{Deref, DerefMut};
 
 /// The memory of the program.
@@ -37,6 +39,7 @@ impl fmt::Display for AllocError {
 impl std::error::Error for AllocError {}
 
 /// A list in memory.
+#[derive(PartialEq, Eq, PartialOrd, Ord)]
 pub struct Vec<T>(vec::Vec<T>);
 
 impl<T> Vec<T> {
@@ -50,6 +53,11 @@ impl<T> Vec<T> {
         self.more(1)?;
         self.0.push(item);
         Ok(())
+    }
+
+    #[inline]
+    pub fn pop(&mut self) -> Option<T> {
+        self.0.pop()
     }
 
     /// Rust's own list, with the same memory.
@@ -138,6 +146,50 @@ impl<T> DerefMut for Vec<T> {
     #[inline]
     fn deref_mut(&mut self) -> &mut [T] {
         &mut self.0
+    }
+}
+
+impl<T> Borrow<[T]> for Vec<T> {
+    #[inline]
+    fn borrow(&self) -> &[T] {
+        &self.0
+    }
+}
+
+/// Values by key. It is a list in the order of the keys, since Rust's own map ends the program where there is no memory.
+pub struct BTreeMap<K, V>(vec::Vec<(K, V)>);
+
+impl<K: Ord, V> BTreeMap<K, V> {
+    #[inline]
+    pub fn new(_: Global) -> BTreeMap<K, V> {
+        BTreeMap(vec::Vec::new())
+    }
+
+    pub fn get<Q: Ord + ?Sized>(&self, key: &Q) -> Option<&V>
+    where
+        K: Borrow<Q>,
+    {
+        self.place(key).ok().map(|at| &self.0[at].1)
+    }
+
+    /// Gives a value a key, and returns the value that had it. If there is no memory, the map stays as it is.
+    pub fn insert(&mut self, key: K, value: V) -> Result<Option<V>, AllocError> {
+        match self.place(&key) {
+            Ok(at) => Ok(Some(mem::replace(&mut self.0[at].1, value))),
+            Err(at) => {
+                self.0.try_reserve(1).map_err(|_| AllocError)?;
+                self.0.insert(at, (key, value));
+                Ok(None)
+            }
+        }
+    }
+
+    /// The place of the key, or the one that it gets.
+    fn place<Q: Ord + ?Sized>(&self, key: &Q) -> Result<usize, usize>
+    where
+        K: Borrow<Q>,
+    {
+        self.0.binary_search_by(|(k, _)| k.borrow().cmp(key))
     }
 }
 

@@ -17,6 +17,8 @@ pub mod ratio_approximation;
 pub mod ratio_big;
 pub mod ratio_core;
 pub mod ratio_decimal;
+#[cfg(all(feature = "alloc", target_pointer_width = "64"))]
+pub mod ratio_expr;
 pub mod ratio_float;
 pub mod ratio_integer;
 pub mod ratio_laws;
@@ -25,6 +27,8 @@ pub mod ratio_natural;
 pub mod ratio_totals;
 #[cfg(all(test, feature = "std", target_pointer_width = "64"))]
 mod tests_big;
+#[cfg(all(test, feature = "std", target_pointer_width = "64"))]
+mod tests_expr;
 #[cfg(all(test, target_pointer_width = "64"))]
 mod tests_fraction_totals;
 #[cfg(all(test, target_pointer_width = "64"))]

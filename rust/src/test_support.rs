@@ -19,3 +19,17 @@ impl<const N: usize> InlineText<N> {
         &self.0
     }
 }
+
+/// What ends a test of expressions.
+macro_rules! ends_a_test {
+    ($($refusal:ty),*) => { $(
+        #[cfg(all(feature = "std", target_pointer_width = "64"))]
+        impl From<$refusal> for Fail {
+            fn from(refusal: $refusal) -> Fail {
+                std::format!("{:?}", refusal).into()
+            }
+        }
+    )* };
+}
+
+ends_a_test!(crate::proved::ratio_expr::expression::TreeError, crate::proved::ratio_expr::refusal::ValueError);

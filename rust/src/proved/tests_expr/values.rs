@@ -1,0 +1,49 @@
+// Erased from crates/tests_expr/src/values.rt by rust/erase: not to be edited.
+//! Texts as a person types them, and their values.
+use crate::memory::Global;
+use crate::proved::tests_expr::worths::is_worth;
+use crate::test_support::Fail;
+
+#[test]
+fn operators_bind() -> Result<(), Fail> {
+    let alloc = Global;
+    is_worth(alloc, "2 + 3 * 4", "14")?;
+    is_worth(alloc, "2*3+4*5", "26")?;
+    is_worth(alloc, "-2^2", "-4")?;
+    is_worth(alloc, "2^-2", "1/4")?;
+    is_worth(alloc, "2^3^2", "512")
+}
+
+#[test]
+fn numbers_as_typed() -> Result<(), Fail> {
+    let alloc = Global;
+    is_worth(alloc, "1/3 + 0.25", "7/12")?;
+    is_worth(alloc, "1 1/2 * 2", "3")?;
+    is_worth(alloc, "12.5% * 80", "10")?;
+    is_worth(alloc, "100 / 3 * 3", "100")
+}
+
+#[test]
+fn slashes() -> Result<(), Fail> {
+    let alloc = Global;
+    is_worth(alloc, "(1/2 + 1/3) * 6", "5")?;
+    is_worth(alloc, "1/2 / 1/3", "3/2")?;
+    is_worth(alloc, "8 / 2/3", "12")?;
+    is_worth(alloc, "1/2/3", "1/6")?;
+    is_worth(alloc, "--1", "1")
+}
+
+#[test]
+fn comparisons() -> Result<(), Fail> {
+    let alloc = Global;
+    is_worth(alloc, "1/3 < 0.333", "false")?;
+    is_worth(alloc, "1/3 ≤ 2/6", "true")?;
+    is_worth(alloc, "0.5 = 1/2", "true")
+}
+
+#[test]
+fn any_size() -> Result<(), Fail> {
+    let alloc = Global;
+    is_worth(alloc, "2^100", "1267650600228229401496703205376")?;
+    is_worth(alloc, "-7 % 3", "-1")
+}

@@ -36,8 +36,11 @@ extern crate alloc;
 extern crate std;
 
 mod layer;
-#[cfg(feature = "alloc")]
+#[cfg(all(feature = "alloc", not(feature = "proved-calls")))]
 mod memory;
+#[cfg(all(feature = "alloc", feature = "proved-calls"))]
+#[doc(hidden)]
+pub mod memory;
 mod newer;
 #[cfg(not(feature = "proved-calls"))]
 mod proved;

@@ -15,21 +15,21 @@ mod arithmetic;
 mod as_reduced;
 #[cfg(feature = "num-bigint")]
 mod big;
-#[cfg(all(feature = "alloc", target_pointer_width = "64"))]
+#[cfg(feature = "alloc")]
 mod big_fraction;
-#[cfg(all(feature = "alloc", target_pointer_width = "64"))]
+#[cfg(feature = "alloc")]
 mod big_fraction_conversions;
-#[cfg(all(feature = "alloc", target_pointer_width = "64"))]
+#[cfg(feature = "alloc")]
 mod big_fraction_near;
-#[cfg(all(feature = "alloc", target_pointer_width = "64"))]
+#[cfg(feature = "alloc")]
 mod big_fraction_operators;
-#[cfg(all(feature = "alloc", target_pointer_width = "64"))]
+#[cfg(feature = "alloc")]
 mod big_fraction_order;
-#[cfg(all(feature = "alloc", target_pointer_width = "64"))]
+#[cfg(feature = "alloc")]
 mod big_fraction_rounding;
-#[cfg(all(feature = "alloc", target_pointer_width = "64"))]
+#[cfg(feature = "alloc")]
 mod big_fraction_texts;
-#[cfg(all(feature = "alloc", target_pointer_width = "64"))]
+#[cfg(feature = "alloc")]
 mod big_fraction_traits;
 mod bounds;
 mod casts;
@@ -71,7 +71,7 @@ mod total;
 
 #[cfg(feature = "num-bigint")]
 pub use big::BigRational;
-#[cfg(all(feature = "alloc", target_pointer_width = "64"))]
+#[cfg(feature = "alloc")]
 pub use big_fraction::BigFraction;
 pub use casts::CastError;
 pub use continued::{Convergents, Quotients};

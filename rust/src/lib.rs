@@ -64,7 +64,7 @@ pub use layer::BigRational;
 pub use layer::{split, split_by_weights};
 #[cfg(feature = "alloc")]
 pub use layer::{TooLong, Total};
-#[cfg(all(feature = "alloc", target_pointer_width = "64"))]
+#[cfg(feature = "alloc")]
 pub use layer::BigFraction;
 #[cfg(feature = "alloc")]
 pub use memory::AllocError;

@@ -13,11 +13,11 @@ pub mod fraction_totals;
 pub mod itoa;
 pub mod num_rational;
 pub mod ratio_approximation;
-#[cfg(all(feature = "alloc", target_pointer_width = "64"))]
+#[cfg(feature = "alloc")]
 pub mod ratio_big;
 pub mod ratio_core;
 pub mod ratio_decimal;
-#[cfg(all(feature = "alloc", target_pointer_width = "64"))]
+#[cfg(feature = "alloc")]
 pub mod ratio_expr;
 pub mod ratio_float;
 pub mod ratio_integer;
@@ -25,9 +25,9 @@ pub mod ratio_laws;
 pub mod ratio_long;
 pub mod ratio_natural;
 pub mod ratio_totals;
-#[cfg(all(test, feature = "std", target_pointer_width = "64"))]
+#[cfg(all(test, feature = "std"))]
 mod tests_big;
-#[cfg(all(test, feature = "std", target_pointer_width = "64"))]
+#[cfg(all(test, feature = "std"))]
 mod tests_expr;
 #[cfg(all(test, target_pointer_width = "64"))]
 mod tests_fraction_totals;

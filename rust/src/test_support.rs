@@ -23,7 +23,7 @@ impl<const N: usize> InlineText<N> {
 /// What ends a test of expressions.
 macro_rules! ends_a_test {
     ($($refusal:ty),*) => { $(
-        #[cfg(all(feature = "std", target_pointer_width = "64"))]
+        #[cfg(feature = "std")]
         impl From<$refusal> for Fail {
             fn from(refusal: $refusal) -> Fail {
                 std::format!("{:?}", refusal).into()

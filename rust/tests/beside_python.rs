@@ -1,6 +1,6 @@
 //! `BigFraction` beside Python's `Fraction`, by drawn numbers of up to 5,000 decimal digits: five results of each pair, the order and the text.
 //! `BAKHSNEY_PAIRS` says how many pairs. Without `python3` it compares nothing, and says so.
-#![cfg(all(feature = "alloc", target_pointer_width = "64"))]
+#![cfg(feature = "alloc")]
 
 mod support;
 

@@ -1,6 +1,6 @@
 //! `BigFraction` where memory is wanting: the allocator of this program refuses the one request that a test names. Each call with `try_` then returns
 //! an error, one with an `Option` returns `None`, and each other one panics. The operands stay as they were. Short fractions ask for nothing.
-#![cfg(all(feature = "alloc", target_pointer_width = "64"))]
+#![cfg(all(feature = "alloc", panic = "unwind"))]
 
 use bakhsney::{AllocError, BigFraction, Rounding};
 use num_traits::{CheckedAdd, CheckedDiv, CheckedMul, CheckedRem, CheckedSub, Num, Signed, ToPrimitive};

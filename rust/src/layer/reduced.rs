@@ -431,7 +431,7 @@ impl<T: Integer> Reduced<T> {
         Reduced { fraction }
     }
 
-    #[cfg(all(feature = "alloc", target_pointer_width = "64"))]
+    #[cfg(feature = "alloc")]
     #[inline]
     pub(super) fn into_proved(self) -> Proved<T> {
         self.fraction

@@ -38,7 +38,7 @@ impl<'de, T: Integer + Deserialize<'de>> Deserialize<'de> for Reduced<T> {
     }
 }
 
-#[cfg(all(feature = "alloc", target_pointer_width = "64"))]
+#[cfg(feature = "alloc")]
 mod big {
     use super::super::big_fraction::BigFraction;
     use crate::memory::{Global, Vec};

@@ -1,0 +1,35 @@
+//! Answers each line of standard input as the proved calls of expressions do, with names from line to line. An answer is a value, or a
+//! reason, the place in bytes and the column.
+
+use bakhsney::memory::{AllocError, Global};
+use bakhsney::proved::ratio_expr::expression::column;
+use bakhsney::proved::ratio_expr::line::answer;
+use bakhsney::proved::ratio_expr::names::Names;
+use bakhsney::proved::ratio_expr::refusal::ValueError;
+use bakhsney::proved::ratio_expr::value::Value;
+use std::io::{self, BufRead, BufWriter, Write};
+
+fn shown(value: &Value) -> Result<String, AllocError> {
+    Ok(match value {
+        Value::Number(x) => x.to_text(Global)?.into_std(),
+        Value::Truth(truth) => truth.to_string(),
+    })
+}
+
+fn answered(text: &[u8], names: &mut Names) -> Result<String, AllocError> {
+    match answer(Global, text, names) {
+        Ok(value) => shown(&value),
+        Err(ValueError::Refused(refusal)) => Ok(format!("{:?} {} {}", refusal.reason, refusal.place, column(text, refusal.place))),
+        Err(ValueError::Memory) => Err(AllocError),
+    }
+}
+
+fn main() -> io::Result<()> {
+    let mut out = BufWriter::new(io::stdout().lock());
+    let mut names = Names::new(Global);
+    for line in io::stdin().lock().split(b'\n') {
+        let answer = answered(&line?, &mut names).expect("memory");
+        writeln!(out, "{answer}")?;
+    }
+    out.flush()
+}

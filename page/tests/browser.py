@@ -49,6 +49,7 @@ class Page:
     def __init__(self, driver, address):
         self.driver = driver
         self.address = address
+        self.home = address[: address.rindex("/") + 1]
 
     def open(self, fragment=""):
         """Loads the page, and waits until it has answered its first lines or has said why it cannot."""

@@ -85,7 +85,7 @@ def fault_in(driver, folder, address, source, fault):
 
 def faults(driver, home):
     """A sentence for each fault that is not found in a copy of the page."""
-    source = (home / "index.html").read_text()
+    source = (home / "lines.html").read_text()
     with tempfile.TemporaryDirectory() as name, served(name) as address:
         shutil.copy(home / "ratio_page.wasm", name)
         return [fault_in(driver, Path(name), address, source, fault) for fault in FAULTS]

@@ -17,7 +17,7 @@ FRAME = """<!doctype html><body style="margin:0"><iframe style="border:0;width:1
 const wait = (seconds) => new Promise((done) => setTimeout(done, 1000 * seconds));
 async function read() {
   const inner = document.querySelector("iframe");
-  await new Promise((done) => { inner.addEventListener("load", done); inner.src = "/"; });
+  await new Promise((done) => { inner.addEventListener("load", done); inner.src = "/lines.html"; });
   const frame = frames[0], page = frame.document;
   while (page.querySelectorAll(".answer").length < 3) await wait(.1);
   const lines = page.getElementById("lines"), answers = page.getElementById("answers");

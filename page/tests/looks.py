@@ -243,9 +243,9 @@ def browsers_are_named(page):
 
 def nothing_comes_from_elsewhere(page):
     urls = page.js("return performance.getEntriesByType('resource').map((entry) => entry.name)")
-    strange = [url for url in urls if not url.startswith((page.address, "data:"))]
+    strange = [url for url in urls if not url.startswith((page.home, "data:"))]
     source = page.js("return document.documentElement.outerHTML")
-    strange += re.findall(r"""(?:src|href)=["']?(?:https?:)?//[^"' >]+|url\([^)]*\)|@import[^;]*""", source.replace(page.address, ""))
+    strange += re.findall(r"""(?:src|href)=["']?(?:https?:)?//[^"' >]+|url\([^)]*\)|@import[^;]*""", source.replace(page.home, ""))
     policy = page.js("return document.querySelector('meta[http-equiv=Content-Security-Policy]')?.content || ''")
     if strange:
         return f"the page takes something from elsewhere: {strange}"

@@ -1,0 +1,462 @@
+"use strict";
+// The sheet: lines, and the value of each as it is typed.
+
+const LINK_LENGTH = 8000;
+const MOST_LINES = 500;
+const MOST_PLACES = 1000;
+const STORED = "bakhsney.sheet";
+const FIRST_LINES = ["1/3 + 0.25", "x = 3/7", "1 - x", "(1/2 + 1/3) * 6"];
+// A longer fraction gets no pictures.
+const PICTURED_LENGTH = 400;
+
+const element = (id) => document.getElementById(id);
+const rows = element("rows"), told = element("told"), spoken = element("spoken"), keypad = element("keypad");
+const mixed = element("mixed"), places = element("places"), keys = element("keys"), undo = element("undo");
+const link = element("link"), noLink = element("no-link"), copyLink = element("copy-link");
+
+let engine = null;
+let current = null;
+let cleared = null;
+
+// ---- The lines
+
+const inputs = () => [...rows.querySelectorAll(".line")];
+const texts = () => inputs().map((input) => input.value);
+const inputOf = (row) => row.querySelector(".line");
+const replyOf = (row) => row.querySelector(".reply");
+const numberOf = (row) => [...rows.children].indexOf(row) + 1;
+
+let made = 0;
+
+function newRow(text) {
+  made += 1;
+  const row = document.createElement("li");
+  const input = document.createElement("input");
+  Object.assign(input, { className: "line", value: text, spellcheck: false, autocomplete: "off", autocapitalize: "off", enterKeyHint: "enter" });
+  input.setAttribute("aria-describedby", `reply-${made}`);
+  const reply = document.createElement("div");
+  Object.assign(reply, { className: "reply", id: `reply-${made}` });
+  const remove = document.createElement("button");
+  Object.assign(remove, { className: "remove", type: "button", textContent: "×" });
+  input.addEventListener("input", () => typed(row));
+  input.addEventListener("keydown", (event) => pressed(event, row));
+  input.addEventListener("paste", (event) => pasted(event, row));
+  input.addEventListener("focus", () => enter(row));
+  input.addEventListener("blur", () => finish(row));
+  remove.addEventListener("click", () => removeRow(row));
+  row.append(input, reply, remove);
+  return row;
+}
+
+function nameRows() {
+  [...rows.children].forEach((row, index) => {
+    inputOf(row).setAttribute("aria-label", `Line ${index + 1}`);
+    row.querySelector(".remove").setAttribute("aria-label", `Remove line ${index + 1}`);
+    inputOf(row).inputMode = keypad.hidden ? "text" : "none";
+  });
+}
+
+function setLines(lines) {
+  rows.replaceChildren(...lines.slice(0, MOST_LINES).map(newRow));
+  if (lines.length > MOST_LINES) {
+    tell(`The page has at most ${MOST_LINES} lines, and left out the others.`);
+  }
+  nameRows();
+  select(rows.lastElementChild);
+}
+
+function addRow(after, text = "") {
+  if (rows.children.length >= MOST_LINES) {
+    tell(`The page has at most ${MOST_LINES} lines.`);
+    return after;
+  }
+  const row = newRow(text);
+  after.after(row);
+  nameRows();
+  return row;
+}
+
+function removeRow(row) {
+  const other = row.previousElementSibling ?? row.nextElementSibling ?? addRow(row);
+  row.remove();
+  nameRows();
+  changed();
+  go(other);
+}
+
+function go(row, place = inputOf(row).value.length) {
+  inputOf(row).focus();
+  inputOf(row).setSelectionRange(place, place);
+}
+
+function typed(row) {
+  row.classList.add("unfinished");
+  tell("");
+  changed();
+  sayLater(row);
+}
+
+function pressed(event, row) {
+  const input = inputOf(row), above = row.previousElementSibling, below = row.nextElementSibling;
+  if (event.isComposing) {
+    return;
+  }
+  if (event.key === "Enter") {
+    const next = below !== null && inputOf(below).value === "" ? below : addRow(row);
+    say(row);
+    changed();
+    go(next);
+  } else if (event.key === "ArrowUp" && above !== null) {
+    go(above);
+  } else if (event.key === "ArrowDown" && below !== null) {
+    go(below);
+  } else if (event.key === "Backspace" && input.value === "" && rows.children.length > 1) {
+    removeRow(row);
+  } else {
+    return;
+  }
+  event.preventDefault();
+}
+
+// Puts a text of several lines into as many rows.
+function pasted(event, row) {
+  const lines = event.clipboardData.getData("text").replace(/\r\n?|\n$/g, "\n").replace(/\n$/, "").split("\n");
+  if (lines.length === 1) {
+    return;
+  }
+  event.preventDefault();
+  const input = inputOf(row), behind = input.value.slice(input.selectionEnd);
+  input.value = input.value.slice(0, input.selectionStart) + lines[0] + (lines.length === 1 ? behind : "");
+  let last = row;
+  for (const text of lines.slice(1)) {
+    last = addRow(last, text);
+  }
+  const end = inputOf(last).value.length;
+  inputOf(last).value += behind;
+  changed();
+  go(last, end);
+}
+
+function select(row) {
+  current?.classList.remove("current");
+  current = row;
+  row.classList.add("current");
+  drawPictures();
+}
+
+function enter(row) {
+  select(row);
+}
+
+function finish(row) {
+  row.classList.remove("unfinished");
+}
+
+// ---- The values
+
+// How many places the decimals have.
+function placesWanted() {
+  const wanted = Math.trunc(Number(places.value));
+  return Number.isFinite(wanted) ? Math.max(0, Math.min(MOST_PLACES, wanted)) : 6;
+}
+
+// What the engine writes for the lines: a row for each, of fields with tabs between them.
+function fieldsOf(out) {
+  return out.split("\n").slice(0, -1).map((row) => row.split("\t"));
+}
+
+function changed() {
+  engine?.ask("lines", "ratio_sheet_rows", texts().map((text) => text.replaceAll("\n", " ")).join("\n"), placesWanted(), show);
+  drawBeats();
+  keep();
+  renewLink();
+}
+
+function show(out, why) {
+  if (out === null) {
+    tell(`There are no values: ${why}. Change a line.`);
+    return;
+  }
+  const found = fieldsOf(out);
+  [...rows.children].forEach((row, index) => showReply(row, found[index] ?? ["empty"]));
+  drawPictures();
+}
+
+function showReply(row, fields) {
+  const shown = JSON.stringify([fields, mixed.checked, fields[0] === "refused" && inputOf(row).value]);
+  if (row.shown === shown) {
+    return;
+  }
+  row.shown = shown;
+  row.fields = fields;
+  const reply = replyOf(row);
+  reply.replaceChildren(...partsOf(row, fields));
+  inputOf(row).setAttribute("aria-invalid", fields[0] === "refused" || fields[0] === "memory");
+}
+
+function partsOf(row, [kind, ...fields]) {
+  switch (kind) {
+    case "number": return numberParts(...fields);
+    case "truth": return [copyButton("value", fields[0])];
+    case "refused": return [refusal(inputOf(row).value, fields[0], Number(fields[1]))];
+    case "memory": return [reasonOf("error: the memory did not suffice")];
+    default: return [];
+  }
+}
+
+// The exact value and, beside a fraction, its decimal after `=` or `≈`.
+function numberParts(fraction, decimal, mixedText, read) {
+  const parts = [copyButton("value", mixed.checked ? mixedText : fraction)];
+  if (fraction.includes("/")) {
+    const exact = isExact(fractionOf(fraction), decimal);
+    parts.push(copyButton("value decimal", exact ? decimal.replace(/\.?0+$/, "") : decimal, exact ? "= " : "≈ "));
+  }
+  if (read) {
+    parts.push(Object.assign(document.createElement("span"), { className: "quiet", textContent: `read as ${read}` }));
+  }
+  return parts;
+}
+
+// Whether a fraction's decimal, rounded to its places, is all of it.
+function isExact({ d }, decimal) {
+  return 10n ** BigInt((decimal.split(".")[1] ?? "").length) % d === 0n;
+}
+
+function copyButton(name, text, before = "") {
+  const button = document.createElement("button");
+  Object.assign(button, { className: name, type: "button", textContent: before + shortened(text), title: "Copy" });
+  button.setAttribute("aria-label", `${before.startsWith("≈") ? "about " : ""}${shortened(text)}, copy`);
+  button.addEventListener("click", () => copy(text, `${shortened(text)} is`));
+  return button;
+}
+
+function reasonOf(text) {
+  return Object.assign(document.createElement("span"), { className: "reason", textContent: text });
+}
+
+// The part of a line around a column, with a mark at the character there and a caret under it, and the reason.
+function refusal(text, reason, column) {
+  const letters = [...text], at = column - 1, start = Math.max(0, at - 16), end = Math.min(letters.length, at + 10);
+  const before = (start > 0 ? "…" : "") + letters.slice(start, at).join("");
+  const where = document.createElement("pre");
+  where.className = "where";
+  where.setAttribute("aria-hidden", "true");
+  const mark = document.createElement("mark");
+  mark.textContent = letters[at] ?? " ";
+  const caret = document.createElement("b");
+  caret.textContent = "^";
+  where.append(before, mark, letters.slice(at + 1, end).join("") + (end < letters.length ? "…" : ""), "\n", " ".repeat([...before].length), caret);
+  const box = document.createElement("div");
+  box.className = at >= letters.length ? "refusal at-end" : "refusal";
+  box.append(where, reasonOf(`error: ${reason}, at column ${column}`));
+  return box;
+}
+
+// ---- What is said
+
+let saying = 0;
+
+function tell(text) {
+  told.textContent = text;
+}
+
+// Says the value of a line, for a screen reader.
+function say(row) {
+  clearTimeout(saying);
+  const said = replyOf(row)?.innerText.replace(/\s+/g, " ").trim();
+  const reason = row.querySelector(".reason")?.textContent;
+  spoken.textContent = said ? `Line ${numberOf(row)}: ${reason ?? said.replace("≈", ", about").replace(" ,", ",")}` : "";
+}
+
+function sayLater(row) {
+  clearTimeout(saying);
+  saying = setTimeout(() => say(row), 900);
+}
+
+async function copy(text, name) {
+  try {
+    await navigator.clipboard.writeText(text);
+    tell(`${name} copied.`);
+  } catch {
+    tell("This browser does not let the page copy. Select the text, or use the menu of the link.");
+  }
+}
+
+// ---- What is kept: in this browser, and in a link
+
+// The lines are in the part behind `#`.
+function linkTo() {
+  const parts = [`lines=${encodeURIComponent(texts().join("\n").toWellFormed())}`];
+  if (placesWanted() !== 6) {
+    parts.push(`places=${placesWanted()}`);
+  }
+  if (mixed.checked) {
+    parts.push("mixed=1");
+  }
+  const address = `${location.href.split("#")[0]}#${parts.join("&")}`;
+  return address.length > LINK_LENGTH ? null : address;
+}
+
+function renewLink() {
+  const address = linkTo();
+  noLink.hidden = address !== null;
+  copyLink.disabled = address === null;
+  if (address === null) {
+    link.removeAttribute("href");
+  } else {
+    link.href = address;
+  }
+}
+
+// What a link holds, or null where the page's address holds no lines.
+function sheetOfAddress() {
+  const found = new Map(location.hash.slice(1).split("&").map((pair) => [pair.split("=")[0], pair.slice(pair.indexOf("=") + 1)]));
+  if (!found.has("lines")) {
+    return null;
+  }
+  try {
+    return { lines: decodeURIComponent(found.get("lines")).split("\n"), places: Number(found.get("places") ?? 6), mixed: found.get("mixed") === "1" };
+  } catch {
+    tell("The lines of this link could not be read: a part of it is missing or wrong.");
+    return null;
+  }
+}
+
+function keep() {
+  try {
+    localStorage.setItem(STORED, JSON.stringify({ lines: texts(), places: placesWanted(), mixed: mixed.checked, keypad: !keypad.hidden }));
+  } catch {
+    // A browser that keeps nothing has the lines until the page is closed.
+  }
+}
+
+function kept() {
+  try {
+    const found = JSON.parse(localStorage.getItem(STORED));
+    return Array.isArray(found?.lines) && found.lines.length > 0 && found.lines.every((text) => typeof text === "string") ? found : null;
+  } catch {
+    return null;
+  }
+}
+
+function take({ lines, places: wanted = 6, mixed: isMixed = false }) {
+  places.value = Number.isInteger(wanted) ? Math.max(0, Math.min(MOST_PLACES, wanted)) : 6;
+  mixed.checked = isMixed === true;
+  setLines(lines);
+}
+
+function takeAddress() {
+  const found = sheetOfAddress();
+  if (found !== null) {
+    take(found);
+    changed();
+  }
+}
+
+// ---- The pictures
+
+let pictured = "";
+
+function redrawPictures() {
+  pictured = "";
+  drawPictures();
+  drawBeats();
+}
+
+function drawPictures() {
+  const [kind, fraction] = current?.fields ?? [];
+  const text = kind === "number" && fraction.length <= PICTURED_LENGTH ? fraction : "";
+  if (text === pictured) {
+    return;
+  }
+  pictured = text;
+  element("pictures").hidden = text === "";
+  if (text === "") {
+    return;
+  }
+  element("pictured").textContent = shortened(text);
+  element("number-line").replaceChildren(...numberLine(fractionOf(text)));
+  engine.ask("quotients", "ratio_sheet_quotients", text, 0, (out) => {
+    if (out !== null && pictured === text) {
+      element("continued").replaceChildren(...continuedFraction(fractionOf(text), out.trim().split(" ").map(BigInt)));
+    }
+  });
+}
+
+function drawBeats() {
+  const wanted = [...document.querySelectorAll(".beat")].map((input) => input.value);
+  engine?.ask("beats", "ratio_sheet_rows", [...texts(), ...wanted].join("\n"), 0, (out) => {
+    if (out !== null) {
+      element("beats").replaceChildren(...beatParts(fieldsOf(out).slice(-wanted.length)));
+    }
+  });
+}
+
+function beatParts(found) {
+  const names = ["first", "second", "third"];
+  const wrong = found.findIndex(([kind, text]) => kind === "refused" || kind === "truth" || (kind === "number" && !/^[1-9]/.test(text)));
+  if (wrong >= 0) {
+    return [paragraph(`The ${names[wrong]} one is no length above 0${found[wrong][0] === "refused" ? `: ${found[wrong][1]}, at column ${found[wrong][2]}` : ""}.`)];
+  }
+  const lengths = found.filter(([kind, text]) => kind === "number" && text.length <= PICTURED_LENGTH).map(([, text]) => fractionOf(text));
+  return lengths.length < 2 ? [paragraph("Type two lengths, or three.")] : beats(lengths);
+}
+
+// ---- The start
+
+function showKeypad(shown) {
+  keypad.hidden = !shown;
+  keys.setAttribute("aria-pressed", shown);
+  nameRows();
+}
+
+function clear() {
+  cleared = texts();
+  setLines([""]);
+  undo.hidden = false;
+  changed();
+  go(rows.firstElementChild);
+}
+
+function restore() {
+  setLines(cleared);
+  undo.hidden = true;
+  changed();
+  go(rows.lastElementChild);
+}
+
+function listen() {
+  mixed.addEventListener("change", changed);
+  places.addEventListener("input", changed);
+  keys.addEventListener("click", () => { showKeypad(keypad.hidden); keep(); });
+  element("add").addEventListener("click", () => { const row = addRow(rows.lastElementChild); changed(); go(row); });
+  element("clear").addEventListener("click", clear);
+  undo.addEventListener("click", restore);
+  copyLink.addEventListener("click", () => copy(link.href, "The link is"));
+  document.querySelectorAll(".beat").forEach((input) => input.addEventListener("input", drawBeats));
+  window.addEventListener("hashchange", takeAddress);
+  window.addEventListener("resize", redrawPictures);
+}
+
+async function start() {
+  engine = await loadedEngine();
+  const before = kept();
+  drawKeypad(keypad, () => inputOf(current));
+  take(sheetOfAddress() ?? before ?? { lines: FIRST_LINES });
+  showKeypad(before?.keypad ?? matchMedia("(pointer: coarse)").matches);
+  element("switch").hidden = document.getElementById("module") !== null;
+  for (const id of ["sheet", "meeting"]) {
+    element(id).hidden = false;
+  }
+  element("notice").hidden = true;
+  listen();
+  changed();
+  if (sheetOfAddress() === null && !matchMedia("(pointer: coarse)").matches) {
+    go(rows.lastElementChild);
+  }
+}
+
+start().catch((why) => {
+  element("notice").textContent = "";
+  element("failure").textContent = typeof why === "string" ? why : `The calculator could not start: ${why.message}.`;
+});

@@ -63,7 +63,7 @@ class Engine {
   begin() {
     this.worker = new Worker(this.source);
     this.worker.onmessage = ({ data }) => this.answered(data);
-    this.worker.onerror = () => this.stop("the engine failed");
+    this.worker.onerror = () => this.asked !== null && this.stop("the engine failed");
     this.worker.postMessage({ module: this.module });
   }
 

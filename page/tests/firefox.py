@@ -1,4 +1,4 @@
-"""The page in Firefox, without a driver: a frame round the page reads it, and tells the server what it found."""
+"""The two pages in Firefox, without a driver: a frame round the page reads it, and tells the server what it found."""
 import json
 import shutil
 import subprocess
@@ -15,9 +15,15 @@ TEXT = "1/2 + 1/3\n1 / 0\n7/2 % 2/3\n" + " + ".join(["1/2"] * 60) + "\n" + "1 + 
 FRAME = """<!doctype html><body style="margin:0"><iframe style="border:0;width:1280px;height:900px"></iframe><img src="/late" alt="">
 <script>
 const wait = (seconds) => new Promise((done) => setTimeout(done, 1000 * seconds));
+async function opened(inner, address) {
+  await new Promise((done) => { inner.addEventListener("load", done, { once: true }); inner.src = address; });
+}
 async function read() {
   const inner = document.querySelector("iframe");
-  await new Promise((done) => { inner.addEventListener("load", done); inner.src = "/lines.html"; });
+  await opened(inner, "/index.html#lines=" + encodeURIComponent("1/3 + 0.25\\n2 + x"));
+  while (frames[0].document.querySelectorAll(".value").length < 2) await wait(.1);
+  const values = [...frames[0].document.querySelectorAll(".value, .reason")].map((part) => part.textContent);
+  await opened(inner, "/lines.html");
   const frame = frames[0], page = frame.document;
   while (page.querySelectorAll(".answer").length < 3) await wait(.1);
   const lines = page.getElementById("lines"), answers = page.getElementById("answers");
@@ -29,7 +35,7 @@ async function read() {
   const at = [answers.scrollLeft, answers.scrollTop];
   lines.scrollTo(0, 0);
   await wait(.3);
-  return { texts, at };
+  return { values, texts, at };
 }
 read().catch((error) => ({ texts: String(error) })).then((found) => fetch("/found", { method: "POST", body: JSON.stringify(found) }));
 </script>"""
@@ -75,6 +81,8 @@ def look_at(home, folder):
             subprocess.run(command, timeout=90, stdout=subprocess.DEVNULL, stderr=subprocess.DEVNULL, check=True)
         except (subprocess.TimeoutExpired, subprocess.CalledProcessError):
             return "Firefox took no picture of the page"
+    if found.get("values") != ["7/12", "≈ 0.583333", "error: nothing has this name, at column 5"]:
+        return f"in Firefox the page for expressions shows {found}"
     if found.get("texts") != program_answers(TEXT):
         return f"Firefox shows other answers than the program: {str(found.get('texts'))[:80]!r}"
     return None if found["at"] == [120, 300] else f"in Firefox the boxes do not scroll together: {found['at']}"

@@ -28,6 +28,8 @@ mod big_fraction_order;
 #[cfg(feature = "alloc")]
 mod big_fraction_rounding;
 #[cfg(feature = "alloc")]
+mod big_fraction_simplest;
+#[cfg(feature = "alloc")]
 mod big_fraction_texts;
 #[cfg(feature = "alloc")]
 mod big_fraction_traits;

@@ -269,6 +269,37 @@ fn quotients(x: &Original<BigInt>) -> Vec<BigInt> {
     quotients
 }
 
+/// The simplest fraction strictly between two, by a search through the denominators up to 200.
+fn simplest(low: &Original<BigInt>, high: &Original<BigInt>) -> Option<Original<BigInt>> {
+    (1..=200).map(BigInt::from).find_map(|denom| {
+        let first = (low * &denom).floor().to_integer() + 1;
+        let last = (high * &denom).ceil().to_integer() - 1;
+        (first <= last).then(|| Original::new(BigInt::zero().max(first).min(last), denom))
+    })
+}
+
+#[test]
+fn simplest_between_two() {
+    let mut numbers = Numbers(11);
+    for _ in 0..pairs() {
+        let left = fraction(&mut numbers);
+        let right = beside(&left, &mut numbers);
+        let ((x, low), (y, high)) = if left.1 < right.1 { (&left, &right) } else { (&right, &left) };
+        let found = BigFraction::try_simplest_between(x, y).unwrap();
+        assert_eq!(found, BigFraction::simplest_between(x, y));
+        assert_eq!(found.is_none(), low == high, "between {x} and {y}");
+        assert_eq!(BigFraction::simplest_between(y, x), None, "between {y} and {x}");
+        match (simplest(low, high), found) {
+            (Some(expected), found) => assert_eq!(found.map(fields), Some(original(expected)), "between {x} and {y}"),
+            (None, Some(found)) => {
+                assert!(x < &found && &found < y, "{found} is between {x} and {y}");
+                assert!(fields(found).1 > BigInt::from(200), "between {x} and {y}");
+            }
+            (None, None) => {}
+        }
+    }
+}
+
 #[test]
 fn fractions_near() {
     let mut numbers = Numbers(9);

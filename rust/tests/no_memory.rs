@@ -89,6 +89,11 @@ fn long() -> (BigFraction, BigFraction) {
     (x, y)
 }
 
+/// The second one of these with a numerator that is greater by 1.
+fn next() -> BigFraction {
+    BigFraction::from_digits(false, &[6, 1], &[0, 0, 7]).unwrap()
+}
+
 /// Takes any text, without memory.
 struct Nowhere;
 
@@ -103,6 +108,7 @@ const LONG: &str = "-123456789012345678901234567890/7";
 #[test]
 fn tried() {
     let (x, y) = &long();
+    let next = &next();
     let before = (x.to_string(), y.to_string());
     let ok = |result: Result<BigFraction, AllocError>| result.map(drop);
     let some = |result: Result<Option<BigFraction>, AllocError>| result.map(|fraction| drop(fraction.expect("it exists")));
@@ -118,6 +124,7 @@ fn tried() {
         some(x.try_recip());
         some(x.try_pow(-5));
         some(x.try_round_to(y, Rounding::Up));
+        some(BigFraction::try_simplest_between(y, next));
         x.try_continued_fraction().map(drop);
         [x.try_floor(), x.try_ceil(), x.try_round(), x.try_trunc(), x.try_fract()].into_iter().try_for_each(ok);
         x.try_cmp(y).map(drop);
@@ -165,6 +172,7 @@ fn options() {
 #[test]
 fn panics() {
     let (x, y) = &long();
+    let next = &next();
     let calls = calls! {
         drop(x + y);
         drop(x - y);
@@ -177,6 +185,7 @@ fn panics() {
         drop(x.recip());
         drop(x.pow(3));
         drop(x.round_to(y, Rounding::Up));
+        drop(BigFraction::simplest_between(y, next));
         drop(x.continued_fraction());
         drop((x.floor(), x.ceil(), x.round(), x.trunc(), x.fract()));
         assert!(x < y);
@@ -209,6 +218,7 @@ fn short_ones_take_no_memory() {
         let all = [&x + &y, &x - &y, &x * &y, &x / &y, &x % &y, -&x, x.abs(), x.clone(), x.recip(), x.pow(20)];
         assert!(all.iter().all(|result| result < &BigFraction::from(i64::MAX)));
         assert!(x.floor() < x.ceil() && x.round() == x.trunc() && x == x.clone() && x.fract().is_negative());
+        assert!(BigFraction::simplest_between(&x, &y) == Some(BigFraction::from(0)) && BigFraction::simplest_between(&y, &x).is_none());
         assert_eq!(("-7/6".parse(), BigFraction::from_float(0.5), x.to_i64()), (Ok(x), Some(BigFraction::new(1, 2)), Some(-1)));
     });
     assert!(!was_refused);

@@ -25,6 +25,7 @@ mod reading;
 mod remainders;
 mod rounding;
 mod signs;
+mod simplest;
 mod sums;
 mod texts;
 

@@ -23,6 +23,8 @@ mod rounding;
 #[cfg(test)]
 mod signs;
 #[cfg(test)]
+mod simplest;
+#[cfg(test)]
 mod texts;
 #[cfg(test)]
 mod wide;

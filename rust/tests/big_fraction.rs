@@ -285,17 +285,17 @@ fn simplest_between_two() {
         let left = fraction(&mut numbers);
         let right = beside(&left, &mut numbers);
         let ((x, low), (y, high)) = if left.1 < right.1 { (&left, &right) } else { (&right, &left) };
-        let found = BigFraction::try_simplest_between(x, y).unwrap();
-        assert_eq!(found, BigFraction::simplest_between(x, y));
-        assert_eq!(found.is_none(), low == high, "between {x} and {y}");
-        assert_eq!(BigFraction::simplest_between(y, x), None, "between {y} and {x}");
-        match (simplest(low, high), found) {
-            (Some(expected), found) => assert_eq!(found.map(fields), Some(original(expected)), "between {x} and {y}"),
-            (None, Some(found)) => {
+        rows! { (x, y);
+            BigFraction::simplest_between(x, y).is_none() => low == high;
+            BigFraction::try_simplest_between(x, y) => Ok(BigFraction::simplest_between(x, y));
+            BigFraction::simplest_between(y, x) => None;
+        };
+        match (BigFraction::simplest_between(x, y), simplest(low, high)) {
+            (Some(found), None) => {
                 assert!(x < &found && &found < y, "{found} is between {x} and {y}");
                 assert!(fields(found).1 > BigInt::from(200), "between {x} and {y}");
             }
-            (None, None) => {}
+            (found, expected) => assert_eq!(found.map(fields), expected.map(original), "between {x} and {y}"),
         }
     }
 }

@@ -37,7 +37,13 @@ fn between_short_ends(rt: HostRuntime) -> Result<(), Fail> {
     finds(&rt, alloc, "7/2", "18/5", "25/7")?;
     finds(&rt, alloc, "-1/2", "5/2", "0")?;
     finds(&rt, alloc, "5/3", "7/2", "2")?;
-    finds(&rt, alloc, "0", "1/9223372036854775807", "1/9223372036854775808")?;
+    finds(
+        &rt,
+        alloc,
+        "0",
+        "1/9223372036854775807",
+        "1/9223372036854775808",
+    )?;
     Ok(())
 }
 
@@ -50,7 +56,13 @@ fn between_long_ends(rt: HostRuntime) -> Result<(), Fail> {
     finds(&rt, alloc, least, next, "2535301200456458802993406410753/2")?;
     finds(&rt, alloc, "-1/7", next, "0")?;
     finds(&rt, alloc, "1/7", next, "1")?;
-    finds(&rt, alloc, "0", "1/18446744073709551616", "1/18446744073709551617")?;
+    finds(
+        &rt,
+        alloc,
+        "0",
+        "1/18446744073709551616",
+        "1/18446744073709551617",
+    )?;
     finds(
         &rt,
         alloc,

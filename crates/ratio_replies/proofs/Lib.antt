@@ -1,0 +1,2 @@
+pub mod DenominatorLemmas
+pub mod MixedLemmas

@@ -1,0 +1,22 @@
+//! What a line that a person types is answered: its value in a form, or why it has none, with a caret below the place.
+//!
+//! | Module | What is in it |
+//! |---|---|
+//! | `form` | `Form`: as what a number is written. |
+//! | `written` | The text of a value in a form. |
+//! | `mixed` | A number as its whole part and the rest: `1 5/12`. |
+//! | `both` | A fraction with its decimal beside it: `7/12 ≈ 0.583333`. |
+//! | `refused` | The text of a refusal: the line, a caret and the reason. |
+//! | `reply` | `Reply`: what a line is answered. |
+#![tactic(auto)]
+
+mod both;
+mod form;
+mod mixed;
+mod refused;
+mod reply;
+mod written;
+
+pub use form::Form;
+pub use reply::{Reply, reply_to};
+pub use written::value_text;

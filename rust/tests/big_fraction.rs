@@ -411,7 +411,43 @@ fn floats() {
             BigFraction::from_f32(float as f32).map(fields) => Original::from_float(float as f32).map(original);
             BigFraction::from_float(float as f32).map(fields) => Original::from_float(float as f32).map(original);
             bits(BigFraction::from_float(float).and_then(|x| x.to_f64())) => bits(old.and(Some(float + 0.0)));
+            BigFraction::from_float(float as f32).and_then(|x| x.to_f32()).map(f32::to_bits) => (float as f32).is_finite().then(|| (float as f32 + 0.0).to_bits());
         };
+    }
+}
+
+/// The bits of the nearest `f32`: its place, the least one that leaves at most 24 binary digits, and these digits. A tie goes to the even number.
+fn bits_of_32(x: &Original<BigInt>) -> u32 {
+    let sign = u32::from(x.is_negative()) << 31;
+    let power = |k: u32| Original::from(BigInt::one() << k);
+    let size = x.abs() * power(149);
+    let least = if x.is_zero() { 0 } else { (125 + x.numer().bits()).saturating_sub(x.denom().bits()).min(254) as u32 };
+    let place = match (least..254).find(|&place| (&size / power(place)).to_integer().bits() <= 24) {
+        Some(place) => place,
+        None => return sign | 0x7f80_0000,
+    };
+    let units = size / power(place);
+    let whole = units.to_integer();
+    let rest = (units - &whole) * BigInt::from(2);
+    let is_up = rest > Original::one() || rest.is_one() && whole.bit(0);
+    // A carry of the digits goes into the place.
+    sign | (place << 23) + (whole + u8::from(is_up)).to_u32().unwrap()
+}
+
+/// `to_f32` rounds once, also beside a tie of 32 bits that an `f64` cannot tell from it.
+#[test]
+fn floats_of_32_bits() {
+    let mut numbers = Numbers(9);
+    for _ in 0..pairs() {
+        let (x, old) = fraction(&mut numbers);
+        let tie = f32::from_bits((numbers.word() >> 33) as u32 % 0x7f00_0000);
+        let (low, high) = (BigFraction::from_float(tie).unwrap(), BigFraction::from_float(f32::from_bits(tie.to_bits() + 1)).unwrap());
+        let beside = (low + high) / BigFraction::from(2) * (BigFraction::from(1) + BigFraction::new(1, 1i128 << 70));
+        for (x, old) in [(x, old), (beside.clone(), Original::from(fields(beside)))] {
+            rows! { x;
+                [x.to_f32(), x.try_to_f32().ok()].map(|float| float.map(f32::to_bits)) => [Some(bits_of_32(&old)); 2];
+            };
+        }
     }
 }
 

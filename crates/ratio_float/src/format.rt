@@ -5,8 +5,8 @@ ghost use Rattle.std.specs.Float.Ieee.{fits, hid, low, ones, prec, top};
 ghost use Rattle.std.proofs.Common.{refl};
 ghost use Rattle.ratio_float.specs.Floats.{nearest_float};
 
-/// A type of floats.
-pub(crate) trait FloatType: Copy {
+/// A type of floats: `f64` or `f32`.
+pub trait FloatType: Copy {
     ghost format: { Format };
 
     ghost value: { Self → Float };

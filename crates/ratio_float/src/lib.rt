@@ -12,7 +12,7 @@
 #![tactic(auto)]
 
 pub mod exact;
-mod format;
+pub mod format;
 mod gap;
 pub mod leading;
 pub mod nearest;

@@ -61,3 +61,85 @@ fn exact_values(rt: HostRuntime) -> Result<(), Fail> {
     assert!(rt; BigFraction::from_f64(alloc, f64::NAN)?.is_none());
     Ok(())
 }
+
+/// The float of 32 bits nearest to the fraction of the text has these bits.
+fn is_near32(rt: &impl Abort, alloc: Global, text: &str, bits: u32) -> Result<(), Fail> {
+    let near = BigFraction::from_text(alloc, text)??.to_f32(alloc)?;
+    assert!(rt; !near.is_nan());
+    assert_eq!(rt; near.to_bits(), bits);
+    Ok(())
+}
+
+/// 2^64+2^40 is a tie of 32 bits. The float of 64 bits nearest to 2^64+2^40+1 is this tie, so that to round it again is wrong.
+#[test]
+fn nearest_floats_of_32_bits(rt: HostRuntime) -> Result<(), Fail> {
+    let alloc = rt.alloc();
+    is_near32(&rt, alloc, "0.1", 0x3dcccccd)?;
+    is_near32(&rt, alloc, "18446745173221179392", 0x5f800000)?;
+    is_near32(&rt, alloc, "18446745173221179393", 0x5f800001)?;
+    is_near32(&rt, alloc, "-18446747372244434944", 0xdf800002)?;
+    is_near32(&rt, alloc, "-18446747372244434943", 0xdf800001)?;
+    // 1 + 2^-24 + 2^-60, and 1 + 2^-24 + 10^-20
+    is_near32(
+        &rt,
+        alloc,
+        "1152921573326323713/1152921504606846976",
+        0x3f800001,
+    )?;
+    is_near32(
+        &rt,
+        alloc,
+        "1600000095367431640641/1600000000000000000000",
+        0x3f800001,
+    )?;
+    Ok(())
+}
+
+/// The greatest float and the least one, and what is halfway to the next one.
+#[test]
+fn limits_of_32_bits(rt: HostRuntime) -> Result<(), Fail> {
+    let alloc = rt.alloc();
+    is_near32(
+        &rt,
+        alloc,
+        "340282356779733661637539395458142568447",
+        0x7f7fffff,
+    )?;
+    is_near32(
+        &rt,
+        alloc,
+        "340282356779733661637539395458142568448",
+        0x7f800000,
+    )?;
+    is_near32(&rt, alloc, "-1e400", 0xff800000)?;
+    is_near32(&rt, alloc, "1e-400", 0)?;
+    is_near32(
+        &rt,
+        alloc,
+        "1/1427247692705959881058285969449495136382746624",
+        0,
+    )?;
+    is_near32(
+        &rt,
+        alloc,
+        "1/1427247692705959881058285969449495136382746623",
+        1,
+    )?;
+    Ok(())
+}
+
+#[test]
+fn exact_values_of_32_bits(rt: HostRuntime) -> Result<(), Fail> {
+    let alloc = rt.alloc();
+    let tenth = BigFraction::from_f32(alloc, 0.1)?.ok_or("no value")?;
+    is_short(&rt, &tenth, 13421773, 134217728);
+    let zero = BigFraction::from_f32(alloc, -0.0)?.ok_or("no value")?;
+    is_short(&rt, &zero, 0, 1);
+    let least = BigFraction::from_f32(alloc, 1e-45)?.ok_or("no value")?;
+    is_long(&rt, alloc, &least, false, &[1], &[0, 0, 1 << 21])?;
+    let most = BigFraction::from_f32(alloc, f32::MAX)?.ok_or("no value")?;
+    is_long(&rt, alloc, &most, false, &[0, 0xffffff0000000000], &[1])?;
+    assert!(rt; BigFraction::from_f32(alloc, f32::INFINITY)?.is_none());
+    assert!(rt; BigFraction::from_f32(alloc, f32::NAN)?.is_none());
+    Ok(())
+}

@@ -199,4 +199,17 @@ impl BigFraction {
     pub fn try_to_f64(&self) -> Result<f64, AllocError> {
         self.0.to_f64(Global)
     }
+
+    /// The nearest `f32`, rounded once, or an error for want of memory.
+    ///
+    /// ```
+    /// use num_rational::BigFraction;
+    ///
+    /// let above_a_tie = BigFraction::from((1u128 << 64) + (1 << 40) + 1);
+    /// assert_eq!(above_a_tie.try_to_f32(), Ok(18446746272732807168.0));
+    /// assert_eq!(above_a_tie.try_to_f64().unwrap() as f32, 18446744073709551616.0); // rounded twice
+    /// ```
+    pub fn try_to_f32(&self) -> Result<f32, AllocError> {
+        self.0.to_f32(Global)
+    }
 }

@@ -115,8 +115,8 @@ impl FromPrimitive for BigFraction {
     }
 }
 
-/// The fraction cut towards 0, or `None` if that does not fit the integer type. And the nearest `f64`. `to_f32` rounds that once more, as in
-/// num-rational.
+/// The fraction cut towards 0, or `None` if that does not fit the integer type. And the nearest float, rounded once. num-rational's `to_f32`
+/// rounds twice.
 impl ToPrimitive for BigFraction {
     fn to_i64(&self) -> Option<i64> {
         self.whole()
@@ -132,6 +132,10 @@ impl ToPrimitive for BigFraction {
 
     fn to_u128(&self) -> Option<u128> {
         self.whole()
+    }
+
+    fn to_f32(&self) -> Option<f32> {
+        self.try_to_f32().ok()
     }
 
     fn to_f64(&self) -> Option<f64> {

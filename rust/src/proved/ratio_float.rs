@@ -1,7 +1,7 @@
 // Erased from crates/ratio_float/src/lib.rt by rust/erase: not to be edited.
 //! Floats as fractions, the floats nearest to fractions, and the simplest fractions that round to floats.
 pub mod exact;
-mod format;
+pub mod format;
 mod gap;
 pub mod leading;
 pub mod nearest;

@@ -8,6 +8,6 @@ mod places;
 mod rounding;
 
 pub use decimal::put_decimal;
-pub use float::nearest_f64;
+pub use float::{nearest_f64, to_float};
 pub use places::put_places;
 pub use rounding::{round_fraction, round_quotient};

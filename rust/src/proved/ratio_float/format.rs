@@ -1,8 +1,8 @@
 // Erased from crates/ratio_float/src/format.rt by rust/erase: not to be edited.
 //! The trait `FloatType`: the bits, the limits and the quotients of `f64` and `f32`, as the rounding needs them.
 
-/// A type of floats.
-pub(crate) trait FloatType: Copy {
+/// A type of floats: `f64` or `f32`.
+pub trait FloatType: Copy {
     /// How many binary digits a float has, with the leading one.
     const DIGITS: u64;
 

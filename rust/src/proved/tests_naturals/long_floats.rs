@@ -1,6 +1,6 @@
 // Erased from crates/tests_naturals/src/long_floats.rt by rust/erase: not to be edited.
 //! Tests of the floats nearest to fractions of long numbers. The answers are from Python's `fractions`.
-use crate::proved::ratio_float::leading::to_f64;
+use crate::proved::ratio_float::leading::float_of;
 use crate::proved::ratio_long::nearest_f64;
 use crate::proved::ratio_natural::is_zero;
 
@@ -13,18 +13,18 @@ fn bits_of(x: f64) -> Option<u64> {
 #[test]
 fn leading_digits_are_rounded_once() {
     // 2^64 over 2^65, and more digits behind it
-    assert!(bits_of(to_f64(1 << 64, false, 65, 0, false)) == Some(0x3fe0000000000000));
-    assert!(bits_of(to_f64(1 << 64, true, 65, 0, true)) == Some(0xbfe0000000000000));
+    assert!(bits_of(float_of(1 << 64, false, 65, 0, false)) == Some(0x3fe0000000000000));
+    assert!(bits_of(float_of(1 << 64, true, 65, 0, true)) == Some(0xbfe0000000000000));
     // 2^64 + 2^11, halfway between two floats, and more digits behind it
     assert!(
-        bits_of(to_f64((1 << 64) + (1 << 11), false, 0, 0, false)) == Some(0x43f0000000000000)
+        bits_of(float_of((1 << 64) + (1 << 11), false, 0, 0, false)) == Some(0x43f0000000000000)
     );
     assert!(
-        bits_of(to_f64((1 << 64) + (1 << 11), true, 0, 0, false)) == Some(0x43f0000000000001)
+        bits_of(float_of((1 << 64) + (1 << 11), true, 0, 0, false)) == Some(0x43f0000000000001)
     );
     // 2^64 and exponents as far away as they may be
-    assert!(bits_of(to_f64(1 << 64, true, 1 << 62, 0, true)) == Some(0x8000000000000000));
-    assert!(bits_of(to_f64(1 << 64, true, 0, 1 << 61, true)) == Some(0xfff0000000000000));
+    assert!(bits_of(float_of(1 << 64, true, 1 << 62, 0, true)) == Some(0x8000000000000000));
+    assert!(bits_of(float_of(1 << 64, true, 0, 1 << 61, true)) == Some(0xfff0000000000000));
 }
 
 // The bits of the float nearest to the fraction, negated if `below`, in room that was used before.

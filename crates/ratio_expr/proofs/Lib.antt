@@ -1,10 +1,13 @@
 pub mod AsciiLemmas
 pub mod Assigning
+pub mod CallLaws
+pub mod CallLemmas
 pub mod Completeness
 pub mod Counting
 pub mod CutLaws
 pub mod Cuts
 pub mod DepthLaws
+pub mod Fitting
 pub mod Growing
 pub mod LineLemmas
 pub mod NameLemmas
@@ -15,6 +18,7 @@ pub mod PowerBounds
 pub mod Refusals
 pub mod Running
 pub mod Soundness
+pub mod StackLemmas
 pub mod TextLaws
 pub mod TokenByToken
 pub mod ValueLaws

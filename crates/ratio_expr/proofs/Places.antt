@@ -66,7 +66,7 @@ module _ (text : List ℕ) where
   tree_within (Group s t e) h = All-append (IsStepWithin text) (postfix t) (steps.Group s e ∷ []) (tree_within t (first_in (spelling t) _ h.1)) (one (steps.Group s e) tt)
   tree_within (Call n s t e) h =
       let c : Step = steps.Call (record { name = n; opening = s; closing = e; arguments = arguments t }) in
-      All-append (IsStepWithin text) (postfix t) (c ∷ []) (tree_within t (first_in (spelling t) _ h.1.1)) (one c tt)
+      All-append (IsStepWithin text) (postfix t) (c ∷ []) (tree_within t (first_in (spelling t) _ h.1.1)) (one c h.0)
   tree_within (Listed a s b) h =
       All-append (IsStepWithin text) (postfix a) (postfix b ++ steps.Comma s ∷ []) (tree_within a (first_in (spelling a) _ h))
       (All-append (IsStepWithin text) (postfix b) (steps.Comma s ∷ []) (tree_within b (second_in (spelling a) _ h).1) (one (steps.Comma s) tt))
@@ -105,7 +105,7 @@ module _ (text : List ℕ) where
         g.2
     place_in (Group s t e) h g = place_in t (first_in (spelling t) _ h.1) g
     place_in (Call n s t e) h (inl g) = place_in t (first_in (spelling t) _ h.1.1) g
-    place_in (Call n s t e) h (inr g) = begins_in n r.place h.0 g.2.1
+    place_in (Call n s t e) h (inr g) = begins_in n r.place h.0 g.3
     place_in (Listed a s b) h (inl g) = place_in a (first_in (spelling a) _ h) g
     place_in (Listed a s b) h (inr g) = place_in b (second_in (spelling a) _ h).1 g.2
 

@@ -1,10 +1,9 @@
 -- A tree is worth one value, or it has one refusal, and never both.
-use Rattle.std.proofs.Common.{◌≡◌, ◌∙◌, ◌*◌, ◌^◌, ℕ, ℤ, suc, pos, negsuc, List, Option, Some, None, refl, sym, subst, ap, arith, inl, inr, ⊎_elim}
+use Rattle.std.proofs.Common.{◌≡◌, ◌∙◌, ◌*◌, ◌^◌, ℕ, ℤ, suc, pos, negsuc, List, [], ◌∷◌, ◌++◌, Option, Some, None, refl, sym, subst, ap, arith, inl, inr, ⊎_elim}
 use Rattle.std.specs.Prelude.{◌*ℤ◌}
 use Rattle.std.specs.Int.{int_pow}
 use Rattle.std.proofs.Math.Nat.{pow-succ'}
 use Rattle.std.proofs.lemmas.Int.{ints}
-use Rattle.ratio_integer.proofs.LowestTerms.{lowest_unique}
 use Rattle.ratio_laws.proofs.TypedLawLemmas.{typed_one}
 use Rattle.ratio_big.specs.Values.{HasTerms}
 use Rattle.ratio_big.specs.Powers.{HasNoPower}
@@ -17,14 +16,10 @@ use Rattle.ratio_expr.specs.declared.refusal.Reason.TheVariants as reasons
 use Rattle.ratio_expr.specs.Grammar.{Tree, Number, Name, Negative, Between, Group, Call, Listed}
 use Rattle.ratio_expr.specs.Numbers.{SaysNumber, SaysNoNumber}
 use Rattle.ratio_expr.specs.Operators.{GivesWorth, GivesNumbers, IsNegativeWorth, IsTermsOf, IsTrueOrFalse, RefusesWorths, RefusesNumbers}
-use Rattle.ratio_expr.specs.Values.{HasRefusal, IsWorth, piece}
+use Rattle.ratio_expr.specs.Calls.{GivesCall, RefusesCall}
+use Rattle.ratio_expr.specs.Values.{AreWorth, HasRefusal, IsWorth, piece}
 use Rattle.ratio_expr.specs.Worths.{Worth, Amount, Truth}
-
-same_pair : (x y : ℤ × ℤ) → (x.0 ≡ y.0) × (x.1 ≡ y.1) → x ≡ y
-same_pair x y e = ap (λ (a : ℤ). let p : ℤ × ℤ = (a, x.1) in p) e.0 ∙ ap (λ (b : ℤ). let p : ℤ × ℤ = (y.0, b) in p) e.1
-
-same_terms : (z x y : ℤ × ℤ) → HasTerms z x → HasTerms z y → x ≡ y
-same_terms z x y h g = same_pair x y (lowest_unique z.0 z.1 x.0 x.1 y.0 y.1 h g)
+use Rattle.ratio_expr.proofs.CallLaws.{call_not_refused, call_one, call_refused_once, same_pair, same_terms}
 
 -- ---- numbers
 
@@ -147,36 +142,55 @@ pub same_refusal : (r q : Refusal) → r.reason ≡ q.reason → r.place ≡ q.p
 same_refusal r q e f =
     ap (λ (a : Reason). let s : Refusal = record { reason = a; place = r.place } in s) e ∙ ap (λ (n : ℕ). let s : Refusal = record { reason = q.reason; place = n } in s) f
 
-module _ (text : List ℕ) (named : List ℕ → Option Worth) where
-  pub worth_one : (t : Tree) (v w : Worth) → IsWorth text named t v → IsWorth text named t w → v ≡ w
-  worth_one (Number s) v w h g = h.2 ∙ ap Amount (says_one (piece text s) h.0 g.0 h.1 g.1) ∙ sym g.2
-  worth_one (Name s) v w h g = let same : Some v ≡ Some w = sym h ∙ g in cc
-  worth_one (Negative s t) v w h g =
-      negative_one g.0 v w (subst (λ a. IsNegativeWorth a v) (worth_one t h.0 g.0 h.1 g.1) h.2) g.2
-  worth_one (Between o s a b) v w h g =
-      let first : GivesWorth o g.0 h.1 v = subst (λ u. GivesWorth o u h.1 v) (worth_one a h.0 g.0 h.2 g.2) h.4 in
-      gives_one o g.0 g.1 v w (subst (λ u. GivesWorth o g.0 u v) (worth_one b h.1 g.1 h.3 g.3) first) g.4
-  worth_one (Group s t e) v w h g = worth_one t v w h g
-  worth_one (Call n s t e) v w h g = absurd h
-  worth_one (Listed a s b) v w h g = worth_one a v w h.0 g.0
+head_same : (v w : Worth) → v ∷ [] ≡ w ∷ [] → v ≡ w
+head_same v w e = cc
 
-  pub worth_not_refused : (t : Tree) (w : Worth) (r : Refusal) → IsWorth text named t w → HasRefusal text named t r → ⊥
-  worth_not_refused (Number s) w r h g = says_not_refused (piece text s) h.0 r.reason h.1 g.0
-  worth_not_refused (Name s) w r h g = let other : Some w ≡ None = sym h ∙ g.0 in cc
-  worth_not_refused (Negative s t) w r h (inl g) = worth_not_refused t h.0 r h.1 g
-  worth_not_refused (Negative s t) w r h (inr g) = negative_not_truth g.0 w (subst (λ a. IsNegativeWorth a w) (worth_one t h.0 g.0 h.1 g.1) h.2) g.2
-  worth_not_refused (Between o s a b) w r h (inl g) = worth_not_refused a h.0 r h.2 g
-  worth_not_refused (Between o s a b) w r h (inr g) =
+module _ (text : List ℕ) (named : List ℕ → Option Worth) where
+  are_worth_one : (t : Tree) (vs ws : List Worth) → AreWorth text named t vs → AreWorth text named t ws → vs ≡ ws
+  are_worth_one (Number s) (v ∷ []) (w ∷ []) h g = ap (λ x. x ∷ []) (h.2 ∙ ap Amount (says_one (piece text s) h.0 g.0 h.1 g.1) ∙ sym g.2)
+  are_worth_one (Name s) (v ∷ []) (w ∷ []) h g = let same : Some v ≡ Some w = sym h ∙ g in cc
+  are_worth_one (Negative s t) (v ∷ []) (w ∷ []) h g =
+      let same : h.0 ≡ g.0 = head_same h.0 g.0 (are_worth_one t (h.0 ∷ []) (g.0 ∷ []) h.1 g.1) in
+      ap (λ x. x ∷ []) (negative_one g.0 v w (subst (λ a. IsNegativeWorth a v) same h.2) g.2)
+  are_worth_one (Between o s a b) (v ∷ []) (w ∷ []) h g =
+      let left : h.0 ≡ g.0 = head_same h.0 g.0 (are_worth_one a (h.0 ∷ []) (g.0 ∷ []) h.2 g.2) in
+      let right : h.1 ≡ g.1 = head_same h.1 g.1 (are_worth_one b (h.1 ∷ []) (g.1 ∷ []) h.3 g.3) in
+      let first : GivesWorth o g.0 h.1 v = subst (λ u. GivesWorth o u h.1 v) left h.4 in
+      ap (λ x. x ∷ []) (gives_one o g.0 g.1 v w (subst (λ u. GivesWorth o g.0 u v) right first) g.4)
+  are_worth_one (Group s t e) (v ∷ []) (w ∷ []) h g = are_worth_one t (v ∷ []) (w ∷ []) h g
+  are_worth_one (Call n s t e) (v ∷ []) (w ∷ []) h g =
+      ap (λ x. x ∷ []) (call_one (piece text n) g.0 v w (subst (λ us. GivesCall (piece text n) us v) (are_worth_one t h.0 g.0 h.1 g.1) h.2) g.2)
+  are_worth_one (Listed a s b) vs ws h g =
+      h.4 ∙ ap (λ us. us ++ h.1 ∷ []) (are_worth_one a h.0 g.0 h.2 g.2) ∙ ap (λ us. g.0 ++ us) (are_worth_one b (h.1 ∷ []) (g.1 ∷ []) h.3 g.3) ∙ sym g.4
+  are_worth_one t (v ∷ []) ws h g = absurd g
+  are_worth_one t vs ws h g = absurd h
+
+  pub worth_one : (t : Tree) (v w : Worth) → IsWorth text named t v → IsWorth text named t w → v ≡ w
+  worth_one t v w h g = head_same v w (are_worth_one t (v ∷ []) (w ∷ []) h g)
+
+  are_worth_not_refused : (t : Tree) (ws : List Worth) (r : Refusal) → AreWorth text named t ws → HasRefusal text named t r → ⊥
+  are_worth_not_refused (Number s) (w ∷ []) r h g = says_not_refused (piece text s) h.0 r.reason h.1 g.0
+  are_worth_not_refused (Name s) (w ∷ []) r h g = let other : Some w ≡ None = sym h ∙ g.0 in cc
+  are_worth_not_refused (Negative s t) (w ∷ []) r h (inl g) = are_worth_not_refused t (h.0 ∷ []) r h.1 g
+  are_worth_not_refused (Negative s t) (w ∷ []) r h (inr g) = negative_not_truth g.0 w (subst (λ a. IsNegativeWorth a w) (worth_one t h.0 g.0 h.1 g.1) h.2) g.2
+  are_worth_not_refused (Between o s a b) (w ∷ []) r h (inl g) = are_worth_not_refused a (h.0 ∷ []) r h.2 g
+  are_worth_not_refused (Between o s a b) (w ∷ []) r h (inr g) =
       ⊎_elim
-      (λ p. worth_not_refused b h.1 r h.3 p)
+      (λ p. are_worth_not_refused b (h.1 ∷ []) r h.3 p)
       (λ p.
       let first : GivesWorth o g.0 h.1 w = subst (λ u. GivesWorth o u h.1 w) (worth_one a h.0 g.0 h.2 g.1) h.4 in
       gives_not_refused o g.0 p.0 w r.reason (subst (λ u. GivesWorth o g.0 u w) (worth_one b h.1 p.0 h.3 p.1) first) p.2)
       g.2
-  worth_not_refused (Group s t e) w r h g = worth_not_refused t w r h g
-  worth_not_refused (Call n s t e) w r h g = h
-  worth_not_refused (Listed a s b) w r h (inl g) = worth_not_refused a w r h.0 g
-  worth_not_refused (Listed a s b) w r h (inr g) = worth_not_refused b h.1 r h.2 g.2
+  are_worth_not_refused (Group s t e) (w ∷ []) r h g = are_worth_not_refused t (w ∷ []) r h g
+  are_worth_not_refused (Call n s t e) (w ∷ []) r h (inl g) = are_worth_not_refused t h.0 r h.1 g
+  are_worth_not_refused (Call n s t e) (w ∷ []) r h (inr g) =
+      call_not_refused (piece text n) g.0 w r.reason (subst (λ us. GivesCall (piece text n) us w) (are_worth_one t h.0 g.0 h.1 g.1) h.2) g.2
+  are_worth_not_refused (Listed a s b) ws r h (inl g) = are_worth_not_refused a h.0 r h.2 g
+  are_worth_not_refused (Listed a s b) ws r h (inr g) = are_worth_not_refused b (h.1 ∷ []) r h.3 g.2
+  are_worth_not_refused t ws r h g = absurd h
+
+  pub worth_not_refused : (t : Tree) (w : Worth) (r : Refusal) → IsWorth text named t w → HasRefusal text named t r → ⊥
+  worth_not_refused t w r h g = are_worth_not_refused t (w ∷ []) r h g
 
   pub refused_once : (t : Tree) (r q : Refusal) → HasRefusal text named t r → HasRefusal text named t q → r ≡ q
   refused_once (Number s) r q h g = same_refusal r q (text_refused_once (piece text s) r.reason q.reason h.0 g.0) (h.1 ∙ sym g.1)
@@ -201,10 +215,13 @@ module _ (text : List ℕ) (named : List ℕ → Option Worth) where
       h.2
   refused_once (Group s t e) r q h g = refused_once t r q h g
   refused_once (Call n s t e) r q (inl h) (inl g) = refused_once t r q h g
-  refused_once (Call n s t e) r q (inl h) (inr g) = absurd (worth_not_refused t g.0 r g.1 h)
-  refused_once (Call n s t e) r q (inr h) (inl g) = absurd (worth_not_refused t h.0 q h.1 g)
-  refused_once (Call n s t e) r q (inr h) (inr g) = same_refusal r q (h.2.0 ∙ sym g.2.0) (h.2.1 ∙ sym g.2.1)
+  refused_once (Call n s t e) r q (inl h) (inr g) = absurd (are_worth_not_refused t g.0 r g.1 h)
+  refused_once (Call n s t e) r q (inr h) (inl g) = absurd (are_worth_not_refused t h.0 q h.1 g)
+  refused_once (Call n s t e) r q (inr h) (inr g) =
+      same_refusal r q
+      (call_refused_once (piece text n) g.0 r.reason q.reason (subst (λ us. RefusesCall (piece text n) us r.reason) (are_worth_one t h.0 g.0 h.1 g.1) h.2) g.2)
+      (h.3 ∙ sym g.3)
   refused_once (Listed a s b) r q (inl h) (inl g) = refused_once a r q h g
-  refused_once (Listed a s b) r q (inl h) (inr g) = absurd (worth_not_refused a g.0 r g.1 h)
-  refused_once (Listed a s b) r q (inr h) (inl g) = absurd (worth_not_refused a h.0 q h.1 g)
+  refused_once (Listed a s b) r q (inl h) (inr g) = absurd (are_worth_not_refused a g.0 r g.1 h)
+  refused_once (Listed a s b) r q (inr h) (inl g) = absurd (are_worth_not_refused a h.0 q h.1 g)
   refused_once (Listed a s b) r q (inr h) (inr g) = refused_once b r q h.2 g.2

@@ -1,6 +1,8 @@
 pub mod Answers
 pub mod Bound
+pub mod Calls
 pub mod Expression
+pub mod Functions
 pub mod Grammar
 pub mod Lines
 pub mod Nesting

@@ -1,7 +1,7 @@
 -- What a refusal prints.
 use Rattle.std.specs.Prelude.{ℕ, List, codes}
 use Rattle.ratio_expr.specs.declared.refusal.Reason.{Reason}
-use Rattle.ratio_expr.specs.declared.refusal.Reason.TheVariants.{NoExpression, TooDeep, NotNumeral, ZeroDenominator, NumberTooLarge, UnknownName, UnknownCall, NotNumber, ZeroDivisor, ExponentNotWhole, PowerTooLarge}
+use Rattle.ratio_expr.specs.declared.refusal.Reason.TheVariants.{NoExpression, TooDeep, NotNumeral, ZeroDenominator, NumberTooLarge, UnknownName, UnknownCall, ArgumentCount, NotNumber, ZeroDivisor, ExponentNotWhole, PowerTooLarge}
 
 -- the text that a reason prints
 -- Example: `ZeroDivisor`: `this divides by 0`
@@ -13,6 +13,7 @@ reason_text ZeroDenominator = codes "the denominator is 0"
 reason_text NumberTooLarge = codes "the exponent has more than five digits"
 reason_text UnknownName = codes "nothing has this name"
 reason_text UnknownCall = codes "there is no such call"
+reason_text ArgumentCount = codes "the call takes another number of arguments"
 reason_text NotNumber = codes "this takes numbers, and not true or false"
 reason_text ZeroDivisor = codes "this divides by 0"
 reason_text ExponentNotWhole = codes "the exponent is no whole number"

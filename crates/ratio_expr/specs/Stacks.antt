@@ -1,5 +1,5 @@
 -- Inner: how the steps of a tree are taken, one after another, over a stack of values.
-use Rattle.std.specs.Prelude.{◌≡◌, ◌≤◌, ℕ, ℤ, List, [], ◌∷◌, length, map, reverse, Option, Some, None}
+use Rattle.std.specs.Prelude.{◌≡◌, ◌≤◌, ℕ, ℤ, List, [], ◌∷◌, length, map, reverse, take, drop, Option, Some, None}
 use Rattle.ratio_expr.specs.declared.token.Operator.TheVariants.{Equal}
 use Rattle.ratio_expr.specs.declared.token.Span.{Span}
 use Rattle.ratio_expr.specs.declared.step.Step.{Step}
@@ -9,7 +9,8 @@ use Rattle.ratio_expr.specs.declared.refusal.Reason.TheVariants as reasons
 use Rattle.ratio_expr.specs.declared.refusal.ValueError.{ValueError}
 use Rattle.ratio_expr.specs.declared.refusal.ValueError.TheVariants as errors
 use Rattle.ratio_expr.specs.declared.value.Value.{Value}
-use Rattle.ratio_expr.specs.Grammar.{Tree, Number, Name, Negative, Between, Group, Call, Listed, postfix}
+use Rattle.ratio_expr.specs.Calls.{GivesCall, RefusesCall}
+use Rattle.ratio_expr.specs.Grammar.{Tree, Number, Name, Negative, Between, Group, Call, Listed, IsProper, arguments, postfix}
 use Rattle.ratio_expr.specs.Numbers.{SaysNumber, SaysNoNumber}
 use Rattle.ratio_expr.specs.Operators.{GivesWorth, RefusesWorths, IsNegativeWorth, IsTrueOrFalse}
 use Rattle.ratio_expr.specs.Values.{piece, IsRefusedAt}
@@ -20,15 +21,18 @@ abbrev pub FailsWith : (Refusal → Type 0) → ValueError → Type 0
 FailsWith P errors.Memory = Unit {0}
 FailsWith P (errors.Refused r) = P r
 
--- Inner: the steps are those of some tree
+-- Inner: the steps are those of some expression
 pub record AreOfTree (written : List Step) : Type 0 where
   pub tree : Tree
+  pub proper : IsProper tree
+  pub single : arguments tree ≡ 1
   pub same : written ≡ postfix tree
 
--- Inner: a number or a name is in the text
+-- Inner: a number or a name, of a call too, is in the text
 abbrev pub IsStepWithin : List ℕ → Step → Type 0
 IsStepWithin text (steps.Number s) = (s.start ≤ s.end) × (s.end ≤ length text)
 IsStepWithin text (steps.Name s) = (s.start ≤ s.end) × (s.end ≤ length text)
+IsStepWithin text (steps.Call c) = (c.name.start ≤ c.name.end) × (c.name.end ≤ length text)
 IsStepWithin text x = Unit {0}
 
 -- Inner: the trees that a step makes, the last one first. `None` if there are too few
@@ -59,7 +63,7 @@ pub record MakeOneTree (written : List Step) : Type 0 where
   pub tree : Tree
   pub makes : grow written (Some []) ≡ Some (tree ∷ [])
 
--- Inner: how many values a step takes from the stack
+-- Inner: how many trees a step takes
 abbrev pub operands : Step → ℕ
 operands (steps.Number s) = 0
 operands (steps.Name s) = 0
@@ -68,6 +72,16 @@ operands (steps.Apply o s) = 2
 operands (steps.Group s e) = 1
 operands (steps.Comma s) = 2
 operands (steps.Call c) = 1
+
+-- Inner: how many values a step takes from the stack. Those of arguments stay there, until their call takes them all
+abbrev pub values_taken : Step → ℕ
+values_taken (steps.Number s) = 0
+values_taken (steps.Name s) = 0
+values_taken (steps.Negate s) = 1
+values_taken (steps.Apply o s) = 2
+values_taken (steps.Group s e) = 0
+values_taken (steps.Comma s) = 0
+values_taken (steps.Call c) = c.arguments
 
 -- Inner: the step is a `=`
 abbrev pub IsEqualSign : Step → Type 0
@@ -94,10 +108,8 @@ module _ (text : List ℕ) (named : List ℕ → Option Worth) where
   TakesStep (steps.Apply o s) (v ∷ []) vs = ⊥
   TakesStep (steps.Apply o s) (v ∷ (u ∷ ws)) vs = (w : Worth) × GivesWorth o u v w × (vs ≡ w ∷ ws)
   TakesStep (steps.Group s e) ws vs = vs ≡ ws
-  TakesStep (steps.Comma s) [] vs = ⊥
-  TakesStep (steps.Comma s) (v ∷ []) vs = ⊥
-  TakesStep (steps.Comma s) (v ∷ (u ∷ ws)) vs = vs ≡ u ∷ ws
-  TakesStep (steps.Call c) ws vs = ⊥
+  TakesStep (steps.Comma s) ws vs = vs ≡ ws
+  TakesStep (steps.Call c) ws vs = (w : Worth) × GivesCall (piece text c.name) (reverse (take c.arguments ws)) w × (vs ≡ w ∷ drop c.arguments ws)
 
   -- Inner: a step is refused over this stack
   abbrev pub StopsAtStep : Step → List Worth → Refusal → Type 0
@@ -110,5 +122,4 @@ module _ (text : List ℕ) (named : List ℕ → Option Worth) where
   StopsAtStep (steps.Apply o s) (v ∷ (u ∷ ws)) r = RefusesWorths o u v r.reason × (r.place ≡ s.start)
   StopsAtStep (steps.Group s e) ws r = ⊥
   StopsAtStep (steps.Comma s) ws r = ⊥
-  StopsAtStep (steps.Call c) [] r = ⊥
-  StopsAtStep (steps.Call c) (v ∷ ws) r = IsRefusedAt c.name reasons.UnknownCall r
+  StopsAtStep (steps.Call c) ws r = RefusesCall (piece text c.name) (reverse (take c.arguments ws)) r.reason × (r.place ≡ c.name.start)

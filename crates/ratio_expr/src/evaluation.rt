@@ -1,21 +1,23 @@
 //! The value of the steps of a tree, over a stack of values.
-ghost use Rattle.std.specs.Prelude.{◌≡◌, ◌≤◌, ◌∷◌, ℤ, Some, None, vec_len, IfOk, IsErrOf, OnOk, MatchResult};
+ghost use Rattle.std.specs.Prelude.{◌≡◌, ◌≤◌, ◌∷◌, ℤ, Some, None, drop, length, map, reverse, take, vec_len, IfOk, IsErrOf, OnOk, MatchResult};
 ghost use Rattle.std.specs.List.{All};
 ghost use Rattle.ratio_expr.specs.Bound.{named};
+ghost use Rattle.ratio_expr.specs.Calls.{GivesCall, RefusesCall};
 ghost use Rattle.ratio_expr.specs.Grammar.{Tree, postfix};
 ghost use Rattle.ratio_expr.specs.Numbers.{SaysNoNumber, SaysNumber};
 ghost use Rattle.ratio_expr.specs.Operators.{GivesWorth, IsNegativeWorth, IsTrueOrFalse, RefusesWorths};
-ghost use Rattle.ratio_expr.specs.Stacks.{AreOfTree, FailsWith, IsStepWithin, TakesStep, StopsAtStep, operands, worths};
+ghost use Rattle.ratio_expr.specs.Stacks.{AreOfTree, FailsWith, IsStepWithin, TakesStep, StopsAtStep, values_taken, worths};
 ghost use Rattle.ratio_expr.specs.Values.{HasRefusal, IsRefusedAt, IsWorth, piece};
-ghost use Rattle.ratio_expr.specs.Worths.{worth, Amount};
+ghost use Rattle.ratio_expr.specs.Worths.{Worth, worth, Amount};
 ghost use Rattle.ratio_expr.specs.declared.refusal.Refusal.{Refusal};
 ghost use Rattle.ratio_expr.specs.declared.refusal.Reason.TheVariants as reasons;
 
+use crate::calls::called;
 use crate::names::Names;
 use crate::number::number_in;
 use crate::operation::{applied, negative};
 use crate::refusal::{Reason, ValueError, refused};
-use crate::step::Step;
+use crate::step::{Call, Step};
 use crate::token::{Operator, Span};
 use crate::value::Value;
 use std::alloc::{AllocError, Global};
@@ -48,7 +50,7 @@ fn take(
     stack: &mut Vec<Value>,
 ) -> Result<(), ValueError>
     requires within { IsStepWithin text.now step }
-    requires enough { operands step ≤ vec_len stack.old }
+    requires enough { values_taken step ≤ vec_len stack.old }
     ensures { MatchResult result (λ _. TakesStep text.now (named names.now) step (worths stack.old.items) (worths stack.new.items)) (FailsWith (StopsAtStep text.now (named names.now) step (worths stack.old.items))) }
 {
     match step {
@@ -72,12 +74,46 @@ fn take(
             put(stack, value)?;
         }
         Step::Group(_, _) => {}
-        Step::Comma(_) => {
-            let _ = stack.pop();
-        }
-        Step::Call(call) => return Err(refused(Reason::UnknownCall, call.name.start)),
+        Step::Comma(_) => {}
+        Step::Call(call) => take_call(alloc, text, call, stack)?,
     }
     Ok(())
+}
+
+// Takes the step of a call, and with it as many values as it has arguments.
+fn take_call(
+    alloc: Global,
+    text: &[u8],
+    call: Call,
+    stack: &mut Vec<Value>,
+) -> Result<(), ValueError>
+    requires within { IsStepWithin text.now (Step.Call call) }
+    requires enough { call.arguments ≤ vec_len stack.old }
+    ensures { let name = piece text.now call.name in let ws = reverse (take call.arguments (worths stack.old.items)) in MatchResult result
+        (λ _. (w : Worth) × GivesCall name ws w × (worths stack.new.items ≡ w ∷ drop call.arguments (worths stack.old.items)))
+        (FailsWith (λ r. RefusesCall name ws r.reason × (r.place ≡ call.name.start))) }
+{
+    let value = value_of_call(alloc, text, call, stack.as_slice())?;
+    stack.truncate(stack.len() - call.arguments);
+    put(stack, value)?;
+    Ok(())
+}
+
+// What a call gives of the last values of a stack, as many as it has arguments, or the refusal at its name.
+fn value_of_call(
+    alloc: Global,
+    text: &[u8],
+    call: Call,
+    stack: &[Value],
+) -> Result<Value, ValueError>
+    requires within { IsStepWithin text.now (Step.Call call) }
+    requires enough { call.arguments ≤ length stack.now }
+    ensures { let name = piece text.now call.name in let ws = reverse (take call.arguments (worths stack.now)) in MatchResult result
+        (λ w. GivesCall name ws (worth w))
+        (FailsWith (λ r. RefusesCall name ws r.reason × (r.place ≡ call.name.start))) }
+{
+    let first = stack.len() - call.arguments;
+    called_at(alloc, text, call.name, &stack[first..])
 }
 
 // Puts a value on the stack.
@@ -123,6 +159,24 @@ fn negated(alloc: Global, span: Span, operand: &Value) -> Result<Value, ValueErr
     match negative(alloc, operand)? {
         Some(value) => Ok(value),
         None => Err(refused(Reason::NotNumber, span.start)),
+    }
+}
+
+// What the call with the name at a place gives of its arguments, or the refusal there.
+fn called_at(
+    alloc: Global,
+    text: &[u8],
+    name: Span,
+    arguments: &[Value],
+) -> Result<Value, ValueError>
+    requires { IsStepWithin text.now (Step.Name name) }
+    ensures { let ws = map worth arguments.now in MatchResult result
+        (λ w. GivesCall (piece text.now name) ws (worth w))
+        (FailsWith (λ r. RefusesCall (piece text.now name) ws r.reason × (r.place ≡ name.start))) }
+{
+    match called(alloc, &text[name.start..name.end], arguments)? {
+        Ok(value) => Ok(value),
+        Err(reason) => Err(refused(reason, name.start)),
     }
 }
 

@@ -20,6 +20,8 @@
 //! | `number` | The number that a piece of a text says. |
 //! | `operation` | What an operator gives of two values, or why it refuses them. |
 //! | `power` | The power of two numbers, if it is not too large to be worth it. |
+//! | `function` | `Function`: a function that a call names, and how many numbers it takes. |
+//! | `calls` | What a call gives of its arguments, or why it refuses them. |
 //! | `evaluation` | The value of the steps of a tree, over a stack of values. |
 //! | `answer` | The value of a text, or its first refusal. |
 //! | `assignment` | The name that a line gives its value, and the expression of this value. |
@@ -29,9 +31,11 @@
 
 pub mod answer;
 mod assignment;
+mod calls;
 pub mod depth;
 mod evaluation;
 pub mod expression;
+mod function;
 pub mod laws;
 pub mod lexer;
 pub mod line;

@@ -26,11 +26,3 @@ fn operators(rt: HostRuntime) -> Result<(), Fail> {
     is_refused(&rt, alloc, "2 ^ 0.5", Reason::ExponentNotWhole, 3)?;
     is_refused(&rt, alloc, "2 ^ 500001", Reason::PowerTooLarge, 3)
 }
-
-// An argument is looked at before its call.
-#[test]
-fn calls(rt: HostRuntime) -> Result<(), Fail> {
-    let alloc = rt.alloc();
-    is_refused(&rt, alloc, "nearest(pi, 100)", Reason::UnknownName, 9)?;
-    is_refused(&rt, alloc, "1 + max(1, 2)", Reason::UnknownCall, 5)
-}

@@ -5,6 +5,11 @@ use Rattle.ratio_expr.proofs.LineLemmas.{text_worth}
 use Rattle.ratio_expr.proofs.Places.{refusal_within, steps_within}
 use Rattle.ratio_expr.proofs.answer.value_of.Goals as goal
 
+pub value_of_steps-requires-clause-tree : goal.value_of_steps-requires-clause-tree
+value_of_steps-requires-clause-tree c =
+    let found = c.in-Ok.ensures.found in
+    record { tree = found.0; proper = found.1.has.proper; single = found.1.has.single; same = c.deref.ensures.value ∙ found.2 }
+
 pub value_of_steps-requires-clause-within : goal.value_of_steps-requires-clause-within
 value_of_steps-requires-clause-within c =
     let found = c.in-Ok.ensures.found in

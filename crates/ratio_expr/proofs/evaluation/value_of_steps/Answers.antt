@@ -1,4 +1,4 @@
-use Rattle.std.proofs.Common.{◌≡◌, ◌∙◌, List, [], ◌∷◌, ◌++◌, Option, Some, get_or, map, reverse, sym, subst, ap, arith}
+use Rattle.std.proofs.Common.{◌≡◌, ◌∙◌, List, [], ◌∷◌, ◌++◌, Option, Some, get_or, length, map, reverse, sym, subst, ap, arith}
 use Rattle.std.specs.Option.{option_to_list}
 use Rattle.std.proofs.lemmas.List.{length-reverse, length-map, reverse-append}
 use Rattle.std.proofs.lemmas.Result.{err_from_is_err_and}
@@ -28,7 +28,7 @@ last_worth stack left o v w e some one =
 pub loop-step-init : goal.loop-step-init
 loop-step-init c =
     subst (λ (l : List _). IsRunning c.args.text.now (named c.args.names.now) c.args.steps.now 0 (worths l)) (sym c.new-stack.ensures.items)
-    (starts c.args.text.now (named c.args.names.now) c.requires.tree.tree c.args.steps.now c.requires.tree.same)
+    (starts c.args.text.now (named c.args.names.now) c.requires.tree.tree c.args.steps.now c.requires.tree.proper c.requires.tree.single c.requires.tree.same)
 
 pub take-requires-clause-enough : goal.take-requires-clause-enough
 take-requires-clause-enough c =
@@ -50,6 +50,12 @@ returns-in_err-take-clause-refusal c = λ r e t same.
 
 pub loop-step-preserved : goal.loop-step-preserved
 loop-step-preserved c = goes_on c.args.text.now (named c.args.names.now) c.args.steps.now c.loop-step.step-index (worths c.loop-step.stack.items) no_step c.loop-step.invariant c.loop-step-test.true (worths c.take.new.stack.items) c.in_ok-take.ensures
+
+pub unwrap-requires : goal.unwrap-requires
+unwrap-requires c =
+    let items = c.loop-step.stack.items in
+    let q = ends c.args.text.now (named c.args.names.now) c.args.steps.now c.loop-step.step-index (worths items) c.loop-step.invariant c.loop-step-test.false c.requires.tree.tree c.requires.tree.same in
+    c.pop.ensures.variant.1 (omega (arith, ap length q.1, length-map (reverse items) worth, length-reverse items))
 
 pub returns-clause-value : goal.returns-clause-value
 returns-clause-value c = λ t same.

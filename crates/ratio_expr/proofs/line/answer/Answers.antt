@@ -6,10 +6,22 @@ use Rattle.ratio_expr.specs.Stacks.{IsStepWithin}
 use Rattle.ratio_expr.specs.Values.{HasRefusal}
 use Rattle.ratio_expr.specs.Worths.{worth}
 use Rattle.ratio_expr.proofs.Assigning.{valued_whole}
+use Rattle.ratio_expr.proofs.Fitting.{valued_proper, valued_single}
 use Rattle.ratio_expr.proofs.LineLemmas.{line_worth, valued_all}
 use Rattle.ratio_expr.specs.Lines.{valued}
 use Rattle.ratio_expr.proofs.Places.{line_refusal_within, refusal_within, steps_within}
 use Rattle.ratio_expr.proofs.line.answer.Goals as goal
+
+pub remembered-requires-clause-tree : goal.remembered-requires-clause-tree
+remembered-requires-clause-tree c =
+    let found = c.in-Ok.ensures.found in
+    let parts = c.in-Some.ensures found.0 (c.deref.ensures.value ∙ found.2) in
+    record { tree = valued found.0; proper = valued_proper found.0 found.1.has.proper; single = valued_single found.0 found.1.has.proper found.1.has.single; same = parts.1 }
+
+pub remembered-requires-in-None-clause-tree : goal.remembered-requires-in-None-clause-tree
+remembered-requires-in-None-clause-tree c =
+    let found = c.in-Ok.ensures.found in
+    record { tree = found.0; proper = found.1.has.proper; single = found.1.has.single; same = c.deref-in-None.ensures.value ∙ found.2 }
 
 pub remembered-requires-clause-within : goal.remembered-requires-clause-within
 remembered-requires-clause-within c =

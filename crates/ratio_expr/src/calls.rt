@@ -1,0 +1,99 @@
+//! What a call gives of its arguments, or why it refuses them.
+ghost use Rattle.std.specs.Prelude.{◌≡◌, ◌≢◌, ◌≤◌, length, map, pos, IfOk, MatchOption, MatchResult};
+ghost use Rattle.std.specs.declared.cmp.Ordering.TheVariants.{Equal};
+ghost use Rattle.ratio_decimal.specs.declared.rounding_rule.Rounding.TheVariants.{HalfAway};
+ghost use Rattle.ratio_big.specs.Fractions.{big_numbers};
+ghost use Rattle.ratio_big.specs.Multiples.{IsMultipleBy};
+ghost use Rattle.ratio_expr.specs.Calls.{GivesCall, HaveTruth, RefusesCall};
+ghost use Rattle.ratio_expr.specs.Functions.{GivesNumber, IsExtreme, TakesCount};
+ghost use Rattle.ratio_expr.specs.Worths.{worth, Amount};
+
+use crate::function::{Function, function_named, takes};
+use crate::refusal::Reason;
+use crate::value::Value;
+use ratio_big::BigFraction;
+use ratio_decimal::rounding_rule::Rounding;
+use std::alloc::{AllocError, Global};
+use std::cmp::Ordering;
+
+/// What the function with this name gives of its arguments, or why it refuses them.
+pub(crate) fn called(
+    alloc: Global,
+    name: &[u8],
+    arguments: &[Value],
+) -> Result<Result<Value, Reason>, AllocError>
+    ensures { let ws = map worth arguments.now in IfOk result (λ r. MatchResult r (λ w. GivesCall name.now ws (worth w)) (RefusesCall name.now ws)) }
+{
+    let Some(function) = function_named(name) else {
+        return Ok(Err(Reason::UnknownCall));
+    };
+    if !takes(function, arguments.len()) {
+        return Ok(Err(Reason::ArgumentCount));
+    }
+    match numbers_in(alloc, arguments)? {
+        Some(numbers) => Ok(Ok(Value::Number(of_numbers(alloc, function, &numbers)?))),
+        None => Ok(Err(Reason::NotNumber)),
+    }
+}
+
+// The numbers that the values are, or `None` if one is true or false.
+fn numbers_in(alloc: Global, values: &[Value]) -> Result<Option<Vec<BigFraction>>, AllocError>
+    ensures { let ws = map worth values.now in IfOk result (λ r. MatchOption r (HaveTruth ws) (λ xs. ws ≡ map Amount (map big_numbers xs.items))) }
+{
+    let mut numbers = Vec::new(alloc);
+    for value in values {
+        match value {
+            Value::Number(x) => numbers.push(x.copy(alloc)?)?,
+            Value::Truth(_) => return Ok(None),
+        }
+    }
+    Ok(Some(numbers))
+}
+
+// What the function gives of numbers, of which it takes so many.
+fn of_numbers(
+    alloc: Global,
+    function: Function,
+    numbers: &[BigFraction],
+) -> Result<BigFraction, AllocError>
+    requires { TakesCount function (length numbers.now) }
+    ensures { IfOk result (λ r. GivesNumber function (map big_numbers numbers.now) (big_numbers r)) }
+{
+    match function {
+        Function::Abs => numbers[0].abs(alloc),
+        Function::Floor => numbers[0].floor(alloc),
+        Function::Ceil => numbers[0].ceil(alloc),
+        Function::Round => numbers[0].round(alloc),
+        Function::Trunc => numbers[0].trunc(alloc),
+        Function::Cents => cents(alloc, &numbers[0]),
+        Function::Min => extreme(alloc, numbers, Ordering::Less),
+        Function::Max => extreme(alloc, numbers, Ordering::Greater),
+    }
+}
+
+// The nearest multiple of 1/100, a half rounded away from 0.
+fn cents(alloc: Global, x: &BigFraction) -> Result<BigFraction, AllocError>
+    ensures { IfOk result (λ r. IsMultipleBy HalfAway (big_numbers x.now) (pos 1, pos 100) (big_numbers r)) }
+{
+    let cent = BigFraction::from_integer(100).reciprocal(alloc)?.unwrap();
+    x.round_to(alloc, &cent, Rounding::HalfAway)
+}
+
+// The least of the numbers for `Less`, and the greatest for `Greater`.
+fn extreme(
+    alloc: Global,
+    numbers: &[BigFraction],
+    side: Ordering,
+) -> Result<BigFraction, AllocError>
+    requires some { 1 ≤ length numbers.now }
+    requires side { side ≢ Equal }
+    ensures { IfOk result (λ r. IsExtreme side (map big_numbers numbers.now) (big_numbers r)) }
+{
+    let mut at = 0;
+    for next in 1..numbers.len() {
+        if numbers[next].compare(alloc, &numbers[at])? == side {
+            at = next;
+        }
+    }
+    numbers[at].copy(alloc)
+}

@@ -1,4 +1,10 @@
-//! What the proved program gets from its host.
+//! What the proved programs get from their host.
+// Calls that take memory are for 64 bits.
+#[cfg(target_pointer_width = "64")]
+mod console;
+
+#[cfg(target_pointer_width = "64")]
+pub use console::{arguments, is_terminal, write, write_error, Input};
 use std::io::{self, StdinLock, StdoutLock, Write};
 
 pub fn stdin() -> StdinLock<'static> {

@@ -1,0 +1,45 @@
+// Erased from crates/ratio_replies/src/written.rt by rust/erase: not to be edited.
+//! The text of a value in a form.
+
+use bakhsney::memory::{AllocError, Global, Vec};
+use crate::proved::ratio_replies::both::both_text;
+use crate::proved::ratio_replies::form::Form;
+use crate::proved::ratio_replies::mixed::mixed_text;
+use bakhsney::proved::ratio_big::BigFraction;
+use bakhsney::proved::ratio_decimal::rounding_rule::Rounding;
+use bakhsney::proved::ratio_expr::value::Value;
+
+/// The text of a value in a form: `1 5/12` for 17/12 in `Mixed`. An error means that an allocation failed.
+#[inline]
+pub fn value_text(alloc: Global, value: &Value, form: Form) -> Result<Vec<u8>, AllocError> {
+    match value {
+        Value::Number(x) => number_text(alloc, x, form),
+        Value::Truth(true) => Vec::from_slice(alloc, b"true"),
+        Value::Truth(false) => Vec::from_slice(alloc, b"false"),
+    }
+}
+
+// The text of a number in a form.
+#[inline]
+fn number_text(alloc: Global, x: &BigFraction, form: Form) -> Result<Vec<u8>, AllocError> {
+    match form {
+        Form::Fraction => fraction_text(alloc, x),
+        Form::Decimal(places) => decimal_text(alloc, x, places),
+        Form::Mixed => mixed_text(alloc, x),
+        Form::Both => both_text(alloc, x),
+    }
+}
+
+/// The text of a fraction: `17/12`, and `5` for 5/1.
+#[inline]
+pub(crate) fn fraction_text(alloc: Global, x: &BigFraction) -> Result<Vec<u8>, AllocError> {
+    let text = x.to_text(alloc)?;
+    Vec::from_slice(alloc, text.as_bytes())
+}
+
+// The decimal with so many places, rounded half away from zero.
+#[inline]
+fn decimal_text(alloc: Global, x: &BigFraction, places: u32) -> Result<Vec<u8>, AllocError> {
+    let text = x.decimal(alloc, places, Rounding::HalfAway)?;
+    Vec::from_slice(alloc, text.as_bytes())
+}

@@ -2,9 +2,11 @@
 //! Expressions such as `2 + 3 * 4`, from a text to a tree and its value, of any size.
 pub mod answer;
 mod assignment;
+mod calls;
 pub mod depth;
 mod evaluation;
 pub mod expression;
+mod function;
 pub mod laws;
 pub mod lexer;
 pub mod line;

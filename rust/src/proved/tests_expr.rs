@@ -1,6 +1,8 @@
 // Erased from crates/tests_expr/src/lib.rt by rust/erase: not to be edited.
 //! Tests of expressions: texts with their steps and values, and texts that are refused, with their columns. The rows are by hand.
 #[cfg(test)]
+mod calls;
+#[cfg(test)]
 mod depths;
 #[cfg(test)]
 mod laws;

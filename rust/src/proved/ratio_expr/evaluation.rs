@@ -2,11 +2,12 @@
 //! The value of the steps of a tree, over a stack of values.
 
 use crate::memory::{AllocError, Global, Vec};
+use crate::proved::ratio_expr::calls::called;
 use crate::proved::ratio_expr::names::Names;
 use crate::proved::ratio_expr::number::number_in;
 use crate::proved::ratio_expr::operation::{applied, negative};
 use crate::proved::ratio_expr::refusal::{Reason, ValueError, refused};
-use crate::proved::ratio_expr::step::Step;
+use crate::proved::ratio_expr::step::{Call, Step};
 use crate::proved::ratio_expr::token::{Operator, Span};
 use crate::proved::ratio_expr::value::Value;
 
@@ -62,12 +63,36 @@ fn take(
             put(stack, value)?;
         }
         Step::Group(_, _) => {}
-        Step::Comma(_) => {
-            let _ = stack.pop();
-        }
-        Step::Call(call) => return Err(refused(Reason::UnknownCall, call.name.start)),
+        Step::Comma(_) => {}
+        Step::Call(call) => take_call(alloc, text, call, stack)?,
     }
     Ok(())
+}
+
+// Takes the step of a call, and with it as many values as it has arguments.
+#[inline]
+fn take_call(
+    alloc: Global,
+    text: &[u8],
+    call: Call,
+    stack: &mut Vec<Value>,
+) -> Result<(), ValueError> {
+    let value = value_of_call(alloc, text, call, stack.as_slice())?;
+    stack.truncate(stack.len() - call.arguments);
+    put(stack, value)?;
+    Ok(())
+}
+
+// What a call gives of the last values of a stack, as many as it has arguments, or the refusal at its name.
+#[inline]
+fn value_of_call(
+    alloc: Global,
+    text: &[u8],
+    call: Call,
+    stack: &[Value],
+) -> Result<Value, ValueError> {
+    let first = stack.len() - call.arguments;
+    called_at(alloc, text, call.name, &stack[first..])
 }
 
 // Puts a value on the stack.
@@ -101,6 +126,20 @@ fn negated(alloc: Global, span: Span, operand: &Value) -> Result<Value, ValueErr
     match negative(alloc, operand)? {
         Some(value) => Ok(value),
         None => Err(refused(Reason::NotNumber, span.start)),
+    }
+}
+
+// What the call with the name at a place gives of its arguments, or the refusal there.
+#[inline]
+fn called_at(
+    alloc: Global,
+    text: &[u8],
+    name: Span,
+    arguments: &[Value],
+) -> Result<Value, ValueError> {
+    match called(alloc, &text[name.start..name.end], arguments)? {
+        Ok(value) => Ok(value),
+        Err(reason) => Err(refused(reason, name.start)),
     }
 }
 

@@ -20,7 +20,9 @@ pub enum Reason {
     UnknownName,
     /// No call has the name here.
     UnknownCall,
-    /// The operator here takes numbers, and an operand is true or false.
+    /// The call here takes another number of arguments: `floor(1, 2)`.
+    ArgumentCount,
+    /// The operator or the call here takes numbers, and an operand or an argument is true or false.
     NotNumber,
     /// The operator here divides by 0: `1 / 0`, `7 % 0` or `0 ^ -1`.
     ZeroDivisor,
@@ -42,6 +44,7 @@ impl Reason {
             Reason::NumberTooLarge => "the exponent has more than five digits",
             Reason::UnknownName => "nothing has this name",
             Reason::UnknownCall => "there is no such call",
+            Reason::ArgumentCount => "the call takes another number of arguments",
             Reason::NotNumber => "this takes numbers, and not true or false",
             Reason::ZeroDivisor => "this divides by 0",
             Reason::ExponentNotWhole => "the exponent is no whole number",

@@ -28,11 +28,3 @@ fn operators() -> Result<(), Fail> {
     is_refused(alloc, "2 ^ 0.5", Reason::ExponentNotWhole, 3)?;
     is_refused(alloc, "2 ^ 500001", Reason::PowerTooLarge, 3)
 }
-
-// An argument is looked at before its call.
-#[test]
-fn calls() -> Result<(), Fail> {
-    let alloc = Global;
-    is_refused(alloc, "nearest(pi, 100)", Reason::UnknownName, 9)?;
-    is_refused(alloc, "1 + max(1, 2)", Reason::UnknownCall, 5)
-}

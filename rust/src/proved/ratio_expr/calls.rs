@@ -1,0 +1,88 @@
+// Erased from crates/ratio_expr/src/calls.rt by rust/erase: not to be edited.
+//! What a call gives of its arguments, or why it refuses them.
+
+use crate::memory::{AllocError, Global, Vec};
+use crate::proved::ratio_expr::function::{Function, function_named, takes};
+use crate::proved::ratio_expr::refusal::Reason;
+use crate::proved::ratio_expr::value::Value;
+use crate::proved::ratio_big::BigFraction;
+use crate::proved::ratio_decimal::rounding_rule::Rounding;
+
+use core::cmp::Ordering;
+
+/// What the function with this name gives of its arguments, or why it refuses them.
+#[inline]
+pub(crate) fn called(
+    alloc: Global,
+    name: &[u8],
+    arguments: &[Value],
+) -> Result<Result<Value, Reason>, AllocError> {
+    let function = match function_named(name) {
+        Some(function) => function,
+        _ => {
+            return Ok(Err(Reason::UnknownCall));
+        }
+    };
+    if !takes(function, arguments.len()) {
+        return Ok(Err(Reason::ArgumentCount));
+    }
+    match numbers_in(alloc, arguments)? {
+        Some(numbers) => Ok(Ok(Value::Number(of_numbers(alloc, function, &numbers)?))),
+        None => Ok(Err(Reason::NotNumber)),
+    }
+}
+
+// The numbers that the values are, or `None` if one is true or false.
+#[inline]
+fn numbers_in(alloc: Global, values: &[Value]) -> Result<Option<Vec<BigFraction>>, AllocError> {
+    let mut numbers = Vec::new(alloc);
+    for value in values {
+        match value {
+            Value::Number(x) => numbers.push(x.copy(alloc)?)?,
+            Value::Truth(_) => return Ok(None),
+        }
+    }
+    Ok(Some(numbers))
+}
+
+// What the function gives of numbers, of which it takes so many.
+#[inline]
+fn of_numbers(
+    alloc: Global,
+    function: Function,
+    numbers: &[BigFraction],
+) -> Result<BigFraction, AllocError> {
+    match function {
+        Function::Abs => numbers[0].abs(alloc),
+        Function::Floor => numbers[0].floor(alloc),
+        Function::Ceil => numbers[0].ceil(alloc),
+        Function::Round => numbers[0].round(alloc),
+        Function::Trunc => numbers[0].trunc(alloc),
+        Function::Cents => cents(alloc, &numbers[0]),
+        Function::Min => extreme(alloc, numbers, Ordering::Less),
+        Function::Max => extreme(alloc, numbers, Ordering::Greater),
+    }
+}
+
+// The nearest multiple of 1/100, a half rounded away from 0.
+#[inline]
+fn cents(alloc: Global, x: &BigFraction) -> Result<BigFraction, AllocError> {
+    let cent = BigFraction::from_integer(100).reciprocal(alloc)?.unwrap();
+    x.round_to(alloc, &cent, Rounding::HalfAway)
+}
+
+// The least of the numbers for `Less`, and the greatest for `Greater`.
+#[inline]
+fn extreme(
+    alloc: Global,
+    numbers: &[BigFraction],
+    side: Ordering,
+) -> Result<BigFraction, AllocError> {
+    let mut at = 0;
+    for next in 1..numbers.len() {
+        if numbers[next].compare(alloc, &numbers[at])? == side {
+            at = next;
+        }
+    }
+    numbers[at].copy(alloc)
+}

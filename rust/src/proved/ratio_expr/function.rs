@@ -1,0 +1,62 @@
+// Erased from crates/ratio_expr/src/function.rt by rust/erase: not to be edited.
+//! `Function`: a function that a call names, and how many numbers it takes.
+
+/// A function that a call names, such as `max` in `max(1, 2)`.
+#[derive(Clone, Copy, PartialEq, Debug)]
+pub(crate) enum Function {
+    /// `abs(x)`: the absolute value.
+    Abs,
+    /// `floor(x)`: the greatest whole number that is not above the number.
+    Floor,
+    /// `ceil(x)`: the least whole number that is not below the number.
+    Ceil,
+    /// `round(x)`: the nearest whole number, a half rounded away from 0.
+    Round,
+    /// `trunc(x)`: the number cut towards 0.
+    Trunc,
+    /// `cents(x)`: the nearest multiple of 1/100, a half rounded away from 0.
+    Cents,
+    /// `min(x, ..)`: the least of the numbers.
+    Min,
+    /// `max(x, ..)`: the greatest of the numbers.
+    Max,
+}
+
+/// The function with this name, or `None` if there is none.
+#[inline]
+pub(crate) fn function_named(name: &[u8]) -> Option<Function> {
+    if name == b"abs".as_slice() {
+        return Some(Function::Abs);
+    }
+    if name == b"floor".as_slice() {
+        return Some(Function::Floor);
+    }
+    if name == b"ceil".as_slice() {
+        return Some(Function::Ceil);
+    }
+    if name == b"round".as_slice() {
+        return Some(Function::Round);
+    }
+    if name == b"trunc".as_slice() {
+        return Some(Function::Trunc);
+    }
+    if name == b"cents".as_slice() {
+        return Some(Function::Cents);
+    }
+    if name == b"min".as_slice() {
+        return Some(Function::Min);
+    }
+    if name == b"max".as_slice() {
+        return Some(Function::Max);
+    }
+    None
+}
+
+/// Whether the function takes so many numbers.
+#[inline]
+pub(crate) fn takes(function: Function, count: usize) -> bool {
+    match function {
+        Function::Min | Function::Max => count >= 1,
+        _ => count == 1,
+    }
+}

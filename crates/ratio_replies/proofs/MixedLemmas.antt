@@ -24,7 +24,7 @@ parts_written x w r text none nothing whole_says whole_is rest_says rest_is is_o
     ∙ ap (λ k. fraction_text (w.0, k) ++ 32 ∷ [] ++ fraction_text (absolute_pair r)) is_one
     ∙ ap (λ k. fraction_text (w.0, pos 1) ++ 32 ∷ [] ++ fraction_text (absolute_pair (r.0, k))) same
     ∙ sym (ap (λ b. cond (b || int_eq r.0 (pos 0)) (fraction_text x) joined) (not_zero w.0 none whole_says whole_is)
-        ∙ ap (λ b. cond (false || b) (fraction_text x) joined) (not_zero r.0 nothing rest_says rest_is))
+    ∙ ap (λ b. cond (false || b) (fraction_text x) joined) (not_zero r.0 nothing rest_says rest_is))
 
 -- the text of a number in the mixed form
 pub mixed_written : {V E : Type 0} (result : Result V E) (bytes : V → List ℕ) (x w r : ℤ × ℤ) (none nothing : Bool) → IsTruncation x.0 x.1 w.0 → IsFractionalPart x.0 x.1 r.0

@@ -1,11 +1,14 @@
 use Rattle.std.proofs.Common.{◌∙◌, Err, ap, sym}
-use Rattle.ratio_expr.specs.declared.refusal.ValueError.TheVariants.{Refused}
 use Rattle.ratio_replies.specs.Refused.{refusal_lines}
 use Rattle.ratio_replies.proofs.reply.reply_to.Goals as goal
 
 pub returns-in_ok-text-in-Err-Refused : goal.returns-in_ok-text-in-Err-Refused
 returns-in_ok-text-in-Err-Refused c =
     let r = c.in-Err-Refused.refusal in
-    let is = ap Err c.in-Err-Refused.field-0-is in
-    (sym c.is_blank.ensures ∙ c.if-is_blank.false, r, c.in-Err-Refused.ensures.refusal r is,
-     c.in_ok-text-in-Err-Refused.ensures ∙ ap (refusal_lines c.args.line.now) c.in-Err-Refused.refusal-is, c.in-Err-Refused.ensures.kept r is)
+    let is = ap Err c.in-Err-Refused.field-0-is in (
+      sym c.is_blank.ensures ∙ c.if-is_blank.false,
+      r,
+      c.in-Err-Refused.ensures.refusal r is,
+      c.in_ok-text-in-Err-Refused.ensures ∙ ap (refusal_lines c.args.line.now) c.in-Err-Refused.refusal-is,
+      c.in-Err-Refused.ensures.kept r is,
+    )

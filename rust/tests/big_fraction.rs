@@ -300,6 +300,13 @@ fn simplest_between_two() {
     }
 }
 
+/// The nearest fraction with a denominator from 1 to `most`: for each denominator, the two numerators next to `x` are tried.
+fn nearest(x: &Original<BigInt>, most: u64) -> Option<Fields> {
+    let denoms = (1..=most).map(BigInt::from);
+    let tried = denoms.flat_map(|q| [0, 1].map(|up| Original::new((x * &q).floor().to_integer() + up, q.clone())));
+    tried.min_by_key(|y| ((y - x).abs(), y.denom().clone(), y.numer().clone())).map(original)
+}
+
 #[test]
 fn fractions_near() {
     let mut numbers = Numbers(9);
@@ -312,6 +319,14 @@ fn fractions_near() {
         rows! { x;
             x.continued_fraction() => quotients(old).into_iter().map(BigFraction::from).collect::<Vec<_>>();
             x.try_continued_fraction().unwrap().len() => quotients(old).len();
+            x.nearest(&BigFraction::from(old.denom().clone())) => Some(x.clone());
+        };
+        let (most, halves) = (numbers.below(20), numbers.below(2));
+        let bound = BigFraction::new(2 * most + halves, 2);
+        rows! { (x, most);
+            x.nearest(&bound).map(fields) => nearest(old, most);
+            tried(x.try_nearest(&bound)) => nearest(old, most);
+            tried(x.try_nearest(&-bound)) => None;
         };
         for rule in rules {
             let multiple = || if width.is_zero() { None } else { Some(original(rounded(&(old / &width), rule) * &width)) };

@@ -126,6 +126,7 @@ fn tried() {
         some(x.try_round_to(y, Rounding::Up));
         some(BigFraction::try_simplest_between(y, next));
         x.try_continued_fraction().map(drop);
+        some(x.try_nearest(&BigFraction::from(1_000_000)));
         [x.try_floor(), x.try_ceil(), x.try_round(), x.try_trunc(), x.try_fract()].into_iter().try_for_each(ok);
         x.try_cmp(y).map(drop);
         x.try_decimal(5, Rounding::Floor).map(drop);
@@ -187,6 +188,7 @@ fn panics() {
         drop(x.round_to(y, Rounding::Up));
         drop(BigFraction::simplest_between(y, next));
         drop(x.continued_fraction());
+        drop(x.nearest(&BigFraction::from(1_000_000)));
         drop((x.floor(), x.ceil(), x.round(), x.trunc(), x.fract()));
         assert!(x < y);
         drop((x.numer_digits(), x.denom_digits()));

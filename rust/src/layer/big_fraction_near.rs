@@ -1,4 +1,4 @@
-//! Multiples of a step near a `BigFraction`, and its continued fraction.
+//! Multiples of a step near a `BigFraction`, the nearest fraction with a bounded denominator, and its continued fraction.
 use super::big_fraction::{divided, taken, BigFraction};
 use crate::memory::{self, AllocError, Global};
 use crate::proved::ratio_decimal::rounding_rule::Rounding;
@@ -35,6 +35,37 @@ impl BigFraction {
             return Ok(None);
         }
         self.0.round_to(Global, &step.0, rule).map(|multiple| Some(BigFraction(multiple)))
+    }
+
+    /// The nearest fraction to this one with a denominator from 1 to `most`, in lowest terms. Of two that are as near, it is the one with
+    /// the smaller denominator, and of two whole numbers the smaller one. `None` exactly if `most` is below 1.
+    ///
+    /// # Panics
+    ///
+    /// For want of memory.
+    ///
+    /// ```
+    /// use num_rational::BigFraction;
+    ///
+    /// assert_eq!(BigFraction::new(355, 113).nearest(&BigFraction::from(10)), Some(BigFraction::new(22, 7)));
+    /// assert_eq!(BigFraction::new(1, 2).nearest(&BigFraction::from(1)), Some(BigFraction::from(0)));
+    /// assert_eq!(BigFraction::new(1, 2).nearest(&BigFraction::from(0)), None);
+    /// ```
+    #[track_caller]
+    pub fn nearest(&self, most: &BigFraction) -> Option<BigFraction> {
+        taken(self.try_nearest(most))
+    }
+
+    /// The same, or an error for want of memory.
+    ///
+    /// ```
+    /// use num_rational::BigFraction;
+    ///
+    /// let most = BigFraction::from(1_000_000);
+    /// assert_eq!(BigFraction::new(-7, 3).try_nearest(&most), Ok(Some(BigFraction::new(-7, 3))));
+    /// ```
+    pub fn try_nearest(&self, most: &BigFraction) -> Result<Option<BigFraction>, AllocError> {
+        Ok(self.0.nearest(Global, &most.0)?.map(BigFraction))
     }
 
     /// The quotients of the continued fraction, each over 1. The first is the floor, and each later one is at least 1.

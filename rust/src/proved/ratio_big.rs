@@ -18,6 +18,8 @@ mod fraction;
 mod lowest_sums;
 mod making;
 mod multiples;
+mod nearest;
+mod neighbours;
 mod parts;
 mod powers;
 mod products;
@@ -28,5 +30,6 @@ mod signs;
 mod simplest;
 mod sums;
 mod texts;
+mod wholes;
 
 pub use fraction::BigFraction;

@@ -15,6 +15,8 @@ mod made;
 #[cfg(test)]
 mod near;
 #[cfg(test)]
+mod nearest;
+#[cfg(test)]
 mod orders;
 #[cfg(test)]
 mod powers;

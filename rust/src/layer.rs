@@ -32,6 +32,8 @@ mod big_fraction_simplest;
 #[cfg(feature = "alloc")]
 mod big_fraction_texts;
 #[cfg(feature = "alloc")]
+mod big_fraction_totals;
+#[cfg(feature = "alloc")]
 mod big_fraction_traits;
 mod bounds;
 mod casts;

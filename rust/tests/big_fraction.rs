@@ -7,7 +7,7 @@
 
 mod support;
 
-use bakhsney::{AllocError, BigFraction, BigRational, DecimalRefusal, Ratio, Reduced, Reduced64, ReducedError, Rounding, TextRefusal};
+use bakhsney::{AllocError, BigFraction, BigRational, DecimalRefusal, Ratio, Reduced, Reduced64, ReducedError, Rounding, TextRefusal, Total};
 use num_bigint::{BigInt, Sign};
 use num_traits::{CheckedAdd, CheckedDiv, CheckedMul, CheckedRem, CheckedSub, FromPrimitive, Inv, Num, One, Pow, Signed, ToPrimitive, Zero};
 use original::Ratio as Original;
@@ -463,6 +463,29 @@ fn floats_of_32_bits() {
                 [x.to_f32(), x.try_to_f32().ok()].map(|float| float.map(f32::to_bits)) => [Some(bits_of_32(&old)); 2];
             };
         }
+    }
+}
+
+/// The sum of a total, with fractions that a slot takes and others.
+#[test]
+fn sums_of_totals() {
+    let mut numbers = Numbers(10);
+    for _ in 0..pairs() / 10 {
+        let (mut short, mut wide) = (Total::<i64>::new(), Total::<i128>::new());
+        let (mut short_sum, mut wide_sum) = (Original::<BigInt>::zero(), Original::<BigInt>::zero());
+        for _ in 0..numbers.below(40) {
+            let numer = numbers.word() as i64 >> numbers.below(63);
+            let denom = (numbers.word() >> (1 + numbers.below(63))).max(1) as i64;
+            short.add(Reduced::checked_new(numer, denom).unwrap());
+            short_sum += Original::new(numer.into(), denom.into());
+            let (numer, denom) = (i128::from(numer) << numbers.below(60), i128::from(denom) << numbers.below(60));
+            wide.subtract(Reduced::checked_new(numer, denom).unwrap());
+            wide_sum -= Original::<BigInt>::new(numer.into(), denom.into());
+        }
+        rows! { short;
+            short.big_sum().map(fields) => Ok(original(short_sum));
+            wide.big_sum().map(fields) => Ok(original(wide_sum));
+        };
     }
 }
 

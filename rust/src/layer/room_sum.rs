@@ -125,6 +125,18 @@ impl RoomSum {
         self.put_all(&shorter, false);
     }
 
+    /// The numbers of the sum, which is `(positive - negative)/common`, in this order: positive, common, negative.
+    #[cfg(target_pointer_width = "64")]
+    pub(super) fn numbers(&self) -> Result<[&[u64]; 3], TooLong> {
+        if self.too_long {
+            return Err(TooLong(()));
+        }
+        let digits = self.sum.digits;
+        let (positive, others) = self.digits.split_at(digits + 3);
+        let (common, others) = others.split_at(digits);
+        Ok([positive, common, &others[..digits + 3]])
+    }
+
     /// Calls `read` with the room. It may have any digits afterwards.
     pub(super) fn read<R>(mut self, read: impl FnOnce(Joined, &mut [u64]) -> Result<R, NoSum>) -> Result<R, TooLong> {
         if self.too_long {

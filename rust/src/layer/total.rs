@@ -63,7 +63,7 @@ use core::ops::{AddAssign, SubAssign};
 /// ```
 #[derive(Clone)]
 pub struct Total<T> {
-    slots: Vec<Slot>,
+    pub(super) slots: Vec<Slot>,
     tally: Tally,
     /// How many slots were empty at the last count.
     empty: usize,

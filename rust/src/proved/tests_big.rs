@@ -29,4 +29,6 @@ mod simplest;
 #[cfg(test)]
 mod texts;
 #[cfg(test)]
+mod totals;
+#[cfg(test)]
 mod wide;

@@ -281,7 +281,7 @@ fn simplest(low: &Original<BigInt>, high: &Original<BigInt>) -> Option<Original<
 #[test]
 fn simplest_between_two() {
     let mut numbers = Numbers(11);
-    for _ in 0..pairs() {
+    for _ in 0..pairs() / 5 {
         let left = fraction(&mut numbers);
         let right = beside(&left, &mut numbers);
         let ((x, low), (y, high)) = if left.1 < right.1 { (&left, &right) } else { (&right, &left) };

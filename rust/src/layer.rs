@@ -20,6 +20,8 @@ mod big_fraction;
 #[cfg(feature = "alloc")]
 mod big_fraction_conversions;
 #[cfg(feature = "alloc")]
+mod big_fraction_divisors;
+#[cfg(feature = "alloc")]
 mod big_fraction_near;
 #[cfg(feature = "alloc")]
 mod big_fraction_operators;

@@ -9,6 +9,7 @@ mod support;
 
 use bakhsney::{AllocError, BigFraction, BigRational, DecimalRefusal, Ratio, Reduced, Reduced64, ReducedError, Rounding, TextRefusal, Total};
 use num_bigint::{BigInt, Sign};
+use num_integer::Integer as _;
 use num_traits::{CheckedAdd, CheckedDiv, CheckedMul, CheckedRem, CheckedSub, FromPrimitive, Inv, Num, One, Pow, Signed, ToPrimitive, Zero};
 use original::Ratio as Original;
 use std::collections::hash_map::DefaultHasher;
@@ -156,6 +157,8 @@ fn calls_on_two() {
             comparisons!(x, y) => comparisons!(old, other);
             x.try_cmp(y) => Ok(old.cmp(other));
             hash_of(x) == hash_of(y) => x == y;
+            [x.gcd(y), x.try_gcd(y).unwrap()].map(fields) => all(Original::new(old.numer().gcd(other.numer()), old.denom().lcm(other.denom())));
+            [x.lcm(y), x.try_lcm(y).unwrap()].map(fields) => all(Original::new(old.numer().lcm(other.numer()), old.denom().gcd(other.denom())));
             fields(x.abs_sub(y)) => original(old.abs_sub(other));
         };
         if !other.is_zero() {

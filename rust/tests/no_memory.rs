@@ -118,6 +118,8 @@ fn tried() {
         ok(x.try_mul(y));
         some(x.try_div(y));
         some(x.try_rem(y));
+        ok(x.try_gcd(y));
+        ok(x.try_lcm(y));
         ok(x.try_neg());
         ok(x.try_abs());
         ok(x.try_clone());

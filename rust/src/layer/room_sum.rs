@@ -126,7 +126,6 @@ impl RoomSum {
     }
 
     /// The numbers of the sum, which is `(positive - negative)/common`, in this order: positive, common, negative.
-    #[cfg(target_pointer_width = "64")]
     pub(super) fn numbers(&self) -> Result<[&[u64]; 3], TooLong> {
         if self.too_long {
             return Err(TooLong(()));

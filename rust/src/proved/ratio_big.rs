@@ -11,6 +11,7 @@ mod cuts;
 mod decimal_cuts;
 mod decimals;
 mod digits;
+mod divisors;
 mod equality;
 mod exchange;
 mod floats;

@@ -3,6 +3,8 @@
 #[cfg(test)]
 mod decimals;
 #[cfg(test)]
+mod divisors;
+#[cfg(test)]
 mod edges;
 #[cfg(test)]
 mod equality;

@@ -24,10 +24,8 @@ use Rattle.ratio_expr.specs.declared.refusal.Reason.{Reason}
 use Rattle.ratio_expr.specs.declared.refusal.Reason.TheVariants as reasons
 use Rattle.ratio_expr.specs.Calls.{AreNumbers, GivesCall, HaveTruth, RefusesCall}
 use Rattle.ratio_expr.specs.Functions.{GivesNumber, IsExtreme, TakesCount, function_of}
+use Rattle.ratio_expr.proofs.DivisorLaws.{gcd_one, lcm_one, same_pair}
 use Rattle.ratio_expr.specs.Worths.{Worth, Amount, Truth}
-
-pub same_pair : (x y : ℤ × ℤ) → (x.0 ≡ y.0) × (x.1 ≡ y.1) → x ≡ y
-same_pair x y e = ap (λ (a : ℤ). let p : ℤ × ℤ = (a, x.1) in p) e.0 ∙ ap (λ (b : ℤ). let p : ℤ × ℤ = (y.0, b) in p) e.1
 
 pub same_terms : (z x y : ℤ × ℤ) → HasTerms z x → HasTerms z y → x ≡ y
 same_terms z x y h g = same_pair x y (lowest_unique z.0 z.1 x.0 x.1 y.0 y.1 h g)
@@ -72,6 +70,8 @@ number_one functions.Ceil (x ∷ []) r q low h g = same_pair r q (one_ceiling x.
 number_one functions.Round (x ∷ []) r q low h g = same_pair r q (one_rounded x.0 x.1 r.0 q.0 (head x [] low) h.0 g.0, h.1 ∙ sym g.1)
 number_one functions.Trunc (x ∷ []) r q low h g = same_pair r q (one_truncation x.0 x.1 r.0 q.0 (head x [] low) h.0 g.0, h.1 ∙ sym g.1)
 number_one functions.Cents (x ∷ []) r q low h g = cents_one x r q (head x [] low) h g
+number_one functions.Gcd xs r q low h g = gcd_one xs r q h g
+number_one functions.Lcm xs r q low h g = lcm_one xs r q h g
 number_one functions.Min xs r q low h g = extreme_one Less (λ e. cc) xs r q low h g
 number_one functions.Max xs r q low h g = extreme_one Greater (λ e. cc) xs r q low h g
 number_one f xs r q low h g = absurd h

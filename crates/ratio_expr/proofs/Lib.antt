@@ -7,6 +7,7 @@ pub mod Counting
 pub mod CutLaws
 pub mod Cuts
 pub mod DepthLaws
+pub mod DivisorLaws
 pub mod Fitting
 pub mod Growing
 pub mod LineLemmas

@@ -19,7 +19,8 @@ use Rattle.ratio_expr.specs.Operators.{GivesWorth, GivesNumbers, IsNegativeWorth
 use Rattle.ratio_expr.specs.Calls.{GivesCall, RefusesCall}
 use Rattle.ratio_expr.specs.Values.{AreWorth, HasRefusal, IsWorth, piece}
 use Rattle.ratio_expr.specs.Worths.{Worth, Amount, Truth}
-use Rattle.ratio_expr.proofs.CallLaws.{call_not_refused, call_one, call_refused_once, same_pair, same_terms}
+use Rattle.ratio_expr.proofs.CallLaws.{call_not_refused, call_one, call_refused_once, same_terms}
+use Rattle.ratio_expr.proofs.DivisorLaws.{same_pair}
 
 -- ---- numbers
 

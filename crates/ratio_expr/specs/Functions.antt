@@ -1,9 +1,11 @@
 -- The functions that a call can name, and what each gives of numbers.
-use Rattle.std.specs.Prelude.{◌≡◌, ◌≢◌, ◌≤◌, ℕ, ℤ, pos, List, [], ◌∷◌, codes, Option, None, Some, if◌then◌else◌}
+use Rattle.std.specs.Prelude.{◌≡◌, ◌≢◌, ◌≤◌, ◌≤ℤ◌, ℕ, ℤ, pos, List, [], ◌∷◌, codes, Option, None, Some, if◌then◌else◌}
 use Rattle.std.specs.List.{All, Contains}
 use Rattle.std.specs.Str.{bytes_eq}
 use Rattle.std.specs.declared.cmp.Ordering.{Ordering}
 use Rattle.std.specs.declared.cmp.Ordering.TheVariants.{Less, Greater}
+use Rattle.ratio_integer.specs.Fraction.{IsLowestTerms}
+use Rattle.ratio_core.specs.Divisors.{DividesFraction}
 use Rattle.ratio_core.specs.Order.{cross_cmp}
 use Rattle.ratio_core.specs.Rounding.{IsCeiling, IsFloor, IsRounded, IsTruncation}
 use Rattle.ratio_decimal.specs.declared.rounding_rule.Rounding.TheVariants.{HalfAway}
@@ -22,11 +24,15 @@ function_of name =
     if bytes_eq name (codes "round") then Some functions.Round else (
     if bytes_eq name (codes "trunc") then Some functions.Trunc else (
     if bytes_eq name (codes "cents") then Some functions.Cents else (
+    if bytes_eq name (codes "gcd") then Some functions.Gcd else (
+    if bytes_eq name (codes "lcm") then Some functions.Lcm else (
     if bytes_eq name (codes "min") then Some functions.Min else (
-    if bytes_eq name (codes "max") then Some functions.Max else None)))))))
+    if bytes_eq name (codes "max") then Some functions.Max else None)))))))))
 
--- the function takes so many numbers: one, and `min` and `max` take more, too
+-- the function takes so many numbers: one, and `gcd`, `lcm`, `min` and `max` take more, too
 abbrev pub TakesCount : Function → ℕ → Type 0
+TakesCount functions.Gcd n = 1 ≤ n
+TakesCount functions.Lcm n = 1 ≤ n
 TakesCount functions.Min n = 1 ≤ n
 TakesCount functions.Max n = 1 ≤ n
 TakesCount f n = n ≡ 1
@@ -37,6 +43,22 @@ pub record IsExtreme (side : Ordering) (xs : List (ℤ × ℤ)) (r : ℤ × ℤ)
   pub among : Contains xs r
   pub beyond : All (λ x. cross_cmp x.0 x.1 r.0 r.1 ≢ side) xs
 
+-- r is the greatest common divisor of the numbers in lowest terms, not below 0: it divides each, and what divides each divides it
+-- Example: of 1/2 and 1/3: 1/6
+pub record IsGcdOfAll (xs : List (ℤ × ℤ)) (r : ℤ × ℤ) : Type 0 where
+  pub lowest : IsLowestTerms r.0 r.1
+  pub sign : pos 0 ≤ℤ r.0
+  pub divides : All (λ x. DividesFraction r.0 r.1 x.0 x.1) xs
+  pub greatest : (u v : ℤ) → v ≢ pos 0 → All (λ x. DividesFraction u v x.0 x.1) xs → DividesFraction u v r.0 r.1
+
+-- r is the least common multiple of the numbers in lowest terms, not below 0: each divides it, and it divides what each divides
+-- Example: of 4 and 6: 12
+pub record IsLcmOfAll (xs : List (ℤ × ℤ)) (r : ℤ × ℤ) : Type 0 where
+  pub lowest : IsLowestTerms r.0 r.1
+  pub sign : pos 0 ≤ℤ r.0
+  pub divided : All (λ x. DividesFraction x.0 x.1 r.0 r.1) xs
+  pub least : (u v : ℤ) → v ≢ pos 0 → All (λ x. DividesFraction x.0 x.1 u v) xs → DividesFraction r.0 r.1 u v
+
 -- what a function gives of numbers in lowest terms
 -- Example: `floor` of -7/2: -4/1
 abbrev pub GivesNumber : Function → List (ℤ × ℤ) → ℤ × ℤ → Type 0
@@ -46,6 +68,8 @@ GivesNumber functions.Ceil (x ∷ []) r = IsCeiling x.0 x.1 r.0 × (r.1 ≡ pos 
 GivesNumber functions.Round (x ∷ []) r = IsRounded x.0 x.1 r.0 × (r.1 ≡ pos 1)
 GivesNumber functions.Trunc (x ∷ []) r = IsTruncation x.0 x.1 r.0 × (r.1 ≡ pos 1)
 GivesNumber functions.Cents (x ∷ []) r = IsMultipleBy HalfAway x (pos 1, pos 100) r
+GivesNumber functions.Gcd xs r = IsGcdOfAll xs r
+GivesNumber functions.Lcm xs r = IsLcmOfAll xs r
 GivesNumber functions.Min xs r = IsExtreme Less xs r
 GivesNumber functions.Max xs r = IsExtreme Greater xs r
 GivesNumber f xs r = ⊥

@@ -5,7 +5,7 @@ ghost use Rattle.ratio_decimal.specs.declared.rounding_rule.Rounding.TheVariants
 ghost use Rattle.ratio_big.specs.Fractions.{big_numbers};
 ghost use Rattle.ratio_big.specs.Multiples.{IsMultipleBy};
 ghost use Rattle.ratio_expr.specs.Calls.{GivesCall, HaveTruth, RefusesCall};
-ghost use Rattle.ratio_expr.specs.Functions.{GivesNumber, IsExtreme, TakesCount};
+ghost use Rattle.ratio_expr.specs.Functions.{GivesNumber, IsExtreme, IsGcdOfAll, IsLcmOfAll, TakesCount};
 ghost use Rattle.ratio_expr.specs.Worths.{worth, Amount};
 
 use crate::function::{Function, function_named, takes};
@@ -66,6 +66,8 @@ fn of_numbers(
         Function::Round => numbers[0].round(alloc),
         Function::Trunc => numbers[0].trunc(alloc),
         Function::Cents => cents(alloc, &numbers[0]),
+        Function::Gcd => common_divisor(alloc, numbers),
+        Function::Lcm => common_multiple(alloc, numbers),
         Function::Min => extreme(alloc, numbers, Ordering::Less),
         Function::Max => extreme(alloc, numbers, Ordering::Greater),
     }
@@ -77,6 +79,30 @@ fn cents(alloc: Global, x: &BigFraction) -> Result<BigFraction, AllocError>
 {
     let cent = BigFraction::from_integer(100).reciprocal(alloc)?.unwrap();
     x.round_to(alloc, &cent, Rounding::HalfAway)
+}
+
+// The greatest common divisor of the numbers.
+fn common_divisor(alloc: Global, numbers: &[BigFraction]) -> Result<BigFraction, AllocError>
+    requires { 1 ≤ length numbers.now }
+    ensures { IfOk result (λ r. IsGcdOfAll (map big_numbers numbers.now) (big_numbers r)) }
+{
+    let mut divisor = numbers[0].gcd(alloc, &numbers[0])?;
+    for next in 1..numbers.len() {
+        divisor = divisor.gcd(alloc, &numbers[next])?;
+    }
+    Ok(divisor)
+}
+
+// The least common multiple of the numbers.
+fn common_multiple(alloc: Global, numbers: &[BigFraction]) -> Result<BigFraction, AllocError>
+    requires { 1 ≤ length numbers.now }
+    ensures { IfOk result (λ r. IsLcmOfAll (map big_numbers numbers.now) (big_numbers r)) }
+{
+    let mut multiple = numbers[0].lcm(alloc, &numbers[0])?;
+    for next in 1..numbers.len() {
+        multiple = multiple.lcm(alloc, &numbers[next])?;
+    }
+    Ok(multiple)
 }
 
 // The least of the numbers for `Less`, and the greatest for `Greater`.

@@ -33,6 +33,16 @@ fn least_and_greatest(rt: HostRuntime) -> Result<(), Fail> {
     is_worth(&rt, alloc, "min(7)", "7")
 }
 
+#[test]
+fn divisors(rt: HostRuntime) -> Result<(), Fail> {
+    let alloc = rt.alloc();
+    is_worth(&rt, alloc, "gcd(1/2, 1/3)", "1/6")?;
+    is_worth(&rt, alloc, "gcd(-4, 6, 9/2)", "1/2")?;
+    is_worth(&rt, alloc, "lcm(4, 6)", "12")?;
+    is_worth(&rt, alloc, "lcm(1/4, -1/6, 3)", "3")?;
+    is_worth(&rt, alloc, "gcd(-3/2) + lcm(7, 0)", "3/2")
+}
+
 // An argument is looked at before its call.
 #[test]
 fn refused(rt: HostRuntime) -> Result<(), Fail> {

@@ -64,12 +64,22 @@ abbrev pub ChecksShortDenominator : ℤ → Option ℕ → Type 0
 ChecksShortDenominator d None = pos (2 ^ 64) ≤ℤ d
 ChecksShortDenominator d (Some n) = (0 < n) × (d ≡ pos n)
 
+-- the text is a fraction, its decimal with so many places and its mixed number, with tabs between
+-- Example: 17/12 with two places: `17/12`, `1.42` and `1 5/12`
+pub record IsInFields (x : ℤ × ℤ) (places : ℕ) (text : List ℕ) : Type 0 where
+  pub rounded : List ℕ
+  pub mixed : List ℕ
+  pub decimal : IsLongDecimalOf HalfAway places x.0 x.1 rounded
+  pub whole_part : IsInMixedForm x mixed
+  pub written : text ≡ fraction_text x ++ 9 ∷ [] ++ rounded ++ 9 ∷ [] ++ mixed
+
 -- the text is a number in a form
 -- Example: 17/12 in `Decimal 4`: `1.4167`
 abbrev pub IsNumberInForm : ℤ × ℤ → Form → List ℕ → Type 0
 IsNumberInForm x forms.Fraction text = text ≡ fraction_text x
 IsNumberInForm x (forms.Decimal places) text = IsLongDecimalOf HalfAway places x.0 x.1 text
 IsNumberInForm x forms.Mixed text = IsInMixedForm x text
+IsNumberInForm x (forms.Fields places) text = IsInFields x places text
 IsNumberInForm x forms.Both text = IsInBothForm x text
 
 -- the text is a value in a form

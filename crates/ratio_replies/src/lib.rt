@@ -5,12 +5,14 @@
 //! | `form` | `Form`: as what a number is written. |
 //! | `written` | The text of a value in a form. |
 //! | `mixed` | A number as its whole part and the rest: `1 5/12`. |
+//! | `fields` | What a page shows of a number, with tabs between. |
 //! | `both` | A fraction with its decimal beside it: `7/12 ≈ 0.583333`. |
 //! | `refused` | The text of a refusal: the line, a caret and the reason. |
 //! | `reply` | `Reply`: what a line is answered. |
 #![tactic(auto)]
 
 mod both;
+mod fields;
 mod form;
 mod mixed;
 mod refused;

@@ -8,6 +8,7 @@ ghost use Rattle.ratio_expr.specs.Worths.{worth};
 ghost use Rattle.ratio_replies.specs.Forms.{IsNumberInForm, IsValueInForm};
 
 use crate::both::both_text;
+use crate::fields::fields_text;
 use crate::form::Form;
 use crate::mixed::mixed_text;
 use ratio_big::BigFraction;
@@ -34,6 +35,7 @@ fn number_text(alloc: Global, x: &BigFraction, form: Form) -> Result<Vec<u8>, Al
         Form::Fraction => fraction_text(alloc, x),
         Form::Decimal(places) => decimal_text(alloc, x, places),
         Form::Mixed => mixed_text(alloc, x),
+        Form::Fields(places) => fields_text(alloc, x, places),
         Form::Both => both_text(alloc, x),
     }
 }
@@ -46,8 +48,12 @@ pub(crate) fn fraction_text(alloc: Global, x: &BigFraction) -> Result<Vec<u8>, A
     Vec::from_slice(alloc, text.as_bytes())
 }
 
-// The decimal with so many places, rounded half away from zero.
-fn decimal_text(alloc: Global, x: &BigFraction, places: u32) -> Result<Vec<u8>, AllocError>
+/// The decimal with so many places, rounded half away from zero.
+pub(crate) fn decimal_text(
+    alloc: Global,
+    x: &BigFraction,
+    places: u32,
+) -> Result<Vec<u8>, AllocError>
     ensures { let a = big_numbers x.now in IfOk result (λ text. IsLongDecimalOf HalfAway places a.0 a.1 text.items) }
 {
     let text = x.decimal(alloc, places, Rounding::HalfAway)?;

@@ -196,23 +196,19 @@ function showReply(row, fields) {
 
 function partsOf(row, [kind, ...fields]) {
   switch (kind) {
-    case "number": return numberParts(...fields);
-    case "truth": return [copyButton("value", fields[0])];
-    case "refused": return [refusal(inputOf(row).value, fields[0], Number(fields[1]))];
+    case "value": return fields.length === 1 ? [copyButton("value", fields[0])] : numberParts(...fields);
+    case "refused": return [refusal(inputOf(row).value, fields[0])];
     case "memory": return [reasonOf("error: the memory did not suffice")];
     default: return [];
   }
 }
 
 // The exact value and, beside a fraction, its decimal after `=` or `≈`.
-function numberParts(fraction, decimal, mixedText, read) {
+function numberParts(fraction, decimal, mixedText) {
   const parts = [copyButton("value", mixed.checked ? mixedText : fraction)];
   if (fraction.includes("/")) {
     const exact = isExact(fractionOf(fraction), decimal);
     parts.push(copyButton("value decimal", exact ? decimal.replace(/\.?0+$/, "") : decimal, exact ? "= " : "≈ "));
-  }
-  if (read) {
-    parts.push(Object.assign(document.createElement("span"), { className: "quiet", textContent: `read as ${read}` }));
   }
   return parts;
 }
@@ -234,9 +230,9 @@ function reasonOf(text) {
   return Object.assign(document.createElement("span"), { className: "reason", textContent: text });
 }
 
-// The part of a line around a column, with a mark at the character there and a caret under it, and the reason.
-function refusal(text, reason, column) {
-  const letters = [...text], at = column - 1, start = Math.max(0, at - 16), end = Math.min(letters.length, at + 10);
+// The part of a line around the column that a reason ends with, with a mark at the character there and a caret under it, and the reason.
+function refusal(text, reason) {
+  const letters = [...text], at = Number(/\d+$/.exec(reason)) - 1, start = Math.max(0, at - 16), end = Math.min(letters.length, at + 10);
   const before = (start > 0 ? "…" : "") + letters.slice(start, at).join("");
   const where = document.createElement("pre");
   where.className = "where";
@@ -248,7 +244,7 @@ function refusal(text, reason, column) {
   where.append(before, mark, letters.slice(at + 1, end).join("") + (end < letters.length ? "…" : ""), "\n", " ".repeat([...before].length), caret);
   const box = document.createElement("div");
   box.className = at >= letters.length ? "refusal at-end" : "refusal";
-  box.append(where, reasonOf(`error: ${reason}, at column ${column}`));
+  box.append(where, reasonOf(reason));
   return box;
 }
 
@@ -364,8 +360,8 @@ function redrawPictures() {
 }
 
 function drawPictures() {
-  const [kind, fraction] = current?.fields ?? [];
-  const text = kind === "number" && fraction.length <= PICTURED_LENGTH ? fraction : "";
+  const [kind, fraction, decimal] = current?.fields ?? [];
+  const text = kind === "value" && decimal !== undefined && fraction.length <= PICTURED_LENGTH ? fraction : "";
   if (text === pictured) {
     return;
   }
@@ -394,11 +390,11 @@ function drawBeats() {
 
 function beatParts(found) {
   const names = ["first", "second", "third"];
-  const wrong = found.findIndex(([kind, text]) => kind === "refused" || kind === "truth" || (kind === "number" && !/^[1-9]/.test(text)));
+  const wrong = found.findIndex(([kind, text]) => kind === "refused" || (kind === "value" && !/^[1-9]/.test(text)));
   if (wrong >= 0) {
-    return [paragraph(`The ${names[wrong]} one is no length above 0${found[wrong][0] === "refused" ? `: ${found[wrong][1]}, at column ${found[wrong][2]}` : ""}.`)];
+    return [paragraph(`The ${names[wrong]} one is no length above 0${found[wrong][0] === "refused" ? `: ${found[wrong][1]}` : ""}.`)];
   }
-  const lengths = found.filter(([kind, text]) => kind === "number" && text.length <= PICTURED_LENGTH).map(([, text]) => fractionOf(text));
+  const lengths = found.filter(([kind, text]) => kind === "value" && text.length <= PICTURED_LENGTH).map(([, text]) => fractionOf(text));
   return lengths.length < 2 ? [paragraph("Type two lengths, or three.")] : beats(lengths);
 }
 

@@ -30,7 +30,7 @@ FAULTS = [
     ("a refused line not marked", "sheet.js", 'setAttribute("aria-invalid", ', 'setAttribute("aria-busy", ', sheet.values_are_said),
     ("a focus that is not seen", "sheet.css", ":focus-visible { outline: 3px solid var(--strong);", ":focus-visible { outline: none;", sheet.focus_is_seen),
     ("a caret one column late", "sheet.js", '" ".repeat([...before].length)', '" ".repeat([...before].length + 1)', sheet.caret_is_under_the_place),
-    ("a mark by bytes", "sheet.js", "at = column - 1", "at = new TextEncoder().encode(text.slice(0, column - 1)).length", sheet.caret_is_under_the_place),
+    ("a mark by bytes", "sheet.js", "at = Number(/\\d+$/.exec(reason)) - 1", "at = new TextEncoder().encode(text.slice(0, Number(/\\d+$/.exec(reason)) - 1)).length", sheet.caret_is_under_the_place),
     ("an error while it is typed", "sheet.css", ".unfinished .at-end .where", ".unfinished .never .where", sheet.unfinished_line_is_no_error_yet),
     ("nothing kept", "sheet.js", "localStorage.setItem(STORED,", "String(STORED,", sheet.lines_are_kept),
     ("storage that must be there", "sheet.js", "    return null;\n  }\n}\n\nfunction take(", "    throw new Error(STORED);\n  }\n}\n\nfunction take(", sheet.page_works_without_storage),

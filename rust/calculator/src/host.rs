@@ -1,5 +1,5 @@
 //! What the proved programs get from their host.
-// Calls that take memory are for 64 bits.
+// The program `ratio` is for 64 bits: the page has no terminal.
 #[cfg(target_pointer_width = "64")]
 mod console;
 

@@ -11,7 +11,6 @@
 pub mod ratio_calc;
 pub mod ratio_lines;
 pub mod ratio_page;
-#[cfg(target_pointer_width = "64")]
 pub mod ratio_replies;
 #[cfg(target_pointer_width = "64")]
 pub mod ratio_tool;

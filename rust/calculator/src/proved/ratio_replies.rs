@@ -1,6 +1,7 @@
 // Erased from crates/ratio_replies/src/lib.rt by rust/erase: not to be edited.
 //! What a line that a person types is answered: its value in a form, or why it has none, with a caret below the place.
 mod both;
+mod fields;
 mod form;
 mod mixed;
 mod refused;

@@ -10,6 +10,8 @@ pub enum Form {
     Decimal(u32),
     /// The whole part and the rest: `1 5/12`.
     Mixed,
+    /// What a page shows of a number, with tabs between: the fraction, its decimal with so many places, and the mixed number.
+    Fields(u32),
     /// The fraction, and its decimal of up to six places beside it: `17/12 ≈ 1.416667`, `1/4 = 0.25`, `5`.
     Both,
 }

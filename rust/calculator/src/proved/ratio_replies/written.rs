@@ -3,6 +3,7 @@
 
 use bakhsney::memory::{AllocError, Global, Vec};
 use crate::proved::ratio_replies::both::both_text;
+use crate::proved::ratio_replies::fields::fields_text;
 use crate::proved::ratio_replies::form::Form;
 use crate::proved::ratio_replies::mixed::mixed_text;
 use bakhsney::proved::ratio_big::BigFraction;
@@ -26,6 +27,7 @@ fn number_text(alloc: Global, x: &BigFraction, form: Form) -> Result<Vec<u8>, Al
         Form::Fraction => fraction_text(alloc, x),
         Form::Decimal(places) => decimal_text(alloc, x, places),
         Form::Mixed => mixed_text(alloc, x),
+        Form::Fields(places) => fields_text(alloc, x, places),
         Form::Both => both_text(alloc, x),
     }
 }
@@ -37,9 +39,13 @@ pub(crate) fn fraction_text(alloc: Global, x: &BigFraction) -> Result<Vec<u8>, A
     Vec::from_slice(alloc, text.as_bytes())
 }
 
-// The decimal with so many places, rounded half away from zero.
+/// The decimal with so many places, rounded half away from zero.
 #[inline]
-fn decimal_text(alloc: Global, x: &BigFraction, places: u32) -> Result<Vec<u8>, AllocError> {
+pub(crate) fn decimal_text(
+    alloc: Global,
+    x: &BigFraction,
+    places: u32,
+) -> Result<Vec<u8>, AllocError> {
     let text = x.decimal(alloc, places, Rounding::HalfAway)?;
     Vec::from_slice(alloc, text.as_bytes())
 }

@@ -14,6 +14,7 @@ mod digits;
 mod divisors;
 mod equality;
 mod exchange;
+mod few_digits;
 mod floats;
 mod fraction;
 mod lowest_sums;

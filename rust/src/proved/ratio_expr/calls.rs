@@ -59,6 +59,8 @@ fn of_numbers(
         Function::Round => numbers[0].round(alloc),
         Function::Trunc => numbers[0].trunc(alloc),
         Function::Cents => cents(alloc, &numbers[0]),
+        Function::Gcd => common_divisor(alloc, numbers),
+        Function::Lcm => common_multiple(alloc, numbers),
         Function::Min => extreme(alloc, numbers, Ordering::Less),
         Function::Max => extreme(alloc, numbers, Ordering::Greater),
     }
@@ -69,6 +71,26 @@ fn of_numbers(
 fn cents(alloc: Global, x: &BigFraction) -> Result<BigFraction, AllocError> {
     let cent = BigFraction::from_integer(100).reciprocal(alloc)?.unwrap();
     x.round_to(alloc, &cent, Rounding::HalfAway)
+}
+
+// The greatest common divisor of the numbers.
+#[inline]
+fn common_divisor(alloc: Global, numbers: &[BigFraction]) -> Result<BigFraction, AllocError> {
+    let mut divisor = numbers[0].gcd(alloc, &numbers[0])?;
+    for next in 1..numbers.len() {
+        divisor = divisor.gcd(alloc, &numbers[next])?;
+    }
+    Ok(divisor)
+}
+
+// The least common multiple of the numbers.
+#[inline]
+fn common_multiple(alloc: Global, numbers: &[BigFraction]) -> Result<BigFraction, AllocError> {
+    let mut multiple = numbers[0].lcm(alloc, &numbers[0])?;
+    for next in 1..numbers.len() {
+        multiple = multiple.lcm(alloc, &numbers[next])?;
+    }
+    Ok(multiple)
 }
 
 // The least of the numbers for `Less`, and the greatest for `Greater`.

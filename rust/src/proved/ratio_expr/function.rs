@@ -16,6 +16,10 @@ pub(crate) enum Function {
     Trunc,
     /// `cents(x)`: the nearest multiple of 1/100, a half rounded away from 0.
     Cents,
+    /// `gcd(x, ..)`: the greatest fraction of which each is a whole multiple.
+    Gcd,
+    /// `lcm(x, ..)`: the least fraction above 0 that is a whole multiple of each.
+    Lcm,
     /// `min(x, ..)`: the least of the numbers.
     Min,
     /// `max(x, ..)`: the greatest of the numbers.
@@ -43,6 +47,12 @@ pub(crate) fn function_named(name: &[u8]) -> Option<Function> {
     if name == b"cents".as_slice() {
         return Some(Function::Cents);
     }
+    if name == b"gcd".as_slice() {
+        return Some(Function::Gcd);
+    }
+    if name == b"lcm".as_slice() {
+        return Some(Function::Lcm);
+    }
     if name == b"min".as_slice() {
         return Some(Function::Min);
     }
@@ -56,7 +66,7 @@ pub(crate) fn function_named(name: &[u8]) -> Option<Function> {
 #[inline]
 pub(crate) fn takes(function: Function, count: usize) -> bool {
     match function {
-        Function::Min | Function::Max => count >= 1,
+        Function::Gcd | Function::Lcm | Function::Min | Function::Max => count >= 1,
         _ => count == 1,
     }
 }

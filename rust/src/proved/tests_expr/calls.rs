@@ -35,6 +35,16 @@ fn least_and_greatest() -> Result<(), Fail> {
     is_worth(alloc, "min(7)", "7")
 }
 
+#[test]
+fn divisors() -> Result<(), Fail> {
+    let alloc = Global;
+    is_worth(alloc, "gcd(1/2, 1/3)", "1/6")?;
+    is_worth(alloc, "gcd(-4, 6, 9/2)", "1/2")?;
+    is_worth(alloc, "lcm(4, 6)", "12")?;
+    is_worth(alloc, "lcm(1/4, -1/6, 3)", "3")?;
+    is_worth(alloc, "gcd(-3/2) + lcm(7, 0)", "3/2")
+}
+
 // An argument is looked at before its call.
 #[test]
 fn refused() -> Result<(), Fail> {

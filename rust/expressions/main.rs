@@ -1,24 +1,38 @@
-//! Answers each line of standard input as the proved calls of expressions do, with names from line to line. An answer is a value, or a
-//! reason, the place in bytes and the column.
+//! Answers each line of standard input as the proved calls of expressions do, with names from line to line. An answer is a value, and how the
+//! slashes of the line were read if the line does not say so, or a reason, the place in bytes and the column.
 
 use bakhsney::memory::{AllocError, Global};
+use bakhsney::proved::ratio_expr::answer::value_of;
 use bakhsney::proved::ratio_expr::expression::column;
 use bakhsney::proved::ratio_expr::line::answer;
 use bakhsney::proved::ratio_expr::names::Names;
 use bakhsney::proved::ratio_expr::refusal::ValueError;
+use bakhsney::proved::ratio_expr::slashes::read_as;
 use bakhsney::proved::ratio_expr::value::Value;
 use std::io::{self, BufRead, BufWriter, Write};
 
-fn shown(value: &Value) -> Result<String, AllocError> {
+fn printed(value: &Value) -> Result<String, AllocError> {
     Ok(match value {
         Value::Number(x) => x.to_text(Global)?.into_std(),
         Value::Truth(truth) => truth.to_string(),
     })
 }
 
+/// The value of a text, or nothing, as text.
+fn outcome(text: &[u8], names: &Names) -> Result<Option<String>, AllocError> {
+    value_of(Global, text, names).ok().map(|value| printed(&value)).transpose()
+}
+
 fn answered(text: &[u8], names: &mut Names) -> Result<String, AllocError> {
+    let read = read_as(Global, text)?;
+    if let Some(read) = &read {
+        assert_eq!(outcome(text, names)?, outcome(read, names)?, "{}", String::from_utf8_lossy(text));
+    }
     match answer(Global, text, names) {
-        Ok(value) => shown(&value),
+        Ok(value) => Ok(match read {
+            Some(read) => format!("{}\t{}", printed(&value)?, String::from_utf8_lossy(&read)),
+            None => printed(&value)?,
+        }),
         Err(ValueError::Refused(refusal)) => Ok(format!("{:?} {} {}", refusal.reason, refusal.place, column(text, refusal.place))),
         Err(ValueError::Memory) => Err(AllocError),
     }

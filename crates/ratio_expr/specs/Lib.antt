@@ -10,6 +10,7 @@ pub mod Numbers
 pub mod Operators
 pub mod Reading
 pub mod Reasons
+pub mod Slashes
 pub mod Stacks
 pub mod Tokens
 pub mod Values

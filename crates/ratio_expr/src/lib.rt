@@ -26,6 +26,7 @@
 //! | `answer` | The value of a text, or its first refusal. |
 //! | `assignment` | The name that a line gives its value, and the expression of this value. |
 //! | `line` | The value of a line, which gives it names: `x = 3/7`. |
+//! | `slashes` | How the slashes of a text are read. |
 //! | `value_laws` | The laws that a text is worth at most one value, that it has at most one refusal, and never both. |
 #![tactic(auto)]
 
@@ -45,6 +46,7 @@ mod operation;
 pub mod parser;
 mod power;
 pub mod refusal;
+pub mod slashes;
 pub mod step;
 pub mod token;
 pub mod value;

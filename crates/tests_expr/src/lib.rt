@@ -14,6 +14,8 @@ mod refusals;
 #[cfg(test)]
 mod shown;
 #[cfg(test)]
+mod slashes;
+#[cfg(test)]
 mod trees;
 #[cfg(test)]
 mod unvalued;

@@ -16,6 +16,7 @@ mod operation;
 pub mod parser;
 mod power;
 pub mod refusal;
+pub mod slashes;
 pub mod step;
 pub mod token;
 pub mod value;

@@ -5,30 +5,10 @@ use std::test::Fail;
 
 // Two fractions, their greatest common divisor and their least common multiple.
 const ROWS: [(&str, &str, &str, &str); 6] = [
-    (
-        "1/4",
-        "1/6",
-        "1/12",
-        "1/2",
-    ),
-    (
-        "-4",
-        "6",
-        "2",
-        "12",
-    ),
-    (
-        "3/2",
-        "0",
-        "3/2",
-        "0",
-    ),
-    (
-        "0",
-        "0",
-        "0",
-        "0",
-    ),
+    ("1/4", "1/6", "1/12", "1/2"),
+    ("-4", "6", "2", "12"),
+    ("3/2", "0", "3/2", "0"),
+    ("0", "0", "0", "0"),
     (
         "1267650600228229401496703205376/3",
         "-18446744073709551616/9",
@@ -50,9 +30,17 @@ fn both(rt: HostRuntime) -> Result<(), Fail> {
         let x = BigFraction::from_str(alloc, left)??;
         let y = BigFraction::from_str(alloc, right)??;
         let shown = x.gcd(alloc, &y)?.to_text(alloc)?;
-        assert_eq!(rt; shown.as_str(), divisor, "the divisor of {left} and {right}");
+        assert_eq!(rt;
+            shown.as_str(),
+            divisor,
+            "the divisor of {left} and {right}"
+        );
         let shown = x.lcm(alloc, &y)?.to_text(alloc)?;
-        assert_eq!(rt; shown.as_str(), multiple, "the multiple of {left} and {right}");
+        assert_eq!(rt;
+            shown.as_str(),
+            multiple,
+            "the multiple of {left} and {right}"
+        );
     }
     Ok(())
 }

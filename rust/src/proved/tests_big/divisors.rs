@@ -7,30 +7,10 @@ use crate::test_support::Fail;
 
 // Two fractions, their greatest common divisor and their least common multiple.
 const ROWS: [(&str, &str, &str, &str); 6] = [
-    (
-        "1/4",
-        "1/6",
-        "1/12",
-        "1/2",
-    ),
-    (
-        "-4",
-        "6",
-        "2",
-        "12",
-    ),
-    (
-        "3/2",
-        "0",
-        "3/2",
-        "0",
-    ),
-    (
-        "0",
-        "0",
-        "0",
-        "0",
-    ),
+    ("1/4", "1/6", "1/12", "1/2"),
+    ("-4", "6", "2", "12"),
+    ("3/2", "0", "3/2", "0"),
+    ("0", "0", "0", "0"),
     (
         "1267650600228229401496703205376/3",
         "-18446744073709551616/9",
@@ -52,9 +32,17 @@ fn both() -> Result<(), Fail> {
         let x = BigFraction::from_str(alloc, left)??;
         let y = BigFraction::from_str(alloc, right)??;
         let shown = x.gcd(alloc, &y)?.to_text(alloc)?;
-        assert_eq!(shown.as_str(), divisor, "the divisor of {left} and {right}");
+        assert_eq!(
+            shown.as_str(),
+            divisor,
+            "the divisor of {left} and {right}"
+        );
         let shown = x.lcm(alloc, &y)?.to_text(alloc)?;
-        assert_eq!(shown.as_str(), multiple, "the multiple of {left} and {right}");
+        assert_eq!(
+            shown.as_str(),
+            multiple,
+            "the multiple of {left} and {right}"
+        );
     }
     Ok(())
 }

@@ -93,3 +93,20 @@ fn products_undone(rt: HostRuntime) -> Result<(), Fail> {
     is_short(&rt, &one, 1, 1);
     Ok(())
 }
+
+/// (2^256 - 1)/(2^256 - 3) + (2^256 - 1)/(2^256 - 5): all four numbers have four digits, and the numerator of the sum has nine.
+#[test]
+fn nine_digits(rt: HostRuntime) -> Result<(), Fail> {
+    let alloc = rt.alloc();
+    let most = u64::MAX;
+    let numer = [most, most, most, most];
+    let denom = [most - 2, most, most, most];
+    let x = BigFraction::from_digits(alloc, false, &numer, &denom)?.ok_or("not 0")?;
+    let denom = [most - 4, most, most, most];
+    let y = BigFraction::from_digits(alloc, false, &numer, &denom)?.ok_or("not 0")?;
+    let sum = x.add(alloc, &y)?;
+    let numer = [8, 0, 0, 0, most - 9, most, most, most, 1];
+    let denom = [15, 0, 0, 0, most - 7, most, most, most];
+    is_long(&rt, alloc, &sum, false, &numer, &denom)?;
+    Ok(())
+}

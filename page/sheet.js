@@ -196,11 +196,24 @@ function showReply(row, fields) {
 
 function partsOf(row, [kind, ...fields]) {
   switch (kind) {
-    case "value": return fields.length === 1 ? [copyButton("value", fields[0])] : numberParts(...fields);
+    case "value": return valueParts(fields);
     case "refused": return [refusal(inputOf(row).value, fields[0])];
     case "memory": return [reasonOf("error: the memory did not suffice")];
     default: return [];
   }
+}
+
+// True or false, or the parts of a number. If the fields are even in number, the last one is the line as it was read.
+function valueParts(fields) {
+  const read = fields.length % 2 === 0 ? [readingOf(fields.at(-1))] : [];
+  return [...read, ...(fields.length < 3 ? [copyButton("value", fields[0])] : numberParts(...fields))];
+}
+
+function readingOf(line) {
+  const reading = document.createElement("span");
+  reading.className = "reading";
+  reading.textContent = `read as ${shortened(line)}`;
+  return reading;
 }
 
 // The exact value and, beside a fraction, its decimal after `=` or `≈`.
@@ -360,8 +373,8 @@ function redrawPictures() {
 }
 
 function drawPictures() {
-  const [kind, fraction, decimal] = current?.fields ?? [];
-  const text = kind === "value" && decimal !== undefined && fraction.length <= PICTURED_LENGTH ? fraction : "";
+  const [kind, fraction, ...others] = current?.fields ?? [];
+  const text = kind === "value" && others.length > 1 && fraction.length <= PICTURED_LENGTH ? fraction : "";
   if (text === pictured) {
     return;
   }

@@ -119,6 +119,15 @@ def values_are_right(sheet):
     return rows_fault(sheet, ROWS)
 
 
+def readings_are_shown(sheet):
+    """A line is shown as it was read, if a slash of it is no division."""
+    lines = {"1/2 / 1/3": "read as (1/2) / (1/3)", "1/2 * 1/3": "", "3/2^2 < 2": "read as (3/2)^2 < 2", "8 / 2/3": "read as 8 / (2/3)"}
+    sheet.open("\n".join(lines))
+    sheet.settle()
+    got = sheet.js("return [...rows.children].map((row) => row.querySelector('.reading')?.textContent ?? '')")
+    return None if got == [*lines.values()] else f"the lines are shown as {got}"
+
+
 def people_are_answered(sheet):
     """The lines that people type, on which the program `ratio` is tried, if its rows are there."""
     file = TOP / "checks" / "typed.txt"
@@ -465,7 +474,7 @@ def unfinished_line_is_no_error_yet(sheet):
 
 
 ONCE = [
-    values_are_right, people_are_answered, forms_are_right, long_numbers_are_whole, long_computations_end, keyboard_works, values_are_said, focus_is_seen, caret_is_under_the_place, unfinished_line_is_no_error_yet,
+    values_are_right, readings_are_shown, people_are_answered, forms_are_right, long_numbers_are_whole, long_computations_end, keyboard_works, values_are_said, focus_is_seen, caret_is_under_the_place, unfinished_line_is_no_error_yet,
     lines_are_kept, page_works_without_storage, link_carries_lines, broken_and_long_links_are_said, clicks_copy, paste_makes_lines, clearing_can_be_undone,
     keypad_types, pictures_are_right, beats_meet, pictures_have_words, examples_are_right, nothing_is_from_elsewhere,
 ]

@@ -4,7 +4,7 @@ use Rattle.std.specs.List.{list_all}
 use Rattle.ratio_expr.specs.Lines.{HasLineRefusal, IsLineWorth}
 use Rattle.ratio_expr.specs.Worths.{Worth}
 use Rattle.ratio_expr.specs.declared.refusal.Refusal.{Refusal}
-use Rattle.ratio_replies.specs.Forms.{IsValueInForm}
+use Rattle.ratio_replies.specs.Readings.{IsAnswerInForm}
 use Rattle.ratio_replies.specs.Refused.{refusal_lines}
 use Rattle.ratio_replies.specs.declared.form.Form.{Form}
 use Rattle.ratio_replies.specs.declared.reply.Reply.{Reply}
@@ -24,6 +24,6 @@ AreKept named behind = (other : List ℕ) → behind other ≡ named other
 abbrev pub IsReply : List ℕ → Form → (List ℕ → Option Worth) → (List ℕ → Option Worth) → Reply → Type 0
 IsReply line form named behind replies.Nothing = (is_blank line ≡ true) × AreKept named behind
 IsReply line form named behind (replies.Answer text) =
-    (is_blank line ≡ false) × (w : Worth) × IsLineWorth line named w behind × IsValueInForm w form text.items
+    (is_blank line ≡ false) × (w : Worth) × IsLineWorth line named w behind × IsAnswerInForm line w form text.items
 IsReply line form named behind (replies.Refused text) =
     (is_blank line ≡ false) × (r : Refusal) × HasLineRefusal line named r × (text.items ≡ refusal_lines line r) × AreKept named behind

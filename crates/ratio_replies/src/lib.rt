@@ -7,6 +7,7 @@
 //! | `mixed` | A number as its whole part and the rest: `1 5/12`. |
 //! | `fields` | What a page shows of a number, with tabs between. |
 //! | `both` | A fraction with its decimal beside it: `7/12 ≈ 0.583333`. |
+//! | `reading` | A value behind its line as that was read: `(1/2) / (1/3) = 3/2`. |
 //! | `refused` | The text of a refusal: the line, a caret and the reason. |
 //! | `reply` | `Reply`: what a line is answered. |
 #![tactic(auto)]
@@ -15,6 +16,7 @@ mod both;
 mod fields;
 mod form;
 mod mixed;
+mod reading;
 mod refused;
 mod reply;
 mod written;

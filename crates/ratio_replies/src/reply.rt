@@ -4,8 +4,8 @@ ghost use Rattle.ratio_expr.specs.Bound.{named};
 ghost use Rattle.ratio_replies.specs.Replies.{IsReply, is_blank};
 
 use crate::form::Form;
+use crate::reading::answer_text;
 use crate::refused::refusal_lines;
-use crate::written::value_text;
 use ratio_expr::line::answer;
 use ratio_expr::names::Names;
 use ratio_expr::refusal::ValueError;
@@ -16,7 +16,7 @@ use std::alloc::{AllocError, Global};
 pub enum Reply {
     /// Nothing: the line has only spaces, or not even these.
     Nothing,
-    /// The line's value in the form that was asked for.
+    /// The line's value in the form that was asked for. In `Both` it may show how the line was read.
     Answer(Vec<u8>),
     /// Why the line has no value, in three lines: the line, a caret below the place, and the reason.
     Refused(Vec<u8>),
@@ -38,7 +38,7 @@ pub fn reply_to(
     }
     match answer(alloc, line, names) {
         Ok(value) => {
-            let text = value_text(alloc, &value, form)?;
+            let text = answer_text(alloc, line, &value, form)?;
             Ok(Reply::Answer(text))
         }
         Err(ValueError::Refused(refusal)) => {

@@ -81,3 +81,13 @@ fn both_of_long_numbers(rt: HostRuntime) -> Result<(), Fail> {
         "1/10000000000000000000000000 ≈ 0.000000",
     )
 }
+
+#[test]
+fn readings(rt: HostRuntime) -> Result<(), Fail> {
+    let (alloc, form) = (rt.alloc(), Form::Both);
+    says_alone(&rt, alloc, form, "1/2 / 1/3", "(1/2) / (1/3) = 3/2 = 1.5")?;
+    says_alone(&rt, alloc, form, "8 / 2/3", "8 / (2/3) = 12")?;
+    says_alone(&rt, alloc, form, "3/2^2 < 2", "(3/2)^2 < 2: false")?;
+    says_alone(&rt, alloc, form, "1/2 * 1/3", "1/6 ≈ 0.166667")?;
+    says_alone(&rt, alloc, Form::Fraction, "1/2 / 1/3", "3/2")
+}

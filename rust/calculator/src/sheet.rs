@@ -4,7 +4,7 @@
 //!
 //! | Kind | The fields behind it |
 //! |---|---|
-//! | `value` | `true` or `false`; or the fraction, the decimal and the mixed number |
+//! | `value` | `true` or `false`; or the fraction, the decimal and the mixed number. Then the line as it was read, if a slash of it is no division |
 //! | `refused` | the reason and the column, as the last line of a refusal has them |
 //! | `memory` | none: the memory did not suffice |
 //! | `empty` | none: the line has only spaces |
@@ -14,6 +14,7 @@ use crate::proved::ratio_replies::{reply_to, Form, Reply};
 use bakhsney::memory::{AllocError, Global};
 use bakhsney::proved::ratio_big::BigFraction;
 use bakhsney::proved::ratio_expr::names::Names;
+use bakhsney::proved::ratio_expr::slashes::read_as;
 
 /// The rows of all lines, with so many places of the decimals.
 pub fn rows(text: &[u8], places: u32) -> Vec<u8> {
@@ -22,7 +23,10 @@ pub fn rows(text: &[u8], places: u32) -> Vec<u8> {
     for line in text.split(is_line_end) {
         match reply_to(Global, line, Form::Fields(places), &mut names) {
             Ok(Reply::Nothing) => out.extend_from_slice(b"empty"),
-            Ok(Reply::Answer(fields)) => put_row("value", &fields, &mut out),
+            Ok(Reply::Answer(fields)) => {
+                put_row("value", &fields, &mut out);
+                put_reading(line, &mut out);
+            }
             Ok(Reply::Refused(text)) => put_row("refused", text.rsplit(is_line_end).next().unwrap_or_default(), &mut out),
             Err(AllocError) => out.extend_from_slice(b"memory"),
         }
@@ -39,6 +43,13 @@ fn put_row(kind: &str, fields: &[u8], out: &mut Vec<u8>) {
     out.extend_from_slice(kind.as_bytes());
     out.push(b'\t');
     out.extend_from_slice(fields);
+}
+
+fn put_reading(line: &[u8], out: &mut Vec<u8>) {
+    if let Ok(Some(shown)) = read_as(Global, line) {
+        out.push(b'\t');
+        out.extend_from_slice(&shown);
+    }
 }
 
 /// The quotients of the continued fraction of a fraction, with spaces between them. Nothing if the text is no fraction, or if the memory does

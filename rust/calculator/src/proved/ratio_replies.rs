@@ -4,6 +4,7 @@ mod both;
 mod fields;
 mod form;
 mod mixed;
+mod reading;
 mod refused;
 mod reply;
 mod written;

@@ -3,8 +3,8 @@
 
 use bakhsney::memory::{AllocError, Global, Vec};
 use crate::proved::ratio_replies::form::Form;
+use crate::proved::ratio_replies::reading::answer_text;
 use crate::proved::ratio_replies::refused::refusal_lines;
-use crate::proved::ratio_replies::written::value_text;
 use bakhsney::proved::ratio_expr::line::answer;
 use bakhsney::proved::ratio_expr::names::Names;
 use bakhsney::proved::ratio_expr::refusal::ValueError;
@@ -13,7 +13,7 @@ use bakhsney::proved::ratio_expr::refusal::ValueError;
 pub enum Reply {
     /// Nothing: the line has only spaces, or not even these.
     Nothing,
-    /// The line's value in the form that was asked for.
+    /// The line's value in the form that was asked for. In `Both` it may show how the line was read.
     Answer(Vec<u8>),
     /// Why the line has no value, in three lines: the line, a caret below the place, and the reason.
     Refused(Vec<u8>),
@@ -34,7 +34,7 @@ pub fn reply_to(
     }
     match answer(alloc, line, names) {
         Ok(value) => {
-            let text = value_text(alloc, &value, form)?;
+            let text = answer_text(alloc, line, &value, form)?;
             Ok(Reply::Answer(text))
         }
         Err(ValueError::Refused(refusal)) => {

@@ -60,6 +60,16 @@ impl<T> Vec<T> {
         self.0.pop()
     }
 
+    #[inline]
+    pub fn truncate(&mut self, count: usize) {
+        self.0.truncate(count);
+    }
+
+    #[inline]
+    pub fn as_slice(&self) -> &[T] {
+        &self.0
+    }
+
     /// Rust's own list, with the same memory.
     #[inline]
     pub fn into_std(self) -> vec::Vec<T> {
@@ -102,11 +112,6 @@ impl<T: Copy> Vec<T> {
         Ok(())
     }
 
-    #[inline]
-    pub fn truncate(&mut self, count: usize) {
-        self.0.truncate(count);
-    }
-
     /// Gives back the memory that the list does not need, and keeps it if there is none for a copy: the call of Rust's own list would end the program.
     #[inline]
     pub fn shrink_to_fit(&mut self) {
@@ -120,11 +125,6 @@ impl<T: Copy> Vec<T> {
     #[inline]
     pub fn clear(&mut self) {
         self.0.clear();
-    }
-
-    #[inline]
-    pub fn as_slice(&self) -> &[T] {
-        &self.0
     }
 
     #[inline]

@@ -38,11 +38,7 @@ impl BigFraction {
     }
 
     /// The nearest fraction to this one with a denominator from 1 to `most`, in lowest terms. Of two that are as near, it is the one with
-    /// the smaller denominator, and of two whole numbers the smaller one. `None` exactly if `most` is below 1.
-    ///
-    /// # Panics
-    ///
-    /// For want of memory.
+    /// the smaller denominator, and of two whole numbers the smaller one. `None` if `most` is below 1, or for want of memory.
     ///
     /// ```
     /// use num_rational::BigFraction;
@@ -51,9 +47,8 @@ impl BigFraction {
     /// assert_eq!(BigFraction::new(1, 2).nearest(&BigFraction::from(1)), Some(BigFraction::from(0)));
     /// assert_eq!(BigFraction::new(1, 2).nearest(&BigFraction::from(0)), None);
     /// ```
-    #[track_caller]
     pub fn nearest(&self, most: &BigFraction) -> Option<BigFraction> {
-        taken(self.try_nearest(most))
+        self.try_nearest(most).ok().flatten()
     }
 
     /// The same, or an error for want of memory.

@@ -1,15 +1,11 @@
 //! The simplest `BigFraction` between two.
-use super::big_fraction::{taken, BigFraction};
+use super::big_fraction::BigFraction;
 use crate::memory::{AllocError, Global};
 use crate::proved::ratio_big::BigFraction as Proved;
 
 impl BigFraction {
     /// Of all fractions strictly between `low` and `high`, the one with the smallest denominator, and of these the one whose numerator is
-    /// nearest to 0. `None` if `low` is not below `high`.
-    ///
-    /// # Panics
-    ///
-    /// For want of memory.
+    /// nearest to 0. `None` if `low` is not below `high`, or for want of memory.
     ///
     /// ```
     /// use num_rational::BigFraction;
@@ -18,9 +14,8 @@ impl BigFraction {
     /// assert_eq!(BigFraction::simplest_between(&low, &high), Some(BigFraction::new(25, 8)));
     /// assert_eq!(BigFraction::simplest_between(&high, &low), None);
     /// ```
-    #[track_caller]
     pub fn simplest_between(low: &BigFraction, high: &BigFraction) -> Option<BigFraction> {
-        taken(BigFraction::try_simplest_between(low, high))
+        BigFraction::try_simplest_between(low, high).ok().flatten()
     }
 
     /// The same, or an error for want of memory.

@@ -157,6 +157,7 @@ fn of_big_integers() {
 #[test]
 fn options() {
     let (x, y) = &long();
+    let next = &next();
     let calls = calls! {
         x.checked_add(y).map(drop);
         x.checked_sub(y).map(drop);
@@ -166,6 +167,8 @@ fn options() {
         BigFraction::checked_new(1, u128::MAX).map(drop);
         BigFraction::from_digits(false, &[0, 1], &[3]).map(drop);
         BigFraction::from_float(1e300).map(drop);
+        BigFraction::simplest_between(y, next).map(drop);
+        x.nearest(&BigFraction::from(1_000_000)).map(drop);
         x.to_f64().map(drop);
         x.to_i64().map(drop);
     };
@@ -175,7 +178,6 @@ fn options() {
 #[test]
 fn panics() {
     let (x, y) = &long();
-    let next = &next();
     let calls = calls! {
         drop(x + y);
         drop(x - y);
@@ -188,9 +190,7 @@ fn panics() {
         drop(x.recip());
         drop(x.pow(3));
         drop(x.round_to(y, Rounding::Up));
-        drop(BigFraction::simplest_between(y, next));
         drop(x.continued_fraction());
-        drop(x.nearest(&BigFraction::from(1_000_000)));
         drop((x.floor(), x.ceil(), x.round(), x.trunc(), x.fract()));
         assert!(x < y);
         drop((x.numer_digits(), x.denom_digits()));

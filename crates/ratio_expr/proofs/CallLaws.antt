@@ -22,8 +22,9 @@ use Rattle.ratio_expr.specs.declared.function.Function.{Function}
 use Rattle.ratio_expr.specs.declared.function.Function.TheVariants as functions
 use Rattle.ratio_expr.specs.declared.refusal.Reason.{Reason}
 use Rattle.ratio_expr.specs.declared.refusal.Reason.TheVariants as reasons
-use Rattle.ratio_expr.specs.Calls.{AreNumbers, GivesCall, HaveTruth, RefusesCall}
-use Rattle.ratio_expr.specs.Functions.{GivesNumber, IsExtreme, TakesCount, function_of}
+use Rattle.ratio_expr.specs.Calls.{AreNumbers, GivesCall, HaveTruth, RefusesAmounts, RefusesCall}
+use Rattle.ratio_expr.specs.Functions.{FunctionRefuses, GivesNumber, IsExtreme, TakesCount, function_of}
+use Rattle.ratio_expr.proofs.ApproximationLaws.{between_one, nearest_one, none_between, none_within}
 use Rattle.ratio_expr.proofs.DivisorLaws.{gcd_one, lcm_one, same_pair}
 use Rattle.ratio_expr.specs.Worths.{Worth, Amount, Truth}
 
@@ -58,6 +59,9 @@ extreme_one side some xs r q low h g =
 head : (x : ℤ × ℤ) (xs : List (ℤ × ℤ)) → All IsLowest (x ∷ xs) → pos 0 <ℤ x.1
 head x xs low = let first = low 0 x (omega arith) in first.positive
 
+second : (x y : ℤ × ℤ) (xs : List (ℤ × ℤ)) → All IsLowest (x ∷ y ∷ xs) → pos 0 <ℤ y.1
+second x y xs low = let next = low 1 y (omega arith) in next.positive
+
 cents_one : (x r q : ℤ × ℤ) → pos 0 <ℤ x.1 → IsMultipleBy HalfAway x (pos 1, pos 100) r → IsMultipleBy HalfAway x (pos 1, pos 100) q → r ≡ q
 cents_one x r q up h g =
     let same : h.count ≡ g.count = one_by HalfAway (x.0 *ℤ pos 100) (x.1 *ℤ pos 1) h.count g.count (omega (arith, ints)) h.rounded g.rounded in
@@ -74,7 +78,21 @@ number_one functions.Gcd xs r q low h g = gcd_one xs r q h g
 number_one functions.Lcm xs r q low h g = lcm_one xs r q h g
 number_one functions.Min xs r q low h g = extreme_one Less (λ e. cc) xs r q low h g
 number_one functions.Max xs r q low h g = extreme_one Greater (λ e. cc) xs r q low h g
+number_one functions.Nearest (x ∷ most ∷ []) r q low h g = nearest_one x most r q (second x most [] low) h g
+number_one functions.Between (x ∷ y ∷ []) r q low h g = between_one x y r q (head x (y ∷ []) low) (second x y [] low) h g
 number_one f xs r q low h g = absurd h
+
+number_not_refused : (f : Function) (xs : List (ℤ × ℤ)) (r : ℤ × ℤ) (reason : Reason) → All IsLowest xs → GivesNumber f xs r → FunctionRefuses f xs reason → ⊥
+number_not_refused functions.Nearest (x ∷ most ∷ []) r reasons.BoundBelowOne low h g = none_within x most r (second x most [] low) h g
+number_not_refused functions.Between (x ∷ y ∷ []) r reasons.NothingBetween low h g = none_between x y r g h
+number_not_refused f xs r reason low h g = g
+
+number_refused_once : (f : Function) (xs : List (ℤ × ℤ)) (r q : Reason) → FunctionRefuses f xs r → FunctionRefuses f xs q → r ≡ q
+number_refused_once functions.Nearest (x ∷ most ∷ []) reasons.BoundBelowOne reasons.BoundBelowOne h g = refl
+number_refused_once functions.Nearest (x ∷ most ∷ []) reasons.BoundBelowOne q h g = absurd g
+number_refused_once functions.Between (x ∷ y ∷ []) reasons.NothingBetween reasons.NothingBetween h g = refl
+number_refused_once functions.Between (x ∷ y ∷ []) reasons.NothingBetween q h g = absurd g
+number_refused_once f xs r q h g = absurd h
 
 -- ---- one value of a call
 
@@ -113,11 +131,36 @@ no_truth ws xs are truth =
     let all : All IsAmount (map Amount xs) = All-map IsAmount Amount xs (λ k d within. tt) in
     All-contains IsAmount ws (Truth truth.0) (subst (All IsAmount) (sym are.same) all) truth.1
 
+refused_by_numbers : (f : Function) (xs : List (ℤ × ℤ)) (r : Reason) → FunctionRefuses f xs r → (name : List ℕ) (ws : List Worth) → RefusesAmounts name ws r → RefusesCall name ws r
+refused_by_numbers functions.Nearest (x ∷ most ∷ []) reasons.BoundBelowOne h name ws amounts = amounts
+refused_by_numbers functions.Between (x ∷ y ∷ []) reasons.NothingBetween h name ws amounts = amounts
+refused_by_numbers f xs r h name ws amounts = absurd h
+
+-- a call refuses its arguments where its function refuses the numbers that they are
+pub amounts_refused : (name : List ℕ) (ws : List Worth) (r : Reason) → RefusesAmounts name ws r → RefusesCall name ws r
+amounts_refused name ws r h = refused_by_numbers h.function h.numbers r h.refuses name ws h
+
+amounts_not_refused : (name : List ℕ) (ws : List Worth) (w : Worth) (r : Reason) → GivesCall name ws w → RefusesAmounts name ws r → ⊥
+amounts_not_refused name ws w r h g =
+    let function : h.function ≡ g.function = same_function name h.function g.function h.named g.named in
+    let numbers : h.numbers ≡ g.numbers = amounts_one h.numbers g.numbers (sym h.given.same ∙ g.given.same) in
+    let first : GivesNumber g.function h.numbers h.result = subst (λ f. GivesNumber f h.numbers h.result) function h.gives in
+    let both : GivesNumber g.function g.numbers h.result = subst (λ xs. GivesNumber g.function xs h.result) numbers first in
+    number_not_refused g.function g.numbers h.result r g.given.lowest both g.refuses
+
+amounts_refused_once : (name : List ℕ) (ws : List Worth) (r q : Reason) → RefusesAmounts name ws r → RefusesAmounts name ws q → r ≡ q
+amounts_refused_once name ws r q h g =
+    let function : h.function ≡ g.function = same_function name h.function g.function h.named g.named in
+    let numbers : h.numbers ≡ g.numbers = amounts_one h.numbers g.numbers (sym h.given.same ∙ g.given.same) in
+    let first : FunctionRefuses g.function h.numbers r = subst (λ f. FunctionRefuses f h.numbers r) function h.refuses in
+    let both : FunctionRefuses g.function g.numbers r = subst (λ xs. FunctionRefuses g.function xs r) numbers first in
+    number_refused_once g.function g.numbers r q both g.refuses
+
 pub call_not_refused : (name : List ℕ) (ws : List Worth) (w : Worth) (r : Reason) → GivesCall name ws w → RefusesCall name ws r → ⊥
 call_not_refused name ws w reasons.UnknownCall h g = no_function name h.function h.named g
 call_not_refused name ws w reasons.ArgumentCount h g = g.2 (subst (λ f. TakesCount f (length ws)) (same_function name h.function g.0 h.named g.1) h.count)
 call_not_refused name ws w reasons.NotNumber h g = no_truth ws h.numbers h.given g.3
-call_not_refused name ws w r h g = g
+call_not_refused name ws w r h g = amounts_not_refused name ws w r h g
 
 pub call_refused_once : (name : List ℕ) (ws : List Worth) (r q : Reason) → RefusesCall name ws r → RefusesCall name ws q → r ≡ q
 call_refused_once name ws reasons.UnknownCall reasons.UnknownCall h g = refl
@@ -129,7 +172,10 @@ call_refused_once name ws reasons.ArgumentCount reasons.NotNumber h g = absurd (
 call_refused_once name ws reasons.NotNumber reasons.UnknownCall h g = absurd (no_function name h.0 h.1 g)
 call_refused_once name ws reasons.NotNumber reasons.ArgumentCount h g = absurd (g.2 (subst (λ f. TakesCount f (length ws)) (same_function name h.0 g.0 h.1 g.1) h.2))
 call_refused_once name ws reasons.NotNumber reasons.NotNumber h g = refl
-call_refused_once name ws reasons.UnknownCall q h g = absurd g
-call_refused_once name ws reasons.ArgumentCount q h g = absurd g
-call_refused_once name ws reasons.NotNumber q h g = absurd g
-call_refused_once name ws r q h g = absurd h
+call_refused_once name ws reasons.UnknownCall q h g = absurd (no_function name g.function g.named h)
+call_refused_once name ws reasons.ArgumentCount q h g = absurd (h.2 (subst (λ f. TakesCount f (length ws)) (same_function name g.function h.0 g.named h.1) g.count))
+call_refused_once name ws reasons.NotNumber q h g = absurd (no_truth ws g.numbers g.given h.3)
+call_refused_once name ws r reasons.UnknownCall h g = absurd (no_function name h.function h.named g)
+call_refused_once name ws r reasons.ArgumentCount h g = absurd (g.2 (subst (λ f. TakesCount f (length ws)) (same_function name h.function g.0 h.named g.1) h.count))
+call_refused_once name ws r reasons.NotNumber h g = absurd (no_truth ws h.numbers h.given g.3)
+call_refused_once name ws r q h g = amounts_refused_once name ws r q h g

@@ -1,3 +1,4 @@
+pub mod ApproximationLaws
 pub mod AsciiLemmas
 pub mod Assigning
 pub mod CallLaws

@@ -1,7 +1,7 @@
 -- What a refusal prints.
 use Rattle.std.specs.Prelude.{ℕ, List, codes}
 use Rattle.ratio_expr.specs.declared.refusal.Reason.{Reason}
-use Rattle.ratio_expr.specs.declared.refusal.Reason.TheVariants.{NoExpression, TooDeep, NotNumeral, ZeroDenominator, NumberTooLarge, UnknownName, UnknownCall, ArgumentCount, NotNumber, ZeroDivisor, ExponentNotWhole, PowerTooLarge}
+use Rattle.ratio_expr.specs.declared.refusal.Reason.TheVariants.{NoExpression, TooDeep, NotNumeral, ZeroDenominator, NumberTooLarge, UnknownName, UnknownCall, ArgumentCount, NotNumber, BoundBelowOne, NothingBetween, ZeroDivisor, ExponentNotWhole, PowerTooLarge}
 
 -- the text that a reason prints
 -- Example: `ZeroDivisor`: `this divides by 0`
@@ -15,6 +15,8 @@ reason_text UnknownName = codes "nothing has this name"
 reason_text UnknownCall = codes "there is no such call"
 reason_text ArgumentCount = codes "the call takes another number of arguments"
 reason_text NotNumber = codes "this takes numbers, and not true or false"
+reason_text BoundBelowOne = codes "the bound is below 1"
+reason_text NothingBetween = codes "there is nothing between equal numbers"
 reason_text ZeroDivisor = codes "this divides by 0"
 reason_text ExponentNotWhole = codes "the exponent is no whole number"
 reason_text PowerTooLarge = codes "the power may have more than a million bits"

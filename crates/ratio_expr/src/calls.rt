@@ -1,12 +1,13 @@
 //! What a call gives of its arguments, or why it refuses them.
-ghost use Rattle.std.specs.Prelude.{◌≡◌, ◌≢◌, ◌≤◌, length, map, pos, IfOk, MatchOption, MatchResult};
+ghost use Rattle.std.specs.Prelude.{◌≡◌, ◌≢◌, ◌≤◌, ◌∷◌, [], length, map, pos, IfOk, MatchOption, MatchResult};
 ghost use Rattle.std.specs.declared.cmp.Ordering.TheVariants.{Equal};
 ghost use Rattle.ratio_decimal.specs.declared.rounding_rule.Rounding.TheVariants.{HalfAway};
 ghost use Rattle.ratio_big.specs.Fractions.{big_numbers};
 ghost use Rattle.ratio_big.specs.Multiples.{IsMultipleBy};
 ghost use Rattle.ratio_expr.specs.Calls.{GivesCall, HaveTruth, RefusesCall};
-ghost use Rattle.ratio_expr.specs.Functions.{GivesNumber, IsExtreme, IsGcdOfAll, IsLcmOfAll, TakesCount};
+ghost use Rattle.ratio_expr.specs.Functions.{AnswersNumbers, IsExtreme, IsGcdOfAll, IsLcmOfAll, TakesCount};
 ghost use Rattle.ratio_expr.specs.Worths.{worth, Amount};
+ghost use Rattle.ratio_expr.specs.declared.function.Function.TheVariants.{Between, Nearest};
 
 use crate::function::{Function, function_named, takes};
 use crate::refusal::Reason;
@@ -30,9 +31,12 @@ pub(crate) fn called(
     if !takes(function, arguments.len()) {
         return Ok(Err(Reason::ArgumentCount));
     }
-    match numbers_in(alloc, arguments)? {
-        Some(numbers) => Ok(Ok(Value::Number(of_numbers(alloc, function, &numbers)?))),
-        None => Ok(Err(Reason::NotNumber)),
+    let Some(numbers) = numbers_in(alloc, arguments)? else {
+        return Ok(Err(Reason::NotNumber));
+    };
+    match of_numbers(alloc, function, &numbers)? {
+        Ok(result) => Ok(Ok(Value::Number(result))),
+        Err(reason) => Ok(Err(reason)),
     }
 }
 
@@ -50,26 +54,59 @@ fn numbers_in(alloc: Global, values: &[Value]) -> Result<Option<Vec<BigFraction>
     Ok(Some(numbers))
 }
 
-// What the function gives of numbers, of which it takes so many.
+// What the function gives of numbers, of which it takes so many, or why it refuses them.
 fn of_numbers(
     alloc: Global,
     function: Function,
     numbers: &[BigFraction],
-) -> Result<BigFraction, AllocError>
+) -> Result<Result<BigFraction, Reason>, AllocError>
     requires { TakesCount function (length numbers.now) }
-    ensures { IfOk result (λ r. GivesNumber function (map big_numbers numbers.now) (big_numbers r)) }
+    ensures { IfOk result (AnswersNumbers function (map big_numbers numbers.now)) }
 {
     match function {
-        Function::Abs => numbers[0].abs(alloc),
-        Function::Floor => numbers[0].floor(alloc),
-        Function::Ceil => numbers[0].ceil(alloc),
-        Function::Round => numbers[0].round(alloc),
-        Function::Trunc => numbers[0].trunc(alloc),
-        Function::Cents => cents(alloc, &numbers[0]),
-        Function::Gcd => common_divisor(alloc, numbers),
-        Function::Lcm => common_multiple(alloc, numbers),
-        Function::Min => extreme(alloc, numbers, Ordering::Less),
-        Function::Max => extreme(alloc, numbers, Ordering::Greater),
+        Function::Abs => Ok(Ok(numbers[0].abs(alloc)?)),
+        Function::Floor => Ok(Ok(numbers[0].floor(alloc)?)),
+        Function::Ceil => Ok(Ok(numbers[0].ceil(alloc)?)),
+        Function::Round => Ok(Ok(numbers[0].round(alloc)?)),
+        Function::Trunc => Ok(Ok(numbers[0].trunc(alloc)?)),
+        Function::Cents => Ok(Ok(cents(alloc, &numbers[0])?)),
+        Function::Gcd => Ok(Ok(common_divisor(alloc, numbers)?)),
+        Function::Lcm => Ok(Ok(common_multiple(alloc, numbers)?)),
+        Function::Min => Ok(Ok(extreme(alloc, numbers, Ordering::Less)?)),
+        Function::Max => Ok(Ok(extreme(alloc, numbers, Ordering::Greater)?)),
+        Function::Nearest => nearest(alloc, &numbers[0], &numbers[1]),
+        Function::Between => between(alloc, &numbers[0], &numbers[1]),
+    }
+}
+
+// The nearest fraction with a denominator from 1 to `most`.
+fn nearest(
+    alloc: Global,
+    x: &BigFraction,
+    most: &BigFraction,
+) -> Result<Result<BigFraction, Reason>, AllocError>
+    ensures { IfOk result (AnswersNumbers Nearest (big_numbers x.now ∷ big_numbers most.now ∷ [])) }
+{
+    match x.nearest(alloc, most)? {
+        Some(nearest) => Ok(Ok(nearest)),
+        None => Ok(Err(Reason::BoundBelowOne)),
+    }
+}
+
+// The simplest fraction strictly between two numbers, in either order.
+fn between(
+    alloc: Global,
+    x: &BigFraction,
+    y: &BigFraction,
+) -> Result<Result<BigFraction, Reason>, AllocError>
+    ensures { IfOk result (AnswersNumbers Between (big_numbers x.now ∷ big_numbers y.now ∷ [])) }
+{
+    if let Some(simplest) = BigFraction::simplest_between(alloc, x, y)? {
+        return Ok(Ok(simplest));
+    }
+    match BigFraction::simplest_between(alloc, y, x)? {
+        Some(simplest) => Ok(Ok(simplest)),
+        None => Ok(Err(Reason::NothingBetween)),
     }
 }
 

@@ -26,6 +26,10 @@ pub enum Reason {
     ArgumentCount,
     /// The operator or the call here takes numbers, and an operand or an argument is true or false.
     NotNumber,
+    /// The call here takes a bound of 1 or more, and it is below 1: `nearest(1/2, 0)`.
+    BoundBelowOne,
+    /// The two numbers of the call here are equal, and nothing is between them: `between(1/2, 2/4)`.
+    NothingBetween,
     /// The operator here divides by 0: `1 / 0`, `7 % 0` or `0 ^ -1`.
     ZeroDivisor,
     /// The exponent of the power here is no whole number: `2 ^ 0.5`.
@@ -49,6 +53,8 @@ impl Reason {
             Reason::UnknownCall => "there is no such call",
             Reason::ArgumentCount => "the call takes another number of arguments",
             Reason::NotNumber => "this takes numbers, and not true or false",
+            Reason::BoundBelowOne => "the bound is below 1",
+            Reason::NothingBetween => "there is nothing between equal numbers",
             Reason::ZeroDivisor => "this divides by 0",
             Reason::ExponentNotWhole => "the exponent is no whole number",
             Reason::PowerTooLarge => "the power may have more than a million bits",

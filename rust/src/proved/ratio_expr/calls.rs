@@ -26,9 +26,15 @@ pub(crate) fn called(
     if !takes(function, arguments.len()) {
         return Ok(Err(Reason::ArgumentCount));
     }
-    match numbers_in(alloc, arguments)? {
-        Some(numbers) => Ok(Ok(Value::Number(of_numbers(alloc, function, &numbers)?))),
-        None => Ok(Err(Reason::NotNumber)),
+    let numbers = match numbers_in(alloc, arguments)? {
+        Some(numbers) => numbers,
+        _ => {
+            return Ok(Err(Reason::NotNumber));
+        }
+    };
+    match of_numbers(alloc, function, &numbers)? {
+        Ok(result) => Ok(Ok(Value::Number(result))),
+        Err(reason) => Ok(Err(reason)),
     }
 }
 
@@ -45,24 +51,55 @@ fn numbers_in(alloc: Global, values: &[Value]) -> Result<Option<Vec<BigFraction>
     Ok(Some(numbers))
 }
 
-// What the function gives of numbers, of which it takes so many.
+// What the function gives of numbers, of which it takes so many, or why it refuses them.
 #[inline]
 fn of_numbers(
     alloc: Global,
     function: Function,
     numbers: &[BigFraction],
-) -> Result<BigFraction, AllocError> {
+) -> Result<Result<BigFraction, Reason>, AllocError> {
     match function {
-        Function::Abs => numbers[0].abs(alloc),
-        Function::Floor => numbers[0].floor(alloc),
-        Function::Ceil => numbers[0].ceil(alloc),
-        Function::Round => numbers[0].round(alloc),
-        Function::Trunc => numbers[0].trunc(alloc),
-        Function::Cents => cents(alloc, &numbers[0]),
-        Function::Gcd => common_divisor(alloc, numbers),
-        Function::Lcm => common_multiple(alloc, numbers),
-        Function::Min => extreme(alloc, numbers, Ordering::Less),
-        Function::Max => extreme(alloc, numbers, Ordering::Greater),
+        Function::Abs => Ok(Ok(numbers[0].abs(alloc)?)),
+        Function::Floor => Ok(Ok(numbers[0].floor(alloc)?)),
+        Function::Ceil => Ok(Ok(numbers[0].ceil(alloc)?)),
+        Function::Round => Ok(Ok(numbers[0].round(alloc)?)),
+        Function::Trunc => Ok(Ok(numbers[0].trunc(alloc)?)),
+        Function::Cents => Ok(Ok(cents(alloc, &numbers[0])?)),
+        Function::Gcd => Ok(Ok(common_divisor(alloc, numbers)?)),
+        Function::Lcm => Ok(Ok(common_multiple(alloc, numbers)?)),
+        Function::Min => Ok(Ok(extreme(alloc, numbers, Ordering::Less)?)),
+        Function::Max => Ok(Ok(extreme(alloc, numbers, Ordering::Greater)?)),
+        Function::Nearest => nearest(alloc, &numbers[0], &numbers[1]),
+        Function::Between => between(alloc, &numbers[0], &numbers[1]),
+    }
+}
+
+// The nearest fraction with a denominator from 1 to `most`.
+#[inline]
+fn nearest(
+    alloc: Global,
+    x: &BigFraction,
+    most: &BigFraction,
+) -> Result<Result<BigFraction, Reason>, AllocError> {
+    match x.nearest(alloc, most)? {
+        Some(nearest) => Ok(Ok(nearest)),
+        None => Ok(Err(Reason::BoundBelowOne)),
+    }
+}
+
+// The simplest fraction strictly between two numbers, in either order.
+#[inline]
+fn between(
+    alloc: Global,
+    x: &BigFraction,
+    y: &BigFraction,
+) -> Result<Result<BigFraction, Reason>, AllocError> {
+    if let Some(simplest) = BigFraction::simplest_between(alloc, x, y)? {
+        return Ok(Ok(simplest));
+    }
+    match BigFraction::simplest_between(alloc, y, x)? {
+        Some(simplest) => Ok(Ok(simplest)),
+        None => Ok(Err(Reason::NothingBetween)),
     }
 }
 

@@ -24,6 +24,10 @@ pub(crate) enum Function {
     Min,
     /// `max(x, ..)`: the greatest of the numbers.
     Max,
+    /// `nearest(x, most)`: the nearest fraction with a denominator from 1 to `most`.
+    Nearest,
+    /// `between(x, y)`: the simplest fraction strictly between the two numbers, in either order.
+    Between,
 }
 
 /// The function with this name, or `None` if there is none.
@@ -59,6 +63,12 @@ pub(crate) fn function_named(name: &[u8]) -> Option<Function> {
     if name == b"max".as_slice() {
         return Some(Function::Max);
     }
+    if name == b"nearest".as_slice() {
+        return Some(Function::Nearest);
+    }
+    if name == b"between".as_slice() {
+        return Some(Function::Between);
+    }
     None
 }
 
@@ -67,6 +77,7 @@ pub(crate) fn function_named(name: &[u8]) -> Option<Function> {
 pub(crate) fn takes(function: Function, count: usize) -> bool {
     match function {
         Function::Gcd | Function::Lcm | Function::Min | Function::Max => count >= 1,
+        Function::Nearest | Function::Between => count == 2,
         _ => count == 1,
     }
 }

@@ -45,6 +45,27 @@ fn divisors() -> Result<(), Fail> {
     is_worth(alloc, "gcd(-3/2) + lcm(7, 0)", "3/2")
 }
 
+#[test]
+fn nearest_and_simplest() -> Result<(), Fail> {
+    let alloc = Global;
+    is_worth(alloc, "nearest(355/113, 10)", "22/7")?;
+    is_worth(alloc, "nearest(-3.14159, 21/2)", "-22/7")?;
+    is_worth(alloc, "between(1/3, 1/2)", "2/5")?;
+    is_worth(alloc, "between(1/2, 1/3)", "2/5")?;
+    is_worth(alloc, "between(3, 4)", "7/2")?;
+    is_worth(alloc, "between(-1/2, 5/2)", "0")
+}
+
+#[test]
+fn no_nearest_and_no_simplest() -> Result<(), Fail> {
+    let alloc = Global;
+    is_refused(alloc, "nearest(1/2, 0)", Reason::BoundBelowOne, 1)?;
+    is_refused(alloc, "1 + nearest(3, 0.99)", Reason::BoundBelowOne, 5)?;
+    is_refused(alloc, "between(1/3, 2/6)", Reason::NothingBetween, 1)?;
+    is_refused(alloc, "nearest(1/2)", Reason::ArgumentCount, 1)?;
+    is_refused(alloc, "between(1, 2, 3)", Reason::ArgumentCount, 1)
+}
+
 // An argument is looked at before its call.
 #[test]
 fn refused() -> Result<(), Fail> {

@@ -3,23 +3,42 @@ use Rattle.std.specs.Prelude.{MatchOption}
 use Rattle.std.proofs.lemmas.List.{length-map}
 use Rattle.ratio_big.specs.Fractions.{big_numbers}
 use Rattle.ratio_big.specs.declared.fraction.BigFraction.{BigFraction}
-use Rattle.ratio_expr.specs.Calls.{HaveTruth}
-use Rattle.ratio_expr.specs.Functions.{GivesNumber, TakesCount}
+use Rattle.ratio_expr.specs.Calls.{HaveTruth, RefusesAmounts}
+use Rattle.ratio_expr.specs.Functions.{AnswersNumbers, TakesCount}
 use Rattle.ratio_expr.specs.Worths.{worth, Amount}
+use Rattle.ratio_expr.proofs.CallLaws.{amounts_refused}
 use Rattle.ratio_expr.proofs.CallLemmas.{all_lowest}
 use Rattle.ratio_expr.proofs.calls.called.Goals as goal
 
-pub returns-in_ok-of_numbers-in-Some-2 : goal.returns-in_ok-of_numbers-in-Some-2
-returns-in_ok-of_numbers-in-Some-2 c =
+pub returns-in-Ok : goal.returns-in-Ok
+returns-in-Ok c =
+    let f = c.in-Some.function in
     let ws = map worth c.args.arguments.now in
     let xs : List BigFraction = c.in-Some-2.numbers.items in
+    let given = subst (λ (l : List BigFraction). AnswersNumbers f (map big_numbers l) c.in_ok-result.field-0) c.deref.ensures.value c.in_ok-result.ensures in
     record {
-      function = c.in-Some.function;
+      function = f;
       numbers = map big_numbers xs;
-      result = big_numbers c.in_ok-of_numbers-in-Some-2.field-0;
+      result = big_numbers c.in-Ok.result;
       named = sym c.function_named.ensures ∙ c.in-Some.is;
-      count = subst (TakesCount c.in-Some.function) (sym (length-map c.args.arguments.now worth)) (c.if-not-takes.ensures.0 refl);
+      count = subst (TakesCount f) (sym (length-map c.args.arguments.now worth)) (c.if-not-takes.ensures.0 refl);
       given = record { same = subst (λ r. MatchOption r (HaveTruth ws) (λ v. ws ≡ map Amount (map big_numbers v.items))) c.in-Some-2.is c.in_ok-numbers.ensures; lowest = all_lowest xs };
-      gives = subst (λ (l : List BigFraction). GivesNumber c.in-Some.function (map big_numbers l) (big_numbers c.in_ok-of_numbers-in-Some-2.field-0)) c.deref.ensures.value c.in_ok-of_numbers-in-Some-2.ensures;
+      gives = subst (AnswersNumbers f (map big_numbers xs)) c.in-Ok.is given;
       is = refl;
     }
+
+pub returns : goal.returns
+returns c =
+    let f = c.in-Some.function in
+    let ws = map worth c.args.arguments.now in
+    let xs : List BigFraction = c.in-Some-2.numbers.items in
+    let given = subst (λ (l : List BigFraction). AnswersNumbers f (map big_numbers l) c.in_ok-result.field-0) c.deref.ensures.value c.in_ok-result.ensures in
+    let amounts : RefusesAmounts c.args.name.now ws c.in-Err.reason = record {
+      function = f;
+      numbers = map big_numbers xs;
+      named = sym c.function_named.ensures ∙ c.in-Some.is;
+      count = subst (TakesCount f) (sym (length-map c.args.arguments.now worth)) (c.if-not-takes.ensures.0 refl);
+      given = record { same = subst (λ r. MatchOption r (HaveTruth ws) (λ v. ws ≡ map Amount (map big_numbers v.items))) c.in-Some-2.is c.in_ok-numbers.ensures; lowest = all_lowest xs };
+      refuses = subst (AnswersNumbers f (map big_numbers xs)) c.in-Err.is given;
+    } in
+    amounts_refused c.args.name.now ws c.in-Err.reason amounts

@@ -449,7 +449,7 @@ fn bits_of_32(x: &Original<BigInt>) -> u32 {
     let rest = (units - &whole) * BigInt::from(2);
     let is_up = rest > Original::one() || rest.is_one() && whole.bit(0);
     // A carry of the digits goes into the place.
-    sign | (place << 23) + (whole + u8::from(is_up)).to_u32().unwrap()
+    sign | ((place << 23) + (whole + u8::from(is_up)).to_u32().unwrap())
 }
 
 /// `to_f32` rounds once, also beside a tie of 32 bits that an `f64` cannot tell from it.

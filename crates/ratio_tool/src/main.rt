@@ -4,28 +4,28 @@
 //! |---|---|
 //! | `request` | What the arguments ask for, or why they are refused. |
 //! | `option` | The options, by their names. |
-//! | `session` | The reply to one expression, and to the lines of the input. |
+//! | `answering` | The reply to one expression, and to the lines of the input. |
 //! | `console` | What the system gives the program and takes from it: arguments, lines of the input, and bytes for the two outputs. |
 //! | `fault` | Why the program stops before its end, and its message. |
 //! | `help` | The texts of `--help` and `--version`. |
 #![tactic(auto)]
 
+mod answering;
 mod console;
 pub mod fault;
 mod help;
 mod option;
 mod request;
-mod session;
 
 ghost use Rattle.std.specs.Prelude.{◌≡◌};
 ghost use Rattle.std.specs.Process.{exit_status};
 ghost use Rattle.ratio_tool.specs.Status.{status};
 
 use crate::console::{arguments, write};
+use answering::{answer_expression, answer_lines};
 use fault::{Fault, report};
 use help::{HELP, VERSION};
 use request::{Request, requested};
-use session::{answer_expression, answer_lines};
 use std::process::ExitCode;
 
 fn main(rt: HostRuntime) -> ExitCode {

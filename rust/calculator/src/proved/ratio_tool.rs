@@ -1,19 +1,19 @@
 // Erased from crates/ratio_tool/src/main.rt by rust/erase: not to be edited.
 //! The program `ratio`: the value of the expression in its arguments, or the values of the lines of its input, and its status.
-
 use bakhsney::memory::Global;
+
+mod answering;
 
 pub mod fault;
 mod help;
 mod option;
 mod request;
-mod session;
 
 use crate::host::{arguments, write};
+use answering::{answer_expression, answer_lines};
 use fault::{Fault, report};
 use help::{HELP, VERSION};
 use request::{Request, requested};
-use session::{answer_expression, answer_lines};
 use std::process::ExitCode;
 
 #[inline]

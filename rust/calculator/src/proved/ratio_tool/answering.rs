@@ -1,4 +1,4 @@
-// Erased from crates/ratio_tool/src/session.rt by rust/erase: not to be edited.
+// Erased from crates/ratio_tool/src/answering.rt by rust/erase: not to be edited.
 //! The reply to one expression, and to the lines of the input.
 use bakhsney::memory::{AllocError, Global, Vec};
 use crate::host::{Input, is_terminal, write, write_error};

@@ -1,10 +1,7 @@
-/* The jobs of src/main.rs by GMP's mpq and by FLINT's fmpq, for a counter of instructions:
-
-       peers JOB gmp|flint TIMES     does a job so many times, and prints its result */
+/* The jobs of src/main.rs by GMP's mpq and by FLINT's fmpq, which src/peers.rs calls. */
 #include <flint/fmpq.h>
 #include <gmp.h>
 #include <stdint.h>
-#include <stdio.h>
 #include <stdlib.h>
 #include <string.h>
 
@@ -187,18 +184,19 @@ static void flint(const char *job) {
   }
 }
 
-int main(int count, char **words) {
-  if (count != 4)
-    return 2;
-  set_up();
-  int is_gmp = !strcmp(words[2], "gmp");
-  for (long times = atol(words[3]); times > 0; times--)
-    is_gmp ? gmp(words[1]) : flint(words[1]);
-  if (is_gmp)
-    gmp_printf("%Qd\n", mpq_sum);
-  else {
-    fmpq_print(fmpq_sum);
-    printf("\n");
-  }
-  return 0;
+/* Does a job once. The numbers that the jobs begin with are made by the first call. */
+void peers_do(const char *job, int is_gmp) {
+  static int is_ready;
+  if (!is_ready)
+    set_up();
+  is_ready = 1;
+  is_gmp ? gmp(job) : flint(job);
+}
+
+/* The result of the last job, as a text that stays until the next call. */
+const char *peers_result(int is_gmp) {
+  static char *text;
+  free(text);
+  text = is_gmp ? mpq_get_str(NULL, 10, mpq_sum) : fmpq_get_str(NULL, 10, fmpq_sum);
+  return text;
 }

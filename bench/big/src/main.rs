@@ -1,10 +1,17 @@
-//! Times fractions of any size: the plain Rust crate's `BigFraction` and num-rational's `BigRational`. The jobs are a ledger of 1,000 prices times
-//! quantities, whose sum is short, how many prices are below their quantities, determinants of 8 by 8 and of 16 by 16 short fractions, the sums
-//! 1/1 + 1/2 + .. + 1/n, the powers of 2/3 up to the 200th, each from the one before, ten sums and ten products of fractions whose numbers have 200
-//! digits, and ten texts of 1,000 digits, read and printed. The first two are done over `Reduced64`, too, for what short fractions cost.
+//! Times fractions of any size: the plain Rust crate's `BigFraction` beside num-rational's `BigRational`, GMP's `mpq` and FLINT's `fmpq`. The jobs are
+//! a ledger of 1,000 prices times quantities, whose sum is short, how many prices are below their quantities, determinants of 8 by 8 and of 16 by 16
+//! short fractions, the sums 1/1 + 1/2 + .. + 1/n, the powers of 2/3 up to the 200th, each from the one before, ten sums and ten products of fractions
+//! whose numbers have 200 digits, and ten texts of 1,000 digits, read and printed. The first two are done over `Reduced64`, too, for what short fractions
+//! cost.
 //!
 //!     big                   a table of microseconds for each job, medians of rounds in turn
-//!     big JOB WAY TIMES     does a job so many times in one way, `ours`, `theirs` or `reduced`, for a counter of instructions, and prints its result
+//!     big JOB WAY TIMES     does a job so many times in one way, for a counter of instructions, and prints its result
+//!     big ways JOB          the ways in which a job is done: `ours`, `theirs`, `reduced`, `gmp`, `flint`
+//!
+//! GMP and FLINT are there with the feature `peers`, by `peers.c`.
+#[cfg(feature = "peers")]
+mod peers;
+
 use bakhsney::{BigFraction, Reduced64};
 use num_rational::BigRational;
 use std::fmt::{self, Display, Formatter};
@@ -228,11 +235,55 @@ fn of_any<F: Fraction>(job: &str, data: &Data<F>) -> F {
     }
 }
 
+/// A way to do the jobs.
+trait Way {
+    fn has(&self, job: &str) -> bool;
+
+    /// Does a job once, and returns its result.
+    fn once(&self, job: &str) -> Box<dyn Display + '_>;
+}
+
+impl<F: Fraction + 'static> Way for Data<F> {
+    fn has(&self, _job: &str) -> bool {
+        true
+    }
+
+    fn once(&self, job: &str) -> Box<dyn Display> {
+        Box::new(black_box(of_short(job, &self.rows).unwrap_or_else(|| of_any(job, self))))
+    }
+}
+
+/// The rows over `Reduced64`.
+struct InSixtyFourBits(Vec<(Fitting, Fitting)>);
+
+impl Way for InSixtyFourBits {
+    fn has(&self, job: &str) -> bool {
+        matches!(job, "ledger" | "orders")
+    }
+
+    fn once(&self, job: &str) -> Box<dyn Display> {
+        Box::new(black_box(of_short(job, &self.0).expect("a job over short fractions")))
+    }
+}
+
+/// Each way with its name in the table, the first one for all jobs.
+fn ways() -> Vec<(&'static str, Box<dyn Way>)> {
+    vec![
+        ("ours", Box::new(Data::<BigFraction>::new())),
+        ("theirs", Box::new(Data::<BigRational>::new())),
+        ("reduced", Box::new(InSixtyFourBits(rows()))),
+        #[cfg(feature = "peers")]
+        ("gmp", Box::new(peers::Peer::Gmp)),
+        #[cfg(feature = "peers")]
+        ("flint", Box::new(peers::Peer::Flint)),
+    ]
+}
+
 /// The microseconds of one round of the job, and its result.
-fn round<F: Fraction>(job: &str, data: &Data<F>) -> (f64, F) {
+fn round(way: &dyn Way, job: &str) -> (f64, String) {
     let start = Instant::now();
-    let result = black_box(of_short(job, &data.rows).unwrap_or_else(|| of_any(job, data)));
-    (start.elapsed().as_nanos() as f64 / 1000.0, result)
+    let result = way.once(job);
+    (start.elapsed().as_nanos() as f64 / 1000.0, result.to_string())
 }
 
 fn median(mut times: Vec<f64>) -> f64 {
@@ -240,50 +291,52 @@ fn median(mut times: Vec<f64>) -> f64 {
     times[times.len() / 2]
 }
 
-fn table() {
-    let (ours, theirs) = (Data::<BigFraction>::new(), Data::<BigRational>::new());
-    println!("| Job | `BigFraction`, microseconds | `BigRational` |\n|---|---|---|");
-    for job in JOBS {
-        let mut times = [vec![], vec![]];
-        for _ in 0..ROUNDS {
-            let ((mine, x), (other, y)) = (round(job, &ours), round(job, &theirs));
-            assert_eq!(x.to_string(), y.to_string(), "{job}");
-            times[0].push(mine);
-            times[1].push(other);
+/// The median of each way's rounds, which come in turn, and an empty text where a way has no such job.
+fn row(ways: &[(&str, Box<dyn Way>)], job: &str) -> Vec<String> {
+    let expected = ways[0].1.once(job).to_string();
+    let mut times = vec![vec![]; ways.len()];
+    for _ in 0..ROUNDS {
+        for ((name, way), times) in ways.iter().zip(&mut times).filter(|((_, way), _)| way.has(job)) {
+            let (time, result) = round(way.as_ref(), job);
+            assert_eq!(result, expected, "{job}: {name}");
+            times.push(time);
         }
-        let [mine, other] = times.map(median);
-        println!("| {job} | {mine:.1} | {other:.1} |");
+    }
+    times.into_iter().map(|times| if times.is_empty() { String::new() } else { format!("{:.1}", median(times)) }).collect()
+}
+
+fn table() {
+    let ways = ways();
+    let names: Vec<&str> = ways.iter().map(|(name, _)| *name).collect();
+    println!("| Job | {} |\n|---|{}", names.join(" | "), "---|".repeat(names.len()));
+    for job in JOBS {
+        println!("| {job} | {} |", row(&ways, job).join(" | "));
     }
 }
 
-fn repeated<F: Fraction>(job: &str, times: usize) {
-    let data = Data::<F>::new();
-    for _ in 1..times {
-        black_box(round(job, &data));
+fn names_of_ways(job: &str) {
+    for (name, way) in ways() {
+        if way.has(job) {
+            println!("{name}");
+        }
     }
-    println!("{}", round(job, &data).1);
 }
 
-fn repeated_in_64_bits(job: &str, times: usize) {
-    let rows = rows::<Fitting>();
+fn repeated(job: &str, name: &str, times: usize) {
+    let ways = ways();
+    let (_, way) = ways.iter().find(|(other, _)| *other == name).unwrap_or_else(|| panic!("no way: {name}"));
     for _ in 1..times {
-        black_box(of_short(job, &rows));
+        way.once(job);
     }
-    println!("{}", of_short(job, &rows).expect("a job over short fractions"));
+    println!("{}", way.once(job));
 }
 
 fn main() {
     let words: Vec<String> = std::env::args().skip(1).collect();
     match words.iter().map(String::as_str).collect::<Vec<_>>()[..] {
         [] => table(),
-        [job, way, times] if JOBS.contains(&job) => {
-            let times = times.parse().expect("a number of rounds");
-            match way {
-                "ours" => repeated::<BigFraction>(job, times),
-                "theirs" => repeated::<BigRational>(job, times),
-                _ => repeated_in_64_bits(job, times),
-            }
-        }
-        _ => panic!("usage: big [JOB ours|theirs|reduced TIMES]"),
+        ["ways", job] => names_of_ways(job),
+        [job, way, times] if JOBS.contains(&job) => repeated(job, way, times.parse().expect("a number of rounds")),
+        _ => panic!("usage: big [ways JOB | JOB WAY TIMES]"),
     }
 }

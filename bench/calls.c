@@ -47,6 +47,8 @@ static ratio_order orders[LEN];
 static ratio_truth truths[LEN];
 static ratio_hash hashes[LEN];
 static ratio_key keys[LEN];
+static ratio_sortable sortables[LEN];
+static ratio_residue residues[LEN];
 static ratio_float floats[LEN];
 static ratio_text places[LEN];
 
@@ -73,6 +75,7 @@ static uint64_t *joined_room(void) {
 #define CALLS(X)                                                                                            \
     X(compare_i64, pairs, orders, "half") X(equal_i64, pairs, truths, "half") X(hash_i64, halves, hashes, "half") \
     X(hash_lowest_i64, halves, hashes, "half") X(key_i64, halves, keys, "half")                             \
+    X(hash_mod61_i64, halves, residues, "half") X(sortable_i64, halves, sortables, "half")                  \
     X(add_i64, pairs, answers, "half") X(sub_i64, pairs, answers, "half") X(mul_i64, pairs, answers, "half") \
     X(div_i64, pairs, answers, "half") X(rem_i64, pairs, answers, "half")                                   \
     X(gcd_i64, pairs, answers, "half") X(lcm_i64, pairs, answers, "half") X(mul_round_i64, factors, answers, "half") X(pow_i64, powers, answers, "half") \
@@ -86,8 +89,14 @@ static uint64_t *joined_room(void) {
     X(from_scaled_i64, scaled, answers, "half") X(cast_i64_to_i32, halves, narrow, "half")                  \
     X(cast_i64_to_i128, halves, wide, "half")
 
-/* Those with texts or with one total. */
+/* The two sides of the pairs, for the calls on two arrays. */
+#define SIDES &pairs->left.numer, 4 * LEN - 2, 4, &pairs->right.numer, 4 * LEN - 2, 4
+
+/* Those with two arrays, with texts or with one total. */
 #define OTHERS(X)                                                                                           \
+    X(add_strided_i64, (SIDES, answers, LEN), "half") X(sub_strided_i64, (SIDES, answers, LEN), "half")     \
+    X(mul_strided_i64, (SIDES, answers, LEN), "half") X(div_strided_i64, (SIDES, answers, LEN), "half")     \
+    X(compare_strided_i64, (SIDES, orders, LEN), "half")                                                    \
     X(read_i64, (texts, texts_len, spans, LEN, answers, LEN), "half")                                       \
     X(print_i64, (halves, LEN, printed, sizeof printed, places, LEN), "half")                               \
     X(read_text_i64, (decimal_texts, decimal_texts_len, decimal_spans, LEN, answers, LEN), "half")          \

@@ -1,88 +1,154 @@
-"""The two pages in Firefox, without a driver: a frame round the page reads it, and tells the server what it found."""
+"""Firefox without a window, and what is tried in it. Debian has no driver of Firefox, so the tests speak its own protocol, Marionette."""
+import base64
+import contextlib
 import json
 import shutil
+import socket
 import subprocess
 import sys
 import tempfile
-import threading
+import time
+from pathlib import Path
 
-from tests.answers import program_answers
-from tests.browser import Quiet, served
+from selenium.common.exceptions import WebDriverException
+from tests import both, lines, lines_answers, lines_looks, sheet, sheet_faults, sheet_pictures, sheet_use
+from tests.faults import not_found
 
-TEXT = "1/2 + 1/3\n1 / 0\n7/2 % 2/3\n" + " + ".join(["1/2"] * 60) + "\n" + "1 + 1\n" * 60
-
-# The picture is taken when all of the frame has come. The last image comes when the page has been read.
-FRAME = """<!doctype html><body style="margin:0"><iframe style="border:0;width:1280px;height:900px"></iframe><img src="/late" alt="">
-<script>
-const wait = (seconds) => new Promise((done) => setTimeout(done, 1000 * seconds));
-async function opened(inner, address) {
-  await new Promise((done) => { inner.addEventListener("load", done, { once: true }); inner.src = address; });
-}
-async function read() {
-  const inner = document.querySelector("iframe");
-  await opened(inner, "/index.html#lines=" + encodeURIComponent("1/3 + 0.25\\n2 + x"));
-  while (frames[0].document.querySelectorAll(".value").length < 2) await wait(.1);
-  const values = [...frames[0].document.querySelectorAll(".value, .reason")].map((part) => part.textContent);
-  await opened(inner, "/lines.html");
-  const frame = frames[0], page = frame.document;
-  while (page.querySelectorAll(".answer").length < 3) await wait(.1);
-  const lines = page.getElementById("lines"), answers = page.getElementById("answers");
-  lines.value = TEXT;
-  lines.dispatchEvent(new frame.Event("input"));
-  const texts = [...page.querySelectorAll(".answer")].map((answer) => answer.textContent + "\\n").join("");
-  lines.scrollTo(120, 300);
-  await wait(.5);
-  const at = [answers.scrollLeft, answers.scrollTop];
-  lines.scrollTo(0, 0);
-  await wait(.3);
-  return { values, texts, at };
-}
-read().catch((error) => ({ texts: String(error) })).then((found) => fetch("/found", { method: "POST", body: JSON.stringify(found) }));
-</script>"""
+# A script of the page itself, since one of Marionette's does not see what the page names by `const` and `let`.
+OF_PAGE = """
+    const script = document.createElement("script");
+    script.text = `document.currentScript.dataset.found = JSON.stringify((function () { ${arguments[0]} })(...${JSON.stringify(arguments[1])}) ?? null);`;
+    document.head.append(script);
+    script.remove();
+    return script.dataset.found;"""
 
 
-def frame_of(found, done):
-    """A handler that serves the page and the frame, and keeps what the frame found."""
+class Part:
+    """A part of the page, as selenium's."""
 
-    class Frame(Quiet):
-        def do_GET(self):
-            if self.path == "/frame":
-                self.send_page(FRAME.replace("TEXT", json.dumps(TEXT)))
-            elif self.path == "/late":
-                done.wait(30)
-                self.send_page("")
-            else:
-                super().do_GET()
+    def __init__(self, driver, reference):
+        self.driver = driver
+        [self.id] = reference.values()
 
-        def do_POST(self):
-            found.update(json.loads(self.rfile.read(int(self.headers["Content-Length"]))))
-            done.set()
-            self.send_page("")
+    def send_keys(self, *keys):
+        self.driver.ask("WebDriver:ElementSendKeys", id=self.id, text="".join(keys))
 
-        def send_page(self, text):
-            self.send_response(200)
-            self.send_header("Content-Type", "text/html; charset=utf-8")
-            self.end_headers()
-            self.wfile.write(text.encode())
+    def click(self):
+        self.driver.ask("WebDriver:ElementClick", id=self.id)
 
-    return Frame
+    def is_displayed(self):
+        return self.driver.ask("WebDriver:IsElementDisplayed", id=self.id)["value"]
+
+    @property
+    def accessible_name(self):
+        return self.driver.ask("WebDriver:GetComputedLabel", id=self.id)["value"]
 
 
-def look_at(home, folder):
+class Firefox:
+    """It has those calls of selenium's drivers that the checks use. Its colours are light."""
+
+    def __init__(self, port):
+        self.connection = socket.create_connection(("127.0.0.1", port), 60)
+        self.replies = self.connection.makefile("rb")
+        self.count = 0
+        self.heard()
+        self.ask("WebDriver:NewSession")
+
+    def heard(self):
+        """The next message: its length, a colon, and JSON."""
+        length = b""
+        while (byte := self.replies.read(1)) != b":":
+            if not byte:
+                raise WebDriverException("Firefox ended")
+            length += byte
+        return json.loads(self.replies.read(int(length)))
+
+    def ask(self, command, **parameters):
+        self.count += 1
+        message = json.dumps([0, self.count, command, parameters]).encode()
+        self.connection.sendall(b"%d:%s" % (len(message), message))
+        _, _, error, answer = self.heard()
+        if error:
+            raise WebDriverException(f"{command}: {error['message']}")
+        return answer
+
+    def get(self, address):
+        self.ask("WebDriver:Navigate", url=address)
+
+    def execute_script(self, script, *arguments):
+        found = self.ask("WebDriver:ExecuteScript", script=OF_PAGE, args=[script, arguments])["value"]
+        if found is None:
+            raise WebDriverException(f"the page does not run: {script}")
+        return json.loads(found)
+
+    @property
+    def switch_to(self):
+        return self
+
+    @property
+    def active_element(self):
+        return Part(self, self.ask("WebDriver:GetActiveElement")["value"])
+
+    def find_elements(self, by, selector):
+        return [Part(self, one) for one in self.ask("WebDriver:FindElements", using=by, value=selector)]
+
+    def shaped(self, width, scheme):
+        self.ask("WebDriver:SetWindowRect", width=width, height=900)
+
+    def save_screenshot(self, file):
+        Path(file).write_bytes(base64.b64decode(self.ask("WebDriver:TakeScreenshot", full=False)["value"]))
+
+
+def port_in(profile):
+    """The port that Firefox takes, which it writes into its profile."""
+    file, end = profile / "MarionetteActivePort", time.monotonic() + 60
+    while not (file.exists() and file.read_text()):
+        if time.monotonic() > end:
+            raise WebDriverException("Firefox does not start")
+        time.sleep(0.1)
+    return int(file.read_text())
+
+
+@contextlib.contextmanager
+def firefox():
+    with tempfile.TemporaryDirectory(ignore_cleanup_errors=True) as name:
+        profile = Path(name)
+        (profile / "user.js").write_text('user_pref("marionette.port", 0);\n')
+        command = ["firefox-esr", "--headless", "--marionette", "--no-remote", "--profile", name, "about:blank"]
+        process = subprocess.Popen(command, stdout=subprocess.DEVNULL, stderr=subprocess.DEVNULL)
+        try:
+            yield Firefox(port_in(profile))
+        finally:
+            process.terminate()
+            process.wait()
+
+
+ON_SHEET = [*sheet.VALUES, *sheet_use.USE, *sheet_pictures.PICTURES, *both.ONCE, *both.SHAPED]
+ON_LINES = [lines_answers.typed, lines_looks.boxes_scroll_together, *both.ONCE]
+# The faults that it must find in copies of the page.
+FAULTS = [fault for fault in sheet_faults.FAULTS if fault[-1] in (sheet.people_are_answered, sheet_use.caret_is_under_the_place)]
+
+
+def tried(driver, address, home, folder):
+    driver.shaped(1280, "light")
+    for kind, checks, text in ((sheet.Sheet, ON_SHEET, sheet.SAMPLE), (lines.Lines, ON_LINES, lines_looks.SAMPLE)):
+        page = kind(driver, address + kind.PARTS[0])
+        page.load()
+        for check in checks:
+            fault = check(page)
+            yield fault and f"in Firefox, {check.__name__}: {fault}"
+        page.open(text)
+        driver.save_screenshot(folder / f"firefox-{kind.PARTS[0]}.png")
+    yield from not_found(driver, home, sheet.Sheet, FAULTS)
+
+
+def faults(address, home, folder):
     """What is wrong in Firefox, if it is there."""
     if shutil.which("firefox-esr") is None:
-        print("page/test: no picture in Firefox, which is missing: apt-get install firefox-esr", file=sys.stderr)
-        return None
-    found, done = {}, threading.Event()
-    with served(home, frame_of(found, done)) as address, tempfile.TemporaryDirectory(ignore_cleanup_errors=True) as profile:
-        command = ["firefox-esr", "--headless", "--no-remote", "--profile", profile, "--window-size=1280,900",
-                   "--screenshot", str(folder / "firefox.png"), address + "frame"]
-        try:
-            subprocess.run(command, timeout=90, stdout=subprocess.DEVNULL, stderr=subprocess.DEVNULL, check=True)
-        except (subprocess.TimeoutExpired, subprocess.CalledProcessError):
-            return "Firefox took no picture of the page"
-    if found.get("values") != ["7/12", "≈ 0.583333", "error: nothing has this name, at column 5"]:
-        return f"in Firefox the page for expressions shows {found}"
-    if found.get("texts") != program_answers(TEXT):
-        return f"Firefox shows other answers than the program: {str(found.get('texts'))[:80]!r}"
-    return None if found["at"] == [120, 300] else f"in Firefox the boxes do not scroll together: {found['at']}"
+        print("page/test: nothing is tried in Firefox, which is missing: apt-get install firefox-esr", file=sys.stderr)
+        return []
+    try:
+        with firefox() as driver:
+            return list(tried(driver, address, home, folder))
+    except (WebDriverException, OSError) as error:
+        return [f"Firefox did not do what the test asked: {error}"]

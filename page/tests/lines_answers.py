@@ -1,4 +1,4 @@
-"""The answers of the page are those of the program ./calc, byte for byte. The decimals beside them are those of Python."""
+"""The answers of the page of the calculator are those of the program ./calc, byte for byte, and the decimals beside them are those of Python."""
 import functools
 import random
 import re
@@ -127,6 +127,10 @@ def rows_fault(page, name, text, want):
     return None
 
 
+def typed(page):
+    return compare(page, "typed", "1/2 + 1/3\n1 / 0\n2/4 cmp 1/2", 10, page.type_by_keyboard)
+
+
 def far_rows(page, text):
     """After scrolling to the end, and back to the middle, the rows are those to the lines in sight."""
     want = program_answers(text)
@@ -140,19 +144,22 @@ def far_rows(page, text):
     return None
 
 
-def all_faults(page):
+def faults(page):
+    page.driver.shaped(1280, "light")
+    page.load()
+    part = page.js("return PART")
     small, large = generated(100_000), generated(160_000)
     while len(large) < 5_000_000:
         large += large[: 5_000_000 - len(large)]
     large = large[:5_000_000]
     return [
-        compare(page, "typed", "1/2 + 1/3\n1 / 0\n2/4 cmp 1/2", 10, page.type_by_keyboard),
-        compare(page, "rows", ROWS, 10, page.paste),
-        compare(page, "100,000 generated lines", small, 60, page.paste),
-        compare(page, "a paste of 5 MB", large, 120, page.paste),
+        typed(page),
+        compare(page, "rows", ROWS, 10, page.put),
+        compare(page, "100,000 generated lines", small, 60, page.put),
+        compare(page, "a paste of 5 MB", large, 120, page.put),
         far_rows(page, large),
-        compare(page, "a line of 3 MB", "1 + 1\n" + "a" * 3_000_000 + "\n2 + 2", 60, page.paste),
-        compare(page, "empty lines at the edges of parts", empty_lines_at_the_edges(page.part()), 60, page.paste),
-        compare(page, "a line of two parts after an empty one", "\n" + "a" * (2 * page.part()) + "\n2 + 2\n", 60, page.paste),
-        compare(page, "nothing", "", 10, page.paste),
+        compare(page, "a line of 3 MB", "1 + 1\n" + "a" * 3_000_000 + "\n2 + 2", 60, page.put),
+        compare(page, "empty lines at the edges of parts", empty_lines_at_the_edges(part), 60, page.put),
+        compare(page, "a line of two parts after an empty one", "\n" + "a" * (2 * part) + "\n2 + 2\n", 60, page.put),
+        compare(page, "nothing", "", 10, page.put),
     ]

@@ -1,13 +1,14 @@
-"""How the page looks and behaves. Each check gives a sentence that says what is wrong, or None."""
+"""How the page of the calculator looks and behaves. Each check gives a sentence that says what is wrong, or None."""
 import html
 import re
 
 from selenium.webdriver.common.by import By
 from selenium.webdriver.common.keys import Keys
-from tests.answers import program_answers
+from tests import both
+from tests.both import COLOURS, LEAST_CONTRAST
+from tests.lines_answers import program_answers
 
 BESIDE, BETWEEN, NARROW = 1280, 800, (390, 320)
-LEAST_CONTRAST = 4.5
 
 # Answers and errors of every length, a line that is wider than each box, and an empty line.
 SAMPLE = "\n".join([
@@ -16,45 +17,9 @@ SAMPLE = "\n".join([
 ])
 CURSOR = 4
 
-# The contrast of two colours, each given as the computed style gives it, and the colours of a part of the page.
-COLOURS = """
-function channels(colour) { return colour.match(/[\\d.]+/g).map(Number); }
-function over(top, ground) {
-  const [r, g, b, a = 1] = channels(top), under = channels(ground);
-  return `rgb(${[r, g, b].map((c, i) => a * c + (1 - a) * under[i]).join(" ")})`;
-}
-function light(colour) {
-  const [r, g, b] = channels(colour).map((c) => c / 255 <= .04045 ? c / 255 / 12.92 : ((c / 255 + .055) / 1.055) ** 2.4);
-  return .2126 * r + .7152 * g + .0722 * b;
-}
-function contrast(one, other) {
-  const [low, high] = [light(one), light(other)].sort((a, b) => a - b);
-  return (high + .05) / (low + .05);
-}
-function groundOf(part) {
-  for (let at = part; at; at = at.parentElement) {
-    const ground = getComputedStyle(at).backgroundColor;
-    if (!/, 0\\)$/.test(ground)) return ground;
-  }
-  return "rgb(255 255 255)";
-}
-function contrastOf(part) { return contrast(getComputedStyle(part).color, groundOf(part)); }
-"""
-
-
 def prepared(page):
-    page.paste(SAMPLE)
+    page.put(SAMPLE)
     page.put_cursor(CURSOR)
-
-
-def colours_are_readable(page):
-    low = page.js(COLOURS + """
-        const own = (part) => [...part.childNodes].some((child) => child.nodeType === 3 && child.data.trim() !== "");
-        const parts = [...document.querySelectorAll("main *")].filter((part) => part.checkVisibility() && (own(part) || part === lines));
-        return parts.map((part) => [contrastOf(part), part.textContent.slice(0, 40)]).sort((a, b) => a[0] - b[0])[0];""")
-    if low[0] < LEAST_CONTRAST:
-        return f"the contrast of {low[1]!r} is {low[0]:.2f}, less than {LEAST_CONTRAST}"
-    return None
 
 
 def veiled_line_is_readable(page):
@@ -101,19 +66,6 @@ def unfinished_line_is_dim(page):
     return None
 
 
-def nothing_is_cut_off(page):
-    """The page is never wider than the screen. On a narrow one no part of it is, and no text is cut."""
-    return page.js("""
-        const wide = document.documentElement.clientWidth;
-        if (document.documentElement.scrollWidth > wide) return "the page is wider than the screen";
-        if (beside.matches) return null;
-        const seen = [...document.querySelectorAll("main *")].filter((part) => part.checkVisibility() && !part.closest(".unseen, thead"));
-        const outside = seen.find((part) => part.getBoundingClientRect().right > wide + .5 || part.getBoundingClientRect().left < -.5);
-        if (outside) return `${outside.tagName} ${outside.id} is outside of the screen: ${outside.textContent.slice(0, 40)}`;
-        const cut = seen.find((part) => part.scrollWidth > part.clientWidth + 1 && part.clientWidth > 0);
-        return cut ? `${cut.tagName} ${cut.id} is cut off: ${cut.textContent.slice(0, 40)}` : null;""")
-
-
 def answers_have_their_places(page):
     """Beside each other, an answer is as high as its line. On a narrow screen it is under its line and above the next one."""
     places = page.js("""
@@ -133,7 +85,7 @@ def answers_have_their_places(page):
 
 def boxes_scroll_together(page):
     """Each of the two boxes leads once, down and sideways."""
-    page.paste("\n".join("1/2" + " + 1/3" * (number % 60) for number in range(400)) + "\n")
+    page.put("\n".join("1/2" + " + 1/3" * (number % 60) for number in range(400)) + "\n")
     for leader in ("lines", "answers"):
         for top, left in ((1200, 300), (5000, 120), (0, 0)):
             if page.scroll(leader, top, left) != [[top, left], [top, left]]:
@@ -177,7 +129,7 @@ def keyboard_reaches_all(page):
 
 def few_rows_are_drawn(page):
     """Of many lines, the page draws 200 rows. On a narrow screen these are around the cursor, and a sentence says which."""
-    page.paste("1 + 1\n" * 999 + "1 / 0")
+    page.put("1 + 1\n" * 999 + "1 / 0")
     page.put_cursor(999)
     count, narrow, last, said = page.js("return [rows.children.length, !beside.matches, rows.lastChild.textContent, notice.textContent]")
     if count != 200:
@@ -188,26 +140,22 @@ def few_rows_are_drawn(page):
 
 
 def nothing_moves(page):
-    page.paste("1 + 1")
+    page.put("1 + 1")
     moving = page.js("return document.getAnimations().length")
     return f"{moving} parts of the page move" if moving else None
 
 
 # What is looked at in each width, light and dark.
 EVERYWHERE = [
-    colours_are_readable, veiled_line_is_readable, errors_differ, unfinished_line_is_dim, nothing_is_cut_off, answers_have_their_places,
-    answers_are_tied_to_lines, finished_line_is_said, keyboard_reaches_all, few_rows_are_drawn, nothing_moves,
+    *both.SHAPED, veiled_line_is_readable, errors_differ, unfinished_line_is_dim, answers_have_their_places, answers_are_tied_to_lines,
+    finished_line_is_said, keyboard_reaches_all, few_rows_are_drawn, nothing_moves,
 ]
-
-
-def shapes():
-    return [(width, scheme) for width in (BESIDE, *NARROW) for scheme in ("light", "dark")]
 
 
 def check_all(page, checks, width, scheme):
     """A sentence for each check that finds a fault in one shape of the page."""
-    page.shaped(width, scheme)
-    page.open()
+    page.driver.shaped(width, scheme)
+    page.load()
     found = []
     for check in checks:
         prepared(page)
@@ -215,11 +163,6 @@ def check_all(page, checks, width, scheme):
         if fault:
             found.append(f"{check.__name__}, {width} points wide, {scheme}: {fault}")
     return found
-
-
-def take_picture(page, folder, width, scheme):
-    prepared(page)
-    page.driver.save_screenshot(str(folder / f"{width}-{scheme}.png"))
 
 
 def examples_are_right(page):
@@ -241,15 +184,31 @@ def browsers_are_named(page):
     return f"the page does not say about browsers: {missing}" if missing else None
 
 
-def nothing_comes_from_elsewhere(page):
-    urls = page.js("return performance.getEntriesByType('resource').map((entry) => entry.name)")
-    strange = [url for url in urls if not url.startswith((page.home, "data:"))]
-    source = page.js("return document.documentElement.outerHTML")
-    strange += re.findall(r"""(?:src|href)=["']?(?:https?:)?//[^"' >]+|url\([^)]*\)|@import[^;]*""", source.replace(page.home, ""))
-    policy = page.js("return document.querySelector('meta[http-equiv=Content-Security-Policy]')?.content || ''")
-    if strange:
-        return f"the page takes something from elsewhere: {strange}"
-    return None if policy.startswith("default-src 'none'") else "the page has no policy that forbids what comes from elsewhere"
+def link_shows_answers(page):
+    page.open("1/2 + 1/3")
+    page.load(page.link()[len(page.address):])
+    return "a line of a link is dim" if page.js("return document.querySelector('.unfinished') !== null") else None
 
 
-ONCE = [examples_are_right, browsers_are_named, nothing_comes_from_elsewhere]
+def answers_are_copied(page):
+    page.open("1/2 + 1/3\n1 / 0\n")
+    got = page.copied("#copy-answers")
+    return None if got == "5/6\nerror: division by zero\n" else f"the button `Copy answers` copies {got!r}"
+
+
+ONCE = [examples_are_right, browsers_are_named, link_shows_answers, answers_are_copied, *both.ONCE]
+
+
+def faults(page, folder):
+    """The checks in every shape, with pictures, and those that are done once."""
+    found = []
+    for shape in [(width, scheme) for width in (BESIDE, *NARROW) for scheme in ("light", "dark")]:
+        found += check_all(page, EVERYWHERE, *shape)
+        prepared(page)
+        page.driver.save_screenshot(str(folder / "lines-{}-{}.png".format(*shape)))
+    for width in (BESIDE, BETWEEN):
+        found += check_all(page, [both.nothing_is_cut_off, boxes_scroll_together], width, "light")
+    for check in ONCE:
+        page.load()
+        found.append(check(page))
+    return found

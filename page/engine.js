@@ -128,29 +128,6 @@ class Engine {
   }
 }
 
-// The bytes of the module: those in this file, if it has any, or those beside it.
-async function moduleBytes() {
-  const within = document.getElementById("module");
-  if (within !== null) {
-    return Uint8Array.from(atob(within.textContent.trim()), (letter) => letter.charCodeAt(0)).buffer;
-  }
-  if (location.protocol === "file:") {
-    throw "This page was opened from a file, and so the browser does not load the calculator. Open the file fractions.html, which page/build makes, or run page/serve.";
-  }
-  const response = await fetch(MODULE).catch(() => { throw `The server did not send the file ${MODULE}. Check that the server runs, and load this page again.`; });
-  if (!response.ok) {
-    throw `The file ${MODULE} is missing beside this page (status ${response.status}). Run page/build, which makes it, and load this page again.`;
-  }
-  return response.arrayBuffer();
-}
-
-// Throws the sentence that says why the calculator cannot run, where it cannot.
 async function loadedEngine() {
-  const bytes = await moduleBytes();
-  if (typeof WebAssembly !== "object") {
-    throw "This browser has no WebAssembly, so the calculator cannot run in it.";
-  }
-  const module = await WebAssembly.compile(bytes)
-    .catch(() => { throw `The file ${MODULE} is not a whole WebAssembly module. Run page/build, which makes it, and load this page again.`; });
-  return new Engine(module);
+  return new Engine(await compiled(await moduleBytes(MODULE), MODULE));
 }

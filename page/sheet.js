@@ -1,7 +1,6 @@
 "use strict";
 // The sheet: lines, and the value of each as it is typed.
 
-const LINK_LENGTH = 8000;
 const MOST_LINES = 500;
 const MOST_PLACES = 1000;
 const STORED = "bakhsney.sheet";
@@ -9,10 +8,8 @@ const FIRST_LINES = ["1/3 + 0.25", "x = 3/7", "1 - x", "(1/2 + 1/3) * 6"];
 // A longer fraction gets no pictures.
 const PICTURED_LENGTH = 400;
 
-const element = (id) => document.getElementById(id);
-const rows = element("rows"), told = element("told"), spoken = element("spoken"), keypad = element("keypad");
+const rows = element("rows"), spoken = element("spoken"), keypad = element("keypad");
 const mixed = element("mixed"), places = element("places"), keys = element("keys"), undo = element("undo");
-const link = element("link"), noLink = element("no-link"), copyLink = element("copy-link");
 
 let engine = null;
 let current = null;
@@ -169,7 +166,7 @@ function changed() {
   engine?.ask("lines", "ratio_sheet_rows", texts().map((text) => text.replaceAll("\n", " ")).join("\n"), placesWanted(), show);
   drawBeats();
   keep();
-  renewLink();
+  renewLink(heldParts());
 }
 
 function show(out, why) {
@@ -282,53 +279,18 @@ function sayLater(row) {
   saying = setTimeout(() => say(row), 900);
 }
 
-async function copy(text, name) {
-  try {
-    await navigator.clipboard.writeText(text);
-    tell(`${name} copied.`);
-  } catch {
-    tell("This browser does not let the page copy. Select the text, or use the menu of the link.");
-  }
-}
-
 // ---- What is kept: in this browser, and in a link
 
-// The lines are in the part behind `#`.
-function linkTo() {
-  const parts = [`lines=${encodeURIComponent(texts().join("\n").toWellFormed())}`];
-  if (placesWanted() !== 6) {
-    parts.push(`places=${placesWanted()}`);
-  }
-  if (mixed.checked) {
-    parts.push("mixed=1");
-  }
-  const address = `${location.href.split("#")[0]}#${parts.join("&")}`;
-  return address.length > LINK_LENGTH ? null : address;
-}
-
-function renewLink() {
-  const address = linkTo();
-  noLink.hidden = address !== null;
-  copyLink.disabled = address === null;
-  if (address === null) {
-    link.removeAttribute("href");
-  } else {
-    link.href = address;
-  }
+// What the link holds. What is as at first is left out.
+function heldParts() {
+  const count = placesWanted();
+  return { lines: texts().join("\n"), ...(count === 6 ? {} : { places: String(count) }), ...(mixed.checked ? { mixed: "1" } : {}) };
 }
 
 // What a link holds, or null where the page's address holds no lines.
 function sheetOfAddress() {
-  const found = new Map(location.hash.slice(1).split("&").map((pair) => [pair.split("=")[0], pair.slice(pair.indexOf("=") + 1)]));
-  if (!found.has("lines")) {
-    return null;
-  }
-  try {
-    return { lines: decodeURIComponent(found.get("lines")).split("\n"), places: Number(found.get("places") ?? 6), mixed: found.get("mixed") === "1" };
-  } catch {
-    tell("The lines of this link could not be read: a part of it is missing or wrong.");
-    return null;
-  }
+  const held = partsOfAddress();
+  return held && { lines: held.lines.split("\n"), places: Number(held.places ?? 6), mixed: held.mixed === "1" };
 }
 
 function keep() {
@@ -441,7 +403,6 @@ function listen() {
   element("add").addEventListener("click", () => { const row = addRow(rows.lastElementChild); changed(); go(row); });
   element("clear").addEventListener("click", clear);
   undo.addEventListener("click", restore);
-  copyLink.addEventListener("click", () => copy(link.href, "The link is"));
   document.querySelectorAll(".beat").forEach((input) => input.addEventListener("input", drawBeats));
   window.addEventListener("hashchange", takeAddress);
   window.addEventListener("resize", redrawPictures);
@@ -465,7 +426,4 @@ async function start() {
   }
 }
 
-start().catch((why) => {
-  element("notice").textContent = "";
-  element("failure").textContent = typeof why === "string" ? why : `The calculator could not start: ${why.message}.`;
-});
+begin(start);

@@ -6,9 +6,9 @@ from tests.browser import Page
 
 
 class Lines(Page):
-    PARTS = ["lines.html"]
+    PARTS = ["lines.html", "page.css", "lines.css", "link.js", "module.js", "lines.js"]
     MODULE = "ratio_page.wasm"
-    LACKS = {"WebAssembly.validate = () => false": "no 64-bit memory", "delete globalThis.WebAssembly": "no 64-bit memory"}
+    LACKS = {"WebAssembly.validate = () => false": "no 64-bit memory", "delete globalThis.WebAssembly": "no WebAssembly"}
     READY = "!document.querySelector('.tools').hidden"
     FOUR = "4\n"
 

@@ -15,7 +15,7 @@ SAMPLE = "1/3 + 0.25\nx = 3/7\n2 + (3 * y) + 4\n22/7 - x * 2\n1/3 < 0.333\n2^500
 
 
 class Sheet(Page):
-    PARTS = ["index.html", "sheet.css", "engine.js", "pictures.js", "keypad.js", "sheet.js"]
+    PARTS = ["index.html", "page.css", "sheet.css", "link.js", "module.js", "engine.js", "pictures.js", "keypad.js", "sheet.js"]
     MODULE = "ratio_sheet.wasm"
     LACKS = {"delete globalThis.WebAssembly": "no WebAssembly"}
     READY = "!document.getElementById('sheet').hidden"

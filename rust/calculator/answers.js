@@ -2,7 +2,7 @@
 "use strict";
 const fs = require("fs");
 
-const page = fs.readFileSync(`${__dirname}/../../page/lines.html`, "utf8");
+const page = fs.readFileSync(`${__dirname}/../../page/lines.js`, "utf8");
 const part = (first, last) => page.slice(page.indexOf(first), page.indexOf(last));
 const answered = new Function(`${part("// The answers to lines of at most", "// The parts of an input")}; return answered;`)();
 

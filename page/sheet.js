@@ -218,7 +218,7 @@ function numberParts(fraction, decimal, mixedText) {
   const parts = [copyButton("value", mixed.checked ? mixedText : fraction)];
   if (fraction.includes("/")) {
     const exact = isExact(fractionOf(fraction), decimal);
-    parts.push(copyButton("value decimal", exact ? decimal.replace(/\.?0+$/, "") : decimal, exact ? "= " : "≈ "));
+    parts.push(copyButton("value decimal", exact ? decimal.replace(/\.?0+$/, "") : decimal, exact ? "=\u00a0" : "≈\u00a0"));
   }
   return parts;
 }

@@ -67,6 +67,14 @@ def nothing_comes_from_elsewhere(page):
     return None if policy.startswith("default-src 'none'") else "the page has no policy that forbids what comes from elsewhere"
 
 
+def named(checks, page, where=""):
+    """A sentence with its name for each check that finds a fault."""
+    for check in checks:
+        fault = check(page)
+        if fault:
+            yield f"{check.__name__}{where}: {fault}"
+
+
 # ---- The link
 
 def link_carries_lines(page):

@@ -45,7 +45,7 @@ class Part:
 
 
 class Firefox:
-    """It has those calls of selenium's drivers that the checks use. Its colours are light."""
+    """It has those calls of selenium's drivers that the checks use."""
 
     def __init__(self, port):
         self.connection = socket.create_connection(("127.0.0.1", port), 60)
@@ -93,6 +93,7 @@ class Firefox:
         return [Part(self, one) for one in self.ask("WebDriver:FindElements", using=by, value=selector)]
 
     def shaped(self, width, scheme):
+        """Gives the window a width of at least 500 points. Its colours are light."""
         self.ask("WebDriver:SetWindowRect", width=width, height=900)
 
     def save_screenshot(self, file):
@@ -123,22 +124,24 @@ def firefox():
             process.wait()
 
 
-ON_SHEET = [*sheet.VALUES, *sheet_use.USE, *sheet_pictures.PICTURES, *both.ONCE, *both.SHAPED]
+ON_SHEET = [*sheet.VALUES, *sheet_use.USE, *sheet_pictures.PICTURES, *both.ONCE]
 ON_LINES = [lines_answers.typed, lines_looks.boxes_scroll_together, *both.ONCE]
 # The faults that it must find in copies of the page.
 FAULTS = [fault for fault in sheet_faults.FAULTS if fault[-1] in (sheet.people_are_answered, sheet_use.caret_is_under_the_place)]
 
 
 def tried(driver, address, home, folder):
-    driver.shaped(1280, "light")
     for kind, checks, text in ((sheet.Sheet, ON_SHEET, sheet.SAMPLE), (lines.Lines, ON_LINES, lines_looks.SAMPLE)):
         page = kind(driver, address + kind.PARTS[0])
+        driver.shaped(1280, "light")
         page.load()
-        for check in checks:
-            fault = check(page)
-            yield fault and f"in Firefox, {check.__name__}: {fault}"
+        yield from both.named(checks, page, " in Firefox")
         page.open(text)
-        driver.save_screenshot(folder / f"firefox-{kind.PARTS[0]}.png")
+        for width in (1280, 500):
+            driver.shaped(width, "light")
+            yield from both.named(both.SHAPED, page, f" in Firefox, {width} points wide")
+            driver.save_screenshot(folder / f"firefox-{kind.__name__.lower()}-{width}.png")
+    yield sheet_use.one_file_works(driver, home)
     yield from not_found(driver, home, sheet.Sheet, FAULTS)
 
 

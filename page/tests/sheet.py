@@ -37,7 +37,7 @@ class Sheet(Page):
 
     def answers(self):
         """What each row has beside its line: the value and its decimal, or the reason."""
-        return self.js("return [...rows.children].map((row) => [...row.querySelectorAll('.value, .reason')].map((part) => part.textContent))")
+        return self.js("return [...rows.children].map((row) => [...row.querySelectorAll('.value, .reason')].map((part) => part.textContent.replace('\\u00a0', ' ')))")
 
     def settle(self):
         """Waits until the engine has nothing to do."""
@@ -103,8 +103,7 @@ def forms_are_right(sheet):
     for places, mixed in ((6, False), (0, True), (41, False)):
         sheet.js("places.value = arguments[0]; mixed.checked = arguments[1]; changed()", places, mixed)
         sheet.settle()
-        texts = sheet.js("return [...rows.children].map((row) => [...row.querySelectorAll('.value')].map((part) => part.textContent))")
-        for line, value, got in zip(lines, values, texts):
+        for line, value, got in zip(lines, values, sheet.answers()):
             wanted = [mixed_of(value) if mixed else str(value)] + ([decimal_of(value, places)] if value.denominator > 1 else [])
             if got != [short(part) for part in wanted]:
                 return f"{line} with {places} places gives {got}, and not {wanted}"

@@ -175,20 +175,13 @@ def one_file_works(driver, home):
     return None if [got, kept] == [wanted, ["1/3 + 0.25", "1 / 0"]] else f"the page as one file gives {got}, and keeps {kept}"
 
 
-def named(checks, page, where=""):
-    for check in checks:
-        fault = check(page)
-        if fault:
-            yield f"{check.__name__}{where}: {fault}"
-
-
 def faults(sheet, home, folder):
     """A sentence for each check that finds a fault in the page."""
     sheet.driver.shaped(1280, "light")
-    yield from named([*VALUES, *USE, page_works_without_storage, *sheet_pictures.PICTURES, *both.ONCE], sheet)
+    yield from both.named([*VALUES, *USE, page_works_without_storage, *sheet_pictures.PICTURES, *both.ONCE], sheet)
     for width, scheme in SHAPES:
         sheet.driver.shaped(width, scheme)
         sheet.open(SAMPLE)
-        yield from named([*both.SHAPED, keys_are_large], sheet, f", {width} points wide, {scheme}")
+        yield from both.named([*both.SHAPED, keys_are_large], sheet, f", {width} points wide, {scheme}")
         sheet.driver.save_screenshot(str(folder / f"sheet-{width}-{scheme}.png"))
     yield one_file_works(sheet.driver, home)

@@ -38,8 +38,8 @@ function newRow(text) {
   input.addEventListener("input", () => typed(row));
   input.addEventListener("keydown", (event) => pressed(event, row));
   input.addEventListener("paste", (event) => pasted(event, row));
-  input.addEventListener("focus", () => enter(row));
-  input.addEventListener("blur", () => finish(row));
+  input.addEventListener("focus", () => select(row));
+  input.addEventListener("blur", () => row.classList.remove("unfinished"));
   remove.addEventListener("click", () => removeRow(row));
   row.append(input, reply, remove);
   return row;
@@ -117,13 +117,13 @@ function pressed(event, row) {
 
 // Puts a text of several lines into as many rows.
 function pasted(event, row) {
-  const lines = event.clipboardData.getData("text").replace(/\r\n?|\n$/g, "\n").replace(/\n$/, "").split("\n");
+  const lines = event.clipboardData.getData("text").replace(/\r\n?/g, "\n").replace(/\n$/, "").split("\n");
   if (lines.length === 1) {
     return;
   }
   event.preventDefault();
   const input = inputOf(row), behind = input.value.slice(input.selectionEnd);
-  input.value = input.value.slice(0, input.selectionStart) + lines[0] + (lines.length === 1 ? behind : "");
+  input.value = input.value.slice(0, input.selectionStart) + lines[0];
   let last = row;
   for (const text of lines.slice(1)) {
     last = addRow(last, text);
@@ -139,14 +139,6 @@ function select(row) {
   current = row;
   row.classList.add("current");
   drawPictures();
-}
-
-function enter(row) {
-  select(row);
-}
-
-function finish(row) {
-  row.classList.remove("unfinished");
 }
 
 // ---- The values

@@ -9,6 +9,7 @@ mod common_divisor;
 mod comparing;
 mod decimal;
 mod dividing;
+mod exact_division;
 mod joining;
 pub mod laws;
 mod long_division;
@@ -21,6 +22,7 @@ pub use common_divisor::gcd;
 pub use comparing::{bits, compare, is_zero, used};
 pub use decimal::{put_decimal, put_last_digits, read_decimal};
 pub use dividing::{divide, remainder};
+pub use exact_division::exact_quotient;
 pub use joining::join_share;
 pub use long_division::{divide_long, lowest_terms, quotient_digit};
 pub use multiplying::{

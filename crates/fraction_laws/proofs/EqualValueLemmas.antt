@@ -49,7 +49,7 @@ difference_when_fits : {T : _} {i : _} {o : _} {e : _} {p : _} {h : _} → (x y 
 difference_when_fits {i = i} x y r exact told =
     when_fits (difference_of x.0 x.1 y.0 y.1) r (subst (λ (b : Bool). AnswersLowest numerator denominator i.lo i.hi (DifferenceCondition b i.lo i.hi x.0 x.1 y.0 y.1) (difference_of x.0 x.1 y.0 y.1) r) exact told)
 
-right_nonzero : (b d : ℤ) → b *ℤ d ≢ pos 0 → d ≢ pos 0
+pub right_nonzero : (b d : ℤ) → b *ℤ d ≢ pos 0 → d ≢ pos 0
 right_nonzero b d nonzero e = nonzero (ap (λ (t : ℤ). b *ℤ t) e ∙ omega (arith, ints))
 
 -- ---- the laws

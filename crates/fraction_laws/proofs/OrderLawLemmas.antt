@@ -1,5 +1,5 @@
 -- The laws of the order of results, from the values of pairs.
-use Rattle.std.specs.Prelude.{◌≡◌, ◌<ℤ◌, ◌+ℤ◌, ◌*ℤ◌, ℤ, pos, neg_ℤ, Some}
+use Rattle.std.specs.Prelude.{◌≡◌, ◌<ℤ◌, ◌+ℤ◌, ◌*ℤ◌, ℤ, pos, neg_ℤ}
 use Rattle.std.specs.Cmp.{int_cmp_is, int_ranks}
 use Rattle.std.specs.Ordering.{MatchOrdering, int_cmp}
 use Rattle.std.specs.declared.cmp.Ordering.{Ordering}
@@ -8,12 +8,13 @@ use Rattle.std.proofs.Common.{sym, ap, arith, ◌∙◌}
 use Rattle.std.proofs.lemmas.Int.{ints}
 use lib.IntN.{*ℤ_comm}
 use Rattle.ratio_integer.proofs.Whole.{add-mul, mul_assoc, mul_positive, mul-swap_inner, neg-mul}
+use Rattle.ratio_core.specs.Laws.{IsProduct, IsSum}
 use Rattle.ratio_core.specs.Order.{cross_cmp}
 use Rattle.num_rational.specs.declared.reduced.Reduced.{Reduced}
+use Rattle.num_rational.specs.Operators.{numbers}
 use Rattle.num_rational.specs.Ratio.{denominator, numerator}
 use Rattle.num_rational.proofs.ValueLemmas.{cross_positive, order_moved, scaled_by}
 use Rattle.fraction_laws.specs.OrderLaws.{AddsInOrder, MultipliesInOrder, MultipliesInReverse, NegatesInReverse}
-use Rattle.fraction_laws.specs.ReducedLaws.{AnswersProduct}
 
 -- ---- the same change on both sides
 
@@ -68,6 +69,13 @@ module _ (a b c d : ℤ) (b_up : pos 0 <ℤ b) (d_up : pos 0 <ℤ d) where
         ∙ scaled_by (a *ℤ d) (c *ℤ b) (f *ℤ f) (mul_positive f f f_up f_up)
         ∙ sym (cross_positive a b c d b_up d_up)
 
+    -- a/b + g/f and c/d + g/f in lowest terms have the order of a/b and c/d
+    pub sums_in_order : (left right : ℤ × ℤ) → IsSum (a, b) (g, f) left → IsSum (c, d) (g, f) right → cross_cmp left.0 left.1 right.0 right.1 ≡ cross_cmp a b c d
+    sums_in_order left right first second =
+        order_moved left.0 left.1 right.0 right.1 (a *ℤ f +ℤ g *ℤ b) (b *ℤ f) (c *ℤ f +ℤ g *ℤ d) (d *ℤ f)
+        first.lowest.positive second.lowest.positive (mul_positive b f b_up f_up) (mul_positive d f d_up f_up) (sym first.same) (sym second.same)
+        ∙ order_of_sums
+
     scaled_products : cross_cmp (a *ℤ g) (b *ℤ f) (c *ℤ g) (d *ℤ f) ≡ int_cmp ((a *ℤ d) *ℤ (g *ℤ f)) ((c *ℤ b) *ℤ (g *ℤ f))
     scaled_products =
         cross_positive (a *ℤ g) (b *ℤ f) (c *ℤ g) (d *ℤ f) (mul_positive b f b_up f_up) (mul_positive d f d_up f_up)
@@ -77,13 +85,27 @@ module _ (a b c d : ℤ) (b_up : pos 0 <ℤ b) (d_up : pos 0 <ℤ d) where
     order_of_products : pos 0 <ℤ g → cross_cmp (a *ℤ g) (b *ℤ f) (c *ℤ g) (d *ℤ f) ≡ cross_cmp a b c d
     order_of_products above = scaled_products ∙ scaled_by (a *ℤ d) (c *ℤ b) (g *ℤ f) (mul_positive g f above f_up) ∙ sym (cross_positive a b c d b_up d_up)
 
+    products_moved : (left right : ℤ × ℤ) → IsProduct (a, b) (g, f) left → IsProduct (c, d) (g, f) right
+        → cross_cmp left.0 left.1 right.0 right.1 ≡ cross_cmp (a *ℤ g) (b *ℤ f) (c *ℤ g) (d *ℤ f)
+    products_moved left right first second =
+        order_moved left.0 left.1 right.0 right.1 (a *ℤ g) (b *ℤ f) (c *ℤ g) (d *ℤ f)
+        first.lowest.positive second.lowest.positive (mul_positive b f b_up f_up) (mul_positive d f d_up f_up) (sym first.same) (sym second.same)
+
+    -- so have a/b * g/f and c/d * g/f, if g is above 0
+    pub products_in_order : pos 0 <ℤ g → (left right : ℤ × ℤ) → IsProduct (a, b) (g, f) left → IsProduct (c, d) (g, f) right → cross_cmp left.0 left.1 right.0 right.1 ≡ cross_cmp a b c d
+    products_in_order above left right first second = products_moved left right first second ∙ order_of_products above
+
     factor_below : g <ℤ pos 0 → (g *ℤ f) <ℤ pos 0
     factor_below below = let above : pos 0 <ℤ (neg_ℤ g *ℤ f) = mul_positive (neg_ℤ g) f (omega (arith, ints)) f_up in omega (arith, ints, neg-mul g f)
 
     order_in_reverse : g <ℤ pos 0 → cross_cmp (a *ℤ g) (b *ℤ f) (c *ℤ g) (d *ℤ f) ≡ cross_cmp c d a b
     order_in_reverse below = scaled_products ∙ scaled_below (a *ℤ d) (c *ℤ b) (g *ℤ f) (factor_below below) ∙ sym (cross_positive c d a b d_up b_up)
 
-  order_of_negatives : cross_cmp (neg_ℤ a) b (neg_ℤ c) d ≡ cross_cmp c d a b
+    -- they have the reverse order, if g is below 0
+    pub products_in_reverse : g <ℤ pos 0 → (left right : ℤ × ℤ) → IsProduct (a, b) (g, f) left → IsProduct (c, d) (g, f) right → cross_cmp left.0 left.1 right.0 right.1 ≡ cross_cmp c d a b
+    products_in_reverse below left right first second = products_moved left right first second ∙ order_in_reverse below
+
+  pub order_of_negatives : cross_cmp (neg_ℤ a) b (neg_ℤ c) d ≡ cross_cmp c d a b
   order_of_negatives =
       cross_positive (neg_ℤ a) b (neg_ℤ c) d b_up d_up
       ∙ ap (λ (t : ℤ). int_cmp t (neg_ℤ c *ℤ b)) (neg-mul a d)
@@ -93,35 +115,21 @@ module _ (a b c d : ℤ) (b_up : pos 0 <ℤ b) (d_up : pos 0 <ℤ d) where
 
 -- ---- the laws
 
-pub adds_in_order : {T : _} {i : _} {o : _} {e : _} {p : _} {h : _} → (x y z : Reduced T i o e p h) → AddsInOrder x y z
-adds_in_order x y z left right told other =
-    let a = numerator x.ratio in
-    let b = denominator x.ratio in
-    let c = numerator y.ratio in
-    let d = denominator y.ratio in
-    let g = numerator z.ratio in
-    let f = denominator z.ratio in
-    order_moved (numerator left.ratio) (denominator left.ratio) (numerator right.ratio) (denominator right.ratio) (a *ℤ f +ℤ g *ℤ b) (b *ℤ f) (c *ℤ f +ℤ g *ℤ d) (d *ℤ f)
-    left.lowest.positive right.lowest.positive (mul_positive b f x.lowest.positive z.lowest.positive) (mul_positive d f y.lowest.positive z.lowest.positive) (sym told.terms.same) (sym other.terms.same)
-    ∙ order_of_sums a b c d x.lowest.positive y.lowest.positive g f z.lowest.positive
+module _ {T : _} {i : _} {o : _} {e : _} {p : _} {h : _} (x y z : Reduced T i o e p h) where
+  pub adds_in_order : AddsInOrder x y z
+  adds_in_order left right told other =
+      sums_in_order (numerator x.ratio) (denominator x.ratio) (numerator y.ratio) (denominator y.ratio) x.lowest.positive y.lowest.positive
+      (numerator z.ratio) (denominator z.ratio) z.lowest.positive (numbers left.ratio) (numbers right.ratio) told.terms other.terms
 
--- two products with z have the order of the unreduced ones
-products_moved : {T : _} {i : _} {o : _} {e : _} {p : _} {h : _} → (x y z left right : Reduced T i o e p h) → AnswersProduct x z (Some left) → AnswersProduct y z (Some right)
-    → cross_cmp (numerator left.ratio) (denominator left.ratio) (numerator right.ratio) (denominator right.ratio)
-    ≡ cross_cmp (numerator x.ratio *ℤ numerator z.ratio) (denominator x.ratio *ℤ denominator z.ratio) (numerator y.ratio *ℤ numerator z.ratio) (denominator y.ratio *ℤ denominator z.ratio)
-products_moved x y z left right told other =
-    order_moved (numerator left.ratio) (denominator left.ratio) (numerator right.ratio) (denominator right.ratio) (numerator x.ratio *ℤ numerator z.ratio) (denominator x.ratio *ℤ denominator z.ratio) (numerator y.ratio *ℤ numerator z.ratio) (denominator y.ratio *ℤ denominator z.ratio)
-    left.lowest.positive right.lowest.positive (mul_positive _ _ x.lowest.positive z.lowest.positive) (mul_positive _ _ y.lowest.positive z.lowest.positive) (sym told.terms.same) (sym other.terms.same)
+  pub multiplies_in_order : MultipliesInOrder x y z
+  multiplies_in_order left right above told other =
+      products_in_order (numerator x.ratio) (denominator x.ratio) (numerator y.ratio) (denominator y.ratio) x.lowest.positive y.lowest.positive
+      (numerator z.ratio) (denominator z.ratio) z.lowest.positive above (numbers left.ratio) (numbers right.ratio) told.terms other.terms
 
-pub multiplies_in_order : {T : _} {i : _} {o : _} {e : _} {p : _} {h : _} → (x y z : Reduced T i o e p h) → MultipliesInOrder x y z
-multiplies_in_order x y z left right above told other =
-    products_moved x y z left right told other
-    ∙ order_of_products (numerator x.ratio) (denominator x.ratio) (numerator y.ratio) (denominator y.ratio) x.lowest.positive y.lowest.positive (numerator z.ratio) (denominator z.ratio) z.lowest.positive above
-
-pub multiplies_in_reverse : {T : _} {i : _} {o : _} {e : _} {p : _} {h : _} → (x y z : Reduced T i o e p h) → MultipliesInReverse x y z
-multiplies_in_reverse x y z left right below told other =
-    products_moved x y z left right told other
-    ∙ order_in_reverse (numerator x.ratio) (denominator x.ratio) (numerator y.ratio) (denominator y.ratio) x.lowest.positive y.lowest.positive (numerator z.ratio) (denominator z.ratio) z.lowest.positive below
+  pub multiplies_in_reverse : MultipliesInReverse x y z
+  multiplies_in_reverse left right below told other =
+      products_in_reverse (numerator x.ratio) (denominator x.ratio) (numerator y.ratio) (denominator y.ratio) x.lowest.positive y.lowest.positive
+      (numerator z.ratio) (denominator z.ratio) z.lowest.positive below (numbers left.ratio) (numbers right.ratio) told.terms other.terms
 
 pub negates_in_reverse : {T : _} {i : _} {o : _} {e : _} {p : _} {h : _} → (x y : Reduced T i o e p h) → NegatesInReverse x y
 negates_in_reverse x y left right told other =

@@ -41,17 +41,17 @@ int_pow-pow z j (suc k) =
 -- ---- powers as pairs that are not reduced
 
 -- two pairs have the same numbers
-abbrev AreOnePair : ℤ × ℤ → ℤ × ℤ → Type 0
+abbrev pub AreOnePair : ℤ × ℤ → ℤ × ℤ → Type 0
 AreOnePair x y = (x.0 ≡ y.0) × (x.1 ≡ y.1)
 
 -- a pair to the negative of an exponent is the power, turned over
-turned_power : (n d e : ℤ) → AreOnePair (power_of n d (neg_ℤ e)) ((power_of n d e).1, (power_of n d e).0)
+pub turned_power : (n d e : ℤ) → AreOnePair (power_of n d (neg_ℤ e)) ((power_of n d e).1, (power_of n d e).0)
 turned_power n d (pos zero) = (int_pow-zero n ∙ sym (int_pow-zero d), int_pow-zero d ∙ sym (int_pow-zero n))
 turned_power n d (pos (suc k)) = (refl, refl)
 turned_power n d (negsuc k) = (refl, refl)
 
 -- the power of a power
-power_of_power : (n d e f : ℤ) → AreOnePair (power_of (power_of n d e).0 (power_of n d e).1 f) (power_of n d (e *ℤ f))
+pub power_of_power : (n d e f : ℤ) → AreOnePair (power_of (power_of n d e).0 (power_of n d e).1 f) (power_of n d (e *ℤ f))
 power_of_power n d (pos j) (pos k) = (int_pow-pow n j k, int_pow-pow d j k)
 power_of_power n d (pos j) (negsuc k) =
     let whole : neg_ℤ (pos (j * suc k)) ≡ pos j *ℤ negsuc k = sym (pos-*ℤ-negsuc j k) in
@@ -75,16 +75,16 @@ power_of_power n d (negsuc j) (negsuc k) =
     )
 
 -- the power of a product
-power_of_product : (a b c d e : ℤ) → AreOnePair (power_of (a *ℤ c) (b *ℤ d) e) ((power_of a b e).0 *ℤ (power_of c d e).0, (power_of a b e).1 *ℤ (power_of c d e).1)
+pub power_of_product : (a b c d e : ℤ) → AreOnePair (power_of (a *ℤ c) (b *ℤ d) e) ((power_of a b e).0 *ℤ (power_of c d e).0, (power_of a b e).1 *ℤ (power_of c d e).1)
 power_of_product a b c d (pos m) = (int_pow-mul a c m, int_pow-mul b d m)
 power_of_product a b c d (negsuc k) = (int_pow-mul b d (suc k), int_pow-mul a c (suc k))
 
 -- a pair with the same numbers has the same value
-of_one_pair : (x y z : ℤ × ℤ) → AreOnePair x y → SameValue y.0 y.1 z.0 z.1 → SameValue x.0 x.1 z.0 z.1
+pub of_one_pair : (x y z : ℤ × ℤ) → AreOnePair x y → SameValue y.0 y.1 z.0 z.1 → SameValue x.0 x.1 z.0 z.1
 of_one_pair x y z one same = ap (λ (t : ℤ). t *ℤ z.1) one.0 ∙ same ∙ ap (λ (t : ℤ). z.0 *ℤ t) (sym one.1)
 
 -- powers of equal values have equal values
-same_value_powers : (a b p q e : ℤ) → SameValue a b p q → SameValue (power_of a b e).0 (power_of a b e).1 (power_of p q e).0 (power_of p q e).1
+pub same_value_powers : (a b p q e : ℤ) → SameValue a b p q → SameValue (power_of a b e).0 (power_of a b e).1 (power_of p q e).0 (power_of p q e).1
 same_value_powers a b p q (pos m) same = powers_same a b p q m same
 same_value_powers a b p q (negsuc k) same = powers_same b a q p (suc k) (same_value_flipped a b p q same)
 

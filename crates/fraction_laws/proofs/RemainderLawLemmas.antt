@@ -45,7 +45,7 @@ module _ (a b c d p q : ℤ) (b_up : pos 0 <ℤ b) (d_up : pos 0 <ℤ d) (q_up :
       ap (λ (t : ℤ). a *ℤ d -ℤ int_div (a *ℤ d) (b *ℤ c) *ℤ t) (*ℤ_comm c b)
       ∙ sym (rest_is (a *ℤ d) (b *ℤ c) (int_div (a *ℤ d) (b *ℤ c)) (int_rem (a *ℤ d) (b *ℤ c)) (quot-rem (a *ℤ d) (b *ℤ c)))
 
-  times_plus : SameValue ((int_div (a *ℤ d) (b *ℤ c) *ℤ c) *ℤ q +ℤ p *ℤ d) (d *ℤ q) a b
+  pub times_plus : SameValue ((int_div (a *ℤ d) (b *ℤ c) *ℤ c) *ℤ q +ℤ p *ℤ d) (d *ℤ q) a b
   times_plus =
       let t = int_div (a *ℤ d) (b *ℤ c) in
       let first = add-mul ((t *ℤ c) *ℤ q) (p *ℤ d) b in
@@ -55,14 +55,14 @@ module _ (a b c d p q : ℤ) (b_up : pos 0 <ℤ b) (d_up : pos 0 <ℤ d) (q_up :
       let fifth = mul_assoc a d q in
       omega (arith, ints, same)
 
-  small : c ≢ pos 0 → unsigned_abs p * unsigned_abs d < unsigned_abs c * unsigned_abs q
+  pub small : c ≢ pos 0 → unsigned_abs p * unsigned_abs d < unsigned_abs c * unsigned_abs q
   small nonzero =
       smaller (unsigned_abs (a *ℤ d -ℤ int_div (a *ℤ d) (b *ℤ c) *ℤ (c *ℤ b))) (unsigned_abs q) (unsigned_abs p) (unsigned_abs b) (unsigned_abs d) (unsigned_abs c)
       (abs_pos q (positive_nonzero q q_up))
       (rw (rest, ← unsigned_abs-mul b c) (rem_below (a *ℤ d) (b *ℤ c) (abs_pos (b *ℤ c) (mul_nonzero b c (positive_nonzero b b_up) nonzero))))
       (unsigned_abs-products (a *ℤ d -ℤ int_div (a *ℤ d) (b *ℤ c) *ℤ (c *ℤ b)) q p (b *ℤ d) same ∙ ap (λ k. unsigned_abs p * k) (unsigned_abs-mul b d))
 
-  on_its_side : (pos 0 ≤ℤ a → pos 0 ≤ℤ p) × (a ≤ℤ pos 0 → p ≤ℤ pos 0)
+  pub on_its_side : (pos 0 ≤ℤ a → pos 0 ≤ℤ p) × (a ≤ℤ pos 0 → p ≤ℤ pos 0)
   on_its_side = (
     (λ h. side_up _ (b *ℤ d) p q (mul_positive b d b_up d_up) q_up same (rw rest (rest_up (a *ℤ d) (b *ℤ c) (let t = times_le (pos 0) a d h (omega (arith, ints)) in omega (arith, ints, zero-*ℤ d))))),
     (λ h. side_down _ (b *ℤ d) p q (mul_positive b d b_up d_up) q_up same (rw rest (rest_down (a *ℤ d) (b *ℤ c) (let t = times_le a (pos 0) d h (omega (arith, ints)) in omega (arith, ints, zero-*ℤ d))))),

@@ -105,7 +105,7 @@ absolute_sum : (u v : ℤ) → pos (unsigned_abs (u +ℤ v)) ≤ℤ (pos (unsign
 absolute_sum u v = omega (arith, ints)
 
 -- |a*d + c*b| is at most |a|*d + |c|*b
-sum_at_most : (a b c d : ℤ) → pos 0 <ℤ b → pos 0 <ℤ d → pos (unsigned_abs (a *ℤ d +ℤ c *ℤ b)) ≤ℤ (pos (unsigned_abs a) *ℤ d +ℤ pos (unsigned_abs c) *ℤ b)
+pub sum_at_most : (a b c d : ℤ) → pos 0 <ℤ b → pos 0 <ℤ d → pos (unsigned_abs (a *ℤ d +ℤ c *ℤ b)) ≤ℤ (pos (unsigned_abs a) *ℤ d +ℤ pos (unsigned_abs c) *ℤ b)
 sum_at_most a b c d b_up d_up = rw (← absolute_times a d d_up, ← absolute_times c b b_up) (absolute_sum (a *ℤ d) (c *ℤ b))
 
 pub adds_absolutes : {T : _} {i : _} {o : _} {e : _} {p : _} {h : _} → (x y : Reduced T i o e p h) → AddsAbsolutes x y

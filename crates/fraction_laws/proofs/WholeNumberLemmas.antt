@@ -163,7 +163,7 @@ module _ (lo hi s t w : ℤ) (range : IsRange lo hi) (held : IsHeld lo hi s) (up
 
 -- ---- plus a whole number
 
-more_floor : (a b c one f : ℤ) → one ≡ pos 1 → IsFloor a b f → IsFloor (a *ℤ one +ℤ c *ℤ b) (b *ℤ one) (f +ℤ c)
+pub more_floor : (a b c one f : ℤ) → one ≡ pos 1 → IsFloor a b f → IsFloor (a *ℤ one +ℤ c *ℤ b) (b *ℤ one) (f +ℤ c)
 more_floor a b c one f is floor =
     let low = floor.at_most in
     let high = floor.next_above in
@@ -172,7 +172,7 @@ more_floor a b c one f is floor =
     whole : (z : ℤ) → z *ℤ pos 1 ≡ z
     whole z = omega (arith, ints)
 
-more_ceiling : (a b c one f : ℤ) → one ≡ pos 1 → IsCeiling a b f → IsCeiling (a *ℤ one +ℤ c *ℤ b) (b *ℤ one) (f +ℤ c)
+pub more_ceiling : (a b c one f : ℤ) → one ≡ pos 1 → IsCeiling a b f → IsCeiling (a *ℤ one +ℤ c *ℤ b) (b *ℤ one) (f +ℤ c)
 more_ceiling a b c one f is ceiling =
     let low = ceiling.last_below in
     let high = ceiling.at_least in
@@ -217,7 +217,7 @@ module _ {T : _} {i : _} {o : _} {e : _} {p : _} {h : _} (x n : Reduced T i o e 
 
 -- ---- the other side of 0
 
-turned_floor : (n d f : ℤ) → IsFloor (neg_ℤ n) d f → IsCeiling n d (neg_ℤ f)
+pub turned_floor : (n d f : ℤ) → IsFloor (neg_ℤ n) d f → IsCeiling n d (neg_ℤ f)
 turned_floor n d f floor =
     let a = floor.at_most in
     let b = floor.next_above in

@@ -1,0 +1,6 @@
+mod FieldLawLemmas
+mod HashLawLemmas
+mod PowerLawLemmas
+mod SignLawLemmas
+mod TextLawLemmas
+mod WholeLawLemmas

@@ -17,6 +17,7 @@
 //! | `trains::products` | The products of the teeth of two wheels, next to a number, and the wheels of such a product. |
 //! | `units` | Amounts converted by a chain of rates, and intervals brought into one octave by doublings and halvings. |
 //! | `quotients` | Whole quotients and rests of numbers over one denominator, from one to the next, and of their sums, without a division. |
+//! | `taxes` | A price without its tax, over fractions of any size. |
 #![tactic(auto)]
 
 pub mod accounts;
@@ -28,5 +29,6 @@ pub mod ledger;
 mod quotients;
 pub mod readme;
 pub mod shareholders;
+pub mod taxes;
 pub mod trains;
 pub mod units;

@@ -17,8 +17,10 @@
 //! | `typed::parts` | Cutting a typed text into the digits of its whole numbers, and what comes before a percent sign. |
 //! | `typed::plain` | The lowest terms of a decimal or a fraction, or of their 100th parts. |
 //! | `typed::signed` | The lowest terms of fractions and mixed numbers, from the digits of their whole numbers. |
+//! | `cuts` | Cutting a text into signs, digits and the bytes between them: decimals, fractions, mixed numbers and percentages. |
 #![tactic(auto)]
 
+pub mod cuts;
 mod exact;
 mod long;
 mod places;

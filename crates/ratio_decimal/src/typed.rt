@@ -1,5 +1,5 @@
 //! Reading what a person types into one field as a fraction: `-0.5`, `3/4`, `-1 1/2` or `12.5%`.
-mod parts;
+pub(crate) mod parts;
 mod plain;
 mod signed;
 

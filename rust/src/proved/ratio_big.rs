@@ -7,8 +7,6 @@ mod arithmetic;
 mod cancelling;
 mod comparing;
 mod continued;
-mod cuts;
-mod decimal_cuts;
 mod decimals;
 mod digits;
 mod divisors;

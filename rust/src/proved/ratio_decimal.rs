@@ -1,5 +1,6 @@
 // Erased from crates/ratio_decimal/src/lib.rt by rust/erase: not to be edited.
 //! Decimals such as `12.375`: fractions printed and read as decimals, typed texts, and fractions and products rounded.
+pub mod cuts;
 mod exact;
 mod long;
 mod places;

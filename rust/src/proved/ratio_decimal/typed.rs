@@ -1,6 +1,6 @@
 // Erased from crates/ratio_decimal/src/typed.rt by rust/erase: not to be edited.
 //! Reading what a person types into one field as a fraction: `-0.5`, `3/4`, `-1 1/2` or `12.5%`.
-mod parts;
+pub(crate) mod parts;
 mod plain;
 mod signed;
 

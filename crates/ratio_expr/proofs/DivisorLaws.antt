@@ -93,19 +93,11 @@ lcm_one xs r q h g =
 more : (xs : List BigFraction) (n : ℕ) (x : BigFraction) → n < length xs → x ≡ get_or xs n x → map big_numbers (take (n + 1) xs) ≡ map big_numbers (take n xs) ++ big_numbers x ∷ []
 more xs n x within here = map_more big_numbers xs n x within ∙ ap (λ z. map big_numbers (take n xs) ++ big_numbers z ∷ []) (sym here)
 
-module _ (xs : List BigFraction) (n : ℕ) (x : BigFraction) (q : ℤ × ℤ) (within : n < length xs) (here : x ≡ get_or xs n x) where
-  pub gcd_begun : n ≡ 0 → IsGcdOfFractions (big_numbers x).0 (big_numbers x).1 (big_numbers x).0 (big_numbers x).1 q.0 q.1 → IsGcdOfAll (map big_numbers (take (n + 1) xs)) q
-  gcd_begun none is =
+module _ (P : List (ℤ × ℤ) → Type 0) (xs : List BigFraction) (n : ℕ) (x : BigFraction) (within : n < length xs) (here : x ≡ get_or xs n x) where
+  pub begun : n ≡ 0 → P (big_numbers x ∷ []) → P (map big_numbers (take (n + 1) xs))
+  begun none is =
       let first : map big_numbers (take n xs) ≡ [] = ap (λ m. map big_numbers (take m xs)) none in
-      subst (λ l. IsGcdOfAll l q) (sym (more xs n x within here ∙ ap (λ l. l ++ big_numbers x ∷ []) first)) (gcd_alone (big_numbers x) q is)
+      subst P (sym (more xs n x within here ∙ ap (λ l. l ++ big_numbers x ∷ []) first)) is
 
-  pub gcd_goes_on : (r : ℤ × ℤ) → IsGcdOfAll (map big_numbers (take n xs)) r → IsGcdOfFractions r.0 r.1 (big_numbers x).0 (big_numbers x).1 q.0 q.1 → IsGcdOfAll (map big_numbers (take (n + 1) xs)) q
-  gcd_goes_on r so is = subst (λ l. IsGcdOfAll l q) (sym (more xs n x within here)) (gcd_more (map big_numbers (take n xs)) (big_numbers x) r q so is)
-
-  pub lcm_begun : n ≡ 0 → IsLcmOfFractions (big_numbers x).0 (big_numbers x).1 (big_numbers x).0 (big_numbers x).1 q.0 q.1 → IsLcmOfAll (map big_numbers (take (n + 1) xs)) q
-  lcm_begun none is =
-      let first : map big_numbers (take n xs) ≡ [] = ap (λ m. map big_numbers (take m xs)) none in
-      subst (λ l. IsLcmOfAll l q) (sym (more xs n x within here ∙ ap (λ l. l ++ big_numbers x ∷ []) first)) (lcm_alone (big_numbers x) q is)
-
-  pub lcm_goes_on : (r : ℤ × ℤ) → IsLcmOfAll (map big_numbers (take n xs)) r → IsLcmOfFractions r.0 r.1 (big_numbers x).0 (big_numbers x).1 q.0 q.1 → IsLcmOfAll (map big_numbers (take (n + 1) xs)) q
-  lcm_goes_on r so is = subst (λ l. IsLcmOfAll l q) (sym (more xs n x within here)) (lcm_more (map big_numbers (take n xs)) (big_numbers x) r q so is)
+  pub goes_on : P (map big_numbers (take n xs) ++ big_numbers x ∷ []) → P (map big_numbers (take (n + 1) xs))
+  goes_on is = subst P (sym (more xs n x within here)) is

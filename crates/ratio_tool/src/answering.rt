@@ -3,24 +3,18 @@ use crate::console::{Input, is_terminal, write, write_error};
 use crate::fault::Fault;
 use ratio_expr::names::Names;
 use ratio_replies::{Form, Reply, reply_to};
-use std::alloc::AllocError;
+use std::alloc::{AllocError, Global};
 
 /// Answers an expression, and says whether it has a value. A refusal goes to standard error.
 pub fn answer_expression(rt: &HostRuntime, text: &[u8], form: Form) -> Result<bool, Fault> {
     let mut names = Names::new(rt.alloc());
-    match reply_to(rt.alloc(), text, form, &mut names)? {
-        Reply::Nothing => Ok(true),
-        Reply::Answer(text) => {
-            let text = with_end(text)?;
-            write(rt, &text)?;
-            Ok(true)
-        }
-        Reply::Refused(text) => {
-            let text = with_end(text)?;
-            write_error(rt, &text)?;
-            Ok(false)
-        }
+    let (text, is_answer) = answered(rt.alloc(), text, form, &mut names)?;
+    if is_answer {
+        write(rt, &text)?;
+    } else {
+        write_error(rt, &text)?;
     }
+    Ok(is_answer)
 }
 
 /// Answers each line of standard input before it reads the next one, and says whether each has a value. A refusal is in the place of an
@@ -41,10 +35,12 @@ fn answer_each(rt: &HostRuntime, form: Form, prompt: &[u8]) -> Result<bool, Faul
     let mut input = Input::new(rt)?;
     let mut all = true;
     for _turn in 0..u64::MAX {
-        write(rt, prompt)?;
-        match input.next_line(rt.alloc())? {
+        if !prompt.is_empty() {
+            write(rt, prompt)?;
+        }
+        match input.next_line()? {
             None => return Ok(all),
-            Some(line) => all &= answer_line(rt, without_end(&line), form, &mut names)?,
+            Some(line) => all &= answer_line(rt, without_end(line), form, &mut names)?,
         }
     }
     Err(Fault::Read)
@@ -57,18 +53,22 @@ fn answer_line(
     form: Form,
     names: &mut Names,
 ) -> Result<bool, Fault> {
-    match reply_to(rt.alloc(), line, form, names)? {
-        Reply::Nothing => Ok(true),
-        Reply::Answer(text) => {
-            let text = with_end(text)?;
-            write(rt, &text)?;
-            Ok(true)
-        }
-        Reply::Refused(text) => {
-            let text = with_end(text)?;
-            write(rt, &text)?;
-            Ok(false)
-        }
+    let (text, is_answer) = answered(rt.alloc(), line, form, names)?;
+    write(rt, &text)?;
+    Ok(is_answer)
+}
+
+// The reply to a line, with its line end unless it is empty, and whether it is no refusal.
+fn answered(
+    alloc: Global,
+    line: &[u8],
+    form: Form,
+    names: &mut Names,
+) -> Result<(Vec<u8>, bool), AllocError> {
+    match reply_to(alloc, line, form, names)? {
+        Reply::Nothing => Ok((Vec::new(alloc), true)),
+        Reply::Answer(text) => Ok((with_end(text)?, true)),
+        Reply::Refused(text) => Ok((with_end(text)?, false)),
     }
 }
 
@@ -79,8 +79,7 @@ fn without_end(line: &[u8]) -> &[u8] {
 }
 
 // The text and a line end.
-fn with_end(text: Vec<u8>) -> Result<Vec<u8>, AllocError> {
-    let mut text = text;
+fn with_end(mut text: Vec<u8>) -> Result<Vec<u8>, AllocError> {
     text.push(b'\n')?;
     Ok(text)
 }

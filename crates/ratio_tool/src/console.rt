@@ -1,7 +1,6 @@
 //! What the system gives the program and takes from it: arguments, lines of the input, and bytes for the two outputs. The crate for cargo has
 //! these calls in a file by hand.
 use crate::fault::Fault;
-use std::alloc::Global;
 use std::env;
 use std::io::{BufRead, BufReader, IsTerminal, Stdin};
 
@@ -46,23 +45,27 @@ pub fn write_error(rt: &HostRuntime, bytes: &[u8]) -> Result<(), Fault> {
 #[derive(Drop)]
 pub struct Input {
     reader: BufReader<Stdin>,
+    line: Vec<u8>,
 }
 
 impl Input {
     /// Standard input from where it is.
     pub fn new(rt: &HostRuntime) -> Result<Input, Fault> {
         match BufReader::new(rt.alloc(), rt.stdin()) {
-            Ok(reader) => Ok(Input { reader }),
+            Ok(reader) => Ok(Input {
+                reader,
+                line: Vec::new(rt.alloc()),
+            }),
             Err(_) => Err(Fault::Memory),
         }
     }
 
     /// The next line, with its line end if it has one, or `None` if there is no more.
-    pub fn next_line(&mut self, alloc: Global) -> Result<Option<Vec<u8>>, Fault> {
-        let mut line = Vec::new(alloc);
-        match self.reader.read_until(b'\n', &mut line) {
+    pub fn next_line(&mut self) -> Result<Option<&[u8]>, Fault> {
+        self.line.clear();
+        match self.reader.read_until(b'\n', &mut self.line) {
             Ok(0) => Ok(None),
-            Ok(_) => Ok(Some(line)),
+            Ok(_) => Ok(Some(&self.line)),
             Err(_) => Err(Fault::Read),
         }
     }

@@ -41,19 +41,22 @@ pub fn write_error(bytes: &[u8]) -> Result<(), Fault> {
 }
 
 /// Standard input, line by line.
-pub struct Input(StdinLock<'static>);
+pub struct Input {
+    reader: StdinLock<'static>,
+    line: std::vec::Vec<u8>,
+}
 
 impl Input {
     pub fn new() -> Result<Input, Fault> {
-        Ok(Input(stdin()))
+        Ok(Input { reader: stdin(), line: std::vec::Vec::new() })
     }
 
     /// The next line, with its line end if it has one, or `None` if there is no more.
-    pub fn next_line(&mut self, alloc: Global) -> Result<Option<Vec<u8>>, Fault> {
-        let mut line = std::vec::Vec::new();
-        match self.0.read_until(b'\n', &mut line) {
+    pub fn next_line(&mut self) -> Result<Option<&[u8]>, Fault> {
+        self.line.clear();
+        match self.reader.read_until(b'\n', &mut self.line) {
             Ok(0) => Ok(None),
-            Ok(_) => Ok(Some(Vec::from_slice(alloc, &line)?)),
+            Ok(_) => Ok(Some(&self.line)),
             Err(_) => Err(Fault::Read),
         }
     }

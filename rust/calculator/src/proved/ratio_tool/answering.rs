@@ -10,19 +10,13 @@ use crate::proved::ratio_replies::{Form, Reply, reply_to};
 #[inline]
 pub fn answer_expression(text: &[u8], form: Form) -> Result<bool, Fault> {
     let mut names = Names::new(Global);
-    match reply_to(Global, text, form, &mut names)? {
-        Reply::Nothing => Ok(true),
-        Reply::Answer(text) => {
-            let text = with_end(text)?;
-            write(&text)?;
-            Ok(true)
-        }
-        Reply::Refused(text) => {
-            let text = with_end(text)?;
-            write_error(&text)?;
-            Ok(false)
-        }
+    let (text, is_answer) = answered(Global, text, form, &mut names)?;
+    if is_answer {
+        write(&text)?;
+    } else {
+        write_error(&text)?;
     }
+    Ok(is_answer)
 }
 
 /// Answers each line of standard input before it reads the next one, and says whether each has a value. A refusal is in the place of an
@@ -45,10 +39,12 @@ fn answer_each(form: Form, prompt: &[u8]) -> Result<bool, Fault> {
     let mut input = Input::new()?;
     let mut all = true;
     for _turn in 0..u64::MAX {
-        write(prompt)?;
-        match input.next_line(Global)? {
+        if !prompt.is_empty() {
+            write(prompt)?;
+        }
+        match input.next_line()? {
             None => return Ok(all),
-            Some(line) => all &= answer_line(without_end(&line), form, &mut names)?,
+            Some(line) => all &= answer_line(without_end(line), form, &mut names)?,
         }
     }
     Err(Fault::Read)
@@ -61,18 +57,23 @@ fn answer_line(
     form: Form,
     names: &mut Names,
 ) -> Result<bool, Fault> {
-    match reply_to(Global, line, form, names)? {
-        Reply::Nothing => Ok(true),
-        Reply::Answer(text) => {
-            let text = with_end(text)?;
-            write(&text)?;
-            Ok(true)
-        }
-        Reply::Refused(text) => {
-            let text = with_end(text)?;
-            write(&text)?;
-            Ok(false)
-        }
+    let (text, is_answer) = answered(Global, line, form, names)?;
+    write(&text)?;
+    Ok(is_answer)
+}
+
+// The reply to a line, with its line end unless it is empty, and whether it is no refusal.
+#[inline]
+fn answered(
+    alloc: Global,
+    line: &[u8],
+    form: Form,
+    names: &mut Names,
+) -> Result<(Vec<u8>, bool), AllocError> {
+    match reply_to(alloc, line, form, names)? {
+        Reply::Nothing => Ok((Vec::new(alloc), true)),
+        Reply::Answer(text) => Ok((with_end(text)?, true)),
+        Reply::Refused(text) => Ok((with_end(text)?, false)),
     }
 }
 
@@ -85,8 +86,7 @@ fn without_end(line: &[u8]) -> &[u8] {
 
 // The text and a line end.
 #[inline]
-fn with_end(text: Vec<u8>) -> Result<Vec<u8>, AllocError> {
-    let mut text = text;
+fn with_end(mut text: Vec<u8>) -> Result<Vec<u8>, AllocError> {
     text.push(b'\n')?;
     Ok(text)
 }

@@ -172,6 +172,13 @@ impl<K: Ord, V> BTreeMap<K, V> {
         self.place(key).ok().map(|at| &self.0[at].1)
     }
 
+    pub fn get_mut<Q: Ord + ?Sized>(&mut self, key: &Q) -> Option<&mut V>
+    where
+        K: Borrow<Q>,
+    {
+        self.place(key).ok().map(|at| &mut self.0[at].1)
+    }
+
     /// Gives a value a key, and returns the value that had it. If there is no memory, the map stays as it is.
     pub fn insert(&mut self, key: K, value: V) -> Result<Option<V>, AllocError> {
         match self.place(&key) {
@@ -219,6 +226,12 @@ impl String {
     #[inline]
     pub fn as_str(&self) -> &str {
         &self.0
+    }
+
+    /// The bytes of the text, with the same memory.
+    #[inline]
+    pub fn into_bytes(self) -> Vec<u8> {
+        Vec(self.0.into_bytes())
     }
 
     /// Rust's own text, with the same memory.

@@ -36,6 +36,10 @@ impl Names {
         ensures set { OnOk result ((other : List ℕ) → named self.new other ≡ (if bytes_eq name.now other then Some (worth value) else named self.old other)) }
         ensures kept { OnErr result ((other : List ℕ) → named self.new other ≡ named self.old other) }
     {
+        if let Some(place) = self.values.get_mut(name) {
+            *place = value;
+            return Ok(());
+        }
         let key = Vec::from_slice(alloc, name)?;
         self.values.insert(key, value)?;
         Ok(())

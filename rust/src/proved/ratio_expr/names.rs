@@ -27,6 +27,10 @@ impl Names {
     /// Gives a value a name, in place of the value that has it. If an allocation fails, all names stay as they are.
     #[inline]
     pub fn set(&mut self, alloc: Global, name: &[u8], value: Value) -> Result<(), AllocError> {
+        if let Some(place) = self.values.get_mut(name) {
+            *place = value;
+            return Ok(());
+        }
         let key = Vec::from_slice(alloc, name)?;
         self.values.insert(key, value)?;
         Ok(())

@@ -10,6 +10,9 @@ use crate::lexer::symbol::symbol_at;
 use crate::token::{Kind, Span, Token};
 use std::alloc::{AllocError, Global};
 
+// For how many tokens there is room at first: a line with a few operators takes memory once.
+const FIRST_ROOM: usize = 16;
+
 /// A text that is cut into tokens.
 #[derive(Drop)]
 pub struct Cut {
@@ -30,7 +33,7 @@ pub fn tokens(alloc: Global, text: &[u8]) -> Result<Cut, AllocError>
     // An empty text takes no memory.
     ensures memory { IsErr result → 0 < length text.now }
 {
-    let mut found = Vec::new(alloc);
+    let mut found = Vec::with_capacity(alloc, text.len().min(FIRST_ROOM))?;
     let mut at = 0;
     while at < text.len() {
         if text[at] == b' ' {

@@ -5,7 +5,7 @@ mod mark;
 ghost use Rattle.std.specs.Prelude.{◌≡◌, ◌<◌, ◌≤◌, ◌+◌, ◌++◌, ℕ, [], ◌∷◌, length, take, reverse, Some, None, IfOk, OnOk, IfErr, MatchResult, IsErrOf, Option, List, true, false};
 ghost use Rattle.ratio_expr.specs.declared.step.Step.{Step};
 ghost use Rattle.ratio_expr.specs.Grammar.{Tree, HasTree, IsBegun, left_level, rank, postfix};
-ghost use Rattle.ratio_expr.specs.Reading.{Gives, Fails, IsNextState, settle, next_state, at_operand, behind_operand, with_operator, with_close, with_call, with_comma, work_of, state_of};
+ghost use Rattle.ratio_expr.specs.Reading.{Gives, Fails, IsNextState, room, settle, next_state, at_operand, behind_operand, with_operator, with_close, with_call, with_comma, work_of, state_of};
 
 use crate::parser::mark::{
     Mark, left_level_of, level_of, level_of_mark, room_of_mark, step_of_mark,
@@ -41,7 +41,7 @@ fn read_all(alloc: Global, tokens: &[Token]) -> Result<Vec<Step>, ParseError>
     ensures memory { IsErrOf result ParseError.Memory → 0 < length tokens.now }
 {
     let mut marks = Vec::new(alloc);
-    let mut steps = Vec::new(alloc);
+    let mut steps = Vec::with_capacity(alloc, tokens.len())?;
     let mut wants = true;
     for (at, token) in tokens.iter().enumerate() {
         match read_token(*token, &mut marks, &mut steps, wants)? {
@@ -146,13 +146,19 @@ fn read_operator(
     ensures { (steps : List Step) → IfOk result (λ next. IsNextState (with_operator operator span (work_of marks.old.items steps))
         marks.new.items steps next) }
 {
-    match marks.pop() {
-        Some(mark) if level_of(operator) < room_of_mark(mark) => Ok(None),
-        Some(mark) => {
-            marks.push(mark)?;
-            put_mark(Mark::Half(operator, span), marks)
-        }
-        None => put_mark(Mark::Half(operator, span), marks),
+    if level_of(operator) < room_of(marks) {
+        return Ok(None);
+    }
+    put_mark(Mark::Half(operator, span), marks)
+}
+
+// How tightly an expression must bind to stand right of what waits last.
+fn room_of(marks: &[Mark]) -> u8
+    ensures { result ≡ room (reverse marks.now) }
+{
+    match marks {
+        [.., mark] => room_of_mark(*mark),
+        [] => 0,
     }
 }
 
@@ -215,12 +221,12 @@ fn settle_marks(least: u8, marks: &mut Vec<Mark>, steps: &mut Vec<Step>) -> Resu
     ensures { OnOk result (work_of marks.new.items steps.new.items
         ≡ settle least (reverse marks.old.items) steps.old.items) }
 {
-    while let Some(mark) = marks.pop() {
-        if level_of_mark(mark) < least {
-            marks.push(mark)?;
+    while let Some(mark) = marks.last() {
+        if level_of_mark(*mark) < least {
             return Ok(());
         }
-        steps.push(step_of_mark(mark))?;
+        steps.push(step_of_mark(*mark))?;
+        marks.pop();
     }
     Ok(())
 }

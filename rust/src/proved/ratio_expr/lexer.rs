@@ -9,6 +9,9 @@ use crate::proved::ratio_expr::lexer::number::{name_length, number_length};
 use crate::proved::ratio_expr::lexer::symbol::symbol_at;
 use crate::proved::ratio_expr::token::{Kind, Span, Token};
 
+// For how many tokens there is room at first: a line with a few operators takes memory once.
+const FIRST_ROOM: usize = 16;
+
 /// A text that is cut into tokens.
 pub struct Cut {
     pub tokens: Vec<Token>,
@@ -24,7 +27,7 @@ pub struct Cut {
 /// - A name is a letter or an underscore, and letters, digits and underscores.
 #[inline]
 pub fn tokens(alloc: Global, text: &[u8]) -> Result<Cut, AllocError> {
-    let mut found = Vec::new(alloc);
+    let mut found = Vec::with_capacity(alloc, text.len().min(FIRST_ROOM))?;
     let mut at = 0;
     while at < text.len() {
         if text[at] == b' ' {

@@ -22,7 +22,7 @@ pub fn parse(alloc: Global, tokens: &[Token]) -> Result<Vec<Step>, ParseError> {
 #[inline]
 fn read_all(alloc: Global, tokens: &[Token]) -> Result<Vec<Step>, ParseError> {
     let mut marks = Vec::new(alloc);
-    let mut steps = Vec::new(alloc);
+    let mut steps = Vec::with_capacity(alloc, tokens.len())?;
     let mut wants = true;
     for (at, token) in tokens.iter().enumerate() {
         match read_token(*token, &mut marks, &mut steps, wants)? {
@@ -117,13 +117,18 @@ fn read_operator(
     span: Span,
     marks: &mut Vec<Mark>,
 ) -> Result<Option<bool>, AllocError> {
-    match marks.pop() {
-        Some(mark) if level_of(operator) < room_of_mark(mark) => Ok(None),
-        Some(mark) => {
-            marks.push(mark)?;
-            put_mark(Mark::Half(operator, span), marks)
-        }
-        None => put_mark(Mark::Half(operator, span), marks),
+    if level_of(operator) < room_of(marks) {
+        return Ok(None);
+    }
+    put_mark(Mark::Half(operator, span), marks)
+}
+
+// How tightly an expression must bind to stand right of what waits last.
+#[inline]
+fn room_of(marks: &[Mark]) -> u8 {
+    match marks {
+        [.., mark] => room_of_mark(*mark),
+        [] => 0,
     }
 }
 
@@ -178,12 +183,12 @@ fn read_close(
 // Makes the marks that bind at least so tightly steps, from the last on.
 #[inline]
 fn settle_marks(least: u8, marks: &mut Vec<Mark>, steps: &mut Vec<Step>) -> Result<(), AllocError> {
-    while let Some(mark) = marks.pop() {
-        if level_of_mark(mark) < least {
-            marks.push(mark)?;
+    while let Some(mark) = marks.last() {
+        if level_of_mark(*mark) < least {
             return Ok(());
         }
-        steps.push(step_of_mark(mark))?;
+        steps.push(step_of_mark(*mark))?;
+        marks.pop();
     }
     Ok(())
 }

@@ -19,6 +19,7 @@ pub mod Places
 pub mod PowerBounds
 pub mod Refusals
 pub mod Running
+pub mod ShortFractions
 pub mod Soundness
 pub mod StackLemmas
 pub mod TextLaws

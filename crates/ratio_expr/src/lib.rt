@@ -18,6 +18,7 @@
 //! | `value` | `Value`: what an expression is worth. |
 //! | `names` | `Names`: values by name. |
 //! | `number` | The number that a piece of a text says. |
+//! | `number::short_fraction` | The number that a text of one or two short whole numbers says: `3/4`, `12`. |
 //! | `operation` | What an operator gives of two values, or why it refuses them. |
 //! | `power` | The power of two numbers, if it is not too large to be worth it. |
 //! | `function` | `Function`: a function that a call names, and how many numbers it takes. |

@@ -1,10 +1,13 @@
 //! The number that a piece of a text says.
+mod short_fraction;
+
 ghost use Rattle.std.specs.Prelude.{◌≡◌, ◌≤◌, length, MatchResult, IfOk};
 ghost use Rattle.std.specs.Char.{is_ascii_digit};
 ghost use Rattle.std.specs.List.{count_by, take_while};
 ghost use Rattle.ratio_big.specs.Fractions.{big_numbers};
 ghost use Rattle.ratio_expr.specs.Numbers.{SaysNumber, SaysNoNumber, exponent_digits, is_no_e};
 
+use crate::number::short_fraction::short_fraction;
 use crate::refusal::Reason;
 use ratio_big::BigFraction;
 use ratio_decimal::TextRefusal;
@@ -21,6 +24,9 @@ pub(crate) fn number_in(
 ) -> Result<Result<BigFraction, Reason>, AllocError>
     ensures { IfOk result (λ r. MatchResult r (λ x. SaysNumber text.now (big_numbers x)) (SaysNoNumber text.now)) }
 {
+    if let Some(number) = short_fraction(text) {
+        return Ok(Ok(number));
+    }
     if digits_of_exponent(text) > MOST_EXPONENT_DIGITS {
         return Ok(Err(Reason::NumberTooLarge));
     }

@@ -1,7 +1,10 @@
 // Erased from crates/ratio_expr/src/number.rt by rust/erase: not to be edited.
 //! The number that a piece of a text says.
-
 use crate::memory::{AllocError, Global};
+
+mod short_fraction;
+
+use crate::proved::ratio_expr::number::short_fraction::short_fraction;
 use crate::proved::ratio_expr::refusal::Reason;
 use crate::proved::ratio_big::BigFraction;
 use crate::proved::ratio_decimal::TextRefusal;
@@ -17,6 +20,9 @@ pub(crate) fn number_in(
     alloc: Global,
     text: &[u8],
 ) -> Result<Result<BigFraction, Reason>, AllocError> {
+    if let Some(number) = short_fraction(text) {
+        return Ok(Ok(number));
+    }
     if digits_of_exponent(text) > MOST_EXPONENT_DIGITS {
         return Ok(Err(Reason::NumberTooLarge));
     }

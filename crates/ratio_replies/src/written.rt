@@ -44,8 +44,7 @@ fn number_text(alloc: Global, x: &BigFraction, form: Form) -> Result<Vec<u8>, Al
 pub(crate) fn fraction_text(alloc: Global, x: &BigFraction) -> Result<Vec<u8>, AllocError>
     ensures { IfOk result (λ text. text.items ≡ fraction_text (big_numbers x.now)) }
 {
-    let text = x.to_text(alloc)?;
-    Vec::from_slice(alloc, text.as_bytes())
+    Ok(x.to_text(alloc)?.into_bytes())
 }
 
 /// The decimal with so many places, rounded half away from zero.
@@ -56,6 +55,5 @@ pub(crate) fn decimal_text(
 ) -> Result<Vec<u8>, AllocError>
     ensures { let a = big_numbers x.now in IfOk result (λ text. IsLongDecimalOf HalfAway places a.0 a.1 text.items) }
 {
-    let text = x.decimal(alloc, places, Rounding::HalfAway)?;
-    Vec::from_slice(alloc, text.as_bytes())
+    Ok(x.decimal(alloc, places, Rounding::HalfAway)?.into_bytes())
 }

@@ -35,8 +35,7 @@ fn number_text(alloc: Global, x: &BigFraction, form: Form) -> Result<Vec<u8>, Al
 /// The text of a fraction: `17/12`, and `5` for 5/1.
 #[inline]
 pub(crate) fn fraction_text(alloc: Global, x: &BigFraction) -> Result<Vec<u8>, AllocError> {
-    let text = x.to_text(alloc)?;
-    Vec::from_slice(alloc, text.as_bytes())
+    Ok(x.to_text(alloc)?.into_bytes())
 }
 
 /// The decimal with so many places, rounded half away from zero.
@@ -46,6 +45,5 @@ pub(crate) fn decimal_text(
     x: &BigFraction,
     places: u32,
 ) -> Result<Vec<u8>, AllocError> {
-    let text = x.decimal(alloc, places, Rounding::HalfAway)?;
-    Vec::from_slice(alloc, text.as_bytes())
+    Ok(x.decimal(alloc, places, Rounding::HalfAway)?.into_bytes())
 }

@@ -1,2 +1,3 @@
 pub mod DenominatorLemmas
 pub mod MixedLemmas
+pub mod WholeLemmas

@@ -1,7 +1,8 @@
 -- What a value is written as, in each form.
-use Rattle.std.specs.Prelude.{◌≡◌, ◌≢◌, ◌⊎◌, ◌<◌, ◌≤ℤ◌, ◌==◌, ◌||◌, ◌-◌, ◌%◌, ◌^◌, ◌++◌, ◌∷◌, [], ℕ, ℤ, pos, unsigned_abs, Bool, true, false, List, Option, None, Some, codes, length, take, reverse, take_while, if◌then◌else◌}
+use Rattle.std.specs.Prelude.{◌≡◌, ◌≢◌, ◌⊎◌, ◌<◌, ◌≤ℤ◌, ◌==◌, ◌||◌, ◌-◌, ◌%◌, ◌^◌, ◌++◌, ◌∷◌, [], ℕ, zero, suc, ℤ, pos, unsigned_abs, Bool, true, false, List, Option, None, Some, codes, length, replicate, take, reverse, take_while, if◌then◌else◌}
 use Rattle.std.specs.Ordering.{int_eq}
 use Rattle.ratio_core.specs.Rounding.{IsFractionalPart, IsTruncation}
+use Rattle.ratio_decimal.specs.Decimal.{point}
 use Rattle.ratio_decimal.specs.declared.rounding_rule.Rounding.TheVariants.{HalfAway}
 use Rattle.ratio_long.specs.Decimals.{IsLongDecimalOf}
 use Rattle.ratio_big.specs.Texts.{fraction_text}
@@ -63,6 +64,12 @@ IsInBothForm x text = ((x.1 ≡ pos 1) × (text ≡ fraction_text x)) ⊎ ((x.1 
 abbrev pub ChecksShortDenominator : ℤ → Option ℕ → Type 0
 ChecksShortDenominator d None = pos (2 ^ 64) ≤ℤ d
 ChecksShortDenominator d (Some n) = (0 < n) × (d ≡ pos n)
+
+-- Inner: the text of a whole number with so many places, which are zeros
+-- Example: `5` with two: `5.00`
+abbrev pub with_zeros : ℕ → List ℕ → List ℕ
+with_zeros zero text = text
+with_zeros (suc k) text = text ++ point ∷ replicate (suc k) 48
 
 -- the text is a fraction, its decimal with so many places and its mixed number, with tabs between
 -- Example: 17/12 with two places: `17/12`, `1.42` and `1 5/12`

@@ -36,8 +36,8 @@ fn with_decimal(alloc: Global, x: &BigFraction, exact: bool) -> Result<Vec<u8>, 
     Ok(text)
 }
 
-// The denominator, if it has at most 64 bits.
-fn short_denominator(alloc: Global, x: &BigFraction) -> Result<Option<u64>, AllocError>
+/// The denominator, if it has at most 64 bits.
+pub(crate) fn short_denominator(alloc: Global, x: &BigFraction) -> Result<Option<u64>, AllocError>
     ensures { IfOk result (ChecksShortDenominator (big_numbers x.now).1) }
 {
     let digits = x.denom_digits(alloc)?;

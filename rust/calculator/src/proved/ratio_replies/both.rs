@@ -32,9 +32,9 @@ fn with_decimal(alloc: Global, x: &BigFraction, exact: bool) -> Result<Vec<u8>, 
     Ok(text)
 }
 
-// The denominator, if it has at most 64 bits.
+/// The denominator, if it has at most 64 bits.
 #[inline]
-fn short_denominator(alloc: Global, x: &BigFraction) -> Result<Option<u64>, AllocError> {
+pub(crate) fn short_denominator(alloc: Global, x: &BigFraction) -> Result<Option<u64>, AllocError> {
     let digits = x.denom_digits(alloc)?;
     if digits.len() == 1 {
         Ok(Some(digits[0]))

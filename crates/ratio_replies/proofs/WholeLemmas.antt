@@ -1,6 +1,6 @@
 -- The fields of a whole number, from its text.
-use Rattle.std.proofs.Common.{◌≡◌, ◌∙◌, ◌<◌, ◌*◌, ◌/◌, ◌%◌, ◌^◌, ◌+◌, ◌-◌, ◌≤◌, ℕ, zero, suc, ℤ, pos, negsuc, ◌*ℤ◌, Bool, true, false, List, [], ◌∷◌, ◌++◌, length, take, replicate, append_assoc, length-append, refl, sym, ap, subst, arith, lit<}
-use Rattle.std.specs.Prelude.{neg_ℤ, unsigned_abs, ◌||◌, if◌then◌else◌}
+use Rattle.std.proofs.Common.{◌≡◌, ◌∙◌, ◌<◌, ◌*◌, ◌/◌, ◌%◌, ◌^◌, ◌+◌, ◌-◌, ◌≤◌, ℕ, zero, suc, ℤ, pos, negsuc, ◌*ℤ◌, Bool, true, false, List, [], ◌∷◌, ◌++◌, Result, Ok, Err, length, take, replicate, append_assoc, length-append, refl, sym, ap, subst, arith, lit<}
+use Rattle.std.specs.Prelude.{neg_ℤ, unsigned_abs, ◌||◌, if◌then◌else◌, IfOk}
 use Rattle.std.proofs.Math.IntN.{negsuc-*ℤ-pos}
 use Rattle.std.proofs.Math.Nat.{mul-div_cancel, mul-mod_left, mul_assoc, pow-suc}
 use Rattle.std.proofs.lemmas.Int.{ints}
@@ -109,7 +109,18 @@ over_one n k text is = record {
   written = is;
 }
 
-pub whole_fields : (x : ℤ × ℤ) (k : ℕ) (whole text : List ℕ) → x.1 ≡ pos 1 → whole ≡ fraction_text x → text ≡ whole ++ 9 ∷ [] ++ with_zeros k whole ++ 9 ∷ [] ++ whole → IsInFields x k text
+whole_fields : (x : ℤ × ℤ) (k : ℕ) (whole text : List ℕ) → x.1 ≡ pos 1 → whole ≡ fraction_text x → text ≡ whole ++ 9 ∷ [] ++ with_zeros k whole ++ 9 ∷ [] ++ whole → IsInFields x k text
 whole_fields x k whole text one same is =
     let shown : whole ≡ fraction_text (x.0, pos 1) = same ∙ ap (λ d. fraction_text (x.0, d)) one in
     subst (λ d. IsInFields (x.0, d) k text) (sym one) (over_one x.0 k text (is ∙ ap (λ w. w ++ 9 ∷ [] ++ with_zeros k w ++ 9 ∷ [] ++ w) shown))
+
+-- what puts the text, the decimal and the text together gives the fields
+pub whole_given : {V E : Type 0} (result : Result V E) (bytes : V → List ℕ) (x : ℤ × ℤ) (k : ℕ) (whole first second third : List ℕ) → x.1 ≡ pos 1 → whole ≡ fraction_text x → first ≡ whole → second ≡ with_zeros k whole → third ≡ whole
+    → IfOk result (λ v. bytes v ≡ first ++ 9 ∷ [] ++ second ++ 9 ∷ [] ++ third) → IfOk result (λ v. IsInFields x k (bytes v))
+whole_given (Ok v) bytes x k whole first second third one same a b c is =
+    whole_fields x k whole (bytes v) one same
+    (is
+    ∙ ap (λ w. w ++ 9 ∷ [] ++ second ++ 9 ∷ [] ++ third) a
+    ∙ ap (λ w. whole ++ 9 ∷ [] ++ w ++ 9 ∷ [] ++ third) b
+    ∙ ap (λ w. whole ++ 9 ∷ [] ++ with_zeros k whole ++ 9 ∷ [] ++ w) c)
+whole_given (Err e) bytes x k whole first second third one same a b c is = tt

@@ -1,4 +1,4 @@
-use Rattle.std.proofs.Common.{◌≡◌, arith, length, negsuc, pos, take}
+use Rattle.std.proofs.Common.{◌≡◌, arith, negsuc, pos, take}
 use Rattle.std.proofs.lemmas.List.{take_all}
 use Rattle.ratio_core.specs.Reading.{IsFractionText}
 use Rattle.ratio_expr.proofs.ShortFractions.{fraction_same}

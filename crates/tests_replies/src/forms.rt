@@ -46,6 +46,17 @@ fn long_mixed_numbers(rt: HostRuntime) -> Result<(), Fail> {
 }
 
 #[test]
+fn fields(rt: HostRuntime) -> Result<(), Fail> {
+    let (alloc, form) = (rt.alloc(), Form::Fields(2));
+    says_alone(&rt, alloc, form, "17/12", "17/12\t1.42\t1 5/12")?;
+    says_alone(&rt, alloc, form, "-17/12", "-17/12\t-1.42\t-1 5/12")?;
+    says_alone(&rt, alloc, form, "5", "5\t5.00\t5")?;
+    says_alone(&rt, alloc, form, "1/2 / 1/3", "3/2\t1.50\t1 1/2")?;
+    says_alone(&rt, alloc, form, "1 < 2", "true")?;
+    says_alone(&rt, alloc, Form::Fields(0), "-2/3", "-2/3\t-1\t-2/3")
+}
+
+#[test]
 fn both(rt: HostRuntime) -> Result<(), Fail> {
     let (alloc, form) = (rt.alloc(), Form::Both);
     says_alone(&rt, alloc, form, "7/12", "7/12 ≈ 0.583333")?;

@@ -78,15 +78,28 @@ same_token text t u e ht hu =
 first_same : (text : List ℕ) (from : ℕ) (t u : Token) → IsBlank text from t.span.start → IsTokenAt text t → IsBlank text from u.span.start → IsTokenAt text u → t ≡ u
 first_same text from t u bt ht bu hu = same_token text t u (same_start text from t u bt ht bu hu) ht hu
 
+-- a cut goes forward
+pub cut_ordered : (text : List ℕ) (from to : ℕ) (ts : List Token) → IsCutInto text from to ts → from ≤ to
+cut_ordered text from to [] h = h.ordered
+cut_ordered text from to (t ∷ ts) h = omega (arith, h.0.ordered, h.1.end, cut_ordered text t.span.end to ts h.2)
+
+module _ (text : List ℕ) (at : ℕ) (none : (t : Token) → IsTokenAt text t → t.span.start ≡ at → ⊥) where
+  none_behind : (from : ℕ) (t : Token) (ts : List Token) → IsBlank text from at → IsCutInto text from at (t ∷ ts) → ⊥
+  none_behind from t ts h g = none t g.1 (omega (arith, not_before text from at t h g.1 g.0.ordered, g.1.end, cut_ordered text t.span.end at ts g.2))
+
+  -- up to a place where no token begins, a text is cut into tokens in one way
+  pub one_cut_to : (from : ℕ) (ts us : List Token) → IsCutInto text from at ts → IsCutInto text from at us → ts ≡ us
+  one_cut_to from [] [] h g = refl
+  one_cut_to from [] (u ∷ us) h g = absurd (none_behind from u us h g)
+  one_cut_to from (t ∷ ts) [] h g = absurd (none_behind from t ts g h)
+  one_cut_to from (t ∷ ts) (u ∷ us) h g =
+      let e = first_same text from t u h.0 h.1 g.0 g.1 in
+      let rest = one_cut_to u.span.end ts us (subst (λ (v : Token). IsCutInto text v.span.end at ts) e h.2) g.2 in
+      cc
+
 -- a text is cut into tokens in one way
 pub one_cut : (text : List ℕ) (from : ℕ) (ts us : List Token) → IsCutInto text from (length text) ts → IsCutInto text from (length text) us → ts ≡ us
-one_cut text from [] [] h g = refl
-one_cut text from [] (u ∷ us) h g = absurd (omega (arith, inside text u g.1, not_before text from (length text) u h g.1 g.0.ordered))
-one_cut text from (t ∷ ts) [] h g = absurd (omega (arith, inside text t h.1, not_before text from (length text) t g h.1 h.0.ordered))
-one_cut text from (t ∷ ts) (u ∷ us) h g =
-    let e = first_same text from t u h.0 h.1 g.0 g.1 in
-    let rest = one_cut text u.span.end ts us (subst (λ (v : Token). IsCutInto text v.span.end (length text) ts) e h.2) g.2 in
-    cc
+one_cut text from ts us h g = one_cut_to text (length text) (λ t here e. omega (arith, inside text t here, e)) from ts us h g
 
 -- a token is where one begins
 pub no_token : (text : List ℕ) (at : ℕ) (t : Token) → IsTokenAt text t → first_token (drop at text) ≡ None → t.span.start ≡ at → ⊥
@@ -108,11 +121,6 @@ module _ (text : List ℕ) (at : ℕ) (s : BeginsNone text at) where
 -- a text in which a place begins no token isn't cut into tokens
 pub no_cut : (text : List ℕ) (at : ℕ) (ts : List Token) → IsCutInto text 0 at ts → BeginsNone text at → (us : List Token) → ¬ IsCutInto text 0 (length text) us
 no_cut text at ts cut s us g = no_cut_from text at s 0 ts us cut g
-
--- a cut goes forward
-pub cut_ordered : (text : List ℕ) (from to : ℕ) (ts : List Token) → IsCutInto text from to ts → from ≤ to
-cut_ordered text from to [] h = h.ordered
-cut_ordered text from to (t ∷ ts) h = omega (arith, h.0.ordered, h.1.end, cut_ordered text t.span.end to ts h.2)
 
 -- tokens that go on behind others, by a token at this place
 pub record GoesOn (text : List ℕ) (at : ℕ) (ts us : List Token) : Type 0 where

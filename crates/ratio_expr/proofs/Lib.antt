@@ -11,6 +11,7 @@ pub mod DepthLaws
 pub mod DivisorLaws
 pub mod Fitting
 pub mod Growing
+pub mod LineLaws
 pub mod LineLemmas
 pub mod NameLemmas
 pub mod ParserAnswers
@@ -20,6 +21,7 @@ pub mod PowerBounds
 pub mod Refusals
 pub mod Running
 pub mod ShortFractions
+pub mod ShownLaws
 pub mod Soundness
 pub mod StackLemmas
 pub mod TextLaws

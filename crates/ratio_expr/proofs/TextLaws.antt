@@ -11,13 +11,13 @@ use Rattle.ratio_expr.proofs.DepthLaws.{one_too_deep}
 use Rattle.ratio_expr.proofs.Refusals.{one_of_text, one_refusal, refusal_no_tree}
 use Rattle.ratio_expr.proofs.ValueLaws.{refused_once, same_refusal, worth_not_refused}
 
-unread_once : (text : List ℕ) (r q : Refusal) → IsUnread text r → IsUnread text q → r ≡ q
+pub unread_once : (text : List ℕ) (r q : Refusal) → IsUnread text r → IsUnread text q → r ≡ q
 unread_once text r q (inl h) (inl g) = same_refusal r q (h.0 ∙ sym g.0) (one_too_deep text r.place q.place h.1 g.1)
 unread_once text r q (inl h) (inr g) = absurd (g.1 r.place h.1)
 unread_once text r q (inr h) (inl g) = absurd (h.1 q.place g.1)
 unread_once text r q (inr h) (inr g) = same_refusal r q (h.0 ∙ sym g.0) (one_refusal text r.place q.place h.2 g.2)
 
-not_unread : (text : List ℕ) (t : Tree) (r : Refusal) → IsExpression text t → IsShallow text → IsUnread text r → ⊥
+pub not_unread : (text : List ℕ) (t : Tree) (r : Refusal) → IsExpression text t → IsShallow text → IsUnread text r → ⊥
 not_unread text t r has shallow (inl h) = shallow r.place h.1
 not_unread text t r has shallow (inr h) = refusal_no_tree text r.place t h.2 has
 

@@ -143,7 +143,7 @@ pub same_refusal : (r q : Refusal) → r.reason ≡ q.reason → r.place ≡ q.p
 same_refusal r q e f =
     ap (λ (a : Reason). let s : Refusal = record { reason = a; place = r.place } in s) e ∙ ap (λ (n : ℕ). let s : Refusal = record { reason = q.reason; place = n } in s) f
 
-head_same : (v w : Worth) → v ∷ [] ≡ w ∷ [] → v ≡ w
+pub head_same : (v w : Worth) → v ∷ [] ≡ w ∷ [] → v ≡ w
 head_same v w e = cc
 
 module _ (text : List ℕ) (named : List ℕ → Option Worth) where

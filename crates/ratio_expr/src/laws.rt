@@ -1,9 +1,10 @@
-//! The laws that a text has at most one tree or is refused at one place, and not both.
-ghost use Rattle.std.specs.Prelude.{◌≡◌, ℕ, List, length};
+//! The laws that a text has at most one tree or is refused at one place, and not both, and that its slashes are read in one way.
+ghost use Rattle.std.specs.Prelude.{◌≡◌, ℕ, List, Option, length};
 ghost use Rattle.ratio_expr.specs.declared.token.Token.{Token};
 ghost use Rattle.ratio_expr.specs.Grammar.{Tree, HasTree, postfix};
 ghost use Rattle.ratio_expr.specs.Expression.{IsExpression, IsRefusal};
 ghost use Rattle.ratio_expr.specs.Nesting.{IsTooDeep};
+ghost use Rattle.ratio_expr.specs.Slashes.{IsShownAs};
 ghost use Rattle.ratio_expr.specs.Tokens.{IsCutInto, BeginsNone};
 
 /// A list of tokens has at most one tree.
@@ -45,4 +46,9 @@ pub fn refused_has_no_tree()
 /// A text is too deep at one place at most.
 pub fn one_too_deep()
     ensures { (text : List ℕ) (at other : ℕ) → IsTooDeep text at → IsTooDeep text other → at ≡ other }
+{}
+
+/// A text shows in one way how its slashes are read, also if it is no expression.
+pub fn one_reading()
+    ensures { (text : List ℕ) (shown other : Option (List ℕ)) → IsShownAs text shown → IsShownAs text other → shown ≡ other }
 {}

@@ -12,7 +12,7 @@
 //! | `parser::mark` | `Mark`: an operator or a parenthesis that waits for what is right of it. |
 //! | `depth` | The first parenthesis that is too deep. |
 //! | `expression` | The tree of a text, or the first place that no expression has there, and the column of a place. |
-//! | `laws` | The laws that a text has at most one tree or is refused at one place, and not both. |
+//! | `laws` | The laws that a text has at most one tree or is refused at one place, and not both, and that its slashes are read in one way. |
 //! | `expression::error` | Why a text has no tree. |
 //! | `refusal` | Why a text has no value, and where. |
 //! | `value` | `Value`: what an expression is worth. |

@@ -27,3 +27,10 @@ IsReply line form named behind (replies.Answer text) =
     (is_blank line ≡ false) × (w : Worth) × IsLineWorth line named w behind × IsAnswerInForm line w form text.items
 IsReply line form named behind (replies.Refused text) =
     (is_blank line ≡ false) × (r : Refusal) × HasLineRefusal line named r × (text.items ≡ refusal_lines line r) × AreKept named behind
+
+-- two replies are alike: both are nothing, or both are answers or both refusals, with the same bytes
+abbrev pub AreAlike : Reply → Reply → Type 0
+AreAlike replies.Nothing replies.Nothing = Unit {0}
+AreAlike (replies.Answer text) (replies.Answer other) = text.items ≡ other.items
+AreAlike (replies.Refused text) (replies.Refused other) = text.items ≡ other.items
+AreAlike r q = ⊥

@@ -10,11 +10,13 @@
 //! | `reading` | A value behind its line as that was read: `(1/2) / (1/3) = 3/2`. |
 //! | `refused` | The text of a refusal: the line, a caret and the reason. |
 //! | `reply` | `Reply`: what a line is answered. |
+//! | `laws` | The law that a line has one reply. |
 #![tactic(auto)]
 
 mod both;
 mod fields;
 mod form;
+pub mod laws;
 mod mixed;
 mod reading;
 mod refused;

@@ -4,6 +4,8 @@
 #[cfg(test)]
 mod forms;
 #[cfg(test)]
+mod laws;
+#[cfg(test)]
 mod refusals;
 #[cfg(test)]
 mod sessions;

@@ -3,6 +3,7 @@
 mod both;
 mod fields;
 mod form;
+pub mod laws;
 mod mixed;
 mod reading;
 mod refused;

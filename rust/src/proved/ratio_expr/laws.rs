@@ -1,5 +1,5 @@
 // Erased from crates/ratio_expr/src/laws.rt by rust/erase: not to be edited.
-//! The laws that a text has at most one tree or is refused at one place, and not both.
+//! The laws that a text has at most one tree or is refused at one place, and not both, and that its slashes are read in one way.
 
 /// A list of tokens has at most one tree.
 #[inline]
@@ -32,3 +32,7 @@ pub fn refused_has_no_tree() {}
 /// A text is too deep at one place at most.
 #[inline]
 pub fn one_too_deep() {}
+
+/// A text shows in one way how its slashes are read, also if it is no expression.
+#[inline]
+pub fn one_reading() {}

@@ -1,0 +1,16 @@
+//! The law that a line has one reply.
+ghost use Rattle.std.specs.Prelude.{◌≡◌, ℕ, List, Option};
+ghost use Rattle.ratio_expr.specs.Bound.{named};
+ghost use Rattle.ratio_expr.specs.Worths.{Worth};
+ghost use Rattle.ratio_expr.specs.declared.names.Names.{Names};
+ghost use Rattle.ratio_replies.specs.Replies.{AreAlike, IsReply};
+ghost use Rattle.ratio_replies.specs.declared.form.Form.{Form};
+ghost use Rattle.ratio_replies.specs.declared.reply.Reply.{Reply};
+
+/// A line has one reply in each form, to the byte, and behind it each name is worth one value.
+pub fn one_reply()
+    ensures reply { (line : List ℕ) (form : Form) (names : Names) (behind after : List ℕ → Option Worth) (r q : Reply)
+        → IsReply line form (named names) behind r → IsReply line form (named names) after q → AreAlike r q }
+    ensures names { (line : List ℕ) (form : Form) (names : Names) (behind after : List ℕ → Option Worth) (r q : Reply)
+        → IsReply line form (named names) behind r → IsReply line form (named names) after q → (other : List ℕ) → behind other ≡ after other }
+{}

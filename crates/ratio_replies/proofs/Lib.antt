@@ -1,4 +1,4 @@
 pub mod DenominatorLemmas
 pub mod MixedLemmas
-pub mod WholeLemmas
 pub mod ReplyLaws
+pub mod WholeLemmas

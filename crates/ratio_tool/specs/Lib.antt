@@ -1,1 +1,4 @@
+pub mod Lines
+pub mod Options
+pub mod Requests
 pub mod Status

@@ -1,4 +1,7 @@
 //! The reply to one expression, and to the lines of the input.
+ghost use Rattle.std.specs.Prelude.{◌≡◌, ◌++◌, ◌∷◌, [], IfOk};
+ghost use Rattle.ratio_tool.specs.Lines.{without_last};
+
 use crate::console::{Input, is_terminal, write, write_error};
 use crate::fault::Fault;
 use ratio_expr::names::Names;
@@ -73,13 +76,18 @@ fn answered(
 }
 
 // The line without its line end: a line feed, or a carriage return and a line feed.
-fn without_end(line: &[u8]) -> &[u8] {
+fn without_end(line: &[u8]) -> &[u8]
+    ensures { result.now ≡ without_last 13 (without_last 10 line.now) }
+{
     let line = line.strip_suffix(b"\n").unwrap_or(line);
     line.strip_suffix(b"\r").unwrap_or(line)
 }
 
 // The text and a line end.
-fn with_end(mut text: Vec<u8>) -> Result<Vec<u8>, AllocError> {
+fn with_end(text: Vec<u8>) -> Result<Vec<u8>, AllocError>
+    ensures { IfOk result (λ line. line.items ≡ text.items ++ 10 ∷ []) }
+{
+    let mut text = text;
     text.push(b'\n')?;
     Ok(text)
 }

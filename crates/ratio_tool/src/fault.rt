@@ -1,4 +1,7 @@
 //! Why the program stops before its end, and its message.
+ghost use Rattle.std.specs.Prelude.{◌≡◌};
+ghost use Rattle.ratio_tool.specs.declared.fault.Fault.TheVariants.{Memory};
+
 use crate::console::write_error;
 use std::alloc::AllocError;
 
@@ -20,6 +23,8 @@ pub enum Fault {
 }
 
 impl From<AllocError> for Fault {
+    ghost from_gives = { λ _ e. e ≡ Memory };
+
     fn from(_e: AllocError) -> Fault {
         Fault::Memory
     }

@@ -1,6 +1,12 @@
 //! What the arguments ask for, or why they are refused.
+ghost use Rattle.std.specs.Prelude.{◌≡◌, ◌⊎◌, ◌++◌, ◌∷◌, [], ℕ, true, false, List, map, string_bytes, MatchResult, OnOk};
+ghost use Rattle.ratio_tool.specs.Options.{is_option};
+ghost use Rattle.ratio_tool.specs.Requests.{EndsInDecimal, IsAskedBy, IsSoFar, RefusesArguments, RefusesNext};
+ghost use Rattle.ratio_tool.specs.declared.fault.Fault.TheVariants.{NoPlaces};
+ghost use Rattle.ratio_tool.specs.declared.request.Next.TheVariants as nexts;
+
 use crate::fault::Fault;
-use crate::option::{Asked, is_option, option_named, places};
+use crate::option::{Asked, Page, is_option, option_named, places};
 use ratio_replies::Form;
 use std::alloc::{AllocError, Global};
 
@@ -29,13 +35,15 @@ enum Next {
 #[derive(Drop)]
 struct SoFar {
     next: Next,
-    page: Option<Asked>,
+    page: Option<Page>,
     form: Option<Form>,
     text: Option<Vec<u8>>,
 }
 
 /// What the arguments ask for. Options may stand anywhere before a `--`.
-pub fn requested(alloc: Global, words: &[String]) -> Result<Request, Fault> {
+pub fn requested(alloc: Global, words: &[String]) -> Result<Request, Fault>
+    ensures { MatchResult result (IsAskedBy (map string_bytes words.now)) (RefusesArguments (map string_bytes words.now)) }
+{
     let mut so_far = SoFar {
         next: Next::Any,
         page: None,
@@ -50,7 +58,9 @@ pub fn requested(alloc: Global, words: &[String]) -> Result<Request, Fault> {
 
 impl SoFar {
     // Takes one more argument.
-    fn take(&mut self, alloc: Global, word: &str) -> Result<(), Fault> {
+    fn take(&mut self, alloc: Global, word: &str) -> Result<(), Fault>
+        ensures { (ws : List (List ℕ)) → IsSoFar ws self.old → MatchResult result (λ _. IsSoFar (ws ++ word.now ∷ []) self.new) (RefusesNext ws word.now) }
+    {
         match self.next {
             Next::Places => self.take_places(word),
             Next::Any if is_option(word.as_bytes()) => self.take_option(alloc, word),
@@ -62,7 +72,10 @@ impl SoFar {
     }
 
     // Takes the number behind `--decimal`.
-    fn take_places(&mut self, word: &str) -> Result<(), Fault> {
+    fn take_places(&mut self, word: &str) -> Result<(), Fault>
+        requires { self.old.next ≡ nexts.Places }
+        ensures { (ws : List (List ℕ)) → IsSoFar ws self.old → MatchResult result (λ _. IsSoFar (ws ++ word.now ∷ []) self.new) (RefusesNext ws word.now) }
+    {
         match places(word) {
             Some(n) => {
                 self.form = Some(Form::Decimal(n));
@@ -74,7 +87,11 @@ impl SoFar {
     }
 
     // Takes an option.
-    fn take_option(&mut self, alloc: Global, word: &str) -> Result<(), Fault> {
+    fn take_option(&mut self, alloc: Global, word: &str) -> Result<(), Fault>
+        requires any { self.old.next ≡ nexts.Any }
+        requires option { is_option word.now ≡ true }
+        ensures { (ws : List (List ℕ)) → IsSoFar ws self.old → MatchResult result (λ _. IsSoFar (ws ++ word.now ∷ []) self.new) (RefusesNext ws word.now) }
+    {
         match option_named(word.as_bytes()) {
             None => Err(Fault::UnknownOption(String::from_str(alloc, word)?)),
             Some(Asked::Form(form)) => {
@@ -89,7 +106,7 @@ impl SoFar {
                 self.next = Next::Text;
                 Ok(())
             }
-            Some(page) => {
+            Some(Asked::Page(page)) => {
                 self.page = Some(page);
                 Ok(())
             }
@@ -97,7 +114,10 @@ impl SoFar {
     }
 
     // Takes a part of the expression.
-    fn take_text(&mut self, alloc: Global, word: &str) -> Result<(), AllocError> {
+    fn take_text(&mut self, alloc: Global, word: &str) -> Result<(), AllocError>
+        requires { ((self.old.next ≡ nexts.Any) × (is_option word.now ≡ false)) ⊎ (self.old.next ≡ nexts.Text) }
+        ensures { (ws : List (List ℕ)) → IsSoFar ws self.old → OnOk result (IsSoFar (ws ++ word.now ∷ []) self.new) }
+    {
         match &mut self.text {
             Some(text) => {
                 text.push(b' ')?;
@@ -112,7 +132,9 @@ impl SoFar {
     }
 
     // What all the arguments ask for.
-    fn request(self) -> Result<Request, Fault> {
+    fn request(self) -> Result<Request, Fault>
+        ensures { (ws : List (List ℕ)) → IsSoFar ws self → MatchResult result (IsAskedBy ws) (λ fault. (fault ≡ NoPlaces) × EndsInDecimal ws) }
+    {
         let SoFar {
             next,
             page,
@@ -120,8 +142,8 @@ impl SoFar {
             text,
         } = self;
         match page {
-            Some(Asked::Version) => return Ok(Request::Version),
-            Some(_) => return Ok(Request::Help),
+            Some(Page::Help) => return Ok(Request::Help),
+            Some(Page::Version) => return Ok(Request::Version),
             None => (),
         }
         match next {

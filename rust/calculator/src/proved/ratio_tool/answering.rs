@@ -1,5 +1,6 @@
 // Erased from crates/ratio_tool/src/answering.rt by rust/erase: not to be edited.
 //! The reply to one expression, and to the lines of the input.
+
 use bakhsney::memory::{AllocError, Global, Vec};
 use crate::host::{Input, is_terminal, write, write_error};
 use crate::proved::ratio_tool::fault::Fault;
@@ -86,7 +87,8 @@ fn without_end(line: &[u8]) -> &[u8] {
 
 // The text and a line end.
 #[inline]
-fn with_end(mut text: Vec<u8>) -> Result<Vec<u8>, AllocError> {
+fn with_end(text: Vec<u8>) -> Result<Vec<u8>, AllocError> {
+    let mut text = text;
     text.push(b'\n')?;
     Ok(text)
 }

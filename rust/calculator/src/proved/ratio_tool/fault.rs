@@ -1,5 +1,6 @@
 // Erased from crates/ratio_tool/src/fault.rt by rust/erase: not to be edited.
 //! Why the program stops before its end, and its message.
+
 use bakhsney::memory::{AllocError, String};
 use crate::host::write_error;
 

@@ -3,13 +3,20 @@
 
 use crate::proved::ratio_replies::Form;
 
+/// A page that the program prints in place of a value.
+#[derive(Clone, Copy, PartialEq, Debug)]
+pub enum Page {
+    /// The text of `--help`.
+    Help,
+    /// The text of `--version`.
+    Version,
+}
+
 /// What an option asks for.
 #[derive(Clone, Copy, PartialEq, Debug)]
 pub enum Asked {
-    /// `--help`
-    Help,
-    /// `--version`
-    Version,
+    /// A page: `--help`.
+    Page(Page),
     /// A form: `--mixed`.
     Form(Form),
     /// `--decimal`: the number of places comes next.
@@ -32,19 +39,31 @@ pub fn is_option(word: &[u8]) -> bool {
 /// What the option of this name asks for, or `None` if there is none.
 #[inline]
 pub fn option_named(word: &[u8]) -> Option<Asked> {
-    match word {
-        b"--help" => Some(Asked::Help),
-        b"--version" => Some(Asked::Version),
-        b"--fraction" => Some(Asked::Form(Form::Fraction)),
-        b"--mixed" => Some(Asked::Form(Form::Mixed)),
-        b"--both" => Some(Asked::Form(Form::Both)),
-        b"--decimal" => Some(Asked::Places),
-        b"--" => Some(Asked::End),
-        _ => None,
+    if word == b"--help".as_slice() {
+        return Some(Asked::Page(Page::Help));
     }
+    if word == b"--version".as_slice() {
+        return Some(Asked::Page(Page::Version));
+    }
+    if word == b"--fraction".as_slice() {
+        return Some(Asked::Form(Form::Fraction));
+    }
+    if word == b"--mixed".as_slice() {
+        return Some(Asked::Form(Form::Mixed));
+    }
+    if word == b"--both".as_slice() {
+        return Some(Asked::Form(Form::Both));
+    }
+    if word == b"--decimal".as_slice() {
+        return Some(Asked::Places);
+    }
+    if word == b"--".as_slice() {
+        return Some(Asked::End);
+    }
+    None
 }
 
-/// The number of places that an argument says, up to 1,000,000.
+/// The number of places that an argument says, up to 1,000,000, or `None`.
 #[inline]
 pub fn places(word: &str) -> Option<u32> {
     match word.parse::<u32>() {

@@ -1,8 +1,9 @@
 // Erased from crates/ratio_tool/src/request.rt by rust/erase: not to be edited.
 //! What the arguments ask for, or why they are refused.
+
 use bakhsney::memory::{AllocError, Global, String, Vec};
 use crate::proved::ratio_tool::fault::Fault;
-use crate::proved::ratio_tool::option::{Asked, is_option, option_named, places};
+use crate::proved::ratio_tool::option::{Asked, Page, is_option, option_named, places};
 use crate::proved::ratio_replies::Form;
 
 /// What the arguments ask for.
@@ -28,7 +29,7 @@ enum Next {
 // What the arguments so far ask for.
 struct SoFar {
     next: Next,
-    page: Option<Asked>,
+    page: Option<Page>,
     form: Option<Form>,
     text: Option<Vec<u8>>,
 }
@@ -92,7 +93,7 @@ impl SoFar {
                 self.next = Next::Text;
                 Ok(())
             }
-            Some(page) => {
+            Some(Asked::Page(page)) => {
                 self.page = Some(page);
                 Ok(())
             }
@@ -125,8 +126,8 @@ impl SoFar {
             text,
         } = self;
         match page {
-            Some(Asked::Version) => return Ok(Request::Version),
-            Some(_) => return Ok(Request::Help),
+            Some(Page::Help) => return Ok(Request::Help),
+            Some(Page::Version) => return Ok(Request::Version),
             None => (),
         }
         match next {

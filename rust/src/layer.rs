@@ -37,6 +37,8 @@ mod big_fraction_texts;
 mod big_fraction_totals;
 #[cfg(feature = "alloc")]
 mod big_fraction_traits;
+#[cfg(all(feature = "alloc", feature = "serde"))]
+pub mod big_fraction_two_numbers;
 mod bounds;
 mod casts;
 mod constants;

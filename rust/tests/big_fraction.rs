@@ -636,6 +636,50 @@ fn serialized() {
     }
 }
 
+/// A number from -2^53 to 2^53, which is 9007199254740992, is a number in JSON, and each other one is a text.
+#[cfg(feature = "serde")]
+#[test]
+fn two_numbers() {
+    use bakhsney::two_numbers::{deserialize, serialize};
+    let text = |x: &BigFraction| serialize(x, serde_json::value::Serializer).unwrap().to_string();
+    let read = |text: &str| {
+        let x = deserialize(&mut serde_json::Deserializer::from_str(text));
+        assert_eq!(deserialize(once::Once(serde_json::from_str(text).unwrap())).ok(), x.as_ref().ok().cloned());
+        x.map_err(|refusal| refusal.to_string().split(" at line").next().unwrap().to_string())
+    };
+    let [at_most, past] = [1i128 << 53, (1 << 53) + 1].map(BigFraction::from);
+    rows! { "texts";
+        deserialize(serialize(&past.recip(), serde_json::value::Serializer).unwrap()).ok() => Some(past.recip());
+        [text(&BigFraction::new(-1, 3)), text(&BigFraction::from(0)), text(&BigFraction::from(7))] => ["[-1,3]", "[0,1]", "[7,1]"];
+        [text(&at_most), text(&-&at_most)] => ["[9007199254740992,1]", "[-9007199254740992,1]"];
+        [text(&past), text(&-&past)] => [r#"["9007199254740993",1]"#, r#"["-9007199254740993",1]"#];
+        [text(&at_most.recip()), text(&-past.recip())] => ["[1,9007199254740992]", r#"[-1,"9007199254740993"]"#];
+        text(&BigFraction::new(-(1i128 << 64), 3)) => r#"["-18446744073709551616",3]"#;
+        [read("[-6,4]"), read(r#"["-6","4"]"#), read(r#"["+006",-4]"#)] => [(); 3].map(|_| Ok(BigFraction::new(-3, 2)));
+        [read("[18446744073709551615,-1]"), read(r#"["-9223372036854775808",-1]"#)] => [Ok(BigFraction::from(-i128::from(u64::MAX))), Ok(BigFraction::from(1u64 << 63))];
+        read(r#"[1,"18446744073709551616"]"#) => Ok(BigFraction::new(1, 1u128 << 64));
+        read("[1.0,2]") => Err("invalid type: floating point `1`, expected a whole number, or a text of one".to_string());
+        read(r#"[1,"1/2"]"#) => Err("invalid value: string \"1/2\", expected a whole number, or a text of one".to_string());
+        read(r#"[1,"0"]"#) => Err("invalid value: integer `0`, expected a ratio with non-zero denominator".to_string());
+        read("[1]") => Err("invalid length 1, expected a list of two whole numbers".to_string());
+        read("[1,2,3]") => Err("invalid length 3, expected a list of two whole numbers".to_string());
+        read("7") => Err("invalid type: integer `7`, expected a list of two whole numbers".to_string());
+    };
+    for refused in ["[1,0]", "[0,0]", "[0,\"-00\"]", "[]", "[1,null]", "[[1],2]", "[true,2]", "{}", "\"1/2\"", "[1e2,1]"] {
+        assert!(read(refused).is_err(), "{refused}");
+    }
+    for refused in ["", "+", "-", "--1", "1.0", "1e2", " 1", "1_000", "0x1", "1/1", "/"] {
+        assert!(read(&format!("[{refused:?},1]")).is_err(), "{refused}");
+    }
+    let mut numbers = Numbers(9);
+    for _ in 0..pairs() / 10 {
+        let (x, y) = fraction(&mut numbers);
+        let item = |n: &BigInt| if n.bits() > 53 && n.magnitude() != &(1u64 << 53).into() { format!("\"{n}\"") } else { n.to_string() };
+        assert_eq!(text(&x), format!("[{},{}]", item(y.numer()), item(y.denom())));
+        assert_eq!(read(&text(&x)), Ok(x));
+    }
+}
+
 /// The example of the crate's README with fewer sales, beside num-rational.
 #[test]
 fn sales() {

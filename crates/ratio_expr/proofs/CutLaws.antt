@@ -6,6 +6,7 @@ use Rattle.std.proofs.lemmas.List.{get_or-drop, drop_all}
 use Rattle.ratio_expr.specs.declared.token.Kind.{Kind}
 use Rattle.ratio_expr.specs.declared.token.Token.{Token}
 use Rattle.ratio_expr.specs.Tokens.{first_token, number, name, symbol, digits, led, longest, IsBlank, IsTokenAt, IsCutInto, BeginsNone}
+use Rattle.ratio_expr.specs.Vulgar.{vulgar, vulgar_length}
 
 no_symbol : (a b c : Bool) → longest (if a then None else None) (if b then None else None) (if c then None else None) ≡ None
 no_symbol true true true = refl
@@ -19,16 +20,16 @@ no_symbol false false false = refl
 
 -- no token begins with a space
 space_first : (rest : List ℕ) → first_token (32 ∷ rest) ≡ None
-unfolding number name symbol digits led
+unfolding number name symbol digits led vulgar vulgar_length
 space_first rest = no_symbol (nat_le 3 (length (32 ∷ rest))) (nat_le 2 (length (32 ∷ rest))) (nat_le 1 (length (32 ∷ rest)))
 
 at_space : (text : List ℕ) → slice_index text 0 ≡ 32 → first_token text ≡ None
-unfolding number name symbol digits led
+unfolding number name symbol digits led vulgar vulgar_length
 at_space [] e = absurd (omega arith)
 at_space (b ∷ rest) e = ap (λ x. first_token (x ∷ rest)) e ∙ space_first rest
 
 nothing_first : first_token [] ≡ None
-unfolding number name symbol digits led
+unfolding number name symbol digits led vulgar vulgar_length
 nothing_first = refl
 
 module _ (text : List ℕ) (t : Token) (h : IsTokenAt text t) where

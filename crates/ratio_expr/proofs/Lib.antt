@@ -16,10 +16,12 @@ pub mod LineLemmas
 pub mod NameLemmas
 pub mod ParserAnswers
 pub mod ParserLaws
+pub mod Percentages
 pub mod Places
 pub mod PowerBounds
 pub mod Refusals
 pub mod Running
+pub mod ShareTerms
 pub mod ShortFractions
 pub mod ShownLaws
 pub mod Soundness

@@ -1,61 +1,16 @@
--- A text of one or two whole numbers is one that a person types, without an exponent.
-use Rattle.std.proofs.Common.{◌≡◌, ◌∙◌, ◌<◌, ◌≤◌, ◌*◌, ◌≤ℤ◌, FitsSigned, of_z, to_z, w64, ℕ, ℤ, pos, negsuc, Bool, true, false, true≢false, List, [], ◌∷◌, ◌++◌, ◌&&◌, length, drop, refl, sym, ap, subst, inl, inr, arith, append-nil}
-use Rattle.std.specs.Prelude.{if◌then◌else◌}
-use Rattle.std.specs.Char.{digit_value, is_ascii_digit}
-use Rattle.std.specs.List.{count_by, list_all, take_while}
-use Rattle.std.specs.Str.Parse.{AllDigits, IsNumeral}
-use Rattle.std.proofs.lemmas.Bool.Decides.{nat_tests}
+-- A text of one or two whole numbers is one that a person types.
+use Rattle.std.proofs.Common.{◌≡◌, ◌∙◌, ◌*◌, ◌≤ℤ◌, FitsSigned, of_z, to_z, w64, ℕ, ℤ, pos, negsuc, Bool, true, false, List, [], ◌∷◌, ◌++◌, Ok, refl, sym, ap, subst, inl, inr, arith, append-nil}
+use Rattle.std.specs.Str.Parse.{IsNumeral}
 use Rattle.std.proofs.lemmas.Int.{ints, to_z-of_z}
-use Rattle.std.proofs.lemmas.List.Folds.{list_all-append}
-use Rattle.std.proofs.lemmas.List.Sums.{take_while-cons}
 use Rattle.ratio_integer.specs.Range.{IsHeld}
-use Rattle.ratio_core.specs.Reading.{IsFractionText, IsNumberText, IsSlashedText, digits_sum, minus, plus, slash}
+use Rattle.ratio_core.specs.Reading.{IsFractionText, IsNumberText, IsSlashedText, digits_sum, minus, plus}
 use Rattle.ratio_core.specs.Signs.{with_sign}
 use Rattle.ratio_decimal.specs.DecimalReading.{IsDecimalText}
 use Rattle.ratio_decimal.specs.TypedText.{IsPlainText, IsTypedText, IsWholeText}
+use Rattle.ratio_big.specs.Decimals.{AnswersBigTyped}
+use Rattle.ratio_big.specs.Fractions.{big_numbers}
 use Rattle.ratio_big.specs.Values.{HasTerms}
-use Rattle.ratio_expr.specs.Numbers.{SaysNumber, exponent_digits, is_no_e}
-
--- ---- the text has no e
-
-digit_no_e : (c : ℕ) → digit_value c < 10 → is_no_e c ≡ true
-digit_no_e c h = grind (arith, nat_tests)
-
-digits_no_e : (ds : List ℕ) → AllDigits 10 ds → list_all is_no_e ds ≡ true
-digits_no_e [] h = refl
-digits_no_e (c ∷ ds) h = ap (λ t. t && list_all is_no_e ds) (digit_no_e c h.0) ∙ digits_no_e ds h.1
-
-number_no_e : (lo z : ℤ) (text : List ℕ) → IsNumberText lo 10 text z → list_all is_no_e text ≡ true
-number_no_e lo z text (inl h) = digits_no_e text h.0.1
-number_no_e lo z text (inr (inl h)) = rw h.1 (digits_no_e h.0 h.2.1)
-number_no_e lo z text (inr (inr h)) = rw h.2 (digits_no_e h.0 h.3.1)
-
-slashed_no_e : (text front back : List ℕ) → text ≡ front ++ slash ∷ back → list_all is_no_e front ≡ true → list_all is_no_e back ≡ true → list_all is_no_e text ≡ true
-slashed_no_e text front back cut p q = rw cut (list_all-append is_no_e front (slash ∷ back) ∙ ap (λ t. t && list_all is_no_e back) p ∙ q)
-
-fraction_no_e : (lo hi n d : ℤ) (text : List ℕ) → IsFractionText lo hi text n d → list_all is_no_e text ≡ true
-fraction_no_e lo hi n d text (inl h) =
-    slashed_no_e text h.front h.back h.cut (number_no_e lo n h.front h.sides.numer.number) (number_no_e lo d h.back h.sides.denom.number)
-fraction_no_e lo hi n d text (inr h) = number_no_e lo n text h.0.number
-
-both : (x y : Bool) → (x && y) ≡ true → (x ≡ true) × (y ≡ true)
-both true y h = (refl, h)
-both false y h = absurd (true≢false (sym h))
-
-all_taken : (text : List ℕ) → list_all is_no_e text ≡ true → take_while is_no_e text ≡ text
-all_taken [] h = refl
-all_taken (c ∷ cs) h =
-    let q = both (is_no_e c) (list_all is_no_e cs) h in
-    take_while-cons is_no_e c cs ∙ ap (λ b. if b then c ∷ take_while is_no_e cs else []) q.0 ∙ ap (λ ds. c ∷ ds) (all_taken cs q.1)
-
-none_behind : (text : List ℕ) → drop (length text) text ≡ []
-none_behind [] = refl
-none_behind (c ∷ cs) = none_behind cs
-
-fraction_small : (lo hi n d : ℤ) (text : List ℕ) → IsFractionText lo hi text n d → exponent_digits text ≤ 5
-fraction_small lo hi n d text h =
-    let none : exponent_digits text ≡ 0 = ap (λ front. count_by is_ascii_digit (drop (length front) text)) (all_taken text (fraction_no_e lo hi n d text h)) ∙ ap (count_by is_ascii_digit) (none_behind text) in
-    omega (arith, none)
+use Rattle.ratio_big.specs.declared.fraction.BigFraction.{BigFraction}
 
 -- ---- its numbers are values of an `i64`
 
@@ -126,7 +81,5 @@ fraction_typed lo hi text n d (inr h) =
     ([], plain_typed text n d [] (inl (whole_decimal text n d a.0 a.1 a.2 a.3 h.1, refl)))
 
 -- it says its lowest terms
-pub says_fraction : (lo hi n d : ℤ) (text : List ℕ) (x : ℤ × ℤ) → IsFractionText lo hi text n d → HasTerms (n, d) x → SaysNumber text x
-says_fraction lo hi n d text x reads terms =
-    let typed = fraction_typed lo hi text n d reads in
-    record { n = n; d = d; numbers = typed.0; small = fraction_small lo hi n d text reads; reads = typed.1; terms = terms }
+pub reads_fraction : (lo hi n d : ℤ) (text : List ℕ) (r : BigFraction) → IsFractionText lo hi text n d → HasTerms (n, d) (big_numbers r) → AnswersBigTyped text (Ok r)
+reads_fraction lo hi n d text r reads terms = record { n = n; d = d; reads = fraction_typed lo hi text n d reads; terms = terms }

@@ -1,10 +1,11 @@
 -- A tree is worth one value, or it has one refusal, and never both.
-use Rattle.std.proofs.Common.{◌≡◌, ◌∙◌, ◌*◌, ◌^◌, ℕ, ℤ, suc, pos, negsuc, List, [], ◌∷◌, ◌++◌, Option, Some, None, refl, sym, subst, ap, arith, inl, inr, ⊎_elim}
+use Rattle.std.proofs.Common.{◌≡◌, ◌∙◌, ◌*◌, ◌^◌, ℕ, ℤ, suc, pos, negsuc, true, List, [], ◌∷◌, ◌++◌, Option, Some, None, refl, sym, subst, ap, arith, inl, inr, ⊎_elim}
 use Rattle.std.specs.Prelude.{◌*ℤ◌}
 use Rattle.std.specs.Int.{int_pow}
 use Rattle.std.proofs.Math.Nat.{pow-succ'}
 use Rattle.std.proofs.lemmas.Int.{ints}
 use Rattle.ratio_laws.proofs.TypedLawLemmas.{typed_one}
+use Rattle.ratio_decimal.specs.TypedText.{share}
 use Rattle.ratio_big.specs.Values.{HasTerms}
 use Rattle.ratio_big.specs.Powers.{HasNoPower}
 use Rattle.ratio_core.specs.Power.{power_of}
@@ -14,43 +15,58 @@ use Rattle.ratio_expr.specs.declared.refusal.Refusal.{Refusal}
 use Rattle.ratio_expr.specs.declared.refusal.Reason.{Reason}
 use Rattle.ratio_expr.specs.declared.refusal.Reason.TheVariants as reasons
 use Rattle.ratio_expr.specs.Grammar.{Tree, Number, Name, Negative, Between, Group, Call, Listed}
-use Rattle.ratio_expr.specs.Numbers.{SaysNumber, SaysNoNumber}
+use Rattle.ratio_expr.specs.Numbers.{IsSaid, SaysNumber, SaysNoNumber, SaysPlainNumber, SaysNoPlainNumber, mixed_front}
 use Rattle.ratio_expr.specs.Operators.{GivesWorth, GivesNumbers, IsNegativeWorth, IsTermsOf, IsTrueOrFalse, RefusesWorths, RefusesNumbers}
 use Rattle.ratio_expr.specs.Calls.{GivesCall, RefusesCall}
 use Rattle.ratio_expr.specs.Values.{AreWorth, HasRefusal, IsWorth, piece}
+use Rattle.ratio_expr.specs.Vulgar.{with_slash}
 use Rattle.ratio_expr.specs.Worths.{Worth, Amount, Truth}
 use Rattle.ratio_expr.proofs.CallLaws.{call_not_refused, call_one, call_refused_once, same_terms}
 use Rattle.ratio_expr.proofs.DivisorLaws.{same_pair}
 
 -- ---- numbers
 
-says_one : (text : List ℕ) (x y : ℤ × ℤ) → SaysNumber text x → SaysNumber text y → x ≡ y
-says_one text x y h g =
-    let one = typed_one text h.n h.d g.n g.d h.numbers g.numbers h.reads g.reads in
-    let moved : HasTerms (h.n, h.d) y = subst (λ (z : ℤ × ℤ). HasTerms z y) (sym (same_pair (h.n, h.d) (g.n, g.d) (one.0, one.1))) g.terms in
+said_one : (mixed : Option (List ℕ)) (text : List ℕ) (n d m e : ℤ) (numbers others : List ℕ) → IsSaid mixed text n d numbers → IsSaid mixed text m e others → (n ≡ m) × (d ≡ e)
+said_one None text n d m e numbers others h g = let one = typed_one text n d m e numbers others h g in (one.0, one.1)
+said_one (Some mixed) text n d m e numbers others h g =
+    let one = typed_one mixed n h.0 m g.0 numbers others h.1 g.1 in (one.0, h.2 ∙ ap (λ (z : ℤ). pos (share true) *ℤ z) one.1 ∙ sym g.2)
+
+plain_one : (text : List ℕ) (x y : ℤ × ℤ) → SaysPlainNumber text x → SaysPlainNumber text y → x ≡ y
+plain_one text x y h g =
+    let one = said_one (mixed_front text) text h.n h.d g.n g.d h.numbers g.numbers h.reads g.reads in
+    let moved : HasTerms (h.n, h.d) y = subst (λ (z : ℤ × ℤ). HasTerms z y) (sym (same_pair (h.n, h.d) (g.n, g.d) one)) g.terms in
     same_terms (h.n, h.d) x y h.terms moved
 
+plain_not_refused : (text : List ℕ) (x : ℤ × ℤ) (r : Reason) → SaysPlainNumber text x → SaysNoPlainNumber text r → ⊥
+plain_not_refused text x reasons.NumberTooLarge h g = absurd (omega (arith, h.small))
+plain_not_refused text x reasons.ZeroDenominator h g =
+    let one = said_one (mixed_front text) text h.n h.d g.1 (pos 0) h.numbers g.2 h.reads g.3 in h.terms.fraction one.1
+plain_not_refused text x reasons.NotNumeral h g = g.1 h.n h.d h.numbers h.reads
+plain_not_refused text x r h g = g
+
+plain_refused_once : (text : List ℕ) (r q : Reason) → SaysNoPlainNumber text r → SaysNoPlainNumber text q → r ≡ q
+plain_refused_once text reasons.NumberTooLarge reasons.NumberTooLarge h g = refl
+plain_refused_once text reasons.NumberTooLarge reasons.ZeroDenominator h g = absurd (omega (arith, g.0))
+plain_refused_once text reasons.NumberTooLarge reasons.NotNumeral h g = absurd (omega (arith, g.0))
+plain_refused_once text reasons.ZeroDenominator reasons.NumberTooLarge h g = absurd (omega (arith, h.0))
+plain_refused_once text reasons.ZeroDenominator reasons.ZeroDenominator h g = refl
+plain_refused_once text reasons.ZeroDenominator reasons.NotNumeral h g = absurd (g.1 h.1 (pos 0) h.2 h.3)
+plain_refused_once text reasons.NotNumeral reasons.NumberTooLarge h g = absurd (omega (arith, h.0))
+plain_refused_once text reasons.NotNumeral reasons.ZeroDenominator h g = absurd (h.1 g.1 (pos 0) g.2 g.3)
+plain_refused_once text reasons.NotNumeral reasons.NotNumeral h g = refl
+plain_refused_once text reasons.NumberTooLarge q h g = absurd g
+plain_refused_once text reasons.ZeroDenominator q h g = absurd g
+plain_refused_once text reasons.NotNumeral q h g = absurd g
+plain_refused_once text r q h g = absurd h
+
+says_one : (text : List ℕ) (x y : ℤ × ℤ) → SaysNumber text x → SaysNumber text y → x ≡ y
+says_one text x y h g = plain_one (with_slash text) x y h g
+
 says_not_refused : (text : List ℕ) (x : ℤ × ℤ) (r : Reason) → SaysNumber text x → SaysNoNumber text r → ⊥
-says_not_refused text x reasons.NumberTooLarge h g = absurd (omega (arith, h.small))
-says_not_refused text x reasons.ZeroDenominator h g =
-    let one = typed_one text h.n h.d g.1 (pos 0) h.numbers g.2 h.reads g.3 in h.terms.fraction one.1
-says_not_refused text x reasons.NotNumeral h g = g.1 h.n h.d h.numbers h.reads
-says_not_refused text x r h g = g
+says_not_refused text x r h g = plain_not_refused (with_slash text) x r h g
 
 text_refused_once : (text : List ℕ) (r q : Reason) → SaysNoNumber text r → SaysNoNumber text q → r ≡ q
-text_refused_once text reasons.NumberTooLarge reasons.NumberTooLarge h g = refl
-text_refused_once text reasons.NumberTooLarge reasons.ZeroDenominator h g = absurd (omega (arith, g.0))
-text_refused_once text reasons.NumberTooLarge reasons.NotNumeral h g = absurd (omega (arith, g.0))
-text_refused_once text reasons.ZeroDenominator reasons.NumberTooLarge h g = absurd (omega (arith, h.0))
-text_refused_once text reasons.ZeroDenominator reasons.ZeroDenominator h g = refl
-text_refused_once text reasons.ZeroDenominator reasons.NotNumeral h g = absurd (g.1 h.1 (pos 0) h.2 h.3)
-text_refused_once text reasons.NotNumeral reasons.NumberTooLarge h g = absurd (omega (arith, h.0))
-text_refused_once text reasons.NotNumeral reasons.ZeroDenominator h g = absurd (h.1 g.1 (pos 0) g.2 g.3)
-text_refused_once text reasons.NotNumeral reasons.NotNumeral h g = refl
-text_refused_once text reasons.NumberTooLarge q h g = absurd g
-text_refused_once text reasons.ZeroDenominator q h g = absurd g
-text_refused_once text reasons.NotNumeral q h g = absurd g
-text_refused_once text r q h g = absurd h
+text_refused_once text r q h g = plain_refused_once (with_slash text) r q h g
 
 -- ---- operators
 

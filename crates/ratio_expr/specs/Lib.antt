@@ -14,4 +14,5 @@ pub mod Slashes
 pub mod Stacks
 pub mod Tokens
 pub mod Values
+pub mod Vulgar
 pub mod Worths

@@ -6,6 +6,7 @@ use Rattle.ratio_expr.specs.declared.token.Operator.TheVariants.{Less, AtMost, E
 use Rattle.ratio_expr.specs.declared.token.Kind.{Kind}
 use Rattle.ratio_expr.specs.declared.token.Kind.TheVariants as kinds
 use Rattle.ratio_expr.specs.declared.token.Token.{Token}
+use Rattle.ratio_expr.specs.Vulgar.{vulgar_length}
 
 -- how many digits the text begins with
 -- Example: `12.5`: 2
@@ -52,20 +53,29 @@ part text = if nat_lt 0 (led 47 text) then led 47 text else decimal text
 unfoldable pub percent : List ℕ → ℕ
 percent text = if slice_index text 0 == 37 then 1 else 0
 
--- the same with a percent sign, if it is there
--- Example: `.5%`: 3
-unfoldable pub part_with_percent : List ℕ → ℕ
-part_with_percent text = part text + percent (drop (part text) text)
+-- how long a vulgar fraction is, or a space and a vulgar fraction, or 0
+-- Example: ` ½*3`: 3
+unfoldable pub vulgar_tail : List ℕ → ℕ
+vulgar_tail text = if slice_index text 0 == 32 then (if nat_lt 0 (vulgar_length (drop 1 text)) then vulgar_length (drop 1 text) + 1 else 0) else vulgar_length text
 
--- how long what follows the digits of a number is
+-- how long what makes a whole number a mixed number, a fraction or a decimal is
+-- Example: ` 1/2*3`: 4; `½`: 2; `.5`: 2
+unfoldable pub broken_part : List ℕ → ℕ
+broken_part text = if nat_lt 0 (mixed_tail text) then mixed_tail text else (if nat_lt 0 (vulgar_tail text) then vulgar_tail text else part text)
+
+-- how long what follows the digits of a number is: this, and a percent sign, if it is there
 -- Example: `.5%`: 3; ` 1/2`: 4
 unfoldable pub tail : List ℕ → ℕ
-tail text = if nat_lt 0 (mixed_tail text) then mixed_tail text else part_with_percent text
+tail text = broken_part text + percent (drop (broken_part text) text)
+
+-- whether the text begins with a digit, with a point and a digit, or with a vulgar fraction
+abbrev pub begins_number : List ℕ → Bool
+begins_number text = nat_lt 0 (digits text) || (nat_lt 0 (led 46 text) || nat_lt 0 (vulgar_length text))
 
 -- how long the number is that the text begins with, or 0
--- Example: `12.5%*80`: 5; `1/2/3`: 3; `1 1/2`: 5; `.5`: 2
+-- Example: `12.5%*80`: 5; `1/2/3`: 3; `1 1/2`: 5; `.5`: 2; `1½`: 3
 unfoldable pub number : List ℕ → ℕ
-number text = if nat_lt 0 (digits text) then digits text + tail (drop (digits text) text) else (if nat_lt 0 (led 46 text) then part_with_percent text else 0)
+number text = if begins_number text then digits text + tail (drop (digits text) text) else 0
 
 -- a letter or an underscore
 abbrev pub starts_name : ℕ → Bool

@@ -6,6 +6,7 @@
 //! | `lexer` | The tokens of a text, or the first place where none begins. |
 //! | `lexer::number` | How long the number or the name is that a text begins with. |
 //! | `lexer::symbol` | The operator, the parenthesis or the comma that a text begins with. |
+//! | `vulgar` | The vulgar fraction that a text begins with, such as `½`. |
 //! | `step` | `Step`: one step of a tree in postfix order, as a parser returns it. |
 //! | `parser` | The tree of a list of tokens, or the first token that no expression has there. |
 //! | `parser::error` | Why a list of tokens has no tree. |
@@ -19,6 +20,7 @@
 //! | `names` | `Names`: values by name. |
 //! | `number` | The number that a piece of a text says. |
 //! | `number::short_fraction` | The number that a text of one or two short whole numbers says: `3/4`, `12`. |
+//! | `spelled` | A number with a slash in place of its vulgar fraction: `1 1/2` for `1½`. |
 //! | `operation` | What an operator gives of two values, or why it refuses them. |
 //! | `power` | The power of two numbers, if it is not too large to be worth it. |
 //! | `function` | `Function`: a function that a call names, and how many numbers it takes. |
@@ -48,7 +50,9 @@ pub mod parser;
 mod power;
 pub mod refusal;
 pub mod slashes;
+mod spelled;
 pub mod step;
 pub mod token;
 pub mod value;
 pub mod value_laws;
+mod vulgar;

@@ -17,7 +17,17 @@ fn token_is_wrong(rt: HostRuntime) -> Result<(), Fail> {
     refuses(&rt, alloc, "2)", 2)?;
     refuses(&rt, alloc, "2 3", 3)?;
     refuses(&rt, alloc, "2 3 $", 3)?;
-    refuses(&rt, alloc, "1 1/2%", 7)
+    refuses(&rt, alloc, "1 1/2%3", 7)
+}
+
+#[test]
+fn vulgar_fraction_is_wrong(rt: HostRuntime) -> Result<(), Fail> {
+    let alloc = rt.alloc();
+    refuses(&rt, alloc, "½2", 2)?;
+    refuses(&rt, alloc, "½½", 2)?;
+    refuses(&rt, alloc, "1.5½", 4)?;
+    refuses(&rt, alloc, "1/2½", 4)?;
+    refuses(&rt, alloc, "1  ½", 4)
 }
 
 #[test]

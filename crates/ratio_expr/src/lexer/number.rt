@@ -1,7 +1,9 @@
 //! How long the number or the name is that a text begins with.
 ghost use Rattle.std.specs.Prelude.{◌≡◌, ◌≤◌, length};
 ghost use Rattle.std.specs.List.{take_while};
-ghost use Rattle.ratio_expr.specs.Tokens.{digits, led, mixed_tail, exponent_sign, signed_digits, exponent, decimal, part, percent, part_with_percent, tail, number, name, is_name_byte, starts_name};
+ghost use Rattle.ratio_expr.specs.Tokens.{digits, led, mixed_tail, exponent_sign, signed_digits, exponent, decimal, part, percent, vulgar_tail, broken_part, tail, begins_number, number, name, is_name_byte, starts_name};
+
+use crate::vulgar::vulgar_length;
 
 /// How long the number is that a text begins with, or 0.
 #[tactic(auto, unfolding(crate::specs::Tokens::number))]
@@ -10,10 +12,8 @@ pub(crate) fn number_length(text: &[u8]) -> usize
     ensures fits { result ≤ length text.now }
 {
     let whole = digits_length(text);
-    if whole > 0 {
+    if whole > 0 || led_length(b'.', text) > 0 || vulgar_length(text) > 0 {
         whole + tail_length(&text[whole..])
-    } else if led_length(b'.', text) > 0 {
-        share_length(text)
     } else {
         0
     }
@@ -149,16 +149,6 @@ fn part_length(text: &[u8]) -> usize
     }
 }
 
-// The same with a percent sign, if it is there.
-#[tactic(auto, unfolding(crate::specs::Tokens::part_with_percent))]
-fn share_length(text: &[u8]) -> usize
-    ensures is { result ≡ part_with_percent text.now }
-    ensures fits { result ≤ length text.now }
-{
-    let part = part_length(text);
-    part + percent_length(&text[part..])
-}
-
 // How long a percent sign is.
 #[tactic(auto, unfolding(crate::specs::Tokens::percent))]
 fn percent_length(text: &[u8]) -> usize
@@ -171,12 +161,45 @@ fn percent_length(text: &[u8]) -> usize
     }
 }
 
+// How long a vulgar fraction is, or a space and a vulgar fraction, or 0.
+#[tactic(auto, unfolding(crate::specs::Tokens::vulgar_tail))]
+fn vulgar_tail_length(text: &[u8]) -> usize
+    ensures is { result ≡ vulgar_tail text.now }
+    ensures fits { result ≤ length text.now }
+{
+    match text {
+        [b' ', rest @ ..] => {
+            let long = vulgar_length(rest);
+            if long > 0 { long + 1 } else { 0 }
+        }
+        _ => vulgar_length(text),
+    }
+}
+
+// How long what makes a whole number a mixed number, a fraction or a decimal is.
+#[tactic(auto, unfolding(crate::specs::Tokens::broken_part))]
+fn broken_length(text: &[u8]) -> usize
+    ensures is { result ≡ broken_part text.now }
+    ensures fits { result ≤ length text.now }
+{
+    let mixed = mixed_length(text);
+    if mixed > 0 {
+        return mixed;
+    }
+    let vulgar = vulgar_tail_length(text);
+    if vulgar > 0 {
+        vulgar
+    } else {
+        part_length(text)
+    }
+}
+
 // How long what follows the digits of a number is.
 #[tactic(auto, unfolding(crate::specs::Tokens::tail))]
 fn tail_length(text: &[u8]) -> usize
     ensures is { result ≡ tail text.now }
     ensures fits { result ≤ length text.now }
 {
-    let mixed = mixed_length(text);
-    if mixed > 0 { mixed } else { share_length(text) }
+    let part = broken_length(text);
+    part + percent_length(&text[part..])
 }

@@ -1,8 +1,7 @@
 //! The number that a text of one or two short whole numbers says: `3/4`, `12`.
-ghost use Rattle.std.specs.Prelude.{◌-◌, ◌^◌, negsuc, pos, IfSome};
+ghost use Rattle.std.specs.Prelude.{◌-◌, ◌^◌, negsuc, pos, IfSome, Ok};
 ghost use Rattle.ratio_core.specs.Reading.{IsFractionText};
-ghost use Rattle.ratio_big.specs.Fractions.{big_numbers};
-ghost use Rattle.ratio_expr.specs.Numbers.{SaysNumber};
+ghost use Rattle.ratio_big.specs.Decimals.{AnswersBigTyped};
 
 use num_rational::Reduced64;
 use ratio_big::BigFraction;
@@ -11,7 +10,7 @@ use ratio_core::text::leading_fields;
 /// The number of a text of digits, with a slash or none, in 64 bits. `None` says nothing about the text: this is the quick way for most
 /// numbers.
 pub(crate) fn short_fraction(text: &[u8]) -> Option<BigFraction>
-    ensures { IfSome result (λ x. SaysNumber text.now (big_numbers x)) }
+    ensures { IfSome result (λ x. AnswersBigTyped text.now (Ok x)) }
 {
     let (numer, denom) = whole_numbers(text)?;
     let lowest = Reduced64::checked_new(numer, denom)?;

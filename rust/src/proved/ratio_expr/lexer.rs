@@ -21,9 +21,9 @@ pub struct Cut {
 
 /// The tokens of a text, or the first place where none begins. Spaces may be between tokens.
 ///
-/// - A number is a decimal (`12.5`, `.5`, `3e-2`), a fraction of whole numbers without spaces (`1/2`) or a mixed number with
-///   one space (`1 1/2`). A percent sign that touches it belongs to it, so a remainder needs a space: `7 % 3`. As in
-///   `from_text` of `ratio_decimal`, a mixed number takes none, so `1 1/2%` is no number.
+/// - A number is a decimal (`12.5`, `.5`, `3e-2`), a fraction of whole numbers without spaces (`1/2`), a vulgar fraction (`½`) or a mixed
+///   number with one space (`1 1/2`, `1 ½`) or none (`1½`). A percent sign that touches it belongs to it, so a remainder needs a space:
+///   `7 % 3`.
 /// - A name is a letter or an underscore, and letters, digits and underscores.
 #[inline]
 pub fn tokens(alloc: Global, text: &[u8]) -> Result<Cut, AllocError> {

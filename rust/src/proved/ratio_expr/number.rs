@@ -6,6 +6,7 @@ mod short_fraction;
 
 use crate::proved::ratio_expr::number::short_fraction::short_fraction;
 use crate::proved::ratio_expr::refusal::Reason;
+use crate::proved::ratio_expr::spelled::spelled;
 use crate::proved::ratio_big::BigFraction;
 use crate::proved::ratio_decimal::TextRefusal;
 
@@ -20,26 +21,71 @@ pub(crate) fn number_in(
     alloc: Global,
     text: &[u8],
 ) -> Result<Result<BigFraction, Reason>, AllocError> {
-    if let Some(number) = short_fraction(text) {
-        return Ok(Ok(number));
-    }
-    if digits_of_exponent(text) > MOST_EXPONENT_DIGITS {
-        return Ok(Err(Reason::NumberTooLarge));
-    }
-    match core::str::from_utf8(text) {
-        Err(_) => Ok(Err(Reason::NotNumeral)),
-        Ok(number) => short_number_in(alloc, number),
+    match spelled(alloc, text)? {
+        Some(slashed) => plain_number_in(alloc, &slashed),
+        None => plain_number_in(alloc, text),
     }
 }
 
-// The same, if the exponent is short enough.
+// The same, if the text has no vulgar fraction.
 #[inline]
-fn short_number_in(alloc: Global, text: &str) -> Result<Result<BigFraction, Reason>, AllocError> {
-    match BigFraction::from_text(alloc, text)? {
+fn plain_number_in(alloc: Global, text: &[u8]) -> Result<Result<BigFraction, Reason>, AllocError> {
+    if digits_of_exponent(text) > MOST_EXPONENT_DIGITS {
+        return Ok(Err(Reason::NumberTooLarge));
+    }
+    match read(alloc, text)? {
         Ok(number) => Ok(Ok(number)),
         Err(TextRefusal::ZeroDenominator) => Ok(Err(Reason::ZeroDenominator)),
         Err(TextRefusal::NotNumber) => Ok(Err(Reason::NotNumeral)),
         Err(TextRefusal::NotHeld) => unreachable!(),
+    }
+}
+
+// The same, with an exponent of any length.
+#[inline]
+fn read(alloc: Global, text: &[u8]) -> Result<Result<BigFraction, TextRefusal>, AllocError> {
+    match before_percent(text) {
+        Some(mixed) => read_share(alloc, mixed),
+        None => read_field(alloc, text),
+    }
+}
+
+// The 100th part of a mixed number.
+#[inline]
+fn read_share(alloc: Global, mixed: &[u8]) -> Result<Result<BigFraction, TextRefusal>, AllocError> {
+    match read_field(alloc, mixed)? {
+        Ok(number) => Ok(Ok(hundredth(alloc, &number)?)),
+        Err(refusal) => Ok(Err(refusal)),
+    }
+}
+
+// The mixed number before the percent sign of a text.
+#[inline]
+fn before_percent(text: &[u8]) -> Option<&[u8]> {
+    match text {
+        [mixed @ .., b'%'] if text.contains(&b' ') => Some(mixed),
+        _ => None,
+    }
+}
+
+// The number that a person types into one field.
+#[inline]
+fn read_field(alloc: Global, text: &[u8]) -> Result<Result<BigFraction, TextRefusal>, AllocError> {
+    if let Some(number) = short_fraction(text) {
+        return Ok(Ok(number));
+    }
+    match core::str::from_utf8(text) {
+        Err(_) => Ok(Err(TextRefusal::NotNumber)),
+        Ok(field) => BigFraction::from_text(alloc, field),
+    }
+}
+
+// The 100th part of a number.
+#[inline]
+fn hundredth(alloc: Global, x: &BigFraction) -> Result<BigFraction, AllocError> {
+    match x.divide(alloc, &BigFraction::from_integer(100))? {
+        Some(part) => Ok(part),
+        None => unreachable!(),
     }
 }
 

@@ -19,7 +19,17 @@ fn token_is_wrong() -> Result<(), Fail> {
     refuses(alloc, "2)", 2)?;
     refuses(alloc, "2 3", 3)?;
     refuses(alloc, "2 3 $", 3)?;
-    refuses(alloc, "1 1/2%", 7)
+    refuses(alloc, "1 1/2%3", 7)
+}
+
+#[test]
+fn vulgar_fraction_is_wrong() -> Result<(), Fail> {
+    let alloc = Global;
+    refuses(alloc, "½2", 2)?;
+    refuses(alloc, "½½", 2)?;
+    refuses(alloc, "1.5½", 4)?;
+    refuses(alloc, "1/2½", 4)?;
+    refuses(alloc, "1  ½", 4)
 }
 
 #[test]

@@ -20,7 +20,30 @@ fn numbers_as_typed() -> Result<(), Fail> {
     is_worth(alloc, "1/3 + 0.25", "7/12")?;
     is_worth(alloc, "1 1/2 * 2", "3")?;
     is_worth(alloc, "12.5% * 80", "10")?;
+    is_worth(alloc, "1 1/2% * 2", "3/100")?;
     is_worth(alloc, "100 / 3 * 3", "100")
+}
+
+#[test]
+fn vulgar_fractions() -> Result<(), Fail> {
+    let alloc = Global;
+    is_worth(alloc, "½", "1/2")?;
+    is_worth(alloc, "1½ + ¼", "7/4")?;
+    is_worth(alloc, "10 ⅒", "101/10")?;
+    is_worth(alloc, "2½%", "1/40")?;
+    is_worth(alloc, "-½ / ½", "-1")?;
+    is_worth(alloc, "↉", "0")
+}
+
+#[test]
+fn each_vulgar_fraction() -> Result<(), Fail> {
+    let alloc = Global;
+    is_worth(alloc, "¼ + ½ + ¾", "3/2")?;
+    is_worth(alloc, "⅐ + ⅑ + ⅒", "223/630")?;
+    is_worth(alloc, "⅓ + ⅔", "1")?;
+    is_worth(alloc, "⅕ * ⅖ * ⅗ * ⅘", "24/625")?;
+    is_worth(alloc, "⅙ - ⅚", "-2/3")?;
+    is_worth(alloc, "⅛ * ⅜ * ⅝ * ⅞", "105/4096")
 }
 
 #[test]

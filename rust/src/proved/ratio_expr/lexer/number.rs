@@ -1,14 +1,14 @@
 // Erased from crates/ratio_expr/src/lexer/number.rt by rust/erase: not to be edited.
 //! How long the number or the name is that a text begins with.
 
+use crate::proved::ratio_expr::vulgar::vulgar_length;
+
 /// How long the number is that a text begins with, or 0.
 #[inline]
 pub(crate) fn number_length(text: &[u8]) -> usize {
     let whole = digits_length(text);
-    if whole > 0 {
+    if whole > 0 || led_length(b'.', text) > 0 || vulgar_length(text) > 0 {
         whole + tail_length(&text[whole..])
-    } else if led_length(b'.', text) > 0 {
-        share_length(text)
     } else {
         0
     }
@@ -114,13 +114,6 @@ fn part_length(text: &[u8]) -> usize {
     }
 }
 
-// The same with a percent sign, if it is there.
-#[inline]
-fn share_length(text: &[u8]) -> usize {
-    let part = part_length(text);
-    part + percent_length(&text[part..])
-}
-
 // How long a percent sign is.
 #[inline]
 fn percent_length(text: &[u8]) -> usize {
@@ -130,9 +123,36 @@ fn percent_length(text: &[u8]) -> usize {
     }
 }
 
+// How long a vulgar fraction is, or a space and a vulgar fraction, or 0.
+#[inline]
+fn vulgar_tail_length(text: &[u8]) -> usize {
+    match text {
+        [b' ', rest @ ..] => {
+            let long = vulgar_length(rest);
+            if long > 0 { long + 1 } else { 0 }
+        }
+        _ => vulgar_length(text),
+    }
+}
+
+// How long what makes a whole number a mixed number, a fraction or a decimal is.
+#[inline]
+fn broken_length(text: &[u8]) -> usize {
+    let mixed = mixed_length(text);
+    if mixed > 0 {
+        return mixed;
+    }
+    let vulgar = vulgar_tail_length(text);
+    if vulgar > 0 {
+        vulgar
+    } else {
+        part_length(text)
+    }
+}
+
 // How long what follows the digits of a number is.
 #[inline]
 fn tail_length(text: &[u8]) -> usize {
-    let mixed = mixed_length(text);
-    if mixed > 0 { mixed } else { share_length(text) }
+    let part = broken_length(text);
+    part + percent_length(&text[part..])
 }

@@ -251,10 +251,9 @@ where
         self.ended(call, kind, row, &all, |answer| answer.code == 0);
     }
 
-    /// The calls are timed, and compared with the crate's `%`, only where that is defined.
+    /// The calls are timed and compared where the crate's `%` is defined. Elsewhere the call for C has results that `Ratio` has not.
     fn remainders(&mut self, kind: &str, inputs: &Inputs<C>) {
-        let is_timed = self.is_timed;
-        let defined = inputs.only(|f| !is_timed || remainder_held(C::Number::WIDTH, f));
+        let defined = inputs.only(|f| remainder_held(C::Number::WIDTH, f));
         if defined.len() >= 64 {
             self.pairs("checked_rem", kind, &defined, self.exports.rem, erased::checked_rem, theirs::checked_rem);
         }

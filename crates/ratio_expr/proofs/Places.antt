@@ -1,5 +1,5 @@
--- The numbers and the names of a text's tree are in the text.
-use Rattle.std.proofs.Common.{◌≡◌, ◌≤◌, ℕ, List, [], ◌∷◌, ◌++◌, length, Option, ap, sym, subst, arith, inl, inr, ⊎_elim}
+-- The numbers and the names of a text's tree are in the text, and so the text isn't empty.
+use Rattle.std.proofs.Common.{◌≡◌, ◌<◌, ◌≤◌, ℕ, List, [], ◌∷◌, ◌++◌, length, Option, ap, sym, subst, arith, inl, inr, ⊎_elim}
 use Rattle.std.specs.List.{All}
 use Rattle.std.proofs.lemmas.List.Elements.{All-append, All-cons, All-nil}
 use Rattle.ratio_expr.specs.declared.token.Span.{Span}
@@ -17,6 +17,7 @@ use Rattle.ratio_expr.specs.Stacks.{IsStepWithin}
 use Rattle.ratio_expr.specs.Values.{HasRefusal}
 use Rattle.ratio_expr.specs.Worths.{Worth}
 use Rattle.ratio_expr.specs.Tokens.{IsCutInto}
+use Rattle.ratio_expr.proofs.CutLaws.{some_text}
 
 -- the place of a refusal that was made for an error
 pub place_of : (reason : Reason) (place : ℕ) (r : Refusal) → Refused (record { reason = reason; place = place }) ≡ Refused r → place ≡ r.place
@@ -32,7 +33,24 @@ reason_of reason place r e =
     let same : made ≡ r = cc in
     sym (ap (λ (q : Refusal). q.reason) same)
 
+behind_some : {A : Type 0} (xs ys : List A) (y : A) → 0 < length (xs ++ y ∷ ys)
+behind_some [] ys y = omega arith
+behind_some (x ∷ xs) ys y = omega arith
+
+some_tokens : (t : Tree) → 0 < length (spelling t)
+some_tokens (Number s) = omega arith
+some_tokens (Name s) = omega arith
+some_tokens (Negative s t) = omega arith
+some_tokens (Between o s a b) = behind_some (spelling a) (spelling b) _
+some_tokens (Group s t e) = omega arith
+some_tokens (Call n s t e) = omega arith
+some_tokens (Listed a s b) = behind_some (spelling a) (spelling b) _
+
 module _ (text : List ℕ) where
+  -- a text with a tree isn't empty
+  pub some_bytes : (t : Tree) → IsExpression text t → 0 < length text
+  some_bytes t h = some_text text (length text) h.tokens h.cut (subst (λ (ts : List Token). 0 < length ts) h.has.spelled (some_tokens t))
+
   -- the place is in the text
   abbrev IsIn : Span → Type 0
   IsIn s = (s.start ≤ s.end) × (s.end ≤ length text)

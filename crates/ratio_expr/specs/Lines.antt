@@ -4,9 +4,10 @@ use Rattle.std.specs.Str.{bytes_eq}
 use Rattle.ratio_expr.specs.declared.refusal.Refusal.{Refusal}
 use Rattle.ratio_expr.specs.declared.token.Operator.TheVariants.{Equal}
 use Rattle.ratio_expr.specs.declared.token.Span.{Span}
+use Rattle.ratio_expr.specs.declared.step.Step.{Step}
 use Rattle.ratio_expr.specs.Answers.{IsUnread}
 use Rattle.ratio_expr.specs.Expression.{IsExpression}
-use Rattle.ratio_expr.specs.Grammar.{Tree, Name, Between}
+use Rattle.ratio_expr.specs.Grammar.{Tree, Name, Between, postfix}
 use Rattle.ratio_expr.specs.Nesting.{IsShallow}
 use Rattle.ratio_expr.specs.Values.{HasRefusal, IsWorth, piece}
 use Rattle.ratio_expr.specs.Worths.{Worth}
@@ -45,6 +46,16 @@ pub record IsLineWorth (text : List ℕ) (named : List ℕ → Option Worth) (w 
   pub shallow : IsShallow text
   pub value : IsWorth text named (valued tree) w
   pub names : (other : List ℕ) → behind other ≡ named_behind text named tree w other
+
+-- each name is worth what it was, or what it is behind the line
+-- Example: `x = 3/7`: x and `ans` are what they were, or 3/7, and each other name is what it was
+abbrev pub AreOldOrNew : List ℕ → (List ℕ → Option Worth) → (List ℕ → Option Worth) → Type 0
+AreOldOrNew text named now = (other : List ℕ) → (now other ≡ named other) ⊎ ((w : Worth) × (behind : List ℕ → Option Worth) × IsLineWorth text named w behind × (now other ≡ behind other))
+
+-- Inner: each name is worth what it was, or what it is once the value of these steps has the name at a place, if there is one, and `ans`
+abbrev pub AreOldOrPut : List ℕ → List Step → (List ℕ → Option Worth) → Option Span → (List ℕ → Option Worth) → Type 0
+AreOldOrPut text written named name now = (other : List ℕ) → (now other ≡ named other)
+    ⊎ ((w : Worth) × ((t : Tree) → written ≡ postfix t → IsWorth text named t w) × (now other ≡ with_name (with_target text named name w) (codes "ans") w other))
 
 -- the line has a tree, and its expression has this refusal
 -- Example: `x = y`, without a y: `UnknownName`, at 4

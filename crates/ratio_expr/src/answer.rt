@@ -1,5 +1,5 @@
 //! The value of a text, or its first refusal.
-ghost use Rattle.std.specs.Prelude.{◌≡◌, ◌≤◌, length, IfOk, IsErrOf, IsOk};
+ghost use Rattle.std.specs.Prelude.{◌≡◌, ◌<◌, ◌≤◌, length, IfOk, IsErrOf, IsOk};
 ghost use Rattle.ratio_expr.specs.Answers.{HasTextRefusal, IsTextWorth, IsUnread};
 ghost use Rattle.ratio_expr.specs.Bound.{named};
 ghost use Rattle.ratio_expr.specs.Expression.{IsExpression};
@@ -22,6 +22,8 @@ pub fn value_of(alloc: Global, text: &[u8], names: &Names) -> Result<Value, Valu
     ensures value { IfOk result (λ v. IsTextWorth text.now (named names.now) (worth v)) }
     ensures refusal { (r : Refusal) → IsErrOf result (ValueError.Refused r) → HasTextRefusal text.now (named names.now) r }
     ensures within { (r : Refusal) → IsErrOf result (ValueError.Refused r) → r.place ≤ length text.now }
+    // An empty text takes no memory.
+    ensures memory { IsErrOf result ValueError.Memory → 0 < length text.now }
 {
     match steps_of(alloc, text) {
         Ok(steps) => value_of_steps(alloc, text, names, &steps),
@@ -35,6 +37,8 @@ pub(crate) fn steps_of(alloc: Global, text: &[u8]) -> Result<Vec<Step>, ValueErr
     ensures shallow { IsOk result → IsShallow text.now }
     ensures refusal { (r : Refusal) → IsErrOf result (ValueError.Refused r) → IsUnread text.now r }
     ensures within { (r : Refusal) → IsErrOf result (ValueError.Refused r) → r.place ≤ length text.now }
+    // An empty text takes no memory.
+    ensures memory { IsErrOf result ValueError.Memory → 0 < length text.now }
 {
     match tree_of(alloc, text) {
         Ok(steps) => Ok(steps),

@@ -21,7 +21,7 @@ pub struct Cut {
     pub end: usize,
 }
 
-/// The tokens of a text, or the first place where none begins. Spaces may be between tokens.
+/// The tokens of a text, or the first place where none begins. Spaces may be between tokens. An error means that an allocation failed.
 ///
 /// - A number is a decimal (`12.5`, `.5`, `3e-2`), a fraction of whole numbers without spaces (`1/2`), a vulgar fraction (`½`) or a mixed
 ///   number with one space (`1 1/2`, `1 ½`) or none (`1½`). A percent sign that touches it belongs to it, so a remainder needs a space:

@@ -1,9 +1,9 @@
 //! The value of a line, which gives it names: `x = 3/7`.
-ghost use Rattle.std.specs.Prelude.{◌≡◌, ◌≤◌, ℕ, List, codes, length, IfOk, IfSome, IsErrOf, OnOk};
+ghost use Rattle.std.specs.Prelude.{◌≡◌, ◌<◌, ◌≤◌, ℕ, List, codes, length, IfOk, IfSome, IsErrOf, OnErr, OnOk};
 ghost use Rattle.std.specs.List.{All};
 ghost use Rattle.ratio_expr.specs.Bound.{named};
 ghost use Rattle.ratio_expr.specs.Grammar.{Tree, postfix};
-ghost use Rattle.ratio_expr.specs.Lines.{HasLineRefusal, IsLineWorth, with_name, with_target};
+ghost use Rattle.ratio_expr.specs.Lines.{AreOldOrNew, AreOldOrPut, HasLineRefusal, IsLineWorth, with_name, with_target};
 ghost use Rattle.ratio_expr.specs.Stacks.{AreOfTree, IsStepWithin};
 ghost use Rattle.ratio_expr.specs.Values.{HasRefusal, IsWorth};
 ghost use Rattle.ratio_expr.specs.Worths.{worth};
@@ -26,6 +26,10 @@ pub fn answer(alloc: Global, text: &[u8], names: &mut Names) -> Result<Value, Va
     ensures refusal { (r : Refusal) → IsErrOf result (ValueError.Refused r) → HasLineRefusal text.now (named names.old) r }
     ensures within { (r : Refusal) → IsErrOf result (ValueError.Refused r) → r.place ≤ length text.now }
     ensures kept { (r : Refusal) → IsErrOf result (ValueError.Refused r) → (other : List ℕ) → named names.new other ≡ named names.old other }
+    // Where memory runs out, a name has the value that it had, or the new one.
+    ensures either { IsErrOf result ValueError.Memory → AreOldOrNew text.now (named names.old) (named names.new) }
+    // An empty line takes no memory.
+    ensures memory { IsErrOf result ValueError.Memory → 0 < length text.now }
 {
     match steps_of(alloc, text) {
         Ok(steps) => match assignment(&steps) {
@@ -51,6 +55,7 @@ fn remembered(
     ensures names { IfOk result (λ v. (other : List ℕ) → named names.new other ≡ with_name (with_target text.now (named names.old) name (worth v)) (codes "ans") (worth v) other) }
     ensures refusal { (r : Refusal) → IsErrOf result (ValueError.Refused r) → (t : Tree) → steps.now ≡ postfix t → HasRefusal text.now (named names.old) t r }
     ensures kept { (r : Refusal) → IsErrOf result (ValueError.Refused r) → (other : List ℕ) → named names.new other ≡ named names.old other }
+    ensures either { IsErrOf result ValueError.Memory → AreOldOrPut text.now steps.now (named names.old) name (named names.new) }
 {
     let value = value_of_steps(alloc, text, names, steps)?;
     put_target(alloc, text, names, name, &value)?;
@@ -67,7 +72,8 @@ fn put_target(
     value: &Value,
 ) -> Result<(), AllocError>
     requires { IfSome name (λ s. IsStepWithin text.now (Step.Name s)) }
-    ensures { OnOk result ((other : List ℕ) → named names.new other ≡ with_target text.now (named names.old) name (worth value.now) other) }
+    ensures put { OnOk result ((other : List ℕ) → named names.new other ≡ with_target text.now (named names.old) name (worth value.now) other) }
+    ensures kept { OnErr result ((other : List ℕ) → named names.new other ≡ named names.old other) }
 {
     match name {
         Some(span) => put_copy(alloc, names, &text[span.start..span.end], value),
@@ -77,7 +83,8 @@ fn put_target(
 
 // Gives a copy of a value a name.
 fn put_copy(alloc: Global, names: &mut Names, name: &[u8], value: &Value) -> Result<(), AllocError>
-    ensures { OnOk result ((other : List ℕ) → named names.new other ≡ with_name (named names.old) name.now (worth value.now) other) }
+    ensures put { OnOk result ((other : List ℕ) → named names.new other ≡ with_name (named names.old) name.now (worth value.now) other) }
+    ensures kept { OnErr result ((other : List ℕ) → named names.new other ≡ named names.old other) }
 {
     let copy = value.copy(alloc)?;
     names.set(alloc, name, copy)

@@ -1,5 +1,5 @@
 //! `Names`: values by name.
-ghost use Rattle.std.specs.Prelude.{◌≡◌, ℕ, List, None, Some, OnErr, OnOk, MatchOption, if◌then◌else◌};
+ghost use Rattle.std.specs.Prelude.{◌≡◌, ℕ, List, None, Some, IsErr, OnErr, OnOk, MatchOption, if◌then◌else◌};
 ghost use Rattle.std.specs.Str.{bytes_eq};
 ghost use Rattle.ratio_expr.specs.Bound.{named};
 ghost use Rattle.ratio_expr.specs.Worths.{worth};
@@ -35,6 +35,8 @@ impl Names {
     pub fn set(&mut self, alloc: Global, name: &[u8], value: Value) -> Result<(), AllocError>
         ensures set { OnOk result ((other : List ℕ) → named self.new other ≡ (if bytes_eq name.now other then Some (worth value) else named self.old other)) }
         ensures kept { OnErr result ((other : List ℕ) → named self.new other ≡ named self.old other) }
+        // Only a new name takes memory.
+        ensures memory { IsErr result → named self.old name.now ≡ None }
     {
         if let Some(place) = self.values.get_mut(name) {
             *place = value;

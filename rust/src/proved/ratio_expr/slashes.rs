@@ -7,7 +7,7 @@ use crate::proved::ratio_expr::token::{Kind, Operator, Token};
 
 /// The text with parentheses around each of its numbers with a slash: `1/2 / 1/3` is read as `(1/2) / (1/3)`. It is `None` if each such
 /// slash can as well be read as a division, as in `1/2 * 1/3`: no number with a slash stands right of `/`, `%` or `^` or left of `^`, and none
-/// has a percent sign. The tokens of the text are those of `tokens`, whatever is behind them.
+/// has a percent sign. The tokens of the text are those of `tokens`, whatever is behind them. An error means that an allocation failed.
 #[inline]
 pub fn read_as(alloc: Global, text: &[u8]) -> Result<Option<Vec<u8>>, AllocError> {
     let cut = tokens(alloc, text)?;

@@ -2,7 +2,7 @@ use Rattle.std.proofs.Common.{◌∙◌, inr, refl}
 use Rattle.ratio_expr.specs.Bound.{named}
 use Rattle.ratio_expr.specs.Worths.{worth}
 use Rattle.ratio_expr.proofs.LineLemmas.{text_worth}
-use Rattle.ratio_expr.proofs.Places.{refusal_within, steps_within}
+use Rattle.ratio_expr.proofs.Places.{refusal_within, some_bytes, steps_within}
 use Rattle.ratio_expr.proofs.answer.value_of.Goals as goal
 
 pub value_of_steps-requires-clause-tree : goal.value_of_steps-requires-clause-tree
@@ -35,3 +35,8 @@ pub returns-in-Ok-clause-within : goal.returns-in-Ok-clause-within
 returns-in-Ok-clause-within c = λ r e.
     let found = c.in-Ok.ensures.found in
     refusal_within c.args.text.now (named c.args.names.now) r found.0 found.1 (c.value_of_steps.ensures.refusal r e found.0 (c.deref.ensures.value ∙ found.2))
+
+pub returns-in-Ok-clause-memory : goal.returns-in-Ok-clause-memory
+returns-in-Ok-clause-memory c = λ e.
+    let found = c.in-Ok.ensures.found in
+    some_bytes c.args.text.now found.0 found.1

@@ -7,9 +7,9 @@ use Rattle.ratio_expr.specs.Values.{HasRefusal}
 use Rattle.ratio_expr.specs.Worths.{worth}
 use Rattle.ratio_expr.proofs.Assigning.{valued_whole}
 use Rattle.ratio_expr.proofs.Fitting.{valued_proper, valued_single}
-use Rattle.ratio_expr.proofs.LineLemmas.{line_worth, valued_all}
+use Rattle.ratio_expr.proofs.LineLemmas.{line_old_or_new, line_worth, valued_all}
 use Rattle.ratio_expr.specs.Lines.{valued}
-use Rattle.ratio_expr.proofs.Places.{line_refusal_within, refusal_within, steps_within}
+use Rattle.ratio_expr.proofs.Places.{line_refusal_within, refusal_within, some_bytes, steps_within}
 use Rattle.ratio_expr.proofs.line.answer.Goals as goal
 
 pub remembered-requires-clause-tree : goal.remembered-requires-clause-tree
@@ -84,3 +84,28 @@ returns-in-Some-clause-within c = λ r e.
     let found = c.in-Ok.ensures.found in
     let parts = c.in-Some.ensures found.0 (c.deref.ensures.value ∙ found.2) in
     line_refusal_within c.args.text.now (named c.args.names.now) r found.0 found.1 (c.remembered.ensures.refusal r e (valued found.0) parts.1)
+
+pub returns-in-Ok-clause-either : goal.returns-in-Ok-clause-either
+returns-in-Ok-clause-either c = λ e.
+    let found = c.in-Ok.ensures.found in
+    let none = c.in-None.ensures found.0 (c.deref.ensures.value ∙ found.2) in
+    line_old_or_new c.args.text.now (named c.args.names.now) (named c.remembered-in-None.new.names) c.deref-in-None.result.now None found.0 found.1
+    (c.in-Ok.ensures.shallow refl) (c.deref-in-None.ensures.value ∙ found.2 ∙ sym (ap postfix (valued_whole found.0 none))) none
+    (c.remembered-in-None.ensures.either e)
+
+pub returns-in-Some-clause-either : goal.returns-in-Some-clause-either
+returns-in-Some-clause-either c = λ e.
+    let found = c.in-Ok.ensures.found in
+    let parts = c.in-Some.ensures found.0 (c.deref.ensures.value ∙ found.2) in
+    line_old_or_new c.args.text.now (named c.args.names.now) (named c.remembered.new.names) _ _ found.0 found.1 (c.in-Ok.ensures.shallow refl) parts.1 parts.0
+    (c.remembered.ensures.either e)
+
+pub returns-in-Ok-clause-memory : goal.returns-in-Ok-clause-memory
+returns-in-Ok-clause-memory c = λ e.
+    let found = c.in-Ok.ensures.found in
+    some_bytes c.args.text.now found.0 found.1
+
+pub returns-in-Some-clause-memory : goal.returns-in-Some-clause-memory
+returns-in-Some-clause-memory c = λ e.
+    let found = c.in-Ok.ensures.found in
+    some_bytes c.args.text.now found.0 found.1

@@ -1,9 +1,12 @@
 //! Why the program stops before its end, and its message.
-ghost use Rattle.std.specs.Prelude.{◌≡◌};
+ghost use Rattle.std.specs.Prelude.{◌≡◌, ◌++◌};
+ghost use Rattle.ratio_tool.specs.Devices.{WritesAll, device_change};
+ghost use Rattle.ratio_tool.specs.Faults.{message_of};
 ghost use Rattle.ratio_tool.specs.declared.fault.Fault.TheVariants.{Memory};
 
-use crate::console::write_error;
+use crate::writing::write;
 use std::alloc::AllocError;
+use std::io::Write;
 
 /// Why the program stops before its end.
 #[derive(Drop)]
@@ -30,24 +33,34 @@ impl From<AllocError> for Fault {
     }
 }
 
-/// Writes the message of a fault on standard error.
-pub fn report(rt: &HostRuntime, fault: &Fault) -> Result<(), Fault> {
-    match fault {
-        Fault::Arguments => write_error(rt, b"ratio: an argument is not UTF-8\n"),
-        Fault::UnknownOption(name) => report_option(rt, name.as_str()),
-        Fault::NoPlaces => write_error(
-            rt,
-            b"ratio: --decimal wants a number of places, from 0 to 1000000\n",
-        ),
-        Fault::Memory => write_error(rt, b"ratio: out of memory\n"),
-        Fault::Read => write_error(rt, b"ratio: read failed\n"),
-        Fault::Write => write_error(rt, b"ratio: write failed\n"),
-    }
+/// Writes the message of a fault, as on standard error.
+pub fn report<W: Write>(errors: &mut W, fault: &Fault) -> Result<(), Fault>
+    ensures { WritesAll (device_change W.contents errors.old errors.new) (message_of fault.now) result }
+{
+    let (text, name, more) = message(fault);
+    write(errors, text.as_bytes())?;
+    write(errors, name.as_bytes())?;
+    write(errors, more.as_bytes())
 }
 
-// Writes that no option has this name.
-fn report_option(rt: &HostRuntime, name: &str) -> Result<(), Fault> {
-    write_error(rt, b"ratio: unknown option ")?;
-    write_error(rt, name.as_bytes())?;
-    write_error(rt, b": see ratio --help\n")
+// The message of a fault, in three parts.
+fn message(fault: &Fault) -> (&str, &str, &str)
+    ensures { result.0.now ++ (result.1.now ++ result.2.now) ≡ message_of fault.now }
+{
+    match fault {
+        Fault::Arguments => ("ratio: an argument is not UTF-8\n", "", ""),
+        Fault::UnknownOption(name) => (
+            "ratio: unknown option ",
+            name.as_str(),
+            ": see ratio --help\n",
+        ),
+        Fault::NoPlaces => (
+            "ratio: --decimal wants a number of places, from 0 to 1000000\n",
+            "",
+            "",
+        ),
+        Fault::Memory => ("ratio: out of memory\n", "", ""),
+        Fault::Read => ("ratio: read failed\n", "", ""),
+        Fault::Write => ("ratio: write failed\n", "", ""),
+    }
 }

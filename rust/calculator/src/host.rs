@@ -4,7 +4,7 @@
 mod console;
 
 #[cfg(target_pointer_width = "64")]
-pub use console::{arguments, is_terminal, write, write_error, Input};
+pub use console::{arguments, input, is_terminal, read_line, stderr};
 use std::io::{self, StdinLock, StdoutLock, Write};
 
 pub fn stdin() -> StdinLock<'static> {

@@ -2,8 +2,10 @@
 use super::stdin;
 use crate::proved::ratio_tool::fault::Fault;
 use bakhsney::memory::{Global, String, Vec};
+use memchr::memchr;
 use std::env;
-use std::io::{self, BufRead, StdinLock, Write};
+pub use std::io::stderr;
+use std::io::{BufRead, ErrorKind, StdinLock};
 
 /// The arguments behind the program's name.
 pub fn arguments() -> Result<Vec<String>, Fault> {
@@ -29,35 +31,26 @@ pub fn is_terminal() -> bool {
     false
 }
 
-/// Writes all the bytes on standard output.
-pub fn write(bytes: &[u8]) -> Result<(), Fault> {
-    let mut out = io::stdout().lock();
-    out.write_all(bytes).and_then(|()| out.flush()).map_err(|_| Fault::Write)
+/// Standard input from where it is.
+pub fn input() -> Result<StdinLock<'static>, Fault> {
+    Ok(stdin())
 }
 
-/// Writes all the bytes on standard error.
-pub fn write_error(bytes: &[u8]) -> Result<(), Fault> {
-    io::stderr().write_all(bytes).map_err(|_| Fault::Write)
-}
-
-/// Standard input, line by line.
-pub struct Input {
-    reader: StdinLock<'static>,
-    line: std::vec::Vec<u8>,
-}
-
-impl Input {
-    pub fn new() -> Result<Input, Fault> {
-        Ok(Input { reader: stdin(), line: std::vec::Vec::new() })
-    }
-
-    /// The next line, with its line end if it has one, or `None` if there is no more.
-    pub fn next_line(&mut self) -> Result<Option<&[u8]>, Fault> {
-        self.line.clear();
-        match self.reader.read_until(b'\n', &mut self.line) {
-            Ok(0) => Ok(None),
-            Ok(_) => Ok(Some(&self.line)),
-            Err(_) => Err(Fault::Read),
+/// Reads the next line, with its line end if it has one, and says whether there is one.
+pub fn read_line<R: BufRead>(reader: &mut R, line: &mut Vec<u8>) -> Result<bool, Fault> {
+    line.clear();
+    loop {
+        let piece = match reader.fill_buf() {
+            Ok(piece) => piece,
+            Err(e) if e.kind() == ErrorKind::Interrupted => continue,
+            Err(_) => return Err(Fault::Read),
+        };
+        let end = memchr(b'\n', piece).map_or(piece.len(), |at| at + 1);
+        let is_whole = piece.is_empty() || piece[end - 1] == b'\n';
+        line.extend_from_slice(&piece[..end])?;
+        reader.consume(end);
+        if is_whole {
+            return Ok(!line.is_empty());
         }
     }
 }

@@ -1,7 +1,6 @@
-use Rattle.std.proofs.Common.{◌≡◌, ◌∙◌, ◌+◌, ◌++◌, ◌∷◌, [], ℕ, List, map, take, drop, refl, sym, ap, subst, inl}
-use Rattle.std.specs.Prelude.{Err, MatchResult, string_bytes}
+use Rattle.std.proofs.Common.{◌+◌, [], map, take, drop, refl, sym, subst, inl}
+use Rattle.std.specs.Prelude.{MatchResult, string_bytes}
 use Rattle.std.proofs.lemmas.Result.{err_from_is_err_and}
-use Rattle.ratio_tool.specs.declared.fault.Fault.{Fault}
 use Rattle.ratio_tool.specs.Requests.{IsAskedBy, RefusesArguments, RefusesNext, RefusesOne, says_nothing}
 use Rattle.ratio_tool.proofs.RequestLemmas.{split_at}
 use Rattle.ratio_tool.proofs.request.requested.Goals as goal

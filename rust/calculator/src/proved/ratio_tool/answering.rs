@@ -2,65 +2,83 @@
 //! The reply to one expression, and to the lines of the input.
 
 use bakhsney::memory::{AllocError, Global, Vec};
-use crate::host::{Input, is_terminal, write, write_error};
+use crate::host::read_line;
 use crate::proved::ratio_tool::fault::Fault;
+use crate::proved::ratio_tool::writing::write;
 use bakhsney::proved::ratio_expr::names::Names;
 use crate::proved::ratio_replies::{Form, Reply, reply_to};
 
-/// Answers an expression, and says whether it has a value. A refusal goes to standard error.
+use std::io::{BufRead, Write};
+
+/// Answers an expression, and says whether it has a value. A refusal goes to the errors.
 #[inline]
-pub fn answer_expression(text: &[u8], form: Form) -> Result<bool, Fault> {
-    let mut names = Names::new(Global);
-    let (text, is_answer) = answered(Global, text, form, &mut names)?;
-    if is_answer {
-        write(&text)?;
+pub fn answer_expression<W: Write, E: Write>(
+    alloc: Global,
+    text: &[u8],
+    form: Form,
+    output: &mut W,
+    errors: &mut E,
+) -> Result<bool, Fault> {
+    let mut names = Names::new(alloc);
+    let (text, accepted) = answered(alloc, text, form, &mut names)?;
+    if accepted {
+        write(output, &text)?;
     } else {
-        write_error(&text)?;
+        write(errors, &text)?;
     }
-    Ok(is_answer)
+    Ok(accepted)
 }
 
-/// Answers each line of standard input before it reads the next one, and says whether each has a value. A refusal is in the place of an
-/// answer. On a terminal there is a prompt, and without a form the fraction has its decimal beside it.
+/// Answers each line of an input before it reads the next one, and says whether each has a value. A refusal is in the place of an answer.
+/// On a terminal there is a prompt before each line.
 #[inline]
-pub fn answer_lines(form: Option<Form>) -> Result<bool, Fault> {
-    if is_terminal() {
-        let all = answer_each(form.unwrap_or(Form::Both), b"> ")?;
-        write(b"\n")?;
-        Ok(all)
-    } else {
-        answer_each(form.unwrap_or(Form::Fraction), b"")
-    }
-}
-
-// Answers each line, with this prompt before each.
-#[inline]
-fn answer_each(form: Form, prompt: &[u8]) -> Result<bool, Fault> {
-    let mut names = Names::new(Global);
-    let mut input = Input::new()?;
+pub fn answer_lines<R: BufRead, W: Write>(
+    alloc: Global,
+    form: Form,
+    on_terminal: bool,
+    input: &mut R,
+    output: &mut W,
+) -> Result<bool, Fault> {
+    let mut names = Names::new(alloc);
+    let mut line = Vec::new(alloc);
     let mut all = true;
+    write(output, prompt(on_terminal))?;
     for _turn in 0..u64::MAX {
-        if !prompt.is_empty() {
-            write(prompt)?;
+        if !read_line(input, &mut line)? {
+            write(output, end(on_terminal))?;
+            return Ok(all);
         }
-        match input.next_line()? {
-            None => return Ok(all),
-            Some(line) => all &= answer_line(without_end(line), form, &mut names)?,
-        }
+        all &= answer_line(alloc, &line, form, on_terminal, &mut names, output)?;
     }
     Err(Fault::Read)
 }
 
-// Answers a line, and says whether it has no refusal.
+// Answers a line, and says whether it has no refusal. The prompt for the next line is behind the reply.
 #[inline]
-fn answer_line(
+fn answer_line<W: Write>(
+    alloc: Global,
     line: &[u8],
     form: Form,
+    on_terminal: bool,
     names: &mut Names,
+    output: &mut W,
 ) -> Result<bool, Fault> {
-    let (text, is_answer) = answered(Global, line, form, names)?;
-    write(&text)?;
-    Ok(is_answer)
+    let (mut text, accepted) = answered(alloc, without_end(line), form, names)?;
+    text.extend_from_slice(prompt(on_terminal))?;
+    write(output, &text)?;
+    Ok(accepted)
+}
+
+// What is written before each line is read.
+#[inline]
+fn prompt(on_terminal: bool) -> &'static [u8] {
+    if on_terminal { b"> " } else { b"" }
+}
+
+// What is written behind the last reply.
+#[inline]
+fn end(on_terminal: bool) -> &'static [u8] {
+    if on_terminal { b"\n" } else { b"" }
 }
 
 // The reply to a line, with its line end unless it is empty, and whether it is no refusal.

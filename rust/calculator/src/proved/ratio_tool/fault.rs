@@ -2,7 +2,9 @@
 //! Why the program stops before its end, and its message.
 
 use bakhsney::memory::{AllocError, String};
-use crate::host::write_error;
+use crate::proved::ratio_tool::writing::write;
+
+use std::io::Write;
 
 /// Why the program stops before its end.
 pub enum Fault {
@@ -27,25 +29,32 @@ impl From<AllocError> for Fault {
     }
 }
 
-/// Writes the message of a fault on standard error.
+/// Writes the message of a fault, as on standard error.
 #[inline]
-pub fn report(fault: &Fault) -> Result<(), Fault> {
-    match fault {
-        Fault::Arguments => write_error(b"ratio: an argument is not UTF-8\n"),
-        Fault::UnknownOption(name) => report_option(name.as_str()),
-        Fault::NoPlaces => write_error(
-            b"ratio: --decimal wants a number of places, from 0 to 1000000\n",
-        ),
-        Fault::Memory => write_error(b"ratio: out of memory\n"),
-        Fault::Read => write_error(b"ratio: read failed\n"),
-        Fault::Write => write_error(b"ratio: write failed\n"),
-    }
+pub fn report<W: Write>(errors: &mut W, fault: &Fault) -> Result<(), Fault> {
+    let (text, name, more) = message(fault);
+    write(errors, text.as_bytes())?;
+    write(errors, name.as_bytes())?;
+    write(errors, more.as_bytes())
 }
 
-// Writes that no option has this name.
+// The message of a fault, in three parts.
 #[inline]
-fn report_option(name: &str) -> Result<(), Fault> {
-    write_error(b"ratio: unknown option ")?;
-    write_error(name.as_bytes())?;
-    write_error(b": see ratio --help\n")
+fn message(fault: &Fault) -> (&str, &str, &str) {
+    match fault {
+        Fault::Arguments => ("ratio: an argument is not UTF-8\n", "", ""),
+        Fault::UnknownOption(name) => (
+            "ratio: unknown option ",
+            name.as_str(),
+            ": see ratio --help\n",
+        ),
+        Fault::NoPlaces => (
+            "ratio: --decimal wants a number of places, from 0 to 1000000\n",
+            "",
+            "",
+        ),
+        Fault::Memory => ("ratio: out of memory\n", "", ""),
+        Fault::Read => ("ratio: read failed\n", "", ""),
+        Fault::Write => ("ratio: write failed\n", "", ""),
+    }
 }

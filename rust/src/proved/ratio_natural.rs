@@ -28,4 +28,4 @@ pub use long_division::{divide_long, lowest_terms, quotient_digit};
 pub use multiplying::{
     add_times, multiply, shift_left, shift_right, times_plus, times_power_of_ten,
 };
-pub use two_digits::gcd_wide;
+pub use two_digits::{gcd_wide, gcd_with_odd};

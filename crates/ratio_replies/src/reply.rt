@@ -1,6 +1,7 @@
 //! `Reply`: what a line is answered.
-ghost use Rattle.std.specs.Prelude.{◌≡◌, IfOk};
+ghost use Rattle.std.specs.Prelude.{◌≡◌, false, IfOk, IsErr};
 ghost use Rattle.ratio_expr.specs.Bound.{named};
+ghost use Rattle.ratio_expr.specs.Lines.{AreOldOrNew};
 ghost use Rattle.ratio_replies.specs.Replies.{IsReply, is_blank};
 
 use crate::form::Form;
@@ -31,7 +32,11 @@ pub fn reply_to(
     form: Form,
     names: &mut Names,
 ) -> Result<Reply, AllocError>
-    ensures { IfOk result (IsReply line.now form (named names.old) (named names.new)) }
+    ensures reply { IfOk result (IsReply line.now form (named names.old) (named names.new)) }
+    // Where memory runs out, a name has the value that it had, or the new one.
+    ensures either { IsErr result → AreOldOrNew line.now (named names.old) (named names.new) }
+    // A blank line takes no memory.
+    ensures memory { IsErr result → is_blank line.now ≡ false }
 {
     if is_blank(line) {
         return Ok(Reply::Nothing);

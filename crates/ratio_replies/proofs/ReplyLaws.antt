@@ -1,9 +1,11 @@
 -- A line has one reply.
 use Rattle.std.proofs.Common.{◌≡◌, ◌∙◌, ◌++◌, ◌∷◌, [], ℕ, ℤ, pos, Bool, true, false, List, Option, Some, None, refl, sym, subst, ap, arith, inl, inr}
 use Rattle.std.specs.Prelude.{◌<ℤ◌, ◌*ℤ◌, ◌+ℤ◌, option_map}
+use Rattle.std.specs.Float.{binary64}
 use Rattle.std.proofs.lemmas.Int.{ints}
 use Rattle.ratio_core.proofs.RoundingLawLemmas.{one_truncation}
 use Rattle.ratio_decimal.specs.declared.rounding_rule.Rounding.TheVariants.{HalfAway}
+use Rattle.ratio_float.specs.Floats.{nearest_float}
 use Rattle.ratio_long.proofs.DecimalLawLemmas.{decimals_agree}
 use Rattle.ratio_long.specs.Decimals.{IsLongDecimalOf}
 use Rattle.ratio_big.specs.Fractions.{big_numbers}
@@ -24,6 +26,7 @@ use Rattle.ratio_replies.specs.declared.form.Form.{Form}
 use Rattle.ratio_replies.specs.declared.form.Form.TheVariants as forms
 use Rattle.ratio_replies.specs.declared.reply.Reply.{Reply}
 use Rattle.ratio_replies.specs.declared.reply.Reply.TheVariants as replies
+use Rattle.ratio_replies.proofs.FloatTextLemmas.{float_once}
 
 -- ---- a number in a form
 
@@ -63,6 +66,7 @@ number_once x (forms.Decimal places) a b up h g = decimal_once x up a b places h
 number_once x forms.Mixed a b up h g = mixed_once x up a b h g
 number_once x (forms.Fields places) a b up h g = fields_once x places a b up h g
 number_once x forms.Both a b up h g = both_once x a b up h g
+number_once x forms.Float a b up h g = float_once (nearest_float binary64 x.0 x.1) a b h g
 
 -- ---- an answer
 
@@ -83,6 +87,7 @@ module _ (line : List ℕ) (w : Worth) (up : IsOverPositive w) (a b : List ℕ) 
   answer_once (forms.Decimal places) h g = value_once w (forms.Decimal places) a b up h g
   answer_once forms.Mixed h g = value_once w forms.Mixed a b up h g
   answer_once (forms.Fields places) h g = value_once w (forms.Fields places) a b up h g
+  answer_once forms.Float h g = value_once w forms.Float a b up h g
   answer_once forms.Both h g = reading_once h g
 
 -- ---- a reply

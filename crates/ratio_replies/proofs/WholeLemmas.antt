@@ -33,7 +33,7 @@ no_part n = record { whole = n; truncation = whole_truncation n; sum = omega (ar
 
 -- ---- its decimal is its text and zeros
 
-tens_some : (k : ℕ) → 0 < 10 ^ k
+pub tens_some : (k : ℕ) → 0 < 10 ^ k
 tens_some zero = lit< tt
 tens_some (suc k) = let h = tens_some k in omega (arith, pow-suc 10 k)
 

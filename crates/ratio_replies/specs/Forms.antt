@@ -1,13 +1,16 @@
 -- What a value is written as, in each form.
 use Rattle.std.specs.Prelude.{◌≡◌, ◌≢◌, ◌⊎◌, ◌<◌, ◌≤ℤ◌, ◌==◌, ◌||◌, ◌-◌, ◌%◌, ◌^◌, ◌++◌, ◌∷◌, [], ℕ, zero, suc, ℤ, pos, unsigned_abs, Bool, true, false, List, Option, None, Some, codes, length, replicate, take, reverse, take_while, if◌then◌else◌}
+use Rattle.std.specs.Float.{binary64}
 use Rattle.std.specs.Ordering.{int_eq}
 use Rattle.ratio_core.specs.Rounding.{IsFractionalPart, IsTruncation}
 use Rattle.ratio_decimal.specs.Decimal.{point}
 use Rattle.ratio_decimal.specs.declared.rounding_rule.Rounding.TheVariants.{HalfAway}
+use Rattle.ratio_float.specs.Floats.{nearest_float}
 use Rattle.ratio_long.specs.Decimals.{IsLongDecimalOf}
 use Rattle.ratio_big.specs.Texts.{fraction_text}
 use Rattle.ratio_big.specs.Values.{absolute_pair}
 use Rattle.ratio_expr.specs.Worths.{Worth, Amount, Truth}
+use Rattle.ratio_replies.specs.Floats.{IsFloatText}
 use Rattle.ratio_replies.specs.declared.form.Form.{Form}
 use Rattle.ratio_replies.specs.declared.form.Form.TheVariants as forms
 
@@ -88,6 +91,7 @@ IsNumberInForm x (forms.Decimal places) text = IsLongDecimalOf HalfAway places x
 IsNumberInForm x forms.Mixed text = IsInMixedForm x text
 IsNumberInForm x (forms.Fields places) text = IsInFields x places text
 IsNumberInForm x forms.Both text = IsInBothForm x text
+IsNumberInForm x forms.Float text = IsFloatText (nearest_float binary64 x.0 x.1) text
 
 -- the text is a value in a form
 -- Example: true, in each form: `true`

@@ -1,3 +1,4 @@
+pub mod Floats
 pub mod Forms
 pub mod Refused
 pub mod Readings

@@ -33,4 +33,5 @@ IsAnswerInForm line w forms.Fraction text = IsValueInForm w forms.Fraction text
 IsAnswerInForm line w (forms.Decimal places) text = IsValueInForm w (forms.Decimal places) text
 IsAnswerInForm line w forms.Mixed text = IsValueInForm w forms.Mixed text
 IsAnswerInForm line w (forms.Fields places) text = IsValueInForm w (forms.Fields places) text
+IsAnswerInForm line w forms.Float text = IsValueInForm w forms.Float text
 IsAnswerInForm line w forms.Both text = IsWithReading line w text

@@ -13,4 +13,6 @@ pub enum Form {
     Fields(u32),
     /// The fraction, and its decimal of up to six places beside it: `17/12 ≈ 1.416667`, `1/4 = 0.25`, `5`.
     Both,
+    /// The nearest float of 64 bits, with the fewest places that read back as it: `0.5833333333333334` for 7/12, and `-inf` if it is infinite.
+    Float,
 }

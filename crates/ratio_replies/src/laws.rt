@@ -1,8 +1,9 @@
-//! The law that a line has one reply.
+//! The laws that a line has one reply, and that a tiny number is written `0` as a float.
 ghost use Rattle.std.specs.Prelude.{◌≡◌, ℕ, List, Option};
 ghost use Rattle.ratio_expr.specs.Bound.{named};
 ghost use Rattle.ratio_expr.specs.Worths.{Worth};
 ghost use Rattle.ratio_expr.specs.declared.names.Names.{Names};
+ghost use Rattle.ratio_replies.specs.Floats.{TinyFloatsAreZero};
 ghost use Rattle.ratio_replies.specs.Replies.{AreAlike, IsReply};
 ghost use Rattle.ratio_replies.specs.declared.form.Form.{Form};
 ghost use Rattle.ratio_replies.specs.declared.reply.Reply.{Reply};
@@ -13,4 +14,9 @@ pub fn one_reply()
         → IsReply line form (named names) behind r → IsReply line form (named names) after q → AreAlike r q }
     ensures names { (line : List ℕ) (form : Form) (names : Names) (behind after : List ℕ → Option Worth) (r q : Reply)
         → IsReply line form (named names) behind r → IsReply line form (named names) after q → (other : List ℕ) → behind other ≡ after other }
+{}
+
+/// A fraction of at most 2^-1075, without its sign, is written `0` in `Float`, even if it is below 0.
+pub fn tiny_floats()
+    ensures { TinyFloatsAreZero }
 {}

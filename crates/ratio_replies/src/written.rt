@@ -9,6 +9,7 @@ ghost use Rattle.ratio_replies.specs.Forms.{IsNumberInForm, IsValueInForm};
 
 use crate::both::both_text;
 use crate::fields::fields_text;
+use crate::float::float_text;
 use crate::form::Form;
 use crate::mixed::mixed_text;
 use ratio_big::BigFraction;
@@ -37,6 +38,7 @@ fn number_text(alloc: Global, x: &BigFraction, form: Form) -> Result<Vec<u8>, Al
         Form::Mixed => mixed_text(alloc, x),
         Form::Fields(places) => fields_text(alloc, x, places),
         Form::Both => both_text(alloc, x),
+        Form::Float => float_text(alloc, x),
     }
 }
 

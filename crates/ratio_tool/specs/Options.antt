@@ -24,8 +24,9 @@ option_named word =
     if bytes_eq word (codes "--fraction") then Some (asks.Form forms.Fraction) else (
     if bytes_eq word (codes "--mixed") then Some (asks.Form forms.Mixed) else (
     if bytes_eq word (codes "--both") then Some (asks.Form forms.Both) else (
+    if bytes_eq word (codes "--float") then Some (asks.Form forms.Float) else (
     if bytes_eq word (codes "--decimal") then Some asks.Places else (
-    if bytes_eq word (codes "--") then Some asks.End else None))))))
+    if bytes_eq word (codes "--") then Some asks.End else None)))))))
 
 -- the word is the number of places n, from 0 to 1,000,000, in decimal digits, and a plus may come first
 -- Example: `4` and `+04`: 4

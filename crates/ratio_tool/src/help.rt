@@ -14,6 +14,7 @@ and ans is the value before. Numbers have any size.
   --fraction     7/12, and 5 for 5/1 (the default)
   --decimal N    with N places, rounded half away from zero
   --mixed        1 5/12
+  --float        0.5833333333333334, the nearest float of 64 bits, with as few places as read back
   --both         7/12 ≈ 0.583333, and 1/4 = 0.25 where that is exact (the default on a terminal)
   --help         this text
   --version      the version

@@ -57,6 +57,9 @@ pub fn option_named(word: &[u8]) -> Option<Asked>
     if word == b"--both".as_slice() {
         return Some(Asked::Form(Form::Both));
     }
+    if word == b"--float".as_slice() {
+        return Some(Asked::Form(Form::Float));
+    }
     if word == b"--decimal".as_slice() {
         return Some(Asked::Places);
     }

@@ -3,6 +3,21 @@ use crate::shown::says_alone;
 use ratio_replies::Form;
 use std::test::Fail;
 
+/// 2^-1074, to its first digit.
+const LEAST: &str = "0.\
+    00000000000000000000000000000000000000000000000000000000000000000000000000000000\
+    00000000000000000000000000000000000000000000000000000000000000000000000000000000\
+    00000000000000000000000000000000000000000000000000000000000000000000000000000000\
+    00000000000000000000000000000000000000000000000000000000000000000000000000000000\
+    0005";
+
+/// 2^1024 - 2^971.
+const GREATEST: &str = "\
+    17976931348623157081452742373170435679807056752584499659891747680315726078002853\
+    87605895586327668781715404589535143824642343213268894641827684675467035375169860\
+    49910576551282076245490090389328944075868508455133942304583236903222948165808559\
+    332123348274797826204144723168738177180919299881250404026184124858368";
+
 #[test]
 fn fractions(rt: HostRuntime) -> Result<(), Fail> {
     let (alloc, form) = (rt.alloc(), Form::Fraction);
@@ -91,6 +106,40 @@ fn both_of_long_numbers(rt: HostRuntime) -> Result<(), Fail> {
         "10^-25",
         "1/10000000000000000000000000 ≈ 0.000000",
     )
+}
+
+#[test]
+fn floats(rt: HostRuntime) -> Result<(), Fail> {
+    let (alloc, form) = (rt.alloc(), Form::Float);
+    says_alone(&rt, alloc, form, "7/12", "0.5833333333333334")?;
+    says_alone(&rt, alloc, form, "-1/3", "-0.3333333333333333")?;
+    says_alone(&rt, alloc, form, "0.1", "0.1")?;
+    says_alone(&rt, alloc, form, "10^-7", "0.0000001")?;
+    says_alone(&rt, alloc, form, "5", "5")?;
+    says_alone(&rt, alloc, form, "1/2 / 1/3", "1.5")?;
+    says_alone(&rt, alloc, form, "1/3 < 0.333", "false")
+}
+
+#[test]
+fn floats_of_long_numbers(rt: HostRuntime) -> Result<(), Fail> {
+    let (alloc, form) = (rt.alloc(), Form::Float);
+    says_alone(&rt, alloc, form, "2^49 + 1/4", "562949953421312.2")?;
+    says_alone(&rt, alloc, form, "2^49 + 3/4", "562949953421312.8")?;
+    says_alone(&rt, alloc, form, "2^53 + 1", "9007199254740992")?;
+    says_alone(&rt, alloc, form, "10^23", "99999999999999991611392")
+}
+
+#[test]
+fn floats_at_the_ends(rt: HostRuntime) -> Result<(), Fail> {
+    let (alloc, form) = (rt.alloc(), Form::Float);
+    says_alone(&rt, alloc, form, "0", "0")?;
+    says_alone(&rt, alloc, form, "2^-1075", "0")?;
+    says_alone(&rt, alloc, form, "-(2^-1076)", "0")?;
+    says_alone(&rt, alloc, form, "2^-1074", LEAST)?;
+    says_alone(&rt, alloc, form, "2^-1075 + 10^-400", LEAST)?;
+    says_alone(&rt, alloc, form, "2^1024 - 2^970 - 1", GREATEST)?;
+    says_alone(&rt, alloc, form, "2^1024 - 2^970", "inf")?;
+    says_alone(&rt, alloc, form, "2^970 - 2^1024", "-inf")
 }
 
 #[test]

@@ -2,6 +2,7 @@
 //! What a line that a person types is answered: its value in a form, or why it has none, with a caret below the place.
 mod both;
 mod fields;
+mod float;
 mod form;
 pub mod laws;
 mod mixed;

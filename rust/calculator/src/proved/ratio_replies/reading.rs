@@ -18,7 +18,7 @@ pub(crate) fn answer_text(
 ) -> Result<Vec<u8>, AllocError> {
     match form {
         Form::Both => with_reading(alloc, line, value),
-        Form::Fraction | Form::Decimal(_) | Form::Mixed | Form::Fields(_) => {
+        Form::Fraction | Form::Decimal(_) | Form::Mixed | Form::Fields(_) | Form::Float => {
             value_text(alloc, value, form)
         }
     }

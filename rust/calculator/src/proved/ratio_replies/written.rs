@@ -4,6 +4,7 @@
 use bakhsney::memory::{AllocError, Global, Vec};
 use crate::proved::ratio_replies::both::both_text;
 use crate::proved::ratio_replies::fields::fields_text;
+use crate::proved::ratio_replies::float::float_text;
 use crate::proved::ratio_replies::form::Form;
 use crate::proved::ratio_replies::mixed::mixed_text;
 use bakhsney::proved::ratio_big::BigFraction;
@@ -29,6 +30,7 @@ fn number_text(alloc: Global, x: &BigFraction, form: Form) -> Result<Vec<u8>, Al
         Form::Mixed => mixed_text(alloc, x),
         Form::Fields(places) => fields_text(alloc, x, places),
         Form::Both => both_text(alloc, x),
+        Form::Float => float_text(alloc, x),
     }
 }
 

@@ -13,5 +13,5 @@ returns c =
     let x = c.args.float in
     let value = big_numbers c.args.value.now in
     let rounded = big_numbers c.in_ok-rounded.rounded in
-    let by = subst (λ (step : ℤ × ℤ). IsMultipleBy HalfEven value step rounded) c.in_ok-step.ensures c.in_ok-rounded.ensures in
+    let by = subst (λ (step : ℤ × ℤ). IsMultipleBy HalfEven value step rounded) c.in_ok-step.ensures c.in_ok-rounded.ensures.multiple in
     reads_back_is x c.args.places value rounded c.requires by (eq c.in_ok-nearest.nearest x) (ap (λ (y : Float). eq y x) c.in_ok-nearest.ensures.nearest)

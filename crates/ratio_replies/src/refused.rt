@@ -1,9 +1,9 @@
 //! The text of a refusal: the line, a caret and the reason.
 ghost use Rattle.std.specs.Prelude.{◌≡◌, ◌≤◌, length, map, IfOk};
-ghost use Rattle.ratio_replies.specs.Refused.{refusal_lines, shown};
+ghost use Rattle.ratio_replies.specs.Refused.{refusal_lines, shown, why_refused};
 
 use ratio_expr::expression::column;
-use ratio_expr::refusal::Refusal;
+use ratio_expr::refusal::{Reason, Refusal};
 use std::alloc::{AllocError, Global};
 
 /// Three lines without the last line end: the line, a caret below the place, and the reason with the column. A control byte of the line is
@@ -26,10 +26,20 @@ pub(crate) fn refusal_lines(
     text.push(b'^')?;
     text.push(b'\n')?;
     text.extend_from_slice(b"error: ")?;
-    text.extend_from_slice(refusal.reason.text().as_bytes())?;
+    text.extend_from_slice(why_refused(line, refusal).as_bytes())?;
     text.extend_from_slice(b", at column ")?;
     text.extend_from_slice(number.format(place).as_bytes())?;
     Ok(text)
+}
+
+// The reason in words. Where the line ends and its expression has to go on, it ends too soon.
+fn why_refused(line: &[u8], refusal: Refusal) -> &'static str
+    ensures { result.now ≡ why_refused line.now refusal }
+{
+    match refusal.reason {
+        Reason::NoExpression if refusal.place == line.len() => "the expression ends too soon",
+        reason => reason.text(),
+    }
 }
 
 // The line as it is shown.

@@ -25,7 +25,7 @@ fn reasons(rt: HostRuntime) -> Result<(), Fail> {
         alloc,
         form,
         " 2 +",
-        " 2 +\n    ^\nerror: the expression cannot go on like this, at column 5",
+        " 2 +\n    ^\nerror: the expression ends too soon, at column 5",
     )
 }
 

@@ -16,7 +16,7 @@ fn names_are_kept(rt: HostRuntime) -> Result<(), Fail> {
         &mut names,
         form,
         "x +",
-        "x +\n   ^\nerror: the expression cannot go on like this, at column 4",
+        "x +\n   ^\nerror: the expression ends too soon, at column 4",
     )?;
     says(&rt, alloc, &mut names, form, "   ", "")?;
     says(&rt, alloc, &mut names, form, "ans * 12 + x", "18 5/12")

@@ -3,7 +3,7 @@
 
 use bakhsney::memory::{AllocError, Global, Vec};
 use bakhsney::proved::ratio_expr::expression::column;
-use bakhsney::proved::ratio_expr::refusal::Refusal;
+use bakhsney::proved::ratio_expr::refusal::{Reason, Refusal};
 
 /// Three lines without the last line end: the line, a caret below the place, and the reason with the column. A control byte of the line is
 /// shown as `?`. An error means that an allocation failed.
@@ -29,10 +29,19 @@ pub(crate) fn refusal_lines(
     text.push(b'^')?;
     text.push(b'\n')?;
     text.extend_from_slice(b"error: ")?;
-    text.extend_from_slice(refusal.reason.text().as_bytes())?;
+    text.extend_from_slice(why_refused(line, refusal).as_bytes())?;
     text.extend_from_slice(b", at column ")?;
     text.extend_from_slice(number.format(place).as_bytes())?;
     Ok(text)
+}
+
+// The reason in words. Where the line ends and its expression has to go on, it ends too soon.
+#[inline]
+fn why_refused(line: &[u8], refusal: Refusal) -> &'static str {
+    match refusal.reason {
+        Reason::NoExpression if refusal.place == line.len() => "the expression ends too soon",
+        reason => reason.text(),
+    }
 }
 
 // The line as it is shown.

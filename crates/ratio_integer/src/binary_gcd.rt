@@ -33,7 +33,7 @@ fn odd_distance(x: u64, y: u64) -> u64
 }
 
 /// The greatest common divisor of magnitudes of at most 64 bits, 0 for 0 and 0.
-pub(crate) fn binary_gcd(a: u64, b: u64) -> u64
+pub fn binary_gcd(a: u64, b: u64) -> u64
     ensures { IsGcd a b result }
 {
     if a == 0 {

@@ -17,7 +17,7 @@
 //! | `laws` | The laws of when a quotient and a greatest common divisor fit the type. |
 #![tactic(auto)]
 
-mod binary_gcd;
+pub mod binary_gcd;
 mod integer;
 pub mod laws;
 mod reducing;

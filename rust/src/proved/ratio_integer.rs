@@ -6,7 +6,7 @@
 //! `both_held(n, d);` and `let _ = n.held();` do nothing at run time. They tell the prover that n lies
 //! between the type's least and greatest number: over `i8`, from -128 to 127. A value in hand is in range,
 //! and no law can say that, since in a law an `i8` is any whole number.
-mod binary_gcd;
+pub mod binary_gcd;
 mod integer;
 pub mod laws;
 mod reducing;

@@ -38,7 +38,7 @@ fn odd_distance(x: u64, y: u64) -> u64 {
 
 /// The greatest common divisor of magnitudes of at most 64 bits, 0 for 0 and 0.
 #[inline]
-pub(crate) fn binary_gcd(a: u64, b: u64) -> u64 {
+pub fn binary_gcd(a: u64, b: u64) -> u64 {
     if a == 0 {
         return b;
     }

@@ -220,6 +220,8 @@ fn calls_on_one() {
                 (whole.to_i64(), whole.to_u64(), whole.to_i128(), whole.to_u128(), whole.to_i8(), whole.to_u32())
             };
             [x.to_f64(), x.try_to_f64().ok()].map(bits) => [old.to_f64(); 2].map(bits);
+            [x.numer(), x.try_numer().unwrap()].map(fields) => [(); 2].map(|_| (numer.clone(), BigInt::one()));
+            [x.denom(), x.try_denom().unwrap()].map(fields) => [(); 2].map(|_| (denom.clone(), BigInt::one()));
             (x.numer_digits(), x.denom_digits()) => (numer.magnitude().to_u64_digits(), denom.magnitude().to_u64_digits());
             BigFraction::try_from(&BigRational::new_raw(numer * 6, denom * -6)) => Ok(-x);
             BigFraction::try_from(BigRational::new_raw(numer * -6, denom * -6)) => Ok(x.clone());

@@ -129,7 +129,7 @@ fn tried() {
         some(BigFraction::try_simplest_between(y, next));
         x.try_continued_fraction().map(drop);
         some(x.try_nearest(&BigFraction::from(1_000_000)));
-        [x.try_floor(), x.try_ceil(), x.try_round(), x.try_trunc(), x.try_fract()].into_iter().try_for_each(ok);
+        [x.try_floor(), x.try_ceil(), x.try_round(), x.try_trunc(), x.try_fract(), x.try_numer(), x.try_denom()].into_iter().try_for_each(ok);
         x.try_cmp(y).map(drop);
         x.try_decimal(5, Rounding::Floor).map(drop);
         x.try_to_string().map(drop);
@@ -193,7 +193,7 @@ fn panics() {
         drop(x.continued_fraction());
         drop((x.floor(), x.ceil(), x.round(), x.trunc(), x.fract()));
         assert!(x < y);
-        drop((x.numer_digits(), x.denom_digits()));
+        drop((x.numer(), x.denom(), x.numer_digits(), x.denom_digits()));
         drop(x.decimal(3, Rounding::Up));
         write!(Nowhere, "{x} {x:.3} {x:?}").unwrap();
         drop(LONG.parse::<BigFraction>());
@@ -219,7 +219,7 @@ fn panics() {
 fn short_ones_take_no_memory() {
     let (x, y) = (BigFraction::new(-7, 6), BigFraction::new(5, 4));
     let (_, was_refused) = refused(0, || {
-        let all = [&x + &y, &x - &y, &x * &y, &x / &y, &x % &y, -&x, x.abs(), x.clone(), x.recip(), x.pow(20)];
+        let all = [&x + &y, &x - &y, &x * &y, &x / &y, &x % &y, -&x, x.abs(), x.clone(), x.recip(), x.pow(20), x.numer(), x.denom()];
         assert!(all.iter().all(|result| result < &BigFraction::from(i64::MAX)));
         assert!(x.floor() < x.ceil() && x.round() == x.trunc() && x == x.clone() && x.fract().is_negative());
         assert!(BigFraction::simplest_between(&x, &y) == Some(BigFraction::from(0)) && BigFraction::simplest_between(&y, &x).is_none());

@@ -1,8 +1,6 @@
 //! The JSON value of a fraction.
 ghost use Rattle.std.specs.Prelude.{◌≡◌, ◌^◌, ◌<◌, ◌≤◌, pos, unsigned_abs, IfOk, MatchOption};
 ghost use Rattle.serde_json.specs.View.{view};
-ghost use Rattle.ratio_core.specs.Signs.{with_sign};
-ghost use Rattle.ratio_natural.specs.Number.{natural_of};
 ghost use Rattle.ratio_big.specs.Fractions.{big_numbers};
 ghost use Rattle.big_json.specs.BigJson.{big_json, json_whole};
 
@@ -18,21 +16,11 @@ const MOST: u64 = 1 << 53;
 pub fn to_json(alloc: Global, x: &BigFraction) -> Result<Value, AllocError>
     ensures { IfOk result (λ v. view v ≡ big_json (big_numbers x.now)) }
 {
-    let size = x.numer_digits(alloc)?;
-    let numer = signed(alloc, x.is_negative(), &size)?;
-    let size_below = x.denom_digits(alloc)?;
-    let denom = signed(alloc, false, &size_below)?;
+    let numer = x.numer(alloc)?;
+    let numer = written(alloc, &numer)?;
+    let denom = x.denom(alloc)?;
+    let denom = written(alloc, &denom)?;
     json!(in alloc; [numer, denom])
-}
-
-// The JSON value of the number with this sign and these digits.
-fn signed(alloc: Global, negative: bool, digits: &[u64]) -> Result<Value, AllocError>
-    ensures { IfOk result (λ v. view v ≡ json_whole (with_sign negative (natural_of digits.now))) }
-{
-    match BigFraction::from_digits(alloc, negative, digits, &[1])? {
-        Some(number) => written(alloc, &number),
-        None => unreachable!(),
-    }
 }
 
 // The JSON value of a whole number.

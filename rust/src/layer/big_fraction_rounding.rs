@@ -1,4 +1,4 @@
-//! Whole numbers near a `BigFraction`, remainders and powers.
+//! The whole numbers near a `BigFraction` and of it, remainders and powers.
 use super::big_fraction::{divided, taken, tries, BigFraction};
 use super::big_fraction_operators::{assigning, checked, forms, operators, with_numbers};
 use super::integer::{Element, Integer};
@@ -74,6 +74,24 @@ whole_numbers! {
     /// assert_eq!(BigFraction::new(-7, 2).fract(), BigFraction::new(-1, 2));
     /// ```
     fract by try_fract;
+
+    /// The numerator.
+    ///
+    /// ```
+    /// use num_rational::BigFraction;
+    ///
+    /// assert_eq!(BigFraction::new(-6, 4).numer(), BigFraction::from(-3));
+    /// ```
+    numer by try_numer;
+
+    /// The denominator.
+    ///
+    /// ```
+    /// use num_rational::BigFraction;
+    ///
+    /// assert_eq!(BigFraction::new(1, 1u128 << 64).denom().to_string(), "18446744073709551616");
+    /// ```
+    denom by try_denom;
 }
 
 tries! { divisions:

@@ -41,6 +41,28 @@ fn least_number() -> Result<(), Fail> {
     Ok(())
 }
 
+/// The numbers of -3/2, -1/2^63 and -2^64/3. All but 2^63 and -2^64 are short.
+#[test]
+fn numerator_and_denominator() -> Result<(), Fail> {
+    let alloc = Global;
+    let half = short(-3, 2);
+    is_short(&half.numer(alloc)?, -3, 1);
+    is_short(&half.denom(alloc)?, 2, 1);
+    let small = BigFraction::from_integer(LEAST)
+        .reciprocal(alloc)?
+        .ok_or("not 0")?;
+    is_short(&small.numer(alloc)?, -1, 1);
+    let denom = small.denom(alloc)?;
+    is_long(alloc, &denom, false, &[1 << 63], &[1])?;
+    let text = denom.to_text(alloc)?;
+    assert_eq!(text.as_str(), "9223372036854775808");
+    let long = BigFraction::from_digits(alloc, true, &[0, 1], &[3])?.ok_or("not 0")?;
+    let numer = long.numer(alloc)?;
+    is_long(alloc, &numer, true, &[0, 1], &[1])?;
+    is_short(&long.denom(alloc)?, 3, 1);
+    Ok(())
+}
+
 #[test]
 fn zero_divides_nothing() -> Result<(), Fail> {
     let alloc = Global;

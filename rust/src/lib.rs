@@ -47,8 +47,6 @@ mod proved;
 #[cfg(feature = "proved-calls")]
 #[doc(hidden)]
 pub mod proved;
-#[cfg(test)]
-mod test_support;
 
 /// The trait of the twelve machine types, for generic code. `Reduced` and `Total` require it. `Ratio` takes each type of num-integer's
 /// `Integer`.

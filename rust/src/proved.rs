@@ -25,21 +25,3 @@ pub mod ratio_laws;
 pub mod ratio_long;
 pub mod ratio_natural;
 pub mod ratio_totals;
-#[cfg(all(test, feature = "std"))]
-mod tests_big;
-#[cfg(all(test, feature = "std"))]
-mod tests_expr;
-#[cfg(all(test, target_pointer_width = "64"))]
-mod tests_fraction_totals;
-#[cfg(all(test, target_pointer_width = "64"))]
-mod tests_fractions;
-#[cfg(all(test, target_pointer_width = "64"))]
-mod tests_laws;
-#[cfg(all(test, target_pointer_width = "64"))]
-mod tests_naturals;
-#[cfg(all(test, target_pointer_width = "64"))]
-mod tests_numbers;
-#[cfg(all(test, target_pointer_width = "64"))]
-mod tests_reduced;
-#[cfg(all(test, target_pointer_width = "64"))]
-mod tests_totals;

@@ -1,9 +1,0 @@
-// Erased from crates/tests_numbers/src/fields.rt by rust/erase: not to be edited.
-//! The calls of `ratio_core` on two numbers.
-mod arithmetic;
-mod comparing;
-mod every_call;
-mod multiples;
-mod nearest;
-mod printing;
-mod simplest;

@@ -1,5 +1,5 @@
 /* Calls the library with random bytes, numbers, texts, spans and lengths, and prints a checksum of all that it wrote. Two libraries that
- * return the same print the same. `examples/c/fuzz` compares the proved library with the one by cargo.
+ * return the same print the same. `examples/c/test fuzz` compares the proved library with the one by cargo.
  *
  *   fuzz SEED CALLS EVERY    prints the checksum each EVERY calls, and at the end how many answers had each code
  *

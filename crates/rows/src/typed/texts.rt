@@ -22,13 +22,13 @@ pub fn bytes_of(alloc: Global, text: &str) -> Result<Option<Vec<u8>>, AllocError
 
 // The byte of an escape without its backslash, and what is behind it.
 fn escape(part: &str) -> Option<(u8, &str)> {
-    let (letter, rest) = part.split_at_checked(1)?;
-    match letter {
-        "n" => Some((b'\n', rest)),
-        "t" => Some((b'\t', rest)),
-        "0" => Some((0, rest)),
-        _ => None,
+    if let Some(rest) = part.strip_prefix('n') {
+        return Some((b'\n', rest));
     }
+    if let Some(rest) = part.strip_prefix('t') {
+        return Some((b'\t', rest));
+    }
+    Some((0, part.strip_prefix('0')?))
 }
 
 /// The text in quotes, with escapes.

@@ -1,4 +1,4 @@
-//! The rows of crates/rows/rows by plain Rust: each call is made anew, and its answer compared with the row's.
+//! The rows of rust/rows/rows by plain Rust: each call is made anew, and its answer compared with the row's.
 use crate::memory::Global;
 use row::Row;
 use std::string::{String, ToString};

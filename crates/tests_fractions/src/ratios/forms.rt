@@ -45,7 +45,10 @@ pub(crate) fn has<T: Integer>(x: Ratio<T>, fields: (T, T)) -> bool {
 
 /// Whether the result has these fields, or both are `None`.
 pub(crate) fn answers<T: Integer>(answer: Option<Ratio<T>>, want: Option<(T, T)>) -> bool {
-    answer.map(Ratio::into_raw) == want
+    match answer {
+        Some(x) => want == Some(x.into_raw()),
+        None => want.is_none(),
+    }
 }
 
 /// The fields of the sum, if the checked call returns it and every other form gives the same.

@@ -1,0 +1,3 @@
+//! The calls of `ratio_integer` on integer types.
+mod every_call;
+mod rows;

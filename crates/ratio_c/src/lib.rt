@@ -43,7 +43,6 @@
 //! | `total_joining` | The struct `Joined64`, the header of a read in steps, and the call for C that joins some slots of a total at a time. |
 //! | `joined_reads` | The calls for C that read a total from the room where all its slots are joined: its sum, its mean, its sign, its float and its decimal. |
 //! | `laws` | The laws of hashes, of keys, of bytes for sorting and of totals. |
-//! | `tests` | Tests of all calls over slices: worked rows. |
 //! | `hash_mod61` | The hash of a fraction in Python: the residue modulo 2^61 - 1, with the sign of the fraction. |
 //! | `mod61` | Products and inverses modulo 2^61 - 1. |
 //! | `sortable` | Bytes for sorting: 24 bytes whose order is that of the values. |
@@ -84,8 +83,6 @@ pub mod sign;
 pub mod sortable;
 pub mod splits;
 pub mod strided;
-#[cfg(test)]
-mod tests;
 pub mod total_bounded;
 pub mod total_floats;
 pub mod total_joining;

@@ -35,7 +35,6 @@ pub mod sign;
 pub mod sortable;
 pub mod splits;
 pub mod strided;
-
 pub mod total_bounded;
 pub mod total_floats;
 pub mod total_joining;

@@ -1,25 +1,9 @@
-//! Tests of expressions: texts with their steps and values, and texts that are refused, with their columns. The rows are by hand.
+//! Tests of expressions that are no rows: thousands of parentheses, a name that is true, and each law.
 #![tactic(auto)]
 
-#[cfg(test)]
-mod calls;
 #[cfg(test)]
 mod depths;
 #[cfg(test)]
 mod laws;
 #[cfg(test)]
-mod lines;
-#[cfg(test)]
-mod refusals;
-#[cfg(test)]
-mod shown;
-#[cfg(test)]
-mod slashes;
-#[cfg(test)]
-mod trees;
-#[cfg(test)]
-mod unvalued;
-#[cfg(test)]
-mod values;
-#[cfg(test)]
-mod worths;
+mod truths;

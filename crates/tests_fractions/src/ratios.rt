@@ -1,19 +1,16 @@
 //! The fraction types of `num_rational`.
 mod carried;
-mod comparing;
+mod codes;
 mod every_call;
 mod folds;
 mod forms;
 mod json;
 mod keys;
-mod long_texts;
 mod main_statement;
 mod operators;
 mod powers;
 mod reduced;
 mod rounding;
-mod rows;
 mod signs;
 mod succeeding;
 mod texts;
-mod twelve_types;

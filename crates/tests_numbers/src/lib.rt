@@ -1,11 +1,5 @@
-//! Tests of integers and of the calls on two numbers: rows from outside, and each call once at a concrete type. The other tests of fractions use its two records, too.
+//! Records for the tests of fractions: the codes that a list receives, and the bytes that a hasher is fed with.
 #![tactic(auto)]
 
-#[cfg(test)]
-mod asserting;
-#[cfg(test)]
-mod fields;
-#[cfg(test)]
-mod integers;
 pub mod recorder;
 pub mod written;

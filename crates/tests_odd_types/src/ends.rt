@@ -1,18 +1,9 @@
-//! Rows at the ends of the signed primitive types.
+//! Codes and whole numbers at the ends of the signed primitive types.
 use crate::fractions::raw;
 use num_rational::Ratio;
 use ratio_integer::SignedInteger;
-use std::cmp::Ordering;
 use std::hash::Hash;
 use tests_numbers::written::Written;
-
-/// Whether `n/d` and `m/e` have this order.
-fn stands<T: SignedInteger>(n: T, d: T, m: T, e: T, order: Ordering) -> bool {
-    match (raw(n, d), raw(m, e)) {
-        (Some(x), Some(y)) => x.cmp(&y) == order,
-        _ => false,
-    }
-}
 
 /// Whether `n/d` feeds a hasher these codes, and no others.
 fn has_codes<T: SignedInteger>(n: T, d: T, codes: &[T]) -> bool {
@@ -24,16 +15,6 @@ fn has_codes<T: SignedInteger>(n: T, d: T, codes: &[T]) -> bool {
         Some(x) => Written::of(&x).as_slice() == wanted.as_slice(),
         None => false,
     }
-}
-
-/// Whether fractions of the greatest and the least number are ordered and hashed by their values.
-fn are_ordered<T: SignedInteger>(minus_one: T, above_max: &[T], one: &[T]) -> bool {
-    stands(T::MIN, minus_one, T::MAX, T::ONE, Ordering::Greater)
-        && stands(T::MIN, T::MIN, T::ONE, T::ONE, Ordering::Equal)
-        && stands(T::ONE, T::MIN, minus_one, T::MAX, Ordering::Greater)
-        && stands(T::MIN, T::MAX, T::MAX, T::MIN, Ordering::Less)
-        && has_codes(T::MIN, minus_one, above_max)
-        && has_codes(T::MIN, T::MIN, one)
 }
 
 /// Whether the floor of the least number and the ceiling of the greatest one are these
@@ -49,7 +30,7 @@ fn are_whole<T: SignedInteger>() -> bool {
 
 /// Whether all rows hold over `T`. The codes are those of `MIN/-1` and of 1.
 fn hold<T: SignedInteger>(minus_one: T, above_max: &[T], one: &[T]) -> bool {
-    are_ordered(minus_one, above_max, one) && are_whole::<T>()
+    has_codes(T::MIN, minus_one, above_max) && has_codes(T::MIN, T::MIN, one) && are_whole::<T>()
 }
 
 #[test]

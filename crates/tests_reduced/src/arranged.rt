@@ -77,15 +77,3 @@ fn always_on_one_side(rt: HostRuntime) {
     ];
     each_holds(&rt, &facts);
 }
-
-// The first item of a list goes to 0/1, the next after it to 1/1, and one before both to -1/1.
-#[test]
-fn first_places(rt: HostRuntime) {
-    let any = Reduced64::simplest_within(Bound::Unbounded, Bound::Unbounded);
-    let facts = [
-        any == Some(Reduced64::zero()),
-        next_place(0, Reduced64::zero()) == Some(Reduced64::one()),
-        next_place(1, Reduced64::zero()) == Some(Reduced64::from_integer(-1)),
-    ];
-    each_holds(&rt, &facts);
-}

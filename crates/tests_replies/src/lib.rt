@@ -1,13 +1,5 @@
-//! Tests of replies: lines that a person types, with what each is answered. The values in each form are from Python's fractions.
+//! The laws of replies. Replies themselves are rows.
 #![tactic(auto)]
 
 #[cfg(test)]
-mod forms;
-#[cfg(test)]
 mod laws;
-#[cfg(test)]
-mod refusals;
-#[cfg(test)]
-mod sessions;
-#[cfg(test)]
-mod shown;

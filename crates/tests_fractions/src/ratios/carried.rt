@@ -1,7 +1,6 @@
 //! The values of the Rust crate's own tests, with the names that they have there: construction, access and comparison.
 use crate::asserting::each_holds;
 use crate::ratios::forms::{self, fraction, has, raw};
-use crate::ratios::rows::reduced;
 use crate::ratios::texts::shown_as;
 use num_rational::{Constants, Form, Ratio, Rational32, Rational64};
 use ratio_integer::Integer;
@@ -196,6 +195,14 @@ fn test_hash(rt: HostRuntime) {
         Ratio::new_raw(617283945, 5000),
     );
     assert!(rt; write_alike(&x, &y));
+}
+
+// The lowest terms by `reduced`, if `checked_new` of the fields returns them.
+fn reduced<T: Integer>(n: T, d: T) -> Option<(T, T)> {
+    match Ratio::checked_new(n, d) {
+        Some(_) => Some(Ratio::new_raw(n, d).reduced().into_raw()),
+        None => None,
+    }
 }
 
 #[test]

@@ -1,25 +1,26 @@
-//! Each call once, at a concrete type.
+//! Calls of `Ratio` that no row asks, each once at a concrete type, and a refusal in a width.
 use crate::asserting::each_holds;
 use crate::ratios::forms::{answers, has};
-use num_rational::{Constants, Form, Ratio, RatioErrorKind, Rational, Rational32, Rational64};
+use num_rational::{Constants, Ratio, RatioErrorKind, Rational, Rational32, Rational64};
 use std::fmt::InlineText;
 use std::test::Fail;
 
 #[test]
 fn construction_and_access(rt: HostRuntime) -> Result<(), Fail> {
     let half = Rational64::new_raw(1, 2);
-    each_holds(&rt, &[*half.numer() == 1, *half.denom() == 2]);
-    assert!(rt; has(half.clone()?, (1, 2)));
+    let pair: (i64, i64) = half.into();
     let word: isize = -2;
     let facts = [
+        (*half.numer(), *half.denom()) == (1, 2),
+        has(half.clone()?, (1, 2)),
+        pair == (1, 2),
         has(Rational::new_raw(word, 1), (word, 1)),
         has(Rational32::new_raw(1, -2), (1, -2)),
         has(Rational32::from_integer(7), (7, 1)),
         has(Rational32::from(7), (7, 1)),
+        has(Rational64::new_raw(355, 113).nearest(100), (311, 99)),
     ];
     each_holds(&rt, &facts);
-    let pair: (i64, i64) = half.into();
-    assert!(rt; pair == (1, 2));
     Ok(())
 }
 
@@ -58,14 +59,22 @@ fn whole_numbers(rt: HostRuntime) {
 }
 
 #[test]
-fn texts_are_read(rt: HostRuntime) {
+fn fields_alone_are_tested(rt: HostRuntime) {
+    let (two, one, zero) = (
+        Ratio::new_raw(4i8, 2),
+        Ratio::new_raw(2i8, 2),
+        Ratio::new_raw(0i8, -3),
+    );
+    let is_zero = [two.is_zero(), one.is_zero(), zero.is_zero()];
+    let is_one = [two.is_one(), one.is_one(), zero.is_one()];
+    let is_integer = [two.is_integer(), one.is_integer(), zero.is_integer()];
     let facts = [
-        answers("3/2".parse::<Rational64>().ok(), Some((3, 2))),
-        answers(Rational64::from_str("3/-2").ok(), Some((-3, 2))),
+        is_zero == [false, false, true],
+        is_one == [false, true, false],
+        is_integer == [false; 3],
+        has(zero, (0, -3)),
     ];
     each_holds(&rt, &facts);
-    let refusal = "3/0".parse::<Rational64>().err().map(|e| e.kind());
-    assert!(rt; refusal == Some(RatioErrorKind::ZeroDenominator));
 }
 
 #[test]
@@ -77,32 +86,20 @@ fn refusals_are_numbered(rt: HostRuntime) {
     each_holds(&rt, &facts);
 }
 
-#[test]
-fn texts_are_printed(rt: HostRuntime) {
-    let (x, y) = (Rational64::new_raw(5, 6), Rational64::new_raw(1, -2));
-    let facts = [
-        x.text(Form::Decimal, false).as_str() == "5/6",
-        y.text(Form::Decimal, true).as_str() == "1/-2",
-    ];
-    each_holds(&rt, &facts);
+// Whether the text is refused, and the refusal is printed as `want`.
+fn refusal_reads(text: &str, want: &str) -> bool {
+    match Ratio::<i8>::from_str(text) {
+        Ok(_) => false,
+        Err(refusal) => InlineText::<60>::of(format_args!("{refusal}|{refusal:>25}")).as_str()
+            == want,
+    }
 }
 
 #[test]
-fn fractions_are_displayed(rt: HostRuntime) {
-    let two = Rational64::from_integer(2);
-    let half = Rational64::new_raw(1, 2);
-    let minus_two = Rational64::from_integer(-2);
+fn refusals_are_printed(rt: HostRuntime) {
     let facts = [
-        InlineText::<40>::of(format_args!("{half}")).as_str() == "1/2",
-        InlineText::<40>::of(format_args!("{two:+}")).as_str() == "+2",
-        InlineText::<40>::of(format_args!("{minus_two:+}")).as_str() == "-2",
-        InlineText::<40>::of(format_args!("{half:<6}")).as_str() == "1/2   ",
-        InlineText::<40>::of(format_args!("{half:>8}")).as_str() == "     1/2",
+        refusal_reads("1/x", "failed to parse integer|  failed to parse integer"),
+        refusal_reads("1/0", "zero value denominator|   zero value denominator"),
     ];
     each_holds(&rt, &facts);
-}
-
-#[test]
-fn nearest_is_called(rt: HostRuntime) {
-    assert!(rt; Ratio::new_raw(355i64, 113).nearest(100).into_raw() == (311, 99));
 }

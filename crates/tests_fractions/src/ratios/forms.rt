@@ -45,10 +45,7 @@ pub(crate) fn has<T: Integer>(x: Ratio<T>, fields: (T, T)) -> bool {
 
 /// Whether the result has these fields, or both are `None`.
 pub(crate) fn answers<T: Integer>(answer: Option<Ratio<T>>, want: Option<(T, T)>) -> bool {
-    match answer {
-        Some(x) => want == Some(x.into_raw()),
-        None => want.is_none(),
-    }
+    answer.map(Ratio::into_raw) == want
 }
 
 /// The fields of the sum, if the checked call returns it and every other form gives the same.

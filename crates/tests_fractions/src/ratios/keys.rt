@@ -1,6 +1,6 @@
 //! Fractions as keys of maps.
 use crate::asserting::each_holds;
-use num_rational::Rational64;
+use num_rational::{Rational64, Reduced, Reduced64};
 use std::collections::{BTreeMap, HashMap};
 use std::process::Abort;
 use std::test::Fail;
@@ -41,5 +41,18 @@ fn keys_are_found_by_equal_keys(rt: HostRuntime) -> Result<(), Fail> {
         &rt,
         &[ordered.get(&other).is_none(), hashed.get(&other).is_none()],
     );
+    Ok(())
+}
+
+#[test]
+fn equal_keys_are_one_entry(rt: HostRuntime) -> Result<(), Fail> {
+    let mut ordered = BTreeMap::new(rt.alloc());
+    let mut hashed = HashMap::new(rt.alloc());
+    for (n, d) in [(1, 2), (2, 4), (-1, -2)] {
+        let key = Reduced64::checked_new(n, d).unwrap_or(Reduced::zero());
+        ordered.insert(key, n)?;
+        hashed.insert(key, n)?;
+    }
+    each_holds(&rt, &[ordered.len() == 1, hashed.len() == 1]);
     Ok(())
 }

@@ -1,5 +1,5 @@
 //! The main promise at concrete types: rows from outside.
-use crate::asserting::each_holds;
+use crate::asserting::all_hold;
 use crate::ratios::forms::{answers, raw};
 use num_rational::{HeadlineResult, Ratio, Steps, headline};
 use ratio_integer::Integer;
@@ -27,16 +27,11 @@ fn shown<T: Integer>(
     (told, left.as_slice() == right.as_slice())
 }
 
-// Whether two fractions have this order, and this product and quotient.
-fn stand<T: Integer>(
-    left: Codes<T>,
-    right: Codes<T>,
-    fields: [(T, T); 2],
-    order: Ordering,
-    product: Option<(T, T)>,
-    quotient: Option<(T, T)>,
-) -> bool {
-    let [(n, d), (m, e)] = fields;
+// A row: the fields of two fractions, and their order, their product and their quotient.
+type Row<T> = ((T, T), (T, T), Ordering, Option<(T, T)>, Option<(T, T)>);
+
+fn holds<T: Integer>(row: &Row<T>, left: Codes<T>, right: Codes<T>) -> bool {
+    let &((n, d), (m, e), order, product, quotient) = row;
     match (raw(n, d), raw(m, e)) {
         (Some(x), Some(y)) => {
             let (told, alike) = shown(&x, &y, left, right);
@@ -49,48 +44,20 @@ fn stand<T: Integer>(
     }
 }
 
-fn stand_8(
-    fields: [(i8, i8); 2],
-    order: Ordering,
-    product: Option<(i8, i8)>,
-    quotient: Option<(i8, i8)>,
-) -> bool {
-    stand(Codes::new(), Codes::new(), fields, order, product, quotient)
-}
-
-fn stand_64(
-    fields: [(i64, i64); 2],
-    order: Ordering,
-    product: Option<(i64, i64)>,
-    quotient: Option<(i64, i64)>,
-) -> bool {
-    stand(Codes::new(), Codes::new(), fields, order, product, quotient)
-}
-
 #[test]
 fn the_headline_over_machine_types(rt: HostRuntime) {
-    let facts = [
-        stand_8([(100, 3), (3, 100)], Ordering::Greater, Some((1, 1)), None),
-        stand_64(
-            [(2, 4), (1, 2)],
-            Ordering::Equal,
-            Some((1, 4)),
-            Some((1, 1)),
-        ),
-        stand_64([(1, -2), (3, -2)], Ordering::Greater, None, None),
-        stand_64(
-            [(i64::MIN, -1), (i64::MAX, 1)],
-            Ordering::Greater,
-            None,
-            None,
-        ),
-        stand_64(
-            [(i64::MAX, 2), (i64::MAX, 3)],
-            Ordering::Greater,
-            None,
-            Some((3, 2)),
-        ),
-        stand_64([(0, 5), (0, 7)], Ordering::Equal, Some((0, 1)), None),
+    let (least, most) = (i64::MIN, i64::MAX);
+    let row = ((100i8, 3), (3, 100), Ordering::Greater, Some((1, 1)), None);
+    assert!(rt; holds(&row, Codes::new(), Codes::new()));
+    let rows = [
+        ((2, 4), (1, 2), Ordering::Equal, Some((1, 4)), Some((1, 1))),
+        ((1, -2), (3, -2), Ordering::Greater, None, None),
+        ((least, -1), (most, 1), Ordering::Greater, None, None),
+        ((most, 2), (most, 3), Ordering::Greater, None, Some((3, 2))),
+        ((0, 5), (0, 7), Ordering::Equal, Some((0, 1)), None),
     ];
-    each_holds(&rt, &facts);
+    let first_wrong = rows
+        .iter()
+        .position(|row| !holds(row, Codes::new(), Codes::new()));
+    all_hold(&rt, "rows", first_wrong);
 }

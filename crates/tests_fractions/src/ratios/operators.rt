@@ -37,14 +37,6 @@ fn lowest_answer<T: Integer, O: ReducedOperand<T>>(
     }
 }
 
-// Whether the result has these fields, or both are `None`.
-fn is_lowest<T: Integer>(answer: Option<Reduced<T>>, want: Option<(T, T)>) -> bool {
-    match answer {
-        Some(y) => Some(y.into_raw()) == want,
-        None => want.is_none(),
-    }
-}
-
 // Whether the lowest terms of the left side give this result.
 fn lowest_holds<T: Integer, O: ReducedOperand<T> + Copy>(
     left: (T, T),
@@ -53,7 +45,7 @@ fn lowest_holds<T: Integer, O: ReducedOperand<T> + Copy>(
     want: Option<(T, T)>,
 ) -> bool {
     match Reduced::checked_new(left.0, left.1) {
-        Some(x) => is_lowest(lowest_answer(x, symbol, o), want),
+        Some(x) => lowest_answer(x, symbol, o).map(Reduced::into_raw) == want,
         None => false,
     }
 }
@@ -97,18 +89,14 @@ fn holds_with<T: Integer>(left: (T, T), symbol: u8, c: T, want: Option<(T, T)>) 
 // A row: a, b, a symbol, c, d, and the expected result for a/b and c/d.
 type Row<T> = (T, T, u8, T, T, Option<(T, T)>);
 
-// The first row that does not hold.
-fn first_wrong<T: Integer>(rows: &[Row<T>]) -> Option<usize> {
-    for (i, &(a, b, symbol, c, d, want)) in rows.iter().enumerate() {
-        if !holds((a, b), symbol, (c, d), want) {
-            return Some(i);
-        }
-    }
-    None
+fn row_holds<T: Integer>(row: &Row<T>) -> bool {
+    let &(a, b, symbol, c, d, want) = row;
+    holds((a, b), symbol, (c, d), want)
 }
 
 fn rows_hold<T: Integer>(rt: &impl Abort, rows: &[Row<T>]) {
-    all_hold(rt, "operators", first_wrong(rows));
+    let first_wrong = rows.iter().position(|row| !row_holds(row));
+    all_hold(rt, "operators", first_wrong);
 }
 
 #[test]
@@ -372,7 +360,12 @@ fn where_8_bits_end(rt: HostRuntime) {
         ],
     );
     rows_hold(&rt, &[(1u8, 2, b'-', 1, 1, None), (1, 1, b'%', 0, 3, None)]);
-    assert!(rt; is_sum_of_lowest_terms((255u8, 2), (255, 2), (255, 1)));
+    let facts = [
+        holds_with((-128i8, 1), b'/', -1, None),
+        holds_with((127i8, 1), b'+', 1, None),
+        is_sum_of_lowest_terms((255u8, 2), (255, 2), (255, 1)),
+    ];
+    each_holds(&rt, &facts);
 }
 
 #[test]

@@ -40,23 +40,15 @@ fn lowest_power<T: Integer>(n: T, d: T, e: i32, want: Option<(T, T)>) -> bool {
 // A row: n, d, e and the fields of n/d to the e.
 type Row<T> = (T, T, i32, Option<(T, T)>);
 
-// Whether every call returns this power.
-fn holds<T: Integer>(n: T, d: T, e: i32, want: Option<(T, T)>) -> bool {
+// Whether every call returns the row's power.
+fn holds<T: Integer>(row: &Row<T>) -> bool {
+    let &(n, d, e, want) = row;
     small_power(n, d, e) == want && power(n, d, &e) == want && lowest_power(n, d, e, want)
 }
 
-// The first row that does not hold.
-fn first_wrong<T: Integer>(rows: &[Row<T>]) -> Option<usize> {
-    for (i, &(n, d, e, want)) in rows.iter().enumerate() {
-        if !holds(n, d, e, want) {
-            return Some(i);
-        }
-    }
-    None
-}
-
 fn rows_hold<T: Integer>(rt: &impl Abort, rows: &[Row<T>]) {
-    all_hold(rt, "powers", first_wrong(rows));
+    let first_wrong = rows.iter().position(|row| !holds(row));
+    all_hold(rt, "powers", first_wrong);
 }
 
 #[test]

@@ -31,18 +31,15 @@ fn near_lowest<T: Integer>(n: T, d: T) -> Option<(T, T, T, T)> {
     ))
 }
 
-// The first row that is rounded otherwise.
-fn first_wrong<T: Integer>(rows: &[Row<T>]) -> Option<usize> {
-    for (i, &(n, d, want)) in rows.iter().enumerate() {
-        if near(n, d) != Some(want) || near_lowest(n, d) != Some(want) {
-            return Some(i);
-        }
-    }
-    None
+// Whether both types round as the row says.
+fn holds<T: Integer>(row: &Row<T>) -> bool {
+    let &(n, d, want) = row;
+    near(n, d) == Some(want) && near_lowest(n, d) == Some(want)
 }
 
 fn rows_hold<T: Integer>(rt: &impl Abort, rows: &[Row<T>]) {
-    all_hold(rt, "rounding", first_wrong(rows));
+    let first_wrong = rows.iter().position(|row| !holds(row));
+    all_hold(rt, "rounding", first_wrong);
 }
 
 #[test]
@@ -101,29 +98,23 @@ fn parts<T: Integer>(n: T, d: T) -> Option<((T, T), T)> {
     Some((x.fract().into_raw(), x.to_integer()))
 }
 
-// Whether the lowest terms of n/d have these two parts.
-fn lowest_parts_hold<T: Integer>(n: T, d: T, want: ((T, T), T)) -> bool {
+// Whether n/d and its lowest terms have the two parts that the row says.
+fn has_parts<T: Integer>(row: &(T, T, ((T, T), T))) -> bool {
+    let &(n, d, want) = row;
     let (part, whole) = want;
     match Reduced::checked_new(n, d) {
         Some(x) => {
-            Reduced::checked_new(part.0, part.1) == Some(x.fract()) && x.to_integer() == whole
+            parts(n, d) == Some(want)
+                && Reduced::checked_new(part.0, part.1) == Some(x.fract())
+                && x.to_integer() == whole
         }
         None => false,
     }
 }
 
-// The first row that has other parts.
-fn first_other_parts<T: Integer>(rows: &[(T, T, ((T, T), T))]) -> Option<usize> {
-    for (i, &(n, d, want)) in rows.iter().enumerate() {
-        if parts(n, d) != Some(want) || !lowest_parts_hold(n, d, want) {
-            return Some(i);
-        }
-    }
-    None
-}
-
 fn parts_hold<T: Integer>(rt: &impl Abort, rows: &[(T, T, ((T, T), T))]) {
-    all_hold(rt, "parts", first_other_parts(rows));
+    let first_wrong = rows.iter().position(|row| !has_parts(row));
+    all_hold(rt, "parts", first_wrong);
 }
 
 #[test]

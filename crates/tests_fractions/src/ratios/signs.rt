@@ -39,18 +39,15 @@ fn long_signs(want: Signs<i8>) -> Signs<i64> {
     (long(want.0), long(want.1), want.2 as i64, want.3, want.4)
 }
 
-// The first row that has other signs, over `i8` or over `i64`.
-fn first_wrong(rows: &[(i8, i8, Signs<i8>)]) -> Option<usize> {
-    for (i, &(n, d, want)) in rows.iter().enumerate() {
-        if signs(n, d) != Some(want) || signs(n as i64, d as i64) != Some(long_signs(want)) {
-            return Some(i);
-        }
-    }
-    None
+// Whether n/d has these signs over `i8` and over `i64`.
+fn holds(row: &(i8, i8, Signs<i8>)) -> bool {
+    let &(n, d, want) = row;
+    signs(n, d) == Some(want) && signs(n as i64, d as i64) == Some(long_signs(want))
 }
 
 fn signs_hold(rt: &impl Abort, rows: &[(i8, i8, Signs<i8>)]) {
-    all_hold(rt, "signs", first_wrong(rows));
+    let first_wrong = rows.iter().position(|row| !holds(row));
+    all_hold(rt, "signs", first_wrong);
 }
 
 #[test]

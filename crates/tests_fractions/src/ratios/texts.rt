@@ -1,38 +1,11 @@
-//! Rows of texts, read and printed, from outside.
-use crate::asserting::{all_hold, each_holds, reads as reads_as};
+//! Rows of fractions printed under the options of a pair of braces, and into texts that are there, from outside.
+use crate::asserting::{all_hold, reads};
 use crate::ratios::forms::raw;
-use num_rational::{BaseTenText, Form, Ratio, RatioText};
+use num_rational::{BaseTenText, Form, Ratio, RatioText, Reduced, Reduced64};
 use ratio_integer::Primitive;
 use std::fmt;
 use std::fmt::{Binary, Display, Formatter, InlineText, LowerHex, Octal, UpperHex, Write};
 use std::process::Abort;
-
-// Whether the text in the radix gives these fields, or the refusal with this number.
-fn reads<T: Primitive>(text: &str, radix: u32, want: Result<(T, T), u8>) -> bool {
-    if radix < 2 || radix > 36 {
-        return false;
-    }
-    match (Ratio::<T>::from_str_radix(text, radix), want) {
-        (Ok(x), Ok((numer, denom))) => *x.numer() == numer && *x.denom() == denom,
-        (Err(refusal), Err(number)) => refusal.kind() as u8 == number,
-        _ => false,
-    }
-}
-
-#[test]
-fn texts_in_a_radix(rt: HostRuntime) {
-    let facts = [
-        reads::<u8>("-0/1", 10, Err(1)),
-        reads::<u8>("100000000/1", 2, Err(1)),
-        reads::<i8>("+10/0x2", 16, Err(1)),
-        reads::<i8>("z/0", 10, Err(1)),
-        reads::<i8>("z/0", 36, Err(2)),
-        reads::<i32>("5", 10, Err(1)),
-        reads::<i32>("fF/-2", 16, Ok((-255, 2))),
-        reads::<i32>("z/Z", 36, Ok((1, 1))),
-    ];
-    each_holds(&rt, &facts);
-}
 
 /// A fraction that is printed in a form, under the options of its pair of braces.
 #[derive(Drop)]
@@ -62,9 +35,9 @@ pub(crate) fn shown_as<T: Primitive>(numer: T, denom: T, form: Form) -> Shown<Ra
 // A row of printed fractions.
 type Line = InlineText<120>;
 
-/// The first form in which -7/12 over `i8` is printed otherwise: plain, with a sign, with a prefix,
-/// in a width, or with zeros.
-pub(crate) fn first_misprinted<X>(fraction: X) -> Option<usize>
+// The first form in which -7/12 over `i8` is printed otherwise: plain, with a sign, with a prefix,
+// in a width, or with zeros.
+fn first_misprinted<X>(fraction: X) -> Option<usize>
 where
     X: Copy + Drop + Display + Binary + Octal + LowerHex + UpperHex,
 {
@@ -94,6 +67,22 @@ where
 #[test]
 fn each_form_is_printed(rt: HostRuntime) {
     all_hold(&rt, "forms", first_misprinted(Ratio::new_raw(-7i8, 12)));
+    let x = Reduced::checked_new(-14i8, 24).unwrap_or(Reduced::zero());
+    all_hold(&rt, "lowest terms", first_misprinted(x));
+}
+
+fn eleven_tenths(form: Form) -> Shown<Reduced64> {
+    let fraction = Reduced64::checked_new(22, 20).unwrap_or(Reduced::zero());
+    Shown { fraction, form }
+}
+
+#[test]
+fn lowest_terms_are_printed(rt: HostRuntime) {
+    let (binary, octal) = (eleven_tenths(Form::Binary), eleven_tenths(Form::Octal));
+    let (lower, upper) = (eleven_tenths(Form::LowerHex), eleven_tenths(Form::UpperHex));
+    let decimal = eleven_tenths(Form::Decimal);
+    let row = Line::of(format_args!("{decimal:>6} {binary} {octal:#} {lower} {upper}"));
+    reads(&rt, row.as_str(), " 11/10 1011/1010 0o13/0o12 b/a B/A");
 }
 
 fn signs(rt: &impl Abort) {
@@ -101,7 +90,7 @@ fn signs(rt: &impl Abort) {
     let minus_two = shown_as(-2i64, 1, Form::Decimal);
     let half = shown_as(1i64, 2, Form::Binary);
     let row = Line::of(format_args!("{two:+} {minus_two:+} {half} {half:+}"));
-    reads_as(rt, row.as_str(), "+2 -2 1/10 +1/10");
+    reads(rt, row.as_str(), "+2 -2 1/10 +1/10");
 }
 
 fn prefixes(rt: &impl Abort) {
@@ -109,14 +98,14 @@ fn prefixes(rt: &impl Abort) {
     let octal = shown_as(-1i8, 2, Form::Octal);
     let upper = shown_as(-1i8, 2, Form::UpperHex);
     let row = Line::of(format_args!("{binary:#} {octal:#} {upper:#}"));
-    reads_as(rt, row.as_str(), "0b11111111/0b10 0o377/0o2 0xFF/0x2");
+    reads(rt, row.as_str(), "0b11111111/0b10 0o377/0o2 0xFF/0x2");
 }
 
 fn letters(rt: &impl Abort) {
     let fifteenth = shown_as(1i64, 15, Form::UpperHex);
     let lower = shown_as(-1i8, 2, Form::LowerHex);
     let row = Line::of(format_args!("{fifteenth} {lower} {lower:+}"));
-    reads_as(rt, row.as_str(), "1/F ff/2 +ff/2");
+    reads(rt, row.as_str(), "1/F ff/2 +ff/2");
 }
 
 #[test]
@@ -127,21 +116,21 @@ fn signs_and_prefixes(rt: HostRuntime) {
     let decimal = shown_as(1i8, -2, Form::Decimal);
     let binary = shown_as(1i8, -2, Form::Binary);
     let row = Line::of(format_args!("{decimal} {binary}"));
-    reads_as(&rt, row.as_str(), "1/-2 1/11111110");
+    reads(&rt, row.as_str(), "1/-2 1/11111110");
 }
 
 fn decimal_widths(rt: &impl Abort) {
     let half = shown_as(1i64, 2, Form::Decimal);
     let minus_one = shown_as(-1i8, 1, Form::Decimal);
     let row = Line::of(format_args!("{half:<6}|{half:>8}|{half:*^7}|{minus_one:05}"));
-    reads_as(rt, row.as_str(), "1/2   |     1/2|**1/2**|-0001");
+    reads(rt, row.as_str(), "1/2   |     1/2|**1/2**|-0001");
 }
 
 fn prefixed_widths(rt: &impl Abort) {
     let half = shown_as(1i64, 2, Form::Binary);
     let eighth = shown_as(1i64, 8, Form::Octal);
     let row = Line::of(format_args!("{half:010} {half:#010} {eighth:#010}"));
-    reads_as(rt, row.as_str(), "0000001/10 0b001/0b10 0o001/0o10");
+    reads(rt, row.as_str(), "0000001/10 0b001/0b10 0o001/0o10");
 }
 
 #[test]
@@ -154,16 +143,29 @@ fn widths(rt: HostRuntime) {
     assert!(rt; long.as_str().len() == 261);
 }
 
+// The calls that write into a text that is there.
 #[test]
 fn texts_in_place(rt: HostRuntime) {
     let half = Ratio::new_raw(-2i64, 4);
-    reads_as(&rt, half.base_ten_text().as_str(), "-2/4");
+    reads(&rt, half.base_ten_text().as_str(), "-2/4");
     let mut decimal = BaseTenText::empty();
     half.put_base_ten_text(&mut decimal);
-    reads_as(&rt, decimal.as_str(), "-2/4");
+    reads(&rt, decimal.as_str(), "-2/4");
     Ratio::from_integer(7i64).put_base_ten_text(&mut decimal);
-    reads_as(&rt, decimal.as_str(), "7");
+    reads(&rt, decimal.as_str(), "7");
     let mut text = RatioText::empty();
     half.put_text(Form::LowerHex, true, &mut text);
-    reads_as(&rt, text.as_str(), "0xfffffffffffffffe/0x4");
+    reads(&rt, text.as_str(), "0xfffffffffffffffe/0x4");
+}
+
+#[test]
+fn texts_of_lowest_terms_in_place(rt: HostRuntime) {
+    let half = Reduced64::checked_new(-2, 4).unwrap_or(Reduced::zero());
+    reads(&rt, half.base_ten_text().as_str(), "-1/2");
+    let mut decimal = BaseTenText::empty();
+    half.put_base_ten_text(&mut decimal);
+    reads(&rt, decimal.as_str(), "-1/2");
+    let mut text = RatioText::empty();
+    half.put_text(Form::LowerHex, true, &mut text);
+    reads(&rt, text.as_str(), "0xffffffffffffffff/0x2");
 }

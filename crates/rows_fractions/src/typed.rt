@@ -1,0 +1,44 @@
+//! Calls of `ratio_expr` and `ratio_replies`: texts that a person types. In a row, `\n`, `\t` and `\0` stand for one byte each.
+mod replies;
+mod texts;
+mod trees;
+mod values;
+
+use rows::answer::Answer;
+use rows::words::text;
+use std::alloc::{AllocError, Global};
+use std::fmt;
+use texts::bytes_of;
+
+/// Makes a call of `ratio_expr`, and writes its answer.
+pub fn write_answer<W: fmt::Write>(
+    alloc: Global,
+    call: &str,
+    words: &str,
+    f: &mut fmt::Formatter<W>,
+) -> fmt::Result {
+    match answer(alloc, call, words) {
+        Ok(answer) => write!(f, "{answer}"),
+        Err(_) => f.write_str("no memory"),
+    }
+}
+
+fn answer(alloc: Global, call: &str, words: &str) -> Result<Answer<i64>, AllocError> {
+    if call == "reply_to" {
+        return replies::answer(alloc, words);
+    }
+    let Some(text) = text(words) else {
+        return Ok(Answer::BadRow);
+    };
+    let Some(bytes) = bytes_of(alloc, text)? else {
+        return Ok(Answer::BadRow);
+    };
+    match call {
+        "tree_of" => trees::steps(alloc, &bytes),
+        "operators" => trees::operators(alloc, &bytes),
+        "value_of" => values::value(alloc, &bytes),
+        "answer" => values::answers(alloc, &bytes),
+        "read_as" => values::reading(alloc, &bytes),
+        _ => Ok(Answer::BadRow),
+    }
+}

@@ -1,4 +1,4 @@
-//! Tests of natural numbers of any length, beside the rows of crates/rows.
+//! Tests of natural numbers of any length, beside the rows of crates/rows_numbers.
 #![tactic(auto)]
 
 #[cfg(test)]

@@ -1,4 +1,4 @@
-//! Tests of `Reduced` that are no rows: long walks, and texts under the options of a format. The rows are in crates/rows/rows.
+//! Tests of `Reduced` that are no rows: long walks, and texts under the options of a format. The rows are in crates/rows_fractions/rows.
 #![tactic(auto)]
 
 #[cfg(test)]

@@ -1,15 +1,16 @@
 //! The rows of crates/PROGRAM/rows by plain Rust: each call is made anew, and its answer compared with the row's.
 use crate::memory::Global;
+use crate::proved::rows::row::Row;
 use std::string::{String, ToString};
 use std::vec::Vec;
-use subjects::Row;
+use subjects::Subjects;
 
 /// What is wrong with a row, if anything is. The numbers of `isize` and `usize` are for 64 bits.
 fn fault(line: &str) -> Option<String> {
     if cfg!(not(target_pointer_width = "64")) && line.split(' ').any(|word| word == "isize" || word == "usize") {
         return None;
     }
-    let got = Row { alloc: Global, line }.to_string();
+    let got = Row { alloc: Global, line, calls: Subjects }.to_string();
     (got != line || got.ends_with(" = bad row")).then(|| std::format!("the row:     {line}\nthe program: {got}\n"))
 }
 

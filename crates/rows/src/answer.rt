@@ -107,6 +107,28 @@ pub fn of_f32<T>(alloc: Global, x: f32) -> Answer<T> {
     of_text(format!(in alloc; "{bits:#x}"))
 }
 
+/// Writes the answer. There is none to a row that cannot be read.
+pub fn write_or_bad_row<T: Display + Drop, W: fmt::Write>(
+    answer: Option<Answer<T>>,
+    f: &mut fmt::Formatter<W>,
+) -> fmt::Result {
+    match answer {
+        Some(answer) => write!(f, "{answer}"),
+        None => f.write_str("bad row"),
+    }
+}
+
+/// Writes the answer of a call that takes memory.
+pub fn write_or_no_memory<W: fmt::Write>(
+    answer: Result<Answer<i64>, AllocError>,
+    f: &mut fmt::Formatter<W>,
+) -> fmt::Result {
+    match answer {
+        Ok(answer) => write!(f, "{answer}"),
+        Err(_) => f.write_str("no memory"),
+    }
+}
+
 impl<T: Display> Display for Answer<T> {
     fn fmt<W: fmt::Write>(&self, f: &mut fmt::Formatter<W>) -> fmt::Result {
         match self {

@@ -5,9 +5,11 @@
 //! |---|---|
 //! | `answer` | What a call returned, as a row writes it. |
 //! | `row` | A row: its place, its call and its words. |
+//! | `types` | Calls over the type that a row names: `i64` of `Ratio::checked_add i64 1/2 1/3`. |
 //! | `words` | Numbers, fractions, lists and texts, as a row writes them: `-7`, `-7/2`, `[1/2,1/3]`, `"1 1/2"`. |
 #![tactic(auto)]
 
 pub mod answer;
 pub mod row;
+pub mod types;
 pub mod words;

@@ -24,7 +24,7 @@
 //! | `reduced::read` | Calls that read a fraction: from a decimal, from what a person types, or from a float. |
 //! | `reduced::splits` | Amounts split by shares or by weights. |
 //! | `reduced::within` | The simplest fraction within two bounds: `>=1/3 <1/2` has 1/3 and all that is below 1/2, and `>5/2 any` all that is above 5/2. |
-//! | `subjects` | Rows of this program, and the subject of a call by the first part of its name: `BigFraction` of `BigFraction::floor`. |
+//! | `subjects` | The subject of a call by the first part of its name: `BigFraction` of `BigFraction::floor`. |
 //! | `typed` | Calls of `ratio_expr` and `ratio_replies`: texts that a person types. |
 //! | `typed::replies` | Replies to lines, in each form: `Both "7/12"`, `Decimal 4 "17/12"`. |
 //! | `typed::texts` | Texts with escapes, as a row writes them. |
@@ -38,9 +38,10 @@ mod reduced;
 mod subjects;
 mod typed;
 
+use rows::row::Row;
 use std::io;
 use std::io::{BufRead, BufReader, BufWriter, Write};
-use subjects::Row;
+use subjects::Subjects;
 
 fn main(rt: HostRuntime) -> io::Result<()> {
     let mut out = BufWriter::new(rt.alloc(), io::writer(&rt))?;
@@ -49,6 +50,7 @@ fn main(rt: HostRuntime) -> io::Result<()> {
         let row = Row {
             alloc: rt.alloc(),
             line: line.as_str(),
+            calls: Subjects,
         };
         writeln!(out, "{row}")?;
     }

@@ -12,65 +12,28 @@ mod within;
 use num_rational::Reduced;
 use ratio_integer::{Integer, Primitive};
 use rows::answer::Answer;
+use rows::types::{Asked, OverTypes};
 use rows::words::fraction;
-use std::alloc::Global;
-use std::fmt;
 use std::fmt::Display;
 
-/// Makes the call over the type that the first word names, and writes its answer.
-pub fn write_answer<W: fmt::Write>(
-    alloc: Global,
-    call: &str,
-    words: &str,
-    f: &mut fmt::Formatter<W>,
-) -> fmt::Result {
-    let Some((type_name, words)) = words.split_once(' ') else {
-        return f.write_str("bad row");
-    };
-    match type_name {
-        "i8" => write!(f, "{}", answer::<i8>(alloc, call, words)),
-        "i16" => write!(f, "{}", answer::<i16>(alloc, call, words)),
-        "i32" => write!(f, "{}", answer::<i32>(alloc, call, words)),
-        "i64" => write!(f, "{}", answer::<i64>(alloc, call, words)),
-        "i128" => write!(f, "{}", answer::<i128>(alloc, call, words)),
-        "isize" => write!(f, "{}", answer::<isize>(alloc, call, words)),
-        "u8" => write!(f, "{}", answer::<u8>(alloc, call, words)),
-        "u16" => write!(f, "{}", answer::<u16>(alloc, call, words)),
-        "u32" => write!(f, "{}", answer::<u32>(alloc, call, words)),
-        "u64" => write!(f, "{}", answer::<u64>(alloc, call, words)),
-        "u128" => write!(f, "{}", answer::<u128>(alloc, call, words)),
-        "usize" => write!(f, "{}", answer::<usize>(alloc, call, words)),
-        _ => f.write_str("bad row"),
-    }
-}
+/// The calls of this module.
+#[derive(Clone, Copy, Drop)]
+pub struct ReducedCalls;
 
-// The answer of the module that has the call. The others return `None`, as they do for words that cannot be read.
-fn answer<T: Primitive + Display>(alloc: Global, call: &str, words: &str) -> Answer<T> {
-    if let Some(answer) = on_two::answer(call, words) {
-        return answer;
+impl OverTypes for ReducedCalls {
+    // The module that has the call answers. The others return `None`, as they do for words that cannot be read.
+    fn answer<T: Primitive + Display>(&self, asked: Asked<'_>) -> Option<Answer<T>> {
+        let (alloc, call, words) = (asked.alloc, asked.call, asked.words);
+        on_two::answer(call, words)
+            .or_else(|| on_one::answer(alloc, call, words))
+            .or_else(|| floats::answer(alloc, call, words))
+            .or_else(|| by_rule::answer(alloc, call, words))
+            .or_else(|| read::answer(alloc, call, words))
+            .or_else(|| lists::answer(alloc, call, words))
+            .or_else(|| splits::answer(alloc, call, words))
+            .or_else(|| within::answer(call, words))
+            .or_else(|| casts::answer::<T>(alloc, call, words))
     }
-    if let Some(answer) = on_one::answer(alloc, call, words) {
-        return answer;
-    }
-    if let Some(answer) = floats::answer(alloc, call, words) {
-        return answer;
-    }
-    if let Some(answer) = by_rule::answer(alloc, call, words) {
-        return answer;
-    }
-    if let Some(answer) = read::answer(alloc, call, words) {
-        return answer;
-    }
-    if let Some(answer) = lists::answer(alloc, call, words) {
-        return answer;
-    }
-    if let Some(answer) = splits::answer(alloc, call, words) {
-        return answer;
-    }
-    if let Some(answer) = within::answer(call, words) {
-        return answer;
-    }
-    casts::answer::<T>(alloc, call, words).unwrap_or(Answer::BadRow)
 }
 
 // The lowest terms of a fraction as it is written. A row whose lowest terms do not fit the type cannot be read.

@@ -1,42 +1,33 @@
-//! Rows of this program, and the subject of a call by the first part of its name: `BigFraction` of `BigFraction::floor`.
-use crate::{big, ratios, reduced, typed};
-use rows::row::{asked, call_of};
+//! The subject of a call by the first part of its name: `BigFraction` of `BigFraction::floor`.
+use crate::ratios::Ratios;
+use crate::reduced::ReducedCalls;
+use crate::{big, typed};
+use rows::row::Calls;
+use rows::types;
 use std::alloc::Global;
 use std::fmt;
-use std::fmt::Display;
 
-/// A line of the input. It is written with the answer that its call returns now.
-#[derive(Drop)]
-pub struct Row<'a> {
-    pub alloc: Global,
-    pub line: &'a str,
-}
+/// The calls of this program.
+#[derive(Clone, Copy, Drop)]
+pub struct Subjects;
 
-impl Display for Row<'_> {
-    fn fmt<W: fmt::Write>(&self, f: &mut fmt::Formatter<W>) -> fmt::Result {
-        let asked = asked(self.line);
-        write!(f, "{asked} = ")?;
-        match call_of(asked) {
-            Some((name, words)) => write_answer(self.alloc, name, words, f),
-            None => f.write_str("bad row"),
+impl Calls for Subjects {
+    fn write_answer<W: fmt::Write>(
+        &self,
+        alloc: Global,
+        name: &str,
+        words: &str,
+        f: &mut fmt::Formatter<W>,
+    ) -> fmt::Result {
+        let Some((subject, call)) = name.split_once("::") else {
+            return f.write_str("bad row");
+        };
+        match subject {
+            "Both" => types::write_answer(&Ratios, alloc, call, words, f),
+            "Ratio" => types::write_answer(&ReducedCalls, alloc, name, words, f),
+            "BigFraction" => big::write_answer(alloc, call, words, f),
+            "expr" | "replies" => typed::write_answer(alloc, call, words, f),
+            _ => types::write_answer(&ReducedCalls, alloc, call, words, f),
         }
-    }
-}
-
-fn write_answer<W: fmt::Write>(
-    alloc: Global,
-    name: &str,
-    words: &str,
-    f: &mut fmt::Formatter<W>,
-) -> fmt::Result {
-    let Some((subject, call)) = name.split_once("::") else {
-        return f.write_str("bad row");
-    };
-    match subject {
-        "Both" => ratios::write_answer(alloc, call, words, f),
-        "Ratio" => reduced::write_answer(alloc, name, words, f),
-        "BigFraction" => big::write_answer(alloc, call, words, f),
-        "expr" | "replies" => typed::write_answer(alloc, call, words, f),
-        _ => reduced::write_answer(alloc, call, words, f),
     }
 }

@@ -4,7 +4,7 @@ mod texts;
 mod trees;
 mod values;
 
-use rows::answer::Answer;
+use rows::answer::{Answer, write_or_no_memory};
 use rows::words::text;
 use std::alloc::{AllocError, Global};
 use std::fmt;
@@ -17,10 +17,7 @@ pub fn write_answer<W: fmt::Write>(
     words: &str,
     f: &mut fmt::Formatter<W>,
 ) -> fmt::Result {
-    match answer(alloc, call, words) {
-        Ok(answer) => write!(f, "{answer}"),
-        Err(_) => f.write_str("no memory"),
-    }
+    write_or_no_memory(answer(alloc, call, words), f)
 }
 
 fn answer(alloc: Global, call: &str, words: &str) -> Result<Answer<i64>, AllocError> {

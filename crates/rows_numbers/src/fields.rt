@@ -15,24 +15,18 @@ ghost use Rattle.std.specs.Prelude.{◌<ℤ◌, pos, IfSome};
 
 use ratio_integer::{Integer, Primitive};
 use rows::answer::{Answer, of_fields};
-use rows::words::{fraction, two_fractions};
+use rows::types;
+use rows::types::{Asked, OverTypes};
+use rows::words::fraction;
 use std::alloc::Global;
 use std::fmt;
 use std::fmt::Display;
-
-/// A call and its words, behind the name of the type.
-#[derive(Clone, Copy)]
-struct Asked<'a> {
-    alloc: Global,
-    subject: &'a str,
-    call: &'a str,
-    words: &'a str,
-}
 
 /// The call over one type.
 #[derive(Clone, Copy)]
 struct OverType<'a> {
     type_name: &'a str,
+    subject: &'a str,
     asked: Asked<'a>,
 }
 
@@ -44,28 +38,37 @@ pub fn write_answer<W: fmt::Write>(
     words: &str,
     f: &mut fmt::Formatter<W>,
 ) -> fmt::Result {
-    let (type_name, words) = match words.split_once(' ') {
-        Some(split) => split,
-        None => (words, ""),
-    };
-    let asked = Asked {
-        alloc,
-        subject,
-        call,
-        words,
-    };
+    let (type_name, words) = words.split_once(' ').unwrap_or((words, ""));
+    let asked = Asked { alloc, call, words };
     if type_name == "all" {
-        write_over_all(asked, f)
+        write_over_all(subject, asked, f)
     } else {
-        let over = OverType { type_name, asked };
-        write!(f, "{over}")
+        write_over_type(subject, type_name, asked, f)
+    }
+}
+
+fn write_over_type<W: fmt::Write>(
+    subject: &str,
+    type_name: &str,
+    asked: Asked<'_>,
+    f: &mut fmt::Formatter<W>,
+) -> fmt::Result {
+    if subject == "sign" || subject == "SignedInteger" {
+        signed::write_answer(type_name, asked.call, asked.words, f)
+    } else {
+        types::write_over_type(&Fields { subject }, type_name, asked, f)
     }
 }
 
 // The answer that the call has over all types.
-fn write_over_all<W: fmt::Write>(asked: Asked<'_>, f: &mut fmt::Formatter<W>) -> fmt::Result {
+fn write_over_all<W: fmt::Write>(
+    subject: &str,
+    asked: Asked<'_>,
+    f: &mut fmt::Formatter<W>,
+) -> fmt::Result {
     let first = OverType {
         type_name: "i8",
+        subject,
         asked,
     };
     let Ok(text) = format!(in asked.alloc; "{first}") else {
@@ -74,7 +77,7 @@ fn write_over_all<W: fmt::Write>(asked: Asked<'_>, f: &mut fmt::Formatter<W>) ->
     for type_name in [
         "i16", "i32", "i64", "i128", "isize", "u8", "u16", "u32", "u64", "u128", "usize",
     ] {
-        let other = OverType { type_name, asked };
+        let other = OverType { type_name, ..first };
         match format!(in asked.alloc; "{other}") {
             Ok(other) if other.as_str() == text.as_str() => {}
             _ => return f.write_str("types differ"),
@@ -85,45 +88,37 @@ fn write_over_all<W: fmt::Write>(asked: Asked<'_>, f: &mut fmt::Formatter<W>) ->
 
 impl Display for OverType<'_> {
     fn fmt<W: fmt::Write>(&self, f: &mut fmt::Formatter<W>) -> fmt::Result {
-        let asked = self.asked;
-        if asked.subject == "sign" || asked.subject == "SignedInteger" {
-            return signed::write_answer(self.type_name, asked.call, asked.words, f);
-        }
-        match self.type_name {
-            "i8" => write!(f, "{}", answer::<i8>(asked)),
-            "i16" => write!(f, "{}", answer::<i16>(asked)),
-            "i32" => write!(f, "{}", answer::<i32>(asked)),
-            "i64" => write!(f, "{}", answer::<i64>(asked)),
-            "i128" => write!(f, "{}", answer::<i128>(asked)),
-            "isize" => write!(f, "{}", answer::<isize>(asked)),
-            "u8" => write!(f, "{}", answer::<u8>(asked)),
-            "u16" => write!(f, "{}", answer::<u16>(asked)),
-            "u32" => write!(f, "{}", answer::<u32>(asked)),
-            "u64" => write!(f, "{}", answer::<u64>(asked)),
-            "u128" => write!(f, "{}", answer::<u128>(asked)),
-            "usize" => write!(f, "{}", answer::<usize>(asked)),
-            _ => f.write_str("bad row"),
+        write_over_type(self.subject, self.type_name, self.asked, f)
+    }
+}
+
+// The calls of a subject that unsigned types have, too.
+#[derive(Clone, Copy, Drop)]
+struct Fields<'a> {
+    subject: &'a str,
+}
+
+impl OverTypes for Fields<'_> {
+    fn answer<T: Primitive + Display>(&self, asked: Asked<'_>) -> Option<Answer<T>> {
+        let (alloc, call, words) = (asked.alloc, asked.call, asked.words);
+        match self.subject {
+            "ratio_decimal" | "ratio_float" => decimals::answer(alloc, call, words),
+            "order" | "hash" => order::answer(alloc, call, words),
+            "ratio_integer" | "checked_new" => reducing::answer(alloc, call, words),
+            "text" => texts::answer(alloc, call, words),
+            subject => without_memory(subject, call, words),
         }
     }
 }
 
-// Each of these functions has no answer for a row that it cannot read.
-fn answer<T: Primitive + Display>(asked: Asked<'_>) -> Answer<T> {
-    let (alloc, call, words) = (asked.alloc, asked.call, asked.words);
-    let answer = match asked.subject {
+// The calls that take no memory.
+fn without_memory<T: Primitive>(subject: &str, call: &str, words: &str) -> Option<Answer<T>> {
+    match subject {
         "Integer" | "Primitive" => integers::answer(call, words),
-        "ratio_integer" | "checked_new" => reducing::answer(alloc, call, words),
-        "sums" | "products" | "remainder" | "pow" => sums::answer(call, words),
-        "order" | "hash" => order::answer(alloc, call, words),
-        "rounding" => rounding::answer(call, words),
-        "text" => texts::answer(alloc, call, words),
         "nearest" | "simplest" => approximations::answer(call, words),
-        "ratio_decimal" | "ratio_float" => decimals::answer(alloc, call, words),
+        "rounding" => rounding::answer(call, words),
+        "sums" | "products" | "remainder" | "pow" => sums::answer(call, words),
         _ => None,
-    };
-    match answer {
-        Some(answer) => answer,
-        None => Answer::BadRow,
     }
 }
 
@@ -144,12 +139,9 @@ fn two_positive<T: Integer>(words: &str) -> Option<(T, T, T, T)>
     ensures left { IfSome result (λ x. pos 0 <ℤ T.value x.1) }
     ensures right { IfSome result (λ x. pos 0 <ℤ T.value x.3) }
 {
-    let ((a, b), (c, d)) = two_fractions::<T>(words)?;
-    if T::ZERO < b && T::ZERO < d {
-        Some((a, b, c, d))
-    } else {
-        None
-    }
+    let (left, right) = words.split_once(' ')?;
+    let (left, right) = (positive::<T>(left)?, positive::<T>(right)?);
+    Some((left.0, left.1, right.0, right.1))
 }
 
 // The fields, if the other form of the call returned them, too.

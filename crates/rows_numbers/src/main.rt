@@ -20,16 +20,17 @@
 //! | `naturals::rounding` | Fractions of long numbers rounded to whole numbers. |
 //! | `naturals::texts` | Numbers and fractions as decimal texts, and texts as numbers. |
 //! | `naturals::two_numbers` | Calls on two numbers, and on two numbers and a digit. |
-//! | `subjects` | Rows of this program, and the subject of a call by the first part of its name: `ratio_natural` of `ratio_natural::gcd_wide`. |
+//! | `subjects` | The subject of a call by the first part of its name: `ratio_natural` of `ratio_natural::gcd_wide`. |
 #![tactic(auto)]
 
 mod fields;
 mod naturals;
 mod subjects;
 
+use rows::row::Row;
 use std::io;
 use std::io::{BufRead, BufReader, BufWriter, Write};
-use subjects::Row;
+use subjects::Subjects;
 
 fn main(rt: HostRuntime) -> io::Result<()> {
     let mut out = BufWriter::new(rt.alloc(), io::writer(&rt))?;
@@ -38,6 +39,7 @@ fn main(rt: HostRuntime) -> io::Result<()> {
         let row = Row {
             alloc: rt.alloc(),
             line: line.as_str(),
+            calls: Subjects,
         };
         writeln!(out, "{row}")?;
     }

@@ -1,41 +1,29 @@
-//! Rows of this program, and the subject of a call by the first part of its name: `ratio_natural` of `ratio_natural::gcd_wide`.
+//! The subject of a call by the first part of its name: `ratio_natural` of `ratio_natural::gcd_wide`.
 use crate::{fields, naturals};
-use rows::row::{asked, call_of};
+use rows::row::Calls;
 use std::alloc::Global;
 use std::fmt;
-use std::fmt::Display;
 
-/// A line of the input. It is written with the answer that its call returns now.
-#[derive(Drop)]
-pub struct Row<'a> {
-    pub alloc: Global,
-    pub line: &'a str,
-}
+/// The calls of this program.
+#[derive(Clone, Copy, Drop)]
+pub struct Subjects;
 
-impl Display for Row<'_> {
-    fn fmt<W: fmt::Write>(&self, f: &mut fmt::Formatter<W>) -> fmt::Result {
-        let asked = asked(self.line);
-        write!(f, "{asked} = ")?;
-        match call_of(asked) {
-            Some((name, words)) => write_answer(self.alloc, name, words, f),
-            None => f.write_str("bad row"),
+impl Calls for Subjects {
+    fn write_answer<W: fmt::Write>(
+        &self,
+        alloc: Global,
+        name: &str,
+        words: &str,
+        f: &mut fmt::Formatter<W>,
+    ) -> fmt::Result {
+        let Some((subject, call)) = name.split_once("::") else {
+            return f.write_str("bad row");
+        };
+        match subject {
+            "ratio_natural" | "ratio_long" | "leading" => {
+                naturals::write_answer(alloc, subject, call, words, f)
+            }
+            _ => fields::write_answer(alloc, subject, call, words, f),
         }
-    }
-}
-
-fn write_answer<W: fmt::Write>(
-    alloc: Global,
-    name: &str,
-    words: &str,
-    f: &mut fmt::Formatter<W>,
-) -> fmt::Result {
-    let Some((subject, call)) = name.split_once("::") else {
-        return f.write_str("bad row");
-    };
-    match subject {
-        "ratio_natural" | "ratio_long" | "leading" => {
-            naturals::write_answer(alloc, subject, call, words, f)
-        }
-        _ => fields::write_answer(alloc, subject, call, words, f),
     }
 }

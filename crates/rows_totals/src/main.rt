@@ -2,7 +2,6 @@
 //!
 //! | Module | What is in it |
 //! |---|---|
-//! | `subjects` | Rows of this program, and the subject of a call by the first part of its name: `ratio_totals` of `ratio_totals::Total::put_decimal`. |
 //! | `totals` | Calls of `ratio_totals` and `fraction_totals`, and splits. |
 //! | `totals::listed_slots` | Calls of `ratio_totals` on lists of slots: `[1/36,0/0,1/28]` has an empty slot in its middle. |
 //! | `totals::lists` | Lists, as a row writes them: digits `[7\*64]`, slots `[1/36,0/0]` and fractions `[1/2\*3,1/1..9]`. |
@@ -16,14 +15,16 @@
 //! | `totals::tables` | Calls of `ratio_totals::Total`: `4 +1/36 -1/28` is a total with four slots. |
 //! | `totals::wide_rooms` | Reads of a sum in a room whose numbers have up to 128 bits. |
 //! | `totals::wide_totals` | Calls of `fraction_totals::WideTotal`: `i128 2 [7\*14] [7\*22] +1/36` is a total with two digits for its common denominator, in the first room; the second list has the spare digits. |
+//! | `subjects` | The subject of a call by the first parts of its name: `ratio_totals::Total` of `ratio_totals::Total::put_decimal`. |
 #![tactic(auto)]
 
 mod subjects;
 mod totals;
 
+use rows::row::Row;
 use std::io;
 use std::io::{BufRead, BufReader, BufWriter, Write};
-use subjects::Row;
+use subjects::Subjects;
 
 fn main(rt: HostRuntime) -> io::Result<()> {
     let mut out = BufWriter::new(rt.alloc(), io::writer(&rt))?;
@@ -32,6 +33,7 @@ fn main(rt: HostRuntime) -> io::Result<()> {
         let row = Row {
             alloc: rt.alloc(),
             line: line.as_str(),
+            calls: Subjects,
         };
         writeln!(out, "{row}")?;
     }

@@ -16,10 +16,7 @@ pub fn answer<T: Integer>(call: &str, words: &str) -> Option<Answer<T>> {
     match call {
         "nearest" => near(words),
         "simplest_between" => between(words),
-        "simplest_within" => {
-            let (low, high) = words.split_once(' ')?;
-            Some(of_pair(simplest_within(bound::<T>(low, '>')?, bound(high, '<')?)))
-        }
+        "simplest_within" => within(words),
         _ => None,
     }
 }
@@ -45,6 +42,13 @@ fn between<T: Integer>(words: &str) -> Option<Answer<T>> {
     } else {
         Answer::FormsDiffer
     })
+}
+
+// The simplest fraction within two bounds.
+fn within<T: Integer>(words: &str) -> Option<Answer<T>> {
+    let (low, high) = words.split_once(' ')?;
+    let (low, high) = (bound::<T>(low, '>')?, bound::<T>(high, '<')?);
+    Some(of_pair(simplest_within(low, high)))
 }
 
 // The bound of a word, whose sign is `>` or `<`: `>=1/2` includes its end, `>1/2` does not, and `any` has none.

@@ -13,21 +13,28 @@ use std::alloc::Global;
 /// Makes the call and returns its answer.
 pub fn answer<T: Primitive>(alloc: Global, call: &str, words: &str) -> Option<Answer<T>> {
     match call {
-        "from_decimal" => Some(of_pair(from_decimal(text(words)?).ok())),
-        "from_text" => Some(of_pair(from_text(text(words)?).ok())),
-        "to_f64" => {
-            let (n, d) = positive::<T>(words)?;
-            Some(of_f64(alloc, to_f64(n, d)))
-        }
-        "to_f32" => {
-            let (n, d) = positive::<T>(words)?;
-            Some(of_f32(alloc, to_f32(n, d)))
-        }
+        "from_decimal" | "from_text" => read(call, text(words)?),
+        "to_f64" | "to_f32" => float(alloc, call, words),
         "round_to" => to_parts(words),
         "decimal" => places::<T>(alloc, words),
         "rounded_product" | "rounded_quotient" => of_two(call, words),
         _ => of_two_to(call, words),
     }
+}
+
+fn read<T: Primitive>(call: &str, text: &str) -> Option<Answer<T>> {
+    Some(match call {
+        "from_decimal" => of_pair(from_decimal(text).ok()),
+        _ => of_pair(from_text(text).ok()),
+    })
+}
+
+fn float<T: Primitive>(alloc: Global, call: &str, words: &str) -> Option<Answer<T>> {
+    let (n, d) = positive::<T>(words)?;
+    Some(match call {
+        "to_f64" => of_f64(alloc, to_f64(n, d)),
+        _ => of_f32(alloc, to_f32(n, d)),
+    })
 }
 
 // A fraction, the parts and the rule.

@@ -5,7 +5,7 @@ use ratio_core::sign::{
 };
 use ratio_core::sums::checked_sub;
 use ratio_integer::SignedInteger;
-use rows::answer::{Answer, of_fields};
+use rows::answer::{Answer, of_fields, write_or_bad_row};
 use rows::words::{fraction, number, two_numbers};
 use std::fmt;
 
@@ -17,25 +17,21 @@ pub fn write_answer<W: fmt::Write>(
     f: &mut fmt::Formatter<W>,
 ) -> fmt::Result {
     match type_name {
-        "i8" => write!(f, "{}", answer::<i8>(call, words)),
-        "i16" => write!(f, "{}", answer::<i16>(call, words)),
-        "i32" => write!(f, "{}", answer::<i32>(call, words)),
-        "i64" => write!(f, "{}", answer::<i64>(call, words)),
-        "i128" => write!(f, "{}", answer::<i128>(call, words)),
-        "isize" => write!(f, "{}", answer::<isize>(call, words)),
+        "i8" => write_or_bad_row(answer::<i8>(call, words), f),
+        "i16" => write_or_bad_row(answer::<i16>(call, words), f),
+        "i32" => write_or_bad_row(answer::<i32>(call, words), f),
+        "i64" => write_or_bad_row(answer::<i64>(call, words), f),
+        "i128" => write_or_bad_row(answer::<i128>(call, words), f),
+        "isize" => write_or_bad_row(answer::<isize>(call, words), f),
         _ => f.write_str("bad row"),
     }
 }
 
-fn answer<T: SignedInteger>(call: &str, words: &str) -> Answer<T> {
-    let answer = match call {
+fn answer<T: SignedInteger>(call: &str, words: &str) -> Option<Answer<T>> {
+    match call {
         "abs_sub" => positive_difference(words),
         "have_unlike_signs" | "is_above_zero" | "neg" | "try_negate" => of_numbers(call, words),
         _ => of_fraction(call, words),
-    };
-    match answer {
-        Some(answer) => answer,
-        None => Answer::BadRow,
     }
 }
 

@@ -7,7 +7,7 @@ use ratio_natural::{
     add, add_times, compare, divide_long, gcd, gcd_wide, is_zero, lowest_terms, multiply,
     quotient_digit, subtract, subtract_times,
 };
-use rows::answer::{Answer, of_text};
+use rows::answer::{Answer, of_pair, of_text};
 use rows::words::{number, two_numbers};
 use std::alloc::Global;
 
@@ -26,12 +26,18 @@ pub fn answer(alloc: Global, call: &str, first: &str, words: &str) -> Option<Ans
         "gcd" => divisor(alloc, a, b),
         "add" | "subtract" => sum(alloc, call, a, b),
         _ if is_zero(b) => None,
+        _ => by_positive(alloc, call, a, b),
+    }
+}
+
+// The calls that divide, or take lowest terms.
+fn by_positive(alloc: Global, call: &str, a: &mut [u64], b: &mut [u64]) -> Option<Answer<u64>>
+    requires { 0 < natural_of b.now }
+{
+    match call {
         "quotient_digit" => Some(quotient(alloc, a, b)),
         "divide_long" => long_quotient(alloc, a, b),
-        "lowest_terms" => Some(match lowest_terms(a, b) {
-            Some((numer, denom)) => Answer::Fraction(numer, denom),
-            None => Answer::Nothing,
-        }),
+        "lowest_terms" => Some(of_pair(lowest_terms(a, b))),
         _ => None,
     }
 }

@@ -1,14 +1,18 @@
 //! Calls of `ratio_totals` on lists of slots: `[1/36,0/0,1/28]` has an empty slot in its middle.
 use super::lists::{bytes, digits, slots};
 use super::numbers::{fraction, number};
-use super::said::{bits, lowest, order, said, text};
+use super::said::{
+    lowest, refused, said_bits, said_lowest, said_number, said_order, text, written,
+};
 use super::{Asked, parted};
+use num_rational::Rounding;
 use ratio_totals::{
     Slot, add_short, digits_of_multiple, digits_of_order, digits_of_read, find, float_of,
     integer_of, mean_of, multiple_of, order_of, put_bounded_of, put_decimal_of, put_loose,
     short_pair, sign_of, sum_of,
 };
 use rows::answer::of_number;
+use std::alloc::Global;
 
 /// Makes the call on its lists, or on its numbers.
 pub fn answer(call: &str, asked: Asked<'_>) -> Option<String> {
@@ -22,127 +26,171 @@ pub fn answer(call: &str, asked: Asked<'_>) -> Option<String> {
         .or_else(|| changed(call, asked, list.as_mut_slice()))
 }
 
-// One step of a sum in machine numbers: `16/252 1/7`.
+// A sum in machine numbers, `16/252`, or one step of it, `16/252 1/7`.
 fn short(call: &str, asked: Asked<'_>) -> Option<String> {
     let (sum, step) = parted(asked.words, " ");
-    let (numer, denom) = parted(sum, "/");
-    let (numer, common) = (number::<i128>(numer)?, number::<u128>(denom)?);
-    if call == "short_pair" && 0 < common && common < 1 << 127 {
-        return said::<_, u64>(asked.alloc, Ok(lowest(short_pair(numer, common))));
-    }
-    let (more, denom) = parted(step, "/");
-    let (more, denom) = (number::<i128>(more)?, number::<u64>(denom)?);
-    if call == "add_short" && 0 < denom {
-        return match add_short(numer, common, more, denom) {
-            Some((sum, common)) => format!(in asked.alloc; "{sum}/{common}").ok(),
-            None => format!(in asked.alloc; "none").ok(),
-        };
-    }
-    None
-}
-
-fn ordered(call: &str, asked: Asked<'_>, list: &[Slot], other: &str) -> Option<String> {
-    let other = slots(asked.alloc, other)?;
-    let (between, room) = parted(asked.args, " ");
+    let (numer, common) = parted(sum, "/");
+    let (numer, common) = (number(numer)?, number(common)?);
     match call {
-        "digits_of_order" => {
-            format!(in asked.alloc; "{}", digits_of_order(list, other.as_slice())).ok()
-        }
-        "order_of" => {
-            let (mut between, mut room) = (
-                slots(asked.alloc, between)?,
-                digits(asked.alloc, room)?,
-            );
-            let found = order_of(
-                list,
-                other.as_slice(),
-                between.as_mut_slice(),
-                room.as_mut_slice(),
-            );
-            said(asked.alloc, found.map(|it| order(it)))
-        }
+        "short_pair" => short_sum(asked.alloc, numer, common),
+        "add_short" => short_step(asked.alloc, numer, common, step),
         _ => None,
     }
 }
 
+fn short_sum(alloc: Global, numer: i128, common: u128) -> Option<String> {
+    if common == 0 || 1 << 127 <= common {
+        return None;
+    }
+    written(alloc, lowest(short_pair(numer, common)))
+}
+
+fn short_step(alloc: Global, numer: i128, common: u128, step: &str) -> Option<String> {
+    let (more, denom) = parted(step, "/");
+    let (more, denom) = (number(more)?, number(denom)?);
+    if denom == 0 {
+        return None;
+    }
+    match add_short(numer, common, more, denom) {
+        Some((sum, common)) => format!(in alloc; "{sum}/{common}").ok(),
+        None => written(alloc, "none"),
+    }
+}
+
+fn ordered(call: &str, asked: Asked<'_>, list: &[Slot], other: &str) -> Option<String> {
+    let other = slots(asked.alloc, other)?;
+    match call {
+        "digits_of_order" => written(asked.alloc, digits_of_order(list, other.as_slice())),
+        "order_of" => order(asked, list, other.as_slice()),
+        _ => None,
+    }
+}
+
+fn order(asked: Asked<'_>, list: &[Slot], other: &[Slot]) -> Option<String> {
+    let (between, room) = parted(asked.args, " ");
+    let (mut between, mut room) = (slots(asked.alloc, between)?, digits(asked.alloc, room)?);
+    let found = order_of(list, other, between.as_mut_slice(), room.as_mut_slice());
+    said_order(asked.alloc, found)
+}
+
 fn read(call: &str, asked: Asked<'_>, list: &[Slot]) -> Option<String> {
     match call {
-        "digits_of_read" => return format!(in asked.alloc; "{}", digits_of_read(list)).ok(),
-        "digits_of_multiple" => {
-            return format!(in asked.alloc; "{}", digits_of_multiple(list)).ok();
-        }
-        _ => {}
+        "digits_of_read" => written(asked.alloc, digits_of_read(list)),
+        "digits_of_multiple" => written(asked.alloc, digits_of_multiple(list)),
+        "mean_of" => mean(asked, list),
+        _ => read_in_room(call, asked, list),
     }
-    let (count, room) = asked.args.split_once(' ').unwrap_or(("1", asked.args));
-    let mut digits = digits(asked.alloc, room)?;
+}
+
+fn mean(asked: Asked<'_>, list: &[Slot]) -> Option<String> {
+    let (count, room) = parted(asked.args, " ");
+    let mut room = digits(asked.alloc, room)?;
+    said_lowest(
+        asked.alloc,
+        mean_of(list, number(count)?, room.as_mut_slice()),
+    )
+}
+
+fn read_in_room(call: &str, asked: Asked<'_>, list: &[Slot]) -> Option<String> {
+    let mut digits = digits(asked.alloc, asked.args)?;
     let room = digits.as_mut_slice();
     match call {
-        "sum_of" => said(asked.alloc, sum_of(list, room).map(|it| lowest(it))),
-        "mean_of" => {
-            let mean = mean_of(list, number(count)?, room);
-            said(asked.alloc, mean.map(|it| lowest(it)))
-        }
-        "float_of" => said(asked.alloc, float_of(list, room).map(|it| bits(it))),
-        "sign_of" => said(asked.alloc, sign_of(list, room).map(|it| order(it))),
+        "sum_of" => said_lowest(asked.alloc, sum_of(list, room)),
+        "float_of" => said_bits(asked.alloc, float_of(list, room)),
+        "sign_of" => said_order(asked.alloc, sign_of(list, room)),
         _ => None,
     }
 }
 
 fn rounded(call: &str, asked: Asked<'_>, list: &[Slot]) -> Option<String> {
-    let rule = asked.rule?;
-    if call == "integer_of" {
-        let mut room = digits(asked.alloc, asked.args)?;
-        let number = integer_of(list, rule, room.as_mut_slice());
-        return said(asked.alloc, number.map(|it| of_number(it)));
+    let (rule, (first, others)) = (asked.rule?, parted(asked.args, " "));
+    match call {
+        "integer_of" => {
+            let mut room = digits(asked.alloc, first)?;
+            said_number(asked.alloc, integer_of(list, rule, room.as_mut_slice()))
+        }
+        "multiple_of" => multiple(asked, list, rule, number(first)?, others),
+        "put_decimal_of" => decimal(asked, list, rule, number(first)?, others),
+        "put_bounded_of" => bounded(asked, list, rule, number(first)?, others),
+        _ => None,
     }
-    let (parts, others) = parted(asked.args, " ");
-    let (room, buf) = parted(others, " ");
-    let mut digits = digits(asked.alloc, room)?;
-    let room = digits.as_mut_slice();
-    let parts = number::<u64>(parts)?;
-    if call == "multiple_of" && 0 < parts {
-        return said(
-            asked.alloc,
-            multiple_of(list, parts, rule, room).map(|it| lowest(it)),
-        );
-    }
-    let places = u32::try_from(parts).ok()?;
-    let mut buf = bytes(asked.alloc, buf)?;
-    if call == "put_decimal_of" {
-        let start = put_decimal_of(list, places, rule, room, buf.as_mut_slice());
-        return text(asked.alloc, start, buf.as_slice());
-    }
-    if call == "put_bounded_of" {
-        return match put_bounded_of(list, places, rule, room, buf.as_mut_slice()) {
-            Ok(None) => format!(in asked.alloc; "none").ok(),
-            Ok(Some(start)) => text::<u64>(asked.alloc, Ok(start), buf.as_slice()),
-            Err(why) => said::<u64, _>(asked.alloc, Err(why)),
-        };
-    }
-    None
 }
 
-// Finds the place of a denominator; or puts a fraction in, and writes the slot that has its denominator then. A refusal changes nothing.
-fn changed(call: &str, asked: Asked<'_>, list: &mut [Slot]) -> Option<String> {
-    if call == "find" {
-        let place = find(list, number(asked.args)?);
-        return said::<_, u64>(asked.alloc, Ok(of_number(place)));
-    }
-    let (numer, denom) = fraction::<i128>(asked.args)?;
-    let denom = u64::try_from(denom).ok()?;
-    if call != "put_loose" || denom == 0 {
+fn multiple(
+    asked: Asked<'_>,
+    list: &[Slot],
+    rule: Rounding,
+    parts: u64,
+    room: &str,
+) -> Option<String> {
+    let mut room = digits(asked.alloc, room)?;
+    if parts == 0 {
         return None;
     }
-    let outcome = put_loose(list, numer, denom);
-    if let Err(why) = outcome {
-        let before = slots(asked.alloc, asked.words)?;
-        for (old, new) in before.iter().zip(list.iter()) {
-            if old.denom() != new.denom() || old.numer() != new.numer() {
-                return format!(in asked.alloc; "changed").ok();
-            }
-        }
-        return said::<u64, _>(asked.alloc, Err(why));
+    said_lowest(
+        asked.alloc,
+        multiple_of(list, parts, rule, room.as_mut_slice()),
+    )
+}
+
+fn decimal(
+    asked: Asked<'_>,
+    list: &[Slot],
+    rule: Rounding,
+    places: u32,
+    rooms: &str,
+) -> Option<String> {
+    let (room, buf) = parted(rooms, " ");
+    let (mut room, mut buf) = (digits(asked.alloc, room)?, bytes(asked.alloc, buf)?);
+    let start = put_decimal_of(list, places, rule, room.as_mut_slice(), buf.as_mut_slice());
+    text(asked.alloc, start, buf.as_slice())
+}
+
+fn bounded(
+    asked: Asked<'_>,
+    list: &[Slot],
+    rule: Rounding,
+    places: u32,
+    rooms: &str,
+) -> Option<String> {
+    let (room, buf) = parted(rooms, " ");
+    let (mut room, mut buf) = (digits(asked.alloc, room)?, bytes(asked.alloc, buf)?);
+    match put_bounded_of(list, places, rule, room.as_mut_slice(), buf.as_mut_slice()) {
+        Ok(None) => written(asked.alloc, "none"),
+        Ok(Some(start)) => text::<u64>(asked.alloc, Ok(start), buf.as_slice()),
+        Err(why) => refused(asked.alloc, why),
     }
-    let held = list.get(find(list, denom)?)?;
-    format!(in asked.alloc; "{}/{}", held.numer(), held.denom()).ok()
+}
+
+// Finds the place of a denominator, or puts a fraction in.
+fn changed(call: &str, asked: Asked<'_>, list: &mut [Slot]) -> Option<String> {
+    match call {
+        "find" => written(asked.alloc, of_number(find(list, number(asked.args)?))),
+        "put_loose" => put(asked, list),
+        _ => None,
+    }
+}
+
+// Puts a fraction in, and writes the slot that has its denominator then. A refusal changes nothing.
+fn put(asked: Asked<'_>, list: &mut [Slot]) -> Option<String> {
+    let (numer, denom) = fraction::<i128>(asked.args)?;
+    let denom = u64::try_from(denom).ok()?;
+    if denom == 0 {
+        return None;
+    }
+    match put_loose(list, numer, denom) {
+        Ok(()) => {
+            let held = list.get(find(list, denom)?)?;
+            format!(in asked.alloc; "{}/{}", held.numer(), held.denom()).ok()
+        }
+        Err(why) if is_kept(slots(asked.alloc, asked.words)?.as_slice(), list) => {
+            refused(asked.alloc, why)
+        }
+        Err(_) => written(asked.alloc, "changed"),
+    }
+}
+
+fn is_kept(before: &[Slot], after: &[Slot]) -> bool {
+    before.iter().zip(after.iter()).all(|(old, new)| old.denom() == new.denom()
+        && old.numer() == new.numer())
 }

@@ -20,17 +20,22 @@ pub fn fields<T: Integer>(alloc: Global, word: &str) -> Option<Vec<(T, T)>> {
 /// The fields that one item of a list stands for.
 pub fn push_fields<T: Integer>(all: &mut Vec<(T, T)>, item: &str) -> Option<()> {
     if let Some((first, last)) = item.split_once("..") {
-        let (numer, first) = first.split_once('/')?;
-        for denom in first.parse::<u64>().ok()?..=last.parse::<u64>().ok()? {
-            all.push((number(numer)?, T::from_u128(denom as u128)?))
-                .ok()?;
-        }
-        return Some(());
+        return push_range(all, first, last.parse().ok()?);
     }
     let (item, times) = item.split_once('*').unwrap_or((item, "1"));
     let pair = fraction(item)?;
     for _ in 0..times.parse::<usize>().ok()? {
         all.push(pair).ok()?;
+    }
+    Some(())
+}
+
+// The fraction, and those over the next denominators up to the last one.
+fn push_range<T: Integer>(all: &mut Vec<(T, T)>, first: &str, last: u64) -> Option<()> {
+    let (numer, first) = first.split_once('/')?;
+    let numer = number(numer)?;
+    for denom in first.parse::<u64>().ok()?..=last {
+        all.push((numer, T::from_u128(denom as u128)?)).ok()?;
     }
     Some(())
 }

@@ -2,7 +2,7 @@
 //! denominator, and this room; `-1/36` is one fraction; `6 +1/36 -1/28` has six digits, and its fractions went in one by one.
 use super::lists::{bytes, digits, filled, push_fields, slots};
 use super::numbers::{fraction, number};
-use super::said::{bits, lowest, order, said, text, trimmed};
+use super::said::{lowest, refused, said_bits, said_lowest, said_order, text, trimmed, written};
 use super::steps::read_step;
 use super::wide_rooms::wide_read;
 use super::{Asked, parted};
@@ -28,7 +28,7 @@ pub fn answer(call: &str, asked: Asked<'_>) -> Option<String> {
 fn counts(alloc: Global, joined: Option<Joined>) -> Option<String> {
     match joined {
         Some(joined) => format!(in alloc; "{} {}", joined.done, joined.digits).ok(),
-        None => format!(in alloc; "none").ok(),
+        None => written(alloc, "none"),
     }
 }
 
@@ -115,7 +115,7 @@ fn with_other(
     let (others, free) = (other_room.as_slice(), free.as_mut_slice());
     if call == "compare" {
         let found = joined.compare(room, other, others, free);
-        return said(asked.alloc, found.map(|it| order(it)));
+        return said_order(asked.alloc, found);
     }
     let changed = match call {
         "merge" => joined.merge(room, other, others, free),
@@ -135,29 +135,34 @@ fn after_change(
 ) -> Option<String> {
     match changed {
         Ok(next) => {
-            let length = next.digits.saturating_add(3);
-            let positive = trimmed(room.get(..length)?);
-            let others = room.get(length..)?;
-            let common = trimmed(others.get(..next.digits)?);
-            let negative = trimmed(others.get(next.digits..)?.get(..length)?);
-            let numbers = format!(in alloc; "{positive:?} {common:?} {negative:?}").ok()?;
+            let numbers = numbers(alloc, next.digits, room)?;
             let (numbers, sum) = (numbers.as_str(), lowest(next.sum(room).ok()?));
             format!(in alloc; "{} {} {numbers} {sum}", next.done, next.digits).ok()
         }
-        Err(why) if *room == *before => said::<u64, _>(alloc, Err(why)),
-        Err(_) => format!(in alloc; "changed").ok(),
+        Err(why) if *room == *before => refused(alloc, why),
+        Err(_) => written(alloc, "changed"),
     }
+}
+
+// The three numbers in a room with this many digits for the common denominator.
+fn numbers(alloc: Global, digits: usize, room: &[u64]) -> Option<String> {
+    let length = digits.saturating_add(3);
+    let positive = trimmed(room.get(..length)?);
+    let others = room.get(length..)?;
+    let common = trimmed(others.get(..digits)?);
+    let negative = trimmed(others.get(digits..)?.get(..length)?);
+    format!(in alloc; "{positive:?} {common:?} {negative:?}").ok()
 }
 
 fn read(call: &str, asked: Asked<'_>, joined: Joined, room: &mut [u64]) -> Option<String> {
     match call {
-        "sum" => said(asked.alloc, joined.sum(room).map(|it| lowest(it))),
+        "sum" => said_lowest(asked.alloc, joined.sum(room)),
         "mean" => {
             let mean = joined.mean(number(asked.args)?, room);
-            said(asked.alloc, mean.map(|it| lowest(it)))
+            said_lowest(asked.alloc, mean)
         }
-        "sign" => said(asked.alloc, joined.sign(room).map(|it| order(it))),
-        "to_f64" => said(asked.alloc, joined.to_f64(room).map(|it| bits(it))),
+        "sign" => said_order(asked.alloc, joined.sign(room)),
+        "to_f64" => said_bits(asked.alloc, joined.to_f64(room)),
         "put_decimal" => {
             let (places, buf) = parted(asked.args, " ");
             let mut buf = bytes(asked.alloc, buf)?;
@@ -175,7 +180,7 @@ fn stepped(call: &str, asked: Asked<'_>, joined: Joined, room: &mut [u64]) -> Op
             let list = slots(asked.alloc, first)?;
             match joined.go_on(list.as_slice(), number(second)?, room) {
                 Ok(next) => counts(asked.alloc, Some(next)),
-                Err(why) => said::<u64, _>(asked.alloc, Err(why)),
+                Err(why) => refused(asked.alloc, why),
             }
         }
         "moved_to" => {

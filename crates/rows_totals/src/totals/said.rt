@@ -1,26 +1,94 @@
 //! What calls of totals return, as rows write it.
+use num_rational::Reduced;
+use ratio_integer::Integer;
 use ratio_totals::WideFraction;
+use rows::answer::{of_number, of_reduced};
 use std::alloc::Global;
 use std::cmp::Ordering;
 use std::fmt;
 use std::fmt::Display;
 
-/// The answer, or the refusal with its text.
-pub fn said<A: Display + Drop, E: Display + Drop>(
-    alloc: Global,
-    outcome: Result<A, E>,
-) -> Option<String> {
+/// The value, as it is displayed.
+pub fn written<A: Display + Drop>(alloc: Global, value: A) -> Option<String> {
+    format!(in alloc; "{value}").ok()
+}
+
+/// The text of a refusal.
+pub fn refused<E: Display + Drop>(alloc: Global, why: E) -> Option<String> {
+    format!(in alloc; "refused: {why}").ok()
+}
+
+/// `ok`, or the refusal.
+pub fn done<E: Display + Drop>(alloc: Global, outcome: Result<(), E>) -> Option<String> {
     match outcome {
-        Ok(answer) => format!(in alloc; "{answer}").ok(),
-        Err(why) => format!(in alloc; "refused: {why}").ok(),
+        Ok(()) => written(alloc, "ok"),
+        Err(why) => refused(alloc, why),
     }
 }
 
-/// `ok`, or the refusal with its text.
-pub fn done<E: Display + Drop>(alloc: Global, outcome: Result<(), E>) -> Option<String> {
-    match outcome {
-        Ok(()) => format!(in alloc; "ok").ok(),
-        Err(why) => said::<i128, E>(alloc, Err(why)),
+/// The fraction of a read with one digit for each number, or the refusal.
+pub fn said_lowest<E: Display + Drop>(
+    alloc: Global,
+    read: Result<Option<(i128, u64)>, E>,
+) -> Option<String> {
+    match read {
+        Ok(read) => written(alloc, lowest(read)),
+        Err(why) => refused(alloc, why),
+    }
+}
+
+/// The fraction of a wide read, or the refusal.
+pub fn said_wide<E: Display + Drop>(
+    alloc: Global,
+    read: Result<Option<WideFraction>, E>,
+) -> Option<String> {
+    match read {
+        Ok(read) => written(alloc, LowestTerms(read)),
+        Err(why) => refused(alloc, why),
+    }
+}
+
+/// The fraction of a read over `T`, or the refusal.
+pub fn said_fraction<T: Integer + Display, E: Display + Drop>(
+    alloc: Global,
+    read: Result<Option<Reduced<T>>, E>,
+) -> Option<String> {
+    match read {
+        Ok(read) => written(alloc, of_reduced(read)),
+        Err(why) => refused(alloc, why),
+    }
+}
+
+/// The number that was read, or the refusal.
+pub fn said_number<T: Display + Drop, E: Display + Drop>(
+    alloc: Global,
+    read: Result<Option<T>, E>,
+) -> Option<String> {
+    match read {
+        Ok(read) => written(alloc, of_number(read)),
+        Err(why) => refused(alloc, why),
+    }
+}
+
+/// The word of an order, or the refusal.
+pub fn said_order<E: Display + Drop>(alloc: Global, read: Result<Ordering, E>) -> Option<String> {
+    match read {
+        Ok(Ordering::Less) => written(alloc, "less"),
+        Ok(Ordering::Equal) => written(alloc, "equal"),
+        Ok(Ordering::Greater) => written(alloc, "greater"),
+        Err(why) => refused(alloc, why),
+    }
+}
+
+/// The bits of a float, `0x3ff0000000000000` for 1, or the refusal.
+pub fn said_bits<E: Display + Drop>(alloc: Global, read: Result<f64, E>) -> Option<String> {
+    match read {
+        Ok(x) if x.is_nan() => written(alloc, "NaN"),
+        Ok(x) => {
+            let bits = x.to_bits();
+            format!(in alloc; "{bits:#018x}").ok()
+        }
+        Err(why) => refused(alloc, why),
     }
 }
 
@@ -38,11 +106,6 @@ impl Display for LowestTerms {
     }
 }
 
-/// The fraction of a wide read.
-pub fn wide(read: Option<WideFraction>) -> LowestTerms {
-    LowestTerms(read)
-}
-
 /// The fraction of a read with one digit for each number.
 pub fn lowest(read: Option<(i128, u64)>) -> LowestTerms {
     match read {
@@ -53,34 +116,6 @@ pub fn lowest(read: Option<(i128, u64)>) -> LowestTerms {
             denom: denom as u128,
         })),
     }
-}
-
-/// The word of an order.
-pub fn order(order: Ordering) -> &'static str {
-    match order {
-        Ordering::Less => "less",
-        Ordering::Equal => "equal",
-        Ordering::Greater => "greater",
-    }
-}
-
-/// The bits of a float: `0x3ff0000000000000` for 1.
-#[derive(Clone, Copy, Drop)]
-pub struct FloatBits(f64);
-
-impl Display for FloatBits {
-    fn fmt<W: fmt::Write>(&self, f: &mut fmt::Formatter<W>) -> fmt::Result {
-        if self.0.is_nan() {
-            f.write_str("NaN")
-        } else {
-            write!(f, "{:#018x}", self.0.to_bits())
-        }
-    }
-}
-
-/// The bits of this float.
-pub fn bits(x: f64) -> FloatBits {
-    FloatBits(x)
 }
 
 /// The text that ends where the bytes end, in quotes.
@@ -94,7 +129,7 @@ pub fn text<E: Display + Drop>(
             let text = str::from_utf8(bytes.get(start..)?).ok()?;
             format!(in alloc; "\"{text}\"").ok()
         }
-        Err(why) => said::<i128, E>(alloc, Err(why)),
+        Err(why) => refused(alloc, why),
     }
 }
 

@@ -2,12 +2,13 @@
 //! total it is, or two lists, whose products go in. Behind ` with ` and ` moved_to ` stand what `tables` says.
 use super::lists::{bytes, digits, fractions, one_fraction, push_fields, slots};
 use super::numbers::number;
-use super::said::{bits, done, order, said, text};
+use super::said::{
+    done, refused, said_bits, said_fraction, said_number, said_order, text, written,
+};
 use super::steps::read_step;
 use super::{Asked, parted};
 use fraction_totals::{Short, Slot, Total, dot, total_of};
 use num_rational::Reduced;
-use rows::answer::{of_number, of_reduced};
 use std::alloc::Global;
 use std::fmt::Display;
 
@@ -63,14 +64,14 @@ fn counted_list<T: Short>(asked: Asked<'_>, lists: &str, room: &mut [Slot]) -> O
     let xs = fractions::<T>(asked.alloc, xs)?;
     if ys.is_empty() {
         return match total_of(xs.as_slice(), room) {
-            Ok(total) => said::<_, u64>(asked.alloc, Ok(total.count())),
-            Err(why) => said::<u64, _>(asked.alloc, Err(why)),
+            Ok(total) => written(asked.alloc, total.count()),
+            Err(why) => refused(asked.alloc, why),
         };
     }
     let ys = fractions::<T>(asked.alloc, ys)?;
     match dot(xs.as_slice(), ys.as_slice(), room) {
-        Ok(total) => said::<_, u64>(asked.alloc, Ok(total.count())),
-        Err(why) => said::<u64, _>(asked.alloc, Err(why)),
+        Ok(total) => written(asked.alloc, total.count()),
+        Err(why) => refused(asked.alloc, why),
     }
 }
 
@@ -149,7 +150,7 @@ fn ask<T: Short + Display>(
 
 fn counted<T: Short>(call: &str, asked: Asked<'_>, total: &Total<'_, T>) -> Option<String> {
     let count = match call {
-        "count" => return format!(in asked.alloc; "{}", total.count()).ok(),
+        "count" => return written(asked.alloc, total.count()),
         "read_digits" => total.read_digits(),
         "multiple_digits" => total.multiple_digits(),
         "decimal_digits" => total.decimal_digits(number(asked.args)?),
@@ -164,10 +165,10 @@ fn read<T: Short + Display>(call: &str, asked: Asked<'_>, total: &Total<'_, T>) 
     let mut digits = digits(asked.alloc, asked.args)?;
     let room = digits.as_mut_slice();
     match call {
-        "sum" => said(asked.alloc, total.sum(room).map(|it| of_reduced(it))),
-        "mean" => said(asked.alloc, total.mean(room).map(|it| of_reduced(it))),
-        "sign" => said(asked.alloc, total.sign(room).map(|it| order(it))),
-        "to_f64" => said(asked.alloc, total.to_f64(room).map(|it| bits(it))),
+        "sum" => said_fraction(asked.alloc, total.sum(room)),
+        "mean" => said_fraction(asked.alloc, total.mean(room)),
+        "sign" => said_order(asked.alloc, total.sign(room)),
+        "to_f64" => said_bits(asked.alloc, total.to_f64(room)),
         _ => None,
     }
 }
@@ -182,7 +183,7 @@ fn rounded<T: Short + Display>(
     if call == "to_integer" {
         let mut room = digits(asked.alloc, first)?;
         let number = total.to_integer(rule, room.as_mut_slice());
-        return said(asked.alloc, number.map(|it| of_number(it)));
+        return said_number(asked.alloc, number);
     }
     let (room, buf) = parted(others, " ");
     let mut digits = digits(asked.alloc, room)?;
@@ -195,7 +196,7 @@ fn rounded<T: Short + Display>(
     let parts = number::<T>(first)?;
     if call == "round_to" && T::ZERO < parts {
         let multiple = total.round_to(parts, rule, room);
-        return said(asked.alloc, multiple.map(|it| of_reduced(it)));
+        return said_fraction(asked.alloc, multiple);
     }
     None
 }
@@ -210,14 +211,14 @@ fn compared<T: Short>(
     if call == "compare" {
         let (mut between, mut room) = (slots(asked.alloc, first)?, digits(asked.alloc, others)?);
         let found = total.compare(other, between.as_mut_slice(), room.as_mut_slice());
-        return said(asked.alloc, found.map(|it| order(it)));
+        return said_order(asked.alloc, found);
     }
     if call == "compare_with" {
         let x = one_fraction(first)?;
         let (between, room) = parted(others, " ");
         let (mut between, mut room) = (slots(asked.alloc, between)?, digits(asked.alloc, room)?);
         let found = total.compare_with(&x, between.as_mut_slice(), room.as_mut_slice());
-        return said(asked.alloc, found.map(|it| order(it)));
+        return said_order(asked.alloc, found);
     }
     None
 }
@@ -241,8 +242,8 @@ fn changed<T: Short>(
         "moved_to" => {
             let mut more = slots(asked.alloc, first)?;
             match total.moved_to(more.as_mut_slice()) {
-                Ok(moved) => said::<_, u64>(asked.alloc, Ok(moved.count())),
-                Err(why) => said::<u64, _>(asked.alloc, Err(why)),
+                Ok(moved) => written(asked.alloc, moved.count()),
+                Err(why) => refused(asked.alloc, why),
             }
         }
         _ => None,

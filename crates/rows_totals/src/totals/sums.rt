@@ -1,12 +1,11 @@
 //! Sums of lists, and splits: `i8 [1/36,1/28]` is a list, and `i64 100 [1/3*3]` an amount with its shares.
 use super::lists::{digits, filled, fractions, slots};
 use super::numbers::number;
-use super::said::said;
+use super::said::{refused, said_fraction};
 use super::{Asked, parted};
 use fraction_totals::{Short, checked_sum_in, checked_wide_sum_in, split_in};
 use num_rational::split;
 use ratio_integer::Primitive;
-use rows::answer::of_reduced;
 use std::alloc::Global;
 use std::fmt::Display;
 
@@ -31,7 +30,7 @@ fn short<T: Short + Display>(call: &str, asked: Asked<'_>) -> Option<String> {
         let (list, room) = parted(asked.args, " ");
         let (mut list, mut room) = (slots(asked.alloc, list)?, digits(asked.alloc, room)?);
         let sum = checked_sum_in(items.as_slice(), list.as_mut_slice(), room.as_mut_slice());
-        return said(asked.alloc, sum.map(|it| of_reduced(it)));
+        return said_fraction(asked.alloc, sum);
     }
     long::<T>(call, asked)
 }
@@ -53,7 +52,7 @@ fn long<T: Primitive + Display>(call: &str, asked: Asked<'_>) -> Option<String> 
         room.as_mut_slice(),
         spare.as_mut_slice(),
     );
-    said(asked.alloc, sum.map(|it| of_reduced(it)))
+    said_fraction(asked.alloc, sum)
 }
 
 // The parts of an amount in so many places, which were 7 before. `8 2 [7*30] [7*54]` has eight places, and two digits in a room.
@@ -66,7 +65,7 @@ fn divided<T: Primitive + Display>(call: &str, asked: Asked<'_>) -> Option<Strin
     let (amount, shares) = (number(amount)?, shares.as_slice());
     let refusal = if call == "split" {
         let why = split(amount, shares, parts.as_mut_slice()).err();
-        why.map(|it| said::<u64, _>(asked.alloc, Err(it)))
+        why.map(|it| refused(asked.alloc, it))
     } else {
         let (count, room) = parted(room, " ");
         let (room, spare) = parted(room, " ");
@@ -79,17 +78,17 @@ fn divided<T: Primitive + Display>(call: &str, asked: Asked<'_>) -> Option<Strin
             room.as_mut_slice(),
             spare.as_mut_slice(),
         );
-        why.err().map(|it| said::<u64, _>(asked.alloc, Err(it)))
+        why.err().map(|it| refused(asked.alloc, it))
     };
     match refusal {
-        None => written(asked.alloc, parts.as_slice()),
+        None => spaced(asked.alloc, parts.as_slice()),
         Some(text) if parts.iter().all(|it| *it == seven) => text,
         Some(_) => None,
     }
 }
 
 // The parts with spaces between them.
-fn written<T: Primitive + Display>(alloc: Global, parts: &[T]) -> Option<String> {
+fn spaced<T: Primitive + Display>(alloc: Global, parts: &[T]) -> Option<String> {
     let mut text = String::new(alloc);
     for (i, part) in parts.iter().enumerate() {
         let mark = if i == 0 { "" } else { " " };

@@ -2,11 +2,12 @@
 //! `merge` and `take_out` put it into the first one, or take it out. Behind ` moved_to ` stand the slots for the first one.
 use super::lists::{bytes, digits, push_fields, slots};
 use super::numbers::{fraction, number};
-use super::said::{bits, done, lowest, order, said, text, trimmed};
+use super::said::{
+    done, refused, said_bits, said_lowest, said_number, said_order, text, trimmed, written,
+};
 use super::steps::read_step;
 use super::{Asked, parted};
 use ratio_totals::{OverCommon, Total};
-use rows::answer::of_number;
 use std::alloc::Global;
 
 /// Builds both totals, and makes the call.
@@ -92,13 +93,13 @@ fn ask(call: &str, asked: Asked<'_>, total: &mut Total<'_>, other: &Total<'_>) -
 
 fn counted(call: &str, asked: Asked<'_>, total: &Total<'_>) -> Option<String> {
     let count = match call {
-        "count" => return format!(in asked.alloc; "{}", total.count()).ok(),
+        "count" => return written(asked.alloc, total.count()),
         "numerator" => {
             let denom = number::<u64>(asked.args)?;
             if denom == 0 {
                 return None;
             }
-            return format!(in asked.alloc; "{}", total.numerator(denom)).ok();
+            return written(asked.alloc, total.numerator(denom));
         }
         "read_digits" => total.read_digits(),
         "multiple_digits" => total.multiple_digits(),
@@ -116,12 +117,12 @@ fn read(call: &str, asked: Asked<'_>, total: &Total<'_>) -> Option<String> {
     match call {
         "over_common" => match total.over_common(room) {
             Ok(common) => over_common(asked.alloc, common, room),
-            Err(why) => said::<u64, _>(asked.alloc, Err(why)),
+            Err(why) => refused(asked.alloc, why),
         },
-        "sum" => said(asked.alloc, total.sum(room).map(|it| lowest(it))),
-        "mean" => said(asked.alloc, total.mean(room).map(|it| lowest(it))),
-        "sign" => said(asked.alloc, total.sign(room).map(|it| order(it))),
-        "to_f64" => said(asked.alloc, total.to_f64(room).map(|it| bits(it))),
+        "sum" => said_lowest(asked.alloc, total.sum(room)),
+        "mean" => said_lowest(asked.alloc, total.mean(room)),
+        "sign" => said_order(asked.alloc, total.sign(room)),
+        "to_f64" => said_bits(asked.alloc, total.to_f64(room)),
         _ => None,
     }
 }
@@ -141,7 +142,7 @@ fn rounded(call: &str, asked: Asked<'_>, total: &Total<'_>) -> Option<String> {
     if call == "to_integer" {
         let mut room = digits(asked.alloc, first)?;
         let number = total.to_integer(rule, room.as_mut_slice());
-        return said(asked.alloc, number.map(|it| of_number(it)));
+        return said_number(asked.alloc, number);
     }
     let (room, others) = parted(others, " ");
     let mut room = digits(asked.alloc, room)?;
@@ -158,7 +159,7 @@ fn rounded(call: &str, asked: Asked<'_>, total: &Total<'_>) -> Option<String> {
     let parts = number::<u64>(first)?;
     if call == "round_to" && 0 < parts {
         let multiple = total.round_to(parts, rule, room.as_mut_slice());
-        return said(asked.alloc, multiple.map(|it| lowest(it)));
+        return said_lowest(asked.alloc, multiple);
     }
     None
 }
@@ -168,14 +169,14 @@ fn compared(call: &str, asked: Asked<'_>, total: &Total<'_>, other: &Total<'_>) 
     if call == "compare" {
         let (mut between, mut room) = (slots(asked.alloc, first)?, digits(asked.alloc, others)?);
         let found = total.compare(other, between.as_mut_slice(), room.as_mut_slice());
-        return said(asked.alloc, found.map(|it| order(it)));
+        return said_order(asked.alloc, found);
     }
     let (numer, denom) = fraction_of_total(first)?;
     let (between, room) = parted(others, " ");
     let (mut between, mut room) = (slots(asked.alloc, between)?, digits(asked.alloc, room)?);
     if call == "compare_with" && 0 < denom && numer.unsigned_abs() < 1 << 64 {
         let found = total.compare_with(numer, denom, between.as_mut_slice(), room.as_mut_slice());
-        return said(asked.alloc, found.map(|it| order(it)));
+        return said_order(asked.alloc, found);
     }
     None
 }
@@ -189,8 +190,8 @@ fn changed(call: &str, asked: Asked<'_>, total: &mut Total<'_>) -> Option<String
     if call == "moved_to" {
         let mut more = slots(asked.alloc, asked.args)?;
         return match total.moved_to(more.as_mut_slice()) {
-            Ok(moved) => said::<_, u64>(asked.alloc, Ok(moved.count())),
-            Err(why) => said::<u64, _>(asked.alloc, Err(why)),
+            Ok(moved) => written(asked.alloc, moved.count()),
+            Err(why) => refused(asked.alloc, why),
         };
     }
     let (numer, denom) = fraction_of_total(asked.args)?;

@@ -4,13 +4,15 @@
 //! Behind ` moved_to ` stand the digits and the room for the first one.
 use super::lists::{bytes, digits, fractions, one_fraction, push_fields};
 use super::numbers::number;
-use super::said::{bits, done, order, said, text};
-use super::steps::read_step;
+use super::said::{
+    done, refused, said_bits, said_fraction, said_number, said_order, text, written,
+};
+use super::steps::{Step, read_step};
 use super::{Asked, parted};
 use fraction_totals::{WideTotal, wide_total_of};
 use num_rational::Reduced;
 use ratio_integer::Primitive;
-use rows::answer::{of_number, of_reduced};
+use rows::answer::of_number;
 use std::alloc::Global;
 use std::fmt::Display;
 
@@ -38,7 +40,7 @@ fn built<T: Primitive + Display>(call: &str, asked: Asked<'_>) -> Option<String>
             Some(total) => Some(total.count()),
             None => None,
         };
-        return said::<_, u64>(asked.alloc, Ok(of_number(made)));
+        return written(asked.alloc, of_number(made));
     }
     let (spare, steps) = parted(own, " ");
     let mut spare = digits(asked.alloc, spare)?;
@@ -97,7 +99,7 @@ fn both<T: Primitive + Display>(
     match call {
         "merge" => done(asked.alloc, total.merge(other, free)),
         "take_out" => done(asked.alloc, total.take_out(other, free)),
-        "compare" => said(asked.alloc, total.compare(other, free).map(|it| order(it))),
+        "compare" => said_order(asked.alloc, total.compare(other, free)),
         _ => None,
     }
 }
@@ -151,13 +153,7 @@ fn take_step<T: Primitive>(
 ) -> Option<()> {
     let step = read_step(word)?;
     if let Some(factor) = step.factor {
-        let (x, y) = (one_fraction(step.fraction)?, one_fraction(factor)?);
-        let changed = if step.adds {
-            total.add_product(&x, &y, spare)
-        } else {
-            total.subtract_product(&x, &y, spare)
-        };
-        return step.agrees(changed.is_err());
+        return take_product(total, spare, step, factor);
     }
     let mut all = Vec::new(alloc);
     push_fields::<T>(&mut all, step.fraction)?;
@@ -171,6 +167,21 @@ fn take_step<T: Primitive>(
         step.agrees(changed.is_err())?;
     }
     Some(())
+}
+
+fn take_product<T: Primitive>(
+    total: &mut WideTotal<'_, T>,
+    spare: &mut [u64],
+    step: Step<'_>,
+    factor: &str,
+) -> Option<()> {
+    let (x, y) = (one_fraction(step.fraction)?, one_fraction(factor)?);
+    let changed = if step.adds {
+        total.add_product(&x, &y, spare)
+    } else {
+        total.subtract_product(&x, &y, spare)
+    };
+    step.agrees(changed.is_err())
 }
 
 // Takes a step of the other total, or puts it into the first one.
@@ -194,7 +205,7 @@ fn ask<T: Primitive + Display>(
     total: &mut WideTotal<'_, T>,
 ) -> Option<String> {
     if call == "count" {
-        return format!(in asked.alloc; "{}", total.count()).ok();
+        return written(asked.alloc, total.count());
     }
     read(call, asked, total)
         .or_else(|| rounded(call, asked, total))
@@ -210,10 +221,10 @@ fn read<T: Primitive + Display>(
     let mut free = digits(asked.alloc, asked.args)?;
     let free = free.as_mut_slice();
     match call {
-        "sum" => said(asked.alloc, total.sum(free).map(|it| of_reduced(it))),
-        "mean" => said(asked.alloc, total.mean(free).map(|it| of_reduced(it))),
-        "sign" => said(asked.alloc, total.sign(free).map(|it| order(it))),
-        "to_f64" => said(asked.alloc, total.to_f64(free).map(|it| bits(it))),
+        "sum" => said_fraction(asked.alloc, total.sum(free)),
+        "mean" => said_fraction(asked.alloc, total.mean(free)),
+        "sign" => said_order(asked.alloc, total.sign(free)),
+        "to_f64" => said_bits(asked.alloc, total.to_f64(free)),
         _ => None,
     }
 }
@@ -228,7 +239,7 @@ fn rounded<T: Primitive + Display>(
     if call == "to_integer" {
         let mut free = digits(asked.alloc, first)?;
         let number = total.to_integer(rule, free.as_mut_slice());
-        return said(asked.alloc, number.map(|it| of_number(it)));
+        return said_number(asked.alloc, number);
     }
     let (room, buf) = parted(others, " ");
     let mut free = digits(asked.alloc, room)?;
@@ -241,7 +252,7 @@ fn rounded<T: Primitive + Display>(
     let parts = number::<T>(first)?;
     if call == "round_to" && T::ZERO < parts {
         let multiple = total.round_to(parts, rule, free);
-        return said(asked.alloc, multiple.map(|it| of_reduced(it)));
+        return said_fraction(asked.alloc, multiple);
     }
     None
 }
@@ -255,8 +266,8 @@ fn changed<T: Primitive + Display>(
     if call == "moved_to" {
         let mut room = digits(asked.alloc, others)?;
         return match total.moved_to(number(first)?, room.as_mut_slice()) {
-            Ok(moved) => said::<_, u64>(asked.alloc, Ok(moved.count())),
-            Err(why) => said::<u64, _>(asked.alloc, Err(why)),
+            Ok(moved) => written(asked.alloc, moved.count()),
+            Err(why) => refused(asked.alloc, why),
         };
     }
     let x = one_fraction(first)?;
@@ -278,10 +289,7 @@ fn changed<T: Primitive + Display>(
     match call {
         "add" => done(asked.alloc, total.add(&x, spare)),
         "subtract" => done(asked.alloc, total.subtract(&x, spare)),
-        "compare_with" => said(
-            asked.alloc,
-            total.compare_with(&x, spare).map(|it| order(it)),
-        ),
+        "compare_with" => said_order(asked.alloc, total.compare_with(&x, spare)),
         _ => None,
     }
 }

@@ -25,14 +25,23 @@ impl<F: Parted, A: Reply<F::Inside>> Call<F, A> for RoundingTo {
     fn answer(&self, x: &F) -> A {
         let parts = x.parts();
         match positive(x) {
-            Some(r) if F::Inside::ZERO < parts => match rule_of(x.rule()) {
+            Some(r) => match options(parts, x.rule()) {
                 Some(rule) => checked_fields(round_to(*r.numer(), *r.denom(), parts, rule)),
                 None => refused(BAD_OPTION),
             },
-            Some(_) => refused(BAD_OPTION),
             None => refused(DENOMINATOR_NOT_POSITIVE),
         }
     }
+}
+
+/// The rule of a number, if there is such a rule and the parts are positive.
+#[inline(always)]
+pub fn options<T: Integer>(parts: T, rule: u32) -> Option<Rounding>
+    ensures { MatchOption result
+        (¬ ((pos 0 <ℤ T.value parts) × (rule < 6)))
+        (λ r. (pos 0 <ℤ T.value parts) × (rule < 6) × (r ≡ rule_of rule)) }
+{
+    if T::ZERO < parts { rule_of(rule) } else { None }
 }
 
 /// The rule of a number, or `None` if there is no such rule.

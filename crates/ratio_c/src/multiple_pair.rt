@@ -5,9 +5,8 @@ use crate::arithmetic::both;
 use crate::code::{BAD_OPTION, DENOMINATOR_NOT_POSITIVE, DIVISION_BY_ZERO};
 use crate::crossing::{PartedPair, Reply, checked_fields, refused};
 use crate::each::Call;
-use crate::multiple::rule_of;
+use crate::multiple::options;
 use ratio_decimal::{rounded_product_to, rounded_quotient_to};
-use ratio_integer::Integer;
 
 /// The multiple of `1/parts` that the rule gives of the product: 1999/100 times 5/2 to 100 by `RULE_HALF_EVEN` gives
 /// 2499/50.
@@ -21,7 +20,7 @@ impl<P: PartedPair, A: Reply<P::Inside>> Call<P, A> for ProductTo {
     fn answer(&self, pair: &P) -> A {
         let parts = pair.parts();
         match both(pair) {
-            Some((x, y)) if P::Inside::ZERO < parts => match rule_of(pair.rule()) {
+            Some((x, y)) => match options(parts, pair.rule()) {
                 Some(rule) => checked_fields(rounded_product_to(
                     *x.numer(),
                     *x.denom(),
@@ -32,7 +31,6 @@ impl<P: PartedPair, A: Reply<P::Inside>> Call<P, A> for ProductTo {
                 )),
                 None => refused(BAD_OPTION),
             },
-            Some(_) => refused(BAD_OPTION),
             None => refused(DENOMINATOR_NOT_POSITIVE),
         }
     }
@@ -50,7 +48,7 @@ impl<P: PartedPair, A: Reply<P::Inside>> Call<P, A> for QuotientTo {
     fn answer(&self, pair: &P) -> A {
         let parts = pair.parts();
         match both(pair) {
-            Some((x, y)) if P::Inside::ZERO < parts => match rule_of(pair.rule()) {
+            Some((x, y)) => match options(parts, pair.rule()) {
                 Some(_) if y.is_zero() => refused(DIVISION_BY_ZERO),
                 Some(rule) => checked_fields(rounded_quotient_to(
                     *x.numer(),
@@ -62,7 +60,6 @@ impl<P: PartedPair, A: Reply<P::Inside>> Call<P, A> for QuotientTo {
                 )),
                 None => refused(BAD_OPTION),
             },
-            Some(_) => refused(BAD_OPTION),
             None => refused(DENOMINATOR_NOT_POSITIVE),
         }
     }

@@ -5,9 +5,8 @@ use crate::proved::ratio_c::arithmetic::both;
 use crate::proved::ratio_c::code::{BAD_OPTION, DENOMINATOR_NOT_POSITIVE, DIVISION_BY_ZERO};
 use crate::proved::ratio_c::crossing::{PartedPair, Reply, checked_fields, refused};
 use crate::proved::ratio_c::each::Call;
-use crate::proved::ratio_c::multiple::rule_of;
+use crate::proved::ratio_c::multiple::options;
 use bakhsney::proved::ratio_decimal::{rounded_product_to, rounded_quotient_to};
-use bakhsney::proved::ratio_integer::Integer;
 
 /// The multiple of `1/parts` that the rule gives of the product: 1999/100 times 5/2 to 100 by `RULE_HALF_EVEN` gives
 /// 2499/50.
@@ -19,7 +18,7 @@ impl<P: PartedPair, A: Reply<P::Inside>> Call<P, A> for ProductTo {
     fn answer(&self, pair: &P) -> A {
         let parts = pair.parts();
         match both(pair) {
-            Some((x, y)) if P::Inside::ZERO < parts => match rule_of(pair.rule()) {
+            Some((x, y)) => match options(parts, pair.rule()) {
                 Some(rule) => checked_fields(rounded_product_to(
                     *x.numer(),
                     *x.denom(),
@@ -30,7 +29,6 @@ impl<P: PartedPair, A: Reply<P::Inside>> Call<P, A> for ProductTo {
                 )),
                 None => refused(BAD_OPTION),
             },
-            Some(_) => refused(BAD_OPTION),
             None => refused(DENOMINATOR_NOT_POSITIVE),
         }
     }
@@ -46,7 +44,7 @@ impl<P: PartedPair, A: Reply<P::Inside>> Call<P, A> for QuotientTo {
     fn answer(&self, pair: &P) -> A {
         let parts = pair.parts();
         match both(pair) {
-            Some((x, y)) if P::Inside::ZERO < parts => match rule_of(pair.rule()) {
+            Some((x, y)) => match options(parts, pair.rule()) {
                 Some(_) if y.is_zero() => refused(DIVISION_BY_ZERO),
                 Some(rule) => checked_fields(rounded_quotient_to(
                     *x.numer(),
@@ -58,7 +56,6 @@ impl<P: PartedPair, A: Reply<P::Inside>> Call<P, A> for QuotientTo {
                 )),
                 None => refused(BAD_OPTION),
             },
-            Some(_) => refused(BAD_OPTION),
             None => refused(DENOMINATOR_NOT_POSITIVE),
         }
     }

@@ -95,7 +95,7 @@ pub use layer::BigFraction;
 pub use layer::big_fraction_two_numbers as two_numbers;
 #[cfg(feature = "alloc")]
 pub use memory::AllocError;
-/// The error of `parse`: the text is not a fraction, or its lowest terms do not fit the type.
+/// The error of `parse`: the text is not a fraction, or a number in it or in its lowest terms does not fit the type. Over `u8`, `256/2` is one.
 ///
 /// ```
 /// use num_rational::Ratio;

@@ -34,8 +34,9 @@ impl<T: Clone + num_integer::Integer> Ratio<T> {
     ///
     /// # Panics
     ///
-    /// If the power does not fit the type, or if the fraction is 0 and the exponent negative. Also if the denominator is
-    /// negative and the lowest terms do not fit, or 0. `checked_pow` tests all this.
+    /// If a field to the exponent's magnitude does not fit the type, even if the power fits. For a negative exponent, also if the
+    /// fraction is 0 or its sign cannot be moved. Also if the denominator is negative and the lowest terms do not fit, or 0.
+    /// `checked_pow` tests all this.
     ///
     /// ```
     /// use num_rational::Ratio;
@@ -52,13 +53,15 @@ impl<T: Clone + num_integer::Integer> Ratio<T> {
 }
 
 impl<T: Integer> Ratio<T> {
-    /// The power. It is `None` if `pow` panics.
+    /// The power. It is `None` exactly if `pow` panics. So -1/128 to the -9 is `None` over `i64`: 128^9 does not fit, though the power,
+    /// -2^63, does. `checked_pow` of a `Reduced` returns it.
     ///
     /// ```
     /// use num_rational::Ratio;
     ///
     /// assert_eq!(Ratio::new(-2i8, 1).checked_pow(7), Some(Ratio::from_integer(-128)));
     /// assert_eq!(Ratio::new(-2i8, 1).checked_pow(8), None);
+    /// assert_eq!(Ratio::new(-1i64, 128).checked_pow(-9), None);
     /// ```
     #[inline]
     pub fn checked_pow(&self, exponent: i32) -> Option<Ratio<T>> {
@@ -150,7 +153,7 @@ macro_rules! powers {
 
             /// # Panics
             ///
-            /// If the power does not fit the type, as `Ratio::pow`.
+            /// As `Ratio::pow`, such as if a field to the exponent's magnitude does not fit the type.
             #[inline]
             #[track_caller]
             fn pow($self, $exponent: $Exponent) -> Ratio<T> {

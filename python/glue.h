@@ -17,7 +17,15 @@ typedef struct {
 
 extern PyTypeObject ratio_type, total_type;
 extern PyMethodDef column_methods[];
-extern PyTypeObject *fraction_type; /* fractions.Fraction */
+
+/* The objects of Python that the extension uses. A process may have several interpreters, and each has its own ones. */
+enum own_object { FRACTION, RATIONAL, EXACT_SUM, EXACT_DECIMAL, NUMERATOR, DENOMINATOR, OWN_OBJECTS };
+
+/* The object of the interpreter that runs, without a new reference. NULL is an error, as where the interpreter ends. */
+PyObject *own(enum own_object which);
+
+/* Whether it is a Fraction of this interpreter. */
+int is_fraction(PyObject *object);
 
 #define IS_RATIO(object) PyObject_TypeCheck(object, &ratio_type)
 #define VALUE(object) (((ratio_object *) (object))->value)
@@ -29,7 +37,7 @@ extern PyTypeObject *fraction_type; /* fractions.Fraction */
 /* A new Ratio. */
 PyObject *made(PyTypeObject *type, ratio_i64 value);
 
-/* Reads an integer, a Fraction or a Ratio of a subclass, and says whether it is one that fits 64 bits. */
+/* Reads an integer, a Fraction, a Ratio of a subclass, or a Rational of another type that has __index__, and says whether it fits 64 bits. */
 int is_other_read(PyObject *object, ratio_i64 *value);
 
 /* The same, also for a Ratio. */
@@ -39,7 +47,11 @@ static inline int is_read(PyObject *object, ratio_i64 *value) {
     return 1;
 }
 
-/* The operand, with a Fraction in place of a Ratio. */
+/* The object, or the int that its __index__ gives: the arithmetic of another type may overflow. Where that is a TypeError, as of an array of
+ * numpy, the object stays; where it is another error, the result is NULL. */
+PyObject *indexed(PyObject *object);
+
+/* The operand, with a Fraction in place of a Ratio, and an int in place of a Rational that has __index__. */
 PyObject *widened(PyObject *object);
 
 /* The answer, with a Ratio in place of a Fraction that fits. It takes the reference, which may be NULL for an error. */
@@ -51,8 +63,5 @@ PyObject *made_total(PyTypeObject *type);
 /* Puts a column into a Total that no other thread has. Python's lock need not be held. It gives RATIO_ANSWERED, RATIO_MORE_ROOM where memory
  * is wanting, or why the item at `place` did not go in. */
 uint32_t add_column(PyObject *total, const int64_t *numers, const int64_t *denoms, size_t length, size_t *place);
-
-/* Makes the type Total ready. */
-int is_total_ready(void);
 
 #endif

@@ -5,7 +5,64 @@
  */
 #include "glue.h"
 
-PyTypeObject *fraction_type;
+/* ---- the objects of an interpreter */
+
+static struct PyModuleDef module;
+
+/* A member of a module, which __init__.py has imported, or a name alone. */
+static PyObject *found(enum own_object which) {
+    static const struct { const char *module, *name; } places[] = {
+        [FRACTION] = {"fractions", "Fraction"}, [RATIONAL] = {"numbers", "Rational"}, [EXACT_SUM] = {"bakhsney.exact", "total"},
+        [EXACT_DECIMAL] = {"bakhsney.exact", "decimal"}, [NUMERATOR] = {NULL, "numerator"}, [DENOMINATOR] = {NULL, "denominator"},
+    };
+    PyObject *origin, *object;
+    if (!places[which].module) return PyUnicode_InternFromString(places[which].name);
+    origin = PyImport_ImportModule(places[which].module);
+    object = origin ? PyObject_GetAttrString(origin, places[which].name) : NULL;
+    Py_XDECREF(origin);
+    return object;
+}
+
+PyObject *own(enum own_object which) {
+    PyObject *self = PyState_FindModule(&module), **objects = self ? PyModule_GetState(self) : NULL;
+    if (objects && !objects[which]) objects[which] = found(which);
+    if (objects) return objects[which];
+    PyErr_SetString(PyExc_RuntimeError, "bakhsney has ended with this interpreter");
+    return NULL;
+}
+
+int is_fraction(PyObject *object) {
+    PyObject *fraction = own(FRACTION);
+    if (fraction) return PyObject_TypeCheck(object, (PyTypeObject *) fraction);
+    PyErr_Clear();
+    return 0;
+}
+
+/* Whether another type than Python's and ours gives an integer by __index__. */
+static int has_index(PyObject *object) {
+    return !PyLong_Check(object) && PyIndex_Check(object) && !IS_RATIO(object) && !is_fraction(object);
+}
+
+/* The same for a numbers.Rational, such as an integer of numpy, which equals the int and has its hash. */
+static int is_other_whole(PyObject *object) {
+    PyObject *rational;
+    int is_rational;
+    if (!has_index(object)) return 0;
+    rational = own(RATIONAL);
+    is_rational = rational && PyObject_IsInstance(object, rational) > 0;
+    PyErr_Clear();
+    return is_rational;
+}
+
+PyObject *indexed(PyObject *object) {
+    if (has_index(object)) {
+        PyObject *whole = PyNumber_Index(object);
+        if (whole || !PyErr_ExceptionMatches(PyExc_TypeError)) return whole;
+        PyErr_Clear();
+    }
+    Py_INCREF(object);
+    return object;
+}
 
 /* ---- reading and making */
 
@@ -38,11 +95,21 @@ static int is_whole_read(PyObject *object, int64_t *number) {
 }
 
 /* Reads one of the two numbers of a Fraction. */
-static int is_part_read(PyObject *fraction, const char *name, int64_t *number) {
-    PyObject *part = PyObject_GetAttrString(fraction, name);
+static int is_part_read(PyObject *fraction, enum own_object which, int64_t *number) {
+    PyObject *name = own(which), *part = name ? PyObject_GetAttr(fraction, name) : NULL;
     const int is_read = part && is_whole_read(part, number);
     PyErr_Clear();
     Py_XDECREF(part);
+    return is_read;
+}
+
+/* Reads the integer that __index__ gives. */
+static int is_index_read(PyObject *object, ratio_i64 *value) {
+    PyObject *whole = PyNumber_Index(object);
+    const int is_read = whole && is_whole_read(whole, &value->numer);
+    value->denom = 1;
+    PyErr_Clear();
+    Py_XDECREF(whole);
     return is_read;
 }
 
@@ -56,8 +123,10 @@ int is_other_read(PyObject *object, ratio_i64 *value) {
         *value = VALUE(object);
         return 1;
     }
-    if (!PyObject_TypeCheck(object, fraction_type)) return 0;
-    if (!is_part_read(object, "numerator", &value->numer) || !is_part_read(object, "denominator", &value->denom)) return 0;
+    if (PyFloat_CheckExact(object) || PyUnicode_CheckExact(object)) return 0;
+    if (is_other_whole(object)) return is_index_read(object, value);
+    if (!is_fraction(object)) return 0;
+    if (!is_part_read(object, NUMERATOR, &value->numer) || !is_part_read(object, DENOMINATOR, &value->denom)) return 0;
     ratio_reduce_i64(value, 1, &answer, 1);
     *value = answer.value;
     return answer.code == RATIO_ANSWERED;
@@ -107,14 +176,19 @@ static PyObject *nearest_float(PyObject *self) {
 /* ---- what Fraction does */
 
 PyObject *widened(PyObject *object) {
-    if (IS_RATIO(object)) return PyObject_CallFunction((PyObject *) fraction_type, "LL", (long long) VALUE(object).numer, (long long) VALUE(object).denom);
+    PyObject *fraction;
+    if (is_other_whole(object)) return indexed(object);
+    if (IS_RATIO(object)) {
+        fraction = own(FRACTION);
+        return fraction ? PyObject_CallFunction(fraction, "LL", (long long) VALUE(object).numer, (long long) VALUE(object).denom) : NULL;
+    }
     Py_INCREF(object);
     return object;
 }
 
 PyObject *narrowed(PyTypeObject *type, PyObject *answer) {
     ratio_i64 value;
-    if (!answer || !PyObject_TypeCheck(answer, fraction_type) || !is_read(answer, &value)) return answer;
+    if (!answer || !is_fraction(answer) || !is_read(answer, &value)) return answer;
     Py_DECREF(answer);
     return made(type, value);
 }
@@ -363,13 +437,10 @@ static PyObject *copy(PyObject *self, PyObject *Py_UNUSED(memory)) {
 }
 
 /* round(x) is an int, and round(x, places) a Ratio. */
-WITH_NAMES(rounded) {
-    static char *words[] = {"ndigits", NULL};
+static PyObject *rounded_to(PyObject *self, PyObject *operand) {
     ratio_multiple_i64 asked = {VALUE(self), 1, RATIO_RULE_HALF_EVEN};
     ratio_answer_i64 answer;
-    PyObject *operand = Py_None;
     int64_t places = 0;
-    if (!PyArg_ParseTupleAndKeywords(operands, names, "|O:__round__", words, &operand)) return NULL;
     if (operand != Py_None && !(PyLong_Check(operand) && is_whole_read(operand, &places) && places >= 0 && places <= 18)) return with_by_fraction(self, "__round__", operand);
     for (; places > 0; places--) asked.parts *= 10;
     ratio_round_to_i64(&asked, 1, &answer, 1);
@@ -377,23 +448,44 @@ WITH_NAMES(rounded) {
     return operand == Py_None ? PyLong_FromLongLong(answer.value.numer) : made(&ratio_type, answer.value);
 }
 
+static PyObject *limited_to(PyObject *self, PyObject *operand) {
+    ratio_bounded_i64 asked = {VALUE(self), 0};
+    ratio_answer_i64 answer = {RATIO_NOT_HELD, {0, 0}};
+    if (PyLong_Check(operand) && is_whole_read(operand, &asked.most)) ratio_nearest_i64(&asked, 1, &answer, 1);
+    return answer.code == RATIO_ANSWERED ? made(&ratio_type, answer.value) : with_by_fraction(self, "limit_denominator", operand);
+}
+
+WITH_NAMES(rounded) {
+    static char *words[] = {"ndigits", NULL};
+    PyObject *operand = Py_None, *number, *answer;
+    if (!PyArg_ParseTupleAndKeywords(operands, names, "|O:__round__", words, &operand)) return NULL;
+    number = indexed(operand);
+    answer = number ? rounded_to(self, number) : NULL;
+    Py_XDECREF(number);
+    return answer;
+}
+
 WITH_NAMES(limit_denominator) {
     static char *words[] = {"max_denominator", NULL};
-    ratio_bounded_i64 asked = {VALUE(self), 1000000};
-    ratio_answer_i64 answer = {RATIO_NOT_HELD, {0, 0}};
-    PyObject *operand = NULL;
+    PyObject *operand = NULL, *number, *answer;
     if (!PyArg_ParseTupleAndKeywords(operands, names, "|O:limit_denominator", words, &operand)) return NULL;
-    if (!operand || (PyLong_Check(operand) && is_whole_read(operand, &asked.most))) ratio_nearest_i64(&asked, 1, &answer, 1);
-    if (answer.code == RATIO_ANSWERED) return made(&ratio_type, answer.value);
-    return operand ? with_by_fraction(self, "limit_denominator", operand) : alone_by_fraction(self, "limit_denominator");
+    number = operand ? indexed(operand) : PyLong_FromLong(1000000);
+    answer = number ? limited_to(self, number) : NULL;
+    Py_XDECREF(number);
+    return answer;
+}
+
+static PyObject *from_other(PyObject *type, const char *method, PyObject *operand) {
+    PyObject *fraction = own(FRACTION), *number = fraction ? indexed(operand) : NULL;
+    return narrowed((PyTypeObject *) type, number ? PyObject_CallMethod(fraction, method, "(N)", number) : NULL);
 }
 
 static PyObject *from_float(PyObject *type, PyObject *operand) {
-    return narrowed((PyTypeObject *) type, PyObject_CallMethod((PyObject *) fraction_type, "from_float", "(O)", operand));
+    return from_other(type, "from_float", operand);
 }
 
 static PyObject *from_decimal(PyObject *type, PyObject *operand) {
-    return narrowed((PyTypeObject *) type, PyObject_CallMethod((PyObject *) fraction_type, "from_decimal", "(O)", operand));
+    return from_other(type, "from_decimal", operand);
 }
 
 PROPERTY(numerator) { return PyLong_FromLongLong(VALUE(self).numer); }
@@ -419,18 +511,37 @@ static int is_made(size_t count, PyObject *const *operands, ratio_i64 *value) {
     return count <= 2 && answer.code == RATIO_ANSWERED;
 }
 
-static PyObject *new(PyTypeObject *type, PyObject *operands, PyObject *names) {
-    const size_t count = (size_t) PyTuple_GET_SIZE(operands);
-    ratio_i64 value;
-    if ((!names || PyDict_Size(names) == 0) && is_made(count, PySequence_Fast_ITEMS(operands), &value)) return made(type, value);
-    return narrowed(type, PyObject_Call((PyObject *) fraction_type, operands, names));
+/* What Fraction makes of the operands, indexed, of which the last ones may have names. */
+static PyObject *new_by_fraction(PyObject *const *operands, Py_ssize_t count, PyObject *names) {
+    const Py_ssize_t all = count + (names ? PyTuple_GET_SIZE(names) : 0);
+    PyObject *fraction = own(FRACTION), *numbers = fraction ? PyTuple_New(all) : NULL, *number, *answer;
+    Py_ssize_t i;
+    for (i = 0; numbers && i < all; i++) {
+        number = indexed(operands[i]);
+        if (number) PyTuple_SET_ITEM(numbers, i, number);
+        else Py_CLEAR(numbers);
+    }
+    answer = numbers ? PyObject_Vectorcall(fraction, PySequence_Fast_ITEMS(numbers), (size_t) count, names) : NULL;
+    Py_XDECREF(numbers);
+    return narrowed(&ratio_type, answer);
 }
 
-/* The same for Ratio itself, without a tuple of the operands. */
-static PyObject *new_quick(PyObject *type, PyObject *const *operands, size_t count, PyObject *names) {
+/* The constructor of Ratio itself, without a tuple of the operands. */
+static PyObject *new_quick(PyObject *Py_UNUSED(type), PyObject *const *operands, size_t count, PyObject *names) {
     ratio_i64 value;
-    if (!names && is_made((size_t) PyVectorcall_NARGS(count), operands, &value)) return made((PyTypeObject *) type, value);
-    return narrowed((PyTypeObject *) type, PyObject_Vectorcall((PyObject *) fraction_type, operands, count, names));
+    if (!names && is_made((size_t) PyVectorcall_NARGS(count), operands, &value)) return made(&ratio_type, value);
+    return new_by_fraction(operands, PyVectorcall_NARGS(count), names);
+}
+
+static PyObject *new(PyTypeObject *type, PyObject *operands, PyObject *names) {
+    PyObject *answer, *self;
+    ratio_i64 value;
+    if ((!names || PyDict_Size(names) == 0) && is_made((size_t) PyTuple_GET_SIZE(operands), PySequence_Fast_ITEMS(operands), &value)) return made(type, value);
+    answer = PyObject_Call((PyObject *) &ratio_type, operands, names);
+    if (!answer || type == &ratio_type || !IS_RATIO(answer)) return answer;
+    self = made(type, VALUE(answer));
+    Py_DECREF(answer);
+    return self;
 }
 
 /* ---- their names */
@@ -486,15 +597,31 @@ PyTypeObject ratio_type = {
     .tp_getset = properties,
 };
 
-static struct PyModuleDef module = {PyModuleDef_HEAD_INIT, "bakhsney._ratio", NULL, -1, column_methods, NULL, NULL, NULL, NULL};
+/* ---- the module. Each interpreter has its own, and all share the types, which nothing changes. */
 
+static int visit_own(PyObject *self, visitproc visit, void *arg) {
+    PyObject **objects = PyModule_GetState(self);
+    int which;
+    for (which = 0; which < OWN_OBJECTS; which++) Py_VISIT(objects[which]);
+    return 0;
+}
+
+static int let_go(PyObject *self) {
+    PyObject **objects = PyModule_GetState(self);
+    int which;
+    for (which = 0; which < OWN_OBJECTS; which++) Py_CLEAR(objects[which]);
+    return 0;
+}
+
+static void end_module(void *self) {
+    let_go(self);
+}
+
+static struct PyModuleDef module = {PyModuleDef_HEAD_INIT, "bakhsney._ratio", NULL, OWN_OBJECTS * sizeof(PyObject *), column_methods, NULL, visit_own, let_go, end_module};
+
+/* Each interpreter runs it, since the module has a size. Python 3.13 first runs it in the main one, so it imports nothing. */
 PyMODINIT_FUNC PyInit__ratio(void) {
-    PyObject *fractions = PyImport_ImportModule("fractions"), *self;
-    if (!fractions) return NULL;
-    fraction_type = (PyTypeObject *) PyObject_GetAttrString(fractions, "Fraction");
-    Py_DECREF(fractions);
-    if (!fraction_type || PyType_Ready(&ratio_type) < 0 || !is_total_ready()) return NULL;
-    self = PyModule_Create(&module);
+    PyObject *self = PyModule_Create(&module);
     if (self && (PyModule_AddType(self, &ratio_type) < 0 || PyModule_AddType(self, &total_type) < 0)) Py_CLEAR(self);
     return self;
 }

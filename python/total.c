@@ -16,8 +16,6 @@ typedef struct {
     int64_t wide_count;
 } total_object;
 
-static PyObject *exact_sum, *exact_decimal; /* of exact.py */
-
 enum { FIRST_LENGTH = 8, MOST_PLACES = 16383 };
 
 /* ---- the slots */
@@ -84,10 +82,19 @@ static void end(PyObject *object) {
 
 /* ---- putting in and taking out */
 
+/* The Fraction of a number, or a TypeError. */
+static PyObject *fraction_of(PyObject *operand) {
+    PyObject *type = own(FRACTION), *number = type ? indexed(operand) : NULL, *fraction = NULL;
+    if (number && (PyLong_Check(number) || IS_RATIO(number) || is_fraction(number))) fraction = PyObject_CallFunctionObjArgs(type, number, NULL);
+    else if (number) PyErr_Format(PyExc_TypeError, "a Total takes a Ratio, an int or a Fraction, not '%.200s'", Py_TYPE(number)->tp_name);
+    Py_XDECREF(number);
+    return fraction;
+}
+
 /* Adds a number to the Fraction beside the slots, or subtracts it. */
 static int is_changed_beside(total_object *self, PyObject *number, int is_added) {
-    PyObject *fraction = PyObject_CallFunctionObjArgs((PyObject *) fraction_type, number, NULL), *before, *after;
-    if (fraction && !self->wide) self->wide = PyObject_CallNoArgs((PyObject *) fraction_type);
+    PyObject *fraction = fraction_of(number), *before, *after;
+    if (fraction && !self->wide) self->wide = PyObject_CallNoArgs((PyObject *) Py_TYPE(fraction));
     before = self->wide;
     Py_XINCREF(before);
     after = !fraction || !before ? NULL : is_added ? PyNumber_Add(before, fraction) : PyNumber_Subtract(before, fraction);
@@ -102,11 +109,7 @@ static int is_changed_beside(total_object *self, PyObject *number, int is_added)
 /* Puts the number into the total, or takes it out, and says whether it is a fraction. */
 static int is_changed(total_object *self, PyObject *number, int is_added) {
     ratio_i64 value;
-    if (!is_read(number, &value)) {
-        if (PyLong_Check(number) || PyObject_TypeCheck(number, fraction_type)) return is_changed_beside(self, number, is_added);
-        PyErr_Format(PyExc_TypeError, "a Total takes a Ratio, an int or a Fraction, not '%.200s'", Py_TYPE(number)->tp_name);
-        return 0;
-    }
+    if (!is_read(number, &value)) return is_changed_beside(self, number, is_added);
     do {
         if (is_added) ratio_total_add_i64(&value, 1, &self->header, 1, self->slots, self->length);
         else ratio_total_subtract_i64(&value, 1, &self->header, 1, self->slots, self->length);
@@ -227,9 +230,9 @@ static PyObject *take_out_total(PyObject *self, PyObject *other) {
 
 /* The numerators and denominators of the slots and of the Fraction beside them, summed by exact.py. */
 static PyObject *sum_of_parts(const total_object *self) {
-    PyObject *parts = PyList_New(0), *bits = PyLong_FromLong(64), *answer = NULL;
+    PyObject *summed = own(EXACT_SUM), *parts = PyList_New(0), *bits = PyLong_FromLong(64), *answer = NULL;
     size_t i;
-    int is_whole = parts && bits;
+    int is_whole = summed && parts && bits;
     for (i = 0; is_whole && i < self->length; i++) {
         const ratio_slot_i64 *slot = &self->slots[i];
         PyObject *high, *low, *shifted, *numer, *part;
@@ -246,7 +249,7 @@ static PyObject *sum_of_parts(const total_object *self) {
         Py_XDECREF(numer);
         Py_XDECREF(part);
     }
-    if (is_whole) answer = PyObject_CallFunctionObjArgs(exact_sum, parts, self->wide ? self->wide : Py_None, NULL);
+    if (is_whole) answer = PyObject_CallFunctionObjArgs(summed, parts, self->wide ? self->wide : Py_None, NULL);
     Py_XDECREF(parts);
     Py_XDECREF(bits);
     return answer;
@@ -331,7 +334,7 @@ static PyObject *decimal_in_slots(const total_object *self, uint32_t places) {
 
 static PyObject *decimal(PyObject *self, PyObject *operand) {
     const long places = PyLong_AsLong(operand);
-    PyObject *text = NULL, *sum;
+    PyObject *text = NULL, *sum, *rounded;
     if (PyErr_Occurred() && !PyErr_ExceptionMatches(PyExc_OverflowError)) return NULL;
     if (places < 0 || places > MOST_PLACES) {
         PyErr_Format(PyExc_ValueError, "places must be from 0 to %d", MOST_PLACES);
@@ -340,7 +343,8 @@ static PyObject *decimal(PyObject *self, PyObject *operand) {
     if (!((total_object *) self)->wide) text = decimal_in_slots((total_object *) self, (uint32_t) places);
     if (text || PyErr_Occurred()) return text;
     sum = sum_of_parts((total_object *) self);
-    text = sum ? PyObject_CallFunctionObjArgs(exact_decimal, sum, operand, NULL) : NULL;
+    rounded = sum ? own(EXACT_DECIMAL) : NULL;
+    text = rounded ? PyObject_CallFunction(rounded, "Ol", sum, places) : NULL;
     Py_XDECREF(sum);
     return text;
 }
@@ -380,12 +384,3 @@ PyTypeObject total_type = {
     .tp_methods = methods,
     .tp_getset = properties,
 };
-
-int is_total_ready(void) {
-    PyObject *exact = PyImport_ImportModule("bakhsney.exact");
-    if (!exact) return 0;
-    exact_sum = PyObject_GetAttrString(exact, "total");
-    exact_decimal = PyObject_GetAttrString(exact, "decimal");
-    Py_DECREF(exact);
-    return exact_sum && exact_decimal && PyType_Ready(&total_type) == 0;
-}

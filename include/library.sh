@@ -12,6 +12,7 @@ choose_library() {
   elif is_proved "$library"; then
     echo "$me: over the proved library, crates/ratio_c/out/libratio_c.a"
   else
+    command -v cargo >/dev/null || stop "cargo is missing: apt-get install cargo"
     tar -C "$top" --exclude=target -cf - rust | tar -C "$work" -xf -
     # cargo writes into its own folder, too. Its settings, such as a mirror of crates.io, come along.
     mkdir "$work/cargo"

@@ -25,9 +25,13 @@ def tag():
 
 def compiled():
     """The extension, as bytes."""
+    if sys.platform != "linux":
+        sys.exit("python/backend.py: the package is for Linux alone")
     with tempfile.TemporaryDirectory() as folder:
         target = Path(folder) / "extension"
-        subprocess.run([HERE / "compile", sysconfig.get_paths()["include"], target], check=True)
+        run = subprocess.run([HERE / "compile", sysconfig.get_paths()["include"], target])
+        if run.returncode:  # it has said why
+            sys.exit(run.returncode)
         return target.read_bytes()
 
 

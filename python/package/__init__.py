@@ -1,7 +1,7 @@
 """Exact fractions over proved calls. README.md of the folder python/ says what they do."""
 from numbers import Rational
 
-from bakhsney import columns, exact
+from bakhsney import columns, exact  # a Total takes its calls of exact
 from bakhsney._ratio import Ratio, Total
 
 __all__ = ["Ratio", "Total", "columns"]

@@ -333,8 +333,9 @@ static PyObject *decimal_in_slots(const total_object *self, uint32_t places) {
 }
 
 static PyObject *decimal(PyObject *self, PyObject *operand) {
-    const long places = PyLong_AsLong(operand);
-    PyObject *text = NULL, *sum, *rounded;
+    PyObject *number = PyNumber_Index(operand), *text = NULL, *sum, *rounded;
+    const long places = number ? PyLong_AsLong(number) : 0;
+    Py_XDECREF(number);
     if (PyErr_Occurred() && !PyErr_ExceptionMatches(PyExc_OverflowError)) return NULL;
     if (places < 0 || places > MOST_PLACES) {
         PyErr_Format(PyExc_ValueError, "places must be from 0 to %d", MOST_PLACES);

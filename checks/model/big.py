@@ -53,6 +53,11 @@ def decimal_text(x, places, rule):
     return ("-" if number < 0 else "") + digits[:point] + ("." + digits[point:] if places else "")
 
 
+def multiple(rule, x, step):
+    """The multiple of the step that the rule gives."""
+    return whole(rule, x / step) * step
+
+
 def by_rules(words, answer):
     """The answers by the rule that comes last, or by all six."""
     first, second, *rule = words.split(" ")
@@ -227,7 +232,8 @@ OTHERS = {
     "compare": of_two(order, str),
     "continued_fraction": of_one(lambda x: f"[{','.join(map(shown, continued(x)))}]", str),
     "decimal": lambda words: by_rules(words, lambda x, places, rule: quoted(decimal_text(x, int(places), rule))),
-    "round_to": lambda words: by_rules(words, lambda x, step, rule: shown(whole(rule, x / Fraction(step)) * Fraction(step))),
+    "round_to": lambda words: by_rules(words, lambda x, parts, rule: shown(multiple(rule, x, Fraction(1, int(parts))))),
+    "round_to_multiple_of": lambda words: by_rules(words, lambda x, step, rule: shown(multiple(rule, x, Fraction(step)))),
     "to_text": of_one(str, quoted),
     "append_text": append_text,
     "pow": power,

@@ -333,21 +333,33 @@ fn fractions_near() {
             tried(x.try_nearest(&bound)) => nearest(old, most);
             tried(x.try_nearest(&-bound)) => None;
         };
+        let parts = (numbers.word() >> (1 + numbers.below(63))).max(1) as i64;
+        let short = Reduced64::try_from(x);
         for rule in rules {
+            let in_parts = original(rounded(&(old * BigInt::from(parts)), rule) / BigInt::from(parts));
+            rows! { (x, parts);
+                fields(x.round_to(parts, rule)) => in_parts;
+                tried(x.try_round_to(parts, rule)) => Some(in_parts);
+                [0, -parts, i64::MIN].map(|parts| x.try_round_to(parts, rule)) => [Ok(None), Ok(None), Ok(None)];
+                short.as_ref().map_or(true, |short| short.round_to(parts, rule).map_or(true, |multiple| x.round_to(parts, rule) == BigFraction::from(multiple))) => true;
+            };
             let multiple = || if width.is_zero() { None } else { Some(original(rounded(&(old / &width), rule) * &width)) };
             rows! { (x, step);
-                tried(x.try_round_to(step, rule)) => multiple();
-                tried(x.try_round_to(&-step, rule)) => None;
+                tried(x.try_round_to_multiple_of(step, rule)) => multiple();
+                tried(x.try_round_to_multiple_of(&-step, rule)) => None;
             };
             if !step.is_zero() {
                 rows! { (x, step);
-                    Some(fields(x.round_to(step, rule))) => multiple();
+                    Some(fields(x.round_to_multiple_of(step, rule))) => multiple();
                 };
             }
         }
     }
     let half = BigFraction::new(1, 2);
-    assert_eq!(rules.map(|rule| half.round_to(&BigFraction::one(), rule)), [1, 0, 0, 1, 0, 1].map(BigFraction::from));
+    assert_eq!(rules.map(|rule| half.round_to(1, rule)), [1, 0, 0, 1, 0, 1].map(BigFraction::from));
+    assert_eq!(rules.map(|rule| half.round_to_multiple_of(&BigFraction::one(), rule)), [1, 0, 0, 1, 0, 1].map(BigFraction::from));
+    let cents = |text| (Reduced64::from_decimal(text).unwrap().round_to(100, Rounding::HalfEven), BigFraction::from_decimal(text).unwrap().round_to(100, Rounding::HalfEven));
+    assert_eq!(cents("19.996"), (Some(Reduced64::from(20)), BigFraction::from(20)));
 }
 
 #[test]
@@ -546,7 +558,10 @@ fn message<R>(call: impl FnOnce() -> R + std::panic::UnwindSafe) -> String {
 #[cfg(panic = "unwind")]
 #[test]
 fn multiple_of_0() {
-    assert_eq!(message(|| BigFraction::new(1, 2).round_to(&BigFraction::from(0), Rounding::Up)), "the step is not above 0");
+    for parts in [0, -1, i64::MIN] {
+        assert_eq!(message(|| BigFraction::new(1, 2).round_to(parts, Rounding::Up)), "the number of parts is not above 0");
+    }
+    assert_eq!(message(|| BigFraction::new(1, 2).round_to_multiple_of(&BigFraction::from(0), Rounding::Up)), "the step is not above 0");
 }
 
 #[cfg(panic = "unwind")]

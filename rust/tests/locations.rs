@@ -4,7 +4,7 @@
 #![allow(clippy::op_ref, clippy::redundant_closure)]
 
 use bakhsney::integer::Integer;
-use bakhsney::{Ratio, Reduced, Rounding, Total};
+use bakhsney::{BigFraction, Ratio, Reduced, Rounding, Total};
 use num_traits::{Euclid, Inv, Num, Pow, Signed};
 use std::cell::RefCell;
 use std::collections::hash_map::DefaultHasher;
@@ -168,6 +168,11 @@ const ROUNDING: &[Row] = &[
     ("decimal of no lowest terms", line!(), || done(refused().decimal(2, Rounding::Up))),
 ];
 
+const ANY_SIZE: &[Row] = &[
+    ("BigFraction::round_to", line!(), || done(BigFraction::from(1).round_to(0, Rounding::Up))),
+    ("BigFraction::round_to_multiple_of", line!(), || done(BigFraction::from(1).round_to_multiple_of(&BigFraction::from(0), Rounding::Up))),
+];
+
 /// A fraction that no slot of a total takes.
 fn wide() -> Reduced<u128> {
     Reduced::from(1 << 64)
@@ -190,7 +195,7 @@ const TOTALS: &[Row] = &[
 
 #[test]
 fn the_callers_line_is_named() {
-    for (name, line, call) in [MAKING, ARITHMETIC, POWERS_AND_SIGNS, COMPARING, ROUNDING, TOTALS].concat() {
+    for (name, line, call) in [MAKING, ARITHMETIC, POWERS_AND_SIGNS, COMPARING, ROUNDING, ANY_SIZE, TOTALS].concat() {
         assert_eq!(place_of(call), (file!().to_owned(), line), "{name}");
     }
 }

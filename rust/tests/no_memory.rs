@@ -125,7 +125,8 @@ fn tried() {
         ok(x.try_clone());
         some(x.try_recip());
         some(x.try_pow(-5));
-        some(x.try_round_to(y, Rounding::Up));
+        some(x.try_round_to(100, Rounding::Up));
+        some(x.try_round_to_multiple_of(y, Rounding::Up));
         some(BigFraction::try_simplest_between(y, next));
         x.try_continued_fraction().map(drop);
         some(x.try_nearest(&BigFraction::from(1_000_000)));
@@ -189,7 +190,8 @@ fn panics() {
         drop(x.abs());
         drop(x.recip());
         drop(x.pow(3));
-        drop(x.round_to(y, Rounding::Up));
+        drop(x.round_to(100, Rounding::Up));
+        drop(x.round_to_multiple_of(y, Rounding::Up));
         drop(x.continued_fraction());
         drop((x.floor(), x.ceil(), x.round(), x.trunc(), x.fract()));
         assert!(x < y);
@@ -221,6 +223,7 @@ fn short_ones_take_no_memory() {
     let (_, was_refused) = refused(0, || {
         let all = [&x + &y, &x - &y, &x * &y, &x / &y, &x % &y, -&x, x.abs(), x.clone(), x.recip(), x.pow(20), x.numer(), x.denom()];
         assert!(all.iter().all(|result| result < &BigFraction::from(i64::MAX)));
+        assert_eq!([x.round_to(100, Rounding::Up), x.round_to_multiple_of(&BigFraction::new(1, 5), Rounding::Up)], [BigFraction::new(-117, 100), BigFraction::new(-6, 5)]);
         assert!(x.floor() < x.ceil() && x.round() == x.trunc() && x == x.clone() && x.fract().is_negative());
         assert!(BigFraction::simplest_between(&x, &y) == Some(BigFraction::from(0)) && BigFraction::simplest_between(&y, &x).is_none());
         assert_eq!(("-7/6".parse(), BigFraction::from_float(0.5), x.to_i64()), (Ok(x), Some(BigFraction::new(1, 2)), Some(-1)));

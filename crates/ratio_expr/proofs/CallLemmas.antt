@@ -6,8 +6,6 @@ use Rattle.std.specs.Bool.{◌==◌}
 use Rattle.std.specs.Ordering.{ordering_index, ordering_reverse}
 use Rattle.std.specs.declared.cmp.Ordering.{Ordering}
 use Rattle.std.specs.declared.cmp.Ordering.TheVariants.{Less, Equal, Greater}
-use Rattle.std.proofs.Math.Nat.{dvd-one}
-use Rattle.std.proofs.lemmas.Int.{ints}
 use Rattle.std.proofs.lemmas.List.{get_or_default, get_or-map, length-map}
 use Rattle.std.proofs.lemmas.List.Elements.{All-map}
 use Rattle.ratio_integer.specs.Fraction.{IsLowestTerms}
@@ -15,23 +13,12 @@ use Rattle.ratio_integer.proofs.Whole.{positive_nonzero}
 use Rattle.ratio_core.specs.Order.{cross_cmp}
 use Rattle.ratio_core.proofs.OrderLaws.{cross_reflexive, cross_total}
 use Rattle.ratio_big.specs.Fractions.{big_numbers}
-use Rattle.ratio_big.specs.Values.{HasTerms}
 use Rattle.ratio_big.specs.declared.fraction.BigFraction.{BigFraction}
 use Rattle.ratio_expr.specs.Functions.{IsExtreme}
-use Rattle.ratio_expr.proofs.CallLaws.{same_terms}
 
 -- fractions are in lowest terms
 pub all_lowest : (xs : List BigFraction) → All (λ (x : ℤ × ℤ). IsLowestTerms x.0 x.1) (map big_numbers xs)
 all_lowest xs = All-map (λ (x : ℤ × ℤ). IsLowestTerms x.0 x.1) big_numbers xs (λ k d within. let x : BigFraction = get_or xs k d in x.kept.lowest)
-
--- ---- cents
-
-pub one_cent : (r : ℤ × ℤ) → HasTerms (pos 1, pos 100) r → r ≡ (pos 1, pos 100)
-one_cent r terms = same_terms (pos 1, pos 100) r (pos 1, pos 100) terms (record {
-  fraction = λ none. omega (arith, ints);
-  same = refl;
-  lowest = record { positive = omega (arith, ints); only_one = λ k first second. dvd-one.0 first };
-})
 
 -- ---- the least and the greatest number
 

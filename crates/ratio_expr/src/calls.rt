@@ -114,8 +114,7 @@ fn between(
 fn cents(alloc: Global, x: &BigFraction) -> Result<BigFraction, AllocError>
     ensures { IfOk result (λ r. IsMultipleBy HalfAway (big_numbers x.now) (pos 1, pos 100) (big_numbers r)) }
 {
-    let cent = BigFraction::from_integer(100).reciprocal(alloc)?.unwrap();
-    x.round_to(alloc, &cent, Rounding::HalfAway)
+    x.round_to(alloc, 100, Rounding::HalfAway)
 }
 
 // The greatest common divisor of the numbers.

@@ -75,7 +75,7 @@ fn reads_back(
     ensures { IfOk result (λ r. IsTrue r ↔ FloatReadsBack float places) }
 {
     let step = last_place(alloc, places)?;
-    let rounded = value.round_to(alloc, &step, Rounding::HalfEven)?;
+    let rounded = value.round_to_multiple_of(alloc, &step, Rounding::HalfEven)?;
     let nearest = rounded.to_f64(alloc)?;
     Ok(nearest == float)
 }

@@ -56,6 +56,7 @@ fn of_more(
     match call {
         "decimal" => rules::decimal(alloc, x, rest),
         "round_to" => rules::multiple(alloc, x, rest),
+        "round_to_multiple_of" => rules::multiple_of_step(alloc, x, rest),
         "append_text" => made::longer_text(alloc, x, rest),
         "pow" => two::power(alloc, x, rest),
         _ => match fraction(alloc, rest)? {

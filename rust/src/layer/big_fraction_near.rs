@@ -1,11 +1,43 @@
-//! Multiples of a step near a `BigFraction`, the nearest fraction with a bounded denominator, and its continued fraction.
+//! Multiples of a step or of 1/parts near a `BigFraction`, the nearest fraction with a bounded denominator, and its continued fraction.
 use super::big_fraction::{divided, taken, BigFraction};
 use crate::memory::{self, AllocError, Global};
 use crate::proved::ratio_decimal::rounding_rule::Rounding;
 use alloc::vec::Vec;
 
 impl BigFraction {
-    /// The multiple of `step` that the rule says, such as cents for 1/100.
+    /// The multiple of `1/parts` that the rule says, such as cents for 100, as `Reduced64::round_to` returns it.
+    ///
+    /// # Panics
+    ///
+    /// If `parts` is not above 0, or for want of memory.
+    ///
+    /// ```
+    /// use num_rational::{BigFraction, Rounding};
+    ///
+    /// let price = BigFraction::from_decimal("19.996").unwrap();
+    /// assert_eq!(price.round_to(100, Rounding::HalfEven), BigFraction::from(20));
+    /// assert_eq!(BigFraction::new(2, 3).round_to(100, Rounding::HalfEven), BigFraction::new(67, 100));
+    /// ```
+    #[track_caller]
+    pub fn round_to(&self, parts: i64, rule: Rounding) -> BigFraction {
+        divided(self.try_round_to(parts, rule), "the number of parts is not above 0")
+    }
+
+    /// The same, or `None` if `parts` is not above 0. An error for want of memory.
+    ///
+    /// ```
+    /// use num_rational::{BigFraction, Rounding};
+    ///
+    /// assert_eq!(BigFraction::new(2, 3).try_round_to(0, Rounding::Up), Ok(None));
+    /// ```
+    pub fn try_round_to(&self, parts: i64, rule: Rounding) -> Result<Option<BigFraction>, AllocError> {
+        if parts < 1 {
+            return Ok(None);
+        }
+        self.0.round_to(Global, parts, rule).map(|multiple| Some(BigFraction(multiple)))
+    }
+
+    /// The multiple of `step` that the rule says, such as dozens for 12. For a step of `1/parts` there is `round_to`.
     ///
     /// # Panics
     ///
@@ -14,13 +46,12 @@ impl BigFraction {
     /// ```
     /// use num_rational::{BigFraction, Rounding};
     ///
-    /// let cent = BigFraction::new(1, 100);
-    /// assert_eq!(BigFraction::new(2, 3).round_to(&cent, Rounding::HalfEven), BigFraction::new(67, 100));
-    /// assert_eq!(BigFraction::new(-7, 2).round_to(&BigFraction::from(3), Rounding::Floor), BigFraction::from(-6));
+    /// assert_eq!(BigFraction::from(100).round_to_multiple_of(&BigFraction::from(12), Rounding::HalfEven), BigFraction::from(96));
+    /// assert_eq!(BigFraction::new(2, 3).round_to_multiple_of(&BigFraction::new(2, 5), Rounding::Floor), BigFraction::new(2, 5));
     /// ```
     #[track_caller]
-    pub fn round_to(&self, step: &BigFraction, rule: Rounding) -> BigFraction {
-        divided(self.try_round_to(step, rule), "the step is not above 0")
+    pub fn round_to_multiple_of(&self, step: &BigFraction, rule: Rounding) -> BigFraction {
+        divided(self.try_round_to_multiple_of(step, rule), "the step is not above 0")
     }
 
     /// The same, or `None` if `step` is not above 0. An error for want of memory.
@@ -28,13 +59,13 @@ impl BigFraction {
     /// ```
     /// use num_rational::{BigFraction, Rounding};
     ///
-    /// assert_eq!(BigFraction::new(2, 3).try_round_to(&BigFraction::from(0), Rounding::Up), Ok(None));
+    /// assert_eq!(BigFraction::new(2, 3).try_round_to_multiple_of(&BigFraction::from(0), Rounding::Up), Ok(None));
     /// ```
-    pub fn try_round_to(&self, step: &BigFraction, rule: Rounding) -> Result<Option<BigFraction>, AllocError> {
+    pub fn try_round_to_multiple_of(&self, step: &BigFraction, rule: Rounding) -> Result<Option<BigFraction>, AllocError> {
         if !step.0.is_positive() {
             return Ok(None);
         }
-        self.0.round_to(Global, &step.0, rule).map(|multiple| Some(BigFraction(multiple)))
+        self.0.round_to_multiple_of(Global, &step.0, rule).map(|multiple| Some(BigFraction(multiple)))
     }
 
     /// The nearest fraction to this one with a denominator from 1 to `most`, in lowest terms. Of two that are as near, it is the one with

@@ -14,7 +14,7 @@ const RULES: [Rounding; 6] = [
     Rounding::Ceil,
 ];
 
-// The number of places or the step, and the rules that the words name.
+// The number of places or of parts, or the step, and the rules that the words name.
 fn cut(words: &str) -> (&str, &'static [Rounding]) {
     match words.split_once(' ') {
         Some((first, rule)) => (first, named(rule)),
@@ -48,8 +48,24 @@ pub fn decimal(alloc: Global, x: &BigFraction, words: &str) -> Result<Answer<i64
     listed(alloc, &texts)
 }
 
-/// The multiples of the step of the words.
+/// The multiples of 1 over the parts of the words.
 pub fn multiple(alloc: Global, x: &BigFraction, words: &str) -> Result<Answer<i64>, AllocError> {
+    let (parts, rules) = cut(words);
+    let Ok(parts) = parts.parse::<i64>() else {
+        return Ok(Answer::BadRow);
+    };
+    let mut texts = String::new(alloc);
+    for rule in rules {
+        if parts > 0 {
+            let multiple = shown(alloc, &x.round_to(alloc, parts, *rule)?)?;
+            write!(texts, " {multiple}")?;
+        }
+    }
+    listed(alloc, &texts)
+}
+
+/// The multiples of the step of the words.
+pub fn multiple_of_step(alloc: Global, x: &BigFraction, words: &str) -> Result<Answer<i64>, AllocError> {
     let (step, rules) = cut(words);
     let Some(step) = fraction(alloc, step)? else {
         return Ok(Answer::BadRow);
@@ -57,7 +73,7 @@ pub fn multiple(alloc: Global, x: &BigFraction, words: &str) -> Result<Answer<i6
     let mut texts = String::new(alloc);
     for rule in rules {
         if step.is_positive() {
-            let multiple = shown(alloc, &x.round_to(alloc, &step, *rule)?)?;
+            let multiple = shown(alloc, &x.round_to_multiple_of(alloc, &step, *rule)?)?;
             write!(texts, " {multiple}")?;
         }
     }

@@ -106,8 +106,7 @@ fn between(
 // The nearest multiple of 1/100, a half rounded away from 0.
 #[inline]
 fn cents(alloc: Global, x: &BigFraction) -> Result<BigFraction, AllocError> {
-    let cent = BigFraction::from_integer(100).reciprocal(alloc)?.unwrap();
-    x.round_to(alloc, &cent, Rounding::HalfAway)
+    x.round_to(alloc, 100, Rounding::HalfAway)
 }
 
 // The greatest common divisor of the numbers.

@@ -58,7 +58,7 @@ fn reads_back(
     places: u32,
 ) -> Result<bool, AllocError> {
     let step = last_place(alloc, places)?;
-    let rounded = value.round_to(alloc, &step, Rounding::HalfEven)?;
+    let rounded = value.round_to_multiple_of(alloc, &step, Rounding::HalfEven)?;
     let nearest = rounded.to_f64(alloc)?;
     Ok(nearest == float)
 }

@@ -189,6 +189,15 @@ fn calls_on_one() {
     println!("{calls} calls on one fraction");
 }
 
+/// The signs of a fraction over 0, which has no value.
+#[test]
+fn signs_over_0() {
+    for numer in [-2, -1, 0, 1, 2].map(BigInt::from) {
+        let (x, y) = of_both((numer, BigInt::zero()), true);
+        assert_eq!((x.is_positive(), x.is_negative(), fields(x.abs())), (y.is_positive(), y.is_negative(), original(y.abs())), "{x:?}");
+    }
+}
+
 /// The ways to make a fraction from numbers.
 macro_rules! made {
     ($Ratio:ident, $whole:ident, $word:ident) => {{

@@ -65,7 +65,11 @@ pub fn multiple(alloc: Global, x: &BigFraction, words: &str) -> Result<Answer<i6
 }
 
 /// The multiples of the step of the words.
-pub fn multiple_of_step(alloc: Global, x: &BigFraction, words: &str) -> Result<Answer<i64>, AllocError> {
+pub fn multiple_of_step(
+    alloc: Global,
+    x: &BigFraction,
+    words: &str,
+) -> Result<Answer<i64>, AllocError> {
     let (step, rules) = cut(words);
     let Some(step) = fraction(alloc, step)? else {
         return Ok(Answer::BadRow);

@@ -123,7 +123,7 @@ def number(piece, place):
 def power(x, y, place):
     if y.denominator != 1:
         raise Refused("the exponent is no whole number", place)
-    bits = max(abs(x.numerator).bit_length(), x.denominator.bit_length())
+    bits = (max(abs(x.numerator), x.denominator) - 1).bit_length()
     if bits * abs(y) > 10**6:
         raise Refused("the power may have more than a million bits", place)
     return quotient(Fraction(1), x ** -int(y), place) if y < 0 else x ** int(y)

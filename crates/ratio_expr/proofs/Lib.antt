@@ -21,6 +21,7 @@ pub mod Places
 pub mod PowerBounds
 pub mod Refusals
 pub mod Running
+pub mod SamePowers
 pub mod ShareTerms
 pub mod ShortFractions
 pub mod ShownLaws

@@ -1,13 +1,11 @@
 -- When the power of two numbers is not too large.
-use Rattle.std.proofs.Common.{◌≡◌, ◌≤◌, ◌<◌, ◌+◌, ◌-◌, ◌*◌, ◌/◌, ◌^◌, ℕ, ℤ, zero, suc, pos, negsuc, Bool, false, sym, refl, subst, ap, arith, ⊎_elim, leb}
-use Rattle.std.specs.Prelude.{◌<ℤ◌, unsigned_abs, IsTrue}
+use Rattle.std.proofs.Common.{◌≡◌, ◌≢◌, ◌≤◌, ◌<◌, ◌+◌, ◌-◌, ◌*◌, ◌/◌, ◌^◌, ℕ, ℤ, zero, suc, Bool, false, sym, refl, subst, ap, arith, ⊎_elim, leb}
+use Rattle.std.specs.Prelude.{unsigned_abs, IsTrue}
 use Rattle.std.proofs.Math.Nat.{div-mul-le_self, le-div_iff_mul-le, pow-le-pow_right}
 use Rattle.std.proofs.lemmas.Bool.{lt-leb}
 use Rattle.std.proofs.lemmas.Bool.Decides.{leb_tells}
-use Rattle.std.proofs.lemmas.Int.{ints}
 use Rattle.ratio_natural.specs.Number.{IsDigitCount, base}
 use Rattle.ratio_natural.proofs.CountLemmas.{place_in_bits}
-use Rattle.ratio_big.specs.Values.{Has64Bits, IsShort}
 use Rattle.ratio_expr.specs.Operators.{IsModestPower}
 
 powers_ordered : (i j : ℕ) → i ≤ j → 2 ^ i ≤ 2 ^ j
@@ -50,6 +48,15 @@ pub many_digits : (n count most : ℕ) → IsDigitCount base n count → most �
 many_digits n count most digits small many =
     ((λ h. let e = lt-leb count 15625 many in absurd (cc)), (λ h. absurd (beyond_digits n count most digits small many h)))
 
+-- 1 is taken from a number that is not 0, so nothing is borrowed
+pub one_taken : (n m borrow len : ℕ) → m + 1 ≡ n + borrow * base ^ len → m < base ^ len → n ≢ 0 → m + 1 ≡ n
+one_taken n m zero len difference small some = omega arith
+one_taken n m (suc borrow) len difference small some = absurd (omega arith)
+
+-- what a test of one less says
+pub one_less : (n m most : ℕ) (b : Bool) → m + 1 ≡ n → (IsTrue b → m < 2 ^ most) × (m < 2 ^ most → IsTrue b) → (IsTrue b → n ≤ 2 ^ most) × (n ≤ 2 ^ most → IsTrue b)
+one_less n m most b next bits = ((λ h. omega (arith, bits.0 h)), (λ h. bits.1 (omega arith)))
+
 module _ (x : ℤ × ℤ) (exponent : ℤ) where
   -- an exponent of 0 is none too large
   pub modest_at_zero : unsigned_abs exponent ≡ 0 → IsModestPower x exponent
@@ -64,8 +71,8 @@ module _ (x : ℤ × ℤ) (exponent : ℤ) where
         few = omega (arith, nothing);
       }
 
-  -- both numbers have as many bits as are allowed for each
-  pub modest_below : (most : ℕ) → most ≡ 1000000 / unsigned_abs exponent → unsigned_abs x.0 < 2 ^ most → unsigned_abs x.1 < 2 ^ most → IsModestPower x exponent
+  -- both numbers are at most the power of 2 that is allowed for each
+  pub modest_below : (most : ℕ) → most ≡ 1000000 / unsigned_abs exponent → unsigned_abs x.0 ≤ 2 ^ most → unsigned_abs x.1 ≤ 2 ^ most → IsModestPower x exponent
   modest_below most is numer denom = record {
     bits = most;
     numer = numer;
@@ -73,8 +80,8 @@ module _ (x : ℤ × ℤ) (exponent : ℤ) where
     few = subst (λ k. k * unsigned_abs exponent ≤ 1000000) (sym is) (div-mul-le_self 1000000 (unsigned_abs exponent));
   }
 
-  -- no more bits are allowed
-  pub below_most : (most : ℕ) → most ≡ 1000000 / unsigned_abs exponent → 0 < unsigned_abs exponent → (h : IsModestPower x exponent) → (unsigned_abs x.0 < 2 ^ most) × (unsigned_abs x.1 < 2 ^ most)
+  -- no greater power is allowed
+  pub below_most : (most : ℕ) → most ≡ 1000000 / unsigned_abs exponent → 0 < unsigned_abs exponent → (h : IsModestPower x exponent) → (unsigned_abs x.0 ≤ 2 ^ most) × (unsigned_abs x.1 ≤ 2 ^ most)
   below_most most is some h =
       let few : h.bits ≤ most = subst (λ k. h.bits ≤ k) (sym is) ((le-div_iff_mul-le some).1 h.few) in
       let order : 2 ^ h.bits ≤ 2 ^ most = powers_ordered h.bits most few in
@@ -82,27 +89,9 @@ module _ (x : ℤ × ℤ) (exponent : ℤ) where
 
 -- what tests of both numbers say
 module _ (x : ℤ × ℤ) (exponent : ℤ) (most : ℕ) (is : most ≡ 1000000 / unsigned_abs exponent) (some : 0 < unsigned_abs exponent) where
-  pub numer_fits : unsigned_abs x.0 < 2 ^ most → (b : Bool) → (IsTrue b → unsigned_abs x.1 < 2 ^ most) → (unsigned_abs x.1 < 2 ^ most → IsTrue b)
+  pub numer_fits : unsigned_abs x.0 ≤ 2 ^ most → (b : Bool) → (IsTrue b → unsigned_abs x.1 ≤ 2 ^ most) → (unsigned_abs x.1 ≤ 2 ^ most → IsTrue b)
       → (IsTrue b → IsModestPower x exponent) × (IsModestPower x exponent → IsTrue b)
   numer_fits numer b there back = ((λ h. modest_below x exponent most is numer (there h)), (λ h. back (below_most x exponent most is some h).1))
 
-  pub numer_beyond : (unsigned_abs x.0 < 2 ^ most → ⊥) → (IsTrue false → IsModestPower x exponent) × (IsModestPower x exponent → IsTrue false)
+  pub numer_beyond : (unsigned_abs x.0 ≤ 2 ^ most → ⊥) → (IsTrue false → IsModestPower x exponent) × (IsModestPower x exponent → IsTrue false)
   numer_beyond beyond = ((λ h. absurd (cc)), (λ h. absurd (beyond (below_most x exponent most is some h).0)))
-
--- a number that needs more than 64 bits
-far : (z : ℤ) → ¬ (Has64Bits z) → 2 ^ 63 ≤ unsigned_abs z
-far (pos n) h = ⊎_elim (λ p. absurd (h (record { above = omega (arith, ints); below = omega (arith, ints, p.1) }))) (λ p. omega (arith, p.1)) (leb_tells n (2 ^ 63 - 1))
-far (negsuc n) h = ⊎_elim (λ p. absurd (h (record { above = omega (arith, ints, p.1); below = omega (arith, ints) }))) (λ p. omega (arith, p.1)) (leb_tells n (2 ^ 63 - 1))
-
-no_bits : (bits size : ℕ) → 2 ^ 63 ≤ size → bits * size ≤ 1000000 → bits ≡ 0
-no_bits zero size large few = refl
-no_bits (suc bits) size large few = absurd (omega arith)
-
--- an exponent that needs more than 64 bits is too large
-pub beyond_64_bits : (x y : ℤ × ℤ) → pos 0 <ℤ x.1 → y.1 ≡ pos 1 → ¬ (IsShort y) → ¬ (IsModestPower x y.0)
-beyond_64_bits x y positive whole long h =
-    let one : Has64Bits y.1 = record { above = omega (arith, ints); below = omega (arith, ints) } in
-    let large = far y.0 (λ numer. long (record { numer = numer; denom = one })) in
-    let none = no_bits h.bits (unsigned_abs y.0) large h.few in
-    let below : unsigned_abs x.1 < 2 ^ 0 = subst (λ k. unsigned_abs x.1 < 2 ^ k) none h.denom in
-    absurd (omega (arith, ints))

@@ -1,5 +1,5 @@
 -- What an operator gives of two values, and which it refuses.
-use Rattle.std.specs.Prelude.{◌≡◌, ◌≢◌, ◌<◌, ◌≤◌, ◌*◌, ◌^◌, ℕ, ℤ, pos, unsigned_abs}
+use Rattle.std.specs.Prelude.{◌≡◌, ◌≢◌, ◌↔◌, ◌<ℤ◌, ◌≤◌, ◌*◌, ◌^◌, ℕ, ℤ, pos, unsigned_abs}
 use Rattle.std.specs.Ordering.{is_eq, is_ge, is_gt, is_le, is_lt, is_ne}
 use Rattle.ratio_integer.specs.Arithmetic.{difference_of, product_of, quotient_of, remainder_of, sum_of}
 use Rattle.ratio_core.specs.Order.{cross_cmp}
@@ -12,14 +12,21 @@ use Rattle.ratio_expr.specs.declared.refusal.Reason.{Reason}
 use Rattle.ratio_expr.specs.declared.refusal.Reason.TheVariants as reasons
 use Rattle.ratio_expr.specs.Worths.{Worth, Amount, Truth}
 
--- both numbers of x have at most so many bits that these times the exponent, without its sign, are at most a million. So the numbers of
--- the power have at most a million bits
--- Example: 2 to the 500000; not 2 to the 500001
+-- both numbers of x are at most 2 to a whole number `bits`, without their signs, and this times the exponent, without its sign, is at most a
+-- million. So both numbers of the power are at most 2 to the million, and 0, 1 and -1 may have any exponent
+-- Example: 2 to the 1000000, and 1 to the 10^30; not 2 to the 1000001
 pub record IsModestPower (x : ℤ × ℤ) (exponent : ℤ) : Type 0 where
   pub bits : ℕ
-  pub numer : unsigned_abs x.0 < 2 ^ bits
-  pub denom : unsigned_abs x.1 < 2 ^ bits
+  pub numer : unsigned_abs x.0 ≤ 2 ^ bits
+  pub denom : unsigned_abs x.1 ≤ 2 ^ bits
   pub few : bits * unsigned_abs exponent ≤ 1000000
+
+-- Inner: by both exponents the same numbers have modest powers, and the same ones; and both are below 0, or neither is
+-- Example: 1000002 and 10^30
+pub record HaveSamePowers (e f : ℤ) : Type 0 where
+  pub modest : (x : ℤ × ℤ) → IsModestPower x e ↔ IsModestPower x f
+  pub power : (x : ℤ × ℤ) → IsModestPower x e → power_of x.0 x.1 e ≡ power_of x.0 x.1 f
+  pub below : (e <ℤ pos 0) ↔ (f <ℤ pos 0)
 
 -- the worth is a number, and this is the lowest terms of the pair x. A pair over 0 has none
 -- Example: 2/4: 1/2

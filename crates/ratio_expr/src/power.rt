@@ -1,19 +1,20 @@
 //! The power of two numbers, if it is not too large to be worth it.
-ghost use Rattle.std.specs.Prelude.{◌≡◌, ◌↔◌, ◌<◌, ◌≤◌, ◌^◌, pos, IfOk, IsTrue, MatchResult};
+ghost use Rattle.std.specs.Prelude.{◌≡◌, ◌≢◌, ◌+◌, ◌↔◌, ◌<◌, ◌≤◌, ◌^◌, pos, IfOk, IsTrue, MatchResult};
+ghost use Rattle.ratio_core.specs.Signs.{with_sign};
 ghost use Rattle.ratio_natural.specs.Number.{natural_of};
 ghost use Rattle.ratio_big.specs.Fractions.{big_numbers};
-ghost use Rattle.ratio_expr.specs.Operators.{GivesNumbers, IsModestPower, RefusesNumbers};
+ghost use Rattle.ratio_expr.specs.Operators.{GivesNumbers, HaveSamePowers, IsModestPower, RefusesNumbers};
 ghost use Rattle.ratio_expr.specs.Worths.{worth};
 ghost use Rattle.ratio_expr.specs.declared.token.Operator.TheVariants as operators;
 
 use crate::refusal::Reason;
 use crate::value::Value;
 use ratio_big::BigFraction;
-use ratio_natural::{bits, compare, used};
+use ratio_natural::{bits, compare, is_zero, remainder, subtract_digit, used};
 use std::alloc::{AllocError, Global};
 use std::cmp::Ordering;
 
-// How many bits the numbers of a power may have.
+// The numbers of a power are at most 2 to this power.
 const MOST_BITS: u64 = 1_000_000;
 
 /// The power, or why there is none.
@@ -27,10 +28,30 @@ pub(crate) fn power(
     if !is_whole(alloc, y)? {
         return Ok(Err(Reason::ExponentNotWhole));
     }
-    match y.to_reduced() {
-        Some(exponent) => whole_power(alloc, x, *exponent.numer()),
-        None => Ok(Err(Reason::PowerTooLarge)),
+    let exponent = short_exponent(alloc, y)?;
+    whole_power(alloc, x, exponent)
+}
+
+// The exponent, or one of 64 bits with the same powers. A longer exponent has powers of 0, 1 and -1 alone, which depend on its sign and on
+// whether it is even.
+fn short_exponent(alloc: Global, y: &BigFraction) -> Result<i64, AllocError>
+    requires { (big_numbers y.now).1 ≡ pos 1 }
+    ensures { IfOk result (λ exponent. HaveSamePowers (big_numbers y.now).0 exponent) }
+{
+    if let Some(exponent) = y.to_reduced() {
+        return Ok(*exponent.numer());
     }
+    let digits = y.numer_digits(alloc)?;
+    Ok(large_exponent(y.is_negative(), remainder(&digits, 2)))
+}
+
+// An exponent above a million, with this sign: even for 0, and odd for 1.
+fn large_exponent(negative: bool, last_bit: u64) -> i64
+    requires { last_bit < 2 }
+    ensures { result ≡ with_sign negative (1000002 + last_bit) }
+{
+    let size = (MOST_BITS + 2 + last_bit) as i64;
+    if negative { -size } else { size }
 }
 
 // The power with a whole exponent, or why there is none.
@@ -74,9 +95,29 @@ fn is_modest(alloc: Global, x: &BigFraction, exponent: i64) -> Result<bool, Allo
         return Ok(true);
     }
     let most = MOST_BITS / size;
-    let numer = x.numer_digits(alloc)?;
-    let denom = x.denom_digits(alloc)?;
-    Ok(has_bits(&numer, most) && has_bits(&denom, most))
+    let mut numer = x.numer_digits(alloc)?;
+    let mut denom = x.denom_digits(alloc)?;
+    Ok(is_at_most(numer.as_mut_slice(), most) && is_at_most(denom.as_mut_slice(), most))
+}
+
+// Whether the number is at most 2 to the `most`: one less has at most so many bits. The digits are then those of one less.
+fn is_at_most(digits: &mut [u64], most: u64) -> bool
+    requires { most ≤ 1000000 }
+    ensures { IsTrue result ↔ (natural_of digits.old ≤ 2 ^ most) }
+{
+    if is_zero(digits) {
+        return true;
+    }
+    take_one(digits);
+    has_bits(digits, most)
+}
+
+// Takes 1 from a number that is not 0.
+fn take_one(digits: &mut [u64])
+    requires { natural_of digits.old ≢ 0 }
+    ensures { natural_of digits.new + 1 ≡ natural_of digits.old }
+{
+    subtract_digit(digits, 1);
 }
 
 // Whether the number has at most so many bits.

@@ -5,11 +5,11 @@ use crate::memory::{AllocError, Global};
 use crate::proved::ratio_expr::refusal::Reason;
 use crate::proved::ratio_expr::value::Value;
 use crate::proved::ratio_big::BigFraction;
-use crate::proved::ratio_natural::{bits, compare, used};
+use crate::proved::ratio_natural::{bits, compare, is_zero, remainder, subtract_digit, used};
 
 use core::cmp::Ordering;
 
-// How many bits the numbers of a power may have.
+// The numbers of a power are at most 2 to this power.
 const MOST_BITS: u64 = 1_000_000;
 
 /// The power, or why there is none.
@@ -22,10 +22,26 @@ pub(crate) fn power(
     if !is_whole(alloc, y)? {
         return Ok(Err(Reason::ExponentNotWhole));
     }
-    match y.to_reduced() {
-        Some(exponent) => whole_power(alloc, x, *exponent.numer()),
-        None => Ok(Err(Reason::PowerTooLarge)),
+    let exponent = short_exponent(alloc, y)?;
+    whole_power(alloc, x, exponent)
+}
+
+// The exponent, or one of 64 bits with the same powers. A longer exponent has powers of 0, 1 and -1 alone, which depend on its sign and on
+// whether it is even.
+#[inline]
+fn short_exponent(alloc: Global, y: &BigFraction) -> Result<i64, AllocError> {
+    if let Some(exponent) = y.to_reduced() {
+        return Ok(*exponent.numer());
     }
+    let digits = y.numer_digits(alloc)?;
+    Ok(large_exponent(y.is_negative(), remainder(&digits, 2)))
+}
+
+// An exponent above a million, with this sign: even for 0, and odd for 1.
+#[inline]
+fn large_exponent(negative: bool, last_bit: u64) -> i64 {
+    let size = (MOST_BITS + 2 + last_bit) as i64;
+    if negative { -size } else { size }
 }
 
 // The power with a whole exponent, or why there is none.
@@ -65,9 +81,25 @@ fn is_modest(alloc: Global, x: &BigFraction, exponent: i64) -> Result<bool, Allo
         return Ok(true);
     }
     let most = MOST_BITS / size;
-    let numer = x.numer_digits(alloc)?;
-    let denom = x.denom_digits(alloc)?;
-    Ok(has_bits(&numer, most) && has_bits(&denom, most))
+    let mut numer = x.numer_digits(alloc)?;
+    let mut denom = x.denom_digits(alloc)?;
+    Ok(is_at_most(numer.as_mut_slice(), most) && is_at_most(denom.as_mut_slice(), most))
+}
+
+// Whether the number is at most 2 to the `most`: one less has at most so many bits. The digits are then those of one less.
+#[inline]
+fn is_at_most(digits: &mut [u64], most: u64) -> bool {
+    if is_zero(digits) {
+        return true;
+    }
+    take_one(digits);
+    has_bits(digits, most)
+}
+
+// Takes 1 from a number that is not 0.
+#[inline]
+fn take_one(digits: &mut [u64]) {
+    subtract_digit(digits, 1);
 }
 
 // Whether the number has at most so many bits.

@@ -16,10 +16,11 @@ and ans is the value before. Numbers have any size.
   --decimal N    with N places, rounded half away from zero
   --mixed        1 5/12
   --float        0.5833333333333334, the nearest float of 64 bits, with as few places as read back
-  --both         7/12 ≈ 0.583333, and 1/4 = 0.25 where that is exact (the default on a terminal)
+  --both         7/12 ≈ 0.583333, and 1/4 = 0.25 if exact (the default for lines on a terminal)
   --help         this text
   --version      the version
   --             what follows is no option
 
-The status is 0, or 1 if a line has no value, or 2 if an option is wrong, or reading or writing fails.
+The status is 0, or 1 if an expression or a line has no value. It is 2 if an option is wrong, an
+argument is not UTF-8, the memory does not suffice, or reading or writing fails.
 ";

@@ -28,6 +28,8 @@ mod big_fraction_operators;
 #[cfg(feature = "alloc")]
 mod big_fraction_order;
 #[cfg(feature = "alloc")]
+mod big_fraction_refusals;
+#[cfg(feature = "alloc")]
 mod big_fraction_rounding;
 #[cfg(feature = "alloc")]
 mod big_fraction_simplest;
@@ -39,6 +41,8 @@ mod big_fraction_totals;
 mod big_fraction_traits;
 #[cfg(all(feature = "alloc", feature = "serde"))]
 pub mod big_fraction_two_numbers;
+#[cfg(feature = "alloc")]
+mod big_fraction_within;
 mod bounds;
 mod casts;
 mod constants;
@@ -81,6 +85,8 @@ mod total;
 pub use big::BigRational;
 #[cfg(feature = "alloc")]
 pub use big_fraction::BigFraction;
+#[cfg(feature = "alloc")]
+pub use big_fraction_refusals::BigTextRefusal;
 pub use casts::CastError;
 pub use continued::{Convergents, Quotients};
 pub use float_values::FloatError;

@@ -22,7 +22,7 @@
 //! The proofs are in Rattle. `src/proved/` holds the proved code without its contracts. A layer written by hand,
 //! in `src/layer/`, tests what the proved calls require.
 //!
-//! `from_f64`, `from_f32`, `approximate_float`, `const_new`, the forms `{:e}` and `{:E}`, and `from_str_radix` of a `BigFraction` are not proved.
+//! `from_f64`, `from_f32`, `approximate_float`, `const_new`, the forms `{:e}` and `{:E}`, and `from_str_radix` and the bounds in bits of a `BigFraction` are not proved.
 //! The layer computes them, and tests compare them with num-rational. The crate's README says what differs from num-rational.
 #![cfg_attr(not(feature = "std"), no_std)]
 #![warn(missing_docs)]
@@ -63,7 +63,7 @@ pub use layer::{split, split_by_weights};
 #[cfg(feature = "alloc")]
 pub use layer::{TooLong, Total};
 #[cfg(feature = "alloc")]
-pub use layer::BigFraction;
+pub use layer::{BigFraction, BigTextRefusal};
 /// A [`BigFraction`] as a list of two whole numbers, for serde's `with`: `[1,3]` in JSON. A number below -2^53 or above 2^53 is a text, since
 /// most programs read such a number as a float. Without `with`, serde writes what num-rational's `BigRational` has.
 ///

@@ -7,7 +7,7 @@
 
 mod support;
 
-use bakhsney::{AllocError, BigFraction, BigRational, DecimalRefusal, Ratio, Reduced, Reduced64, ReducedError, Rounding, TextRefusal, Total};
+use bakhsney::{AllocError, BigFraction, BigRational, BigTextRefusal, Ratio, Reduced, Reduced64, ReducedError, Rounding, Total};
 use num_bigint::{BigInt, Sign};
 use num_integer::Integer as _;
 use num_traits::{CheckedAdd, CheckedDiv, CheckedMul, CheckedRem, CheckedSub, FromPrimitive, Inv, Num, One, Pow, Signed, ToPrimitive, Zero};
@@ -368,6 +368,7 @@ fn texts() {
     for _ in 0..pairs() {
         let (x, old) = &fraction(&mut numbers);
         let (plain, radix) = (old.to_string(), numbers.below(35) as u32 + 2);
+        let bits = old.numer().bits().max(old.denom().bits());
         let in_radix = format!("{}/{}", old.numer().to_str_radix(radix), old.denom().to_str_radix(radix));
         rows! { x;
             x.try_to_string() => Ok(plain.clone());
@@ -377,6 +378,7 @@ fn texts() {
             BigFraction::from_str_radix(&in_radix, radix) => Ok(x.clone());
             BigFraction::from_text(&plain) => Ok(x.clone());
             BigFraction::try_from_text(&plain) => Ok(Ok(x.clone()));
+            [bits, bits - 1].map(|bits| BigFraction::from_text_within(&plain, bits)) => [Ok(x.clone()), Err(BigTextRefusal::TooLong)];
         };
     }
 }
@@ -397,12 +399,15 @@ fn decimals() {
         let (x, old) = &fraction(&mut numbers);
         let places = numbers.below(60) as u32;
         let text = cut(old, places);
-        let of_text = Original::new(text.replace('.', "").parse().unwrap(), BigInt::from(10).pow(places));
+        let (numer, denom): (BigInt, BigInt) = (text.replace('.', "").parse().unwrap(), BigInt::from(10).pow(places));
+        let bits = numer.bits().max(denom.bits());
+        let of_text = Original::new(numer, denom);
         rows! { (x, places);
             x.decimal(places, Rounding::Down) => text.clone();
             x.try_decimal(places, Rounding::Down) => Ok(text.clone());
             BigFraction::from_decimal(&text).map(fields) => Ok(original(of_text.clone()));
-            BigFraction::try_from_decimal(&text).unwrap().map(fields) => Ok(original(of_text));
+            BigFraction::try_from_decimal(&text).unwrap().map(fields) => Ok(original(of_text.clone()));
+            [bits, bits - 1].map(|bits| BigFraction::from_decimal_within(&text, bits).map(fields)) => [Ok(original(of_text)), Err(BigTextRefusal::TooLong)];
         };
     }
     assert_eq!(format!("{:.2} {:.0} {:+.1}", BigFraction::new(1, 8), BigFraction::new(5, 2), BigFraction::new(2, 3)), "0.12 2 +0.7");
@@ -419,9 +424,12 @@ fn folds_and_powers() {
         let (x, old) = (&ours[0], &theirs[0]);
         for exponent in if x.is_zero() { 0..4i32 } else { -3..4 } {
             let (wide, power) = (i64::from(exponent), original(Pow::pow(old, exponent)));
+            let bits = power.0.bits().max(power.1.bits());
             rows! { (x, exponent);
                 fields(x.pow(exponent)) => power;
                 tried(x.try_pow(wide)) => Some(power.clone());
+                [bits, bits - 1].map(|bits| x.pow_within(wide, bits).map(fields)) => [Some(power.clone()), None];
+                [bits, bits - 1].map(|bits| tried(x.try_pow_within(wide, bits))) => [Some(power.clone()), None];
                 [Pow::pow(x, exponent), Pow::pow(x.clone(), &exponent), Pow::pow(x, &wide), Pow::pow(x.clone(), wide)].map(fields) => [(); 4].map(|_| power.clone());
             };
         }
@@ -544,8 +552,8 @@ fn refused_texts() {
     // num-bigint reads the line below a digit, and its fractions have no precision.
     assert!("1_000/3".parse::<Original<BigInt>>().is_ok() && "1_000/3".parse::<BigFraction>().is_err());
     assert_eq!(format!("{:.2}", Original::new(BigInt::from(1), BigInt::from(8))), "1/8");
-    assert_eq!(BigFraction::from_decimal("1,5"), Err(DecimalRefusal::NotDecimal));
-    assert_eq!([BigFraction::from_text("1 /2"), BigFraction::from_text("1/0")], [Err(TextRefusal::NotNumber), Err(TextRefusal::ZeroDenominator)]);
+    assert_eq!(BigFraction::from_decimal("1,5"), Err(BigTextRefusal::NotDecimal));
+    assert_eq!([BigFraction::from_text("1 /2"), BigFraction::from_text("1/0")], [Err(BigTextRefusal::NotNumber), Err(BigTextRefusal::ZeroDenominator)]);
 }
 
 /// The message of the panic.
@@ -657,7 +665,7 @@ fn serialized() {
 #[cfg(feature = "serde")]
 #[test]
 fn two_numbers() {
-    use bakhsney::two_numbers::{deserialize, serialize};
+    use bakhsney::two_numbers::{deserialize, deserialize_within, serialize};
     let text = |x: &BigFraction| serialize(x, serde_json::value::Serializer).unwrap().to_string();
     let read = |text: &str| {
         let x = deserialize(&mut serde_json::Deserializer::from_str(text));
@@ -678,6 +686,7 @@ fn two_numbers() {
         read("[1.0,2]") => Err("invalid type: floating point `1`, expected a whole number, or a text of one".to_string());
         read(r#"[1,"1/2"]"#) => Err("invalid value: string \"1/2\", expected a whole number, or a text of one".to_string());
         read(r#"[1,"0"]"#) => Err("invalid value: integer `0`, expected a ratio with non-zero denominator".to_string());
+        deserialize_within::<4, _>(serialize(&BigFraction::new(-15, 14), serde_json::value::Serializer).unwrap()).ok() => Some(BigFraction::new(-15, 14));
         read("[1]") => Err("invalid length 1, expected a list of two whole numbers".to_string());
         read("[1,2,3]") => Err("invalid length 3, expected a list of two whole numbers".to_string());
         read("7") => Err("invalid type: integer `7`, expected a list of two whole numbers".to_string());
@@ -687,6 +696,13 @@ fn two_numbers() {
     }
     for refused in ["", "+", "-", "--1", "1.0", "1e2", " 1", "1_000", "0x1", "1/1", "/"] {
         assert!(read(&format!("[{refused:?},1]")).is_err(), "{refused}");
+    }
+    let within = |text: &str| deserialize_within::<4, _>(&mut serde_json::Deserializer::from_str(text)).map_err(|refusal| refusal.to_string());
+    for text in ["[-15,14]", r#"["-15","+0014"]"#, r#"["-0015",14]"#] {
+        assert_eq!(within(text), Ok(BigFraction::new(-15, 14)), "{text}");
+    }
+    for text in ["[16,1]", "[1,-16]", r#"["16",1]"#, r#"[1,"16"]"#, "[-9223372036854775808,1]", &format!("[1,\"{}\"]", "9".repeat(3_000_000))] {
+        assert!(within(text).unwrap_err().contains("more bits than the bound"), "{text:.60}");
     }
     let mut numbers = Numbers(9);
     for _ in 0..pairs() / 10 {

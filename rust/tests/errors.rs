@@ -68,7 +68,7 @@ macro_rules! errors {
     };
 }
 
-errors! { AllocError CastError DecimalRefusal FloatError ParseRatioError ReducedError SplitRefusal TextRefusal TooLong WeightRefusal }
+errors! { AllocError BigTextRefusal CastError DecimalRefusal FloatError ParseRatioError ReducedError SplitRefusal TextRefusal TooLong WeightRefusal }
 
 #[test]
 fn texts_of_errors() {

@@ -2,7 +2,7 @@
 //! an error, one with an `Option` returns `None`, and each other one panics. The operands stay as they were. Short fractions ask for nothing.
 #![cfg(all(feature = "alloc", panic = "unwind"))]
 
-use bakhsney::{AllocError, BigFraction, Rounding};
+use bakhsney::{AllocError, BigFraction, BigTextRefusal, Rounding};
 use num_traits::{CheckedAdd, CheckedDiv, CheckedMul, CheckedRem, CheckedSub, Num, Signed, ToPrimitive};
 use std::alloc::{GlobalAlloc, Layout, System};
 use std::cell::Cell;
@@ -16,9 +16,14 @@ const NEVER: u64 = u64::MAX;
 thread_local! {
     /// How many requests of this thread come before the one that is refused.
     static BEFORE: Cell<u64> = const { Cell::new(NEVER) };
+    /// A longer request of this thread is refused, too.
+    static MOST: Cell<usize> = const { Cell::new(usize::MAX) };
 }
 
-fn is_refused() -> bool {
+fn is_refused(size: usize) -> bool {
+    if MOST.try_with(|most| most.get() < size).unwrap_or(false) {
+        return true;
+    }
     let next = |before: &Cell<u64>| match before.get() {
         NEVER => false,
         0 => {
@@ -36,7 +41,7 @@ fn is_refused() -> bool {
 // SAFETY: what it returns is null, or comes from the system's allocator.
 unsafe impl GlobalAlloc for Refusing {
     unsafe fn alloc(&self, layout: Layout) -> *mut u8 {
-        if is_refused() { std::ptr::null_mut() } else { System.alloc(layout) }
+        if is_refused(layout.size()) { std::ptr::null_mut() } else { System.alloc(layout) }
     }
 
     unsafe fn dealloc(&self, place: *mut u8, layout: Layout) {
@@ -44,7 +49,7 @@ unsafe impl GlobalAlloc for Refusing {
     }
 
     unsafe fn realloc(&self, place: *mut u8, layout: Layout, size: usize) -> *mut u8 {
-        if is_refused() { std::ptr::null_mut() } else { System.realloc(place, layout, size) }
+        if is_refused(size) { std::ptr::null_mut() } else { System.realloc(place, layout, size) }
     }
 }
 
@@ -125,6 +130,8 @@ fn tried() {
         ok(x.try_clone());
         some(x.try_recip());
         some(x.try_pow(-5));
+        some(x.try_pow(1000));
+        some(x.try_pow_within(-5, 1000));
         some(x.try_round_to(100, Rounding::Up));
         some(x.try_round_to_multiple_of(y, Rounding::Up));
         some(BigFraction::try_simplest_between(y, next));
@@ -156,6 +163,28 @@ fn of_big_integers() {
 }
 
 #[test]
+fn refusals_of_texts() {
+    let calls = calls! {
+        BigFraction::from_decimal("1e50").map(drop);
+        BigFraction::from_text("1e22%").map(drop);
+        BigFraction::from_decimal_within("1e50", 1000).map(drop);
+        BigFraction::from_text_within("-1e22%", 1000).map(drop);
+        BigFraction::from_text_within("1 1/12345678901234567890", 1000).map(drop);
+        BigFraction::from_text_within(LONG, 1000).map(drop);
+    };
+    each_request(calls, |result| *result == Err(BigTextRefusal::NoMemory));
+}
+
+#[test]
+fn no_room_for_a_power() {
+    let x = BigFraction::from(3);
+    MOST.with(|most| most.set(1 << 20));
+    let (result, was_second) = refused(1, || x.try_pow(1 << 40));
+    MOST.with(|most| most.set(usize::MAX));
+    assert_eq!((result, was_second), (Err(AllocError), false), "the first request is for the whole power");
+}
+
+#[test]
 fn options() {
     let (x, y) = &long();
     let next = &next();
@@ -170,6 +199,7 @@ fn options() {
         BigFraction::from_float(1e300).map(drop);
         BigFraction::simplest_between(y, next).map(drop);
         x.nearest(&BigFraction::from(1_000_000)).map(drop);
+        x.pow_within(3, 1000).map(drop);
         x.to_f64().map(drop);
         x.to_i64().map(drop);
     };
@@ -200,8 +230,6 @@ fn panics() {
         write!(Nowhere, "{x} {x:.3} {x:?}").unwrap();
         drop(LONG.parse::<BigFraction>());
         drop(BigFraction::from_str_radix("100000000000000000000/7", 16));
-        drop(BigFraction::from_decimal("1e50"));
-        drop(BigFraction::from_text("1e50"));
         drop(BigFraction::from(u128::MAX));
         drop(BigFraction::new(u128::MAX, 2));
     };

@@ -2,7 +2,7 @@
 use super::big_fraction::{divided, taken, tries, BigFraction};
 use super::big_fraction_operators::{assigning, checked, forms, operators, with_numbers};
 use super::integer::{Element, Integer};
-use crate::memory::{AllocError, Global};
+use crate::memory::{AllocError, Global, Vec};
 use core::ops::{Rem, RemAssign};
 use num_traits::{CheckedRem, Pow};
 
@@ -119,6 +119,9 @@ checked! {
 impl BigFraction {
     /// The power. It is 1 for the exponent 0.
     ///
+    /// Take powers with exponents that you do not trust by [`pow_within`](BigFraction::pow_within): 2 to the 10^7 takes 12 seconds, and an
+    /// exponent ten times as great a hundred times as long.
+    ///
     /// # Panics
     ///
     /// If the fraction is 0 and the exponent negative, or for want of memory.
@@ -135,7 +138,8 @@ impl BigFraction {
         power(self, exponent.into())
     }
 
-    /// The power, or `None` if the fraction is 0 and the exponent negative. An error for want of memory.
+    /// The power, or `None` if the fraction is 0 and the exponent negative. An error for want of memory: at once, if there is none for the power
+    /// itself.
     ///
     /// ```
     /// use num_rational::BigFraction;
@@ -145,7 +149,19 @@ impl BigFraction {
     /// ```
     #[inline]
     pub fn try_pow(&self, exponent: i64) -> Result<Option<BigFraction>, AllocError> {
+        self.room_for_power(exponent)?;
         Ok(self.0.pow(Global, exponent)?.map(BigFraction))
+    }
+}
+
+impl BigFraction {
+    /// An error if there is no memory for a long power, before anything is computed.
+    fn room_for_power(&self, exponent: i64) -> Result<(), AllocError> {
+        let words = usize::try_from(self.least_bits_of_power(exponent) / 64).map_err(|_| AllocError)?;
+        if words > 1 << 10 {
+            drop(Vec::<u64>::with_capacity(Global, words)?);
+        }
+        Ok(())
     }
 }
 

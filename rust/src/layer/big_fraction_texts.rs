@@ -1,5 +1,6 @@
 //! `BigFraction` as texts, decimals and floats, printed and read.
 use super::big_fraction::{taken, BigFraction};
+use super::big_fraction_refusals::BigTextRefusal;
 use crate::memory::{AllocError, Global};
 use crate::proved::num_rational::ParseRatioError;
 use crate::proved::ratio_big::BigFraction as Proved;
@@ -45,7 +46,7 @@ impl FromStr for BigFraction {
 
     /// # Panics
     ///
-    /// For want of memory.
+    /// For want of memory: the error, num-rational's, cannot say so. `try_from_str` does.
     #[track_caller]
     fn from_str(text: &str) -> Result<BigFraction, ParseRatioError> {
         taken(BigFraction::try_from_str(text))
@@ -104,13 +105,12 @@ impl BigFraction {
 
     /// The fraction of a decimal of any length, as `from_decimal` of a `Reduced` reads it.
     ///
+    /// Read texts that you do not trust by [`from_decimal_within`](BigFraction::from_decimal_within), since a short one can ask for much:
+    /// `1e3000000` takes 24 seconds, `1e10000000` minutes, and `1e1000000000` weeks and 0.42 GB for its digits.
+    ///
     /// # Errors
     ///
-    /// `NotDecimal` if the text is no decimal. It is never `NotHeld`.
-    ///
-    /// # Panics
-    ///
-    /// For want of memory. A short text can ask for much: `1e10000000` takes minutes, and `1e1000000000` takes weeks and 0.42 GB for its digits.
+    /// `NotDecimal` if the text is no decimal, and `NoMemory` for want of memory. It is never `TooLong`.
     ///
     /// ```
     /// use num_rational::BigFraction;
@@ -118,12 +118,11 @@ impl BigFraction {
     /// assert_eq!(BigFraction::from_decimal("12.375"), Ok(BigFraction::new(99, 8)));
     /// assert_eq!(BigFraction::from_decimal("1e30"), Ok(BigFraction::from(10).pow(30)));
     /// ```
-    #[track_caller]
-    pub fn from_decimal(text: &str) -> Result<BigFraction, DecimalRefusal> {
-        taken(BigFraction::try_from_decimal(text))
+    pub fn from_decimal(text: &str) -> Result<BigFraction, BigTextRefusal> {
+        Ok(BigFraction::try_from_decimal(text)??)
     }
 
-    /// The same, or an error for want of memory.
+    /// The same, with an outer error for want of memory.
     ///
     /// ```
     /// use num_rational::{BigFraction, DecimalRefusal};
@@ -135,15 +134,12 @@ impl BigFraction {
         Ok(read.map(BigFraction).ok_or(DecimalRefusal::NotDecimal))
     }
 
-    /// The fraction of what a person types, as `from_text` of a `Reduced` reads it.
+    /// The fraction of what a person types, of any length, as `from_text` of a `Reduced` reads it. Read texts that you do not trust by
+    /// [`from_text_within`](BigFraction::from_text_within): a short one can ask for much, as of [`from_decimal`](BigFraction::from_decimal).
     ///
     /// # Errors
     ///
-    /// `NotNumber` or `ZeroDenominator`, as there. It is never `NotHeld`.
-    ///
-    /// # Panics
-    ///
-    /// As `from_decimal`.
+    /// `NotNumber` or `ZeroDenominator`, as there, and `NoMemory` for want of memory. It is never `TooLong`.
     ///
     /// ```
     /// use num_rational::BigFraction;
@@ -151,12 +147,11 @@ impl BigFraction {
     /// assert_eq!(BigFraction::from_text("-1 1/2"), Ok(BigFraction::new(-3, 2)));
     /// assert_eq!(BigFraction::from_text("12.5%"), Ok(BigFraction::new(1, 8)));
     /// ```
-    #[track_caller]
-    pub fn from_text(text: &str) -> Result<BigFraction, TextRefusal> {
-        taken(BigFraction::try_from_text(text))
+    pub fn from_text(text: &str) -> Result<BigFraction, BigTextRefusal> {
+        Ok(BigFraction::try_from_text(text)??)
     }
 
-    /// The same, or an error for want of memory.
+    /// The same, with an outer error for want of memory.
     ///
     /// ```
     /// use num_rational::{BigFraction, TextRefusal};

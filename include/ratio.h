@@ -28,6 +28,10 @@
 #include <stddef.h>
 #include <stdint.h>
 
+#if SIZE_MAX != UINT64_MAX
+#error "ratio.h: the library is proved for targets of 64 bits alone"
+#endif
+
 /* The compiler warns where a program does not look at what a call returns. Define this as nothing before the include, and it does not. */
 #ifndef RATIO_CHECKED
 #ifdef __GNUC__
@@ -1075,13 +1079,13 @@ RATIO_CHECKED enum ratio_return ratio_joined_print_i64(uint64_t digits, uint32_t
 }
 #endif
 
-/* The sizes of the structs in the library, on machines of 64 bits. C++11 and C11 compare them. */
+/* The sizes of the structs in the library. C++11 and C11 compare them. */
 #ifdef __cplusplus
 #define RATIO_SIZE(type, bytes) static_assert(sizeof(type) == bytes, "the size of " #type)
 #elif defined(__STDC_VERSION__) && __STDC_VERSION__ >= 201112L
 #define RATIO_SIZE(type, bytes) _Static_assert(sizeof(type) == bytes, "the size of " #type)
 #endif
-#if defined(RATIO_SIZE) && SIZE_MAX == UINT64_MAX
+#ifdef RATIO_SIZE
 RATIO_SIZE(ratio_wide, 16);
 RATIO_SIZE(ratio_order, 8);
 RATIO_SIZE(ratio_truth, 8);

@@ -4,6 +4,9 @@
 // `std::range_error`: never does it return a wrong number. `try_add` and its like return an empty `std::optional` there. Only a division by
 // zero and a result whose lowest terms do not fit 64 bits have none: no number on the way has to fit.
 //
+// An integer may have any type but bool, and no float becomes one. A comparison takes it as it is, however large. Anywhere else, even in `try_add`,
+// one that does not fit 64 bits throws a `ratio_error` with RATIO_NOT_HELD. An exponent, a place and a number of places have to fit 32 bits.
+//
 //   using namespace bakhsney::literals;
 //   bakhsney::ratio inch = 2.54_r;              // exactly 127/50
 //   std::cout << 12 * inch << " = " << (12 * inch).decimal(2) << "\n";      // 762/25 = 30.48
@@ -17,7 +20,6 @@
 #include <cstddef>
 #include <cstdint>
 #include <functional>
-#include <limits>
 #include <optional>
 #include <ostream>
 #include <random>
@@ -84,16 +86,56 @@ inline void need(std::uint32_t code) {
     if (code != RATIO_ANSWERED) throw ratio_error(code);
 }
 
+/// An integer of up to 128 bits: `__int128` is one where the library says so, as by -std=gnu++17.
 template <class Integer>
-using if_integer = std::enable_if_t<std::is_integral_v<Integer> && !std::is_same_v<std::remove_cv_t<Integer>, bool>, int>;
+inline constexpr bool is_integer = std::is_integral_v<Integer> && !std::is_same_v<std::remove_cv_t<Integer>, bool> && sizeof(Integer) <= sizeof(ratio_wide);
+template <class Integer>
+using if_integer = std::enable_if_t<is_integer<Integer>, int>;
+template <class A, class B, class Ratio>
+using if_beside = std::enable_if_t<(is_integer<A> && std::is_base_of_v<Ratio, B>) || (std::is_base_of_v<Ratio, A> && is_integer<B>), int>;
 
-/// A whole number as 64 bits with a sign, or an error where it does not fit.
 template <class Integer>
-constexpr std::int64_t whole(Integer n) {
-    if constexpr (sizeof(Integer) >= 8 && std::is_unsigned_v<Integer>) {
-        if (n > static_cast<Integer>(std::numeric_limits<std::int64_t>::max())) throw ratio_error(RATIO_NOT_HELD);
+constexpr bool is_negative(Integer n) noexcept {
+    if constexpr (std::is_signed_v<Integer>) return n < 0;
+    return false;
+}
+
+/// Where an integer lies beside those of a type: 0 if it is one of them, -1 below them, and 1 above.
+template <class Number, class Integer>
+constexpr int beyond(Integer n) noexcept {
+    const auto cut = static_cast<Number>(n);
+    if (static_cast<Integer>(cut) == n && is_negative(cut) == is_negative(n)) return 0;
+    return is_negative(n) ? -1 : 1;
+}
+
+/// An integer of any type as one of the type that a call takes, or an error where it does not fit.
+template <class Number>
+struct whole {
+    template <class Integer, if_integer<Integer> = 0>
+    constexpr whole(Integer n) : number(static_cast<Number>(n)) {
+        if (beyond<Number>(n) != 0) throw ratio_error(RATIO_NOT_HELD);
     }
-    return static_cast<std::int64_t>(n);
+    Number number;
+};
+
+/// An integer as 128 bits with a sign. An `unsigned __int128` may be too large.
+template <class Integer>
+ratio_wide wide(Integer n) {
+    const auto number = static_cast<std::common_type_t<Integer, std::int64_t>>(n);
+    const auto high = static_cast<std::int64_t>(number >> 32 >> 32);
+    if (is_negative(high) != is_negative(n)) throw ratio_error(RATIO_NOT_HELD);
+    return {static_cast<std::uint64_t>(number), high};
+}
+
+/// The lowest terms of two integers. Over 64 bits it is one call.
+template <class Numer, class Denom>
+ratio_answer_i64 lowest(Numer numer, Denom denom) {
+    if (beyond<std::int64_t>(numer) == 0 && beyond<std::int64_t>(denom) == 0) {
+        return one(ratio_reduce_i64, ratio_i64{static_cast<std::int64_t>(numer), static_cast<std::int64_t>(denom)});
+    }
+    const auto answer = one(ratio_reduce_i128, ratio_i128{wide(numer), wide(denom)});
+    need(answer.code);
+    return one(ratio_cast_i128_to_i64, answer.value);
 }
 
 } // namespace detail
@@ -105,9 +147,11 @@ public:
     constexpr ratio() noexcept : value_{0, 1} {}
     /// A whole number. No float becomes a fraction by itself: see `from_double` and `rationalize`.
     template <class Integer, detail::if_integer<Integer> = 0>
-    constexpr ratio(Integer n) : value_{detail::whole(n), 1} {}
-    /// The fraction numer/denom in lowest terms: 3/4 for 6 and 8. A denominator 0 is an error.
-    ratio(std::int64_t numer, std::int64_t denom) : ratio(ratio_i64{numer, denom}) {}
+    constexpr ratio(Integer n) : value_{detail::whole<std::int64_t>(n).number, 1} {}
+    /// The fraction numer/denom in lowest terms: 3/4 for 6 and 8. A denominator 0 is an error, and so is a number that does not fit 128 bits with
+    /// a sign. If only the lowest terms fit 64 bits, that is enough.
+    template <class Numer, class Denom, detail::if_integer<Numer> = 0, detail::if_integer<Denom> = 0>
+    ratio(Numer numer, Denom denom) : ratio(taken(detail::lowest(numer, denom))) {}
     /// The same of a fraction of ratio.h.
     explicit ratio(ratio_i64 value) : ratio(taken(detail::one(ratio_reduce_i64, value))) {}
 
@@ -131,7 +175,7 @@ public:
     friend std::optional<ratio> try_mul(ratio a, ratio b) { return maybe(detail::two(ratio_mul_i64, a.value_, b.value_)); }
     friend std::optional<ratio> try_div(ratio a, ratio b) { return maybe(detail::two(ratio_div_i64, a.value_, b.value_)); }
     friend std::optional<ratio> try_rem(ratio a, ratio b) { return maybe(detail::two(ratio_rem_i64, a.value_, b.value_)); }
-    friend std::optional<ratio> try_pow(ratio a, std::int32_t exponent) { return maybe(detail::one(ratio_pow_i64, ratio_power_i64{a.value_, exponent})); }
+    friend std::optional<ratio> try_pow(ratio a, detail::whole<std::int32_t> exponent) { return maybe(detail::one(ratio_pow_i64, ratio_power_i64{a.value_, exponent.number})); }
 
     friend ratio operator+(ratio a, ratio b) { return taken(detail::two(ratio_add_i64, a.value_, b.value_)); }
     friend ratio operator-(ratio a, ratio b) { return taken(detail::two(ratio_sub_i64, a.value_, b.value_)); }
@@ -149,9 +193,25 @@ public:
 
     /// Lowest terms are equal only where the values are.
     friend constexpr bool operator==(ratio a, ratio b) noexcept { return a.value_.numer == b.value_.numer && a.value_.denom == b.value_.denom; }
+    template <class Integer, detail::if_integer<Integer> = 0>
+    friend constexpr bool operator==(ratio a, Integer n) noexcept { return detail::beyond<std::int64_t>(n) == 0 && a == ratio(n); }
 #ifdef __cpp_lib_three_way_comparison
     friend std::strong_ordering operator<=>(ratio a, ratio b) { return order(a, b) <=> 0; }
+    template <class Integer, detail::if_integer<Integer> = 0>
+    friend std::strong_ordering operator<=>(ratio a, Integer n) { return order(a, n) <=> 0; }
 #else
+    template <class Integer, detail::if_integer<Integer> = 0>
+    friend constexpr bool operator==(Integer n, ratio a) noexcept { return a == n; }
+    template <class A, class B, detail::if_beside<A, B, ratio> = 0>
+    friend constexpr bool operator!=(A a, B b) noexcept { return !(a == b); }
+    template <class A, class B, detail::if_beside<A, B, ratio> = 0>
+    friend bool operator<(A a, B b) { return order(a, b) < 0; }
+    template <class A, class B, detail::if_beside<A, B, ratio> = 0>
+    friend bool operator>(A a, B b) { return order(a, b) > 0; }
+    template <class A, class B, detail::if_beside<A, B, ratio> = 0>
+    friend bool operator<=(A a, B b) { return order(a, b) <= 0; }
+    template <class A, class B, detail::if_beside<A, B, ratio> = 0>
+    friend bool operator>=(A a, B b) { return order(a, b) >= 0; }
     friend constexpr bool operator!=(ratio a, ratio b) noexcept { return !(a == b); }
     friend bool operator<(ratio a, ratio b) { return order(a, b) < 0; }
     friend bool operator>(ratio a, ratio b) { return order(a, b) > 0; }
@@ -160,7 +220,7 @@ public:
 #endif
 
     friend ratio abs(ratio a) { return taken(detail::one(ratio_abs_i64, a.value_)); }
-    friend ratio pow(ratio a, std::int32_t exponent) { return taken(detail::one(ratio_pow_i64, ratio_power_i64{a.value_, exponent})); }
+    friend ratio pow(ratio a, detail::whole<std::int32_t> exponent) { return taken(detail::one(ratio_pow_i64, ratio_power_i64{a.value_, exponent.number})); }
     /// The greatest fraction that divides both, and the least one above 0 that both divide: 1/12 and 1/2 for 1/4 and 1/6.
     friend ratio gcd(ratio a, ratio b) { return taken(detail::two(ratio_gcd_i64, a.value_, b.value_)); }
     friend ratio lcm(ratio a, ratio b) { return taken(detail::two(ratio_lcm_i64, a.value_, b.value_)); }
@@ -171,15 +231,15 @@ public:
     std::int64_t trunc() const { return taken(detail::one(ratio_trunc_i64, value_)).numer(); }
     std::int64_t round() const { return taken(detail::one(ratio_round_i64, value_)).numer(); }
     /// The multiple of 1/parts that the rule says: 67/100 for 2/3 and 100 parts.
-    ratio round_to(std::int64_t parts, rounding rule = rounding::half_even) const {
-        return taken(detail::one(ratio_round_to_i64, ratio_multiple_i64{value_, parts, static_cast<std::uint32_t>(rule)}));
+    ratio round_to(detail::whole<std::int64_t> parts, rounding rule = rounding::half_even) const {
+        return taken(detail::one(ratio_round_to_i64, ratio_multiple_i64{value_, parts.number, static_cast<std::uint32_t>(rule)}));
     }
-    friend ratio mul_round_to(ratio a, ratio b, std::int64_t parts, rounding rule);
-    friend ratio div_round_to(ratio a, ratio b, std::int64_t parts, rounding rule);
+    friend ratio mul_round_to(ratio a, ratio b, detail::whole<std::int64_t> parts, rounding rule);
+    friend ratio div_round_to(ratio a, ratio b, detail::whole<std::int64_t> parts, rounding rule);
     /// The nearest fraction with a denominator from 1 to `most`: 22/7 for 355/113 and 10.
-    ratio nearest(std::int64_t most) const { return taken(detail::one(ratio_nearest_i64, ratio_bounded_i64{value_, most})); }
+    ratio nearest(detail::whole<std::int64_t> most) const { return taken(detail::one(ratio_nearest_i64, ratio_bounded_i64{value_, most.number})); }
     /// The convergent at a place, from 0 on, or none behind the last one: 415/93 has 4, 9/2, 58/13 and 415/93.
-    std::optional<ratio> convergent(std::uint32_t place) const { return maybe(detail::one(ratio_convergent_i64, ratio_place_i64{value_, place})); }
+    std::optional<ratio> convergent(detail::whole<std::uint32_t> place) const { return maybe(detail::one(ratio_convergent_i64, ratio_place_i64{value_, place.number})); }
 
     /// The nearest float: 0.3333333333333333 for 1/3.
     double to_double() const { return detail::one(ratio_to_f64_i64, value_).value; }
@@ -192,8 +252,8 @@ public:
         return {reinterpret_cast<const char *>(bytes), text.span.end};
     }
     /// The decimal with exactly so many places, at most 38: `0.67` for 2/3 and 2 places.
-    std::string decimal(std::uint32_t places, rounding rule = rounding::half_even) const {
-        const ratio_decimal_i64 asked{value_, places, static_cast<std::uint32_t>(rule)};
+    std::string decimal(detail::whole<std::uint32_t> places, rounding rule = rounding::half_even) const {
+        const ratio_decimal_i64 asked{value_, places.number, static_cast<std::uint32_t>(rule)};
         std::uint8_t bytes[RATIO_DECIMAL_ROOM_I64];
         ratio_text text{};
         detail::done(ratio_print_decimal_i64(&asked, 1, bytes, sizeof bytes, &text, 1));
@@ -221,6 +281,13 @@ private:
         return taken(answer);
     }
     static int order(ratio a, ratio b) { return detail::two(ratio_compare_i64, a.value_, b.value_).order; }
+    template <class Integer, detail::if_integer<Integer> = 0>
+    static int order(ratio a, Integer n) {
+        const int side = detail::beyond<std::int64_t>(n);
+        return side == 0 ? order(a, ratio(n)) : -side;
+    }
+    template <class Integer, detail::if_integer<Integer> = 0>
+    static int order(Integer n, ratio a) { return -order(a, n); }
     static ratio_answer_i64 read(std::string_view text) {
         const ratio_span all{0, text.size()};
         ratio_answer_i64 answer{};
@@ -237,18 +304,18 @@ std::optional<ratio> try_sub(ratio a, ratio b);
 std::optional<ratio> try_mul(ratio a, ratio b);
 std::optional<ratio> try_div(ratio a, ratio b);
 std::optional<ratio> try_rem(ratio a, ratio b);
-std::optional<ratio> try_pow(ratio a, std::int32_t exponent);
+std::optional<ratio> try_pow(ratio a, detail::whole<std::int32_t> exponent);
 ratio abs(ratio a);
-ratio pow(ratio a, std::int32_t exponent);
+ratio pow(ratio a, detail::whole<std::int32_t> exponent);
 ratio gcd(ratio a, ratio b);
 ratio lcm(ratio a, ratio b);
 
 /// The product and the quotient, rounded once to a multiple of 1/parts. They need not fit before.
-inline ratio mul_round_to(ratio a, ratio b, std::int64_t parts, rounding rule = rounding::half_even) {
-    return ratio::taken(detail::one(ratio_mul_round_to_i64, ratio_operands_i64{a.value_, b.value_, parts, static_cast<std::uint32_t>(rule)}));
+inline ratio mul_round_to(ratio a, ratio b, detail::whole<std::int64_t> parts, rounding rule = rounding::half_even) {
+    return ratio::taken(detail::one(ratio_mul_round_to_i64, ratio_operands_i64{a.value_, b.value_, parts.number, static_cast<std::uint32_t>(rule)}));
 }
-inline ratio div_round_to(ratio a, ratio b, std::int64_t parts, rounding rule = rounding::half_even) {
-    return ratio::taken(detail::one(ratio_div_round_to_i64, ratio_operands_i64{a.value_, b.value_, parts, static_cast<std::uint32_t>(rule)}));
+inline ratio div_round_to(ratio a, ratio b, detail::whole<std::int64_t> parts, rounding rule = rounding::half_even) {
+    return ratio::taken(detail::one(ratio_div_round_to_i64, ratio_operands_i64{a.value_, b.value_, parts.number, static_cast<std::uint32_t>(rule)}));
 }
 
 static_assert(sizeof(ratio) == sizeof(ratio_i64) && std::is_trivially_copyable_v<ratio> && std::is_standard_layout_v<ratio>, "a ratio is a ratio_i64");
@@ -287,11 +354,11 @@ public:
     /// The float nearest to the sum, rounded once.
     double to_double() const { return needed(read<ratio_float>(ratio_total_to_f64_i64)).value; }
     /// The sum as a decimal with any number of places, rounded once, however long it is.
-    std::string decimal(std::uint32_t places, rounding rule = rounding::half_even) const {
-        std::vector<std::uint64_t> room(ratio_total_print_digits_i64(slots_.data(), slots_.size(), places) + 1);
-        std::vector<std::uint8_t> bytes(ratio_total_print_bytes_i64(slots_.data(), slots_.size(), places) + 1);
+    std::string decimal(detail::whole<std::uint32_t> places, rounding rule = rounding::half_even) const {
+        std::vector<std::uint64_t> room(ratio_total_print_digits_i64(slots_.data(), slots_.size(), places.number) + 1);
+        std::vector<std::uint8_t> bytes(ratio_total_print_bytes_i64(slots_.data(), slots_.size(), places.number) + 1);
         ratio_text text{};
-        detail::done(ratio_total_print_i64(slots_.data(), slots_.size(), places, static_cast<std::uint32_t>(rule), room.data(), room.size(),
+        detail::done(ratio_total_print_i64(slots_.data(), slots_.size(), places.number, static_cast<std::uint32_t>(rule), room.data(), room.size(),
                                            bytes.data(), bytes.size(), &text, 1));
         detail::need(text.code);
         return {reinterpret_cast<const char *>(bytes.data()) + text.span.start, text.span.end - text.span.start};

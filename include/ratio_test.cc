@@ -1,4 +1,4 @@
-// Tests ratio.hpp: each member beside values from elsewhere, and a million random pairs beside boost::rational.
+// Tests ratio.hpp: each member beside values from elsewhere, integers of each type at their ends, and a million random pairs beside boost::rational.
 //
 //   ratio_test [PAIRS [SEED]]
 #include "ratio.hpp"
@@ -8,6 +8,7 @@
 #include <algorithm>
 #include <cstdio>
 #include <cstdlib>
+#include <limits>
 #include <random>
 #include <sstream>
 #include <unordered_set>
@@ -18,14 +19,12 @@ using bakhsney::rounding;
 using namespace bakhsney::literals;
 using bakhsney::div_round_to, bakhsney::try_add, bakhsney::try_div, bakhsney::try_mul, bakhsney::try_pow, bakhsney::try_rem, bakhsney::try_sub;
 using wide = __int128;
+using size = unsigned __int128;
 
 static int wrong;
 
 static void expect(bool holds, const char *what) {
-    if (!holds) {
-        std::printf("wrong: %s\n", what);
-        ++wrong;
-    }
+    if (!holds && ++wrong <= 20) std::printf("wrong: %s\n", what);
 }
 
 #define EXPECT(condition) expect(condition, #condition)
@@ -40,8 +39,18 @@ static void expect(bool holds, const char *what) {
         expect(known && known->code() == (wanted) && std::string(known->what()) == std::string("ratio: ") + ratio_code_text(wanted), #expression " and its code"); \
     }
 
-static_assert(!std::is_convertible_v<double, ratio> && !std::is_constructible_v<ratio, double> && !std::is_convertible_v<bool, ratio>);
-static_assert(std::is_convertible_v<int, ratio> && std::is_convertible_v<unsigned long, ratio> && !std::is_convertible_v<ratio, double>);
+/// Whether the class takes numbers of a type: alone, as each of two, and on each side of an operator. It takes all of these or none.
+template <class Number>
+constexpr int ways = std::is_constructible_v<ratio, Number> + std::is_convertible_v<Number, ratio> + std::is_constructible_v<ratio, Number, int> + std::is_constructible_v<ratio, int, Number>;
+template <class Number, class Operator>
+constexpr int sides = std::is_invocable_v<Operator, ratio, Number> + std::is_invocable_v<Operator, Number, ratio>;
+template <class Number, class... Operators>
+constexpr int uses = ways<Number> + (sides<Number, Operators> + ...);
+template <class Number>
+constexpr int taken = uses<Number, std::plus<>, std::minus<>, std::multiplies<>, std::divides<>, std::modulus<>, std::equal_to<>, std::not_equal_to<>, std::less<>, std::greater<>, std::less_equal<>, std::greater_equal<>>;
+static_assert(taken<float> == 0 && taken<double> == 0 && taken<long double> == 0 && taken<bool> == 0 && taken<ratio_code> == 0 && taken<const char *> == 0);
+static_assert(taken<int> == 26 && taken<char> == 26 && taken<unsigned long> == 26 && taken<wide> == (std::is_integral_v<wide> ? 26 : 0));
+static_assert(!std::is_invocable_v<decltype(&ratio::nearest), ratio, double> && !std::is_convertible_v<ratio, double>);
 static_assert(std::is_nothrow_default_constructible_v<ratio> && std::is_nothrow_copy_constructible_v<ratio>);
 constexpr ratio seven = 7;
 static_assert(seven.numer() == 7 && seven.denom() == 1 && seven == ratio(7));
@@ -107,6 +116,159 @@ static void comparing() {
     const std::hash<ratio> hash;
     EXPECT(hash(half) == hash(ratio(2, 4)) && hash(half) != hash(third) && hash(third) != hash(ratio(-1, 3)));
     EXPECT(set.size() == 2 && set.count(ratio(3, 9)) == 1 && set.count(ratio(1, 4)) == 0);
+}
+
+/// What an expression gives: a fraction, or the code of its error and 0.
+struct outcome {
+    std::uint32_t code;
+    ratio value;
+    bool operator==(outcome other) const { return code == other.code && value == other.value; }
+};
+
+template <class Call>
+static outcome outcome_of(Call call) {
+    try {
+        return {RATIO_ANSWERED, call()};
+    } catch (const ratio_error &error) {
+        return {error.code(), 0};
+    }
+}
+
+/// An integer of any type by its sign and its size, so that nothing is cut.
+struct integer {
+    template <class Integer>
+    integer(Integer n) : below(static_cast<size>(n) >> 127 && static_cast<Integer>(-1) < static_cast<Integer>(1)), is(below ? -static_cast<size>(n) : static_cast<size>(n)) {}
+    bool fits(int bits) const { return is <= (size{1} << (bits - 1)) - !below; }
+    bool below;
+    size is;
+};
+
+/// What n/d is: its lowest terms if they fit, or the code. Both have to fit 128 bits.
+static outcome quotient(integer n, integer d, std::uint32_t code_of_zero) {
+    if (!n.fits(128) || !d.fits(128)) return {RATIO_NOT_HELD, 0};
+    if (d.is == 0) return {code_of_zero, 0};
+    size common = n.is;
+    for (size rest = d.is; rest != 0;) {
+        const size next = common % rest;
+        common = rest, rest = next;
+    }
+    n.is /= common, d.is /= common;
+    n.below = n.is != 0 && n.below != d.below, d.below = false;
+    if (!n.fits(64) || !d.fits(64)) return {RATIO_NOT_HELD, 0};
+    return {RATIO_ANSWERED, ratio(ratio_i64{static_cast<std::int64_t>(n.below ? -n.is : n.is), static_cast<std::int64_t>(d.is)})};
+}
+
+/// The order of a fraction and an integer, by the whole part of the fraction's size.
+static int order(ratio a, integer n) {
+    const integer numer(a.numer());
+    if (numer.below != n.below) return numer.below ? -1 : 1 - (numer.is == 0 && n.is == 0);
+    const size denom = static_cast<size>(a.denom()), whole = numer.is / denom;
+    const int by_size = whole != n.is ? (whole < n.is ? -1 : 1) : numer.is % denom != 0;
+    return n.below ? -by_size : by_size;
+}
+
+/// The numbers of a type near its ends and near those of the others, some of them twice.
+template <class Integer>
+static std::vector<Integer> ends() {
+    std::vector<Integer> found;
+    for (int bits : {0, 7, 8, 15, 16, 31, 32, 63, 64, 127}) {
+        for (int near : {-2, -1, 0, 1, 3}) {
+            for (size n : {size{1} << bits, -(size{1} << bits)}) found.push_back(static_cast<Integer>(n + static_cast<size>(near)));
+        }
+    }
+    return found;
+}
+
+/// A fraction and an integer on each side of each comparison.
+template <class Integer>
+static void compared(ratio a, Integer n) {
+    const int wanted = order(a, n);
+    EXPECT((a < n) == (wanted < 0) && (a > n) == (wanted > 0) && (a <= n) == (wanted <= 0) && (a >= n) == (wanted >= 0) && (a == n) == (wanted == 0) && (a != n) == (wanted != 0));
+    EXPECT((n > a) == (wanted < 0) && (n < a) == (wanted > 0) && (n >= a) == (wanted <= 0) && (n <= a) == (wanted >= 0) && (n == a) == (wanted == 0) && (n != a) == (wanted != 0));
+#ifdef __cpp_lib_three_way_comparison
+    EXPECT((a <=> n) == (wanted <=> 0) && (n <=> a) == (0 <=> wanted));
+#endif
+}
+
+/// An operator that computes: each third with the fraction on the left, with the integer there, and with the fraction changed.
+constexpr int operators = 15;
+template <class Integer>
+static ratio computed(int which, ratio a, Integer n) {
+    switch (which) {
+    case 0: return a + n;
+    case 1: return n + a;
+    case 2: return a += n;
+    case 3: return a - n;
+    case 4: return n - a;
+    case 5: return a -= n;
+    case 6: return a * n;
+    case 7: return n * a;
+    case 8: return a *= n;
+    case 9: return a / n;
+    case 10: return n / a;
+    case 11: return a /= n;
+    case 12: return a % n;
+    case 13: return n % a;
+    default: return a %= n;
+    }
+}
+
+/// What it has to give. An integer that does not fit 64 bits has no result.
+static outcome computed_wide(int which, ratio a, integer n) {
+    if (!n.fits(64)) return {RATIO_NOT_HELD, 0};
+    const ratio whole(static_cast<std::int64_t>(n.below ? -n.is : n.is)), left = which % 3 == 1 ? whole : a, right = which % 3 == 1 ? a : whole;
+    const wide p = left.numer(), q = left.denom(), r = right.numer(), s = right.denom();
+    switch (which / 3) {
+    case 0: return quotient(p * s + r * q, q * s, RATIO_DIVISION_BY_ZERO);
+    case 1: return quotient(p * s - r * q, q * s, RATIO_DIVISION_BY_ZERO);
+    case 2: return quotient(p * r, q * s, RATIO_DIVISION_BY_ZERO);
+    case 3: return quotient(p * s, q * r, RATIO_DIVISION_BY_ZERO);
+    default: return r == 0 ? outcome{RATIO_DIVISION_BY_ZERO, 0} : quotient(p * s % (r * q), q * s, RATIO_DIVISION_BY_ZERO);
+    }
+}
+
+/// All fractions of two integers of two types.
+template <class Numer, class Denom>
+static void made() {
+    for (Numer n : ends<Numer>()) {
+        for (Denom d : ends<Denom>()) EXPECT(outcome_of([&] { return ratio(n, d); }) == quotient(n, d, RATIO_ZERO_DENOMINATOR));
+    }
+}
+
+template <class Integer>
+static void integers_of() {
+    if constexpr (std::is_integral_v<Integer>) {
+        const std::vector<ratio> fractions = {0, 1, -1, ratio(1, 3), ratio(-7, 2), ratio(1, most), ratio(least, most), ratio(most, 2), most, least};
+        using largest = std::conditional_t<std::is_integral_v<size>, size, unsigned long>;
+        made<Integer, largest>(), made<largest, Integer>();
+        for (Integer n : ends<Integer>()) {
+            EXPECT(outcome_of([&] { return ratio(n); }) == quotient(n, 1, RATIO_ZERO_DENOMINATOR) && outcome_of([&]() -> ratio { return n; }) == quotient(n, 1, RATIO_ZERO_DENOMINATOR));
+            for (ratio a : fractions) {
+                compared(a, n);
+                for (int i = 0; i < operators; ++i) EXPECT(outcome_of([&] { return computed(i, a, n); }) == computed_wide(i, a, n));
+            }
+        }
+    }
+}
+
+template <class... Integers>
+static void integers() {
+    (integers_of<Integers>(), ...);
+    EXPECT(ratio(18446744073709551614u, 2) == most && ratio(-3, 18446744073709551615u) == ratio(-1, 6148914691236517205));
+    EXPECT(ratio(1, 3) < 18446744073709551615u && 18446744073709551615u != ratio(-1));
+    // What other calls take has to fit.
+    const ratio x(2, 3);
+    EXPECT(pow(x, 2u) == ratio(4, 9) && x.round_to(100u) == ratio(67, 100) && x.nearest(2u) == ratio(1, 2) && *x.convergent('\2') == x && x.decimal(2LL) == "0.67");
+    EXPECT_CODE(pow(x, std::int64_t{1} << 32), RATIO_NOT_HELD)
+    EXPECT_CODE(try_pow(x, 2147483648u), RATIO_NOT_HELD)
+    EXPECT_CODE(try_add(x, 18446744073709551615u), RATIO_NOT_HELD)
+    EXPECT_CODE(x.round_to(18446744073709551615u), RATIO_NOT_HELD)
+    EXPECT_CODE(mul_round_to(x, x, 18446744073709551615u), RATIO_NOT_HELD)
+    EXPECT_CODE(div_round_to(x, x, 18446744073709551615u), RATIO_NOT_HELD)
+    EXPECT_CODE(x.nearest(9223372036854775808u), RATIO_NOT_HELD)
+    EXPECT_CODE(x.convergent(-1), RATIO_NOT_HELD)
+    EXPECT_CODE(x.decimal(std::int64_t{1} << 32), RATIO_NOT_HELD)
+    EXPECT_CODE(bakhsney::total().decimal(-1), RATIO_NOT_HELD)
 }
 
 static void rounding_and_printing() {
@@ -232,6 +394,7 @@ int main(int count, char **words) {
     making();
     computing();
     comparing();
+    integers<char, signed char, unsigned char, wchar_t, char16_t, char32_t, short, unsigned short, int, unsigned, long, unsigned long, long long, unsigned long long, wide, size>();
     rounding_and_printing();
     totals();
     random_pairs(count > 1 ? std::atol(words[1]) : 1000000, count > 2 ? std::strtoul(words[2], nullptr, 10) : 1);

@@ -6,6 +6,7 @@
 #include <boost/rational.hpp>
 
 #include <algorithm>
+#include <array>
 #include <cstdio>
 #include <cstdlib>
 #include <limits>
@@ -169,11 +170,12 @@ static int order(ratio a, integer n) {
 
 /// The numbers of a type near its ends and near those of the others, some of them twice.
 template <class Integer>
-static std::vector<Integer> ends() {
-    std::vector<Integer> found;
+static std::array<Integer, 100> ends() {
+    std::array<Integer, 100> found;
+    std::size_t count = 0;
     for (int bits : {0, 7, 8, 15, 16, 31, 32, 63, 64, 127}) {
         for (int near : {-2, -1, 0, 1, 3}) {
-            for (size n : {size{1} << bits, -(size{1} << bits)}) found.push_back(static_cast<Integer>(n + static_cast<size>(near)));
+            for (size n : {size{1} << bits, -(size{1} << bits)}) found[count++] = static_cast<Integer>(n + static_cast<size>(near));
         }
     }
     return found;
@@ -236,9 +238,8 @@ static void made() {
 }
 
 template <class Integer>
-static void integers_of() {
+static void integers_of(const std::vector<ratio> &fractions) {
     if constexpr (std::is_integral_v<Integer>) {
-        const std::vector<ratio> fractions = {0, 1, -1, ratio(1, 3), ratio(-7, 2), ratio(1, most), ratio(least, most), ratio(most, 2), most, least};
         using largest = std::conditional_t<std::is_integral_v<size>, size, unsigned long>;
         made<Integer, largest>(), made<largest, Integer>();
         for (Integer n : ends<Integer>()) {
@@ -253,12 +254,20 @@ static void integers_of() {
 
 template <class... Integers>
 static void integers() {
-    (integers_of<Integers>(), ...);
+    (integers_of<Integers>({0, 1, -1, ratio(1, 3), ratio(-7, 2), ratio(1, most), ratio(least, most), ratio(most, 2), most, least}), ...);
     EXPECT(ratio(18446744073709551614u, 2) == most && ratio(-3, 18446744073709551615u) == ratio(-1, 6148914691236517205));
     EXPECT(ratio(1, 3) < 18446744073709551615u && 18446744073709551615u != ratio(-1));
     // What other calls take has to fit.
     const ratio x(2, 3);
     EXPECT(pow(x, 2u) == ratio(4, 9) && x.round_to(100u) == ratio(67, 100) && x.nearest(2u) == ratio(1, 2) && *x.convergent('\2') == x && x.decimal(2LL) == "0.67");
+    const ratio small(1, most);
+    EXPECT(small.round_to(most) == small && mul_round_to(small, 1, most) == small && div_round_to(small, 1, most) == small && small.nearest(most) == small && !x.convergent(4294967295u));
+    EXPECT(pow(ratio(-1), 2147483647) == -1 && pow(ratio(-1), -2147483647 - 1) == 1 && try_pow(ratio(-1), 2147483647) == ratio(-1) && try_pow(ratio(-1), -2147483647 - 1) == ratio(1));
+    EXPECT_CODE(x.decimal(4294967295u), RATIO_BAD_OPTION)
+    EXPECT_CODE(x.round_to(least), RATIO_BAD_OPTION)
+    EXPECT_CODE(mul_round_to(x, x, least), RATIO_BAD_OPTION)
+    EXPECT_CODE(div_round_to(x, x, least), RATIO_BAD_OPTION)
+    EXPECT_CODE(x.nearest(least), RATIO_BOUND_NOT_POSITIVE)
     EXPECT_CODE(pow(x, std::int64_t{1} << 32), RATIO_NOT_HELD)
     EXPECT_CODE(try_pow(x, 2147483648u), RATIO_NOT_HELD)
     EXPECT_CODE(try_add(x, 18446744073709551615u), RATIO_NOT_HELD)

@@ -277,7 +277,7 @@ static void integers() {
     EXPECT_CODE(x.nearest(9223372036854775808u), RATIO_NOT_HELD)
     EXPECT_CODE(x.convergent(-1), RATIO_NOT_HELD)
     EXPECT_CODE(x.decimal(std::int64_t{1} << 32), RATIO_NOT_HELD)
-    EXPECT_CODE(bakhsney::total().decimal(-1), RATIO_NOT_HELD)
+    EXPECT_CODE(bakhsney::total().decimal(std::int64_t{1} << 32), RATIO_NOT_HELD)
 }
 
 static void rounding_and_printing() {

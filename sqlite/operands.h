@@ -1,4 +1,4 @@
-/* What ratio.c and splits.c share: how an operand is read, and what an error says. A file that has its own SQLITE_EXTENSION_INIT follows. */
+/* What the files of the extension share: how an operand is read, what an error says, and the order of long numbers. A file that has its own SQLITE_EXTENSION_INIT follows. */
 #include "sqlite3ext.h"
 
 #define RATIO_CHECKED /* the calls here always get arrays of the lengths that they require */
@@ -11,6 +11,9 @@ char *ratio_refusal(sqlite3 *database, const char *name, int count, sqlite3_valu
 
 /* The fraction that a value is. NULL is none, and the code is RATIO_NO_TEXT where memory is out. */
 ratio_answer_i64 ratio_of_value(sqlite3_value *operand);
+
+/* -1, 0 or 1: the order of two texts by their values. Each is a number of any length, which ratio_read_text_i64 reads or says is out of range. */
+int ratio_order_of_texts(const void *left, int left_length, const void *right, int right_length);
 
 /* Adds the tables of splits.c to a database, and returns SQLite's status. */
 int ratio_splits_init(sqlite3 *database);

@@ -12,8 +12,10 @@ char *ratio_refusal(sqlite3 *database, const char *name, int count, sqlite3_valu
 /* The fraction that a value is. NULL is none, and the code is RATIO_NO_TEXT where memory is out. */
 ratio_answer_i64 ratio_of_value(sqlite3_value *operand);
 
-/* -1, 0 or 1: the order of two texts by their values. Each is a number of any length, which ratio_read_text_i64 reads or says is out of range. */
-int ratio_order_of_texts(const void *left, int left_length, const void *right, int right_length);
+/* The order of two texts by their values, of any length. A text that is no number comes after all numbers, and two of these are in the order of their
+ * bytes. A number is what ratio_read_text_i64 reads or says is out of range.
+ */
+int ratio_order_of_texts(int is_left_number, const void *left, int left_length, int is_right_number, const void *right, int right_length);
 
 /* Adds the tables of splits.c to a database, and returns SQLite's status. */
 int ratio_splits_init(sqlite3 *database);

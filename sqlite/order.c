@@ -1,21 +1,22 @@
-/* The order of two numbers of any length. A collation cannot fail, so nothing here allocates: the digits stay where they lie in the texts.
+/* The order of two texts where 64 bits are not enough. A collation cannot fail, so nothing here allocates: the digits stay where they lie in the texts.
  *
- * Each number is (whole * denom + numer) / denom * 10^(tens + exponent). Both sides are multiplied by both denominators. A column has the sum
- * of the digit products that count for one power of 10, and the columns are compared from the greatest power on, until the rest cannot matter.
+ * A number is (whole * denom + numer) / denom * 10^(tens + exponent). Two of them are multiplied by both denominators. A column is the sum of the
+ * products of digits that count for one power of 10, and the columns are compared from the greatest power on, until the rest does not matter.
  *
  * No sum overflows, for texts of up to 2^31-1 bytes. The whole and the denominator of a mixed number lie in one text, so the shorter one has less
- * than 2^30 digits: a sum in `crossed` is below 81 * 2^30 + 10 < 10^11, and `carried` below 10^8 + 10^3. A column is below 9 * 2^31 times that, which
- * is 2 * 10^18, so all columns behind one differ by less than a ninth of this: DECIDED is more. 10 * DECIDED + 2 * 10^18 is below 2^63.
+ * than 2^30 digits: `crossed` is below 81 * 2^30 + 10 < 10^11, and `carried` below 10^8 + 10^3. A column is below 9 * 2^31 times this, so below
+ * 2 * 10^18. The columns behind another add up to less than a ninth of that, beside it: DECIDED is more. 10 * DECIDED + 2 * 10^18 is below 2^63.
  */
 #include "operands.h"
 
 #include <string.h>
 
-enum { MOST_COLUMNS = 1024 };
+/* How many columns are summed at once. The digits of whole * denom + numer are computed anew for each such block. */
+enum { FIRST_COLUMNS = 32, MOST_COLUMNS = 1024 };
 
 static const int64_t NO_POINT = INT64_MAX, DECIDED = 300000000000000000;
 
-/* Digits that end before `end`. `count` leaves out leading zeros, and `places` are behind a point between them. */
+/* Digits that end before `end`. The count leaves out leading zeros. So many places are behind a point, if there is one. */
 typedef struct {
     const unsigned char *end;
     int64_t count;
@@ -36,7 +37,7 @@ static int64_t digit(const digits *all, int64_t place) {
     return place < all->count ? all->end[-1 - place - (place >= all->places)] - '0' : 0;
 }
 
-/* ---- reading, after the proved call has found that the text is a number */
+/* ---- reading a text that ratio_read_text_i64 has found to be a number */
 
 /* The digits here, which may have a point. */
 static digits digits_at(const unsigned char **at, const unsigned char *end) {
@@ -91,8 +92,9 @@ static number number_of(const unsigned char *at, const unsigned char *end) {
 
 /* ---- comparing */
 
-/* By how many places the digits of x lie above those of y, where it is less than 10^15, else 10^15 or -10^15 or beyond. From there on no digit of
- * an exponent changes a sign. */
+/* By how many places the last digit of x lies above that of y. Exponents that differ by more than 10^15 differ by this much here: no later digit of
+ * theirs changes which one is greater, and no text is as long.
+ */
 static int64_t places_above(const number *x, const number *y) {
     const int64_t most = 1000000000000000;
     int64_t place = x->exponent.count > y->exponent.count ? x->exponent.count : y->exponent.count, difference = 0;
@@ -112,13 +114,13 @@ static int64_t crossed(const number *x, int64_t place) {
     return sum;
 }
 
-/* The same with what is 1000 or more carried three places up. */
+/* The same, but from 1000 on it is carried three places up. Near the top no sum is as great. */
 static int64_t carried(const number *x, int64_t place) {
     if (x->whole.count == 0) return digit(&x->numer, place);
     return crossed(x, place) % 1000 + (place < 3 ? 0 : crossed(x, place - 3) / 1000);
 }
 
-/* Adds the sums of (whole * denom + numer) * by at so many places, from one on, or takes them away. There is nothing below place 0. */
+/* Adds so many columns of (whole * denom + numer) * by, from a place on, or takes them away. Nothing is below place 0. */
 static void add_columns(int64_t *columns, int64_t count, int64_t place, const number *x, const digits *by, int sign) {
     int64_t i, from = place < by->count ? 0 : place - by->count + 1;
     for (; from <= x->top && from < place + count; from++) {
@@ -127,9 +129,9 @@ static void add_columns(int64_t *columns, int64_t count, int64_t place, const nu
     }
 }
 
-int ratio_order_of_texts(const void *left, int left_length, const void *right, int right_length) {
-    const number x = number_of(left, (const unsigned char *) left + left_length), y = number_of(right, (const unsigned char *) right + right_length);
-    int64_t columns[MOST_COLUMNS], count = 32, difference = 0, above, place, i;
+/* -1, 0 or 1: the order of two numbers. */
+static int order_of_numbers(number x, number y) {
+    int64_t columns[MOST_COLUMNS], count = FIRST_COLUMNS, difference = 0, above, place, i;
     if (x.sign != y.sign) return x.sign < y.sign ? -1 : 1;
     if (x.sign == 0) return 0;
     above = places_above(&x, &y);
@@ -143,4 +145,13 @@ int ratio_order_of_texts(const void *left, int left_length, const void *right, i
         if (count < MOST_COLUMNS) count *= 2;
     }
     return difference == 0 ? 0 : (difference < 0) == (x.sign < 0) ? 1 : -1;
+}
+
+int ratio_order_of_texts(int is_left_number, const void *left, int left_length, int is_right_number, const void *right, int right_length) {
+    int bytes;
+    if (is_left_number != is_right_number) return is_left_number ? -1 : 1;
+    bytes = memcmp(left_length ? left : "", right_length ? right : "", (size_t) (left_length < right_length ? left_length : right_length));
+    if (bytes == 0) bytes = left_length - right_length;
+    if (bytes == 0 || !is_left_number) return bytes;
+    return order_of_numbers(number_of(left, (const unsigned char *) left + left_length), number_of(right, (const unsigned char *) right + right_length));
 }

@@ -410,13 +410,12 @@ static int is_number(ratio_answer_i64 read) {
     return read.code == RATIO_ANSWERED || read.code == RATIO_NOT_HELD;
 }
 
-/* The order of two texts by their values. A text that is no number comes after all numbers, and two of these are in the order of their bytes. */
+/* The order of two texts by their values. */
 static int collate(void *unused, int left_length, const void *left, int right_length, const void *right) {
     const ratio_span left_all = {0, (size_t) left_length}, right_all = {0, (size_t) right_length};
     ratio_answer_i64 x, y;
     ratio_pair_i64 pair;
     ratio_order order;
-    int bytes;
     (void) unused;
     ratio_read_text_i64(left_length ? left : "", left_all.end, &left_all, 1, &x, 1);
     ratio_read_text_i64(right_length ? right : "", right_all.end, &right_all, 1, &y, 1);
@@ -426,10 +425,7 @@ static int collate(void *unused, int left_length, const void *left, int right_le
         ratio_compare_i64(&pair, 1, &order, 1);
         return order.order;
     }
-    if (is_number(x) != is_number(y)) return is_number(x) ? -1 : 1;
-    bytes = memcmp(left_length ? left : "", right_length ? right : "", (size_t) (left_length < right_length ? left_length : right_length));
-    if (bytes == 0) bytes = left_length - right_length;
-    return bytes && is_number(x) ? ratio_order_of_texts(left, left_length, right, right_length) : bytes;
+    return ratio_order_of_texts(is_number(x), left, left_length, is_number(y), right, right_length);
 }
 
 /* ---- their names */

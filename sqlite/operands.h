@@ -1,4 +1,4 @@
-/* What the files of the extension share: how an operand is read, what an error says, and the order of long numbers. A file that has its own SQLITE_EXTENSION_INIT follows. */
+/* What the files here share: how an operand is read, what an error says, and the order of texts. A file that has its own SQLITE_EXTENSION_INIT follows. */
 #include "sqlite3ext.h"
 
 #define RATIO_CHECKED /* the calls here always get arrays of the lengths that they require */

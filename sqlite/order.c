@@ -12,7 +12,7 @@
 #include <string.h>
 
 /* How many columns are summed at once. The digits of whole * denom + numer are computed anew for each such block. */
-enum { FIRST_COLUMNS = 32, MOST_COLUMNS = 1024 };
+enum { FIRST_COLUMNS = 32, MOST_COLUMNS = FIRST_COLUMNS << 5 };
 
 static const int64_t NO_POINT = INT64_MAX, DECIDED = 300000000000000000;
 

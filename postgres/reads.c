@@ -13,9 +13,9 @@ typedef struct
 	uint64		small[SMALL];
 } Room;
 
-/* A total of more slots is read in steps, and looks for interrupts between them. The time of a step grows with its slots and with the digits of
- * the common denominator, of which there are at most MOST_DIGITS. STEP slots with so many take some 7 milliseconds. */
-enum { LONG_TOTAL = 1000, STEP = 64, MOST_DIGITS = 16384 };
+/* The time of a step of a long read grows with its slots and with the digits of the common denominator, of which there are at most MOST_DIGITS.
+ * STEP slots with so many take some 7 milliseconds. */
+enum { STEP = 64, MOST_DIGITS = 16384 };
 
 static void
 make_room(Room *room, uint64 length)
@@ -44,20 +44,29 @@ next_step(uint64 done)
 	return Max(STEP, STEP * MOST_DIGITS / (done + STEP * 16));
 }
 
-/* Joins the slots in the room, and returns the digits of their common denominator. */
-static uint64
-join_all(const ratio_slot_i64 *slots, size_t many, Room *room, const char *call)
+/* Joins the slots in the room, until a step is refused. */
+static ratio_joined_i64
+join(const ratio_slot_i64 *slots, size_t many, Room *room)
 {
 	ratio_joined_i64 joined = {0};
 
-	while (joined.done < many)
+	while (joined.code == RATIO_ANSWERED && joined.done < many)
 	{
 		CHECK_FOR_INTERRUPTS();
 		ratio_total_join_i64(slots, many, next_step(joined.done), &joined, 1, room->digits, room->length);
-		if (joined.code != RATIO_ANSWERED)
-			refuse(joined.code, call);
 	}
 	CHECK_FOR_INTERRUPTS();
+	return joined;
+}
+
+/* Joins all slots in the room, and returns the digits of their common denominator. */
+static uint64
+join_all(const ratio_slot_i64 *slots, size_t many, Room *room, const char *call)
+{
+	ratio_joined_i64 joined = join(slots, many, room);
+
+	if (joined.code != RATIO_ANSWERED)
+		refuse(joined.code, call);
 	return joined.digits;
 }
 
@@ -105,10 +114,10 @@ mean_of(const ratio_slot_i64 *slots, size_t many, int64 count, const char *call)
 	return new_value(answer.value);
 }
 
-int
-sign_of(const ratio_slot_i64 *slots, size_t many)
+bool
+sign_of(const ratio_slot_i64 *slots, size_t many, int *sign)
 {
-	static const char call[] = "a comparison";
+	ratio_joined_i64 joined;
 	ratio_order answer;
 	Room		room;
 
@@ -116,11 +125,17 @@ sign_of(const ratio_slot_i64 *slots, size_t many)
 	if (many <= LONG_TOTAL)
 		ratio_total_sign_i64(slots, many, room.digits, room.length, &answer, 1);
 	else
-		ratio_joined_sign_i64(join_all(slots, many, &room, call), room.digits, room.length, &answer, 1);
-	if (answer.code != RATIO_ANSWERED)
-		refuse(answer.code, call);
+	{
+		joined = join(slots, many, &room);
+		answer.code = joined.code;
+		if (joined.code == RATIO_ANSWERED)
+			ratio_joined_sign_i64(joined.digits, room.digits, room.length, &answer, 1);
+	}
 	give_back(&room);
-	return answer.order;
+	if (answer.code != RATIO_ANSWERED && answer.code != RATIO_TOO_LONG)
+		refuse(answer.code, "a comparison");
+	*sign = answer.order;
+	return answer.code == RATIO_ANSWERED;
 }
 
 float8

@@ -296,14 +296,17 @@ joined(FunctionCallInfo fcinfo, bool out)
 CALL(ratio_total_add) { return finished(joined(fcinfo, false)); }
 CALL(ratio_total_sub) { return finished(joined(fcinfo, true)); }
 
-/* The order by value is the sign of the difference. */
 static int
 order_of(FunctionCallInfo fcinfo)
 {
-	State	   *state = joined(fcinfo, true);
-	int			order = sign_of(slots_of(state), pack(slots_of(state), slots_of(state), state->length));
+	size_t		left_many,
+				right_many;
+	Stored	   *left = stored_argument(fcinfo, 0, &left_many),
+			   *right = stored_argument(fcinfo, 1, &right_many);
+	int			order = order_of_totals(left->slots, left_many, right->slots, right_many);
 
-	discard(state);
+	PG_FREE_IF_COPY(left, 0);
+	PG_FREE_IF_COPY(right, 1);
 	return order;
 }
 

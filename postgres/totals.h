@@ -73,12 +73,20 @@ extern size_t pack(ratio_slot_i64 *to, const ratio_slot_i64 *from, size_t length
 /* The slots of a state that are not 0, in new memory. */
 extern ratio_slot_i64 *packed(State *state, size_t *many);
 
+/* A total of more slots is read in steps, and looks for interrupts between them. */
+enum { LONG_TOTAL = 1000 };
+
 /* Reads. `call` is what SQL asked for. */
 extern Datum sum_of(const ratio_slot_i64 *slots, size_t many, int64 count, const char *call);
 extern Datum mean_of(const ratio_slot_i64 *slots, size_t many, int64 count, const char *call);
-extern int sign_of(const ratio_slot_i64 *slots, size_t many);
 extern float8 float_of(const ratio_slot_i64 *slots, size_t many);
 extern char *decimal_of(const ratio_slot_i64 *slots, size_t many, int32 places, uint32 rule, const char *call);
+
+/* -1, 0 or 1: the order of the sum and 0. False if the common denominator of more than LONG_TOTAL slots is too long. A denominator may come again. */
+extern bool sign_of(const ratio_slot_i64 *slots, size_t many, int *sign);
+
+/* -1, 0 or 1: the order of the sums of two totals, whose denominators grow. */
+extern int order_of_totals(const ratio_slot_i64 *left, size_t left_many, const ratio_slot_i64 *right, size_t right_many);
 
 /* The argument of a function, checked, and how many slots it has. */
 extern Stored *stored_argument(FunctionCallInfo fcinfo, int n, size_t *many);

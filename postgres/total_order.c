@@ -109,7 +109,7 @@ divide(Sum *sum, bool is_first)
 	sum->many = kept;
 }
 
-/* Whether the whole number has the sign of the sum: 2^64 times it is as far from 0 as the slots can be at most. Without slots it always has. */
+/* Whether the whole number has the sign of the sum: 2^64 times it is further from 0 than all slots together, or there are none. */
 static bool
 is_decided(const Sum *sum)
 {

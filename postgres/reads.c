@@ -118,7 +118,7 @@ bool
 sign_of(const ratio_slot_i64 *slots, size_t many, int *sign)
 {
 	ratio_joined_i64 joined;
-	ratio_order answer;
+	ratio_order answer = {0};
 	Room		room;
 
 	make_room(&room, ratio_total_digits_i64(slots, many));

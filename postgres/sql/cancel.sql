@@ -40,12 +40,14 @@ SET statement_timeout = '500ms';
 SELECT ending('SELECT t::ratio FROM longs') AS sum;
 SELECT ending('SELECT avg(t) FROM longs') AS mean;
 SELECT ending('SELECT t = u FROM ties') AS comparison;
-SELECT ending('SELECT t < tie FROM longs') AS by_bounds, ending('SELECT t = tie - t FROM longs') AS by_bounds_too;
 SELECT ending('SELECT t::float8 FROM longs') AS float;
 -- the bounds of the sum say what 200000.005 is with one place, but not with two
 SELECT ending('SELECT ratio_round(tie, 2) FROM longs') AS decimal;
 SELECT ratio_round(tie, 1), ratio_round(t, 20) = 0.00009314093224288864 AS is_right FROM longs;
 RESET statement_timeout;
+-- bounds decide an order long before it is known that the common denominator is too long
+SELECT t < tie AS lt, t = tie - t AS eq FROM longs;
+SELECT 4 * spent('SELECT t < tie FROM longs') < spent($$SELECT ending('SELECT t::float8 FROM longs')$$) AS is_quick;
 -- Two workers each hand over some 150,000 denominators, in seconds.
 CREATE TABLE shared AS SELECT ratio(1, i) AS r FROM generate_series(1, 300000) i;
 ALTER TABLE shared SET (parallel_workers = 2);

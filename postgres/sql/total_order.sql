@@ -63,6 +63,10 @@ FROM (SELECT k, string_agg(CASE k % 2 WHEN 0 THEN format('%s/%s', n, j) ELSE for
 SELECT md5(string_agg(k::text, ',' ORDER BY t, k)) = '0b7e80dfe17feb3b254c6407e4b08ee5' AS as_python, count(DISTINCT t) FROM longs;
 SELECT count(*) AS wrong FROM longs a JOIN longs b ON a.k / 6 = b.k / 6 WHERE (a.t = b.t) <> (a.k / 2 = b.k / 2) OR ratio_total_cmp(a.t, b.t) <> - ratio_total_cmp(b.t, a.t);
 DROP TABLE longs;
+-- 2000 slots that are nearly 1, or a little more than 1
+SELECT ratio_total_cmp(t, '1999') AS above, ratio_total_cmp(t, '2000') AS below, ratio_total_cmp('0'::ratio_total - t, '-1999') AS negative_below, ratio_total_cmp('0'::ratio_total - t, '-2000') AS negative_above,
+    ratio_total_cmp(more, '2000') AS more, ratio_total_cmp('0'::ratio_total - more, '-2000') AS negative_more
+FROM (SELECT total(1 - r) AS t, total(1 + r) AS more FROM (SELECT ratio(1, 2147483647 - 2 * i) AS r FROM generate_series(1, 2000) i) odd) ones;
 -- A difference of some 2^-849 over a common denominator of more than 2^20 bits. (p + 1)/2p - (p + 3)/(2p + 4) is 1/(p * (p + 2)), and 16,384 of these go to
 -- one side or the other so that nearly all is cancelled: as the count of ones in the number is even or odd.
 CREATE TABLE near AS SELECT side, total(r) AS t FROM (SELECT length(replace(i::bit(14)::text, '0', '')) % 2 AS side, p, i FROM (SELECT i, 9223372036854775805 - 4 * i AS p FROM generate_series(0::int8, 16383) i) odd) sides,

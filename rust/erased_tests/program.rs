@@ -5,13 +5,16 @@ use std::string::{String, ToString};
 use std::vec::Vec;
 use subjects::Subjects;
 
-/// What is wrong with a row, if anything is. The numbers of `isize` and `usize` are for 64 bits.
+/// What is wrong with a row, if anything is. The numbers of `isize` and `usize` are for 64 bits, and so are lengths such as 2^64-1: elsewhere, a
+/// row with one cannot be read.
 fn fault(line: &str) -> Option<String> {
-    if cfg!(not(target_pointer_width = "64")) && line.split(' ').any(|word| word == "isize" || word == "usize") {
+    let is_narrow = cfg!(not(target_pointer_width = "64"));
+    if is_narrow && line.split(' ').any(|word| word == "isize" || word == "usize") {
         return None;
     }
     let got = Row { alloc: Global, line, calls: Subjects }.to_string();
-    (got != line || got.ends_with(" = bad row")).then(|| std::format!("the row:     {line}\nthe program: {got}\n"))
+    let is_bad = got.ends_with(" = bad row");
+    (if is_bad { !is_narrow } else { got != line }).then(|| std::format!("the row:     {line}\nthe program: {got}\n"))
 }
 
 #[test]

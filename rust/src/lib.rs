@@ -118,6 +118,8 @@ pub use proved::num_rational::RatioErrorKind;
 /// Why [`split`] does not split an amount by shares: the first of these that applies. It is hardly ever `NotHeld` with the feature
 /// `alloc`: [`split`] says when.
 ///
+/// With the feature `alloc`, `NotHeld` only says that the common denominator of the shares is 2^(2^20) or more: sums that do not fit take memory.
+///
 /// ```
 /// use num_rational::{split, Reduced, SplitRefusal};
 ///

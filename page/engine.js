@@ -1,5 +1,5 @@
 "use strict";
-// The engine: the module of the sheet in a worker, so that the page stays quick, and can stop a computation that takes too long.
+// The engine: the module in a worker, so that the page stays quick, and can stop a computation that takes too long.
 
 const MODULE = "ratio_sheet.wasm";
 const MOST_SECONDS = 10;

@@ -1,5 +1,5 @@
 "use strict";
-// The link that carries the lines of a page, and copying. The lines are in the part of the address behind `#`, which no browser sends.
+// The link that carries the lines, and copying. The lines are in the part of the address behind `#`, which no browser sends.
 
 const LINK_LENGTH = 8000;
 

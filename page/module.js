@@ -1,5 +1,5 @@
 "use strict";
-// Loading the module of a page. Each function throws a sentence that says why the calculator cannot run, where it cannot.
+// Loading the module. Each function throws a sentence that says why the calculator cannot run, where it cannot.
 
 // The bytes of the module: those in this page, if it has any, or those of the file beside it.
 async function moduleBytes(file) {

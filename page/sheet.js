@@ -406,7 +406,6 @@ async function start() {
   drawKeypad(keypad, () => inputOf(current));
   take(sheetOfAddress() ?? before ?? { lines: FIRST_LINES });
   showKeypad(before?.keypad ?? matchMedia("(pointer: coarse)").matches);
-  element("switch").hidden = document.getElementById("module") !== null;
   for (const id of ["sheet", "meeting"]) {
     element(id).hidden = false;
   }

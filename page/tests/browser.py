@@ -1,14 +1,12 @@
-"""Chromium without a window, a page in a browser, and servers of folders."""
+"""Chromium without a window, and servers of folders."""
 import contextlib
 import functools
 import http.server
 import shutil
 import threading
-import time
 
 from selenium import webdriver
 from selenium.webdriver.chrome.service import Service
-from selenium.webdriver.common.keys import Keys
 
 
 class Chromium(webdriver.Chrome):
@@ -59,46 +57,3 @@ def served(folder):
     finally:
         server.shutdown()
         server.server_close()
-
-
-class Page:
-    """One of the two pages in a browser. `READY` is a script that is true when the page has its first answers."""
-
-    def __init__(self, driver, address):
-        self.driver = driver
-        self.address = address
-        self.home = address[: address.rindex("/") + 1]
-
-    def load(self, fragment=""):
-        """Loads the page, and waits until it has answered its first lines or has said why it cannot."""
-        self.driver.get("about:blank")
-        self.driver.get(self.address + fragment)
-        return self.until(f"return failure.textContent !== '' || {self.READY}", 10)
-
-    def js(self, script, *arguments):
-        return self.driver.execute_script(script, *arguments)
-
-    def until(self, asked, seconds=5):
-        """Whether a script, or a function, gives true in time."""
-        end = time.monotonic() + seconds
-        while not (self.js(asked) if isinstance(asked, str) else asked()):
-            if time.monotonic() > end:
-                return False
-            time.sleep(0.03)
-        return True
-
-    def press(self, *keys):
-        """Presses keys where the focus is."""
-        self.driver.switch_to.active_element.send_keys(*keys)
-
-    def link(self):
-        return self.js("return link.href")
-
-    def copied(self, selector):
-        """What a click on a part puts on the clipboard, as a paste into a box shows it."""
-        self.js("told.textContent = ''")
-        self.driver.find_elements("css selector", selector)[0].click()
-        self.until("return told.textContent.endsWith('copied.')", 3)
-        self.js("const box = document.createElement('textarea'); box.id = 'box'; document.body.append(box); box.focus()")
-        self.press(Keys.CONTROL, "v")
-        return self.js("const text = box.value; box.remove(); return text")

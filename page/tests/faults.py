@@ -4,6 +4,7 @@ import tempfile
 from pathlib import Path
 
 from tests.browser import served
+from tests.sheet import Sheet
 
 
 def fault_in(page, home, fault):
@@ -22,11 +23,11 @@ def fault_in(page, home, fault):
     return None
 
 
-def not_found(driver, home, kind, faults):
+def not_found(driver, home, faults):
     """A sentence for each fault that is not found in a copy of the page. A fault is a name, the file, its text, the text in its place, and the check."""
     with tempfile.TemporaryDirectory() as name, served(name) as address:
-        for part in [*kind.PARTS, kind.MODULE]:
+        for part in [*Sheet.PARTS, Sheet.MODULE]:
             shutil.copy(home / part, name)
-        page = kind(driver, address + kind.PARTS[0])
+        page = Sheet(driver, address + "index.html")
         page.folder = Path(name)
         return [fault_in(page, home, fault) for fault in faults]

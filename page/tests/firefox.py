@@ -11,7 +11,7 @@ import time
 from pathlib import Path
 
 from selenium.common.exceptions import WebDriverException
-from tests import both, lines, lines_answers, lines_looks, sheet, sheet_faults, sheet_pictures, sheet_use
+from tests import looks, sheet, sheet_faults, sheet_pictures, sheet_use
 from tests.faults import not_found
 
 # A script of the page itself, since one of Marionette's does not see what the page names by `const` and `let`.
@@ -124,25 +124,23 @@ def firefox():
             process.wait()
 
 
-ON_SHEET = [*sheet.VALUES, *sheet_use.USE, *sheet_pictures.PICTURES, *both.ONCE]
-ON_LINES = [lines_answers.typed, lines_looks.boxes_scroll_together, *both.ONCE]
+CHECKS = [*sheet.VALUES, *sheet_use.USE, *sheet_pictures.PICTURES, *looks.ONCE]
 # The faults that it must find in copies of the page.
 FAULTS = [fault for fault in sheet_faults.FAULTS if fault[-1] in (sheet.people_are_answered, sheet_use.caret_is_under_the_place)]
 
 
 def tried(driver, address, home, folder):
-    for kind, checks, text in ((sheet.Sheet, ON_SHEET, sheet.SAMPLE), (lines.Lines, ON_LINES, lines_looks.SAMPLE)):
-        page = kind(driver, address + kind.PARTS[0])
-        driver.shaped(1280, "light")
-        page.load()
-        yield from both.named(checks, page, " in Firefox")
-        page.open(text)
-        for width in (1280, 500):
-            driver.shaped(width, "light")
-            yield from both.named(both.SHAPED, page, f" in Firefox, {width} points wide")
-            driver.save_screenshot(folder / f"firefox-{kind.__name__.lower()}-{width}.png")
+    page = sheet.Sheet(driver, address + "index.html")
+    driver.shaped(1280, "light")
+    page.load()
+    yield from looks.named(CHECKS, page, " in Firefox")
+    page.open(sheet.SAMPLE)
+    for width in (1280, 500):
+        driver.shaped(width, "light")
+        yield from looks.named(looks.SHAPED, page, f" in Firefox, {width} points wide")
+        driver.save_screenshot(folder / f"firefox-{width}.png")
     yield sheet_use.one_file_works(driver, home)
-    yield from not_found(driver, home, sheet.Sheet, FAULTS)
+    yield from not_found(driver, home, FAULTS)
 
 
 def faults(address, home, folder):

@@ -1,4 +1,4 @@
-"""The page for expressions, and its values, which are compared with Python's fractions. Each check gives a sentence that says what is wrong, or None."""
+"""The page, and its values, which are compared with Python's fractions. Each check gives a sentence that says what is wrong, or None."""
 import math
 import random
 import time
@@ -6,7 +6,6 @@ from fractions import Fraction
 from pathlib import Path
 
 from selenium.webdriver.common.keys import Keys
-from tests.browser import Page
 
 TYPED = Path(__file__).resolve().parent.parent.parent / "checks" / "typed.txt"
 
@@ -14,12 +13,50 @@ TYPED = Path(__file__).resolve().parent.parent.parent / "checks" / "typed.txt"
 SAMPLE = "1/3 + 0.25\nx = 3/7\n2 + (3 * y) + 4\n22/7 - x * 2\n1/3 < 0.333\n2^500 / 3\n\n1 / 0\n415/93"
 
 
-class Sheet(Page):
-    PARTS = ["index.html", "page.css", "sheet.css", "link.js", "module.js", "engine.js", "pictures.js", "keypad.js", "sheet.js"]
+class Sheet:
+    """The page in a browser."""
+
+    PARTS = ["index.html", "page.css", "link.js", "module.js", "engine.js", "pictures.js", "keypad.js", "sheet.js"]
     MODULE = "ratio_sheet.wasm"
-    LACKS = {"delete globalThis.WebAssembly": "no WebAssembly"}
-    READY = "!document.getElementById('sheet').hidden"
-    FOUR = [["4"]]
+
+    def __init__(self, driver, address):
+        self.driver = driver
+        self.address = address
+        self.home = address[: address.rindex("/") + 1]
+
+    def load(self, fragment=""):
+        """Loads the page, and waits until it has answered its first lines or has said why it cannot."""
+        self.driver.get("about:blank")
+        self.driver.get(self.address + fragment)
+        return self.until("return failure.textContent !== '' || !document.getElementById('sheet').hidden", 10)
+
+    def js(self, script, *arguments):
+        return self.driver.execute_script(script, *arguments)
+
+    def until(self, asked, seconds=5):
+        """Whether a script, or a function, gives true in time."""
+        end = time.monotonic() + seconds
+        while not (self.js(asked) if isinstance(asked, str) else asked()):
+            if time.monotonic() > end:
+                return False
+            time.sleep(0.03)
+        return True
+
+    def press(self, *keys):
+        """Presses keys where the focus is."""
+        self.driver.switch_to.active_element.send_keys(*keys)
+
+    def link(self):
+        return self.js("return link.href")
+
+    def copied(self, selector):
+        """What a click on a part puts on the clipboard, as a paste into a box shows it."""
+        self.js("told.textContent = ''")
+        self.driver.find_elements("css selector", selector)[0].click()
+        self.until("return told.textContent.endsWith('copied.')", 3)
+        self.js("const box = document.createElement('textarea'); box.id = 'box'; document.body.append(box); box.focus()")
+        self.press(Keys.CONTROL, "v")
+        return self.js("const text = box.value; box.remove(); return text")
 
     def open(self, text=""):
         """Loads the page as for the first time, with these lines."""

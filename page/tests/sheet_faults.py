@@ -1,5 +1,5 @@
-"""Faults in copies of the page for expressions."""
-from tests import both, sheet, sheet_pictures as pictures, sheet_use as use
+"""Faults in copies of the page."""
+from tests import looks, sentences, sheet, sheet_pictures as pictures, sheet_use as use
 
 
 def shaped(check, width, scheme="light"):
@@ -8,6 +8,11 @@ def shaped(check, width, scheme="light"):
         page.open(sheet.SAMPLE)
         return check(page)
     return run
+
+
+def said(page):
+    """The sentences are looked at on a copy of the copy, without the module."""
+    return next(iter(sentences.faults(page.driver, page.folder)), None)
 
 
 # A name, the file, its text, the text in its place, and the check.
@@ -24,10 +29,10 @@ FAULTS = [
     ("a focus that is not seen", "page.css", ":focus-visible { outline: 3px solid var(--strong);", ":focus-visible { outline: none;", use.focus_is_seen),
     ("a caret one column late", "sheet.js", '" ".repeat([...before].length)', '" ".repeat([...before].length + 1)', use.caret_is_under_the_place),
     ("a mark by bytes", "sheet.js", "at = Number(/\\d+$/.exec(reason)) - 1", "at = new TextEncoder().encode(text.slice(0, Number(/\\d+$/.exec(reason)) - 1)).length", use.caret_is_under_the_place),
-    ("an error while it is typed", "sheet.css", ".unfinished .at-end .where", ".unfinished .never .where", use.unfinished_line_is_no_error_yet),
+    ("an error while it is typed", "page.css", ".unfinished .at-end .where", ".unfinished .never .where", use.unfinished_line_is_no_error_yet),
     ("nothing kept", "sheet.js", "localStorage.setItem(STORED,", "String(STORED,", use.lines_are_kept),
     ("storage that must be there", "sheet.js", "    return null;\n  }\n}\n\nfunction take(", "    throw new Error(STORED);\n  }\n}\n\nfunction take(", use.page_works_without_storage),
-    ("a changed fragment not read", "sheet.js", 'addEventListener("hashchange"', 'addEventListener("never"', both.changed_link_is_read),
+    ("a changed fragment not read", "sheet.js", 'addEventListener("hashchange"', 'addEventListener("never"', looks.changed_link_is_read),
     ("a decimal copied with its sign", "sheet.js", "copy(text, `$", "copy(before + text, `$", use.clicks_copy),
     ("a paste into one line", "sheet.js", 'addEventListener("paste"', 'addEventListener("never"', use.paste_makes_lines),
     ("a key that types another one", "keypad.js", '["×", "*", "times"]', '["×", "+", "times"]', use.keypad_types),
@@ -37,8 +42,15 @@ FAULTS = [
     ("the product as the meeting", "pictures.js", "a / gcd(a, b) * b", "a * b", pictures.beats_meet),
     ("a picture without words", "pictures.js", '"aria-label": words', '"data-label": words', pictures.pictures_have_words),
     ("a wrong example", "index.html", "<code>3/2</code>", "<code>2/3</code>", sheet.examples_are_right),
-    ("values that are cut off", "page.css", "sans-serif; overflow-wrap: anywhere;", "sans-serif; white-space: nowrap;", shaped(both.nothing_is_cut_off, 320)),
-    ("refusals too pale in the dark", "page.css", "--wrong: #ff9d94", "--wrong: #a3262a", shaped(both.colours_are_readable, 1280, "dark")),
-    ("pictures too pale in the dark", "sheet.css", "svg text { fill: var(--ink)", "svg text { fill: #333", shaped(both.colours_are_readable, 320, "dark")),
-    ("small keys", "sheet.css", "#keypad button { min-height: 2.75rem;", "#keypad button { min-height: 1.5rem;", shaped(use.keys_are_large, 390)),
+    ("values that are cut off", "page.css", "sans-serif; overflow-wrap: anywhere;", "sans-serif; white-space: nowrap;", shaped(looks.nothing_is_cut_off, 320)),
+    ("refusals too pale in the dark", "page.css", "--wrong: #ff9d94", "--wrong: #a3262a", shaped(looks.colours_are_readable, 1280, "dark")),
+    ("pictures too pale in the dark", "page.css", "svg text { fill: var(--ink)", "svg text { fill: #333", shaped(looks.colours_are_readable, 320, "dark")),
+    ("an icon from elsewhere", "index.html", '<link rel="icon" href="data:,">', '<link rel="icon" href="https://example.org/icon.png">', shaped(looks.nothing_comes_from_elsewhere, 1280)),
+    ("no fragment", "link.js", "link.href = address;", 'link.href = address.split("#")[0];', looks.link_carries_lines),
+    ("a fragment that is not encoded", "link.js", "encodeURIComponent(text.toWellFormed())", "text", looks.link_carries_lines),
+    ("a broken link not said", "link.js", "decodeURIComponent(text)", "unescape(text)", looks.broken_link_is_said),
+    ("a link without an end", "link.js", "const LINK_LENGTH = 8000", "const LINK_LENGTH = 80000", looks.long_link_is_said),
+    ("a missing module not said", "module.js", "if (!response.ok)", "if (false)", said),
+    ("a page from a file not said", "module.js", 'location.protocol === "file:"', "false", said),
+    ("small keys", "page.css", "#keypad button { min-height: 2.75rem;", "#keypad button { min-height: 1.5rem;", shaped(use.keys_are_large, 390)),
 ]

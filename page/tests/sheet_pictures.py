@@ -1,4 +1,4 @@
-"""The pictures of the page for expressions. Each check gives a sentence that says what is wrong, or None."""
+"""The pictures of the page. Each check gives a sentence that says what is wrong, or None."""
 import math
 from fractions import Fraction
 

@@ -1,12 +1,11 @@
-"""How the page for expressions is used: by keyboard, by a screen reader, by clicks, and after a reload. Each check gives a sentence that says what is wrong, or
-None."""
+"""How the page is used: by keyboard, by a screen reader, by clicks, and after a reload. Each check gives a sentence that says what is wrong, or None."""
 import subprocess
 import tempfile
 from pathlib import Path
 
 from selenium.webdriver.common.by import By
 from selenium.webdriver.common.keys import Keys
-from tests import both, sheet_pictures
+from tests import looks, sheet_pictures
 from tests.sheet import SAMPLE, VALUES, Sheet
 
 SHAPES = [(1280, "light"), (1280, "dark"), (800, "light"), (390, "dark"), (320, "light"), (320, "dark")]
@@ -178,10 +177,10 @@ def one_file_works(driver, home):
 def faults(sheet, home, folder):
     """A sentence for each check that finds a fault in the page."""
     sheet.driver.shaped(1280, "light")
-    yield from both.named([*VALUES, *USE, page_works_without_storage, *sheet_pictures.PICTURES, *both.ONCE], sheet)
+    yield from looks.named([*VALUES, *USE, page_works_without_storage, *sheet_pictures.PICTURES, *looks.ONCE], sheet)
     for width, scheme in SHAPES:
         sheet.driver.shaped(width, scheme)
         sheet.open(SAMPLE)
-        yield from both.named([*both.SHAPED, keys_are_large], sheet, f", {width} points wide, {scheme}")
+        yield from looks.named([*looks.SHAPED, keys_are_large], sheet, f", {width} points wide, {scheme}")
         sheet.driver.save_screenshot(str(folder / f"sheet-{width}-{scheme}.png"))
     yield one_file_works(sheet.driver, home)

@@ -1,4 +1,4 @@
-//! The calculators of the page, as a WebAssembly module with addresses of 32 bits: that of lines, and that of the sheet.
+//! The page's calls, as a WebAssembly module with addresses of 32 bits.
 //!
 //! `rust/erase` writes `proved/` from the proved sources. Only this file, `sheet.rs` and `host.rs` are written by hand.
 mod host;
@@ -6,17 +6,6 @@ mod proved;
 mod sheet;
 
 use std::slice;
-
-/// Writes the answers to the lines of `input` to the beginning of `room`, and returns their length. If they do not fit, it returns
-/// 2^32-1, and `room` holds the first part of them.
-///
-/// # Safety
-///
-/// `input` must point to `length` bytes, and `room` to `space` other bytes.
-#[no_mangle]
-pub unsafe extern "C" fn ratio_page_answers(input: *const u8, length: usize, room: *mut u8, space: usize) -> usize {
-    proved::ratio_page::ratio_page_answers(slice::from_raw_parts(input, length), slice::from_raw_parts_mut(room, space))
-}
 
 /// Writes the rows of the lines of `input`, with so many places of the decimals, to the beginning of `room`, and returns their length. If they do not
 /// fit, `room` holds the first part of them.

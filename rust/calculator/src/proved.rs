@@ -10,7 +10,6 @@
 
 pub mod ratio_calc;
 pub mod ratio_lines;
-pub mod ratio_page;
 pub mod ratio_replies;
 #[cfg(target_pointer_width = "64")]
 pub mod ratio_tool;

@@ -1,7 +1,4 @@
-"""What both pages must do: nothing is cut off or too pale, nothing comes from elsewhere, and the link carries the lines.
-
-Each check gives a sentence that says what is wrong, or None.
-"""
+"""Nothing is cut off or too pale, nothing comes from elsewhere, and the link carries the lines. Each check gives a sentence that says what is wrong, or None."""
 import re
 
 LEAST_CONTRAST = 4.5
@@ -36,7 +33,7 @@ function contrastOf(part) { return contrast(getComputedStyle(part).color, ground
 
 def colours_are_readable(page):
     low = page.js(COLOURS + """
-        const own = (part) => part.matches("input, textarea") || [...part.childNodes].some((child) => child.nodeType === 3 && child.data.trim() !== "");
+        const own = (part) => part.matches("input") || [...part.childNodes].some((child) => child.nodeType === 3 && child.data.trim() !== "");
         const parts = [...document.querySelectorAll("main *")].filter((part) => part.checkVisibility() && !part.closest("svg") && own(part));
         const letters = [...document.querySelectorAll("svg text")].map((part) => [contrast(getComputedStyle(part).fill, groundOf(part.closest("div"))), part.textContent]);
         return parts.map((part) => [contrastOf(part), part.textContent.slice(0, 40)]).concat(letters).sort((a, b) => a[0] - b[0])[0];""")
@@ -44,15 +41,14 @@ def colours_are_readable(page):
 
 
 def nothing_is_cut_off(page):
-    """No part is wider than the screen, and no text is cut. Pictures, and boxes beside each other, may scroll."""
+    """No part is wider than the screen, and no text is cut. Pictures may scroll."""
     return page.js("""
         const wide = document.documentElement.clientWidth;
         if (document.documentElement.scrollWidth > wide) return "the page is wider than the screen";
-        const scrolling = matchMedia("(width > 48rem)").matches ? ".scroll, .box *" : ".scroll";
-        const seen = [...document.querySelectorAll("main *")].filter((part) => part.checkVisibility() && !part.closest(`.unseen, thead, svg, ${scrolling}`));
+        const seen = [...document.querySelectorAll("main *")].filter((part) => part.checkVisibility() && !part.closest(".unseen, thead, svg, .scroll"));
         const outside = seen.find((part) => part.getBoundingClientRect().right > wide + .5 || part.getBoundingClientRect().left < -.5);
         if (outside) return `${outside.tagName} ${outside.id} is outside of the screen: ${outside.textContent.slice(0, 40)}`;
-        const cut = seen.find((part) => !part.matches("input, .box") && part.scrollWidth > part.clientWidth + 1 && part.clientWidth > 0);
+        const cut = seen.find((part) => !part.matches("input") && part.scrollWidth > part.clientWidth + 1 && part.clientWidth > 0);
         return cut ? `${cut.tagName} ${cut.id || cut.className} is cut off: ${cut.textContent.slice(0, 40)}` : null;""")
 
 
@@ -92,7 +88,7 @@ def link_carries_lines(page):
 def changed_link_is_read(page):
     page.open()
     page.js("location.hash = '#lines=2%20%2B%202'")
-    return None if page.until(lambda: page.answers() == page.FOUR, 2) else "the page does not read the lines of a changed fragment"
+    return None if page.until(lambda: page.answers() == [["4"]], 2) else "the page does not read the lines of a changed fragment"
 
 
 def broken_link_is_said(page):

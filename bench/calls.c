@@ -3,6 +3,7 @@
  */
 #define _POSIX_C_SOURCE 199309L
 #include "ratio.h"
+#include "../examples/c/calls.h"
 
 #include <stdio.h>
 #include <stdlib.h>
@@ -18,18 +19,19 @@ enum { SLOTS = 16 };
 /* The fractions, shares and weights of a list. */
 enum { ITEMS = 8 };
 
-static ratio_i64 halves[LEN], smalls[LEN];
-static ratio_pair_i64 pairs[LEN];
-static ratio_factors_i64 factors[LEN];
-static ratio_operands_i64 operands[LEN];
-static ratio_power_i64 powers[LEN];
-static ratio_bounded_i64 bounded[LEN];
-static ratio_bounds_i64 bounds[LEN];
-static ratio_multiple_i64 multiples[LEN];
-static ratio_scaled scaled[LEN];
-static ratio_place_i64 steps[LEN];
+/* The arrays of items and of answers: `of_TYPE` is that of its type. */
+static ratio_i64 halves[LEN], *const of_ratio_i64 = halves, smalls[LEN];
+static ratio_pair_i64 pairs[LEN], *const of_ratio_pair_i64 = pairs;
+static ratio_factors_i64 factors[LEN], *const of_ratio_factors_i64 = factors;
+static ratio_operands_i64 operands[LEN], *const of_ratio_operands_i64 = operands;
+static ratio_power_i64 powers[LEN], *const of_ratio_power_i64 = powers;
+static ratio_bounded_i64 bounded[LEN], *const of_ratio_bounded_i64 = bounded;
+static ratio_bounds_i64 bounds[LEN], *const of_ratio_bounds_i64 = bounds;
+static ratio_multiple_i64 multiples[LEN], *const of_ratio_multiple_i64 = multiples;
+static ratio_scaled scaled[LEN], *const of_ratio_scaled = scaled;
+static ratio_place_i64 steps[LEN], *const of_ratio_place_i64 = steps;
 static ratio_decimal_i64 decimals[LEN];
-static double doubles[LEN];
+static double doubles[LEN], *const of_double = doubles;
 static ratio_i64 chain[ITEMS], shares[ITEMS];
 static int64_t weights[ITEMS], cents[ITEMS], chain_room[2 * ITEMS];
 static ratio_total_i64 total;
@@ -40,16 +42,16 @@ static uint8_t texts[LEN * RATIO_ROOM_I64], decimal_texts[LEN * RATIO_DECIMAL_RO
 static size_t texts_len, decimal_texts_len;
 static ratio_span spans[LEN], decimal_spans[LEN];
 
-static ratio_answer_i64 answers[LEN];
-static ratio_answer_i32 narrow[LEN];
-static ratio_answer_i128 wide[LEN];
-static ratio_order orders[LEN];
-static ratio_truth truths[LEN];
-static ratio_hash hashes[LEN];
-static ratio_key keys[LEN];
-static ratio_sortable sortables[LEN];
-static ratio_residue residues[LEN];
-static ratio_float floats[LEN];
+static ratio_answer_i64 answers[LEN], *const of_ratio_answer_i64 = answers;
+static ratio_answer_i32 narrow[LEN], *const of_ratio_answer_i32 = narrow;
+static ratio_answer_i128 wide[LEN], *const of_ratio_answer_i128 = wide;
+static ratio_order orders[LEN], *const of_ratio_order = orders;
+static ratio_truth truths[LEN], *const of_ratio_truth = truths;
+static ratio_hash hashes[LEN], *const of_ratio_hash = hashes;
+static ratio_key keys[LEN], *const of_ratio_key = keys;
+static ratio_sortable sortables[LEN], *const of_ratio_sortable = sortables;
+static ratio_residue residues[LEN], *const of_ratio_residue = residues;
+static ratio_float floats[LEN], *const of_ratio_float = floats;
 static ratio_text places[LEN];
 
 static void done(uint32_t returned) {
@@ -71,28 +73,10 @@ static uint64_t *joined_room(void) {
     return room;
 }
 
-/* Each call, what it is asked, where its answers go, and the kind of its input. */
-#define CALLS(X)                                                                                            \
-    X(compare_i64, pairs, orders, "half") X(equal_i64, pairs, truths, "half") X(hash_i64, halves, hashes, "half") \
-    X(hash_lowest_i64, halves, hashes, "half") X(key_i64, halves, keys, "half")                             \
-    X(hash_mod61_i64, halves, residues, "half") X(sortable_i64, halves, sortables, "half")                  \
-    X(add_i64, pairs, answers, "half") X(sub_i64, pairs, answers, "half") X(mul_i64, pairs, answers, "half") \
-    X(div_i64, pairs, answers, "half") X(rem_i64, pairs, answers, "half")                                   \
-    X(gcd_i64, pairs, answers, "half") X(lcm_i64, pairs, answers, "half") X(mul_round_i64, factors, answers, "half") X(pow_i64, powers, answers, "half") \
-    X(mul_round_to_i64, operands, answers, "half") X(div_round_to_i64, operands, answers, "half")           \
-    X(reduce_i64, halves, answers, "half") X(neg_i64, halves, answers, "half") X(abs_i64, halves, answers, "half") \
-    X(floor_i64, halves, answers, "half") X(ceil_i64, halves, answers, "half") X(trunc_i64, halves, answers, "half") \
-    X(round_i64, halves, answers, "half") X(round_to_i64, multiples, answers, "half")                       \
-    X(nearest_i64, bounded, answers, "half") X(between_i64, bounds, answers, "half")                        \
-    X(convergent_i64, steps, answers, "half") X(to_f64_i64, halves, floats, "half") X(from_f64_i64, doubles, answers, "half") \
-    X(rationalize_i64, doubles, answers, "half")                                                            \
-    X(from_scaled_i64, scaled, answers, "half") X(cast_i64_to_i32, halves, narrow, "half")                  \
-    X(cast_i64_to_i128, halves, wide, "half")
-
 /* The two sides of the pairs, for the calls on two arrays. */
 #define SIDES &pairs->left.numer, 4 * LEN - 2, 4, &pairs->right.numer, 4 * LEN - 2, 4
 
-/* Those with two arrays, with texts or with one total. */
+/* Those with two arrays, with texts or with one total: those with an answer for each item are in CALLS_I64. Each has the kind of its input. */
 #define OTHERS(X)                                                                                           \
     X(add_strided_i64, (SIDES, answers, LEN), "half") X(sub_strided_i64, (SIDES, answers, LEN), "half")     \
     X(mul_strided_i64, (SIDES, answers, LEN), "half") X(div_strided_i64, (SIDES, answers, LEN), "half")     \
@@ -137,22 +121,22 @@ static uint64_t *joined_room(void) {
     X(total_print_digits_i64, (slots, SLOTS, 2)) X(total_print_bytes_i64, (slots, SLOTS, 2))                \
     X(total_round_to_digits_i64, (slots, SLOTS)) X(total_compare_digits_i64, (slots, SLOTS, slots, SLOTS))
 
-#define DEFINE(name, asked, results, kind) static void name(void) { done(ratio_##name(asked, LEN, results, LEN)); }
+#define DEFINE(name, item, count, number, answer) static void name(void) { done(ratio_##name(of_##item, LEN, of_##answer, LEN)); }
 #define DEFINE_OTHER(name, arguments, kind) static void name(void) { done(ratio_##name arguments); }
 #define DEFINE_READ(name, arguments) static void name(void) { for (int i = 0; i < LEN; i++) done(ratio_##name arguments); }
 #define DEFINE_LIST(name, arguments, kind) DEFINE_READ(name, arguments)
 #define DEFINE_SIZE(name, arguments) static void name(void) { for (int i = 0; i < LEN; i++) sizes[i] = ratio_##name arguments; }
-CALLS(DEFINE)
+CALLS_I64(DEFINE)
 OTHERS(DEFINE_OTHER)
 READS(DEFINE_READ)
 STEPS(DEFINE_READ)
 LISTS(DEFINE_LIST)
 SIZES(DEFINE_SIZE)
 
-#define ROW(name, asked, results, kind) {"ratio_" #name, kind, name},
+#define ROW(name, item, count, number, answer) {"ratio_" #name, "half", name},
 #define ROW_OTHER(name, arguments, kind) {"ratio_" #name, kind, name},
 #define ROW_READ(name, arguments) {"ratio_" #name, "total", name},
-static const struct { const char *name, *kind; void (*run)(void); } calls[] = {CALLS(ROW) OTHERS(ROW_OTHER) READS(ROW_READ) STEPS(ROW_READ) LISTS(ROW_OTHER) SIZES(ROW_READ)};
+static const struct { const char *name, *kind; void (*run)(void); } calls[] = {CALLS_I64(ROW) OTHERS(ROW_OTHER) READS(ROW_READ) STEPS(ROW_READ) LISTS(ROW_OTHER) SIZES(ROW_READ)};
 
 static uint64_t state = 1;
 

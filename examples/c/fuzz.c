@@ -8,6 +8,7 @@
  */
 #define _DEFAULT_SOURCE
 #include "ratio.h"
+#include "calls.h"
 
 #include <inttypes.h>
 #include <stddef.h>
@@ -26,55 +27,22 @@ typedef uint32_t with_texts(const void *asked, size_t asked_len, uint8_t *texts,
 /* A call: the bytes of what it is asked, how many numbers of how many bytes begin it, the bytes of an answer and those of a printed text. */
 typedef struct { plain *plain; with_texts *reads, *prints; size_t asked, numbers, number, answer, room; } call;
 
-typedef double ratio_double;
-
-/* Each call by its name, with what it is asked, how many numbers of which type begin that, and its answer. Options are behind the numbers.
- * The calls on totals are in `one_total` and `one_read_in_steps`, those on lists in `one_list`, and those on fractions apart in
+/* The calls of calls.h. Those on totals are in `one_total` and `one_read_in_steps`, those on lists in `one_list`, and those on fractions apart in
  * `one_chained_call`.
  */
-#define PLAIN(X, s, number)                                                                                   \
-    X(compare_##s, pair_##s, 4, number, order) X(equal_##s, pair_##s, 4, number, truth)                       \
-    X(hash_##s, s, 2, number, hash) X(reduce_##s, s, 2, number, answer_##s)                                   \
-    X(add_##s, pair_##s, 4, number, answer_##s) X(sub_##s, pair_##s, 4, number, answer_##s)                   \
-    X(mul_##s, pair_##s, 4, number, answer_##s) X(div_##s, pair_##s, 4, number, answer_##s)                   \
-    X(rem_##s, pair_##s, 4, number, answer_##s) X(pow_##s, power_##s, 2, number, answer_##s)                  \
-    X(gcd_##s, pair_##s, 4, number, answer_##s) X(lcm_##s, pair_##s, 4, number, answer_##s)                   \
-    X(mul_round_##s, factors_##s, 4, number, answer_##s)                                                      \
-    X(mul_round_to_##s, operands_##s, 5, number, answer_##s)                                             \
-    X(div_round_to_##s, operands_##s, 5, number, answer_##s)                                             \
-    X(neg_##s, s, 2, number, answer_##s) X(abs_##s, s, 2, number, answer_##s)                                 \
-    X(floor_##s, s, 2, number, answer_##s) X(ceil_##s, s, 2, number, answer_##s)                              \
-    X(trunc_##s, s, 2, number, answer_##s) X(round_##s, s, 2, number, answer_##s)                             \
-    X(nearest_##s, bounded_##s, 3, number, answer_##s) X(between_##s, bounds_##s, 4, number, answer_##s)      \
-    X(round_to_##s, multiple_##s, 3, number, answer_##s) X(from_scaled_##s, scaled, 1, ratio_wide, answer_##s) \
-    X(convergent_##s, place_##s, 2, number, answer_##s) X(to_f64_##s, s, 2, number, float)                    \
-    X(from_f64_##s, double, 1, double, answer_##s) X(rationalize_##s, double, 1, double, answer_##s)
+#define ALL_PLAIN(X) CALLS_I32(X) CALLS_I64(X) CALLS_I128(X)
+#define ALL_READS(X) READS_I32(X) READS_I64(X) READS_I128(X)
+#define ALL_PRINTS(X) PRINTS_I32(X) PRINTS_I64(X) PRINTS_I128(X)
 
-#define ALL_PLAIN(X)                                                                                          \
-    PLAIN(X, i32, int32_t) PLAIN(X, i64, int64_t) PLAIN(X, i128, ratio_wide)                                  \
-    X(hash_lowest_i32, i32, 2, int32_t, hash) X(hash_lowest_i64, i64, 2, int64_t, hash)                       \
-    X(key_i64, i64, 2, int64_t, key) X(hash_mod61_i64, i64, 2, int64_t, residue)                              \
-    X(sortable_i64, i64, 2, int64_t, sortable)                                                                \
-    X(cast_i32_to_i64, i32, 2, int32_t, answer_i64) X(cast_i32_to_i128, i32, 2, int32_t, answer_i128)         \
-    X(cast_i64_to_i32, i64, 2, int64_t, answer_i32) X(cast_i64_to_i128, i64, 2, int64_t, answer_i128)         \
-    X(cast_i128_to_i32, i128, 2, ratio_wide, answer_i32) X(cast_i128_to_i64, i128, 2, ratio_wide, answer_i64)
-
-#define READS(X, s) X(read_##s, answer_##s) X(read_decimal_##s, answer_##s) X(read_text_##s, answer_##s)
-#define ALL_READS(X) READS(X, i32) READS(X, i64) READS(X, i128)
-
-#define PRINTS(X, s, number, SIZE)                                                                            \
-    X(print_##s, s, number, RATIO_ROOM_##SIZE) X(print_decimal_##s, decimal_##s, number, RATIO_DECIMAL_ROOM_##SIZE)
-#define ALL_PRINTS(X) PRINTS(X, i32, int32_t, I32) PRINTS(X, i64, int64_t, I64) PRINTS(X, i128, ratio_wide, I128)
-
-#define DEFINE_PLAIN(name, asked_type, count, number, answer_type)                                            \
+#define DEFINE_PLAIN(name, item, count, number, answer)                                                       \
     static uint32_t name(const void *asked, size_t asked_len, void *answers, size_t answers_len) {            \
         return ratio_##name(asked, asked_len, answers, answers_len);                                          \
     }
-#define DEFINE_READS(name, answer_type)                                                                       \
+#define DEFINE_READS(name, item, count, number, answer)                                                       \
     static uint32_t name(const void *asked, size_t n, uint8_t *texts, size_t len, void *answers, size_t m) {  \
         return ratio_##name(texts, len, asked, n, answers, m);                                                \
     }
-#define DEFINE_PRINTS(name, asked_type, number, room)                                                         \
+#define DEFINE_PRINTS(name, item, count, number, room)                                                        \
     static uint32_t name(const void *asked, size_t n, uint8_t *texts, size_t len, void *answers, size_t m) {  \
         return ratio_##name(asked, n, texts, len, answers, m);                                                \
     }
@@ -82,10 +50,9 @@ ALL_PLAIN(DEFINE_PLAIN)
 ALL_READS(DEFINE_READS)
 ALL_PRINTS(DEFINE_PRINTS)
 
-#define ROW_PLAIN(name, asked, count, number, answer) \
-    {name, NULL, NULL, sizeof(ratio_##asked), count, sizeof(number), sizeof(ratio_##answer), 0},
-#define ROW_READS(name, answer) {NULL, name, NULL, sizeof(ratio_span), 2, sizeof(size_t), sizeof(ratio_##answer), 0},
-#define ROW_PRINTS(name, asked, number, room) {NULL, NULL, name, sizeof(ratio_##asked), 2, sizeof(number), sizeof(ratio_text), room},
+#define ROW_PLAIN(name, item, count, number, answer) {name, NULL, NULL, sizeof(item), count, sizeof(number), sizeof(answer), 0},
+#define ROW_READS(name, item, count, number, answer) {NULL, name, NULL, sizeof(item), count, sizeof(number), sizeof(answer), 0},
+#define ROW_PRINTS(name, item, count, number, room) {NULL, NULL, name, sizeof(item), count, sizeof(number), sizeof(ratio_text), room},
 static const call calls[] = {ALL_PLAIN(ROW_PLAIN) ALL_READS(ROW_READS) ALL_PRINTS(ROW_PRINTS)};
 
 static uint64_t state, checksum, codes[CODES];

@@ -1,5 +1,6 @@
 /* Calls each function of the header with null pointers in place of arrays without items. It ends with status 1 if an answer is wrong. */
 #include "ratio.h"
+#include "calls.h"
 
 #include <stdio.h>
 #include <string.h>
@@ -14,28 +15,17 @@ static void expect(int holds, const char *what) {
 }
 
 /* A call on no items that writes no answers. */
-#define NO_ITEMS(call) expect(ratio_##call(NULL, 0, NULL, 0) == RATIO_DONE, #call);
-#define NO_PAIRS(call) expect(ratio_##call(NULL, 0, 0, NULL, 0, 0, NULL, 0) == RATIO_DONE, #call);
-#define NO_TEXTS(call) expect(ratio_##call(NULL, 0, NULL, 0, NULL, 0) == RATIO_DONE, #call);
-#define NO_ITEMS_OF(s)                                                                                                   \
-    NO_ITEMS(compare_##s) NO_ITEMS(equal_##s) NO_ITEMS(hash_##s) NO_ITEMS(add_##s) NO_ITEMS(sub_##s) NO_ITEMS(mul_##s)   \
-    NO_ITEMS(div_##s) NO_ITEMS(rem_##s) NO_ITEMS(gcd_##s) NO_ITEMS(lcm_##s) NO_ITEMS(mul_round_##s)                      \
-    NO_ITEMS(mul_round_to_##s) NO_ITEMS(div_round_to_##s) NO_ITEMS(reduce_##s) NO_ITEMS(neg_##s) NO_ITEMS(abs_##s)       \
-    NO_ITEMS(floor_##s) NO_ITEMS(ceil_##s) NO_ITEMS(trunc_##s) NO_ITEMS(round_##s) NO_ITEMS(round_to_##s)                \
-    NO_ITEMS(pow_##s) NO_ITEMS(nearest_##s) NO_ITEMS(between_##s) NO_ITEMS(convergent_##s) NO_ITEMS(from_scaled_##s)     \
-    NO_ITEMS(from_f64_##s) NO_ITEMS(rationalize_##s) NO_ITEMS(to_f64_##s)                                                \
-    NO_TEXTS(read_##s) NO_TEXTS(read_decimal_##s) NO_TEXTS(read_text_##s) NO_TEXTS(print_##s) NO_TEXTS(print_decimal_##s)
+#define NO_ITEMS(name, item, count, number, answer) expect(ratio_##name(NULL, 0, NULL, 0) == RATIO_DONE, #name);
+#define NO_TEXTS(name, item, count, number, answer) expect(ratio_##name(NULL, 0, NULL, 0, NULL, 0) == RATIO_DONE, #name);
+#define NO_PAIRS(name) expect(ratio_##name(NULL, 0, 0, NULL, 0, 0, NULL, 0) == RATIO_DONE, #name);
 
 /* The calls that have an answer for each item. */
 static void each_item(void) {
     static const uint8_t before[sizeof(ratio_answer_i64)] = {7};
     ratio_answer_i64 answer;
-    NO_ITEMS_OF(i32)
-    NO_ITEMS_OF(i64)
-    NO_ITEMS_OF(i128)
-    NO_ITEMS(hash_lowest_i32) NO_ITEMS(hash_lowest_i64) NO_ITEMS(hash_mod61_i64) NO_ITEMS(key_i64) NO_ITEMS(sortable_i64)
-    NO_ITEMS(cast_i32_to_i64) NO_ITEMS(cast_i32_to_i128) NO_ITEMS(cast_i64_to_i32)
-    NO_ITEMS(cast_i64_to_i128) NO_ITEMS(cast_i128_to_i32) NO_ITEMS(cast_i128_to_i64)
+    CALLS_I32(NO_ITEMS) CALLS_I64(NO_ITEMS) CALLS_I128(NO_ITEMS)
+    READS_I32(NO_TEXTS) READS_I64(NO_TEXTS) READS_I128(NO_TEXTS)
+    PRINTS_I32(NO_TEXTS) PRINTS_I64(NO_TEXTS) PRINTS_I128(NO_TEXTS)
     NO_PAIRS(add_strided_i64) NO_PAIRS(sub_strided_i64) NO_PAIRS(mul_strided_i64) NO_PAIRS(div_strided_i64) NO_PAIRS(compare_strided_i64)
     memcpy(&answer, before, sizeof answer);
     expect(ratio_add_i64(NULL, 0, &answer, 1) == RATIO_BAD_LENGTH && memcmp(&answer, before, sizeof answer) == 0, "no items and one answer");

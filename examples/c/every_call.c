@@ -1,5 +1,6 @@
 /* Calls each function of the header at least once over each type of numbers. It ends with status 1 if an answer is wrong. */
 #include "ratio.h"
+#include "calls.h"
 
 #include <stdio.h>
 #include <string.h>
@@ -41,79 +42,35 @@ static void expect(int holds, const char *what) {
 #define PAIR(N, n, d, m, e) {.left = FRACTION(N, n, d), .right = FRACTION(N, m, e)}
 #define ANSWER(N, n, d) {.code = RATIO_ANSWERED, .value = FRACTION(N, n, d)}
 
+/* What the calls are asked, by the type of an item. */
+#define FACTORS(N, n, d, m, e, by) {.left = FRACTION(N, n, d), .right = FRACTION(N, m, e), .rule = by}
+#define OPERANDS(N, n, d, m, e, p, by) {.left = FRACTION(N, n, d), .right = FRACTION(N, m, e), .parts = N(p), .rule = by}
+#define POWER(N, n, d, to) {.base = FRACTION(N, n, d), .exponent = to}
+#define BOUNDED(N, n, d, m) {.value = FRACTION(N, n, d), .most = N(m)}
+#define BOUNDS(N, n, d, m, e, f) {.low = FRACTION(N, n, d), .high = FRACTION(N, m, e), .flags = f}
+#define PLACE(N, n, d, at) {.value = FRACTION(N, n, d), .place = at}
+#define MULTIPLE(N, n, d, p, by) {.value = FRACTION(N, n, d), .parts = N(p), .rule = by}
+#define SCALED(n, by) {.number = {.low = n}, .scale = by}
+
+#define ITEM(name, item, count, number, answer) typedef item name##_item;
+CALLS_I32(ITEM) CALLS_I64(ITEM) CALLS_I128(ITEM)
+
 /* Each call on 3/2 and -1/4, and on fractions that are refused. */
 #define EVERY_CALL(suffix, N, IS_BELOW_0, room, decimal_room)                                        \
     static void every_call_##suffix(void) {                                                          \
-        static const ratio_pair_##suffix pair = PAIR(N, 3, 2, -1, 4);                                \
-        static const ratio_pair_##suffix turned = PAIR(N, -1, 4, 3, 2);                              \
-        static const ratio_pair_##suffix by_zero = PAIR(N, 3, 2, 0, 4);                              \
-        static const ratio_pair_##suffix none = PAIR(N, 3, 0, -1, -4);                               \
-        static const ratio_pair_##suffix unreduced = PAIR(N, 2, 8, -3, 18), with_none = PAIR(N, 0, 5, -3, 4);\
-        static const ratio_factors_##suffix to_even = {.left = FRACTION(N, 7, 3), .right = FRACTION(N, 6, 4), .rule = RATIO_RULE_HALF_EVEN},\
-            to_floor = {.left = FRACTION(N, -7, 3), .right = FRACTION(N, 5, 2), .rule = RATIO_RULE_FLOOR},\
-            ruleless = {.left = FRACTION(N, 7, 3), .right = FRACTION(N, 5, 2), .rule = 6},           \
-            placeless = {.left = FRACTION(N, 7, 3), .right = FRACTION(N, 5, -2), .rule = RATIO_RULE_FLOOR};\
-        static const ratio_answer_##suffix twelfth = ANSWER(N, 1, 12), fourth_part = ANSWER(N, 1, 4), \
-            half_again = ANSWER(N, 3, 2), three_fourths = ANSWER(N, 3, 4), four = ANSWER(N, 4, 1), minus_six = ANSWER(N, -6, 1);\
+        static const ratio_pair_##suffix pair = PAIR(N, 3, 2, -1, 4), turned = PAIR(N, -1, 4, 3, 2), same = PAIR(N, 2, 4, -1, -2), none = PAIR(N, 3, 0, -1, -4);\
         static const ratio_##suffix loose[2] = {FRACTION(N, 6, -4), FRACTION(N, -3, 2)};             \
-        static const ratio_bounded_##suffix near = {.value = FRACTION(N, 355, 113), .most = N(10)};  \
-        static const ratio_bounded_##suffix nowhere = {.value = FRACTION(N, 355, 113), .most = N(0)};\
-        static const ratio_pair_##suffix same = PAIR(N, 2, 4, -1, -2);                               \
-        static const ratio_bounds_##suffix inside = {.low = FRACTION(N, 1, 3), .high = FRACTION(N, 1, 2), .flags = 0};\
-        static const ratio_bounds_##suffix empty = {.low = FRACTION(N, 1, 2), .high = FRACTION(N, 2, 4), .flags = 0};\
-        static const ratio_bounds_##suffix high_taken = {.low = FRACTION(N, 1, 3), .high = FRACTION(N, 1, 2), .flags = RATIO_HIGH_INCLUDED},\
-            low_taken = {.low = FRACTION(N, 1, 2), .high = FRACTION(N, 3, 5), .flags = RATIO_LOW_INCLUDED},\
-            no_high = {.low = FRACTION(N, 5, 2), .high = FRACTION(N, 0, 0), .flags = RATIO_HIGH_OPEN},\
-            no_low = {.low = FRACTION(N, 0, 0), .high = FRACTION(N, -5, 2), .flags = RATIO_LOW_OPEN | RATIO_HIGH_INCLUDED},\
-            both_ways = {.low = FRACTION(N, 1, 3), .high = FRACTION(N, 1, 2), .flags = RATIO_LOW_OPEN | RATIO_LOW_INCLUDED},\
-            flagged = {.low = FRACTION(N, 1, 3), .high = FRACTION(N, 1, 2), .flags = 16};            \
-        static const ratio_place_##suffix second = {.value = FRACTION(N, 830, 186), .place = 1},     \
-            fourth = {.value = FRACTION(N, 415, 93), .place = 3}, fifth = {.value = FRACTION(N, 415, 93), .place = 4},\
-            nothing = {.value = FRACTION(N, 1, -2), .place = 0};                                     \
-        static const ratio_answer_##suffix second_is = ANSWER(N, 9, 2), fourth_is = ANSWER(N, 415, 93);\
-        static const double exact = -0.75, huge = 1e300, tenth = 0.1;                                \
-        static const ratio_answer_##suffix tenth_is = ANSWER(N, 1, 10), eighth = ANSWER(N, 1, 8);    \
-        static const ratio_answer_##suffix exact_is = ANSWER(N, -3, 4), eighths = ANSWER(N, 99, 8);  \
-        ratio_answer_##suffix typed_read[5];                                                         \
-        ratio_float real[2];                                                                         \
-        static const ratio_bounds_##suffix loose_bounds = {.low = FRACTION(N, 1, 3), .high = FRACTION(N, 1, -2), .flags = 0};\
-        static const ratio_multiple_##suffix cents = {.value = FRACTION(N, 2, 3), .parts = N(100), .rule = RATIO_RULE_HALF_EVEN},\
-            tie = {.value = FRACTION(N, 5, 2), .parts = N(1), .rule = RATIO_RULE_HALF_AWAY},         \
-            even = {.value = FRACTION(N, 5, 2), .parts = N(1), .rule = RATIO_RULE_HALF_EVEN},        \
-            down = {.value = FRACTION(N, -5, 2), .parts = N(1), .rule = RATIO_RULE_DOWN},            \
-            away = {.value = FRACTION(N, -5, 2), .parts = N(1), .rule = RATIO_RULE_UP},              \
-            lower = {.value = FRACTION(N, 5, 2), .parts = N(1), .rule = RATIO_RULE_FLOOR},           \
-            upper = {.value = FRACTION(N, 5, 2), .parts = N(1), .rule = RATIO_RULE_CEIL},            \
-            no_rule = {.value = FRACTION(N, 2, 3), .parts = N(100), .rule = 6},                      \
-            no_parts = {.value = FRACTION(N, 2, 3), .parts = N(0), .rule = RATIO_RULE_UP};           \
-        static const ratio_operands_##suffix invoice = {.left = FRACTION(N, 1999, 100), .right = FRACTION(N, 9, 4), .parts = N(100), .rule = RATIO_RULE_HALF_EVEN},\
-            refund = {.left = FRACTION(N, -1999, 100), .right = FRACTION(N, 9, 4), .parts = N(100), .rule = RATIO_RULE_UP},\
-            parted = {.left = FRACTION(N, 1999, 100), .right = FRACTION(N, 4, 9), .parts = N(100), .rule = RATIO_RULE_HALF_EVEN},\
-            for_none = {.left = FRACTION(N, 1999, 100), .right = FRACTION(N, 0, 9), .parts = N(100), .rule = RATIO_RULE_HALF_EVEN},\
-            unparted = {.left = FRACTION(N, 1999, 100), .right = FRACTION(N, 9, 4), .parts = N(0), .rule = RATIO_RULE_HALF_EVEN},\
-            unruled = {.left = FRACTION(N, 1999, 100), .right = FRACTION(N, 9, 4), .parts = N(100), .rule = 6},\
-            unsigned_off = {.left = FRACTION(N, 1999, 100), .right = FRACTION(N, 9, -4), .parts = N(100), .rule = RATIO_RULE_HALF_EVEN};\
-        static const ratio_answer_##suffix billed = ANSWER(N, 2249, 50), refunded = ANSWER(N, -2249, 50), no_cents = ANSWER(N, 0, 1);\
+        static const ratio_##suffix shown[3] = {FRACTION(N, 6, -4), FRACTION(N, 3, 0), FRACTION(N, -5, 1)};\
         static const ratio_decimal_##suffix prices[5] = {{.value = FRACTION(N, 2, 3), .places = 2, .rule = RATIO_RULE_HALF_EVEN},\
             {.value = FRACTION(N, 1, -2), .places = 2, .rule = RATIO_RULE_UP},                       \
             {.value = FRACTION(N, -1, 8), .places = 1, .rule = RATIO_RULE_DOWN},                     \
             {.value = FRACTION(N, 1, 8), .places = 39, .rule = RATIO_RULE_DOWN},                     \
             {.value = FRACTION(N, 1, 8), .places = 1, .rule = 6}};                                   \
+        static const ratio_answer_##suffix low = ANSWER(N, -3, 2), half = ANSWER(N, 1, 2), eighth = ANSWER(N, 1, 8), eighths = ANSWER(N, 99, 8);\
+        ratio_answer_##suffix answer[2], read[4], typed_read[5];                                     \
+        ratio_float real[2];                                                                         \
         uint8_t written[5 * RATIO_DECIMAL_ROOM_I128];                                                \
         ratio_text price_at[5];                                                                      \
-        static const ratio_answer_##suffix hundredths = ANSWER(N, 67, 100), three = ANSWER(N, 3, 1), \
-            two = ANSWER(N, 2, 1), minus_two = ANSWER(N, -2, 1), minus_three = ANSWER(N, -3, 1);     \
-        static const ratio_scaled price = {.number = {.low = 1250}, .scale = 2}, below = {.number = {.low = 5}, .scale = -1},\
-            fine = {.number = {.low = 5}, .scale = 39};                                              \
-        static const ratio_power_##suffix power = {.base = FRACTION(N, -3, 2), .exponent = -3};      \
-        static const ratio_power_##suffix zero = {.base = FRACTION(N, 0, 1), .exponent = -1};        \
-        static const ratio_answer_##suffix sum = ANSWER(N, 5, 4), difference = ANSWER(N, 7, 4),      \
-            product = ANSWER(N, -3, 8), quotient = ANSWER(N, -6, 1), rest = ANSWER(N, 0, 1),         \
-            low = ANSWER(N, -3, 2), half = ANSWER(N, 1, 2), floor = ANSWER(N, -2, 1),                \
-            raised = ANSWER(N, -8, 27), negative = ANSWER(N, 3, 2), up = ANSWER(N, -1, 1),           \
-            nearest = ANSWER(N, 22, 7), simplest = ANSWER(N, 2, 5), twelve = ANSWER(N, 25, 2);       \
-        ratio_answer_##suffix answer[2], read[4];                                                    \
-        static const ratio_##suffix shown[3] = {FRACTION(N, 6, -4), FRACTION(N, 3, 0), FRACTION(N, -5, 1)};\
         uint8_t bytes[3 * 81];                                                                       \
         ratio_text text[3];                                                                          \
         ratio_order order = {.code = 9, .order = 9};                                                 \
@@ -132,83 +89,83 @@ static void expect(int holds, const char *what) {
         expect(truth[2].code == RATIO_ZERO_DENOMINATOR && truth[2].holds == 0, "no value " #suffix); \
         expect(ratio_hash_##suffix(loose, 2, hash, 2) == RATIO_DONE, "hash " #suffix);               \
         expect(hash[0].code == RATIO_ANSWERED && hash[0].hash == hash[1].hash, "hashes " #suffix);   \
-        GIVES(suffix, add, pair, sum)                                                                \
-        GIVES(suffix, sub, pair, difference)                                                         \
-        GIVES(suffix, mul, pair, product)                                                            \
+        ROW(suffix, N, add, PAIR(N, 3, 2, -1, 4), 5, 4)                                              \
+        ROW(suffix, N, sub, PAIR(N, 3, 2, -1, 4), 7, 4)                                              \
+        ROW(suffix, N, mul, PAIR(N, 3, 2, -1, 4), -3, 8)                                             \
         expect(IS_BELOW_0(answer[0].value.numer), "mul below 0 " #suffix);                           \
         expect(!IS_BELOW_0(answer[0].value.denom), "mul above 0 " #suffix);                          \
-        GIVES(suffix, div, pair, quotient)                                                           \
-        GIVES(suffix, rem, pair, rest)                                                               \
-        REFUSES(suffix, add, none, RATIO_DENOMINATOR_NOT_POSITIVE)                                   \
-        GIVES(suffix, gcd, pair, fourth_part)                                                        \
-        GIVES(suffix, gcd, unreduced, twelfth)                                                       \
-        GIVES(suffix, gcd, with_none, three_fourths)                                                 \
-        REFUSES(suffix, gcd, none, RATIO_DENOMINATOR_NOT_POSITIVE)                                   \
-        GIVES(suffix, lcm, pair, half_again)                                                         \
-        GIVES(suffix, lcm, unreduced, half)                                                          \
-        GIVES(suffix, lcm, with_none, rest)                                                          \
-        REFUSES(suffix, lcm, none, RATIO_DENOMINATOR_NOT_POSITIVE)                                   \
-        GIVES(suffix, mul_round, to_even, four)                                                      \
-        GIVES(suffix, mul_round, to_floor, minus_six)                                                \
-        REFUSES(suffix, mul_round, ruleless, RATIO_BAD_OPTION)                                       \
-        REFUSES(suffix, mul_round, placeless, RATIO_DENOMINATOR_NOT_POSITIVE)                        \
-        GIVES(suffix, mul_round_to, invoice, billed)                                                 \
-        GIVES(suffix, mul_round_to, refund, refunded)                                                \
-        GIVES(suffix, mul_round_to, for_none, no_cents)                                              \
-        REFUSES(suffix, mul_round_to, unparted, RATIO_BAD_OPTION)                                    \
-        REFUSES(suffix, mul_round_to, unruled, RATIO_BAD_OPTION)                                     \
-        REFUSES(suffix, mul_round_to, unsigned_off, RATIO_DENOMINATOR_NOT_POSITIVE)                  \
-        GIVES(suffix, div_round_to, parted, billed)                                                  \
-        REFUSES(suffix, div_round_to, for_none, RATIO_DIVISION_BY_ZERO)                              \
-        REFUSES(suffix, div_round_to, unparted, RATIO_BAD_OPTION)                                    \
-        REFUSES(suffix, div_round_to, unruled, RATIO_BAD_OPTION)                                     \
-        REFUSES(suffix, div_round_to, unsigned_off, RATIO_DENOMINATOR_NOT_POSITIVE)                  \
-        REFUSES(suffix, div, by_zero, RATIO_DIVISION_BY_ZERO)                                        \
-        REFUSES(suffix, rem, by_zero, RATIO_DIVISION_BY_ZERO)                                        \
-        GIVES(suffix, reduce, loose[0], low)                                                         \
-        REFUSES(suffix, reduce, none.left, RATIO_ZERO_DENOMINATOR)                                   \
-        GIVES(suffix, floor, loose[1], floor)                                                        \
-        GIVES(suffix, round, loose[1], floor)                                                        \
-        GIVES(suffix, ceil, loose[1], up)                                                            \
-        GIVES(suffix, trunc, loose[1], up)                                                           \
-        GIVES(suffix, neg, loose[1], negative)                                                       \
-        GIVES(suffix, abs, loose[1], negative)                                                       \
-        REFUSES(suffix, neg, loose[0], RATIO_DENOMINATOR_NOT_POSITIVE)                               \
-        GIVES(suffix, nearest, near, nearest)                                                        \
-        REFUSES(suffix, nearest, nowhere, RATIO_BOUND_NOT_POSITIVE)                                  \
-        GIVES(suffix, between, inside, simplest)                                                     \
-        REFUSES(suffix, between, empty, RATIO_NOT_HELD)                                              \
-        GIVES(suffix, between, high_taken, half)                                                     \
-        GIVES(suffix, between, low_taken, half)                                                      \
-        GIVES(suffix, between, no_high, three)                                                       \
-        GIVES(suffix, between, no_low, minus_three)                                                  \
-        REFUSES(suffix, between, both_ways, RATIO_BAD_OPTION)                                        \
-        REFUSES(suffix, between, flagged, RATIO_BAD_OPTION)                                          \
-        REFUSES(suffix, between, loose_bounds, RATIO_DENOMINATOR_NOT_POSITIVE)                       \
-        GIVES(suffix, convergent, second, second_is)                                                 \
-        GIVES(suffix, convergent, fourth, fourth_is)                                                 \
-        REFUSES(suffix, convergent, fifth, RATIO_NOT_HELD)                                           \
-        REFUSES(suffix, convergent, nothing, RATIO_DENOMINATOR_NOT_POSITIVE)                         \
-        GIVES(suffix, from_f64, exact, exact_is)                                                     \
-        REFUSES(suffix, from_f64, huge, RATIO_NOT_HELD)                                              \
-        GIVES(suffix, rationalize, tenth, tenth_is)                                                  \
-        REFUSES(suffix, rationalize, huge, RATIO_NOT_HELD)                                           \
+        ROW(suffix, N, div, PAIR(N, 3, 2, -1, 4), -6, 1)                                             \
+        ROW(suffix, N, rem, PAIR(N, 3, 2, -1, 4), 0, 1)                                              \
+        REFUSED(suffix, add, PAIR(N, 3, 0, -1, -4), RATIO_DENOMINATOR_NOT_POSITIVE)                  \
+        ROW(suffix, N, gcd, PAIR(N, 3, 2, -1, 4), 1, 4)                                              \
+        ROW(suffix, N, gcd, PAIR(N, 2, 8, -3, 18), 1, 12)                                            \
+        ROW(suffix, N, gcd, PAIR(N, 0, 5, -3, 4), 3, 4)                                              \
+        REFUSED(suffix, gcd, PAIR(N, 3, 0, -1, -4), RATIO_DENOMINATOR_NOT_POSITIVE)                  \
+        ROW(suffix, N, lcm, PAIR(N, 3, 2, -1, 4), 3, 2)                                              \
+        ROW(suffix, N, lcm, PAIR(N, 2, 8, -3, 18), 1, 2)                                             \
+        ROW(suffix, N, lcm, PAIR(N, 0, 5, -3, 4), 0, 1)                                              \
+        REFUSED(suffix, lcm, PAIR(N, 3, 0, -1, -4), RATIO_DENOMINATOR_NOT_POSITIVE)                  \
+        ROW(suffix, N, mul_round, FACTORS(N, 7, 3, 6, 4, RATIO_RULE_HALF_EVEN), 4, 1)                \
+        ROW(suffix, N, mul_round, FACTORS(N, -7, 3, 5, 2, RATIO_RULE_FLOOR), -6, 1)                  \
+        REFUSED(suffix, mul_round, FACTORS(N, 7, 3, 5, 2, 6), RATIO_BAD_OPTION)                      \
+        REFUSED(suffix, mul_round, FACTORS(N, 7, 3, 5, -2, RATIO_RULE_FLOOR), RATIO_DENOMINATOR_NOT_POSITIVE)\
+        ROW(suffix, N, mul_round_to, OPERANDS(N, 1999, 100, 9, 4, 100, RATIO_RULE_HALF_EVEN), 2249, 50)\
+        ROW(suffix, N, mul_round_to, OPERANDS(N, -1999, 100, 9, 4, 100, RATIO_RULE_UP), -2249, 50)   \
+        ROW(suffix, N, mul_round_to, OPERANDS(N, 1999, 100, 0, 9, 100, RATIO_RULE_HALF_EVEN), 0, 1)  \
+        REFUSED(suffix, mul_round_to, OPERANDS(N, 1999, 100, 9, 4, 0, RATIO_RULE_HALF_EVEN), RATIO_BAD_OPTION)\
+        REFUSED(suffix, mul_round_to, OPERANDS(N, 1999, 100, 9, 4, 100, 6), RATIO_BAD_OPTION)        \
+        REFUSED(suffix, mul_round_to, OPERANDS(N, 1999, 100, 9, -4, 100, RATIO_RULE_HALF_EVEN), RATIO_DENOMINATOR_NOT_POSITIVE)\
+        ROW(suffix, N, div_round_to, OPERANDS(N, 1999, 100, 4, 9, 100, RATIO_RULE_HALF_EVEN), 2249, 50)\
+        REFUSED(suffix, div_round_to, OPERANDS(N, 1999, 100, 0, 9, 100, RATIO_RULE_HALF_EVEN), RATIO_DIVISION_BY_ZERO)\
+        REFUSED(suffix, div_round_to, OPERANDS(N, 1999, 100, 9, 4, 0, RATIO_RULE_HALF_EVEN), RATIO_BAD_OPTION)\
+        REFUSED(suffix, div_round_to, OPERANDS(N, 1999, 100, 9, 4, 100, 6), RATIO_BAD_OPTION)        \
+        REFUSED(suffix, div_round_to, OPERANDS(N, 1999, 100, 9, -4, 100, RATIO_RULE_HALF_EVEN), RATIO_DENOMINATOR_NOT_POSITIVE)\
+        REFUSED(suffix, div, PAIR(N, 3, 2, 0, 4), RATIO_DIVISION_BY_ZERO)                            \
+        REFUSED(suffix, rem, PAIR(N, 3, 2, 0, 4), RATIO_DIVISION_BY_ZERO)                            \
+        ROW(suffix, N, reduce, FRACTION(N, 6, -4), -3, 2)                                            \
+        REFUSED(suffix, reduce, FRACTION(N, 3, 0), RATIO_ZERO_DENOMINATOR)                           \
+        ROW(suffix, N, floor, FRACTION(N, -3, 2), -2, 1)                                             \
+        ROW(suffix, N, round, FRACTION(N, -3, 2), -2, 1)                                             \
+        ROW(suffix, N, ceil, FRACTION(N, -3, 2), -1, 1)                                              \
+        ROW(suffix, N, trunc, FRACTION(N, -3, 2), -1, 1)                                             \
+        ROW(suffix, N, neg, FRACTION(N, -3, 2), 3, 2)                                                \
+        ROW(suffix, N, abs, FRACTION(N, -3, 2), 3, 2)                                                \
+        REFUSED(suffix, neg, FRACTION(N, 6, -4), RATIO_DENOMINATOR_NOT_POSITIVE)                     \
+        ROW(suffix, N, nearest, BOUNDED(N, 355, 113, 10), 22, 7)                                     \
+        REFUSED(suffix, nearest, BOUNDED(N, 355, 113, 0), RATIO_BOUND_NOT_POSITIVE)                  \
+        ROW(suffix, N, between, BOUNDS(N, 1, 3, 1, 2, 0), 2, 5)                                      \
+        REFUSED(suffix, between, BOUNDS(N, 1, 2, 2, 4, 0), RATIO_NOT_HELD)                           \
+        ROW(suffix, N, between, BOUNDS(N, 1, 3, 1, 2, RATIO_HIGH_INCLUDED), 1, 2)                    \
+        ROW(suffix, N, between, BOUNDS(N, 1, 2, 3, 5, RATIO_LOW_INCLUDED), 1, 2)                     \
+        ROW(suffix, N, between, BOUNDS(N, 5, 2, 0, 0, RATIO_HIGH_OPEN), 3, 1)                        \
+        ROW(suffix, N, between, BOUNDS(N, 0, 0, -5, 2, RATIO_LOW_OPEN | RATIO_HIGH_INCLUDED), -3, 1) \
+        REFUSED(suffix, between, BOUNDS(N, 1, 3, 1, 2, RATIO_LOW_OPEN | RATIO_LOW_INCLUDED), RATIO_BAD_OPTION)\
+        REFUSED(suffix, between, BOUNDS(N, 1, 3, 1, 2, 16), RATIO_BAD_OPTION)                        \
+        REFUSED(suffix, between, BOUNDS(N, 1, 3, 1, -2, 0), RATIO_DENOMINATOR_NOT_POSITIVE)          \
+        ROW(suffix, N, convergent, PLACE(N, 830, 186, 1), 9, 2)                                      \
+        ROW(suffix, N, convergent, PLACE(N, 415, 93, 3), 415, 93)                                    \
+        REFUSED(suffix, convergent, PLACE(N, 415, 93, 4), RATIO_NOT_HELD)                            \
+        REFUSED(suffix, convergent, PLACE(N, 1, -2, 0), RATIO_DENOMINATOR_NOT_POSITIVE)              \
+        ROW(suffix, N, from_f64, -0.75, -3, 4)                                                       \
+        REFUSED(suffix, from_f64, 1e300, RATIO_NOT_HELD)                                             \
+        ROW(suffix, N, rationalize, 0.1, 1, 10)                                                      \
+        REFUSED(suffix, rationalize, 1e300, RATIO_NOT_HELD)                                          \
         expect(ratio_to_f64_##suffix(loose, 2, real, 2) == RATIO_DONE, "to_f64 " #suffix);           \
         expect(real[0].code == RATIO_DENOMINATOR_NOT_POSITIVE && real[0].value == 0, "no float " #suffix);\
         expect(real[1].code == RATIO_ANSWERED && real[1].value == -1.5, "float " #suffix);           \
-        GIVES(suffix, round_to, cents, hundredths)                                                   \
-        GIVES(suffix, round_to, tie, three)                                                          \
-        GIVES(suffix, round_to, even, two)                                                           \
-        GIVES(suffix, round_to, down, minus_two)                                                     \
-        GIVES(suffix, round_to, away, minus_three)                                                   \
-        GIVES(suffix, round_to, lower, two)                                                          \
-        GIVES(suffix, round_to, upper, three)                                                        \
-        REFUSES(suffix, round_to, no_rule, RATIO_BAD_OPTION)                                         \
-        REFUSES(suffix, round_to, no_parts, RATIO_BAD_OPTION)                                        \
-        GIVES(suffix, from_scaled, price, twelve)                                                    \
-        REFUSES(suffix, from_scaled, below, RATIO_BAD_OPTION)                                        \
-        REFUSES(suffix, from_scaled, fine, RATIO_BAD_OPTION)                                         \
-        REFUSES(suffix, floor, loose[0], RATIO_DENOMINATOR_NOT_POSITIVE)                             \
+        ROW(suffix, N, round_to, MULTIPLE(N, 2, 3, 100, RATIO_RULE_HALF_EVEN), 67, 100)              \
+        ROW(suffix, N, round_to, MULTIPLE(N, 5, 2, 1, RATIO_RULE_HALF_AWAY), 3, 1)                   \
+        ROW(suffix, N, round_to, MULTIPLE(N, 5, 2, 1, RATIO_RULE_HALF_EVEN), 2, 1)                   \
+        ROW(suffix, N, round_to, MULTIPLE(N, -5, 2, 1, RATIO_RULE_DOWN), -2, 1)                      \
+        ROW(suffix, N, round_to, MULTIPLE(N, -5, 2, 1, RATIO_RULE_UP), -3, 1)                        \
+        ROW(suffix, N, round_to, MULTIPLE(N, 5, 2, 1, RATIO_RULE_FLOOR), 2, 1)                       \
+        ROW(suffix, N, round_to, MULTIPLE(N, 5, 2, 1, RATIO_RULE_CEIL), 3, 1)                        \
+        REFUSED(suffix, round_to, MULTIPLE(N, 2, 3, 100, 6), RATIO_BAD_OPTION)                       \
+        REFUSED(suffix, round_to, MULTIPLE(N, 2, 3, 0, RATIO_RULE_UP), RATIO_BAD_OPTION)             \
+        ROW(suffix, N, from_scaled, SCALED(1250, 2), 25, 2)                                          \
+        REFUSED(suffix, from_scaled, SCALED(5, -1), RATIO_BAD_OPTION)                                \
+        REFUSED(suffix, from_scaled, SCALED(5, 39), RATIO_BAD_OPTION)                                \
+        REFUSED(suffix, floor, FRACTION(N, 6, -4), RATIO_DENOMINATOR_NOT_POSITIVE)                   \
         expect(ratio_read_##suffix(texts, 8, spans, 4, read, 4) == RATIO_DONE, "read " #suffix);     \
         expect(SAME(read[0], half) && read[1].code == RATIO_PARSE_ERROR, "text " #suffix);           \
         expect(read[2].code == RATIO_ZERO_DENOMINATOR && read[3].code == RATIO_NO_TEXT, "texts " #suffix);\
@@ -237,8 +194,8 @@ static void expect(int holds, const char *what) {
         expect(SAME(typed_read[0], low) && SAME(typed_read[1], eighth), "typed texts " #suffix);     \
         expect(typed_read[2].code == RATIO_ZERO_DENOMINATOR && typed_read[3].code == RATIO_PARSE_ERROR, "no typed texts " #suffix);\
         expect(typed_read[4].code == RATIO_NOT_HELD, "typed text of 41 digits " #suffix);            \
-        GIVES(suffix, pow, power, raised)                                                            \
-        REFUSES(suffix, pow, zero, RATIO_DIVISION_BY_ZERO)                                           \
+        ROW(suffix, N, pow, POWER(N, -3, 2, -3), -8, 27)                                             \
+        REFUSED(suffix, pow, POWER(N, 0, 1, -1), RATIO_DIVISION_BY_ZERO)                             \
         expect(ratio_add_##suffix(&pair, 1, answer, 2) == RATIO_BAD_LENGTH, "length " #suffix);      \
     }
 
@@ -254,6 +211,19 @@ static void expect(int holds, const char *what) {
 #define REFUSES(suffix, name, asked, wanted)                                                         \
     expect(ratio_##name##_##suffix(&asked, 1, answer, 1) == RATIO_DONE, #name " " #suffix);          \
     expect(answer[0].code == wanted, #name " code " #suffix);
+
+/* An item of a call, with its answer or the code that refuses it. */
+#define ROW(suffix, N, name, asked, n, d)                                                            \
+    {                                                                                                \
+        static const name##_##suffix##_item item = asked;                                            \
+        static const ratio_answer_##suffix wanted = ANSWER(N, n, d);                                 \
+        GIVES(suffix, name, item, wanted)                                                            \
+    }
+#define REFUSED(suffix, name, asked, code)                                                           \
+    {                                                                                                \
+        static const name##_##suffix##_item item = asked;                                            \
+        REFUSES(suffix, name, item, code)                                                            \
+    }
 
 EVERY_CALL(i32, PLAIN, IS_PLAIN_BELOW_0, RATIO_ROOM_I32, RATIO_DECIMAL_ROOM_I32)
 EVERY_CALL(i64, PLAIN, IS_PLAIN_BELOW_0, RATIO_ROOM_I64, RATIO_DECIMAL_ROOM_I64)

@@ -9,11 +9,11 @@ use Rattle.ratio_integer.proofs.Whole.{positive_nonzero}
 use Rattle.ratio_core.specs.Laws.{IsProduct, IsSum}
 use Rattle.ratio_core.proofs.MixedLemmas.{difference_turned}
 use Rattle.num_rational.proofs.ValueLemmas.{difference_undone, none_left, plus_zero, product_undone, quotient_undone, same_numbers, sum_undone, times_one}
-use Rattle.fraction_laws.proofs.EqualValueLemmas.{right_nonzero}
-use Rattle.fraction_laws.proofs.NeutralLemmas.{one_nonzero}
-use Rattle.fraction_laws.proofs.ReducedLemmas.{one_pair}
+use Rattle.ratio_laws.proofs.EqualValueLemmas.{right_nonzero}
+use Rattle.ratio_laws.proofs.NeutralLemmas.{one_nonzero}
+use Rattle.ratio_laws.proofs.ReducedLemmas.{one_pair}
 use Rattle.ratio_big.specs.Values.{HasTerms, negative_pair}
-use Rattle.big_laws.specs.FieldLaws.{GivesOnly, HasInverse, IsDifferenceOf, IsProductWithReciprocal, IsQuotientOf, IsRefusedByZero, IsSumWithNegative, IsUndone}
+use Rattle.ratio_laws.specs.BigFieldLaws.{GivesOnly, HasInverse, IsDifferenceOf, IsProductWithReciprocal, IsQuotientOf, IsRefusedByZero, IsSumWithNegative, IsUndone}
 
 -- ---- one fraction
 

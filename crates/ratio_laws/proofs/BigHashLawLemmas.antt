@@ -9,8 +9,8 @@ use Rattle.std.proofs.lemmas.Int.{ints}
 use Rattle.ratio_natural.specs.Number.{base, natural_of}
 use Rattle.ratio_big.specs.Hashing.{digits_of, first_digits, fits_64, is_below_0, number_writes}
 use Rattle.ratio_big.specs.Values.{Has64Bits}
-use Rattle.fraction_laws.specs.ToldApart.{AreSignedToldApart}
-use Rattle.fraction_laws.proofs.HashWriteLemmas.{bytes_tell, signed_apart}
+use Rattle.ratio_laws.specs.ToldApart.{AreSignedToldApart}
+use Rattle.ratio_laws.proofs.HashWriteLemmas.{bytes_tell, signed_apart}
 
 first_same : {A : Type 0} {x y : A} {xs ys : List A} → x ∷ xs ≡ y ∷ ys → x ≡ y
 first_same same = cc

@@ -10,10 +10,10 @@ use Rattle.ratio_core.specs.Power.{power_of}
 use Rattle.ratio_core.proofs.PowerLawLemmas.{pairs_add}
 use Rattle.ratio_core.proofs.PowerLemmas.{int_pow-zero, zero_pow}
 use Rattle.num_rational.proofs.ValueLemmas.{same_numbers, same_value_flipped}
-use Rattle.fraction_laws.proofs.NeutralLemmas.{first_power}
-use Rattle.fraction_laws.proofs.PowerLawLemmas.{of_one_pair, power_of_power, power_of_product, same_value_powers, turned_power}
-use Rattle.big_laws.specs.PowerLaws.{HasSmallPowers, IsRefusedByNoPower, SplitsExponentProduct, SplitsExponentSum, SplitsPower, TurnsPower}
-use Rattle.big_laws.proofs.FieldLawLemmas.{once, one_terms, own_terms}
+use Rattle.ratio_laws.proofs.NeutralLemmas.{first_power}
+use Rattle.ratio_laws.proofs.PowerLawLemmas.{of_one_pair, power_of_power, power_of_product, same_value_powers, turned_power}
+use Rattle.ratio_laws.specs.BigPowerLaws.{HasSmallPowers, IsRefusedByNoPower, SplitsExponentProduct, SplitsExponentSum, SplitsPower, TurnsPower}
+use Rattle.ratio_laws.proofs.BigFieldLawLemmas.{once, one_terms, own_terms}
 
 module _ (x : ℤ × ℤ) (lowest : IsLowestTerms x.0 x.1) where
   pub has_small_powers : HasSmallPowers x

@@ -10,10 +10,10 @@ use Rattle.ratio_core.specs.Laws.{IsProduct}
 use Rattle.ratio_core.proofs.KeptLowest.{negative_lowest}
 use Rattle.ratio_core.proofs.ProductOrder.{times_le}
 use Rattle.num_rational.proofs.ValueLemmas.{absolute_product, at_most_not_greater, order_moved, same_value_absolutes, same_value_negatives}
-use Rattle.fraction_laws.proofs.SignLawLemmas.{sum_at_most}
+use Rattle.ratio_laws.proofs.SignLawLemmas.{sum_at_most}
 use Rattle.ratio_big.specs.Values.{absolute_pair, negative_pair}
-use Rattle.big_laws.specs.SignLaws.{MeetsTriangleInequality, MovesAbsolute, MovesNegative}
-use Rattle.big_laws.proofs.FieldLawLemmas.{own_terms}
+use Rattle.ratio_laws.specs.BigSignLaws.{MeetsTriangleInequality, MovesAbsolute, MovesNegative}
+use Rattle.ratio_laws.proofs.BigFieldLawLemmas.{own_terms}
 
 pub negative_twice : (x : ℤ × ℤ) → negative_pair (negative_pair x) ≡ x
 negative_twice x = ap (λ (t : ℤ). (t, x.1)) (same x.0)

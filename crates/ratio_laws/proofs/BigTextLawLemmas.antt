@@ -15,8 +15,8 @@ use Rattle.ratio_core.proofs.CutLemmas.{only_fraction}
 use Rattle.ratio_core.proofs.NumberLemmas.{digits_value_sum}
 use Rattle.ratio_long.specs.Decimals.{long_decimal}
 use Rattle.ratio_big.specs.Texts.{IsBigText, fraction_text}
-use Rattle.big_laws.specs.TextLaws.{ReadsOnlyAs}
-use Rattle.big_laws.proofs.FieldLawLemmas.{own_terms}
+use Rattle.ratio_laws.specs.BigTextLaws.{ReadsOnlyAs}
+use Rattle.ratio_laws.proofs.BigFieldLawLemmas.{own_terms}
 
 -- ---- the text reads as the two numbers
 

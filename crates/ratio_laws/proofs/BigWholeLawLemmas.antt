@@ -11,10 +11,10 @@ use Rattle.ratio_core.proofs.CrossOrder.{cmp-less}
 use Rattle.ratio_core.proofs.LawLemmas.{sum_by_left}
 use Rattle.ratio_core.proofs.RoundingLawLemmas.{one_ceiling, one_floor, same_ceiling, same_floor}
 use Rattle.num_rational.proofs.ValueLemmas.{cross_positive}
-use Rattle.fraction_laws.proofs.RemainderLawLemmas.{on_its_side, small, times_plus}
-use Rattle.fraction_laws.proofs.WholeNumberLemmas.{more_ceiling, more_floor, turned_floor}
-use Rattle.big_laws.specs.WholeLaws.{HasCeilingOfNegative, HasRestBelow, HasRestOfSign, IsMultipleAndRest, MovesByWhole, whole_quotient}
-use Rattle.big_laws.proofs.FieldLawLemmas.{once, own_terms}
+use Rattle.ratio_laws.proofs.RemainderLawLemmas.{on_its_side, small, times_plus}
+use Rattle.ratio_laws.proofs.WholeNumberLemmas.{more_ceiling, more_floor, turned_floor}
+use Rattle.ratio_laws.specs.BigWholeLaws.{HasCeilingOfNegative, HasRestBelow, HasRestOfSign, IsMultipleAndRest, MovesByWhole, whole_quotient}
+use Rattle.ratio_laws.proofs.BigFieldLawLemmas.{once, own_terms}
 
 -- the order of two fractions that are not below 0
 below_by : (n d m e : ℤ) → pos 0 <ℤ d → pos 0 <ℤ e → unsigned_abs n * unsigned_abs e < unsigned_abs m * unsigned_abs d → cross_cmp (pos (unsigned_abs n)) d (pos (unsigned_abs m)) e ≡ Less

@@ -16,8 +16,8 @@ use Rattle.ratio_core.proofs.DivisorLemmas.{gcd_of_fractions, gcd_unique, lcm_of
 use Rattle.num_rational.specs.declared.reduced.Reduced.{Reduced}
 use Rattle.num_rational.specs.Ratio.{denominator, numerator}
 use Rattle.num_rational.proofs.ValueLemmas.{at_most_not_greater, same_value_absolutes}
-use Rattle.fraction_laws.specs.DivisorLaws.{HasDivisorOfBoth, HasMultipleOfBoth, HasNoDivisorAbove, HasNoMultipleBelow, IsWholeByDivisor, MultipliesToProduct}
-use Rattle.fraction_laws.proofs.ResultLemmas.{denominator_nonzero, one_result, product_nonzero}
+use Rattle.ratio_laws.specs.DivisorLaws.{HasDivisorOfBoth, HasMultipleOfBoth, HasNoDivisorAbove, HasNoMultipleBelow, IsWholeByDivisor, MultipliesToProduct}
+use Rattle.ratio_laws.proofs.ResultLemmas.{denominator_nonzero, one_result, product_nonzero}
 
 -- ---- whole numbers
 

@@ -13,7 +13,7 @@ use Rattle.num_rational.specs.declared.ratio.Ratio.{Ratio}
 use Rattle.num_rational.specs.Operators.{ChecksDifference, ChecksSum, numbers}
 use Rattle.num_rational.specs.Ratio.{ChecksRatio, denominator, numerator}
 use Rattle.num_rational.proofs.ValueLemmas.{numer_nonzero, same_value_differences, same_value_quotients}
-use Rattle.fraction_laws.specs.ValueLaws.{AddsByValue, AreOneResult, DividesByValue, IsNearestByValue, MultipliesByValue, SubtractsByValue}
+use Rattle.ratio_laws.specs.ValueLaws.{AddsByValue, AreOneResult, DividesByValue, IsNearestByValue, MultipliesByValue, SubtractsByValue}
 
 -- ---- one result
 

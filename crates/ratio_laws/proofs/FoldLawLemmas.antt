@@ -11,10 +11,10 @@ use Rattle.num_rational.proofs.FoldLemmas.{beginning, one_product, one_sum, one_
 use Rattle.num_rational.specs.Ratio.{denominator, numerator}
 use Rattle.num_rational.proofs.TotalLemmas.{in_any_order, moved, one_of_list, products_are_commutative, sums_are_commutative}
 use Rattle.num_rational.proofs.ValueLemmas.{plus_zero, times_one}
-use Rattle.fraction_laws.specs.FoldLaws.{AddsInAnyOrder, AddsInParts, HasNoProductOfBoth, HasNoSumOfBoth, MultipliesInAnyOrder, MultipliesInParts, ProductsGoOn, SumsGoOn}
-use Rattle.fraction_laws.proofs.NeutralLemmas.{one_nonzero}
-use Rattle.fraction_laws.proofs.ReducedLemmas.{both_fields}
-use Rattle.fraction_laws.proofs.ResultLemmas.{denominator_nonzero}
+use Rattle.ratio_laws.specs.FoldLaws.{AddsInAnyOrder, AddsInParts, HasNoProductOfBoth, HasNoSumOfBoth, MultipliesInAnyOrder, MultipliesInParts, ProductsGoOn, SumsGoOn}
+use Rattle.ratio_laws.proofs.NeutralLemmas.{one_nonzero}
+use Rattle.ratio_laws.proofs.ReducedLemmas.{both_fields}
+use Rattle.ratio_laws.proofs.ResultLemmas.{denominator_nonzero}
 
 -- ---- one list after another, if a step gives at most one total
 

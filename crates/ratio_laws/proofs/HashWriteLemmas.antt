@@ -6,7 +6,7 @@ use Rattle.std.proofs.Math.Nat.{div-add-mod, div-div-eq-div-mul, div-eq_of_lt}
 use Rattle.std.specs.Hash.{le_bytes}
 use Rattle.std.specs.Int.{bytes_low_first}
 use Rattle.ratio_integer.specs.Range.{IsHeld}
-use Rattle.fraction_laws.specs.ToldApart.{AreToldApart}
+use Rattle.ratio_laws.specs.ToldApart.{AreToldApart}
 
 first_same : {A : Type 0} {x y : A} {xs ys : List A} → x ∷ xs ≡ y ∷ ys → x ≡ y
 first_same same = cc

@@ -13,9 +13,9 @@ use Rattle.num_rational.specs.declared.reduced.Reduced.{Reduced}
 use Rattle.num_rational.specs.ManyProducts.{denominator_product, numerator_product, product_of_items, quotient_of_items}
 use Rattle.num_rational.specs.Ratio.{ChecksRatio, denominator, numerator}
 use Rattle.num_rational.specs.Reduced.{ratio_in}
-use Rattle.fraction_laws.specs.ManyProductLaws.{DividesManyInParts, HasOneProductOfMany, HasOneQuotientOfMany, MultipliesManyInParts}
-use Rattle.fraction_laws.proofs.ReducedLemmas.{one_pair}
-use Rattle.fraction_laws.proofs.ResultLemmas.{denominator_nonzero, one_result, one_result_if_any, product_nonzero, same_answers}
+use Rattle.ratio_laws.specs.ManyProductLaws.{DividesManyInParts, HasOneProductOfMany, HasOneQuotientOfMany, MultipliesManyInParts}
+use Rattle.ratio_laws.proofs.ReducedLemmas.{one_pair}
+use Rattle.ratio_laws.proofs.ResultLemmas.{denominator_nonzero, one_result, one_result_if_any, product_nonzero, same_answers}
 
 -- ---- a list in another order
 

@@ -7,7 +7,7 @@ use Rattle.ratio_approximation.specs.Nearest.{ComesFirst, gap}
 use Rattle.ratio_approximation.proofs.NearestLawLemmas.{lowest_nearest, nearest_unique}
 use Rattle.num_rational.specs.declared.reduced.Reduced.{Reduced}
 use Rattle.num_rational.specs.Ratio.{denominator, numerator}
-use Rattle.fraction_laws.specs.NearestLaws.{HasNearest, KeepsNearest, NearsWithBound}
+use Rattle.ratio_laws.specs.NearestBoundLaws.{HasNearest, KeepsNearest, NearsWithBound}
 
 first_no_further : (g : ℕ) (p q : ℤ) (h : ℕ) (m e : ℤ) → ComesFirst g p q h m e → g * unsigned_abs e ≤ h * unsigned_abs q
 first_no_further g p q h m e (inl less) = omega arith

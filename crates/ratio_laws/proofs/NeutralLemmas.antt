@@ -11,8 +11,8 @@ use Rattle.ratio_core.proofs.PowerLemmas.{int_pow-suc, int_pow-zero, pow_nonzero
 use Rattle.num_rational.specs.declared.reduced.Reduced.{Reduced}
 use Rattle.num_rational.specs.Ratio.{denominator, numerator}
 use Rattle.num_rational.proofs.ValueLemmas.{one_times, plus_zero, same_numbers, times_one, times_zero, zero_plus}
-use Rattle.fraction_laws.specs.NeutralLaws.{HasFirstPowers, IsKeptByOne, IsKeptByZero, IsZeroTimesZero}
-use Rattle.fraction_laws.proofs.ResultLemmas.{denominator_nonzero, one_value, product_nonzero}
+use Rattle.ratio_laws.specs.NeutralLaws.{HasFirstPowers, IsKeptByOne, IsKeptByZero, IsZeroTimesZero}
+use Rattle.ratio_laws.proofs.ResultLemmas.{denominator_nonzero, one_value, product_nonzero}
 
 pub one_nonzero : pos 1 ≢ pos 0
 one_nonzero same = omega (arith, ints)

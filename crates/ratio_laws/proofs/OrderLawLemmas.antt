@@ -14,7 +14,7 @@ use Rattle.num_rational.specs.declared.reduced.Reduced.{Reduced}
 use Rattle.num_rational.specs.Operators.{numbers}
 use Rattle.num_rational.specs.Ratio.{denominator, numerator}
 use Rattle.num_rational.proofs.ValueLemmas.{cross_positive, order_moved, scaled_by}
-use Rattle.fraction_laws.specs.OrderLaws.{AddsInOrder, MultipliesInOrder, MultipliesInReverse, NegatesInReverse}
+use Rattle.ratio_laws.specs.OrderLaws.{AddsInOrder, MultipliesInOrder, MultipliesInReverse, NegatesInReverse}
 
 -- ---- the same change on both sides
 

@@ -16,10 +16,10 @@ use Rattle.num_rational.specs.declared.reduced.Reduced.{Reduced}
 use Rattle.num_rational.specs.Ratio.{ChecksRatio, denominator, numerator}
 use Rattle.num_rational.specs.Reduced.{ratio_in}
 use Rattle.num_rational.proofs.ValueLemmas.{numer_nonzero, same_value_flipped}
-use Rattle.fraction_laws.specs.PowerLaws.{HasNoPowerBelowZero, IsPowerOfReciprocal, IsReciprocalOfPower, MultipliesExponents, MultipliesPowers}
-use Rattle.fraction_laws.specs.ReducedLaws.{AnswersReciprocal}
-use Rattle.fraction_laws.proofs.NeutralLemmas.{first_power}
-use Rattle.fraction_laws.proofs.ResultLemmas.{denominator_nonzero, one_result, one_result_if_any, product_nonzero}
+use Rattle.ratio_laws.specs.PowerLaws.{HasNoPowerBelowZero, IsPowerOfReciprocal, IsReciprocalOfPower, MultipliesExponents, MultipliesPowers}
+use Rattle.ratio_laws.specs.ReducedLaws.{AnswersReciprocal}
+use Rattle.ratio_laws.proofs.NeutralLemmas.{first_power}
+use Rattle.ratio_laws.proofs.ResultLemmas.{denominator_nonzero, one_result, one_result_if_any, product_nonzero}
 
 -- ---- powers of whole numbers
 

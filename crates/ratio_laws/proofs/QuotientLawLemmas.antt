@@ -5,7 +5,7 @@ use Rattle.ratio_integer.specs.Range.{IsHeld}
 use Rattle.ratio_approximation.proofs.FromQuotientsLemmas.{quotients_give_back}
 use Rattle.num_rational.specs.declared.reduced.Reduced.{Reduced}
 use Rattle.num_rational.specs.Ratio.{denominator, numerator}
-use Rattle.fraction_laws.specs.ReducedLaws.{ComesFromQuotients}
+use Rattle.ratio_laws.specs.ReducedLaws.{ComesFromQuotients}
 
 pub comes_from_quotients : {T : _} {i : _} {o : _} {e : _} {p : _} {h : _} (x : Reduced T i o e p h) → IsHeld i.lo i.hi (numerator x.ratio) → IsHeld i.lo i.hi (denominator x.ratio) → ComesFromQuotients x
 comes_from_quotients {i = i} x numer_held denom_held qs None are told =

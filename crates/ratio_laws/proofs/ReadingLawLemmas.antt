@@ -21,8 +21,8 @@ use Rattle.ratio_core.proofs.ReadingBack.{base_back, decimal_back}
 use Rattle.num_rational.specs.declared.reduced.Reduced.{Reduced}
 use Rattle.num_rational.specs.Ratio.{denominator, numerator}
 use Rattle.num_rational.specs.Reduced.{ratio_of}
-use Rattle.fraction_laws.specs.ReadingLaws.{IsReadAs, ReadsItsText, ReadsItsTextInBase, RefusesBelowZeroInBase, RefusesWholeInBase}
-use Rattle.fraction_laws.proofs.ResultLemmas.{denominator_nonzero}
+use Rattle.ratio_laws.specs.ReadingLaws.{IsReadAs, ReadsItsText, ReadsItsTextInBase, RefusesBelowZeroInBase, RefusesWholeInBase}
+use Rattle.ratio_laws.proofs.ResultLemmas.{denominator_nonzero}
 
 -- where nothing is read, the result is a parse error
 refused : {R : Type 0} (numer denom : R → ℤ) (lo hi : ℤ) (Reads : ℤ → ℤ → Type 0) (result : Result R RatioErrorKind) → ((n d : ℤ) → ¬ (Reads n d)) → AnswersText numer denom lo hi Reads result → result ≡ Err ParseError

@@ -13,8 +13,8 @@ use Rattle.num_rational.specs.declared.reduced.Reduced.{Reduced}
 use Rattle.num_rational.specs.Operators.{numbers}
 use Rattle.num_rational.specs.Ratio.{ChecksRatio, denominator, numerator}
 use Rattle.num_rational.specs.Reduced.{ratio_in}
-use Rattle.fraction_laws.specs.ReducedLaws.{AddsExponents, AreOneAnswer, AssociatesInProduct, AssociatesInSum, CommutesInProduct, CommutesInSum, DistributesOverSum, IsInvertedByReciprocal, IsSumOfParts}
-use Rattle.fraction_laws.proofs.ResultLemmas.{product_nonzero, same_answers}
+use Rattle.ratio_laws.specs.ReducedLaws.{AddsExponents, AreOneAnswer, AssociatesInProduct, AssociatesInSum, CommutesInProduct, CommutesInSum, DistributesOverSum, IsInvertedByReciprocal, IsSumOfParts}
+use Rattle.ratio_laws.proofs.ResultLemmas.{product_nonzero, same_answers}
 
 -- ---- one result
 

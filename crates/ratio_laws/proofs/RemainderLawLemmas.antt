@@ -14,7 +14,7 @@ use Rattle.ratio_core.proofs.RoundingLawLemmas.{side_down, side_up}
 use Rattle.num_rational.specs.declared.reduced.Reduced.{Reduced}
 use Rattle.num_rational.specs.Ratio.{denominator, numerator}
 use Rattle.num_rational.proofs.ValueLemmas.{factors_turned}
-use Rattle.fraction_laws.specs.RemainderLaws.{HasRestOnItsSide, HasSmallerRest, IsQuotientAndRest}
+use Rattle.ratio_laws.specs.RemainderLaws.{HasRestOnItsSide, HasSmallerRest, IsQuotientAndRest}
 
 -- ---- the remainder of whole numbers
 

@@ -9,7 +9,7 @@ use Rattle.ratio_core.proofs.NumbersExist.{fits_decided}
 use Rattle.num_rational.specs.declared.reduced.Reduced.{Reduced}
 use Rattle.num_rational.specs.Ratio.{ChecksRatio, denominator, numerator}
 use Rattle.num_rational.specs.Reduced.{ratio_in}
-use Rattle.fraction_laws.specs.ReducedLaws.{AnswersSum, AreOneAnswer}
+use Rattle.ratio_laws.specs.ReducedLaws.{AnswersSum, AreOneAnswer}
 
 pub denominator_nonzero : {T : _} {i : _} {o : _} {e : _} {p : _} {h : _} → (x : Reduced T i o e p h) → denominator x.ratio ≢ pos 0
 denominator_nonzero x = positive_nonzero (denominator x.ratio) x.lowest.positive

@@ -15,8 +15,8 @@ use Rattle.ratio_core.proofs.ProductOrder.{times_le}
 use Rattle.num_rational.specs.declared.reduced.Reduced.{Reduced}
 use Rattle.num_rational.specs.Ratio.{denominator, numerator}
 use Rattle.num_rational.proofs.ValueLemmas.{absolute_product, absolute_times, at_most_not_greater, order_moved, same_numbers, same_value_absolutes, same_value_negatives}
-use Rattle.fraction_laws.specs.SignLaws.{AddsAbsolutes, IsAbsoluteTimesSign, IsDoubleNegative, MultipliesAbsolutes, MultipliesSigns}
-use Rattle.fraction_laws.proofs.ResultLemmas.{denominator_nonzero, one_result, one_value, product_nonzero}
+use Rattle.ratio_laws.specs.SignLaws.{AddsAbsolutes, IsAbsoluteTimesSign, IsDoubleNegative, MultipliesAbsolutes, MultipliesSigns}
+use Rattle.ratio_laws.proofs.ResultLemmas.{denominator_nonzero, one_result, one_value, product_nonzero}
 
 negative_twice : (z : ℤ) → neg_ℤ (neg_ℤ z) ≡ z
 negative_twice z = omega (arith, ints)

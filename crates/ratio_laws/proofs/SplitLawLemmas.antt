@@ -14,7 +14,7 @@ use Rattle.num_rational.specs.Split.{IsNearItsShare, IsSplitBy, SharesOverPositi
 use Rattle.num_rational.specs.Weights.{share_of}
 use Rattle.num_rational.proofs.CommonLemmas.{first_shares_one, first_shares_up, mark_below}
 use Rattle.num_rational.proofs.WeightLemmas.{weights_next}
-use Rattle.fraction_laws.specs.SplitLaws.{EqualSharesAreNear, EqualWeightsAreNear, MarksOfOneFit, SplitsAgree}
+use Rattle.ratio_laws.specs.SplitLaws.{EqualSharesAreNear, EqualWeightsAreNear, MarksOfOneFit, SplitsAgree}
 
 module _ (a : ℤ) (x y : ℤ × ℤ) (p q : ℤ) (same : SameValue x.0 x.1 y.0 y.1) (first : IsNearItsShare a x p) (second : IsNearItsShare a y q) where
   x_up : pos 0 <ℤ x.1

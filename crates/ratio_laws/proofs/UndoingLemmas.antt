@@ -15,8 +15,8 @@ use Rattle.ratio_core.proofs.MixedLemmas.{difference_turned}
 use Rattle.num_rational.specs.declared.reduced.Reduced.{Reduced}
 use Rattle.num_rational.specs.Ratio.{denominator, numerator}
 use Rattle.num_rational.proofs.ValueLemmas.{difference_undone, none_left, product_undone, quotient_undone, sum_undone}
-use Rattle.fraction_laws.specs.UndoingLaws.{DividesByReciprocal, IsDifferenceUndone, IsProductUndone, IsQuotientUndone, IsSumUndone, IsZeroWithoutItself, SubtractsByNegative}
-use Rattle.fraction_laws.proofs.ResultLemmas.{denominator_nonzero, one_result, one_value, product_nonzero}
+use Rattle.ratio_laws.specs.UndoingLaws.{DividesByReciprocal, IsDifferenceUndone, IsProductUndone, IsQuotientUndone, IsSumUndone, IsZeroWithoutItself, SubtractsByNegative}
+use Rattle.ratio_laws.proofs.ResultLemmas.{denominator_nonzero, one_result, one_value, product_nonzero}
 
 -- the numbers of x are in range
 module _ {T : _} {i : _} {o : _} {e : _} {p : _} {h : _} (x y : Reduced T i o e p h) (numer : IsHeld i.lo i.hi (numerator x.ratio)) (denom : IsHeld i.lo i.hi (denominator x.ratio)) where

@@ -22,8 +22,8 @@ use Rattle.ratio_decimal.proofs.RoundingRuleLaws.{rounded_monotone, rounded_near
 use Rattle.num_rational.specs.declared.reduced.Reduced.{Reduced}
 use Rattle.num_rational.specs.Ratio.{denominator, numerator}
 use Rattle.num_rational.proofs.ValueLemmas.{at_most_not_greater, cross_positive, same_numbers}
-use Rattle.fraction_laws.specs.RoundingLaws.{AddsWhole, IsCeilingOfNegative, IsNearFloor, IsNearRounded, KeepsWhole, RoundsInOrder}
-use Rattle.fraction_laws.proofs.ResultLemmas.{denominator_nonzero, one_value, product_nonzero}
+use Rattle.ratio_laws.specs.RoundingLaws.{AddsWhole, IsCeilingOfNegative, IsNearFloor, IsNearRounded, KeepsWhole, RoundsInOrder}
+use Rattle.ratio_laws.proofs.ResultLemmas.{denominator_nonzero, one_value, product_nonzero}
 
 -- ---- the order, and whole numbers
 

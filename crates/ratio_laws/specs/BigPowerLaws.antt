@@ -6,7 +6,7 @@ use Rattle.ratio_core.specs.Power.{power_of}
 use Rattle.ratio_big.specs.Powers.{GivesBigPower, HasNoPower}
 use Rattle.ratio_big.specs.Values.{HasTerms}
 use Rattle.ratio_big.specs.declared.fraction.BigFraction.{BigFraction}
-use Rattle.big_laws.specs.FieldLaws.{IsReciprocalOf}
+use Rattle.ratio_laws.specs.BigFieldLaws.{IsReciprocalOf}
 
 -- z is x to the exponent in lowest terms, so x is not 0 if the exponent is below 0
 -- Example: 2/3 to the -2: 9/4

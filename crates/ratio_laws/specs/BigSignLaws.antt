@@ -3,8 +3,8 @@ use Rattle.std.specs.Prelude.{◌≢◌, ℤ}
 use Rattle.std.specs.declared.cmp.Ordering.TheVariants.{Greater}
 use Rattle.ratio_core.specs.Laws.{IsSum}
 use Rattle.ratio_big.specs.Values.{absolute_pair, negative_pair}
-use Rattle.big_laws.specs.FieldLaws.{GivesOnly}
-use Rattle.big_laws.specs.OrderLaws.{pair_order}
+use Rattle.ratio_laws.specs.BigFieldLaws.{GivesOnly}
+use Rattle.ratio_laws.specs.BigOrderLaws.{pair_order}
 
 -- -x∘y is -(x∘y), where ∘ is the call
 -- Example: -x * y is -(x * y)

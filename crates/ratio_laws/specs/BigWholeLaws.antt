@@ -5,7 +5,7 @@ use Rattle.ratio_integer.specs.Arithmetic.{remainder_of}
 use Rattle.ratio_core.specs.Laws.{IsProduct, IsSum}
 use Rattle.ratio_core.specs.Rounding.{IsCeiling, IsFloor}
 use Rattle.ratio_big.specs.Values.{HasTerms, absolute_pair}
-use Rattle.big_laws.specs.OrderLaws.{pair_order}
+use Rattle.ratio_laws.specs.BigOrderLaws.{pair_order}
 
 -- P of x + n is P of x, plus n, for a whole number n. P is a kind of whole number near a fraction
 -- Example: the floor of 7/2 + 2 is 3 + 2

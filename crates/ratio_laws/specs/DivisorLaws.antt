@@ -6,7 +6,7 @@ use Rattle.num_rational.specs.declared.reduced.Reduced.{Reduced}
 use Rattle.num_rational.specs.Comparison.{order_of}
 use Rattle.num_rational.specs.Operators.{ChecksFractionGcd, ChecksFractionLcm, numbers}
 use Rattle.num_rational.specs.{Ratio.denominator, Ratio.numerator, Reduced.ratio_in, Reduced.ratio_of}
-use Rattle.fraction_laws.specs.ReducedLaws.{AnswersAbsolute, AnswersProduct, AnswersQuotient, AreOneAnswer}
+use Rattle.ratio_laws.specs.ReducedLaws.{AnswersAbsolute, AnswersProduct, AnswersQuotient, AreOneAnswer}
 
 -- the checked call for the greatest common divisor of x and y (`checked_gcd`) returns r
 abbrev pub AnswersGcd : {T : _} {i : _} {o : _} {e : _} {p : _} {h : _} → Reduced T i o e p h → Reduced T i o e p h → Option (Reduced T i o e p h) → Type 0

@@ -7,7 +7,7 @@ use Rattle.num_rational.specs.Comparison.{HaveSameFields}
 use Rattle.num_rational.specs.Folds.{AnswersFrom, CanProduct, CanSum, ChecksExactSumOf, ChecksProductOf}
 use Rattle.num_rational.specs.Operators.{CanAdd, CanMultiply, numbers}
 use Rattle.num_rational.specs.Reduced.{ratio_in, ratio_of}
-use Rattle.fraction_laws.specs.ReducedLaws.{AnswersProduct, AnswersSum, AreOneAnswer}
+use Rattle.ratio_laws.specs.ReducedLaws.{AnswersProduct, AnswersSum, AreOneAnswer}
 
 -- the sum of the items (`checked_sum`) returns r
 -- Example: 1/2, 1/3: `Some(5/6)`

@@ -3,7 +3,7 @@
 use Rattle.std.specs.Prelude.{ℤ, List, ◌++◌, Option, Some, IsPermutation}
 use Rattle.num_rational.specs.declared.reduced.Reduced.{Reduced}
 use Rattle.num_rational.specs.{ManyProducts.product_of_items, ManyProducts.quotient_of_items, Ratio.ChecksRatio, Reduced.ratio_in}
-use Rattle.fraction_laws.specs.ReducedLaws.{AnswersProduct, AnswersQuotient, AreOneAnswer}
+use Rattle.ratio_laws.specs.ReducedLaws.{AnswersProduct, AnswersQuotient, AreOneAnswer}
 
 -- the product of the items (`checked_product_of`) returns r
 -- Example: over `i8`, 127/2, 100/3, 2/127, 3/100: `Some(1/1)`

@@ -3,7 +3,7 @@ use Rattle.std.specs.Prelude.{◌*◌, ◌≤◌, ◌≤ℤ◌, ◌<ℤ◌, ℕ,
 use Rattle.ratio_approximation.specs.Nearest.{gap}
 use Rattle.num_rational.specs.declared.reduced.Reduced.{Reduced}
 use Rattle.num_rational.specs.{Ratio.denominator, Ratio.numerator, Reduced.ChecksNearest, Reduced.ratio_of}
-use Rattle.fraction_laws.specs.ReducedLaws.{AreOneAnswer}
+use Rattle.ratio_laws.specs.ReducedLaws.{AreOneAnswer}
 
 -- the distance of r from x, times both denominators
 abbrev pub gap_of : {T : _} {i : _} {o : _} {e : _} {p : _} {h : _} → Reduced T i o e p h → Reduced T i o e p h → ℕ

@@ -2,7 +2,7 @@
 use Rattle.std.specs.Prelude.{pos, Option, Some}
 use Rattle.num_rational.specs.declared.reduced.Reduced.{Reduced}
 use Rattle.num_rational.specs.{Ratio.IsWhole, Reduced.ratio_of}
-use Rattle.fraction_laws.specs.ReducedLaws.{AnswersPower, AnswersProduct, AnswersQuotient, AnswersSum, AreOneAnswer}
+use Rattle.ratio_laws.specs.ReducedLaws.{AnswersPower, AnswersProduct, AnswersQuotient, AnswersSum, AreOneAnswer}
 
 -- x + 0 and 0 + x are `Some` of x
 abbrev pub IsKeptByZero : {T : _} {i : _} {o : _} {e : _} {p : _} {h : _} → Reduced T i o e p h → Type 0

@@ -2,7 +2,7 @@
 use Rattle.std.specs.Prelude.{◌≡◌, ◌<ℤ◌, pos, Some}
 use Rattle.num_rational.specs.declared.reduced.Reduced.{Reduced}
 use Rattle.num_rational.specs.{Comparison.order_of, Ratio.numerator, Reduced.ratio_of}
-use Rattle.fraction_laws.specs.ReducedLaws.{AnswersNegative, AnswersProduct, AnswersSum}
+use Rattle.ratio_laws.specs.ReducedLaws.{AnswersNegative, AnswersProduct, AnswersSum}
 
 -- x + z and y + z have the order of x and y, if both are `Some`
 abbrev pub AddsInOrder : {T : _} {i : _} {o : _} {e : _} {p : _} {h : _} → Reduced T i o e p h → Reduced T i o e p h → Reduced T i o e p h → Type 0

@@ -1,7 +1,7 @@
 -- Powers of `Reduced`. A premise only says what a call returned.
 use Rattle.std.specs.Prelude.{◌≡◌, ◌<ℤ◌, ◌*ℤ◌, ℤ, pos, neg_ℤ, Option, None, Some}
 use Rattle.num_rational.specs.declared.reduced.Reduced.{Reduced}
-use Rattle.fraction_laws.specs.ReducedLaws.{AnswersPower, AnswersProduct, AnswersReciprocal, AreOneAnswer}
+use Rattle.ratio_laws.specs.ReducedLaws.{AnswersPower, AnswersProduct, AnswersReciprocal, AreOneAnswer}
 
 -- (x to the e) to the f and x to the e * f are one result, `None` included, if x to the e is `Some`
 abbrev pub MultipliesExponents : {T : _} {i : _} {o : _} {e : _} {p : _} {h : _} → Reduced T i o e p h → Type 0

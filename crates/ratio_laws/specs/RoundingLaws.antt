@@ -6,7 +6,7 @@ use Rattle.ratio_decimal.specs.RoundingRules.{IsRoundedBy}
 use Rattle.ratio_decimal.specs.declared.rounding_rule.Rounding.{Rounding, TheVariants.HalfAway, TheVariants.Floor, TheVariants.Ceil}
 use Rattle.num_rational.specs.declared.reduced.Reduced.{Reduced}
 use Rattle.num_rational.specs.{Comparison.HaveSameFields, Comparison.order_of, Ratio.denominator, Ratio.numerator, Reduced.ratio_of}
-use Rattle.fraction_laws.specs.ReducedLaws.{AnswersDifference, AnswersNegative, AnswersSum, AreOneAnswer}
+use Rattle.ratio_laws.specs.ReducedLaws.{AnswersDifference, AnswersNegative, AnswersSum, AreOneAnswer}
 
 -- r is x rounded to a whole number by the rule
 -- Example: -7/2 by `Floor`: -4

@@ -4,7 +4,7 @@ use Rattle.std.specs.declared.cmp.Ordering.TheVariants.{Greater}
 use Rattle.ratio_core.specs.Signs.{IsSign}
 use Rattle.num_rational.specs.declared.reduced.Reduced.{Reduced}
 use Rattle.num_rational.specs.{Comparison.order_of, Ratio.denominator, Ratio.numerator, Reduced.ratio_of}
-use Rattle.fraction_laws.specs.ReducedLaws.{AnswersAbsolute, AnswersNegative, AnswersProduct, AnswersSum, AreOneAnswer}
+use Rattle.ratio_laws.specs.ReducedLaws.{AnswersAbsolute, AnswersNegative, AnswersProduct, AnswersSum, AreOneAnswer}
 
 -- s is the sign of x: -1, 0 or 1
 abbrev pub HasSign : {T : _} {i : _} {o : _} {e : _} {p : _} {h : _} → Reduced T i o e p h → ℤ → Type 0

@@ -2,7 +2,7 @@
 use Rattle.std.specs.Prelude.{◌≢◌, pos, Option, Some}
 use Rattle.num_rational.specs.declared.reduced.Reduced.{Reduced}
 use Rattle.num_rational.specs.{Ratio.IsWhole, Ratio.numerator, Reduced.ratio_of}
-use Rattle.fraction_laws.specs.ReducedLaws.{AnswersDifference, AnswersNegative, AnswersProduct, AnswersQuotient, AnswersReciprocal, AnswersSum, AreOneAnswer}
+use Rattle.ratio_laws.specs.ReducedLaws.{AnswersDifference, AnswersNegative, AnswersProduct, AnswersQuotient, AnswersReciprocal, AnswersSum, AreOneAnswer}
 
 -- (x + y) - y is `Some` of x, if x + y is `Some`
 abbrev pub IsSumUndone : {T : _} {i : _} {o : _} {e : _} {p : _} {h : _} → Reduced T i o e p h → Reduced T i o e p h → Type 0

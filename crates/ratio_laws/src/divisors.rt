@@ -1,6 +1,6 @@
 //! The laws of the greatest common divisor and the least common multiple of `Reduced`. Each function does nothing: its contract is the law,
 //! for the fractions that it is given.
-ghost use Rattle.fraction_laws.specs.DivisorLaws.{HasDivisorOfBoth, HasMultipleOfBoth, HasNoDivisorAbove, HasNoMultipleBelow, IsWholeByDivisor, MultipliesToProduct};
+ghost use Rattle.ratio_laws.specs.DivisorLaws.{HasDivisorOfBoth, HasMultipleOfBoth, HasNoDivisorAbove, HasNoMultipleBelow, IsWholeByDivisor, MultipliesToProduct};
 
 use num_rational::Reduced;
 use ratio_integer::Integer;

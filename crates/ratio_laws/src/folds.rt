@@ -1,6 +1,6 @@
 //! The laws of sums and products of lists, as `Reduced` returns them. Each function does nothing: its contract is the law, for the lists
 //! that it is given. x is the result of the first list, wherever that is `Some`.
-ghost use Rattle.fraction_laws.specs.FoldLaws.{AddsInAnyOrder, AddsInParts, HasNoProductOfBoth, HasNoSumOfBoth, MultipliesInAnyOrder, MultipliesInParts, ProductsGoOn, SumsGoOn};
+ghost use Rattle.ratio_laws.specs.FoldLaws.{AddsInAnyOrder, AddsInParts, HasNoProductOfBoth, HasNoSumOfBoth, MultipliesInAnyOrder, MultipliesInParts, ProductsGoOn, SumsGoOn};
 
 use num_rational::{Reduced, ReducedOperand};
 use ratio_integer::Integer;

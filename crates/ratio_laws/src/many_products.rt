@@ -1,6 +1,6 @@
 //! The laws of products and quotients of many fractions, as `checked_product_of` and `checked_quotient_of` of `Reduced` return them with room for two numbers an item.
 //! Each function does nothing: its contract is the law, for the lists that it is given. x is the result of the first list, wherever that is `Some`.
-ghost use Rattle.fraction_laws.specs.ManyProductLaws.{DividesManyInParts, HasOneProductOfMany, HasOneQuotientOfMany, MultipliesManyInParts};
+ghost use Rattle.ratio_laws.specs.ManyProductLaws.{DividesManyInParts, HasOneProductOfMany, HasOneQuotientOfMany, MultipliesManyInParts};
 
 use num_rational::{Reduced, ReducedOperand};
 use ratio_integer::Integer;

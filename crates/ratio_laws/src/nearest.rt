@@ -1,6 +1,6 @@
 //! The laws of the nearest fraction with a bounded denominator, as `Reduced` returns it. Each function does nothing: its contract is
 //! the law, for the fraction that it is given.
-ghost use Rattle.fraction_laws.specs.NearestLaws.{HasNearest, KeepsNearest, NearsWithBound};
+ghost use Rattle.ratio_laws.specs.NearestBoundLaws.{HasNearest, KeepsNearest, NearsWithBound};
 
 use num_rational::Reduced;
 use ratio_integer::Integer;

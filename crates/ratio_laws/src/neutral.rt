@@ -1,6 +1,6 @@
 //! The laws of 0 and 1 as operands and as exponents of `Reduced`. Each function changes nothing: its contract is the law, for the
 //! fraction that it is given. All these calls return `Some`.
-ghost use Rattle.fraction_laws.specs.NeutralLaws.{HasFirstPowers, IsKeptByOne, IsKeptByZero, IsZeroTimesZero};
+ghost use Rattle.ratio_laws.specs.NeutralLaws.{HasFirstPowers, IsKeptByOne, IsKeptByZero, IsZeroTimesZero};
 
 use num_rational::Reduced;
 use ratio_integer::{Integer, both_held};

@@ -1,6 +1,6 @@
 //! The laws of the order of results: sums, products and negatives of two `Reduced`. Each function does nothing: its contract
 //! is the law, for the fractions that it is given.
-ghost use Rattle.fraction_laws.specs.OrderLaws.{AddsInOrder, MultipliesInOrder, MultipliesInReverse, NegatesInReverse};
+ghost use Rattle.ratio_laws.specs.OrderLaws.{AddsInOrder, MultipliesInOrder, MultipliesInReverse, NegatesInReverse};
 
 use num_rational::Reduced;
 use ratio_integer::{Integer, SignedInteger};

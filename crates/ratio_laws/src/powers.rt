@@ -1,6 +1,6 @@
 //! The laws of powers of powers, of products and of reciprocals of `Reduced`, for all whole numbers as exponents. Each function does
 //! nothing: its contract is the law, for the fractions that it is given.
-ghost use Rattle.fraction_laws.specs.PowerLaws.{HasNoPowerBelowZero, IsPowerOfReciprocal, IsReciprocalOfPower, MultipliesExponents, MultipliesPowers};
+ghost use Rattle.ratio_laws.specs.PowerLaws.{HasNoPowerBelowZero, IsPowerOfReciprocal, IsReciprocalOfPower, MultipliesExponents, MultipliesPowers};
 
 use num_rational::Reduced;
 use ratio_integer::Integer;

@@ -1,6 +1,6 @@
 //! The laws of reading what a `Reduced` prints, as a text or as a decimal. Each function changes nothing: its contract is the law, for the
 //! fraction that it is given.
-ghost use Rattle.fraction_laws.specs.ReadingLaws.{ReadsItsDecimal, ReadsItsRoundedDecimal, ReadsItsText, ReadsItsTextInBase, RefusesBelowZeroInBase, RefusesWholeInBase};
+ghost use Rattle.ratio_laws.specs.ReadingLaws.{ReadsItsDecimal, ReadsItsRoundedDecimal, ReadsItsText, ReadsItsTextInBase, RefusesBelowZeroInBase, RefusesWholeInBase};
 
 use num_rational::Reduced;
 use ratio_integer::{Primitive, both_held};

@@ -5,8 +5,8 @@ ghost use Rattle.std.specs.Prelude.{◌≡◌, ◌↔◌};
 ghost use Rattle.std.specs.declared.cmp.Ordering.TheVariants.{Equal};
 ghost use Rattle.num_rational.specs.Comparison.{HaveSameFields, order_of};
 ghost use Rattle.num_rational.specs.Reduced.{ratio_of, writes_of_fields};
-ghost use Rattle.fraction_laws.specs.ReducedLaws.{AddsExponents, AssociatesInProduct, AssociatesInSum, ComesFromQuotients, CommutesInProduct, CommutesInSum, DistributesOverSum, IsInvertedByReciprocal, IsSumOfParts};
-ghost use Rattle.fraction_laws.specs.ToldApart.{AreToldApart};
+ghost use Rattle.ratio_laws.specs.ReducedLaws.{AddsExponents, AssociatesInProduct, AssociatesInSum, ComesFromQuotients, CommutesInProduct, CommutesInSum, DistributesOverSum, IsInvertedByReciprocal, IsSumOfParts};
+ghost use Rattle.ratio_laws.specs.ToldApart.{AreToldApart};
 
 use num_rational::Reduced;
 use ratio_integer::{Integer, both_held};

@@ -1,6 +1,6 @@
 //! The laws of the remainder of `Reduced`. Each function does nothing: its contract is the law, for the fractions that
 //! it is given.
-ghost use Rattle.fraction_laws.specs.RemainderLaws.{HasRestOnItsSide, HasSmallerRest, IsQuotientAndRest};
+ghost use Rattle.ratio_laws.specs.RemainderLaws.{HasRestOnItsSide, HasSmallerRest, IsQuotientAndRest};
 
 use num_rational::Reduced;
 use ratio_integer::Integer;

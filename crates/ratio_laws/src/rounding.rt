@@ -1,7 +1,7 @@
 //! The laws of whole numbers near a `Reduced`. Each function changes nothing: its contract is the law, for the fractions that it is
 //! given.
 ghost use Rattle.ratio_decimal.specs.declared.rounding_rule.Rounding.TheVariants.{Floor, Ceil};
-ghost use Rattle.fraction_laws.specs.RoundingLaws.{AddsWhole, IsCeilingOfNegative, IsNearFloor, IsNearRounded, KeepsWhole, RoundsInOrder};
+ghost use Rattle.ratio_laws.specs.RoundingLaws.{AddsWhole, IsCeilingOfNegative, IsNearFloor, IsNearRounded, KeepsWhole, RoundsInOrder};
 
 use num_rational::Reduced;
 use ratio_integer::{Integer, SignedInteger, both_held};

@@ -1,6 +1,6 @@
 //! The laws of negatives, absolute values and signs of `Reduced`. Each function changes nothing: its contract is the law, for the
 //! fractions that it is given.
-ghost use Rattle.fraction_laws.specs.SignLaws.{AddsAbsolutes, IsAbsoluteTimesSign, IsDoubleNegative, MultipliesAbsolutes, MultipliesSigns};
+ghost use Rattle.ratio_laws.specs.SignLaws.{AddsAbsolutes, IsAbsoluteTimesSign, IsDoubleNegative, MultipliesAbsolutes, MultipliesSigns};
 
 use num_rational::Reduced;
 use ratio_integer::{SignedInteger, both_held};

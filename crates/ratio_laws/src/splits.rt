@@ -2,7 +2,7 @@
 //! given.
 ghost use Rattle.num_rational.specs.Split.{IsSplitBy, share_numbers};
 ghost use Rattle.num_rational.specs.Weights.{share_of};
-ghost use Rattle.fraction_laws.specs.SplitLaws.{EqualSharesAreNear, EqualWeightsAreNear, MarksOfOneFit, SplitsAgree};
+ghost use Rattle.ratio_laws.specs.SplitLaws.{EqualSharesAreNear, EqualWeightsAreNear, MarksOfOneFit, SplitsAgree};
 
 use num_rational::Reduced;
 use ratio_integer::Integer;

@@ -1,6 +1,6 @@
 //! The law of the numbers of a primitive type before a hasher: no two feed it the same.
 ghost use Rattle.std.specs.Hash as hash;
-ghost use Rattle.fraction_laws.specs.ToldApart.{AreSignedToldApart, AreUnsignedToldApart};
+ghost use Rattle.ratio_laws.specs.ToldApart.{AreSignedToldApart, AreUnsignedToldApart};
 
 /// The numbers of each primitive type are told apart, so that `reduced::hashes` applies to it.
 pub fn told_apart()

@@ -1,7 +1,7 @@
 //! The laws of calls of `Reduced` that undo one another, or that can stand for one another, as the quotient x / y for x
 //! times the reciprocal of y. Each function changes nothing: its contract is the law, for the fractions that it is
 //! given.
-ghost use Rattle.fraction_laws.specs.UndoingLaws.{DividesByReciprocal, IsDifferenceUndone, IsProductUndone, IsQuotientUndone, IsSumUndone, IsZeroWithoutItself, SubtractsByNegative};
+ghost use Rattle.ratio_laws.specs.UndoingLaws.{DividesByReciprocal, IsDifferenceUndone, IsProductUndone, IsQuotientUndone, IsSumUndone, IsZeroWithoutItself, SubtractsByNegative};
 
 use num_rational::Reduced;
 use ratio_integer::{Integer, SignedInteger, both_held};

@@ -1,7 +1,7 @@
 //! The laws of fractions as `Ratio` with equal values: 1/2 and 2/4. Each function does nothing: its contract is the law, for the
 //! fractions that it is given. So a caller may replace a fraction by its `reduced`. `ratio_laws::laws::roundings_by_value` has the whole
 //! numbers near them.
-ghost use Rattle.fraction_laws.specs.ValueLaws.{AddsByValue, DividesByValue, IsNearestByValue, MultipliesByValue, SubtractsByValue};
+ghost use Rattle.ratio_laws.specs.ValueLaws.{AddsByValue, DividesByValue, IsNearestByValue, MultipliesByValue, SubtractsByValue};
 
 use num_rational::Ratio;
 use ratio_integer::Integer;

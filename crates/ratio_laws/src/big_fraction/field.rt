@@ -4,7 +4,7 @@ ghost use Rattle.std.specs.Prelude.{pos};
 ghost use Rattle.ratio_core.specs.Laws.{IsProduct, IsSum};
 ghost use Rattle.ratio_big.specs.Fractions.{big_numbers};
 ghost use Rattle.ratio_big.specs.Values.{negative_pair};
-ghost use Rattle.big_laws.specs.FieldLaws.{Associates, Commutes, Distributes, GivesOnly, HasInverse, IsDifferenceOf, IsProductWithReciprocal, IsQuotientOf, IsRefusedByZero, IsSumWithNegative, IsUndone};
+ghost use Rattle.ratio_laws.specs.BigFieldLaws.{Associates, Commutes, Distributes, GivesOnly, HasInverse, IsDifferenceOf, IsProductWithReciprocal, IsQuotientOf, IsRefusedByZero, IsSumWithNegative, IsUndone};
 
 use ratio_big::BigFraction;
 

@@ -5,7 +5,7 @@ ghost use Rattle.ratio_core.specs.Laws.{IsProduct, IsSum};
 ghost use Rattle.ratio_big.specs.Fractions.{big_numbers};
 ghost use Rattle.ratio_big.specs.Hashing.{big_writes, same_pair};
 ghost use Rattle.ratio_big.specs.Values.{negative_pair};
-ghost use Rattle.big_laws.specs.OrderLaws.{KeepsOrder, OrdersTotally, TurnsOrder, pair_order};
+ghost use Rattle.ratio_laws.specs.BigOrderLaws.{KeepsOrder, OrdersTotally, TurnsOrder, pair_order};
 
 use ratio_big::BigFraction;
 

@@ -1,7 +1,7 @@
 //! The laws of powers, for all whole numbers as exponents.
 ghost use Rattle.ratio_core.specs.Laws.{IsProduct};
 ghost use Rattle.ratio_big.specs.Fractions.{big_numbers};
-ghost use Rattle.big_laws.specs.PowerLaws.{HasSmallPowers, IsRefusedByNoPower, SplitsExponentProduct, SplitsExponentSum, SplitsPower, TurnsPower};
+ghost use Rattle.ratio_laws.specs.BigPowerLaws.{HasSmallPowers, IsRefusedByNoPower, SplitsExponentProduct, SplitsExponentSum, SplitsPower, TurnsPower};
 
 use ratio_big::BigFraction;
 

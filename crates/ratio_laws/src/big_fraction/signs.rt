@@ -3,7 +3,7 @@ ghost use Rattle.std.specs.Prelude.{◌≡◌};
 ghost use Rattle.ratio_core.specs.Laws.{IsProduct};
 ghost use Rattle.ratio_big.specs.Fractions.{big_numbers};
 ghost use Rattle.ratio_big.specs.Values.{negative_pair};
-ghost use Rattle.big_laws.specs.SignLaws.{MeetsTriangleInequality, MovesAbsolute, MovesNegative};
+ghost use Rattle.ratio_laws.specs.BigSignLaws.{MeetsTriangleInequality, MovesAbsolute, MovesNegative};
 
 use ratio_big::BigFraction;
 

@@ -1,7 +1,7 @@
 //! The law that the text of a fraction reads back as it.
 ghost use Rattle.ratio_big.specs.Fractions.{big_numbers};
 ghost use Rattle.ratio_big.specs.Texts.{fraction_text};
-ghost use Rattle.big_laws.specs.TextLaws.{ReadsOnlyAs};
+ghost use Rattle.ratio_laws.specs.BigTextLaws.{ReadsOnlyAs};
 
 use ratio_big::BigFraction;
 

@@ -1,7 +1,7 @@
 //! The laws of floors, ceilings and remainders.
 ghost use Rattle.ratio_core.specs.Rounding.{IsCeiling, IsFloor};
 ghost use Rattle.ratio_big.specs.Fractions.{big_numbers};
-ghost use Rattle.big_laws.specs.WholeLaws.{HasCeilingOfNegative, HasRestBelow, HasRestOfSign, IsMultipleAndRest, MovesByWhole};
+ghost use Rattle.ratio_laws.specs.BigWholeLaws.{HasCeilingOfNegative, HasRestBelow, HasRestOfSign, IsMultipleAndRest, MovesByWhole};
 
 use ratio_big::BigFraction;
 

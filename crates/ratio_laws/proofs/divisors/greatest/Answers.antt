@@ -1,5 +1,5 @@
-use Rattle.fraction_laws.proofs.DivisorLawLemmas.{has_divisor_of_both, has_no_divisor_above, is_whole_by_divisor}
-use Rattle.fraction_laws.proofs.divisors.greatest.Goals as goal
+use Rattle.ratio_laws.proofs.DivisorLawLemmas.{has_divisor_of_both, has_no_divisor_above, is_whole_by_divisor}
+use Rattle.ratio_laws.proofs.divisors.greatest.Goals as goal
 
 pub returns-clause-divides : goal.returns-clause-divides
 returns-clause-divides g c = has_divisor_of_both c.args.x.now c.args.y.now

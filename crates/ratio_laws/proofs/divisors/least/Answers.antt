@@ -1,5 +1,5 @@
-use Rattle.fraction_laws.proofs.DivisorLawLemmas.{has_multiple_of_both, has_no_multiple_below}
-use Rattle.fraction_laws.proofs.divisors.least.Goals as goal
+use Rattle.ratio_laws.proofs.DivisorLawLemmas.{has_multiple_of_both, has_no_multiple_below}
+use Rattle.ratio_laws.proofs.divisors.least.Goals as goal
 
 pub returns-clause-divided : goal.returns-clause-divided
 returns-clause-divided g c = has_multiple_of_both c.args.x.now c.args.y.now

@@ -1,5 +1,5 @@
-use Rattle.fraction_laws.proofs.FoldLawLemmas.{has_no_product_of_both, multiplies_in_any_order, multiplies_in_parts, products_go_on}
-use Rattle.fraction_laws.proofs.folds.products.Goals as goal
+use Rattle.ratio_laws.proofs.FoldLawLemmas.{has_no_product_of_both, multiplies_in_any_order, multiplies_in_parts, products_go_on}
+use Rattle.ratio_laws.proofs.folds.products.Goals as goal
 
 pub returns-clause-on : goal.returns-clause-on
 returns-clause-on g c = products_go_on _ c.args.x.now c.args.first.now c.args.second.now

@@ -1,5 +1,5 @@
-use Rattle.fraction_laws.proofs.FoldLawLemmas.{adds_in_any_order, adds_in_parts, has_no_sum_of_both, sums_go_on}
-use Rattle.fraction_laws.proofs.folds.sums.Goals as goal
+use Rattle.ratio_laws.proofs.FoldLawLemmas.{adds_in_any_order, adds_in_parts, has_no_sum_of_both, sums_go_on}
+use Rattle.ratio_laws.proofs.folds.sums.Goals as goal
 
 pub returns-clause-on : goal.returns-clause-on
 returns-clause-on g c = sums_go_on _ c.args.x.now c.args.first.now c.args.second.now

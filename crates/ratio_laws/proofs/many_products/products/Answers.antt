@@ -1,5 +1,5 @@
-use Rattle.fraction_laws.proofs.ManyProductLawLemmas.{has_one_product_of_many, multiplies_many_in_parts}
-use Rattle.fraction_laws.proofs.many_products.products.Goals as goal
+use Rattle.ratio_laws.proofs.ManyProductLawLemmas.{has_one_product_of_many, multiplies_many_in_parts}
+use Rattle.ratio_laws.proofs.many_products.products.Goals as goal
 
 pub returns-clause-order : goal.returns-clause-order
 returns-clause-order g c = has_one_product_of_many _ c.args.x.now c.args.first.now c.args.second.now

@@ -1,5 +1,5 @@
-use Rattle.fraction_laws.proofs.NearestBoundLemmas.{has_nearest, keeps_nearest, nears_with_bound}
-use Rattle.fraction_laws.proofs.nearest.bounds.Goals as goal
+use Rattle.ratio_laws.proofs.NearestBoundLemmas.{has_nearest, keeps_nearest, nears_with_bound}
+use Rattle.ratio_laws.proofs.nearest.bounds.Goals as goal
 
 pub returns-clause-exists : goal.returns-clause-exists
 returns-clause-exists g c = has_nearest c.args.x.now

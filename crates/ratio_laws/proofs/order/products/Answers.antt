@@ -1,5 +1,5 @@
-use Rattle.fraction_laws.proofs.OrderLawLemmas.{multiplies_in_order, multiplies_in_reverse}
-use Rattle.fraction_laws.proofs.order.products.Goals as goal
+use Rattle.ratio_laws.proofs.OrderLawLemmas.{multiplies_in_order, multiplies_in_reverse}
+use Rattle.ratio_laws.proofs.order.products.Goals as goal
 
 pub returns-clause-above : goal.returns-clause-above
 returns-clause-above g c = multiplies_in_order c.args.x.now c.args.y.now c.args.z.now

@@ -1,5 +1,5 @@
-use Rattle.fraction_laws.proofs.PowerLawLemmas.{has_no_power_below_zero, is_power_of_reciprocal, is_reciprocal_of_power}
-use Rattle.fraction_laws.proofs.powers.reciprocals.Goals as goal
+use Rattle.ratio_laws.proofs.PowerLawLemmas.{has_no_power_below_zero, is_power_of_reciprocal, is_reciprocal_of_power}
+use Rattle.ratio_laws.proofs.powers.reciprocals.Goals as goal
 
 pub returns-clause-base : goal.returns-clause-base
 returns-clause-base g c = is_power_of_reciprocal c.args.x.now

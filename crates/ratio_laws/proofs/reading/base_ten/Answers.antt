@@ -1,5 +1,5 @@
-use Rattle.fraction_laws.proofs.ReadingLawLemmas.{reads_its_text}
-use Rattle.fraction_laws.proofs.reading.base_ten.Goals as goal
+use Rattle.ratio_laws.proofs.ReadingLawLemmas.{reads_its_text}
+use Rattle.ratio_laws.proofs.reading.base_ten.Goals as goal
 
 pub returns : goal.returns
 returns g c =

@@ -1,5 +1,5 @@
-use Rattle.fraction_laws.proofs.ReadingLawLemmas.{reads_its_text_in_base, refuses_below_zero_in_base, refuses_whole_in_base}
-use Rattle.fraction_laws.proofs.reading.in_base.Goals as goal
+use Rattle.ratio_laws.proofs.ReadingLawLemmas.{reads_its_text_in_base, refuses_below_zero_in_base, refuses_whole_in_base}
+use Rattle.ratio_laws.proofs.reading.in_base.Goals as goal
 
 pub returns-clause-back : goal.returns-clause-back
 returns-clause-back g c =

@@ -2,7 +2,7 @@ use Rattle.ratio_laws.proofs.DecimalsReadNear.{read_near}
 use Rattle.ratio_core.proofs.PrintingLemmas.{small_magnitude}
 use Rattle.num_rational.specs.Ratio.{denominator, numerator}
 use Rattle.num_rational.specs.Reduced.{ratio_of}
-use Rattle.fraction_laws.proofs.reading.rounded_decimal.Goals as goal
+use Rattle.ratio_laws.proofs.reading.rounded_decimal.Goals as goal
 
 pub returns : goal.returns
 returns g c =

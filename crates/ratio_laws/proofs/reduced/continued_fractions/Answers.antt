@@ -1,5 +1,5 @@
-use Rattle.fraction_laws.proofs.QuotientLawLemmas.{comes_from_quotients}
-use Rattle.fraction_laws.proofs.reduced.continued_fractions.Goals as goal
+use Rattle.ratio_laws.proofs.QuotientLawLemmas.{comes_from_quotients}
+use Rattle.ratio_laws.proofs.reduced.continued_fractions.Goals as goal
 
 pub returns : goal.returns
 returns g c =

@@ -1,6 +1,6 @@
 use Rattle.std.proofs.Common.{◌≡◌, ◌∙◌, ℕ, sym, ap, List, ◌++◌, take, drop, length}
 use Rattle.std.proofs.Math.Seq.{drop-append_seam, take-append_seam}
-use Rattle.fraction_laws.proofs.reduced.hashes.Goals as goal
+use Rattle.ratio_laws.proofs.reduced.hashes.Goals as goal
 
 parts : (xs ys us vs : List (List ℕ)) → length xs ≡ length us → xs ++ ys ≡ us ++ vs → (xs ≡ us) × (ys ≡ vs)
 parts xs ys us vs long same = (

@@ -1,6 +1,6 @@
 use Rattle.ratio_core.proofs.OrderLaws.{cross_lowest}
 use Rattle.num_rational.specs.Ratio.{denominator, numerator}
-use Rattle.fraction_laws.proofs.reduced.orders.Goals as goal
+use Rattle.ratio_laws.proofs.reduced.orders.Goals as goal
 
 pub returns : goal.returns
 returns g c =

@@ -1,5 +1,5 @@
-use Rattle.fraction_laws.proofs.ReducedLemmas.{adds_exponents, is_inverted_by_reciprocal}
-use Rattle.fraction_laws.proofs.reduced.powers.Goals as goal
+use Rattle.ratio_laws.proofs.ReducedLemmas.{adds_exponents, is_inverted_by_reciprocal}
+use Rattle.ratio_laws.proofs.reduced.powers.Goals as goal
 
 pub returns-clause-add : goal.returns-clause-add
 returns-clause-add g c = adds_exponents c.args.x.now

@@ -1,5 +1,5 @@
-use Rattle.fraction_laws.proofs.ReducedLemmas.{associates_in_product, commutes_in_product, distributes_over_sum}
-use Rattle.fraction_laws.proofs.reduced.products.Goals as goal
+use Rattle.ratio_laws.proofs.ReducedLemmas.{associates_in_product, commutes_in_product, distributes_over_sum}
+use Rattle.ratio_laws.proofs.reduced.products.Goals as goal
 
 pub returns-clause-commute : goal.returns-clause-commute
 returns-clause-commute g c = commutes_in_product c.args.x.now c.args.y.now

@@ -1,5 +1,5 @@
-use Rattle.fraction_laws.proofs.RemainderLawLemmas.{has_rest_on_its_side, has_smaller_rest, is_quotient_and_rest}
-use Rattle.fraction_laws.proofs.remainder.parts.Goals as goal
+use Rattle.ratio_laws.proofs.RemainderLawLemmas.{has_rest_on_its_side, has_smaller_rest, is_quotient_and_rest}
+use Rattle.ratio_laws.proofs.remainder.parts.Goals as goal
 
 pub returns-clause-sum : goal.returns-clause-sum
 returns-clause-sum g c = is_quotient_and_rest c.args.x.now c.args.y.now

@@ -1,5 +1,5 @@
-use Rattle.fraction_laws.proofs.WholeNumberLemmas.{is_near_floor, is_near_rounded, keeps_whole}
-use Rattle.fraction_laws.proofs.rounding.distances.Goals as goal
+use Rattle.ratio_laws.proofs.WholeNumberLemmas.{is_near_floor, is_near_rounded, keeps_whole}
+use Rattle.ratio_laws.proofs.rounding.distances.Goals as goal
 
 pub returns-clause-whole : goal.returns-clause-whole
 returns-clause-whole g c = keeps_whole c.args.x.now

@@ -1,5 +1,5 @@
-use Rattle.fraction_laws.proofs.WholeNumberLemmas.{adds_whole_to_ceiling, adds_whole_to_floor}
-use Rattle.fraction_laws.proofs.rounding.sums.Goals as goal
+use Rattle.ratio_laws.proofs.WholeNumberLemmas.{adds_whole_to_ceiling, adds_whole_to_floor}
+use Rattle.ratio_laws.proofs.rounding.sums.Goals as goal
 
 pub returns-clause-floor : goal.returns-clause-floor
 returns-clause-floor g c = adds_whole_to_floor c.args.x.now c.args.n.now g.met.T.Integer.range_law

@@ -1,7 +1,7 @@
 use Rattle.num_rational.specs.Split.{share_numbers}
 use Rattle.std.specs.Prelude.{slice_index_or}
-use Rattle.fraction_laws.proofs.SplitLawLemmas.{one_split}
-use Rattle.fraction_laws.proofs.splits.one_split.Goals as goal
+use Rattle.ratio_laws.proofs.SplitLawLemmas.{one_split}
+use Rattle.ratio_laws.proofs.splits.one_split.Goals as goal
 
 pub returns : goal.returns
 returns g c =

@@ -1,8 +1,8 @@
 use Rattle.std.proofs.Common.{refl}
 use Rattle.std.specs.Prelude.{◌-◌, ◌^◌}
 use Rattle.std.specs.Hash as hash
-use Rattle.fraction_laws.proofs.HashWriteLemmas.{byte_tells, bytes_tell, signed_apart, unsigned_apart}
-use Rattle.fraction_laws.proofs.told_apart.told_apart.Goals as goal
+use Rattle.ratio_laws.proofs.HashWriteLemmas.{byte_tells, bytes_tell, signed_apart, unsigned_apart}
+use Rattle.ratio_laws.proofs.told_apart.told_apart.Goals as goal
 
 pub returns-clause-i8 : goal.returns-clause-i8
 returns-clause-i8 c = signed_apart (2 ^ 7 - 1) hash.u8 (λ _. refl) _ (λ _. refl) (λ _. refl) (λ n m _ _. byte_tells n m)

@@ -1,6 +1,6 @@
 use Rattle.ratio_big.specs.Fractions.{big_numbers}
-use Rattle.big_laws.proofs.FieldLawLemmas.{is_difference_undone, is_sum_undone, is_sum_with_negative, itself_is_zero}
-use Rattle.big_laws.proofs.field.differences.Goals as goal
+use Rattle.ratio_laws.proofs.BigFieldLawLemmas.{is_difference_undone, is_sum_undone, is_sum_with_negative, itself_is_zero}
+use Rattle.ratio_laws.proofs.big_fraction.field.differences.Goals as goal
 
 pub returns-clause-itself : goal.returns-clause-itself
 returns-clause-itself c = itself_is_zero (big_numbers c.args.x.now)

@@ -1,7 +1,7 @@
 use Rattle.ratio_core.proofs.LawLemmas.{products_associate, products_commute, products_distribute}
 use Rattle.ratio_big.specs.Fractions.{big_numbers}
-use Rattle.big_laws.proofs.FieldLawLemmas.{has_inverse, times_one_is}
-use Rattle.big_laws.proofs.field.products.Goals as goal
+use Rattle.ratio_laws.proofs.BigFieldLawLemmas.{has_inverse, times_one_is}
+use Rattle.ratio_laws.proofs.big_fraction.field.products.Goals as goal
 
 pub returns-clause-commute : goal.returns-clause-commute
 returns-clause-commute c = products_commute (big_numbers c.args.x.now) (big_numbers c.args.y.now)

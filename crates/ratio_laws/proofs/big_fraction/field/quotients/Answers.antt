@@ -1,7 +1,7 @@
 use Rattle.std.specs.Prelude.{pos}
 use Rattle.ratio_big.specs.Fractions.{big_numbers}
-use Rattle.big_laws.proofs.FieldLawLemmas.{is_product_undone, is_product_with_reciprocal, is_quotient_undone, is_refused_by_zero}
-use Rattle.big_laws.proofs.field.quotients.Goals as goal
+use Rattle.ratio_laws.proofs.BigFieldLawLemmas.{is_product_undone, is_product_with_reciprocal, is_quotient_undone, is_refused_by_zero}
+use Rattle.ratio_laws.proofs.big_fraction.field.quotients.Goals as goal
 
 pub returns-clause-zero : goal.returns-clause-zero
 returns-clause-zero c = is_refused_by_zero (big_numbers c.args.x.now) (big_numbers c.args.y.now)

@@ -1,7 +1,7 @@
 use Rattle.ratio_core.proofs.LawLemmas.{sums_associate, sums_commute}
 use Rattle.ratio_big.specs.Fractions.{big_numbers}
-use Rattle.big_laws.proofs.FieldLawLemmas.{negative_is_zero, plus_zero_is}
-use Rattle.big_laws.proofs.field.sums.Goals as goal
+use Rattle.ratio_laws.proofs.BigFieldLawLemmas.{negative_is_zero, plus_zero_is}
+use Rattle.ratio_laws.proofs.big_fraction.field.sums.Goals as goal
 
 pub returns-clause-commute : goal.returns-clause-commute
 returns-clause-commute c = sums_commute (big_numbers c.args.x.now) (big_numbers c.args.y.now)

@@ -1,10 +1,10 @@
 use Rattle.std.specs.Prelude.{◌++◌, ℤ}
 use Rattle.std.proofs.Common.{ap}
-use Rattle.fraction_laws.proofs.ReducedLemmas.{one_pair}
+use Rattle.ratio_laws.proofs.ReducedLemmas.{one_pair}
 use Rattle.ratio_big.specs.Fractions.{big_numbers}
 use Rattle.ratio_big.specs.Hashing.{number_writes}
-use Rattle.big_laws.proofs.HashLawLemmas.{first_tells, last_tells}
-use Rattle.big_laws.proofs.order.hashes.Goals as goal
+use Rattle.ratio_laws.proofs.BigHashLawLemmas.{first_tells, last_tells}
+use Rattle.ratio_laws.proofs.big_fraction.order.hashes.Goals as goal
 
 pub returns : goal.returns
 returns c =

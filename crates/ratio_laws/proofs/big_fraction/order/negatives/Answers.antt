@@ -1,6 +1,6 @@
-use Rattle.fraction_laws.proofs.OrderLawLemmas.{order_of_negatives}
+use Rattle.ratio_laws.proofs.OrderLawLemmas.{order_of_negatives}
 use Rattle.ratio_big.specs.Fractions.{big_numbers}
-use Rattle.big_laws.proofs.order.negatives.Goals as goal
+use Rattle.ratio_laws.proofs.big_fraction.order.negatives.Goals as goal
 
 pub returns : goal.returns
 returns c =

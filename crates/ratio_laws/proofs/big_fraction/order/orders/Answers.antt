@@ -2,10 +2,10 @@ use Rattle.std.proofs.Common.{refl}
 use Rattle.ratio_integer.proofs.Whole.{positive_nonzero}
 use Rattle.ratio_core.proofs.EqualityLaws.{told_lowest}
 use Rattle.ratio_core.proofs.OrderLaws.{cross_lowest, cross_total}
-use Rattle.fraction_laws.proofs.ReducedLemmas.{both_fields, one_pair}
+use Rattle.ratio_laws.proofs.ReducedLemmas.{both_fields, one_pair}
 use Rattle.ratio_big.specs.Fractions.{big_numbers}
 use Rattle.ratio_big.specs.declared.fraction.BigFraction.{BigFraction}
-use Rattle.big_laws.proofs.order.orders.Goals as goal
+use Rattle.ratio_laws.proofs.big_fraction.order.orders.Goals as goal
 
 pub returns-clause-total : goal.returns-clause-total
 returns-clause-total c = cross_total (λ (x : BigFraction). (big_numbers x).0) (λ x. (big_numbers x).1) (λ x. positive_nonzero (big_numbers x).1 x.kept.lowest.positive)

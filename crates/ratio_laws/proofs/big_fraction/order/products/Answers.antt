@@ -1,6 +1,6 @@
-use Rattle.fraction_laws.proofs.OrderLawLemmas.{products_in_order, products_in_reverse}
+use Rattle.ratio_laws.proofs.OrderLawLemmas.{products_in_order, products_in_reverse}
 use Rattle.ratio_big.specs.Fractions.{big_numbers}
-use Rattle.big_laws.proofs.order.products.Goals as goal
+use Rattle.ratio_laws.proofs.big_fraction.order.products.Goals as goal
 
 pub returns-clause-above : goal.returns-clause-above
 returns-clause-above c =

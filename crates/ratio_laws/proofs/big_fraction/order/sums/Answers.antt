@@ -1,6 +1,6 @@
-use Rattle.fraction_laws.proofs.OrderLawLemmas.{sums_in_order}
+use Rattle.ratio_laws.proofs.OrderLawLemmas.{sums_in_order}
 use Rattle.ratio_big.specs.Fractions.{big_numbers}
-use Rattle.big_laws.proofs.order.sums.Goals as goal
+use Rattle.ratio_laws.proofs.big_fraction.order.sums.Goals as goal
 
 pub returns : goal.returns
 returns c =

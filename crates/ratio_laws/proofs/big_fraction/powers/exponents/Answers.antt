@@ -1,6 +1,6 @@
 use Rattle.ratio_big.specs.Fractions.{big_numbers}
-use Rattle.big_laws.proofs.PowerLawLemmas.{has_small_powers, is_refused_by_no_power, splits_exponent_product, splits_exponent_sum, turns_power}
-use Rattle.big_laws.proofs.powers.exponents.Goals as goal
+use Rattle.ratio_laws.proofs.BigPowerLawLemmas.{has_small_powers, is_refused_by_no_power, splits_exponent_product, splits_exponent_sum, turns_power}
+use Rattle.ratio_laws.proofs.big_fraction.powers.exponents.Goals as goal
 
 pub returns-clause-first : goal.returns-clause-first
 returns-clause-first c = has_small_powers (big_numbers c.args.x.now) c.args.x.now.kept.lowest

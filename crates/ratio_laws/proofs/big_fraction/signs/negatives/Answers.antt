@@ -1,6 +1,6 @@
 use Rattle.ratio_big.specs.Fractions.{big_numbers}
-use Rattle.big_laws.proofs.SignLawLemmas.{moves_negative, negative_twice}
-use Rattle.big_laws.proofs.signs.negatives.Goals as goal
+use Rattle.ratio_laws.proofs.BigSignLawLemmas.{moves_negative, negative_twice}
+use Rattle.ratio_laws.proofs.big_fraction.signs.negatives.Goals as goal
 
 pub returns-clause-twice : goal.returns-clause-twice
 returns-clause-twice c = negative_twice (big_numbers c.args.x.now)

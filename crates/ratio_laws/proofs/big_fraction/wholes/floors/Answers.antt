@@ -1,6 +1,6 @@
 use Rattle.ratio_big.specs.Fractions.{big_numbers}
-use Rattle.big_laws.proofs.WholeLawLemmas.{has_ceiling_of_negative, moves_ceiling, moves_floor}
-use Rattle.big_laws.proofs.wholes.floors.Goals as goal
+use Rattle.ratio_laws.proofs.BigWholeLawLemmas.{has_ceiling_of_negative, moves_ceiling, moves_floor}
+use Rattle.ratio_laws.proofs.big_fraction.wholes.floors.Goals as goal
 
 pub returns-clause-floor : goal.returns-clause-floor
 returns-clause-floor c = moves_floor (big_numbers c.args.x.now) (big_numbers c.args.n.now) c.args.x.now.kept.lowest c.args.n.now.kept.lowest

@@ -1,6 +1,6 @@
 use Rattle.ratio_big.specs.Fractions.{big_numbers}
-use Rattle.big_laws.proofs.WholeLawLemmas.{has_rest_below, has_rest_of_sign, is_multiple_and_rest}
-use Rattle.big_laws.proofs.wholes.remainders.Goals as goal
+use Rattle.ratio_laws.proofs.BigWholeLawLemmas.{has_rest_below, has_rest_of_sign, is_multiple_and_rest}
+use Rattle.ratio_laws.proofs.big_fraction.wholes.remainders.Goals as goal
 
 pub returns-clause-sum : goal.returns-clause-sum
 returns-clause-sum c = is_multiple_and_rest (big_numbers c.args.x.now) (big_numbers c.args.y.now) c.args.x.now.kept.lowest c.args.y.now.kept.lowest

@@ -1,4 +1,4 @@
-// Erased from crates/fraction_laws/src/powers.rt by rust/erase: not to be edited.
+// Erased from crates/ratio_laws/src/powers.rt by rust/erase: not to be edited.
 //! The laws of powers of powers, of products and of reciprocals of `Reduced`, for all whole numbers as exponents. Each function does
 //! nothing: its contract is the law, for the fractions that it is given.
 

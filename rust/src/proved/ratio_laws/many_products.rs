@@ -1,4 +1,4 @@
-// Erased from crates/fraction_laws/src/many_products.rt by rust/erase: not to be edited.
+// Erased from crates/ratio_laws/src/many_products.rt by rust/erase: not to be edited.
 //! The laws of products and quotients of many fractions, as `checked_product_of` and `checked_quotient_of` of `Reduced` return them with room for two numbers an item.
 //! Each function does nothing: its contract is the law, for the lists that it is given. x is the result of the first list, wherever that is `Some`.
 

@@ -1,4 +1,4 @@
-// Erased from crates/fraction_laws/src/undoing.rt by rust/erase: not to be edited.
+// Erased from crates/ratio_laws/src/undoing.rt by rust/erase: not to be edited.
 //! The laws of calls of `Reduced` that undo one another, or that can stand for one another, as the quotient x / y for x
 //! times the reciprocal of y. Each function changes nothing: its contract is the law, for the fractions that it is
 //! given.

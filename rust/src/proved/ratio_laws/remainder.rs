@@ -1,4 +1,4 @@
-// Erased from crates/fraction_laws/src/remainder.rt by rust/erase: not to be edited.
+// Erased from crates/ratio_laws/src/remainder.rt by rust/erase: not to be edited.
 //! The laws of the remainder of `Reduced`. Each function does nothing: its contract is the law, for the fractions that
 //! it is given.
 

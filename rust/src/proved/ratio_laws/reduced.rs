@@ -1,4 +1,4 @@
-// Erased from crates/fraction_laws/src/reduced.rt by rust/erase: not to be edited.
+// Erased from crates/ratio_laws/src/reduced.rt by rust/erase: not to be edited.
 //! The first laws of `Reduced`: of sums, products, powers, parts, order, hash and continued fractions. Each function
 //! changes nothing: its contract is the law, for the fractions that it is given. A premise only says what a call
 //! returned. `hashes` also has one about the type.

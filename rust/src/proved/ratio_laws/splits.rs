@@ -1,4 +1,4 @@
-// Erased from crates/fraction_laws/src/splits.rt by rust/erase: not to be edited.
+// Erased from crates/ratio_laws/src/splits.rt by rust/erase: not to be edited.
 //! The laws of amounts split by shares or by weights. Each function changes nothing: its contract is the law, for the split that it is
 //! given.
 

@@ -1,4 +1,4 @@
-// Erased from crates/fraction_laws/src/order.rt by rust/erase: not to be edited.
+// Erased from crates/ratio_laws/src/order.rt by rust/erase: not to be edited.
 //! The laws of the order of results: sums, products and negatives of two `Reduced`. Each function does nothing: its contract
 //! is the law, for the fractions that it is given.
 

@@ -1,4 +1,4 @@
-// Erased from crates/fraction_laws/src/neutral.rt by rust/erase: not to be edited.
+// Erased from crates/ratio_laws/src/neutral.rt by rust/erase: not to be edited.
 //! The laws of 0 and 1 as operands and as exponents of `Reduced`. Each function changes nothing: its contract is the law, for the
 //! fraction that it is given. All these calls return `Some`.
 

@@ -1,4 +1,4 @@
-// Erased from crates/fraction_laws/src/values.rt by rust/erase: not to be edited.
+// Erased from crates/ratio_laws/src/values.rt by rust/erase: not to be edited.
 //! The laws of fractions as `Ratio` with equal values: 1/2 and 2/4. Each function does nothing: its contract is the law, for the
 //! fractions that it is given. So a caller may replace a fraction by its `reduced`. `ratio_laws::laws::roundings_by_value` has the whole
 //! numbers near them.

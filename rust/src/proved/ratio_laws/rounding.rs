@@ -1,4 +1,4 @@
-// Erased from crates/fraction_laws/src/rounding.rt by rust/erase: not to be edited.
+// Erased from crates/ratio_laws/src/rounding.rt by rust/erase: not to be edited.
 //! The laws of whole numbers near a `Reduced`. Each function changes nothing: its contract is the law, for the fractions that it is
 //! given.
 

@@ -1,4 +1,4 @@
-// Erased from crates/fraction_laws/src/reading.rt by rust/erase: not to be edited.
+// Erased from crates/ratio_laws/src/reading.rt by rust/erase: not to be edited.
 //! The laws of reading what a `Reduced` prints, as a text or as a decimal. Each function changes nothing: its contract is the law, for the
 //! fraction that it is given.
 

@@ -1,4 +1,4 @@
-// Erased from crates/fraction_laws/src/nearest.rt by rust/erase: not to be edited.
+// Erased from crates/ratio_laws/src/nearest.rt by rust/erase: not to be edited.
 //! The laws of the nearest fraction with a bounded denominator, as `Reduced` returns it. Each function does nothing: its contract is
 //! the law, for the fraction that it is given.
 

@@ -1,4 +1,4 @@
-// Erased from crates/fraction_laws/src/folds.rt by rust/erase: not to be edited.
+// Erased from crates/ratio_laws/src/folds.rt by rust/erase: not to be edited.
 //! The laws of sums and products of lists, as `Reduced` returns them. Each function does nothing: its contract is the law, for the lists
 //! that it is given. x is the result of the first list, wherever that is `Some`.
 

@@ -8,7 +8,6 @@
 // But a call of std that is newer than the crate's `rust-version` is a fault of rust/erase.
 #![warn(clippy::incompatible_msrv)]
 
-pub mod fraction_laws;
 pub mod fraction_totals;
 pub mod itoa;
 pub mod num_rational;

@@ -4,7 +4,7 @@ use Rattle.std.specs.Prelude.{◌*ℤ◌}
 use Rattle.std.specs.Int.{int_pow}
 use Rattle.std.proofs.Math.Nat.{pow-succ'}
 use Rattle.std.proofs.lemmas.Int.{ints}
-use Rattle.ratio_laws.proofs.TypedLawLemmas.{typed_one}
+use Rattle.ratio_big.proofs.TypedReadingLemmas.{typed_one}
 use Rattle.ratio_decimal.specs.TypedText.{share}
 use Rattle.ratio_big.specs.Values.{HasTerms}
 use Rattle.ratio_big.specs.Powers.{HasNoPower}

@@ -1,7 +1,7 @@
 -- Two accounts, and a part that moves from one to the other.
 use Rattle.std.specs.Prelude.{◌⊎◌, Option, None, Some}
 use Rattle.num_rational.specs.declared.reduced.Reduced.{Reduced}
-use Rattle.fraction_laws.specs.ReducedLaws.{AnswersDifference, AnswersSum, AreOneAnswer}
+use Rattle.ratio_laws.specs.ReducedLaws.{AnswersDifference, AnswersSum, AreOneAnswer}
 
 -- the result is from - part and part + to, or `None` exactly if one of these is
 -- Example: 1/2 and 1/3 with the part 1/6: 1/3 and 1/2

@@ -2,8 +2,8 @@
 ghost use Rattle.std.specs.Prelude.{IfSome};
 ghost use Rattle.ratio_uses.specs.Accounts.{KeepsTotal, MovesPart};
 
-use fraction_laws::{reduced, undoing};
 use num_rational::Reduced64;
+use ratio_laws::{reduced, undoing};
 
 /// The two accounts after the part has moved: `from` less the part, and `to` with it. Their total is the old one. `None` exactly
 /// where one of the two does not fit in 64 bits.

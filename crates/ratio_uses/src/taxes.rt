@@ -2,10 +2,10 @@
 ghost use Rattle.std.specs.Prelude.{◌≡◌, ◌↔◌, pos, None, IfOk, IfSome};
 ghost use Rattle.ratio_core.specs.Laws.{IsProduct};
 ghost use Rattle.ratio_big.specs.Fractions.{big_numbers};
-ghost use Rattle.big_laws.specs.FieldLaws.{GivesOnly};
+ghost use Rattle.ratio_laws.specs.BigFieldLaws.{GivesOnly};
 
-use big_laws::field;
 use ratio_big::BigFraction;
+use ratio_laws::big_fraction::field;
 use std::alloc::{AllocError, Global};
 
 /// What was paid, divided by the factor of the tax: 100/1 for 119/1 and 119/100. Times the factor, it is what was paid. An error means

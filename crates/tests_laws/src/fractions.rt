@@ -1,10 +1,9 @@
 //! The laws of `Reduced` and `Ratio`, called once over `i64` each, with fractions for which they say something.
-use fraction_laws::told_apart::told_apart;
-use fraction_laws::{
-    divisors, folds, many_products, nearest, neutral, order, powers, reading, reduced, remainder,
-    rounding, signs, splits, undoing, values,
-};
 use num_rational::{Ratio, Reduced, Reduced64};
+use ratio_laws::{
+    divisors, folds, many_products, nearest, neutral, order, powers, reading, reduced, remainder,
+    rounding, signs, splits, told_apart, undoing, values,
+};
 
 fn fraction(numer: i64, denom: i64) -> Reduced64 {
     Reduced::checked_new(numer, denom).unwrap_or(Reduced::zero())
@@ -153,5 +152,5 @@ fn sums_products_and_parts(_rt: HostRuntime) {
     reduced::continued_fractions(&x);
     reduced::orders(&x, &y);
     reduced::hashes(&x, &y);
-    told_apart();
+    told_apart::told_apart();
 }

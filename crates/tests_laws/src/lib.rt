@@ -2,6 +2,8 @@
 #![tactic(auto)]
 
 #[cfg(test)]
+mod big_fraction;
+#[cfg(test)]
 mod fractions;
 #[cfg(test)]
 mod numbers;

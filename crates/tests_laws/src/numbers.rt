@@ -1,7 +1,6 @@
 //! The laws of the calls on two numbers, and of integers.
-use fraction_laws::json_pairs;
 use ratio_integer::laws as integers;
-use ratio_laws::laws;
+use ratio_laws::{json_pairs, laws};
 
 #[test]
 fn each_law_is_called(_rt: HostRuntime) {

@@ -1,11 +1,11 @@
 //! The laws of `Reduced`, called once over the numbers from -5 to 5 each.
 use crate::fractions;
 use crate::plain::Plain;
-use fraction_laws::{
-    folds, nearest, neutral, order, powers, remainder, rounding, signs, undoing, values,
-};
 use num_rational::{Ratio, Reduced};
 use ratio_integer::Integer;
+use ratio_laws::{
+    folds, nearest, neutral, order, powers, remainder, rounding, signs, undoing, values,
+};
 use ratio_odd::Sym5;
 
 fn fraction(numer: i128, denom: i128) -> Reduced<Sym5> {

@@ -1,4 +1,5 @@
-//! Tests of totals that are no rows: steps one after another, ten thousand denominators, sums that take memory, the laws, and a caller.
+//! Tests of totals, and of the natural numbers that they are made of, that are no rows: steps one after another, ten thousand denominators, sums
+//! that take memory, the laws, and a caller.
 #![tactic(auto)]
 
 pub mod bills;
@@ -8,6 +9,8 @@ mod bounded_decimals;
 mod in_memory;
 #[cfg(test)]
 mod joining;
+#[cfg(test)]
+mod naturals;
 #[cfg(test)]
 mod slots;
 #[cfg(test)]

@@ -1,4 +1,4 @@
-use Rattle.fraction_laws.proofs.ResultLemmas.{sum_known}
+use Rattle.ratio_laws.proofs.ResultLemmas.{sum_known}
 use Rattle.ratio_uses.proofs.accounts.move_part.Goals as goal
 
 pub returns-clause-accounts : goal.returns-clause-accounts

@@ -3,7 +3,7 @@ use Rattle.std.specs.declared.alloc.AllocError.{AllocError}
 use Rattle.ratio_core.specs.Laws.{IsProduct}
 use Rattle.ratio_big.specs.Fractions.{GivesBigQuotient, big_numbers}
 use Rattle.ratio_big.specs.declared.fraction.BigFraction.{BigFraction}
-use Rattle.big_laws.specs.FieldLaws.{GivesOnly, IsQuotientOf, IsRefusedByZero, IsUndone}
+use Rattle.ratio_laws.specs.BigFieldLaws.{GivesOnly, IsQuotientOf, IsRefusedByZero, IsUndone}
 use Rattle.ratio_uses.proofs.taxes.without_tax.Goals as goal
 
 with_tax : (x y : ℤ × ℤ) (r : Result (Option BigFraction) AllocError) → IsUndone IsQuotientOf IsProduct x y → IfOk r (GivesBigQuotient x y) → IfOk r (λ price. IfSome price (λ p. GivesOnly IsProduct (big_numbers p) y x))

@@ -1,4 +1,5 @@
-use Rattle.ratio_laws.proofs.TypedLawLemmas.{decimals_typed, fractions_typed, typed_one, wide_decimals_typed}
+use Rattle.ratio_big.proofs.TypedReadingLemmas.{typed_one}
+use Rattle.ratio_laws.proofs.TypedLawLemmas.{decimals_typed, fractions_typed, wide_decimals_typed}
 use Rattle.ratio_laws.proofs.laws.texts.typed_texts.Goals as goal
 
 pub returns-clause-one : goal.returns-clause-one

@@ -1,6 +1,0 @@
-mod FieldLawLemmas
-mod HashLawLemmas
-mod PowerLawLemmas
-mod SignLawLemmas
-mod TextLawLemmas
-mod WholeLawLemmas

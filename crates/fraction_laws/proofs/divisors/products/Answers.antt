@@ -1,5 +1,0 @@
-use Rattle.fraction_laws.proofs.DivisorLawLemmas.{multiplies_to_product}
-use Rattle.fraction_laws.proofs.divisors.products.Goals as goal
-
-pub returns : goal.returns
-returns g c = multiplies_to_product c.args.x.now c.args.y.now

@@ -1,5 +1,0 @@
-use Rattle.fraction_laws.proofs.JsonLawLemmas.{pair_back}
-use Rattle.fraction_laws.proofs.json_pairs.Goals as goal
-
-pub returns : goal.returns
-returns c = pair_back

@@ -1,5 +1,0 @@
-use Rattle.fraction_laws.proofs.PowerLawLemmas.{multiplies_exponents}
-use Rattle.fraction_laws.proofs.powers.exponents.Goals as goal
-
-pub returns : goal.returns
-returns g c = multiplies_exponents c.args.x.now

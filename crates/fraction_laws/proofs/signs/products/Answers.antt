@@ -1,5 +1,0 @@
-use Rattle.fraction_laws.proofs.SignLawLemmas.{multiplies_signs}
-use Rattle.fraction_laws.proofs.signs.products.Goals as goal
-
-pub returns : goal.returns
-returns g c = multiplies_signs c.args.x.now c.args.y.now

@@ -1,5 +1,0 @@
-use Rattle.fraction_laws.proofs.UndoingLemmas.{subtracts_by_negative}
-use Rattle.fraction_laws.proofs.undoing.negatives.Goals as goal
-
-pub returns : goal.returns
-returns g c = subtracts_by_negative c.args.x.now c.args.y.now

@@ -1,4 +1,4 @@
-"""The calls of `ratio_expr` and `ratio_replies`: what a person types. Places are counted in characters, from 0."""
+"""The calls of `ratio_expressions`: what a person types. Places are counted in characters, from 0."""
 import math
 import re
 import unicodedata

@@ -16,8 +16,6 @@ pub mod ratio_approximation;
 pub mod ratio_big;
 pub mod ratio_core;
 pub mod ratio_decimal;
-#[cfg(feature = "alloc")]
-pub mod ratio_expr;
 pub mod ratio_float;
 pub mod ratio_integer;
 pub mod ratio_laws;

@@ -25,7 +25,7 @@
 //! | `reduced::splits` | Amounts split by shares or by weights. |
 //! | `reduced::within` | The simplest fraction within two bounds: `>=1/3 <1/2` has 1/3 and all that is below 1/2, and `>5/2 any` all that is above 5/2. |
 //! | `subjects` | The subject of a call by the first part of its name: `BigFraction` of `BigFraction::floor`. |
-//! | `typed` | Calls of `ratio_expr` and `ratio_replies`: texts that a person types. |
+//! | `typed` | Calls of `ratio_expressions`: texts that a person types. |
 //! | `typed::replies` | Replies to lines, in each form: `Both "7/12"`, `Decimal 4 "17/12"`. |
 //! | `typed::texts` | Texts with escapes, as a row writes them. |
 //! | `typed::trees` | The trees of texts. |

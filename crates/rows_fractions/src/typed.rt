@@ -1,4 +1,4 @@
-//! Calls of `ratio_expr` and `ratio_replies`: texts that a person types. In a row, `\n`, `\t` and `\0` stand for one byte each.
+//! Calls of `ratio_expressions`: texts that a person types. In a row, `\n`, `\t` and `\0` stand for one byte each.
 mod replies;
 mod texts;
 mod trees;
@@ -10,7 +10,7 @@ use std::alloc::{AllocError, Global};
 use std::fmt;
 use texts::bytes_of;
 
-/// Makes a call of `ratio_expr`, and writes its answer.
+/// Makes a call of `ratio_expressions`, and writes its answer.
 pub fn write_answer<W: fmt::Write>(
     alloc: Global,
     call: &str,

@@ -8,8 +8,8 @@
 // But a call of std that is newer than the crate's `rust-version` is a fault of rust/erase.
 #![warn(clippy::incompatible_msrv)]
 
-pub mod ratio_calc;
-pub mod ratio_lines;
-pub mod ratio_replies;
 #[cfg(target_pointer_width = "64")]
-pub mod ratio_tool;
+pub mod ratio;
+pub mod ratio_calc;
+pub mod ratio_expressions;
+pub mod ratio_lines;

@@ -7,5 +7,5 @@ mod proved;
 use std::process::ExitCode;
 
 fn main() -> ExitCode {
-    proved::ratio_tool::main()
+    proved::ratio::main()
 }

@@ -10,11 +10,11 @@
 //! | `empty` | none: the line has only spaces |
 //!
 //! The replies are the proved calls'. This file cuts a text into lines and puts the kinds before the replies, by hand: `page/test` tries it.
-use crate::proved::ratio_replies::{reply_to, Form, Reply};
+use crate::proved::ratio_expressions::names::Names;
+use crate::proved::ratio_expressions::replies::{reply_to, Form, Reply};
+use crate::proved::ratio_expressions::slashes::read_as;
 use bakhsney::memory::{AllocError, Global};
 use bakhsney::proved::ratio_big::BigFraction;
-use bakhsney::proved::ratio_expr::names::Names;
-use bakhsney::proved::ratio_expr::slashes::read_as;
 
 /// The rows of all lines, with so many places of the decimals.
 pub fn rows(text: &[u8], places: u32) -> Vec<u8> {

@@ -1,7 +1,7 @@
 //! Replies to lines, in each form: `Both "7/12"`, `Decimal 4 "17/12"`.
 use crate::typed::texts::{bytes_of, quoted};
-use ratio_expr::names::Names;
-use ratio_replies::{Form, Reply, reply_to};
+use ratio_expressions::names::Names;
+use ratio_expressions::replies::{Form, Reply, reply_to};
 use rows::answer::Answer;
 use rows::words::text;
 use std::alloc::{AllocError, Global};

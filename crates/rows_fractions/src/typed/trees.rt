@@ -1,8 +1,8 @@
 //! The trees of texts. A step is shown as its piece of the text, but parentheses as `g`, a minus before an operand as `~`, and a call as its
 //! name and the number of its arguments: `abs:1`.
-use ratio_expr::expression::{TreeError, column, tree_of};
-use ratio_expr::step::Step;
-use ratio_expr::token::Span;
+use ratio_expressions::expression::{TreeError, column, tree_of};
+use ratio_expressions::step::Step;
+use ratio_expressions::token::Span;
 use rows::answer::Answer;
 use std::alloc::{AllocError, Global};
 use std::str;

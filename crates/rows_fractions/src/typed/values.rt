@@ -1,12 +1,12 @@
 //! What texts are worth, and how their slashes are read.
 use crate::typed::texts::quoted;
-use ratio_expr::answer::value_of;
-use ratio_expr::expression::column;
-use ratio_expr::line;
-use ratio_expr::names::Names;
-use ratio_expr::refusal::ValueError;
-use ratio_expr::slashes::read_as;
-use ratio_expr::value::Value;
+use ratio_expressions::answer::value_of;
+use ratio_expressions::expression::column;
+use ratio_expressions::line;
+use ratio_expressions::names::Names;
+use ratio_expressions::refusal::ValueError;
+use ratio_expressions::slashes::read_as;
+use ratio_expressions::value::Value;
 use rows::answer::Answer;
 use std::alloc::{AllocError, Global};
 

@@ -1,6 +1,6 @@
 //! What the program `ratio` gets from its host.
 use super::stdin;
-use crate::proved::ratio_tool::fault::Fault;
+use crate::proved::ratio::fault::Fault;
 use bakhsney::memory::{Global, String, Vec};
 use memchr::memchr;
 use std::env;

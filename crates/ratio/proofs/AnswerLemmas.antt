@@ -1,0 +1,152 @@
+-- What was read and written so far, line by line.
+use Rattle.std.proofs.Common.{◌≡◌, ◌≢◌, ◌∙◌, ◌++◌, ◌∷◌, ◌&&◌, [], ℕ, Bool, true, false, List, Option, None, Some, IfSome, Ok, Err, refl, sym, ap, subst, append_assoc}
+use Rattle.std.proofs.KnownBytes.{Appends-trans, Consumes-nil}
+use Rattle.std.proofs.lemmas.List.Elements.{All-nil}
+use Rattle.std.specs.Io.KnownBytes.{Consumes, IsAtEnd}
+use Rattle.ratio_expressions.specs.Worths.{Worth}
+use Rattle.ratio_expressions.specs.declared.replies.form.Form.{Form}
+use Rattle.ratio.specs.Answers.{AnswersInput, AnswersLine, AreAnswered, AreAnsweredBefore, IsUnnamed, and_line, end_of, no_line, prompt_of, with_end}
+use Rattle.ratio.specs.Devices.{GivesLine, Takes, TakesFront, WritesAll}
+use Rattle.ratio.specs.Lines.{input_lines}
+use Rattle.ratio.specs.declared.fault.Fault.{Fault}
+use Rattle.ratio.specs.declared.fault.Fault.TheVariants as faults
+use Rattle.ratio.proofs.DeviceLemmas.{changing, front_after, front_of_more}
+
+-- what holds of an option's value
+pub when_some : {X : Type 0} (o : Option X) {P : X → Type 0} → ((x : X) → o ≡ Some x → P x) → IfSome o P
+when_some None h = tt
+when_some (Some x) h = h x refl
+
+-- the lines so far have their answers, and the reader has the rest of the input left
+pub record SoFar (form : Form) (t : Bool) (input : List ℕ) (left old new : Option (List ℕ)) (named : List ℕ → Option Worth) (all : Bool) : Type 0 where
+  pub lines : List (List ℕ)
+  pub rest : List ℕ
+  pub written : List ℕ
+  pub left_is : left ≡ Some rest
+  pub split : input_lines input ≡ lines ++ input_lines rest
+  pub answered : AreAnswered form t lines named written all
+  pub takes : Takes (changing old new) written
+
+-- a front of what is written is one with its end
+front_of_end : (t : Bool) (last : List (List ℕ)) (a b : Option (List ℕ)) (written : List ℕ) → TakesFront (changing a b) written → TakesFront (changing a b) (with_end t last written)
+front_of_end t [] a b written some = front_of_more (changing a b) written (end_of t) _ refl some
+front_of_end t (line ∷ last) a b written some = some
+
+module _ (form : Form) (t : Bool) (input : List ℕ) where
+  -- no line is read yet
+  pub none_read : (left old new : Option (List ℕ)) (named : List ℕ → Option Worth) → left ≡ Some input → IsUnnamed named → Takes (changing old new) (prompt_of t)
+      → SoFar form t input left old new named true
+  none_read left old new named left_is unnamed takes = record {
+    lines = [];
+    rest = input;
+    written = prompt_of t;
+    left_is = left_is;
+    split = refl;
+    answered = no_line named unnamed;
+    takes = takes;
+  }
+
+  -- the first prompt was not written
+  pub no_prompt : (left old new : Option (List ℕ)) (fault : Fault) → WritesAll {T = Unit {0}} (changing old new) (prompt_of t) (Err fault)
+      → AnswersInput form t input left (changing old new) (Err fault)
+  no_prompt left old new fault h = subst (λ e. AnswersInput form t input left (changing old new) (Err e)) (sym h.0) (
+    input_lines input,
+    prompt_of t,
+    true,
+    record { lines = []; behind = λ _. None; split = refl; answered = no_line (λ _. None) (λ _. refl) },
+    front_of_end t (input_lines input) old new (prompt_of t) h.1,
+  )
+
+  module _ (left next old new : Option (List ℕ)) (named : List ℕ → Option Worth) (all : Bool) (so_far : SoFar form t input left old new named all) where
+    answered_before : (last : List (List ℕ)) → input_lines so_far.rest ≡ last → AreAnsweredBefore form t input last so_far.written all
+    answered_before last e = record { lines = so_far.lines; behind = named; split = so_far.split ∙ ap (λ l. so_far.lines ++ l) e; answered = so_far.answered }
+
+    -- the reader failed
+    pub not_read : (line : List ℕ) (fault : Fault) → GivesLine (changing left next) line (Err fault) → AnswersInput form t input next (changing old new) (Err fault)
+    not_read line fault h = subst (λ e. AnswersInput form t input next (changing old new) (Err e)) (sym h.0) (
+      so_far.rest,
+      line,
+      so_far.written,
+      all,
+      answered_before (input_lines so_far.rest) refl,
+      so_far.takes,
+      subst (λ l. Consumes l next line) so_far.left_is h.1,
+      h.2,
+    )
+
+    -- there are more lines than can be counted
+    pub too_many : AnswersInput form t input left (changing old new) (Err faults.Read)
+    too_many = (
+      so_far.rest,
+      [],
+      so_far.written,
+      all,
+      answered_before (input_lines so_far.rest) refl,
+      so_far.takes,
+      subst (λ l. Consumes (Some so_far.rest) l []) (sym so_far.left_is) (Consumes-nil (Some so_far.rest)),
+      All-nil (λ b. b ≢ 10),
+    )
+
+    module _ (line : List ℕ) (last : Option (List ℕ)) (given : GivesLine (changing left next) line (Ok false)) where
+      none_left : input_lines so_far.rest ≡ []
+      none_left = ap input_lines (subst IsAtEnd so_far.left_is given)
+
+      -- all lines are answered
+      pub read_all : Takes (changing new last) (end_of t) → AnswersInput form t input next (changing old last) (Ok all)
+      read_all takes = (so_far.written, answered_before [] none_left, Appends-trans old new last so_far.written (end_of t) so_far.takes takes)
+
+      -- the end was not written
+      pub no_end : (fault : Fault) → WritesAll {T = Unit {0}} (changing new last) (end_of t) (Err fault) → AnswersInput form t input next (changing old last) (Err fault)
+      no_end fault stopped = subst (λ e. AnswersInput form t input next (changing old last) (Err e)) (sym stopped.0) (
+        [],
+        so_far.written,
+        all,
+        answered_before [] none_left,
+        front_after old new last so_far.written (end_of t) _ refl so_far.takes stopped.1,
+      )
+
+    module _ (line : List ℕ) (last : Option (List ℕ)) (given : GivesLine (changing left next) line (Ok true)) (behind : List ℕ → Option Worth) where
+      read : (rest : List ℕ) × (next ≡ Some rest) × (input_lines so_far.rest ≡ line ∷ input_lines rest)
+      read = subst (λ l. GivesLine (changing l next) line (Ok true)) so_far.left_is given
+
+      split_behind : input_lines input ≡ (so_far.lines ++ line ∷ []) ++ input_lines read.0
+      split_behind = so_far.split ∙ ap (λ l. so_far.lines ++ l) read.2 ∙ sym (append_assoc so_far.lines (line ∷ []) (input_lines read.0))
+
+      -- the line is answered
+      pub one_more : (accepted : Bool) → AnswersLine line form t named behind (changing new last) (Ok accepted) → SoFar form t input next old last behind (all && accepted)
+      one_more accepted h = record {
+        lines = so_far.lines ++ line ∷ [];
+        rest = read.0;
+        written = so_far.written ++ (h.0 ++ prompt_of t);
+        left_is = read.1;
+        split = split_behind;
+        answered = and_line so_far.lines line named behind so_far.written h.0 all accepted so_far.answered h.1;
+        takes = Appends-trans old new last so_far.written (h.0 ++ prompt_of t) so_far.takes h.2;
+      }
+
+      -- the line is not answered, or not whole
+      pub line_stops : (fault : Fault) → AnswersLine line form t named behind (changing new last) (Err fault) → AnswersInput form t input next (changing old last) (Err fault)
+      line_stops faults.Write h =
+          let written = so_far.written ++ (h.0 ++ prompt_of t) in (
+            input_lines read.0,
+            written,
+            all && h.1,
+            record {
+              lines = so_far.lines ++ line ∷ [];
+              behind = behind;
+              split = split_behind;
+              answered = and_line so_far.lines line named behind so_far.written h.0 all h.1 so_far.answered h.2;
+            },
+            front_of_end t (input_lines read.0) old last written (front_after old new last so_far.written (h.0 ++ prompt_of t) written refl so_far.takes h.3),
+          )
+      line_stops faults.Memory h = (
+        input_lines so_far.rest,
+        so_far.written,
+        all,
+        answered_before (input_lines so_far.rest) refl,
+        subst (λ o. Takes (changing old o) so_far.written) (sym h) so_far.takes,
+      )
+      line_stops faults.Arguments h = absurd h
+      line_stops (faults.UnknownOption name) h = absurd h
+      line_stops faults.NoPlaces h = absurd h
+      line_stops faults.Read h = absurd h

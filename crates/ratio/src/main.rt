@@ -1,0 +1,128 @@
+//! The program `ratio`: the value of the expression in its arguments, or the values of the lines of its input, and its status.
+//!
+//! | Module | What is in it |
+//! |---|---|
+//! | `request` | What the arguments ask for, or why they are refused. |
+//! | `option` | The options, by their names. |
+//! | `answering` | The reply to one expression, and to the lines of the input. |
+//! | `console` | What the system gives the program and takes from it: arguments, the input and its lines, and the two outputs. |
+//! | `fault` | Why the program stops before its end, and its message. |
+//! | `help` | The texts of `--help` and `--version`. |
+//! | `writing` | Bytes for an output, written whole. |
+#![tactic(auto)]
+
+mod answering;
+mod console;
+pub mod fault;
+mod help;
+mod option;
+mod request;
+mod writing;
+
+ghost use Rattle.std.specs.Prelude.{◌≡◌, map, string_bytes};
+ghost use Rattle.std.specs.Process.{exit_status};
+ghost use Rattle.ratio.specs.Devices.{device_change};
+ghost use Rattle.ratio.specs.Runs.{WritesText, Runs, Serves, form_of_lines};
+ghost use Rattle.ratio.specs.Status.{status};
+
+use crate::console::{arguments, input, is_terminal};
+use answering::{answer_expression, answer_lines};
+use fault::{Fault, report};
+use help::{HELP, VERSION};
+use ratio_expressions::replies::Form;
+use request::{Request, requested};
+use std::alloc::Global;
+use std::io::{BufRead, Write};
+use std::process::ExitCode;
+use writing::write;
+
+fn main(rt: HostRuntime) -> ExitCode {
+    let outcome = run_here(&rt);
+    if let Err(fault) = &outcome {
+        let _ = report(&mut rt.stderr(), fault);
+    }
+    status_of(&outcome)
+}
+
+// Does what the program's arguments ask for, and says whether each line has a value.
+fn run_here(rt: &HostRuntime) -> Result<bool, Fault> {
+    let words = arguments(rt)?;
+    let mut reader = input(rt)?;
+    run(
+        rt.alloc(),
+        &words,
+        is_terminal(rt),
+        &mut reader,
+        &mut rt.stdout(),
+        &mut rt.stderr(),
+    )
+}
+
+// Does what the arguments ask for, and says whether each line has a value.
+fn run<R: BufRead, W: Write, E: Write>(
+    alloc: Global,
+    words: &[String],
+    on_terminal: bool,
+    input: &mut R,
+    output: &mut W,
+    errors: &mut E,
+) -> Result<bool, Fault>
+    ensures { Runs (map string_bytes words.now) on_terminal (device_change R.remaining input.old input.new)
+        (device_change W.contents output.old output.new) (device_change E.contents errors.old errors.new) result }
+{
+    let request = requested(alloc, words)?;
+    serve(alloc, request, on_terminal, input, output, errors)
+}
+
+// Does what a request says.
+fn serve<R: BufRead, W: Write, E: Write>(
+    alloc: Global,
+    request: Request,
+    on_terminal: bool,
+    input: &mut R,
+    output: &mut W,
+    errors: &mut E,
+) -> Result<bool, Fault>
+    ensures { Serves request on_terminal (device_change R.remaining input.old input.new)
+        (device_change W.contents output.old output.new) (device_change E.contents errors.old errors.new) result }
+{
+    match request {
+        Request::Help => print_text(output, HELP),
+        Request::Version => print_text(output, VERSION),
+        Request::Expression(text, form) => answer_expression(alloc, &text, form, output, errors),
+        Request::Lines(form) => {
+            let form = form.unwrap_or(form_of_lines(on_terminal));
+            answer_lines(alloc, form, on_terminal, input, output)
+        }
+    }
+}
+
+// Prints a text.
+fn print_text<W: Write>(output: &mut W, text: &str) -> Result<bool, Fault>
+    ensures { WritesText text.now (device_change W.contents output.old output.new) result }
+{
+    write(output, text.as_bytes())?;
+    Ok(true)
+}
+
+// The form of lines without one that was asked for: on a terminal the fraction has its decimal beside it.
+fn form_of_lines(on_terminal: bool) -> Form
+    ensures { result ≡ form_of_lines on_terminal }
+{
+    if on_terminal {
+        Form::Both
+    } else {
+        Form::Fraction
+    }
+}
+
+// The program's status: 0 if each line has a value, 1 if one has none, and 2 if the program stopped before its end.
+fn status_of(outcome: &Result<bool, Fault>) -> ExitCode
+    ensures { exit_status result ≡ status outcome.now }
+{
+    match outcome {
+        Ok(true) => ExitCode::SUCCESS,
+        Ok(false) => ExitCode::FAILURE,
+        Err(_) => ExitCode::from(2u8),
+    }
+}

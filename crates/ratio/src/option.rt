@@ -1,0 +1,80 @@
+//! The options, by their names.
+ghost use Rattle.std.specs.Prelude.{◌≡◌, ℕ, MatchOption};
+ghost use Rattle.ratio.specs.Options.{SaysPlaces, is_option, option_named};
+
+use ratio_expressions::replies::Form;
+
+/// A page that the program prints in place of a value.
+#[derive(Clone, Copy, PartialEq, Debug)]
+pub enum Page {
+    /// The text of `--help`.
+    Help,
+    /// The text of `--version`.
+    Version,
+}
+
+/// What an option asks for.
+#[derive(Clone, Copy, PartialEq, Debug)]
+pub enum Asked {
+    /// A page: `--help`.
+    Page(Page),
+    /// A form: `--mixed`.
+    Form(Form),
+    /// `--decimal`: the number of places comes next.
+    Places,
+    /// `--`: there are no more options.
+    End,
+}
+
+/// Whether an argument is an option, known or not: `--`, or one or two dashes and a letter. `-1/2` is an expression, and so is `--1`.
+pub fn is_option(word: &[u8]) -> bool
+    ensures { result ≡ is_option word.now }
+{
+    match word {
+        [b'-', b'-'] => true,
+        [b'-', b'-', first, ..] => first.is_ascii_alphabetic(),
+        [b'-', first, ..] => first.is_ascii_alphabetic(),
+        _ => false,
+    }
+}
+
+/// What the option of this name asks for, or `None` if there is none.
+pub fn option_named(word: &[u8]) -> Option<Asked>
+    ensures { result ≡ option_named word.now }
+{
+    if word == b"--help".as_slice() {
+        return Some(Asked::Page(Page::Help));
+    }
+    if word == b"--version".as_slice() {
+        return Some(Asked::Page(Page::Version));
+    }
+    if word == b"--fraction".as_slice() {
+        return Some(Asked::Form(Form::Fraction));
+    }
+    if word == b"--mixed".as_slice() {
+        return Some(Asked::Form(Form::Mixed));
+    }
+    if word == b"--both".as_slice() {
+        return Some(Asked::Form(Form::Both));
+    }
+    if word == b"--float".as_slice() {
+        return Some(Asked::Form(Form::Float));
+    }
+    if word == b"--decimal".as_slice() {
+        return Some(Asked::Places);
+    }
+    if word == b"--".as_slice() {
+        return Some(Asked::End);
+    }
+    None
+}
+
+/// The number of places that an argument says, up to 1,000,000, or `None`.
+pub fn places(word: &str) -> Option<u32>
+    ensures { MatchOption result ((n : ℕ) → ¬ SaysPlaces word.now n) (SaysPlaces word.now) }
+{
+    match word.parse::<u32>() {
+        Ok(n) if n <= 1_000_000 => Some(n),
+        _ => None,
+    }
+}

@@ -1,8 +1,0 @@
-use Rattle.std.proofs.Common.{map, take}
-use Rattle.ratio_big.specs.Fractions.{big_numbers}
-use Rattle.ratio_expr.specs.Functions.{IsGcdOfAll}
-use Rattle.ratio_expr.proofs.calls.common_divisor.Given as goal
-
--- that of the numbers so far
-abbrev pub invariant-loop-next : goal.invariant-loop-next
-invariant-loop-next l = IsGcdOfAll (map big_numbers (take l.next l.numbers)) (big_numbers l.divisor)

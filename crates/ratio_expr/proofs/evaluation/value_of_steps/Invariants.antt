@@ -1,8 +1,0 @@
-use Rattle.ratio_expr.specs.Bound.{named}
-use Rattle.ratio_expr.specs.Stacks.{worths}
-use Rattle.ratio_expr.proofs.Running.{IsRunning}
-use Rattle.ratio_expr.proofs.evaluation.value_of_steps.Given as goal
-
--- the steps so far are taken
-abbrev pub invariant-loop-step : goal.invariant-loop-step
-invariant-loop-step l = IsRunning l.text (named l.names) l.steps l.step-index (worths l.stack.items)

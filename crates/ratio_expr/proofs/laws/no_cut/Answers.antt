@@ -1,5 +1,0 @@
-use Rattle.ratio_expr.proofs.CutLaws.{no_cut}
-use Rattle.ratio_expr.proofs.laws.no_cut.Goals as goal
-
-pub returns : goal.returns
-returns c = no_cut

@@ -1,5 +1,0 @@
-use Rattle.ratio_expr.proofs.ShownLaws.{shown_once}
-use Rattle.ratio_expr.proofs.laws.one_reading.Goals as goal
-
-pub returns : goal.returns
-returns c = shown_once

@@ -1,5 +1,0 @@
-use Rattle.ratio_expr.proofs.Refusals.{one_refusal}
-use Rattle.ratio_expr.proofs.laws.one_refusal.Goals as goal
-
-pub returns : goal.returns
-returns c = one_refusal

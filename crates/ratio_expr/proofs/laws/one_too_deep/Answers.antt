@@ -1,5 +1,0 @@
-use Rattle.ratio_expr.proofs.DepthLaws.{one_too_deep}
-use Rattle.ratio_expr.proofs.laws.one_too_deep.Goals as goal
-
-pub returns : goal.returns
-returns c = one_too_deep

@@ -1,5 +1,0 @@
-use Rattle.ratio_expr.proofs.ParserLaws.{one_of_tokens}
-use Rattle.ratio_expr.proofs.laws.one_tree.Goals as goal
-
-pub returns : goal.returns
-returns c = one_of_tokens

@@ -1,5 +1,0 @@
-use Rattle.ratio_expr.proofs.ParserLaws.{one_of_steps}
-use Rattle.ratio_expr.proofs.laws.one_tree_of_steps.Goals as goal
-
-pub returns : goal.returns
-returns c = one_of_steps

@@ -1,5 +1,0 @@
-use Rattle.ratio_expr.proofs.Refusals.{one_of_text}
-use Rattle.ratio_expr.proofs.laws.one_tree_of_text.Goals as goal
-
-pub returns : goal.returns
-returns c = one_of_text

@@ -1,5 +1,0 @@
-use Rattle.ratio_expr.proofs.TextLaws.{text_once}
-use Rattle.ratio_expr.proofs.value_laws.one_refusal.Goals as goal
-
-pub returns : goal.returns
-returns c = text_once

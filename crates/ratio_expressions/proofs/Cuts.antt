@@ -1,0 +1,34 @@
+-- A text that is cut up to a place is cut up to a later one.
+use Rattle.std.proofs.Common.{◌≡◌, ◌≤◌, ◌+◌, ◌-◌, ℕ, List, [], ◌∷◌, ◌++◌, length, take, drop, Some, refl, ap, sym, ◌∙◌, subst, arith, ⊎_elim}
+use Rattle.std.specs.Prelude.{slice_index}
+use Rattle.std.proofs.lemmas.Bool.Decides.{leb_tells}
+use Rattle.ratio_expressions.specs.declared.token.Token.{Token}
+use Rattle.std.proofs.lemmas.List.{take_rest, length-drop}
+use Rattle.ratio_expressions.specs.declared.token.Kind.{Kind}
+use Rattle.ratio_expressions.specs.Tokens.{first_token, IsBlank, IsTokenAt, IsCutInto}
+
+blank_on : (text : List ℕ) (from to : ℕ) → IsBlank text from to → slice_index text to ≡ 32 → IsBlank text from (to + 1)
+blank_on text from to b e = record {
+  ordered = omega (arith, b.ordered);
+  spaces = λ k low high. ⊎_elim
+      (λ p. let here : to ≡ k = omega arith in subst (λ n. slice_index text n ≡ 32) here e)
+      (λ p. b.spaces k low p.1)
+      (leb_tells to k);
+}
+
+-- one space more
+pub blank_more : (text : List ℕ) (from to : ℕ) (ts : List Token) → IsCutInto text from to ts → slice_index text to ≡ 32 → IsCutInto text from (to + 1) ts
+blank_more text from to [] h e = blank_on text from to h e
+blank_more text from to (t ∷ ts) h e = (h.0, h.1, blank_more text t.span.end to ts h.2 e)
+
+-- one token more
+pub token_more : (text : List ℕ) (from to : ℕ) (ts : List Token) (t : Token) → IsCutInto text from to ts → t.span.start ≡ to → IsTokenAt text t → IsCutInto text from t.span.end (ts ++ t ∷ [])
+token_more text from to [] t h e new =
+    (subst (λ n. IsBlank text from n) (sym e) h, new, record { ordered = omega arith; spaces = λ k low high. absurd (omega arith) })
+token_more text from to (u ∷ us) t h e new = (h.0, h.1, token_more text u.span.end to us t h.2 e new)
+
+-- the token that the rest of a text begins with is in the text
+pub token_here : (text : List ℕ) (at long : ℕ) (kind : Kind) → at ≤ length text → Some (kind, long) ≡ first_token (take (length text - at) (drop at text)) → long ≤ length (take (length text - at) (drop at text)) → IsTokenAt text (record { kind = kind; span = record { start = at; end = at + long } })
+token_here text at long kind within e fits =
+    let rest : take (length text - at) (drop at text) ≡ drop at text = take_rest text at in
+    record { long = long; end = refl; within = omega (arith, ap length rest, length-drop at text); first = sym (e ∙ ap first_token rest) }

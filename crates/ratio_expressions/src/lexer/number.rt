@@ -1,0 +1,205 @@
+//! How long the number or the name is that a text begins with.
+ghost use Rattle.std.specs.Prelude.{◌≡◌, ◌≤◌, length};
+ghost use Rattle.std.specs.List.{take_while};
+ghost use Rattle.ratio_expressions.specs.Tokens.{digits, led, mixed_tail, exponent_sign, signed_digits, exponent, decimal, part, percent, vulgar_tail, broken_part, tail, begins_number, number, name, is_name_byte, starts_name};
+
+use crate::vulgar::vulgar_length;
+
+/// How long the number is that a text begins with, or 0.
+#[tactic(auto, unfolding(crate::specs::Tokens::number))]
+pub(crate) fn number_length(text: &[u8]) -> usize
+    ensures is { result ≡ number text.now }
+    ensures fits { result ≤ length text.now }
+{
+    let whole = digits_length(text);
+    if whole > 0 || led_length(b'.', text) > 0 || vulgar_length(text) > 0 {
+        whole + tail_length(&text[whole..])
+    } else {
+        0
+    }
+}
+
+/// How long the name is that a text begins with, or 0.
+#[tactic(auto, unfolding(crate::specs::Tokens::name))]
+pub(crate) fn name_length(text: &[u8]) -> usize
+    ensures is { result ≡ name text.now }
+    ensures fits { result ≤ length text.now }
+{
+    match text {
+        [first, ..] if is_name_start(*first) => name_bytes(text),
+        _ => 0,
+    }
+}
+
+// How many letters, digits and underscores a text begins with.
+fn name_bytes(text: &[u8]) -> usize
+    ensures is { result ≡ length (take_while is_name_byte text.now) }
+    ensures fits { result ≤ length text.now }
+{
+    text.iter()
+        .take_while(|byte| byte.is_ascii_alphanumeric() || **byte == b'_')
+        .count()
+}
+
+// Whether a name may begin with the byte.
+fn is_name_start(byte: u8) -> bool
+    ensures { result ≡ starts_name byte }
+{
+    byte.is_ascii_alphabetic() || byte == b'_'
+}
+
+// How many digits a text begins with.
+#[tactic(auto, unfolding(crate::specs::Tokens::digits))]
+fn digits_length(text: &[u8]) -> usize
+    ensures is { result ≡ digits text.now }
+    ensures fits { result ≤ length text.now }
+{
+    text.iter().take_while(|byte| byte.is_ascii_digit()).count()
+}
+
+// How long this byte and the digits behind it are, or 0 if there is no digit.
+#[tactic(auto, unfolding(crate::specs::Tokens::led, crate::specs::Tokens::digits))]
+fn led_length(byte: u8, text: &[u8]) -> usize
+    ensures is { result ≡ led byte text.now }
+    ensures fits { result ≤ length text.now }
+{
+    match text {
+        [first, rest @ ..] if *first == byte => {
+            let digits = digits_length(rest);
+            if digits > 0 { digits + 1 } else { 0 }
+        }
+        _ => 0,
+    }
+}
+
+// How long the second part of a mixed number is.
+#[tactic(auto, unfolding(crate::specs::Tokens::mixed_tail))]
+fn mixed_length(text: &[u8]) -> usize
+    ensures is { result ≡ mixed_tail text.now }
+    ensures fits { result ≤ length text.now }
+{
+    let numer = led_length(b' ', text);
+    let denom = led_length(b'/', &text[numer..]);
+    if numer > 0 && denom > 0 {
+        numer + denom
+    } else {
+        0
+    }
+}
+
+// How long a sign of an exponent is.
+#[tactic(auto, unfolding(crate::specs::Tokens::exponent_sign))]
+fn sign_length(text: &[u8]) -> usize
+    ensures is { result ≡ exponent_sign text.now }
+    ensures fits { result ≤ length text.now }
+{
+    match text {
+        [b'-' | b'+', ..] => 1,
+        _ => 0,
+    }
+}
+
+// How long a sign or none and digits are, or 0 if there is no digit.
+#[tactic(auto, unfolding(crate::specs::Tokens::signed_digits))]
+fn signed_length(text: &[u8]) -> usize
+    ensures is { result ≡ signed_digits text.now }
+    ensures fits { result ≤ length text.now }
+{
+    let sign = sign_length(text);
+    let digits = digits_length(&text[sign..]);
+    if digits > 0 { sign + digits } else { 0 }
+}
+
+// How long an exponent is.
+#[tactic(auto, unfolding(crate::specs::Tokens::exponent))]
+fn exponent_length(text: &[u8]) -> usize
+    ensures is { result ≡ exponent text.now }
+    ensures fits { result ≤ length text.now }
+{
+    match text {
+        [b'e' | b'E', rest @ ..] => {
+            let signed = signed_length(rest);
+            if signed > 0 { signed + 1 } else { 0 }
+        }
+        _ => 0,
+    }
+}
+
+// How long a point with digits and an exponent are, each if it is there.
+#[tactic(auto, unfolding(crate::specs::Tokens::decimal))]
+fn decimal_length(text: &[u8]) -> usize
+    ensures is { result ≡ decimal text.now }
+    ensures fits { result ≤ length text.now }
+{
+    let point = led_length(b'.', text);
+    point + exponent_length(&text[point..])
+}
+
+// How long what makes a whole number a fraction or a decimal is.
+#[tactic(auto, unfolding(crate::specs::Tokens::part))]
+fn part_length(text: &[u8]) -> usize
+    ensures is { result ≡ part text.now }
+    ensures fits { result ≤ length text.now }
+{
+    let denom = led_length(b'/', text);
+    if denom > 0 {
+        denom
+    } else {
+        decimal_length(text)
+    }
+}
+
+// How long a percent sign is.
+#[tactic(auto, unfolding(crate::specs::Tokens::percent))]
+fn percent_length(text: &[u8]) -> usize
+    ensures is { result ≡ percent text.now }
+    ensures fits { result ≤ length text.now }
+{
+    match text {
+        [b'%', ..] => 1,
+        _ => 0,
+    }
+}
+
+// How long a vulgar fraction is, or a space and a vulgar fraction, or 0.
+#[tactic(auto, unfolding(crate::specs::Tokens::vulgar_tail))]
+fn vulgar_tail_length(text: &[u8]) -> usize
+    ensures is { result ≡ vulgar_tail text.now }
+    ensures fits { result ≤ length text.now }
+{
+    match text {
+        [b' ', rest @ ..] => {
+            let long = vulgar_length(rest);
+            if long > 0 { long + 1 } else { 0 }
+        }
+        _ => vulgar_length(text),
+    }
+}
+
+// How long what makes a whole number a mixed number, a fraction or a decimal is.
+#[tactic(auto, unfolding(crate::specs::Tokens::broken_part))]
+fn broken_length(text: &[u8]) -> usize
+    ensures is { result ≡ broken_part text.now }
+    ensures fits { result ≤ length text.now }
+{
+    let mixed = mixed_length(text);
+    if mixed > 0 {
+        return mixed;
+    }
+    let vulgar = vulgar_tail_length(text);
+    if vulgar > 0 {
+        vulgar
+    } else {
+        part_length(text)
+    }
+}
+
+// How long what follows the digits of a number is.
+#[tactic(auto, unfolding(crate::specs::Tokens::tail))]
+fn tail_length(text: &[u8]) -> usize
+    ensures is { result ≡ tail text.now }
+    ensures fits { result ≤ length text.now }
+{
+    let part = broken_length(text);
+    part + percent_length(&text[part..])
+}

@@ -1,0 +1,16 @@
+//! What a line that a person types is answered: its value in a form, or why it has none, with a caret below the place.
+
+mod both;
+mod fields;
+mod float;
+mod form;
+pub mod laws;
+mod mixed;
+mod reading;
+mod refused;
+mod reply;
+mod written;
+
+pub use form::Form;
+pub use reply::{Reply, reply_to};
+pub use written::value_text;

@@ -1,6 +1,0 @@
-pub mod DenominatorLemmas
-pub mod FloatLemmas
-pub mod FloatTextLemmas
-pub mod MixedLemmas
-pub mod ReplyLaws
-pub mod WholeLemmas

@@ -1,6 +1,0 @@
-use Rattle.std.proofs.Common.{ℕ, ◌<◌}
-use Rattle.ratio_replies.specs.Floats.{FloatReadsBack}
-use Rattle.ratio_replies.proofs.float.fewest_places.Given as goal
-
-abbrev pub invariant-loop-places : goal.invariant-loop-places
-invariant-loop-places l = (k : ℕ) → k < l.places → FloatReadsBack l.float k → ⊥

@@ -1,5 +1,0 @@
-pub mod Floats
-pub mod Forms
-pub mod Refused
-pub mod Readings
-pub mod Replies

@@ -1,7 +1,0 @@
-use Rattle.std.proofs.Common.{map, take}
-use Rattle.std.specs.Prelude.{string_bytes}
-use Rattle.ratio_tool.specs.Requests.{IsSoFar}
-use Rattle.ratio_tool.proofs.request.requested.Given as goal
-
-abbrev pub invariant-loop-word : goal.invariant-loop-word
-invariant-loop-word l = IsSoFar (map string_bytes (take l.word-index l.words)) l.so_far

@@ -1,0 +1,108 @@
+// Erased from crates/ratio/src/main.rt by rust/erase: not to be edited.
+//! The program `ratio`: the value of the expression in its arguments, or the values of the lines of its input, and its status.
+use bakhsney::memory::{Global, String};
+
+mod answering;
+
+pub mod fault;
+mod help;
+mod option;
+mod request;
+mod writing;
+
+use crate::host::{arguments, input, is_terminal};
+use answering::{answer_expression, answer_lines};
+use fault::{Fault, report};
+use help::{HELP, VERSION};
+use crate::proved::ratio_expressions::replies::Form;
+use request::{Request, requested};
+
+use std::io::{BufRead, Write};
+use std::process::ExitCode;
+use writing::write;
+
+#[inline]
+pub fn main() -> ExitCode {
+    let outcome = run_here();
+    if let Err(fault) = &outcome {
+        let _ = report(&mut crate::host::stderr(), fault);
+    }
+    status_of(&outcome)
+}
+
+// Does what the program's arguments ask for, and says whether each line has a value.
+#[inline]
+fn run_here() -> Result<bool, Fault> {
+    let words = arguments()?;
+    let mut reader = input()?;
+    run(
+        Global,
+        &words,
+        is_terminal(),
+        &mut reader,
+        &mut crate::host::stdout(),
+        &mut crate::host::stderr(),
+    )
+}
+
+// Does what the arguments ask for, and says whether each line has a value.
+#[inline]
+fn run<R: BufRead, W: Write, E: Write>(
+    alloc: Global,
+    words: &[String],
+    on_terminal: bool,
+    input: &mut R,
+    output: &mut W,
+    errors: &mut E,
+) -> Result<bool, Fault> {
+    let request = requested(alloc, words)?;
+    serve(alloc, request, on_terminal, input, output, errors)
+}
+
+// Does what a request says.
+#[inline]
+fn serve<R: BufRead, W: Write, E: Write>(
+    alloc: Global,
+    request: Request,
+    on_terminal: bool,
+    input: &mut R,
+    output: &mut W,
+    errors: &mut E,
+) -> Result<bool, Fault> {
+    match request {
+        Request::Help => print_text(output, HELP),
+        Request::Version => print_text(output, VERSION),
+        Request::Expression(text, form) => answer_expression(alloc, &text, form, output, errors),
+        Request::Lines(form) => {
+            let form = form.unwrap_or(form_of_lines(on_terminal));
+            answer_lines(alloc, form, on_terminal, input, output)
+        }
+    }
+}
+
+// Prints a text.
+#[inline]
+fn print_text<W: Write>(output: &mut W, text: &str) -> Result<bool, Fault> {
+    write(output, text.as_bytes())?;
+    Ok(true)
+}
+
+// The form of lines without one that was asked for: on a terminal the fraction has its decimal beside it.
+#[inline]
+fn form_of_lines(on_terminal: bool) -> Form {
+    if on_terminal {
+        Form::Both
+    } else {
+        Form::Fraction
+    }
+}
+
+// The program's status: 0 if each line has a value, 1 if one has none, and 2 if the program stopped before its end.
+#[inline]
+fn status_of(outcome: &Result<bool, Fault>) -> ExitCode {
+    match outcome {
+        Ok(true) => ExitCode::SUCCESS,
+        Ok(false) => ExitCode::FAILURE,
+        Err(_) => ExitCode::from(2u8),
+    }
+}

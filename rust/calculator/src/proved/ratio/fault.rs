@@ -1,0 +1,60 @@
+// Erased from crates/ratio/src/fault.rt by rust/erase: not to be edited.
+//! Why the program stops before its end, and its message.
+
+use bakhsney::memory::{AllocError, String};
+use crate::proved::ratio::writing::write;
+
+use std::io::Write;
+
+/// Why the program stops before its end.
+pub enum Fault {
+    /// An argument is not in UTF-8.
+    Arguments,
+    /// No option has this name.
+    UnknownOption(String),
+    /// There is no number from 0 to 1,000,000 behind `--decimal`.
+    NoPlaces,
+    /// The memory did not suffice.
+    Memory,
+    /// The input could not be read.
+    Read,
+    /// An answer could not be written.
+    Write,
+}
+
+impl From<AllocError> for Fault {
+    #[inline]
+    fn from(_e: AllocError) -> Fault {
+        Fault::Memory
+    }
+}
+
+/// Writes the message of a fault, as on standard error.
+#[inline]
+pub fn report<W: Write>(errors: &mut W, fault: &Fault) -> Result<(), Fault> {
+    let (text, name, more) = message(fault);
+    write(errors, text.as_bytes())?;
+    write(errors, name.as_bytes())?;
+    write(errors, more.as_bytes())
+}
+
+// The message of a fault, in three parts.
+#[inline]
+fn message(fault: &Fault) -> (&str, &str, &str) {
+    match fault {
+        Fault::Arguments => ("ratio: an argument is not UTF-8\n", "", ""),
+        Fault::UnknownOption(name) => (
+            "ratio: unknown option ",
+            name.as_str(),
+            ": see ratio --help\n",
+        ),
+        Fault::NoPlaces => (
+            "ratio: --decimal wants a number of places, from 0 to 1000000\n",
+            "",
+            "",
+        ),
+        Fault::Memory => ("ratio: out of memory\n", "", ""),
+        Fault::Read => ("ratio: read failed\n", "", ""),
+        Fault::Write => ("ratio: write failed\n", "", ""),
+    }
+}

@@ -1,0 +1,35 @@
+// Erased from crates/ratio/src/writing.rt by rust/erase: not to be edited.
+//! Bytes for an output, written whole.
+
+use crate::proved::ratio::fault::Fault;
+use std::io::{ErrorKind, Write};
+
+/// Writes all the bytes, and flushes the writer.
+#[inline]
+pub fn write<W: Write>(writer: &mut W, bytes: &[u8]) -> Result<(), Fault> {
+    let mut at = 0;
+    for _turn in 0..u64::MAX {
+        if at >= bytes.len() {
+            return flush(writer);
+        }
+        match writer.write(&bytes[at..]) {
+            Ok(0) => return Err(Fault::Write),
+            Ok(n) => at += n,
+            Err(e) => {
+                if e.kind() != ErrorKind::Interrupted {
+                    return Err(Fault::Write);
+                }
+            }
+        }
+    }
+    Err(Fault::Write)
+}
+
+// Flushes the writer.
+#[inline]
+fn flush<W: Write>(writer: &mut W) -> Result<(), Fault> {
+    match writer.flush() {
+        Ok(()) => Ok(()),
+        Err(_) => Err(Fault::Write),
+    }
+}

@@ -1,0 +1,158 @@
+// Erased from crates/ratio_expressions/src/lexer/number.rt by rust/erase: not to be edited.
+//! How long the number or the name is that a text begins with.
+
+use crate::proved::ratio_expressions::vulgar::vulgar_length;
+
+/// How long the number is that a text begins with, or 0.
+#[inline]
+pub(crate) fn number_length(text: &[u8]) -> usize {
+    let whole = digits_length(text);
+    if whole > 0 || led_length(b'.', text) > 0 || vulgar_length(text) > 0 {
+        whole + tail_length(&text[whole..])
+    } else {
+        0
+    }
+}
+
+/// How long the name is that a text begins with, or 0.
+#[inline]
+pub(crate) fn name_length(text: &[u8]) -> usize {
+    match text {
+        [first, ..] if is_name_start(*first) => name_bytes(text),
+        _ => 0,
+    }
+}
+
+// How many letters, digits and underscores a text begins with.
+#[inline]
+fn name_bytes(text: &[u8]) -> usize {
+    text.iter()
+        .take_while(|byte| byte.is_ascii_alphanumeric() || **byte == b'_')
+        .count()
+}
+
+// Whether a name may begin with the byte.
+#[inline]
+fn is_name_start(byte: u8) -> bool {
+    byte.is_ascii_alphabetic() || byte == b'_'
+}
+
+// How many digits a text begins with.
+#[inline]
+fn digits_length(text: &[u8]) -> usize {
+    text.iter().take_while(|byte| byte.is_ascii_digit()).count()
+}
+
+// How long this byte and the digits behind it are, or 0 if there is no digit.
+#[inline]
+fn led_length(byte: u8, text: &[u8]) -> usize {
+    match text {
+        [first, rest @ ..] if *first == byte => {
+            let digits = digits_length(rest);
+            if digits > 0 { digits + 1 } else { 0 }
+        }
+        _ => 0,
+    }
+}
+
+// How long the second part of a mixed number is.
+#[inline]
+fn mixed_length(text: &[u8]) -> usize {
+    let numer = led_length(b' ', text);
+    let denom = led_length(b'/', &text[numer..]);
+    if numer > 0 && denom > 0 {
+        numer + denom
+    } else {
+        0
+    }
+}
+
+// How long a sign of an exponent is.
+#[inline]
+fn sign_length(text: &[u8]) -> usize {
+    match text {
+        [b'-' | b'+', ..] => 1,
+        _ => 0,
+    }
+}
+
+// How long a sign or none and digits are, or 0 if there is no digit.
+#[inline]
+fn signed_length(text: &[u8]) -> usize {
+    let sign = sign_length(text);
+    let digits = digits_length(&text[sign..]);
+    if digits > 0 { sign + digits } else { 0 }
+}
+
+// How long an exponent is.
+#[inline]
+fn exponent_length(text: &[u8]) -> usize {
+    match text {
+        [b'e' | b'E', rest @ ..] => {
+            let signed = signed_length(rest);
+            if signed > 0 { signed + 1 } else { 0 }
+        }
+        _ => 0,
+    }
+}
+
+// How long a point with digits and an exponent are, each if it is there.
+#[inline]
+fn decimal_length(text: &[u8]) -> usize {
+    let point = led_length(b'.', text);
+    point + exponent_length(&text[point..])
+}
+
+// How long what makes a whole number a fraction or a decimal is.
+#[inline]
+fn part_length(text: &[u8]) -> usize {
+    let denom = led_length(b'/', text);
+    if denom > 0 {
+        denom
+    } else {
+        decimal_length(text)
+    }
+}
+
+// How long a percent sign is.
+#[inline]
+fn percent_length(text: &[u8]) -> usize {
+    match text {
+        [b'%', ..] => 1,
+        _ => 0,
+    }
+}
+
+// How long a vulgar fraction is, or a space and a vulgar fraction, or 0.
+#[inline]
+fn vulgar_tail_length(text: &[u8]) -> usize {
+    match text {
+        [b' ', rest @ ..] => {
+            let long = vulgar_length(rest);
+            if long > 0 { long + 1 } else { 0 }
+        }
+        _ => vulgar_length(text),
+    }
+}
+
+// How long what makes a whole number a mixed number, a fraction or a decimal is.
+#[inline]
+fn broken_length(text: &[u8]) -> usize {
+    let mixed = mixed_length(text);
+    if mixed > 0 {
+        return mixed;
+    }
+    let vulgar = vulgar_tail_length(text);
+    if vulgar > 0 {
+        vulgar
+    } else {
+        part_length(text)
+    }
+}
+
+// How long what follows the digits of a number is.
+#[inline]
+fn tail_length(text: &[u8]) -> usize {
+    let part = broken_length(text);
+    part + percent_length(&text[part..])
+}

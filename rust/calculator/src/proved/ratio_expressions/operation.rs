@@ -1,0 +1,65 @@
+// Erased from crates/ratio_expressions/src/operation.rt by rust/erase: not to be edited.
+//! What an operator gives of two values, or why it refuses them.
+
+use bakhsney::memory::{AllocError, Global};
+use crate::proved::ratio_expressions::power::power;
+use crate::proved::ratio_expressions::refusal::Reason;
+use crate::proved::ratio_expressions::token::Operator;
+use crate::proved::ratio_expressions::value::Value;
+use bakhsney::proved::ratio_big::BigFraction;
+
+/// The negative of a value, or `None` if it is true or false.
+#[inline]
+pub(crate) fn negative(alloc: Global, value: &Value) -> Result<Option<Value>, AllocError> {
+    match value {
+        Value::Number(x) => Ok(Some(Value::Number(x.negate(alloc)?))),
+        Value::Truth(_) => Ok(None),
+    }
+}
+
+/// What the operator gives of two values, or why it refuses them.
+#[inline]
+pub(crate) fn applied(
+    alloc: Global,
+    operator: Operator,
+    left: &Value,
+    right: &Value,
+) -> Result<Result<Value, Reason>, AllocError> {
+    match left {
+        Value::Truth(_) => Ok(Err(Reason::NotNumber)),
+        Value::Number(x) => match right {
+            Value::Truth(_) => Ok(Err(Reason::NotNumber)),
+            Value::Number(y) => of_numbers(alloc, operator, x, y),
+        },
+    }
+}
+
+// What the operator gives of two numbers, or why it refuses them.
+#[inline]
+fn of_numbers(
+    alloc: Global,
+    operator: Operator,
+    x: &BigFraction,
+    y: &BigFraction,
+) -> Result<Result<Value, Reason>, AllocError> {
+    match operator {
+        Operator::Less => Ok(Ok(Value::Truth(x.compare(alloc, y)?.is_lt()))),
+        Operator::AtMost => Ok(Ok(Value::Truth(x.compare(alloc, y)?.is_le()))),
+        Operator::Equal => Ok(Ok(Value::Truth(x.compare(alloc, y)?.is_eq()))),
+        Operator::NotEqual => Ok(Ok(Value::Truth(x.compare(alloc, y)?.is_ne()))),
+        Operator::AtLeast => Ok(Ok(Value::Truth(x.compare(alloc, y)?.is_ge()))),
+        Operator::Greater => Ok(Ok(Value::Truth(x.compare(alloc, y)?.is_gt()))),
+        Operator::Add => Ok(Ok(Value::Number(x.add(alloc, y)?))),
+        Operator::Subtract => Ok(Ok(Value::Number(x.subtract(alloc, y)?))),
+        Operator::Multiply => Ok(Ok(Value::Number(x.multiply(alloc, y)?))),
+        Operator::Divide => match x.divide(alloc, y)? {
+            Some(quotient) => Ok(Ok(Value::Number(quotient))),
+            None => Ok(Err(Reason::ZeroDivisor)),
+        },
+        Operator::Remainder => match x.remainder(alloc, y)? {
+            Some(rest) => Ok(Ok(Value::Number(rest))),
+            None => Ok(Err(Reason::ZeroDivisor)),
+        },
+        Operator::Power => power(alloc, x, y),
+    }
+}

@@ -124,6 +124,47 @@ def from_text(text):
     return NOT_NUMBER if value is None else zero if value == zero else shown(value)
 
 
+def decimal_numbers(text):
+    """The numerator and the denominator of a decimal as it is written, or `None`. One beyond 10^(10^6) counts as 2^(10^7)."""
+    match = re.fullmatch(DECIMAL, text, re.ASCII)
+    if not match:
+        return None
+    whole, _, part = match[1].partition(".")
+    exponent = int(match[2] or 0)
+    tens = 10 ** abs(exponent) if abs(exponent) <= 10**6 else 1 << 10**7
+    numer, denom = int(whole + part), 10 ** len(part)
+    return (numer * tens, denom) if exponent >= 0 else (numer, denom * tens)
+
+
+def typed_numbers(text):
+    """The same for what a person types."""
+    mixed = re.fullmatch(r"([+-]?)(\d+) (\d+)/(\d+)", text, re.ASCII)
+    if mixed:
+        whole, numer, denom = map(int, mixed.groups()[1:])
+        return (-1 if mixed[1] == "-" else 1) * (whole * denom + numer), denom
+    front = text.removesuffix("%")
+    fraction = re.fullmatch(f"({WHOLE})/({WHOLE})", front, re.ASCII)
+    numbers = (int(fraction[1]), int(fraction[2])) if fraction else decimal_numbers(front)
+    return numbers and (numbers[0], numbers[1] * (100 if text.endswith("%") else 1))
+
+
+def have_bits(numbers, bits):
+    return all(abs(number).bit_length() <= bits for number in numbers)
+
+
+def from_within(numbers_of):
+    def answer(words):
+        bits, _, text = words.partition(" ")
+        numbers = numbers_of(unquoted(text))
+        if numbers is None:
+            return "refused: the text is not a number that the call reads"
+        if numbers[1] == 0:
+            return "refused: the denominator is 0"
+        return shown(Fraction(*numbers)) if have_bits(numbers, int(bits)) else "refused: the numerator or the denominator has more bits than the bound"
+
+    return answer
+
+
 def from_digits(words):
     sign, *lists = words.split(" ")
     numer, denom = (sum(int(it) << (64 * at) for at, it in enumerate(digits[1:-1].split(","))) for digits in lists)
@@ -164,6 +205,16 @@ def power(words):
     if x == 0:
         return shown(None if exponent < 0 else exponent == 0)
     return shown(x**exponent if abs(x) != 1 else x ** (exponent % 2))
+
+
+def power_within(words):
+    x, exponent, bits = words.split(" ")
+    # Powers of other numbers have more bits than an exponent of this size.
+    if abs(int(exponent)) > 10**6 and abs(Fraction(x)) not in (0, 1):
+        return "none"
+    value = power(f"{x} {exponent}")
+    numbers = Fraction(0 if value == "none" else value.removesuffix(" long")).as_integer_ratio()
+    return value if have_bits(numbers, int(bits)) else "none"
 
 
 def nearest(x, bound):
@@ -237,6 +288,7 @@ OTHERS = {
     "to_text": of_one(str, quoted),
     "append_text": append_text,
     "pow": power,
+    "pow_within": power_within,
     "to_f64": lambda word: float_bits(word, 64),
     "to_f32": lambda word: float_bits(word, 32),
     "from_f64": lambda word: float_value(word, 64),
@@ -244,6 +296,8 @@ OTHERS = {
     "from_str": lambda words: from_str(unquoted(words)),
     "from_text": lambda words: from_text(unquoted(words)),
     "from_decimal": lambda words: shown(decimal(unquoted(words))),
+    "from_text_within": from_within(typed_numbers),
+    "from_decimal_within": from_within(decimal_numbers),
     "from_digits": from_digits,
     "from_slots": total,
     "from_total": total,

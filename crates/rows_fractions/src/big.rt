@@ -59,6 +59,7 @@ fn of_more(
         "round_to_multiple_of" => rules::multiple_of_step(alloc, x, rest),
         "append_text" => made::longer_text(alloc, x, rest),
         "pow" => two::power(alloc, x, rest),
+        "pow_within" => two::power_within(alloc, x, rest),
         _ => match fraction(alloc, rest)? {
             Some(y) => two::answer(alloc, call, x, &y),
             None => Ok(Answer::BadRow),

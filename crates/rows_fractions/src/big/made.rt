@@ -36,8 +36,35 @@ pub fn of_words(alloc: Global, source: &str, words: &str) -> Result<Answer<i64>,
         "total" => of_total(alloc, words),
         "f64" => of_f64(alloc, words),
         "f32" => of_f32(alloc, words),
+        "text_within" => of_text_within(alloc, true, words),
+        "decimal_within" => of_text_within(alloc, false, words),
         _ => Ok(Answer::BadRow),
     }
+}
+
+// The fraction of a number of bits and a text in quotes, which may be any that a person types if `typed`: `10 "12.5%"`.
+fn of_text_within(alloc: Global, typed: bool, words: &str) -> Result<Answer<i64>, AllocError> {
+    let Some((bits, text)) = bits_and_text(words) else {
+        return Ok(Answer::BadRow);
+    };
+    let read = if typed {
+        BigFraction::from_text_within(alloc, text, bits)?
+    } else {
+        BigFraction::from_decimal_within(alloc, text, bits)?
+    };
+    match read {
+        Ok(x) => shown(alloc, &x),
+        Err(refusal) => Ok(Answer::Text(format!(in alloc; "refused: {refusal}")?)),
+    }
+}
+
+fn bits_and_text(words: &str) -> Option<(u64, &str)> {
+    let (bits, rest) = words.split_once(' ')?;
+    let Ok(bits) = bits.parse::<u64>() else {
+        return None;
+    };
+    let text = words::text(rest)?;
+    Some((bits, text))
 }
 
 fn of_integer(alloc: Global, word: &str) -> Result<Answer<i64>, AllocError> {

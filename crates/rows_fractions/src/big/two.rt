@@ -64,3 +64,18 @@ pub fn power(alloc: Global, x: &BigFraction, word: &str) -> Result<Answer<i64>, 
         Err(_) => Ok(Answer::BadRow),
     }
 }
+
+/// The power with the exponent of the words, if its numbers have at most so many bits: `3 5`.
+pub fn power_within(
+    alloc: Global,
+    x: &BigFraction,
+    words: &str,
+) -> Result<Answer<i64>, AllocError> {
+    let Some((exponent, bits)) = words.split_once(' ') else {
+        return Ok(Answer::BadRow);
+    };
+    match (exponent.parse::<i64>(), bits.parse::<u64>()) {
+        (Ok(exponent), Ok(bits)) => shown_if_any(alloc, x.pow_within(alloc, exponent, bits)?),
+        _ => Ok(Answer::BadRow),
+    }
+}

@@ -3,12 +3,12 @@ use Rattle.std.proofs.Common.{ℕ, pos, true, List, refl}
 use Rattle.std.specs.Prelude.{◌*ℤ◌, Err}
 use Rattle.ratio_decimal.specs.TypedText.{IsTypedText, share}
 use Rattle.ratio_decimal.specs.declared.typed.TextRefusal.{TextRefusal, TheVariants.NotNumber, TheVariants.ZeroDenominator, TheVariants.NotHeld}
-use Rattle.ratio_big.specs.Decimals.{AnswersBigReading, AnswersBigTyped}
+use Rattle.ratio_big.specs.Decimals.{AnswersBigTyped}
 use Rattle.ratio_big.specs.Fractions.{big_numbers}
 use Rattle.ratio_big.specs.Texts.{ReadsBig}
 use Rattle.ratio_big.specs.Values.{HasTerms}
 use Rattle.ratio_big.specs.declared.fraction.BigFraction.{BigFraction}
-use Rattle.ratio_expressions.specs.Numbers.{IsShareOf}
+use Rattle.ratio_expressions.specs.Numbers.{AnswersBigReading, IsShareOf}
 use Rattle.ratio_expressions.proofs.ShareTerms.{share_terms}
 
 pub share_read : (mixed : List ℕ) (x r : BigFraction) → ReadsBig (λ n d. (numbers : List ℕ) × IsTypedText mixed n d numbers) x → HasTerms ((big_numbers x).0, pos (share true) *ℤ (big_numbers x).1) (big_numbers r) → ReadsBig (λ n d. (numbers : List ℕ) × IsShareOf mixed n d numbers) r

@@ -1,9 +1,13 @@
 -- Which number a piece of a text says, and which it refuses.
-use Rattle.std.specs.Prelude.{◌≡◌, ◌<◌, ◌≤◌, ◌-◌, ◌&&◌, ◌==◌, ◌*ℤ◌, not, ℕ, ℤ, pos, Bool, true, List, Option, Some, None, drop, length, take, slice_index, if◌then◌else◌}
+use Rattle.std.specs.Prelude.{◌≡◌, ◌<◌, ◌≤◌, ◌-◌, ◌&&◌, ◌==◌, ◌*ℤ◌, not, ℕ, ℤ, pos, Bool, true, List, Option, Some, None, Result, Ok, Err, drop, length, take, slice_index, if◌then◌else◌}
 use Rattle.std.specs.Char.{is_ascii_digit}
 use Rattle.std.specs.List.{count_by, list_any, take_while}
 use Rattle.ratio_decimal.specs.TypedText.{IsTypedText, percent_sign, share, space}
+use Rattle.ratio_decimal.specs.declared.typed.TextRefusal.{TextRefusal}
+use Rattle.ratio_decimal.specs.declared.typed.TextRefusal.TheVariants as typed
+use Rattle.ratio_big.specs.Texts.{ReadsBig}
 use Rattle.ratio_big.specs.Values.{HasTerms}
+use Rattle.ratio_big.specs.declared.fraction.BigFraction.{BigFraction}
 use Rattle.ratio_expressions.specs.Vulgar.{with_slash}
 use Rattle.ratio_expressions.specs.declared.refusal.Reason.{Reason}
 use Rattle.ratio_expressions.specs.declared.refusal.Reason.TheVariants as reasons
@@ -21,6 +25,13 @@ exponent_digits text = count_by is_ascii_digit (drop (length (take_while is_no_e
 -- Example: `1 1/2%`: `1 1/2`; `1/2%`: none
 abbrev pub mixed_front : List ℕ → Option (List ℕ)
 mixed_front text = if (slice_index text (length text - 1) == percent_sign) && list_any (λ c. c == space) text then Some (take (length text - 1) text) else None
+
+-- Inner: the result is the lowest terms of what is read. Or nothing is read. Or n over 0 is
+abbrev pub AnswersBigReading : (ℤ → ℤ → List ℕ → Type 0) → Result BigFraction TextRefusal → Type 0
+AnswersBigReading Reads (Ok r) = ReadsBig (λ n d. (numbers : List ℕ) × Reads n d numbers) r
+AnswersBigReading Reads (Err typed.NotNumber) = (n d : ℤ) (numbers : List ℕ) → ¬ (Reads n d numbers)
+AnswersBigReading Reads (Err typed.ZeroDenominator) = (n : ℤ) × (numbers : List ℕ) × Reads n (pos 0) numbers
+AnswersBigReading Reads (Err typed.NotHeld) = ⊥
 
 -- n over d is the 100th part of what the mixed number says
 -- Example: `1 1/2`: 3/200

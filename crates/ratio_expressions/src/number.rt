@@ -5,10 +5,10 @@ ghost use Rattle.std.specs.Prelude.{◌≡◌, ◌≤◌, ◌*ℤ◌, length, op
 ghost use Rattle.std.specs.Char.{is_ascii_digit};
 ghost use Rattle.std.specs.List.{count_by, take_while};
 ghost use Rattle.ratio_decimal.specs.TypedText.{share};
-ghost use Rattle.ratio_big.specs.Decimals.{AnswersBigReading, AnswersBigTyped};
+ghost use Rattle.ratio_big.specs.Decimals.{AnswersBigTyped};
 ghost use Rattle.ratio_big.specs.Fractions.{big_numbers};
 ghost use Rattle.ratio_big.specs.Values.{HasTerms};
-ghost use Rattle.ratio_expressions.specs.Numbers.{IsShareOf, IsTypedNumber, SaysNumber, SaysNoNumber, SaysPlainNumber, SaysNoPlainNumber, exponent_digits, is_no_e, mixed_front};
+ghost use Rattle.ratio_expressions.specs.Numbers.{AnswersBigReading, IsShareOf, IsTypedNumber, SaysNumber, SaysNoNumber, SaysPlainNumber, SaysNoPlainNumber, exponent_digits, is_no_e, mixed_front};
 
 use crate::number::short_fraction::short_fraction;
 use crate::refusal::Reason;

@@ -1,7 +1,6 @@
 use Rattle.std.proofs.Common.{◌≡◌, ℕ, List, subst}
 use Rattle.std.specs.Prelude.{IfOk, Option, Some, None}
-use Rattle.ratio_big.specs.Decimals.{AnswersBigReading}
-use Rattle.ratio_expressions.specs.Numbers.{IsSaid, mixed_front}
+use Rattle.ratio_expressions.specs.Numbers.{AnswersBigReading, IsSaid, mixed_front}
 use Rattle.ratio_expressions.proofs.number.read.Goals as goal
 
 pub returns-in-None : goal.returns-in-None

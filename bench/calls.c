@@ -119,7 +119,8 @@ static uint64_t *joined_room(void) {
 #define SIZES(X)                                                                                            \
     X(total_free_i64, (slots, SLOTS)) X(total_digits_i64, (slots, SLOTS))                                   \
     X(total_print_digits_i64, (slots, SLOTS, 2)) X(total_print_bytes_i64, (slots, SLOTS, 2))                \
-    X(total_round_to_digits_i64, (slots, SLOTS)) X(total_compare_digits_i64, (slots, SLOTS, slots, SLOTS))
+    X(total_round_to_digits_i64, (slots, SLOTS)) X(total_compare_digits_i64, (slots, SLOTS, slots, SLOTS))     \
+    X(total_next_length_i64, (SLOTS, SLOTS, (uint64_t) i, UINT64_MAX)) X(total_leave_zeros_i64, (both, SLOTS))
 
 #define DEFINE(name, item, count, number, answer) static void name(void) { done(ratio_##name(of_##item, LEN, of_##answer, LEN)); }
 #define DEFINE_OTHER(name, arguments, kind) static void name(void) { done(ratio_##name arguments); }

@@ -896,7 +896,8 @@ RATIO_CHECKED enum ratio_code ratio_split_by_weights_i64(int64_t amount, const i
  *
  * Made all zero, as here, it is the total of no fraction. As many slots as unlike denominators are enough. With twice as many, a slot is
  * found sooner. Denominators that another party chose may collide in a table whose length this party knows, and then a search takes long:
- * choose the length by chance. A slot whose numerator falls to 0 stays taken. To copy a total, copy its header and its slots.
+ * choose the length by chance, as ratio_total_next_length_i64 does. A slot whose numerator falls to 0 stays taken until
+ * ratio_total_leave_zeros_i64 leaves it out. To copy a total, copy its header and its slots.
  *
  * In the calls that change a total, the items go one after another, until one is refused. `done` says how many went, and `code` why the
  * next one did not:
@@ -909,8 +910,15 @@ RATIO_CHECKED enum ratio_code ratio_split_by_weights_i64(int64_t amount, const i
  *
  * What went stays: to go on, hand in the items from `done` on. If `total_len` is not 1, a call returns RATIO_BAD_LENGTH and writes nothing.
  *
- * For more slots, merge the total into slots that are all zero, with a header that is all zero: that moves it. Then go on there. To merge a
- * total into itself, merge a copy of its slots.
+ * For more slots, merge the total into slots that are all zero, with a header that is all zero: that moves it. Then go on there. Two calls
+ * say which slots move, and how many the next table has:
+ *
+ *   left = ratio_total_leave_zeros_i64(slots, slots_len);
+ *   next_len = ratio_total_next_length_i64(left, 0, chance, SIZE_MAX / sizeof *next);
+ *   next = next_len ? calloc(next_len, sizeof *next) : NULL;
+ *   if (next && ratio_total_merge_i64(slots, left, total.count, &moved, 1, next, next_len) != RATIO_DONE) ..
+ *
+ * To merge a total into itself, merge a copy of its slots.
  *
  * The order of the fractions and how they are cut into calls and parts do not matter: if all went, each denominator has the same
  * numerator. Which slot it has may differ.
@@ -939,6 +947,16 @@ RATIO_CHECKED enum ratio_return ratio_total_merge_i64(const ratio_slot_i64 *aske
  * go out, unless it is empty: the code is RATIO_NOT_HELD, though the difference may fit. */
 RATIO_CHECKED enum ratio_return ratio_total_unmerge_i64(const ratio_slot_i64 *asked, size_t asked_len, int64_t count,
     ratio_total_i64 *total, size_t total_len, ratio_slot_i64 *slots, size_t slots_len);
+
+/* How many slots the next table of a total has, where so many slots are taken and so many more denominators will come: twice as many, and
+ * at least 8. By `chance`, any number that others cannot know, it has up to an eighth more. It returns 0 where that would be more than
+ * `most`. For 12 and 0 it is from 24 to 27. */
+RATIO_CHECKED uint64_t ratio_total_next_length_i64(uint64_t taken, uint64_t more, uint64_t chance, uint64_t most);
+
+/* Leaves out the fractions that are 0, such as those that went in and out again, and returns how many are left. These move to the front, in
+ * the order that they had, and the slots behind them become empty. The sum stays. A search may miss a denominator in these slots
+ * afterwards: merge those that are left into other slots. */
+RATIO_CHECKED uint64_t ratio_total_leave_zeros_i64(ratio_slot_i64 *slots, size_t slots_len);
 
 /* The calls that read a total. They read any slots, and an empty one counts nothing, whatever its numerator is. The numbers on the way may
  * be much longer than 64 bits, so you give room: an array of digits of 64 bits, which may have anything before the call and after it.

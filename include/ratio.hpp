@@ -321,7 +321,7 @@ inline ratio div_round_to(ratio a, ratio b, detail::whole<std::int64_t> parts, r
 static_assert(sizeof(ratio) == sizeof(ratio_i64) && std::is_trivially_copyable_v<ratio> && std::is_standard_layout_v<ratio>, "a ratio is a ratio_i64");
 
 /// A total of any number of fractions that loses nothing on the way: its sum is rounded once, or not at all. It takes memory by itself: at most
-/// 72 bytes for each unlike denominator, and at least 192. A call that throws changes nothing.
+/// 54 bytes for each unlike denominator, and at least 192. A call that throws changes nothing.
 class total {
 public:
     total() : slots_(8), header_{} {}
@@ -384,12 +384,16 @@ private:
         }
         detail::need(header_.code);
     }
-    /// Moves into two to three times as many slots. The number of many slots is by chance: else someone could choose denominators that collide.
+    /// Moves the fractions that are not 0 into other slots. The number of many slots is by chance.
     void grow() {
+        std::vector<ratio_slot_i64> left = slots_;
+        left.resize(static_cast<std::size_t>(ratio_total_leave_zeros_i64(left.data(), left.size())));
+        const std::uint64_t chance = left.size() < 64 ? 0 : std::random_device()();
+        const std::uint64_t length = ratio_total_next_length_i64(left.size(), 0, chance, slots_.max_size());
+        if (length == 0) throw std::length_error("ratio: a total of too many denominators");
         total next;
-        const std::size_t length = slots_.size(), more = length < 64 ? 0 : std::random_device()() % length;
-        next.slots_.assign(2 * length + more, ratio_slot_i64{});
-        next.take(slots_, header_.count);
+        next.slots_.assign(static_cast<std::size_t>(length), ratio_slot_i64{});
+        next.take(left, header_.count);
         swap(next);
     }
     void swap(total &other) noexcept {

@@ -10,6 +10,7 @@
 #include <cstdio>
 #include <cstdlib>
 #include <limits>
+#include <new>
 #include <random>
 #include <sstream>
 #include <unordered_set>
@@ -23,6 +24,19 @@ using wide = __int128;
 using size = unsigned __int128;
 
 static int wrong;
+
+/// The greatest memory that was taken at once.
+static std::size_t greatest;
+
+// Inlined, gcc would warn of memory that one of these takes and the other frees.
+[[gnu::noinline]] void *operator new(std::size_t bytes) {
+    greatest = std::max(greatest, bytes);
+    if (void *place = std::malloc(bytes)) return place;
+    throw std::bad_alloc();
+}
+
+[[gnu::noinline]] void operator delete(void *place) noexcept { std::free(place); }
+[[gnu::noinline]] void operator delete(void *place, std::size_t) noexcept { std::free(place); }
 
 static void expect(bool holds, const char *what) {
     if (!holds && ++wrong <= 20) std::printf("wrong: %s\n", what);
@@ -349,6 +363,25 @@ static void totals() {
     EXPECT(*bakhsney::total().sum() == 0 && bakhsney::total().decimal(1) == "0.0");
 }
 
+/// The memory grows with the unlike denominators that are in the total at one time.
+static void memory_of_totals() {
+    for (const std::size_t count : {1, 8, 9, 100, 5000}) {
+        greatest = 0;
+        bakhsney::total unlike;
+        for (std::size_t i = 1; i <= count; ++i) unlike.add(ratio(1, i)), unlike.add(ratio(-1, i)), unlike.add(ratio(1, i));
+        EXPECT(greatest <= std::max(std::size_t{192}, 54 * count));
+    }
+    greatest = 0;
+    bakhsney::total window, last;
+    for (int i = 1; i <= 20000; ++i) {
+        window.add(ratio(1, i));
+        if (i > 100) window.subtract(ratio(1, i - 100));
+    }
+    EXPECT(greatest < 20000);
+    for (int i = 19901; i <= 20000; ++i) last.add(ratio(1, i));
+    EXPECT(window.count() == 100 && window.decimal(30) == last.decimal(30));
+}
+
 /// The lowest terms of a fraction of wide numbers, as boost::rational keeps them.
 static wide divisor(wide a, wide b) {
     for (a = a < 0 ? -a : a, b = b < 0 ? -b : b; b != 0;) {
@@ -406,6 +439,7 @@ int main(int count, char **words) {
     integers<char, signed char, unsigned char, wchar_t, char16_t, char32_t, short, unsigned short, int, unsigned, long, unsigned long, long long, unsigned long long, wide, size>();
     rounding_and_printing();
     totals();
+    memory_of_totals();
     random_pairs(count > 1 ? std::atol(words[1]) : 1000000, count > 2 ? std::strtoul(words[2], nullptr, 10) : 1);
     return wrong != 0;
 }

@@ -24,10 +24,9 @@ static ratio_slot_i64 *new_slots(size_t length) {
     return PyMem_RawCalloc(length, sizeof(ratio_slot_i64));
 }
 
-/* A number by chance, so that nobody can choose denominators that collide in a table. */
-static size_t chance_below(size_t bound) {
+static uint64_t number_by_chance(void) {
     uint64_t chance = 0;
-    return getentropy(&chance, sizeof chance) == 0 ? (size_t) (chance % bound) : 0;
+    return getentropy(&chance, sizeof chance) == 0 ? chance : 0;
 }
 
 /* A copy of the slots, so that other threads may go on while the library reads them. */
@@ -36,26 +35,18 @@ static ratio_slot_i64 *copied(const total_object *self) {
     return slots ? memcpy(slots, self->slots, self->length * sizeof *slots) : NULL;
 }
 
-/* How many slots are taken. */
-static size_t taken(const total_object *self) {
-    size_t i, count = 0;
-    for (i = 0; i < self->length; i++) count += self->slots[i].denom != 0;
-    return count;
+static uint64_t taken(const total_object *self) {
+    return self->length - ratio_total_free_i64(self->slots, self->length);
 }
 
-/* Moves the slots into twice as many as those taken and `more`, and says whether there was memory. Denominators without a numerator stay behind. */
-static int is_moved(total_object *self, size_t more) {
+/* Moves the fractions that are not 0 into slots for them and so many more denominators, and says whether there was memory. */
+static int is_moved(total_object *self, uint64_t more) {
     ratio_total_i64 header = {0, 0, 0};
-    ratio_slot_i64 *slots;
-    size_t i, used, length;
-    for (i = 0; i < self->length; i++) {
-        if (self->slots[i].numer.low == 0 && self->slots[i].numer.high == 0) self->slots[i].denom = 0;
-    }
-    used = taken(self) + more;
-    length = 2 * used + FIRST_LENGTH + chance_below(used + 1);
-    slots = new_slots(length);
+    const uint64_t left = ratio_total_leave_zeros_i64(self->slots, self->length);
+    const uint64_t length = ratio_total_next_length_i64(left, more, number_by_chance(), PY_SSIZE_T_MAX / sizeof(ratio_slot_i64));
+    ratio_slot_i64 *const slots = length ? new_slots(length) : NULL;
     if (!slots) return 0;
-    ratio_total_merge_i64(self->slots, self->length, self->header.count, &header, 1, slots, length);
+    ratio_total_merge_i64(self->slots, left, self->header.count, &header, 1, slots, length);
     PyMem_RawFree(self->slots);
     self->header = header;
     self->slots = slots;

@@ -300,7 +300,6 @@ OTHERS = {
     "from_decimal_within": from_within(decimal_numbers),
     "from_digits": from_digits,
     "from_slots": total,
-    "from_total": total,
     "from_wide": from_wide,
 }
 FOUND = {

@@ -362,8 +362,8 @@ FIELDS = {
     "ratio_decimal::rounded_quotient_to": by_rule(
         lambda span, rule, x, y, parts: "none" if y == 0 else lowest(Fraction(rule(x / y * parts)) / parts, span)
     ),
-    "ratio_float::to_f64": of_fractions(lambda span, x: bits_of_float(x)),
-    "ratio_float::to_f32": of_fractions(lambda span, x: bits_of_float(x, "f")),
+    "float::to_f64": of_fractions(lambda span, x: bits_of_float(x)),
+    "float::to_f32": of_fractions(lambda span, x: bits_of_float(x, "f")),
     "rounding::floor": numbered(floor),
     "rounding::ceil": numbered(ceil),
     "rounding::trunc": numbered(int),

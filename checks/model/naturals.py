@@ -180,4 +180,4 @@ LONG = {
 }
 
 CALLS = {f"ratio_natural::{name}": call for name, call in NATURAL.items()}
-CALLS |= {f"ratio_long::{name}": call for name, call in LONG.items()} | {"leading::float_of": float_of}
+CALLS |= {f"naturals::{name}": call for name, call in LONG.items()} | {"leading::float_of": float_of}

@@ -137,7 +137,7 @@ def step(word):
 
 
 def refused(library, refusal):
-    """The answer of a call that refuses: `refused("ratio_totals", "Refusal MoreRoom")`."""
+    """The answer of a call that refuses: `refused("ratio_slots", "Refusal MoreRoom")`."""
     name, variant = refusal.split(" ")
     return f"refused: {TEXTS[library, name][variant]}"
 
@@ -151,63 +151,63 @@ SPARE = "the spare digits are too few"
 FEW_DIGITS = "the room has too few digits"
 
 TEXTS = {
-    ("ratio_totals", "Refusal"): {"MoreRoom": SLOTS_TAKEN, "TooMany": WEIGHT},
-    ("ratio_totals", "ReadRefusal"): {"MoreRoom": SHORT_ROOM, "TooLong": LONG},
-    ("ratio_totals", "CompareRefusal"): {
+    ("ratio_slots", "Refusal"): {"MoreRoom": SLOTS_TAKEN, "TooMany": WEIGHT},
+    ("ratio_slots", "ReadRefusal"): {"MoreRoom": SHORT_ROOM, "TooLong": LONG},
+    ("ratio_slots", "CompareRefusal"): {
         "MoreSlots": "the slots are fewer than the denominators of both totals",
         "TooMany": "the weights of both totals are together above 2^63 - 1",
         "MoreRoom": FEW_DIGITS,
         "TooLong": "the common denominator of both totals is not below 2^(2^20)",
     },
-    ("ratio_totals", "OrderRefusal"): {
+    ("ratio_slots", "OrderRefusal"): {
         "MoreSlots": "the slots are fewer than those of both lists",
         "TooGreat": "the negative of a numerator of the second list does not fit 128 bits",
         "MoreRoom": FEW_DIGITS,
         "TooLong": "the common denominator of both lists is not below 2^(2^20)",
     },
-    ("ratio_totals", "LooseRefusal"): {
+    ("ratio_slots", "LooseRefusal"): {
         "MoreRoom": SLOTS_TAKEN,
         "NotEmpty": "the slot has the denominator 0, and a numerator that is not 0",
         "TooGreat": "the sum of the numerators does not fit 128 bits",
     },
-    ("ratio_totals", "JoinRefusal"): {"NotJoined": "the room does not look as the last step left it", "TooLong": LONG},
-    ("ratio_totals", "NoSum"): {"NoSum": "the room holds no sum, or is too small"},
-    ("ratio_totals", "AddRefusal"): {
+    ("ratio_slots", "JoinRefusal"): {"NotJoined": "the room does not look as the last step left it", "TooLong": LONG},
+    ("ratio_slots", "NoSum"): {"NoSum": "the room holds no sum, or is too small"},
+    ("ratio_slots", "AddRefusal"): {
         "NoSum": "one of the rooms holds no sum",
         "MoreRoom": SPARE,
         "TooMany": "both sums together have 2^64 fractions or more",
         "MoreDigits": MORE_DIGITS,
     },
-    ("fraction_totals", "ProductRefusal"): {
+    ("ratio_totals", "ProductRefusal"): {
         "MoreRoom": SLOTS_TAKEN,
         "TooMany": WEIGHT,
         "TooGreat": "one of the lowest terms of the product is 2^64 or more",
     },
-    ("fraction_totals", "DotRefusal"): {
+    ("ratio_totals", "DotRefusal"): {
         "UnlikeLengths": "the lists have different lengths",
         "MoreRoom": "the slots are fewer than the denominators of the products",
         "TooMany": "the lists have more than 2^63 - 1 items",
         "TooGreat": "one of the lowest terms of a product is 2^64 or more",
     },
-    ("fraction_totals", "SumRefusal"): {
+    ("ratio_totals", "SumRefusal"): {
         "MoreSlots": "the items have more denominators than there are slots",
         "MoreRoom": SHORT_ROOM,
         "TooMany": "the items are more than 2^63 - 1",
         "TooLong": LONG,
     },
-    ("fraction_totals", "WideRefusal"): {
+    ("ratio_totals", "WideRefusal"): {
         "MoreRoom": "the room or the spare digits are too few",
         "TooMany": WEIGHT,
         "MoreDigits": MORE_DIGITS,
     },
-    ("fraction_totals", "WideProductRefusal"): {
+    ("ratio_totals", "WideProductRefusal"): {
         "MoreRoom": SPARE,
         "TooMany": WEIGHT,
         "MoreDigits": MORE_DIGITS,
         "TooGreat": "one of the lowest terms of the product is 2^128 or more",
     },
-    ("fraction_totals", "ShortRoom"): {"ShortRoom": SHORT_ROOM},
-    ("fraction_totals", "RoomSplitRefusal"): {
+    ("ratio_totals", "ShortRoom"): {"ShortRoom": SHORT_ROOM},
+    ("ratio_totals", "RoomSplitRefusal"): {
         "Length": "the number of parts is not the number of shares",
         "BelowZero": "a share is below 0",
         "TooMany": "the sum of the shares has no place in the room",

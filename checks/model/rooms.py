@@ -1,4 +1,4 @@
-"""The calls on sums in rooms, of `ratio_totals`: how many fractions, how many digits for the common denominator, and the room."""
+"""The calls on sums in rooms, of `ratio_slots`: how many fractions, how many digits for the common denominator, and the room."""
 from fractions import Fraction
 from types import SimpleNamespace
 
@@ -9,7 +9,7 @@ from model.readings import (
 )
 from model.totals import length, number_digits
 
-NO_SUM = refused("ratio_totals", "NoSum NoSum")
+NO_SUM = refused("ratio_slots", "NoSum NoSum")
 
 
 def number_of(some):
@@ -90,15 +90,15 @@ def changing(sign):
     def answer(words, args, _):
         into, other = map(held, words.split(" with "))
         if into.size < other.size:
-            return refused("ratio_totals", "AddRefusal MoreDigits")
+            return refused("ratio_slots", "AddRefusal MoreDigits")
         if not (holds_sum(into) and holds_sum(other)):
-            return refused("ratio_totals", "AddRefusal NoSum")
+            return refused("ratio_slots", "AddRefusal NoSum")
         if len(digits(args)) < 8 * into.size + 6:
-            return refused("ratio_totals", "AddRefusal MoreRoom")
+            return refused("ratio_slots", "AddRefusal MoreRoom")
         if 2**64 <= into.done + other.done:
-            return refused("ratio_totals", "AddRefusal TooMany")
+            return refused("ratio_slots", "AddRefusal TooMany")
         if 2 ** (64 * into.size) <= lcm(into.common, other.common):
-            return refused("ratio_totals", "AddRefusal MoreDigits")
+            return refused("ratio_slots", "AddRefusal MoreDigits")
         put(into, other, sign)
         return told(into)
 
@@ -143,11 +143,11 @@ def go_on(words, args, _):
     slots, most = args.split(" ")
     count = len(listed(slots))
     if count < it.done or not holds_sum(it):
-        return refused("ratio_totals", "JoinRefusal NotJoined")
+        return refused("ratio_slots", "JoinRefusal NotJoined")
     return f"{min(it.done + int(most), count)} {it.size}"
 
 
 READS = "sum mean sign to_f64 put_decimal wide_sum wide_mean wide_round_to".split()
-CALLS = {f"ratio_totals::Joined::{name}": reading(name) for name in READS}
-CALLS.update({f"ratio_totals::Joined::{it.__name__}": by_rules(it) for it in (compare, moved_to, zero, of, begin, go_on)})
-CALLS.update({"ratio_totals::Joined::merge": changing(1), "ratio_totals::Joined::take_out": changing(-1)})
+CALLS = {f"ratio_slots::Joined::{name}": reading(name) for name in READS}
+CALLS.update({f"ratio_slots::Joined::{it.__name__}": by_rules(it) for it in (compare, moved_to, zero, of, begin, go_on)})
+CALLS.update({"ratio_slots::Joined::merge": changing(1), "ratio_slots::Joined::take_out": changing(-1)})

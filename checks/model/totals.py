@@ -1,4 +1,4 @@
-"""The calls on slots and on totals in slots, of `ratio_totals` and `fraction_totals`."""
+"""The calls on slots and on totals in slots, of `ratio_slots` and `ratio_totals`."""
 from fractions import Fraction
 from types import SimpleNamespace
 
@@ -37,7 +37,7 @@ def read_slots(kind, fractions, count, args, rule, limit, whole_limit):
     numbers, rooms, buffers = parts(args)
     number = whole(numbers[0]) if numbers else count
     if not has_room(kind, length(len(fractions)), number, rooms, buffers):
-        return refused("ratio_totals", "ReadRefusal MoreRoom")
+        return refused("ratio_slots", "ReadRefusal MoreRoom")
     return read(kind, total(fractions), number, rule, limit, whole_limit)
 
 
@@ -61,7 +61,7 @@ def put_bounded_of(words, args, rule):
     (places,), rooms, buffers = parts(args)
     places = int(places)
     if rooms[0] < places // 19 * 9 + 35 or buffers[0] < (places // 19 * 2 + 8) * 20 + places + 3:
-        return refused("ratio_totals", "ReadRefusal MoreRoom")
+        return refused("ratio_slots", "ReadRefusal MoreRoom")
     value = total(it for it in listed(words) if it[1])
     return "none" if (value * 10**places * 2).denominator == 1 else read("put_decimal", value, places, rule, None)
 
@@ -70,12 +70,12 @@ def order_of(words, args, _):
     left, right = map(listed, words.split(" with "))
     between, room = args.split(" ")
     if len(slots(between)) < len(left) + len(right):
-        return refused("ratio_totals", "OrderRefusal MoreSlots")
+        return refused("ratio_slots", "OrderRefusal MoreSlots")
     if any(numer == -(2**127) for numer, _ in right):
-        return refused("ratio_totals", "OrderRefusal TooGreat")
+        return refused("ratio_slots", "OrderRefusal TooGreat")
     held = [it for it in left + right if it[1]]
     if len(digits(room)) < 4 * length(len(held)) + 6:
-        return refused("ratio_totals", "OrderRefusal MoreRoom")
+        return refused("ratio_slots", "OrderRefusal MoreRoom")
     return order(total(it for it in left if it[1]), total(it for it in right if it[1]))
 
 
@@ -83,11 +83,11 @@ def put_loose(words, args, _):
     ((numer, denom),) = pairs(args)
     held = listed(words)
     if any(more and not under for more, under in held):
-        return refused("ratio_totals", "LooseRefusal NotEmpty")
+        return refused("ratio_slots", "LooseRefusal NotEmpty")
     if not any(under in (0, denom) for _, under in held):
-        return refused("ratio_totals", "LooseRefusal MoreRoom")
+        return refused("ratio_slots", "LooseRefusal MoreRoom")
     numer += sum(more for more, under in held if under == denom)
-    return f"{numer}/{denom}" if whole_128(numer) else refused("ratio_totals", "LooseRefusal TooGreat")
+    return f"{numer}/{denom}" if whole_128(numer) else refused("ratio_slots", "LooseRefusal TooGreat")
 
 
 def find(words, args, _):
@@ -109,6 +109,38 @@ def short_pair(words, *_):
 def count_digits(more):
     """How many digits a read of the slots needs."""
     return lambda words, *_: str(4 * length(sum(denom != 0 for part in words.split(" with ") for _, denom in slots(part))) + more)
+
+
+def read_over(words, args, _):
+    """Both numbers over the common denominator by their digits, the lowest first."""
+    held = [it for it in listed(words) if it[1]]
+    if len(digits(args)) < 4 * length(len(held)) + 6:
+        return refused("ratio_slots", "ReadRefusal MoreRoom")
+    common = lcm(*(denom for _, denom in held))
+    numer = sum(more * (common // denom) for more, denom in held)
+    return f"{'-' if numer < 0 else ''}{number_digits(abs(numer))}/{number_digits(common)}"
+
+
+def number_digits(number):
+    found = []
+    while number:
+        number, digit = divmod(number, 2**64)
+        found.append(digit)
+    return found
+
+
+# ---- a total that grows
+
+def next_length(words, args, _):
+    taken, more, chance = map(whole, words.split(" "))
+    fewest = max(8, 2 * (taken + more))
+    found = fewest + chance % (fewest // 8 + 1)
+    return "none" if whole(args) < found else str(found)
+
+
+def leave_zeros(words, *_):
+    fractions = [it for it in listed(words) if all(it)]
+    return " ".join([str(len(fractions)), *(f"{numer}/{denom}" for numer, denom in fractions + [(0, 0)] * (len(listed(words)) - len(fractions)))])
 
 
 # ---- totals in slots
@@ -134,11 +166,11 @@ def reduced(fields):
     return value.numerator, value.denominator
 
 
-def take(into, word, span):
+def take(into, word):
     """Takes a step. It must be refused exactly if it says so."""
     is_refused, sign, fractions, factor = step(word)
     for fields in fractions:
-        numer, denom = reduced(fields) if span else fields
+        numer, denom = reduced(fields)
         if factor:
             numer, denom = reduced((numer * factor[0], denom * factor[1]))
         why = "TooGreat" if not (below(64)(numer) and below(64)(denom)) else put(into, {denom: numer}, sign, (1, 1))
@@ -156,7 +188,7 @@ def products(words):
     return [reduced((x[0] * y[0], x[1] * y[1])) for x, y in zip(lists[0], lists[1] if lists[1:] else [(1, 1)] * len(lists[0]))]
 
 
-def built(words, span):
+def built(words):
     """Both totals of a row."""
     own, _, others = words.partition(" with ")
     own, _, moved = own.partition(" moved_to ")
@@ -167,7 +199,7 @@ def built(words, span):
             put(first, {denom: numer}, 1, (1, 1))
         steps = []
     for word in steps:
-        take(first, word, span)
+        take(first, word)
     count, *steps = (others or "0").split(" ")
     other = table(len(slots(count)))
     for word in steps:
@@ -175,12 +207,12 @@ def built(words, span):
             if (merge(first, other, 1 if "merge" in word else -1) is not None) != word.startswith("!"):
                 raise ValueError(word)
         else:
-            take(other, word, span)
+            take(other, word)
     if moved:
         count, *steps = moved.split(" ")
         first.size = len(slots(count))
         for word in steps:
-            take(first, word, span)
+            take(first, word)
     return first, other
 
 
@@ -188,9 +220,9 @@ def compared(first, other, args):
     between, room = args.split(" ")
     both = {*first.held, *other.held}
     if len(slots(between)) < len(both):
-        return refused("ratio_totals", "CompareRefusal MoreSlots")
+        return refused("ratio_slots", "CompareRefusal MoreSlots")
     if len(digits(room)) < 4 * length(len(both)) + 6:
-        return refused("ratio_totals", "CompareRefusal MoreRoom")
+        return refused("ratio_slots", "CompareRefusal MoreRoom")
     return order(value_of(first), value_of(other))
 
 
@@ -198,64 +230,47 @@ def value_of(it):
     return total((numer, denom) for denom, numer in it.held.items())
 
 
-def changed(first, call, other, args, span):
+def changed(first, call, other, args):
     """What a change of a total returns."""
     if call == "moved_to":
-        return str(first.count) if len(first.held) <= len(slots(args)) else refused("ratio_totals", "Refusal MoreRoom")
+        return str(first.count) if len(first.held) <= len(slots(args)) else refused("ratio_slots", "Refusal MoreRoom")
     if call in ("merge", "take_out"):
         why = merge(first, other, 1)
     else:
         numer, denom = 1, 1
         for x in map(pairs, args.split(" ")):
             numer, denom = numer * x[0][0], denom * x[0][1]
-        numer, denom = reduced((numer, denom)) if span else (numer, denom)
+        numer, denom = reduced((numer, denom))
         great = call == "add_product" and not (below(64)(numer) and below(64)(denom))
         why = "TooGreat" if great else put(first, {denom: numer}, 1, (1, 1))
-    library, name = ("fraction_totals", "ProductRefusal") if call == "add_product" else ("ratio_totals", "Refusal")
+    library, name = ("ratio_totals", "ProductRefusal") if call == "add_product" else ("ratio_slots", "Refusal")
     return refused(library, f"{name} {why}") if why else "ok"
 
 
-def over_common(first, args):
-    """Both numbers by their digits, the lowest first."""
-    if len(digits(args)) < 4 * length(len(first.held)) + 6:
-        return refused("ratio_totals", "ReadRefusal MoreRoom")
-    common = lcm(*first.held)
-    numer = sum(more * (common // denom) for denom, more in first.held.items())
-    return f"{'-' if numer < 0 else ''}{number_digits(abs(numer))}/{number_digits(common)}"
-
-
-def number_digits(number):
-    found = []
-    while number:
-        number, digit = divmod(number, 2**64)
-        found.append(digit)
-    return found
-
-
-def of_total(call, typed):
-    """A call on a total, over the type that the first word names, or over none."""
+def of_total(call):
+    """A call on a total over the type that the first word names."""
 
     def answer(words, args, rule):
         kind, _, rest = words.partition(" ")
-        span = RANGES[kind] if typed else None
-        first, other = built(rest if typed else words, span)
+        span = RANGES[kind]
+        first, other = built(rest)
         size = length(len(first.held))
         if call in READS:
-            limit = (lambda number: fits(span, number)) if typed else below(64)
+            limit = lambda number: fits(span, number)
             fractions = [(numer, denom) for denom, numer in first.held.items()]
-            return read_slots(call, fractions, first.count, args, rule, limit, limit if typed else whole_128)
+            return read_slots(call, fractions, first.count, args, rule, limit, limit)
         if call == "compare_with":
             fraction, _, args = args.partition(" ")
             other = table(1)
-            take(other, "+" + fraction, span)
+            take(other, "+" + fraction)
         if call in ("compare", "compare_with"):
             return compared(first, other, args)
         counts = {
-            "count": lambda: first.count, "numerator": lambda: first.held.get(whole(args), 0), "read_digits": lambda: 4 * size + 6,
+            "count": lambda: first.count, "numerator_in": lambda: first.held.get(whole(args), 0), "read_digits": lambda: 4 * size + 6,
             "multiple_digits": lambda: 4 * size + 12, "decimal_digits": lambda: decimal_digits(size, whole(args)),
-            "decimal_bytes": lambda: decimal_bytes(size, whole(args)), "over_common": lambda: over_common(first, args),
+            "decimal_bytes": lambda: decimal_bytes(size, whole(args)),
         }
-        return str(counts[call]()) if call in counts else changed(first, call, other, args, span)
+        return str(counts[call]()) if call in counts else changed(first, call, other, args)
 
     return by_rules(answer)
 
@@ -264,29 +279,29 @@ def total_of(words, *_):
     kind, count, items = words.split(" ")
     first = table(len(slots(count)))
     whys = [put(first, {denom: numer}, 1, (1, 1)) for numer, denom in products([items])]
-    return refused("ratio_totals", "Refusal MoreRoom") if "MoreRoom" in whys else str(first.count)
+    return refused("ratio_slots", "Refusal MoreRoom") if "MoreRoom" in whys else str(first.count)
 
 
 def dot(words, *_):
     _, count, xs, ys = words.split(" ")
     if len(listed(xs)) != len(listed(ys)):
-        return refused("fraction_totals", "DotRefusal UnlikeLengths")
+        return refused("ratio_totals", "DotRefusal UnlikeLengths")
     first = table(len(slots(count)))
     for numer, denom in products([xs, ys]):
         why = put(first, {denom: numer}, 1, (1, 1)) if below(64)(numer) and below(64)(denom) else "TooGreat"
         if why:
-            return refused("fraction_totals", f"DotRefusal {why}")
+            return refused("ratio_totals", f"DotRefusal {why}")
     return str(first.count)
 
 
-CALLS = {f"ratio_totals::{name}": of_list(kind) for name, kind in LISTED.items()}
-for function in (put_bounded_of, order_of, put_loose, find, add_short, short_pair):
-    CALLS[f"ratio_totals::{function.__name__}"] = by_rules(function)
+CALLS = {f"ratio_slots::{name}": of_list(kind) for name, kind in LISTED.items()}
+for function in (put_bounded_of, order_of, put_loose, find, add_short, short_pair, next_length, leave_zeros):
+    CALLS[f"ratio_slots::{function.__name__}"] = by_rules(function)
 for name, more in (("read", 6), ("multiple", 12), ("order", 6)):
-    CALLS[f"ratio_totals::digits_of_{name}"] = by_rules(count_digits(more))
-COUNTS = "count numerator read_digits multiple_digits decimal_digits decimal_bytes over_common".split()
+    CALLS[f"ratio_slots::digits_of_{name}"] = by_rules(count_digits(more))
+COUNTS = "count read_digits multiple_digits decimal_digits decimal_bytes".split()
 CHANGES = "add subtract add_product merge take_out moved_to compare compare_with".split()
 for name in READS + COUNTS + CHANGES:
-    CALLS[f"ratio_totals::Total::{name}"] = of_total(name, False)
-    CALLS[f"fraction_totals::Total::{name}"] = of_total(name, True)
-CALLS.update({"fraction_totals::total_of": by_rules(total_of), "fraction_totals::dot": by_rules(dot)})
+    CALLS[f"ratio_totals::Total::{name}"] = of_total(name)
+CALLS.update({"ratio_slots::numerator_in": of_total("numerator_in"), "ratio_slots::read_slots": by_rules(read_over)})
+CALLS.update({"ratio_totals::total_of": by_rules(total_of), "ratio_totals::dot": by_rules(dot)})

@@ -1,4 +1,4 @@
-"""The calls of `fraction_totals` on wide totals, on lists, and the splits."""
+"""The calls of `ratio_totals` on wide totals, on lists, and the splits."""
 from fractions import Fraction
 from types import SimpleNamespace
 
@@ -10,7 +10,7 @@ from model.readings import (
 from model.totals import length, slots, total
 
 READS = ["sum", "mean", "sign", "to_f64", "to_integer", "round_to", "put_decimal"]
-SHORT = refused("fraction_totals", "ShortRoom ShortRoom")
+SHORT = refused("ratio_totals", "ShortRoom ShortRoom")
 
 
 def wide(size, value=Fraction(0), common=1, count=0):
@@ -115,7 +115,7 @@ def changed(call, first, other, numbers, rooms):
         more = one(*(pairs(it)[0] for it in numbers))
         name = "WideProductRefusal" if "product" in call else name
         why = "TooGreat" if is_great(more) else put(first, more, 1, rooms[0])
-    return refused("fraction_totals", f"{name} {why}") if why else "ok"
+    return refused("ratio_totals", f"{name} {why}") if why else "ok"
 
 
 def of_total(call):
@@ -153,8 +153,8 @@ def checked_sum_in(words, args, _):
     given, room = args.split(" ")
     denominators = len({Fraction(*it).denominator for it in items})
     if len(slots(given)) < denominators:
-        return refused("fraction_totals", "SumRefusal MoreSlots")
-    return answer if 4 * length(denominators) + 6 <= len(digits(room)) else refused("fraction_totals", "SumRefusal MoreRoom")
+        return refused("ratio_totals", "SumRefusal MoreSlots")
+    return answer if 4 * length(denominators) + 6 <= len(digits(room)) else refused("ratio_totals", "SumRefusal MoreRoom")
 
 
 def has_place(items, size, room, spare):
@@ -168,7 +168,7 @@ def checked_wide_sum_in(words, args, _):
     answer, items = typed_sum(words)
     (size,), rooms, _ = parts(args)
     why = has_place(items, int(size), *rooms)
-    return refused("fraction_totals", f"WideRefusal {why}") if why else answer
+    return refused("ratio_totals", f"WideRefusal {why}") if why else answer
 
 
 def marks_of(amount, shares):
@@ -200,11 +200,11 @@ def split_in(words, args, _):
     ]
     for applies, why in reasons:
         if applies:
-            return refused("fraction_totals", f"RoomSplitRefusal {why}")
+            return refused("ratio_totals", f"RoomSplitRefusal {why}")
     return differences(marks_of(amount, shares))
 
 
 CHANGES = "new count add subtract add_product subtract_product merge take_out moved_to compare compare_with".split()
-CALLS = {f"fraction_totals::WideTotal::{name}": of_total(name) for name in READS + CHANGES}
-CALLS.update({f"fraction_totals::{it.__name__}": by_rules(it) for it in (checked_sum_in, checked_wide_sum_in, split_in)})
+CALLS = {f"ratio_totals::WideTotal::{name}": of_total(name) for name in READS + CHANGES}
+CALLS.update({f"ratio_totals::{it.__name__}": by_rules(it) for it in (checked_sum_in, checked_wide_sum_in, split_in)})
 CALLS["num_rational::split"] = by_rules(split)

@@ -1,4 +1,4 @@
-/* Calls each function of the header at least once over each type of numbers. It ends with status 1 if an answer is wrong. */
+/* Calls each function of the header. It ends with status 1 if an answer is wrong. Of the calls of templates/calls.list, examples/c/rows compares more. */
 #include "ratio.h"
 #include "calls.h"
 
@@ -11,18 +11,6 @@ static int wrong;
 static const uint8_t texts[8] = {'2', '/', '4', 'x', '3', '/', '0', '1'};
 static const ratio_span spans[4] = {
     {.start = 0, .end = 3}, {.start = 3, .end = 4}, {.start = 4, .end = 7}, {.start = 7, .end = 9},
-};
-
-/* A decimal, a text that is none, one that fits no type, and a span behind them. */
-static const uint8_t decimals[] = "12.3751.2.3-1e99";
-static const ratio_span decimal_spans[4] = {
-    {.start = 0, .end = 6}, {.start = 6, .end = 11}, {.start = 11, .end = 16}, {.start = 16, .end = 17},
-};
-
-/* A mixed number, a percentage, a fraction over 0, a text that is none of these, and a number that fits no type. */
-static const uint8_t typed[] = "-1 1/212.5%1/01.5/21e40";
-static const ratio_span typed_spans[5] = {
-    {.start = 0, .end = 6}, {.start = 6, .end = 11}, {.start = 11, .end = 14}, {.start = 14, .end = 19}, {.start = 19, .end = 23},
 };
 
 static void expect(int holds, const char *what) {
@@ -42,23 +30,39 @@ static void expect(int holds, const char *what) {
 #define PAIR(N, n, d, m, e) {.left = FRACTION(N, n, d), .right = FRACTION(N, m, e)}
 #define ANSWER(N, n, d) {.code = RATIO_ANSWERED, .value = FRACTION(N, n, d)}
 
-/* What the calls are asked, by the type of an item. */
-#define FACTORS(N, n, d, m, e, by) {.left = FRACTION(N, n, d), .right = FRACTION(N, m, e), .rule = by}
-#define OPERANDS(N, n, d, m, e, p, by) {.left = FRACTION(N, n, d), .right = FRACTION(N, m, e), .parts = N(p), .rule = by}
-#define POWER(N, n, d, to) {.base = FRACTION(N, n, d), .exponent = to}
-#define BOUNDED(N, n, d, m) {.value = FRACTION(N, n, d), .most = N(m)}
-#define BOUNDS(N, n, d, m, e, f) {.low = FRACTION(N, n, d), .high = FRACTION(N, m, e), .flags = f}
-#define PLACE(N, n, d, at) {.value = FRACTION(N, n, d), .place = at}
-#define MULTIPLE(N, n, d, p, by) {.value = FRACTION(N, n, d), .parts = N(p), .rule = by}
-#define SCALED(n, by) {.number = {.low = n}, .scale = by}
+/* A call that refuses two answers to one item, a read of a span behind the texts, and a print that has too few bytes and writes nothing. */
+#define BAD_LENGTH(name, item, count, number, answer)                                                \
+    {                                                                                                \
+        static const item asked = {0};                                                               \
+        answer answers[2];                                                                           \
+        expect(ratio_##name(&asked, 1, answers, 2) == RATIO_BAD_LENGTH, #name " length");            \
+    }
+#define NO_TEXT(name, item, count, number, answer)                                                   \
+    {                                                                                                \
+        answer read;                                                                                 \
+        expect(ratio_##name(texts, 8, spans + 3, 1, &read, 1) == RATIO_DONE, #name);                 \
+        expect(read.code == RATIO_NO_TEXT, #name " behind the texts");                               \
+    }
+#define NO_ROOM(name, item, count, number, room)                                                     \
+    {                                                                                                \
+        static const item asked[3] = {0};                                                            \
+        uint8_t bytes[3 * (room)] = {'x'};                                                           \
+        ratio_text text[3];                                                                          \
+        expect(ratio_##name(asked, 3, bytes, 3 * (room) - 1, text, 3) == RATIO_BAD_LENGTH, #name " room");\
+        expect(ratio_##name(asked, 3, bytes, 3 * (room), text, 2) == RATIO_BAD_LENGTH, #name " places");\
+        expect(bytes[0] == 'x', #name " without room");                                              \
+    }
 
-#define ITEM(name, item, count, number, answer) typedef item name##_item;
-CALLS_I32(ITEM) CALLS_I64(ITEM) CALLS_I128(ITEM)
+static void lengths(void) {
+    CALLS_I32(BAD_LENGTH) CALLS_I64(BAD_LENGTH) CALLS_I128(BAD_LENGTH)
+    READS_I32(NO_TEXT) READS_I64(NO_TEXT) READS_I128(NO_TEXT)
+    PRINTS_I32(NO_ROOM) PRINTS_I64(NO_ROOM) PRINTS_I128(NO_ROOM)
+}
 
-/* Each call on 3/2 and -1/4, and on fractions that are refused. */
-#define EVERY_CALL(suffix, N, IS_BELOW_0, room, decimal_room)                                        \
-    static void every_call_##suffix(void) {                                                          \
-        static const ratio_pair_##suffix pair = PAIR(N, 3, 2, -1, 4), turned = PAIR(N, -1, 4, 3, 2), same = PAIR(N, 2, 4, -1, -2), none = PAIR(N, 3, 0, -1, -4);\
+/* An order and a product below 0, equal hashes, and texts one after another. */
+#define EACH_TYPE(suffix, N, IS_BELOW_0, room, decimal_room)                                         \
+    static void each_type_##suffix(void) {                                                           \
+        static const ratio_pair_##suffix pair = PAIR(N, 3, 2, -1, 4), turned = PAIR(N, -1, 4, 3, 2);\
         static const ratio_##suffix loose[2] = {FRACTION(N, 6, -4), FRACTION(N, -3, 2)};             \
         static const ratio_##suffix shown[3] = {FRACTION(N, 6, -4), FRACTION(N, 3, 0), FRACTION(N, -5, 1)};\
         static const ratio_decimal_##suffix prices[5] = {{.value = FRACTION(N, 2, 3), .places = 2, .rule = RATIO_RULE_HALF_EVEN},\
@@ -66,119 +70,30 @@ CALLS_I32(ITEM) CALLS_I64(ITEM) CALLS_I128(ITEM)
             {.value = FRACTION(N, -1, 8), .places = 1, .rule = RATIO_RULE_DOWN},                     \
             {.value = FRACTION(N, 1, 8), .places = 39, .rule = RATIO_RULE_DOWN},                     \
             {.value = FRACTION(N, 1, 8), .places = 1, .rule = 6}};                                   \
-        static const ratio_answer_##suffix low = ANSWER(N, -3, 2), half = ANSWER(N, 1, 2), eighth = ANSWER(N, 1, 8), eighths = ANSWER(N, 99, 8);\
-        ratio_answer_##suffix answer[2], read[4], typed_read[5];                                     \
-        ratio_float real[2];                                                                         \
+        static const ratio_answer_##suffix half = ANSWER(N, 1, 2), product = ANSWER(N, -3, 8);       \
+        ratio_answer_##suffix answer[1], read[4];                                                    \
         uint8_t written[5 * RATIO_DECIMAL_ROOM_I128];                                                \
         ratio_text price_at[5];                                                                      \
         uint8_t bytes[3 * 81];                                                                       \
         ratio_text text[3];                                                                          \
         ratio_order order = {.code = 9, .order = 9};                                                 \
         ratio_hash hash[2];                                                                          \
-        ratio_truth truth[3];                                                                        \
-        const ratio_pair_##suffix pairs[3] = {same, pair, none};                                     \
-        expect(ratio_compare_##suffix(&pair, 1, &order, 1) == RATIO_DONE, "compare " #suffix);       \
-        expect(order.code == RATIO_ANSWERED && order.order == 1, "order " #suffix);                  \
         expect(ratio_compare_##suffix(&turned, 1, &order, 1) == RATIO_DONE, "compare " #suffix);     \
         expect(order.code == RATIO_ANSWERED && (int64_t) order.order == -1, "order below 0 " #suffix);\
-        expect(ratio_compare_##suffix(&none, 1, &order, 1) == RATIO_DONE, "compare " #suffix);       \
-        expect(order.code == RATIO_ZERO_DENOMINATOR && order.order == 0, "no order " #suffix);       \
-        expect(ratio_equal_##suffix(pairs, 3, truth, 3) == RATIO_DONE, "equal " #suffix);            \
-        expect(truth[0].code == RATIO_ANSWERED && truth[0].holds == 1, "equal values " #suffix);     \
-        expect(truth[1].code == RATIO_ANSWERED && truth[1].holds == 0, "unlike values " #suffix);    \
-        expect(truth[2].code == RATIO_ZERO_DENOMINATOR && truth[2].holds == 0, "no value " #suffix); \
         expect(ratio_hash_##suffix(loose, 2, hash, 2) == RATIO_DONE, "hash " #suffix);               \
         expect(hash[0].code == RATIO_ANSWERED && hash[0].hash == hash[1].hash, "hashes " #suffix);   \
-        ROW(suffix, N, add, PAIR(N, 3, 2, -1, 4), 5, 4)                                              \
-        ROW(suffix, N, sub, PAIR(N, 3, 2, -1, 4), 7, 4)                                              \
-        ROW(suffix, N, mul, PAIR(N, 3, 2, -1, 4), -3, 8)                                             \
+        GIVES(suffix, mul, pair, product)                                                            \
         expect(IS_BELOW_0(answer[0].value.numer), "mul below 0 " #suffix);                           \
         expect(!IS_BELOW_0(answer[0].value.denom), "mul above 0 " #suffix);                          \
-        ROW(suffix, N, div, PAIR(N, 3, 2, -1, 4), -6, 1)                                             \
-        ROW(suffix, N, rem, PAIR(N, 3, 2, -1, 4), 0, 1)                                              \
-        REFUSED(suffix, add, PAIR(N, 3, 0, -1, -4), RATIO_DENOMINATOR_NOT_POSITIVE)                  \
-        ROW(suffix, N, gcd, PAIR(N, 3, 2, -1, 4), 1, 4)                                              \
-        ROW(suffix, N, gcd, PAIR(N, 2, 8, -3, 18), 1, 12)                                            \
-        ROW(suffix, N, gcd, PAIR(N, 0, 5, -3, 4), 3, 4)                                              \
-        REFUSED(suffix, gcd, PAIR(N, 3, 0, -1, -4), RATIO_DENOMINATOR_NOT_POSITIVE)                  \
-        ROW(suffix, N, lcm, PAIR(N, 3, 2, -1, 4), 3, 2)                                              \
-        ROW(suffix, N, lcm, PAIR(N, 2, 8, -3, 18), 1, 2)                                             \
-        ROW(suffix, N, lcm, PAIR(N, 0, 5, -3, 4), 0, 1)                                              \
-        REFUSED(suffix, lcm, PAIR(N, 3, 0, -1, -4), RATIO_DENOMINATOR_NOT_POSITIVE)                  \
-        ROW(suffix, N, mul_round, FACTORS(N, 7, 3, 6, 4, RATIO_RULE_HALF_EVEN), 4, 1)                \
-        ROW(suffix, N, mul_round, FACTORS(N, -7, 3, 5, 2, RATIO_RULE_FLOOR), -6, 1)                  \
-        REFUSED(suffix, mul_round, FACTORS(N, 7, 3, 5, 2, 6), RATIO_BAD_OPTION)                      \
-        REFUSED(suffix, mul_round, FACTORS(N, 7, 3, 5, -2, RATIO_RULE_FLOOR), RATIO_DENOMINATOR_NOT_POSITIVE)\
-        ROW(suffix, N, mul_round_to, OPERANDS(N, 1999, 100, 9, 4, 100, RATIO_RULE_HALF_EVEN), 2249, 50)\
-        ROW(suffix, N, mul_round_to, OPERANDS(N, -1999, 100, 9, 4, 100, RATIO_RULE_UP), -2249, 50)   \
-        ROW(suffix, N, mul_round_to, OPERANDS(N, 1999, 100, 0, 9, 100, RATIO_RULE_HALF_EVEN), 0, 1)  \
-        REFUSED(suffix, mul_round_to, OPERANDS(N, 1999, 100, 9, 4, 0, RATIO_RULE_HALF_EVEN), RATIO_BAD_OPTION)\
-        REFUSED(suffix, mul_round_to, OPERANDS(N, 1999, 100, 9, 4, 100, 6), RATIO_BAD_OPTION)        \
-        REFUSED(suffix, mul_round_to, OPERANDS(N, 1999, 100, 9, -4, 100, RATIO_RULE_HALF_EVEN), RATIO_DENOMINATOR_NOT_POSITIVE)\
-        ROW(suffix, N, div_round_to, OPERANDS(N, 1999, 100, 4, 9, 100, RATIO_RULE_HALF_EVEN), 2249, 50)\
-        REFUSED(suffix, div_round_to, OPERANDS(N, 1999, 100, 0, 9, 100, RATIO_RULE_HALF_EVEN), RATIO_DIVISION_BY_ZERO)\
-        REFUSED(suffix, div_round_to, OPERANDS(N, 1999, 100, 9, 4, 0, RATIO_RULE_HALF_EVEN), RATIO_BAD_OPTION)\
-        REFUSED(suffix, div_round_to, OPERANDS(N, 1999, 100, 9, 4, 100, 6), RATIO_BAD_OPTION)        \
-        REFUSED(suffix, div_round_to, OPERANDS(N, 1999, 100, 9, -4, 100, RATIO_RULE_HALF_EVEN), RATIO_DENOMINATOR_NOT_POSITIVE)\
-        REFUSED(suffix, div, PAIR(N, 3, 2, 0, 4), RATIO_DIVISION_BY_ZERO)                            \
-        REFUSED(suffix, rem, PAIR(N, 3, 2, 0, 4), RATIO_DIVISION_BY_ZERO)                            \
-        ROW(suffix, N, reduce, FRACTION(N, 6, -4), -3, 2)                                            \
-        REFUSED(suffix, reduce, FRACTION(N, 3, 0), RATIO_ZERO_DENOMINATOR)                           \
-        ROW(suffix, N, floor, FRACTION(N, -3, 2), -2, 1)                                             \
-        ROW(suffix, N, round, FRACTION(N, -3, 2), -2, 1)                                             \
-        ROW(suffix, N, ceil, FRACTION(N, -3, 2), -1, 1)                                              \
-        ROW(suffix, N, trunc, FRACTION(N, -3, 2), -1, 1)                                             \
-        ROW(suffix, N, neg, FRACTION(N, -3, 2), 3, 2)                                                \
-        ROW(suffix, N, abs, FRACTION(N, -3, 2), 3, 2)                                                \
-        REFUSED(suffix, neg, FRACTION(N, 6, -4), RATIO_DENOMINATOR_NOT_POSITIVE)                     \
-        ROW(suffix, N, nearest, BOUNDED(N, 355, 113, 10), 22, 7)                                     \
-        REFUSED(suffix, nearest, BOUNDED(N, 355, 113, 0), RATIO_BOUND_NOT_POSITIVE)                  \
-        ROW(suffix, N, between, BOUNDS(N, 1, 3, 1, 2, 0), 2, 5)                                      \
-        REFUSED(suffix, between, BOUNDS(N, 1, 2, 2, 4, 0), RATIO_NOT_HELD)                           \
-        ROW(suffix, N, between, BOUNDS(N, 1, 3, 1, 2, RATIO_HIGH_INCLUDED), 1, 2)                    \
-        ROW(suffix, N, between, BOUNDS(N, 1, 2, 3, 5, RATIO_LOW_INCLUDED), 1, 2)                     \
-        ROW(suffix, N, between, BOUNDS(N, 5, 2, 0, 0, RATIO_HIGH_OPEN), 3, 1)                        \
-        ROW(suffix, N, between, BOUNDS(N, 0, 0, -5, 2, RATIO_LOW_OPEN | RATIO_HIGH_INCLUDED), -3, 1) \
-        REFUSED(suffix, between, BOUNDS(N, 1, 3, 1, 2, RATIO_LOW_OPEN | RATIO_LOW_INCLUDED), RATIO_BAD_OPTION)\
-        REFUSED(suffix, between, BOUNDS(N, 1, 3, 1, 2, 16), RATIO_BAD_OPTION)                        \
-        REFUSED(suffix, between, BOUNDS(N, 1, 3, 1, -2, 0), RATIO_DENOMINATOR_NOT_POSITIVE)          \
-        ROW(suffix, N, convergent, PLACE(N, 830, 186, 1), 9, 2)                                      \
-        ROW(suffix, N, convergent, PLACE(N, 415, 93, 3), 415, 93)                                    \
-        REFUSED(suffix, convergent, PLACE(N, 415, 93, 4), RATIO_NOT_HELD)                            \
-        REFUSED(suffix, convergent, PLACE(N, 1, -2, 0), RATIO_DENOMINATOR_NOT_POSITIVE)              \
-        ROW(suffix, N, from_f64, -0.75, -3, 4)                                                       \
-        REFUSED(suffix, from_f64, 1e300, RATIO_NOT_HELD)                                             \
-        ROW(suffix, N, rationalize, 0.1, 1, 10)                                                      \
-        REFUSED(suffix, rationalize, 1e300, RATIO_NOT_HELD)                                          \
-        expect(ratio_to_f64_##suffix(loose, 2, real, 2) == RATIO_DONE, "to_f64 " #suffix);           \
-        expect(real[0].code == RATIO_DENOMINATOR_NOT_POSITIVE && real[0].value == 0, "no float " #suffix);\
-        expect(real[1].code == RATIO_ANSWERED && real[1].value == -1.5, "float " #suffix);           \
-        ROW(suffix, N, round_to, MULTIPLE(N, 2, 3, 100, RATIO_RULE_HALF_EVEN), 67, 100)              \
-        ROW(suffix, N, round_to, MULTIPLE(N, 5, 2, 1, RATIO_RULE_HALF_AWAY), 3, 1)                   \
-        ROW(suffix, N, round_to, MULTIPLE(N, 5, 2, 1, RATIO_RULE_HALF_EVEN), 2, 1)                   \
-        ROW(suffix, N, round_to, MULTIPLE(N, -5, 2, 1, RATIO_RULE_DOWN), -2, 1)                      \
-        ROW(suffix, N, round_to, MULTIPLE(N, -5, 2, 1, RATIO_RULE_UP), -3, 1)                        \
-        ROW(suffix, N, round_to, MULTIPLE(N, 5, 2, 1, RATIO_RULE_FLOOR), 2, 1)                       \
-        ROW(suffix, N, round_to, MULTIPLE(N, 5, 2, 1, RATIO_RULE_CEIL), 3, 1)                        \
-        REFUSED(suffix, round_to, MULTIPLE(N, 2, 3, 100, 6), RATIO_BAD_OPTION)                       \
-        REFUSED(suffix, round_to, MULTIPLE(N, 2, 3, 0, RATIO_RULE_UP), RATIO_BAD_OPTION)             \
-        ROW(suffix, N, from_scaled, SCALED(1250, 2), 25, 2)                                          \
-        REFUSED(suffix, from_scaled, SCALED(5, -1), RATIO_BAD_OPTION)                                \
-        REFUSED(suffix, from_scaled, SCALED(5, 39), RATIO_BAD_OPTION)                                \
-        REFUSED(suffix, floor, FRACTION(N, 6, -4), RATIO_DENOMINATOR_NOT_POSITIVE)                   \
         expect(ratio_read_##suffix(texts, 8, spans, 4, read, 4) == RATIO_DONE, "read " #suffix);     \
         expect(SAME(read[0], half) && read[1].code == RATIO_PARSE_ERROR, "text " #suffix);           \
         expect(read[2].code == RATIO_ZERO_DENOMINATOR && read[3].code == RATIO_NO_TEXT, "texts " #suffix);\
         memset(bytes, 'x', sizeof bytes);                                                            \
-        expect(ratio_print_##suffix(shown, 3, bytes, 3 * room - 1, text, 3) == RATIO_BAD_LENGTH, "room " #suffix);\
-        expect(ratio_print_##suffix(shown, 3, bytes, 3 * room, text, 2) == RATIO_BAD_LENGTH, "places " #suffix);\
-        expect(bytes[0] == 'x', "no text " #suffix);                                                 \
         expect(ratio_print_##suffix(shown, 3, bytes, 3 * room, text, 3) == RATIO_DONE, "print " #suffix);\
         expect(memcmp(bytes, "6/-4-5xx", 8) == 0, "printed " #suffix);                               \
         expect(text[0].code == RATIO_ANSWERED && text[0].span.start == 0 && text[0].span.end == 4, "first " #suffix);\
         expect(text[1].code == RATIO_ZERO_DENOMINATOR && text[1].span.start == text[1].span.end, "second " #suffix);\
         expect(text[2].code == RATIO_ANSWERED && text[2].span.start == 4 && text[2].span.end == 6, "third " #suffix);\
-        expect(ratio_print_decimal_##suffix(prices, 5, written, 5 * (decimal_room) - 1, price_at, 5) == RATIO_BAD_LENGTH, "decimal room " #suffix);\
         expect(ratio_print_decimal_##suffix(prices, 5, written, 5 * (decimal_room), price_at, 5) == RATIO_DONE, "print_decimal " #suffix);\
         expect(memcmp(written, "0.67-0.1", 8) == 0, "printed decimals " #suffix);                    \
         expect(price_at[0].code == RATIO_ANSWERED && price_at[0].span.end == 4, "first decimal " #suffix);\
@@ -186,17 +101,6 @@ CALLS_I32(ITEM) CALLS_I64(ITEM) CALLS_I128(ITEM)
         expect(price_at[2].code == RATIO_ANSWERED && price_at[2].span.start == 4 && price_at[2].span.end == 8, "third decimal " #suffix);\
         expect(price_at[3].code == RATIO_BAD_OPTION && price_at[3].span.start == 8, "fourth decimal " #suffix);\
         expect(price_at[4].code == RATIO_BAD_OPTION && price_at[4].span.end == 8, "fifth decimal " #suffix);\
-        expect(ratio_read_decimal_##suffix(decimals, sizeof decimals - 1, decimal_spans, 4, read, 4) == RATIO_DONE, "read_decimal " #suffix);\
-        expect(SAME(read[0], eighths), "read decimal " #suffix);                                     \
-        expect(read[1].code == RATIO_PARSE_ERROR && read[2].code == RATIO_NOT_HELD, "no decimals " #suffix);\
-        expect(read[3].code == RATIO_NO_TEXT, "no decimal text " #suffix);                           \
-        expect(ratio_read_text_##suffix(typed, sizeof typed - 1, typed_spans, 5, typed_read, 5) == RATIO_DONE, "read_text " #suffix);\
-        expect(SAME(typed_read[0], low) && SAME(typed_read[1], eighth), "typed texts " #suffix);     \
-        expect(typed_read[2].code == RATIO_ZERO_DENOMINATOR && typed_read[3].code == RATIO_PARSE_ERROR, "no typed texts " #suffix);\
-        expect(typed_read[4].code == RATIO_NOT_HELD, "typed text of 41 digits " #suffix);            \
-        ROW(suffix, N, pow, POWER(N, -3, 2, -3), -8, 27)                                             \
-        REFUSED(suffix, pow, POWER(N, 0, 1, -1), RATIO_DIVISION_BY_ZERO)                             \
-        expect(ratio_add_##suffix(&pair, 1, answer, 2) == RATIO_BAD_LENGTH, "length " #suffix);      \
     }
 
 /* This compares the fields of structs, since there may be padding between them. */
@@ -208,26 +112,9 @@ CALLS_I32(ITEM) CALLS_I64(ITEM) CALLS_I128(ITEM)
     expect(ratio_##name##_##suffix(&asked, 1, answer, 1) == RATIO_DONE, #name " " #suffix);          \
     expect(SAME(answer[0], wanted), #name " answer " #suffix);
 
-#define REFUSES(suffix, name, asked, wanted)                                                         \
-    expect(ratio_##name##_##suffix(&asked, 1, answer, 1) == RATIO_DONE, #name " " #suffix);          \
-    expect(answer[0].code == wanted, #name " code " #suffix);
-
-/* An item of a call, with its answer or the code that refuses it. */
-#define ROW(suffix, N, name, asked, n, d)                                                            \
-    {                                                                                                \
-        static const name##_##suffix##_item item = asked;                                            \
-        static const ratio_answer_##suffix wanted = ANSWER(N, n, d);                                 \
-        GIVES(suffix, name, item, wanted)                                                            \
-    }
-#define REFUSED(suffix, name, asked, code)                                                           \
-    {                                                                                                \
-        static const name##_##suffix##_item item = asked;                                            \
-        REFUSES(suffix, name, item, code)                                                            \
-    }
-
-EVERY_CALL(i32, PLAIN, IS_PLAIN_BELOW_0, RATIO_ROOM_I32, RATIO_DECIMAL_ROOM_I32)
-EVERY_CALL(i64, PLAIN, IS_PLAIN_BELOW_0, RATIO_ROOM_I64, RATIO_DECIMAL_ROOM_I64)
-EVERY_CALL(i128, WIDE, IS_WIDE_BELOW_0, RATIO_ROOM_I128, RATIO_DECIMAL_ROOM_I128)
+EACH_TYPE(i32, PLAIN, IS_PLAIN_BELOW_0, RATIO_ROOM_I32, RATIO_DECIMAL_ROOM_I32)
+EACH_TYPE(i64, PLAIN, IS_PLAIN_BELOW_0, RATIO_ROOM_I64, RATIO_DECIMAL_ROOM_I64)
+EACH_TYPE(i128, WIDE, IS_WIDE_BELOW_0, RATIO_ROOM_I128, RATIO_DECIMAL_ROOM_I128)
 
 /* The numerator is -2^64-1: the upper half is -2, and the lower half 2^64-1. */
 static void wide_halves(void) {
@@ -242,34 +129,6 @@ static void wide_halves(void) {
     expect(read.value.denom.high == 0 && read.value.denom.low == 3, "denominator");
     expect(ratio_print_i128(&read.value, 1, bytes, sizeof bytes, &shown, 1) == RATIO_DONE, "print halves");
     expect(shown.span.end == sizeof text - 1 && memcmp(bytes, text, sizeof text - 1) == 0, "printed halves");
-}
-
-/* Half of 2^127-1, twice, is 2^127-1, though the sum of the numerators does not fit. 4/2 less 2/2 is 1. */
-static void sums_that_fit(void) {
-    const ratio_wide most = {.low = UINT64_MAX, .high = INT64_MAX}, one = {.low = 1}, two = {.low = 2}, four = {.low = 4};
-    const ratio_pair_i128 halves = {{most, two}, {most, two}}, loose = {{four, two}, {two, two}};
-    const ratio_answer_i128 whole = {RATIO_ANSWERED, {most, one}}, rest = {RATIO_ANSWERED, {one, one}};
-    ratio_answer_i128 answer[1];
-    GIVES(i128, add, halves, whole)
-    GIVES(i128, sub, loose, rest)
-}
-
-/* A divisor and a multiple that do not fit, and rounded products whose exact products do not. Python's `fractions` computed them. */
-static void divisors_and_rounded_products(void) {
-    const ratio_pair_i64 least = {{INT64_MIN, 1}, {0, 1}}, large = {{INT64_MAX, 2}, {INT64_MAX - 1, 1}};
-    const ratio_factors_i64 parts = {{INT64_MAX, 3}, {2, 5}, RATIO_RULE_HALF_EVEN}, too_large = {{INT64_MAX, 3}, {4, 1}, RATIO_RULE_DOWN};
-    const ratio_answer_i64 part = {RATIO_ANSWERED, {INT64_C(1229782938247303441), 1}};
-    const ratio_operands_i64 less = {{INT64_MAX, 100}, {999, 1000}, 100, RATIO_RULE_HALF_EVEN},
-        not_in_cents = {{INT64_MAX, 3}, {2, 5}, 100, RATIO_RULE_HALF_EVEN}, by_least = {{-INT64_MAX, 100}, {INT64_MIN, INT64_MAX}, 3, RATIO_RULE_UP};
-    const ratio_answer_i64 discounted = {RATIO_ANSWERED, {INT64_C(9214148664817921031), 100}}, thirds = {RATIO_ANSWERED, {INT64_C(276701161105643275), 3}};
-    ratio_answer_i64 answer[1];
-    REFUSES(i64, gcd, least, RATIO_NOT_HELD)
-    REFUSES(i64, lcm, large, RATIO_NOT_HELD)
-    GIVES(i64, mul_round, parts, part)
-    REFUSES(i64, mul_round, too_large, RATIO_NOT_HELD)
-    GIVES(i64, mul_round_to, less, discounted)
-    REFUSES(i64, mul_round_to, not_in_cents, RATIO_NOT_HELD)
-    GIVES(i64, div_round_to, by_least, thirds)
 }
 
 /* Products and quotients whose steps do not fit. Python's `fractions` computed them. */
@@ -348,8 +207,6 @@ static void casts(void) {
     ratio_answer_i64 answer[1];
     ratio_answer_i32 narrowed[1];
     ratio_answer_i128 widened[1];
-    REFUSES(i64, neg, least, RATIO_NOT_HELD)
-    REFUSES(i64, abs, least, RATIO_NOT_HELD)
     expect(ratio_cast_i64_to_i32(&least, 1, narrowed, 1) == RATIO_DONE && narrowed[0].code == RATIO_NOT_HELD, "cast of the least");
     expect(ratio_cast_i64_to_i32(&half, 1, narrowed, 1) == RATIO_DONE && SAME(narrowed[0], narrow_low), "cast to 32 bits");
     expect(ratio_cast_i128_to_i32(&wide, 1, narrowed, 1) == RATIO_DONE && SAME(narrowed[0], narrow_low), "cast 128 to 32 bits");
@@ -357,20 +214,6 @@ static void casts(void) {
     expect(ratio_cast_i128_to_i64(&wide, 1, answer, 1) == RATIO_DONE && SAME(answer[0], low), "cast 128 to 64 bits");
     expect(ratio_cast_i32_to_i128(&narrow, 1, widened, 1) == RATIO_DONE && SAME(widened[0], wide_low), "cast 32 to 128 bits");
     expect(ratio_cast_i64_to_i128(&half, 1, widened, 1) == RATIO_DONE && SAME(widened[0], wide_low), "cast 64 to 128 bits");
-}
-
-/* A tenth as a float is not 1/10, and needs more than 32 bits. */
-static void floats(void) {
-    static const double tenth = 0.1;
-    static const ratio_i64 third = {1, 3}, most = {INT64_MAX, 1};
-    static const ratio_answer_i64 near = {RATIO_ANSWERED, {INT64_C(3602879701896397), INT64_C(36028797018963968)}};
-    ratio_answer_i64 answer[1];
-    ratio_answer_i32 narrow;
-    ratio_float real;
-    GIVES(i64, from_f64, tenth, near)
-    expect(ratio_from_f64_i32(&tenth, 1, &narrow, 1) == RATIO_DONE && narrow.code == RATIO_NOT_HELD, "tenth of 32 bits");
-    expect(ratio_to_f64_i64(&third, 1, &real, 1) == RATIO_DONE && real.value == 1.0 / 3, "float of a third");
-    expect(ratio_to_f64_i64(&most, 1, &real, 1) == RATIO_DONE && real.value == 9223372036854775808.0, "float of 2^63-1");
 }
 
 /* Whether the last call on a total ended with this code, after so many items. */
@@ -397,6 +240,21 @@ static void totals(void) {
     expect(ratio_total_sum_i64(slots, 4, room, 64, answer, 1) == RATIO_DONE && answer->value.numer == 1 && answer->value.denom == 3, "sum of the rest");
     expect(ratio_total_add_i64(shares, 1, pair, 2, slots, 4) == RATIO_BAD_LENGTH && pair[0].count == 0, "two totals");
     expect(ratio_total_sum_i64(slots, 4, room, 64, answer, 0) == RATIO_BAD_LENGTH, "no answer");
+}
+
+/* A total that grows: 1/36 and -5/12 move to the next table, and 0/28 does not. */
+static void growing_totals(void) {
+    ratio_slot_i64 slots[4] = {{28, {0, 0}}, {36, {1, 0}}, {0, {0, 0}}, {12, {UINT64_MAX - 4, -1}}}, next[8] = {{0}};
+    ratio_total_i64 moved = {0};
+    uint64_t room[14];
+    ratio_answer_i64 answer[1];
+    expect(ratio_total_leave_zeros_i64(slots, 4) == 2 && slots[0].denom == 36 && slots[0].numer.low == 1, "the first fraction that is left");
+    expect(slots[1].denom == 12 && slots[1].numer.low == UINT64_MAX - 4 && slots[1].numer.high == -1, "the second fraction that is left");
+    expect(ratio_total_free_i64(slots, 4) == 2 && slots[3].numer.low == 0 && slots[3].numer.high == 0, "the slots behind");
+    expect(ratio_total_next_length_i64(2, 0, 0, 8) == 8 && ratio_total_next_length_i64(12, 0, 6, 100) == 26, "the next length");
+    expect(ratio_total_next_length_i64(8, 4, 0, 24) == 24 && ratio_total_next_length_i64(8, 4, 0, 23) == 0, "the greatest length");
+    expect(ratio_total_merge_i64(slots, 2, 7, &moved, 1, next, 8) == RATIO_DONE && STOPPED(moved, RATIO_ANSWERED, 2) && moved.count == 7, "the move");
+    expect(ratio_total_sum_i64(next, 8, room, 14, answer, 1) == RATIO_DONE && answer->value.numer == -7 && answer->value.denom == 18, "the sum after the move");
 }
 
 /* Items that are refused, and a total that moves to more slots. */
@@ -693,39 +551,19 @@ static void chained_calls(void) {
     expect(again[0].value.numer == 3 && again[1].value.denom == 5, "nothing is written here");
 }
 
-/* A text that is no fraction, and ones that need more bits than the type has. */
-static void refusals(void) {
-    static const char text[] = "x2147483648/39223372036854775808/318446744073709551616/0170141183460469231731687303715884105728";
-    static const ratio_span spans[5] = {{0, 1}, {1, 13}, {13, 34}, {34, 56}, {56, 95}};
-    static const uint32_t narrow[5] = {RATIO_PARSE_ERROR, RATIO_NOT_HELD, RATIO_NOT_HELD, RATIO_ZERO_DENOMINATOR, RATIO_PARSE_ERROR},
-        middle[5] = {RATIO_PARSE_ERROR, RATIO_ANSWERED, RATIO_NOT_HELD, RATIO_ZERO_DENOMINATOR, RATIO_PARSE_ERROR},
-        wide[5] = {RATIO_PARSE_ERROR, RATIO_ANSWERED, RATIO_ANSWERED, RATIO_ZERO_DENOMINATOR, RATIO_PARSE_ERROR};
-    ratio_answer_i32 first[5];
-    ratio_answer_i64 second[5];
-    ratio_answer_i128 third[5];
-    int i;
-    expect(ratio_read_i32((const uint8_t *) text, sizeof text - 1, spans, 5, first, 5) == RATIO_DONE, "read 32 bits");
-    expect(ratio_read_i64((const uint8_t *) text, sizeof text - 1, spans, 5, second, 5) == RATIO_DONE, "read 64 bits");
-    expect(ratio_read_i128((const uint8_t *) text, sizeof text - 1, spans, 5, third, 5) == RATIO_DONE, "read 128 bits");
-    for (i = 0; i < 5; i++) {
-        expect(first[i].code == narrow[i] && second[i].code == middle[i] && third[i].code == wide[i], "refusals apart");
-    }
-}
-
 int main(void) {
-    every_call_i32();
-    every_call_i64();
-    every_call_i128();
+    lengths();
+    each_type_i32();
+    each_type_i64();
+    each_type_i128();
     wide_halves();
-    sums_that_fit();
-    divisors_and_rounded_products();
     quotients_of_many();
     splits();
     splits_by_weights();
     casts();
-    floats();
     lowest_hashes();
     totals();
+    growing_totals();
     stops_of_totals();
     reads_of_totals();
     bounded_decimals();
@@ -738,6 +576,5 @@ int main(void) {
     python_hashes();
     sortable_bytes();
     chained_calls();
-    refusals();
     return wrong;
 }

@@ -228,7 +228,7 @@ static void compare_with_bounded(const ratio_slot_i64 *slots, size_t len, uint32
 /* Changes a total or reads it, over its slots or some of them, which now and then have random bytes. */
 static void one_total(void) {
     const size_t chosen = below(MOST), len = below(4) > 0 ? SLOTS : below(SLOTS + 1), n = below(MOST), m = 1 + (below(16) == 0);
-    const size_t digits = below(ROOM), size = below(TEXT), kind = below(16);
+    const size_t digits = below(ROOM), size = below(TEXT), kind = below(17);
     const int64_t count = below(32) == 0 ? (int64_t) next() : (int64_t) below(9) - 2;
     const uint32_t places = (uint32_t) below(below(8) == 0 ? 200 : 12), rule = (uint32_t) below(7);
     uint8_t *slots = place(SLOTS_OF_TOTAL, len * sizeof(ratio_slot_i64)), *room = place(ROOM_OF_TOTAL, digits * sizeof(uint64_t));
@@ -257,7 +257,7 @@ static void one_total(void) {
     switch (kind) {
     case 0: case 1: case 2: returned = ratio_total_add_i64((const ratio_i64 *) asked, n, total, m, to, len); break;
     case 3: returned = ratio_total_subtract_i64((const ratio_i64 *) asked, n, total, m, to, len); break;
-    case 4: returned = ratio_total_free_i64(from, len); break;
+    case 4: returned = ratio_total_free_i64(from, len) + ratio_total_next_length_i64(len, n, (uint64_t) count, below(64)); break;
     case 5: returned = ratio_total_digits_i64(from, len) + ratio_total_print_digits_i64(from, len, places) + ratio_total_print_bytes_i64(from, len, places); break;
     case 6: returned = ratio_total_merge_i64((const ratio_slot_i64 *) asked, SLOTS, count, total, m, to, len); break;
     case 7: returned = ratio_total_unmerge_i64((const ratio_slot_i64 *) asked, SLOTS, count, total, m, to, len); break;
@@ -269,8 +269,10 @@ static void one_total(void) {
     case 13: returned = ratio_total_compare_i64(from, len, (const ratio_slot_i64 *) asked, SLOTS, difference, below(2 * SLOTS + 1), (uint64_t *) room, digits, &order, 1)
                         + ratio_total_compare_digits_i64(from, len, (const ratio_slot_i64 *) asked, SLOTS); break;
     case 14: returned = ratio_total_to_f64_i64(from, len, (uint64_t *) room, digits, &value, 1); break;
-    default: returned = ratio_total_print_bounded_i64(from, len, places, rule, (uint64_t *) room, digits, texts, size, &text, 1);
+    case 15: returned = ratio_total_print_bounded_i64(from, len, places, rule, (uint64_t *) room, digits, texts, size, &text, 1);
         compare_with_bounded(from, len, places, rule, text, texts);
+        break;
+    default: returned = ratio_total_leave_zeros_i64(to, len);
     }
     test_before(slots), test_before(room), test_before(texts), test_before(header), test_before(asked);
     if (m == 1) memcpy(&totals[chosen].header, header, sizeof(ratio_total_i64));

@@ -19,3 +19,9 @@ int main() {
     const std::vector<bakhsney::ratio> miles(1000, 5280 * foot);
     if (const auto sum = bakhsney::try_sum(miles.begin(), miles.end())) std::cout << *sum / 100000 << " km\n";
 }
+
+/* It prints:
+762/25 cm, or 30.48 cm
+ratio: division by zero
+201168/125 km
+*/

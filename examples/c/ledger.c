@@ -55,3 +55,13 @@ int main(void) {
     show("at the end", &both);
     return 0;
 }
+
+/* It prints:
+empty        0  sum 0, mean division by zero
+north        3  sum 6847/300, mean 6847/900
+south        2  sum 25/4, mean 25/8
+both         5  sum 4361/150, mean 4361/750
+less refund  4  sum 1993/75, mean 1993/300
+entry 2 not added: denominator not positive
+at the end   4  sum 1993/75, mean 1993/300
+*/

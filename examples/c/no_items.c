@@ -67,7 +67,8 @@ static void reads_of_totals(void) {
     ratio_order order;
     ratio_float nearest;
     ratio_text text;
-    expect(ratio_total_free_i64(NULL, 0) == 0, "no slots");
+    expect(ratio_total_free_i64(NULL, 0) == 0 && ratio_total_leave_zeros_i64(NULL, 0) == 0, "no slots");
+    expect(ratio_total_next_length_i64(0, 0, 0, 8) == 8 && ratio_total_next_length_i64(0, 0, 0, 0) == 0, "the first slots");
     expect(ratio_total_digits_i64(NULL, 0) <= DIGITS && ratio_total_round_to_digits_i64(NULL, 0) <= DIGITS, "the room of reads");
     expect(ratio_total_compare_digits_i64(NULL, 0, NULL, 0) <= DIGITS && ratio_total_print_digits_i64(NULL, 0, 2) <= DIGITS && ratio_total_print_bytes_i64(NULL, 0, 2) <= BYTES, "the room of others");
     SAYS(total_sum_i64(NULL, 0, NULL, 0, &answer, 1), answer, MORE_ROOM);

@@ -60,3 +60,12 @@ int main(void) {
     print_money(sum.value);
     return 0;
 }
+
+/* It prints:
+flour 0.89 * 1.5: 267/200, in cents 1.34
+rice 2.10 * 0.333: 6993/10000, in cents 0.70
+deposit -0.25 * 6: -3/2, in cents -1.50
+salt 0.50 * two: no fraction
+gold 9223372036854775807 * 2: out of range
+sum: 5343/10000, in cents 0.53
+*/

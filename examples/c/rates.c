@@ -69,3 +69,15 @@ int main(void) {
     }
     return 0;
 }
+
+/* It prints:
+market: zero denominator
+tower: no fraction
+-4593671619917905920 north   -1/8
+                   0 garden  0
+ 4586165620538955093 harbour 1/24
+ 4586165620538955093 bridge  1/24
+ 4586285716529018307 mill    17/400
+ 4607182418800017408 castle  1
+ 4607182418800017408 forest  9007199254740993/9007199254740992
+*/

@@ -40,3 +40,36 @@ int main(void) {
     }
     return ratio_add_i64(pairs, PAIRS, answers, 1) == RATIO_BAD_LENGTH ? 0 : 1;
 }
+
+/* It prints:
+1/2 > 1/3
+-3/4 < 6/8
+7/2 > 0/5
+9223372036854775807 > 1/2
+1/-2 < 1/2
+1/2 + 1/3 = 5/6
+-3/4 + 6/8 = 0
+7/2 + 0/5 = 7/2
+9223372036854775807 + 1/2 = out of range
+1/-2 + 1/2 = denominator not positive
+1/2 - 1/3 = 1/6
+-3/4 - 6/8 = -3/2
+7/2 - 0/5 = 7/2
+9223372036854775807 - 1/2 = out of range
+1/-2 - 1/2 = denominator not positive
+1/2 * 1/3 = 1/6
+-3/4 * 6/8 = -9/16
+7/2 * 0/5 = 0
+9223372036854775807 * 1/2 = 9223372036854775807/2
+1/-2 * 1/2 = denominator not positive
+1/2 / 1/3 = 3/2
+-3/4 / 6/8 = -1
+7/2 / 0/5 = division by zero
+9223372036854775807 / 1/2 = out of range
+1/-2 / 1/2 = denominator not positive
+1/2 % 1/3 = 1/6
+-3/4 % 6/8 = 0
+7/2 % 0/5 = division by zero
+9223372036854775807 % 1/2 = 0
+1/-2 % 1/2 = denominator not positive
+*/

@@ -2,7 +2,7 @@
 "use strict";
 const fs = require("fs");
 
-const engine = fs.readFileSync(`${__dirname}/../../page/engine.js`, "utf8");
+const engine = fs.readFileSync(`${__dirname}/../page/engine.js`, "utf8");
 const worker = new Function("postMessage", "close", `let onmessage; ${engine}; engineMain(); return (data) => onmessage({ data });`);
 const put = worker(({ out, fault }) => fs.writeSync(1, out ?? fault), () => {});
 put({ module: new WebAssembly.Module(fs.readFileSync(process.argv[2])) });

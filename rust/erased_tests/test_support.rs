@@ -78,4 +78,4 @@ macro_rules! ends_a_test {
     )* };
 }
 
-ends_a_test!(crate::proved::ratio_expressions::expression::TreeError, crate::proved::ratio_expressions::refusal::ValueError);
+ends_a_test!(crate::proved::ratio_expressions::refusal::ValueError);

@@ -28,15 +28,9 @@ mod big_fraction_operators;
 #[cfg(feature = "alloc")]
 mod big_fraction_order;
 #[cfg(feature = "alloc")]
-mod big_fraction_refusals;
-#[cfg(feature = "alloc")]
 mod big_fraction_rounding;
 #[cfg(feature = "alloc")]
-mod big_fraction_simplest;
-#[cfg(feature = "alloc")]
 mod big_fraction_texts;
-#[cfg(feature = "alloc")]
-mod big_fraction_totals;
 #[cfg(feature = "alloc")]
 mod big_fraction_traits;
 #[cfg(all(feature = "alloc", feature = "serde"))]
@@ -48,24 +42,16 @@ mod casts;
 mod constants;
 mod continued;
 mod conversions;
-mod euclid;
-mod exponents;
-mod float_values;
 mod floats;
 mod integer;
-mod left_numbers;
 mod list_sums;
 mod many_products;
 mod numbers;
 mod order;
-#[cfg(feature = "num-rational")]
-mod original;
 mod powers;
 mod ratio;
 mod reduced;
-mod reduced_conversions;
-mod reduced_folds;
-mod reduced_order;
+mod reduced_traits;
 #[cfg(feature = "alloc")]
 mod room_sum;
 mod rounding;
@@ -86,14 +72,14 @@ pub use big::BigRational;
 #[cfg(feature = "alloc")]
 pub use big_fraction::BigFraction;
 #[cfg(feature = "alloc")]
-pub use big_fraction_refusals::BigTextRefusal;
+pub use big_fraction_texts::BigTextRefusal;
 pub use casts::CastError;
 pub use continued::{Convergents, Quotients};
-pub use float_values::FloatError;
+pub use floats::FloatError;
 pub use integer::Integer;
 pub use ratio::{Ratio, Rational, Rational32, Rational64};
 pub use reduced::{Reduced, Reduced32, Reduced64};
-pub use reduced_conversions::ReducedError;
+pub use reduced_traits::ReducedError;
 pub use splits::{split, split_by_weights};
 #[cfg(feature = "alloc")]
 pub use total::{TooLong, Total};

@@ -8,7 +8,6 @@
 // But a call of std that is newer than the crate's `rust-version` is a fault of rust/erase.
 #![warn(clippy::incompatible_msrv)]
 
-pub mod fraction_totals;
 pub mod itoa;
 pub mod num_rational;
 pub mod ratio_approximation;
@@ -16,9 +15,7 @@ pub mod ratio_approximation;
 pub mod ratio_big;
 pub mod ratio_core;
 pub mod ratio_decimal;
-pub mod ratio_float;
 pub mod ratio_integer;
-pub mod ratio_laws;
-pub mod ratio_long;
 pub mod ratio_natural;
+pub mod ratio_slots;
 pub mod ratio_totals;

@@ -1,8 +1,8 @@
 //! A ledger is added up and read: columns of cents, of shares of them, of days, and of fractions of any kind.
 use crate::digest::Digest;
 use crate::made::{Made, fraction};
-use fraction_totals::{ReadRefusal, Slot, Total, checked_sum, dot, total_of};
 use num_rational::{Reduced64, Rounding};
+use ratio_totals::{ReadRefusal, Slot, Total, checked_sum, dot, total_of};
 use std::alloc::{AllocError, Global};
 
 /// So many times: a column of each kind, added up whole, in groups of 20 rows and row by row, and an awkward one.

@@ -1,12 +1,10 @@
 -- JSON lists of two values, and what reading them returns.
-use Rattle.std.proofs.Common.{◌≡◌, sym, ◌∙◌, ap, subst, arith, List, [], ◌∷◌, length, get_or, ℤ, Option, Some, None}
-use Rattle.std.specs.Prelude.{option_and_then}
+use Rattle.std.proofs.Common.{◌≡◌, sym, ◌∙◌, ap, arith, List, [], ◌∷◌, length, get_or, Some, None}
 use Rattle.serde_json.specs.Data.{Data, array, boolean, item, Items, no_items, null, number, object, string}
-use Rattle.serde_json.specs.Find.{as_array, as_integer, as_number}
+use Rattle.serde_json.specs.Find.{as_array}
 use Rattle.serde_json.specs.View.{items_view, view}
 use Rattle.serde_json.specs.declared.value.Value.{Value}
-use Rattle.ratio_integer.specs.Range.{Checks, IsHeld}
-use Rattle.num_rational.specs.Json.{AnswersJsonInteger, list_of_two}
+use Rattle.num_rational.specs.Json.{list_of_two}
 
 -- ---- lists of two
 
@@ -38,14 +36,3 @@ pub has_two : (v a b : Data) (vs : List Value) → Some (items_view vs) ≡ as_a
 has_two v a b vs e list =
     let h : Some (items_view vs) ≡ Some (item a (item b no_items)) = e ∙ ap as_array list in
     are_two vs a b (cc)
-
--- ---- whole numbers
-
--- a value that is not a number, or is a float, is not a whole number
-pub no_integer : {T : Type 0} (value : T → ℤ) (lo hi : ℤ) (v : Data) → option_and_then as_integer (as_number v) ≡ None → AnswersJsonInteger value lo hi v None
-no_integer value lo hi v none z is = let h : None ≡ Some z = sym none ∙ is.whole in cc
-
--- a whole number is read if it is in range
-pub checked_integer : {T : Type 0} (value : T → ℤ) (lo hi : ℤ) (v : Data) (z : ℤ) (r : Option T) → option_and_then as_integer (as_number v) ≡ Some z → Checks value lo hi z r → AnswersJsonInteger value lo hi v r
-checked_integer value lo hi v z None whole out = λ y is. let h : Some z ≡ Some y = sym whole ∙ is.whole in let same : z ≡ y = cc in out (subst (IsHeld lo hi) (sym same) is.held)
-checked_integer value lo hi v z (Some y) whole is = record { whole = whole ∙ ap Some (sym is.1); held = subst (IsHeld lo hi) (sym is.1) is.0 }

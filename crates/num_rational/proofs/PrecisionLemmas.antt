@@ -32,7 +32,7 @@ some_places n d places some fits many above =
 module _ (pad : Bool → List ℕ → List ℕ → List ℕ) (places d : ℕ) (some : 0 < d) (fits : d < 2 ^ 128) (many : 39 ≤ places) where
   front : (n : ℕ) → n < 2 ^ 128 → starts_with_minus (unsigned_places places (half_even (n * 10 ^ places) d)) ≡ false
   front n small =
-      ap starts_with_minus (sym (whole_and_places n d places some fits many) ∙ append_assoc (decimal (n / d)) (point ∷ []) _)
+      ap starts_with_minus (sym (whole_and_places n d places small some fits many) ∙ append_assoc (decimal (n / d)) (point ∷ []) _)
       ∙ decimal_no_minus (n / d) (let h = div-le_self n d in omega arith) _
 
   padded : (n : ℤ) → unsigned_abs n < 2 ^ 128

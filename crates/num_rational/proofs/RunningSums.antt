@@ -1,9 +1,10 @@
 -- Sums and products that a loop forms over a list, and half the sum of two fractions.
-use Rattle.std.specs.Prelude.{◌≡◌, ◌-◌, ◌^◌, ◌+◌, ◌<◌, ◌<ℤ◌, ℕ, ℤ, pos, negsuc, true, List, length, take, Option, None, Some}
+use Rattle.std.specs.Prelude.{◌≡◌, ◌+◌, ◌<◌, ◌<ℤ◌, ℕ, ℤ, pos, true, List, length, take, Option, None, Some}
 use Rattle.std.proofs.Common.{arith, get_or, refl, subst, sym}
 use Rattle.std.proofs.lemmas.Int.{ints}
 use Rattle.ratio_integer.specs.Arithmetic.{quotient_of}
 use Rattle.ratio_integer.specs.Fraction.{ChecksLowest, IsHeldLowest}
+use Rattle.ratio_integer.specs.SignedBits.{greatest64, least64}
 use Rattle.ratio_core.specs.Laws.{IsProduct, IsSum}
 use Rattle.ratio_core.proofs.SumLemmas.{fits_by}
 use Rattle.num_rational.specs.Folds.{ArePositive, ChecksExactSumOf, ChecksProductOf}
@@ -57,7 +58,7 @@ two_up : pos 0 <ℤ pos 2
 two_up = omega (arith, ints)
 
 -- dividing the sum s of x and y by 2 gives half of x + y
-pub sum_halved : {T : _} {i : _} {o : _} {e : _} {p : _} {h : _} (x y s : ℤ × ℤ) (r : Option (Reduced T i o e p h)) → IsHeldLowest (negsuc (2 ^ 63 - 1)) (pos (2 ^ 63 - 1)) (sum_of_two x y).0 (sum_of_two x y).1 s.0 s.1 → ChecksLowest numerator denominator (negsuc (2 ^ 63 - 1)) (pos (2 ^ 63 - 1)) (quotient_of s.0 s.1 (pos 2) (pos 1)) (ratio_in r) → ChecksMean x y r
+pub sum_halved : {T : _} {i : _} {o : _} {e : _} {p : _} {h : _} (x y s : ℤ × ℤ) (r : Option (Reduced T i o e p h)) → IsHeldLowest least64 greatest64 (sum_of_two x y).0 (sum_of_two x y).1 s.0 s.1 → ChecksLowest numerator denominator least64 greatest64 (quotient_of s.0 s.1 (pos 2) (pos 1)) (ratio_in r) → ChecksMean x y r
 sum_halved x y s None sum out = λ both. product_out _ _ (sum_of_two x y) s (pos 1, pos 2) sum.terms two_up out both.1
 sum_halved x y s (Some half) sum held =
     let moved = product_held _ _ (sum_of_two x y) s (pos 1, pos 2) sum.terms two_up (lowest_numbers half).0 (lowest_numbers half).1 held in

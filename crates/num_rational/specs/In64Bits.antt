@@ -1,13 +1,10 @@
 -- Fractions in 64 bits, and the mean of two. A fraction is a pair of whole numbers here.
-use Rattle.std.specs.Prelude.{◌-◌, ◌^◌, ℤ, pos, negsuc, Option, None, Some}
+use Rattle.std.specs.Prelude.{ℤ, pos, Option, None, Some}
 use Rattle.ratio_integer.specs.Arithmetic.{quotient_of, sum_of}
-use Rattle.ratio_integer.specs.Fraction.{Fits, IsLowestTermsOf}
+use Rattle.ratio_integer.specs.Fraction.{IsLowestTermsOf}
+use Rattle.ratio_integer.specs.SignedBits.{Fits64}
 use Rattle.num_rational.specs.declared.reduced.Reduced.{Reduced}
 use Rattle.num_rational.specs.Reduced.{lowest_numbers}
-
--- the lowest terms of the pair lie from -2^63 to 2^63-1
-abbrev pub FitsIn64 : ℤ × ℤ → Type 0
-FitsIn64 x = Fits (negsuc (2 ^ 63 - 1)) (pos (2 ^ 63 - 1)) x.0 x.1
 
 -- the fraction is the lowest terms of the pair
 -- Example: 2/4: 1/2
@@ -27,5 +24,5 @@ half_sum x y = quotient_of (sum_of_two x y).0 (sum_of_two x y).1 (pos 2) (pos 1)
 -- the result is half of x + y in lowest terms, if x + y and its half fit in 64 bits, else `None`
 -- Example: 1/2, 1/4: 3/8
 abbrev pub ChecksMean : {T : _} {i : _} {o : _} {e : _} {p : _} {h : _} → ℤ × ℤ → ℤ × ℤ → Option (Reduced T i o e p h) → Type 0
-ChecksMean x y None = ¬ (FitsIn64 (sum_of_two x y) × FitsIn64 (half_sum x y))
-ChecksMean x y (Some mean) = FitsIn64 (sum_of_two x y) × FitsIn64 (half_sum x y) × HasValue (half_sum x y) mean
+ChecksMean x y None = ¬ (Fits64 (sum_of_two x y) × Fits64 (half_sum x y))
+ChecksMean x y (Some mean) = Fits64 (sum_of_two x y) × Fits64 (half_sum x y) × HasValue (half_sum x y) mean

@@ -1,5 +1,5 @@
 // Written by templates/write from templates/operator.rt.txt: change that file, and write this one anew.
-//! The five operators, each as a checked call, as a call that requires a result, and as its two symbols, such as `+` and `+=`.
+//! The five operators of `Ratio`, each as a checked call, as a call that requires a result, and as its two symbols, such as `+` and `+=`.
 ghost use Rattle.std.specs.Prelude.{◌<ℤ◌, pos};
 ghost use Rattle.ratio_integer.specs.Arithmetic.{RemainderHeld};
 ghost use Rattle.ratio_core.specs.Conditions.{DifferenceCondition, ProductCondition, QuotientCondition, SumCondition};

@@ -1,11 +1,12 @@
-//! `Ratio`, the fraction type, with its constants and its calls: constructors, fields, order, hash, powers, rounding, the nearest fraction,
-//! signs, floats, and texts, which the traits hand on to.
+//! `Ratio`, the fraction type, and its methods, which the traits hand on to: constructors, `zero` and `one`, fields, conversions such as
+//! `to_u128`, order, hash, powers, rounding, the nearest fraction, signs, floats and texts.
 //!
 //! Operators, folds and JSON have files of their own.
-ghost use Rattle.std.specs.Prelude.{◌≡◌, ◌≢◌, ◌↔◌, ◌+◌, ◌++◌, ◌<ℤ◌, ◌-◌, ◌^◌, ◌≤◌, ◌≤ℤ◌, false, fold, length, neg_ℤ, negsuc, pos, IsTrue, List, ℕ, ℤ};
+ghost use Rattle.std.specs.Prelude.{◌≡◌, ◌≢◌, ◌↔◌, ◌+◌, ◌++◌, ◌<ℤ◌, ◌-◌, ◌^◌, ◌≤◌, ◌≤ℤ◌, false, fold, length, neg_ℤ, pos, IsTrue, List, ℕ, ℤ};
 ghost use Rattle.std.specs.Float.{binary32, binary64};
 ghost use Rattle.ratio_integer.specs.Fraction.{Fits, IsLowestTerms};
 ghost use Rattle.ratio_integer.specs.Range.{IsHeld};
+ghost use Rattle.ratio_integer.specs.SignedBits.{greatest128, greatest64, least128, least64};
 ghost use Rattle.ratio_core.specs.ContinuedFraction.{IsCodeCount, IsCodesOf, IsStepCount, TellsApart};
 ghost use Rattle.ratio_core.specs.Power.{PowerCondition};
 ghost use Rattle.ratio_core.specs.Printing.{ReadsBack, base_of, base_ten_room, text_of};
@@ -14,7 +15,7 @@ ghost use Rattle.ratio_core.specs.Rounding.{ChecksTruncation, IsCeiling, IsFloor
 ghost use Rattle.ratio_core.specs.Signs.{IsAbsolute, IsNegative, IsPositive, IsPositiveDifference, IsSign, PositiveDifferenceCondition};
 ghost use Rattle.ratio_core.specs.declared.text.Form.TheVariants.{Decimal};
 ghost use Rattle.ratio_approximation.specs.Nearest.{IsNearest};
-ghost use Rattle.ratio_float.specs.Floats.{nearest_float};
+ghost use Rattle.ratio_decimal.specs.Floats.{nearest_float};
 
 mod traits;
 
@@ -22,7 +23,7 @@ use ratio_core::{
     BaseTenText, CodeList, Exponent, Form, ParseRatioError, RatioText, Steps, checked_new, pow,
     rounding, sign, text,
 };
-use ratio_float::nearest;
+use ratio_decimal::float::nearest;
 use ratio_integer::{Integer, Primitive, SignedInteger};
 use std::cmp::Ordering;
 
@@ -383,7 +384,7 @@ impl<T: Copy + Integer> Ratio<T> {
     /// This fraction cut towards zero, as an `i64`, or `None` if that does not fit an `i64`.
     pub fn to_i64(&self) -> Option<i64>
         requires { pos 0 <ℤ denominator self.now }
-        ensures { ChecksTruncation (λ y. y) (negsuc (2 ^ 63 - 1)) (pos (2 ^ 63 - 1)) (numerator self.now) (denominator self.now) result }
+        ensures { ChecksTruncation (λ y. y) least64 greatest64 (numerator self.now) (denominator self.now) result }
     {
         rounding::to_i64(self.numer, self.denom)
     }
@@ -391,7 +392,7 @@ impl<T: Copy + Integer> Ratio<T> {
     /// This fraction cut towards zero, as an `i128`, or `None` if that does not fit an `i128`.
     pub fn to_i128(&self) -> Option<i128>
         requires { pos 0 <ℤ denominator self.now }
-        ensures { ChecksTruncation (λ y. y) (negsuc (2 ^ 127 - 1)) (pos (2 ^ 127 - 1)) (numerator self.now) (denominator self.now) result }
+        ensures { ChecksTruncation (λ y. y) least128 greatest128 (numerator self.now) (denominator self.now) result }
     {
         rounding::to_i128(self.numer, self.denom)
     }

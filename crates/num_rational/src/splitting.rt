@@ -1,5 +1,5 @@
-//! An amount split by shares or by weights, so that nothing is lost: at marks, which are the amount times the sums of the first shares,
-//! rounded.
+//! An amount split by shares (the trait `Share`) or by weights, so that nothing is lost: at marks, which are the amount times the sums of
+//! the first shares, rounded.
 ghost use Rattle.std.specs.Prelude.{◌≡◌, ◌↔◌, ◌≤◌, ◌<ℤ◌, ◌≤ℤ◌, ◌*ℤ◌, length, pos, take, IfErr, IfSome, IsTrue, MatchResult, OnErr, OnOk, Some, ℤ};
 ghost use Rattle.std.specs.Fmt.{padded};
 ghost use Rattle.ratio_integer.specs.Arithmetic.{sum_of};

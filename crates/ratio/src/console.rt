@@ -1,5 +1,5 @@
-//! What the system gives the program and takes from it: arguments, the input and its lines, and the two outputs. The crate for cargo has
-//! these calls in a file by hand.
+//! What the system gives the program and takes from it: arguments, the input and its lines, whether a person types it, and the two outputs.
+//! The crate for cargo has these calls in a file by hand.
 ghost use Rattle.ratio.specs.Devices.{GivesLine, device_change};
 
 use crate::fault::Fault;

@@ -1,11 +1,12 @@
-//! The program `ratio`: the value of the expression in its arguments, or the values of the lines of its input, and its status.
+//! The program `ratio`, which `./ratio` runs, over `ratio_expressions`: the value of the expression in its arguments, or the values of the
+//! lines of its input, and its status.
 //!
 //! | Module | What is in it |
 //! |---|---|
 //! | `request` | What the arguments ask for, or why they are refused. |
-//! | `option` | The options, by their names. |
+//! | `option` | The options by their names, and a number of places. |
 //! | `answering` | The reply to one expression, and to the lines of the input. |
-//! | `console` | What the system gives the program and takes from it: arguments, the input and its lines, and the two outputs. |
+//! | `console` | What the system gives the program and takes from it: arguments, the input and its lines, whether a person types it, and the two outputs. |
 //! | `fault` | Why the program stops before its end, and its message. |
 //! | `help` | The texts of `--help` and `--version`. |
 //! | `writing` | Bytes for an output, written whole. |

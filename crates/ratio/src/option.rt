@@ -1,4 +1,4 @@
-//! The options, by their names.
+//! The options by their names, and a number of places.
 ghost use Rattle.std.specs.Prelude.{◌≡◌, ℕ, MatchOption};
 ghost use Rattle.ratio.specs.Options.{SaysPlaces, is_option, option_named};
 

@@ -1,20 +1,16 @@
 -- Ends of a type in place of open bounds. No fraction of a type is below its least number or above its greatest, so over `i8` there is
 -- none above 127/1 and none below -128/1.
-use Rattle.std.specs.Prelude.{◌≡◌, ◌≤ℤ◌, ◌<ℤ◌, ◌*ℤ◌, ℤ, zero, suc, pos, negsuc, Bool, true, false}
-use Rattle.std.proofs.Common.{sym, subst, arith}
+use Rattle.std.specs.Prelude.{◌≤ℤ◌, ◌<ℤ◌, ◌*ℤ◌, ℤ, zero, suc, pos, negsuc}
+use Rattle.std.proofs.Common.{arith}
 use Rattle.std.proofs.lemmas.Int.{ints}
 use Rattle.std.specs.declared.ops.Bound.{Bound}
 use Rattle.std.specs.declared.ops.Bound.TheVariants.{Included, Excluded, Unbounded}
 use Rattle.ratio_integer.specs.Range.{IsHeld, IsRange}
 use Rattle.ratio_approximation.specs.Bounds.{HasPositiveDenominator, IsWithinLow, IsWithinHigh, IsWithin}
-use Rattle.ratio_approximation.specs.EndChoice.{IsFirstHeld, end_bound, high_bound, low_bound}
+use Rattle.ratio_approximation.specs.EndChoice.{IsFirstHeld, high_bound, low_bound}
 use Rattle.ratio_approximation.specs.SimplestWithin.{HoldsNoneWithin, IsSimplestWithin}
 use Rattle.ratio_approximation.proofs.Shares.{times_up}
 use Rattle.ratio_approximation.proofs.SimplestWithinLemmas.{first_simplest, times_down}
-
-pub positive_end : (bound : Bound (ℤ × ℤ)) (included : Bool) (n d : ℤ) → HasPositiveDenominator bound → end_bound included n d ≡ bound → pos 0 <ℤ d
-positive_end bound true n d up is = subst (λ x. HasPositiveDenominator x) (sym is) up
-positive_end bound false n d up is = subst (λ x. HasPositiveDenominator x) (sym is) up
 
 -- no fraction of the type is below its least number or above its greatest
 over_least : (lo hi a b : ℤ) → IsRange lo hi → IsHeld lo hi a → pos 0 <ℤ b → (lo *ℤ b) ≤ℤ (a *ℤ pos 1)

@@ -1,5 +1,5 @@
 -- What the small steps require and return.
-use Rattle.std.specs.Prelude.{◌≡◌, ◌≢◌, ◌≤◌, ◌≤ℤ◌, ◌<ℤ◌, ◌+ℤ◌, ◌-ℤ◌, ◌*ℤ◌, ℤ, zero, suc, pos, negsuc, unsigned_abs}
+use Rattle.std.specs.Prelude.{◌≡◌, ◌≢◌, ◌≤ℤ◌, ◌<ℤ◌, ◌+ℤ◌, ◌-ℤ◌, ◌*ℤ◌, ℤ, zero, suc, pos, negsuc}
 use Rattle.std.proofs.Common.{arith, inl, inr}
 use Rattle.std.proofs.lemmas.Int.{ints}
 use borrow.Author.Differences.{up}
@@ -7,14 +7,6 @@ use Rattle.ratio_integer.specs.Range.{IsHeld, IsRange}
 use Rattle.ratio_integer.specs.Division.{IsFloored}
 use Rattle.ratio_approximation.proofs.NearestMoves.{natural_held}
 use Rattle.ratio_approximation.specs.Enclosing.{IsNearestZero, IsOnOneSide, IsRoom}
-
--- ---- nearest to zero
-
-pub far_up : (a w z : ℤ) → pos 0 ≤ℤ a → a ≤ℤ z → unsigned_abs a ≤ unsigned_abs z
-far_up a w z up less = omega (arith, ints)
-
-pub far_down : (a w z : ℤ) → a ≤ℤ pos 0 → z ≤ℤ a → unsigned_abs a ≤ unsigned_abs z
-far_down a w z down_ less = omega (arith, ints)
 
 -- ---- the room of a gap
 

@@ -1,7 +1,7 @@
 //! The simplest fraction strictly between two fractions, and within two bounds.
 mod search;
 mod side;
-mod wholes;
+mod whole_between;
 mod within;
 
 ghost use Rattle.std.specs.Prelude.{◌≡◌, ◌<ℤ◌, ◌+◌, ℕ, pos, min, unsigned_abs};
@@ -10,7 +10,7 @@ ghost use Rattle.ratio_approximation.specs.Simplest.{ChecksSimplest};
 
 use crate::simplest::search::search;
 use crate::simplest::side::Side;
-use crate::simplest::wholes::{last_below, nearest_zero};
+use crate::simplest::whole_between::{last_below, nearest_zero};
 use ratio_core::Steps;
 use ratio_core::order::dividing::divide_left;
 use ratio_integer::{Integer, both_held};

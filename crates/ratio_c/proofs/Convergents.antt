@@ -15,9 +15,8 @@ same_convergents n d a b list some other same of_lowest =
     let quotients = quotients_of_value n d a b own.list of_lowest.quotients own.are of_lowest.are ((cross_equal n d a b some other).1 same) in
     record { quotients = of_lowest.quotients; are = subst (IsPartialQuotients n d) quotients own.are; list_is = of_lowest.list_is }
 
--- the convergent of m/e at a place is that of its lowest terms
-pub convergent_at : (n d a b m e : ℤ) (list : List (ℤ × ℤ)) (place : ℕ) (result : Option (ℤ × ℤ)) → IsLowestTermsOf n d a b → n ≡ m → d ≡ e → AreConvergents a b list → result ≡ slice_get list place
-    → ChecksConvergent (m, e) place result
-convergent_at n d a b m e list place result terms numer denom of_lowest at =
-    let own = same_convergents n d a b list terms.fraction (positive_nonzero b terms.lowest.positive) terms.same of_lowest in
-    record { convergents = list; are = subst (λ z. AreConvergents m z list) denom (subst (λ z. AreConvergents z d list) numer own); is = at }
+-- the convergent of n/d at a place is that of its lowest terms
+pub convergent_at : (n d a b : ℤ) (list : List (ℤ × ℤ)) (place : ℕ) (result : Option (ℤ × ℤ)) → IsLowestTermsOf n d a b → AreConvergents a b list → result ≡ slice_get list place
+    → ChecksConvergent (n, d) place result
+convergent_at n d a b list place result terms of_lowest at =
+    record { convergents = list; are = same_convergents n d a b list terms.fraction (positive_nonzero b terms.lowest.positive) terms.same of_lowest; is = at }

@@ -9,7 +9,7 @@ use Rattle.std.proofs.Math.Nat.{suc-mul, mul_comm, div-le_of_le-mul}
 use Rattle.std.proofs.lemmas.Int.{ints}
 use Rattle.ratio_integer.specs.Range.{IsHeld, IsRange}
 use Rattle.ratio_integer.proofs.DivisionLemmas.{low_below}
-use Rattle.ratio_core.specs.Printing.{last_digits}
+use Rattle.ratio_integer.specs.LastDigits.{last_digits}
 use Rattle.ratio_decimal.specs.Decimal.{IsDecimalOf, places_text, point, unsigned_places}
 use Rattle.ratio_core.specs.Printing.{text_of}
 use Rattle.ratio_core.specs.Reading.{minus, slash}
@@ -20,6 +20,8 @@ use Rattle.ratio_core.proofs.DigitGroups.{length_group, some_digit}
 use Rattle.ratio_core.proofs.PrintingLemmas.{small_magnitude}
 use Rattle.ratio_decimal.proofs.RoundingRuleLaws.{rounded_near}
 use Rattle.ratio_core.proofs.TextLengths.{text_short}
+use Rattle.ratio_natural.specs.Decimal.{decimal_text}
+use Rattle.ratio_natural.proofs.PrintingLemmas.{decimal_same}
 
 -- ---- a rounded fraction is no further from 0 than its numerator, in parts of 1
 
@@ -71,10 +73,10 @@ module _ (bits : ℕ) (lo hi : ℤ) (range : IsRange lo hi) (width : (bits ≤ 1
 
   -- ---- the text of n/10^places
 
-  unsigned_short : (places n k : ℕ) → places ≤ 38 → length (decimal (n / 10 ^ places)) ≤ k → length (unsigned_places places n) ≤ k + 39
-  unsigned_short zero n k few short = let same : n / 10 ^ 0 ≡ n = omega arith in omega (arith, short, ap (λ m. length (decimal m)) same)
+  unsigned_short : (places n k : ℕ) → places ≤ 38 → length (decimal_text (n / 10 ^ places)) ≤ k → length (unsigned_places places n) ≤ k + 39
+  unsigned_short zero n k few short = let same : n / 10 ^ 0 ≡ n = omega arith in omega (arith, short, ap (λ m. length (decimal_text m)) same)
   unsigned_short (suc places) n k few short =
-      omega (arith, few, short, length-append (decimal (n / 10 ^ suc places)) (point ∷ last_digits (suc places) n), length_group (suc places) n)
+      omega (arith, few, short, length-append (decimal_text (n / 10 ^ suc places)) (point ∷ last_digits (suc places) n), length_group (suc places) n)
 
   cut_within : (places n m : ℕ) → n ≤ m * 10 ^ places → n / 10 ^ places ≤ m
   cut_within places n m within = div-le_of_le-mul (10 ^ places) (subst (λ k. n ≤ k) (mul_comm m (10 ^ places)) within)
@@ -83,19 +85,23 @@ module _ (bits : ℕ) (lo hi : ℤ) (range : IsRange lo hi) (width : (bits ≤ 1
   above_zero places n m few held within =
       let cut = cut_within places n m within in
       let low = low_below lo hi range in
-      unsigned_short places n longest few (number_short (pos (n / 10 ^ places)) (record { above = omega (arith, ints, held_zero.above); below = omega (arith, ints, held.below, cut) }))
+      let whole = n / 10 ^ places in
+      let within : IsHeld lo hi (pos whole) = record { above = omega (arith, ints, held_zero.above); below = omega (arith, ints, held.below, cut) } in
+      unsigned_short places n longest few (omega (arith, number_short (pos whole) within, ap length (decimal_same whole (omega (arith, small_magnitude lo hi bits (pos whole) range width within)))))
 
   below_zero : (places n m : ℕ) → places ≤ 38 → IsHeld lo hi (negsuc m) → n ≤ suc m * 10 ^ places → length (minus ∷ unsigned_places places n) ≤ longest + 39
   below_zero places n m few held within = go (n / 10 ^ places) refl (cut_within places n (suc m) within)
     where
-      by : (k : ℕ) → length (decimal (n / 10 ^ places)) ≤ k → k + 1 ≤ longest → length (minus ∷ unsigned_places places n) ≤ longest + 39
+      by : (k : ℕ) → length (decimal_text (n / 10 ^ places)) ≤ k → k + 1 ≤ longest → length (minus ∷ unsigned_places places n) ≤ longest + 39
       by k short room = omega (arith, unsigned_short places n k few short, room)
 
       go : (w : ℕ) → n / 10 ^ places ≡ w → w ≤ suc m → length (minus ∷ unsigned_places places n) ≤ longest + 39
-      go zero e cut = by 1 (omega (arith, ap (λ k. length (decimal k)) e, ap length (decimal_digit 0 (omega arith))))
+      go zero e cut = by 1 (omega (arith, ap (λ k. length (decimal_text k)) e))
           (omega (arith, number_short (negsuc m) held, some_digit (suc m) (small_magnitude lo hi bits (negsuc m) range width held)))
-      go (suc w) e cut = by (length (decimal (suc w))) (omega (arith, ap (λ k. length (decimal k)) e))
-          (omega (arith, number_short (negsuc w) (record { above = omega (arith, ints, held.above, cut); below = omega (arith, ints, held_zero.below) })))
+      go (suc w) e cut =
+          let within : IsHeld lo hi (negsuc w) = record { above = omega (arith, ints, held.above, cut); below = omega (arith, ints, held_zero.below) } in
+          by (length (decimal_text (suc w))) (omega (arith, ap (λ k. length (decimal_text k)) e))
+          (omega (arith, number_short (negsuc w) within, ap length (decimal_same (suc w) (omega (arith, small_magnitude lo hi bits (negsuc w) range width within)))))
 
   within : (n d z : ℤ) (places : ℕ) → IsHeld lo hi n → places ≤ 38 → pos 0 <ℤ d → (z *ℤ d -ℤ d) <ℤ (n *ℤ pos (10 ^ places)) → (n *ℤ pos (10 ^ places)) <ℤ (z *ℤ d +ℤ d)
       → unsigned_abs z ≤ unsigned_abs n * 10 ^ places → length (places_text places z) ≤ longest + 39

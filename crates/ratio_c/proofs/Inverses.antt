@@ -179,9 +179,6 @@ found n a b u v are one = record { one = are.right ∙ ap (λ (t : ℕ). t % has
 pub found_left : (n a b u v : ℕ) → AreMultiples n a b u v → a ≡ 1 → IsInverseMod61 n u
 found_left n a b u v are one = record { one = are.left ∙ ap (λ (t : ℕ). t % hash_modulus) one }
 
-pub none_of_zero : (i : ℕ) → ¬ (IsInverseMod61 0 i)
-none_of_zero i is = let one = is.one in omega arith
-
 pub none : (n a b u v : ℕ) → AreMultiples n a b u v → b ≡ 0 → a ≢ 1 → (i : ℕ) → ¬ (IsInverseMod61 n i)
 none n a b u v are zero more i is =
     let both = are.common a (dvd_refl a) (subst (λ (t : ℕ). a ∣ t) (sym zero) (dvd-zero a)) in

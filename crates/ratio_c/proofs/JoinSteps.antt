@@ -1,12 +1,10 @@
 -- How a step of a read in steps follows from its beginning and the slots that it joins.
 use Rattle.std.specs.Prelude.{◌≡◌, ◌≢◌, ◌+◌, ◌⊎◌, ℕ, zero, suc, List, length, min}
 use Rattle.std.proofs.Common.{ap, arith, inl, inr, refl, subst, sym, ◌∙◌}
-use Rattle.ratio_totals.specs.Common.{HasLongCommon, most_common}
-use Rattle.ratio_totals.specs.Steps.{HoldsJoined, LooksJoined}
-use Rattle.ratio_totals.specs.declared.joined.Joined.{Joined}
-use Rattle.ratio_totals.specs.declared.slots.Slot.{Slot}
-use Rattle.ratio_c.specs.declared.total_joining.JoinStop.TheVariants.{NotJoined, TooLong}
-use Rattle.ratio_c.specs.Joining.{HasBegun, IsNew, IsReady, IsStepStoppedFor, Joins}
+use Rattle.ratio_slots.specs.Steps.{HoldsJoined, LooksJoined}
+use Rattle.ratio_slots.specs.declared.joined.Joined.{Joined}
+use Rattle.ratio_slots.specs.declared.slots.Slot.{Slot}
+use Rattle.ratio_c.specs.Joining.{HasBegun, IsNew, IsReady, Joins}
 use Rattle.ratio_c.proofs.Cases.{where_held, where_not}
 
 zero_or_not : (n : ℕ) → (n ≡ 0) ⊎ (n ≢ 0)
@@ -43,26 +41,6 @@ looks_moved slots read from new_room room same same_room looks =
 -- what a step tested, after the read has begun
 looked_before : (slots : List Slot) (from read : Joined) (room middle : List ℕ) → HasBegun slots from room middle read → LooksJoined slots read middle → ¬ (IsNew from) → LooksJoined slots from room
 looked_before slots from read room middle begun looks not = looks_moved slots read from middle room (begun.no not).0 (begun.no not).1 looks
-
--- a step that was stopped
-pub step_not_joined : (slots : List Slot) (from read : Joined) (room middle : List ℕ) → HasBegun slots from room middle read → ¬ (LooksJoined slots read middle)
-    → IsStepStoppedFor slots from room NotJoined
-step_not_joined slots from read room middle begun unlike = (
-  (λ new. unlike (begun.yes new).2.looks),
-  λ looks.
-      elim (new_or_not from) [
-        | inl new ↦ unlike (begun.yes new).2.looks
-        | inr not ↦ unlike (looks_moved slots from read room middle (sym (begun.no not).0) (sym (begun.no not).1) looks)
-      ],
-)
-
-pub step_too_long : (slots : List Slot) (from read : Joined) (room middle : List ℕ) → HasBegun slots from room middle read
-    → LooksJoined slots read middle × (HoldsJoined slots read middle → HasLongCommon slots most_common) → IsStepStoppedFor slots from room TooLong
-step_too_long slots from read room middle begun long = (
-  (λ short. omega (arith, short.short, (begun.yes short.first).1)),
-  looked_before slots from read room middle begun long.0,
-  λ ready. long.1 (ready_holds slots from read room middle begun ready),
-)
 
 -- a step that joined slots
 pub step_joins : (slots : List Slot) (most : ℕ) (from read next : Joined) (room middle new_room : List ℕ) → HasBegun slots from room middle read

@@ -3,20 +3,20 @@ use Rattle.std.specs.Prelude.{◌<◌, ◌≤◌, ◌<ℤ◌, ℕ, ℤ, pos, dro
 use Rattle.std.specs.Float.{binary64}
 use Rattle.std.proofs.Common.{ap, inl, subst, sym, ◌∙◌}
 use Rattle.ratio_integer.specs.Fraction.{ChecksLowest}
+use Rattle.ratio_integer.specs.SignedBits.{greatest64, least64}
 use Rattle.ratio_integer.proofs.LowestTerms.{held_lowest_moved}
-use Rattle.ratio_totals.proofs.JoinLemmas.{steps_join_all}
-use Rattle.ratio_totals.proofs.JoinedLemmas.{joined_decimals, joined_floats, joined_signs}
-use Rattle.ratio_totals.proofs.LowestSumLemmas.{divided_same, nonzero, product_positive}
-use Rattle.ratio_totals.proofs.MergeSums.{sum_positive}
-use Rattle.ratio_totals.proofs.StepLemmas.{room_held, steps_leave_pairs}
-use Rattle.ratio_totals.specs.Common.{above_zero}
-use Rattle.ratio_totals.specs.DecimalRoom.{bytes_with, digits_with}
-use Rattle.ratio_totals.specs.Joined.{HasJoinedDecimal, joined_pair}
-use Rattle.ratio_totals.specs.LowestSum.{pair_mean}
-use Rattle.ratio_totals.specs.Sums.{SameSum, sum_of_slots}
+use Rattle.ratio_slots.proofs.JoinLemmas.{steps_join_all}
+use Rattle.ratio_slots.proofs.JoinedLemmas.{joined_decimals, joined_floats, joined_signs}
+use Rattle.ratio_slots.proofs.LowestSumLemmas.{divided_same, nonzero, product_positive}
+use Rattle.ratio_slots.proofs.MergeSums.{sum_positive}
+use Rattle.ratio_slots.proofs.StepLemmas.{room_held, steps_leave_pairs}
+use Rattle.ratio_slots.specs.Common.{above_zero}
+use Rattle.ratio_slots.specs.DecimalRoom.{bytes_with, digits_with}
+use Rattle.ratio_slots.specs.Joined.{HasJoinedDecimal, joined_pair}
+use Rattle.ratio_slots.specs.LowestSum.{pair_mean}
+use Rattle.ratio_slots.specs.Sums.{SameSum, sum_of_slots}
 use Rattle.ratio_c.specs.Crossing.{Said, order_number, rule_of}
 use Rattle.ratio_c.specs.JoinedAnswers.{DecimalsAnswerAlike, FloatsAnswerAlike, JoinedIsSum, MeansAnswerAlike, SignsAnswerAlike, SumsAnswerAlike}
-use Rattle.ratio_c.specs.Numbers64.{greatest64, least64}
 use Rattle.ratio_c.specs.TotalReads.{SaysLowest}
 use Rattle.ratio_c.proofs.ReadsAgree.{above, fits_moved}
 

@@ -14,8 +14,8 @@ use Rattle.core.specs.Float.Order.{le_left, lt_at, lt_irrefl, lt_of_le_of_lt, lt
 use Rattle.core.proofs.dec2flt.Patterns.{field_units, infinite, of_bits_value}
 use Rattle.core.proofs.num.FloatSigns.{sign_bit, signed_round, zero_is}
 use Rattle.core.proofs.num.Values.{neg-round}
-use Rattle.ratio_float.specs.Floats.{nearest_float}
-use Rattle.ratio_float.proofs.FloatLawLemmas.{monotone}
+use Rattle.ratio_decimal.specs.Floats.{nearest_float}
+use Rattle.ratio_decimal.proofs.FloatLawLemmas.{monotone}
 use Rattle.ratio_approximation.proofs.WithinLemmas.{at_most_or_above}
 use Rattle.ratio_c.specs.Keys.{KeysKeepOrder, KeysTellFloats, key_of, nearest_bits}
 

@@ -2,7 +2,6 @@ pub mod Places
 pub mod PrintedTexts
 pub mod DecimalRooms
 pub mod Convergents
-pub mod SimplestSaid
 pub mod Hashes
 pub mod LowestHashes
 pub mod Cases
@@ -14,7 +13,6 @@ pub mod ReadsAgree
 pub mod Keys
 pub mod Multiples
 pub mod SameDivisors
-pub mod RoundedNumbers
 pub mod JoinSteps
 pub mod JoinedAgree
 pub mod Inverses

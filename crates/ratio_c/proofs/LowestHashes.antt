@@ -4,11 +4,10 @@ use Rattle.std.proofs.Common.{◌∙◌, ap, arith, sym, mul_assoc}
 use Rattle.std.proofs.lemmas.Int.{ints}
 use Rattle.std.proofs.lemmas.Nat.{div-add-mod', div-mul-add, mod-mul-add, mul-mod_first, mul-mod_second}
 use Rattle.ratio_integer.proofs.LowestTerms.{lowest_same}
-use Rattle.ratio_integer.specs.Range.{IsHeld}
+use Rattle.ratio_integer.specs.SignedBits.{IsHeld64}
 use Rattle.ratio_c.specs.Codes.{hash_multiplier}
 use Rattle.ratio_c.specs.Crossing.{residue}
 use Rattle.ratio_c.specs.LowestHash.{DenominatorsHaveUnlikeHashes, EqualHaveOneHash, NumeratorsHaveUnlikeHashes, halves_exchanged, lowest_hash, stirred}
-use Rattle.ratio_c.specs.Numbers64.{greatest64, least64}
 
 -- the multiplier times this is 1 modulo 2^64
 abbrev inverse : ℕ
@@ -40,7 +39,7 @@ residue_below : (z : ℤ) → residue z < 2 ^ 64
 residue_below (pos n) = omega arith
 residue_below (negsuc n) = omega arith
 
-residue_same : (a b : ℤ) → IsHeld least64 greatest64 a → IsHeld least64 greatest64 b → residue a ≡ residue b → a ≡ b
+residue_same : (a b : ℤ) → IsHeld64 a → IsHeld64 b → residue a ≡ residue b → a ≡ b
 residue_same (pos a) (pos b) a_held b_held same =
     let equal : a ≡ b = omega (arith, ints, a_held.below, b_held.below, same) in ap pos equal
 residue_same (pos a) (negsuc b) a_held b_held same = absurd (omega (arith, ints, a_held.below, b_held.above, same))

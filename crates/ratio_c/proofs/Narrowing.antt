@@ -7,12 +7,12 @@ use Rattle.ratio_decimal.specs.RoundingRules.{IsRoundedBy}
 use Rattle.ratio_decimal.specs.declared.rounding_rule.Rounding.{Rounding}
 use Rattle.ratio_integer.specs.Fraction.{ChecksLowest, Fits, IsLowestTermsOf}
 use Rattle.ratio_integer.specs.Range.{IsHeld}
+use Rattle.ratio_integer.specs.SignedBits.{IsHeld64, greatest64, least64}
 use Rattle.ratio_integer.proofs.LowestTerms.{lowest_unique}
 use Rattle.ratio_natural.specs.Number.{base}
-use Rattle.ratio_totals.specs.LowestSum.{ChecksPairMean, ChecksShortPair, HasLongPair, pair_mean}
-use Rattle.ratio_totals.specs.Multiples.{ChecksMultiple}
+use Rattle.ratio_slots.specs.LowestSum.{ChecksPairMean, ChecksShortPair, HasLongPair, pair_mean}
+use Rattle.ratio_slots.specs.Multiples.{ChecksMultiple}
 use Rattle.ratio_c.specs.Crossing.{Said, Says, rule_of, said_of}
-use Rattle.ratio_c.specs.Numbers64.{greatest64, least64}
 use Rattle.ratio_c.specs.TotalMultiples.{SaysMultiple}
 use Rattle.ratio_c.specs.TotalReads.{Narrows, SaysLowest}
 
@@ -42,19 +42,19 @@ lowest_said {R = R} first second lo hi n d m e r answer numer denom told said =
 
 -- ---- lowest terms whose numbers are below 2^64, over 64 bits
 
-long_numer : (z : ℤ) → base ≤ unsigned_abs z → ¬ (IsHeld least64 greatest64 z)
+long_numer : (z : ℤ) → base ≤ unsigned_abs z → ¬ (IsHeld64 z)
 long_numer (pos n) long held = absurd (omega (arith, ints, held.below, long))
 long_numer (negsuc n) long held = absurd (omega (arith, ints, held.above, long))
 
-long_denom : (n : ℕ) → base ≤ n → ¬ (IsHeld least64 greatest64 (pos n))
+long_denom : (n : ℕ) → base ≤ n → ¬ (IsHeld64 (pos n))
 long_denom n long held = absurd (omega (arith, ints, held.below, long))
 
 long_none : (x : ℤ × ℕ) → HasLongPair x → ¬ (Fits least64 greatest64 x.0 (pos x.1))
 long_none x long fits =
     let same = lowest_unique x.0 (pos x.1) long.numer (pos long.denom) fits.numer fits.denom long.terms fits.low.terms in
     elim long.long [
-      | inl numer ↦ long_numer long.numer numer (subst (IsHeld least64 greatest64) (sym same.0) fits.low.numer_held)
-      | inr denom ↦ long_denom long.denom denom (subst (IsHeld least64 greatest64) (sym same.1) fits.low.denom_held)
+      | inl numer ↦ long_numer long.numer numer (subst IsHeld64 (sym same.0) fits.low.numer_held)
+      | inr denom ↦ long_denom long.denom denom (subst IsHeld64 (sym same.1) fits.low.denom_held)
     ]
 
 none_lowest : (x : ℤ × ℕ) (r : Option (ℤ × ℤ)) → r ≡ None → ¬ (Fits least64 greatest64 x.0 (pos x.1)) → ChecksLowest (λ z. z.0) (λ z. z.1) least64 greatest64 (x.0, pos x.1) r

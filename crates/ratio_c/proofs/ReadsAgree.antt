@@ -3,16 +3,16 @@ use Rattle.std.specs.Prelude.{◌≡◌, ◌<◌, ◌<ℤ◌, ℕ, ℤ, zero, su
 use Rattle.std.proofs.Common.{ap, arith, refl, sym, ◌∙◌}
 use Rattle.std.proofs.lemmas.Int.{ints}
 use Rattle.ratio_integer.specs.Fraction.{ChecksLowest, Fits, IsHeldLowest}
+use Rattle.ratio_integer.specs.SignedBits.{greatest64, least64}
 use Rattle.ratio_integer.proofs.LowestTerms.{held_lowest_moved, lowest_unique}
-use Rattle.ratio_totals.proofs.LowestSumLemmas.{divided_same, nonzero, product_positive}
-use Rattle.ratio_totals.proofs.MergeSums.{sum_positive}
-use Rattle.ratio_totals.proofs.SignLemmas.{same_sign}
-use Rattle.ratio_totals.proofs.SumsAgree.{sums_agree}
-use Rattle.ratio_totals.specs.Common.{above_zero}
-use Rattle.ratio_totals.specs.LowestSum.{mean_of_slots}
-use Rattle.ratio_totals.specs.Sums.{SameSum, sum_of_slots}
+use Rattle.ratio_slots.proofs.LowestSumLemmas.{divided_same, nonzero, product_positive}
+use Rattle.ratio_slots.proofs.MergeSums.{sum_positive}
+use Rattle.ratio_slots.proofs.SignLemmas.{same_sign}
+use Rattle.ratio_slots.proofs.SumsAgree.{sums_agree}
+use Rattle.ratio_slots.specs.Common.{above_zero}
+use Rattle.ratio_slots.specs.LowestSum.{mean_of_slots}
+use Rattle.ratio_slots.specs.Sums.{SameSum, sum_of_slots}
 use Rattle.ratio_c.specs.Crossing.{Said, said_of}
-use Rattle.ratio_c.specs.Numbers64.{greatest64, least64}
 use Rattle.ratio_c.specs.TotalLaws.{MeansReadAlike, SignsAgree, SumsReadAlike}
 use Rattle.ratio_c.specs.TotalReads.{SaysLowest}
 

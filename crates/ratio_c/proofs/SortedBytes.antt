@@ -11,6 +11,7 @@ use Rattle.std.proofs.Math.Nat.{add-mul-div_right, add-mul-mod_self_right, div-d
 use Rattle.std.proofs.Math.Arith.{mod-mul}
 use Rattle.std.proofs.lemmas.Nat.{div-add-mod', div-mul-add, le-div, mul-le, pow-add}
 use Rattle.std.proofs.lemmas.Int.{ints}
+use Rattle.ratio_integer.specs.SignedBits.{greatest64, least64}
 use Rattle.ratio_core.specs.Order.{cross_cmp}
 use Rattle.ratio_c.specs.Sortable.{BytesKeepOrder, key_bytes, sortable_bytes, sortable_number}
 
@@ -123,7 +124,7 @@ order_of_bytes k a b left right = bytes_order k a b ∙ (λ i. nat_cmp (mod-eq_o
 -- ---- the number of a fraction
 
 -- n is q·d + r, where q is the floor
-pub whole_split : (n d : ℤ) → pos 0 <ℤ d → negsuc (2 ^ 63 - 1) ≤ℤ n → unsigned_abs (n +ℤ pos (2 ^ 63) *ℤ d) ≡ unsigned_abs (int_div_euclid n d +ℤ pos (2 ^ 63)) * unsigned_abs d + unsigned_abs (int_rem_euclid n d)
+pub whole_split : (n d : ℤ) → pos 0 <ℤ d → least64 ≤ℤ n → unsigned_abs (n +ℤ pos (2 ^ 63) *ℤ d) ≡ unsigned_abs (int_div_euclid n d +ℤ pos (2 ^ 63)) * unsigned_abs d + unsigned_abs (int_rem_euclid n d)
 whole_split (pos n) (pos d) above least = plain n d (n / d) (n % d) (sym (div-add-mod' n d))
   where
     plain : (n d q r : ℕ) → n ≡ q * d + r → n + 2 ^ 63 * d ≡ (q + 2 ^ 63) * d + r
@@ -176,7 +177,7 @@ number_below m d n e p D E room less =
     omega (arith, next)
 
 -- the number of n/d, times e, is n·e and 2^63·d·e
-raised : (n : ℤ) (d e : ℕ) → 0 < d → negsuc (2 ^ 63 - 1) ≤ℤ n → pos (unsigned_abs (n +ℤ pos (2 ^ 63) *ℤ pos d) * e) ≡ n *ℤ pos e +ℤ pos (2 ^ 63 * d * e)
+raised : (n : ℤ) (d e : ℕ) → 0 < d → least64 ≤ℤ n → pos (unsigned_abs (n +ℤ pos (2 ^ 63) *ℤ pos d) * e) ≡ n *ℤ pos e +ℤ pos (2 ^ 63 * d * e)
 raised (pos n) d e positive least = omega (arith, ints)
 raised (negsuc n) d e positive least =
     let short : suc n ≤ 2 ^ 63 = omega (arith, ints, least) in
@@ -187,7 +188,7 @@ raised (negsuc n) d e positive least =
     rw number (omega (arith, ints, whole, parts))
 
 -- both numbers have the order of the cross products
-module _ (n m : ℤ) (d e : ℕ) (D : 0 < d) (E : 0 < e) (d_short : d < 2 ^ 63) (e_short : e < 2 ^ 63) (n_least : negsuc (2 ^ 63 - 1) ≤ℤ n) (m_least : negsuc (2 ^ 63 - 1) ≤ℤ m) where
+module _ (n m : ℤ) (d e : ℕ) (D : 0 < d) (E : 0 < e) (d_short : d < 2 ^ 63) (e_short : e < 2 ^ 63) (n_least : least64 ≤ℤ n) (m_least : least64 ≤ℤ m) where
   abbrev a : ℕ
   a = unsigned_abs (n +ℤ pos (2 ^ 63) *ℤ pos d)
 
@@ -230,13 +231,13 @@ pub two_parts : (high low : ℕ) → low < 2 ^ 128 → bytes_high_first 8 high +
 unfolding key_bytes
 two_parts high low short = sym (joined_bytes 8 16 high low short)
 
-number_short : (n : ℤ) (d : ℕ) → 0 < d → negsuc (2 ^ 63 - 1) ≤ℤ n → n ≤ℤ pos (2 ^ 63 - 1) → sortable_number (n, pos d) < 256 ^ 24
+number_short : (n : ℤ) (d : ℕ) → 0 < d → least64 ≤ℤ n → n ≤ℤ greatest64 → sortable_number (n, pos d) < 256 ^ 24
 number_short n d positive least most =
     let number = unsigned_abs (n +ℤ pos (2 ^ 63) *ℤ pos d) in
     let below : number < 2 ^ 64 * d = omega (arith, ints) in
     (div-lt_iff_lt-mul positive).1 (omega (arith, below))
 
-pub bytes_keep_order : (n m d e : ℤ) → pos 0 <ℤ d → pos 0 <ℤ e → d ≤ℤ pos (2 ^ 63 - 1) → e ≤ℤ pos (2 ^ 63 - 1) → negsuc (2 ^ 63 - 1) ≤ℤ n → negsuc (2 ^ 63 - 1) ≤ℤ m → n ≤ℤ pos (2 ^ 63 - 1) → m ≤ℤ pos (2 ^ 63 - 1)
+pub bytes_keep_order : (n m d e : ℤ) → pos 0 <ℤ d → pos 0 <ℤ e → d ≤ℤ greatest64 → e ≤ℤ greatest64 → least64 ≤ℤ n → least64 ≤ℤ m → n ≤ℤ greatest64 → m ≤ℤ greatest64
     → slice_cmp nat_cmp (sortable_bytes (n, d)) (sortable_bytes (m, e)) ≡ int_cmp (n *ℤ e) (m *ℤ d)
 unfolding key_bytes
 bytes_keep_order n m (pos d) (pos e) D E d_most e_most n_least m_least n_most m_most =

@@ -7,10 +7,10 @@ use Rattle.std.proofs.lemmas.Int.{ints}
 use Rattle.std.proofs.lemmas.List.{get_or-append-add}
 use Rattle.std.proofs.lemmas.List.Sorted.{length_permutation, sum_by-IsPermutation}
 use Rattle.std.proofs.lemmas.List.Sums.{sum_by-cons}
-use Rattle.ratio_totals.proofs.ReadLemmas.{empty_numerators, over_other}
-use Rattle.ratio_totals.specs.Common.{above_zero, below_zero}
-use Rattle.ratio_totals.specs.Sums.{numerator_at, numerator_over}
-use Rattle.ratio_totals.specs.declared.slots.Slot.{Slot}
+use Rattle.ratio_slots.proofs.ReadLemmas.{empty_numerators, over_other}
+use Rattle.ratio_slots.specs.Common.{above_zero, below_zero}
+use Rattle.ratio_slots.specs.Sums.{numerator_at, numerator_over}
+use Rattle.ratio_slots.specs.declared.slots.Slot.{Slot}
 use Rattle.ratio_c.specs.declared.totals.Piece.{Piece}
 use Rattle.ratio_c.specs.declared.totals.Way.{Way}
 use Rattle.ratio_c.specs.declared.totals.Way.TheVariants.{In, Out}

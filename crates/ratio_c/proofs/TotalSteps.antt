@@ -5,10 +5,10 @@ use Rattle.std.proofs.Common.{ap, arith, inl, inr, subst, sym, ◌∙◌}
 use Rattle.std.proofs.lemmas.Fn.{FoldsTo-push}
 use Rattle.std.proofs.lemmas.Int.{ints}
 use Rattle.std.proofs.lemmas.List.{take_more}
-use Rattle.ratio_integer.specs.Range.{Checks, IsHeld}
-use Rattle.ratio_totals.specs.Sums.{GrowsAt, Puts, SumGrows}
-use Rattle.ratio_totals.specs.declared.slots.Slot.{Slot}
-use Rattle.ratio_c.specs.Numbers64.{greatest64, least64}
+use Rattle.ratio_integer.specs.Range.{Checks}
+use Rattle.ratio_integer.specs.SignedBits.{IsHeld64, greatest64, least64}
+use Rattle.ratio_slots.specs.Sums.{GrowsAt, Puts, SumGrows}
+use Rattle.ratio_slots.specs.declared.slots.Slot.{Slot}
 use Rattle.ratio_c.specs.declared.totals.Piece.{Piece}
 use Rattle.ratio_c.specs.declared.totals.Stop.TheVariants.{NotHeld}
 use Rattle.ratio_c.specs.declared.totals.Way.{Way}
@@ -27,13 +27,13 @@ only_answer Is (a ∷ []) y one holds = (holds, tt)
 only_answer Is (a ∷ b ∷ more) y one holds = absurd (omega arith)
 
 -- the count after more fractions
-pub checked_count : (z sum : ℤ) (r : Option ℤ) → sum ≡ z → Checks (λ y. y) least64 greatest64 sum r → MatchOption r (¬ (IsHeld least64 greatest64 z)) (λ new. new ≡ z)
-checked_count z sum None same out = λ held. out (subst (IsHeld least64 greatest64) (sym same) held)
+pub checked_count : (z sum : ℤ) (r : Option ℤ) → sum ≡ z → Checks (λ y. y) least64 greatest64 sum r → MatchOption r (¬ (IsHeld64 z)) (λ new. new ≡ z)
+checked_count z sum None same out = λ held. out (subst IsHeld64 (sym same) held)
 checked_count z sum (Some y) same told = told.1 ∙ same
 
-pub minus_is_turned : (a b : ℤ) (r : Option ℤ) → MatchOption r (¬ (IsHeld least64 greatest64 (a -ℤ b))) (λ new. new ≡ a -ℤ b)
-    → MatchOption r (¬ (IsHeld least64 greatest64 (a +ℤ neg_ℤ b))) (λ new. new ≡ a +ℤ neg_ℤ b)
-minus_is_turned a b r counts = subst (λ (t : ℤ). MatchOption r (¬ (IsHeld least64 greatest64 t)) (λ new. new ≡ t)) (omega (arith, ints)) counts
+pub minus_is_turned : (a b : ℤ) (r : Option ℤ) → MatchOption r (¬ (IsHeld64 (a -ℤ b))) (λ new. new ≡ a -ℤ b)
+    → MatchOption r (¬ (IsHeld64 (a +ℤ neg_ℤ b))) (λ new. new ≡ a +ℤ neg_ℤ b)
+minus_is_turned a b r counts = subst (λ (t : ℤ). MatchOption r (¬ (IsHeld64 t)) (λ new. new ≡ t)) (omega (arith, ints)) counts
 
 -- a piece went, from numbers that are equal to those of the machine
 pub piece_went : (way : Way) (brings : Option Piece) (piece : Piece) (old : Held) (slots : List Slot) (n m k count next : ℤ)
@@ -51,10 +51,10 @@ piece_went way brings piece old slots n m k count next is some numer numer_is ne
 
 -- a piece is stopped by the count
 pub count_stops : (way : Way) (brings : Option Piece) (piece : Piece) (old : Held) (k count : ℤ)
-    → Some piece ≡ brings → piece.denom ≢ 0 → count ≡ old.1 → k ≡ piece.count → ¬ (IsHeld least64 greatest64 (count +ℤ directed way k)) → IsStoppedFor way brings old NotHeld
+    → Some piece ≡ brings → piece.denom ≢ 0 → count ≡ old.1 → k ≡ piece.count → ¬ (IsHeld64 (count +ℤ directed way k)) → IsStoppedFor way brings old NotHeld
 count_stops way brings piece old k count is some count_is more_is out =
     let same : count +ℤ directed way k ≡ old.1 +ℤ directed way piece.count = ap (λ t. t +ℤ directed way k) count_is ∙ ap (λ t. old.1 +ℤ directed way t) more_is in
-    subst (λ b. IsStoppedFor way b old NotHeld) is (some, inr (inl (λ held. out (subst (IsHeld least64 greatest64) (sym same) held))))
+    subst (λ b. IsStoppedFor way b old NotHeld) is (some, inr (inl (λ held. out (subst IsHeld64 (sym same) held))))
 
 -- one more item went
 pub one_more : {A : Type 0} (brings : A → Option Piece) (way : Way) (old : Held) (asked : List A) (i : ℕ) (x : A) (held new : Held)

@@ -1,5 +1,5 @@
 -- What a call answers for fractions, which are pairs of whole numbers here, and what a call over slices does.
-use Rattle.std.specs.Prelude.{◌≡◌, ◌≢◌, ◌==◌, ◌<ℤ◌, ◌≤ℤ◌, ◌<◌, ◌≤◌, ◌^◌, ℕ, ℤ, pos, negsuc, neg_ℤ, ◌-◌, unsigned_abs, Bool, List, length, Option, MatchBool, Result, Ok, Err, fold, slice_get, slice_range}
+use Rattle.std.specs.Prelude.{◌≡◌, ◌≢◌, ◌==◌, ◌<ℤ◌, ◌≤ℤ◌, ◌<◌, ◌≤◌, ◌^◌, ℕ, ℤ, pos, neg_ℤ, unsigned_abs, Bool, List, length, Option, MatchBool, Result, Ok, Err, fold, slice_get, slice_range}
 use Rattle.std.specs.List.{AllZip}
 use Rattle.std.specs.Float.{Float, binary64, float_zero}
 use Rattle.std.specs.Str.{IsUtf8}
@@ -7,12 +7,13 @@ use Rattle.ratio_core.specs.Reading.{AnswersText, IsFractionText}
 use Rattle.ratio_core.specs.declared.parse_error.RatioErrorKind.{RatioErrorKind, TheVariants.ParseError, TheVariants.ZeroDenominator}
 use Rattle.ratio_integer.specs.Arithmetic.{difference_of, product_of, quotient_of, remainder_of, sum_of}
 use Rattle.ratio_integer.specs.Fraction.{AnswersLowest, ChecksLowest, SameValue}
+use Rattle.ratio_integer.specs.SignedBits.{greatest128, least128}
 use Rattle.ratio_core.specs.{Conditions.RemainderCondition, ContinuedFraction.IsCodesOf}
 use Rattle.ratio_decimal.specs.DecimalReading.{AnswersDecimal}
-use Rattle.ratio_float.specs.Floats.{fraction_of_float, nearest_float}
+use Rattle.ratio_decimal.specs.Floats.{fraction_of_float, nearest_float}
 use Rattle.ratio_approximation.specs.Nearest.{IsNearest}
 use Rattle.ratio_core.specs.{Order.cross_cmp, Power.ChecksBoth, Power.ChecksPower}
-use Rattle.ratio_float.specs.Rationalize.{ChecksRationalized}
+use Rattle.ratio_decimal.specs.Rationalize.{ChecksRationalized}
 use Rattle.ratio_decimal.specs.RoundingRules.{ChecksRounded}
 use Rattle.ratio_approximation.specs.SimplestWithin.{ChecksSimplestWithin}
 use Rattle.ratio_decimal.specs.TypedText.{AnswersTyped}
@@ -238,7 +239,7 @@ IsHashAnswer lo hi x code hash = Tested (x.1 ≡ pos 0) ((code ≡ code_zero_den
 -- Example: 2^63 over 64 bits: code 1
 pub record IsWideRefusal (text : List ℕ) (code : ℕ) : Type 0 where
   pub wide : Result (ℤ × ℤ) RatioErrorKind
-  pub is_wide : AnswersText (λ z. z.0) (λ z. z.1) (negsuc (2 ^ 127 - 1)) (pos (2 ^ 127 - 1)) (IsFractionText (negsuc (2 ^ 127 - 1)) (pos (2 ^ 127 - 1)) text) wide
+  pub is_wide : AnswersText (λ z. z.0) (λ z. z.1) least128 greatest128 (IsFractionText least128 greatest128 text) wide
   pub is_code : code ≡ code_of_wide wide
 
 -- the answer says what a text reads as: a fraction, or the code 4 for a denominator of 0, or the code by `code_of_wide`

@@ -1,10 +1,10 @@
 -- The laws of a read in steps: once all slots are joined, each read of the room answers as the read of the total.
 use Rattle.std.specs.Prelude.{◌≡◌, ℕ, ℤ, List, length}
 use Rattle.std.specs.Float.{Float}
-use Rattle.ratio_totals.specs.{DecimalRoom.HasDecimalRoom, Joined.HasJoinedPair, Joined.joined_pair, Steps.HoldsJoined}
-use Rattle.ratio_totals.specs.Sums.{SameSum, sum_of_slots}
-use Rattle.ratio_totals.specs.declared.joined.Joined.{Joined}
-use Rattle.ratio_totals.specs.declared.slots.Slot.{Slot}
+use Rattle.ratio_slots.specs.{DecimalRoom.HasDecimalRoom, Joined.HasJoinedPair, Joined.joined_pair, Steps.HoldsJoined}
+use Rattle.ratio_slots.specs.Sums.{SameSum, sum_of_slots}
+use Rattle.ratio_slots.specs.declared.joined.Joined.{Joined}
+use Rattle.ratio_slots.specs.declared.slots.Slot.{Slot}
 use Rattle.ratio_c.specs.declared.compare.Order.{Order}
 use Rattle.ratio_c.specs.declared.printing.Text.{Text}
 use Rattle.ratio_c.specs.Crossing.{Said}

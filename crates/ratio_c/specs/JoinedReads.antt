@@ -1,8 +1,8 @@
 -- What the room of a read in steps says: its fraction in lowest terms, divided by a count, its sign, its float and its decimal.
 use Rattle.std.specs.Prelude.{◌≡◌, ◌<◌, ◌<ℤ◌, ℕ, ℤ, pos, List}
 use Rattle.std.specs.Float.{Float}
-use Rattle.ratio_totals.specs.Joined.{HasJoinedDecimal, HasJoinedPair, joined_pair}
-use Rattle.ratio_totals.specs.LowestSum.{pair_mean}
+use Rattle.ratio_slots.specs.Joined.{HasJoinedDecimal, HasJoinedPair, joined_pair}
+use Rattle.ratio_slots.specs.LowestSum.{pair_mean}
 use Rattle.ratio_c.specs.declared.compare.Order.{Order}
 use Rattle.ratio_c.specs.declared.printing.Text.{Text}
 use Rattle.ratio_c.specs.Calls.{Tested}

@@ -1,9 +1,9 @@
 -- A read of a total in steps: what a step does to the header and the room.
 use Rattle.std.specs.Prelude.{◌≡◌, ◌≤◌, ◌<◌, ◌+◌, ◌⊎◌, ℕ, List, length, min}
-use Rattle.ratio_totals.specs.Common.{HasLongCommon, common_digits, most_common, read_digits}
-use Rattle.ratio_totals.specs.Steps.{HoldsJoined, LooksJoined}
-use Rattle.ratio_totals.specs.declared.joined.Joined.{Joined}
-use Rattle.ratio_totals.specs.declared.slots.Slot.{Slot}
+use Rattle.ratio_slots.specs.Common.{HasLongCommon, common_digits, most_common, read_digits}
+use Rattle.ratio_slots.specs.Steps.{HoldsJoined, LooksJoined}
+use Rattle.ratio_slots.specs.declared.joined.Joined.{Joined}
+use Rattle.ratio_slots.specs.declared.slots.Slot.{Slot}
 use Rattle.ratio_c.specs.declared.total_joining.JoinStop.{JoinStop, TheVariants.MoreRoom, TheVariants.NotJoined, TheVariants.TooLong}
 use Rattle.ratio_c.specs.declared.total_joining.Joined64.{Joined64}
 use Rattle.ratio_c.specs.Calls.{Tested}

@@ -1,7 +1,7 @@
 -- Keys of 64 bits, whose order never contradicts that of the values.
 use Rattle.std.specs.Prelude.{◌≡◌, ◌<ℤ◌, ◌≤ℤ◌, ◌*ℤ◌, ℕ, ℤ, pos, negsuc, neg_ℤ, to_bits, unsigned_abs}
 use Rattle.std.specs.Float.{binary64, ◌<ᶠ◌}
-use Rattle.ratio_float.specs.Floats.{nearest_float}
+use Rattle.ratio_decimal.specs.Floats.{nearest_float}
 use Rattle.ratio_c.specs.{Calls.Tested, Codes.code_answered, Codes.code_denominator_not_positive}
 
 -- the bits of the float of 64 bits nearest to n/d

@@ -1,9 +1,10 @@
 -- The hash of a fraction in lowest terms, from its two numbers.
 use Rattle.std.specs.Prelude.{◌≡◌, ◌+◌, ◌*◌, ◌/◌, ◌%◌, ◌^◌, ◌<ℤ◌, ℕ, ℤ, pos}
+use Rattle.ratio_integer.specs.SignedBits.{IsHeld64}
 use Rattle.ratio_integer.specs.{Fraction.IsLowestTerms, Fraction.SameValue, Range.IsHeld}
 use Rattle.ratio_c.specs.Calls.{Tested}
 use Rattle.ratio_c.specs.Codes.{code_answered, code_denominator_not_positive, hash_multiplier}
-use Rattle.ratio_c.specs.{Crossing.residue, Numbers64.greatest64, Numbers64.least64}
+use Rattle.ratio_c.specs.{Crossing.residue}
 
 -- the upper and the lower 32 bits of a number of 64 bits, exchanged
 -- Example: 1: 2^32
@@ -29,8 +30,8 @@ EqualHaveOneHash = (x y : ℤ × ℤ) → IsLowestTerms x.0 x.1 → IsLowestTerm
 
 -- Law: over one denominator, unlike numerators of at most 64 bits have unlike hashes
 abbrev pub NumeratorsHaveUnlikeHashes : Type 0
-NumeratorsHaveUnlikeHashes = (n m d : ℤ) → IsHeld least64 greatest64 n → IsHeld least64 greatest64 m → lowest_hash (n, d) ≡ lowest_hash (m, d) → n ≡ m
+NumeratorsHaveUnlikeHashes = (n m d : ℤ) → IsHeld64 n → IsHeld64 m → lowest_hash (n, d) ≡ lowest_hash (m, d) → n ≡ m
 
 -- Law: under one numerator, unlike denominators of at most 64 bits have unlike hashes
 abbrev pub DenominatorsHaveUnlikeHashes : Type 0
-DenominatorsHaveUnlikeHashes = (n d e : ℤ) → IsHeld least64 greatest64 d → IsHeld least64 greatest64 e → lowest_hash (n, d) ≡ lowest_hash (n, e) → d ≡ e
+DenominatorsHaveUnlikeHashes = (n d e : ℤ) → IsHeld64 d → IsHeld64 e → lowest_hash (n, d) ≡ lowest_hash (n, e) → d ≡ e

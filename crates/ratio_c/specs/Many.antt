@@ -1,12 +1,13 @@
 -- The product of many fractions divided by many others.
 use Rattle.std.specs.Prelude.{◌≡◌, ◌≢◌, ◌+◌, ◌*◌, ◌≤◌, ◌<ℤ◌, ℕ, pos, All, List, length}
 use Rattle.ratio_integer.specs.Fraction.{ChecksLowest}
+use Rattle.ratio_integer.specs.SignedBits.{greatest64, least64}
 use Rattle.num_rational.specs.ManyProducts.{quotient_of_items}
 use Rattle.ratio_c.specs.declared.numbers64.Fraction64.{Fraction64}
 use Rattle.ratio_c.specs.Calls.{Tested}
 use Rattle.ratio_c.specs.Codes.{code_denominator_not_positive, code_division_by_zero, code_more_room}
 use Rattle.ratio_c.specs.Crossing.{Said, Says, refused}
-use Rattle.ratio_c.specs.Numbers64.{fraction64, greatest64, least64}
+use Rattle.ratio_c.specs.Numbers64.{fraction64}
 
 -- each denominator is positive
 -- Example: not 1/2, 1/-3

@@ -1,17 +1,9 @@
 -- Written by templates/write from templates/numbers.antt.txt: change that file, and write this one anew.
 -- Fractions of 128 bits as they cross.
-use Rattle.std.specs.Prelude.{◌-◌, ◌^◌, ℤ, pos, negsuc}
+use Rattle.std.specs.Prelude.{ℤ}
 use Rattle.ratio_c.specs.Crossing.{Said, wide_number}
 use Rattle.ratio_c.specs.declared.numbers128.Fraction128.{Fraction128}
 use Rattle.ratio_c.specs.declared.numbers128.Answer128.{Answer128}
-
--- the least number of 128 bits
-abbrev pub least128 : ℤ
-least128 = negsuc (2 ^ 127 - 1)
-
--- the greatest number of 128 bits
-abbrev pub greatest128 : ℤ
-greatest128 = pos (2 ^ 127 - 1)
 
 -- the two numbers of a fraction of 128 bits
 abbrev pub fraction128 : Fraction128 → ℤ × ℤ

@@ -1,17 +1,9 @@
 -- Written by templates/write from templates/numbers.antt.txt: change that file, and write this one anew.
 -- Fractions of 32 bits as they cross.
-use Rattle.std.specs.Prelude.{◌-◌, ◌^◌, ℤ, pos, negsuc}
+use Rattle.std.specs.Prelude.{ℤ}
 use Rattle.ratio_c.specs.Crossing.{Said}
 use Rattle.ratio_c.specs.declared.numbers32.Fraction32.{Fraction32}
 use Rattle.ratio_c.specs.declared.numbers32.Answer32.{Answer32}
-
--- the least number of 32 bits
-abbrev pub least32 : ℤ
-least32 = negsuc (2 ^ 31 - 1)
-
--- the greatest number of 32 bits
-abbrev pub greatest32 : ℤ
-greatest32 = pos (2 ^ 31 - 1)
 
 -- the two numbers of a fraction of 32 bits
 abbrev pub fraction32 : Fraction32 → ℤ × ℤ

@@ -1,17 +1,9 @@
 -- Written by templates/write from templates/numbers.antt.txt: change that file, and write this one anew.
 -- Fractions of 64 bits as they cross.
-use Rattle.std.specs.Prelude.{◌-◌, ◌^◌, ℤ, pos, negsuc}
+use Rattle.std.specs.Prelude.{ℤ}
 use Rattle.ratio_c.specs.Crossing.{Said}
 use Rattle.ratio_c.specs.declared.numbers64.Fraction64.{Fraction64}
 use Rattle.ratio_c.specs.declared.numbers64.Answer64.{Answer64}
-
--- the least number of 64 bits
-abbrev pub least64 : ℤ
-least64 = negsuc (2 ^ 63 - 1)
-
--- the greatest number of 64 bits
-abbrev pub greatest64 : ℤ
-greatest64 = pos (2 ^ 63 - 1)
 
 -- the two numbers of a fraction of 64 bits
 abbrev pub fraction64 : Fraction64 → ℤ × ℤ

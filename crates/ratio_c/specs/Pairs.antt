@@ -1,5 +1,5 @@
 -- What the calls on pairs answer that are not sums, products or quotients: divisors, multiples and rounded products.
-use Rattle.std.specs.Prelude.{◌≡◌, ◌<◌, ◌<ℤ◌, ℕ, ℤ, pos, Option, None, Some}
+use Rattle.std.specs.Prelude.{◌≡◌, ◌<◌, ◌<ℤ◌, ℕ, ℤ, pos}
 use Rattle.ratio_integer.specs.{Arithmetic.product_of, Arithmetic.quotient_of, Range.IsHeld}
 use Rattle.ratio_core.specs.Divisors.{ChecksPair, IsGcdOfFractions, IsLcmOfFractions}
 use Rattle.ratio_decimal.specs.{Products.ChecksRoundedQuotientTo, RoundingRules.ChecksRounded, RoundingRules.IsRoundedBy}
@@ -50,9 +50,3 @@ IsQuotientToAnswer lo hi x y parts rule answer =
     OfPositive x y answer
     (OfOptions parts rule answer
     (OfDivisor y answer (ChecksRoundedQuotientTo (λ z. z.0) (λ z. z.1) lo hi (rule_of rule) parts (quotient_of x.0 x.1 y.0 y.1))))
-
--- Inner: the answer is the whole number over 1, or the code 1 for `None`
--- Example: `Some(6)`: 6/1
-abbrev pub SaysWholeNumber : {T : Type 0} → (T → ℤ) → Option T → Said → Type 0
-SaysWholeNumber value None answer = answer ≡ refused code_not_held
-SaysWholeNumber value (Some n) answer = answer ≡ (code_answered, (value n, pos 1))

@@ -4,10 +4,9 @@ use Rattle.std.specs.Cmp.Lexicographic.{slice_cmp}
 use Rattle.std.specs.Int.{bytes_high_first}
 use Rattle.std.specs.Ordering.{nat_cmp}
 use Rattle.ratio_core.specs.Order.{cross_cmp}
-use Rattle.ratio_integer.specs.Range.{IsHeld}
+use Rattle.ratio_integer.specs.SignedBits.{IsHeld64}
 use Rattle.ratio_c.specs.Calls.{BothPositive, Tested}
 use Rattle.ratio_c.specs.Codes.{code_answered, code_denominator_not_positive}
-use Rattle.ratio_c.specs.Numbers64.{greatest64, least64}
 
 -- the value plus 2^63, times 2^128, rounded down
 -- Example: -1/2: 2^191 - 2^127
@@ -30,7 +29,7 @@ IsSortableAnswer x code bytes =
 
 -- both numbers of a fraction fit 64 bits
 abbrev pub IsOf64Bits : ℤ × ℤ → Type 0
-IsOf64Bits x = IsHeld least64 greatest64 x.0 × IsHeld least64 greatest64 x.1
+IsOf64Bits x = IsHeld64 x.0 × IsHeld64 x.1
 
 -- Law: the bytes of two fractions of 64 bits have the order of the values. So equal values have the same bytes, and unlike values have others
 abbrev pub BytesKeepOrder : Type 0

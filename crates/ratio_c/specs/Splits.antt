@@ -1,5 +1,6 @@
 -- An amount split by shares or by weights: what a call returns, and the parts that it writes.
 use Rattle.std.specs.Prelude.{◌≡◌, ◌⊎◌, ℕ, ℤ, List, length}
+use Rattle.ratio_integer.specs.SignedBits.{greatest64, least64}
 use Rattle.num_rational.specs.Split.{CanBeSplit, IsSplitBy, RefusesToSplit}
 use Rattle.num_rational.specs.Weights.{CanSplitByWeights, RefusesWeights, share_of}
 use Rattle.num_rational.specs.declared.splitting.SplitRefusal.{SplitRefusal}
@@ -10,7 +11,7 @@ use Rattle.ratio_c.specs.declared.numbers64.Fraction64.{Fraction64}
 use Rattle.ratio_c.specs.Calls.{Tested}
 use Rattle.ratio_c.specs.Codes.{code_all_zero, code_answered, code_below_zero, code_denominator_not_positive, code_not_held, code_not_one, code_unlike_lengths}
 use Rattle.ratio_c.specs.Many.{AreOverPositive}
-use Rattle.ratio_c.specs.Numbers64.{fraction64, greatest64, least64}
+use Rattle.ratio_c.specs.Numbers64.{fraction64}
 
 -- the code of a split by shares that was refused: 15, 12, 1 or 13
 -- Example: `NotOne`: 13

@@ -1,8 +1,8 @@
 -- What the bounds of a total's sum say: its decimal, where they decide.
 use Rattle.std.specs.Prelude.{◌+◌, ◌/◌, ◌^◌, ◌<◌, ◌⊎◌, ℕ, List}
 use Rattle.ratio_natural.specs.Number.{base}
-use Rattle.ratio_totals.specs.{Bounds.RoundsApart, DecimalRoom.HasBoundedRoom, Sums.sum_of_slots}
-use Rattle.ratio_totals.specs.declared.slots.Slot.{Slot}
+use Rattle.ratio_slots.specs.{Bounds.RoundsApart, DecimalRoom.HasBoundedRoom, Sums.sum_of_slots}
+use Rattle.ratio_slots.specs.declared.slots.Slot.{Slot}
 use Rattle.ratio_c.specs.declared.printing.Text.{Text}
 use Rattle.ratio_c.specs.Calls.{Tested}
 use Rattle.ratio_c.specs.Codes.{code_bad_option, code_more_room, code_not_held}

@@ -1,10 +1,10 @@
 -- What a total's slots say as a float.
 use Rattle.std.specs.Prelude.{◌≡◌, ◌≤◌, ◌⊎◌, ℕ, ℤ, pos, List}
 use Rattle.std.specs.Float.{Float, binary64, float_zero}
-use Rattle.ratio_float.specs.Floats.{nearest_float}
-use Rattle.ratio_totals.specs.{Common.IsReadRefusedFor, Common.read_digits, Sums.sum_of_slots}
-use Rattle.ratio_totals.specs.declared.reading.ReadRefusal.{ReadRefusal}
-use Rattle.ratio_totals.specs.declared.slots.Slot.{Slot}
+use Rattle.ratio_decimal.specs.Floats.{nearest_float}
+use Rattle.ratio_slots.specs.{Common.IsReadRefusedFor, Common.read_digits, Sums.sum_of_slots}
+use Rattle.ratio_slots.specs.declared.reading.ReadRefusal.{ReadRefusal}
+use Rattle.ratio_slots.specs.declared.slots.Slot.{Slot}
 use Rattle.ratio_c.specs.{Codes.code_answered, TotalReads.code_of_read}
 
 -- the float of 64 bits nearest to a fraction; of two as near, the one whose last bit is 0

@@ -1,9 +1,9 @@
 -- The laws of totals.
 use Rattle.std.specs.Prelude.{◌≡◌, ◌≢◌, ◌+◌, ◌++◌, ◌<ℤ◌, ◌+ℤ◌, ℕ, ℤ, pos, List, [], ◌∷◌, length, Option, Some, None, IsPermutation}
-use Rattle.ratio_totals.specs.{Merging.AddsEach, LowestSum.mean_of_slots, SumOrder.sign_of_slots}
-use Rattle.ratio_totals.specs.Sums.{numerator_at, numerator_over, sum_of_slots}
-use Rattle.ratio_totals.specs.{TotalLaws.SameNumerators, Totals.HasNoFraction}
-use Rattle.ratio_totals.specs.declared.slots.Slot.{Slot}
+use Rattle.ratio_slots.specs.{Merging.AddsEach, LowestSum.mean_of_slots, SumOrder.sign_of_slots}
+use Rattle.ratio_slots.specs.Sums.{numerator_at, numerator_over, sum_of_slots}
+use Rattle.ratio_slots.specs.{TotalLaws.SameNumerators, Totals.HasNoFraction}
+use Rattle.ratio_slots.specs.declared.slots.Slot.{Slot}
 use Rattle.ratio_c.specs.declared.numbers64.Fraction64.{Fraction64}
 use Rattle.ratio_c.specs.declared.totals.Piece.{Piece}
 use Rattle.ratio_c.specs.declared.totals.Total64.{Total64}

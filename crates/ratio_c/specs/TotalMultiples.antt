@@ -1,12 +1,13 @@
 -- The sum of a total's slots, rounded to a multiple of 1/parts.
 use Rattle.std.specs.Prelude.{◌≡◌, ◌⊎◌, ◌<◌, ◌≤◌, ◌<ℤ◌, ℕ, ℤ, pos, List}
+use Rattle.ratio_integer.specs.SignedBits.{greatest64, least64}
 use Rattle.ratio_decimal.specs.RoundingRules.{ChecksRounded}
-use Rattle.ratio_totals.specs.{Multiples.IsMultipleRefusedFor, Multiples.multiple_digits, Sums.sum_of_slots}
-use Rattle.ratio_totals.specs.declared.reading.ReadRefusal.{ReadRefusal}
-use Rattle.ratio_totals.specs.declared.slots.Slot.{Slot}
+use Rattle.ratio_slots.specs.{Multiples.IsMultipleRefusedFor, Multiples.multiple_digits, Sums.sum_of_slots}
+use Rattle.ratio_slots.specs.declared.reading.ReadRefusal.{ReadRefusal}
+use Rattle.ratio_slots.specs.declared.slots.Slot.{Slot}
 use Rattle.ratio_c.specs.{Calls.Tested, Codes.code_bad_option}
 use Rattle.ratio_c.specs.Crossing.{Said, Says, refused, rule_of}
-use Rattle.ratio_c.specs.{Numbers64.greatest64, Numbers64.least64, TotalReads.code_of_read}
+use Rattle.ratio_c.specs.{TotalReads.code_of_read}
 
 -- the multiple of 1/parts that a rule says of the sum, in lowest terms over 64 bits, or the code 1 where these do not fit
 -- Example: 64/1008, 100 parts, rule 1: 3/50

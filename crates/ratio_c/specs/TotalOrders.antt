@@ -1,10 +1,10 @@
 -- The order of two totals: of the sums of their slots.
 use Rattle.std.specs.Prelude.{◌≡◌, ◌⊎◌, ℕ, pos, List, length}
 use Rattle.std.specs.List.{AllZip}
-use Rattle.ratio_totals.specs.{AnyOrder.CanOrder, AnyOrder.IsOrderRefusedFor, SumOrder.pair_cmp, Sums.sum_of_slots}
-use Rattle.ratio_totals.specs.declared.orders.OrderRefusal.{OrderRefusal}
-use Rattle.ratio_totals.specs.declared.orders.OrderRefusal.TheVariants.{MoreRoom, MoreSlots, TooGreat, TooLong}
-use Rattle.ratio_totals.specs.declared.slots.Slot.{Slot}
+use Rattle.ratio_slots.specs.{AnyOrder.CanOrder, AnyOrder.IsOrderRefusedFor, SumOrder.pair_cmp, Sums.sum_of_slots}
+use Rattle.ratio_slots.specs.declared.orders.OrderRefusal.{OrderRefusal}
+use Rattle.ratio_slots.specs.declared.orders.OrderRefusal.TheVariants.{MoreRoom, MoreSlots, TooGreat, TooLong}
+use Rattle.ratio_slots.specs.declared.slots.Slot.{Slot}
 use Rattle.ratio_c.specs.declared.compare.Order.{Order}
 use Rattle.ratio_c.specs.Calls.{Tested}
 use Rattle.ratio_c.specs.Codes.{code_answered, code_more_room, code_not_held, code_too_long, return_bad_length, return_done}

@@ -3,17 +3,17 @@ use Rattle.std.specs.Prelude.{◌≡◌, ◌≤◌, ◌<◌, ◌⊎◌, ◌<ℤ�
 use Rattle.std.specs.{List.AllZip, Ordering.int_cmp}
 use Rattle.ratio_core.specs.Power.{ChecksBoth}
 use Rattle.ratio_integer.specs.Fraction.{ChecksLowest}
-use Rattle.ratio_long.specs.Decimals.{IsLongDecimalOf}
-use Rattle.ratio_totals.specs.{Common.IsReadRefusedFor, Common.read_digits, DecimalRoom.HasDecimalRoom, DecimalRoom.IsDecimalRefusedFor}
-use Rattle.ratio_totals.specs.{LowestSum.mean_of_slots, Sums.sum_of_slots}
-use Rattle.ratio_totals.specs.declared.reading.ReadRefusal.{ReadRefusal, TheVariants.MoreRoom, TheVariants.TooLong}
-use Rattle.ratio_totals.specs.declared.slots.Slot.{Slot}
+use Rattle.ratio_integer.specs.SignedBits.{greatest64, least64}
+use Rattle.ratio_decimal.specs.Decimal.{IsDecimalOf}
+use Rattle.ratio_slots.specs.{Common.IsReadRefusedFor, Common.read_digits, DecimalRoom.HasDecimalRoom, DecimalRoom.IsDecimalRefusedFor}
+use Rattle.ratio_slots.specs.{LowestSum.mean_of_slots, Sums.sum_of_slots}
+use Rattle.ratio_slots.specs.declared.reading.ReadRefusal.{ReadRefusal, TheVariants.MoreRoom, TheVariants.TooLong}
+use Rattle.ratio_slots.specs.declared.slots.Slot.{Slot}
 use Rattle.ratio_c.specs.declared.compare.Order.{Order}
 use Rattle.ratio_c.specs.declared.printing.Text.{Text}
 use Rattle.ratio_c.specs.Calls.{Tested}
 use Rattle.ratio_c.specs.Codes.{code_answered, code_bad_option, code_division_by_zero, code_more_room, code_too_long, return_bad_length, return_done}
 use Rattle.ratio_c.specs.Crossing.{Said, Says, order_number, refused, rule_of}
-use Rattle.ratio_c.specs.Numbers64.{greatest64, least64}
 
 -- the code of a read that was refused: 10 or 11
 -- Example: `TooLong`: 11
@@ -89,7 +89,7 @@ pub record HasNoText (code end : ℕ) (answer : Text) : Type 0 where
 -- Example: `0.0635` in a buffer of 147 bytes: from 141 on
 pub record IsLongText (x : ℤ × ℕ) (places rule end : ℕ) (texts : List ℕ) (answer : Text) : Type 0 where
   pub code_is : answer.code ≡ code_answered
-  pub text : IsLongDecimalOf (rule_of rule) places x.0 (pos x.1) (drop answer.span.start texts)
+  pub text : IsDecimalOf (rule_of rule) places x.0 (pos x.1) (drop answer.span.start texts)
   pub start : answer.span.start < end
   pub stop : answer.span.end ≡ end
 

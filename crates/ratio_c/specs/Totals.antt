@@ -1,11 +1,11 @@
 -- Totals that lose nothing. A *total* is a table of slots, each with a denominator and the sum of the numerators over it, and a count of
 -- fractions. The caller has the slots. The header's struct, `Total64`, has the count, and what the last call did.
-use Rattle.std.specs.Prelude.{suc, ◌≡◌, ◌≢◌, ◌<◌, ◌⊎◌, ◌+ℤ◌, ℕ, zero, ℤ, pos, negsuc, neg_ℤ, List, length, take, slice_index_or, Option, Some, None}
+use Rattle.std.specs.Prelude.{suc, ◌≡◌, ◌≢◌, ◌<◌, ◌≤◌, ◌⊎◌, ◌+ℤ◌, ℕ, zero, ℤ, pos, negsuc, neg_ℤ, List, length, take, slice_index_or, Option, Some, None}
 use Rattle.std.specs.List.{AllZip, FoldsTo}
-use Rattle.ratio_integer.specs.Range.{IsHeld}
-use Rattle.ratio_totals.specs.{Loose.HasDirtyPlace, Loose.HasFullPlace, Slots.HasNoPlaceFor}
-use Rattle.ratio_totals.specs.Sums.{GrowsAt, Has128Bits, Puts, SumGrows}
-use Rattle.ratio_totals.specs.declared.slots.Slot.{Slot}
+use Rattle.ratio_integer.specs.SignedBits.{IsHeld64}
+use Rattle.ratio_slots.specs.{Loose.HasDirtyPlace, Loose.HasFullPlace, Slots.HasNoPlaceFor}
+use Rattle.ratio_slots.specs.Sums.{GrowsAt, Has128Bits, Puts, SumGrows}
+use Rattle.ratio_slots.specs.declared.slots.Slot.{Slot}
 use Rattle.ratio_c.specs.declared.numbers64.Fraction64.{Fraction64}
 use Rattle.ratio_c.specs.declared.totals.Piece.{Piece}
 use Rattle.ratio_c.specs.declared.totals.Stop.{Stop}
@@ -14,7 +14,6 @@ use Rattle.ratio_c.specs.declared.totals.Total64.{Total64}
 use Rattle.ratio_c.specs.declared.totals.Way.{Way, TheVariants.In, TheVariants.Out}
 use Rattle.ratio_c.specs.Calls.{Tested}
 use Rattle.ratio_c.specs.Codes.{code_answered, code_denominator_not_positive, code_more_room, code_no_total, code_not_held, return_bad_length, return_done}
-use Rattle.ratio_c.specs.Numbers64.{greatest64, least64}
 
 -- a total: its slots, and its count
 -- Example: 36, 28 with the numerators 6 and 1, and the count 3
@@ -68,7 +67,7 @@ AllGo brings way xs old new = FoldsTo (λ held x next. GoesOver way (brings x) h
 abbrev pub LeavesType : Way → Piece → Held → Type 0
 LeavesType way piece held =
     (¬ (Has128Bits (directed way piece.numer)))
-    ⊎ ((¬ (IsHeld least64 greatest64 (held.1 +ℤ directed way piece.count))) ⊎ HasFullPlace held.0 piece.denom (directed way piece.numer))
+    ⊎ ((¬ (IsHeld64 (held.1 +ℤ directed way piece.count))) ⊎ HasFullPlace held.0 piece.denom (directed way piece.numer))
 
 -- why a piece does not go in or out: other denominators take all slots, the empty slot for it has a numerator not 0, or a number leaves its type
 -- Example: 1/12 into 1/36, 1/28 without an empty slot: `MoreRoom`
@@ -113,7 +112,7 @@ pub record GoUntil {A : Type 0} (brings : A → Option Piece) (way : Way) (asked
 abbrev pub AddsCount : Way → ℤ → Total64 → Total64 → Type 0
 AddsCount way more old new =
     Tested (old.code ≡ code_answered)
-    (Tested (IsHeld least64 greatest64 (old.count +ℤ directed way more))
+    (Tested (IsHeld64 (old.count +ℤ directed way more))
     (new ≡ record { code = code_answered; done = old.done; count = old.count +ℤ directed way more })
     (new ≡ record { code = code_not_held; done = old.done; count = old.count }))
     (new ≡ old)
@@ -132,3 +131,8 @@ abbrev pub ChangesOne : (Held → List Slot → Total64 → Type 0) → List Tot
 ChangesOne Changes old new slots new_slots result =
     Tested (length old ≡ 1) ((result ≡ return_done) × AllZip (λ from to. Changes (slots, from.count) new_slots to) old new)
     ((result ≡ return_bad_length) × (new ≡ old) × (new_slots ≡ slots))
+
+-- the length of a total's next table, or 0 if it is above the greatest one
+-- Example: 24 with at most 23: 0
+abbrev pub IsLengthWithin : ℕ → ℕ → ℕ → Type 0
+IsLengthWithin most length result = Tested (length ≤ most) (result ≡ length) (result ≡ 0)

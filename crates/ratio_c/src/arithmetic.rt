@@ -1,29 +1,28 @@
 //! The sum, difference, product, quotient and remainder of a pair of fractions, and whether both denominators are positive.
 ghost use Rattle.std.specs.Prelude.{◌≡◌, MatchOption};
-ghost use Rattle.num_rational.specs.Operators.{numbers};
 ghost use Rattle.ratio_c.specs.Calls.{BothPositive, IsDifferenceAnswer, IsProductAnswer, IsQuotientAnswer, IsRemainderAnswer, IsSumAnswer};
 
 use crate::code::{DENOMINATOR_NOT_POSITIVE, DIVISION_BY_ZERO};
-use crate::crossing::{Reply, TwoFractions, checked, checked_fields, refused};
+use crate::crossing::{Reply, TwoFractions, checked, refused};
 use crate::each::Call;
-use num_rational::Ratio;
-use ratio_core::remainder;
-use ratio_core::sums::reducing;
+use ratio_core::{products, remainder, sums};
 use ratio_integer::Integer;
 
-/// The two fractions of a pair, if their denominators are positive.
+/// The four numbers of a pair, if both denominators are positive.
 #[inline(always)]
-pub(crate) fn both<P: TwoFractions>(pair: &P) -> Option<(Ratio<P::Inside>, Ratio<P::Inside>)>
+pub(crate) fn both<P: TwoFractions>(
+    pair: &P,
+) -> Option<(P::Inside, P::Inside, P::Inside, P::Inside)>
     ensures { MatchOption result
         (¬ (BothPositive (P.left pair.now) (P.right pair.now)))
-        (λ x. BothPositive (numbers x.0) (numbers x.1)
-        × (numbers x.0 ≡ P.left pair.now)
-        × (numbers x.1 ≡ P.right pair.now)) }
+        (λ x. BothPositive (P.Inside.value x.0, P.Inside.value x.1) (P.Inside.value x.2, P.Inside.value x.3)
+        × ((P.Inside.value x.0, P.Inside.value x.1) ≡ P.left pair.now)
+        × ((P.Inside.value x.2, P.Inside.value x.3) ≡ P.right pair.now)) }
 {
-    let (n, d) = pair.left();
-    let (m, e) = pair.right();
-    if P::Inside::ZERO < d && P::Inside::ZERO < e {
-        Some((Ratio::new_raw(n, d), Ratio::new_raw(m, e)))
+    let (a, b) = pair.left();
+    let (c, d) = pair.right();
+    if P::Inside::ZERO < b && P::Inside::ZERO < d {
+        Some((a, b, c, d))
     } else {
         None
     }
@@ -39,12 +38,7 @@ impl<P: TwoFractions, A: Reply<P::Inside>> Call<P, A> for Sum {
     #[inline(always)]
     fn answer(&self, pair: &P) -> A {
         match both(pair) {
-            Some((x, y)) => checked_fields(reducing::checked_add(
-                *x.numer(),
-                *x.denom(),
-                *y.numer(),
-                *y.denom(),
-            )),
+            Some((a, b, c, d)) => checked(sums::unreduced_sums::checked_add(a, b, c, d)),
             None => refused(DENOMINATOR_NOT_POSITIVE),
         }
     }
@@ -60,12 +54,7 @@ impl<P: TwoFractions, A: Reply<P::Inside>> Call<P, A> for Difference {
     #[inline(always)]
     fn answer(&self, pair: &P) -> A {
         match both(pair) {
-            Some((x, y)) => checked_fields(reducing::checked_sub(
-                *x.numer(),
-                *x.denom(),
-                *y.numer(),
-                *y.denom(),
-            )),
+            Some((a, b, c, d)) => checked(sums::unreduced_sums::checked_sub(a, b, c, d)),
             None => refused(DENOMINATOR_NOT_POSITIVE),
         }
     }
@@ -81,7 +70,7 @@ impl<P: TwoFractions, A: Reply<P::Inside>> Call<P, A> for Product {
     #[inline(always)]
     fn answer(&self, pair: &P) -> A {
         match both(pair) {
-            Some((left, right)) => checked(left.checked_mul(&right)),
+            Some((a, b, c, d)) => checked(products::checked_mul(a, b, c, d)),
             None => refused(DENOMINATOR_NOT_POSITIVE),
         }
     }
@@ -97,8 +86,8 @@ impl<P: TwoFractions, A: Reply<P::Inside>> Call<P, A> for Quotient {
     #[inline(always)]
     fn answer(&self, pair: &P) -> A {
         match both(pair) {
-            Some((_, right)) if right.is_zero() => refused(DIVISION_BY_ZERO),
-            Some((left, right)) => checked(left.checked_div(&right)),
+            Some(x) if x.2.is_zero() => refused(DIVISION_BY_ZERO),
+            Some((a, b, c, d)) => checked(products::checked_div(a, b, c, d)),
             None => refused(DENOMINATOR_NOT_POSITIVE),
         }
     }
@@ -114,13 +103,8 @@ impl<P: TwoFractions, A: Reply<P::Inside>> Call<P, A> for Remainder {
     #[inline(always)]
     fn answer(&self, pair: &P) -> A {
         match both(pair) {
-            Some((_, right)) if right.is_zero() => refused(DIVISION_BY_ZERO),
-            Some((x, y)) => checked_fields(remainder::lowest_remainder::checked_rem(
-                *x.numer(),
-                *x.denom(),
-                *y.numer(),
-                *y.denom(),
-            )),
+            Some(x) if x.2.is_zero() => refused(DIVISION_BY_ZERO),
+            Some((a, b, c, d)) => checked(remainder::unreduced_remainders::checked_rem(a, b, c, d)),
             None => refused(DENOMINATOR_NOT_POSITIVE),
         }
     }

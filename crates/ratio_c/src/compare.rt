@@ -1,12 +1,13 @@
 //! The order of a pair, and whether it is equal, each as a number.
-ghost use Rattle.std.specs.Prelude.{◌≡◌, IsTrue};
+ghost use Rattle.std.specs.Prelude.{◌≡◌, ◌≢◌, IsTrue, MatchOption, pos};
+ghost use Rattle.ratio_core.specs.Order.{cross_cmp};
 ghost use Rattle.ratio_c.specs.Calls.{IsEqualAnswer, IsOrderAnswer, IsTruth};
 ghost use Rattle.ratio_c.specs.Crossing.{order_number};
 
 use crate::code::{ANSWERED, ZERO_DENOMINATOR};
 use crate::crossing::TwoFractions;
 use crate::each::Call;
-use num_rational::Ratio;
+use ratio_core::{Steps, cross_order};
 use ratio_integer::Integer;
 use std::cmp::Ordering;
 
@@ -27,20 +28,33 @@ impl<P: TwoFractions> Call<P, Order> for Comparison {
 
     #[inline(always)]
     fn answer(&self, pair: &P) -> Order {
-        let (n, d) = pair.left();
-        let (m, e) = pair.right();
-        if d.is_zero() || e.is_zero() {
-            return Order {
+        match order_of(pair) {
+            Some(order) => Order {
+                code: ANSWERED,
+                order: number_of(order),
+            },
+            None => Order {
                 code: ZERO_DENOMINATOR,
                 order: 0,
-            };
-        }
-        let order = Ratio::new_raw(n, d).cmp(&Ratio::new_raw(m, e));
-        Order {
-            code: ANSWERED,
-            order: number_of(order),
+            },
         }
     }
+}
+
+/// The order of the two fractions of a pair, or `None` if a denominator is 0.
+#[inline(always)]
+fn order_of<P: TwoFractions>(pair: &P) -> Option<Ordering>
+    ensures { MatchOption result
+        (¬ (((P.left pair.now).1 ≢ pos 0) × ((P.right pair.now).1 ≢ pos 0)))
+        (λ order. ((P.left pair.now).1 ≢ pos 0) × ((P.right pair.now).1 ≢ pos 0)
+        × (order ≡ cross_cmp (P.left pair.now).0 (P.left pair.now).1 (P.right pair.now).0 (P.right pair.now).1)) }
+{
+    let (n, d) = pair.left();
+    let (m, e) = pair.right();
+    if d.is_zero() || e.is_zero() {
+        return None;
+    }
+    Some(cross_order(n, d, m, e, &mut Steps::new()))
 }
 
 /// An order as a number: -1, 0 or 1.
@@ -72,18 +86,15 @@ impl<P: TwoFractions> Call<P, Truth> for Equality {
 
     #[inline(always)]
     fn answer(&self, pair: &P) -> Truth {
-        let (n, d) = pair.left();
-        let (m, e) = pair.right();
-        if d.is_zero() || e.is_zero() {
-            return Truth {
+        match order_of(pair) {
+            Some(order) => Truth {
+                code: ANSWERED,
+                holds: truth_of(order.is_eq()),
+            },
+            None => Truth {
                 code: ZERO_DENOMINATOR,
                 holds: 0,
-            };
-        }
-        let equal = Ratio::new_raw(n, d) == Ratio::new_raw(m, e);
-        Truth {
-            code: ANSWERED,
-            holds: truth_of(equal),
+            },
         }
     }
 }

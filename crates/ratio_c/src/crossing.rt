@@ -1,11 +1,10 @@
 //! The traits of inputs and answers, as they cross from a caller and back, the answers of checked calls and of refusals, and the numbers
 //! that a hash takes.
 ghost use Rattle.std.specs.Prelude.{◌≡◌, ℕ, ℤ, option_map, pos};
-ghost use Rattle.num_rational.specs.Operators.{numbers};
+ghost use Rattle.ratio_c.specs.Codes.{code_answered};
 ghost use Rattle.ratio_c.specs.Crossing.{Said, refused, residue, said_of};
 
 use crate::code::{ANSWERED, NOT_HELD};
-use num_rational::Ratio;
 use ratio_integer::{Primitive, SignedInteger};
 
 /// A number of at most 128 bits, with its sign. A hash takes its lowest 64 bits.
@@ -185,20 +184,17 @@ pub fn refused<T: Copy + Primitive, A: Reply<T>>(code: u32) -> A
     A::reply(code, T::ZERO, T::ZERO)
 }
 
-/// The answer for what a checked call returned.
+/// The answer for a whole number: the number over 1.
 #[inline(always)]
-pub fn checked<T: Copy + Primitive, A: Reply<T>>(answer: Option<Ratio<T>>) -> A
-    ensures { A.said result ≡ said_of (option_map numbers answer) }
+pub fn whole<T: Copy + Primitive, A: Reply<T>>(number: T) -> A
+    ensures { A.said result ≡ (code_answered, (T.value number, pos 1)) }
 {
-    match answer {
-        Some(x) => A::reply(ANSWERED, *x.numer(), *x.denom()),
-        None => refused::<T, A>(NOT_HELD),
-    }
+    A::reply(ANSWERED, number, T::ONE)
 }
 
-/// The answer for two numbers, which the calls of the crates below `num_rational` return without a `Ratio`.
+/// The answer for the two numbers that a checked call returned.
 #[inline(always)]
-pub fn checked_fields<T: Copy + Primitive, A: Reply<T>>(answer: Option<(T, T)>) -> A
+pub fn checked<T: Copy + Primitive, A: Reply<T>>(answer: Option<(T, T)>) -> A
     ensures { A.said result ≡ said_of (option_map (λ x. (T.value x.0, T.value x.1)) answer) }
 {
     match answer {

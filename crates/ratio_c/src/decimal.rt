@@ -6,10 +6,10 @@ ghost use Rattle.ratio_c.specs.Texts.{ShowsDecimal, decimal_longest};
 
 use crate::code::{BAD_OPTION, DENOMINATOR_NOT_POSITIVE, NOT_HELD, PARSE_ERROR};
 use crate::crossing::{Digest, Pointed};
-use crate::multiple::rule_of;
 use crate::one_fraction::positive;
 use crate::printing::{Printer, Text, no_text, put_bytes};
 use crate::reading::Reader;
+use crate::rounded::rule_of;
 use ratio_core::DecimalText;
 use ratio_decimal::{DecimalRefusal, decimal, from_decimal};
 use ratio_integer::both_held;
@@ -41,9 +41,8 @@ fn decimal_of<F: Pointed>(x: &F) -> Result<DecimalText, u32>
 {
     let places = x.places();
     match positive(x) {
-        Some(r) => match rule_of(x.rule()) {
+        Some((n, d)) => match rule_of(x.rule()) {
             Some(rule) if places <= 38 => {
-                let (n, d) = r.into_raw();
                 both_held(n, d);
                 Ok(decimal(n, d, places, rule))
             }
@@ -60,7 +59,7 @@ pub struct DecimalTexts<T> {
 }
 
 impl<T> DecimalTexts<T> {
-    /// The reader over the type `T`.
+    /// The reader of decimals, over the type `T`.
     #[inline(always)]
     pub fn new() -> DecimalTexts<T> {
         DecimalTexts {

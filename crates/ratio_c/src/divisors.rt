@@ -1,14 +1,12 @@
 //! The greatest common divisor and the least common multiple of a pair of fractions.
+ghost use Rattle.std.specs.Prelude.{◌<ℤ◌, pos};
 ghost use Rattle.ratio_core.specs.Divisors.{ChecksPair, IsGcdOfFractions, IsLcmOfFractions};
-ghost use Rattle.num_rational.specs.Operators.{numbers};
-ghost use Rattle.ratio_c.specs.Calls.{BothPositive};
 ghost use Rattle.ratio_c.specs.Pairs.{IsGcdAnswer, IsLcmAnswer};
 
 use crate::arithmetic::both;
 use crate::code::DENOMINATOR_NOT_POSITIVE;
-use crate::crossing::{Reply, TwoFractions, checked_fields, refused};
+use crate::crossing::{Reply, TwoFractions, checked, refused};
 use crate::each::Call;
-use num_rational::Ratio;
 use ratio_core::divisors;
 use ratio_integer::{Integer, lowest_terms};
 
@@ -22,7 +20,7 @@ impl<P: TwoFractions, A: Reply<P::Inside>> Call<P, A> for CommonDivisor {
     #[inline(always)]
     fn answer(&self, pair: &P) -> A {
         match both(pair) {
-            Some((x, y)) => checked_fields(gcd(x, y)),
+            Some((a, b, c, d)) => checked(gcd(a, b, c, d)),
             None => refused(DENOMINATOR_NOT_POSITIVE),
         }
     }
@@ -38,30 +36,32 @@ impl<P: TwoFractions, A: Reply<P::Inside>> Call<P, A> for CommonMultiple {
     #[inline(always)]
     fn answer(&self, pair: &P) -> A {
         match both(pair) {
-            Some((x, y)) => checked_fields(lcm(x, y)),
+            Some((a, b, c, d)) => checked(lcm(a, b, c, d)),
             None => refused(DENOMINATOR_NOT_POSITIVE),
         }
     }
 }
 
 // The greatest common divisor of two fractions in any terms.
-fn gcd<T: Copy + Integer>(x: Ratio<T>, y: Ratio<T>) -> Option<(T, T)>
-    requires { BothPositive (numbers x) (numbers y) }
+fn gcd<T: Copy + Integer>(a: T, b: T, c: T, d: T) -> Option<(T, T)>
+    requires left_positive { pos 0 <ℤ T.value b }
+    requires right_positive { pos 0 <ℤ T.value d }
     ensures { ChecksPair (λ r. T.value r.0) (λ r. T.value r.1) T.lo T.hi
-        (IsGcdOfFractions (numbers x).0 (numbers x).1 (numbers y).0 (numbers y).1) result }
+        (IsGcdOfFractions (T.value a) (T.value b) (T.value c) (T.value d)) result }
 {
-    let (a, b) = lowest_terms(*x.numer(), *x.denom());
-    let (c, d) = lowest_terms(*y.numer(), *y.denom());
+    let (a, b) = lowest_terms(a, b);
+    let (c, d) = lowest_terms(c, d);
     divisors::checked_gcd(a, b, c, d)
 }
 
 // The least common multiple of two fractions in any terms.
-fn lcm<T: Copy + Integer>(x: Ratio<T>, y: Ratio<T>) -> Option<(T, T)>
-    requires { BothPositive (numbers x) (numbers y) }
+fn lcm<T: Copy + Integer>(a: T, b: T, c: T, d: T) -> Option<(T, T)>
+    requires left_positive { pos 0 <ℤ T.value b }
+    requires right_positive { pos 0 <ℤ T.value d }
     ensures { ChecksPair (λ r. T.value r.0) (λ r. T.value r.1) T.lo T.hi
-        (IsLcmOfFractions (numbers x).0 (numbers x).1 (numbers y).0 (numbers y).1) result }
+        (IsLcmOfFractions (T.value a) (T.value b) (T.value c) (T.value d)) result }
 {
-    let (a, b) = lowest_terms(*x.numer(), *x.denom());
-    let (c, d) = lowest_terms(*y.numer(), *y.denom());
+    let (a, b) = lowest_terms(a, b);
+    let (c, d) = lowest_terms(c, d);
     divisors::checked_lcm(a, b, c, d)
 }

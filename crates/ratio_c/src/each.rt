@@ -6,6 +6,7 @@ pub trait Call<A, B> {
     // The answers that are right for an item.
     ghost gives: { Self → A → B → Type 0 };
 
+    /// The answer for one item.
     fn answer(&self, asked: &A) -> B
         ensures { gives self.now asked.now result };
 }

@@ -4,11 +4,12 @@ ghost use Rattle.std.specs.Prelude.{◌≡◌};
 ghost use Rattle.ratio_c.specs.Calls.{IsFromFloatAnswer, IsRationalAnswer, IsToFloatAnswer};
 
 use crate::code::{ANSWERED, DENOMINATOR_NOT_POSITIVE};
-use crate::crossing::{Digest, OneFraction, Reply, checked_fields};
+use crate::crossing::{Digest, OneFraction, Reply, checked};
 use crate::each::Call;
 use crate::one_fraction::positive;
-use ratio_float::exact::from_float;
-use ratio_float::rationalize::rationalize;
+use ratio_decimal::float::exact::from_float;
+use ratio_decimal::float::nearest::to_f64;
+use ratio_decimal::float::rationalize::rationalize;
 use std::marker::PhantomData;
 
 /// A float. If there is none, the code says why, and the value is 0.
@@ -26,7 +27,7 @@ pub struct FromFloat<T> {
 }
 
 impl<T> FromFloat<T> {
-    /// The call for the type `T`.
+    /// The call that gives floats as fractions of the type `T`.
     #[inline(always)]
     pub fn new() -> FromFloat<T> {
         FromFloat {
@@ -40,7 +41,7 @@ impl<T: Digest, A: Reply<T>> Call<f64, A> for FromFloat<T> {
 
     #[inline(always)]
     fn answer(&self, x: &f64) -> A {
-        checked_fields(from_float::<T>(*x))
+        checked(from_float::<T>(*x))
     }
 }
 
@@ -51,7 +52,7 @@ pub struct Rationalizing<T> {
 }
 
 impl<T> Rationalizing<T> {
-    /// The call for the type `T`.
+    /// The call that finds the simplest fractions of the type `T` that round to floats.
     #[inline(always)]
     pub fn new() -> Rationalizing<T> {
         Rationalizing {
@@ -65,7 +66,7 @@ impl<T: Digest, A: Reply<T>> Call<f64, A> for Rationalizing<T> {
 
     #[inline(always)]
     fn answer(&self, x: &f64) -> A {
-        checked_fields(rationalize::<T>(*x))
+        checked(rationalize::<T>(*x))
     }
 }
 
@@ -79,9 +80,9 @@ impl<F: OneFraction> Call<F, Float> for ToFloat {
     #[inline(always)]
     fn answer(&self, x: &F) -> Float {
         match positive(x) {
-            Some(r) => Float {
+            Some((n, d)) => Float {
                 code: ANSWERED,
-                value: r.to_f64(),
+                value: to_f64(n, d),
             },
             None => Float {
                 code: DENOMINATOR_NOT_POSITIVE,

@@ -6,15 +6,15 @@ ghost use Rattle.ratio_c.specs.TotalReads.{AnswersOne, PrintsOne};
 
 use crate::code::{ANSWERED, BAD_OPTION, DIVISION_BY_ZERO, NO_TOTAL};
 use crate::compare::{Order, number_of};
-use crate::crossing::{checked_fields, refused};
+use crate::crossing::{checked, refused};
 use crate::each::{BAD_LENGTH, DONE};
 use crate::floats::Float;
-use crate::multiple::rule_of;
 use crate::numbers64::Answer64;
 use crate::printing::{Text, no_text};
 use crate::reading::Span;
+use crate::rounded::rule_of;
 use crate::total_reads::narrowed;
-use ratio_totals::{Joined, NoSum};
+use ratio_slots::{Joined, NoSum};
 
 /// A read in a room with so many digits for the common denominator. How many slots are joined does not matter to it.
 fn read_in(digits: u64) -> Joined
@@ -31,7 +31,7 @@ fn sum_answer(digits: u64, room: &mut [u64]) -> Answer64
     ensures { IsSumOfJoined digits room.old (said64 result) }
 {
     match read_in(digits).sum(room) {
-        Ok(sum) => checked_fields(narrowed(sum)),
+        Ok(sum) => checked(narrowed(sum)),
         Err(NoSum) => refused(NO_TOTAL),
     }
 }
@@ -44,7 +44,7 @@ fn mean_answer(digits: u64, count: i64, room: &mut [u64]) -> Answer64
         return refused(DIVISION_BY_ZERO);
     }
     match read_in(digits).mean(count, room) {
-        Ok(mean) => checked_fields(narrowed(mean)),
+        Ok(mean) => checked(narrowed(mean)),
         Err(NoSum) => refused(NO_TOTAL),
     }
 }

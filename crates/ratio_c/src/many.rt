@@ -2,13 +2,14 @@
 ghost use Rattle.std.specs.Prelude.{◌≡◌, ◌↔◌, ◌+◌, ◌*◌, ◌≤◌, length, IsTrue};
 ghost use Rattle.ratio_core.specs.ManyProducts.{product_by};
 ghost use Rattle.ratio_integer.specs.Fraction.{ChecksLowest};
+ghost use Rattle.ratio_integer.specs.SignedBits.{greatest64, least64};
 ghost use Rattle.num_rational.specs.ManyProducts.{denominator_product, numerator_product, quotient_of_items};
 ghost use Rattle.ratio_c.specs.Many.{AreNotZero, AreOverPositive, IsQuotientOfMany};
-ghost use Rattle.ratio_c.specs.Numbers64.{fraction64, greatest64, least64, said64};
+ghost use Rattle.ratio_c.specs.Numbers64.{fraction64, said64};
 ghost use Rattle.ratio_c.specs.TotalReads.{AnswersOne};
 
 use crate::code::{DENOMINATOR_NOT_POSITIVE, DIVISION_BY_ZERO, MORE_ROOM};
-use crate::crossing::{checked_fields, refused};
+use crate::crossing::{checked, refused};
 use crate::each::{BAD_LENGTH, DONE};
 use crate::numbers64::{Answer64, Fraction64};
 use ratio_core::products::many_products;
@@ -76,7 +77,7 @@ fn quotient_answer(above: &[Fraction64], below: &[Fraction64], room: &mut [i64])
     if !are_not_zero(below) {
         return refused(DIVISION_BY_ZERO);
     }
-    checked_fields(quotient(above, below, room))
+    checked(quotient(above, below, room))
 }
 
 /// The product of the fractions above divided by each fraction below.

@@ -1,20 +1,18 @@
 // Written by templates/write from templates/numbers.rt.txt: change that file, and write this one anew.
-//! The structs of C with fractions of `i128`, and the exported calls over slices of them.
+//! The structs of C with fractions of `i128`, and the exported calls over slices of them, such as `ratio_add_i128`.
 ghost use Rattle.std.specs.Prelude.{true};
+ghost use Rattle.ratio_integer.specs.SignedBits.{greatest128, greatest32, greatest64, least128, least32, least64};
 ghost use Rattle.ratio_c.specs.Calls.{AnswersEach, IsAbsoluteAnswer, IsBetweenAnswer, IsCastAnswer, IsCeilingAnswer, IsConvergentAnswer, IsDifferenceAnswer, IsEqualAnswer, IsFloorAnswer, IsFromFloatAnswer, IsHashAnswer, IsLowestAnswer, IsNearestAnswer, IsNegationAnswer, IsOrderAnswer, IsPowerAnswer, IsProductAnswer, IsQuotientAnswer, IsRationalAnswer, IsReadAnswer, IsRemainderAnswer, IsRoundAnswer, IsRoundToAnswer, IsScaledAnswer, IsSumAnswer, IsToFloatAnswer, IsTruncationAnswer, SaysDecimal, SaysText, SaysTyped};
 ghost use Rattle.ratio_c.specs.Codes.{decimal_room128, room128};
 ghost use Rattle.ratio_c.specs.Crossing.{wide_number};
-ghost use Rattle.ratio_c.specs.Numbers128.{fraction128, greatest128, least128, said128};
-ghost use Rattle.ratio_c.specs.Numbers32.{greatest32, least32, said32};
-ghost use Rattle.ratio_c.specs.Numbers64.{greatest64, least64, said64};
+ghost use Rattle.ratio_c.specs.Numbers128.{fraction128, said128};
+ghost use Rattle.ratio_c.specs.Numbers32.{said32};
+ghost use Rattle.ratio_c.specs.Numbers64.{said64};
 ghost use Rattle.ratio_c.specs.Pairs.{IsGcdAnswer, IsLcmAnswer, IsProductToAnswer, IsQuotientToAnswer, IsRoundedProductAnswer};
 ghost use Rattle.ratio_c.specs.Texts.{Prints, ShowsDecimal, ShowsFields};
 
 use crate::arithmetic::{Difference, Product, Quotient, Remainder, Sum};
-use crate::between::Between;
-use crate::cast::Casting;
 use crate::compare::{Comparison, Equality, Order, Truth};
-use crate::convergent::ConvergentAt;
 use crate::crossing::{
     Bounded, FlaggedBounds, OneFraction, Parted, PartedPair, Placed, Pointed, Raised, Reply, Ruled,
     RuledPair, TwoFractions,
@@ -24,18 +22,16 @@ use crate::divisors::{CommonDivisor, CommonMultiple};
 use crate::each::each;
 use crate::floats::{Float, FromFloat, Rationalizing, ToFloat};
 use crate::hash::{Hash, Hashing};
-use crate::multiple::RoundingTo;
-use crate::multiple_pair::{ProductTo, QuotientTo};
-use crate::nearest::Nearest;
+use crate::near::{Between, ConvergentAt, Nearest};
 use crate::numbers32::Answer32;
 use crate::numbers64::Answer64;
-use crate::one_fraction::{Ceiling, Floor, LowestTerms, Raising, RoundingToWhole, Truncation};
+use crate::one_fraction::{
+    Absolute, Casting, Ceiling, Floor, LowestTerms, Negation, Raising, RoundingToWhole, Truncation,
+};
 use crate::printing::{Fields, Text, print};
-use crate::reading::{Fractions, Reading, Span};
-use crate::rounded_product::RoundedProduct;
+use crate::reading::{Fractions, Reading, Span, TypedTexts};
+use crate::rounded::{ProductTo, QuotientTo, RoundedProduct, RoundingTo};
 use crate::scaled::{Scaled, Scaling};
-use crate::sign::{Absolute, Negation};
-use crate::typed::TypedTexts;
 use crate::wide::Wide;
 
 /// The room for a text: a slash, and two numbers of at most 40 bytes.

@@ -1,21 +1,19 @@
 // Written by templates/write from templates/numbers.rt.txt: change that file, and write this one anew.
-//! The structs of C with fractions of `i64`, and the exported calls over slices of them.
+//! The structs of C with fractions of `i64`, and the exported calls over slices of them, such as `ratio_add_i64`.
 ghost use Rattle.std.specs.Prelude.{true};
+ghost use Rattle.ratio_integer.specs.SignedBits.{greatest128, greatest32, greatest64, least128, least32, least64};
 ghost use Rattle.ratio_c.specs.Calls.{AnswersEach, IsAbsoluteAnswer, IsBetweenAnswer, IsCastAnswer, IsCeilingAnswer, IsConvergentAnswer, IsDifferenceAnswer, IsEqualAnswer, IsFloorAnswer, IsFromFloatAnswer, IsHashAnswer, IsLowestAnswer, IsNearestAnswer, IsNegationAnswer, IsOrderAnswer, IsPowerAnswer, IsProductAnswer, IsQuotientAnswer, IsRationalAnswer, IsReadAnswer, IsRemainderAnswer, IsRoundAnswer, IsRoundToAnswer, IsScaledAnswer, IsSumAnswer, IsToFloatAnswer, IsTruncationAnswer, SaysDecimal, SaysText, SaysTyped};
 ghost use Rattle.ratio_c.specs.Codes.{decimal_room64, room64};
 ghost use Rattle.ratio_c.specs.Crossing.{wide_number};
 ghost use Rattle.ratio_c.specs.LowestHash.{IsLowestHashAnswer};
-ghost use Rattle.ratio_c.specs.Numbers64.{fraction64, greatest64, least64, said64};
-ghost use Rattle.ratio_c.specs.Numbers32.{greatest32, least32, said32};
-ghost use Rattle.ratio_c.specs.Numbers128.{greatest128, least128, said128};
+ghost use Rattle.ratio_c.specs.Numbers64.{fraction64, said64};
+ghost use Rattle.ratio_c.specs.Numbers32.{said32};
+ghost use Rattle.ratio_c.specs.Numbers128.{said128};
 ghost use Rattle.ratio_c.specs.Pairs.{IsGcdAnswer, IsLcmAnswer, IsProductToAnswer, IsQuotientToAnswer, IsRoundedProductAnswer};
 ghost use Rattle.ratio_c.specs.Texts.{Prints, ShowsDecimal, ShowsFields};
 
 use crate::arithmetic::{Difference, Product, Quotient, Remainder, Sum};
-use crate::between::Between;
-use crate::cast::Casting;
 use crate::compare::{Comparison, Equality, Order, Truth};
-use crate::convergent::ConvergentAt;
 use crate::crossing::{
     Bounded, FlaggedBounds, OneFraction, Parted, PartedPair, Placed, Pointed, Raised, Reply, Ruled,
     RuledPair, TwoFractions,
@@ -24,20 +22,17 @@ use crate::decimal::{DecimalTexts, Decimals};
 use crate::divisors::{CommonDivisor, CommonMultiple};
 use crate::each::each;
 use crate::floats::{Float, FromFloat, Rationalizing, ToFloat};
-use crate::hash::{Hash, Hashing};
-use crate::lowest_hash::LowestHashing;
-use crate::multiple::RoundingTo;
-use crate::multiple_pair::{ProductTo, QuotientTo};
-use crate::nearest::Nearest;
+use crate::hash::{Hash, Hashing, LowestHashing};
+use crate::near::{Between, ConvergentAt, Nearest};
 use crate::numbers32::Answer32;
 use crate::numbers128::Answer128;
-use crate::one_fraction::{Ceiling, Floor, LowestTerms, Raising, RoundingToWhole, Truncation};
+use crate::one_fraction::{
+    Absolute, Casting, Ceiling, Floor, LowestTerms, Negation, Raising, RoundingToWhole, Truncation,
+};
 use crate::printing::{Fields, Text, print};
-use crate::reading::{Fractions, Reading, Span};
-use crate::rounded_product::RoundedProduct;
+use crate::reading::{Fractions, Reading, Span, TypedTexts};
+use crate::rounded::{ProductTo, QuotientTo, RoundedProduct, RoundingTo};
 use crate::scaled::{Scaled, Scaling};
-use crate::sign::{Absolute, Negation};
-use crate::typed::TypedTexts;
 
 /// The room for a text: a slash, and two numbers of at most 20 bytes.
 pub const ROOM: usize = 41;

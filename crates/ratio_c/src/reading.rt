@@ -1,12 +1,13 @@
-//! Reading fractions from texts, each from a span of bytes.
+//! Reading fractions, each from a span of bytes: from texts such as `-2/4`, and from what a person types.
 ghost use Rattle.std.specs.Prelude.{◌≡◌, ℕ, List};
-ghost use Rattle.ratio_c.specs.Calls.{IsReadAnswer, IsWideRefusal, SaysText};
+ghost use Rattle.ratio_c.specs.Calls.{IsReadAnswer, IsWideRefusal, SaysText, SaysTyped};
 ghost use Rattle.ratio_c.specs.Crossing.{Said, said_by};
 
 use crate::code::{ANSWERED, NO_TEXT, NOT_HELD, PARSE_ERROR, ZERO_DENOMINATOR};
 use crate::crossing::{Digest, Reply, refused};
 use crate::each::Call;
 use num_rational::{Ratio, RatioErrorKind};
+use ratio_decimal::{TextRefusal, from_text};
 use std::marker::PhantomData;
 
 /// The places where a text starts and ends.
@@ -62,7 +63,7 @@ pub struct Fractions<T> {
 }
 
 impl<T> Fractions<T> {
-    /// The reader over the type `T`.
+    /// The reader of texts such as `-2/4`, over the type `T`.
     #[inline(always)]
     pub fn new() -> Fractions<T> {
         Fractions {
@@ -98,5 +99,36 @@ fn wide_refusal(text: &str) -> u32
             RatioErrorKind::ParseError => PARSE_ERROR,
             RatioErrorKind::ZeroDenominator => ZERO_DENOMINATOR,
         },
+    }
+}
+
+/// The reader of texts such as `3/4`, `-0.5`, `-1 1/2` and `12.5%`, over the type `T`.
+#[derive(Drop)]
+pub struct TypedTexts<T> {
+    marker: PhantomData<T>,
+}
+
+impl<T> TypedTexts<T> {
+    /// The reader of what a person types, over the type `T`.
+    #[inline(always)]
+    pub fn new() -> TypedTexts<T> {
+        TypedTexts {
+            marker: PhantomData,
+        }
+    }
+}
+
+impl<T: Digest> Reader for TypedTexts<T> {
+    type Inside = T;
+
+    ghost says = { SaysTyped T.lo T.hi };
+
+    fn read(&self, text: &str) -> Result<(T, T), u32> {
+        match from_text::<T>(text) {
+            Ok(x) => Ok((x.0, x.1)),
+            Err(TextRefusal::NotNumber) => Err(PARSE_ERROR),
+            Err(TextRefusal::ZeroDenominator) => Err(ZERO_DENOMINATOR),
+            Err(TextRefusal::NotHeld) => Err(NOT_HELD),
+        }
     }
 }

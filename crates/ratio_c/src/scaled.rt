@@ -1,13 +1,13 @@
-//! Fractions from numbers with a decimal scale, as databases keep them.
+//! Fractions from numbers with a decimal scale, as databases keep them: 25/2 from 1250 with the scale 2.
 ghost use Rattle.std.specs.Prelude.{◌≡◌, ◌^◌, ◌≤◌, pos};
 ghost use Rattle.ratio_integer.specs.Fraction.{ChecksLowest};
 ghost use Rattle.ratio_c.specs.Calls.{IsScaledAnswer};
 ghost use Rattle.ratio_c.specs.Crossing.{wide_number};
 
-use crate::cast::cast;
 use crate::code::BAD_OPTION;
-use crate::crossing::{Digest, Reply, checked_fields, refused};
+use crate::crossing::{Digest, Reply, checked, refused};
 use crate::each::Call;
+use crate::one_fraction::cast;
 use crate::wide::Wide;
 use ratio_integer::lowest_terms;
 use std::marker::PhantomData;
@@ -27,7 +27,7 @@ pub struct Scaling<T> {
 }
 
 impl<T> Scaling<T> {
-    /// The call for the type `T`.
+    /// The call that makes fractions of the type `T` from numbers with a scale.
     #[inline(always)]
     pub fn new() -> Scaling<T> {
         Scaling {
@@ -45,7 +45,7 @@ impl<T: Digest, A: Reply<T>> Call<Scaled, A> for Scaling<T> {
             return refused(BAD_OPTION);
         }
         let n = x.number.number();
-        checked_fields(from_scaled::<T>(n, x.scale.unsigned_abs()))
+        checked(from_scaled::<T>(n, x.scale.unsigned_abs()))
     }
 }
 

@@ -1,7 +1,8 @@
 //! Calls for C on pairs whose fractions lie apart in memory, such as the answers of another call.
 ghost use Rattle.std.specs.Prelude.{◌≡◌, ◌+◌, ◌*◌, ◌<◌, ◌↔◌, length, IsTrue};
+ghost use Rattle.ratio_integer.specs.SignedBits.{greatest64, least64};
 ghost use Rattle.ratio_c.specs.Calls.{IsDifferenceAnswer, IsOrderAnswer, IsProductAnswer, IsQuotientAnswer, IsSumAnswer};
-ghost use Rattle.ratio_c.specs.Numbers64.{fraction64, greatest64, least64, said64};
+ghost use Rattle.ratio_c.specs.Numbers64.{fraction64, said64};
 ghost use Rattle.ratio_c.specs.Strided.{AnswersStrided, Reaches, strided};
 
 use crate::arithmetic::{Difference, Product, Quotient, Sum};

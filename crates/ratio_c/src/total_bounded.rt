@@ -5,10 +5,10 @@ ghost use Rattle.ratio_c.specs.TotalReads.{PrintsOne};
 
 use crate::code::{ANSWERED, BAD_OPTION, MORE_ROOM, NOT_HELD};
 use crate::each::{BAD_LENGTH, DONE};
-use crate::multiple::rule_of;
 use crate::printing::{Text, no_text};
 use crate::reading::Span;
-use ratio_totals::{Slot, put_bounded_of};
+use crate::rounded::rule_of;
+use ratio_slots::{Slot, put_bounded_of};
 
 /// The sum of the slots as a decimal, which ends where `texts` ends, from the bounds of the sum.
 fn bounded_answer(

@@ -7,7 +7,7 @@ use crate::code::ANSWERED;
 use crate::each::{BAD_LENGTH, DONE};
 use crate::floats::Float;
 use crate::total_reads::code_of;
-use ratio_totals::{Slot, float_of};
+use ratio_slots::{Slot, float_of};
 
 /// The float nearest to the sum of the slots.
 fn float_answer(slots: &[Slot], room: &mut [u64]) -> Float

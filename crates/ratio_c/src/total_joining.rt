@@ -5,7 +5,7 @@ ghost use Rattle.ratio_c.specs.TotalReads.{WritesOne};
 
 use crate::code::{ANSWERED, MORE_ROOM, NO_TOTAL, TOO_LONG};
 use crate::each::{BAD_LENGTH, DONE};
-use ratio_totals::{JoinRefusal, Joined, Slot};
+use ratio_slots::{JoinRefusal, Joined, Slot};
 
 /// How far a read in steps has come, and what the last step said. If no slot is joined and there are no digits, the read has not begun.
 #[repr(C)]

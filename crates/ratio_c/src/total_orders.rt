@@ -1,12 +1,12 @@
 //! The calls for C that compare two totals, and the room that this needs.
 ghost use Rattle.std.specs.Prelude.{◌≡◌, ◌++◌, length};
-ghost use Rattle.ratio_totals.specs.Common.{read_digits};
+ghost use Rattle.ratio_slots.specs.Common.{read_digits};
 ghost use Rattle.ratio_c.specs.TotalOrders.{IsOrderOfTotals, OrdersOne, code_of_order};
 
 use crate::code::{ANSWERED, MORE_ROOM, NOT_HELD, TOO_LONG};
 use crate::compare::{Order, number_of};
 use crate::each::{BAD_LENGTH, DONE};
-use ratio_totals::{OrderRefusal, Slot, digits_of_order, order_of};
+use ratio_slots::{OrderRefusal, Slot, digits_of_order, order_of};
 
 /// The code of a comparison that was refused.
 fn code_of(why: OrderRefusal) -> u32

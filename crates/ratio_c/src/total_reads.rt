@@ -1,23 +1,26 @@
-//! The calls for C that read a total, and the room that these need: its empty slots, its sum, its mean, its sign and its decimal.
+//! The calls for C that read a total, and the room that these need: its empty slots, its sum, its mean, its sign, its decimal, and the
+//! multiple of `1/parts` near it.
 ghost use Rattle.std.specs.Prelude.{◌≡◌, length};
-ghost use Rattle.ratio_totals.specs.Common.{read_digits};
-ghost use Rattle.ratio_totals.specs.DecimalRoom.{decimal_bytes, decimal_digits};
-ghost use Rattle.ratio_totals.specs.Merging.{free_of};
+ghost use Rattle.ratio_slots.specs.Common.{read_digits};
+ghost use Rattle.ratio_slots.specs.DecimalRoom.{decimal_bytes, decimal_digits};
+ghost use Rattle.ratio_slots.specs.Merging.{free_of};
+ghost use Rattle.ratio_slots.specs.Multiples.{multiple_digits};
 ghost use Rattle.ratio_c.specs.Numbers64.{said64};
+ghost use Rattle.ratio_c.specs.TotalMultiples.{IsMultipleOfTotal};
 ghost use Rattle.ratio_c.specs.TotalReads.{AnswersOne, IsDecimalOfTotal, IsMeanOfTotal, IsSignOfTotal, IsSumOfTotal, Narrows, PrintsOne, code_of_read};
 
-use crate::cast::cast;
 use crate::code::{ANSWERED, BAD_OPTION, DIVISION_BY_ZERO, MORE_ROOM, TOO_LONG};
 use crate::compare::{Order, number_of};
-use crate::crossing::{checked_fields, refused};
+use crate::crossing::{checked, refused};
 use crate::each::{BAD_LENGTH, DONE};
-use crate::multiple::rule_of;
 use crate::numbers64::Answer64;
+use crate::one_fraction::cast;
 use crate::printing::{Text, no_text};
 use crate::reading::Span;
-use ratio_totals::{
-    ReadRefusal, Slot, count_free, decimal_bytes_of, decimal_digits_of, digits_of_read, mean_of,
-    put_decimal_of, sign_of, sum_of,
+use crate::rounded::rule_of;
+use ratio_slots::{
+    ReadRefusal, Slot, count_free, decimal_bytes_of, decimal_digits_of, digits_of_multiple,
+    digits_of_read, mean_of, multiple_of, put_decimal_of, sign_of, sum_of,
 };
 
 /// The code of a read that was refused.
@@ -45,7 +48,7 @@ fn sum_answer(slots: &[Slot], room: &mut [u64]) -> Answer64
     ensures { IsSumOfTotal slots.now (length room.old) (said64 result) }
 {
     match sum_of(slots, room) {
-        Ok(sum) => checked_fields(narrowed(sum)),
+        Ok(sum) => checked(narrowed(sum)),
         Err(why) => refused(code_of(why)),
     }
 }
@@ -58,7 +61,7 @@ fn mean_answer(slots: &[Slot], count: i64, room: &mut [u64]) -> Answer64
         return refused(DIVISION_BY_ZERO);
     }
     match mean_of(slots, count, room) {
-        Ok(mean) => checked_fields(narrowed(mean)),
+        Ok(mean) => checked(narrowed(mean)),
         Err(why) => refused(code_of(why)),
     }
 }
@@ -193,5 +196,47 @@ pub extern "C" fn ratio_total_print_i64(
         return BAD_LENGTH;
     }
     answers[0] = print_answer(slots, places, rule, room, texts);
+    DONE
+}
+
+/// The multiple of `1/parts` that the rule says of the sum of the slots.
+fn multiple_answer(slots: &[Slot], parts: i64, rule: u32, room: &mut [u64]) -> Answer64
+    ensures { IsMultipleOfTotal slots.now parts rule (length room.old) (said64 result) }
+{
+    if parts <= 0 {
+        return refused(BAD_OPTION);
+    }
+    let Some(rounding) = rule_of(rule) else {
+        return refused(BAD_OPTION);
+    };
+    match multiple_of(slots, parts as u64, rounding, room) {
+        Ok(multiple) => checked(narrowed(multiple)),
+        Err(why) => refused(code_of(why)),
+    }
+}
+
+/// How many digits of room a multiple needs.
+#[unsafe(no_mangle)]
+pub extern "C" fn ratio_total_round_to_digits_i64(slots: &[Slot]) -> u64
+    ensures { result ≡ multiple_digits slots.now }
+{
+    digits_of_multiple(slots) as u64
+}
+
+/// The multiple of `1/parts` that a rule says of the sum.
+#[unsafe(no_mangle)]
+pub extern "C" fn ratio_total_round_to_i64(
+    slots: &[Slot],
+    parts: i64,
+    rule: u32,
+    room: &mut [u64],
+    answers: &mut [Answer64],
+) -> u32
+    ensures { AnswersOne (λ answer. IsMultipleOfTotal slots.now parts rule (length room.old) (said64 answer)) room.old room.new answers.old answers.new result }
+{
+    if answers.len() != 1 {
+        return BAD_LENGTH;
+    }
+    answers[0] = multiple_answer(slots, parts, rule, room);
     DONE
 }

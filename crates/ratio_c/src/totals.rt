@@ -1,15 +1,14 @@
 //! The struct `Total64`, the header of a total, and how items, or the slots of another total, go into its slots one after another, until one is stopped.
 ghost use Rattle.std.specs.Prelude.{◌≡◌, ◌+ℤ◌, Option, IfErr, IfOk, MatchOption, OnErr};
-ghost use Rattle.ratio_integer.specs.Range.{IsHeld};
-ghost use Rattle.ratio_totals.specs.Sums.{Has128Bits};
-ghost use Rattle.ratio_c.specs.Numbers64.{greatest64, least64};
+ghost use Rattle.ratio_integer.specs.SignedBits.{IsHeld64};
+ghost use Rattle.ratio_slots.specs.Sums.{Has128Bits};
 ghost use Rattle.ratio_c.specs.Totals.{AddsCount, ChangesOne, GoesOver, GoUntil, IsStoppedFor, Merges, code_of_stop, piece_of_fraction, piece_of_slot, directed};
 
 use crate::code::{ANSWERED, DENOMINATOR_NOT_POSITIVE, MORE_ROOM, NO_TOTAL, NOT_HELD};
 use crate::each::{BAD_LENGTH, DONE};
 use crate::numbers64::Fraction64;
 use ratio_integer::Integer;
-use ratio_totals::{LooseRefusal, Slot, put_loose};
+use ratio_slots::{LooseRefusal, Slot, put_loose};
 
 /// What the last call did to a total, and how many fractions are in it. Its fractions are in its slots.
 #[repr(C)]
@@ -55,6 +54,7 @@ pub trait Brings {
     // What it brings; none if its denominator is not positive.
     ghost brings: { Self → Option Piece };
 
+    /// What it brings, or `None` if its denominator is not positive.
     fn brings(&self) -> Option<Piece>
         ensures { result ≡ brings self.now };
 }
@@ -102,7 +102,7 @@ fn way_of(way: Way, n: i128) -> Option<i128>
 /// The count after so many more fractions went in, or went out; `None` if it does not fit.
 #[inline(always)]
 fn counted(way: Way, count: i64, more: i64) -> Option<i64>
-    ensures { MatchOption result (¬ (IsHeld least64 greatest64 (count +ℤ directed way more))) (λ new. new ≡ count +ℤ directed way more) }
+    ensures { MatchOption result (¬ (IsHeld64 (count +ℤ directed way more))) (λ new. new ≡ count +ℤ directed way more) }
 {
     let sum = match way {
         Way::In => count as i128 + more as i128,

@@ -1,4 +1,5 @@
-//! The program: the calculator on standard input and standard output, and its status.
+//! The program `ratio_calc`, which `./calc` runs, over `ratio_lines`: the line calculator on standard input and standard output, and its
+//! status.
 #![tactic(auto)]
 
 ghost use Rattle.std.specs.Prelude.{◌≡◌, MatchResult};

@@ -4,7 +4,7 @@ use Rattle.std.specs.Fmt.{decimal}
 use lib.Ieee.Fits.{and_l, and_r}
 use lib.Seq.{drop_at, drop-drop, length-take-le}
 use borrow.Rule.Slice.PartMut.{put_mid}
-use Rattle.ratio_core.specs.Printing.{last_digits}
+use Rattle.ratio_integer.specs.LastDigits.{last_digits}
 use Rattle.ratio_core.specs.declared.text.TheConstants.{TWO_DIGITS}
 use Rattle.std.proofs.lemmas.Fmt.{decimal_digit, decimal_step_wide, length-decimal-le_wide}
 use Rattle.std.proofs.lemmas.List.{drop_more, drop-set}

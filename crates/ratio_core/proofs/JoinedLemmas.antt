@@ -1,15 +1,16 @@
--- The lowest terms of a sum over the product of two denominators, divided by their greatest common divisor and by what is left in common.
+-- The lowest terms of a sum over the product or the least common multiple of two denominators, and of a difference of 1 over the product.
 use Rattle.std.specs.Prelude.{◌≡◌, ◌≢◌, ◌≤ℤ◌, ◌<ℤ◌, ◌+ℤ◌, ◌-ℤ◌, ◌*ℤ◌, ℤ, pos, neg_ℤ, unsigned_abs, int_div}
 use Rattle.std.specs.Int.{◌∣◌}
 use Rattle.std.proofs.Common.{refl, sym, ap, subst, inl, inr, arith, ◌∙◌}
 use Rattle.std.proofs.lemmas.Int.{ints}
-use Rattle.std.proofs.Math.Nat.{dvd_refl, one-dvd}
+use Rattle.std.proofs.Math.Nat.{dvd_refl, eq-one_of_dvd-one, one-dvd}
 use lib.IntN.{*ℤ-one, *ℤ_comm, one, zero-*ℤ}
 use Rattle.ratio_integer.specs.Division.{IsGcdAboveMax, IsGcdOf, IsMultiple}
 use Rattle.ratio_integer.specs.Fraction.{IsCancelledOf, IsHeldLowest, IsLowestTerms, IsLowestTermsOf}
 use Rattle.ratio_integer.specs.Range.{IsHeld}
 use Rattle.ratio_integer.proofs.CommonDivisors.{multiple_divides}
 use Rattle.ratio_integer.proofs.LcmLemmas.{exact_quotient}
+use Rattle.ratio_integer.proofs.LowestTerms.{lowest_own}
 use Rattle.ratio_integer.proofs.Whole.{add-mul, mul_assoc, mul_cancel, mul_positive, mul-swap_inner, neg-mul, positive_nonzero, sub-mul, unsigned_abs-neg}
 use Rattle.ratio_core.specs.Joined.{IsCutBy, IsOverProduct}
 use Rattle.ratio_core.proofs.PartsSumLemmas.{are_shares, gcd_positive, lowest}
@@ -31,9 +32,6 @@ times-one n d single = ap (λ (z : ℤ). n *ℤ z) single ∙ *ℤ-one n
 pub exact_by : (n g q : ℤ) → unsigned_abs g ∣ unsigned_abs n → q ≡ int_div n g → q *ℤ g ≡ n
 exact_by n g q divides q_is = ap (λ (z : ℤ). z *ℤ g) q_is ∙ exact_quotient n g divides
 
-pub product_positive : (n m b d : ℤ) → IsOverProduct n m b d → pos 0 <ℤ m
-product_positive n m b d joined = rw joined.denom (mul_positive b d joined.left_lowest.positive joined.right_lowest.positive)
-
 -- n/m is joined over b and d, and g is the greatest common divisor of b and d
 module _ (n m b d g : ℤ) (joined : IsOverProduct n m b d) (is : IsGcdOf b d g) where
   abbrev x : ℤ
@@ -42,7 +40,7 @@ module _ (n m b d g : ℤ) (joined : IsOverProduct n m b d) (is : IsGcdOf b d g)
   abbrev y : ℤ
   y = int_div d g
 
-  pub divisor_positive : pos 0 <ℤ g
+  divisor_positive : pos 0 <ℤ g
   divisor_positive = gcd_positive b d g joined.right_lowest.positive is
 
   x_is : x *ℤ g ≡ b
@@ -63,21 +61,6 @@ module _ (n m b d g : ℤ) (joined : IsOverProduct n m b d) (is : IsGcdOf b d g)
 
   product_is : ((x *ℤ y) *ℤ g) *ℤ g ≡ m
   product_is = mul_assoc (x *ℤ y) g g ∙ mul-swap_inner x y g g ∙ ap (λ (z : ℤ). z *ℤ (y *ℤ g)) x_is ∙ ap (λ (z : ℤ). b *ℤ z) y_is ∙ sym joined.denom
-
-  -- g divides n and m
-  pub numer_quotient : (q : ℤ) → q ≡ int_div n g → q *ℤ g ≡ n
-  numer_quotient q q_is = exact_by n g q (multiple_divides n g (s, sym sum_is)) q_is
-
-  pub denom_quotient : (q : ℤ) → q ≡ int_div m g → q *ℤ g ≡ m
-  denom_quotient q q_is = exact_by m g q (multiple_divides m g ((x *ℤ y) *ℤ g, sym product_is)) q_is
-
-  -- what divides g divides m over g
-  pub left_quotient : (denom h : ℤ) → denom *ℤ g ≡ m → (numer : ℤ) → IsGcdOf numer g h → (q : ℤ) → q ≡ int_div denom h → q *ℤ h ≡ denom
-  left_quotient denom h denom_is numer left q q_is =
-      let whole : (x *ℤ y) *ℤ g ≡ denom = mul_cancel ((x *ℤ y) *ℤ g) denom g (positive_nonzero g divisor_positive) (product_is ∙ sym denom_is) in
-      let part : int_div g h *ℤ h ≡ g = exact_quotient g h left.divisor.1 in
-      let multiple : denom ≡ ((x *ℤ y) *ℤ int_div g h) *ℤ h = sym whole ∙ ap (λ (z : ℤ). (x *ℤ y) *ℤ z) (sym part) ∙ sym (mul_assoc (x *ℤ y) (int_div g h) h) in
-      exact_by denom h q (multiple_divides denom h ((x *ℤ y) *ℤ int_div g h, multiple)) q_is
 
   -- n and m divided by g, and then by the greatest common divisor h of the first quotient and g
   module _ (numer denom h u v : ℤ) (numer_is : numer *ℤ g ≡ n) (denom_is : denom *ℤ g ≡ m) (left : IsGcdOf numer g h) (u_is : u *ℤ h ≡ numer) (v_is : v *ℤ h ≡ denom) where
@@ -123,15 +106,15 @@ module _ (n m b d g : ℤ) (joined : IsOverProduct n m b d) (is : IsGcdOf b d g)
         let under = subst (λ (z : ℤ). IsLowestTermsOf (joined.left *ℤ d +ℤ joined.right *ℤ b) (b *ℤ d) u z) third over in
         rw (joined.numer, joined.denom) under
 
-    pub joined_held : (lo hi : ℤ) → IsHeld lo hi u → IsHeld lo hi v → IsHeldLowest lo hi n m u v
+    joined_held : (lo hi : ℤ) → IsHeld lo hi u → IsHeld lo hi v → IsHeldLowest lo hi n m u v
     joined_held lo hi u_held v_held = record { terms = joined_lowest; numer_held = u_held; denom_held = v_held }
 
 -- a number and its opposite have the same divisors
-pub opposite_lowest : (a b : ℤ) → IsLowestTerms a b → IsLowestTerms (neg_ℤ a) b
+opposite_lowest : (a b : ℤ) → IsLowestTerms a b → IsLowestTerms (neg_ℤ a) b
 opposite_lowest a b low = record { positive = low.positive; only_one = rw (unsigned_abs-neg a) low.only_one }
 
 -- a difference is the sum with the opposite of the right side
-pub joined_difference : (n m a b c d : ℤ) → IsLowestTerms a b → IsLowestTerms c d → n ≡ a *ℤ d -ℤ c *ℤ b → m ≡ b *ℤ d → IsOverProduct n m b d
+joined_difference : (n m a b c d : ℤ) → IsLowestTerms a b → IsLowestTerms c d → n ≡ a *ℤ d -ℤ c *ℤ b → m ≡ b *ℤ d → IsOverProduct n m b d
 joined_difference n m a b c d first second numer denom = record {
   left = a;
   right = neg_ℤ c;
@@ -140,6 +123,12 @@ joined_difference n m a b c d first second numer denom = record {
   numer = numer ∙ ap (λ (z : ℤ). a *ℤ d +ℤ z) (sym (neg-mul c b));
   denom = denom;
 }
+
+-- a difference of 1 or -1 over the product of the denominators is in lowest terms
+pub one_apart : (a b c d n : ℤ) → IsLowestTerms a b → IsLowestTerms c d → n ≡ a *ℤ d -ℤ c *ℤ b → unsigned_abs n ≡ 1 → IsLowestTermsOf (a *ℤ d -ℤ c *ℤ b) (b *ℤ d) n (b *ℤ d)
+one_apart a b c d n left right n_is one =
+    let low : IsLowestTerms n (b *ℤ d) = record { positive = mul_positive b d left.positive right.positive; only_one = λ k p q. eq-one_of_dvd-one (rw one at p) } in
+    subst (λ (z : ℤ). IsLowestTermsOf z (b *ℤ d) n (b *ℤ d)) n_is (lowest_own n (b *ℤ d) low)
 
 -- ---- over the least common denominator
 

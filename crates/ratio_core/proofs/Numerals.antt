@@ -153,14 +153,8 @@ glyphs_below (suc n) d t h =
 pub glyphs : (d : ℕ) → d < 16 → (get_or LOWER d 0 ≡ digit_glyph false d) × (get_or UPPER d 0 ≡ digit_glyph true d)
 glyphs d h = glyphs_below 16 d tt h
 
-pub numeral_zero : (b n : ℕ) (upper : Bool) → n ≡ 0 → numeral b upper n ≡ 48 ∷ []
-numeral_zero b n upper none = rw none refl
-
 not_zero : (n : ℕ) → 0 < n → (n == 0) ≡ false
 not_zero n some = ne_eqb n 0 (λ none. omega (arith, none, some))
-
-pub numeral_digits : (b n : ℕ) (upper : Bool) → 0 < n → numeral b upper n ≡ map (digit_glyph upper) (digits_of b n)
-numeral_digits b n upper some = ap (λ none. cond none (48 ∷ []) (map (digit_glyph upper) (digits_of b n))) (not_zero n some)
 
 -- ---- the bytes are ASCII
 

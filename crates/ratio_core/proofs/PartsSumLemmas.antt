@@ -160,28 +160,43 @@ pub never_gcd_above_max : (hi n d : ℤ) → pos 2 ≤ℤ hi → pos 0 ≤ℤ n 
 never_gcd_above_max hi n d high some positive (inl t) = let e = t.0 in absurd (omega (arith, ints))
 never_gcd_above_max hi n d high some positive (inr t) = let e = t.1 in absurd (omega (arith, ints))
 
-module _ (p b r d g x y : ℤ) (left : IsLowestTerms p b) (right : IsLowestTerms r d) (is : IsGcdOf b d g) (x-is : x ≡ int_div b g) (y-is : y ≡ int_div d g) where
-  pub left_share : x *ℤ g ≡ b
-  left_share = ap (λ (z : ℤ). z *ℤ g) x-is ∙ exact_quotient b g is.divisor.0
+-- x and y are b and d divided by g
+pub record Shares (b d g x y : ℤ) : Type 0 where
+  pub left : x *ℤ g ≡ b
+  pub right : y *ℤ g ≡ d
+  pub left_positive : pos 0 <ℤ x
+  pub right_positive : pos 0 <ℤ y
+  pub divisor : pos 0 <ℤ g
 
-  pub right_share : y *ℤ g ≡ d
-  right_share = ap (λ (z : ℤ). z *ℤ g) y-is ∙ exact_quotient d g is.divisor.1
+module _ (p b r d g x y : ℤ) (left : IsLowestTerms p b) (right : IsLowestTerms r d) (is : IsGcdOf b d g) (x-is : x ≡ int_div b g) (y-is : y ≡ int_div d g) where
+  pub shares : Shares b d g x y
+  shares =
+      let first : x *ℤ g ≡ b = ap (λ (z : ℤ). z *ℤ g) x-is ∙ exact_quotient b g is.divisor.0 in
+      let second : y *ℤ g ≡ d = ap (λ (z : ℤ). z *ℤ g) y-is ∙ exact_quotient d g is.divisor.1 in
+      let divisor = gcd_positive b d g right.positive is in
+      record {
+        left = first;
+        right = second;
+        left_positive = positive_factor x g divisor (rw first left.positive);
+        right_positive = positive_factor y g divisor (rw second right.positive);
+        divisor = divisor;
+      }
 
   pub are_shares : (t s m f : ℤ) → p *ℤ y +ℤ r *ℤ x ≡ t *ℤ g +ℤ s → (cut : IsCancelledOf s g m f) → AreShares p b r d g x y t s cut.divisor m f
   are_shares t s m f sum cut =
-      let positive : pos 0 <ℤ g = gcd_positive b d g right.positive is in
+      let of = shares in
       record {
-        b_is = left_share;
-        d_is = right_share;
+        b_is = of.left;
+        d_is = of.right;
         s_is = cut.numer;
         g_is = cut.denom;
         sum = sum;
         apart = cancelled_coprime b d x y (positive_nonzero d right.positive) (cancelled_quotients b d g x y is x-is y-is);
-        rest = cancelled_coprime s g m f (positive_nonzero g positive) cut;
+        rest = cancelled_coprime s g m f (positive_nonzero g of.divisor) cut;
         left = left;
         right = right;
-        divisor = positive;
-        rest_divisor = gcd_positive s g cut.divisor positive cut.greatest;
+        divisor = of.divisor;
+        rest_divisor = gcd_positive s g cut.divisor of.divisor cut.greatest;
       }
 
   -- if x*y is out of range, so is the denominator of the lowest terms
@@ -202,9 +217,6 @@ pub rest_part : (s g h m f : ℤ) → IsPart s g → pos 0 <ℤ h → m *ℤ h �
 rest_part s g h m f rest positive s-is g-is =
     let b = rest.below in
     quotient_part s h m (pos 0) f (record { sum = omega (arith, ints); rest = record { above = omega (arith, ints); below = positive } }) rest.above (omega (arith, ints))
-
-pub share_positive : (x g b : ℤ) → pos 0 <ℤ g → pos 0 <ℤ b → x *ℤ g ≡ b → pos 0 <ℤ x
-share_positive x g b divisor positive is = positive_factor x g divisor (rw is positive)
 
 pub share_fits : (hi x g b : ℤ) → x *ℤ g ≡ b → b ≤ℤ hi → (g *ℤ x) ≤ℤ hi
 share_fits hi x g b is most = omega (arith, ints, *ℤ_comm g x)

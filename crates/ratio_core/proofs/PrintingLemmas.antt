@@ -1,6 +1,6 @@
 -- The bytes of a fraction's text, and how they are written from the last to the first.
-use Rattle.std.proofs.Common.{◌≡◌, ◌≢◌, ◌⊎◌, refl, sym, ◌∙◌, ap, inl, inr, arith, rules, ℕ, suc, ◌+◌, ◌-◌, ◌^◌, ◌<◌, ◌≤◌, Bool, true, false, cond, List, [], ◌∷◌, ◌++◌, length, drop, slice_set, ℤ, pos, negsuc, ◌+ℤ◌, ◌-ℤ◌, ◌≤ℤ◌, neg_ℤ, unsigned_abs, Option, Some, None, Result, Ok, Err, append-nil, length-set, lit<, lit≤}
-use Rattle.std.specs.Prelude.{IsAscii, IsSome, IsOk, MatchResult}
+use Rattle.std.proofs.Common.{◌≡◌, ◌≢◌, ◌⊎◌, refl, sym, ◌∙◌, ap, inl, inr, arith, rules, ℕ, suc, ◌+◌, ◌-◌, ◌^◌, ◌<◌, ◌≤◌, Bool, true, false, cond, List, [], ◌∷◌, ◌++◌, length, drop, slice_set, ℤ, pos, negsuc, ◌+ℤ◌, ◌-ℤ◌, ◌≤ℤ◌, neg_ℤ, unsigned_abs, Option, Some, None, append-nil, lit<, lit≤}
+use Rattle.std.specs.Prelude.{IsAscii, IsSome}
 use Rattle.std.specs.Fmt.{signed_decimal}
 use Rattle.std.specs.Ordering.{int_eq}
 use Rattle.std.proofs.Math.Nat.{pow-le-pow_right}
@@ -11,6 +11,7 @@ use Rattle.std.proofs.lemmas.List.{drop_all, drop-set}
 use Rattle.std.proofs.lemmas.Str.{IsAscii-append}
 use Rattle.std.proofs.lemmas.Str.Ascii.{IsAscii-cons, IsAscii-nil}
 use Rattle.ratio_integer.specs.Range.{Checks, IsHeld, IsRange}
+use Rattle.ratio_integer.specs.SignedBits.{IsHeld128, greatest128, least128}
 use Rattle.ratio_integer.proofs.DivisionLemmas.{low_below}
 use Rattle.ratio_core.specs.declared.text.Form.{Form}
 use Rattle.ratio_core.specs.declared.text.Form.TheVariants.{Binary, Decimal, LowerHex, Octal, UpperHex}
@@ -32,7 +33,7 @@ small_magnitude lo hi bits z range width held =
     magnitude_small lo hi z (2 ^ bits) (low_below lo hi range) range.high width.1 (power_small bits width.0) held.above held.below
 
 signed_held : (lo hi z p : ℤ) → (lo ≡ pos 0) ⊎ (lo ≡ neg_ℤ hi) ⊎ (lo ≡ neg_ℤ hi -ℤ pos 1) → hi +ℤ pos 1 ≡ lo +ℤ p → p ≤ℤ pos (2 ^ 128) → IsHeld lo hi z
-    → ¬ (IsHeld (pos 0) (pos (2 ^ 128 - 1)) z) → IsHeld (negsuc (2 ^ 127 - 1)) (pos (2 ^ 127 - 1)) z
+    → ¬ (IsHeld (pos 0) (pos (2 ^ 128 - 1)) z) → IsHeld128 z
 signed_held lo hi z p (inl h) width small held out =
     absurd (out (record { above = omega (arith, ints, h, held.above); below = omega (arith, ints, h, width, small, held.below) }))
 signed_held lo hi z p (inr (inl h)) width small held out =
@@ -46,10 +47,10 @@ some_of z lo hi (Some y) is held = search rules
 
 -- a number that does not fit `u128` fits `i128`
 pub signed_some : (lo hi : ℤ) (bits : ℕ) (z : ℤ) (r : Option ℤ) → IsRange lo hi → (bits ≤ 128) × (hi +ℤ pos 1 ≡ lo +ℤ pos (2 ^ bits)) → IsHeld lo hi z
-    → ¬ (IsHeld (pos 0) (pos (2 ^ 128 - 1)) z) → Checks (λ n. n) (negsuc (2 ^ 127 - 1)) (pos (2 ^ 127 - 1)) z r → IsSome r
+    → ¬ (IsHeld (pos 0) (pos (2 ^ 128 - 1)) z) → Checks (λ n. n) least128 greatest128 z r → IsSome r
 signed_some lo hi bits z r range width held out is =
     let small = power_small bits width.0 in
-    some_of z (negsuc (2 ^ 127 - 1)) (pos (2 ^ 127 - 1)) r is (signed_held lo hi z (pos (2 ^ bits)) range.low width.1 (omega (arith, ints, small)) held out)
+    some_of z least128 greatest128 r is (signed_held lo hi z (pos (2 ^ bits)) range.low width.1 (omega (arith, ints, small)) held out)
 
 -- ---- the bytes are ASCII
 
@@ -87,11 +88,6 @@ text_ascii lo hi bits form alternate n d range width n_held d_held =
     IsAscii-append _ _ prefix (IsAscii-append _ _ (number n n_held)
     (rest_ascii (int_eq d (pos 1)) _ (IsAscii-append _ _ prefix (number d d_held))))
 
--- if a call has only one reason to fail, and it is excluded, the call succeeds
-pub ok_from : {A E : Type 0} (r : Result A E) (P : A → Type 0) (Q : Type 0) (R : E → Type 0) → MatchResult r P (λ e. ¬ Q × R e) → Q → IsOk r
-ok_from (Ok x) P Q R h q = search rules
-ok_from (Err e) P Q R h q = absurd (h.0 q)
-
 -- ---- a text that is written from the last byte to the first
 
 module _ (bits : ℕ) (form : Form) (alternate : Bool) (n d : ℤ) where
@@ -122,12 +118,3 @@ module _ (bits : ℕ) (form : Form) (alternate : Bool) (n d : ℤ) where
       let slash_put : drop (at - 1) (slice_set back (at - 1) slash) ≡ slash ∷ drop (at - 1 + 1) back = drop-set back (at - 1) slash (omega (arith, long, same, low, high)) in
       numer ∙ ap before (slash_put ∙ ap (λ k. slash ∷ drop k back) back_at ∙ ap (λ xs. slash ∷ xs) denom_only
       ∙ ap (λ b. cond b [] back_text) (sym (not_one (int_eq d (pos 1)) refl other)))
-
--- a prefix of two bytes is written before `end`
-pub two_written : (x y end : ℕ) (buf : List ℕ) → 2 ≤ end → end ≤ length buf → drop (end - 2) (slice_set (slice_set buf (end - 1) y) (end - 2) x) ≡ x ∷ y ∷ drop end buf
-two_written x y end buf low inside =
-    let second : end - 2 + 1 ≡ end - 1 = omega (arith, low) in
-    let third : end - 1 + 1 ≡ end = omega (arith, low) in
-    let kept = length-set buf (end - 1) y in
-    drop-set (slice_set buf (end - 1) y) (end - 2) x (omega (arith, low, inside, kept)) ∙ ap (λ k. x ∷ drop k (slice_set buf (end - 1) y)) second
-    ∙ ap (λ xs. x ∷ xs) (drop-set buf (end - 1) y (omega (arith, low, inside)) ∙ ap (λ k. y ∷ drop k buf) third)

@@ -1,13 +1,10 @@
 -- Reciprocals, and powers with negative exponents.
-use Rattle.std.specs.Prelude.{◌≡◌, ◌≢◌, ◌⊎◌, ◌<ℤ◌, ◌-ℤ◌, ℕ, ℤ, zero, suc, pos, negsuc, neg_ℤ, unsigned_abs, Option, Some, None}
+use Rattle.std.specs.Prelude.{◌≡◌, ◌≢◌, ◌⊎◌, ◌<ℤ◌, ℕ, ℤ, zero, suc, pos, negsuc, neg_ℤ, unsigned_abs, Option, Some, None}
 use Rattle.std.specs.Int.{int_pow}
 use Rattle.std.proofs.Common.{refl, arith, inl, inr}
 use Rattle.std.proofs.lemmas.Int.{ints}
 use Rattle.ratio_core.specs.Power.{ChecksPower, ChecksReciprocal, IsPower, IsReciprocal, PowerCondition, PowersHeld}
 use Rattle.ratio_core.proofs.PowerLemmas.{pow_above}
-
-pub minus_is : (z : ℤ) → pos 0 -ℤ z ≡ neg_ℤ z
-minus_is z = omega (arith, ints)
 
 pub reciprocal_negative : (n d a b : ℤ) → n <ℤ pos 0 → a ≡ neg_ℤ d → b ≡ neg_ℤ n → IsReciprocal n d a b
 reciprocal_negative n d a b h ea eb = record { positive = λ k. absurd (omega (arith, ints)); negative = λ k. (ea, eb) }

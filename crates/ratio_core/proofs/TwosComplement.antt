@@ -4,6 +4,7 @@ use Rattle.std.specs.Prelude.{IsSome}
 use Rattle.std.proofs.Math.Nat.{pow-le-pow_right}
 use Rattle.std.proofs.lemmas.Int.{ints}
 use Rattle.ratio_integer.specs.Range.{Checks, IsHeld, IsRange}
+use Rattle.ratio_integer.specs.SignedBits.{greatest128}
 use Rattle.ratio_core.specs.Printing.{twos_complement}
 
 -- z is below 0, and in range for a signed type of this width
@@ -11,7 +12,7 @@ pub record IsBelowZero (lo hi z p : ℤ) : Type 0 where
   pub below : z <ℤ pos 0
   pub above_least : lo ≤ℤ z
   pub near_least : (z -ℤ lo) ≤ℤ hi
-  pub greatest : hi ≤ℤ pos (2 ^ 127 - 1)
+  pub greatest : hi ≤ℤ greatest128
   pub width : hi +ℤ pos 1 ≡ lo +ℤ p
 
 not_above : (z hi : ℤ) → hi ≤ℤ pos (2 ^ 128 - 1) → z ≤ℤ hi → ¬ (IsHeld (pos 0) (pos (2 ^ 128 - 1)) z) → z <ℤ pos 0

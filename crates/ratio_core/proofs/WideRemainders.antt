@@ -6,6 +6,7 @@ use lib.IntN.{*ℤ_comm}
 use Rattle.ratio_integer.specs.Arithmetic.{RemainderHeld, remainder_of}
 use Rattle.ratio_integer.specs.Fraction.{AnswersLowest, ChecksLowest, Fits, IsHeldLowest, IsLowestTerms, IsLowestTermsOf}
 use Rattle.ratio_integer.specs.Range.{FitsIn128, IsHeld, IsRange}
+use Rattle.ratio_integer.specs.SignedBits.{IsHeld128}
 use Rattle.ratio_integer.proofs.DivisionLemmas.{abs-neg, abs_pos}
 use Rattle.ratio_integer.proofs.LowestTerms.{HasLowest, denom_out, lowest_exist, lowest_unique, numer_out}
 use Rattle.ratio_integer.proofs.Whole.{mul_nonzero, mul_positive, neg-mul, positive_nonzero}
@@ -35,7 +36,7 @@ pub natural_held : (n : ℕ) → n ≤ 2 ^ 128 - 1 → IsHeld (pos 0) (pos (2 ^ 
 natural_held n most = record { above = omega (arith, ints); below = omega (arith, ints) }
 
 -- a number that fits no `i128` fits a `u128`
-pub above_signed : (lo hi z : ℤ) → IsRange lo hi → FitsIn128 lo hi → IsHeld lo hi z → ¬ (IsHeld (negsuc (2 ^ 127 - 1)) (pos (2 ^ 127 - 1)) z) → IsHeld (pos 0) (pos (2 ^ 128 - 1)) z
+pub above_signed : (lo hi z : ℤ) → IsRange lo hi → FitsIn128 lo hi → IsHeld lo hi z → ¬ (IsHeld128 z) → IsHeld (pos 0) (pos (2 ^ 128 - 1)) z
 above_signed lo hi z range (inl most) held out =
     let low = low_at_least lo hi range in
     let above = held.above in
@@ -46,7 +47,7 @@ above_signed lo hi z range (inr (low, most)) held out =
     let below = held.below in
     record { above = omega (arith, ints); below = omega (arith, ints) }
 
-pub below_signed : (lo hi : ℤ) (m : ℕ) → IsRange lo hi → FitsIn128 lo hi → ¬ (IsHeld (negsuc (2 ^ 127 - 1)) (pos (2 ^ 127 - 1)) (pos m)) → m ≢ 2 ^ 127 → ¬ (IsHeld lo hi (neg_ℤ (pos m)))
+pub below_signed : (lo hi : ℤ) (m : ℕ) → IsRange lo hi → FitsIn128 lo hi → ¬ (IsHeld128 (pos m)) → m ≢ 2 ^ 127 → ¬ (IsHeld lo hi (neg_ℤ (pos m)))
 below_signed lo hi m range (inl most) out other held =
     let low = low_at_least lo hi range in
     let above = held.above in

@@ -7,6 +7,7 @@ use Rattle.std.specs.Str.Parse.{IsNumeral, signed_digits_value, without_leading_
 use Rattle.std.specs.Int.{w128}
 use mir.Val.{to_z, of_z}
 use Rattle.ratio_integer.specs.Range.{IsHeld, IsRange, Checks}
+use Rattle.ratio_integer.specs.SignedBits.{greatest128, least128}
 use Rattle.ratio_core.specs.Reading.{IsNumberText, ReadsNumber}
 use Rattle.ratio_core.proofs.NumberLemmas.{from_signed, from_unsigned, to_signed, to_unsigned}
 
@@ -14,7 +15,7 @@ power_small : (bits : ℕ) → bits ≤ 128 → 2 ^ bits ≤ 2 ^ 128
 power_small bits h = pow-le-pow_right {n = 2} (omega arith) h
 
 bounds : (lo hi p : ℤ) → (lo ≡ pos 0) ⊎ (lo ≡ neg_ℤ hi) ⊎ (lo ≡ neg_ℤ hi -ℤ pos 1) → lo <ℤ pos 0 → hi +ℤ pos 1 ≡ lo +ℤ p → p ≤ℤ pos (2 ^ 128)
-    → (negsuc (2 ^ 127 - 1) ≤ℤ lo) × (hi ≤ℤ pos (2 ^ 127 - 1))
+    → (least128 ≤ℤ lo) × (hi ≤ℤ greatest128)
 bounds lo hi p (inl h) below e small = absurd (omega (arith, ints))
 bounds lo hi p (inr (inl h)) below e small = (omega (arith, ints), omega (arith, ints))
 bounds lo hi p (inr (inr h)) below e small = (omega (arith, ints), omega (arith, ints))
@@ -24,7 +25,7 @@ zero_low lo hi (inl h) high above = h
 zero_low lo hi (inr (inl h)) high above = absurd (omega (arith, ints))
 zero_low lo hi (inr (inr h)) high above = absurd (omega (arith, ints))
 
-fits_128 : (z : ℤ) → negsuc (2 ^ 127 - 1) ≤ℤ z → z ≤ℤ pos (2 ^ 127 - 1) → FitsSigned w128 z
+fits_128 : (z : ℤ) → least128 ≤ℤ z → z ≤ℤ greatest128 → FitsSigned w128 z
 fits_128 (pos n) low high = record { sfits = omega (arith, ints) }
 fits_128 (negsuc n) low high = record { sfits = omega (arith, ints) }
 

@@ -1,5 +1,5 @@
 -- The text of a fraction, and how it reads back.
-use Rattle.std.specs.Prelude.{◌+◌, ◌-◌, ◌*◌, ◌/◌, ◌%◌, ◌^◌, ◌==◌, length, max, ℕ, zero, suc, ℤ, pos, negsuc, Bool, true, false, List, [], ◌∷◌, ◌++◌, map, codes, if◌then◌else◌}
+use Rattle.std.specs.Prelude.{◌+◌, ◌-◌, ◌*◌, ◌/◌, ◌^◌, ◌==◌, length, max, ℕ, suc, ℤ, pos, negsuc, Bool, true, false, List, [], ◌∷◌, ◌++◌, map, codes, if◌then◌else◌}
 use Rattle.std.specs.Fmt.{digit_glyph, signed_decimal}
 use Rattle.std.specs.Int.Digits.{digits_of}
 use Rattle.std.specs.Ordering.{int_eq}
@@ -36,12 +36,6 @@ shown_prefix form alternate = if alternate then prefix_of form else []
 -- Example: 255 in base 16: `ff`
 abbrev pub numeral : ℕ → Bool → ℕ → List ℕ
 numeral base upper n = if n == 0 then 48 ∷ [] else map (digit_glyph upper) (digits_of base n)
-
--- the last k digits of n in base 10, with leading zeros
--- Example: 2 of 507: `07`
-abbrev pub last_digits : ℕ → ℕ → List ℕ
-last_digits zero n = []
-last_digits (suc k) n = last_digits k (n / 10) ++ (48 + n % 10) ∷ []
 
 -- the number, and 2^bits more if it is below 0
 -- Example: -1 in 8 bits: 255

@@ -8,11 +8,11 @@ pub trait Exponent: Copy {
     // The number of a value.
     ghost number: { Self → ℤ };
 
-    /// Whether the number is below 0.
+    /// Whether the exponent is below 0.
     fn is_below_zero(&self) -> bool
         ensures { IsTrue result ↔ (number self.now <ℤ pos 0) };
 
-    /// The number without its sign, also for the least value of a type: 2^31 for `i32::MIN`.
+    /// The exponent without its sign, also for the least value of a type: 2^31 for `i32::MIN`.
     fn magnitude(&self) -> u128
         ensures { result ≡ unsigned_abs (number self.now) };
 }

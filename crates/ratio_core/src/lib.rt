@@ -1,5 +1,5 @@
-//! What is computed on fractions, over the two numbers of each: order, hash, lowest terms, sums, products, remainders, powers, rounding to
-//! whole numbers, signs, and texts in every base.
+//! What is computed on fractions, given by numerator and denominator: order, hash, lowest terms, sums, products, remainders, powers,
+//! rounding to whole numbers, signs, and texts in every base.
 //!
 //! `both_held(n, d);` and `let _ = n.held();` do nothing at run time. They tell the prover that n lies
 //! between the type's least and greatest number: over `i8`, from -128 to 127. A value in hand is in range,
@@ -14,8 +14,8 @@
 //! | `steps` | `Steps`: how many steps each side of a comparison took, a count that only contracts see. |
 //! | `hash` | The codes by which a fraction is hashed: handed to a `CodeList` while the steps are counted, and kept for contracts in a `Taken`. |
 //! | `sums` | Sums and differences of fractions with positive denominators, in lowest terms, and two fractions over their least common denominator. |
-//! | `sums::lowest_sums` | Sums and differences of fractions in lowest terms: `Some` exactly if the lowest terms fit; among them the sum over the product of the denominators, reduced by short gcds. |
-//! | `sums::reducing` | Sums and differences of any fractions with positive denominators: `Some` exactly if the lowest terms fit. |
+//! | `sums::lowest_sums` | Sums and differences of fractions in lowest terms: `Some` exactly if the lowest terms fit. |
+//! | `sums::unreduced_sums` | Sums and differences of any fractions with positive denominators: `Some` exactly if the lowest terms fit. |
 //! | `sums::mixed` | Sums and differences of fractions as mixed numbers: the whole numbers and the parts of 1 are added separately, and give one numerator again. |
 //! | `sums::multiple` | A multiple of a part of 1, and the sum of two such parts, each as a whole number and a part of 1. |
 //! | `sums::words` | A multiple of a part of 1 by words: of the factor 60 binary digits at a time, from the highest ones on, and of the divisor its 63 highest, rounded up. |
@@ -24,17 +24,16 @@
 //! | `products::many_products` | The product of many numbers divided by the product of many others: each is cancelled against each before anything is multiplied. |
 //! | `remainder` | The remainder of one fraction by another in lowest terms, over any type. |
 //! | `remainder::lowest_remainders` | Remainders of fractions in lowest terms: over a type of exact remainders, `Some` exactly if the lowest terms fit. |
-//! | `remainder::reducing` | Remainders of any fractions with positive denominators: over a type of exact remainders, `Some` exactly if the lowest terms fit. |
-//! | `remainder::long_remainder` | The remainder of two fractions whose numbers fit a `u128`, though the products of two may not. |
-//! | `remainder::lowest_remainder` | Two calls of the other files under the names that they had: `checked_rem` of `reducing`, and `checked_rem_of_lowest`. |
+//! | `remainder::unreduced_remainders` | Remainders of any fractions with positive denominators: over a type of exact remainders, `Some` exactly if the lowest terms fit. |
+//! | `remainder::wide_remainder` | The remainder of two fractions whose numbers fit a `u128`, though the products of two may not. |
 //! | `pow` | Reciprocals and powers of fractions, not reduced. |
 //! | `pow::lowest_powers` | Powers of fractions in lowest terms, which are `Some` exactly if the lowest terms of the power fit the type. |
 //! | `exponent` | The trait `Exponent`: whole numbers of any primitive type that may be an exponent, by sign and magnitude. |
 //! | `divisors` | The greatest common divisor and the least common multiple of two fractions in lowest terms. |
 //! | `sign` | Signs of numbers and of fractions, and the negatives, absolute values and positive differences of fractions. |
-//! | `magnitudes` | The magnitudes of numbers as a `u128`, numbers made from a magnitude and a sign, and the types whose numbers are short or long. |
-//! | `rounding` | Whole numbers near a fraction (floor, ceiling, truncation, rounded), its fractional part, and its whole part as a machine integer. |
-//! | `text` | Printing a fraction as a text, from the last byte to the first: the forms, their prefixes, an array for the text, and decimal digits. |
+//! | `magnitudes` | For this crate alone: the magnitudes of numbers as a `u128`, numbers made from a magnitude and a sign, and the types whose numbers are short or long. |
+//! | `rounding` | Whole numbers near a fraction (floor, ceiling, truncation, rounded), its fractional part, and its whole part as an `i64`, `i128`, `u64` or `u128`. |
+//! | `text` | Printing a fraction as a text, from the last byte to the first: the forms, their prefixes, the array `FixedText`, decimal digits, and the `magnitude` of a number. |
 //! | `text::numeral` | A number in base 2, 8 or 16, and its two's complement, written from the last digit to the first. |
 //! | `text::reading` | Reading a fraction from a text in any base, in lowest terms: in one pass over its bytes where it is short, or else each side of its slash alone. |
 //! | `parse_error` | Why a text is refused as a fraction: `ParseRatioError`, its kinds, and what it prints. |

@@ -4,10 +4,9 @@ ghost use Rattle.ratio_integer.specs.Arithmetic.{RemainderHeld, remainder_of};
 ghost use Rattle.ratio_integer.specs.Fraction.{AnswersLowest};
 ghost use Rattle.ratio_core.specs.Conditions.{IsHeldLowestOf};
 
-mod long_remainder;
-pub mod lowest_remainder;
 pub mod lowest_remainders;
-pub mod reducing;
+pub mod unreduced_remainders;
+mod wide_remainder;
 
 use crate::sums::scaled;
 use ratio_integer::{Integer, lowest_terms};

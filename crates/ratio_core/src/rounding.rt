@@ -1,9 +1,11 @@
-//! Whole numbers near a fraction (floor, ceiling, truncation, rounded), its fractional part, and its whole part as a machine integer.
+//! Whole numbers near a fraction (floor, ceiling, truncation, rounded), its fractional part, and its whole part as an `i64`, `i128`, `u64`
+//! or `u128`.
 //!
 //! Each call requires only a positive denominator. It divides once, and no step overflows: nothing is
 //! doubled, and nothing is added before the division.
-ghost use Rattle.std.specs.Prelude.{◌≡◌, ◌↔◌, ◌-◌, ◌^◌, ◌<ℤ◌, ◌+ℤ◌, ◌-ℤ◌, pos, negsuc, IsTrue};
+ghost use Rattle.std.specs.Prelude.{◌≡◌, ◌↔◌, ◌-◌, ◌^◌, ◌<ℤ◌, ◌+ℤ◌, ◌-ℤ◌, pos, IsTrue};
 ghost use Rattle.ratio_integer.specs.Range.{IsHeld};
+ghost use Rattle.ratio_integer.specs.SignedBits.{greatest128, greatest64, least128, least64};
 ghost use Rattle.ratio_core.specs.Rounding.{ChecksTruncation, IsBelowHalf, IsCeiling, IsTruncatedDivision, IsFloor, IsFractionalPart, IsRest, IsRounded, IsTruncation};
 
 use crate::sign::{is_above_zero, is_below_zero};
@@ -77,7 +79,7 @@ pub fn to_integer<T: Integer>(n: T, d: T) -> T
 /// `trunc` as an `i64`, or `None` if it does not fit that type.
 pub fn to_i64<T: Integer>(n: T, d: T) -> Option<i64>
     requires { pos 0 <ℤ T.value d }
-    ensures { ChecksTruncation (λ y. y) (negsuc (2 ^ 63 - 1)) (pos (2 ^ 63 - 1)) (T.value n) (T.value d) result }
+    ensures { ChecksTruncation (λ y. y) least64 greatest64 (T.value n) (T.value d) result }
 {
     i64::from_i128(trunc(n, d).to_i128()?)
 }
@@ -85,7 +87,7 @@ pub fn to_i64<T: Integer>(n: T, d: T) -> Option<i64>
 /// `trunc` as an `i128`, or `None` if it does not fit that type.
 pub fn to_i128<T: Integer>(n: T, d: T) -> Option<i128>
     requires { pos 0 <ℤ T.value d }
-    ensures { ChecksTruncation (λ y. y) (negsuc (2 ^ 127 - 1)) (pos (2 ^ 127 - 1)) (T.value n) (T.value d) result }
+    ensures { ChecksTruncation (λ y. y) least128 greatest128 (T.value n) (T.value d) result }
 {
     trunc(n, d).to_i128()
 }

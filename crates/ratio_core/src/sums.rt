@@ -11,7 +11,7 @@ ghost use Rattle.ratio_core.specs.Conditions.{ChecksScaled, DifferenceCondition,
 pub mod lowest_sums;
 mod mixed;
 pub(crate) mod multiple;
-pub mod reducing;
+pub mod unreduced_sums;
 mod words;
 
 pub use mixed::numerator_of;

@@ -1,5 +1,5 @@
-//! Printing a fraction as a text, from the last byte to the first: the forms, their prefixes, an array for
-//! the text, and decimal digits.
+//! Printing a fraction as a text, from the last byte to the first: the forms, their prefixes, the array `FixedText`, decimal digits, and
+//! the `magnitude` of a number.
 //!
 //! `numeral` prints numbers in base 2, 8 and 16, and `reading` reads texts.
 ghost use Rattle.std.specs.Prelude.{◌≡◌, ◌≢◌, ◌+◌, ◌≤◌, ◌≤ℤ◌, ◌<ℤ◌, ◌++◌, ◌/◌, ◌%◌, ◌^◌, ◌<◌, ◌∷◌, [], decimal, drop, false, IsAscii, length, List, pos, slice_set, unsigned_abs, ℕ};

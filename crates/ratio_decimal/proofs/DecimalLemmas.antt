@@ -1,8 +1,8 @@
 -- A number with a given number of places, written from its whole part and its part.
 use Rattle.std.specs.Prelude.{◌≡◌, ◌≢◌, ◌*◌, ◌+◌, ◌-◌, ◌/◌, ◌%◌, ◌^◌, ◌<◌, ◌≤◌, ◌∷◌, ◌++◌, ◌<ℤ◌, ◌*ℤ◌, ◌+ℤ◌, [], ℕ, zero, suc, ℤ, pos, negsuc, neg_ℤ, List, Bool, true, false, drop, length, slice_set, unsigned_abs, decimal, if◌then◌else◌, IsAscii, IsTrue, ◌↔◌}
 use Rattle.std.proofs.Common.{refl, sym, ap, arith, ◌∙◌, append-nil, length-append, length-drop, lit<, pow-suc, subst}
-use Rattle.std.proofs.Math.Nat.{div-one, mod-lt, mul_assoc, pow-le-pow_right}
-use Rattle.std.proofs.lemmas.Fmt.{IsAscii-decimal_wide, decimal_digit}
+use Rattle.std.proofs.Math.Nat.{mod-lt, mul_assoc, pow-le-pow_right}
+use Rattle.std.proofs.lemmas.Fmt.{decimal_digit}
 use Rattle.std.proofs.lemmas.Int.{ints}
 use Rattle.std.proofs.lemmas.List.{drop_all, drop-drop, drop-set}
 use Rattle.std.proofs.lemmas.Nat.{div-mul-add}
@@ -10,12 +10,14 @@ use Rattle.std.proofs.lemmas.Str.{IsAscii-append}
 use Rattle.std.proofs.lemmas.Str.Ascii.{IsAscii-cons, IsAscii-nil}
 use Rattle.ratio_integer.proofs.Whole.{neg-mul}
 use Rattle.ratio_decimal.specs.Decimal.{places_text, point, unsigned_places}
-use Rattle.ratio_core.specs.Printing.{last_digits}
+use Rattle.ratio_integer.specs.LastDigits.{last_digits}
 use Rattle.ratio_core.specs.Reading.{minus}
 use Rattle.ratio_decimal.specs.RoundingRules.{IsRoundedBy, mirrored, signed}
 use Rattle.ratio_decimal.specs.declared.rounding_rule.Rounding.{Rounding}
 use Rattle.ratio_core.proofs.DigitGroups.{grouped}
 use Rattle.ratio_decimal.proofs.RoundingRuleLemmas.{mirror}
+use Rattle.ratio_natural.specs.Decimal.{decimal_text}
+use Rattle.ratio_natural.proofs.PrintingLemmas.{decimal_ascii, decimal_same}
 
 -- ---- powers of ten
 
@@ -54,17 +56,21 @@ pub digits_ascii : (k n : ℕ) → IsAscii (last_digits k n)
 digits_ascii zero n = IsAscii-nil
 digits_ascii (suc k) n = IsAscii-append _ _ (digits_ascii k (n / 10)) (IsAscii-cons (48 + n % 10) [] (let h : n % 10 < 10 = mod-lt n (lit< tt) in omega arith) IsAscii-nil)
 
-pub unsigned_ascii : (places n : ℕ) → n / 10 ^ places < 10 ^ 64 → IsAscii (unsigned_places places n)
-unsigned_ascii zero n h = IsAscii-decimal_wide n (subst (λ x. x < 10 ^ 64) (div-one n) h)
-unsigned_ascii (suc places) n h = IsAscii-append _ _ (IsAscii-decimal_wide (n / 10 ^ suc places) h) (IsAscii-cons point (last_digits (suc places) n) (lit< tt) (digits_ascii (suc places) n))
+pub unsigned_ascii : (places n : ℕ) → IsAscii (unsigned_places places n)
+unsigned_ascii zero n = decimal_ascii n
+unsigned_ascii (suc places) n = IsAscii-append _ _ (decimal_ascii (n / 10 ^ suc places)) (IsAscii-cons point (last_digits (suc places) n) (lit< tt) (digits_ascii (suc places) n))
+
+pub places_ascii : (places : ℕ) (z : ℤ) → IsAscii (places_text places z)
+places_ascii places (pos n) = unsigned_ascii places n
+places_ascii places (negsuc n) = IsAscii-cons minus (unsigned_places places (suc n)) (lit< tt) (unsigned_ascii places (suc n))
 
 -- ---- the text without a sign
 
-pub no_places : (w p power places end : ℕ) (buf written : List ℕ) → places ≡ 0 → power ≡ 10 ^ places → p < power → length buf ≡ end → written ≡ decimal w ++ drop end buf → written ≡ unsigned_places places (w * 10 ^ places + p)
-no_places w p power zero end buf written none power-is small long is =
+pub no_places : (w p power places end : ℕ) (buf written : List ℕ) → w < 2 ^ 128 → places ≡ 0 → power ≡ 10 ^ places → p < power → length buf ≡ end → written ≡ decimal w ++ drop end buf → written ≡ unsigned_places places (w * 10 ^ places + p)
+no_places w p power zero end buf written fits none power-is small long is =
     let all : w ≡ w * 1 + p = omega arith in
-    is ∙ ap (λ xs. decimal w ++ xs) (drop_all end buf (omega arith)) ∙ append-nil (decimal w) ∙ ap decimal all
-no_places w p power (suc places) end buf written none power-is small long is = absurd (omega arith)
+    is ∙ ap (λ xs. decimal w ++ xs) (drop_all end buf (omega arith)) ∙ append-nil (decimal w) ∙ decimal_same w (omega arith) ∙ ap decimal_text all
+no_places w p power (suc places) end buf written fits none power-is small long is = absurd (omega arith)
 
 -- the 1 before the places lies inside the buffer
 pub one_inside : (p power places end at : ℕ) (buf back : List ℕ) → places ≤ 38 → power ≡ 10 ^ places → p < power → length buf ≡ end → length back ≡ length buf → drop at back ≡ decimal (power + p) ++ drop end buf → at < length back
@@ -78,10 +84,10 @@ one_inside p power places end at buf back few power-is small long same is = go (
     go e = let s = some in omega arith
 
 -- the point overwrites the 1
-pub point_written : (w p power places end at : ℕ) (buf back written : List ℕ) → places ≢ 0 → places ≤ 38 → power ≡ 10 ^ places → p < power → length buf ≡ end → length back ≡ length buf
+pub point_written : (w p power places end at : ℕ) (buf back written : List ℕ) → w < 2 ^ 128 → places ≢ 0 → places ≤ 38 → power ≡ 10 ^ places → p < power → length buf ≡ end → length back ≡ length buf
     → drop at back ≡ decimal (power + p) ++ drop end buf → written ≡ decimal w ++ drop at (slice_set back at point) → written ≡ unsigned_places places (w * 10 ^ places + p)
-point_written w p power zero end at buf back written some few power-is small long same part is = absurd (some refl)
-point_written w p power (suc places) end at buf back written some few power-is small long same part is =
+point_written w p power zero end at buf back written fits some few power-is small long same part is = absurd (some refl)
+point_written w p power (suc places) end at buf back written fits some few power-is small long same part is =
     let n = w * 10 ^ suc places + p in
     let less : p < 10 ^ suc places = rw power-is at small in
     let text : decimal (power + p) ≡ 49 ∷ last_digits (suc places) p = ap (λ x. decimal (x + p)) power-is ∙ after_one (suc places) p few less in
@@ -89,12 +95,8 @@ point_written w p power (suc places) end at buf back written some few power-is s
     let all : drop at back ≡ 49 ∷ last_digits (suc places) p = part ∙ ap (λ xs. decimal (power + p) ++ xs) (drop_all end buf (omega arith)) ∙ append-nil (decimal (power + p)) ∙ text in
     let digits : drop (at + 1) back ≡ last_digits (suc places) p = sym (drop-drop 1 at back) ∙ ap (λ xs. drop 1 xs) all in
     is ∙ ap (λ xs. decimal w ++ xs) (drop-set back at point inside ∙ ap (λ xs. point ∷ xs) (digits ∙ sym (whole_digits w p (suc places))))
-    ∙ ap (λ x. decimal x ++ point ∷ last_digits (suc places) n) (sym (whole_of w p (suc places) less))
-
-pub small_whole : (w p power places : ℕ) → power ≡ 10 ^ places → p < power → w < 2 ^ 128 → IsAscii (unsigned_places places (w * 10 ^ places + p))
-small_whole w p power places power-is small fits =
-    let less : p < 10 ^ places = rw power-is at small in
-    unsigned_ascii places (w * 10 ^ places + p) (rw (whole_of w p places less) (omega arith))
+    ∙ ap (λ xs. xs ++ point ∷ last_digits (suc places) n) (decimal_same w (omega arith))
+    ∙ ap (λ x. decimal_text x ++ point ∷ last_digits (suc places) n) (sym (whole_of w p (suc places) less))
 
 -- ---- the sign
 

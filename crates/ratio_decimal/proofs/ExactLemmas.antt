@@ -1,5 +1,5 @@
 -- All digits of n/d, whole and behind the point, and when they end.
-use Rattle.std.specs.Prelude.{◌≡◌, ◌≢◌, ◌*◌, ◌+◌, ◌-◌, ◌/◌, ◌%◌, ◌^◌, ◌<◌, ◌≤◌, ◌∷◌, ◌++◌, ◌<ℤ◌, ◌*ℤ◌, ◌↔◌, [], ℕ, zero, suc, ℤ, pos, negsuc, neg_ℤ, List, Bool, true, false, drop, length, slice_set, unsigned_abs, decimal, IsAscii, IsTrue}
+use Rattle.std.specs.Prelude.{◌≡◌, ◌≢◌, ◌*◌, ◌+◌, ◌-◌, ◌/◌, ◌%◌, ◌^◌, ◌<◌, ◌≤◌, ◌∷◌, ◌++◌, ◌<ℤ◌, ◌*ℤ◌, ◌↔◌, [], ℕ, zero, suc, ℤ, pos, negsuc, neg_ℤ, List, Bool, true, false, drop, length, slice_set, unsigned_abs, decimal, IsTrue}
 use Rattle.std.specs.Int.{◌∣◌}
 use Rattle.std.proofs.Common.{refl, sym, ap, arith, ◌∙◌, append-nil, pow-suc, subst, eq-zero-or-pos, inl, inr}
 use Rattle.std.proofs.Math.Nat.{div-add-mod', div-le_self, div-lt_iff_lt-mul, dvd-mul_left, mod-lt, mul-add-div_right, mul-div_cancel, mul_assoc, mul_comm}
@@ -12,11 +12,13 @@ use Rattle.ratio_integer.proofs.CommonDivisors.{coprime_gcd}
 use Rattle.ratio_integer.proofs.GcdLemmas.{coprime-dvd}
 use Rattle.ratio_integer.proofs.Whole.{neg-mul}
 use Rattle.ratio_decimal.specs.Decimal.{IsExactDecimal, IsPlacesOf, places_text, point, unsigned_places}
-use Rattle.ratio_core.specs.Printing.{last_digits}
+use Rattle.ratio_integer.specs.LastDigits.{last_digits}
 use Rattle.ratio_core.specs.Parts.{IsDivided}
 use Rattle.ratio_decimal.specs.RoundingRules.{signed}
-use Rattle.ratio_decimal.proofs.DecimalLemmas.{power_positive, unsigned_ascii, whole_digits, whole_of}
+use Rattle.ratio_decimal.proofs.DecimalLemmas.{power_positive, whole_digits, whole_of}
 use Rattle.ratio_decimal.proofs.PlacesLemmas.{few_places}
+use Rattle.ratio_natural.specs.Decimal.{decimal_text}
+use Rattle.ratio_natural.proofs.PrintingLemmas.{decimal_same}
 
 -- ---- the digits behind the point
 
@@ -116,25 +118,27 @@ cut_whole n d k some = ap (λ x. x / 10 ^ k) (cut_parts n d k some) ∙ whole_of
 cut_digits : (n d k : ℕ) → 0 < d → last_digits k (n * 10 ^ k / d) ≡ last_digits k (n % d * 10 ^ k / d)
 cut_digits n d k some = ap (last_digits k) (cut_parts n d k some) ∙ whole_digits (n / d) (n % d * 10 ^ k / d) k
 
-pub cut_ascii : (n d places : ℕ) → 0 < d → n < 2 ^ 128 → IsAscii (unsigned_places places (n * 10 ^ places / d))
-cut_ascii n d places some fits = unsigned_ascii places (n * 10 ^ places / d) (rw (cut_whole n d places some) (let h = div-le_self n d in omega arith))
+-- std prints the whole number with the same digits
+pub whole_same : (n d : ℕ) → n < 2 ^ 128 → decimal (n / d) ≡ decimal_text (n / d)
+whole_same n d fits = decimal_same (n / d) (let h = div-le_self n d in omega arith)
 
-pub cut_no_places : (n d places : ℕ) (buf written : List ℕ) → places ≡ 0 → length buf ≡ 130 → written ≡ decimal (n / d) ++ drop 130 buf → written ≡ unsigned_places places (n * 10 ^ places / d)
-cut_no_places n d zero buf written none long is =
+pub cut_no_places : (n d places : ℕ) (buf written : List ℕ) → n < 2 ^ 128 → places ≡ 0 → length buf ≡ 130 → written ≡ decimal (n / d) ++ drop 130 buf → written ≡ unsigned_places places (n * 10 ^ places / d)
+cut_no_places n d zero buf written fits none long is =
     let same : n ≡ n * 10 ^ 0 = omega arith in
-    is ∙ ap (λ xs. decimal (n / d) ++ xs) (drop_all 130 buf (omega arith)) ∙ append-nil (decimal (n / d)) ∙ ap (λ x. decimal (x / d)) same
-cut_no_places n d (suc places) buf written none long is = absurd (omega arith)
+    is ∙ ap (λ xs. decimal (n / d) ++ xs) (drop_all 130 buf (omega arith)) ∙ append-nil (decimal (n / d)) ∙ whole_same n d fits ∙ ap (λ x. decimal_text (x / d)) same
+cut_no_places n d (suc places) buf written fits none long is = absurd (omega arith)
 
-pub cut_written : (n d places : ℕ) (old buf written : List ℕ) → places ≢ 0 → 0 < d → 2 ^ places ≤ d → d < 2 ^ 128 → length old ≡ 130 → length buf ≡ length old
+pub cut_written : (n d places : ℕ) (old buf written : List ℕ) → n < 2 ^ 128 → places ≢ 0 → 0 < d → 2 ^ places ≤ d → d < 2 ^ 128 → length old ≡ 130 → length buf ≡ length old
     → drop (length old - places) buf ≡ last_digits places (n % d * 10 ^ places / d) → written ≡ decimal (n / d) ++ drop (129 - places) (slice_set buf (129 - places) point) → written ≡ unsigned_places places (n * 10 ^ places / d)
-cut_written n d zero old buf written some positive few fits long same digits is = absurd (some refl)
-cut_written n d (suc k) old buf written some positive few fits long same digits is =
+cut_written n d zero old buf written short some positive few fits long same digits is = absurd (some refl)
+cut_written n d (suc k) old buf written short some positive few fits long same digits is =
     let less = few_places d (suc k) few fits in
     let after : 129 - suc k + 1 ≡ length old - suc k = omega arith in
     is
     ∙ ap (λ xs. decimal (n / d) ++ xs)
     (drop-set buf (129 - suc k) point (omega arith) ∙ ap (λ j. point ∷ drop j buf) after ∙ ap (λ xs. point ∷ xs) (digits ∙ sym (cut_digits n d (suc k) positive)))
-    ∙ ap (λ x. decimal x ++ point ∷ last_digits (suc k) (n * 10 ^ suc k / d)) (sym (cut_whole n d (suc k) positive))
+    ∙ ap (λ xs. xs ++ point ∷ last_digits (suc k) (n * 10 ^ suc k / d)) (whole_same n d short)
+    ∙ ap (λ x. decimal_text x ++ point ∷ last_digits (suc k) (n * 10 ^ suc k / d)) (sym (cut_whole n d (suc k) positive))
 
 -- ---- when the digits end
 

@@ -16,16 +16,17 @@ use Rattle.core.proofs.fmt.Output.{has_written_styled_append, has_written_styled
 use Rattle.core.proofs.fmt.Padding.{char_count-nil, integral_written, repeat_ascii}
 use Rattle.core.proofs.str.Laws.{one}
 use Rattle.ratio_decimal.specs.Decimal.{point, unsigned_places}
-use Rattle.ratio_core.specs.Printing.{last_digits}
+use Rattle.ratio_integer.specs.LastDigits.{last_digits}
 use Rattle.ratio_core.specs.Parts.{IsDivided, IsPart}
 use Rattle.ratio_decimal.specs.Precision.{half_even}
 use Rattle.ratio_decimal.specs.RoundingRules.{IsRoundedBy}
 use Rattle.ratio_decimal.specs.declared.rounding_rule.Rounding.TheVariants.{HalfEven}
 use Rattle.ratio_decimal.proofs.DecimalLemmas.{after_one, one_inside, whole_digits, whole_of}
 use Rattle.ratio_core.proofs.DigitGroups.{length_group}
-use Rattle.ratio_decimal.proofs.ExactLemmas.{digit_small, front_digit, tenfold}
+use Rattle.ratio_decimal.proofs.ExactLemmas.{digit_small, front_digit, tenfold, whole_same}
 use Rattle.ratio_decimal.proofs.HalfEvenLemmas.{digit_rounded, half_even_is, no_carry, whole_rounded, wide_power}
 use Rattle.ratio_decimal.proofs.RoundingRuleLaws.{one_by}
+use Rattle.ratio_natural.specs.Decimal.{decimal_text}
 
 -- ---- the room around it
 
@@ -58,17 +59,18 @@ pub before_ascii : (n : ℕ) → n < 2 ^ 128 → IsAscii (decimal n ++ point ∷
 before_ascii n fits = IsAscii-append _ _ (IsAscii-decimal_wide n (omega arith)) (IsAscii-cons point [] (lit< tt) IsAscii-nil)
 
 -- the number is written up to the point, and the places behind it
-pub whole_and_places : (n d k : ℕ) → 0 < d → d < 2 ^ 128 → 39 ≤ k
+pub whole_and_places : (n d k : ℕ) → n < 2 ^ 128 → 0 < d → d < 2 ^ 128 → 39 ≤ k
     → (decimal (n / d) ++ point ∷ []) ++ last_digits k (half_even (n % d * 10 ^ k) d) ≡ unsigned_places k (half_even (n * 10 ^ k) d)
-whole_and_places n d zero some fits many = absurd (omega arith)
-whole_and_places n d (suc k) some fits many =
+whole_and_places n d zero short some fits many = absurd (omega arith)
+whole_and_places n d (suc k) short some fits many =
     let p = half_even (n % d * 10 ^ suc k) d in
     let wide : d < 2 * 10 ^ suc k = let h = wide_power (suc k) many in omega arith in
     let less : p < 10 ^ suc k = no_carry (n % d) d (suc k) (mod-lt n some) wide in
     let split : half_even (n * 10 ^ suc k) d ≡ n / d * 10 ^ suc k + p = whole_rounded n d (suc k) some (omega arith) in
     append_assoc (decimal (n / d)) (point ∷ []) (last_digits (suc k) p)
     ∙ ap (λ xs. decimal (n / d) ++ point ∷ xs) (sym (whole_digits (n / d) p (suc k)))
-    ∙ ap (λ x. decimal x ++ point ∷ last_digits (suc k) (n / d * 10 ^ suc k + p)) (sym (whole_of (n / d) p (suc k) less))
+    ∙ ap (λ xs. xs ++ point ∷ last_digits (suc k) (n / d * 10 ^ suc k + p)) (whole_same n d short)
+    ∙ ap (λ x. decimal_text x ++ point ∷ last_digits (suc k) (n / d * 10 ^ suc k + p)) (sym (whole_of (n / d) p (suc k) less))
     ∙ ap (unsigned_places (suc k)) (sym split)
 
 -- ---- behind the point
@@ -149,14 +151,14 @@ module _ {W : Type 0} (took : W → List ℕ → W → Type 0) (f : Formatter W)
 
 -- the whole number: what stands before it, its digits, and the fill after it
 module _ {W : Type 0} (took : W → List ℕ → W → Type 0) (f g h i k : Formatter W) (n d places after fill : ℕ) (below : Bool) (whole : List ℕ) where
-  pub whole_written : 0 < d → d < 2 ^ 128 → 39 ≤ places → whole ≡ decimal (n / d) ++ point ∷ [] → fill ≡ f.spec.fill → after ≡ fill_after_digits f.spec below [] (length whole + places)
+  pub whole_written : n < 2 ^ 128 → 0 < d → d < 2 ^ 128 → 39 ≤ places → whole ≡ decimal (n / d) ++ point ∷ [] → fill ≡ f.spec.fill → after ≡ fill_after_digits f.spec below [] (length whole + places)
       → HasWrittenStyled took f (before_digits f.spec below [] (length whole + places)) g → HasWrittenStyled took g whole h
       → HasWrittenStyled took h (last_digits places (half_even (n % d * 10 ^ places) d)) i → HasWrittenStyled took i (repeat after (encode_utf8 fill)) k
       → HasWrittenStyled took f (padded_integral f.spec below [] (unsigned_places places (half_even (n * 10 ^ places) d))) k
-  whole_written some fits many whole-is fill-is after-is x y y' z =
+  whole_written short some fits many whole-is fill-is after-is x y y' z =
       let digits = last_digits places (half_even (n % d * 10 ^ places) d) in
       let numeral = unsigned_places places (half_even (n * 10 ^ places) d) in
-      let all : whole ++ digits ≡ numeral = ap (λ xs. xs ++ digits) whole-is ∙ whole_and_places n d places some fits many in
+      let all : whole ++ digits ≡ numeral = ap (λ xs. xs ++ digits) whole-is ∙ whole_and_places n d places short some fits many in
       let long : length whole + places ≡ length numeral = omega (arith, length-append whole digits, length_group places (half_even (n % d * 10 ^ places) d), ap length all) in
       let kept : f.spec ≡ i.spec = sym (y'.spec ∙ y.spec ∙ x.spec) in
       let last : repeat after (encode_utf8 fill) ≡ fill_text i.spec after = ap (λ c. repeat after (encode_utf8 c)) fill-is ∙ ap (λ s. fill_text s after) kept in

@@ -134,12 +134,6 @@ next d left places smaller is more (inl e) = less_by d left places smaller 10 1 
 next d left places smaller is more (inr (inl e)) = less_by d left places smaller 2 5 is more (let h = e.0 in omega arith) (omega arith) (omega arith) (coprime_five smaller e.1)
 next d left places smaller is more (inr (inr e)) = less_by d left places smaller 5 2 is more (let h = e.0 in omega arith) (omega arith) (omega arith) (coprime_two smaller e.1)
 
--- what is left gets smaller
-pub smaller_left : (left smaller : ℕ) → 0 < left → (left ≡ smaller * 10) ⊎ (((left ≡ smaller * 2) × (smaller % 5 ≢ 0)) ⊎ ((left ≡ smaller * 5) × (smaller % 2 ≢ 0))) → smaller < left
-smaller_left left smaller some (inl e) = omega arith
-smaller_left left smaller some (inr (inl e)) = let h = e.0 in omega arith
-smaller_left left smaller some (inr (inr e)) = let h = e.0 in omega arith
-
 -- ---- the end
 
 -- a number without a 2 and a 5 divides no power of ten, unless it is 1

@@ -21,11 +21,6 @@ pub record IsTakenOut (prime number most rest left : ℕ) : Type 0 where
   pub few : left ≤ most
   pub same : number ≡ rest * prime ^ (most - left)
 
-pub none_out : (prime number most : ℕ) → IsTakenOut prime number most number most
-none_out prime number most =
-    let none : most - most ≡ 0 = omega arith in
-    record { few = omega arith; same = rw (none, pow-zero prime) (omega arith) }
-
 pub one_out : (prime number most rest left : ℕ) → IsTakenOut prime number most rest left → 0 < left → rest % prime ≡ 0 → IsTakenOut prime number most (rest / prime) (left - 1)
 one_out prime number most rest left out some divides =
     let next : most - (left - 1) ≡ suc (most - left) = (let few = out.few in omega arith) in

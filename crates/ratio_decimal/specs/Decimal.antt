@@ -1,7 +1,9 @@
 -- What text a fraction n/d has as a decimal, where d is above 0.
-use Rattle.std.specs.Prelude.{◌≡◌, ◌≢◌, ◌⊎◌, ◌≤◌, ◌*◌, ◌/◌, ◌%◌, ◌^◌, ◌*ℤ◌, ℕ, zero, suc, ℤ, pos, negsuc, List, ◌∷◌, ◌++◌, decimal, Option, Some, None}
+use Rattle.std.specs.Prelude.{◌≡◌, ◌≢◌, ◌⊎◌, ◌≤◌, ◌*◌, ◌/◌, ◌%◌, ◌^◌, ◌*ℤ◌, ℕ, zero, suc, ℤ, pos, negsuc, List, ◌∷◌, ◌++◌, Option, Some, None}
 use Rattle.std.specs.Int.{◌∣◌}
-use Rattle.ratio_core.specs.{Printing.last_digits, Reading.minus}
+use Rattle.ratio_core.specs.Reading.{minus}
+use Rattle.ratio_integer.specs.LastDigits.{last_digits}
+use Rattle.ratio_natural.specs.Decimal.{decimal_text}
 use Rattle.ratio_decimal.specs.RoundingRules.{IsRoundedBy}
 use Rattle.ratio_decimal.specs.declared.rounding_rule.Rounding.{Rounding}
 
@@ -9,11 +11,11 @@ use Rattle.ratio_decimal.specs.declared.rounding_rule.Rounding.{Rounding}
 abbrev pub point : ℕ
 point = 46
 
--- n/10^places with all its places, and a point before them if there are any
+-- n/10^places with all its places, and a point before them if there are any; n may have any length
 -- Example: 507 with two places: `5.07`
 abbrev pub unsigned_places : ℕ → ℕ → List ℕ
-unsigned_places zero n = decimal n
-unsigned_places (suc k) n = decimal (n / 10 ^ suc k) ++ point ∷ last_digits (suc k) n
+unsigned_places zero n = decimal_text n
+unsigned_places (suc k) n = decimal_text (n / 10 ^ suc k) ++ point ∷ last_digits (suc k) n
 
 -- the text of `unsigned_places`, after a minus if the number is below 0
 -- Example: -507 with two places: `-5.07`

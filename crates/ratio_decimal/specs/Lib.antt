@@ -7,3 +7,9 @@ pub mod RoundingRules
 pub mod Sides
 pub mod TypedTerms
 pub mod TypedText
+pub mod FloatLaws
+pub mod Floats
+pub mod Rationalize
+pub mod Rationalizing
+pub mod DecimalLaws
+pub mod NaturalRounding

@@ -2,7 +2,7 @@
 ghost use Rattle.std.specs.Prelude.{◌≡◌, ◌+◌, ◌-◌, ◌*◌, ◌/◌, ◌^◌, ◌<◌, ◌≤◌, ◌++◌, decimal, drop, length, true, IsAscii};
 ghost use Rattle.ratio_integer.specs.Fraction.{IsLowestTerms};
 ghost use Rattle.ratio_decimal.specs.Decimal.{ChecksExactDecimal, ChecksLessTen, ChecksPlaces, places_text, unsigned_places};
-ghost use Rattle.ratio_core.specs.Printing.{last_digits};
+ghost use Rattle.ratio_integer.specs.LastDigits.{last_digits};
 ghost use Rattle.ratio_decimal.specs.RoundingRules.{signed};
 
 use ratio_core::sign::is_below_zero;

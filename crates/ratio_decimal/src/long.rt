@@ -6,7 +6,7 @@ ghost use Rattle.std.specs.Prelude.{◌≡◌, ◌*◌, ◌+◌, ◌^◌, ◌<�
 ghost use Rattle.std.specs.Fmt.{HasWrittenStyled, IsFlush, WritesStyledOnOk, before_digits, fill_after_digits, formatter_spec, number_padding, padded_integral, padding_before, sign_text_with, spec_sign_plus, spec_zero_pad};
 ghost use Rattle.core.specs.List.{repeat};
 ghost use Rattle.ratio_decimal.specs.Decimal.{point, unsigned_places};
-ghost use Rattle.ratio_core.specs.Printing.{last_digits};
+ghost use Rattle.ratio_integer.specs.LastDigits.{last_digits};
 ghost use Rattle.ratio_decimal.specs.Precision.{half_even};
 
 use crate::rounding_rule::{Rounding, rounded};

@@ -1,5 +1,5 @@
-//! The six rules of rounding, which ask whether a rest is below a half, at it or above it, and a fraction or a product of two rounded by
-//! them, to a whole number or to a multiple of `1/parts`, such as cents or quarters.
+//! The six rules of rounding (`Rounding`), and a fraction or a product of two rounded by them, to a whole number or to a multiple of
+//! `1/parts`, such as cents or quarters.
 //!
 //! A rule asks only where a rest lies: at 0, below a half, at a half or above it. A product that fits the type, or 128 bits for a
 //! whole number, is divided once. `product` rounds the others.

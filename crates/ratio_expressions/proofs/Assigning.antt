@@ -7,7 +7,7 @@ use Rattle.ratio_expressions.specs.declared.step.Step.{Step}
 use Rattle.ratio_expressions.specs.declared.step.Step.TheVariants as steps
 use Rattle.ratio_expressions.specs.Grammar.{Tree, Name, Between, postfix}
 use Rattle.ratio_expressions.specs.Lines.{target, valued}
-use Rattle.ratio_expressions.specs.Stacks.{IsEqualSign, MakeOneTree, grow, name_of}
+use Rattle.ratio_expressions.specs.Stacks.{IsEqualSign, MakeOneTree, grow}
 use Rattle.ratio_expressions.proofs.Growing.{grow-append, grow-over, grow-tree}
 
 -- the tree of an assignment
@@ -22,17 +22,13 @@ target_cases (Between Equal s (Name n) b) = inr (record { sign = s; name = n; ri
 target_cases t = inl refl
 
 -- without a name, the line's expression is the whole
-pub valued_whole : (t : Tree) → target t ≡ None → valued t ≡ t
+valued_whole : (t : Tree) → target t ≡ None → valued t ≡ t
 valued_whole (Between Equal s (Name n) b) none = absurd (cc)
 valued_whole t none = refl
 
 equal_sign : (x : Step) → IsEqualSign x → (s : Span) × (x ≡ steps.Apply Equal s)
 equal_sign (steps.Apply Equal s) h = (s, refl)
 equal_sign x h = absurd h
-
-named_step : (x : Step) (n : Span) → name_of x ≡ Some n → x ≡ steps.Name n
-named_step (steps.Name s) n e = let same : s ≡ n = cc in ap steps.Name same
-named_step x n e = absurd (cc)
 
 last_same : (m p : List Step) (y z : Step) → m ++ y ∷ [] ≡ p ++ z ∷ [] → (m ≡ p) × (y ≡ z)
 last_same m p y z e =
@@ -63,11 +59,10 @@ cut (x ∷ (y ∷ l)) d some =
 
 module _ (xs : List Step) (d : Step) where
   -- the line gives its value this name
-  pub gives_name : (n : Span) → 2 ≤ length xs → IsEqualSign (get_or xs (length xs - 1) d) → MakeOneTree (middle xs) → name_of (get_or xs 0 d) ≡ Some n
+  pub gives_name : (n : Span) → 2 ≤ length xs → get_or xs 0 d ≡ steps.Name n → IsEqualSign (get_or xs (length xs - 1) d) → MakeOneTree (middle xs)
       → (t : Tree) → xs ≡ postfix t → (target t ≡ Some n) × (middle xs ≡ postfix (valued t))
-  gives_name n some sign whole name t e =
+  gives_name n some first sign whole t e =
       let last = equal_sign (get_or xs (length xs - 1) d) sign in
-      let first = named_step (get_or xs 0 d) n name in
       let sign_step : Step = steps.Apply Equal last.0 in
       let u : Tree = Between Equal last.0 (Name n) whole.tree in
       let shape : xs ≡ steps.Name n ∷ (middle xs ++ sign_step ∷ []) =
@@ -81,12 +76,12 @@ module _ (xs : List Step) (d : Step) where
       let rest : middle xs ++ sign_step ∷ [] ≡ postfix whole.tree ++ sign_step ∷ [] = cc in
       (ap target same, (last_same (middle xs) (postfix whole.tree) sign_step sign_step rest).0 ∙ sym (ap (λ v. postfix (valued v)) same))
 
-  -- it gives none, unless all this holds
-  pub gives_none : ((n : Span) → 2 ≤ length xs → IsEqualSign (get_or xs (length xs - 1) d) → MakeOneTree (middle xs) → name_of (get_or xs 0 d) ≡ Some n → ⊥)
-      → (t : Tree) → xs ≡ postfix t → target t ≡ None
+  -- it gives none, unless all this holds, and its expression is the whole
+  pub gives_none : ((n : Span) → 2 ≤ length xs → get_or xs 0 d ≡ steps.Name n → IsEqualSign (get_or xs (length xs - 1) d) → MakeOneTree (middle xs) → ⊥)
+      → (t : Tree) → xs ≡ postfix t → (target t ≡ None) × (xs ≡ postfix (valued t))
   gives_none fails t e =
       ⊎_elim
-      (λ p. p)
+      (λ none. (none, e ∙ ap postfix (sym (valued_whole t none))))
       (λ (a : IsAssigned t).
       let shape : xs ≡ steps.Name a.name ∷ (postfix a.right ++ steps.Apply Equal a.sign ∷ []) = e ∙ ap postfix a.same in
       let some : 2 ≤ length xs = omega (arith, ap length shape, length-append (postfix a.right) (steps.Apply Equal a.sign ∷ [])) in
@@ -94,5 +89,5 @@ module _ (xs : List Step) (d : Step) where
       let first : get_or xs 0 d ≡ steps.Name a.name = cc in
       let rest : middle xs ++ get_or xs (length xs - 1) d ∷ [] ≡ postfix a.right ++ steps.Apply Equal a.sign ∷ [] = cc in
       let ends = last_same (middle xs) (postfix a.right) (get_or xs (length xs - 1) d) (steps.Apply Equal a.sign) rest in
-      absurd (fails a.name some (subst IsEqualSign (sym ends.1) tt) (record { tree = a.right; makes = ap (λ l. grow l (Some [])) ends.0 ∙ grow-tree a.right }) (ap name_of first)))
+      absurd (fails a.name some first (subst IsEqualSign (sym ends.1) tt) (record { tree = a.right; makes = ap (λ l. grow l (Some [])) ends.0 ∙ grow-tree a.right })))
       (target_cases t)

@@ -14,9 +14,6 @@ pub record HasTrees (written : List Step) (count : ℕ) : Type 0 where
   pub makes : grow written (Some []) ≡ Some trees
   pub number : length trees ≡ count
 
-pub no_trees : HasTrees [] 0
-no_trees = record { trees = []; makes = refl; number = refl }
-
 -- a step that finds its trees makes one of them
 grown_number : (x : Step) (ts : List Tree) → operands x ≤ length ts → (us : List Tree) × (trees_by x ts ≡ Some us) × (length us ≡ length ts - operands x + 1)
 grown_number (steps.Number s) ts some = (Number s ∷ ts, refl, omega arith)

@@ -1,27 +1,17 @@
 -- A text is cut into tokens in one way, and a text in which a place begins no token is cut in none.
-use Rattle.std.proofs.Common.{◌≡◌, ◌≢◌, ◌<◌, ◌≤◌, ◌+◌, ℕ, Bool, true, false, List, [], ◌∷◌, ◌++◌, length, drop, Some, None, refl, ap, sym, ◌∙◌, subst, arith, ⊎_elim}
-use Rattle.std.specs.Prelude.{slice_index, nat_le, if◌then◌else◌}
+use Rattle.std.proofs.Common.{◌≡◌, ◌≢◌, ◌<◌, ◌≤◌, ◌+◌, ℕ, List, [], ◌∷◌, ◌++◌, length, drop, Some, None, refl, ap, sym, ◌∙◌, subst, arith, ⊎_elim}
+use Rattle.std.specs.Prelude.{slice_index}
 use Rattle.std.proofs.lemmas.Bool.Decides.{leb_tells}
 use Rattle.std.proofs.lemmas.List.{get_or-drop, drop_all}
 use Rattle.ratio_expressions.specs.declared.token.Kind.{Kind}
 use Rattle.ratio_expressions.specs.declared.token.Token.{Token}
-use Rattle.ratio_expressions.specs.Tokens.{first_token, number, name, symbol, digits, led, longest, IsBlank, IsTokenAt, IsCutInto, BeginsNone}
+use Rattle.ratio_expressions.specs.Tokens.{first_token, number, name, symbol, digits, led, IsBlank, IsTokenAt, IsCutInto, BeginsNone}
 use Rattle.ratio_expressions.specs.Vulgar.{vulgar, vulgar_length}
-
-no_symbol : (a b c : Bool) → longest (if a then None else None) (if b then None else None) (if c then None else None) ≡ None
-no_symbol true true true = refl
-no_symbol true true false = refl
-no_symbol true false true = refl
-no_symbol true false false = refl
-no_symbol false true true = refl
-no_symbol false true false = refl
-no_symbol false false true = refl
-no_symbol false false false = refl
 
 -- no token begins with a space
 space_first : (rest : List ℕ) → first_token (32 ∷ rest) ≡ None
 unfolding number name symbol digits led vulgar vulgar_length
-space_first rest = no_symbol (nat_le 3 (length (32 ∷ rest))) (nat_le 2 (length (32 ∷ rest))) (nat_le 1 (length (32 ∷ rest)))
+space_first rest = refl
 
 at_space : (text : List ℕ) → slice_index text 0 ≡ 32 → first_token text ≡ None
 unfolding number name symbol digits led vulgar vulgar_length

@@ -3,9 +3,7 @@ use Rattle.std.proofs.Common.{◌≡◌, ◌≤◌, List, [], ◌∷◌, ◌++�
 use Rattle.std.proofs.lemmas.List.{append-nil}
 use Rattle.ratio_expressions.specs.declared.step.Step.{Step}
 use Rattle.ratio_expressions.specs.declared.step.Step.TheVariants as steps
-use Rattle.ratio_expressions.specs.declared.token.Operator.TheVariants.{Equal}
 use Rattle.ratio_expressions.specs.Grammar.{Tree, Number, Name, Negative, Between, Group, Call, Listed, IsProper, Rank, Comparison, Sum, Product, Raising, arguments, binds, left_level, postfix, rank, right_level}
-use Rattle.ratio_expressions.specs.Lines.{valued}
 use Rattle.ratio_expressions.specs.Stacks.{trees_by}
 
 -- the trees that a step takes are one argument each, and those of a call as many as it says
@@ -71,12 +69,3 @@ fit-postfix (Listed a s b) p xs ts h =
 -- the steps of an expression fit
 pub fit-tree : (t : Tree) → IsProper t → AllFit (postfix t) []
 fit-tree t p = subst (λ (l : List Step). AllFit l []) (append-nil (postfix t)) (fit-postfix t p [] [] tt)
-
--- the expression of a line is one, too
-pub valued_proper : (t : Tree) → IsProper t → IsProper (valued t)
-valued_proper (Between Equal s (Name n) b) p = p.3
-valued_proper t p = p
-
-pub valued_single : (t : Tree) → IsProper t → arguments t ≡ 1 → arguments (valued t) ≡ 1
-valued_single (Between Equal s (Name n) b) p one = one_argument b p.1
-valued_single t p one = one

@@ -20,8 +20,8 @@ use Rattle.ratio_core.proofs.SignedNumbers.{with_sign-mul}
 use Rattle.ratio_decimal.specs.RoundingRules.{IsRoundedBy, IsRoundedToEven}
 use Rattle.ratio_decimal.specs.declared.rounding_rule.Rounding.TheVariants.{HalfEven}
 use Rattle.ratio_decimal.proofs.RoundingRuleLaws.{one_by, same_by}
-use Rattle.ratio_float.specs.Floats.{fraction_of_float, nearest_float}
-use Rattle.ratio_float.proofs.FloatLawLemmas.{come_back, value_only, zero_first}
+use Rattle.ratio_decimal.specs.Floats.{fraction_of_float, nearest_float}
+use Rattle.ratio_decimal.proofs.FloatLawLemmas.{come_back, value_only, zero_first}
 use Rattle.num_rational.proofs.SplitLemmas.{times-one}
 use Rattle.ratio_big.specs.Multiples.{IsMultipleBy}
 use Rattle.ratio_big.specs.Values.{HasTerms}

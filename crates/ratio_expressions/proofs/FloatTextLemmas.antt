@@ -10,10 +10,10 @@ use lib.Ieee.Fits.{core, down_pos, round_is}
 use lib.Ieee.Nearest.{closest, closest_mono}
 use Rattle.ratio_core.specs.Signs.{with_sign}
 use Rattle.ratio_decimal.specs.declared.rounding_rule.Rounding.TheVariants.{HalfEven}
-use Rattle.ratio_float.specs.Floats.{fraction_of_float, nearest_float}
-use Rattle.ratio_float.proofs.FloatLawLemmas.{monotone}
-use Rattle.ratio_long.specs.Decimals.{IsLongDecimalOf}
-use Rattle.ratio_long.proofs.DecimalLawLemmas.{decimal_by_value, decimals_agree}
+use Rattle.ratio_decimal.specs.Floats.{fraction_of_float, nearest_float}
+use Rattle.ratio_decimal.proofs.FloatLawLemmas.{monotone}
+use Rattle.ratio_decimal.specs.Decimal.{IsDecimalOf}
+use Rattle.ratio_decimal.proofs.DecimalLawLemmas.{decimal_by_value, decimals_agree}
 use Rattle.ratio_big.specs.Values.{HasTerms}
 use Rattle.ratio_expressions.specs.Floats.{IsFewestPlaces, IsFloatText, TinyFloatsAreZero}
 use Rattle.ratio_expressions.proofs.FloatLemmas.{exact_to_even, tens, zero_reads_back}
@@ -21,7 +21,7 @@ use Rattle.ratio_expressions.proofs.FloatLemmas.{exact_to_even, tens, zero_reads
 pub nearest_number : (n d : ℤ) → pos 0 <ℤ d → NotNan (nearest_float binary64 n d)
 nearest_number n d above = le_left (nearest_float binary64 n d) (nearest_float binary64 n d) (monotone binary64 n d n d above above (omega (arith, ints)))
 
-pub finite_written : (x : Float) (value : ℤ × ℤ) (places : ℕ) (text : List ℕ) → HasTerms (fraction_of_float x) value → IsFewestPlaces x places → IsLongDecimalOf HalfEven places value.0 value.1 text → IsFloatText x text
+pub finite_written : (x : Float) (value : ℤ × ℤ) (places : ℕ) (text : List ℕ) → HasTerms (fraction_of_float x) value → IsFewestPlaces x places → IsDecimalOf HalfEven places value.0 value.1 text → IsFloatText x text
 finite_written nan value places text exact few decimal = absurd (exact.fraction refl)
 finite_written (inf s) value places text exact few decimal = absurd (exact.fraction refl)
 finite_written (fin s m e) value places text exact few decimal = record {
@@ -52,7 +52,7 @@ float_once (fin s m e) a b h g =
     let v : ℤ × ℤ = fraction_of_float x in
     let above : pos 0 <ℤ v.1 = omega (arith, ints, down_pos e) in
     let same : h.places ≡ g.places = omega (arith, h.few.fewest g.places g.few.reads_back, g.few.fewest h.places h.few.reads_back) in
-    decimals_agree HalfEven g.places v.0 v.1 v.0 v.1 a b above above refl (subst (λ k. IsLongDecimalOf HalfEven k v.0 v.1 a) same h.decimal) g.decimal
+    decimals_agree HalfEven g.places v.0 v.1 v.0 v.1 a b above above refl (subst (λ k. IsDecimalOf HalfEven k v.0 v.1 a) same h.decimal) g.decimal
 
 -- ---- tiny fractions
 

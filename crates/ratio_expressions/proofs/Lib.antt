@@ -34,5 +34,6 @@ pub mod Soundness
 pub mod StackLemmas
 pub mod TextLaws
 pub mod TokenByToken
+pub mod Unread
 pub mod ValueLaws
 pub mod WholeLemmas

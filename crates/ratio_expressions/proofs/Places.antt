@@ -1,5 +1,5 @@
 -- The numbers and the names of a text's tree are in the text, and so the text isn't empty.
-use Rattle.std.proofs.Common.{◌≡◌, ◌<◌, ◌≤◌, ℕ, List, [], ◌∷◌, ◌++◌, length, Option, ap, sym, subst, arith, inl, inr, ⊎_elim}
+use Rattle.std.proofs.Common.{◌≡◌, ◌<◌, ◌≤◌, ℕ, List, [], ◌∷◌, ◌++◌, length, Option, sym, subst, arith, inl, inr, ⊎_elim}
 use Rattle.std.specs.List.{All}
 use Rattle.std.proofs.lemmas.List.Elements.{All-append, All-cons, All-nil}
 use Rattle.ratio_expressions.specs.declared.token.Span.{Span}
@@ -8,8 +8,6 @@ use Rattle.ratio_expressions.specs.declared.step.Step.{Step}
 use Rattle.ratio_expressions.specs.declared.step.Step.TheVariants as steps
 use Rattle.ratio_expressions.specs.declared.token.Operator.TheVariants.{Equal}
 use Rattle.ratio_expressions.specs.declared.refusal.Refusal.{Refusal}
-use Rattle.ratio_expressions.specs.declared.refusal.Reason.{Reason}
-use Rattle.ratio_expressions.specs.declared.refusal.ValueError.TheVariants.{Refused}
 use Rattle.ratio_expressions.specs.Expression.{IsExpression, IsRefusal}
 use Rattle.ratio_expressions.specs.Grammar.{Tree, Number, Name, Negative, Between, Group, Call, Listed, arguments, spelling, postfix}
 use Rattle.ratio_expressions.specs.Lines.{valued}
@@ -18,20 +16,6 @@ use Rattle.ratio_expressions.specs.Values.{HasRefusal}
 use Rattle.ratio_expressions.specs.Worths.{Worth}
 use Rattle.ratio_expressions.specs.Tokens.{IsCutInto}
 use Rattle.ratio_expressions.proofs.CutLaws.{some_text}
-
--- the place of a refusal that was made for an error
-pub place_of : (reason : Reason) (place : ℕ) (r : Refusal) → Refused (record { reason = reason; place = place }) ≡ Refused r → place ≡ r.place
-place_of reason place r e =
-    let made : Refusal = record { reason = reason; place = place } in
-    let same : made ≡ r = cc in
-    ap (λ (q : Refusal). q.place) same
-
--- its reason
-pub reason_of : (reason : Reason) (place : ℕ) (r : Refusal) → Refused (record { reason = reason; place = place }) ≡ Refused r → r.reason ≡ reason
-reason_of reason place r e =
-    let made : Refusal = record { reason = reason; place = place } in
-    let same : made ≡ r = cc in
-    sym (ap (λ (q : Refusal). q.reason) same)
 
 behind_some : {A : Type 0} (xs ys : List A) (y : A) → 0 < length (xs ++ y ∷ ys)
 behind_some [] ys y = omega arith

@@ -5,9 +5,9 @@ use Rattle.std.specs.Float.{binary64}
 use Rattle.std.proofs.lemmas.Int.{ints}
 use Rattle.ratio_core.proofs.RoundingLawLemmas.{one_truncation}
 use Rattle.ratio_decimal.specs.declared.rounding_rule.Rounding.TheVariants.{HalfAway}
-use Rattle.ratio_float.specs.Floats.{nearest_float}
-use Rattle.ratio_long.proofs.DecimalLawLemmas.{decimals_agree}
-use Rattle.ratio_long.specs.Decimals.{IsLongDecimalOf}
+use Rattle.ratio_decimal.specs.Floats.{nearest_float}
+use Rattle.ratio_decimal.proofs.DecimalLawLemmas.{decimals_agree}
+use Rattle.ratio_decimal.specs.Decimal.{IsDecimalOf}
 use Rattle.ratio_big.specs.Fractions.{big_numbers}
 use Rattle.ratio_big.specs.Texts.{fraction_text}
 use Rattle.ratio_expressions.specs.Bound.{named}
@@ -34,7 +34,7 @@ same_rest : (n d t s f e : ℤ) → t ≡ s → n ≡ t *ℤ d +ℤ f → n ≡ 
 same_rest n d t s f e same h g = let moved : t *ℤ d ≡ s *ℤ d = ap (λ (z : ℤ). z *ℤ d) same in omega (arith, ints)
 
 module _ (x : ℤ × ℤ) (up : pos 0 <ℤ x.1) (a b : List ℕ) where
-  decimal_once : (places : ℕ) → IsLongDecimalOf HalfAway places x.0 x.1 a → IsLongDecimalOf HalfAway places x.0 x.1 b → a ≡ b
+  decimal_once : (places : ℕ) → IsDecimalOf HalfAway places x.0 x.1 a → IsDecimalOf HalfAway places x.0 x.1 b → a ≡ b
   decimal_once places h g = decimals_agree HalfAway places x.0 x.1 x.0 x.1 a b up up refl h g
 
   mixed_once : IsInMixedForm x a → IsInMixedForm x b → a ≡ b

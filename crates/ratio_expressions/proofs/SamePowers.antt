@@ -6,10 +6,11 @@ use Rattle.std.proofs.Math.Nat.{mul-zero}
 use Rattle.std.proofs.lemmas.Bool.Decides.{leb_tells}
 use Rattle.std.proofs.lemmas.Int.{ints}
 use Rattle.std.proofs.lemmas.Result.{IfOk-weaker, MatchResult-weaker}
+use Rattle.ratio_integer.specs.SignedBits.{IsHeld64}
 use Rattle.ratio_core.specs.Power.{power_of}
 use Rattle.ratio_core.specs.Signs.{with_sign}
 use Rattle.ratio_core.proofs.SignedNumbers.{size_is}
-use Rattle.ratio_big.specs.Values.{Has64Bits, IsShort}
+use Rattle.ratio_big.specs.Values.{IsShort}
 use Rattle.ratio_expressions.specs.Operators.{GivesNumbers, HaveSamePowers, IsModestPower, IsTermsOf, RefusesNumbers}
 use Rattle.ratio_expressions.specs.Worths.{Worth, worth}
 use Rattle.ratio_expressions.specs.declared.refusal.Reason.{Reason}
@@ -87,7 +88,7 @@ pub short_same : (e f : ℤ) → f ≡ e → HaveSamePowers e f
 short_same e f is = subst (λ (g : ℤ). HaveSamePowers e g) (sym is) (same_exponent e)
 
 -- a number that needs more than 64 bits
-far : (z : ℤ) → ¬ (Has64Bits z) → 2 ^ 63 ≤ unsigned_abs z
+far : (z : ℤ) → ¬ (IsHeld64 z) → 2 ^ 63 ≤ unsigned_abs z
 far (pos n) h = ⊎_elim (λ p. absurd (h (record { above = omega (arith, ints); below = omega (arith, ints, p.1) }))) (λ p. omega (arith, p.1)) (leb_tells n (2 ^ 63 - 1))
 far (negsuc n) h = ⊎_elim (λ p. absurd (h (record { above = omega (arith, ints, p.1); below = omega (arith, ints) }))) (λ p. omega (arith, p.1)) (leb_tells n (2 ^ 63 - 1))
 
@@ -108,7 +109,7 @@ like_long e negative last long sign is =
 -- a long one is replaced
 pub long_same : (y : ℤ × ℤ) (negative : Bool) (last : ℕ) → y.1 ≡ pos 1 → ¬ (IsShort y) → IsTrue negative ↔ (y.0 <ℤ pos 0) → last ≡ unsigned_abs y.0 % 2 → HaveSamePowers y.0 (with_sign negative (1000002 + last))
 long_same y negative last whole long sign is =
-    let one : Has64Bits y.1 = record { above = omega (arith, ints); below = omega (arith, ints) } in
+    let one : IsHeld64 y.1 = record { above = omega (arith, ints); below = omega (arith, ints) } in
     alike _ _ (like_long y.0 negative last (far y.0 (λ numer. long (record { numer = numer; denom = one }))) sign is)
 
 -- ---- what the power by that exponent says of the power

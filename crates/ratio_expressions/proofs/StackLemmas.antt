@@ -1,9 +1,13 @@
 -- The values that a call takes from a stack.
-use Rattle.std.proofs.Common.{◌≡◌, ◌∙◌, ◌≤◌, ◌-◌, ℕ, List, [], ◌∷◌, ◌++◌, length, take, drop, reverse, map, refl, ap, sym, arith}
+use Rattle.std.proofs.Common.{◌≡◌, ◌∙◌, ◌≤◌, ◌-◌, ℕ, List, [], ◌∷◌, ◌++◌, length, take, drop, reverse, map, Result, Ok, Err, refl, ap, sym, subst, arith}
 use Rattle.std.proofs.lemmas.List.{length-drop, length-map, length-reverse, map-append, reverse-append, reverse-reverse, take-append-drop, take_all}
 use Rattle.std.proofs.Math.Seq.{drop-append_seam, take-append_seam}
-use Rattle.ratio_expressions.specs.Stacks.{worths}
-use Rattle.ratio_expressions.specs.Worths.{worth}
+use Rattle.std.specs.Prelude.{MatchResult}
+use Rattle.ratio_expressions.specs.Stacks.{FailsWith, worths}
+use Rattle.ratio_expressions.specs.Worths.{Worth, worth}
+use Rattle.ratio_expressions.specs.declared.refusal.Reason.{Reason}
+use Rattle.ratio_expressions.specs.declared.refusal.ValueError.{ValueError}
+use Rattle.ratio_expressions.specs.declared.refusal.ValueError.TheVariants as errors
 use Rattle.ratio_expressions.specs.declared.value.Value.{Value}
 
 map-reversed : (l : List Value) → map worth (reverse l) ≡ reverse (map worth l)
@@ -34,3 +38,15 @@ last_values stack n k enough place =
   where
     length_back : length (drop k stack) ≡ n
     length_back = omega (arith, enough, place, length-drop k stack)
+
+-- what is put down is the value that was found, or the refusal is for the reason that there is none
+pub put_down : {T : Type 0} (found : Result Value Reason) (result : Result T ValueError) (P : Worth → Type 0) (Q : Reason → Type 0) (old new : List Worth) (place : ℕ)
+    → MatchResult found (λ v. P (worth v)) Q
+    → MatchResult found (λ v. MatchResult result (λ _. new ≡ worth v ∷ old) (FailsWith (λ _. ⊥))) (λ reason. MatchResult result (λ _. ⊥) (FailsWith (λ r. (r.reason ≡ reason) × (r.place ≡ place))))
+    → MatchResult result (λ _. (w : Worth) × P w × (new ≡ w ∷ old)) (FailsWith (λ r. Q r.reason × (r.place ≡ place)))
+put_down (Ok v) (Ok u) P Q old new place given put = (worth v, given, put)
+put_down (Ok v) (Err errors.Memory) P Q old new place given put = tt
+put_down (Ok v) (Err (errors.Refused r)) P Q old new place given put = absurd put
+put_down (Err reason) (Ok u) P Q old new place given put = absurd put
+put_down (Err reason) (Err errors.Memory) P Q old new place given put = tt
+put_down (Err reason) (Err (errors.Refused r)) P Q old new place given put = (subst Q (sym put.0) given, put.1)

@@ -7,9 +7,9 @@ use Rattle.std.proofs.lemmas.Int.{ints}
 use Rattle.std.proofs.lemmas.List.{replicate-append-replicate, take_all}
 use Rattle.ratio_core.specs.Reading.{minus}
 use Rattle.ratio_core.specs.Rounding.{IsFractionalPart, IsRounded, IsTruncation}
-use Rattle.ratio_decimal.specs.Decimal.{point}
-use Rattle.ratio_natural.specs.Decimal.{decimal_text, padded_text}
-use Rattle.ratio_long.specs.Decimals.{long_decimal, unsigned_decimal}
+use Rattle.ratio_decimal.specs.Decimal.{places_text, point, unsigned_places}
+use Rattle.ratio_integer.specs.LastDigits.{last_digits}
+use Rattle.ratio_natural.specs.Decimal.{decimal_text}
 use Rattle.ratio_big.specs.Texts.{fraction_text}
 use Rattle.ratio_big.proofs.TextLemmas.{text_over_one}
 use Rattle.ratio_expressions.specs.Forms.{IsInFields, with_zeros}
@@ -40,19 +40,19 @@ tens_some (suc k) = let h = tens_some k in omega (arith, pow-suc 10 k)
 ten_more : (n k : ℕ) → n * 10 ^ suc k ≡ n * 10 ^ k * 10
 ten_more n k = ap (λ p. n * p) (pow-suc 10 k) ∙ sym (mul_assoc n (10 ^ k) 10)
 
-only_zeros : (k n : ℕ) → padded_text k (n * 10 ^ k) ≡ replicate k 48
+only_zeros : (k n : ℕ) → last_digits k (n * 10 ^ k) ≡ replicate k 48
 only_zeros zero n = refl
 only_zeros (suc k) n =
     let front : n * 10 ^ suc k / 10 ≡ n * 10 ^ k = ap (λ m. m / 10) (ten_more n k) ∙ mul-div_cancel (n * 10 ^ k) (lit< tt) in
     let last : n * 10 ^ suc k % 10 ≡ 0 = ap (λ m. m % 10) (ten_more n k) ∙ mul-mod_left (n * 10 ^ k) 10 in
     let one : k + 1 ≡ suc k = omega arith in
-    ap (λ m. padded_text k m ++ (48 + n * 10 ^ suc k % 10) ∷ []) front
-    ∙ ap (λ digit. padded_text k (n * 10 ^ k) ++ (48 + digit) ∷ []) last
+    ap (λ m. last_digits k m ++ (48 + n * 10 ^ suc k % 10) ∷ []) front
+    ∙ ap (λ digit. last_digits k (n * 10 ^ k) ++ (48 + digit) ∷ []) last
     ∙ ap (λ front. front ++ 48 ∷ []) (only_zeros k n)
     ∙ replicate-append-replicate k 1 48
     ∙ ap (λ count. replicate count 48) one
 
-unsigned_zeros : (k n : ℕ) → with_zeros k (decimal_text n) ≡ unsigned_decimal k (n * 10 ^ k)
+unsigned_zeros : (k n : ℕ) → with_zeros k (decimal_text n) ≡ unsigned_places k (n * 10 ^ k)
 unsigned_zeros zero n = ap decimal_text (omega arith)
 unsigned_zeros (suc k) n =
     ap (λ m. decimal_text m ++ point ∷ replicate (suc k) 48) (sym (mul-div_cancel n (tens_some (suc k))))
@@ -62,18 +62,18 @@ behind_minus : (k : ℕ) (text : List ℕ) → with_zeros k (minus ∷ text) ≡
 behind_minus zero text = refl
 behind_minus (suc k) text = refl
 
-below_zero : (k m : ℕ) → 0 < m → minus ∷ unsigned_decimal k m ≡ long_decimal k (neg_ℤ (pos m))
+below_zero : (k m : ℕ) → 0 < m → minus ∷ unsigned_places k m ≡ places_text k (neg_ℤ (pos m))
 below_zero k zero some = absurd (omega (arith, some))
 below_zero k (suc m) some = refl
 
-long_zeros : (k : ℕ) (z : ℤ) → with_zeros k (long_decimal 0 z) ≡ long_decimal k (z *ℤ pos (10 ^ k))
+long_zeros : (k : ℕ) (z : ℤ) → with_zeros k (places_text 0 z) ≡ places_text k (z *ℤ pos (10 ^ k))
 long_zeros k (pos n) = unsigned_zeros k n
 long_zeros k (negsuc n) =
     let some : 0 < suc n * 10 ^ k = grind (arith, tens_some k) in
     behind_minus k (decimal_text (suc n))
     ∙ ap (λ text. minus ∷ text) (unsigned_zeros k (suc n))
     ∙ below_zero k (suc n * 10 ^ k) some
-    ∙ ap (long_decimal k) (sym (negsuc-*ℤ-pos n (10 ^ k)))
+    ∙ ap (places_text k) (sym (negsuc-*ℤ-pos n (10 ^ k)))
 
 zeros_put : (k : ℕ) (text : List ℕ) → 0 < k → (text ++ point ∷ []) ++ replicate k 48 ≡ with_zeros k text
 zeros_put zero text some = absurd (omega (arith, some))

@@ -5,8 +5,8 @@ use Rattle.std.specs.Float.{Float, binary64, nan, inf, fin}
 use Rattle.std.specs.Float.Ieee.{eq}
 use Rattle.ratio_decimal.specs.RoundingRules.{IsRoundedBy}
 use Rattle.ratio_decimal.specs.declared.rounding_rule.Rounding.TheVariants.{HalfEven}
-use Rattle.ratio_float.specs.Floats.{fraction_of_float, nearest_float}
-use Rattle.ratio_long.specs.Decimals.{IsLongDecimalOf}
+use Rattle.ratio_decimal.specs.Floats.{fraction_of_float, nearest_float}
+use Rattle.ratio_decimal.specs.Decimal.{IsDecimalOf}
 
 -- the exact value of the float x, rounded by `HalfEven` to so many places, has x as its nearest float, where 0.0 equals -0.0
 -- Example: 0.1 with one place; not with none, since 0 has the nearest float 0.0
@@ -26,7 +26,7 @@ pub record IsFewestPlaces (x : Float) (places : ℕ) : Type 0 where
 pub record IsWithFewestPlaces (x : Float) (text : List ℕ) : Type 0 where
   pub places : ℕ
   pub few : IsFewestPlaces x places
-  pub decimal : IsLongDecimalOf HalfEven places (fraction_of_float x).0 (fraction_of_float x).1 text
+  pub decimal : IsDecimalOf HalfEven places (fraction_of_float x).0 (fraction_of_float x).1 text
 
 -- the text is a float: `inf` or `-inf`, or a finite one with the fewest places
 abbrev pub IsFloatText : Float → List ℕ → Type 0

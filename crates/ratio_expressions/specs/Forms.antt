@@ -3,10 +3,9 @@ use Rattle.std.specs.Prelude.{◌≡◌, ◌≢◌, ◌⊎◌, ◌<◌, ◌≤�
 use Rattle.std.specs.Float.{binary64}
 use Rattle.std.specs.Ordering.{int_eq}
 use Rattle.ratio_core.specs.Rounding.{IsFractionalPart, IsTruncation}
-use Rattle.ratio_decimal.specs.Decimal.{point}
+use Rattle.ratio_decimal.specs.Decimal.{IsDecimalOf, point}
 use Rattle.ratio_decimal.specs.declared.rounding_rule.Rounding.TheVariants.{HalfAway}
-use Rattle.ratio_float.specs.Floats.{nearest_float}
-use Rattle.ratio_long.specs.Decimals.{IsLongDecimalOf}
+use Rattle.ratio_decimal.specs.Floats.{nearest_float}
 use Rattle.ratio_big.specs.Texts.{fraction_text}
 use Rattle.ratio_big.specs.Values.{absolute_pair}
 use Rattle.ratio_expressions.specs.Worths.{Worth, Amount, Truth}
@@ -55,7 +54,7 @@ beside false six = 32 ∷ 226 ∷ 137 ∷ 136 ∷ 32 ∷ [] ++ six
 -- Example: 1/4, exactly: `1/4 = 0.25`
 pub record IsWithDecimal (x : ℤ × ℤ) (exact : Bool) (text : List ℕ) : Type 0 where
   pub six : List ℕ
-  pub decimal : IsLongDecimalOf HalfAway 6 x.0 x.1 six
+  pub decimal : IsDecimalOf HalfAway 6 x.0 x.1 six
   pub written : text ≡ fraction_text x ++ beside exact six
 
 -- the text is a whole number alone, or a fraction and its decimal
@@ -79,7 +78,7 @@ with_zeros (suc k) text = text ++ point ∷ replicate (suc k) 48
 pub record IsInFields (x : ℤ × ℤ) (places : ℕ) (text : List ℕ) : Type 0 where
   pub rounded : List ℕ
   pub mixed : List ℕ
-  pub decimal : IsLongDecimalOf HalfAway places x.0 x.1 rounded
+  pub decimal : IsDecimalOf HalfAway places x.0 x.1 rounded
   pub whole_part : IsInMixedForm x mixed
   pub written : text ≡ fraction_text x ++ 9 ∷ [] ++ rounded ++ 9 ∷ [] ++ mixed
 
@@ -87,7 +86,7 @@ pub record IsInFields (x : ℤ × ℤ) (places : ℕ) (text : List ℕ) : Type 0
 -- Example: 17/12 in `Decimal 4`: `1.4167`
 abbrev pub IsNumberInForm : ℤ × ℤ → Form → List ℕ → Type 0
 IsNumberInForm x forms.Fraction text = text ≡ fraction_text x
-IsNumberInForm x (forms.Decimal places) text = IsLongDecimalOf HalfAway places x.0 x.1 text
+IsNumberInForm x (forms.Decimal places) text = IsDecimalOf HalfAway places x.0 x.1 text
 IsNumberInForm x forms.Mixed text = IsInMixedForm x text
 IsNumberInForm x (forms.Fields places) text = IsInFields x places text
 IsNumberInForm x forms.Both text = IsInBothForm x text

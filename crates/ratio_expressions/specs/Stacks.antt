@@ -88,11 +88,6 @@ abbrev pub IsEqualSign : Step → Type 0
 IsEqualSign (steps.Apply Equal s) = Unit {0}
 IsEqualSign x = ⊥
 
--- Inner: the place of the name that a step is
-abbrev pub name_of : Step → Option Span
-name_of (steps.Name s) = Some s
-name_of x = None
-
 -- Inner: what the values of a stack are worth, the last one first
 abbrev pub worths : List Value → List Worth
 worths stack = map worth (reverse stack)

@@ -1,5 +1,5 @@
 -- Which token a text begins with, and how a text is cut into tokens.
-use Rattle.std.specs.Prelude.{◌≡◌, ◌≢◌, ◌<◌, ◌≤◌, ◌+◌, ℕ, Bool, List, [], ◌∷◌, length, drop, Option, Some, None, nat_lt, nat_le, ◌&&◌, ◌||◌, ◌==◌, if◌then◌else◌, slice_index}
+use Rattle.std.specs.Prelude.{◌≡◌, ◌≢◌, ◌<◌, ◌≤◌, ◌+◌, ℕ, Bool, List, [], ◌∷◌, length, drop, Option, Some, None, option_map, nat_lt, ◌&&◌, ◌||◌, ◌==◌, if◌then◌else◌, slice_index}
 use Rattle.std.specs.List.{take_while}
 use Rattle.std.specs.Char.{is_ascii_digit, is_ascii_alphabetic, is_ascii_alphanumeric}
 use Rattle.ratio_expressions.specs.declared.token.Operator.TheVariants.{Less, AtMost, Equal, NotEqual, AtLeast, Greater, Add, Subtract, Multiply, Divide, Remainder, Power}
@@ -17,11 +17,6 @@ digits text = length (take_while is_ascii_digit text)
 -- Example: a slash, in `/3*4`: 2
 unfoldable pub led : ℕ → List ℕ → ℕ
 led c text = if (slice_index text 0 == c) && nat_lt 0 (digits (drop 1 text)) then digits (drop 1 text) + 1 else 0
-
--- how long the second part of a mixed number is: a space, digits, a slash and digits
--- Example: ` 1/2*3`: 4
-unfoldable pub mixed_tail : List ℕ → ℕ
-mixed_tail text = if nat_lt 0 (led 32 text) && nat_lt 0 (led 47 (drop (led 32 text) text)) then led 32 text + led 47 (drop (led 32 text) text) else 0
 
 -- how long a sign of an exponent is
 -- Example: `-3`: 1
@@ -43,11 +38,6 @@ exponent text = if ((slice_index text 0 == 101) || (slice_index text 0 == 69)) &
 unfoldable pub decimal : List ℕ → ℕ
 decimal text = led 46 text + exponent (drop (led 46 text) text)
 
--- how long what makes a whole number a fraction or a decimal is
--- Example: `/3`: 2
-unfoldable pub part : List ℕ → ℕ
-part text = if nat_lt 0 (led 47 text) then led 47 text else decimal text
-
 -- how long a percent sign is
 -- Example: `%*3`: 1
 unfoldable pub percent : List ℕ → ℕ
@@ -58,24 +48,21 @@ percent text = if slice_index text 0 == 37 then 1 else 0
 unfoldable pub vulgar_tail : List ℕ → ℕ
 vulgar_tail text = if slice_index text 0 == 32 then (if nat_lt 0 (vulgar_length (drop 1 text)) then vulgar_length (drop 1 text) + 1 else 0) else vulgar_length text
 
--- how long what makes a whole number a mixed number, a fraction or a decimal is
--- Example: ` 1/2*3`: 4; `½`: 2; `.5`: 2
-unfoldable pub broken_part : List ℕ → ℕ
-broken_part text = if nat_lt 0 (mixed_tail text) then mixed_tail text else (if nat_lt 0 (vulgar_tail text) then vulgar_tail text else part text)
-
--- how long what follows the digits of a number is: this, and a percent sign, if it is there
--- Example: `.5%`: 3; ` 1/2`: 4
+-- how long what makes a whole number a fraction, a mixed number or a decimal is: a slash and digits, maybe behind a space and digits; or a
+-- vulgar fraction, maybe behind a space; or a point with digits and an exponent, each if it is there
+-- Example: `/3`: 2; ` 1/2*3`: 4; `½`: 2; `.5`: 2
 unfoldable pub tail : List ℕ → ℕ
-tail text = broken_part text + percent (drop (broken_part text) text)
+tail text = if nat_lt 0 (led 47 (drop (led 32 text) text)) then led 32 text + led 47 (drop (led 32 text) text) else (if nat_lt 0 (vulgar_tail text) then vulgar_tail text else decimal text)
 
 -- whether the text begins with a digit, with a point and a digit, or with a vulgar fraction
 abbrev pub begins_number : List ℕ → Bool
 begins_number text = nat_lt 0 (digits text) || (nat_lt 0 (led 46 text) || nat_lt 0 (vulgar_length text))
 
--- how long the number is that the text begins with, or 0
+-- how long the number is that the text begins with, or 0: digits or none, what makes them a fraction, a mixed number or a decimal, and a
+-- percent sign, if it is there
 -- Example: `12.5%*80`: 5; `1/2/3`: 3; `1 1/2`: 5; `.5`: 2; `1½`: 3
 unfoldable pub number : List ℕ → ℕ
-number text = if begins_number text then digits text + tail (drop (digits text) text) else 0
+number text = if begins_number text then (let end = digits text + tail (drop (digits text) text) in end + percent (drop end text)) else 0
 
 -- a letter or an underscore
 abbrev pub starts_name : ℕ → Bool
@@ -90,52 +77,46 @@ is_name_byte c = is_ascii_alphanumeric c || (c == 95)
 unfoldable pub name : List ℕ → ℕ
 name text = if starts_name (slice_index text 0) then length (take_while is_name_byte text) else 0
 
--- the comparison, the parenthesis or the comma of one byte
-abbrev pub comparison_byte : ℕ → Option Kind
-comparison_byte c = if c == 60 then Some (kinds.Operator Less) else (if c == 61 then Some (kinds.Operator Equal) else (if c == 62 then Some (kinds.Operator Greater) else (if c == 40 then Some kinds.Open else (if c == 41 then Some kinds.Close else (if c == 44 then Some kinds.Comma else None)))))
-
 -- the operator, the parenthesis or the comma of one byte: `+ - * / % ^ < = > ( ) ,`
 abbrev pub one_byte : ℕ → Option Kind
-one_byte c = if c == 43 then Some (kinds.Operator Add) else (if c == 45 then Some (kinds.Operator Subtract) else (if c == 42 then Some (kinds.Operator Multiply) else (if c == 47 then Some (kinds.Operator Divide) else (if c == 37 then Some (kinds.Operator Remainder) else (if c == 94 then Some (kinds.Operator Power) else comparison_byte c)))))
+one_byte c =
+    if c == 43 then Some (kinds.Operator Add) else (
+    if c == 45 then Some (kinds.Operator Subtract) else (
+    if c == 42 then Some (kinds.Operator Multiply) else (
+    if c == 47 then Some (kinds.Operator Divide) else (
+    if c == 37 then Some (kinds.Operator Remainder) else (
+    if c == 94 then Some (kinds.Operator Power) else (
+    if c == 60 then Some (kinds.Operator Less) else (
+    if c == 61 then Some (kinds.Operator Equal) else (
+    if c == 62 then Some (kinds.Operator Greater) else (
+    if c == 40 then Some kinds.Open else (
+    if c == 41 then Some kinds.Close else (
+    if c == 44 then Some kinds.Comma else None)))))))))))
 
--- the operator of two bytes: `<=`, `>=`, `!=`, or the signs of multiplication and division, in UTF-8
-abbrev pub two_bytes : ℕ → ℕ → Option Kind
-two_bytes b c = if (b == 60) && (c == 61) then Some (kinds.Operator AtMost) else (if (b == 62) && (c == 61) then Some (kinds.Operator AtLeast) else (if (b == 33) && (c == 61) then Some (kinds.Operator NotEqual) else (if (b == 195) && (c == 151) then Some (kinds.Operator Multiply) else (if (b == 195) && (c == 183) then Some (kinds.Operator Divide) else None))))
+-- whether the text begins with these two bytes
+-- Example: 60 and 61, of `<=3`
+abbrev pub begins_two : ℕ → ℕ → List ℕ → Bool
+begins_two b c text = (slice_index text 0 == b) && (slice_index text 1 == c)
 
--- the comparison by the last of the three bytes of its sign, in UTF-8: `≠ ≤ ≥`
-abbrev pub sign_of_comparison : ℕ → Option Kind
-sign_of_comparison c = if c == 160 then Some (kinds.Operator NotEqual) else (if c == 164 then Some (kinds.Operator AtMost) else (if c == 165 then Some (kinds.Operator AtLeast) else None))
+-- whether the text begins with these three bytes
+abbrev pub begins_three : ℕ → ℕ → ℕ → List ℕ → Bool
+begins_three a b c text = (slice_index text 0 == a) && ((slice_index text 1 == b) && (slice_index text 2 == c))
 
--- the operator of three bytes: the signs of subtraction and of three comparisons, in UTF-8
-abbrev pub three_bytes : ℕ → ℕ → ℕ → Option Kind
-three_bytes a b c = if (a == 226) && ((b == 136) && (c == 146)) then Some (kinds.Operator Subtract) else (if (a == 226) && (b == 137) then sign_of_comparison c else None)
-
--- the operator, the parenthesis or the comma of the first byte of a text
--- Example: `<=3`: `<`
-abbrev pub first_byte : List ℕ → Option Kind
-first_byte text = if nat_le 1 (length text) then one_byte (slice_index text 0) else None
-
--- the operator of the first two bytes of a text
--- Example: `<=3`: `<=`
-abbrev pub first_two : List ℕ → Option Kind
-first_two text = if nat_le 2 (length text) then two_bytes (slice_index text 0) (slice_index text 1) else None
-
--- the operator of the first three bytes of a text
--- Example: none, of `<=3`
-abbrev pub first_three : List ℕ → Option Kind
-first_three text = if nat_le 3 (length text) then three_bytes (slice_index text 0) (slice_index text 1) (slice_index text 2) else None
-
--- the longest of the three, with its length
-abbrev pub longest : Option Kind → Option Kind → Option Kind → Option (Kind × ℕ)
-longest (Some k) two one = Some (k, 3)
-longest None (Some k) one = Some (k, 2)
-longest None None (Some k) = Some (k, 1)
-longest None None None = None
-
--- the operator, the parenthesis or the comma that a text begins with, and its length
+-- the operator, the parenthesis or the comma that a text begins with, and its length: the longest, of which some have a sign beyond ASCII, in
+-- UTF-8: `− ≠ ≤ ≥ <= >= != × ÷`, or one byte
 -- Example: `<=3`: `<=`, 2
 unfoldable pub symbol : List ℕ → Option (Kind × ℕ)
-symbol text = longest (first_three text) (first_two text) (first_byte text)
+symbol text =
+    if begins_three 226 136 146 text then Some (kinds.Operator Subtract, 3) else (
+    if begins_three 226 137 160 text then Some (kinds.Operator NotEqual, 3) else (
+    if begins_three 226 137 164 text then Some (kinds.Operator AtMost, 3) else (
+    if begins_three 226 137 165 text then Some (kinds.Operator AtLeast, 3) else (
+    if begins_two 60 61 text then Some (kinds.Operator AtMost, 2) else (
+    if begins_two 62 61 text then Some (kinds.Operator AtLeast, 2) else (
+    if begins_two 33 61 text then Some (kinds.Operator NotEqual, 2) else (
+    if begins_two 195 151 text then Some (kinds.Operator Multiply, 2) else (
+    if begins_two 195 183 text then Some (kinds.Operator Divide, 2) else
+    option_map (λ k. (k, 1)) (one_byte (slice_index text 0))))))))))
 
 -- what a text begins with, and its length: the longest number, the longest name, or the longest operator, parenthesis or comma
 -- Example: `12.5%*80`: a number, 5

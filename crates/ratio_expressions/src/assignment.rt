@@ -1,49 +1,23 @@
 //! The name that a line gives its value, and the expression of this value.
-ghost use Rattle.std.specs.Prelude.{◌≡◌, ◌↔◌, None, Some, IsTrue, MatchOption};
+ghost use Rattle.std.specs.Prelude.{◌≡◌, ◌↔◌, IsTrue};
 ghost use Rattle.ratio_expressions.specs.Grammar.{Tree, postfix};
 ghost use Rattle.ratio_expressions.specs.Lines.{target, valued};
-ghost use Rattle.ratio_expressions.specs.Stacks.{IsEqualSign, MakeOneTree, name_of, operands};
+ghost use Rattle.ratio_expressions.specs.Stacks.{MakeOneTree, operands};
 
 use crate::step::Step;
 use crate::token::{Operator, Span};
 
-/// The name that a line with these steps gives its value, and the steps of the expression of this value. `None` if it gives no name.
-pub(crate) fn assignment(steps: &[Step]) -> Option<(Span, &[Step])>
-    ensures { MatchOption result
-        ((t : Tree) → steps.now ≡ postfix t → target t ≡ None)
-        (λ r. (t : Tree) → steps.now ≡ postfix t → (target t ≡ Some r.0) × (r.1.now ≡ postfix (valued t))) }
+/// The name that a line with these steps gives its value, if it gives one, and the steps of the expression of this value.
+pub(crate) fn assignment(steps: &[Step]) -> (Option<Span>, &[Step])
+    ensures { (t : Tree) → steps.now ≡ postfix t → (target t ≡ result.0) × (result.1.now ≡ postfix (valued t)) }
 {
-    let count = steps.len();
-    if count < 2 || !is_equal_sign(steps[count - 1]) {
-        return None;
-    }
-    let expression = &steps[1..count - 1];
-    if !is_whole(expression) {
-        return None;
-    }
-    match name_in(steps[0]) {
-        Some(name) => Some((name, expression)),
-        None => None,
-    }
-}
-
-// Whether the step is a `=`.
-fn is_equal_sign(step: Step) -> bool
-    ensures { IsTrue result ↔ IsEqualSign step }
-{
-    match step {
-        Step::Apply(Operator::Equal, _) => true,
-        _ => false,
-    }
-}
-
-// The name that the step is, if it is one.
-fn name_in(step: Step) -> Option<Span>
-    ensures { result ≡ name_of step }
-{
-    match step {
-        Step::Name(name) => Some(name),
-        _ => None,
+    match steps {
+        [
+            Step::Name(name),
+            expression @ ..,
+            Step::Apply(Operator::Equal, _),
+        ] if is_whole(expression) => (Some(*name), expression),
+        _ => (None, steps),
     }
 }
 

@@ -1,4 +1,4 @@
-//! What a call gives of its arguments, or why it refuses them.
+//! What a call such as `max(1, 2)` gives of its arguments, or why it refuses them.
 ghost use Rattle.std.specs.Prelude.{◌≡◌, ◌≢◌, ◌≤◌, ◌∷◌, [], length, map, pos, IfOk, MatchOption, MatchResult};
 ghost use Rattle.std.specs.declared.cmp.Ordering.TheVariants.{Equal};
 ghost use Rattle.ratio_decimal.specs.declared.rounding_rule.Rounding.TheVariants.{HalfAway};

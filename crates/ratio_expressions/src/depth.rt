@@ -1,6 +1,6 @@
 //! The first parenthesis that is too deep.
-ghost use Rattle.std.specs.Prelude.{◌≡◌, ◌<◌, ◌≤◌, ◌+◌, length, take, IfSome, IsNone};
-ghost use Rattle.ratio_expressions.specs.Nesting.{depth, most_open, open_behind};
+ghost use Rattle.std.specs.Prelude.{◌<◌, ◌≤◌, ◌+◌, length, take, IfSome, IsNone};
+ghost use Rattle.ratio_expressions.specs.Nesting.{depth, most_open};
 
 use crate::token::{Kind, Token};
 
@@ -20,22 +20,14 @@ pub fn first_too_deep(tokens: &[Token]) -> Option<usize>
 {
     let mut open: usize = 0;
     for (at, token) in tokens.iter().enumerate() {
-        open = open_with(token.kind, open);
+        match token.kind {
+            Kind::Open => open += 1,
+            Kind::Close => open = open.saturating_sub(1),
+            Kind::Number | Kind::Name | Kind::Operator(_) | Kind::Comma => (),
+        }
         if open > MOST_OPEN {
             return Some(at);
         }
     }
     None
-}
-
-// How many parentheses are open behind a token.
-fn open_with(kind: Kind, before: usize) -> usize
-    requires { before ≤ most_open }
-    ensures { result ≡ open_behind kind before }
-{
-    match kind {
-        Kind::Open => before + 1,
-        Kind::Close => before.saturating_sub(1),
-        Kind::Number | Kind::Name | Kind::Operator(_) | Kind::Comma => before,
-    }
 }

@@ -1,7 +1,17 @@
 //! Expressions such as `2 + 3 * 4`, of any size: from a text to a tree, its value, and the reply to the person who typed it.
 //!
-//! `line::answer` returns the `Value` of a line, or by a `ValueError` why it has none, and `Names` keeps the names that lines give their values.
+//! `line::value_of_line` returns the `Value` of a line, or by a `ValueError` why it has none, and `Names` keeps the names that lines give their values.
 //! `replies::reply_to` makes a `Reply` of that, with the number in a `Form`: in `Mixed`, the line `x = 1 + 5/12` is answered `1 5/12`.
+//!
+//! The program `ratio` asks for a reply so, and writes the text with a line end:
+//!
+//! ```rattle
+//! match reply_to(alloc, line, form, names)? {
+//!     Reply::Nothing => Ok((Vec::new(alloc), true)),
+//!     Reply::Answer(text) => Ok((with_end(text)?, true)),
+//!     Reply::Refused(text) => Ok((with_end(text)?, false)),
+//! }
+//! ```
 //!
 //! | Module | What is in it |
 //! |---|---|
@@ -15,9 +25,8 @@
 //! | `parser::error` | Why a list of tokens has no tree. |
 //! | `parser::mark` | `Mark`: an operator or a parenthesis that waits for what is right of it. |
 //! | `depth` | The first parenthesis that is too deep. |
-//! | `expression` | The tree of a text, or the first place that no expression has there, and the column of a place. |
-//! | `expression::error` | Why a text has no tree. |
-//! | `refusal` | Why a text has no value, and where. |
+//! | `expression` | The tree of a text, or its refusal, and the column of a place. |
+//! | `refusal` | Why a text has no value, also in words for a person, and where. |
 //! | `value` | `Value`: what an expression is worth. |
 //! | `names` | `Names`: values by name. |
 //! | `number` | The number that a piece of a text says. |
@@ -26,9 +35,9 @@
 //! | `operation` | What an operator gives of two values, or why it refuses them. |
 //! | `power` | The power of two numbers, if it is not too large to be worth it. |
 //! | `function` | `Function`: a function that a call names, and how many numbers it takes. |
-//! | `calls` | What a call gives of its arguments, or why it refuses them. |
+//! | `calls` | What a call such as `max(1, 2)` gives of its arguments, or why it refuses them. |
 //! | `evaluation` | The value of the steps of a tree, over a stack of values. |
-//! | `answer` | The value of a text, or its first refusal. |
+//! | `text_value` | The value of a text, or its first refusal. |
 //! | `assignment` | The name that a line gives its value, and the expression of this value. |
 //! | `line` | The value of a line, which gives it names: `x = 3/7`. |
 //! | `slashes` | How the slashes of a text are read. |
@@ -47,7 +56,6 @@
 //! | `replies::laws` | The laws that a line has one reply, and that a tiny number is written `0` as a float. |
 #![tactic(auto)]
 
-pub mod answer;
 mod assignment;
 mod calls;
 pub mod depth;
@@ -67,6 +75,7 @@ pub mod replies;
 pub mod slashes;
 mod spelled;
 pub mod step;
+pub mod text_value;
 pub mod token;
 pub mod value;
 pub mod value_laws;

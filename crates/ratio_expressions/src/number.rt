@@ -1,7 +1,7 @@
 //! The number that a piece of a text says.
 mod short_fraction;
 
-ghost use Rattle.std.specs.Prelude.{◌≡◌, ◌≤◌, ◌*ℤ◌, length, option_map, pos, true, MatchResult, IfOk};
+ghost use Rattle.std.specs.Prelude.{◌≡◌, ◌≤◌, ◌*ℤ◌, ℤ, length, option_map, pos, true, MatchResult, IfOk};
 ghost use Rattle.std.specs.Char.{is_ascii_digit};
 ghost use Rattle.std.specs.List.{count_by, take_while};
 ghost use Rattle.ratio_decimal.specs.TypedText.{share};
@@ -9,10 +9,12 @@ ghost use Rattle.ratio_big.specs.Decimals.{AnswersBigTyped};
 ghost use Rattle.ratio_big.specs.Fractions.{big_numbers};
 ghost use Rattle.ratio_big.specs.Values.{HasTerms};
 ghost use Rattle.ratio_expressions.specs.Numbers.{AnswersBigReading, IsShareOf, IsTypedNumber, SaysNumber, SaysNoNumber, SaysPlainNumber, SaysNoPlainNumber, exponent_digits, is_no_e, mixed_front};
+ghost use Rattle.ratio_expressions.specs.Worths.{worth, Amount};
 
 use crate::number::short_fraction::short_fraction;
 use crate::refusal::Reason;
 use crate::spelled::spelled;
+use crate::value::Value;
 use ratio_big::BigFraction;
 use ratio_decimal::TextRefusal;
 use std::alloc::{AllocError, Global};
@@ -22,12 +24,12 @@ use std::str;
 const MOST_EXPONENT_DIGITS: usize = 5;
 
 /// The number that a text says, or why it says none.
-pub(crate) fn number_in(
-    alloc: Global,
-    text: &[u8],
-) -> Result<Result<BigFraction, Reason>, AllocError>
-    ensures { IfOk result (λ r. MatchResult r (λ x. SaysNumber text.now (big_numbers x)) (SaysNoNumber text.now)) }
+pub(crate) fn number_in(alloc: Global, text: &[u8]) -> Result<Result<Value, Reason>, AllocError>
+    ensures { IfOk result (λ r. MatchResult r (λ v. (x : ℤ × ℤ) × SaysNumber text.now x × (worth v ≡ Amount x)) (SaysNoNumber text.now)) }
 {
+    if let Some(number) = short_fraction(text) {
+        return Ok(Ok(Value::Number(number)));
+    }
     match spelled(alloc, text)? {
         Some(slashed) => plain_number_in(alloc, &slashed),
         None => plain_number_in(alloc, text),
@@ -35,14 +37,14 @@ pub(crate) fn number_in(
 }
 
 // The same, if the text has no vulgar fraction.
-fn plain_number_in(alloc: Global, text: &[u8]) -> Result<Result<BigFraction, Reason>, AllocError>
-    ensures { IfOk result (λ r. MatchResult r (λ x. SaysPlainNumber text.now (big_numbers x)) (SaysNoPlainNumber text.now)) }
+fn plain_number_in(alloc: Global, text: &[u8]) -> Result<Result<Value, Reason>, AllocError>
+    ensures { IfOk result (λ r. MatchResult r (λ v. (x : ℤ × ℤ) × SaysPlainNumber text.now x × (worth v ≡ Amount x)) (SaysNoPlainNumber text.now)) }
 {
     if digits_of_exponent(text) > MOST_EXPONENT_DIGITS {
         return Ok(Err(Reason::NumberTooLarge));
     }
     match read(alloc, text)? {
-        Ok(number) => Ok(Ok(number)),
+        Ok(number) => Ok(Ok(Value::Number(number))),
         Err(TextRefusal::ZeroDenominator) => Ok(Err(Reason::ZeroDenominator)),
         Err(TextRefusal::NotNumber) => Ok(Err(Reason::NotNumeral)),
         Err(TextRefusal::NotHeld) => unreachable!(),
@@ -83,9 +85,6 @@ fn before_percent(text: &[u8]) -> Option<&[u8]>
 fn read_field(alloc: Global, text: &[u8]) -> Result<Result<BigFraction, TextRefusal>, AllocError>
     ensures { IfOk result (AnswersBigTyped text.now) }
 {
-    if let Some(number) = short_fraction(text) {
-        return Ok(Ok(number));
-    }
     match str::from_utf8(text) {
         Err(_) => Ok(Err(TextRefusal::NotNumber)),
         Ok(field) => BigFraction::from_text(alloc, field),

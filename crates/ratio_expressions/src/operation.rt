@@ -1,23 +1,22 @@
 //! What an operator gives of two values, or why it refuses them.
-ghost use Rattle.std.specs.Prelude.{IfOk, MatchOption, MatchResult};
-ghost use Rattle.ratio_big.specs.Fractions.{big_numbers};
-ghost use Rattle.ratio_expressions.specs.Operators.{GivesWorth, GivesNumbers, IsNegativeWorth, IsTrueOrFalse, RefusesWorths, RefusesNumbers};
+ghost use Rattle.std.specs.Prelude.{◌≡◌, IfOk, MatchResult};
+ghost use Rattle.ratio_expressions.specs.Operators.{GivesWorth, IsNegativeWorth, IsTrueOrFalse, RefusesWorths};
 ghost use Rattle.ratio_expressions.specs.Worths.{worth};
+ghost use Rattle.ratio_expressions.specs.declared.refusal.Reason.TheVariants.{NotNumber};
 
 use crate::power::power;
 use crate::refusal::Reason;
 use crate::token::Operator;
 use crate::value::Value;
-use ratio_big::BigFraction;
 use std::alloc::{AllocError, Global};
 
-/// The negative of a value, or `None` if it is true or false.
-pub(crate) fn negative(alloc: Global, value: &Value) -> Result<Option<Value>, AllocError>
-    ensures { IfOk result (λ r. MatchOption r (IsTrueOrFalse (worth value.now)) (λ v. IsNegativeWorth (worth value.now) (worth v))) }
+/// The negative of a value, or why it has none.
+pub(crate) fn negative(alloc: Global, value: &Value) -> Result<Result<Value, Reason>, AllocError>
+    ensures { let v = worth value.now in IfOk result (λ r. MatchResult r (λ w. IsNegativeWorth v (worth w)) (λ reason. IsTrueOrFalse v × (reason ≡ NotNumber))) }
 {
     match value {
-        Value::Number(x) => Ok(Some(Value::Number(x.negate(alloc)?))),
-        Value::Truth(_) => Ok(None),
+        Value::Number(x) => Ok(Ok(Value::Number(x.negate(alloc)?))),
+        Value::Truth(_) => Ok(Err(Reason::NotNumber)),
     }
 }
 
@@ -30,24 +29,12 @@ pub(crate) fn applied(
 ) -> Result<Result<Value, Reason>, AllocError>
     ensures { let u = worth left.now in let v = worth right.now in IfOk result (λ r. MatchResult r (λ w. GivesWorth operator u v (worth w)) (RefusesWorths operator u v)) }
 {
-    match left {
-        Value::Truth(_) => Ok(Err(Reason::NotNumber)),
-        Value::Number(x) => match right {
-            Value::Truth(_) => Ok(Err(Reason::NotNumber)),
-            Value::Number(y) => of_numbers(alloc, operator, x, y),
-        },
-    }
-}
-
-// What the operator gives of two numbers, or why it refuses them.
-fn of_numbers(
-    alloc: Global,
-    operator: Operator,
-    x: &BigFraction,
-    y: &BigFraction,
-) -> Result<Result<Value, Reason>, AllocError>
-    ensures { let a = big_numbers x.now in let b = big_numbers y.now in IfOk result (λ r. MatchResult r (λ w. GivesNumbers operator a b (worth w)) (RefusesNumbers operator a b)) }
-{
+    let Value::Number(x) = left else {
+        return Ok(Err(Reason::NotNumber));
+    };
+    let Value::Number(y) = right else {
+        return Ok(Err(Reason::NotNumber));
+    };
     match operator {
         Operator::Less => Ok(Ok(Value::Truth(x.compare(alloc, y)?.is_lt()))),
         Operator::AtMost => Ok(Ok(Value::Truth(x.compare(alloc, y)?.is_le()))),

@@ -5,7 +5,7 @@ mod mark;
 ghost use Rattle.std.specs.Prelude.{◌≡◌, ◌<◌, ◌≤◌, ◌+◌, ◌++◌, ℕ, [], ◌∷◌, length, take, reverse, Some, None, IfOk, OnOk, IfErr, MatchResult, IsErrOf, Option, List, true, false};
 ghost use Rattle.ratio_expressions.specs.declared.step.Step.{Step};
 ghost use Rattle.ratio_expressions.specs.Grammar.{Tree, HasTree, IsBegun, left_level, rank, postfix};
-ghost use Rattle.ratio_expressions.specs.Reading.{Gives, Fails, IsNextState, room, settle, next_state, at_operand, behind_operand, with_operator, with_close, with_call, with_comma, work_of, state_of};
+ghost use Rattle.ratio_expressions.specs.Reading.{Gives, Fails, IsNextState, room, settle, next_state, behind_operand, with_close, with_call, with_comma, work_of, state_of};
 
 use crate::parser::mark::{
     Mark, left_level_of, level_of, level_of_mark, room_of_mark, step_of_mark,
@@ -69,22 +69,9 @@ fn read_token(
     ensures { IfOk result (λ next. IsNextState (next_state wants token.kind token.span (work_of marks.old.items steps.old.items))
         marks.new.items steps.new.items next) }
 {
-    if wants {
-        read_operand(token, marks, steps)
-    } else {
-        read_behind(token, marks, steps)
+    if !wants {
+        return read_behind(token, marks, steps);
     }
-}
-
-// Reads one token where an operand comes.
-fn read_operand(
-    token: Token,
-    marks: &mut Vec<Mark>,
-    steps: &mut Vec<Step>,
-) -> Result<Option<bool>, AllocError>
-    ensures { IfOk result (λ next. IsNextState (at_operand token.kind token.span (work_of marks.old.items steps.old.items))
-        marks.new.items steps.new.items next) }
-{
     match token.kind {
         Kind::Number => put_operand(Step::Number(token.span), steps),
         Kind::Name => put_operand(Step::Name(token.span), steps),
@@ -106,7 +93,10 @@ fn read_behind(
     match token.kind {
         Kind::Operator(operator) => {
             settle_marks(left_level_of(operator), marks, steps)?;
-            read_operator(operator, token.span, marks)
+            if level_of(operator) < room_of(marks) {
+                return Ok(None);
+            }
+            put_mark(Mark::Half(operator, token.span), marks)
         }
         Kind::Close => {
             settle_marks(2, marks, steps)?;
@@ -135,21 +125,6 @@ fn put_mark(mark: Mark, marks: &mut Vec<Mark>) -> Result<Option<bool>, AllocErro
 {
     marks.push(mark)?;
     Ok(Some(true))
-}
-
-// Reads an operator, if there is room for it behind what waits.
-fn read_operator(
-    operator: Operator,
-    span: Span,
-    marks: &mut Vec<Mark>,
-) -> Result<Option<bool>, AllocError>
-    ensures { (steps : List Step) → IfOk result (λ next. IsNextState (with_operator operator span (work_of marks.old.items steps))
-        marks.new.items steps next) }
-{
-    if level_of(operator) < room_of(marks) {
-        return Ok(None);
-    }
-    put_mark(Mark::Half(operator, span), marks)
 }
 
 // How tightly an expression must bind to stand right of what waits last.

@@ -1,4 +1,4 @@
-//! Why a text has no value, and where.
+//! Why a text has no value, also in words for a person, and where.
 ghost use Rattle.std.specs.Prelude.{◌≡◌};
 ghost use Rattle.ratio_expressions.specs.Reasons.{reason_text};
 ghost use Rattle.ratio_expressions.specs.declared.refusal.ValueError.TheVariants.{Memory};

@@ -1,5 +1,5 @@
 -- Coprime numbers, and greatest common divisors of whole numbers.
-use Rattle.std.specs.Prelude.{◌≡◌, ◌*◌, ◌%◌, ◌<◌, ◌*ℤ◌, ℕ, ℤ, zero, suc, pos, negsuc, unsigned_abs, int_div}
+use Rattle.std.specs.Prelude.{◌≡◌, ◌*◌, ◌%◌, ◌<◌, ◌*ℤ◌, ℕ, ℤ, zero, suc, pos, unsigned_abs, int_div}
 use Rattle.std.specs.Int.{◌∣◌, IsGcd}
 use Rattle.std.proofs.Common.{sym, ap, arith, ◌∙◌, refl}
 use Rattle.std.proofs.Math.Nat.{dvd-mul_left, dvd-zero, dvd_refl, dvd_trans, eq-one_of_dvd-one, mod-lt, one-dvd}
@@ -48,14 +48,6 @@ scaled zero a b g is = rw (none a, none b, none g) (dvd-zero 0, dvd-zero 0, λ d
     none : (n : ℕ) → 0 * n ≡ 0
     none n = omega arith
 scaled (suc m) a b g is = gcd_scaled b a b g (suc m) (omega arith) (omega arith) is
-
--- if g is the gcd of a and b, then |k|*g is the gcd of k*a and k*b
-pub gcd_multiplied : (k a b g : ℤ) → IsGcdOf a b g → IsGcdOf (k *ℤ a) (k *ℤ b) (pos (unsigned_abs k) *ℤ g)
-gcd_multiplied k a b (pos g) is = record {
-  sign = omega (arith, ints);
-  divisor = rw (unsigned_abs-mul k a, unsigned_abs-mul k b) (scaled (unsigned_abs k) (unsigned_abs a) (unsigned_abs b) g is.divisor);
-}
-gcd_multiplied k a b (negsuc g) is = absurd (let sign = is.sign in omega (arith, ints))
 
 -- if a divides c*b and is coprime to b, then a divides c
 pub coprime_factor : (a b c : ℤ) → IsGcdOf a b (pos 1) → IsMultiple (c *ℤ b) a → IsMultiple c a

@@ -205,9 +205,6 @@ pub record AreOdd (a b x y : ℕ) : Type 0 where
   pub right : y % 2 ≡ 1
   pub same : (g : ℕ) → IsGcd x y g → IsGcd a b g
 
-pub odd_begun : (a b : ℕ) → a % 2 ≡ 1 → b % 2 ≡ 1 → AreOdd a b a b
-odd_begun a b left right = record { left = left; right = right; same = λ g is. is }
-
 -- the odd part of the difference replaces the greater number
 replaced : (x y m k g : ℕ) → x % 2 ≡ 1 → x ≤ y → IsOddPart (y - x) m k → IsGcd x m g → IsGcd x y g
 replaced x y m k g odd below part is =

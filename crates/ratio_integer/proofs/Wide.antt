@@ -7,35 +7,28 @@ use mir.Syntax.{w128}
 use mir.Val.{SFits, of_z, to_z}
 use Rattle.ratio_integer.specs.Fraction.{Fits, IsHeldLowest}
 use Rattle.ratio_integer.specs.Range.{IsHeld}
+use Rattle.ratio_integer.specs.SignedBits.{IsHeld128, IsHeld64, greatest128, least128}
 use Rattle.ratio_integer.proofs.LowestTerms.{denom_out, numer_out}
 
 -- ---- widths
 
--- z fits 64 signed bits
-abbrev pub IsNarrow : ℤ → Type 0
-IsNarrow z = IsHeld (negsuc (2 ^ 63 - 1)) (pos (2 ^ 63 - 1)) z
-
 -- z fits 127 signed bits, so a sum of two such numbers fits 128
 abbrev pub HasRoom : ℤ → Type 0
 HasRoom z = IsHeld (negsuc (2 ^ 126 - 1)) (pos (2 ^ 126 - 1)) z
-
--- z fits 128 signed bits
-abbrev pub IsWide : ℤ → Type 0
-IsWide z = IsHeld (negsuc (2 ^ 127 - 1)) (pos (2 ^ 127 - 1)) z
 
 -- the number that code reads from the 128 bits of z
 abbrev pub wide_of : ℤ → ℤ
 wide_of z = to_z w128 (of_z w128 z)
 
 -- it is z
-wide_is : (z : ℤ) → IsWide z → wide_of z ≡ z
+wide_is : (z : ℤ) → IsHeld128 z → wide_of z ≡ z
 wide_is z wide = to_z-of_z w128 z (wide_fits z wide)
   where
-    wide_fits : (z : ℤ) → IsWide z → SFits w128 z
+    wide_fits : (z : ℤ) → IsHeld128 z → SFits w128 z
     wide_fits (pos n) wide = let below = wide.below in record { sfits = omega (arith, ints) }
     wide_fits (negsuc n) wide = let above = wide.above in record { sfits = omega (arith, ints) }
 
-narrow_wide : (p x : ℤ) → p ≡ x → IsNarrow x → wide_of p ≡ x
+narrow_wide : (p x : ℤ) → p ≡ x → IsHeld64 x → wide_of p ≡ x
 narrow_wide p x p-is narrow =
     let above = narrow.above in
     let below = narrow.below in
@@ -49,20 +42,20 @@ room_wide p x p-is room =
 
 -- ---- `product`: a narrow number times a positive narrow one has room
 
-product_room : (x y : ℤ) → IsNarrow x → IsNarrow y → pos 0 <ℤ y → HasRoom (x *ℤ y)
+product_room : (x y : ℤ) → IsHeld64 x → IsHeld64 y → pos 0 <ℤ y → HasRoom (x *ℤ y)
 product_room x y x_narrow y_narrow positive = by_size (x *ℤ y) (
     rw (unsigned_abs-mul x y) (mul-le (unsigned_abs x) (unsigned_abs y) (2 ^ 63) (2 ^ 63 - 1) (size x x_narrow) (positive_size y positive y_narrow)))
   where
-    size : (z : ℤ) → IsNarrow z → unsigned_abs z ≤ 2 ^ 63
+    size : (z : ℤ) → IsHeld64 z → unsigned_abs z ≤ 2 ^ 63
     size z narrow = let above = narrow.above in let below = narrow.below in omega (arith, ints)
 
-    positive_size : (z : ℤ) → pos 0 <ℤ z → IsNarrow z → unsigned_abs z ≤ 2 ^ 63 - 1
+    positive_size : (z : ℤ) → pos 0 <ℤ z → IsHeld64 z → unsigned_abs z ≤ 2 ^ 63 - 1
     positive_size z above_zero narrow = let below = narrow.below in omega (arith, ints)
 
     by_size : (z : ℤ) → unsigned_abs z ≤ 2 ^ 63 * (2 ^ 63 - 1) → HasRoom z
     by_size z small = record { above = omega (arith, ints); below = omega (arith, ints) }
 
-pub product_wide_room : (p q x y : ℤ) → p ≡ x → q ≡ y → IsNarrow x → IsNarrow y → pos 0 <ℤ y → HasRoom (wide_of (wide_of p *ℤ wide_of q))
+pub product_wide_room : (p q x y : ℤ) → p ≡ x → q ≡ y → IsHeld64 x → IsHeld64 y → pos 0 <ℤ y → HasRoom (wide_of (wide_of p *ℤ wide_of q))
 product_wide_room p q x y p-is q-is x_narrow y_narrow positive =
     let room = product_room x y x_narrow y_narrow positive in
     rw (narrow_wide p x p-is x_narrow, narrow_wide q y q-is y_narrow, room_wide (x *ℤ y) (x *ℤ y) refl room) room
@@ -73,7 +66,7 @@ pub sum_wide : (p q x y : ℤ) → p ≡ x → q ≡ y → HasRoom p → HasRoom
 sum_wide p q x y p-is q-is p_room q_room =
     rw (room_wide p x p-is p_room, room_wide q y q-is q_room) (wide_is (x +ℤ y) (is_wide x y (rw p-is at p_room) (rw q-is at q_room)))
   where
-    is_wide : (x y : ℤ) → HasRoom x → HasRoom y → IsWide (x +ℤ y)
+    is_wide : (x y : ℤ) → HasRoom x → HasRoom y → IsHeld128 (x +ℤ y)
     is_wide x y first second =
         let first_above = first.above in
         let first_below = first.below in
@@ -85,7 +78,7 @@ pub difference_wide : (p q x y : ℤ) → p ≡ x → q ≡ y → HasRoom p → 
 difference_wide p q x y p-is q-is p_room q_room =
     rw (room_wide p x p-is p_room, room_wide q y q-is q_room) (wide_is (x -ℤ y) (is_wide x y (rw p-is at p_room) (rw q-is at q_room)))
   where
-    is_wide : (x y : ℤ) → HasRoom x → HasRoom y → IsWide (x -ℤ y)
+    is_wide : (x y : ℤ) → HasRoom x → HasRoom y → IsHeld128 (x -ℤ y)
     is_wide x y first second =
         let first_above = first.above in
         let first_below = first.below in
@@ -95,7 +88,7 @@ difference_wide p q x y p-is q-is p_room q_room =
 
 -- ---- if a number of the lowest terms a/b of n/d is out of range, n/d does not fit
 
-module _ (lo hi n d a b : ℤ) (n_fits : SFits w128 n) (d_fits : SFits w128 d) (low : IsHeldLowest (negsuc (2 ^ 127 - 1)) (pos (2 ^ 127 - 1)) (wide_of n) (wide_of d) a b) where
+module _ (lo hi n d a b : ℤ) (n_fits : SFits w128 n) (d_fits : SFits w128 d) (low : IsHeldLowest least128 greatest128 (wide_of n) (wide_of d) a b) where
   pub numer_out_narrow : ¬ (IsHeld lo hi (wide_of a)) → ¬ (Fits lo hi n d)
   numer_out_narrow out =
       let found = rw (to_z-of_z w128 n n_fits, to_z-of_z w128 d d_fits) at low in

@@ -4,7 +4,9 @@ pub mod Division
 pub mod Fraction
 pub mod Halves
 pub mod HeldResults
+pub mod LastDigits
 pub mod Laws
 pub mod OddPart
 pub mod Primitives
 pub mod Range
+pub mod SignedBits

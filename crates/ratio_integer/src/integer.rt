@@ -1,6 +1,6 @@
-//! The traits of integer types: `Integer` has range, constants, arithmetic, divisors, halves of the width,
-//! conversions and laws, `SignedInteger` negatives, and `Primitive` a fixed number of bits; and `both_held`.
-ghost use Rattle.std.specs.Prelude.{◌≡◌, ◌≢◌, ◌↔◌, ◌≤◌, ◌≤ℤ◌, ◌<ℤ◌, ◌+ℤ◌, ◌-ℤ◌, ◌*ℤ◌, ◌-◌, ◌^◌, ℕ, ℤ, pos, negsuc, neg_ℤ, Bool, List, Some, IsNone, IsTrue, IfSome, int_div, int_rem};
+//! The traits `Integer` (range, constants, arithmetic, gcd and lcm, halves, conversions such as `to_u128`, laws), `SignedInteger`
+//! (negatives) and `Primitive` (bits), and what tells a proof that a number is in range.
+ghost use Rattle.std.specs.Prelude.{◌≡◌, ◌≢◌, ◌↔◌, ◌≤◌, ◌≤ℤ◌, ◌<ℤ◌, ◌+ℤ◌, ◌-ℤ◌, ◌*ℤ◌, ◌-◌, ◌^◌, ℕ, ℤ, pos, neg_ℤ, Bool, List, Some, IsNone, IsTrue, IfSome, int_div, int_rem};
 ghost use Rattle.std.specs.Bool.{OnFalse, OnTrue};
 ghost use Rattle.std.specs.Ordering.{int_cmp, partial_lt};
 ghost use Rattle.ratio_integer.specs.Arithmetic.{difference_of, sum_of};
@@ -10,6 +10,7 @@ ghost use Rattle.ratio_integer.specs.Fraction.{ChecksLowest};
 ghost use Rattle.ratio_integer.specs.Halves.{AreHalves, IsBase};
 ghost use Rattle.ratio_integer.specs.Laws.{IsLawful};
 ghost use Rattle.ratio_integer.specs.Range.{Checks, FitsIn128, IsHeld, IsRange};
+ghost use Rattle.ratio_integer.specs.SignedBits.{greatest128, least128};
 
 use std::hash::Hash;
 
@@ -91,7 +92,7 @@ pub trait Integer: Copy + Ord + Hash {
     /// The number as an `i128`, or `None` if it does not fit that type. The
     /// contract also says that the number lies from `lo` to `hi`.
     fn to_i128(self) -> Option<i128>
-        ensures number { Checks (λ n. n) (negsuc (2 ^ 127 - 1)) (pos (2 ^ 127 - 1)) (value self) result }
+        ensures number { Checks (λ n. n) least128 greatest128 (value self) result }
         ensures range { IsHeld lo hi (value self) };
 
     /// The number as a `u128`, or `None` if it does not fit that type.

@@ -1,5 +1,4 @@
-//! The two numbers of a fraction, or of two fractions, divided by their gcd, with their signs as they are or
-//! as lowest terms.
+//! The lowest terms of one fraction or two, and their numbers cancelled: divided by their gcd, each with its sign.
 ghost use Rattle.std.specs.Prelude.{◌≢◌, ◌<ℤ◌, pos};
 ghost use Rattle.ratio_integer.specs.Division.{IsGcdAboveMax, IsGcdOf};
 ghost use Rattle.ratio_integer.specs.Fraction.{IsCancelledOf, IsHeldLowest};

@@ -1,12 +1,12 @@
 // Written by templates/write from templates/impls.rt.txt: change that file, and write this one anew.
-//! The traits `Integer`, `SignedInteger` and `Primitive` for the six signed types, each with the same calls in the same order.
+//! The traits `Integer` and `Primitive` for the six signed types, each with the same calls in the same order.
 ghost use Rattle.std.specs.Prelude.{◌-◌, ◌^◌, pos, negsuc, false, true};
 ghost use Rattle.std.specs.Hash as hash;
 ghost use Rattle.std.proofs.Common.{inl, lit≤, refl};
 ghost use Rattle.ratio_integer.specs.Primitives.{signed_laws};
 
 use crate::binary_gcd::{binary_gcd, binary_gcd_wide, binary_gcds, binary_gcds_wide};
-use crate::integer::{Integer, Primitive, SignedInteger};
+use crate::integer::{Integer, Primitive};
 use crate::widths;
 use num_traits::cast;
 
@@ -122,18 +122,6 @@ impl Integer for i8 {
     ghost laws = { signed_laws (2 ^ 7 - 1) hash.i8 (lit≤ tt) };
 
     ghost exact_remainders_law = { inl (record { le = tt }) };
-}
-
-impl SignedInteger for i8 {
-    fn negate(self) -> i8 {
-        -self
-    }
-
-    fn try_negate(self) -> Option<i8> {
-        self.checked_neg()
-    }
-
-    ghost below_law = { record { lt = tt } };
 }
 
 impl Primitive for i8 {
@@ -258,18 +246,6 @@ impl Integer for i16 {
     ghost exact_remainders_law = { inl (record { le = tt }) };
 }
 
-impl SignedInteger for i16 {
-    fn negate(self) -> i16 {
-        -self
-    }
-
-    fn try_negate(self) -> Option<i16> {
-        self.checked_neg()
-    }
-
-    ghost below_law = { record { lt = tt } };
-}
-
 impl Primitive for i16 {
     ghost BITS = { 16 };
 
@@ -390,18 +366,6 @@ impl Integer for i32 {
     ghost laws = { signed_laws (2 ^ 31 - 1) hash.i32 (lit≤ tt) };
 
     ghost exact_remainders_law = { inl (record { le = tt }) };
-}
-
-impl SignedInteger for i32 {
-    fn negate(self) -> i32 {
-        -self
-    }
-
-    fn try_negate(self) -> Option<i32> {
-        self.checked_neg()
-    }
-
-    ghost below_law = { record { lt = tt } };
 }
 
 impl Primitive for i32 {
@@ -535,18 +499,6 @@ impl Integer for i64 {
     ghost exact_remainders_law = { inl (record { le = tt }) };
 }
 
-impl SignedInteger for i64 {
-    fn negate(self) -> i64 {
-        -self
-    }
-
-    fn try_negate(self) -> Option<i64> {
-        self.checked_neg()
-    }
-
-    ghost below_law = { record { lt = tt } };
-}
-
 impl Primitive for i64 {
     ghost BITS = { 64 };
 
@@ -678,18 +630,6 @@ impl Integer for i128 {
     ghost exact_remainders_law = { inl (record { le = tt }) };
 }
 
-impl SignedInteger for i128 {
-    fn negate(self) -> i128 {
-        -self
-    }
-
-    fn try_negate(self) -> Option<i128> {
-        self.checked_neg()
-    }
-
-    ghost below_law = { record { lt = tt } };
-}
-
 impl Primitive for i128 {
     ghost BITS = { 128 };
 
@@ -819,18 +759,6 @@ impl Integer for isize {
     ghost laws = { signed_laws (2 ^ 63 - 1) hash.isize (lit≤ tt) };
 
     ghost exact_remainders_law = { inl (record { le = tt }) };
-}
-
-impl SignedInteger for isize {
-    fn negate(self) -> isize {
-        -self
-    }
-
-    fn try_negate(self) -> Option<isize> {
-        self.checked_neg()
-    }
-
-    ghost below_law = { record { lt = tt } };
 }
 
 impl Primitive for isize {

@@ -6,9 +6,9 @@ use Rattle.std.specs.List.{flat_map}
 use Rattle.std.proofs.Common.{refl, sym, ap, arith, inl, inr, ◌∙◌, cond}
 use Rattle.std.proofs.lemmas.Bool.{cases_Bool, ltb-true}
 use Rattle.std.proofs.lemmas.Int.{ints}
+use Rattle.ratio_integer.specs.SignedBits.{IsHeld64}
 use Rattle.ratio_natural.specs.Number.{base, natural_of}
 use Rattle.ratio_big.specs.Hashing.{digits_of, first_digits, fits_64, is_below_0, number_writes}
-use Rattle.ratio_big.specs.Values.{Has64Bits}
 use Rattle.ratio_laws.specs.ToldApart.{AreSignedToldApart}
 use Rattle.ratio_laws.proofs.HashWriteLemmas.{bytes_tell, signed_apart}
 
@@ -56,9 +56,9 @@ short_tells = signed_apart (2 ^ 63 - 1) fed.u64 (λ _. refl) _ (λ _. refl) (λ 
 
 -- a number that fits 64 bits feeds 8 bytes, and another one its sign, the count of its digits and these
 abbrev Feeds : ℤ → Type 0
-Feeds z = (Has64Bits z × (number_writes z ≡ fed.i64 z)) ⊎ (number_writes z ≡ fed.bool (is_below_0 z) ++ fed.slice fed.u64 (digits_of (unsigned_abs z)))
+Feeds z = (IsHeld64 z × (number_writes z ≡ fed.i64 z)) ⊎ (number_writes z ≡ fed.bool (is_below_0 z) ++ fed.slice fed.u64 (digits_of (unsigned_abs z)))
 
-fits : (z : ℤ) → fits_64 z ≡ true → Has64Bits z
+fits : (z : ℤ) → fits_64 z ≡ true → IsHeld64 z
 fits (pos n) e = let below = ltb-true n (2 ^ 63) e in record { above = omega (arith, ints); below = omega (arith, ints, below) }
 fits (negsuc n) e = let below = ltb-true n (2 ^ 63) e in record { above = omega (arith, ints, below); below = omega (arith, ints) }
 

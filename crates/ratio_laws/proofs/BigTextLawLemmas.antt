@@ -13,7 +13,7 @@ use Rattle.ratio_core.specs.declared.parse_error.RatioErrorKind.TheVariants.{Par
 use Rattle.ratio_core.specs.Reading.{IsFractionText, IsNumberText, ReadsAs, digits_sum, slash}
 use Rattle.ratio_core.proofs.CutLemmas.{only_fraction}
 use Rattle.ratio_core.proofs.NumberLemmas.{digits_value_sum}
-use Rattle.ratio_long.specs.Decimals.{long_decimal}
+use Rattle.ratio_decimal.specs.Decimal.{places_text}
 use Rattle.ratio_big.specs.Texts.{IsBigText, fraction_text}
 use Rattle.ratio_laws.specs.BigTextLaws.{ReadsOnlyAs}
 use Rattle.ratio_laws.proofs.BigFieldLawLemmas.{own_terms}
@@ -30,7 +30,7 @@ some_text n = go (n == 0) refl
 numeral : (n : ℕ) → IsNumeral 10 (decimal_text n) × (digits_sum 10 (decimal_text n) ≡ n)
 numeral n = ((some_text n, decimal_digits n), sym (digits_value_sum 10 (decimal_text n)) ∙ decimal_value n)
 
-number_text : (lo z : ℤ) → lo <ℤ pos 0 → IsNumberText lo 10 (long_decimal 0 z) z
+number_text : (lo z : ℤ) → lo <ℤ pos 0 → IsNumberText lo 10 (places_text 0 z) z
 number_text lo (pos n) low = let is = numeral n in inl (is.0, ap pos (sym is.1))
 number_text lo (negsuc n) low = let is = numeral (suc n) in inr (inr (decimal_text (suc n), low, refl, is.0, ap (λ (k : ℕ). neg_ℤ (pos k)) (sym is.1)))
 
@@ -46,15 +46,15 @@ own_text x = record { lo = lo; hi = hi; signed = low; reads = go (int_eq x.1 (po
     low : lo <ℤ pos 0
     low = omega (arith, ints)
 
-    numer : ReadsAs lo hi 10 (long_decimal 0 x.0) x.0
+    numer : ReadsAs lo hi 10 (places_text 0 x.0) x.0
     numer = record { number = number_text lo x.0 low; held = record { above = omega (arith, ints); below = omega (arith, ints) } }
 
-    denom : ReadsAs lo hi 10 (long_decimal 0 x.1) x.1
+    denom : ReadsAs lo hi 10 (places_text 0 x.1) x.1
     denom = record { number = number_text lo x.1 low; held = record { above = omega (arith, ints); below = omega (arith, ints) } }
 
-    go : (b : Bool) → int_eq x.1 (pos 1) ≡ b → IsFractionText lo hi (long_decimal 0 x.0 ++ (if b then [] else slash ∷ long_decimal 0 x.1)) x.0 x.1
-    go true one = inr (subst (λ (text : List ℕ). ReadsAs lo hi 10 text x.0) (sym (append-nil (long_decimal 0 x.0))) numer, (Decides-int_eq x.1 (pos 1)).0 one)
-    go false other = inl (record { front = long_decimal 0 x.0; back = long_decimal 0 x.1; cut = refl; sides = record { numer = numer; denom = denom } })
+    go : (b : Bool) → int_eq x.1 (pos 1) ≡ b → IsFractionText lo hi (places_text 0 x.0 ++ (if b then [] else slash ∷ places_text 0 x.1)) x.0 x.1
+    go true one = inr (subst (λ (text : List ℕ). ReadsAs lo hi 10 text x.0) (sym (append-nil (places_text 0 x.0))) numer, (Decides-int_eq x.1 (pos 1)).0 one)
+    go false other = inl (record { front = places_text 0 x.0; back = places_text 0 x.1; cut = refl; sides = record { numer = numer; denom = denom } })
 
 -- ---- it reads as no others
 

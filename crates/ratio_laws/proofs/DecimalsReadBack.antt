@@ -1,5 +1,5 @@
 -- A printed decimal reads as the multiple that it shows, so all of a fraction reads back as the fraction.
-use Rattle.std.specs.Prelude.{◌≡◌, ◌+◌, ◌*◌, ◌/◌, ◌%◌, ◌^◌, ◌<◌, ◌≤◌, ◌<ℤ◌, ◌*ℤ◌, ℕ, ℤ, zero, suc, pos, negsuc, neg_ℤ, unsigned_abs, true, false, List, [], ◌∷◌, ◌++◌, length, decimal, Result, Ok, Err}
+use Rattle.std.specs.Prelude.{◌≡◌, ◌+◌, ◌*◌, ◌/◌, ◌%◌, ◌^◌, ◌<◌, ◌≤◌, ◌<ℤ◌, ◌*ℤ◌, ℕ, ℤ, zero, suc, pos, negsuc, neg_ℤ, unsigned_abs, true, false, List, [], ◌∷◌, ◌++◌, length, Result, Ok, Err}
 use Rattle.std.specs.Char.{digit_value}
 use Rattle.std.specs.Str.Parse.{AllDigits, IsNumeral}
 use Rattle.std.proofs.Common.{refl, sym, ap, subst, arith, inl, inr, ◌∙◌, append-nil, length-append, pow-suc}
@@ -12,7 +12,7 @@ use Rattle.ratio_integer.specs.Range.{IsHeld}
 use Rattle.ratio_integer.proofs.LowestTerms.{held_lowest_moved, lowest_equal, lowest_own}
 use Rattle.ratio_integer.proofs.Whole.{unsigned_abs-products}
 use Rattle.ratio_decimal.specs.Decimal.{IsExactDecimal, unsigned_places}
-use Rattle.ratio_core.specs.Printing.{last_digits}
+use Rattle.ratio_integer.specs.LastDigits.{last_digits}
 use Rattle.ratio_decimal.specs.DecimalReading.{AnswersDecimal, IsDecimalText, IsExponent, IsPointed, IsReadDecimal, PrintedDecimalsRead}
 use Rattle.ratio_core.specs.Reading.{digits_sum, minus}
 use Rattle.ratio_decimal.specs.declared.reading.DecimalRefusal.{DecimalRefusal}
@@ -22,6 +22,8 @@ use Rattle.ratio_decimal.proofs.DecimalTerms.{some_not_zero}
 use Rattle.ratio_decimal.proofs.DecimalTexts.{one_reading}
 use Rattle.ratio_core.proofs.LeadingDigits.{append_digits}
 use Rattle.ratio_core.proofs.ReadingBack.{decimal_numeral}
+use Rattle.ratio_natural.specs.Decimal.{decimal_text}
+use Rattle.ratio_natural.proofs.PrintingLemmas.{decimal_same}
 
 -- ---- the last digits of a number
 
@@ -73,12 +75,15 @@ record IsUnsignedRead (text : List ℕ) (places n : ℕ) : Type 0 where
   count : length part ≡ places
   sum : digits_sum 10 (whole ++ part) ≡ n
 
+text_numeral : (n : ℕ) → n < 2 ^ 128 → IsNumeral 10 (decimal_text n) × (digits_sum 10 (decimal_text n) ≡ n)
+text_numeral n small = subst (λ xs. IsNumeral 10 xs × (digits_sum 10 xs ≡ n)) (decimal_same n (omega (arith, small))) (decimal_numeral n small)
+
 unsigned_read : (places n : ℕ) → n / 10 ^ places < 2 ^ 128 → IsUnsignedRead (unsigned_places places n) places n
 unsigned_read zero n small =
-    let back = decimal_numeral n (subst (λ x. x < 2 ^ 128) (div-one n) small) in
-    let bare : decimal n ≡ decimal n ++ [] = sym (append-nil (decimal n)) in
+    let back = text_numeral n (subst (λ x. x < 2 ^ 128) (div-one n) small) in
+    let bare : decimal_text n ≡ decimal_text n ++ [] = sym (append-nil (decimal_text n)) in
     record {
-      whole = decimal n;
+      whole = decimal_text n;
       part = [];
       pointed = record { cut = inr (refl, refl); digits = subst (IsNumeral 10) bare back.0 };
       count = refl;
@@ -88,13 +93,13 @@ unsigned_read (suc k) n small =
     let w = n / 10 ^ suc k in
     let last = last_are (suc k) n in
     let part = last_digits (suc k) n in
-    let back = decimal_numeral w small in
+    let back = text_numeral w small in
     record {
-      whole = decimal w;
+      whole = decimal_text w;
       part = part;
-      pointed = record { cut = inl refl; digits = (omega (arith, back.0.0, length-append (decimal w) part), append_digits 10 (decimal w) part back.0.1 last.all) };
+      pointed = record { cut = inl refl; digits = (omega (arith, back.0.0, length-append (decimal_text w) part), append_digits 10 (decimal_text w) part back.0.1 last.all) };
       count = last.count;
-      sum = sum_split (decimal w) part ∙ ap (λ x. x * 10 ^ length part + digits_sum 10 part) back.1 ∙ ap (λ x. w * 10 ^ x + digits_sum 10 part) last.count ∙ ap (λ x. w * 10 ^ suc k + x) last.sum ∙ div-add-mod' n (10 ^ suc k);
+      sum = sum_split (decimal_text w) part ∙ ap (λ x. x * 10 ^ length part + digits_sum 10 part) back.1 ∙ ap (λ x. w * 10 ^ x + digits_sum 10 part) last.count ∙ ap (λ x. w * 10 ^ suc k + x) last.sum ∙ div-add-mod' n (10 ^ suc k);
     }
 
 no_exponent : IsExponent [] false []

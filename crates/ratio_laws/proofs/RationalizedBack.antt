@@ -14,17 +14,17 @@ use Rattle.core.proofs.dec2flt.RoundingLemmas.{nearest_of_near}
 use Rattle.core.specs.Dec2flt.Rounding.{IsNearestBits, IsSignificand, scaled_bits}
 use Rattle.ratio_integer.specs.Fraction.{SameValue}
 use Rattle.ratio_integer.proofs.LowestTerms.{same_value_chained}
-use Rattle.ratio_float.specs.FloatLaws.{EndsHaveGreaterDenominators, FloatsLieBetweenEnds, RationalizedComesBack}
-use Rattle.ratio_float.specs.Floats.{nearest_float}
+use Rattle.ratio_decimal.specs.FloatLaws.{EndsHaveGreaterDenominators, FloatsLieBetweenEnds, RationalizedComesBack}
+use Rattle.ratio_decimal.specs.Floats.{nearest_float}
 use Rattle.ratio_core.specs.Signs.{with_sign}
-use Rattle.ratio_float.specs.Rationalize.{ChecksRationalized, halfway}
-use Rattle.ratio_float.specs.Rationalizing.{IsGap}
+use Rattle.ratio_decimal.specs.Rationalize.{ChecksRationalized, halfway}
+use Rattle.ratio_decimal.specs.Rationalizing.{IsGap}
 use Rattle.ratio_approximation.specs.Simplest.{IsBetween}
-use Rattle.ratio_float.proofs.FloatFields.{kept}
-use Rattle.ratio_float.proofs.FloatLawLemmas.{come_back, exact, other_signs, zero_first}
+use Rattle.ratio_decimal.proofs.FloatFields.{kept}
+use Rattle.ratio_decimal.proofs.FloatLawLemmas.{come_back, exact, other_signs, zero_first}
 use Rattle.ratio_core.proofs.SignedNumbers.{with_sign-mul}
-use Rattle.ratio_float.proofs.GapLemmas.{above_none, back_between}
-use Rattle.ratio_float.proofs.RationalizeLemmas.{high_end, hid_pos, low_end, IsEnd, not_whole, odd_of, ones_pos, part_place, part_some, two_hid, value_is}
+use Rattle.ratio_decimal.proofs.GapLemmas.{above_none, back_between}
+use Rattle.ratio_decimal.proofs.RationalizeLemmas.{high_end, hid_pos, low_end, IsEnd, not_whole, odd_of, ones_pos, part_place, part_some, two_hid, value_is}
 use Rattle.ratio_approximation.proofs.SimplestLawLemmas.{between_same}
 
 -- ---- in quarters of the last place, which are u/4 of the least float over e

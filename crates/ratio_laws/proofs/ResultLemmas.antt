@@ -1,7 +1,8 @@
 -- Results of `Reduced` from values: calls whose unreduced results have one value return one result.
-use Rattle.std.specs.Prelude.{◌≢◌, ◌-◌, ◌^◌, ◌*ℤ◌, ℤ, pos, negsuc, Option, None, Some}
+use Rattle.std.specs.Prelude.{◌≢◌, ◌*ℤ◌, ℤ, pos, Option, None, Some}
 use Rattle.ratio_integer.specs.Fraction.{SameValue}
 use Rattle.ratio_integer.specs.Range.{IsHeld}
+use Rattle.ratio_integer.specs.SignedBits.{greatest64, least64}
 use Rattle.ratio_integer.specs.contracts.signed_types.I64Integer.TheImpl.{ghosts}
 use Rattle.ratio_integer.proofs.LowestTerms.{checks_lowest_moved, lowest_unique}
 use Rattle.ratio_integer.proofs.Whole.{mul_nonzero, positive_nonzero}
@@ -48,7 +49,7 @@ one_value n d z answer nonzero same numer denom told =
 -- if x + y over `i64` returns nothing but z, it returns z: a sum that fits is a fraction of the type
 pub sum_known : {o : _} {e : _} {p : _} {h : _} (x y z : Reduced ℤ ghosts o e p h) → ((r : Option (Reduced ℤ ghosts o e p h)) → AnswersSum x y r → AreOneAnswer r (Some z)) → AnswersSum x y (Some z)
 sum_known x y z law =
-    elim (fits_decided (negsuc (2 ^ 63 - 1)) (pos (2 ^ 63 - 1)) _ _) [
+    elim (fits_decided least64 greatest64 _ _) [
       | no out ↦ absurd (law None out)
       | yes fits ↦ let same = law (Some (record { ratio = record { numer = fits.numer; denom = fits.denom; nonzero = positive_nonzero _ fits.low.terms.lowest.positive }; lowest = fits.low.terms.lowest })) fits.low in
           rw (← same.0, ← same.1) fits.low

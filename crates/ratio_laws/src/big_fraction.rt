@@ -3,6 +3,6 @@
 pub mod field;
 pub mod order;
 pub mod powers;
+pub mod rounding;
 pub mod signs;
 pub mod texts;
-pub mod wholes;

@@ -19,7 +19,7 @@ pub fn sums<T: Copy + Integer, O: ReducedOperand<T> + Copy>(
     ensures order { AddsInAnyOrder O.two_numbers x.now first.now second.now }
 {}
 
-/// The laws of `sums`, for products: multiplying goes on, lists may be cut in two, and their order is free. Over `i8`, 127, 2 and 1/2
+/// The laws of products of lists, as those of `sums`: multiplying goes on, lists may be cut in two, and their order is free. Over `i8`, 127, 2 and 1/2
 /// have no product, and 127, 1/2 and 2 have one.
 pub fn products<T: Copy + Integer, O: ReducedOperand<T> + Copy>(
     x: &Reduced<T>,

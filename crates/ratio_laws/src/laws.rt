@@ -1,7 +1,8 @@
-//! The laws of sums, of what they require, of products, rounding, decimals, powers, fractions near others and floats. Each function does
-//! nothing: its contract is the law. If `checked_add` or `checked_mul` returns `Some`, that is a sum or a product as the laws mean it.
+//! The laws of fractions by their two numbers: of sums, what these require, products, rounding, decimals, powers, fractions near others and
+//! floats. Each function does nothing: its contract is the law. If `checked_add` or `checked_mul` returns `Some`, that is a sum or a
+//! product as the laws mean it.
 ghost use Rattle.ratio_laws.specs.DecimalLaws.{DecimalsAreMonotone, DecimalsAreNear};
-ghost use Rattle.ratio_float.specs.FloatLaws.{EndsHaveGreaterDenominators, FloatsAreMonotone, FloatsComeBack, FloatsLieBetweenEnds, NearestOfZero, RationalizedComesBack, SameValueSameFloat};
+ghost use Rattle.ratio_decimal.specs.FloatLaws.{EndsHaveGreaterDenominators, FloatsAreMonotone, FloatsComeBack, FloatsLieBetweenEnds, NearestOfZero, RationalizedComesBack, SameValueSameFloat};
 ghost use Rattle.ratio_approximation.specs.FromQuotients.{FractionsAreLowest, QuotientsGiveBack};
 ghost use Rattle.ratio_core.specs.Laws.{FormedDifferencesFit, FormedSumsFit, ProductsAssociate, ProductsCommute, ProductsDistribute, SumConditionsCommute, SumsAssociate, SumsCommute};
 ghost use Rattle.ratio_laws.specs.NearestLaws.{LowestIsNearest, NearestIsLowest, OneIsNearest, SameValueSameNearest};

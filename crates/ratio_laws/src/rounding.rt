@@ -1,5 +1,5 @@
-//! The laws of whole numbers near a `Reduced`. Each function changes nothing: its contract is the law, for the fractions that it is
-//! given.
+//! The laws of a `Reduced` rounded to whole numbers: floor, ceiling, and the six rules. Each function changes nothing: its contract is the
+//! law, for the fractions that it is given.
 ghost use Rattle.ratio_decimal.specs.declared.rounding_rule.Rounding.TheVariants.{Floor, Ceil};
 ghost use Rattle.ratio_laws.specs.RoundingLaws.{AddsWhole, IsCeilingOfNegative, IsNearFloor, IsNearRounded, KeepsWhole, RoundsInOrder};
 

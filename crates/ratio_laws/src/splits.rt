@@ -27,7 +27,7 @@ pub fn marks_of_one<T: Copy + Integer>(amount: T, shares: &[Reduced<T>])
     let _ = amount.held();
 }
 
-/// An amount has only one split by the same shares. So `fraction_totals::split_in` gives what `split` gives.
+/// An amount has only one split by the same shares. So `ratio_totals::split_in` gives what `split` gives.
 pub fn one_split<T: Copy + Integer>(amount: T, shares: &[Reduced<T>], parts: &[T], others: &[T])
     ensures { SplitsAgree share_numbers T.value (T.value amount) shares.now parts.now others.now }
 {}

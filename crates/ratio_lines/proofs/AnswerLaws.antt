@@ -14,27 +14,28 @@ use Rattle.ratio_core.proofs.CutLemmas.{only_fraction}
 use Rattle.ratio_integer.proofs.LowestTerms.{lowest_unique}
 use Rattle.ratio_integer.specs.Arithmetic.{difference_of, product_of, quotient_of, remainder_of, sum_of}
 use Rattle.ratio_integer.specs.Fraction.{IsHeldLowest}
+use Rattle.ratio_integer.specs.SignedBits.{greatest64, least64}
 use Rattle.ratio_lines.specs.Answers.{AreAnswers, AreAnswersOf, AreRead, IsAnswer, IsApplied, IsChainAnswer, IsDivisionOutcome, IsLowestResult, IsOperandsAnswer, IsOutcome, IsPartsAnswer, IsRemainderResult, IsResultOutcome, IsTextsAnswer, Outcome, is_chain, is_cmp, is_space, operator_parts, operators_of, outcome_of_result, right_parts, want_three, without_return}
 use Rattle.ratio_lines.specs.Lines.{front_of, lines_of, longest_line}
-use Rattle.ratio_lines.specs.Operands.{IsOperand, greatest, least}
+use Rattle.ratio_lines.specs.Operands.{IsOperand}
 use Rattle.ratio_lines.specs.declared.operator.Operator.{Operator}
 use Rattle.ratio_lines.specs.declared.operator.Operator.TheVariants.{Add, Sub, Mul, Div, Rem, Cmp}
 
 abbrev Reads : List ℕ → ℤ → ℤ → Type 0
-Reads text = IsFractionText least greatest text
+Reads text = IsFractionText least64 greatest64 text
 
-one_lowest : (text : List ℕ) (x y : ℤ × ℤ) → ReadsLowest least greatest (Reads text) x.0 x.1 → ReadsLowest least greatest (Reads text) y.0 y.1 → x ≡ y
+one_lowest : (text : List ℕ) (x y : ℤ × ℤ) → ReadsLowest least64 greatest64 (Reads text) x.0 x.1 → ReadsLowest least64 greatest64 (Reads text) y.0 y.1 → x ≡ y
 one_lowest text x y h k =
-    let pair = only_fraction least greatest text h.n h.d k.n k.d h.reads k.reads in
-    let same : IsHeldLowest least greatest k.n k.d x.0 x.1 = rw (← pair.0, ← pair.1) h.low in
+    let pair = only_fraction least64 greatest64 text h.n h.d k.n k.d h.reads k.reads in
+    let same : IsHeldLowest least64 greatest64 k.n k.d x.0 x.1 = rw (← pair.0, ← pair.1) h.low in
     let low = lowest_unique k.n k.d x.0 x.1 y.0 y.1 same.terms k.low.terms in
     ap (λ (a : ℤ). (a, x.1)) low.0 ∙ ap (λ (b : ℤ). (y.0, b)) low.1
 
-read_or_refused : (text : List ℕ) (x : ℤ × ℤ) (kind : RatioErrorKind) → ReadsLowest least greatest (Reads text) x.0 x.1 → ¬ (Refuses least greatest (Reads text) kind)
+read_or_refused : (text : List ℕ) (x : ℤ × ℤ) (kind : RatioErrorKind) → ReadsLowest least64 greatest64 (Reads text) x.0 x.1 → ¬ (Refuses least64 greatest64 (Reads text) kind)
 read_or_refused text x ParseError h k = (k.each h.n h.d h.reads).1 (record { numer = x.0; denom = x.1; low = h.low })
-read_or_refused text x ZeroDenominator h k = h.low.terms.fraction (only_fraction least greatest text h.n h.d k.0 (pos 0) h.reads k.1).1
+read_or_refused text x ZeroDenominator h k = h.low.terms.fraction (only_fraction least64 greatest64 text h.n h.d k.0 (pos 0) h.reads k.1).1
 
-one_refusal : (text : List ℕ) (kind other : RatioErrorKind) → Refuses least greatest (Reads text) kind → Refuses least greatest (Reads text) other → kind ≡ other
+one_refusal : (text : List ℕ) (kind other : RatioErrorKind) → Refuses least64 greatest64 (Reads text) kind → Refuses least64 greatest64 (Reads text) other → kind ≡ other
 one_refusal text ParseError ParseError h k = refl
 one_refusal text ParseError ZeroDenominator h k = absurd ((h.each k.0 (pos 0) k.1).0 refl)
 one_refusal text ZeroDenominator ParseError h k = absurd ((k.each h.0 (pos 0) h.1).0 refl)
@@ -54,7 +55,7 @@ one_text : (text a b : List ℕ) → a ≡ text → b ≡ text → a ≡ b
 one_text text a b h k = h ∙ sym k
 
 -- a pair has at most one pair of lowest terms in 64 bits
-one_pair : (n d : ℤ) (x y : ℤ × ℤ) → IsHeldLowest least greatest n d x.0 x.1 → IsHeldLowest least greatest n d y.0 y.1 → x ≡ y
+one_pair : (n d : ℤ) (x y : ℤ × ℤ) → IsHeldLowest least64 greatest64 n d x.0 x.1 → IsHeldLowest least64 greatest64 n d y.0 y.1 → x ≡ y
 one_pair n d x y h k =
     let low = lowest_unique n d x.0 x.1 y.0 y.1 h.terms k.terms in
     ap (λ (a : ℤ). (a, x.1)) low.0 ∙ ap (λ (b : ℤ). (y.0, b)) low.1

@@ -10,6 +10,7 @@ use Rattle.either.specs.Either.{MatchEither}
 use Rattle.either.specs.declared.Either.TheVariants.{Left, Right}
 use Rattle.ratio_integer.specs.Arithmetic.{difference_of, product_of, quotient_of, sum_of}
 use Rattle.ratio_integer.specs.Range.{IsRange}
+use Rattle.ratio_integer.specs.SignedBits.{greatest64, least64}
 use Rattle.ratio_core.specs.Order.{cross_cmp}
 use Rattle.ratio_core.specs.Printing.{text_of}
 use Rattle.ratio_core.specs.Refusal.{refusal_text}
@@ -19,7 +20,7 @@ use Rattle.ratio_core.proofs.NumbersExist.{lowest_checked, remainder_checked}
 use Rattle.ratio_core.proofs.ReadingExists.{text_answer_exists}
 use Rattle.ratio_lines.specs.Answers.{AreAnswers, AreAnswersOf, AreRead, IsAnswer, IsApplied, IsChainAnswer, IsDivisionOutcome, IsLowestResult, IsOperandsAnswer, IsOutcome, IsPartsAnswer, IsRemainderResult, IsResultOutcome, IsTextsAnswer, Outcome, is_chain, is_cmp, is_space, operator_parts, operators_of, order_text, outcome_of_result, right_parts, want_three, without_return}
 use Rattle.ratio_lines.specs.Lines.{front_of, lines_of, longest_line}
-use Rattle.ratio_lines.specs.Operands.{IsOperand, greatest, least}
+use Rattle.ratio_lines.specs.Operands.{IsOperand}
 use Rattle.ratio_lines.specs.declared.operator.Operator.{Operator}
 use Rattle.ratio_lines.specs.declared.operator.Operator.TheVariants.{Add, Sub, Mul, Div, Rem, Cmp}
 use Rattle.ratio_lines.proofs.Outcomes.{IsPositive, outcome_positive}
@@ -49,14 +50,14 @@ result_exists Is found = (outcome_of_result found.0, record { number = found.0; 
 
 -- each pair has lowest terms in 64 bits, or no result
 lowest_exists : (pair : ℤ × ℤ) → HasOutcome (IsResultOutcome (IsLowestResult pair))
-lowest_exists pair = result_exists (IsLowestResult pair) (lowest_checked least greatest pair)
+lowest_exists pair = result_exists (IsLowestResult pair) (lowest_checked least64 greatest64 pair)
 
 -- the numbers of 64 bits are the range of a type
-fields_range : IsRange least greatest
+fields_range : IsRange least64 greatest64
 fields_range = record { high = omega (arith, ints); low = inr (inr refl) }
 
 remainder_exists : (x y : ℤ × ℤ) → pos 0 <ℤ x.1 → pos 0 <ℤ y.1 → HasOutcome (IsResultOutcome (IsRemainderResult x y))
-remainder_exists x y left right = result_exists (IsRemainderResult x y) (remainder_checked least greatest x.0 x.1 y.0 y.1 fields_range left right)
+remainder_exists x y left right = result_exists (IsRemainderResult x y) (remainder_checked least64 greatest64 x.0 x.1 y.0 y.1 fields_range left right)
 
 -- a division by 0 has an outcome of its own
 division_exists : (divisor : ℤ × ℤ) (Is : Option (ℤ × ℤ) → Type 0) → HasOutcome (IsResultOutcome Is) → HasOutcome (IsDivisionOutcome divisor Is)
@@ -97,7 +98,7 @@ applied_exists (operator ∷ operators) (y ∷ ys) x left rights =
 
 -- each text is an operand, or is refused
 pub operand_exists : (text : List ℕ) → (operand : Result (ℤ × ℤ) RatioErrorKind) × IsOperand text operand
-operand_exists text = text_answer_exists least greatest text (omega (arith, ints))
+operand_exists text = text_answer_exists least64 greatest64 text (omega (arith, ints))
 
 -- one more operand is read or refused, if the others are
 operand_more : (text : List ℕ) (texts : List (List ℕ)) (operand : Result (ℤ × ℤ) RatioErrorKind) (read : Result (List (ℤ × ℤ)) RatioErrorKind) → IsOperand text operand → AreRead texts read

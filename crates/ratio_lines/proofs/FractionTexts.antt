@@ -6,9 +6,8 @@ use Rattle.std.specs.Str.Parse.{AllDigits}
 use Rattle.std.proofs.lemmas.Bool.Decides.{nat_tests}
 use Rattle.std.proofs.lemmas.Int.{ints, to_z-of_z}
 use Rattle.std.proofs.lemmas.List.Folds.{list_all-append}
-use Rattle.ratio_integer.specs.Range.{IsHeld}
+use Rattle.ratio_integer.specs.SignedBits.{IsHeld64, greatest64, least64}
 use Rattle.ratio_core.specs.Reading.{IsFractionText, IsNumberText, slash}
-use Rattle.ratio_lines.specs.Operands.{greatest, least}
 use Rattle.ratio_lines.specs.PlainLine.{IsGraphic}
 
 digit_graphic : (byte : ℕ) → digit_value byte < 10 → is_ascii_graphic byte ≡ true
@@ -38,14 +37,14 @@ fraction_shown lo hi n d text (inr h) = number_shown lo n text h.0.number
 
 -- ---- the numbers of the fraction
 
-held_fits : (z : ℤ) → IsHeld least greatest z → FitsSigned w64 z
+held_fits : (z : ℤ) → IsHeld64 z → FitsSigned w64 z
 held_fits (pos n) h = let below : pos n ≤ℤ pos 9223372036854775807 = h.below in record { sfits = omega (arith, ints, below) }
 held_fits (negsuc n) h = let above : negsuc 9223372036854775807 ≤ℤ negsuc n = h.above in record { sfits = omega (arith, ints, above) }
 
-held_same : (z : ℤ) → IsHeld least greatest z → to_z w64 (of_z w64 z) ≡ z
+held_same : (z : ℤ) → IsHeld64 z → to_z w64 (of_z w64 z) ≡ z
 held_same z h = to_z-of_z w64 z (held_fits z h)
 
 -- they are values of an `i64`
-pub fraction_same : (n d : ℤ) (text : List ℕ) → IsFractionText least greatest text n d → (to_z w64 (of_z w64 n) ≡ n) × (to_z w64 (of_z w64 d) ≡ d)
+pub fraction_same : (n d : ℤ) (text : List ℕ) → IsFractionText least64 greatest64 text n d → (to_z w64 (of_z w64 n) ≡ n) × (to_z w64 (of_z w64 d) ≡ d)
 fraction_same n d text (inl h) = (held_same n h.sides.numer.held, held_same d h.sides.denom.held)
 fraction_same n d text (inr h) = (held_same n h.0.held, ap (λ z. to_z w64 (of_z w64 z)) h.1 ∙ sym h.1)

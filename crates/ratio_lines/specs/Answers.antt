@@ -7,11 +7,12 @@ use Rattle.std.specs.{Ordering.int_eq, Str.is_utf8}
 use Rattle.std.specs.declared.cmp.Ordering.{Ordering, TheVariants.Less, TheVariants.Equal, TheVariants.Greater}
 use Rattle.ratio_integer.specs.Arithmetic.{RemainderHeld, difference_of, product_of, quotient_of, remainder_of, sum_of}
 use Rattle.ratio_integer.specs.Fraction.{AnswersLowest, ChecksLowest}
+use Rattle.ratio_integer.specs.SignedBits.{greatest64, least64}
 use Rattle.ratio_core.specs.{Order.cross_cmp, Printing.text_of, Refusal.refusal_text}
 use Rattle.ratio_core.specs.declared.parse_error.RatioErrorKind.{RatioErrorKind}
 use Rattle.ratio_core.specs.declared.text.Form.TheVariants.{Decimal}
 use Rattle.ratio_lines.specs.Lines.{front_of, lines_of, longest_line, whole_lines}
-use Rattle.ratio_lines.specs.Operands.{IsOperand, greatest, least, operator_of}
+use Rattle.ratio_lines.specs.Operands.{IsOperand, operator_of}
 use Rattle.ratio_lines.specs.declared.operator.Operator.{Operator}
 use Rattle.ratio_lines.specs.declared.operator.Operator.TheVariants.{Add, Sub, Mul, Div, Rem, Cmp}
 
@@ -44,13 +45,13 @@ pub record IsResultOutcome (Is : Option (ℤ × ℤ) → Type 0) (outcome : Outc
 -- the result is the lowest terms of the pair, if they fit in 64 bits. Otherwise there is none
 -- Example: 2/4: 1/2
 abbrev pub IsLowestResult : ℤ × ℤ → Option (ℤ × ℤ) → Type 0
-IsLowestResult pair number = ChecksLowest (λ x. x.0) (λ x. x.1) least greatest pair number
+IsLowestResult pair number = ChecksLowest (λ x. x.0) (λ x. x.1) least64 greatest64 pair number
 
 -- if `RemainderHeld`, the result is the lowest terms of the remainder, which fit in 64 bits. Otherwise there is none
 -- Example: `3/4 % 1/2`: `1/4`
 abbrev pub IsRemainderResult : ℤ × ℤ → ℤ × ℤ → Option (ℤ × ℤ) → Type 0
 IsRemainderResult x y number =
-    AnswersLowest (λ z. z.0) (λ z. z.1) least greatest (RemainderHeld least greatest x.0 x.1 y.0 y.1) (remainder_of x.0 x.1 y.0 y.1) number
+    AnswersLowest (λ z. z.0) (λ z. z.1) least64 greatest64 (RemainderHeld least64 greatest64 x.0 x.1 y.0 y.1) (remainder_of x.0 x.1 y.0 y.1) number
 
 -- a division by 0 has the answer `error: division by zero`. Any other division has the outcome of its result
 -- Example: `1 / 0`

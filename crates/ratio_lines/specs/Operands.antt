@@ -1,6 +1,7 @@
 -- The operands and the operator of a line.
-use Rattle.std.specs.Prelude.{◌-◌, ◌^◌, ◌==◌, Bool, ℕ, ℤ, pos, negsuc, List, Option, Some, None, Result, Ok, Err, if◌then◌else◌, codes}
+use Rattle.std.specs.Prelude.{◌==◌, Bool, ℕ, ℤ, List, Option, Some, None, Result, Ok, Err, if◌then◌else◌, codes}
 use Rattle.std.specs.Cmp.Lexicographic.{pointwise}
+use Rattle.ratio_integer.specs.SignedBits.{greatest64, least64}
 use Rattle.ratio_core.specs.Reading.{AnswersText, IsFractionText}
 use Rattle.ratio_core.specs.declared.parse_error.RatioErrorKind.{RatioErrorKind}
 use Rattle.num_rational.specs.Ratio.{numerator, denominator}
@@ -8,18 +9,10 @@ use Rattle.num_rational.specs.declared.ratio.Ratio.{Ratio}
 use Rattle.ratio_lines.specs.declared.operator.Operator.{Operator}
 use Rattle.ratio_lines.specs.declared.operator.Operator.TheVariants.{Add, Sub, Mul, Div, Rem, Cmp}
 
--- the least number of an operand: -2^63
-abbrev pub least : ℤ
-least = negsuc (2 ^ 63 - 1)
-
--- the greatest number of an operand: 2^63-1
-abbrev pub greatest : ℤ
-greatest = pos (2 ^ 63 - 1)
-
--- what a text gives as an operand: its fraction in lowest terms, or a refusal that applies (`AnswersText`, from `least` to `greatest`)
+-- what a text gives as an operand: its fraction in lowest terms, or a refusal that applies (`AnswersText`, from -2^63 to 2^63-1)
 -- Example: `6/4`: 3 and 2
 abbrev pub IsOperand : List ℕ → Result (ℤ × ℤ) RatioErrorKind → Type 0
-IsOperand text operand = AnswersText (λ x. x.0) (λ x. x.1) least greatest (IsFractionText least greatest text) operand
+IsOperand text operand = AnswersText (λ x. x.0) (λ x. x.1) least64 greatest64 (IsFractionText least64 greatest64 text) operand
 
 -- the two numbers of a fraction that was read
 abbrev pub numbers_of : {T : _} {i : _} {o : _} {e : _} {p : _} {h : _} → Result (Ratio T i o e p h) RatioErrorKind → Result (ℤ × ℤ) RatioErrorKind

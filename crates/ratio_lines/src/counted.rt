@@ -1,4 +1,5 @@
-//! `Counted`: readers and writers whose calls a contract can follow, what these calls did, and the traits `CalcRead` and `CalcWrite`.
+//! `Counted`: readers and writers whose calls a contract can follow, `Calls` for what these calls did, and the traits `CalcRead` and
+//! `CalcWrite`.
 ghost use Rattle.std.specs.Prelude.{◌≡◌, List, ℕ};
 ghost use Rattle.std.specs.Borrow.{ftrue};
 ghost use Rattle.std.specs.Io.{ReadsAtMost, WritesAtMost};

@@ -1,5 +1,5 @@
-//! The calculator as a library. It answers each line of an input with a line of an output. For every reader and writer, a run reads all
-//! input and writes exactly its answers, or it stops at the first fault.
+//! The line calculator as a library, which answers each line of an input, such as `1/2 + 1/3`, with a line of an output. For every reader
+//! and writer, a run reads all input and writes exactly its answers, or it stops at the first fault.
 //!
 //! | Module | What is in it |
 //! |---|---|
@@ -11,7 +11,7 @@
 //! | `operand` | The operand that a text begins with, in lowest terms, which is read while its end is looked for. |
 //! | `operator` | The enum `Operator`: the operators of the calculator, by their names, and what each gives between two fractions. |
 //! | `parts` | The limit of a line, and how a line is cut: from the bytes after it, into its parts, and a plain line in one pass. |
-//! | `counted` | `Counted`: readers and writers whose calls a contract can follow, what these calls did, and the traits `CalcRead` and `CalcWrite`. |
+//! | `counted` | `Counted`: readers and writers whose calls a contract can follow, `Calls` for what these calls did, and the traits `CalcRead` and `CalcWrite`. |
 //! | `laws` | The laws of answers: inputs one after another, and that each input has answers. |
 #![tactic(auto)]
 

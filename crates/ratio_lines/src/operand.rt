@@ -1,10 +1,11 @@
 //! The operand that a text begins with, in lowest terms, which is read while its end is looked for.
 ghost use Rattle.std.specs.Prelude.{◌≡◌, ◌≤◌, ◌∷◌, ℕ, List, IfSome, length, take};
 ghost use Rattle.std.specs.List.{slice_split};
+ghost use Rattle.ratio_integer.specs.SignedBits.{greatest64, least64};
 ghost use Rattle.ratio_core.specs.Reading.{AnswersText, IsFractionText};
 ghost use Rattle.ratio_lines.specs.Answers.{is_space};
 ghost use Rattle.ratio_lines.specs.Cuts.{HasNone};
-ghost use Rattle.ratio_lines.specs.Operands.{IsOperand, greatest, least, numbers_of};
+ghost use Rattle.ratio_lines.specs.Operands.{IsOperand, numbers_of};
 ghost use Rattle.ratio_lines.specs.Parts.{ReadsFirst, parts_of};
 
 use crate::parts::first_part;
@@ -70,7 +71,7 @@ fn rest_from(text: &str, end: usize) -> Option<Option<&str>>
 // not fit.
 #[inline(always)]
 fn in_lowest_terms(numer: i64, denom: i64) -> Option<Result<Rational64, ParseRatioError>>
-    ensures { IfSome result (λ r. (text : List ℕ) → IsFractionText least greatest text numer denom → IsOperand text (numbers_of r)) }
+    ensures { IfSome result (λ r. (text : List ℕ) → IsFractionText least64 greatest64 text numer denom → IsOperand text (numbers_of r)) }
 {
     if denom == 0 {
         return Some(Err(ParseRatioError::new(RatioErrorKind::ZeroDenominator)));

@@ -1,4 +1,5 @@
-//! Types that meet the laws of `Integer` and are not primitive: three small ranges, and the numbers of `i8` with counted divisions.
+//! Integer types for tests, which meet the laws of `Integer` and are not primitive: three small ranges, and the numbers of `i8` with
+//! counted divisions.
 //!
 //! | Module | What is in it |
 //! |---|---|

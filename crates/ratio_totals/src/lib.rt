@@ -1,63 +1,60 @@
-//! Totals of fractions that lose nothing: a table with one slot for each denominator, in room that the caller gives. Fractions and whole
-//! tables go in and out again; a refusal changes nothing.
+//! `Total` and `WideTotal`, which add up many fractions `Reduced` and lose nothing, and exact sums of lists, in room that the caller gives.
 //!
-//! 1/36 + 1/28 takes two slots, one for the denominator 36 and one for 28. Adding 5/36 changes one number: the first slot
-//! then says 6/36. No gcd is computed, and no addition overflows.
+//! A `Total<T>` takes fractions `Reduced<T>` over a type of at most 64 bits, and no step of it can fail to fit.
+//! `Total::sum` returns a `Reduced<T>` where the sum fits, however large the totals on the way were: over `i8`,
+//! 127/1 + 1/127 - 1/127 is 127/1.
 //!
-//! A read puts the total over its common denominator: `Total::over_common`. `Total::sum` returns it in lowest terms where
-//! these fit 64 bits, and `Total::mean` returns the mean. `Total::compare` and `Total::sign` are exact where these do not fit.
+//! The same holds of a list, where `of` makes fractions over `i8`:
+//!
+//! ```rattle
+//! let most = of(&rt, 127i8, 1);
+//! let tiny = of(&rt, 1i8, 127);
+//! let less = of(&rt, -1i8, 127);
+//! assert_eq!(rt;
+//!     checked_sum(rt.alloc(), &[most, tiny, less]),
+//!     Ok(Some(most))
+//! );
+//! assert_eq!(rt; checked_sum(rt.alloc(), &[most, tiny]), Ok(None));
+//! ```
+//!
+//! A `WideTotal<T>` takes fractions over any primitive type, also `i128` and `u128`. It is one sum over the common denominator, which has
+//! as many digits as the caller gives.
 //!
 //! | Module | What is in it |
 //! |---|---|
-//! | `total` | The structs `Total` and `Tally`: fractions go in and out, and nothing is lost. |
-//! | `slots` | The struct `Slot`, which holds a denominator and the sum of the numerators over it, and tables of slots: where a denominator is, and how many slots are taken, empty or new to another table. |
-//! | `changes` | What goes into slots and out of them: one fraction, those of another table, and one fraction where the slots may hold anything. |
-//! | `total_reads` | The reads of a total, and the room that each needs: over its common denominator, the sum and the mean in lowest terms, a whole number, a multiple of `1/parts`, a float and a decimal, the sign, and the order of two totals or of a total and a fraction. |
-//! | `common` | The slots of a table joined one after another: their common denominator, which is the least common multiple of the denominators, and the sums over it. |
-//! | `reading` | Any slots read over their common denominator, in room that the caller gives, and how many digits that needs. |
-//! | `short_sums` | The sum of a table in machine numbers, where 128 bits are enough on the way. |
-//! | `lowest` | The sum and the mean of any slots, and of what a read left in the room, in lowest terms, where these fit 64 bits. |
-//! | `rounding` | The sum of any slots rounded to a whole number, to a multiple of `1/parts` such as cents, and to the nearest float, and the room that this needs. |
-//! | `decimal` | The sum of any slots as a decimal, and the room that this needs: in machine numbers where it is short, else from its bounds where both are rounded to the same number, and else from its common denominator. |
-//! | `bounds` | Bounds of the sum of a table, in one pass: each quotient is cut to a whole number of parts of 1, and what is cut is counted. |
-//! | `orders` | The sign of the sum of any slots, and the order of the sums of two lists of slots, such as those that a program in C hands over, from their difference. |
-//! | `joined` | The struct `Joined`: a read of a total in steps, and the reads of the numbers that the steps leave in the room. |
-//! | `rooms` | Sums in rooms: a fraction as such a sum, one sum added to another one, taken out of it, moved to another room, or compared with another one. |
-//! | `sums` | The struct `Sum`: the three numbers of a sum, found in its room, and exchanged where a sum goes out. |
-//! | `wide_reads` | The reads of a sum in a room whose numbers have up to 128 bits: the fraction in lowest terms, divided by a count, and rounded to a multiple of `1/parts`. |
-//! | `texts` | What the refusals of totals print. |
-//! | `laws` | The laws of totals. |
+//! | `total` | The struct `Total`, a total of fractions over a type of at most 64 bits, which loses nothing: how it begins, counts, and moves to more slots. |
+//! | `total_changes` | Fractions, products of two, lists of both and all of another total that go into a total and out of it. |
+//! | `total_reads` | The reads of a total, and the room that each needs: the sum and the mean as fractions, a decimal, a whole number, a multiple of `1/parts` and a float, the sign, and the order of two totals or of a total and a fraction. |
+//! | `list_sums` | The sum of a list of fractions that loses nothing, in room that the caller gives: quickly, or by a total. |
+//! | `in_memory` | The sum of a list that loses nothing, with memory for the room that it needs. |
+//! | `numbers` | The numbers of a fraction as totals take them, with a sign or as a sign and a magnitude, and back. |
+//! | `short` | The trait `Short`: primitive types of at most 64 bits. |
+//! | `wide_total` | The struct `WideTotal`, a total of fractions over any primitive type, which loses nothing: how it begins, counts, and moves to another room. |
+//! | `wide_changes` | Fractions over any primitive type and products of two that go into a wide total, and out of it, one by one or all of another total. |
+//! | `wide_reads` | The reads of a wide total: the sum and the mean as fractions, a whole number, a multiple of `1/parts`, a float and a decimal, the sign, and the order of two wide totals or of a wide total and a fraction. |
+//! | `splitting` | An amount split by shares, whose sums, the marks, lie in a room that the caller gives. |
+//! | `texts` | What the refusals of totals of fractions print. |
 #![tactic(auto)]
 
-mod bounds;
-mod changes;
-mod common;
-mod decimal;
-mod joined;
-pub mod laws;
-mod lowest;
-mod orders;
-mod reading;
-mod rooms;
-mod rounding;
-mod short_sums;
-mod slots;
-mod sums;
+mod in_memory;
+mod list_sums;
+mod numbers;
+mod short;
+mod splitting;
 mod texts;
 mod total;
+mod total_changes;
 mod total_reads;
+mod wide_changes;
 mod wide_reads;
+mod wide_total;
 
-pub use changes::{LooseRefusal, put_loose};
-pub use decimal::{decimal_bytes_of, decimal_digits_of, put_bounded_of, put_decimal_of};
-pub use joined::{JoinRefusal, Joined, NoSum};
-pub use lowest::{mean_of, sum_of};
-pub use orders::{OrderRefusal, digits_of_order, order_of, sign_of};
-pub use reading::{MOST_DIGITS, OverCommon, ReadRefusal, digits_of_read};
-pub use rooms::AddRefusal;
-pub use rounding::{digits_of_multiple, float_of, integer_of, multiple_of};
-pub use short_sums::{add_short, short_pair};
-pub use slots::{Slot, count_free, find};
-pub use total::{MOST_WEIGHT, Refusal, Tally, Total};
-pub use total_reads::CompareRefusal;
-pub use wide_reads::WideFraction;
+pub use in_memory::{SumFailure, checked_sum};
+pub use list_sums::{SumRefusal, checked_sum_in, checked_wide_sum_in};
+pub use ratio_slots::{CompareRefusal, Joined, MOST_DIGITS, ReadRefusal, Refusal, Slot};
+pub use short::Short;
+pub use splitting::{RoomSplitRefusal, split_in};
+pub use total::Total;
+pub use total_changes::{DotRefusal, ProductRefusal, dot, total_of};
+pub use wide_changes::{WideProductRefusal, WideRefusal, wide_total_of};
+pub use wide_total::{ShortRoom, WideTotal};

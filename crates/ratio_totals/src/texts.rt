@@ -1,144 +1,127 @@
-//! What the refusals of totals print.
+//! What the refusals of totals of fractions print.
 ghost use Rattle.std.specs.Fmt.{padded};
 ghost use Rattle.std.specs.Prelude.{Some};
-ghost use Rattle.ratio_totals.specs.Texts.{add_refusal_text, compare_refusal_text, join_refusal_text, loose_refusal_text, no_sum_text, order_refusal_text, read_refusal_text, total_refusal_text};
+ghost use Rattle.ratio_totals.specs.RoomSplits.{room_split_refusal_text};
+ghost use Rattle.ratio_totals.specs.Texts.{dot_refusal_text, product_refusal_text, short_room_text, sum_refusal_text, wide_product_refusal_text, wide_refusal_text};
 
-use crate::changes::LooseRefusal;
-use crate::joined::{JoinRefusal, NoSum};
-use crate::orders::OrderRefusal;
-use crate::reading::ReadRefusal;
-use crate::rooms::AddRefusal;
-use crate::total::Refusal;
-use crate::total_reads::CompareRefusal;
+use crate::list_sums::SumRefusal;
+use crate::splitting::RoomSplitRefusal;
+use crate::total_changes::{DotRefusal, ProductRefusal};
+use crate::wide_changes::{WideProductRefusal, WideRefusal};
+use crate::wide_total::ShortRoom;
 use std::error::Error;
 use std::fmt;
 
-impl fmt::Display for Refusal {
-    ghost output = { λ why. Some (total_refusal_text why) };
+impl fmt::Display for ProductRefusal {
+    ghost output = { λ why. Some (product_refusal_text why) };
 
-    ghost styled_output = { λ why options. Some (padded options (total_refusal_text why)) };
+    ghost styled_output = { λ why options. Some (padded options (product_refusal_text why)) };
 
     fn fmt<W: fmt::Write>(&self, f: &mut fmt::Formatter<W>) -> fmt::Result {
         f.pad(match self {
-            Refusal::MoreRoom => "all slots are taken by other denominators",
-            Refusal::TooMany => "the total has its greatest weight, 2^63 - 1",
+            ProductRefusal::MoreRoom => "all slots are taken by other denominators",
+            ProductRefusal::TooMany => "the total has its greatest weight, 2^63 - 1",
+            ProductRefusal::TooGreat => "one of the lowest terms of the product is 2^64 or more",
         })
     }
 }
 
-impl fmt::Display for ReadRefusal {
-    ghost output = { λ why. Some (read_refusal_text why) };
+impl fmt::Display for DotRefusal {
+    ghost output = { λ why. Some (dot_refusal_text why) };
 
-    ghost styled_output = { λ why options. Some (padded options (read_refusal_text why)) };
+    ghost styled_output = { λ why options. Some (padded options (dot_refusal_text why)) };
 
     fn fmt<W: fmt::Write>(&self, f: &mut fmt::Formatter<W>) -> fmt::Result {
         f.pad(match self {
-            ReadRefusal::MoreRoom => "the room is too small",
-            ReadRefusal::TooLong => "the common denominator is not below 2^(2^20)",
+            DotRefusal::UnlikeLengths => "the lists have different lengths",
+            DotRefusal::MoreRoom => "the slots are fewer than the denominators of the products",
+            DotRefusal::TooMany => "the lists have more than 2^63 - 1 items",
+            DotRefusal::TooGreat => "one of the lowest terms of a product is 2^64 or more",
         })
     }
 }
 
-impl fmt::Display for CompareRefusal {
-    ghost output = { λ why. Some (compare_refusal_text why) };
+impl fmt::Display for SumRefusal {
+    ghost output = { λ why. Some (sum_refusal_text why) };
 
-    ghost styled_output = { λ why options. Some (padded options (compare_refusal_text why)) };
+    ghost styled_output = { λ why options. Some (padded options (sum_refusal_text why)) };
 
     fn fmt<W: fmt::Write>(&self, f: &mut fmt::Formatter<W>) -> fmt::Result {
         f.pad(match self {
-            CompareRefusal::MoreSlots => "the slots are fewer than the denominators of both totals",
-            CompareRefusal::TooMany => "the weights of both totals are together above 2^63 - 1",
-            CompareRefusal::MoreRoom => "the room has too few digits",
-            CompareRefusal::TooLong => {
-                "the common denominator of both totals is not below 2^(2^20)"
+            SumRefusal::MoreSlots => "the items have more denominators than there are slots",
+            SumRefusal::MoreRoom => "the room is too small",
+            SumRefusal::TooMany => "the items are more than 2^63 - 1",
+            SumRefusal::TooLong => "the common denominator is not below 2^(2^20)",
+        })
+    }
+}
+
+impl fmt::Display for WideRefusal {
+    ghost output = { λ why. Some (wide_refusal_text why) };
+
+    ghost styled_output = { λ why options. Some (padded options (wide_refusal_text why)) };
+
+    fn fmt<W: fmt::Write>(&self, f: &mut fmt::Formatter<W>) -> fmt::Result {
+        f.pad(match self {
+            WideRefusal::MoreRoom => "the room or the spare digits are too few",
+            WideRefusal::TooMany => "the total has its greatest weight, 2^63 - 1",
+            WideRefusal::MoreDigits => "the common denominator needs more digits",
+        })
+    }
+}
+
+impl fmt::Display for WideProductRefusal {
+    ghost output = { λ why. Some (wide_product_refusal_text why) };
+
+    ghost styled_output = { λ why options. Some (padded options (wide_product_refusal_text why)) };
+
+    fn fmt<W: fmt::Write>(&self, f: &mut fmt::Formatter<W>) -> fmt::Result {
+        f.pad(match self {
+            WideProductRefusal::MoreRoom => "the spare digits are too few",
+            WideProductRefusal::TooMany => "the total has its greatest weight, 2^63 - 1",
+            WideProductRefusal::MoreDigits => "the common denominator needs more digits",
+            WideProductRefusal::TooGreat => {
+                "one of the lowest terms of the product is 2^128 or more"
             }
         })
     }
 }
 
-impl fmt::Display for OrderRefusal {
-    ghost output = { λ why. Some (order_refusal_text why) };
+impl fmt::Display for ShortRoom {
+    ghost output = { λ why. Some short_room_text };
 
-    ghost styled_output = { λ why options. Some (padded options (order_refusal_text why)) };
+    ghost styled_output = { λ why options. Some (padded options short_room_text) };
+
+    fn fmt<W: fmt::Write>(&self, f: &mut fmt::Formatter<W>) -> fmt::Result {
+        f.pad("the room is too small")
+    }
+}
+
+impl fmt::Display for RoomSplitRefusal {
+    ghost output = { λ why. Some (room_split_refusal_text why) };
+
+    ghost styled_output = { λ why options. Some (padded options (room_split_refusal_text why)) };
 
     fn fmt<W: fmt::Write>(&self, f: &mut fmt::Formatter<W>) -> fmt::Result {
         f.pad(match self {
-            OrderRefusal::MoreSlots => "the slots are fewer than those of both lists",
-            OrderRefusal::TooGreat => {
-                "the negative of a numerator of the second list does not fit 128 bits"
-            }
-            OrderRefusal::MoreRoom => "the room has too few digits",
-            OrderRefusal::TooLong => "the common denominator of both lists is not below 2^(2^20)",
+            RoomSplitRefusal::Length => "the number of parts is not the number of shares",
+            RoomSplitRefusal::BelowZero => "a share is below 0",
+            RoomSplitRefusal::Room(_) => "the sum of the shares has no place in the room",
+            RoomSplitRefusal::NotOne => "the shares do not add up to 1",
         })
     }
 }
 
-impl fmt::Display for LooseRefusal {
-    ghost output = { λ why. Some (loose_refusal_text why) };
+impl Error for ProductRefusal {}
 
-    ghost styled_output = { λ why options. Some (padded options (loose_refusal_text why)) };
+impl Error for DotRefusal {}
 
-    fn fmt<W: fmt::Write>(&self, f: &mut fmt::Formatter<W>) -> fmt::Result {
-        f.pad(match self {
-            LooseRefusal::MoreRoom => "all slots are taken by other denominators",
-            LooseRefusal::NotEmpty => {
-                "the slot has the denominator 0, and a numerator that is not 0"
-            }
-            LooseRefusal::TooGreat => "the sum of the numerators does not fit 128 bits",
-        })
-    }
-}
+impl Error for SumRefusal {}
 
-impl fmt::Display for JoinRefusal {
-    ghost output = { λ why. Some (join_refusal_text why) };
+impl Error for WideRefusal {}
 
-    ghost styled_output = { λ why options. Some (padded options (join_refusal_text why)) };
+impl Error for WideProductRefusal {}
 
-    fn fmt<W: fmt::Write>(&self, f: &mut fmt::Formatter<W>) -> fmt::Result {
-        f.pad(match self {
-            JoinRefusal::NotJoined => "the room does not look as the last step left it",
-            JoinRefusal::TooLong => "the common denominator is not below 2^(2^20)",
-        })
-    }
-}
+impl Error for ShortRoom {}
 
-impl fmt::Display for NoSum {
-    ghost output = { λ why. Some no_sum_text };
-
-    ghost styled_output = { λ why options. Some (padded options no_sum_text) };
-
-    fn fmt<W: fmt::Write>(&self, f: &mut fmt::Formatter<W>) -> fmt::Result {
-        f.pad("the room holds no sum, or is too small")
-    }
-}
-
-impl fmt::Display for AddRefusal {
-    ghost output = { λ why. Some (add_refusal_text why) };
-
-    ghost styled_output = { λ why options. Some (padded options (add_refusal_text why)) };
-
-    fn fmt<W: fmt::Write>(&self, f: &mut fmt::Formatter<W>) -> fmt::Result {
-        f.pad(match self {
-            AddRefusal::NoSum => "one of the rooms holds no sum",
-            AddRefusal::MoreRoom => "the spare digits are too few",
-            AddRefusal::TooMany => "both sums together have 2^64 fractions or more",
-            AddRefusal::MoreDigits => "the common denominator needs more digits",
-        })
-    }
-}
-
-impl Error for Refusal {}
-
-impl Error for ReadRefusal {}
-
-impl Error for CompareRefusal {}
-
-impl Error for OrderRefusal {}
-
-impl Error for LooseRefusal {}
-
-impl Error for JoinRefusal {}
-
-impl Error for NoSum {}
-
-impl Error for AddRefusal {}
+impl Error for RoomSplitRefusal {}

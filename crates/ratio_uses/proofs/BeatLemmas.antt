@@ -1,5 +1,5 @@
 -- How times are ordered, and what one more beat does.
-use Rattle.std.specs.Prelude.{◌≡◌, ◌⊎◌, ◌+◌, ◌-◌, ◌^◌, ◌<◌, ◌≤◌, ◌≤ℤ◌, ◌<ℤ◌, ◌+ℤ◌, ◌*ℤ◌, ℕ, ℤ, pos, negsuc, Any, Bool, HoldsAt, IsSome, IsTrue, ◌↔◌, List, length, slice_index_or, unsigned_abs, true, false, Option, Some, None, Result, Ok, Err}
+use Rattle.std.specs.Prelude.{◌≡◌, ◌⊎◌, ◌+◌, ◌^◌, ◌<◌, ◌≤◌, ◌≤ℤ◌, ◌<ℤ◌, ◌+ℤ◌, ◌*ℤ◌, ℕ, ℤ, pos, negsuc, Any, Bool, HoldsAt, IsSome, IsTrue, ◌↔◌, List, length, slice_index_or, unsigned_abs, true, false, Option, Some, None, Result, Ok, Err}
 use Rattle.std.proofs.Math.ListN.{set}
 use Rattle.std.specs.Option.{is_some}
 use Rattle.std.specs.Result.{OkIff, result_ok}
@@ -13,14 +13,14 @@ use mir.Val.{SFits}
 use lib.IntN.{one, *ℤ_comm, *ℤ-one}
 use Rattle.ratio_integer.specs.Division.{IsGcdOf}
 use Rattle.ratio_integer.specs.Fraction.{Fits, IsHeldLowest, IsLowestTermsOf, SameValue}
-use Rattle.ratio_integer.specs.Range.{IsHeld, IsRange}
+use Rattle.ratio_integer.specs.Range.{IsRange}
+use Rattle.ratio_integer.specs.SignedBits.{Fits64, IsHeld64, greatest64, least64}
 use Rattle.ratio_integer.proofs.CommonDivisors.{gcd_exists}
 use Rattle.ratio_integer.proofs.LowestTerms.{gcd_held_positive, held_lowest_quotients, same_value_chained}
 use Rattle.ratio_integer.proofs.Whole.{add-mul, mul_assoc, mul_positive, mul-swap_last, positive_nonzero}
 use Rattle.ratio_core.specs.Rounding.{IsFloor}
 use Rattle.ratio_core.proofs.ProductOrder.{more-times, times_le, whole_at_most}
 use Rattle.ratio_core.proofs.SumLemmas.{fits_by}
-use Rattle.num_rational.specs.In64Bits.{FitsIn64}
 use Rattle.num_rational.specs.Ratio.{ChecksRatio}
 use Rattle.num_rational.specs.Reduced.{lowest_numbers, ratio_in}
 use Rattle.num_rational.specs.declared.reduced.Reduced.{Reduced}
@@ -297,12 +297,12 @@ module _ (t p : ℤ × ℤ) where
       let high = right.ahead in
       whole_at_most f g (t.1 *ℤ p.0) up (omega (arith, ints, scaled f, next_scaled g))
 
-  pub count_not_held : (f : ℤ) → pos 0 <ℤ (t.1 *ℤ p.0) → HasHad t p f → ¬ (IsHeld (negsuc (2 ^ 63 - 1)) (pos (2 ^ 63 - 1)) f) → ¬ (CountIsHeld t p)
+  pub count_not_held : (f : ℤ) → pos 0 <ℤ (t.1 *ℤ p.0) → HasHad t p f → ¬ (IsHeld64 f) → ¬ (CountIsHeld t p)
   count_not_held f up had out is =
       let first = not_more f is.count up had is.had in
       let second = not_more is.count f up is.had had in
       let same : is.count ≡ f = omega (arith, ints) in
-      out (subst (λ k. IsHeld (negsuc (2 ^ 63 - 1)) (pos (2 ^ 63 - 1)) k) same is.held)
+      out (subst (λ k. IsHeld64 k) same is.held)
 
   pub no_period : p.0 ≤ℤ pos 0 → pos 0 <ℤ t.1 → pos 0 <ℤ p.1 → ¬ (CountIsHeld t p)
   no_period low t_up p_up is = let above = period_above t p is.count t_up p_up is.had in omega (arith, ints)
@@ -319,11 +319,11 @@ count_some time period (Some k) is held = search rules
 
 -- ---- what fits
 
-pub number_held : (z : ℤ) → SFits w64 z → IsHeld (negsuc (2 ^ 63 - 1)) (pos (2 ^ 63 - 1)) z
+pub number_held : (z : ℤ) → SFits w64 z → IsHeld64 z
 number_held (pos n) fits = let small = fits.sfits in record { above = omega (arith, ints); below = omega (arith, ints) }
 number_held (negsuc n) fits = let small = fits.sfits in record { above = omega (arith, ints); below = omega (arith, ints) }
 
-number_fits : (z : ℤ) → IsHeld (negsuc (2 ^ 63 - 1)) (pos (2 ^ 63 - 1)) z → SFits w64 z
+number_fits : (z : ℤ) → IsHeld64 z → SFits w64 z
 number_fits (pos n) held = let below = held.below in record { sfits = omega (arith, ints) }
 number_fits (negsuc n) held = let above = held.above in record { sfits = omega (arith, ints) }
 
@@ -333,35 +333,35 @@ count_out period k out held = out (number_fits (k +ℤ pos 1) held.count)
 turned_pair : (period : ℤ × ℤ) (m k : ℤ) → m ≡ k +ℤ pos 1 → (period.0 *ℤ m ≡ (k +ℤ pos 1) *ℤ period.0) × (period.1 *ℤ pos 1 ≡ period.1)
 turned_pair period m k is = (ap (λ (z : ℤ). period.0 *ℤ z) is ∙ *ℤ_comm period.0 (k +ℤ pos 1), times-one period.1)
 
-pub time_out : (period : ℤ × ℤ) (m k : ℤ) → m ≡ k +ℤ pos 1 → ¬ (FitsIn64 (period.0 *ℤ m, period.1 *ℤ pos 1)) → ¬ (BeatIsHeld period k)
+pub time_out : (period : ℤ × ℤ) (m k : ℤ) → m ≡ k +ℤ pos 1 → ¬ (Fits64 (period.0 *ℤ m, period.1 *ℤ pos 1)) → ¬ (BeatIsHeld period k)
 time_out period m k is out held =
     let e = turned_pair period m k is in
-    out (subst (λ n. FitsIn64 (n, period.1 *ℤ pos 1)) (sym e.0) (subst (λ d. FitsIn64 ((k +ℤ pos 1) *ℤ period.0, d)) (sym e.1) held.time))
+    out (subst (λ n. Fits64 (n, period.1 *ℤ pos 1)) (sym e.0) (subst (λ d. Fits64 ((k +ℤ pos 1) *ℤ period.0, d)) (sym e.1) held.time))
 
-pub beat_is : (period : ℤ × ℤ) (m k : ℤ) (time : ℤ × ℤ) → SFits w64 (k +ℤ pos 1) → m ≡ k +ℤ pos 1 → IsHeldLowest (negsuc (2 ^ 63 - 1)) (pos (2 ^ 63 - 1)) (period.0 *ℤ m) (period.1 *ℤ pos 1) time.0 time.1 → BeatIsHeld period k × IsLowestTermsOf ((k +ℤ pos 1) *ℤ period.0) period.1 time.0 time.1
+pub beat_is : (period : ℤ × ℤ) (m k : ℤ) (time : ℤ × ℤ) → SFits w64 (k +ℤ pos 1) → m ≡ k +ℤ pos 1 → IsHeldLowest least64 greatest64 (period.0 *ℤ m) (period.1 *ℤ pos 1) time.0 time.1 → BeatIsHeld period k × IsLowestTermsOf ((k +ℤ pos 1) *ℤ period.0) period.1 time.0 time.1
 beat_is period m k time fits is held =
     let e = turned_pair period m k is in
     let moved = rw (e.0, e.1) at held in
     (record { count = number_held (k +ℤ pos 1) fits; time = fits_by _ _ _ _ time.0 time.1 moved }, moved.terms)
 
 -- a fraction of numbers that fit
-pub numbers_fit : (x y : ℤ) → SFits w64 x → SFits w64 y → pos 0 <ℤ y → FitsIn64 (x, y)
+pub numbers_fit : (x y : ℤ) → SFits w64 x → SFits w64 y → pos 0 <ℤ y → Fits64 (x, y)
 numbers_fit x y x_fits y_fits up = go (gcd_exists x y)
   where
-    range : IsRange (negsuc (2 ^ 63 - 1)) (pos (2 ^ 63 - 1))
+    range : IsRange least64 greatest64
     range = record { high = omega (arith, ints); low = inr (inr refl) }
 
-    go : (g : ℤ) × IsGcdOf x y g → FitsIn64 (x, y)
+    go : (g : ℤ) × IsGcdOf x y g → Fits64 (x, y)
     go (g, is) =
-        let g_held = (gcd_held_positive (negsuc (2 ^ 63 - 1)) (pos (2 ^ 63 - 1)) x y range (number_held y y_fits) up).each g is in
-        fits_by (negsuc (2 ^ 63 - 1)) (pos (2 ^ 63 - 1)) x y _ _ (held_lowest_quotients (negsuc (2 ^ 63 - 1)) (pos (2 ^ 63 - 1)) x y g _ _ range (number_held x x_fits) (number_held y y_fits) g_held up is refl refl)
+        let g_held = (gcd_held_positive least64 greatest64 x y range (number_held y y_fits) up).each g is in
+        fits_by least64 greatest64 x y _ _ (held_lowest_quotients least64 greatest64 x y g _ _ range (number_held x x_fits) (number_held y y_fits) g_held up is refl refl)
 
 -- the product of the period's numerator and the beat's number fits
 pub quick_beat : (period : ℤ × ℤ) (m k product : ℤ) → SFits w64 (k +ℤ pos 1) → m ≡ k +ℤ pos 1 → SFits w64 product → product ≡ period.0 *ℤ m → SFits w64 period.1 → pos 0 <ℤ period.1
     → BeatIsHeld period k × (pos 0 <ℤ period.1) × SameValue (periods (k +ℤ pos 1) period).0 (periods (k +ℤ pos 1) period).1 product period.1
 quick_beat period m k product fits is product_fits product_is denom_fits up =
     let same = product_is ∙ (turned_pair period m k is).0 in
-    (record { count = number_held (k +ℤ pos 1) fits; time = subst (λ n. FitsIn64 (n, period.1)) same (numbers_fit product period.1 product_fits denom_fits up) }, up, ap (λ (z : ℤ). z *ℤ period.1) (sym same))
+    (record { count = number_held (k +ℤ pos 1) fits; time = subst (λ n. Fits64 (n, period.1)) same (numbers_fit product period.1 product_fits denom_fits up) }, up, ap (λ (z : ℤ). z *ℤ period.1) (sym same))
 
 pub beat_numbers_some : (period : ℤ × ℤ) (k : ℤ) (r : Option (ℤ × (ℤ × ℤ))) → ChecksBeatNumbers period k r → BeatIsHeld period k → IsSome r
 beat_numbers_some period k None out held = absurd (out held)

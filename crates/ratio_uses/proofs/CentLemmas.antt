@@ -1,5 +1,5 @@
 -- Rounded running sums in units. Their differences are the split of the amount's count.
-use Rattle.std.specs.Prelude.{◌≡◌, ◌≢◌, ◌⊎◌, ◌+◌, ◌-◌, ◌^◌, ◌<◌, ◌≤ℤ◌, ◌<ℤ◌, ◌-ℤ◌, ◌*ℤ◌, ℕ, ℤ, pos, negsuc, List, length, slice_index_or, take, IsSome, None, Option, Some}
+use Rattle.std.specs.Prelude.{◌≡◌, ◌≢◌, ◌⊎◌, ◌+◌, ◌^◌, ◌<◌, ◌≤ℤ◌, ◌<ℤ◌, ◌-ℤ◌, ◌*ℤ◌, ℕ, ℤ, pos, negsuc, List, length, slice_index_or, take, IsSome, None, Option, Some}
 use Rattle.std.proofs.Common.{refl, sym, ap, subst, ◌∙◌, arith, inl, inr, get_or}
 use Rattle.std.proofs.Math.ListN.{set}
 use Rattle.std.proofs.lemmas.Int.{ints}
@@ -13,6 +13,7 @@ use Rattle.ratio_integer.specs.Arithmetic.{sum_of}
 use Rattle.ratio_integer.specs.Division.{IsMultiple}
 use Rattle.ratio_integer.specs.Fraction.{Fits, IsHeldLowest, IsLowestTerms, IsLowestTermsOf, SameValue}
 use Rattle.ratio_integer.specs.Range.{Checks, IsHeld}
+use Rattle.ratio_integer.specs.SignedBits.{Fits64, IsHeld128, IsHeld64, greatest128, greatest64, least128, least64}
 use Rattle.ratio_integer.proofs.CommonDivisors.{divides_multiple}
 use Rattle.ratio_integer.proofs.CrossCancelling.{denom_divides}
 use Rattle.ratio_integer.proofs.LowestTerms.{lowest_moved, lowest_unique}
@@ -24,7 +25,6 @@ use Rattle.ratio_core.proofs.SumLemmas.{fits_by}
 use Rattle.ratio_decimal.specs.Products.{ChecksRoundedWhole}
 use Rattle.ratio_decimal.specs.declared.rounding_rule.Rounding.TheVariants.{HalfAway}
 use Rattle.num_rational.specs.declared.reduced.Reduced.{Reduced}
-use Rattle.num_rational.specs.In64Bits.{FitsIn64}
 use Rattle.num_rational.specs.Ratio.{ChecksRatio, denominator, numerator}
 use Rattle.num_rational.specs.Reduced.{ChecksCast, ratio_in}
 use Rattle.num_rational.specs.Split.{IsRoundedShare, NoShareIsBelowZero, RefusesShares, SharesMakeOne, SumsRefuse, total_of_shares}
@@ -32,7 +32,7 @@ use Rattle.num_rational.specs.declared.splitting.SplitRefusal.{SplitRefusal}
 use Rattle.num_rational.specs.declared.splitting.SplitRefusal.TheVariants.{BelowZero, Length, NotHeld, NotOne}
 use Rattle.num_rational.proofs.SplitLemmas.{IsSplitSoFar, first_mark, fits_moved, last_mark, next_same, rounded_moved, split_more, split_none, split_whole, times-one, total_next}
 use Rattle.num_rational.proofs.WeightLemmas.{mark_computed}
-use Rattle.ratio_uses.specs.Cents.{ChecksCount, ChecksNextPart, HeldIn128, IsCount, IsCountSplit, IsStep, PartFits}
+use Rattle.ratio_uses.specs.Cents.{ChecksCount, ChecksNextPart, IsCount, IsCountSplit, IsStep, PartFits}
 use Rattle.ratio_uses.proofs.BeatLemmas.{number_held}
 
 -- ---- the count of an amount
@@ -46,31 +46,28 @@ multiple_counted u q a e = mul_assoc a.0 q a.1 ∙ ap (λ (z : ℤ). a.0 *ℤ z)
 
 -- ---- products of numbers of 64 bits fit in 128
 
-abbrev HeldIn64 : ℤ → Type 0
-HeldIn64 z = IsHeld (negsuc (2 ^ 63 - 1)) (pos (2 ^ 63 - 1)) z
-
 either_sign : (a : ℤ) → (pos 0 ≤ℤ a) ⊎ (a ≤ℤ pos 0)
 either_sign a = grind (arith, ints)
 
-pub wide_product : (a u : ℤ) → HeldIn64 a → pos 0 ≤ℤ u → u ≤ℤ pos (2 ^ 63 - 1) → HeldIn128 (a *ℤ u)
+pub wide_product : (a u : ℤ) → IsHeld64 a → pos 0 ≤ℤ u → u ≤ℤ greatest64 → IsHeld128 (a *ℤ u)
 wide_product a u held u_up u_below =
-    let low = times_le (negsuc (2 ^ 63 - 1)) a u held.above u_up in
-    let high = times_le a (pos (2 ^ 63 - 1)) u held.below u_up in
-    let least = times_le u (pos (2 ^ 63 - 1)) (pos (2 ^ 63)) u_below (omega (arith, ints)) in
-    let turned = *ℤ_comm (negsuc (2 ^ 63 - 1)) u in
-    let other = *ℤ_comm (pos (2 ^ 63 - 1)) u in
+    let low = times_le least64 a u held.above u_up in
+    let high = times_le a greatest64 u held.below u_up in
+    let least = times_le u greatest64 (pos (2 ^ 63)) u_below (omega (arith, ints)) in
+    let turned = *ℤ_comm least64 u in
+    let other = *ℤ_comm greatest64 u in
     record { above = omega (arith, ints); below = omega (arith, ints) }
 
 pub wide_fits : (z : ℤ) → SFits w64 z → SFits w128 z
 wide_fits (pos n) fits = let small = fits.sfits in record { sfits = omega (arith, ints) }
 wide_fits (negsuc n) fits = let small = fits.sfits in record { sfits = omega (arith, ints) }
 
-pub held_fits : (z : ℤ) → HeldIn128 z → SFits w128 z
+pub held_fits : (z : ℤ) → IsHeld128 z → SFits w128 z
 held_fits (pos n) held = let below = held.below in record { sfits = omega (arith, ints) }
 held_fits (negsuc n) held = let above = held.above in record { sfits = omega (arith, ints) }
 
 -- the count of a multiple, as it is computed
-pub count_told : (u : ℤ) (a : ℤ × ℤ) (r : Option ℤ) → IsMultiple u a.1 → SFits w64 u → HeldIn64 a.0 → pos 0 <ℤ u → pos 0 <ℤ a.1 → ChecksRoundedWhole (λ n. n) (negsuc (2 ^ 127 - 1)) (pos (2 ^ 127 - 1)) HalfAway (a.0 *ℤ u, a.1 *ℤ pos 1) r → ChecksCount u a r
+pub count_told : (u : ℤ) (a : ℤ × ℤ) (r : Option ℤ) → IsMultiple u a.1 → SFits w64 u → IsHeld64 a.0 → pos 0 <ℤ u → pos 0 <ℤ a.1 → ChecksRoundedWhole (λ n. n) least128 greatest128 HalfAway (a.0 *ℤ u, a.1 *ℤ pos 1) r → ChecksCount u a r
 count_told u a r (k, e) unit held up positive (z, is, checks) = told r checks
   where
     whole : a.0 *ℤ u ≡ (a.0 *ℤ k) *ℤ a.1
@@ -79,7 +76,7 @@ count_told u a r (k, e) unit held up positive (z, is, checks) = told r checks
     z_is : z ≡ a.0 *ℤ k
     z_is = last_mark (a.0 *ℤ k) a.1 z positive (subst (λ (n : ℤ). IsRounded n a.1 z) whole (subst (λ (d : ℤ). IsRounded (a.0 *ℤ u) d z) (times-one a.1) is))
 
-    u_below : u ≤ℤ pos (2 ^ 63 - 1)
+    u_below : u ≤ℤ greatest64
     u_below = (number_held u unit).below
 
     k_up : pos 0 <ℤ k
@@ -88,30 +85,30 @@ count_told u a r (k, e) unit held up positive (z, is, checks) = told r checks
     k_below : k ≤ℤ u
     k_below = subst (λ (n : ℤ). k ≤ℤ n) (sym e) (up_times k a.1 (let h = k_up in omega (arith, ints)) positive)
 
-    wide : HeldIn128 (a.0 *ℤ k)
+    wide : IsHeld128 (a.0 *ℤ k)
     wide = wide_product a.0 k held (let h = k_up in omega (arith, ints)) (let h = k_below in let g = u_below in omega (arith, ints))
 
-    told : (r : Option ℤ) → Checks (λ n. n) (negsuc (2 ^ 127 - 1)) (pos (2 ^ 127 - 1)) z r → ChecksCount u a r
-    told None out = absurd (out (subst HeldIn128 (sym z_is) wide))
+    told : (r : Option ℤ) → Checks (λ n. n) least128 greatest128 z r → ChecksCount u a r
+    told None out = absurd (out (subst IsHeld128 (sym z_is) wide))
     told (Some y) is = subst (IsCount u a) (sym (is.1 ∙ z_is)) (multiple_counted u k a e)
 
 -- w/u with lowest terms of 64 bits: so w is a number of 128 bits
-pub wide_part : (w u : ℤ) → pos 0 <ℤ u → u ≤ℤ pos (2 ^ 63 - 1) → FitsIn64 (w, u) → HeldIn128 w
+pub wide_part : (w u : ℤ) → pos 0 <ℤ u → u ≤ℤ greatest64 → Fits64 (w, u) → IsHeld128 w
 wide_part w u u_up u_below fits = by (either_sign w)
   where
-    product : HeldIn128 (w *ℤ fits.denom)
-    product = subst HeldIn128 (sym fits.low.terms.same) (wide_product fits.numer u fits.low.numer_held (omega (arith, ints)) u_below)
+    product : IsHeld128 (w *ℤ fits.denom)
+    product = subst IsHeld128 (sym fits.low.terms.same) (wide_product fits.numer u fits.low.numer_held (omega (arith, ints)) u_below)
 
-    by : (pos 0 ≤ℤ w) ⊎ (w ≤ℤ pos 0) → HeldIn128 w
+    by : (pos 0 ≤ℤ w) ⊎ (w ≤ℤ pos 0) → IsHeld128 w
     by (inl up) = let more = up_times w fits.denom up fits.low.terms.lowest.positive in let below = product.below in record { above = omega (arith, ints); below = omega (arith, ints) }
     by (inr down) = let less = down_times w fits.denom down fits.low.terms.lowest.positive in let above = product.above in record { above = omega (arith, ints); below = omega (arith, ints) }
 
 -- ---- a part of so many units
 
-held_wider : (z : ℤ) → HeldIn64 z → HeldIn128 z
+held_wider : (z : ℤ) → IsHeld64 z → IsHeld128 z
 held_wider z held = let low = held.above in let high = held.below in record { above = omega (arith, ints); below = omega (arith, ints) }
 
-pub fits_wider : (x : ℤ × ℤ) → FitsIn64 x → Fits (negsuc (2 ^ 127 - 1)) (pos (2 ^ 127 - 1)) x.0 x.1
+pub fits_wider : (x : ℤ × ℤ) → Fits64 x → Fits least128 greatest128 x.0 x.1
 fits_wider x fits = record { numer = fits.numer; denom = fits.denom; low = record { terms = fits.low.terms; numer_held = held_wider fits.numer fits.low.numer_held; denom_held = held_wider fits.denom fits.low.denom_held } }
 
 pub cast_told : {T U : _} {i : _} {o : _} {e : _} {p : _} {h : _} {j : _} {o' : _} {e' : _} {p' : _} {h' : _} (x : ℤ × ℤ) (s : Reduced T i o e p h) (r : Option (Reduced U j o' e' p' h')) → IsLowestTermsOf x.0 x.1 (numerator s.ratio) (denominator s.ratio) → ChecksCast s r → ChecksRatio x (ratio_in r)
@@ -149,18 +146,18 @@ pub step_rounded : (c : ℤ) (x s : ℤ × ℤ) (z : ℤ) → pos 0 <ℤ x.1 →
 step_rounded c x s z up low is = rounded_moved c s x low.lowest.positive up low.same z (mark_computed c s.0 (pos 1) s.1 s.0 s.1 z refl refl refl is)
 
 module _ (u c last : ℤ) (x : ℤ × ℤ) (z : ℤ) (up : pos 0 <ℤ x.1) (is : IsRoundedShare c x z) where
-  pub mark_out : ¬ (HeldIn128 z) → ¬ (PartFits u c last x)
-  mark_out out fits = out (subst HeldIn128 (one_rounded (c *ℤ x.0) x.1 fits.mark z up fits.is is) fits.held)
+  pub mark_out : ¬ (IsHeld128 z) → ¬ (PartFits u c last x)
+  mark_out out fits = out (subst IsHeld128 (one_rounded (c *ℤ x.0) x.1 fits.mark z up fits.is is) fits.held)
 
-  pub part_out : ¬ (FitsIn64 (z -ℤ last, u)) → ¬ (PartFits u c last x)
-  part_out out fits = out (subst (λ m. FitsIn64 (m -ℤ last, u)) (one_rounded (c *ℤ x.0) x.1 fits.mark z up fits.is is) fits.part)
+  pub part_out : ¬ (Fits64 (z -ℤ last, u)) → ¬ (PartFits u c last x)
+  part_out out fits = out (subst (λ m. Fits64 (m -ℤ last, u)) (one_rounded (c *ℤ x.0) x.1 fits.mark z up fits.is is) fits.part)
 
-pub step_is : (u c last : ℤ) (x s : ℤ × ℤ) (z mark : ℤ) (part : ℤ × ℤ) → IsHeldLowest (negsuc (2 ^ 63 - 1)) (pos (2 ^ 63 - 1)) x.0 x.1 s.0 s.1 → IsRoundedShare c x z → HeldIn128 z × (mark ≡ z) → IsHeldLowest (negsuc (2 ^ 63 - 1)) (pos (2 ^ 63 - 1)) (mark -ℤ last) u part.0 part.1 → IsStep u c last x s mark part
+pub step_is : (u c last : ℤ) (x s : ℤ × ℤ) (z mark : ℤ) (part : ℤ × ℤ) → IsHeldLowest least64 greatest64 x.0 x.1 s.0 s.1 → IsRoundedShare c x z → IsHeld128 z × (mark ≡ z) → IsHeldLowest least64 greatest64 (mark -ℤ last) u part.0 part.1 → IsStep u c last x s mark part
 step_is u c last x s z mark part low is checks terms = record {
   value = low.terms;
   fits = fits_by _ _ _ _ s.0 s.1 low;
   rounded = subst (IsRoundedShare c x) (sym checks.1) is;
-  held = subst HeldIn128 (sym checks.1) checks.0;
+  held = subst IsHeld128 (sym checks.1) checks.0;
   terms = terms;
 }
 

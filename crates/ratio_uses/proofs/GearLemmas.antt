@@ -1,5 +1,5 @@
 -- The nearest wheels: the best first wheel for each second one, and then the best of these pairs.
-use Rattle.std.specs.Prelude.{◌≡◌, ◌⊎◌, ◌+◌, ◌*◌, ◌-◌, ◌^◌, ◌<◌, ◌≤◌, ◌<ℤ◌, ℕ, ℤ, min, pos, negsuc, unsigned_abs, false, Option}
+use Rattle.std.specs.Prelude.{◌≡◌, ◌⊎◌, ◌+◌, ◌*◌, ◌-◌, ◌^◌, ◌<◌, ◌≤◌, ◌<ℤ◌, ℕ, ℤ, min, pos, unsigned_abs, false, Option}
 use Rattle.std.proofs.Common.{refl, sym, subst, arith, inl, inr}
 use Rattle.std.proofs.Math.Nat.{mul-le-mul_left, mul-le-mul_right, mul-lt-mul_of_pos_right}
 use Rattle.std.proofs.lemmas.Int.{ints}
@@ -9,12 +9,12 @@ use Rattle.ratio_approximation.specs.Nearest.{ComesFirst, gap}
 use Rattle.ratio_approximation.proofs.NearestPreference.{first_chained, itself_first}
 use Rattle.ratio_integer.specs.Division.{IsGcdOf}
 use Rattle.ratio_integer.specs.Fraction.{SameValue}
-use Rattle.ratio_integer.specs.Range.{IsHeld, IsRange}
+use Rattle.ratio_integer.specs.Range.{IsRange}
+use Rattle.ratio_integer.specs.SignedBits.{Fits64, IsHeld64, greatest64, least64}
 use Rattle.ratio_integer.proofs.CommonDivisors.{gcd_exists}
 use Rattle.ratio_integer.proofs.LowestTerms.{checks_lowest_moved, gcd_held_positive, held_lowest_quotients}
 use Rattle.ratio_integer.proofs.Whole.{mul_positive, positive_nonzero}
 use Rattle.ratio_core.proofs.SumLemmas.{fits_by}
-use Rattle.num_rational.specs.In64Bits.{FitsIn64}
 use Rattle.num_rational.specs.Operators.{ChecksExactDifference}
 use Rattle.num_rational.specs.Ratio.{denominator, numerator}
 use Rattle.num_rational.specs.declared.ratio.Ratio.{Ratio}
@@ -215,13 +215,6 @@ nearest_too_far wanted least most top first second near so_far each not_nearer =
     cases m e first_in second_in (inl before) = so_far.nearest m e first_in (record { at_least = second_in.at_least; at_most = before })
     cases m e first_in second_in (inr same) = subst (λ k. PairComesFirst wanted first second m k) same (before_new m)
 
-pub nearest_ends : (wanted : ℤ × ℤ) (least most top first second : ℕ) → top ≡ most → AreNearestUpTo wanted least most top first second → AreNearestWheels wanted least most first second
-nearest_ends wanted least most top first second e is = record {
-  first_wheel = is.first_wheel;
-  second_wheel = subst (λ k. IsWheel least k second) e is.second_wheel;
-  nearest = λ m e_ first_in second_in. is.nearest m e_ first_in (subst (λ k. IsWheel least k e_) (sym e) second_in);
-}
-
 -- ---- how far the wheels are from the wanted ratio
 
 pub above_zero : (z : ℤ) → lt_z z (pos 1) ≡ false → pos 0 <ℤ z
@@ -231,20 +224,20 @@ pub as_whole : (z : ℤ) (m : ℕ) → pos 0 <ℤ z → m ≡ unsigned_abs z →
 as_whole z m up is = omega (arith, ints)
 
 -- the teeth of two wheels fit in 64 bits, so their lowest terms do
-pub teeth_fit : (p q : ℕ) → p < 2 ^ 32 → q < 2 ^ 32 → 0 < q → FitsIn64 (pos p, pos q)
+pub teeth_fit : (p q : ℕ) → p < 2 ^ 32 → q < 2 ^ 32 → 0 < q → Fits64 (pos p, pos q)
 teeth_fit p q p_small q_small up = go (gcd_exists (pos p) (pos q))
   where
-    held : (k : ℕ) → k < 2 ^ 32 → IsHeld (negsuc (2 ^ 63 - 1)) (pos (2 ^ 63 - 1)) (pos k)
+    held : (k : ℕ) → k < 2 ^ 32 → IsHeld64 (pos k)
     held k small = record { above = omega (arith, ints); below = omega (arith, ints) }
 
-    range : IsRange (negsuc (2 ^ 63 - 1)) (pos (2 ^ 63 - 1))
+    range : IsRange least64 greatest64
     range = record { high = omega (arith, ints); low = inr (inr refl) }
 
-    go : (g : ℤ) × IsGcdOf (pos p) (pos q) g → FitsIn64 (pos p, pos q)
+    go : (g : ℤ) × IsGcdOf (pos p) (pos q) g → Fits64 (pos p, pos q)
     go (g, is) =
         let q_up : pos 0 <ℤ pos q = omega (arith, ints) in
-        let g_held = (gcd_held_positive (negsuc (2 ^ 63 - 1)) (pos (2 ^ 63 - 1)) (pos p) (pos q) range (held q q_small) q_up).each g is in
-        fits_by (negsuc (2 ^ 63 - 1)) (pos (2 ^ 63 - 1)) (pos p) (pos q) _ _ (held_lowest_quotients (negsuc (2 ^ 63 - 1)) (pos (2 ^ 63 - 1)) (pos p) (pos q) g _ _ range (held p p_small) (held q q_small) g_held q_up is refl refl)
+        let g_held = (gcd_held_positive least64 greatest64 (pos p) (pos q) range (held q q_small) q_up).each g is in
+        fits_by least64 greatest64 (pos p) (pos q) _ _ (held_lowest_quotients least64 greatest64 (pos p) (pos q) g _ _ range (held p p_small) (held q q_small) g_held q_up is refl refl)
 
 pub difference_moved : {T : _} {i : _} {o : _} {e : _} {p : _} {h : _} (w x y : ℤ × ℤ) (r : Option (Ratio T i o e p h)) → pos 0 <ℤ w.1 → pos 0 <ℤ x.1 → pos 0 <ℤ y.1 → SameValue y.0 y.1 x.0 x.1 → ChecksExactDifference w x r → ChecksExactDifference w y r
 difference_moved {i = i} w x y r w_up x_up y_up same told =

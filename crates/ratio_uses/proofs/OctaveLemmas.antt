@@ -8,13 +8,13 @@ use Rattle.std.proofs.lemmas.Int.{ints, unsigned_abs-mul}
 use lib.IntN.{one, *ℤ_comm, *ℤ-one}
 use Rattle.ratio_integer.specs.Fraction.{Fits, IsLowestTermsOf, SameValue}
 use Rattle.ratio_integer.specs.Range.{IsHeld}
+use Rattle.ratio_integer.specs.SignedBits.{Fits64}
 use Rattle.ratio_integer.proofs.CrossCancelling.{denom_divides, numer_divides}
 use Rattle.ratio_integer.proofs.DivisionLemmas.{abs_pos}
 use Rattle.ratio_integer.proofs.LowestTerms.{lowest_exist, same_value_chained, same_value_products}
 use Rattle.ratio_integer.proofs.Whole.{mul_assoc, mul_positive, positive_factor, positive_nonzero, unsigned_abs-products}
 use Rattle.ratio_core.proofs.LawLemmas.{product_by_left}
 use Rattle.ratio_core.proofs.ProductOrder.{more-times, times_le}
-use Rattle.num_rational.specs.In64Bits.{FitsIn64}
 use Rattle.num_rational.specs.Ratio.{ChecksRatio}
 use Rattle.num_rational.specs.Reduced.{ratio_in}
 use Rattle.num_rational.specs.declared.reduced.Reduced.{Reduced}
@@ -77,7 +77,7 @@ doubled_above y z numer_up denom_up next =
     let twice : pos 0 <ℤ (y.0 *ℤ pos 2) = omega (arith, ints) in
     positive_factor z.0 (y.1 *ℤ pos 1) (rw (times-one y.1) denom_up) (subst (λ n. pos 0 <ℤ n) next.same (mul_positive (y.0 *ℤ pos 2) z.1 twice next.lowest.positive))
 
-pub doubling_out : (x y : ℤ × ℤ) → pos 0 <ℤ x.1 → IsDoubled x y → y.0 <ℤ y.1 → ¬ (FitsIn64 (y.0 *ℤ pos 2, y.1 *ℤ pos 1)) → DoublingFails x
+pub doubling_out : (x y : ℤ × ℤ) → pos 0 <ℤ x.1 → IsDoubled x y → y.0 <ℤ y.1 → ¬ (Fits64 (y.0 *ℤ pos 2, y.1 *ℤ pos 1)) → DoublingFails x
 doubling_out x y up before less out = record {
   doublings = before.doublings;
   below_one = below_alike (x.0 *ℤ pos (2 ^ before.doublings)) x.1 y.0 y.1 up before.value.lowest.positive before.value.same less;

@@ -4,7 +4,7 @@ use Rattle.std.proofs.Common.{◌≢◌, ◌∙◌, refl, sym, subst, arith, inl
 use Rattle.std.proofs.Math.Nat.{div-mul-le_self, lt-div-mul-add, mul-div_left, mul-le-mul, mul-le-mul_left, mul-le-mul_right, mul-lt-mul_of_pos_right, mul_comm}
 use Rattle.std.proofs.lemmas.Nat.{le-div}
 use Rattle.ratio_uses.specs.Gears.{IsWheel}
-use Rattle.ratio_uses.specs.Trains.{AreWheelsOf, IsGreatestUpTo, IsLeastAbove, IsProductOfTwo}
+use Rattle.ratio_uses.specs.Trains.{AreWheelsOf, IsProductOfTwo}
 
 pub product_at_least : (least most x : ℕ) → IsProductOfTwo least most x → least * least ≤ x
 product_at_least least most x is =
@@ -45,13 +45,6 @@ pub record UpToSoFar (least most bound next best : ℕ) : Type 0 where
   pub up_to : best ≤ bound
   pub greatest : (x y : ℕ) → IsWheel least most x → IsWheel least most y → y < next → x * y ≤ bound → x * y ≤ best
 
-pub up_to_begins : (least most bound : ℕ) → least ≤ most → least * least ≤ bound → UpToSoFar least most bound least (least * least)
-up_to_begins least most bound range low = record {
-  of_two = product_of least most least least (wheel_least least most range) (wheel_least least most range);
-  up_to = low;
-  greatest = λ x y x_in y_in before within. absurd (let at_least = y_in.at_least in omega arith);
-}
-
 -- the second wheel has `next` teeth
 module _ (least most bound next best large : ℕ) (up : 0 < next) (next_in : IsWheel least most next) (large_is : large ≡ min (bound / next) most) (so_far : UpToSoFar least most bound next best) where
   up_to_large : (x : ℕ) → IsWheel least most x → x * next ≤ bound → x ≤ large
@@ -85,16 +78,6 @@ module _ (least most bound next best large : ℕ) (up : 0 < next) (next_in : IsW
   pub up_to_kept : large < least → UpToSoFar least most bound (next + 1) best
   up_to_kept low = up_to_more best (omega arith) so_far.up_to so_far.of_two (λ x x_in less. let part = up_to_large x x_in less in absurd (let at_least = x_in.at_least in omega arith))
 
-pub up_to_ends : (least most bound next best : ℕ) → most < next → UpToSoFar least most bound next best → IsGreatestUpTo least most bound best
-up_to_ends least most bound next best ends so_far = record {
-  of_two = so_far.of_two;
-  up_to = so_far.up_to;
-  greatest = λ x is within.
-      let same = is.same in
-      let less = so_far.greatest is.one is.other is.one_wheel is.other_wheel (let high = is.other_wheel.at_most in omega arith) (omega arith) in
-      omega arith;
-}
-
 -- ---- above a bound
 
 -- of all products above the bound whose second wheel has fewer teeth than `next`, and the greatest product, this one is the least
@@ -102,13 +85,6 @@ pub record AboveSoFar (least most bound next best : ℕ) : Type 0 where
   pub of_two : IsProductOfTwo least most best
   pub above : bound < best
   pub least_of_all : (x y : ℕ) → IsWheel least most x → IsWheel least most y → y < next → bound < x * y → best ≤ x * y
-
-pub above_begins : (least most bound : ℕ) → least ≤ most → bound < most * most → AboveSoFar least most bound least (most * most)
-above_begins least most bound range high = record {
-  of_two = product_of least most most most (wheel_most least most range) (wheel_most least most range);
-  above = high;
-  least_of_all = λ x y x_in y_in before past. absurd (let at_least = y_in.at_least in omega arith);
-}
 
 -- the second wheel has `next` teeth
 module _ (least most bound next best large : ℕ) (up : 0 < next) (next_in : IsWheel least most next) (large_is : large ≡ max (bound / next + 1) least) (so_far : AboveSoFar least most bound next best) where
@@ -152,16 +128,6 @@ module _ (least most bound next best large : ℕ) (up : 0 < next) (next_in : IsW
 
   pub above_kept : most < large → AboveSoFar least most bound (next + 1) best
   above_kept high = above_more best (omega arith) so_far.above so_far.of_two (λ x x_in over. let part = above_large x x_in over in absurd (let at_most = x_in.at_most in omega arith))
-
-pub above_ends : (least most bound next best : ℕ) → most < next → AboveSoFar least most bound next best → IsLeastAbove least most bound best
-above_ends least most bound next best ends so_far = record {
-  of_two = so_far.of_two;
-  above = so_far.above;
-  least_of_all = λ x is past.
-      let same = is.same in
-      let more = so_far.least_of_all is.one is.other is.one_wheel is.other_wheel (let high = is.other_wheel.at_most in omega arith) (omega arith) in
-      omega arith;
-}
 
 -- ---- the wheels of a product
 

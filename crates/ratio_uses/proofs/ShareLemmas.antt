@@ -4,13 +4,14 @@ use Rattle.std.proofs.Common.{refl, sym, subst, arith}
 use Rattle.std.proofs.lemmas.Int.{ints}
 use Rattle.ratio_integer.specs.Arithmetic.{difference_of, sum_of}
 use Rattle.ratio_integer.specs.Fraction.{SameValue}
+use Rattle.ratio_integer.specs.SignedBits.{IsHeld64}
 use Rattle.ratio_integer.proofs.LowestTerms.{lowest_moved, lowest_unique, same_value_chained}
 use Rattle.ratio_integer.proofs.Whole.{add-mul, mul_nonzero, mul-swap_inner, mul-swap_last, positive_nonzero, sub-mul}
 use Rattle.ratio_core.proofs.LawLemmas.{same_value_sums}
 use Rattle.num_rational.proofs.SplitLemmas.{fits_moved}
 use Rattle.num_rational.proofs.ValueLemmas.{same_value_differences}
 use Rattle.ratio_big.specs.Fractions.{big_numbers}
-use Rattle.ratio_big.specs.Values.{Has64Bits, HasTerms, IsShort, NeedsNoMemory}
+use Rattle.ratio_big.specs.Values.{HasTerms, IsShort, NeedsNoMemory}
 use Rattle.ratio_big.specs.declared.fraction.BigFraction.{BigFraction}
 use Rattle.ratio_uses.specs.Shareholders.{BuyerGains, HasShortTerms, HaveSameTotal, IsShortSale, SellerKeeps, gain_of, rest_of, sold_of}
 
@@ -32,7 +33,7 @@ sold_cancels a b c d e f = rw (numer, mul-swap_inner b f d f) (sym (mul-swap_las
 short_terms : (x r : ℤ × ℤ) → HasShortTerms x → HasTerms x r → IsShort r
 short_terms x r fits low =
     let same = lowest_unique x.0 x.1 fits.numer fits.denom r.0 r.1 fits.low.terms low in
-    record { numer = subst Has64Bits same.0 fits.low.numer_held; denom = subst Has64Bits same.1 fits.low.denom_held }
+    record { numer = subst IsHeld64 same.0 fits.low.numer_held; denom = subst IsHeld64 same.1 fits.low.denom_held }
 
 denom_nonzero : (x : BigFraction) → (big_numbers x).1 ≢ pos 0
 denom_nonzero x = positive_nonzero (big_numbers x).1 x.kept.lowest.positive

@@ -232,12 +232,6 @@ pub record IsProductBefore (least most next product : ℕ) : Type 0 where
   pub before : small < next
   pub multiple : IsMultipleOf small most product
 
-pub all_begin : (wanted : ℤ × ℤ) (least most : ℕ) (earlier : ℕ × ℕ) → IsProductOfTwo least most earlier.0 → IsProductOfTwo least most earlier.1 → AreFirstOver wanted least most (IsProductBefore least most least) earlier earlier
-all_begin wanted least most earlier drivers_in driven_in = over_none wanted least most (IsProductBefore least most least) earlier none drivers_in driven_in
-  where
-    none : (y : ℕ) → ¬ (IsProductBefore least most least y)
-    none y is = let low = is.at_least in let high = is.before in omega arith
-
 pub all_go_on : (wanted : ℤ × ℤ) (least most next : ℕ) (earlier between products : ℕ × ℕ) → 0 < least → next ≤ most → IsProductOfTwo least most earlier.1
     → AreFirstOver wanted least most (IsProductBefore least most next) earlier between → AreFirstOver wanted least most (IsMultipleOf next most) between products → AreFirstOver wanted least most (IsProductBefore least most (next + 1)) earlier products
 all_go_on wanted least most next earlier between products least_up high earlier_in so_far is =

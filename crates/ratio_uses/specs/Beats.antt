@@ -1,8 +1,9 @@
 -- Voices of a polyrhythm and their beats. A time and a period are pairs of whole numbers here.
-use Rattle.std.specs.Prelude.{◌≡◌, ◌⊎◌, ◌-◌, ◌^◌, ◌<◌, ◌≤ℤ◌, ◌<ℤ◌, ◌+ℤ◌, ◌*ℤ◌, ℕ, ℤ, pos, negsuc, All, Any, Bool, List, length, slice_index_or, true, false, Option, Some, None}
+use Rattle.std.specs.Prelude.{◌≡◌, ◌⊎◌, ◌<◌, ◌≤ℤ◌, ◌<ℤ◌, ◌+ℤ◌, ◌*ℤ◌, ℕ, ℤ, pos, All, Any, Bool, List, length, slice_index_or, true, false, Option, Some, None}
+use Rattle.ratio_integer.specs.SignedBits.{Fits64, IsHeld64}
 use Rattle.ratio_integer.specs.{Fraction.SameValue, Range.IsHeld}
 use Rattle.num_rational.specs.declared.reduced.Reduced.{Reduced}
-use Rattle.num_rational.specs.In64Bits.{FitsIn64, HasValue}
+use Rattle.num_rational.specs.In64Bits.{HasValue}
 use Rattle.num_rational.specs.Reduced.{lowest_numbers}
 use Rattle.ratio_uses.specs.declared.beats.Voice.{Voice}
 
@@ -41,8 +42,8 @@ AllHaveHad time voices = All (λ voice. HasHad time (period_of voice) voice.coun
 -- the number of the beat after k beats fits in 64 bits, and so does its time
 -- Example: not after 2^63-1 beats
 pub record BeatIsHeld (period : ℤ × ℤ) (k : ℤ) : Type 0 where
-  pub count : IsHeld (negsuc (2 ^ 63 - 1)) (pos (2 ^ 63 - 1)) (k +ℤ pos 1)
-  pub time : FitsIn64 (periods (k +ℤ pos 1) period)
+  pub count : IsHeld64 (k +ℤ pos 1)
+  pub time : Fits64 (periods (k +ℤ pos 1) period)
 
 -- the next beat of each voice fits in 64 bits
 abbrev pub AllAreHeld : List Voice → Type 0
@@ -81,7 +82,7 @@ ChecksNextBeat old new (Some time) = AllAreHeld old × IsNextBeat old new (lowes
 pub record CountIsHeld (time period : ℤ × ℤ) : Type 0 where
   pub count : ℤ
   pub had : HasHad time period count
-  pub held : IsHeld (negsuc (2 ^ 63 - 1)) (pos (2 ^ 63 - 1)) count
+  pub held : IsHeld64 count
 
 -- each voice has the period that it had, and has had exactly its counted beats up to this time, and at it
 -- Example: at 7/4, the period 1/2 after 0 beats: after 3
@@ -110,7 +111,7 @@ pub record IsMeeting (voices : List Voice) (time : ℤ × ℤ) : Type 0 where
 
 -- the result is the first time above 0 at which all voices have a beat (`IsMeeting`), and `None` exactly if none such fits in 64 bits
 abbrev pub ChecksMeeting : {T : _} {i : _} {o : _} {e : _} {p : _} {h : _} → List Voice → Option (Reduced T i o e p h) → Type 0
-ChecksMeeting voices None = (time : ℤ × ℤ) → pos 0 <ℤ time.1 → IsMeeting voices time → ¬ (FitsIn64 time)
+ChecksMeeting voices None = (time : ℤ × ℤ) → pos 0 <ℤ time.1 → IsMeeting voices time → ¬ (Fits64 time)
 ChecksMeeting voices (Some time) = IsMeeting voices (lowest_numbers time)
 
 -- Inner: the result is the number of the next beat and its time if both fit, else `None`
@@ -138,4 +139,4 @@ ChecksEarliest voices (Some time) = AllAreHeld voices × IsEarliest voices (lowe
 -- Inner: the result is the number of beats up to this time, and at it, or `None` if there is no such number in 64 bits
 abbrev pub ChecksCount : ℤ × ℤ → ℤ × ℤ → Option ℤ → Type 0
 ChecksCount time period None = ¬ (CountIsHeld time period)
-ChecksCount time period (Some count) = HasHad time period count × IsHeld (negsuc (2 ^ 63 - 1)) (pos (2 ^ 63 - 1)) count
+ChecksCount time period (Some count) = HasHad time period count × IsHeld64 count

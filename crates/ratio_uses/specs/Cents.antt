@@ -1,10 +1,9 @@
 -- An amount split by shares into multiples of 1/units, such as cents for 100. An amount and a share are pairs of whole numbers here. In the
 -- examples 10/1 is split by 1/3, 1/3 and 1/3 into cents: 1/units is 1/100.
-use Rattle.std.specs.Prelude.{◌≡◌, ◌+◌, ◌<◌, ◌-◌, ◌^◌, ◌-ℤ◌, ℕ, ℤ, pos, negsuc, List, None, Option, Some, length, slice_index_or, take}
+use Rattle.std.specs.Prelude.{◌≡◌, ◌+◌, ◌<◌, ◌-ℤ◌, ℕ, ℤ, List, None, Option, Some, length, slice_index_or, take}
 use Rattle.ratio_integer.specs.Fraction.{IsHeldLowest, IsLowestTermsOf, SameValue}
-use Rattle.ratio_integer.specs.Range.{IsHeld}
+use Rattle.ratio_integer.specs.SignedBits.{Fits64, IsHeld128, greatest64, least64}
 use Rattle.num_rational.specs.declared.reduced.Reduced.{Reduced}
-use Rattle.num_rational.specs.In64Bits.{FitsIn64}
 use Rattle.num_rational.specs.Reduced.{lowest_numbers}
 use Rattle.num_rational.specs.Split.{AreSharesFor, IsRoundedShare, IsSplitBy, RefusesShares, total_of_shares}
 use Rattle.ratio_uses.specs.declared.ledger.cents.Refusal.{Refusal, TheVariants.NotMultiple, TheVariants.Shares}
@@ -14,19 +13,15 @@ use Rattle.ratio_uses.specs.declared.ledger.cents.Refusal.{Refusal, TheVariants.
 abbrev pub IsCount : ℤ → ℤ × ℤ → ℤ → Type 0
 IsCount units x count = SameValue count units x.0 x.1
 
--- the number lies from -2^127 to 2^127-1
-abbrev pub HeldIn128 : ℤ → Type 0
-HeldIn128 z = IsHeld (negsuc (2 ^ 127 - 1)) (pos (2 ^ 127 - 1)) z
-
 -- x is a sum of the first shares, and `last` the mark before: the count times the sum without the last of these, rounded. x fits in 64
 -- bits, its mark in 128 bits, and in 64 bits the part, which is this mark less the last one, over the units
 -- Example: 2/3 and 333: 667, and 334/100 is 167/50
 pub record PartFits (units count last : ℤ) (x : ℤ × ℤ) : Type 0 where
-  pub sum : FitsIn64 x
+  pub sum : Fits64 x
   pub mark : ℤ
   pub is : IsRoundedShare count x mark
-  pub held : HeldIn128 mark
-  pub part : FitsIn64 (mark -ℤ last, units)
+  pub held : IsHeld128 mark
+  pub part : Fits64 (mark -ℤ last, units)
 
 -- all that `PartFits` says fits for each share
 abbrev pub PartsFit : {A : Type 0} → (A → ℤ × ℤ) → ℤ → ℤ → List A → Type 0
@@ -66,10 +61,10 @@ ChecksCount units amount (Some count) = IsCount units amount count
 -- Inner: the sum, the mark and the part are these, the sum and the part in lowest terms
 pub record IsStep (units count last : ℤ) (x sum : ℤ × ℤ) (mark : ℤ) (part : ℤ × ℤ) : Type 0 where
   pub value : IsLowestTermsOf x.0 x.1 sum.0 sum.1
-  pub fits : FitsIn64 x
+  pub fits : Fits64 x
   pub rounded : IsRoundedShare count x mark
-  pub held : HeldIn128 mark
-  pub terms : IsHeldLowest (negsuc (2 ^ 63 - 1)) (pos (2 ^ 63 - 1)) (mark -ℤ last) units part.0 part.1
+  pub held : IsHeld128 mark
+  pub terms : IsHeldLowest least64 greatest64 (mark -ℤ last) units part.0 part.1
 
 -- Inner: the result is the sum, the mark and the part if all fit, else `None`
 abbrev pub ChecksNextPart : {T : _} {i : _} {o : _} {e : _} {p : _} {h : _} → ℤ → ℤ → ℤ → ℤ × ℤ → Option (Reduced T i o e p h × ℤ × Reduced T i o e p h) → Type 0

@@ -1,7 +1,8 @@
 -- A sale of a part of a share: what the seller keeps, what the buyer gains, and the total of both.
-use Rattle.std.specs.Prelude.{◌-◌, ◌^◌, ℤ, pos, negsuc}
+use Rattle.std.specs.Prelude.{ℤ}
 use Rattle.ratio_integer.specs.Arithmetic.{difference_of, product_of, sum_of}
-use Rattle.ratio_integer.specs.Fraction.{Fits, SameValue}
+use Rattle.ratio_integer.specs.Fraction.{SameValue}
+use Rattle.ratio_integer.specs.SignedBits.{Fits64}
 use Rattle.ratio_big.specs.Fractions.{big_numbers}
 use Rattle.ratio_big.specs.Values.{HasTerms, IsShort, NeedsNoMemory}
 use Rattle.ratio_big.specs.declared.fraction.BigFraction.{BigFraction}
@@ -42,7 +43,7 @@ HaveSameTotal seller buyer rest more =
 -- the two numbers of the pair's lowest terms lie from -2^63 to 2^63-1
 -- Example: 2/4; not 1/2^64
 abbrev pub HasShortTerms : ℤ × ℤ → Type 0
-HasShortTerms x = Fits (negsuc (2 ^ 63 - 1)) (pos (2 ^ 63 - 1)) x.0 x.1
+HasShortTerms x = Fits64 x
 
 -- the shares and the part are short, and so are the lowest terms of what is sold and of both new shares: such a sale needs no memory
 -- Example: 1/2, 1/3 and the part 1/4

@@ -1,9 +1,10 @@
 -- Amounts converted by a chain of rates, and intervals brought into one octave.
 use Rattle.std.specs.Prelude.{◌≡◌, ◌⊎◌, ◌+◌, ◌<◌, ◌^◌, ◌≤ℤ◌, ◌<ℤ◌, ◌*ℤ◌, ℕ, ℤ, pos, List, length, take, Option, Some, None, IsPermutation}
 use Rattle.ratio_integer.specs.Fraction.{IsLowestTermsOf, SameValue}
+use Rattle.ratio_integer.specs.SignedBits.{Fits64}
 use Rattle.ratio_core.specs.ManyProducts.{product_by}
 use Rattle.num_rational.specs.declared.reduced.Reduced.{Reduced}
-use Rattle.num_rational.specs.In64Bits.{FitsIn64, HasValue}
+use Rattle.num_rational.specs.In64Bits.{HasValue}
 use Rattle.num_rational.specs.Reduced.{lowest_numbers}
 
 -- an amount times all rates: the product of the numerators over the product of the denominators
@@ -13,7 +14,7 @@ converted view amount rates = (amount.0 *ℤ product_by (λ rate. (view rate).0)
 -- the amount times the first rate, times the first two, and so on, fits in 64 bits each time
 -- Example: 36/4, 360/36
 abbrev pub EachStepFits : {A : Type 0} → (A → ℤ × ℤ) → ℤ × ℤ → List A → Type 0
-EachStepFits view amount rates = (k : ℕ) → k < length rates → FitsIn64 (converted view amount (take (k + 1) rates))
+EachStepFits view amount rates = (k : ℕ) → k < length rates → Fits64 (converted view amount (take (k + 1) rates))
 
 -- the result is the amount times all rates in lowest terms if each step fits (`EachStepFits`), else `None`
 abbrev pub ChecksConversion : {A : Type 0} {T : _} {i : _} {o : _} {e : _} {p : _} {h : _} → (A → ℤ × ℤ) → ℤ × ℤ → List A → Option (Reduced T i o e p h) → Type 0
@@ -42,7 +43,7 @@ pub record IsInOctave (x y : ℤ × ℤ) : Type 0 where
 pub record DoublingFails (x : ℤ × ℤ) : Type 0 where
   pub doublings : ℕ
   pub below_one : (x.0 *ℤ pos (2 ^ doublings)) <ℤ x.1
-  pub out : ¬ (FitsIn64 (x.0 *ℤ pos (2 ^ (doublings + 1)), x.1))
+  pub out : ¬ (Fits64 (x.0 *ℤ pos (2 ^ (doublings + 1)), x.1))
 
 -- the result is the interval in the octave from 1 to 2, and `None` only if it is not above 0 or a doubling fails (`DoublingFails`)
 -- Example: 3/1: `Some(3/2)`

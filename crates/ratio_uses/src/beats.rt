@@ -1,4 +1,4 @@
-//! The voices of a polyrhythm: their beats in order of time, without drift.
+//! The voices of a polyrhythm: their beats in order of time, without drift, and the time when all meet.
 //!
 //! A voice beats once in each of its periods. Its k-th beat comes at exactly k periods.
 ghost use Rattle.std.specs.Prelude.{◌↔◌, All, IsTrue};
@@ -43,7 +43,7 @@ fn has_count(time: &Reduced64, period: &Reduced64) -> bool
     count_at(time, period).is_some()
 }
 
-// Sets the count of each voice to the number of beats that it has had up to this time, and at it. The next beat is
+/// Sets the count of each voice to the number of beats that it has had up to this time, and at it. The next beat is
 /// then the first one after this time. For example, at 7/4 a voice with the period 1/2 has had 3 beats. It has beats
 /// before 0 too: at -1/4 its count is -1, and its next beat comes at 0. `false` exactly where a period is not above 0
 /// or a count does not fit in 64 bits. Then nothing has changed.

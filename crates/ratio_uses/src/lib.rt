@@ -1,17 +1,16 @@
-//! Small programs over fractions, each with one theorem in its user's words: wheels and trains of wheels whose ratio
-//! is near a wanted one, an amount split by shares, the beats of voices, and chains of rates. The functions that the
-//! pages show are here too.
+//! Examples of callers: small programs over fractions, each with one theorem in its user's words, such as wheels whose ratio is near a
+//! wanted one, a rent split by days, the beats of voices, and chains of rates. The functions that the pages show are here too.
 //!
 //! | Module | What is in it |
 //! |---|---|
-//! | `readme` | The functions that `CALLING.md` shows first: the total of shares, a third of a text's fraction, and the faster rate. |
+//! | `readme` | The functions that `docs/CALLING.md` shows first: the total of shares, a third of a text's fraction, and the faster rate. |
 //! | `callers` | Callers of `Reduced`: the greatest amount, the mean of two, and places between, before and after others. |
 //! | `conditions` | Callers of `Ratio`: the sum of two shares and the product of rates, with what these require. |
 //! | `accounts` | Two accounts, and a part that moves from one to the other. |
 //! | `shareholders` | A sale of a part of a share, over fractions of any size: nothing is rounded, and no share is lost. |
 //! | `ledger` | A rent split among tenants by their days, over the library's `split` and `split_by_weights`, so that no cent is lost. |
-//! | `ledger::cents` | An amount split by shares into multiples of a unit, such as cents, so that no cent is lost. |
-//! | `beats` | The voices of a polyrhythm: their beats in order of time, without drift. |
+//! | `ledger::cents` | An amount split by shares into multiples of a unit, such as cents, so that no cent is lost, and an amount rounded to cents. |
+//! | `beats` | The voices of a polyrhythm: their beats in order of time, without drift, and the time when all meet. |
 //! | `gears` | Two wheels whose ratio of teeth is near a wanted one. |
 //! | `trains` | Two pairs of wheels, one after the other, whose ratio is near a wanted one. |
 //! | `trains::products` | The products of the teeth of two wheels, next to a number, and the wheels of such a product. |

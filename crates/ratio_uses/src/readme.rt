@@ -1,4 +1,4 @@
-//! The functions that `CALLING.md` shows first: the total of shares, a third of a text's fraction, and the faster
+//! The functions that `docs/CALLING.md` shows first: the total of shares, a third of a text's fraction, and the faster
 //! rate.
 ghost use Rattle.std.specs.Prelude.{◌≡◌};
 ghost use Rattle.num_rational.specs.Comparison.{order_of};

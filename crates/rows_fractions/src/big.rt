@@ -9,7 +9,7 @@ mod written;
 
 use ratio_big::BigFraction;
 use rows::answer::{Answer, write_or_no_memory};
-use rows::words::text;
+use rows::notation::text;
 use std::alloc::{AllocError, Global};
 use std::fmt;
 use written::fraction;

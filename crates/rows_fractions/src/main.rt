@@ -1,11 +1,11 @@
-//! Rows of calls on fractions: `Ratio`, `Reduced` and `BigFraction`, and of what a person types.
+//! A test program that makes the calls of its rows anew: on fractions (`Ratio`, `Reduced` and `BigFraction`), and on what a person types.
 //!
 //! | Module | What is in it |
 //! |---|---|
 //! | `big` | Calls of `BigFraction`. |
 //! | `big::harmonic` | The sum of the fractions from 1/1 to 1/n. |
 //! | `big::lists` | Lists of digits, slots and fractions: `[0,1]`, `[1/36,0/0]`, `[4,2,6]`. |
-//! | `big::made` | Calls that make a fraction of texts, numbers, digits, floats and totals, and one that writes it behind a text. |
+//! | `big::made` | Calls that make a fraction of texts, numbers, digits, floats and slots, and one that writes it behind a text. |
 //! | `big::one` | Calls on one fraction. |
 //! | `big::rules` | Calls with a rule of rounding. |
 //! | `big::two` | Calls on two fractions, and powers. |

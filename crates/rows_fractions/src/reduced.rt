@@ -12,8 +12,8 @@ mod within;
 use num_rational::Reduced;
 use ratio_integer::{Integer, Primitive};
 use rows::answer::Answer;
+use rows::notation::fraction;
 use rows::types::{Asked, OverTypes};
-use rows::words::fraction;
 use std::fmt::Display;
 
 /// The calls of this module.

@@ -5,7 +5,7 @@ mod trees;
 mod values;
 
 use rows::answer::{Answer, write_or_no_memory};
-use rows::words::text;
+use rows::notation::text;
 use std::alloc::{AllocError, Global};
 use std::fmt;
 use texts::bytes_of;

@@ -1,5 +1,5 @@
-//! Calls on integers and on the fields of fractions: those of `ratio_integer`, `ratio_core`, `ratio_approximation`, `ratio_decimal`
-//! and `ratio_float`, over the twelve types.
+//! Calls on integers and on the fields of fractions: those of `ratio_integer`, `ratio_core`, `ratio_approximation` and
+//! `ratio_decimal`, over the twelve types.
 mod approximations;
 mod decimals;
 mod integers;
@@ -15,9 +15,9 @@ ghost use Rattle.std.specs.Prelude.{◌<ℤ◌, pos, IfSome};
 
 use ratio_integer::{Integer, Primitive};
 use rows::answer::{Answer, of_fields};
+use rows::notation::fraction;
 use rows::types;
 use rows::types::{Asked, OverTypes};
-use rows::words::fraction;
 use std::alloc::Global;
 use std::fmt;
 use std::fmt::Display;
@@ -102,7 +102,7 @@ impl OverTypes for Fields<'_> {
     fn answer<T: Primitive + Display>(&self, asked: Asked<'_>) -> Option<Answer<T>> {
         let (alloc, call, words) = (asked.alloc, asked.call, asked.words);
         match self.subject {
-            "ratio_decimal" | "ratio_float" => decimals::answer(alloc, call, words),
+            "ratio_decimal" | "float" => decimals::answer(alloc, call, words),
             "order" | "hash" => order::answer(alloc, call, words),
             "ratio_integer" | "checked_new" => reducing::answer(alloc, call, words),
             "text" => texts::answer(alloc, call, words),

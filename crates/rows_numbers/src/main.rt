@@ -1,8 +1,8 @@
-//! Rows of calls on integers, on the fields of fractions, and on natural numbers of any length.
+//! A test program that makes the calls of its rows anew: on integers, on the fields of fractions, and on natural numbers of any length.
 //!
 //! | Module | What is in it |
 //! |---|---|
-//! | `fields` | Calls on integers and on the fields of fractions: those of `ratio_integer`, `ratio_core`, `ratio_approximation`, `ratio_decimal` and `ratio_float`, over the twelve types. |
+//! | `fields` | Calls on integers and on the fields of fractions: those of `ratio_integer`, `ratio_core`, `ratio_approximation` and `ratio_decimal`, over the twelve types. |
 //! | `fields::approximations` | The nearest fraction, and the simplest one between two or within bounds. |
 //! | `fields::decimals` | Fractions rounded by a rule, decimals and floats. |
 //! | `fields::integers` | The calls of `Integer` and `Primitive`. |
@@ -13,7 +13,7 @@
 //! | `fields::signed` | Calls on signs, and those of `SignedInteger`, over the six types with negative numbers. |
 //! | `fields::sums` | Sums, differences, products, quotients, remainders and powers of the fields of fractions, and the parts of these calls. |
 //! | `fields::texts` | Fields as texts, and texts as fields. |
-//! | `naturals` | Calls on natural numbers of any length, by their digits: those of `ratio_natural` and `ratio_long`. |
+//! | `naturals` | Calls on natural numbers of any length, by their digits: those of `ratio_natural`, and those of `ratio_decimal` on their fractions. |
 //! | `naturals::digits` | Natural numbers by their digits of 64 bits, the lowest one first: `[0,1]` is 2^64. |
 //! | `naturals::floats` | The floats nearest to fractions of long numbers, by their bits. |
 //! | `naturals::one_number` | Calls on a number and one or two digits. |

@@ -1,4 +1,4 @@
-//! Calls on natural numbers of any length, by their digits: those of `ratio_natural` and `ratio_long`.
+//! Calls on natural numbers of any length, by their digits: those of `ratio_natural`, and those of `ratio_decimal` on their fractions.
 mod digits;
 mod floats;
 mod one_number;
@@ -20,7 +20,7 @@ pub fn write_answer<W: fmt::Write>(
 ) -> fmt::Result {
     let answer = match subject {
         "ratio_natural" => natural(alloc, call, words),
-        "ratio_long" => long(alloc, call, words),
+        "naturals" => long(alloc, call, words),
         _ => floats::of_leading_digits(alloc, call, words),
     };
     match answer {

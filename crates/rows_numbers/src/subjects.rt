@@ -20,7 +20,7 @@ impl Calls for Subjects {
             return f.write_str("bad row");
         };
         match subject {
-            "ratio_natural" | "ratio_long" | "leading" => {
+            "ratio_natural" | "naturals" | "leading" => {
                 naturals::write_answer(alloc, subject, call, words, f)
             }
             _ => fields::write_answer(alloc, subject, call, words, f),

@@ -1,20 +1,20 @@
-//! Rows of calls of totals.
+//! A test program that makes the calls of its rows anew: on totals, and on lists that are added up or split.
 //!
 //! | Module | What is in it |
 //! |---|---|
-//! | `totals` | Calls of `ratio_totals` and `fraction_totals`, and splits. |
-//! | `totals::listed_slots` | Calls of `ratio_totals` on lists of slots: `[1/36,0/0,1/28]` has an empty slot in its middle. |
+//! | `totals` | Calls of `ratio_slots` and `ratio_totals`, and splits. |
+//! | `totals::growth` | Calls for a total that grows: in `12 4 6 in 100` 12 slots are taken, 4 more denominators come, the chance is 6, and there are at most 100 slots; `[1/36,0/28]` is a table. |
+//! | `totals::listed_slots` | Calls of `ratio_slots` on lists of slots: `[1/36,0/0,1/28]` has an empty slot in its middle. |
 //! | `totals::lists` | Lists, as a row writes them: digits `[7\*64]`, slots `[1/36,0/0]` and fractions `[1/2\*3,1/1..9]`. |
 //! | `totals::numbers` | Whole numbers and fractions, as rows of totals write them: `-7/2`, or `1/2^64-59` and `-2^127` by a power of 2. |
-//! | `totals::refusals` | What refusals of totals print where no other row has them: `ratio_totals::Refusal::fmt TooMany`. |
-//! | `totals::rooms` | Calls of `ratio_totals::Joined`, which is a sum in a room: `2 1 [16,0\*3,252,0\*5]` has two fractions, one digit for the common denominator, and this room; `-1/36` is one fraction; `6 +1/36 -1/28` has six digits, and its fractions went in one by one. |
+//! | `totals::refusals` | What refusals of totals print where no other row has them: `ratio_slots::Refusal::fmt TooMany`. |
+//! | `totals::rooms` | Calls of `ratio_slots::Joined`, which is a sum in a room: `2 1 [16,0\*3,252,0\*5]` has two fractions, one digit for the common denominator, and this room; `-1/36` is one fraction; `6 +1/36 -1/28` has six digits, and its fractions went in one by one. |
 //! | `totals::said` | What calls of totals return, as rows write it. |
-//! | `totals::short_totals` | Calls of `fraction_totals::Total`: `i8 4 +1/36 -1/28` is a total over `i8` with four slots. |
-//! | `totals::steps` | Steps of a total: `+1/2` adds, `-1/2` takes out, `+1/2x2/3` adds a product. |
+//! | `totals::short_totals` | Calls of `ratio_totals::Total`: `i8 4 +1/36 -1/28` is a total over `i8` with four slots. |
+//! | `totals::changes` | Steps of a total: `+1/2` adds, `-1/2` takes out, `+1/2x2/3` adds a product. |
 //! | `totals::sums` | Sums of lists, and splits: `i8 [1/36,1/28]` is a list, and `i64 100 [1/3\*3]` an amount with its shares. |
-//! | `totals::tables` | Calls of `ratio_totals::Total`: `4 +1/36 -1/28` is a total with four slots. |
 //! | `totals::wide_rooms` | Reads of a sum in a room whose numbers have up to 128 bits. |
-//! | `totals::wide_totals` | Calls of `fraction_totals::WideTotal`: `i128 2 [7\*14] [7\*22] +1/36` is a total with two digits for its common denominator, in the first room; the second list has the spare digits. |
+//! | `totals::wide_totals` | Calls of `ratio_totals::WideTotal`: `i128 2 [7\*14] [7\*22] +1/36` is a total with two digits for its common denominator, in the first room; the second list has the spare digits. |
 //! | `subjects` | The subject of a call by the first parts of its name: `ratio_totals::Total` of `ratio_totals::Total::put_decimal`. |
 #![tactic(auto)]
 

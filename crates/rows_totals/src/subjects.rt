@@ -1,10 +1,10 @@
 //! The subject of a call by the first parts of its name: `ratio_totals::Total` of `ratio_totals::Total::put_decimal`.
 use crate::totals::{
-    Asked, listed_slots, parted, refusals, rooms, short_totals, sums, tables, wide_totals,
+    Asked, growth, listed_slots, parted, refusals, rooms, short_totals, sums, wide_totals,
 };
 use num_rational::Rounding;
+use rows::notation::rule;
 use rows::row::Calls;
-use rows::words::rule;
 use std::alloc::Global;
 use std::fmt;
 
@@ -68,9 +68,10 @@ fn answer(name: &str, asked: Asked<'_>) -> Option<String> {
     let (about, method) = parted(call, "::");
     match (library, about) {
         (_, refusal) if method == "fmt" => refusals::answer(refusal, asked),
-        ("ratio_totals", "Total") => tables::answer(method, asked),
-        ("ratio_totals", "Joined") => rooms::answer(method, asked),
-        ("ratio_totals", call) => listed_slots::answer(call, asked),
+        ("ratio_slots", "Joined") => rooms::answer(method, asked),
+        ("ratio_slots", "numerator_in") => short_totals::answer(about, asked),
+        ("ratio_slots", "next_length" | "leave_zeros") => growth::answer(about, asked),
+        ("ratio_slots", call) => listed_slots::answer(call, asked),
         (_, "Total") => short_totals::answer(method, asked),
         (_, "WideTotal") => wide_totals::answer(method, asked),
         (_, "dot" | "total_of") => short_totals::answer(about, asked),

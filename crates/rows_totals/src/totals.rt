@@ -1,7 +1,9 @@
-//! Calls of `ratio_totals` and `fraction_totals`, and splits.
+//! Calls of `ratio_slots` and `ratio_totals`, and splits.
 //!
 //! A row has the words of a total, then what the call takes behind ` in `, and then the rule behind ` by `:
-//! `ratio_totals::Total::put_decimal 4 +1/36 +1/28 in 4 [7*64] x*400 by Down = "0.0634"`. The rule `each` stands for all six.
+//! `ratio_totals::Total::put_decimal i64 4 +1/36 +1/28 in 4 [7*64] x*400 by Down = "0.0634"`. The rule `each` stands for all six.
+pub mod changes;
+pub mod growth;
 pub mod listed_slots;
 pub mod lists;
 pub mod numbers;
@@ -9,9 +11,7 @@ pub mod refusals;
 pub mod rooms;
 pub mod said;
 pub mod short_totals;
-pub mod steps;
 pub mod sums;
-pub mod tables;
 pub mod wide_rooms;
 pub mod wide_totals;
 

@@ -1,4 +1,3 @@
-// Written by templates/write from templates/asserting.rt.txt: change that file, and write this one anew.
 //! What the tests assert. Each function holds one assertion. If it fails, its message says what was given.
 use std::process::Abort;
 

@@ -1,7 +1,11 @@
-//! Tests of fractions: rows from outside, and each call once at a concrete type.
+//! Tests of fractions, `Ratio` and `Reduced`: rows from outside, and each call once at a concrete type.
 #![tactic(auto)]
 
 #[cfg(test)]
 mod asserting;
 #[cfg(test)]
 mod ratios;
+pub mod recorder;
+#[cfg(test)]
+mod reduced;
+pub mod written;

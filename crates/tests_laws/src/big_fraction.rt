@@ -1,7 +1,7 @@
 //! The laws of fractions of any size, called once each, with a long fraction.
 use num_rational::{Reduced, Reduced64};
 use ratio_big::BigFraction;
-use ratio_laws::big_fraction::{field, order, powers, signs, texts, wholes};
+use ratio_laws::big_fraction::{field, order, powers, rounding, signs, texts};
 use std::test::Fail;
 
 fn fraction(numer: i64, denom: i64) -> BigFraction {
@@ -27,7 +27,7 @@ fn each_law_is_called(rt: HostRuntime) -> Result<(), Fail> {
     signs::negatives(&x, &y);
     signs::absolutes(&x, &y);
     texts::texts(&x);
-    wholes::floors(&x, &z);
-    wholes::remainders(&x, &y);
+    rounding::floors(&x, &z);
+    rounding::remainders(&x, &y);
     Ok(())
 }

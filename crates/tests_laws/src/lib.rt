@@ -1,4 +1,4 @@
-//! Tests of the laws: each can be called like any function.
+//! Tests of the laws, each of which can be called like any function, and of the odd types, which obey them.
 #![tactic(auto)]
 
 #[cfg(test)]
@@ -7,3 +7,5 @@ mod big_fraction;
 mod fractions;
 #[cfg(test)]
 mod numbers;
+#[cfg(test)]
+mod odd_types;

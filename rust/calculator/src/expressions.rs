@@ -3,12 +3,12 @@
 mod host;
 mod proved;
 
-use crate::proved::ratio_expressions::answer::value_of;
 use crate::proved::ratio_expressions::expression::column;
-use crate::proved::ratio_expressions::line::answer;
+use crate::proved::ratio_expressions::line::value_of_line;
 use crate::proved::ratio_expressions::names::Names;
 use crate::proved::ratio_expressions::refusal::ValueError;
 use crate::proved::ratio_expressions::slashes::read_as;
+use crate::proved::ratio_expressions::text_value::value_of;
 use crate::proved::ratio_expressions::value::Value;
 use bakhsney::memory::{AllocError, Global};
 use std::io::{self, BufRead, BufWriter, Write};
@@ -30,7 +30,7 @@ fn answered(text: &[u8], names: &mut Names) -> Result<String, AllocError> {
     if let Some(read) = &read {
         assert_eq!(outcome(text, names)?, outcome(read, names)?, "{}", String::from_utf8_lossy(text));
     }
-    match answer(Global, text, names) {
+    match value_of_line(Global, text, names) {
         Ok(value) => Ok(match read {
             Some(read) => format!("{}\t{}", printed(&value)?, String::from_utf8_lossy(&read)),
             None => printed(&value)?,

@@ -9,7 +9,7 @@
 //! | `memory` | none: the memory did not suffice |
 //! | `empty` | none: the line has only spaces |
 //!
-//! The replies are the proved calls'. This file cuts a text into lines and puts the kinds before the replies, by hand: `page/test` tries it.
+//! The replies are the proved calls'. This file cuts a text into lines and puts the kinds before the replies, by hand: `rust/page/test` tries it.
 use crate::proved::ratio_expressions::names::Names;
 use crate::proved::ratio_expressions::replies::{reply_to, Form, Reply};
 use crate::proved::ratio_expressions::slashes::read_as;

@@ -4,8 +4,8 @@
 use super::integer::Integer;
 use super::ratio::Ratio;
 use super::reduced::Reduced;
-use super::reduced_conversions::ReducedError;
-use crate::proved::ratio_long::nearest_f64;
+use super::reduced_traits::ReducedError;
+use crate::proved::ratio_decimal::naturals::nearest_f64;
 use alloc::vec;
 use num_bigint::{BigInt, BigUint, Sign, ToBigInt};
 use num_traits::float::FloatCore;

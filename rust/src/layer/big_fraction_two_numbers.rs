@@ -1,6 +1,6 @@
 //! A `BigFraction` in serde's formats as a list of two numbers, or texts.
 use super::big_fraction::BigFraction;
-use super::big_fraction_refusals::BigTextRefusal;
+use super::big_fraction_texts::BigTextRefusal;
 use super::integer::Integer;
 use super::reduced::Reduced;
 use crate::memory::AllocError;

@@ -1,6 +1,6 @@
 //! `BigFraction` from texts and powers that are refused where a number has more bits than a bound.
 use super::big_fraction::BigFraction;
-use super::big_fraction_refusals::BigTextRefusal;
+use super::big_fraction_texts::BigTextRefusal;
 use crate::memory::{AllocError, Global};
 use crate::proved::ratio_big::{BigFraction as Proved, WithinRefusal};
 use crate::proved::ratio_natural::bits;

@@ -1,11 +1,13 @@
-//! The float nearest to a fraction.
+//! The float nearest to a fraction, and fractions with exactly the values of floats.
 //!
-//! Proved calls find it. They require a positive denominator. For another one, this module passes on the magnitudes.
+//! Proved calls find the nearest float. They require a positive denominator. For another one, this module passes on the magnitudes.
 use super::integer::{Element, Integer};
 use super::ratio::Ratio;
-use crate::proved::ratio_float::nearest;
+use super::reduced::Reduced;
 use crate::proved::ratio_core::text::magnitude;
+use crate::proved::ratio_decimal::float::nearest;
 use crate::proved::ratio_integer::Primitive;
+use core::fmt;
 use core::ops::Neg;
 
 /// Whether the processor rounds a quotient of two floats once, as the proof of `to_f64` and `to_f32` assumes. Without SSE2, an x86
@@ -62,3 +64,57 @@ impl<T: Integer> Ratio<T> {
         Some(if is_negative { -size } else { size })
     }
 }
+
+// Fractions with exactly the values of floats, by the trait `TryFrom`.
+
+/// The error of `try_from` for a float: it is infinite or no number, or its lowest terms do not fit the type.
+///
+/// ```
+/// use num_rational::{FloatError, Rational32};
+///
+/// assert_eq!(Rational32::try_from(0.75), Ok((3, 4).into()));
+/// let tenth: Result<Rational32, FloatError> = 0.1.try_into();
+/// assert_eq!(tenth.unwrap_err().to_string(), "the float is infinite or no number, or its lowest terms do not fit the type");
+/// ```
+#[derive(Clone, Copy, Debug, PartialEq, Eq)]
+pub struct FloatError(());
+
+impl fmt::Display for FloatError {
+    fn fmt(&self, f: &mut fmt::Formatter<'_>) -> fmt::Result {
+        f.pad("the float is infinite or no number, or its lowest terms do not fit the type")
+    }
+}
+
+#[cfg(feature = "std")]
+impl std::error::Error for FloatError {}
+
+macro_rules! values {
+    ($($Fraction:ty $(where $T:ident)?: $float:ty, $from_float:ident;)*) => {$(
+        impl$(<$T: Integer>)? TryFrom<$float> for $Fraction {
+            type Error = FloatError;
+
+            /// The fraction with exactly the value of the float.
+            #[inline]
+            fn try_from(float: $float) -> Result<$Fraction, FloatError> {
+                Reduced::$from_float(float).map(Self::from).ok_or(FloatError(()))
+            }
+        }
+    )*};
+}
+
+values! {
+    Reduced<T> where T: f64, from_float;
+    Reduced<T> where T: f32, from_float32;
+}
+
+// One for each type: one for all of them would be in the way of std's own `TryFrom` for rustc 1.63.
+macro_rules! ratios {
+    ($($type:ident)*) => {$(
+        values! {
+            Ratio<$type>: f64, from_float;
+            Ratio<$type>: f32, from_float32;
+        }
+    )*};
+}
+
+ratios! { i8 i16 i32 i64 i128 isize u8 u16 u32 u64 u128 usize }

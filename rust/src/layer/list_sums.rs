@@ -10,7 +10,7 @@ use super::numbers::{is_short, of_short, short};
 use super::reduced::Reduced;
 #[cfg(feature = "alloc")]
 use super::total::Total;
-use crate::proved::ratio_totals::{add_short, short_pair};
+use crate::proved::ratio_slots::{add_short, short_pair};
 
 /// What `checked_sum` of a `Reduced` returns.
 #[inline]

@@ -5,7 +5,7 @@ use super::reduced::Reduced;
 use crate::newer::checked_sub_unsigned;
 use crate::proved::ratio_integer::Primitive;
 #[cfg(feature = "alloc")]
-use crate::proved::ratio_totals::WideFraction;
+use crate::proved::ratio_slots::WideFraction;
 
 /// Whether the type has at most 64 bits. Then the numbers of each fraction are short.
 #[inline]

@@ -3,7 +3,7 @@
 //! The proved sums lie in digits that their caller gives. Here these digits are in a `Vec`.
 use super::total::TooLong;
 use crate::proved::ratio_decimal::rounding_rule::Rounding;
-use crate::proved::ratio_totals::{digits_of_read, AddRefusal, JoinRefusal, Joined, NoSum, Slot, WideFraction, MOST_DIGITS};
+use crate::proved::ratio_slots::{digits_of_read, AddRefusal, JoinRefusal, Joined, NoSum, Slot, WideFraction, MOST_DIGITS};
 use alloc::string::String;
 use alloc::vec;
 use alloc::vec::Vec;

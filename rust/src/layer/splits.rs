@@ -7,7 +7,7 @@ use super::reduced::{Proved, Reduced};
 #[cfg(feature = "alloc")]
 use super::room_sum::{digits_of_room, digits_with_spare, FEWEST_DIGITS};
 #[cfg(feature = "alloc")]
-use crate::proved::fraction_totals::{split_in, RoomSplitRefusal, WideRefusal, MOST_DIGITS};
+use crate::proved::ratio_totals::{split_in, RoomSplitRefusal, WideRefusal, MOST_DIGITS};
 use crate::proved::num_rational::{self as proved, SplitRefusal, WeightRefusal};
 use crate::proved::ratio_integer::Primitive;
 #[cfg(feature = "alloc")]

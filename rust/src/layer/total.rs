@@ -1,6 +1,6 @@
 //! `Total`: a sum of any number of fractions that loses nothing, and takes more memory by itself.
 //!
-//! The proved total works in slots that its caller gives, with one slot for each denominator. Here the slots are in a `Vec`. The
+//! The proved calls work in slots that their caller gives, with one slot for each denominator. Here the slots are in a `Vec`. The
 //! proved calls require a denominator above 0 and a numerator below 2^64 in magnitude. Each `Reduced` of at most 64 bits has these.
 //! All other fractions go into one `RoomSum`.
 use super::integer::Integer;
@@ -8,8 +8,8 @@ use super::numbers::{is_short, of_short, of_wide, signed, Numbers};
 use super::reduced::Reduced;
 use super::room_sum::{text_from, RoomSum};
 use crate::proved::ratio_decimal::rounding_rule::Rounding;
-use crate::proved::ratio_totals as proved;
-use crate::proved::ratio_totals::{Joined, NoSum, OrderRefusal, ReadRefusal, Refusal, Slot, Tally, WideFraction};
+use crate::proved::ratio_slots as proved;
+use crate::proved::ratio_slots::{Joined, NoSum, OrderRefusal, ReadRefusal, Refusal, Slot, Tally, WideFraction};
 use alloc::string::String;
 use alloc::vec;
 use alloc::vec::Vec;
@@ -29,6 +29,9 @@ use core::ops::{AddAssign, SubAssign};
 /// Someone who chose the denominators before can hardly make additions slow. From about 1,000 slots on a table has a random length, and in a
 /// table of another length, other denominators collide. Below that, an addition takes less than a microsecond at worst. Without the feature
 /// `std` no length is random: there, additions of chosen denominators can be slow, but never wrong.
+///
+/// If all of a denominator's fractions went out again, its slot becomes free when the total next takes memory. So the memory grows with the
+/// denominators that are in it at one time, as in a window that moves.
 ///
 /// A slot takes numbers below 2^64. Fractions over `i128` and `u128` may have greater ones, and so may products. Such fractions go into one
 /// sum over their common denominator. To add one takes a third of a microsecond while they have one denominator, and as long again for
@@ -76,8 +79,8 @@ pub struct Total<T> {
     of: PhantomData<fn() -> T>,
 }
 
-/// The error of the reads of a `Total`, such as `sum`: the least common multiple of the denominators that it was given is not below
-/// 2^(2^20). Even then `decimal` mostly has a result.
+/// The error of the reads of a `Total`, such as `sum`: the least common multiple of the denominators in its slots is not below 2^(2^20).
+/// Even then `decimal` mostly has a result.
 ///
 /// ```
 /// use num_rational::{Reduced, TooLong, Total};
@@ -97,37 +100,25 @@ impl fmt::Display for TooLong {
 #[cfg(feature = "std")]
 impl std::error::Error for TooLong {}
 
-/// The slots of the smallest table.
-const FEWEST: usize = 8;
-
 /// The additions between two counts in a small table. A full one makes no search long.
 const SHORTEST_PAUSE: usize = 64;
 
-/// From so many slots on, a table has a random length.
-const LONG: usize = 1024;
+/// A table for so many denominators has a random length.
+const LONG: usize = 512;
 
-/// The slots of the table after one with so many: twice as many, or up to an eighth more. In a table of another length, other denominators
-/// collide. So nobody can choose them without the length.
-fn next_length(length: usize) -> usize {
-    let twice = (2 * length).max(FEWEST);
-    if twice < LONG {
-        twice
-    } else {
-        twice + by_chance(twice / 8)
-    }
-}
+/// The greatest number of slots that a `Vec` takes.
+const MOST: usize = isize::MAX as usize / core::mem::size_of::<Slot>();
 
-/// A random number below the bound.
+/// A random number.
 #[cfg(feature = "std")]
-fn by_chance(bound: usize) -> usize {
+fn by_chance() -> u64 {
     use core::hash::{BuildHasher, Hasher};
-    let random = std::collections::hash_map::RandomState::new().build_hasher().finish();
-    (random % bound as u64) as usize
+    std::collections::hash_map::RandomState::new().build_hasher().finish()
 }
 
 /// Without `std` nothing is random.
 #[cfg(not(feature = "std"))]
-fn by_chance(_bound: usize) -> usize {
+fn by_chance() -> u64 {
     0
 }
 
@@ -158,13 +149,7 @@ impl<T> Total<T> {
         self.tally.count
     }
 
-    /// The proved total over these slots.
-    #[inline]
-    fn proved(&mut self) -> proved::Total<'_> {
-        proved::Total { slots: &mut self.slots, tally: self.tally }
-    }
-
-    /// Counts the empty slots, and takes twice the slots if no more than half are empty. So a search is short.
+    /// Counts the empty slots, and grows if no more than half are empty. So a search is short.
     ///
     /// A quarter of the slots may fill up before the next count. It comes later if no denominator was new since the last one: a
     /// count then costs nothing much for each addition.
@@ -173,56 +158,50 @@ impl<T> Total<T> {
         let before = self.empty;
         self.empty = proved::count_free(&self.slots);
         if 2 * self.empty <= self.slots.len() {
-            self.grow();
+            self.grow(0);
         }
         let quarter = (self.slots.len() / 4).max(SHORTEST_PAUSE) as u64;
         self.pause = if self.empty == before { (2 * self.pause).min(8 * quarter) } else { quarter };
         self.next_count = self.tally.weight + self.pause;
     }
 
-    /// Moves the total into about twice the slots.
-    fn grow(&mut self) {
-        let mut slots = vec![Slot::EMPTY; next_length(self.slots.len())];
-        match self.proved().moved_to(&mut slots) {
-            Ok(moved) => self.tally = moved.tally,
-            Err(_) => unreachable!("these are more slots"),
+    /// Moves the fractions that are not 0 into slots for them and so many more denominators, or at least for as many again.
+    fn grow(&mut self, more: usize) {
+        let left = proved::leave_zeros(&mut self.slots);
+        let more = more.max(left);
+        let chance = if left + more < LONG { 0 } else { by_chance() };
+        let length = proved::next_length(left as u64, more as u64, chance, MOST as u64);
+        let mut slots = vec![Slot::EMPTY; length.expect("a total of more slots than a Vec takes") as usize];
+        for slot in &self.slots[..left] {
+            if proved::put_loose(&mut slots, slot.numer(), slot.denom()).is_err() {
+                unreachable!("these are more slots");
+            }
         }
-        self.empty += slots.len() - self.slots.len();
+        self.empty = slots.len() - left;
         self.slots = slots;
     }
 
     /// Adds the fraction of these numbers.
-    // A call with the numbers in memory would take a fifth longer. So would one of `put`.
+    // A call with the numbers in memory would take a fifth longer.
     #[inline(always)]
     #[track_caller]
     pub(super) fn add_numbers(&mut self, fraction: Numbers) {
-        self.put(fraction, false, |total, numer, denom| total.add(numer, denom));
-    }
-
-    /// Adds a fraction, or takes it out, as `step` does where a slot takes it.
-    #[inline(always)]
-    #[track_caller]
-    fn put(&mut self, fraction: Numbers, out: bool, step: impl Fn(&mut proved::Total<'_>, i128, u64) -> Result<(), Refusal>) {
         match fraction {
-            Numbers::Short(numer, denom) => self.put_short(numer, denom, step),
-            Numbers::Wide(fraction) => self.put_wide(fraction, out),
+            Numbers::Short(numer, denom) => self.put_short::<1>(numer, denom),
+            Numbers::Wide(fraction) => self.put_wide(fraction, false),
         }
     }
 
-    /// Takes one step of the proved total, and more slots where it needs them.
+    /// Puts a fraction into its slot, and takes more slots where there is none. The count changes by `STEP`.
     #[inline]
     #[track_caller]
-    fn put_short(&mut self, numer: i128, denom: u64, step: impl Fn(&mut proved::Total<'_>, i128, u64) -> Result<(), Refusal>) {
+    fn put_short<const STEP: i64>(&mut self, numer: i128, denom: u64) {
         if self.tally.weight >= self.next_count {
             self.count_empty();
         }
         loop {
-            let mut total = self.proved();
-            match step(&mut total, numer, denom) {
-                Ok(()) => {
-                    self.tally = total.tally;
-                    return;
-                }
+            match proved::put(&mut self.slots, &mut self.tally, numer, denom, STEP) {
+                Ok(()) => return,
                 Err(Refusal::MoreRoom) => self.count_empty(), // none is empty
                 Err(Refusal::TooMany) => refuse_more(),
             }
@@ -288,7 +267,10 @@ impl<T: Integer> Total<T> {
     #[inline]
     #[track_caller]
     pub fn subtract(&mut self, fraction: Reduced<T>) {
-        self.put(Numbers::of(fraction), true, |total, numer, denom| total.subtract(numer, denom));
+        match Numbers::of(fraction) {
+            Numbers::Short(numer, denom) => self.put_short::<-1>(-numer, denom),
+            Numbers::Wide(fraction) => self.put_wide(fraction, true),
+        }
     }
 
     /// Adds the product of two fractions, which need not fit the type. Over `i128` and `u128`, it is `None`, and nothing has changed, if
@@ -349,7 +331,7 @@ impl<T: Integer> Total<T> {
     /// ```
     #[track_caller]
     pub fn merge(&mut self, other: &Total<T>) {
-        self.pour(other, false, |total, other| total.merge(other));
+        self.pour(other, false);
     }
 
     /// Takes out each fraction of the other total, whether it was added or not. `-=` does the same. So the difference of two totals
@@ -368,27 +350,20 @@ impl<T: Integer> Total<T> {
     /// ```
     #[track_caller]
     pub fn take_out(&mut self, other: &Total<T>) {
-        self.pour(other, true, |total, other| total.take_out(other));
+        self.pour(other, true);
     }
 
-    /// Takes one step of the proved total with all slots of another one, and more slots where it needs them. What no slot takes goes in
-    /// or out beside it.
+    /// Puts all slots of another total in, or takes them out, and takes more slots where it needs them. What no slot takes goes in or out
+    /// beside them.
     #[track_caller]
-    fn pour(&mut self, other: &Total<T>, out: bool, step: impl Fn(&mut proved::Total<'_>, &proved::Total<'_>) -> Result<(), Refusal>) {
+    fn pour(&mut self, other: &Total<T>, out: bool) {
         if !self.wide.takes(other.wide.fractions()) {
             refuse_more();
         }
-        // The proved step takes another `Total`, which borrows its slots as its own.
-        let mut slots = other.slots.clone();
-        let other_total = proved::Total { slots: &mut slots, tally: other.tally };
         loop {
-            let mut total = self.proved();
-            match step(&mut total, &other_total) {
-                Ok(()) => {
-                    self.tally = total.tally;
-                    break;
-                }
-                Err(Refusal::MoreRoom) => self.grow(),
+            match proved::merge_slots(&mut self.slots, &mut self.tally, &other.slots, other.tally, out) {
+                Ok(()) => break,
+                Err(Refusal::MoreRoom) => self.grow(other.slots.len() - proved::count_free(&other.slots)),
                 Err(Refusal::TooMany) => refuse_more(),
             }
         }
@@ -795,5 +770,20 @@ mod tests {
             total.add(Reduced64::checked_new(1, 1 + n % 12).unwrap());
         }
         assert_eq!(total.slots.len(), 32);
+    }
+
+    /// Each denominator is new, and 100 are in the window. A denominator that went out again leaves its slot.
+    #[test]
+    fn a_window_that_moves_takes_few_slots() {
+        let mut total = Total::new();
+        for denom in 1..=20_000 {
+            total.add(Reduced64::checked_new(1, denom).unwrap());
+            if denom > 100 {
+                total.subtract(Reduced64::checked_new(1, denom - 100).unwrap());
+            }
+        }
+        assert!(total.slots.len() < 1000, "{}", total.slots.len());
+        let window: Total<i64> = (19_901..=20_000).map(|denom| Reduced64::checked_new(1, denom).unwrap()).sum();
+        assert!(total.compare(&window).unwrap().is_eq());
     }
 }

@@ -2,9 +2,16 @@
 //! Exact fractions of machine integers. `Ratio<T>` is a fraction whose denominator is not 0, and `Reduced<T>` one that is always in lowest
 //! terms. Most calls hand the two numbers on to a function in a crate below: `Ratio::floor` calls `floor` of `ratio_core`.
 //!
-//! `both_held(n, d);` and `let _ = d.held();` do nothing at run time. They tell the prover that d lies
-//! between the type's least and greatest number: over `i8`, from -128 to 127. A value in hand is in range,
-//! and no law can say that.
+//! A `Reduced64` is a `Reduced<i64>`. Of 1/3 and 1/2 this returns 5/12:
+//!
+//! ```rattle
+//! /// The mean of two amounts, or `None` exactly where their sum or its half does not fit in 64 bits.
+//! pub fn mean(left: &Reduced64, right: &Reduced64) -> Option<Reduced64>
+//!     ensures { ChecksMean (lowest_numbers left.now) (lowest_numbers right.now) result }
+//! {
+//!     left.checked_add(right)?.checked_div(2)
+//! }
+//! ```
 mod continued;
 mod fold;
 

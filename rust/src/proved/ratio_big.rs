@@ -1,9 +1,21 @@
 // Erased from crates/ratio_big/src/lib.rt by rust/erase: not to be edited.
-//! Fractions of any size, always in lowest terms: no sum, difference, product or quotient is out of range.
+//! `BigFraction`: fractions of any size, always in lowest terms, so that no sum, difference, product or quotient is out of range.
 //!
 //! A `BigFraction` takes no memory while its two numbers fit an `i64`. Beyond that its numbers are as long as they have to be, and a call
 //! can fail only for want of memory.
+//! So 2^63 takes some, and 2^63 - 1 takes none:
+//!
+//! ```rattle
+//! let one = BigFraction::one();
+//! let most = BigFraction::from_integer(9223372036854775807);
+//! let more = most.add(alloc, &one)?;
+//! assert!(rt; more != most);
+//! assert!(rt; most != more);
+//! let back = more.subtract(alloc, &one)?;
+//! assert!(rt; back == most);
+//! ```
 mod arithmetic;
+mod bit_bounds;
 mod cancelling;
 mod comparing;
 mod continued;
@@ -34,7 +46,6 @@ mod sums;
 mod texts;
 mod totals;
 mod wholes;
-mod within;
 
+pub use bit_bounds::WithinRefusal;
 pub use fraction::BigFraction;
-pub use within::WithinRefusal;

@@ -1,10 +1,6 @@
 // Erased from crates/ratio_core/src/lib.rt by rust/erase: not to be edited.
-//! What is computed on fractions, over the two numbers of each: order, hash, lowest terms, sums, products, remainders, powers, rounding to
-//! whole numbers, signs, and texts in every base.
-//!
-//! `both_held(n, d);` and `let _ = n.held();` do nothing at run time. They tell the prover that n lies
-//! between the type's least and greatest number: over `i8`, from -128 to 127. A value in hand is in range,
-//! and no law can say that.
+//! What is computed on fractions, given by numerator and denominator: order, hash, lowest terms, sums, products, remainders, powers,
+//! rounding to whole numbers, signs, and texts in every base.
 pub mod checked_new;
 pub mod divisors;
 mod exponent;

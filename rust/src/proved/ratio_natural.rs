@@ -4,6 +4,15 @@
 //! decimal texts.
 //!
 //! Leading zeros are allowed everywhere: they are the last digits of a slice.
+//! So 7 has three digits here, and then 7 * 10^19:
+//!
+//! ```rattle
+//! let mut a = [7, 0, 0];
+//! times_power_of_ten(&mut a, 0);
+//! assert!(rt; a == [7, 0, 0]);
+//! times_power_of_ten(&mut a, 19);
+//! assert!(rt; a == [14_659_767_778_871_345_152, 3, 0]);
+//! ```
 mod adding;
 mod common_divisor;
 mod comparing;
@@ -12,9 +21,9 @@ mod dividing;
 mod exact_division;
 mod joining;
 pub mod laws;
+mod lehmer_steps;
 mod long_division;
 mod multiplying;
-mod steps;
 mod two_digits;
 
 pub use adding::{add, add_digit, subtract, subtract_digit, subtract_times};

@@ -1,41 +1,43 @@
 // Erased from crates/ratio_totals/src/lib.rt by rust/erase: not to be edited.
-//! Totals of fractions that lose nothing: a table with one slot for each denominator, in room that the caller gives. Fractions and whole
-//! tables go in and out again; a refusal changes nothing.
+//! `Total` and `WideTotal`, which add up many fractions `Reduced` and lose nothing, and exact sums of lists, in room that the caller gives.
 //!
-//! 1/36 + 1/28 takes two slots, one for the denominator 36 and one for 28. Adding 5/36 changes one number: the first slot
-//! then says 6/36. No gcd is computed, and no addition overflows.
+//! A `Total<T>` takes fractions `Reduced<T>` over a type of at most 64 bits, and no step of it can fail to fit.
+//! `Total::sum` returns a `Reduced<T>` where the sum fits, however large the totals on the way were: over `i8`,
+//! 127/1 + 1/127 - 1/127 is 127/1.
 //!
-//! A read puts the total over its common denominator: `Total::over_common`. `Total::sum` returns it in lowest terms where
-//! these fit 64 bits, and `Total::mean` returns the mean. `Total::compare` and `Total::sign` are exact where these do not fit.
-mod bounds;
-mod changes;
-mod common;
-mod decimal;
-mod joined;
-pub mod laws;
-mod lowest;
-mod orders;
-mod reading;
-mod rooms;
-mod rounding;
-mod short_sums;
-mod slots;
-mod sums;
+//! The same holds of a list, where `of` makes fractions over `i8`:
+//!
+//! ```rattle
+//! let most = of(&rt, 127i8, 1);
+//! let tiny = of(&rt, 1i8, 127);
+//! let less = of(&rt, -1i8, 127);
+//! assert_eq!(rt;
+//!     checked_sum(rt.alloc(), &[most, tiny, less]),
+//!     Ok(Some(most))
+//! );
+//! assert_eq!(rt; checked_sum(rt.alloc(), &[most, tiny]), Ok(None));
+//! ```
+//!
+//! A `WideTotal<T>` takes fractions over any primitive type, also `i128` and `u128`. It is one sum over the common denominator, which has
+//! as many digits as the caller gives.
+
+mod list_sums;
+mod numbers;
+mod short;
+mod splitting;
 mod texts;
 mod total;
+mod total_changes;
 mod total_reads;
+mod wide_changes;
 mod wide_reads;
+mod wide_total;
 
-pub use changes::{LooseRefusal, put_loose};
-pub use decimal::{decimal_bytes_of, decimal_digits_of, put_bounded_of, put_decimal_of};
-pub use joined::{JoinRefusal, Joined, NoSum};
-pub use lowest::{mean_of, sum_of};
-pub use orders::{OrderRefusal, digits_of_order, order_of, sign_of};
-pub use reading::{MOST_DIGITS, OverCommon, ReadRefusal, digits_of_read};
-pub use rooms::AddRefusal;
-pub use rounding::{digits_of_multiple, float_of, integer_of, multiple_of};
-pub use short_sums::{add_short, short_pair};
-pub use slots::{Slot, count_free, find};
-pub use total::{MOST_WEIGHT, Refusal, Tally, Total};
-pub use total_reads::CompareRefusal;
-pub use wide_reads::WideFraction;
+pub use list_sums::{SumRefusal, checked_sum_in, checked_wide_sum_in};
+pub use crate::proved::ratio_slots::{CompareRefusal, Joined, MOST_DIGITS, ReadRefusal, Refusal, Slot};
+pub use short::Short;
+pub use splitting::{RoomSplitRefusal, split_in};
+pub use total::Total;
+pub use total_changes::{DotRefusal, ProductRefusal, dot, total_of};
+pub use wide_changes::{WideProductRefusal, WideRefusal, wide_total_of};
+pub use wide_total::{ShortRoom, WideTotal};

@@ -1,6 +1,6 @@
 //! The line calculator as one would write it in plain Rust with num-rational. It reads lines from standard
 //! input and writes answers to standard output, both buffered. Its rules are those of
-//! `docs/CALCULATOR.md`.
+//! `docs/CALC.md`.
 
 use num_integer::Integer;
 use num_rational::Ratio;

@@ -1,4 +1,5 @@
-//! The traits of std and of `num_traits` for `Ratio`, except operators and folds.
+//! The impls of std's traits for `Ratio` (`Clone`, `From`, order, `Hash`, `Neg`, `FromStr`, `Display` and other formats), and of `Inv` of
+//! `num_traits`.
 //!
 //! `printing.rt` says when the clauses of `Display`, and of the other traits that print, hold.
 ghost use Rattle.std.specs.Prelude.{⊤, ◌≡◌, ◌↔◌, [], ◌∷◌, ◌++◌, false, fold, neg_ℤ, pos, refl, IsTrue, List, Some, ℤ};

@@ -1,12 +1,12 @@
-//! The calls of `Reduced` for texts, decimals and floats.
+//! The methods of `Reduced` for texts, decimals and floats.
 ghost use Rattle.std.specs.Prelude.{◌≡◌, ◌≢◌, ◌⊎◌, ◌≤◌, ◌<◌, ◌≤ℤ◌, false, length, pos, Err};
 ghost use Rattle.std.specs.Float.{binary32, binary64};
 ghost use Rattle.ratio_core.specs.Printing.{ReadsBack, base_of, base_ten_room, text_of};
 ghost use Rattle.ratio_core.specs.Reading.{AnswersText, IsFractionText, IsSlashedText};
 ghost use Rattle.ratio_core.specs.declared.parse_error.RatioErrorKind.TheVariants.{ParseError};
 ghost use Rattle.ratio_core.specs.declared.text.Form.TheVariants.{Decimal};
-ghost use Rattle.ratio_float.specs.Floats.{fraction_of_float, nearest_float};
-ghost use Rattle.ratio_float.specs.Rationalize.{ChecksRationalized};
+ghost use Rattle.ratio_decimal.specs.Floats.{fraction_of_float, nearest_float};
+ghost use Rattle.ratio_decimal.specs.Rationalize.{ChecksRationalized};
 ghost use Rattle.ratio_decimal.specs.Decimal.{ChecksExactDecimal, IsDecimalOf};
 ghost use Rattle.ratio_decimal.specs.DecimalReading.{AnswersDecimal};
 ghost use Rattle.ratio_decimal.specs.TypedText.{AnswersTyped};
@@ -17,9 +17,9 @@ ghost use Rattle.num_rational.specs.Reduced.{ReadsReduced, ratio_in, ratio_of};
 use super::Reduced;
 use crate::ratio::Ratio;
 use ratio_core::{BaseTenText, DecimalText, Form, ParseRatioError, RatioErrorKind, RatioText};
+use ratio_decimal::float::{exact, rationalize};
 use ratio_decimal::rounding_rule::Rounding;
 use ratio_decimal::{DecimalRefusal, TextRefusal};
-use ratio_float::{exact, rationalize};
 use ratio_integer::{Integer, Primitive};
 
 impl<T: Primitive> Reduced<T> {

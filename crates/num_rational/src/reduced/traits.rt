@@ -1,4 +1,4 @@
-//! The traits of std for `Reduced`.
+//! The impls of std's traits for `Reduced`: `Clone`, `From`, order, `Hash`, `FromStr`, `Display` and other formats.
 //!
 //! `printing.rt` says when the clauses of `Display`, and of the other traits that print, hold.
 ghost use Rattle.std.specs.Prelude.{⊤, ◌≡◌, ◌↔◌, false, pos, refl, IsTrue, Some};

@@ -1,125 +1,33 @@
-//! Sums and differences of fractions in lowest terms: `Some` exactly if the lowest terms fit; among them the
-//! sum over the product of the denominators, reduced by short gcds.
+//! Sums and differences of fractions in lowest terms: `Some` exactly if the lowest terms fit.
 //!
-//! Types of exact sums form the sum over the product of the denominators, and reduce it by short gcds, by Henrici's method (1956). Let `g` be
-//! the greatest common divisor of the denominators. If it is 1, the sum over their product is in lowest terms: 5/6 for 1/2 + 1/3. Else both
-//! numbers are divided by `g`. What they still have in common divides `g`, too. For 1/6 + 3/10 they are 28 and 60, and `g` is 2. So 14 and 30
-//! are left, then 7 and 15. If a number does not fit there, these types form the sum in `i128`.
-//!
-//! Other types form it over the least common denominator: for 1/6 + 3/10 at once 14 and 30, from `g`. The product 60 is never formed. If a
-//! number does not fit there, as 252 for 1/36 + 1/28 over `i8`, they add whole numbers and parts of 1 separately.
-ghost use Rattle.std.specs.Prelude.{◌≡◌, ◌<ℤ◌, pos, int_div};
+//! The sum is formed over the least common denominator, and reduced by a short gcd, by Henrici's method (1956). Let `g` be the greatest common
+//! divisor of the denominators. What the sum and the least common denominator have in common divides `g`. If `g` is 1, the sum is in lowest
+//! terms: 5/6 for 1/2 + 1/3. For 1/6 + 3/10 they are 14 and 30, and `g` is 2. So 7 and 15 are the lowest terms. If a number does not fit
+//! there, as 252 for 1/36 + 1/28 over `i8`, whole numbers and parts of 1 are added separately.
+ghost use Rattle.std.specs.Prelude.{◌≡◌, ◌<ℤ◌, ◌-ℤ◌, ◌*ℤ◌, IfSome, pos, unsigned_abs, int_div};
 ghost use Rattle.ratio_integer.specs.Arithmetic.{difference_of, sum_of};
 ghost use Rattle.ratio_integer.specs.Division.{IsGcdOf, IsMultiple};
-ghost use Rattle.ratio_integer.specs.Fraction.{ChecksLowest, IsHeldLowest, IsLowestTerms};
-ghost use Rattle.ratio_core.specs.Joined.{IsCutBy, IsOverProduct};
+ghost use Rattle.ratio_integer.specs.Fraction.{ChecksLowest, IsLowestTerms};
+ghost use Rattle.ratio_integer.specs.Range.{IsHeld};
+ghost use Rattle.ratio_core.specs.Joined.{IsCutBy};
 
-use crate::sums;
+use crate::magnitudes::has_short_numbers;
 use crate::sums::mixed::{mixed_difference, mixed_sum};
 use ratio_integer::{Integer, both_held, lowest_terms};
 
 /// The lowest terms of `a/b + c/d`, or `None` if they do not fit. It requires both fractions in lowest
 /// terms. Over `i8`, 1/36 + 1/28 is 4/63.
-#[inline(always)]
 pub fn checked_add<T: Integer>(a: T, b: T, c: T, d: T) -> Option<(T, T)>
     requires left { IsLowestTerms (T.value a) (T.value b) }
     requires right { IsLowestTerms (T.value c) (T.value d) }
     ensures { ChecksLowest (λ r. T.value r.0) (λ r. T.value r.1) T.lo T.hi
         (sum_of (T.value a) (T.value b) (T.value c) (T.value d)) result }
 {
-    if T::EXACT_SUMS
-        && b != d
-        && let Some(left) = a.try_times(d)
-        && let Some(right) = c.try_times(b)
-        && let Some(sum) = left.try_plus(right)
-        && let Some(product) = b.try_times(d)
+    if b == d
+        && let Some(sum) = a.try_plus(c)
     {
-        return Some(reduced(sum, product, b, d));
+        return Some(lowest_terms(sum, b));
     }
-    if T::EXACT_SUMS || b == d {
-        if let Some(sum) = sums::checked_add(a, b, c, d) {
-            return Some(sum);
-        }
-        if T::EXACT_SUMS {
-            return None;
-        }
-    }
-    long_sum(a, b, c, d)
-}
-
-/// The lowest terms of `a/b - c/d`, or `None` if they do not fit. It requires both fractions in lowest
-/// terms. Over `u8`, 255/2 - 253/2 is 1/1.
-#[inline(always)]
-pub fn checked_sub<T: Integer>(a: T, b: T, c: T, d: T) -> Option<(T, T)>
-    requires left { IsLowestTerms (T.value a) (T.value b) }
-    requires right { IsLowestTerms (T.value c) (T.value d) }
-    ensures { ChecksLowest (λ r. T.value r.0) (λ r. T.value r.1) T.lo T.hi
-        (difference_of (T.value a) (T.value b) (T.value c) (T.value d)) result }
-{
-    if T::EXACT_SUMS
-        && b != d
-        && let Some(minuend) = a.try_times(d)
-        && let Some(subtrahend) = c.try_times(b)
-        && let Some(difference) = minuend.try_minus(subtrahend)
-        && let Some(product) = b.try_times(d)
-    {
-        return Some(reduced(difference, product, b, d));
-    }
-    if T::EXACT_SUMS || b == d {
-        if let Some(difference) = sums::checked_sub(a, b, c, d) {
-            return Some(difference);
-        }
-        if T::EXACT_SUMS {
-            return None;
-        }
-    }
-    long_difference(a, b, c, d)
-}
-
-// The lowest terms of `n/m`, a sum over the product of the denominators `b` and `d`. Neighbours, as 22/7 and 3/1, differ by 1 over this
-// product, and the gcd of a power of two and another number takes no steps.
-fn reduced<T: Integer>(n: T, m: T, b: T, d: T) -> (T, T)
-    requires { IsOverProduct (T.value n) (T.value m) (T.value b) (T.value d) }
-    ensures { IsHeldLowest T.lo T.hi (T.value n) (T.value m) (T.value result.0) (T.value result.1) }
-{
-    if is_power_of_two(n) {
-        return lowest_terms(n, m);
-    }
-    let g = b.gcd(d);
-    if g.is_one() {
-        both_held(n, m);
-        return (n, m);
-    }
-    let (numer, _) = n.div_rem(g);
-    let (denom, _) = m.div_rem(g);
-    let left = numer.gcd(g);
-    if left.is_one() {
-        both_held(numer, denom);
-        return (numer, denom);
-    }
-    let (numer, _) = numer.div_rem(left);
-    let (denom, _) = denom.div_rem(left);
-    both_held(numer, denom);
-    (numer, denom)
-}
-
-// Whether the number is 1, -1, or another power of two or its negative.
-#[inline(always)]
-fn is_power_of_two<T: Integer>(n: T) -> bool {
-    match n.to_i128() {
-        Some(number) => number.unsigned_abs().is_power_of_two(),
-        None => false,
-    }
-}
-
-// The sum over the least common denominator, or as a mixed number if a number does not fit there. It is a call of its own, since its code
-// is long, and types of exact sums do not need it.
-fn long_sum<T: Integer>(a: T, b: T, c: T, d: T) -> Option<(T, T)>
-    requires left { IsLowestTerms (T.value a) (T.value b) }
-    requires right { IsLowestTerms (T.value c) (T.value d) }
-    ensures { ChecksLowest (λ r. T.value r.0) (λ r. T.value r.1) T.lo T.hi
-        (sum_of (T.value a) (T.value b) (T.value c) (T.value d)) result }
-{
     let g = gcd_with(b, d);
     let for_right = divided(b, g);
     let for_left = divided(d, g);
@@ -128,18 +36,29 @@ fn long_sum<T: Integer>(a: T, b: T, c: T, d: T) -> Option<(T, T)>
         && let Some(sum) = left.try_plus(right)
         && let Some(common) = b.try_times(for_left)
     {
-        return Some(cut_by(sum, common, g));
+        return Some(divided_by(sum, common, g));
     }
     mixed_sum(a, b, c, d, g)
 }
 
-// The difference over the least common denominator, or as a mixed number, as `long_sum` forms the sum.
-fn long_difference<T: Integer>(a: T, b: T, c: T, d: T) -> Option<(T, T)>
+/// The lowest terms of `a/b - c/d`, or `None` if they do not fit. It requires both fractions in lowest
+/// terms. Over `u8`, 255/2 - 253/2 is 1/1.
+///
+/// Neighbours, as 22/7 and 19/6, differ by 1 over the product of their denominators. For types of at most 64 bits, this costs no gcd.
+pub fn checked_sub<T: Integer>(a: T, b: T, c: T, d: T) -> Option<(T, T)>
     requires left { IsLowestTerms (T.value a) (T.value b) }
     requires right { IsLowestTerms (T.value c) (T.value d) }
     ensures { ChecksLowest (λ r. T.value r.0) (λ r. T.value r.1) T.lo T.hi
         (difference_of (T.value a) (T.value b) (T.value c) (T.value d)) result }
 {
+    if b == d
+        && let Some(difference) = a.try_minus(c)
+    {
+        return Some(lowest_terms(difference, b));
+    }
+    if let Some(numer) = one_apart(a, b, c, d) {
+        return Some((numer, b.try_times(d)?));
+    }
     let g = gcd_with(b, d);
     let for_right = divided(b, g);
     let for_left = divided(d, g);
@@ -148,9 +67,29 @@ fn long_difference<T: Integer>(a: T, b: T, c: T, d: T) -> Option<(T, T)>
         && let Some(difference) = minuend.try_minus(subtrahend)
         && let Some(common) = b.try_times(for_left)
     {
-        return Some(cut_by(difference, common, g));
+        return Some(divided_by(difference, common, g));
     }
     mixed_difference(a, b, c, d, g)
+}
+
+// 1 or -1, if it is `a * d - c * b`. Types of more than 64 bits do not look for it, since the products would cost too much there.
+#[inline(always)]
+fn one_apart<T: Integer>(a: T, b: T, c: T, d: T) -> Option<T>
+    ensures one { IfSome result (λ t. unsigned_abs (T.value t) ≡ 1) }
+    ensures held { IfSome result (λ t. IsHeld T.lo T.hi (T.value t)) }
+    ensures difference { IfSome result (λ t. T.value t ≡ T.value a *ℤ T.value d -ℤ T.value c *ℤ T.value b) }
+{
+    if !has_short_numbers::<T>() {
+        return None;
+    }
+    let left = a.to_i128()?.try_times(d.to_i128()?)?;
+    let right = c.to_i128()?.try_times(b.to_i128()?)?;
+    let difference = left.try_minus(right)?;
+    if difference.unsigned_abs() != 1 {
+        return None;
+    }
+    let numer = T::from_i128(difference)?;
+    Some(numer)
 }
 
 // The gcd of `n` and `d`. If `d` is 1, as the denominator of a whole number is, nothing is computed.
@@ -179,7 +118,7 @@ fn divided<T: Integer>(denom: T, g: T) -> T
 }
 
 // A number and a multiple of `g`, both divided by the gcd of the number and `g`.
-fn cut_by<T: Integer>(n: T, m: T, g: T) -> (T, T)
+fn divided_by<T: Integer>(n: T, m: T, g: T) -> (T, T)
     requires positive { pos 0 <ℤ T.value g }
     requires multiple { IsMultiple (T.value m) (T.value g) }
     ensures { IsCutBy T.lo T.hi (T.value n) (T.value m) (T.value g) (T.value result.0) (T.value result.1) }

@@ -1,21 +1,24 @@
 //! How long the number or the name is that a text begins with.
 ghost use Rattle.std.specs.Prelude.{◌≡◌, ◌≤◌, length};
 ghost use Rattle.std.specs.List.{take_while};
-ghost use Rattle.ratio_expressions.specs.Tokens.{digits, led, mixed_tail, exponent_sign, signed_digits, exponent, decimal, part, percent, vulgar_tail, broken_part, tail, begins_number, number, name, is_name_byte, starts_name};
+ghost use Rattle.ratio_expressions.specs.Tokens.{digits, led, exponent_sign, signed_digits, exponent, decimal, vulgar_tail, tail, number, name, is_name_byte};
 
 use crate::vulgar::vulgar_length;
 
 /// How long the number is that a text begins with, or 0.
-#[tactic(auto, unfolding(crate::specs::Tokens::number))]
+#[tactic(auto, unfolding(crate::specs::Tokens::number, crate::specs::Tokens::percent))]
 pub(crate) fn number_length(text: &[u8]) -> usize
     ensures is { result ≡ number text.now }
     ensures fits { result ≤ length text.now }
 {
     let whole = digits_length(text);
-    if whole > 0 || led_length(b'.', text) > 0 || vulgar_length(text) > 0 {
-        whole + tail_length(&text[whole..])
-    } else {
-        0
+    if whole == 0 && led_length(b'.', text) == 0 && vulgar_length(text) == 0 {
+        return 0;
+    }
+    let end = whole + tail_length(&text[whole..]);
+    match &text[end..] {
+        [b'%', ..] => end + 1,
+        _ => end,
     }
 }
 
@@ -26,7 +29,7 @@ pub(crate) fn name_length(text: &[u8]) -> usize
     ensures fits { result ≤ length text.now }
 {
     match text {
-        [first, ..] if is_name_start(*first) => name_bytes(text),
+        [first, ..] if first.is_ascii_alphabetic() || *first == b'_' => name_bytes(text),
         _ => 0,
     }
 }
@@ -39,13 +42,6 @@ fn name_bytes(text: &[u8]) -> usize
     text.iter()
         .take_while(|byte| byte.is_ascii_alphanumeric() || **byte == b'_')
         .count()
-}
-
-// Whether a name may begin with the byte.
-fn is_name_start(byte: u8) -> bool
-    ensures { result ≡ starts_name byte }
-{
-    byte.is_ascii_alphabetic() || byte == b'_'
 }
 
 // How many digits a text begins with.
@@ -69,21 +65,6 @@ fn led_length(byte: u8, text: &[u8]) -> usize
             if digits > 0 { digits + 1 } else { 0 }
         }
         _ => 0,
-    }
-}
-
-// How long the second part of a mixed number is.
-#[tactic(auto, unfolding(crate::specs::Tokens::mixed_tail))]
-fn mixed_length(text: &[u8]) -> usize
-    ensures is { result ≡ mixed_tail text.now }
-    ensures fits { result ≤ length text.now }
-{
-    let numer = led_length(b' ', text);
-    let denom = led_length(b'/', &text[numer..]);
-    if numer > 0 && denom > 0 {
-        numer + denom
-    } else {
-        0
     }
 }
 
@@ -135,32 +116,6 @@ fn decimal_length(text: &[u8]) -> usize
     point + exponent_length(&text[point..])
 }
 
-// How long what makes a whole number a fraction or a decimal is.
-#[tactic(auto, unfolding(crate::specs::Tokens::part))]
-fn part_length(text: &[u8]) -> usize
-    ensures is { result ≡ part text.now }
-    ensures fits { result ≤ length text.now }
-{
-    let denom = led_length(b'/', text);
-    if denom > 0 {
-        denom
-    } else {
-        decimal_length(text)
-    }
-}
-
-// How long a percent sign is.
-#[tactic(auto, unfolding(crate::specs::Tokens::percent))]
-fn percent_length(text: &[u8]) -> usize
-    ensures is { result ≡ percent text.now }
-    ensures fits { result ≤ length text.now }
-{
-    match text {
-        [b'%', ..] => 1,
-        _ => 0,
-    }
-}
-
 // How long a vulgar fraction is, or a space and a vulgar fraction, or 0.
 #[tactic(auto, unfolding(crate::specs::Tokens::vulgar_tail))]
 fn vulgar_tail_length(text: &[u8]) -> usize
@@ -176,30 +131,21 @@ fn vulgar_tail_length(text: &[u8]) -> usize
     }
 }
 
-// How long what makes a whole number a mixed number, a fraction or a decimal is.
-#[tactic(auto, unfolding(crate::specs::Tokens::broken_part))]
-fn broken_length(text: &[u8]) -> usize
-    ensures is { result ≡ broken_part text.now }
-    ensures fits { result ≤ length text.now }
-{
-    let mixed = mixed_length(text);
-    if mixed > 0 {
-        return mixed;
-    }
-    let vulgar = vulgar_tail_length(text);
-    if vulgar > 0 {
-        vulgar
-    } else {
-        part_length(text)
-    }
-}
-
-// How long what follows the digits of a number is.
+// How long what makes a whole number a fraction, a mixed number or a decimal is.
 #[tactic(auto, unfolding(crate::specs::Tokens::tail))]
 fn tail_length(text: &[u8]) -> usize
     ensures is { result ≡ tail text.now }
     ensures fits { result ≤ length text.now }
 {
-    let part = broken_length(text);
-    part + percent_length(&text[part..])
+    let numer = led_length(b' ', text);
+    let denom = led_length(b'/', &text[numer..]);
+    if denom > 0 {
+        return numer + denom;
+    }
+    let vulgar = vulgar_tail_length(text);
+    if vulgar > 0 {
+        vulgar
+    } else {
+        decimal_length(text)
+    }
 }

@@ -1,7 +1,7 @@
 //! The float nearest to a number, as a decimal: `0.5833333333333334` for 7/12.
 ghost use Rattle.std.specs.Prelude.{◌≡◌, ◌↔◌, ◌^◌, pos, IfOk, IsTrue};
 ghost use Rattle.std.specs.Float.{NotNan, binary64};
-ghost use Rattle.ratio_float.specs.Floats.{fraction_of_float, nearest_float};
+ghost use Rattle.ratio_decimal.specs.Floats.{fraction_of_float, nearest_float};
 ghost use Rattle.ratio_big.specs.Fractions.{big_numbers};
 ghost use Rattle.ratio_big.specs.Values.{HasTerms};
 ghost use Rattle.ratio_expressions.specs.Floats.{IsFewestPlaces, IsFloatText, FloatReadsBack};

@@ -4,7 +4,7 @@ ghost use Rattle.ratio_expressions.specs.Bound.{named};
 ghost use Rattle.ratio_expressions.specs.Lines.{AreOldOrNew};
 ghost use Rattle.ratio_expressions.specs.Replies.{IsReply, is_blank};
 
-use crate::line::answer;
+use crate::line::value_of_line;
 use crate::names::Names;
 use crate::refusal::ValueError;
 use crate::replies::form::Form;
@@ -24,7 +24,7 @@ pub enum Reply {
 }
 
 /// The reply to a line without its line end, with its number in a form. `x = 17/12` in `Mixed` is answered `1 5/12`, and gives the value the
-/// name `x`, as `line::answer` does. An error means that an allocation failed. Then each name has the value that it had, or the
+/// name `x`, as `line::value_of_line` does. An error means that an allocation failed. Then each name has the value that it had, or the
 /// new one.
 pub fn reply_to(
     alloc: Global,
@@ -41,7 +41,7 @@ pub fn reply_to(
     if is_blank(line) {
         return Ok(Reply::Nothing);
     }
-    match answer(alloc, line, names) {
+    match value_of_line(alloc, line, names) {
         Ok(value) => {
             let text = answer_text(alloc, line, &value, form)?;
             Ok(Reply::Answer(text))

@@ -1,11 +1,11 @@
 //! The text of a value in a form.
 ghost use Rattle.std.specs.Prelude.{◌≡◌, IfOk};
 ghost use Rattle.ratio_decimal.specs.declared.rounding_rule.Rounding.TheVariants.{HalfAway};
-ghost use Rattle.ratio_long.specs.Decimals.{IsLongDecimalOf};
+ghost use Rattle.ratio_decimal.specs.Decimal.{IsDecimalOf};
 ghost use Rattle.ratio_big.specs.Fractions.{big_numbers};
 ghost use Rattle.ratio_big.specs.Texts.{fraction_text};
 ghost use Rattle.ratio_expressions.specs.Worths.{worth};
-ghost use Rattle.ratio_expressions.specs.Forms.{IsNumberInForm, IsValueInForm};
+ghost use Rattle.ratio_expressions.specs.Forms.{IsValueInForm};
 
 use crate::replies::both::both_text;
 use crate::replies::fields::fields_text;
@@ -21,17 +21,11 @@ use std::alloc::{AllocError, Global};
 pub fn value_text(alloc: Global, value: &Value, form: Form) -> Result<Vec<u8>, AllocError>
     ensures { IfOk result (λ text. IsValueInForm (worth value.now) form text.items) }
 {
-    match value {
-        Value::Number(x) => number_text(alloc, x, form),
-        Value::Truth(true) => Vec::from_slice(alloc, b"true"),
-        Value::Truth(false) => Vec::from_slice(alloc, b"false"),
-    }
-}
-
-// The text of a number in a form.
-fn number_text(alloc: Global, x: &BigFraction, form: Form) -> Result<Vec<u8>, AllocError>
-    ensures { IfOk result (λ text. IsNumberInForm (big_numbers x.now) form text.items) }
-{
+    let x = match value {
+        Value::Number(x) => x,
+        Value::Truth(true) => return Vec::from_slice(alloc, b"true"),
+        Value::Truth(false) => return Vec::from_slice(alloc, b"false"),
+    };
     match form {
         Form::Fraction => fraction_text(alloc, x),
         Form::Decimal(places) => decimal_text(alloc, x, places),
@@ -55,7 +49,7 @@ pub(crate) fn decimal_text(
     x: &BigFraction,
     places: u32,
 ) -> Result<Vec<u8>, AllocError>
-    ensures { let a = big_numbers x.now in IfOk result (λ text. IsLongDecimalOf HalfAway places a.0 a.1 text.items) }
+    ensures { let a = big_numbers x.now in IfOk result (λ text. IsDecimalOf HalfAway places a.0 a.1 text.items) }
 {
     Ok(x.decimal(alloc, places, Rounding::HalfAway)?.into_bytes())
 }

@@ -1,5 +1,5 @@
-//! The laws of a field: sums and products in any order and grouping, 0 and 1, negatives and reciprocals. No result is too large, so that
-//! they hold of all fractions.
+//! The laws of a field, for `BigFraction`: sums and products in any order and grouping, 0 and 1, negatives and reciprocals. No result is
+//! too large, so that they hold of all fractions.
 ghost use Rattle.std.specs.Prelude.{pos};
 ghost use Rattle.ratio_core.specs.Laws.{IsProduct, IsSum};
 ghost use Rattle.ratio_big.specs.Fractions.{big_numbers};

@@ -1,4 +1,5 @@
-//! The laws of the order, of `==` and of hashes. Sums and products with a positive fraction keep the order, and negatives turn it.
+//! The laws of the order of `BigFraction`, of `==` and of hashes. Sums and products with a positive fraction keep the order, and negatives
+//! turn it.
 ghost use Rattle.std.specs.Prelude.{◌≡◌, ◌↔◌, ◌<ℤ◌, pos, IsTrue};
 ghost use Rattle.std.specs.declared.cmp.Ordering.TheVariants.{Equal};
 ghost use Rattle.ratio_core.specs.Laws.{IsProduct, IsSum};

@@ -1,4 +1,4 @@
-//! The laws of powers, for all whole numbers as exponents.
+//! The laws of powers of `BigFraction`, for all whole numbers as exponents.
 ghost use Rattle.ratio_core.specs.Laws.{IsProduct};
 ghost use Rattle.ratio_big.specs.Fractions.{big_numbers};
 ghost use Rattle.ratio_laws.specs.BigPowerLaws.{HasSmallPowers, IsRefusedByNoPower, SplitsExponentProduct, SplitsExponentSum, SplitsPower, TurnsPower};

@@ -1,4 +1,4 @@
-//! The laws of negatives and absolute values.
+//! The laws of negatives and absolute values of `BigFraction`.
 ghost use Rattle.std.specs.Prelude.{◌≡◌};
 ghost use Rattle.ratio_core.specs.Laws.{IsProduct};
 ghost use Rattle.ratio_big.specs.Fractions.{big_numbers};

@@ -1,4 +1,4 @@
-//! The law that the text of a fraction reads back as it.
+//! The law that the text of a `BigFraction` reads back as it.
 ghost use Rattle.ratio_big.specs.Fractions.{big_numbers};
 ghost use Rattle.ratio_big.specs.Texts.{fraction_text};
 ghost use Rattle.ratio_laws.specs.BigTextLaws.{ReadsOnlyAs};

@@ -1,4 +1,4 @@
-//! An amount split by shares into multiples of a unit, such as cents, so that no cent is lost.
+//! An amount split by shares into multiples of a unit, such as cents, so that no cent is lost, and an amount rounded to cents.
 //!
 //! The amount is counted in units, as a number of 128 bits, and this count is split. So no product has to fit in 64 bits.
 ghost use Rattle.std.specs.Prelude.{◌≡◌, ◌↔◌, ◌<ℤ◌, length, pos, IfErr, IsTrue, MatchResult, OnErr, OnOk};

@@ -1,12 +1,12 @@
-//! Calls that make a fraction of texts, numbers, digits, floats and totals, and one that writes it behind a text.
+//! Calls that make a fraction of texts, numbers, digits, floats and slots, and one that writes it behind a text.
 use crate::big::lists::{digits, pairs};
 use crate::big::written::{fraction, shown, shown_if_any};
 use num_rational::Reduced;
 use ratio_big::BigFraction;
 use ratio_integer::Primitive;
-use ratio_totals::{Slot, Total};
+use ratio_slots::Slot;
 use rows::answer::Answer;
-use rows::words;
+use rows::notation;
 use std::alloc::{AllocError, Global};
 
 /// The fraction of a text.
@@ -33,7 +33,6 @@ pub fn of_words(alloc: Global, source: &str, words: &str) -> Result<Answer<i64>,
         "wide" => of_wide(alloc, words),
         "digits" => of_digits(alloc, words),
         "slots" => of_slots(alloc, words),
-        "total" => of_total(alloc, words),
         "f64" => of_f64(alloc, words),
         "f32" => of_f32(alloc, words),
         "text_within" => of_text_within(alloc, true, words),
@@ -63,7 +62,7 @@ fn bits_and_text(words: &str) -> Option<(u64, &str)> {
     let Ok(bits) = bits.parse::<u64>() else {
         return None;
     };
-    let text = words::text(rest)?;
+    let text = notation::text(rest)?;
     Some((bits, text))
 }
 
@@ -85,7 +84,7 @@ fn of_reduced(alloc: Global, word: &str) -> Result<Answer<i64>, AllocError> {
 
 // The lowest terms of a word's two numbers.
 fn lowest<T: Primitive>(word: &str) -> Option<Reduced<T>> {
-    let (numer, denom) = words::fraction(word)?;
+    let (numer, denom) = notation::fraction(word)?;
     Reduced::checked_new(numer, denom)
 }
 
@@ -135,21 +134,6 @@ fn of_slots(alloc: Global, word: &str) -> Result<Answer<i64>, AllocError> {
     shown(alloc, &BigFraction::from_slots(alloc, &slots)?)
 }
 
-// The sum of a total of five slots that got these fractions.
-fn of_total(alloc: Global, word: &str) -> Result<Answer<i64>, AllocError> {
-    let Some(pairs) = pairs(alloc, word)? else {
-        return Ok(Answer::BadRow);
-    };
-    let mut slots = [Slot::EMPTY; 5];
-    let mut total = Total::new(&mut slots);
-    for (numer, denom) in pairs.iter() {
-        if *denom == 0 || numer.unsigned_abs() >= 1 << 64 || total.add(*numer, *denom).is_err() {
-            return Ok(Answer::BadRow);
-        }
-    }
-    shown(alloc, &BigFraction::from_total(alloc, &total)?)
-}
-
 fn of_f64(alloc: Global, word: &str) -> Result<Answer<i64>, AllocError> {
     let float = match word {
         "inf" => f64::INFINITY,
@@ -179,7 +163,7 @@ fn of_f32(alloc: Global, word: &str) -> Result<Answer<i64>, AllocError> {
 
 /// The text in quotes with the fraction behind it.
 pub fn longer_text(alloc: Global, x: &BigFraction, words: &str) -> Result<Answer<i64>, AllocError> {
-    let Some(text) = words::text(words) else {
+    let Some(text) = notation::text(words) else {
         return Ok(Answer::BadRow);
     };
     let mut text = String::from_str(alloc, text)?;

@@ -2,7 +2,7 @@
 use num_rational::Reduced64;
 use ratio_big::BigFraction;
 use rows::answer::Answer;
-use rows::words;
+use rows::notation;
 use std::alloc::{AllocError, Global};
 
 /// The fraction that a word writes. Each call that can make it must make the same one.
@@ -23,7 +23,7 @@ pub fn fraction(alloc: Global, word: &str) -> Result<Option<BigFraction>, AllocE
 
 // Whether the fraction is the one of the word's two numbers, if they fit an `i64`, and of its own digits if not.
 fn made_alike(alloc: Global, word: &str, x: &BigFraction) -> Result<bool, AllocError> {
-    match words::fraction::<i64>(word) {
+    match notation::fraction::<i64>(word) {
         Some((numer, denom)) => match Reduced64::checked_new(numer, denom) {
             Some(short) => {
                 let made = BigFraction::from_reduced(short);

@@ -3,7 +3,7 @@ use crate::ratios::raw;
 use num_rational::{Ratio, Reduced};
 use ratio_integer::Integer;
 use rows::answer::{Answer, of_pair};
-use rows::words::fraction;
+use rows::notation::fraction;
 
 /// Makes the calls.
 pub fn answer<T: Integer>(words: &str) -> Option<Answer<T>> {

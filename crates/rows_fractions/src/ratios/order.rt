@@ -3,7 +3,7 @@ use crate::ratios::raw;
 use num_rational::{Ratio, Reduced, Steps};
 use ratio_integer::Integer;
 use rows::answer::Answer;
-use rows::words::two_fractions;
+use rows::notation::two_fractions;
 use std::cmp::Ordering;
 
 /// Makes the calls.

@@ -3,7 +3,7 @@ use crate::ratios::raw;
 use num_rational::{Form, ParseRatioError, Ratio, RatioErrorKind, Reduced};
 use ratio_integer::{Integer, Primitive};
 use rows::answer::{Answer, of_fields, of_text};
-use rows::words::{fraction, number, text};
+use rows::notation::{fraction, number, text};
 use std::alloc::{AllocError, Global};
 
 type Fields<T> = Result<(T, T), ParseRatioError>;

@@ -3,7 +3,7 @@ use super::{lowest, two_lowest};
 use num_rational::{Reduced, Rounding};
 use ratio_integer::Primitive;
 use rows::answer::{Answer, of_number, of_reduced, of_text};
-use rows::words::{number, rule};
+use rows::notation::{number, rule};
 use std::alloc::Global;
 use std::fmt::Display;
 

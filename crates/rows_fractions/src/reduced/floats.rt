@@ -3,7 +3,7 @@ use super::lowest;
 use num_rational::Ratio;
 use ratio_integer::Primitive;
 use rows::answer::{Answer, of_f32, of_f64};
-use rows::words::fraction;
+use rows::notation::fraction;
 use std::alloc::Global;
 
 /// The answer, or `None` if no call here has this name, or the word is no such fraction.

@@ -1,11 +1,11 @@
 //! Calls on a list, and lists as a row writes them: `[1,-2]`, `[1/2,1/3]`, `[]`.
 use super::lowest;
 use num_rational::Reduced;
-use ratio_approximation::continued::from_quotients;
+use ratio_approximation::from_quotients::from_quotients;
 use ratio_core::products::many_products::checked_quotient_of_products;
 use ratio_integer::Integer;
 use rows::answer::{Answer, of_pair, of_reduced};
-use rows::words::number;
+use rows::notation::number;
 use std::alloc::Global;
 use std::fmt;
 use std::fmt::Display;

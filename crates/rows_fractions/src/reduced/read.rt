@@ -2,7 +2,7 @@
 use num_rational::Reduced;
 use ratio_integer::Primitive;
 use rows::answer::{Answer, of_reduced, of_text};
-use rows::words::text;
+use rows::notation::text;
 use std::alloc::Global;
 use std::fmt::Display;
 

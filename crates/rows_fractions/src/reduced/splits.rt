@@ -3,7 +3,7 @@ use super::lists::{List, fractions, numbers};
 use num_rational::{split, split_by_weights};
 use ratio_integer::Integer;
 use rows::answer::{Answer, of_text};
-use rows::words::number;
+use rows::notation::number;
 use std::alloc::Global;
 use std::fmt::Display;
 

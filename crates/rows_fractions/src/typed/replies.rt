@@ -3,7 +3,7 @@ use crate::typed::texts::{bytes_of, quoted};
 use ratio_expressions::names::Names;
 use ratio_expressions::replies::{Form, Reply, reply_to};
 use rows::answer::Answer;
-use rows::words::text;
+use rows::notation::text;
 use std::alloc::{AllocError, Global};
 
 /// The replies to lines, one after another, each on a line.

@@ -1,6 +1,7 @@
 //! The trees of texts. A step is shown as its piece of the text, but parentheses as `g`, a minus before an operand as `~`, and a call as its
 //! name and the number of its arguments: `abs:1`.
-use ratio_expressions::expression::{TreeError, column, tree_of};
+use ratio_expressions::expression::{column, tree_of};
+use ratio_expressions::refusal::{Reason, ValueError};
 use ratio_expressions::step::Step;
 use ratio_expressions::token::Span;
 use rows::answer::Answer;
@@ -18,16 +19,15 @@ pub fn steps(alloc: Global, text: &[u8]) -> Result<Answer<i64>, AllocError> {
             let shown = shown.strip_prefix(' ').unwrap_or("");
             Ok(Answer::Text(String::from_str(alloc, shown)?))
         }
-        Err(TreeError::Refused(place)) => {
-            if place <= text.len() {
-                let column = column(text, place);
+        Err(ValueError::Refused(refusal)) => {
+            if refusal.reason == Reason::NoExpression && refusal.place <= text.len() {
+                let column = column(text, refusal.place);
                 Ok(Answer::Text(format!(in alloc; "refused at column {column}")?))
             } else {
                 Ok(Answer::BadRow)
             }
         }
-        Err(TreeError::TooDeep(_)) => Ok(Answer::BadRow),
-        Err(TreeError::Memory) => Err(AllocError),
+        Err(ValueError::Memory) => Err(AllocError),
     }
 }
 

@@ -1,11 +1,11 @@
 //! What texts are worth, and how their slashes are read.
 use crate::typed::texts::quoted;
-use ratio_expressions::answer::value_of;
 use ratio_expressions::expression::column;
-use ratio_expressions::line;
+use ratio_expressions::line::value_of_line;
 use ratio_expressions::names::Names;
 use ratio_expressions::refusal::ValueError;
 use ratio_expressions::slashes::read_as;
+use ratio_expressions::text_value::value_of;
 use ratio_expressions::value::Value;
 use rows::answer::Answer;
 use std::alloc::{AllocError, Global};
@@ -21,7 +21,7 @@ pub fn answers(alloc: Global, lines: &[u8]) -> Result<Answer<i64>, AllocError> {
     let mut names = Names::new(alloc);
     let mut answers = String::new(alloc);
     for line in lines.split(|byte| *byte == b'\n') {
-        let value = line::answer(alloc, line, &mut names);
+        let value = value_of_line(alloc, line, &mut names);
         let worth = worth(alloc, line, value)?;
         write!(answers, " {worth}")?;
     }

@@ -8,7 +8,7 @@ use ratio_approximation::simplest::{simplest_between, simplest_between_counted, 
 use ratio_core::Steps;
 use ratio_integer::Integer;
 use rows::answer::{Answer, of_pair};
-use rows::words::{fraction, number};
+use rows::notation::{fraction, number};
 use std::ops::Bound;
 
 /// Makes the call and returns its answer.

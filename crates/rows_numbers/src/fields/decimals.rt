@@ -1,13 +1,13 @@
 //! Fractions rounded by a rule, decimals and floats.
 use crate::fields::{positive, two_positive};
+use ratio_decimal::float::nearest::{to_f32, to_f64};
 use ratio_decimal::{
     decimal, from_decimal, from_text, round_to, rounded_product, rounded_product_to,
     rounded_quotient, rounded_quotient_to,
 };
-use ratio_float::nearest::{to_f32, to_f64};
 use ratio_integer::{Integer, Primitive};
 use rows::answer::{Answer, of_f32, of_f64, of_number, of_pair, of_text};
-use rows::words::{number, rule, text};
+use rows::notation::{number, rule, text};
 use std::alloc::Global;
 
 /// Makes the call and returns its answer.

@@ -6,7 +6,7 @@ use crate::fields::two_positive;
 use ratio_core::sign::{is_above_zero, is_below_zero};
 use ratio_integer::{Integer, Primitive, both_held};
 use rows::answer::{Answer, of_number, of_pair, of_signed, of_unsigned};
-use rows::words::{number, two_numbers};
+use rows::notation::{number, two_numbers};
 
 /// Makes the call and returns its answer.
 pub fn answer<T: Primitive>(call: &str, words: &str) -> Option<Answer<T>> {

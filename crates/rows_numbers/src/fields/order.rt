@@ -5,7 +5,7 @@ use ratio_core::order::dividing::{divide_left, divide_right};
 use ratio_core::{Steps, cmp_counted, compare, cross_order, hash_counted};
 use ratio_integer::Integer;
 use rows::answer::{Answer, of_text};
-use rows::words::{fraction, two_fractions};
+use rows::notation::{fraction, two_fractions};
 use std::alloc::Global;
 use std::fmt;
 use std::fmt::Display;

@@ -7,7 +7,7 @@ use crate::fields::{positive, two_positive};
 use ratio_core::checked_new::checked_new;
 use ratio_integer::{Integer, both_cancelled, both_lowest_terms, cancelled, lowest_terms};
 use rows::answer::{Answer, of_fields, of_pair, of_text};
-use rows::words::{fraction, two_fractions};
+use rows::notation::{fraction, two_fractions};
 use std::alloc::Global;
 use std::fmt::Display;
 

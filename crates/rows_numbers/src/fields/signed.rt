@@ -6,7 +6,7 @@ use ratio_core::sign::{
 use ratio_core::sums::checked_sub;
 use ratio_integer::SignedInteger;
 use rows::answer::{Answer, of_fields, write_or_bad_row};
-use rows::words::{fraction, number, two_numbers};
+use rows::notation::{fraction, number, two_numbers};
 use std::fmt;
 
 /// Makes the call over this type and writes its answer.

@@ -12,7 +12,7 @@ use ratio_core::sums::{
 };
 use ratio_integer::Integer;
 use rows::answer::{Answer, of_fields, of_number};
-use rows::words::{fraction, number};
+use rows::notation::{fraction, number};
 
 /// Makes the call and returns its answer.
 pub fn answer<T: Integer>(call: &str, words: &str) -> Option<Answer<T>> {

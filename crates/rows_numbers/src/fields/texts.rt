@@ -6,7 +6,7 @@ use ratio_core::text::{
 use ratio_core::{BaseTenText, Form, RatioText, text as printing};
 use ratio_integer::Primitive;
 use rows::answer::{Answer, of_pair, of_text};
-use rows::words::{fraction, text};
+use rows::notation::{fraction, text};
 use std::alloc::Global;
 use std::fmt::Display;
 

@@ -1,7 +1,7 @@
 //! The floats nearest to fractions of long numbers, by their bits.
 use crate::naturals::digits::digits;
-use ratio_float::leading::float_of;
-use ratio_long::nearest_f64;
+use ratio_decimal::float::leading::float_of;
+use ratio_decimal::naturals::nearest_f64;
 use ratio_natural::is_zero;
 use rows::answer::{Answer, of_f64};
 use std::alloc::Global;

@@ -4,7 +4,7 @@ use ratio_natural::{
     add_digit, bits, divide, is_zero, shift_left, shift_right, subtract_digit, times_plus, used,
 };
 use rows::answer::Answer;
-use rows::words::{number, two_numbers};
+use rows::notation::{number, two_numbers};
 use std::alloc::Global;
 
 /// Makes the call and returns its answer. The call may change the number.

@@ -2,12 +2,12 @@
 ghost use Rattle.std.specs.Prelude.{◌<◌};
 
 use crate::naturals::digits::{digits, of_digits, used_room};
+use ratio_decimal::naturals::{round_fraction, round_quotient};
 use ratio_decimal::rounding_rule::Rounding;
-use ratio_long::{round_fraction, round_quotient};
 use ratio_natural::is_zero;
 use rows::answer::{Answer, of_text};
-use rows::words;
-use rows::words::{number, rule};
+use rows::notation;
+use rows::notation::{number, rule};
 use std::alloc::Global;
 
 /// A quotient of one digit and a fraction of two, rounded by the rule behind them, or by all six in their order.
@@ -18,7 +18,7 @@ pub fn quotient(alloc: Global, below: bool, words: &str) -> Option<Answer<u64>> 
         Some((part, name)) => (part, Some(name)),
         None => (words, None),
     };
-    let (rest, denom) = words::fraction::<u64>(part)?;
+    let (rest, denom) = notation::fraction::<u64>(part)?;
     if denom <= rest {
         return None;
     }

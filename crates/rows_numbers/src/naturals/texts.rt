@@ -1,9 +1,9 @@
 //! Numbers and fractions as decimal texts, and texts as numbers.
 use crate::naturals::digits::{Printed, digits, of_digits, used_room};
-use ratio_long::{put_decimal as put_long_decimal, put_places};
+use ratio_decimal::naturals::{put_decimal as put_long_decimal, put_places};
 use ratio_natural::{is_zero, put_decimal, put_last_digits, read_decimal};
 use rows::answer::{Answer, of_text};
-use rows::words::{rule, text};
+use rows::notation::{rule, text};
 use std::alloc::Global;
 
 /// The number of a text, in so many digits, which had something in them.

@@ -8,7 +8,7 @@ use ratio_natural::{
     quotient_digit, subtract, subtract_times,
 };
 use rows::answer::{Answer, of_pair, of_text};
-use rows::words::{number, two_numbers};
+use rows::notation::{number, two_numbers};
 use std::alloc::Global;
 
 /// Makes the call and returns its answer. The call may change both numbers.

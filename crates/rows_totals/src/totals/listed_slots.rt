@@ -1,15 +1,15 @@
-//! Calls of `ratio_totals` on lists of slots: `[1/36,0/0,1/28]` has an empty slot in its middle.
+//! Calls of `ratio_slots` on lists of slots: `[1/36,0/0,1/28]` has an empty slot in its middle.
 use super::lists::{bytes, digits, slots};
 use super::numbers::{fraction, number};
 use super::said::{
-    lowest, refused, said_bits, said_lowest, said_number, said_order, text, written,
+    lowest, refused, said_bits, said_lowest, said_number, said_order, text, trimmed, written,
 };
 use super::{Asked, parted};
 use num_rational::Rounding;
-use ratio_totals::{
-    Slot, add_short, digits_of_multiple, digits_of_order, digits_of_read, find, float_of,
-    integer_of, mean_of, multiple_of, order_of, put_bounded_of, put_decimal_of, put_loose,
-    short_pair, sign_of, sum_of,
+use ratio_slots::{
+    OverCommon, Slot, add_short, digits_of_multiple, digits_of_order, digits_of_read, find,
+    float_of, integer_of, mean_of, multiple_of, order_of, put_bounded_of, put_decimal_of,
+    put_loose, read_slots, short_pair, sign_of, sum_of,
 };
 use rows::answer::of_number;
 use std::alloc::Global;
@@ -95,11 +95,24 @@ fn read_in_room(call: &str, asked: Asked<'_>, list: &[Slot]) -> Option<String> {
     let mut digits = digits(asked.alloc, asked.args)?;
     let room = digits.as_mut_slice();
     match call {
+        "read_slots" => match read_slots(list, room) {
+            Ok(read) => over_common(asked.alloc, read, room),
+            Err(why) => refused(asked.alloc, why),
+        },
         "sum_of" => said_lowest(asked.alloc, sum_of(list, room)),
         "float_of" => said_bits(asked.alloc, float_of(list, room)),
         "sign_of" => said_order(asked.alloc, sign_of(list, room)),
         _ => None,
     }
+}
+
+// Both numbers by their digits without leading zeros: `-[110]/[252]`.
+fn over_common(alloc: Global, read: OverCommon, room: &[u64]) -> Option<String> {
+    let numer = room.get(..read.numer_digits)?;
+    let denom = room.get(read.numer_digits..)?.get(..read.denom_digits)?;
+    let sign = if read.negative { "-" } else { "" };
+    let (numer, denom) = (trimmed(numer), trimmed(denom));
+    format!(in alloc; "{sign}{numer:?}/{denom:?}").ok()
 }
 
 fn rounded(call: &str, asked: Asked<'_>, list: &[Slot]) -> Option<String> {

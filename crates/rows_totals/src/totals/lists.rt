@@ -2,7 +2,7 @@
 use super::numbers::{fraction, number};
 use num_rational::Reduced;
 use ratio_integer::Integer;
-use ratio_totals::Slot;
+use ratio_slots::Slot;
 use std::alloc::Global;
 
 /// The fields of each fraction in a list: `1/2*3` stands for 1/2 three times, and `1/2..4` for 1/2, 1/3 and 1/4.

@@ -1,11 +1,11 @@
 //! Whole numbers and fractions, as rows of totals write them: `-7/2`, or `1/2^64-59` and `-2^127` by a power of 2.
 use ratio_integer::Integer;
-use rows::words;
+use rows::notation;
 
 /// The number that a word writes, if it fits the type. `-2^127+1` is the negative of 2^127 - 1.
 pub fn number<T: Integer>(word: &str) -> Option<T> {
     let Some((sign, power)) = word.split_once("2^") else {
-        return words::number(word);
+        return notation::number(word);
     };
     let (less, exponent, offset) = match (power.split_once('-'), power.split_once('+')) {
         (Some((exponent, offset)), _) => (true, exponent, offset),

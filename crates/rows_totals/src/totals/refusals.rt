@@ -1,10 +1,10 @@
-//! What refusals of totals print where no other row has them: `ratio_totals::Refusal::fmt TooMany`.
+//! What refusals of totals print where no other row has them: `ratio_slots::Refusal::fmt TooMany`.
 use super::Asked;
 use super::said::written;
-use fraction_totals::{
+use ratio_slots::{CompareRefusal, JoinRefusal, OrderRefusal, ReadRefusal, Refusal};
+use ratio_totals::{
     DotRefusal, ProductRefusal, RoomSplitRefusal, SumRefusal, WideProductRefusal, WideRefusal,
 };
-use ratio_totals::{CompareRefusal, JoinRefusal, OrderRefusal, ReadRefusal, Refusal};
 
 /// The text of a refusal.
 pub fn answer(refusal: &str, asked: Asked<'_>) -> Option<String> {

@@ -1,12 +1,12 @@
-//! Calls of `ratio_totals::Joined`, which is a sum in a room: `2 1 [16,0*3,252,0*5]` has two fractions, one digit for the common
+//! Calls of `ratio_slots::Joined`, which is a sum in a room: `2 1 [16,0*3,252,0*5]` has two fractions, one digit for the common
 //! denominator, and this room; `-1/36` is one fraction; `6 +1/36 -1/28` has six digits, and its fractions went in one by one.
+use super::changes::read_step;
 use super::lists::{bytes, digits, filled, push_fields, slots};
 use super::numbers::{fraction, number};
 use super::said::{lowest, refused, said_bits, said_lowest, said_order, text, trimmed, written};
-use super::steps::read_step;
 use super::wide_rooms::wide_read;
 use super::{Asked, parted};
-use ratio_totals::{AddRefusal, Joined};
+use ratio_slots::{AddRefusal, Joined};
 use std::alloc::Global;
 
 /// Makes the call on the sums in their rooms, or makes a sum.

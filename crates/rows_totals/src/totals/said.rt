@@ -1,7 +1,7 @@
 //! What calls of totals return, as rows write it.
 use num_rational::Reduced;
 use ratio_integer::Integer;
-use ratio_totals::WideFraction;
+use ratio_slots::WideFraction;
 use rows::answer::{of_number, of_reduced};
 use std::alloc::Global;
 use std::cmp::Ordering;

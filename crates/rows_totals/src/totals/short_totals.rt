@@ -1,14 +1,16 @@
-//! Calls of `fraction_totals::Total`: `i8 4 +1/36 -1/28` is a total over `i8` with four slots. In place of steps stands a list, whose
-//! total it is, or two lists, whose products go in. Behind ` with ` and ` moved_to ` stand what `tables` says.
+//! Calls of `ratio_totals::Total`: `i8 4 +1/36 -1/28` is a total over `i8` with four slots. In place of steps stands a list, whose
+//! total it is, or two lists, whose products go in. Behind ` with ` stands another total, whose words `merge` and `take_out` put it
+//! into the first one, or take it out. Behind ` moved_to ` stand the slots for the first one.
+use super::changes::read_step;
 use super::lists::{bytes, digits, fractions, one_fraction, push_fields, slots};
 use super::numbers::number;
 use super::said::{
     done, refused, said_bits, said_fraction, said_number, said_order, text, written,
 };
-use super::steps::read_step;
 use super::{Asked, parted};
-use fraction_totals::{Short, Slot, Total, dot, total_of};
 use num_rational::Reduced;
+use ratio_slots::numerator_in;
+use ratio_totals::{Short, Slot, Total, dot, total_of};
 use std::alloc::Global;
 use std::fmt::Display;
 
@@ -151,6 +153,7 @@ fn ask<T: Short + Display>(
 fn counted<T: Short>(call: &str, asked: Asked<'_>, total: &Total<'_, T>) -> Option<String> {
     let count = match call {
         "count" => return written(asked.alloc, total.count()),
+        "numerator_in" => return numerator(asked, total),
         "read_digits" => total.read_digits(),
         "multiple_digits" => total.multiple_digits(),
         "decimal_digits" => total.decimal_digits(number(asked.args)?),
@@ -158,6 +161,15 @@ fn counted<T: Short>(call: &str, asked: Asked<'_>, total: &Total<'_, T>) -> Opti
         _ => return None,
     };
     format!(in asked.alloc; "{count}").ok()
+}
+
+// The numerator over a denominator, in the slots of the total.
+fn numerator<T: Short>(asked: Asked<'_>, total: &Total<'_, T>) -> Option<String> {
+    let denom = number::<u64>(asked.args)?;
+    if denom == 0 {
+        return None;
+    }
+    written(asked.alloc, numerator_in(total.slots, denom))
 }
 
 // The reads that take only a room.

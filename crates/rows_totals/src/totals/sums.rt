@@ -3,9 +3,9 @@ use super::lists::{digits, filled, fractions, slots};
 use super::numbers::number;
 use super::said::{refused, said_fraction};
 use super::{Asked, parted};
-use fraction_totals::{Short, checked_sum_in, checked_wide_sum_in, split_in};
 use num_rational::split;
 use ratio_integer::Primitive;
+use ratio_totals::{Short, checked_sum_in, checked_wide_sum_in, split_in};
 use std::alloc::Global;
 use std::fmt::Display;
 

@@ -2,7 +2,7 @@
 use super::Asked;
 use super::numbers::number;
 use super::said::said_wide;
-use ratio_totals::Joined;
+use ratio_slots::Joined;
 
 /// Reads the sum in the room.
 pub fn wide_read(call: &str, asked: Asked<'_>, joined: Joined, room: &mut [u64]) -> Option<String> {

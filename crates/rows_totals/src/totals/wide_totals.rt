@@ -1,17 +1,17 @@
-//! Calls of `fraction_totals::WideTotal`: `i128 2 [7*14] [7*22] +1/36` is a total with two digits for its common denominator, in the
+//! Calls of `ratio_totals::WideTotal`: `i128 2 [7*14] [7*22] +1/36` is a total with two digits for its common denominator, in the
 //! first room; the second list has the spare digits. A list before the steps goes in at once. Behind ` with ` stands another total with
 //! its digits and its room, whose words `merge` and `take_out` do what `tables` says; behind ` then ` the steps of the first one go on.
 //! Behind ` moved_to ` stand the digits and the room for the first one.
+use super::changes::{Step, read_step};
 use super::lists::{bytes, digits, fractions, one_fraction, push_fields};
 use super::numbers::number;
 use super::said::{
     done, refused, said_bits, said_fraction, said_number, said_order, text, written,
 };
-use super::steps::{Step, read_step};
 use super::{Asked, parted};
-use fraction_totals::{WideTotal, wide_total_of};
 use num_rational::Reduced;
 use ratio_integer::Primitive;
+use ratio_totals::{WideTotal, wide_total_of};
 use rows::answer::of_number;
 use std::alloc::Global;
 use std::fmt::Display;

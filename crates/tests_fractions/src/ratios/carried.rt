@@ -2,11 +2,11 @@
 use crate::asserting::each_holds;
 use crate::ratios::forms::{self, fraction, has, raw};
 use crate::ratios::texts::shown_as;
+use crate::written::Written;
 use num_rational::{Constants, Form, Ratio, Rational32, Rational64};
 use ratio_integer::Integer;
 use std::cmp::Ordering;
 use std::fmt::InlineText;
-use tests_numbers::written::Written;
 
 // The lowest terms by `new`, if `checked_new` returns them.
 fn new<T: Integer>(n: T, d: T) -> Ratio<T> {

@@ -1,11 +1,11 @@
 //! Rows of the codes by which a fraction is hashed, from outside.
 use crate::asserting::each_holds;
 use crate::ratios::forms::raw;
+use crate::recorder::Codes;
+use crate::written::Written;
 use num_rational::Steps;
 use ratio_integer::Integer;
 use std::hash::Hash;
-use tests_numbers::recorder::Codes;
-use tests_numbers::written::Written;
 
 // Whether an empty list and a hasher get exactly these codes of the fraction with these fields.
 fn has_codes<T: Integer>(fields: (T, T), mut list: Codes<T>, expected: &[T]) -> bool {

@@ -1,10 +1,10 @@
 //! The main promise at concrete types: rows from outside.
 use crate::asserting::all_hold;
 use crate::ratios::forms::{answers, raw};
+use crate::recorder::Codes;
 use num_rational::{HeadlineResult, Ratio, Steps, headline};
 use ratio_integer::Integer;
 use std::cmp::Ordering;
-use tests_numbers::recorder::Codes;
 
 // What two fractions give, and whether their codes are the same. The two lists are empty. A caller with a type of known size
 // makes them.

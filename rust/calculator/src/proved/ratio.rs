@@ -1,5 +1,6 @@
 // Erased from crates/ratio/src/main.rt by rust/erase: not to be edited.
-//! The program `ratio`: the value of the expression in its arguments, or the values of the lines of its input, and its status.
+//! The program `ratio`, which `./ratio` runs, over `ratio_expressions`: the value of the expression in its arguments, or the values of the
+//! lines of its input, and its status.
 use bakhsney::memory::{Global, String};
 
 mod answering;

@@ -1,5 +1,6 @@
 // Erased from crates/ratio_calc/src/main.rt by rust/erase: not to be edited.
-//! The program: the calculator on standard input and standard output, and its status.
+//! The program `ratio_calc`, which `./calc` runs, over `ratio_lines`: the line calculator on standard input and standard output, and its
+//! status.
 
 use crate::proved::ratio_lines::calculator::run;
 use crate::proved::ratio_lines::counted::Counted;

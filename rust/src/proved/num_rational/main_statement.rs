@@ -3,7 +3,7 @@
 
 use crate::proved::num_rational::ratio::Ratio;
 use crate::proved::ratio_core::{CodeList, Steps};
-use crate::proved::ratio_integer::{Integer, both_held};
+use crate::proved::ratio_integer::Integer;
 use core::cmp::Ordering;
 
 /// How two fractions compare, and what their product and quotient are.
@@ -38,7 +38,6 @@ pub fn headline<T: Copy + Integer, L: CodeList<T>>(
     x_hashed: &mut Steps,
     y_hashed: &mut Steps,
 ) -> HeadlineResult<T> {
-    both_held(*y.numer(), *y.denom());
     x.hash_counted(x_list, x_hashed);
     y.hash_counted(y_list, y_hashed);
     let order = x.cmp_counted(y, compared);

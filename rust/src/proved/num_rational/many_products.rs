@@ -5,7 +5,7 @@ use crate::proved::num_rational::operand::ReducedOperand;
 use crate::proved::num_rational::ratio::Ratio;
 use crate::proved::num_rational::reduced::Reduced;
 use crate::proved::ratio_core::products::many_products;
-use crate::proved::ratio_integer::{Integer, both_held, lowest_terms};
+use crate::proved::ratio_integer::{Integer, lowest_terms};
 
 // Whether there is room for two numbers an item.
 #[inline]
@@ -69,7 +69,6 @@ fn times<T: Copy + Integer>(n: T, d: T, lowest: bool, x: &Reduced<T>) -> Option<
 #[inline]
 fn in_lowest_terms<T: Copy + Integer>(n: T, d: T, lowest: bool) -> Reduced<T> {
     if lowest {
-        both_held(n, d);
         return Reduced {
             ratio: Ratio::new_raw(n, d),
         };

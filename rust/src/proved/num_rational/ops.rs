@@ -1,6 +1,6 @@
 // Erased from crates/num_rational/src/ops.rt by rust/erase: not to be edited.
 // Written by templates/write from templates/operator.rt.txt: change that file, and write this one anew.
-//! The five operators, each as a checked call, as a call that requires a result, and as its two symbols, such as `+` and `+=`.
+//! The five operators of `Ratio`, each as a checked call, as a call that requires a result, and as its two symbols, such as `+` and `+=`.
 
 use crate::proved::num_rational::operand::Operand;
 use crate::proved::num_rational::ratio::Ratio;

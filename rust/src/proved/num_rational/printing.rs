@@ -7,7 +7,7 @@
 use crate::proved::num_rational::ratio::Ratio;
 use crate::proved::ratio_core::{Form, RatioText};
 use crate::proved::ratio_decimal::rounding_rule::Rounding;
-use crate::proved::ratio_integer::{Primitive, both_held};
+use crate::proved::ratio_integer::Primitive;
 use core::fmt;
 use core::fmt::{Formatter, Write};
 
@@ -65,7 +65,6 @@ pub(crate) fn write_with_places<T: Primitive>(
     places: usize,
     f: &mut Formatter<'_>,
 ) -> fmt::Result {
-    both_held(numer, denom);
     if places < 39 {
         let text = crate::proved::ratio_decimal::decimal(numer, denom, places as u32, Rounding::HalfEven);
         write_base_ten(text.as_str(), f)

@@ -1,6 +1,6 @@
 // Erased from crates/num_rational/src/ratio.rt by rust/erase: not to be edited.
-//! `Ratio`, the fraction type, with its constants and its calls: constructors, fields, order, hash, powers, rounding, the nearest fraction,
-//! signs, floats, and texts, which the traits hand on to.
+//! `Ratio`, the fraction type, and its methods, which the traits hand on to: constructors, `zero` and `one`, fields, conversions such as
+//! `to_u128`, order, hash, powers, rounding, the nearest fraction, signs, floats and texts.
 //!
 //! Operators, folds and JSON have files of their own.
 
@@ -10,7 +10,7 @@ use crate::proved::ratio_core::{
     BaseTenText, CodeList, Exponent, Form, ParseRatioError, RatioText, Steps, checked_new, pow,
     rounding, sign, text,
 };
-use crate::proved::ratio_float::nearest;
+use crate::proved::ratio_decimal::float::nearest;
 use crate::proved::ratio_integer::{Integer, Primitive, SignedInteger};
 use core::cmp::Ordering;
 

@@ -1,6 +1,7 @@
 // Erased from crates/num_rational/src/reduced.rt by rust/erase: not to be edited.
-//! `Reduced`, the fraction type that is always in lowest terms, with its calls: constructors, fields, the five checked calls, powers,
-//! divisors, products of many, rounding, fractions near others, continued fractions, signs and casts.
+//! `Reduced`, the fraction type that is always in lowest terms, and its methods: constructors, `zero` and `one`, fields, conversions such
+//! as `to_u128`, the five checked calls, powers, divisors, products of many, rounding, fractions near others, continued fractions, signs
+//! and casts.
 //!
 //! A contract sees such a fraction as the `Ratio` of its fields, by `ratio_of`. No named call requires anything of its caller,
 //! except `decimal`, at most 38 places, and `round_to`, a positive number of parts.
@@ -12,14 +13,14 @@ use crate::proved::num_rational::continued::{Convergents, Quotients};
 use crate::proved::num_rational::many_products::{cancelled_first, has_room, step_by_step};
 use crate::proved::num_rational::operand::ReducedOperand;
 use crate::proved::num_rational::ratio::{Constants, Ratio};
-use crate::proved::ratio_approximation::continued::from_quotients;
+use crate::proved::ratio_approximation::from_quotients::from_quotients;
 use crate::proved::ratio_approximation::simplest;
 use crate::proved::ratio_core::{Exponent, divisors, pow, products, remainder, sums};
 use crate::proved::ratio_decimal::rounding_rule::Rounding;
 use crate::proved::ratio_decimal::{
     round_to, rounded_product, rounded_product_to, rounded_quotient, rounded_quotient_to,
 };
-use crate::proved::ratio_integer::{Integer, Primitive, SignedInteger, both_held};
+use crate::proved::ratio_integer::{Integer, Primitive, SignedInteger};
 use core::ops::Bound;
 
 /// A fraction of two numbers of the type `T` that is always in lowest terms: its denominator is
@@ -42,7 +43,7 @@ pub type Reduced32 = Reduced<i32>;
 pub type Reduced64 = Reduced<i64>;
 
 impl<T: Copy + Integer> Reduced<T> {
-    /// The lowest terms of `n/d`, or `None` if `d` is 0 or they do not fit the type. Over `i8`, 2 and
+    /// The fraction `n/d`, or `None` if `d` is 0 or its lowest terms do not fit the type. Over `i8`, 2 and
     /// -128 give -1/64, and 1 and -128 give `None`, since 128 does not fit.
     #[inline]
     pub fn checked_new(n: T, d: T) -> Option<Reduced<T>> {
@@ -64,7 +65,7 @@ impl<T: Copy + Integer> Reduced<T> {
         self.ratio
     }
 
-    /// The whole number over 1.
+    /// The whole number over 1, in lowest terms.
     #[inline]
     pub fn from_integer(t: T) -> Reduced<T> {
         Reduced {
@@ -72,25 +73,25 @@ impl<T: Copy + Integer> Reduced<T> {
         }
     }
 
-    /// The fraction 0/1.
+    /// The fraction 0/1, in lowest terms.
     #[inline]
     pub fn zero() -> Reduced<T> {
         Reduced::from_integer(T::ZERO)
     }
 
-    /// The fraction 1/1.
+    /// The fraction 1/1, in lowest terms.
     #[inline]
     pub fn one() -> Reduced<T> {
         Reduced::from_integer(T::ONE)
     }
 
-    /// The numerator and the denominator.
+    /// The numerator and the denominator of the lowest terms.
     #[inline]
     pub fn into_raw(self) -> (T, T) {
         self.ratio.into_raw()
     }
 
-    /// The numerator.
+    /// The numerator of the lowest terms.
     #[inline]
     pub fn numer(&self) -> &T {
         &self.ratio.numer
@@ -204,7 +205,7 @@ impl<T: Copy + Integer> Reduced<T> {
     #[inline(always)]
     pub fn checked_rem<O: ReducedOperand<T>>(&self, other: O) -> Option<Reduced<T>> {
         let (numer, denom) = other.reduced().into_raw();
-        match remainder::lowest_remainder::checked_rem_of_lowest(
+        match remainder::lowest_remainders::checked_rem(
             *self.numer(),
             *self.denom(),
             numer,
@@ -556,7 +557,6 @@ impl<T: Copy + Integer> Reduced<T> {
     pub fn convergents(&self) -> Convergents<T> {
         let numer = *self.numer();
         let denom = *self.denom();
-        both_held(numer, denom);
         let one = T::ONE;
         let zero = T::ZERO;
         Convergents {
@@ -591,7 +591,6 @@ impl<T: Copy + SignedInteger> Reduced<T> {
     #[inline]
     pub fn checked_neg(&self) -> Option<Reduced<T>> {
         let denom = *self.denom();
-        let _ = denom.held();
         match self.numer().try_negate() {
             Some(numer) => Some(Reduced {
                 ratio: Ratio::new_raw(numer, denom),
@@ -604,7 +603,6 @@ impl<T: Copy + SignedInteger> Reduced<T> {
     /// none: over `i8`, -128.
     #[inline]
     pub fn checked_abs(&self) -> Option<Reduced<T>> {
-        both_held(*self.numer(), *self.denom());
         if self.is_negative() {
             self.checked_neg()
         } else {

@@ -1,12 +1,12 @@
 // Erased from crates/num_rational/src/splitting.rt by rust/erase: not to be edited.
-//! An amount split by shares or by weights, so that nothing is lost: at marks, which are the amount times the sums of the first shares,
-//! rounded.
+//! An amount split by shares (the trait `Share`) or by weights, so that nothing is lost: at marks, which are the amount times the sums of
+//! the first shares, rounded.
 
 use crate::proved::num_rational::reduced::Reduced;
 use crate::proved::ratio_core::sign::is_below_zero;
 use crate::proved::ratio_decimal::rounded_product;
 use crate::proved::ratio_decimal::rounding_rule::Rounding;
-use crate::proved::ratio_integer::{Integer, both_held, lowest_terms};
+use crate::proved::ratio_integer::{Integer, lowest_terms};
 #[cfg(feature = "std")]
 use std::error::Error;
 use core::fmt;
@@ -157,7 +157,6 @@ fn next_mark<T: Copy + Integer>(
 // The lowest terms of a fraction over a positive denominator.
 #[inline]
 fn lowest_over<T: Copy + Integer>(n: T, d: T) -> Reduced<T> {
-    both_held(n, d);
     match Reduced::checked_new(n, d) {
         Some(lowest) => lowest,
         None => unreachable!(),
@@ -210,7 +209,6 @@ fn write_parts<T: Copy + Integer, S: Share<T>>(amount: T, shares: &[S], parts: &
 // or more, and where the sum would be above 1, a number would not fit the type, or the amount times the denominator not 128 bits.
 #[inline]
 fn total_over<T: Copy + Integer, S: Share<T>>(amount: T, shares: &[S]) -> (usize, T, T) {
-    let _ = amount.held();
     let mut sum = T::ZERO;
     let mut common = T::ONE;
     for (i, share) in shares.iter().enumerate() {
@@ -220,7 +218,6 @@ fn total_over<T: Copy + Integer, S: Share<T>>(amount: T, shares: &[S]) -> (usize
                 return (i, sum, common);
             }
         };
-        both_held(next.0, next.1);
         sum = next.0;
         common = next.1;
     }
@@ -279,7 +276,6 @@ impl<T: Copy + Integer, S: Share<T>> Numerators<T, S> for Fractions {
             return T::ZERO;
         }
         let lowest = share.lowest();
-        let _ = common.held();
         let (times, _) = common.div_rem(*lowest.denom());
         lowest.numer().times(times)
     }
@@ -303,7 +299,6 @@ fn write_parts_over<T: Copy + Integer, S, N: Numerators<T, S>>(
     common: T,
     parts: &mut [T],
 ) {
-    both_held(amount, common);
     let mut sum = T::ZERO;
     let mut mark = T::ZERO;
     for (i, share) in shares.iter().enumerate() {
@@ -325,7 +320,6 @@ fn mark_over<T: Copy + Integer>(amount: T, sum: T, common: T) -> T {
     if sum == common {
         return amount;
     }
-    let _ = amount.held();
     rounded_product(amount, T::ONE, sum, common, Rounding::HalfAway).unwrap()
 }
 
@@ -370,6 +364,5 @@ fn checked_total<T: Copy + Integer>(weights: &[T]) -> Option<T> {
     for weight in weights {
         sum = sum.try_plus(*weight)?;
     }
-    let _ = sum.held();
     Some(sum)
 }

@@ -5,7 +5,7 @@ mod neighbour;
 use crate::proved::ratio_approximation::nearest::neighbour::{Neighbour, first_of, moved, steps_towards};
 use crate::proved::ratio_core::Steps;
 use crate::proved::ratio_core::order::dividing::divide_left;
-use crate::proved::ratio_integer::{Integer, both_held};
+use crate::proved::ratio_integer::Integer;
 
 /// The nearest fraction to `n/d` with a denominator from 1 to `most`, in lowest terms.
 /// For 355/113 and 10 it is 22/7. Of two that are as near, it is the one with the smaller
@@ -37,8 +37,6 @@ pub fn nearest<T: Integer>(n: T, d: T, most: T) -> (T, T) {
 /// - `room`: `pos 0 <ℤ T.value most`
 #[inline]
 pub fn nearest_counted<T: Integer>(n: T, d: T, most: T, steps: &mut Steps) -> (T, T) {
-    both_held(n, d);
-    let _ = most.held();
     let (floor, rest) = divide_left(n, d, steps);
     if rest.is_zero() {
         return (floor, T::ONE);

@@ -2,15 +2,15 @@
 //! The simplest fraction strictly between two fractions, and within two bounds.
 mod search;
 mod side;
-mod wholes;
+mod whole_between;
 mod within;
 
 use crate::proved::ratio_approximation::simplest::search::search;
 use crate::proved::ratio_approximation::simplest::side::Side;
-use crate::proved::ratio_approximation::simplest::wholes::{last_below, nearest_zero};
+use crate::proved::ratio_approximation::simplest::whole_between::{last_below, nearest_zero};
 use crate::proved::ratio_core::Steps;
 use crate::proved::ratio_core::order::dividing::divide_left;
-use crate::proved::ratio_integer::{Integer, both_held};
+use crate::proved::ratio_integer::Integer;
 pub use within::simplest_within;
 
 /// Of all fractions strictly between `n/d` and `m/e`, the one with the smallest denominator. Of these
@@ -46,12 +46,8 @@ pub fn simplest_between_counted<T: Integer>(
     e: T,
     steps: &mut Steps,
 ) -> Option<(T, T)> {
-    both_held(n, d);
-    both_held(m, e);
     let (low, low_rest) = divide_left(n, d, steps);
-    let _ = low.held();
     let (last, last_rest) = last_below(m, e, steps)?;
-    let _ = last.held();
     if last < low {
         return None;
     }

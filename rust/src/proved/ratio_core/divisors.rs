@@ -22,8 +22,6 @@ use crate::proved::ratio_integer::Integer;
 pub fn checked_gcd<T: Integer>(a: T, b: T, c: T, d: T) -> Option<(T, T)> {
     let denom = b.try_lcm(d)?;
     let numer = try_gcd(a, c)?;
-    let _ = numer.held();
-    let _ = denom.held();
     Some((numer, denom))
 }
 
@@ -42,10 +40,7 @@ pub fn checked_gcd<T: Integer>(a: T, b: T, c: T, d: T) -> Option<(T, T)> {
 #[inline]
 pub fn checked_lcm<T: Integer>(a: T, b: T, c: T, d: T) -> Option<(T, T)> {
     let numer = a.try_lcm(c)?;
-    let _ = b.held();
     let denom = b.gcd(d);
-    let _ = numer.held();
-    let _ = denom.held();
     Some((numer, denom))
 }
 
@@ -64,7 +59,6 @@ fn try_gcd<T: Integer>(a: T, c: T) -> Option<T> {
 // The distance of the number from 0, or `None` if it does not fit the type.
 #[inline]
 fn magnitude<T: Integer>(a: T) -> Option<T> {
-    let _ = a.held();
     if a < T::ZERO {
         T::ZERO.try_minus(a)
     } else {

@@ -5,10 +5,10 @@
 /// A whole number that may be an exponent, of a magnitude below 2^128. The
 /// twelve primitive integer types and references to them implement it.
 pub trait Exponent: Copy {
-    /// Whether the number is below 0.
+    /// Whether the exponent is below 0.
     fn is_below_zero(&self) -> bool;
 
-    /// The number without its sign, also for the least value of a type: 2^31 for `i32::MIN`.
+    /// The exponent without its sign, also for the least value of a type: 2^31 for `i32::MIN`.
     fn magnitude(&self) -> u128;
 }
 

@@ -3,7 +3,7 @@
 
 use crate::proved::ratio_core::order::dividing::{divide_left, is_above_max};
 use crate::proved::ratio_core::steps::Steps;
-use crate::proved::ratio_integer::{Integer, both_held};
+use crate::proved::ratio_integer::Integer;
 
 /// A list that takes integers at its end: an array that keeps them, or a hasher that is fed with them.
 /// Contracts see all numbers that it has taken. A list that does not keep its numbers has a `Taken` for them.
@@ -43,7 +43,6 @@ impl Taken {
 /// - `T.value d ≢ pos 0`
 #[inline]
 pub fn hash_counted<T: Integer, L: CodeList<T>>(n: T, d: T, list: &mut L, steps: &mut Steps) {
-    both_held(n, d);
     take_codes(n, d, list, steps);
 }
 

@@ -8,7 +8,7 @@ pub mod lowest_powers;
 
 use crate::proved::ratio_core::exponent::Exponent;
 use crate::proved::ratio_core::sign::is_below_zero;
-use crate::proved::ratio_integer::{Integer, both_held};
+use crate::proved::ratio_integer::Integer;
 
 /// The reciprocal, with its sign in the numerator: `-3/2` for `-2/3`. It is not reduced. If `n` is negative,
 /// `-n` must fit the type. Over `i8`, only -128 has no negative.
@@ -22,7 +22,6 @@ use crate::proved::ratio_integer::{Integer, both_held};
 /// - `held`: `T.value n <ℤ pos 0 → IsHeld T.lo T.hi (neg_ℤ (T.value n))`
 #[inline]
 pub fn recip<T: Integer>(n: T, d: T) -> (T, T) {
-    both_held(n, d);
     if is_below_zero(n) {
         (negative(d), negative(n))
     } else {
@@ -108,7 +107,6 @@ fn try_powers<T: Integer>(n: T, d: T, exponent: u128) -> Option<(T, T)> {
         }
         left /= 2;
     }
-    both_held(power.0, power.1);
     Some(power)
 }
 
@@ -131,7 +129,6 @@ pub fn checked_recip<T: Integer>(n: T, d: T) -> Option<(T, T)> {
     if n.is_zero() {
         return None;
     }
-    both_held(n, d);
     if is_below_zero(n) {
         let denom = T::ZERO.try_minus(n)?;
         Some((negative(d), denom))

@@ -1,10 +1,9 @@
 // Erased from crates/ratio_core/src/remainder.rt by rust/erase: not to be edited.
 //! The remainder of one fraction by another in lowest terms, over any type.
 
-mod long_remainder;
-pub mod lowest_remainder;
 pub mod lowest_remainders;
-pub mod reducing;
+pub mod unreduced_remainders;
+mod wide_remainder;
 
 use crate::proved::ratio_core::sums::scaled;
 use crate::proved::ratio_integer::{Integer, lowest_terms};
@@ -50,7 +49,6 @@ pub fn rem<T: Integer>(a: T, b: T, c: T, d: T) -> (T, T) {
 // The remainder of a division cut towards zero. Dividing the least number by -1 may overflow, so -1 is set aside.
 #[inline]
 fn truncated_rest<T: Integer>(p: T, q: T) -> T {
-    let _ = q.held();
     if q < T::ZERO && q.plus(T::ONE).is_zero() {
         return T::ZERO;
     }

@@ -1,5 +1,6 @@
 // Erased from crates/ratio_core/src/rounding.rt by rust/erase: not to be edited.
-//! Whole numbers near a fraction (floor, ceiling, truncation, rounded), its fractional part, and its whole part as a machine integer.
+//! Whole numbers near a fraction (floor, ceiling, truncation, rounded), its fractional part, and its whole part as an `i64`, `i128`, `u64`
+//! or `u128`.
 //!
 //! Each call requires only a positive denominator. It divides once, and no step overflows: nothing is
 //! doubled, and nothing is added before the division.
@@ -147,7 +148,6 @@ pub fn to_u128<T: Integer>(n: T, d: T) -> Option<u128> {
 // The quotient cut towards zero, and the rest. A division by a positive number never overflows.
 #[inline]
 fn cut<T: Integer>(n: T, d: T) -> (T, T) {
-    let _ = n.held();
     n.div_rem(d)
 }
 
@@ -155,7 +155,6 @@ fn cut<T: Integer>(n: T, d: T) -> (T, T) {
 // type, so we compare `part` with the rest of `d`.
 #[inline]
 fn is_below_half<T: Integer>(part: T, d: T) -> bool {
-    let _ = d.held();
     if is_below_zero(part) {
         T::ZERO.minus(part) < part.plus(d)
     } else {

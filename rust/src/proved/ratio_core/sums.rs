@@ -8,12 +8,12 @@
 pub mod lowest_sums;
 mod mixed;
 pub(crate) mod multiple;
-pub mod reducing;
+pub mod unreduced_sums;
 mod words;
 
 pub use mixed::numerator_of;
 pub use multiple::{carried_on, multiple_over, sum_over};
-use crate::proved::ratio_integer::{Integer, both_held, lowest_terms};
+use crate::proved::ratio_integer::{Integer, lowest_terms};
 
 /// The lowest terms of `a/b + c/d`. If `EXACT_SUMS` is true, the call returns `None` exactly if they do
 /// not fit the type. If it is false, the call returns `None` exactly if one of these does not fit: the least
@@ -116,8 +116,6 @@ pub fn sub<T: Integer>(a: T, b: T, c: T, d: T) -> (T, T) {
 #[inline]
 pub(crate) fn scaled<T: Integer>(a: T, b: T, c: T, d: T) -> Option<(T, T, T)> {
     if b == d {
-        both_held(a, b);
-        let _ = c.held();
         return Some((a, c, b));
     }
     // Each fraction is expanded by the other's part of b/d in lowest terms. For

@@ -1,6 +1,6 @@
 // Erased from crates/ratio_core/src/text.rt by rust/erase: not to be edited.
-//! Printing a fraction as a text, from the last byte to the first: the forms, their prefixes, an array for
-//! the text, and decimal digits.
+//! Printing a fraction as a text, from the last byte to the first: the forms, their prefixes, the array `FixedText`, decimal digits, and
+//! the `magnitude` of a number.
 //!
 //! `numeral` prints numbers in base 2, 8 and 16, and `reading` reads texts.
 
@@ -9,7 +9,7 @@ mod reading;
 
 use crate::proved::ratio_core::text::numeral::{put_numeral, twos_complement};
 use crate::proved::itoa::write_digits;
-use crate::proved::ratio_integer::{Primitive, both_held};
+use crate::proved::ratio_integer::Primitive;
 pub use reading::{from_str, from_str_radix, leading_fields};
 
 /// How the numbers of a fraction are printed.
@@ -70,7 +70,6 @@ impl<const ROOM: usize> FixedText<ROOM> {
 /// base does so, read in that base, if it has a slash, no prefix, and no number below 0.
 #[inline]
 pub fn text<T: Primitive>(numer: T, denom: T, form: Form, alternate: bool) -> RatioText {
-    both_held(numer, denom);
     let mut text = RatioText::empty();
     put_text(numer, denom, form, alternate, &mut text);
     text
@@ -79,14 +78,12 @@ pub fn text<T: Primitive>(numer: T, denom: T, form: Form, alternate: bool) -> Ra
 /// Writes that text over the one in `text`, so that no array is moved.
 #[inline]
 pub fn put_text<T: Primitive>(numer: T, denom: T, form: Form, alternate: bool, text: &mut RatioText) {
-    both_held(numer, denom);
     text.start = put_fraction(numer, denom, form, alternate, &mut text.bytes);
 }
 
 /// The text in base 10, in an array of 81 bytes, which takes less time to make.
 #[inline]
 pub fn base_ten_text<T: Primitive>(numer: T, denom: T) -> BaseTenText {
-    both_held(numer, denom);
     let mut text = BaseTenText::empty();
     put_base_ten_text(numer, denom, &mut text);
     text
@@ -95,7 +92,6 @@ pub fn base_ten_text<T: Primitive>(numer: T, denom: T) -> BaseTenText {
 /// Writes the text in base 10 over the one in `text`.
 #[inline]
 pub fn put_base_ten_text<T: Primitive>(numer: T, denom: T, text: &mut BaseTenText) {
-    both_held(numer, denom);
     text.start = put_base_ten_fraction(numer, denom, &mut text.bytes);
 }
 

@@ -4,7 +4,7 @@
 use crate::proved::ratio_core::sign::is_below_zero;
 use crate::proved::ratio_core::sums::multiple_over;
 use crate::proved::ratio_core::text::{DecimalText, magnitude, put_digits, put_word};
-use crate::proved::ratio_integer::{Primitive, both_held};
+use crate::proved::ratio_integer::Primitive;
 
 /// All of the fraction as a decimal, `12.375` for 99/8, or `None` if its digits do not end, as those of 1/3. They end
 /// if the denominator has no prime factor but 2 and 5.
@@ -16,7 +16,6 @@ use crate::proved::ratio_integer::{Primitive, both_held};
 /// - `IsLowestTerms (T.value numer) (T.value denom)`
 #[inline]
 pub fn exact_decimal<T: Primitive>(numer: T, denom: T) -> Option<DecimalText> {
-    both_held(numer, denom);
     let (n, d) = (magnitude(numer), magnitude(denom));
     let places = places_of(d)?;
     let mut text = DecimalText::empty();

@@ -8,7 +8,7 @@ use crate::proved::ratio_decimal::rounding_rule::{Rounding, rounded};
 use crate::proved::ratio_core::sign::is_below_zero;
 use crate::proved::ratio_core::sums::multiple_over;
 use crate::proved::ratio_core::text::{BaseTenText, magnitude, put_digits};
-use crate::proved::ratio_integer::{Primitive, both_held};
+use crate::proved::ratio_integer::Primitive;
 use core::fmt;
 use core::fmt::{Alignment, Formatter, Write};
 
@@ -32,7 +32,6 @@ pub fn write_places<T: Primitive>(
     places: usize,
     f: &mut Formatter<'_>,
 ) -> fmt::Result {
-    both_held(numer, denom);
     write_long(
         magnitude(numer),
         magnitude(denom),

@@ -4,7 +4,7 @@
 use crate::proved::ratio_decimal::rounding_rule::{Rounding, rounded};
 use crate::proved::ratio_core::sign::is_below_zero;
 use crate::proved::ratio_core::text::{DecimalText, magnitude, put_digits};
-use crate::proved::ratio_integer::{Primitive, both_held};
+use crate::proved::ratio_integer::Primitive;
 
 /// The fraction as a decimal: the multiple of `1/10^places` that the rule says, with all its places. A fraction that
 /// is rounded to 0 has no minus.
@@ -17,7 +17,6 @@ use crate::proved::ratio_integer::{Primitive, both_held};
 /// - `few`: `places ≤ 38`
 #[inline]
 pub fn decimal<T: Primitive>(numer: T, denom: T, places: u32, rule: Rounding) -> DecimalText {
-    both_held(numer, denom);
     let below = is_below_zero(numer);
     let power = 10u128.pow(places);
     let (whole, part) = rounded(

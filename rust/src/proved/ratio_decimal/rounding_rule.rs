@@ -1,6 +1,6 @@
 // Erased from crates/ratio_decimal/src/rounding_rule.rt by rust/erase: not to be edited.
-//! The six rules of rounding, which ask whether a rest is below a half, at it or above it, and a fraction or a product of two rounded by
-//! them, to a whole number or to a multiple of `1/parts`, such as cents or quarters.
+//! The six rules of rounding (`Rounding`), and a fraction or a product of two rounded by them, to a whole number or to a multiple of
+//! `1/parts`, such as cents or quarters.
 //!
 //! A rule asks only where a rest lies: at 0, below a half, at a half or above it. A product that fits the type, or 128 bits for a
 //! whole number, is divided once. `product` rounds the others.
@@ -8,7 +8,7 @@
 use crate::proved::ratio_decimal::product::{Factor, Target, long_product};
 use crate::proved::ratio_core::sign::is_below_zero;
 use crate::proved::ratio_core::sums::{carried_on, multiple_over, numerator_of};
-use crate::proved::ratio_integer::{Integer, both_held, lowest_terms};
+use crate::proved::ratio_integer::{Integer, lowest_terms};
 
 /// How a number between two neighbours is rounded to one of them. The neighbours are whole numbers, or multiples of
 /// 1/100 for two decimal places.
@@ -37,15 +37,12 @@ pub enum Rounding {
 /// - `pos 0 <ℤ T.value d`
 #[inline]
 pub(crate) fn rounded_whole<T: Integer>(n: T, d: T, rule: Rounding) -> T {
-    both_held(n, d);
     if d.is_one() {
         return n;
     }
     let (floor, left) = n.div_mod_floor(d);
-    let _ = floor.held();
     let up = takes_next(rule, (floor, T::ZERO), T::ONE, side_of(left, d));
     let whole = carried_on(floor, up);
-    let _ = whole.held();
     whole
 }
 
@@ -75,10 +72,7 @@ pub fn round_to<T: Integer>(n: T, d: T, parts: T, rule: Rounding) -> Option<(T, 
 /// - `some`: `pos 0 <ℤ T.value parts`
 #[inline]
 pub(crate) fn rounded<T: Integer>(n: T, d: T, parts: T, rule: Rounding) -> (T, T) {
-    both_held(n, d);
-    let _ = parts.held();
     let (floor, rest) = n.div_mod_floor(d);
-    let _ = floor.held();
     let (part, left) = multiple_over(rest, parts, d);
     if goes_up(rule, (floor, part), parts, left, d) {
         next((floor, part), parts)
@@ -97,7 +91,6 @@ pub(crate) fn rounded<T: Integer>(n: T, d: T, parts: T, rule: Rounding) -> (T, T
 /// - `room`: `IsHeld T.lo T.hi (T.value x.0 +ℤ pos 1)`
 #[inline]
 pub(crate) fn next<T: Integer>(x: (T, T), parts: T) -> (T, T) {
-    let _ = parts.held();
     let part = x.1.plus(T::ONE);
     if part == parts {
         (x.0.plus(T::ONE), T::ZERO)
@@ -223,7 +216,6 @@ pub(crate) fn side_of_both<T: Integer>(rest: T, d: T, left: T, b: T) -> Side {
     if left.is_zero() {
         return side_of(rest, d);
     }
-    let _ = d.held();
     let after = d.minus(rest).minus(T::ONE);
     if rest < after {
         Side::BelowHalf
@@ -272,14 +264,12 @@ fn has_rest(side: Side) -> bool {
 // Whether `left/d` is above a half.
 #[inline]
 fn is_past_half<T: Integer>(left: T, d: T) -> bool {
-    let _ = d.held();
     d.minus(left) < left
 }
 
 // Whether `left/d` is a half.
 #[inline]
 fn is_half<T: Integer>(left: T, d: T) -> bool {
-    let _ = d.held();
     d.minus(left) == left
 }
 

@@ -1,6 +1,6 @@
 // Erased from crates/ratio_integer/src/integer.rt by rust/erase: not to be edited.
-//! The traits of integer types: `Integer` has range, constants, arithmetic, divisors, halves of the width,
-//! conversions and laws, `SignedInteger` negatives, and `Primitive` a fixed number of bits; and `both_held`.
+//! The traits `Integer` (range, constants, arithmetic, gcd and lcm, halves, conversions such as `to_u128`, laws), `SignedInteger`
+//! (negatives) and `Primitive` (bits), and what tells a proof that a number is in range.
 
 use core::hash::Hash;
 
@@ -138,8 +138,6 @@ pub trait Integer: Copy + Ord + Hash {
     /// The sum, or `None` if it does not fit the type.
     #[inline]
     fn try_plus(self, o: Self) -> Option<Self> {
-        let _ = self.held();
-        let _ = o.held();
         if o < Self::ZERO {
             if self < Self::MIN.minus(o) {
                 return None;
@@ -153,8 +151,6 @@ pub trait Integer: Copy + Ord + Hash {
     /// The difference, or `None` if it does not fit the type.
     #[inline]
     fn try_minus(self, o: Self) -> Option<Self> {
-        let _ = self.held();
-        let _ = o.held();
         if o < Self::ZERO {
             if Self::MAX.plus(o) < self {
                 return None;
@@ -172,8 +168,6 @@ pub trait Integer: Copy + Ord + Hash {
         if self.is_zero() || o.is_zero() {
             return Some(Self::ZERO);
         }
-        let _ = self.held();
-        let _ = o.held();
         // The gcd of the least number and itself may not fit the type.
         if self == o {
             return if self < Self::ZERO {
@@ -183,7 +177,6 @@ pub trait Integer: Copy + Ord + Hash {
             };
         }
         let (part, _) = self.div_rem(self.gcd(o));
-        let _ = part.held();
         match part.try_times(o) {
             None => None,
             Some(product) => {
@@ -207,8 +200,6 @@ pub trait Integer: Copy + Ord + Hash {
     /// - `held`: `¬ (IsAboveMax hi (value self) (value o))`
     #[inline]
     fn div_mod_floor(self, o: Self) -> (Self, Self) {
-        let _ = self.held();
-        let _ = o.held();
         let (quotient, rest) = self.div_rem(o);
         let other_side = if o < Self::ZERO {
             Self::ZERO < rest
@@ -279,8 +270,6 @@ pub trait Integer: Copy + Ord + Hash {
     /// - `¬ (IsGcdAboveMax hi (value self) (value o))`
     #[inline]
     fn gcd(self, o: Self) -> Self {
-        let _ = self.held();
-        let _ = o.held();
         let mut x = self;
         let mut y = o;
         while !y.is_zero() {
@@ -332,7 +321,6 @@ pub trait Integer: Copy + Ord + Hash {
     /// Whether the number is a whole number times `o`. Of 0, only 0 is a multiple.
     #[inline]
     fn is_multiple_of(self, o: Self) -> bool {
-        let _ = o.held();
         if o.is_zero() {
             return self.is_zero();
         }
@@ -369,12 +357,4 @@ pub trait SignedInteger: Integer {
 /// A type that has every whole number of `BITS` bits, signed or unsigned.
 pub trait Primitive: Integer {
     const BITS: u32;
-}
-
-/// Does nothing at run time. Its contract tells that both numbers lie between the type's least and
-/// greatest number: a value in hand is in range, and no law can say that.
-#[inline(always)]
-pub fn both_held<T: Integer>(first: T, second: T) {
-    let _ = first.held();
-    let _ = second.held();
 }

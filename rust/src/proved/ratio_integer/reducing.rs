@@ -1,8 +1,7 @@
 // Erased from crates/ratio_integer/src/reducing.rt by rust/erase: not to be edited.
-//! The two numbers of a fraction, or of two fractions, divided by their gcd, with their signs as they are or
-//! as lowest terms.
+//! The lowest terms of one fraction or two, and their numbers cancelled: divided by their gcd, each with its sign.
 
-use crate::proved::ratio_integer::integer::{Integer, both_held};
+use crate::proved::ratio_integer::integer::Integer;
 
 /// The lowest terms of `n/d`, for a positive `d`. They always fit the type. So does the gcd on the way, since
 /// it is at most `d`. A number over 1 is returned at once.
@@ -15,11 +14,9 @@ use crate::proved::ratio_integer::integer::{Integer, both_held};
 #[inline]
 pub fn lowest_terms<T: Integer>(n: T, d: T) -> (T, T) {
     if d.is_one() {
-        both_held(n, d);
         return (n, d);
     }
     let (numer, denom) = cancelled(n, d);
-    both_held(numer, denom);
     (numer, denom)
 }
 
@@ -69,8 +66,6 @@ pub fn both_lowest_terms<T: Integer>(a: T, b: T, c: T, d: T) -> ((T, T), (T, T))
         return (lowest_terms(a, b), lowest_terms(c, d));
     }
     let ((p, q), (s, t)) = both_cancelled(a, b, c, d);
-    both_held(p, q);
-    both_held(s, t);
     ((p, q), (s, t))
 }
 

@@ -1,9 +1,9 @@
 // Erased from crates/ratio_integer/src/signed_types.rt by rust/erase: not to be edited.
 // Written by templates/write from templates/impls.rt.txt: change that file, and write this one anew.
-//! The traits `Integer`, `SignedInteger` and `Primitive` for the six signed types, each with the same calls in the same order.
+//! The traits `Integer` and `Primitive` for the six signed types, each with the same calls in the same order.
 
 use crate::proved::ratio_integer::binary_gcd::{binary_gcd, binary_gcd_wide, binary_gcds, binary_gcds_wide};
-use crate::proved::ratio_integer::integer::{Integer, Primitive, SignedInteger};
+use crate::proved::ratio_integer::integer::{Integer, Primitive};
 use crate::proved::ratio_integer::widths;
 use num_traits::cast;
 
@@ -109,18 +109,6 @@ impl Integer for i8 {
             d.unsigned_abs() as u64,
         );
         (left as i8, right as i8)
-    }
-}
-
-impl SignedInteger for i8 {
-    #[inline]
-    fn negate(self) -> i8 {
-        -self
-    }
-
-    #[inline]
-    fn try_negate(self) -> Option<i8> {
-        self.checked_neg()
     }
 }
 
@@ -233,18 +221,6 @@ impl Integer for i16 {
     }
 }
 
-impl SignedInteger for i16 {
-    #[inline]
-    fn negate(self) -> i16 {
-        -self
-    }
-
-    #[inline]
-    fn try_negate(self) -> Option<i16> {
-        self.checked_neg()
-    }
-}
-
 impl Primitive for i16 {
     const BITS: u32 = 16;
 }
@@ -351,18 +327,6 @@ impl Integer for i32 {
             d.unsigned_abs() as u64,
         );
         (left as i32, right as i32)
-    }
-}
-
-impl SignedInteger for i32 {
-    #[inline]
-    fn negate(self) -> i32 {
-        -self
-    }
-
-    #[inline]
-    fn try_negate(self) -> Option<i32> {
-        self.checked_neg()
     }
 }
 
@@ -486,18 +450,6 @@ impl Integer for i64 {
     }
 }
 
-impl SignedInteger for i64 {
-    #[inline]
-    fn negate(self) -> i64 {
-        -self
-    }
-
-    #[inline]
-    fn try_negate(self) -> Option<i64> {
-        self.checked_neg()
-    }
-}
-
 impl Primitive for i64 {
     const BITS: u32 = 64;
 }
@@ -618,18 +570,6 @@ impl Integer for i128 {
     }
 }
 
-impl SignedInteger for i128 {
-    #[inline]
-    fn negate(self) -> i128 {
-        -self
-    }
-
-    #[inline]
-    fn try_negate(self) -> Option<i128> {
-        self.checked_neg()
-    }
-}
-
 impl Primitive for i128 {
     const BITS: u32 = 128;
 }
@@ -747,18 +687,6 @@ impl Integer for isize {
             d.unsigned_abs() as u64,
         );
         (left as isize, right as isize)
-    }
-}
-
-impl SignedInteger for isize {
-    #[inline]
-    fn negate(self) -> isize {
-        -self
-    }
-
-    #[inline]
-    fn try_negate(self) -> Option<isize> {
-        self.checked_neg()
     }
 }
 

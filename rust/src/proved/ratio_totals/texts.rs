@@ -1,127 +1,111 @@
 // Erased from crates/ratio_totals/src/texts.rt by rust/erase: not to be edited.
-//! What the refusals of totals print.
+//! What the refusals of totals of fractions print.
 
-use crate::proved::ratio_totals::changes::LooseRefusal;
-use crate::proved::ratio_totals::joined::{JoinRefusal, NoSum};
-use crate::proved::ratio_totals::orders::OrderRefusal;
-use crate::proved::ratio_totals::reading::ReadRefusal;
-use crate::proved::ratio_totals::rooms::AddRefusal;
-use crate::proved::ratio_totals::total::Refusal;
-use crate::proved::ratio_totals::total_reads::CompareRefusal;
+use crate::proved::ratio_totals::list_sums::SumRefusal;
+use crate::proved::ratio_totals::splitting::RoomSplitRefusal;
+use crate::proved::ratio_totals::total_changes::{DotRefusal, ProductRefusal};
+use crate::proved::ratio_totals::wide_changes::{WideProductRefusal, WideRefusal};
+use crate::proved::ratio_totals::wide_total::ShortRoom;
 #[cfg(feature = "std")]
 use std::error::Error;
 use core::fmt;
 
-impl fmt::Display for Refusal {
+impl fmt::Display for ProductRefusal {
     #[inline]
     fn fmt(&self, f: &mut fmt::Formatter<'_>) -> fmt::Result {
         f.pad(match self {
-            Refusal::MoreRoom => "all slots are taken by other denominators",
-            Refusal::TooMany => "the total has its greatest weight, 2^63 - 1",
+            ProductRefusal::MoreRoom => "all slots are taken by other denominators",
+            ProductRefusal::TooMany => "the total has its greatest weight, 2^63 - 1",
+            ProductRefusal::TooGreat => "one of the lowest terms of the product is 2^64 or more",
         })
     }
 }
 
-impl fmt::Display for ReadRefusal {
+impl fmt::Display for DotRefusal {
     #[inline]
     fn fmt(&self, f: &mut fmt::Formatter<'_>) -> fmt::Result {
         f.pad(match self {
-            ReadRefusal::MoreRoom => "the room is too small",
-            ReadRefusal::TooLong => "the common denominator is not below 2^(2^20)",
+            DotRefusal::UnlikeLengths => "the lists have different lengths",
+            DotRefusal::MoreRoom => "the slots are fewer than the denominators of the products",
+            DotRefusal::TooMany => "the lists have more than 2^63 - 1 items",
+            DotRefusal::TooGreat => "one of the lowest terms of a product is 2^64 or more",
         })
     }
 }
 
-impl fmt::Display for CompareRefusal {
+impl fmt::Display for SumRefusal {
     #[inline]
     fn fmt(&self, f: &mut fmt::Formatter<'_>) -> fmt::Result {
         f.pad(match self {
-            CompareRefusal::MoreSlots => "the slots are fewer than the denominators of both totals",
-            CompareRefusal::TooMany => "the weights of both totals are together above 2^63 - 1",
-            CompareRefusal::MoreRoom => "the room has too few digits",
-            CompareRefusal::TooLong => {
-                "the common denominator of both totals is not below 2^(2^20)"
+            SumRefusal::MoreSlots => "the items have more denominators than there are slots",
+            SumRefusal::MoreRoom => "the room is too small",
+            SumRefusal::TooMany => "the items are more than 2^63 - 1",
+            SumRefusal::TooLong => "the common denominator is not below 2^(2^20)",
+        })
+    }
+}
+
+impl fmt::Display for WideRefusal {
+    #[inline]
+    fn fmt(&self, f: &mut fmt::Formatter<'_>) -> fmt::Result {
+        f.pad(match self {
+            WideRefusal::MoreRoom => "the room or the spare digits are too few",
+            WideRefusal::TooMany => "the total has its greatest weight, 2^63 - 1",
+            WideRefusal::MoreDigits => "the common denominator needs more digits",
+        })
+    }
+}
+
+impl fmt::Display for WideProductRefusal {
+    #[inline]
+    fn fmt(&self, f: &mut fmt::Formatter<'_>) -> fmt::Result {
+        f.pad(match self {
+            WideProductRefusal::MoreRoom => "the spare digits are too few",
+            WideProductRefusal::TooMany => "the total has its greatest weight, 2^63 - 1",
+            WideProductRefusal::MoreDigits => "the common denominator needs more digits",
+            WideProductRefusal::TooGreat => {
+                "one of the lowest terms of the product is 2^128 or more"
             }
         })
     }
 }
 
-impl fmt::Display for OrderRefusal {
+impl fmt::Display for ShortRoom {
     #[inline]
     fn fmt(&self, f: &mut fmt::Formatter<'_>) -> fmt::Result {
-        f.pad(match self {
-            OrderRefusal::MoreSlots => "the slots are fewer than those of both lists",
-            OrderRefusal::TooGreat => {
-                "the negative of a numerator of the second list does not fit 128 bits"
-            }
-            OrderRefusal::MoreRoom => "the room has too few digits",
-            OrderRefusal::TooLong => "the common denominator of both lists is not below 2^(2^20)",
-        })
+        f.pad("the room is too small")
     }
 }
 
-impl fmt::Display for LooseRefusal {
+impl fmt::Display for RoomSplitRefusal {
     #[inline]
     fn fmt(&self, f: &mut fmt::Formatter<'_>) -> fmt::Result {
         f.pad(match self {
-            LooseRefusal::MoreRoom => "all slots are taken by other denominators",
-            LooseRefusal::NotEmpty => {
-                "the slot has the denominator 0, and a numerator that is not 0"
-            }
-            LooseRefusal::TooGreat => "the sum of the numerators does not fit 128 bits",
-        })
-    }
-}
-
-impl fmt::Display for JoinRefusal {
-    #[inline]
-    fn fmt(&self, f: &mut fmt::Formatter<'_>) -> fmt::Result {
-        f.pad(match self {
-            JoinRefusal::NotJoined => "the room does not look as the last step left it",
-            JoinRefusal::TooLong => "the common denominator is not below 2^(2^20)",
-        })
-    }
-}
-
-impl fmt::Display for NoSum {
-    #[inline]
-    fn fmt(&self, f: &mut fmt::Formatter<'_>) -> fmt::Result {
-        f.pad("the room holds no sum, or is too small")
-    }
-}
-
-impl fmt::Display for AddRefusal {
-    #[inline]
-    fn fmt(&self, f: &mut fmt::Formatter<'_>) -> fmt::Result {
-        f.pad(match self {
-            AddRefusal::NoSum => "one of the rooms holds no sum",
-            AddRefusal::MoreRoom => "the spare digits are too few",
-            AddRefusal::TooMany => "both sums together have 2^64 fractions or more",
-            AddRefusal::MoreDigits => "the common denominator needs more digits",
+            RoomSplitRefusal::Length => "the number of parts is not the number of shares",
+            RoomSplitRefusal::BelowZero => "a share is below 0",
+            RoomSplitRefusal::Room(_) => "the sum of the shares has no place in the room",
+            RoomSplitRefusal::NotOne => "the shares do not add up to 1",
         })
     }
 }
 
 #[cfg(feature = "std")]
-impl Error for Refusal {}
+impl Error for ProductRefusal {}
 
 #[cfg(feature = "std")]
-impl Error for ReadRefusal {}
+impl Error for DotRefusal {}
 
 #[cfg(feature = "std")]
-impl Error for CompareRefusal {}
+impl Error for SumRefusal {}
 
 #[cfg(feature = "std")]
-impl Error for OrderRefusal {}
+impl Error for WideRefusal {}
 
 #[cfg(feature = "std")]
-impl Error for LooseRefusal {}
+impl Error for WideProductRefusal {}
 
 #[cfg(feature = "std")]
-impl Error for JoinRefusal {}
+impl Error for ShortRoom {}
 
 #[cfg(feature = "std")]
-impl Error for NoSum {}
-
-#[cfg(feature = "std")]
-impl Error for AddRefusal {}
+impl Error for RoomSplitRefusal {}

@@ -3,9 +3,10 @@ use Rattle.std.proofs.Common.{arith, inl, inr, refl, subst}
 use Rattle.std.proofs.lemmas.Int.{ints}
 use mir.Syntax.{w64}
 use mir.Val.{of_z, to_z}
+use Rattle.ratio_integer.specs.SignedBits.{greatest64, least64}
 use Rattle.num_rational.specs.Split.{CanBeSplit, IsSplitBy, RefusesToSplit}
 use Rattle.ratio_c.specs.Many.{AreOverPositive}
-use Rattle.ratio_c.specs.Numbers64.{fraction64, greatest64, least64}
+use Rattle.ratio_c.specs.Numbers64.{fraction64}
 use Rattle.ratio_c.proofs.Cases.{where_held}
 use Rattle.ratio_c.proofs.splits.ratio_split_i64.Goals as goal
 

@@ -3,8 +3,8 @@ use Rattle.std.proofs.Common.{arith, inl, subst}
 use Rattle.std.proofs.lemmas.Int.{ints}
 use mir.Val.{to_z, of_z}
 use mir.Syntax.{w64}
-use Rattle.ratio_totals.specs.LowestSum.{ChecksMeanOfSlots}
-use Rattle.ratio_totals.specs.Sums.{sum_of_slots}
+use Rattle.ratio_slots.specs.LowestSum.{ChecksMeanOfSlots}
+use Rattle.ratio_slots.specs.Sums.{sum_of_slots}
 use Rattle.ratio_c.proofs.Cases.{where_held}
 use Rattle.ratio_c.proofs.Narrowing.{mean_checked, short_said}
 use Rattle.ratio_c.proofs.total_reads.mean_answer.Goals as goal
@@ -16,5 +16,5 @@ returns-in-Ok c =
     let checks = subst (λ (k : ℤ). ChecksMeanOfSlots c.args.slots.now k c.in-Ok.mean) same c.in-Ok.ensures.mean in
     where_held positive (inl (
       c.in-Ok.ensures.room,
-      short_said _ _ c.narrowed.result _ (mean_checked (sum_of_slots c.args.slots.now) c.args.count c.in-Ok.mean positive checks) c.narrowed.ensures c.checked_fields.ensures,
+      short_said _ _ c.narrowed.result _ (mean_checked (sum_of_slots c.args.slots.now) c.args.count c.in-Ok.mean positive checks) c.narrowed.ensures c.checked.ensures,
     ))

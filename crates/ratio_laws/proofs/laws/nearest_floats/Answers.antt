@@ -1,4 +1,4 @@
-use Rattle.ratio_float.proofs.FloatLawLemmas.{come_back, monotone, value_only, zero_first}
+use Rattle.ratio_decimal.proofs.FloatLawLemmas.{come_back, monotone, value_only, zero_first}
 use Rattle.ratio_laws.proofs.laws.nearest_floats.Goals as goal
 
 pub returns : goal.returns

@@ -1,8 +1,9 @@
 use Rattle.std.proofs.Common.{arith, pos, rules, subst, sym}
-use Rattle.std.specs.Prelude.{◌<◌, ◌-◌, ◌^◌, ◌≡◌, ◌≤ℤ◌, ◌<ℤ◌, negsuc, length}
+use Rattle.std.specs.Prelude.{◌<◌, ◌-◌, ◌^◌, ◌≡◌, ◌≤ℤ◌, ◌<ℤ◌, length}
 use Rattle.std.proofs.lemmas.Int.{ints}
 use mir.Syntax.{w64}
 use mir.Val.{SFits}
+use Rattle.ratio_integer.specs.SignedBits.{least64}
 use Rattle.num_rational.specs.Reduced.{lowest_numbers}
 use Rattle.ratio_uses.specs.Beats.{period_of}
 use Rattle.ratio_uses.specs.declared.beats.Voice.{Voice}
@@ -43,7 +44,7 @@ returns-in_err-time c =
     let above : pos 0 <ℤ (period_of c.voice-item.result).0 = grind (arith, ints, c.into_raw-numer.ensures.numer, c.if-numer-lt1-2.false) in
     let denom_fits : SFits w64 c.into_raw-numer.result.1 = search rules in
     rw c.from_residual.ensures (meet_out c.args.voices.now c.loop-voice.voice-index c.voice-item.result c.loop-voice-test.true c.voice-item.is (lowest_numbers c.loop-voice.time) c.loop-voice.invariant c.loop-voice.time.lowest c.voice-item.result.period.lowest above
-    (2 ^ 63 - 1) (negsuc (2 ^ 63 - 1)) (omega (arith, ints)) (rw c.into_raw-numer.ensures.denom at (number_held _ denom_fits)) c.in_err-time.ensures)
+    (2 ^ 63 - 1) least64 (omega (arith, ints)) (rw c.into_raw-numer.ensures.denom at (number_held _ denom_fits)) c.in_err-time.ensures)
 
 pub loop-voice-preserved : goal.loop-voice-preserved
 loop-voice-preserved c =

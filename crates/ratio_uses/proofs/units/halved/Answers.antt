@@ -3,6 +3,7 @@ use Rattle.std.specs.Prelude.{◌-◌, ◌^◌, ◌≤ℤ◌, ◌*ℤ◌, pos}
 use Rattle.std.proofs.lemmas.Int.{ints}
 use mir.Syntax.{w64}
 use mir.Val.{SFits}
+use Rattle.ratio_integer.specs.SignedBits.{greatest64}
 use Rattle.ratio_integer.proofs.LowestTerms.{lowest_own}
 use Rattle.num_rational.specs.Reduced.{lowest_numbers}
 use Rattle.ratio_uses.proofs.OctaveLemmas.{answered, half_fits, halved_more, halving_nearer, no_halving}
@@ -28,7 +29,7 @@ unwrap-pitch-requires c =
     let up = c.loop-pitch.pitch.lowest.positive in
     let at_least = c.loop-pitch.invariant.at_least_one in
     let least : (pos 2 *ℤ (lowest_numbers c.loop-pitch.pitch).1) ≤ℤ (lowest_numbers c.loop-pitch.pitch).0 = grind (arith, ints, c.numer.ensures.value, c.denom.ensures.value, c.denom-in-loop-pitch.ensures.value, c.loop-pitch-test.true) in
-    let held : (lowest_numbers c.loop-pitch.pitch).0 ≤ℤ pos (2 ^ 63 - 1) = grind (arith, ints, c.numer.ensures.value) in
+    let held : (lowest_numbers c.loop-pitch.pitch).0 ≤ℤ greatest64 = grind (arith, ints, c.numer.ensures.value) in
     answered _ _ (half_fits (2 ^ 63 - 1) (lowest_numbers c.loop-pitch.pitch) up least held) c.checked_div.ensures
 
 pub loop-pitch-smaller : goal.loop-pitch-smaller

@@ -2,20 +2,20 @@
 //! The sum, difference, product, quotient and remainder of a pair of fractions, and whether both denominators are positive.
 
 use crate::proved::ratio_c::code::{DENOMINATOR_NOT_POSITIVE, DIVISION_BY_ZERO};
-use crate::proved::ratio_c::crossing::{Reply, TwoFractions, checked, checked_fields, refused};
+use crate::proved::ratio_c::crossing::{Reply, TwoFractions, checked, refused};
 use crate::proved::ratio_c::each::Call;
-use bakhsney::proved::num_rational::Ratio;
-use bakhsney::proved::ratio_core::remainder;
-use bakhsney::proved::ratio_core::sums::reducing;
+use bakhsney::proved::ratio_core::{products, remainder, sums};
 use bakhsney::proved::ratio_integer::Integer;
 
-/// The two fractions of a pair, if their denominators are positive.
+/// The four numbers of a pair, if both denominators are positive.
 #[inline(always)]
-pub(crate) fn both<P: TwoFractions>(pair: &P) -> Option<(Ratio<P::Inside>, Ratio<P::Inside>)> {
-    let (n, d) = pair.left();
-    let (m, e) = pair.right();
-    if P::Inside::ZERO < d && P::Inside::ZERO < e {
-        Some((Ratio::new_raw(n, d), Ratio::new_raw(m, e)))
+pub(crate) fn both<P: TwoFractions>(
+    pair: &P,
+) -> Option<(P::Inside, P::Inside, P::Inside, P::Inside)> {
+    let (a, b) = pair.left();
+    let (c, d) = pair.right();
+    if P::Inside::ZERO < b && P::Inside::ZERO < d {
+        Some((a, b, c, d))
     } else {
         None
     }
@@ -29,12 +29,7 @@ impl<P: TwoFractions, A: Reply<P::Inside>> Call<P, A> for Sum {
     #[inline(always)]
     fn answer(&self, pair: &P) -> A {
         match both(pair) {
-            Some((x, y)) => checked_fields(reducing::checked_add(
-                *x.numer(),
-                *x.denom(),
-                *y.numer(),
-                *y.denom(),
-            )),
+            Some((a, b, c, d)) => checked(sums::unreduced_sums::checked_add(a, b, c, d)),
             None => refused(DENOMINATOR_NOT_POSITIVE),
         }
     }
@@ -48,12 +43,7 @@ impl<P: TwoFractions, A: Reply<P::Inside>> Call<P, A> for Difference {
     #[inline(always)]
     fn answer(&self, pair: &P) -> A {
         match both(pair) {
-            Some((x, y)) => checked_fields(reducing::checked_sub(
-                *x.numer(),
-                *x.denom(),
-                *y.numer(),
-                *y.denom(),
-            )),
+            Some((a, b, c, d)) => checked(sums::unreduced_sums::checked_sub(a, b, c, d)),
             None => refused(DENOMINATOR_NOT_POSITIVE),
         }
     }
@@ -67,7 +57,7 @@ impl<P: TwoFractions, A: Reply<P::Inside>> Call<P, A> for Product {
     #[inline(always)]
     fn answer(&self, pair: &P) -> A {
         match both(pair) {
-            Some((left, right)) => checked(left.checked_mul(&right)),
+            Some((a, b, c, d)) => checked(products::checked_mul(a, b, c, d)),
             None => refused(DENOMINATOR_NOT_POSITIVE),
         }
     }
@@ -81,8 +71,8 @@ impl<P: TwoFractions, A: Reply<P::Inside>> Call<P, A> for Quotient {
     #[inline(always)]
     fn answer(&self, pair: &P) -> A {
         match both(pair) {
-            Some((_, right)) if right.is_zero() => refused(DIVISION_BY_ZERO),
-            Some((left, right)) => checked(left.checked_div(&right)),
+            Some(x) if x.2.is_zero() => refused(DIVISION_BY_ZERO),
+            Some((a, b, c, d)) => checked(products::checked_div(a, b, c, d)),
             None => refused(DENOMINATOR_NOT_POSITIVE),
         }
     }
@@ -96,13 +86,8 @@ impl<P: TwoFractions, A: Reply<P::Inside>> Call<P, A> for Remainder {
     #[inline(always)]
     fn answer(&self, pair: &P) -> A {
         match both(pair) {
-            Some((_, right)) if right.is_zero() => refused(DIVISION_BY_ZERO),
-            Some((x, y)) => checked_fields(remainder::lowest_remainder::checked_rem(
-                *x.numer(),
-                *x.denom(),
-                *y.numer(),
-                *y.denom(),
-            )),
+            Some(x) if x.2.is_zero() => refused(DIVISION_BY_ZERO),
+            Some((a, b, c, d)) => checked(remainder::unreduced_remainders::checked_rem(a, b, c, d)),
             None => refused(DENOMINATOR_NOT_POSITIVE),
         }
     }

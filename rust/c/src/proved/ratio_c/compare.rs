@@ -4,7 +4,7 @@
 use crate::proved::ratio_c::code::{ANSWERED, ZERO_DENOMINATOR};
 use crate::proved::ratio_c::crossing::TwoFractions;
 use crate::proved::ratio_c::each::Call;
-use bakhsney::proved::num_rational::Ratio;
+use bakhsney::proved::ratio_core::{Steps, cross_order};
 use bakhsney::proved::ratio_integer::Integer;
 use core::cmp::Ordering;
 
@@ -22,20 +22,28 @@ pub struct Comparison;
 impl<P: TwoFractions> Call<P, Order> for Comparison {
     #[inline(always)]
     fn answer(&self, pair: &P) -> Order {
-        let (n, d) = pair.left();
-        let (m, e) = pair.right();
-        if d.is_zero() || e.is_zero() {
-            return Order {
+        match order_of(pair) {
+            Some(order) => Order {
+                code: ANSWERED,
+                order: number_of(order),
+            },
+            None => Order {
                 code: ZERO_DENOMINATOR,
                 order: 0,
-            };
-        }
-        let order = Ratio::new_raw(n, d).cmp(&Ratio::new_raw(m, e));
-        Order {
-            code: ANSWERED,
-            order: number_of(order),
+            },
         }
     }
+}
+
+/// The order of the two fractions of a pair, or `None` if a denominator is 0.
+#[inline(always)]
+fn order_of<P: TwoFractions>(pair: &P) -> Option<Ordering> {
+    let (n, d) = pair.left();
+    let (m, e) = pair.right();
+    if d.is_zero() || e.is_zero() {
+        return None;
+    }
+    Some(cross_order(n, d, m, e, &mut Steps::new()))
 }
 
 /// An order as a number: -1, 0 or 1.
@@ -62,18 +70,15 @@ pub struct Equality;
 impl<P: TwoFractions> Call<P, Truth> for Equality {
     #[inline(always)]
     fn answer(&self, pair: &P) -> Truth {
-        let (n, d) = pair.left();
-        let (m, e) = pair.right();
-        if d.is_zero() || e.is_zero() {
-            return Truth {
+        match order_of(pair) {
+            Some(order) => Truth {
+                code: ANSWERED,
+                holds: truth_of(order.is_eq()),
+            },
+            None => Truth {
                 code: ZERO_DENOMINATOR,
                 holds: 0,
-            };
-        }
-        let equal = Ratio::new_raw(n, d) == Ratio::new_raw(m, e);
-        Truth {
-            code: ANSWERED,
-            holds: truth_of(equal),
+            },
         }
     }
 }

@@ -3,7 +3,6 @@
 //! that a hash takes.
 
 use crate::proved::ratio_c::code::{ANSWERED, NOT_HELD};
-use bakhsney::proved::num_rational::Ratio;
 use bakhsney::proved::ratio_integer::{Primitive, SignedInteger};
 
 /// A number of at most 128 bits, with its sign. A hash takes its lowest 64 bits.
@@ -138,18 +137,15 @@ pub fn refused<T: Copy + Primitive, A: Reply<T>>(code: u32) -> A {
     A::reply(code, T::ZERO, T::ZERO)
 }
 
-/// The answer for what a checked call returned.
+/// The answer for a whole number: the number over 1.
 #[inline(always)]
-pub fn checked<T: Copy + Primitive, A: Reply<T>>(answer: Option<Ratio<T>>) -> A {
-    match answer {
-        Some(x) => A::reply(ANSWERED, *x.numer(), *x.denom()),
-        None => refused::<T, A>(NOT_HELD),
-    }
+pub fn whole<T: Copy + Primitive, A: Reply<T>>(number: T) -> A {
+    A::reply(ANSWERED, number, T::ONE)
 }
 
-/// The answer for two numbers, which the calls of the crates below `num_rational` return without a `Ratio`.
+/// The answer for the two numbers that a checked call returned.
 #[inline(always)]
-pub fn checked_fields<T: Copy + Primitive, A: Reply<T>>(answer: Option<(T, T)>) -> A {
+pub fn checked<T: Copy + Primitive, A: Reply<T>>(answer: Option<(T, T)>) -> A {
     match answer {
         Some((numer, denom)) => A::reply(ANSWERED, numer, denom),
         None => refused::<T, A>(NOT_HELD),

@@ -3,13 +3,12 @@
 
 use crate::proved::ratio_c::code::{BAD_OPTION, DENOMINATOR_NOT_POSITIVE, NOT_HELD, PARSE_ERROR};
 use crate::proved::ratio_c::crossing::{Digest, Pointed};
-use crate::proved::ratio_c::multiple::rule_of;
 use crate::proved::ratio_c::one_fraction::positive;
 use crate::proved::ratio_c::printing::{Printer, Text, no_text, put_bytes};
 use crate::proved::ratio_c::reading::Reader;
+use crate::proved::ratio_c::rounded::rule_of;
 use bakhsney::proved::ratio_core::DecimalText;
 use bakhsney::proved::ratio_decimal::{DecimalRefusal, decimal, from_decimal};
-use bakhsney::proved::ratio_integer::both_held;
 use core::marker::PhantomData;
 
 /// Prints a fraction as a decimal, with its places and by its rule: 2/3 with 2 places by `RULE_HALF_EVEN` is `0.67`.
@@ -31,10 +30,8 @@ impl<F: Pointed> Printer<F> for Decimals {
 fn decimal_of<F: Pointed>(x: &F) -> Result<DecimalText, u32> {
     let places = x.places();
     match positive(x) {
-        Some(r) => match rule_of(x.rule()) {
+        Some((n, d)) => match rule_of(x.rule()) {
             Some(rule) if places <= 38 => {
-                let (n, d) = r.into_raw();
-                both_held(n, d);
                 Ok(decimal(n, d, places, rule))
             }
             _ => Err(BAD_OPTION),
@@ -49,7 +46,7 @@ pub struct DecimalTexts<T> {
 }
 
 impl<T> DecimalTexts<T> {
-    /// The reader over the type `T`.
+    /// The reader of decimals, over the type `T`.
     #[inline(always)]
     pub fn new() -> DecimalTexts<T> {
         DecimalTexts {

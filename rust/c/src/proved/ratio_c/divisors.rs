@@ -3,9 +3,8 @@
 
 use crate::proved::ratio_c::arithmetic::both;
 use crate::proved::ratio_c::code::DENOMINATOR_NOT_POSITIVE;
-use crate::proved::ratio_c::crossing::{Reply, TwoFractions, checked_fields, refused};
+use crate::proved::ratio_c::crossing::{Reply, TwoFractions, checked, refused};
 use crate::proved::ratio_c::each::Call;
-use bakhsney::proved::num_rational::Ratio;
 use bakhsney::proved::ratio_core::divisors;
 use bakhsney::proved::ratio_integer::{Integer, lowest_terms};
 
@@ -17,7 +16,7 @@ impl<P: TwoFractions, A: Reply<P::Inside>> Call<P, A> for CommonDivisor {
     #[inline(always)]
     fn answer(&self, pair: &P) -> A {
         match both(pair) {
-            Some((x, y)) => checked_fields(gcd(x, y)),
+            Some((a, b, c, d)) => checked(gcd(a, b, c, d)),
             None => refused(DENOMINATOR_NOT_POSITIVE),
         }
     }
@@ -31,7 +30,7 @@ impl<P: TwoFractions, A: Reply<P::Inside>> Call<P, A> for CommonMultiple {
     #[inline(always)]
     fn answer(&self, pair: &P) -> A {
         match both(pair) {
-            Some((x, y)) => checked_fields(lcm(x, y)),
+            Some((a, b, c, d)) => checked(lcm(a, b, c, d)),
             None => refused(DENOMINATOR_NOT_POSITIVE),
         }
     }
@@ -39,16 +38,16 @@ impl<P: TwoFractions, A: Reply<P::Inside>> Call<P, A> for CommonMultiple {
 
 // The greatest common divisor of two fractions in any terms.
 #[inline]
-fn gcd<T: Copy + Integer>(x: Ratio<T>, y: Ratio<T>) -> Option<(T, T)> {
-    let (a, b) = lowest_terms(*x.numer(), *x.denom());
-    let (c, d) = lowest_terms(*y.numer(), *y.denom());
+fn gcd<T: Copy + Integer>(a: T, b: T, c: T, d: T) -> Option<(T, T)> {
+    let (a, b) = lowest_terms(a, b);
+    let (c, d) = lowest_terms(c, d);
     divisors::checked_gcd(a, b, c, d)
 }
 
 // The least common multiple of two fractions in any terms.
 #[inline]
-fn lcm<T: Copy + Integer>(x: Ratio<T>, y: Ratio<T>) -> Option<(T, T)> {
-    let (a, b) = lowest_terms(*x.numer(), *x.denom());
-    let (c, d) = lowest_terms(*y.numer(), *y.denom());
+fn lcm<T: Copy + Integer>(a: T, b: T, c: T, d: T) -> Option<(T, T)> {
+    let (a, b) = lowest_terms(a, b);
+    let (c, d) = lowest_terms(c, d);
     divisors::checked_lcm(a, b, c, d)
 }

@@ -3,6 +3,7 @@
 
 /// A call that gives an answer for one item.
 pub trait Call<A, B> {
+    /// The answer for one item.
     fn answer(&self, asked: &A) -> B;
 }
 

@@ -3,11 +3,12 @@
 //! nearest to fractions.
 
 use crate::proved::ratio_c::code::{ANSWERED, DENOMINATOR_NOT_POSITIVE};
-use crate::proved::ratio_c::crossing::{Digest, OneFraction, Reply, checked_fields};
+use crate::proved::ratio_c::crossing::{Digest, OneFraction, Reply, checked};
 use crate::proved::ratio_c::each::Call;
 use crate::proved::ratio_c::one_fraction::positive;
-use bakhsney::proved::ratio_float::exact::from_float;
-use bakhsney::proved::ratio_float::rationalize::rationalize;
+use bakhsney::proved::ratio_decimal::float::exact::from_float;
+use bakhsney::proved::ratio_decimal::float::nearest::to_f64;
+use bakhsney::proved::ratio_decimal::float::rationalize::rationalize;
 use core::marker::PhantomData;
 
 /// A float. If there is none, the code says why, and the value is 0.
@@ -23,7 +24,7 @@ pub struct FromFloat<T> {
 }
 
 impl<T> FromFloat<T> {
-    /// The call for the type `T`.
+    /// The call that gives floats as fractions of the type `T`.
     #[inline(always)]
     pub fn new() -> FromFloat<T> {
         FromFloat {
@@ -35,7 +36,7 @@ impl<T> FromFloat<T> {
 impl<T: Digest, A: Reply<T>> Call<f64, A> for FromFloat<T> {
     #[inline(always)]
     fn answer(&self, x: &f64) -> A {
-        checked_fields(from_float::<T>(*x))
+        checked(from_float::<T>(*x))
     }
 }
 
@@ -45,7 +46,7 @@ pub struct Rationalizing<T> {
 }
 
 impl<T> Rationalizing<T> {
-    /// The call for the type `T`.
+    /// The call that finds the simplest fractions of the type `T` that round to floats.
     #[inline(always)]
     pub fn new() -> Rationalizing<T> {
         Rationalizing {
@@ -57,7 +58,7 @@ impl<T> Rationalizing<T> {
 impl<T: Digest, A: Reply<T>> Call<f64, A> for Rationalizing<T> {
     #[inline(always)]
     fn answer(&self, x: &f64) -> A {
-        checked_fields(rationalize::<T>(*x))
+        checked(rationalize::<T>(*x))
     }
 }
 
@@ -69,9 +70,9 @@ impl<F: OneFraction> Call<F, Float> for ToFloat {
     #[inline(always)]
     fn answer(&self, x: &F) -> Float {
         match positive(x) {
-            Some(r) => Float {
+            Some((n, d)) => Float {
                 code: ANSWERED,
-                value: r.to_f64(),
+                value: to_f64(n, d),
             },
             None => Float {
                 code: DENOMINATOR_NOT_POSITIVE,

@@ -1,9 +1,8 @@
 // Erased from crates/ratio_c/src/hash_mod61.rt by rust/erase: not to be edited.
-//! The hash of a fraction in Python: the residue modulo 2^61 - 1, with the sign of the fraction.
+//! The hash of a fraction in Python: the residue modulo 2^61 - 1, with the sign of the fraction; and products and inverses modulo 2^61 - 1.
 
 use crate::proved::ratio_c::code::{ANSWERED, DENOMINATOR_NOT_POSITIVE};
 use crate::proved::ratio_c::each::{Call, each};
-use crate::proved::ratio_c::mod61::{MODULUS, inverse, product};
 use crate::proved::ratio_c::numbers64::Fraction64;
 use bakhsney::proved::ratio_integer::lowest_terms;
 
@@ -93,4 +92,82 @@ pub unsafe extern "C" fn ratio_hash_mod61_i64(asked: *const Fraction64, asked_le
     let asked = crate::items(asked, asked_len);
     let answers = crate::items_mut(answers, answers_len);
     each(&HashingMod61, asked, answers)
+}
+
+/// The modulus.
+pub const MODULUS: u64 = 0x1fff_ffff_ffff_ffff;
+
+/// The product of two numbers, modulo 2^61 - 1.
+///
+/// # Conditions
+///
+/// The proof requires of the caller:
+///
+/// - `left`: `a < 2 ^ 61`
+/// - `right`: `b < 2 ^ 61`
+#[inline(always)]
+pub fn product(a: u64, b: u64) -> u64 {
+    let whole = a as u128 * b as u128;
+    let sum = (whole % (1 << 61)) as u64 + (whole >> 61) as u64;
+    sum % MODULUS
+}
+
+/// The number that gives 1 with a number below the modulus, if there is one: by the binary algorithm of Euclid. At each
+/// step `a` is a multiple of the number by `u`, and `b` is one by `v`.
+///
+/// # Conditions
+///
+/// The proof requires of the caller:
+///
+/// - `number < hash_modulus`
+#[inline]
+pub fn inverse(number: u64) -> Option<u64> {
+    if number == 0 {
+        return None;
+    }
+    let (mut a, mut u) = (number, 1);
+    let (mut b, mut v) = (MODULUS % number, MODULUS - MODULUS / number);
+    while b != 0 {
+        let zeros = b.trailing_zeros();
+        b >>= zeros;
+        v = turned(v, zeros);
+        if b == 1 {
+            return Some(v);
+        }
+        if a < b {
+            b -= a;
+            v = difference(v, u);
+        } else {
+            let (rest, factor) = (a - b, difference(u, v));
+            (a, u) = (b, v);
+            (b, v) = (rest, factor);
+        }
+    }
+    if a == 1 { Some(u) } else { None }
+}
+
+/// The number divided by 2^`count`, modulo 2^61 - 1.
+///
+/// # Conditions
+///
+/// The proof requires of the caller:
+///
+/// - `number`: `n < 2 ^ 61`
+/// - `count`: `count ≤ 61`
+#[inline(always)]
+fn turned(n: u64, count: u32) -> u64 {
+    (n >> count) + (n % (1 << count)) * (1 << (61 - count))
+}
+
+/// The difference of two numbers, modulo 2^61 - 1.
+///
+/// # Conditions
+///
+/// The proof requires of the caller:
+///
+/// - `left`: `n < 2 ^ 61`
+/// - `right`: `m < 2 ^ 61`
+#[inline(always)]
+fn difference(n: u64, m: u64) -> u64 {
+    if n < m { n + MODULUS - m } else { n - m }
 }

@@ -3,15 +3,15 @@
 
 use crate::proved::ratio_c::code::{ANSWERED, BAD_OPTION, DIVISION_BY_ZERO, NO_TOTAL};
 use crate::proved::ratio_c::compare::{Order, number_of};
-use crate::proved::ratio_c::crossing::{checked_fields, refused};
+use crate::proved::ratio_c::crossing::{checked, refused};
 use crate::proved::ratio_c::each::{BAD_LENGTH, DONE};
 use crate::proved::ratio_c::floats::Float;
-use crate::proved::ratio_c::multiple::rule_of;
 use crate::proved::ratio_c::numbers64::Answer64;
 use crate::proved::ratio_c::printing::{Text, no_text};
 use crate::proved::ratio_c::reading::Span;
+use crate::proved::ratio_c::rounded::rule_of;
 use crate::proved::ratio_c::total_reads::narrowed;
-use bakhsney::proved::ratio_totals::{Joined, NoSum};
+use bakhsney::proved::ratio_slots::{Joined, NoSum};
 
 /// A read in a room with so many digits for the common denominator. How many slots are joined does not matter to it.
 #[inline]
@@ -26,7 +26,7 @@ fn read_in(digits: u64) -> Joined {
 #[inline]
 fn sum_answer(digits: u64, room: &mut [u64]) -> Answer64 {
     match read_in(digits).sum(room) {
-        Ok(sum) => checked_fields(narrowed(sum)),
+        Ok(sum) => checked(narrowed(sum)),
         Err(NoSum) => refused(NO_TOTAL),
     }
 }
@@ -38,7 +38,7 @@ fn mean_answer(digits: u64, count: i64, room: &mut [u64]) -> Answer64 {
         return refused(DIVISION_BY_ZERO);
     }
     match read_in(digits).mean(count, room) {
-        Ok(mean) => checked_fields(narrowed(mean)),
+        Ok(mean) => checked(narrowed(mean)),
         Err(NoSum) => refused(NO_TOTAL),
     }
 }

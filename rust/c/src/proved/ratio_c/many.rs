@@ -2,7 +2,7 @@
 //! The call for C that multiplies many fractions and divides by many, where no number on the way has to fit.
 
 use crate::proved::ratio_c::code::{DENOMINATOR_NOT_POSITIVE, DIVISION_BY_ZERO, MORE_ROOM};
-use crate::proved::ratio_c::crossing::{checked_fields, refused};
+use crate::proved::ratio_c::crossing::{checked, refused};
 use crate::proved::ratio_c::each::{BAD_LENGTH, DONE};
 use crate::proved::ratio_c::numbers64::{Answer64, Fraction64};
 use bakhsney::proved::ratio_core::products::many_products;
@@ -60,7 +60,7 @@ fn quotient_answer(above: &[Fraction64], below: &[Fraction64], room: &mut [i64])
     if !are_not_zero(below) {
         return refused(DIVISION_BY_ZERO);
     }
-    checked_fields(quotient(above, below, room))
+    checked(quotient(above, below, room))
 }
 
 /// The product of the fractions above divided by each fraction below.

@@ -1,12 +1,9 @@
 // Erased from crates/ratio_c/src/numbers64.rt by rust/erase: not to be edited.
 // Written by templates/write from templates/numbers.rt.txt: change that file, and write this one anew.
-//! The structs of C with fractions of `i64`, and the exported calls over slices of them.
+//! The structs of C with fractions of `i64`, and the exported calls over slices of them, such as `ratio_add_i64`.
 
 use crate::proved::ratio_c::arithmetic::{Difference, Product, Quotient, Remainder, Sum};
-use crate::proved::ratio_c::between::Between;
-use crate::proved::ratio_c::cast::Casting;
 use crate::proved::ratio_c::compare::{Comparison, Equality, Order, Truth};
-use crate::proved::ratio_c::convergent::ConvergentAt;
 use crate::proved::ratio_c::crossing::{
     Bounded, FlaggedBounds, OneFraction, Parted, PartedPair, Placed, Pointed, Raised, Reply, Ruled,
     RuledPair, TwoFractions,
@@ -15,20 +12,17 @@ use crate::proved::ratio_c::decimal::{DecimalTexts, Decimals};
 use crate::proved::ratio_c::divisors::{CommonDivisor, CommonMultiple};
 use crate::proved::ratio_c::each::each;
 use crate::proved::ratio_c::floats::{Float, FromFloat, Rationalizing, ToFloat};
-use crate::proved::ratio_c::hash::{Hash, Hashing};
-use crate::proved::ratio_c::lowest_hash::LowestHashing;
-use crate::proved::ratio_c::multiple::RoundingTo;
-use crate::proved::ratio_c::multiple_pair::{ProductTo, QuotientTo};
-use crate::proved::ratio_c::nearest::Nearest;
+use crate::proved::ratio_c::hash::{Hash, Hashing, LowestHashing};
+use crate::proved::ratio_c::near::{Between, ConvergentAt, Nearest};
 use crate::proved::ratio_c::numbers32::Answer32;
 use crate::proved::ratio_c::numbers128::Answer128;
-use crate::proved::ratio_c::one_fraction::{Ceiling, Floor, LowestTerms, Raising, RoundingToWhole, Truncation};
+use crate::proved::ratio_c::one_fraction::{
+    Absolute, Casting, Ceiling, Floor, LowestTerms, Negation, Raising, RoundingToWhole, Truncation,
+};
 use crate::proved::ratio_c::printing::{Fields, Text, print};
-use crate::proved::ratio_c::reading::{Fractions, Reading, Span};
-use crate::proved::ratio_c::rounded_product::RoundedProduct;
+use crate::proved::ratio_c::reading::{Fractions, Reading, Span, TypedTexts};
+use crate::proved::ratio_c::rounded::{ProductTo, QuotientTo, RoundedProduct, RoundingTo};
 use crate::proved::ratio_c::scaled::{Scaled, Scaling};
-use crate::proved::ratio_c::sign::{Absolute, Negation};
-use crate::proved::ratio_c::typed::TypedTexts;
 
 /// The room for a text: a slash, and two numbers of at most 20 bytes.
 pub const ROOM: usize = 41;

@@ -1,10 +1,10 @@
 // Erased from crates/ratio_c/src/scaled.rt by rust/erase: not to be edited.
-//! Fractions from numbers with a decimal scale, as databases keep them.
+//! Fractions from numbers with a decimal scale, as databases keep them: 25/2 from 1250 with the scale 2.
 
-use crate::proved::ratio_c::cast::cast;
 use crate::proved::ratio_c::code::BAD_OPTION;
-use crate::proved::ratio_c::crossing::{Digest, Reply, checked_fields, refused};
+use crate::proved::ratio_c::crossing::{Digest, Reply, checked, refused};
 use crate::proved::ratio_c::each::Call;
+use crate::proved::ratio_c::one_fraction::cast;
 use crate::proved::ratio_c::wide::Wide;
 use bakhsney::proved::ratio_integer::lowest_terms;
 use core::marker::PhantomData;
@@ -22,7 +22,7 @@ pub struct Scaling<T> {
 }
 
 impl<T> Scaling<T> {
-    /// The call for the type `T`.
+    /// The call that makes fractions of the type `T` from numbers with a scale.
     #[inline(always)]
     pub fn new() -> Scaling<T> {
         Scaling {
@@ -38,7 +38,7 @@ impl<T: Digest, A: Reply<T>> Call<Scaled, A> for Scaling<T> {
             return refused(BAD_OPTION);
         }
         let n = x.number.number();
-        checked_fields(from_scaled::<T>(n, x.scale.unsigned_abs()))
+        checked(from_scaled::<T>(n, x.scale.unsigned_abs()))
     }
 }
 

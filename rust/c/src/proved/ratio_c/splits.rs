@@ -7,7 +7,7 @@ use crate::proved::ratio_c::code::{
 use crate::proved::ratio_c::many::are_positive;
 use crate::proved::ratio_c::numbers64::Fraction64;
 use bakhsney::proved::num_rational::{Reduced, Share, SplitRefusal, WeightRefusal, split_by_weights, split_shares};
-use bakhsney::proved::ratio_integer::{Integer, both_held};
+use bakhsney::proved::ratio_integer::Integer;
 
 impl Share<i64> for Fraction64 {
     #[inline(always)]
@@ -24,7 +24,6 @@ impl Share<i64> for Fraction64 {
 // The lowest terms of a fraction over a positive denominator, and else any fraction.
 #[inline]
 fn lowest_of<T: Copy + Integer>(n: T, d: T) -> Reduced<T> {
-    both_held(n, d);
     match Reduced::checked_new(n, d) {
         Some(lowest) => lowest,
         None => Reduced::zero(),

@@ -3,10 +3,10 @@
 
 use crate::proved::ratio_c::code::{ANSWERED, BAD_OPTION, MORE_ROOM, NOT_HELD};
 use crate::proved::ratio_c::each::{BAD_LENGTH, DONE};
-use crate::proved::ratio_c::multiple::rule_of;
 use crate::proved::ratio_c::printing::{Text, no_text};
 use crate::proved::ratio_c::reading::Span;
-use bakhsney::proved::ratio_totals::{Slot, put_bounded_of};
+use crate::proved::ratio_c::rounded::rule_of;
+use bakhsney::proved::ratio_slots::{Slot, put_bounded_of};
 
 /// The sum of the slots as a decimal, which ends where `texts` ends, from the bounds of the sum.
 #[inline]

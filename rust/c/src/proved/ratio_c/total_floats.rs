@@ -5,7 +5,7 @@ use crate::proved::ratio_c::code::ANSWERED;
 use crate::proved::ratio_c::each::{BAD_LENGTH, DONE};
 use crate::proved::ratio_c::floats::Float;
 use crate::proved::ratio_c::total_reads::code_of;
-use bakhsney::proved::ratio_totals::{Slot, float_of};
+use bakhsney::proved::ratio_slots::{Slot, float_of};
 
 /// The float nearest to the sum of the slots.
 #[inline]

@@ -3,7 +3,7 @@
 
 use crate::proved::ratio_c::code::{ANSWERED, MORE_ROOM, NO_TOTAL, TOO_LONG};
 use crate::proved::ratio_c::each::{BAD_LENGTH, DONE};
-use bakhsney::proved::ratio_totals::{JoinRefusal, Joined, Slot};
+use bakhsney::proved::ratio_slots::{JoinRefusal, Joined, Slot};
 
 /// How far a read in steps has come, and what the last step said. If no slot is joined and there are no digits, the read has not begun.
 #[repr(C)]

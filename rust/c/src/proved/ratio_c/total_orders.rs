@@ -4,7 +4,7 @@
 use crate::proved::ratio_c::code::{ANSWERED, MORE_ROOM, NOT_HELD, TOO_LONG};
 use crate::proved::ratio_c::compare::{Order, number_of};
 use crate::proved::ratio_c::each::{BAD_LENGTH, DONE};
-use bakhsney::proved::ratio_totals::{OrderRefusal, Slot, digits_of_order, order_of};
+use bakhsney::proved::ratio_slots::{OrderRefusal, Slot, digits_of_order, order_of};
 
 /// The code of a comparison that was refused.
 #[inline]

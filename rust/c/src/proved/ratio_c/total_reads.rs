@@ -1,18 +1,19 @@
 // Erased from crates/ratio_c/src/total_reads.rt by rust/erase: not to be edited.
-//! The calls for C that read a total, and the room that these need: its empty slots, its sum, its mean, its sign and its decimal.
+//! The calls for C that read a total, and the room that these need: its empty slots, its sum, its mean, its sign, its decimal, and the
+//! multiple of `1/parts` near it.
 
-use crate::proved::ratio_c::cast::cast;
 use crate::proved::ratio_c::code::{ANSWERED, BAD_OPTION, DIVISION_BY_ZERO, MORE_ROOM, TOO_LONG};
 use crate::proved::ratio_c::compare::{Order, number_of};
-use crate::proved::ratio_c::crossing::{checked_fields, refused};
+use crate::proved::ratio_c::crossing::{checked, refused};
 use crate::proved::ratio_c::each::{BAD_LENGTH, DONE};
-use crate::proved::ratio_c::multiple::rule_of;
 use crate::proved::ratio_c::numbers64::Answer64;
+use crate::proved::ratio_c::one_fraction::cast;
 use crate::proved::ratio_c::printing::{Text, no_text};
 use crate::proved::ratio_c::reading::Span;
-use bakhsney::proved::ratio_totals::{
-    ReadRefusal, Slot, count_free, decimal_bytes_of, decimal_digits_of, digits_of_read, mean_of,
-    put_decimal_of, sign_of, sum_of,
+use crate::proved::ratio_c::rounded::rule_of;
+use bakhsney::proved::ratio_slots::{
+    ReadRefusal, Slot, count_free, decimal_bytes_of, decimal_digits_of, digits_of_multiple,
+    digits_of_read, mean_of, multiple_of, put_decimal_of, sign_of, sum_of,
 };
 
 /// The code of a read that was refused.
@@ -37,7 +38,7 @@ pub(crate) fn narrowed(terms: Option<(i128, u64)>) -> Option<(i64, i64)> {
 #[inline]
 fn sum_answer(slots: &[Slot], room: &mut [u64]) -> Answer64 {
     match sum_of(slots, room) {
-        Ok(sum) => checked_fields(narrowed(sum)),
+        Ok(sum) => checked(narrowed(sum)),
         Err(why) => refused(code_of(why)),
     }
 }
@@ -49,7 +50,7 @@ fn mean_answer(slots: &[Slot], count: i64, room: &mut [u64]) -> Answer64 {
         return refused(DIVISION_BY_ZERO);
     }
     match mean_of(slots, count, room) {
-        Ok(mean) => checked_fields(narrowed(mean)),
+        Ok(mean) => checked(narrowed(mean)),
         Err(why) => refused(code_of(why)),
     }
 }
@@ -174,5 +175,45 @@ pub unsafe extern "C" fn ratio_total_print_i64(slots: *const Slot, slots_len: us
         return BAD_LENGTH;
     }
     answers[0] = print_answer(slots, places, rule, room, texts);
+    DONE
+}
+
+/// The multiple of `1/parts` that the rule says of the sum of the slots.
+#[inline]
+fn multiple_answer(slots: &[Slot], parts: i64, rule: u32, room: &mut [u64]) -> Answer64 {
+    if parts <= 0 {
+        return refused(BAD_OPTION);
+    }
+    let rounding = match rule_of(rule) {
+        Some(rounding) => rounding,
+        _ => {
+            return refused(BAD_OPTION);
+        }
+    };
+    match multiple_of(slots, parts as u64, rounding, room) {
+        Ok(multiple) => checked(narrowed(multiple)),
+        Err(why) => refused(code_of(why)),
+    }
+}
+
+/// How many digits of room a multiple needs.
+#[no_mangle]
+pub unsafe extern "C" fn ratio_total_round_to_digits_i64(slots: *const Slot, slots_len: usize) -> u64 {
+    // SAFETY: the header says what the caller owes for each pointer and its length.
+    let slots = crate::items(slots, slots_len);
+    digits_of_multiple(slots) as u64
+}
+
+/// The multiple of `1/parts` that a rule says of the sum.
+#[no_mangle]
+pub unsafe extern "C" fn ratio_total_round_to_i64(slots: *const Slot, slots_len: usize, parts: i64, rule: u32, room: *mut u64, room_len: usize, answers: *mut Answer64, answers_len: usize) -> u32 {
+    // SAFETY: the header says what the caller owes for each pointer and its length.
+    let slots = crate::items(slots, slots_len);
+    let room = crate::items_mut(room, room_len);
+    let answers = crate::items_mut(answers, answers_len);
+    if answers.len() != 1 {
+        return BAD_LENGTH;
+    }
+    answers[0] = multiple_answer(slots, parts, rule, room);
     DONE
 }

@@ -5,7 +5,7 @@ use crate::proved::ratio_c::code::{ANSWERED, DENOMINATOR_NOT_POSITIVE, MORE_ROOM
 use crate::proved::ratio_c::each::{BAD_LENGTH, DONE};
 use crate::proved::ratio_c::numbers64::Fraction64;
 use bakhsney::proved::ratio_integer::Integer;
-use bakhsney::proved::ratio_totals::{LooseRefusal, Slot, put_loose};
+use bakhsney::proved::ratio_slots::{LooseRefusal, Slot, put_loose};
 
 /// What the last call did to a total, and how many fractions are in it. Its fractions are in its slots.
 #[repr(C)]
@@ -45,6 +45,7 @@ pub enum Stop {
 
 /// An item of a call on totals: a fraction, or a slot of another total.
 pub trait Brings {
+    /// What it brings, or `None` if its denominator is not positive.
     fn brings(&self) -> Option<Piece>;
 }
 

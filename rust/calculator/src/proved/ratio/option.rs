@@ -1,5 +1,5 @@
 // Erased from crates/ratio/src/option.rt by rust/erase: not to be edited.
-//! The options, by their names.
+//! The options by their names, and a number of places.
 
 use crate::proved::ratio_expressions::replies::Form;
 

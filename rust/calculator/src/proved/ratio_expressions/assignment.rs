@@ -4,38 +4,16 @@
 use crate::proved::ratio_expressions::step::Step;
 use crate::proved::ratio_expressions::token::{Operator, Span};
 
-/// The name that a line with these steps gives its value, and the steps of the expression of this value. `None` if it gives no name.
+/// The name that a line with these steps gives its value, if it gives one, and the steps of the expression of this value.
 #[inline]
-pub(crate) fn assignment(steps: &[Step]) -> Option<(Span, &[Step])> {
-    let count = steps.len();
-    if count < 2 || !is_equal_sign(steps[count - 1]) {
-        return None;
-    }
-    let expression = &steps[1..count - 1];
-    if !is_whole(expression) {
-        return None;
-    }
-    match name_in(steps[0]) {
-        Some(name) => Some((name, expression)),
-        None => None,
-    }
-}
-
-// Whether the step is a `=`.
-#[inline]
-fn is_equal_sign(step: Step) -> bool {
-    match step {
-        Step::Apply(Operator::Equal, _) => true,
-        _ => false,
-    }
-}
-
-// The name that the step is, if it is one.
-#[inline]
-fn name_in(step: Step) -> Option<Span> {
-    match step {
-        Step::Name(name) => Some(name),
-        _ => None,
+pub(crate) fn assignment(steps: &[Step]) -> (Option<Span>, &[Step]) {
+    match steps {
+        [
+            Step::Name(name),
+            expression @ ..,
+            Step::Apply(Operator::Equal, _),
+        ] if is_whole(expression) => (Some(*name), expression),
+        _ => (None, steps),
     }
 }
 

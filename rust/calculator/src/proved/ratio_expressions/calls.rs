@@ -1,5 +1,5 @@
 // Erased from crates/ratio_expressions/src/calls.rt by rust/erase: not to be edited.
-//! What a call gives of its arguments, or why it refuses them.
+//! What a call such as `max(1, 2)` gives of its arguments, or why it refuses them.
 
 use bakhsney::memory::{AllocError, Global, Vec};
 use crate::proved::ratio_expressions::function::{Function, function_named, takes};

@@ -11,20 +11,14 @@ pub const MOST_OPEN: usize = 1000;
 pub fn first_too_deep(tokens: &[Token]) -> Option<usize> {
     let mut open: usize = 0;
     for (at, token) in tokens.iter().enumerate() {
-        open = open_with(token.kind, open);
+        match token.kind {
+            Kind::Open => open += 1,
+            Kind::Close => open = open.saturating_sub(1),
+            Kind::Number | Kind::Name | Kind::Operator(_) | Kind::Comma => (),
+        }
         if open > MOST_OPEN {
             return Some(at);
         }
     }
     None
-}
-
-// How many parentheses are open behind a token.
-#[inline]
-fn open_with(kind: Kind, before: usize) -> usize {
-    match kind {
-        Kind::Open => before + 1,
-        Kind::Close => before.saturating_sub(1),
-        Kind::Number | Kind::Name | Kind::Operator(_) | Kind::Comma => before,
-    }
 }

@@ -8,7 +8,6 @@ use crate::proved::ratio_expressions::number::number_in;
 use crate::proved::ratio_expressions::operation::{applied, negative};
 use crate::proved::ratio_expressions::refusal::{Reason, ValueError, refused};
 use crate::proved::ratio_expressions::step::{Call, Step};
-use crate::proved::ratio_expressions::token::{Operator, Span};
 use crate::proved::ratio_expressions::value::Value;
 
 /// The value of the steps of a tree, or its refusal.
@@ -44,29 +43,28 @@ fn take(
 ) -> Result<(), ValueError> {
     match step {
         Step::Number(span) => {
-            let number = number_at(alloc, text, span)?;
-            put(stack, number)?;
+            let number = number_in(alloc, &text[span.start..span.end])?;
+            put(stack, number, span.start)
         }
         Step::Name(span) => {
-            let value = value_at(alloc, text, names, span)?;
-            put(stack, value)?;
+            let value = value_named(alloc, names, &text[span.start..span.end])?;
+            put(stack, value, span.start)
         }
         Step::Negate(span) => {
             let operand = stack.pop().unwrap();
-            let value = negated(alloc, span, &operand)?;
-            put(stack, value)?;
+            let value = negative(alloc, &operand)?;
+            put(stack, value, span.start)
         }
         Step::Apply(operator, span) => {
             let right = stack.pop().unwrap();
             let left = stack.pop().unwrap();
-            let value = joined(alloc, operator, span, &left, &right)?;
-            put(stack, value)?;
+            let value = applied(alloc, operator, &left, &right)?;
+            put(stack, value, span.start)
         }
-        Step::Group(_, _) => {}
-        Step::Comma(_) => {}
-        Step::Call(call) => take_call(alloc, text, call, stack)?,
+        Step::Group(_, _) => Ok(()),
+        Step::Comma(_) => Ok(()),
+        Step::Call(call) => take_call(alloc, text, call, stack),
     }
-    Ok(())
 }
 
 // Takes the step of a call, and with it as many values as it has arguments.
@@ -77,83 +75,34 @@ fn take_call(
     call: Call,
     stack: &mut Vec<Value>,
 ) -> Result<(), ValueError> {
-    let value = value_of_call(alloc, text, call, stack.as_slice())?;
-    stack.truncate(stack.len() - call.arguments);
-    put(stack, value)?;
-    Ok(())
-}
-
-// What a call gives of the last values of a stack, as many as it has arguments, or the refusal at its name.
-#[inline]
-fn value_of_call(
-    alloc: Global,
-    text: &[u8],
-    call: Call,
-    stack: &[Value],
-) -> Result<Value, ValueError> {
     let first = stack.len() - call.arguments;
-    called_at(alloc, text, call.name, &stack[first..])
+    let name = &text[call.name.start..call.name.end];
+    let value = called(alloc, name, &stack[first..])?;
+    stack.truncate(first);
+    put(stack, value, call.name.start)
 }
 
-// Puts a value on the stack.
+// Puts down a value that was found, or refuses the place for the reason that there is none.
 #[inline]
-fn put(stack: &mut Vec<Value>, value: Value) -> Result<(), AllocError> {
-    stack.push(value)?;
-    Ok(())
-}
-
-// The number at a place, or the refusal there.
-#[inline]
-fn number_at(alloc: Global, text: &[u8], span: Span) -> Result<Value, ValueError> {
-    match number_in(alloc, &text[span.start..span.end])? {
-        Ok(number) => Ok(Value::Number(number)),
-        Err(reason) => Err(refused(reason, span.start)),
+fn put(stack: &mut Vec<Value>, found: Result<Value, Reason>, place: usize) -> Result<(), ValueError> {
+    match found {
+        Ok(value) => match stack.push(value) {
+            Ok(()) => Ok(()),
+            Err(_) => Err(ValueError::Memory),
+        },
+        Err(reason) => Err(refused(reason, place)),
     }
 }
 
-// The value with the name at a place, or the refusal there.
+// The value with a name, if it has one.
 #[inline]
-fn value_at(alloc: Global, text: &[u8], names: &Names, span: Span) -> Result<Value, ValueError> {
-    match names.get(&text[span.start..span.end]) {
-        Some(value) => Ok(value.copy(alloc)?),
-        None => Err(refused(Reason::UnknownName, span.start)),
-    }
-}
-
-// The negative of a value, or the refusal at the minus.
-#[inline]
-fn negated(alloc: Global, span: Span, operand: &Value) -> Result<Value, ValueError> {
-    match negative(alloc, operand)? {
-        Some(value) => Ok(value),
-        None => Err(refused(Reason::NotNumber, span.start)),
-    }
-}
-
-// What the call with the name at a place gives of its arguments, or the refusal there.
-#[inline]
-fn called_at(
+fn value_named(
     alloc: Global,
-    text: &[u8],
-    name: Span,
-    arguments: &[Value],
-) -> Result<Value, ValueError> {
-    match called(alloc, &text[name.start..name.end], arguments)? {
-        Ok(value) => Ok(value),
-        Err(reason) => Err(refused(reason, name.start)),
-    }
-}
-
-// What an operator gives of two values, or the refusal at the operator.
-#[inline]
-fn joined(
-    alloc: Global,
-    operator: Operator,
-    span: Span,
-    left: &Value,
-    right: &Value,
-) -> Result<Value, ValueError> {
-    match applied(alloc, operator, left, right)? {
-        Ok(value) => Ok(value),
-        Err(reason) => Err(refused(reason, span.start)),
+    names: &Names,
+    name: &[u8],
+) -> Result<Result<Value, Reason>, AllocError> {
+    match names.get(name) {
+        Some(value) => Ok(Ok(value.copy(alloc)?)),
+        None => Ok(Err(Reason::UnknownName)),
     }
 }

@@ -2,38 +2,21 @@
 //! The value of a line, which gives it names: `x = 3/7`.
 
 use bakhsney::memory::{AllocError, Global};
-use crate::proved::ratio_expressions::answer::steps_of;
 use crate::proved::ratio_expressions::assignment::assignment;
 use crate::proved::ratio_expressions::evaluation::value_of_steps;
+use crate::proved::ratio_expressions::expression::tree_of;
 use crate::proved::ratio_expressions::names::Names;
 use crate::proved::ratio_expressions::refusal::ValueError;
-use crate::proved::ratio_expressions::step::Step;
 use crate::proved::ratio_expressions::token::Span;
 use crate::proved::ratio_expressions::value::Value;
 
 /// The value of a line, or its first refusal. `x = 3/7` gives the value the name `x`, and each line gives its value the name `ans`. After a
 /// refusal the names are what they were. After a want of memory each name has the value that it had, or the new one.
 #[inline]
-pub fn answer(alloc: Global, text: &[u8], names: &mut Names) -> Result<Value, ValueError> {
-    match steps_of(alloc, text) {
-        Ok(steps) => match assignment(&steps) {
-            Some((name, expression)) => remembered(alloc, text, names, Some(name), expression),
-            None => remembered(alloc, text, names, None, &steps),
-        },
-        Err(error) => Err(error),
-    }
-}
-
-// The value of the steps of an expression, which gets a name, if there is one, and the name of the last answer.
-#[inline]
-fn remembered(
-    alloc: Global,
-    text: &[u8],
-    names: &mut Names,
-    name: Option<Span>,
-    steps: &[Step],
-) -> Result<Value, ValueError> {
-    let value = value_of_steps(alloc, text, names, steps)?;
+pub fn value_of_line(alloc: Global, text: &[u8], names: &mut Names) -> Result<Value, ValueError> {
+    let steps = tree_of(alloc, text)?;
+    let (name, expression) = assignment(&steps);
+    let value = value_of_steps(alloc, text, names, expression)?;
     put_target(alloc, text, names, name, &value)?;
     put_copy(alloc, names, b"ans", &value)?;
     Ok(value)

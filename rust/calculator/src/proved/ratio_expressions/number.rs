@@ -7,6 +7,7 @@ mod short_fraction;
 use crate::proved::ratio_expressions::number::short_fraction::short_fraction;
 use crate::proved::ratio_expressions::refusal::Reason;
 use crate::proved::ratio_expressions::spelled::spelled;
+use crate::proved::ratio_expressions::value::Value;
 use bakhsney::proved::ratio_big::BigFraction;
 use bakhsney::proved::ratio_decimal::TextRefusal;
 
@@ -17,10 +18,10 @@ const MOST_EXPONENT_DIGITS: usize = 5;
 
 /// The number that a text says, or why it says none.
 #[inline]
-pub(crate) fn number_in(
-    alloc: Global,
-    text: &[u8],
-) -> Result<Result<BigFraction, Reason>, AllocError> {
+pub(crate) fn number_in(alloc: Global, text: &[u8]) -> Result<Result<Value, Reason>, AllocError> {
+    if let Some(number) = short_fraction(text) {
+        return Ok(Ok(Value::Number(number)));
+    }
     match spelled(alloc, text)? {
         Some(slashed) => plain_number_in(alloc, &slashed),
         None => plain_number_in(alloc, text),
@@ -29,12 +30,12 @@ pub(crate) fn number_in(
 
 // The same, if the text has no vulgar fraction.
 #[inline]
-fn plain_number_in(alloc: Global, text: &[u8]) -> Result<Result<BigFraction, Reason>, AllocError> {
+fn plain_number_in(alloc: Global, text: &[u8]) -> Result<Result<Value, Reason>, AllocError> {
     if digits_of_exponent(text) > MOST_EXPONENT_DIGITS {
         return Ok(Err(Reason::NumberTooLarge));
     }
     match read(alloc, text)? {
-        Ok(number) => Ok(Ok(number)),
+        Ok(number) => Ok(Ok(Value::Number(number))),
         Err(TextRefusal::ZeroDenominator) => Ok(Err(Reason::ZeroDenominator)),
         Err(TextRefusal::NotNumber) => Ok(Err(Reason::NotNumeral)),
         Err(TextRefusal::NotHeld) => unreachable!(),
@@ -71,9 +72,6 @@ fn before_percent(text: &[u8]) -> Option<&[u8]> {
 // The number that a person types into one field.
 #[inline]
 fn read_field(alloc: Global, text: &[u8]) -> Result<Result<BigFraction, TextRefusal>, AllocError> {
-    if let Some(number) = short_fraction(text) {
-        return Ok(Ok(number));
-    }
     match core::str::from_utf8(text) {
         Err(_) => Ok(Err(TextRefusal::NotNumber)),
         Ok(field) => BigFraction::from_text(alloc, field),

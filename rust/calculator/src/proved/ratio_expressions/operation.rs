@@ -6,14 +6,13 @@ use crate::proved::ratio_expressions::power::power;
 use crate::proved::ratio_expressions::refusal::Reason;
 use crate::proved::ratio_expressions::token::Operator;
 use crate::proved::ratio_expressions::value::Value;
-use bakhsney::proved::ratio_big::BigFraction;
 
-/// The negative of a value, or `None` if it is true or false.
+/// The negative of a value, or why it has none.
 #[inline]
-pub(crate) fn negative(alloc: Global, value: &Value) -> Result<Option<Value>, AllocError> {
+pub(crate) fn negative(alloc: Global, value: &Value) -> Result<Result<Value, Reason>, AllocError> {
     match value {
-        Value::Number(x) => Ok(Some(Value::Number(x.negate(alloc)?))),
-        Value::Truth(_) => Ok(None),
+        Value::Number(x) => Ok(Ok(Value::Number(x.negate(alloc)?))),
+        Value::Truth(_) => Ok(Err(Reason::NotNumber)),
     }
 }
 
@@ -25,23 +24,18 @@ pub(crate) fn applied(
     left: &Value,
     right: &Value,
 ) -> Result<Result<Value, Reason>, AllocError> {
-    match left {
-        Value::Truth(_) => Ok(Err(Reason::NotNumber)),
-        Value::Number(x) => match right {
-            Value::Truth(_) => Ok(Err(Reason::NotNumber)),
-            Value::Number(y) => of_numbers(alloc, operator, x, y),
-        },
-    }
-}
-
-// What the operator gives of two numbers, or why it refuses them.
-#[inline]
-fn of_numbers(
-    alloc: Global,
-    operator: Operator,
-    x: &BigFraction,
-    y: &BigFraction,
-) -> Result<Result<Value, Reason>, AllocError> {
+    let x = match left {
+        Value::Number(x) => x,
+        _ => {
+            return Ok(Err(Reason::NotNumber));
+        }
+    };
+    let y = match right {
+        Value::Number(y) => y,
+        _ => {
+            return Ok(Err(Reason::NotNumber));
+        }
+    };
     match operator {
         Operator::Less => Ok(Ok(Value::Truth(x.compare(alloc, y)?.is_lt()))),
         Operator::AtMost => Ok(Ok(Value::Truth(x.compare(alloc, y)?.is_le()))),

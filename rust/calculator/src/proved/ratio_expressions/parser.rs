@@ -48,20 +48,9 @@ fn read_token(
     steps: &mut Vec<Step>,
     wants: bool,
 ) -> Result<Option<bool>, AllocError> {
-    if wants {
-        read_operand(token, marks, steps)
-    } else {
-        read_behind(token, marks, steps)
+    if !wants {
+        return read_behind(token, marks, steps);
     }
-}
-
-// Reads one token where an operand comes.
-#[inline]
-fn read_operand(
-    token: Token,
-    marks: &mut Vec<Mark>,
-    steps: &mut Vec<Step>,
-) -> Result<Option<bool>, AllocError> {
     match token.kind {
         Kind::Number => put_operand(Step::Number(token.span), steps),
         Kind::Name => put_operand(Step::Name(token.span), steps),
@@ -81,7 +70,10 @@ fn read_behind(
     match token.kind {
         Kind::Operator(operator) => {
             settle_marks(left_level_of(operator), marks, steps)?;
-            read_operator(operator, token.span, marks)
+            if level_of(operator) < room_of(marks) {
+                return Ok(None);
+            }
+            put_mark(Mark::Half(operator, token.span), marks)
         }
         Kind::Close => {
             settle_marks(2, marks, steps)?;
@@ -108,19 +100,6 @@ fn put_operand(operand: Step, steps: &mut Vec<Step>) -> Result<Option<bool>, All
 fn put_mark(mark: Mark, marks: &mut Vec<Mark>) -> Result<Option<bool>, AllocError> {
     marks.push(mark)?;
     Ok(Some(true))
-}
-
-// Reads an operator, if there is room for it behind what waits.
-#[inline]
-fn read_operator(
-    operator: Operator,
-    span: Span,
-    marks: &mut Vec<Mark>,
-) -> Result<Option<bool>, AllocError> {
-    if level_of(operator) < room_of(marks) {
-        return Ok(None);
-    }
-    put_mark(Mark::Half(operator, span), marks)
 }
 
 // How tightly an expression must bind to stand right of what waits last.

@@ -1,5 +1,5 @@
 // Erased from crates/ratio_expressions/src/refusal.rt by rust/erase: not to be edited.
-//! Why a text has no value, and where.
+//! Why a text has no value, also in words for a person, and where.
 
 use bakhsney::memory::AllocError;
 

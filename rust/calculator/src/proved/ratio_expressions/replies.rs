@@ -5,7 +5,7 @@ mod both;
 mod fields;
 mod float;
 mod form;
-pub mod laws;
+
 mod mixed;
 mod reading;
 mod refused;

@@ -1,5 +1,6 @@
 // Erased from crates/ratio_lines/src/counted.rt by rust/erase: not to be edited.
-//! `Counted`: readers and writers whose calls a contract can follow, what these calls did, and the traits `CalcRead` and `CalcWrite`.
+//! `Counted`: readers and writers whose calls a contract can follow, `Calls` for what these calls did, and the traits `CalcRead` and
+//! `CalcWrite`.
 
 use std::io;
 use std::io::{Read, Write};

@@ -1,5 +1,6 @@
 // Erased from crates/num_rational/src/ratio/traits.rt by rust/erase: not to be edited.
-//! The traits of std and of `num_traits` for `Ratio`, except operators and folds.
+//! The impls of std's traits for `Ratio` (`Clone`, `From`, order, `Hash`, `Neg`, `FromStr`, `Display` and other formats), and of `Inv` of
+//! `num_traits`.
 //!
 //! `printing.rt` says when the clauses of `Display`, and of the other traits that print, hold.
 

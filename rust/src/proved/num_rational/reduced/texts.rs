@@ -1,12 +1,12 @@
 // Erased from crates/num_rational/src/reduced/texts.rt by rust/erase: not to be edited.
-//! The calls of `Reduced` for texts, decimals and floats.
+//! The methods of `Reduced` for texts, decimals and floats.
 
 use super::Reduced;
 use crate::proved::num_rational::ratio::Ratio;
 use crate::proved::ratio_core::{BaseTenText, DecimalText, Form, ParseRatioError, RatioErrorKind, RatioText};
+use crate::proved::ratio_decimal::float::{exact, rationalize};
 use crate::proved::ratio_decimal::rounding_rule::Rounding;
 use crate::proved::ratio_decimal::{DecimalRefusal, TextRefusal};
-use crate::proved::ratio_float::{exact, rationalize};
 use crate::proved::ratio_integer::{Integer, Primitive};
 
 impl<T: Primitive> Reduced<T> {

@@ -1,5 +1,5 @@
 // Erased from crates/num_rational/src/reduced/traits.rt by rust/erase: not to be edited.
-//! The traits of std for `Reduced`.
+//! The impls of std's traits for `Reduced`: `Clone`, `From`, order, `Hash`, `FromStr`, `Display` and other formats.
 //!
 //! `printing.rt` says when the clauses of `Display`, and of the other traits that print, hold.
 

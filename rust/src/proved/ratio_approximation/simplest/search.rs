@@ -4,7 +4,7 @@
 use crate::proved::ratio_approximation::simplest::side::{Side, beyond, stepped, times_within};
 use crate::proved::ratio_core::Steps;
 use crate::proved::ratio_core::order::dividing::divide_left;
-use crate::proved::ratio_integer::{Integer, both_held};
+use crate::proved::ratio_integer::Integer;
 
 /// The simplest fraction strictly between `n/d` and `m/e`, from two neighbours around both. One of them
 /// moves towards the other as long as it does not pass its own end, and then the other one moves. The
@@ -27,8 +27,6 @@ pub(crate) fn search<T: Integer>(
     right: Side<T>,
     steps: &mut Steps,
 ) -> Option<(T, T)> {
-    both_held(n, d);
-    both_held(m, e);
     let mut moving = left;
     let mut fixed = right;
     if left.own < right.other {

@@ -36,8 +36,6 @@ impl<T: Copy + Integer> Clone for Side<T> {
 #[inline]
 pub(crate) fn times_within<T: Integer>(room: T, gap: T, steps: &mut Steps) -> T {
     let (times, rest) = divide_right(room, gap, steps);
-    let _ = room.held();
-    let _ = times.held();
     if rest.is_zero() {
         times.minus(T::ONE)
     } else {

@@ -8,7 +8,7 @@ use crate::proved::ratio_approximation::simplest::within::choice::with_end;
 use crate::proved::ratio_approximation::simplest::within::end::{End, high_end, low_end};
 use crate::proved::ratio_core::Steps;
 use crate::proved::ratio_core::order::cross_order;
-use crate::proved::ratio_integer::{Integer, both_held, lowest_terms};
+use crate::proved::ratio_integer::{Integer, lowest_terms};
 use core::cmp::Ordering;
 use core::ops::Bound;
 
@@ -26,7 +26,6 @@ use core::ops::Bound;
 #[inline]
 pub fn simplest_within<T: Integer>(low: Bound<(T, T)>, high: Bound<(T, T)>) -> Option<(T, T)> {
     let (numer, denom) = within_ends(&low_end(low), &high_end(high))?;
-    both_held(numer, denom);
     Some((numer, denom))
 }
 

@@ -4,7 +4,7 @@
 
 use crate::proved::ratio_core::sign::is_below_zero;
 use crate::proved::ratio_core::steps::Steps;
-use crate::proved::ratio_integer::{Integer, both_held};
+use crate::proved::ratio_integer::Integer;
 use core::cmp::Ordering;
 
 /// A step of the left side: the floored quotient and the rest. For -7 by 2 they are -4 and 1.
@@ -18,7 +18,6 @@ use core::cmp::Ordering;
 #[inline]
 pub fn divide_left<T: Integer>(n: T, d: T, steps: &mut Steps) -> (T, T) {
     let division = n.div_mod_floor(d);
-    let _ = division.0.held();
     steps.tick_left();
     division
 }
@@ -34,7 +33,6 @@ pub fn divide_left<T: Integer>(n: T, d: T, steps: &mut Steps) -> (T, T) {
 #[inline]
 pub fn divide_right<T: Integer>(n: T, d: T, steps: &mut Steps) -> (T, T) {
     let division = n.div_mod_floor(d);
-    let _ = division.0.held();
     steps.tick_right();
     division
 }
@@ -137,7 +135,6 @@ fn follow_right<T: Integer>(quotient: T, n: T, d: T, steps: &mut Steps) -> Resul
 // What `follow_right` returns, by a product in place of a division. `None` if the product of `quotient` and `d` is below all numbers of the type.
 #[inline]
 fn follow_by_product<T: Integer>(quotient: T, n: T, d: T) -> Option<Result<T, Ordering>> {
-    both_held(n, d);
     let product = match quotient.try_times(d) {
         Some(product) => product,
         None if T::ZERO < quotient => return Some(Err(Ordering::Greater)),
@@ -159,7 +156,6 @@ fn follow_by_product<T: Integer>(quotient: T, n: T, d: T) -> Option<Result<T, Or
 /// Whether the pair is `-hi-1` over -1. Its quotient `hi+1` does not fit the type: over `i8`, -128/-1 is 128.
 #[inline]
 pub(crate) fn is_above_max<T: Integer>(n: T, d: T) -> bool {
-    both_held(n, d);
     is_below_zero(d)
         && is_below_zero(n)
         && d.plus(T::ONE).is_zero()

@@ -133,15 +133,15 @@ fn multiplied<T: Integer>(p: T, q: T, s: T, t: T) -> Option<(T, T)> {
 #[inline]
 fn is_quicker_crossed<T: Integer>(numer: T, denom: T, a: T, b: T, c: T, d: T) -> bool {
     !has_short_numbers::<T>()
-        && is_long(denom)
-        && is_long(numer)
+        && is_wide(denom)
+        && is_wide(numer)
         && numer != denom
-        && !(is_long(a) || is_long(b) || is_long(c) || is_long(d))
+        && !(is_wide(a) || is_wide(b) || is_wide(c) || is_wide(d))
 }
 
 // Whether the number does not fit an `i64`.
 #[inline(always)]
-fn is_long<T: Integer>(n: T) -> bool {
+fn is_wide<T: Integer>(n: T) -> bool {
     match n.to_i128() {
         Some(number) => i64::from_i128(number).is_none(),
         None => true,

@@ -6,7 +6,7 @@
 //! `None` only if its lowest terms do not fit. Over `i8`, 100 * 3 over 3 * 100 is 1/1, though 300 does not fit.
 
 use crate::proved::ratio_core::sign::is_below_zero;
-use crate::proved::ratio_integer::{Integer, both_held};
+use crate::proved::ratio_integer::Integer;
 
 /// The lowest terms of the product of the numbers `above` over the product of the numbers `below`. The call returns `None`
 /// exactly if a number below is 0 or the lowest terms do not fit the type. It leaves other numbers in both lists.
@@ -16,7 +16,6 @@ pub fn checked_quotient_of_products<T: Integer>(above: &mut [T], below: &mut [T]
         return None;
     }
     if has_zero(above) {
-        both_held(T::ZERO, T::ONE);
         return Some((T::ZERO, T::ONE));
     }
     cancel_lists(above, below);
@@ -51,7 +50,6 @@ fn quotient_sign<T: Integer>(above: &[T], below: &[T]) -> T {
 fn is_negative<T: Integer>(items: &[T]) -> bool {
     let mut negative = false;
     for x in items {
-        let _ = x.held();
         if is_below_zero(*x) {
             negative = !negative;
         }
@@ -96,7 +94,6 @@ fn times_magnitudes<T: Integer>(start: T, items: &[T]) -> Option<T> {
     for x in items {
         total = times_magnitude(total, *x)?;
     }
-    let _ = total.held();
     Some(total)
 }
 
@@ -104,7 +101,6 @@ fn times_magnitudes<T: Integer>(start: T, items: &[T]) -> Option<T> {
 // times the magnitude of -128 is -128.
 #[inline]
 fn times_magnitude<T: Integer>(total: T, x: T) -> Option<T> {
-    both_held(total, x);
     if !is_below_zero(x) {
         return total.try_times(x);
     }

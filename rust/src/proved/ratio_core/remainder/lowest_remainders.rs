@@ -11,8 +11,8 @@
 
 use crate::proved::ratio_core::magnitudes::{has_short_numbers, magnitude, with_sign_of};
 use crate::proved::ratio_core::remainder;
-use crate::proved::ratio_core::remainder::long_remainder::long_remainder;
 use crate::proved::ratio_core::remainder::truncated_rest;
+use crate::proved::ratio_core::remainder::wide_remainder::wide_remainder;
 use crate::proved::ratio_integer::{Integer, cancelled, lowest_terms};
 
 /// The lowest terms of `x - t*y`. Here `x` is `a/b`, `y` is `c/d`, and `t` is their quotient cut towards zero. Both fractions must be in
@@ -86,7 +86,7 @@ fn wide_rem_of_lowest<T: Integer>(
     for_right: T,
     for_left: T,
 ) -> Option<(T, T)> {
-    let (numer, denom) = long_remainder(
+    let (numer, denom) = wide_remainder(
         magnitude(a),
         magnitude(b),
         magnitude(c),

@@ -11,7 +11,7 @@
 //! `d`, and in range. What divides `t` and the denominator divides the rest and `g`.
 
 use crate::proved::ratio_core::sums::multiple::{carried_on, product_over, sum_over};
-use crate::proved::ratio_integer::{Integer, both_held, cancelled};
+use crate::proved::ratio_integer::{Integer, cancelled};
 
 /// The lowest terms of `a/b + c/d`, from the floors of both, or `None` if they do not fit. `g` is the gcd of the denominators.
 ///
@@ -24,9 +24,7 @@ use crate::proved::ratio_integer::{Integer, both_held, cancelled};
 /// - `gcd`: `IsGcdOf (T.value b) (T.value d) (T.value g)`
 #[cold]
 pub(crate) fn mixed_sum<T: Integer>(a: T, b: T, c: T, d: T, g: T) -> Option<(T, T)> {
-    let _ = a.held();
     let (floor, p) = a.div_mod_floor(b);
-    let _ = floor.held();
     let (other, r) = c.div_mod_floor(d);
     let (carry, part, denom) = parts_sum(p, b, r, d, g)?;
     let whole = carried_on(floor, carry).try_plus(other)?;
@@ -45,9 +43,7 @@ pub(crate) fn mixed_sum<T: Integer>(a: T, b: T, c: T, d: T, g: T) -> Option<(T, 
 /// - `gcd`: `IsGcdOf (T.value b) (T.value d) (T.value g)`
 #[cold]
 pub(crate) fn mixed_difference<T: Integer>(a: T, b: T, c: T, d: T, g: T) -> Option<(T, T)> {
-    let _ = a.held();
     let (floor, p) = a.div_mod_floor(b);
-    let _ = floor.held();
     let (other, r) = ceiling(c, d);
     let (carry, part, denom) = parts_sum(p, b, r, d, g)?;
     let whole = carried_on(floor, carry).try_minus(other)?;
@@ -57,10 +53,7 @@ pub(crate) fn mixed_difference<T: Integer>(a: T, b: T, c: T, d: T, g: T) -> Opti
 // The ceiling of `c/d`, and the ceiling less `c/d`, as a numerator over `d`: 2 and 1 for 5/3.
 #[inline]
 fn ceiling<T: Integer>(c: T, d: T) -> (T, T) {
-    let _ = c.held();
-    let _ = d.held();
     let (floor, rest) = c.div_mod_floor(d);
-    let _ = floor.held();
     if rest.is_zero() {
         return (floor, rest);
     }
@@ -78,8 +71,6 @@ fn ceiling<T: Integer>(c: T, d: T) -> (T, T) {
 /// - `at_most`: `T.value part ≤ℤ T.value denom`
 #[inline]
 pub fn numerator_of<T: Integer>(whole: T, part: T, denom: T) -> Option<T> {
-    let _ = whole.held();
-    let _ = denom.held();
     if whole < T::ZERO {
         let next = whole.plus(T::ONE).try_times(denom)?;
         return next.try_minus(denom.minus(part));
@@ -92,7 +83,6 @@ pub fn numerator_of<T: Integer>(whole: T, part: T, denom: T) -> Option<T> {
 // does not fit. So 1/36 and 1/28 give 4/63, and 5/6 and 1/2 give 1/3 and a carry. `g` is the gcd of the denominators.
 #[inline]
 fn parts_sum<T: Integer>(p: T, b: T, r: T, d: T, g: T) -> Option<(bool, T, T)> {
-    both_held(b, d);
     let (for_right, _) = b.div_rem(g);
     let (for_left, _) = d.div_rem(g);
     let common = for_right.try_times(for_left)?;
@@ -119,7 +109,6 @@ fn scaled_over<T: Integer>(number: T, factor: T, g: T) -> (T, T) {
 // `common * g`, and the quotient and the rest of what remains.
 #[inline]
 fn carried_sum<T: Integer>(x: (T, T), y: (T, T), common: T, g: T) -> (bool, T, T) {
-    let _ = common.held();
     let (more, rest) = sum_over(x.1, y.1, g);
     let (carry, quotient) = sum_over(x.0, carried_on(y.0, more), common);
     (carry, quotient, rest)

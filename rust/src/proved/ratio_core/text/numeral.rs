@@ -69,7 +69,6 @@ fn glyph(digit: u8, upper: bool) -> u8 {
 // The number, and 2 to the width of the type more if it is below 0: 255 for -1 over `i8`.
 #[inline]
 pub(crate) fn twos_complement<T: Primitive>(t: T) -> u128 {
-    let _ = t.held();
     match t.to_u128() {
         Some(n) => n,
         None => t.minus(T::MIN).to_u128().unwrap() + T::MAX.to_u128().unwrap() + 1,

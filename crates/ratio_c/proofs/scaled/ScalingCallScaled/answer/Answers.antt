@@ -13,4 +13,4 @@ returns g c =
     let scale : to_z w32 (of_z w32 c.args.x.now.scale) ≡ c.args.x.now.scale = omega (arith, ints) in
     let size : c.unsigned_abs.result ≡ unsigned_abs c.args.x.now.scale = c.unsigned_abs.ensures.value ∙ ap unsigned_abs scale in
     where_held (omega (arith, ints, c.if-x-lt0.false), omega (arith, ints, c.if-x-gt38.false))
-    (lowest_said (λ r. v r.0) (λ r. v r.1) g.T.Integer.lo g.T.Integer.hi _ _ _ _ c.from_scaled.result _ (n ∙ c.number-n.ensures) (ap (λ (k : ℕ). pos (10 ^ k)) size) c.from_scaled.ensures c.checked_fields.ensures)
+    (lowest_said (λ r. v r.0) (λ r. v r.1) g.T.Integer.lo g.T.Integer.hi _ _ _ _ c.from_scaled.result _ (n ∙ c.number-n.ensures) (ap (λ (k : ℕ). pos (10 ^ k)) size) c.from_scaled.ensures c.checked.ensures)

@@ -1,7 +1,7 @@
 use Rattle.std.specs.Float.{NotNan}
 use Rattle.std.proofs.Common.{subst, sym}
 use Rattle.ratio_big.specs.Fractions.{GivesTerms, big_numbers}
-use Rattle.ratio_float.specs.Floats.{fraction_of_float}
+use Rattle.ratio_decimal.specs.Floats.{fraction_of_float}
 use Rattle.ratio_expressions.proofs.FloatLemmas.{last_reads_back}
 use Rattle.ratio_expressions.proofs.FloatTextLemmas.{nearest_number}
 use Rattle.ratio_expressions.proofs.replies.float.float_text.Goals as goal

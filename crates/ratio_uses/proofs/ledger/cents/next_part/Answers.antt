@@ -5,10 +5,10 @@ use mir.Val.{SFits}
 use Rattle.std.specs.Prelude.{◌-ℤ◌}
 use Rattle.std.proofs.Common.{subst, sym}
 use Rattle.ratio_integer.specs.Arithmetic.{sum_of}
+use Rattle.ratio_integer.specs.SignedBits.{IsHeld128}
 use Rattle.ratio_integer.proofs.Whole.{mul_positive}
 use Rattle.num_rational.specs.Reduced.{lowest_numbers}
 use Rattle.num_rational.specs.Split.{IsRoundedShare}
-use Rattle.ratio_uses.specs.Cents.{HeldIn128}
 use Rattle.ratio_uses.proofs.BeatLemmas.{number_held}
 use Rattle.ratio_uses.proofs.CentLemmas.{held_fits, mark_out, part_out, step_is, step_rounded, wide_fits, wide_part}
 use Rattle.ratio_uses.proofs.ledger.cents.next_part.Goals as goal
@@ -48,7 +48,7 @@ returns-in_err-more c =
     let low = c.in_ok-sum.ensures in
     let product = rw (c.numer.ensures.value, c.denom.ensures.value) at (simp to_z-of_z at c.in_ok-mark.ensures) in
     let marked = step_rounded c.args.count x (lowest_numbers c.in_ok-sum.sum) product.0 up low.terms product.1 in
-    let mark_fits : SFits w128 c.in_ok-mark.mark = held_fits c.in_ok-mark.mark (subst HeldIn128 (sym product.2.1) product.2.0) in
+    let mark_fits : SFits w128 c.in_ok-mark.mark = held_fits c.in_ok-mark.mark (subst IsHeld128 (sym product.2.1) product.2.0) in
     let rounded : IsRoundedShare c.args.count x c.in_ok-mark.mark = subst (IsRoundedShare c.args.count x) (sym product.2.1) marked in
     let out = simp to_z-of_z at c.in_err-more.ensures in
     rw c.from_residual-in_err-more.ensures (part_out c.args.unit_parts c.args.count c.args.last x c.in_ok-mark.mark up rounded
@@ -71,10 +71,10 @@ returns-in_err-part c =
     let low = c.in_ok-sum.ensures in
     let product = rw (c.numer.ensures.value, c.denom.ensures.value) at (simp to_z-of_z at c.in_ok-mark.ensures) in
     let marked = step_rounded c.args.count x (lowest_numbers c.in_ok-sum.sum) product.0 up low.terms product.1 in
-    let mark_fits : SFits w128 c.in_ok-mark.mark = held_fits c.in_ok-mark.mark (subst HeldIn128 (sym product.2.1) product.2.0) in
+    let mark_fits : SFits w128 c.in_ok-mark.mark = held_fits c.in_ok-mark.mark (subst IsHeld128 (sym product.2.1) product.2.0) in
     let rounded : IsRoundedShare c.args.count x c.in_ok-mark.mark = subst (IsRoundedShare c.args.count x) (sym product.2.1) marked in
     let more = simp to_z-of_z at c.in_ok-more.ensures in
-    let more_fits : SFits w128 c.in_ok-more.more = held_fits c.in_ok-more.more (subst HeldIn128 (sym more.1) more.0) in
+    let more_fits : SFits w128 c.in_ok-more.more = held_fits c.in_ok-more.more (subst IsHeld128 (sym more.1) more.0) in
     let out = rw more.1 at (simp to_z-of_z at c.in_err-part.ensures) in
     rw c.from_residual-in_err-part.ensures (part_out c.args.unit_parts c.args.count c.args.last x c.in_ok-mark.mark up rounded out)
 
@@ -95,9 +95,9 @@ returns c =
     let low = c.in_ok-sum.ensures in
     let product = rw (c.numer.ensures.value, c.denom.ensures.value) at (simp to_z-of_z at c.in_ok-mark.ensures) in
     let marked = step_rounded c.args.count x (lowest_numbers c.in_ok-sum.sum) product.0 up low.terms product.1 in
-    let mark_fits : SFits w128 c.in_ok-mark.mark = held_fits c.in_ok-mark.mark (subst HeldIn128 (sym product.2.1) product.2.0) in
+    let mark_fits : SFits w128 c.in_ok-mark.mark = held_fits c.in_ok-mark.mark (subst IsHeld128 (sym product.2.1) product.2.0) in
     let rounded : IsRoundedShare c.args.count x c.in_ok-mark.mark = subst (IsRoundedShare c.args.count x) (sym product.2.1) marked in
     let more = simp to_z-of_z at c.in_ok-more.ensures in
-    let more_fits : SFits w128 c.in_ok-more.more = held_fits c.in_ok-more.more (subst HeldIn128 (sym more.1) more.0) in
+    let more_fits : SFits w128 c.in_ok-more.more = held_fits c.in_ok-more.more (subst IsHeld128 (sym more.1) more.0) in
     let terms = rw more.1 at (simp to_z-of_z at c.in_ok-part.ensures) in
     simp to_z-of_z (step_is c.args.unit_parts c.args.count c.args.last x (lowest_numbers c.in_ok-sum.sum) product.0 c.in_ok-mark.mark (lowest_numbers c.in_ok-part.part) low marked product.2 terms)

@@ -7,10 +7,13 @@ use crate::proved::ratio_expressions::vulgar::vulgar_length;
 #[inline]
 pub(crate) fn number_length(text: &[u8]) -> usize {
     let whole = digits_length(text);
-    if whole > 0 || led_length(b'.', text) > 0 || vulgar_length(text) > 0 {
-        whole + tail_length(&text[whole..])
-    } else {
-        0
+    if whole == 0 && led_length(b'.', text) == 0 && vulgar_length(text) == 0 {
+        return 0;
+    }
+    let end = whole + tail_length(&text[whole..]);
+    match &text[end..] {
+        [b'%', ..] => end + 1,
+        _ => end,
     }
 }
 
@@ -18,7 +21,7 @@ pub(crate) fn number_length(text: &[u8]) -> usize {
 #[inline]
 pub(crate) fn name_length(text: &[u8]) -> usize {
     match text {
-        [first, ..] if is_name_start(*first) => name_bytes(text),
+        [first, ..] if first.is_ascii_alphabetic() || *first == b'_' => name_bytes(text),
         _ => 0,
     }
 }
@@ -29,12 +32,6 @@ fn name_bytes(text: &[u8]) -> usize {
     text.iter()
         .take_while(|byte| byte.is_ascii_alphanumeric() || **byte == b'_')
         .count()
-}
-
-// Whether a name may begin with the byte.
-#[inline]
-fn is_name_start(byte: u8) -> bool {
-    byte.is_ascii_alphabetic() || byte == b'_'
 }
 
 // How many digits a text begins with.
@@ -52,18 +49,6 @@ fn led_length(byte: u8, text: &[u8]) -> usize {
             if digits > 0 { digits + 1 } else { 0 }
         }
         _ => 0,
-    }
-}
-
-// How long the second part of a mixed number is.
-#[inline]
-fn mixed_length(text: &[u8]) -> usize {
-    let numer = led_length(b' ', text);
-    let denom = led_length(b'/', &text[numer..]);
-    if numer > 0 && denom > 0 {
-        numer + denom
-    } else {
-        0
     }
 }
 
@@ -103,26 +88,6 @@ fn decimal_length(text: &[u8]) -> usize {
     point + exponent_length(&text[point..])
 }
 
-// How long what makes a whole number a fraction or a decimal is.
-#[inline]
-fn part_length(text: &[u8]) -> usize {
-    let denom = led_length(b'/', text);
-    if denom > 0 {
-        denom
-    } else {
-        decimal_length(text)
-    }
-}
-
-// How long a percent sign is.
-#[inline]
-fn percent_length(text: &[u8]) -> usize {
-    match text {
-        [b'%', ..] => 1,
-        _ => 0,
-    }
-}
-
 // How long a vulgar fraction is, or a space and a vulgar fraction, or 0.
 #[inline]
 fn vulgar_tail_length(text: &[u8]) -> usize {
@@ -135,24 +100,18 @@ fn vulgar_tail_length(text: &[u8]) -> usize {
     }
 }
 
-// How long what makes a whole number a mixed number, a fraction or a decimal is.
+// How long what makes a whole number a fraction, a mixed number or a decimal is.
 #[inline]
-fn broken_length(text: &[u8]) -> usize {
-    let mixed = mixed_length(text);
-    if mixed > 0 {
-        return mixed;
+fn tail_length(text: &[u8]) -> usize {
+    let numer = led_length(b' ', text);
+    let denom = led_length(b'/', &text[numer..]);
+    if denom > 0 {
+        return numer + denom;
     }
     let vulgar = vulgar_tail_length(text);
     if vulgar > 0 {
         vulgar
     } else {
-        part_length(text)
+        decimal_length(text)
     }
-}
-
-// How long what follows the digits of a number is.
-#[inline]
-fn tail_length(text: &[u8]) -> usize {
-    let part = broken_length(text);
-    part + percent_length(&text[part..])
 }

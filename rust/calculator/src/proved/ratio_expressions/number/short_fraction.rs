@@ -9,17 +9,10 @@ use bakhsney::proved::ratio_core::text::leading_fields;
 /// numbers.
 #[inline]
 pub(crate) fn short_fraction(text: &[u8]) -> Option<BigFraction> {
-    let (numer, denom) = whole_numbers(text)?;
-    let lowest = Reduced64::checked_new(numer, denom)?;
-    Some(BigFraction::from_reduced(lowest))
-}
-
-// The two numbers of the text, as they are written. Without a slash the second one is 1.
-#[inline]
-fn whole_numbers(text: &[u8]) -> Option<(i64, i64)> {
     let (numer, denom, end) = leading_fields::<i64>(text)?;
     if end < text.len() {
         return None;
     }
-    Some((numer, denom))
+    let lowest = Reduced64::checked_new(numer, denom)?;
+    Some(BigFraction::from_reduced(lowest))
 }

@@ -2,7 +2,7 @@
 //! `Reply`: what a line is answered.
 
 use bakhsney::memory::{AllocError, Global, Vec};
-use crate::proved::ratio_expressions::line::answer;
+use crate::proved::ratio_expressions::line::value_of_line;
 use crate::proved::ratio_expressions::names::Names;
 use crate::proved::ratio_expressions::refusal::ValueError;
 use crate::proved::ratio_expressions::replies::form::Form;
@@ -20,7 +20,7 @@ pub enum Reply {
 }
 
 /// The reply to a line without its line end, with its number in a form. `x = 17/12` in `Mixed` is answered `1 5/12`, and gives the value the
-/// name `x`, as `line::answer` does. An error means that an allocation failed. Then each name has the value that it had, or the
+/// name `x`, as `line::value_of_line` does. An error means that an allocation failed. Then each name has the value that it had, or the
 /// new one.
 #[inline]
 pub fn reply_to(
@@ -32,7 +32,7 @@ pub fn reply_to(
     if is_blank(line) {
         return Ok(Reply::Nothing);
     }
-    match answer(alloc, line, names) {
+    match value_of_line(alloc, line, names) {
         Ok(value) => {
             let text = answer_text(alloc, line, &value, form)?;
             Ok(Reply::Answer(text))

@@ -14,16 +14,11 @@ use bakhsney::proved::ratio_decimal::rounding_rule::Rounding;
 /// The text of a value in a form: `1 5/12` for 17/12 in `Mixed`. An error means that an allocation failed.
 #[inline]
 pub fn value_text(alloc: Global, value: &Value, form: Form) -> Result<Vec<u8>, AllocError> {
-    match value {
-        Value::Number(x) => number_text(alloc, x, form),
-        Value::Truth(true) => Vec::from_slice(alloc, b"true"),
-        Value::Truth(false) => Vec::from_slice(alloc, b"false"),
-    }
-}
-
-// The text of a number in a form.
-#[inline]
-fn number_text(alloc: Global, x: &BigFraction, form: Form) -> Result<Vec<u8>, AllocError> {
+    let x = match value {
+        Value::Number(x) => x,
+        Value::Truth(true) => return Vec::from_slice(alloc, b"true"),
+        Value::Truth(false) => return Vec::from_slice(alloc, b"false"),
+    };
     match form {
         Form::Fraction => fraction_text(alloc, x),
         Form::Decimal(places) => decimal_text(alloc, x, places),

@@ -3,7 +3,7 @@
 
 use crate::proved::ratio_approximation::simplest::within::end::End;
 use crate::proved::ratio_core::sign::{have_unlike_signs, is_below_zero};
-use crate::proved::ratio_integer::{Integer, both_held, lowest_terms};
+use crate::proved::ratio_integer::{Integer, lowest_terms};
 
 /// What was found, or an included end if it is simpler or nothing was found.
 ///
@@ -52,7 +52,6 @@ fn is_simpler<T: Integer>(p: T, q: T, a: T, b: T) -> bool {
 /// Whether `p` is nearer to 0 than `a`.
 #[inline]
 fn is_nearer<T: Integer>(p: T, a: T) -> bool {
-    both_held(p, a);
     if have_unlike_signs(p, a) {
         let sum = p.plus(a);
         if is_below_zero(p) {

@@ -1,4 +1,0 @@
-pub mod FloatLaws
-pub mod Floats
-pub mod Rationalize
-pub mod Rationalizing

@@ -1,6 +1,0 @@
-use Rattle.std.proofs.Common.{drop}
-use Rattle.ratio_totals.proofs.ShortSumLemmas.{IsShortSoFar}
-use Rattle.ratio_totals.proofs.short_sums.short_sum.Given as goal
-
-abbrev pub invariant-joining : goal.invariant-joining
-invariant-joining l = IsShortSoFar l.slots (drop l.i l.slots) l.numer l.common

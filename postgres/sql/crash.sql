@@ -1,2 +1,0 @@
--- A server that is killed while rows come in and indexes are built
-\! servers/crash

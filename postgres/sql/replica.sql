@@ -1,2 +1,0 @@
--- A replica by streaming answers as its server does
-\! servers/replica

@@ -1,9 +1,0 @@
-// Erased from crates/ratio_float/src/lib.rt by rust/erase: not to be edited.
-//! Floats as fractions, the floats nearest to fractions, and the simplest fractions that round to floats.
-pub mod exact;
-pub mod format;
-mod gap;
-pub mod leading;
-pub mod nearest;
-mod quotient;
-pub mod rationalize;

@@ -9,8 +9,8 @@ use Rattle.std.specs.declared.cmp.Ordering.{Ordering}
 use Rattle.std.specs.declared.cmp.Ordering.TheVariants.{Less, Equal, Greater}
 use Rattle.ratio_integer.specs.Division.{IsAboveMax, IsFloored}
 use Rattle.ratio_integer.specs.Range.{IsHeld, IsRange}
-use Rattle.ratio_core.specs.ContinuedFraction.{Compares, IsBoundedStepCount, IsCompared, IsPartialQuotients, IsRoundsUnless, IsWithinBits, rounds}
-use Rattle.ratio_core.specs.Order.{AreProductsHeld, DoNumeratorsDecide, HaveUnlikeSigns, IsOrderOfParts}
+use Rattle.ratio_core.specs.ContinuedFraction.{Compares, IsCompared, IsOrderStepCount, IsPartialQuotients, IsRoundsUnless, IsWithinBits, rounds}
+use Rattle.ratio_core.specs.Order.{AreProductsHeld, DoHalvesDecide, DoNumeratorsDecide, HaveUnlikeSigns, IsOrderOfParts}
 use Rattle.ratio_core.proofs.CrossOrder.{divided-greater, divided-less, tied-both, tied-first, tied-rest, tied-second, top-equal, top-greater, top-less}
 use Rattle.ratio_core.proofs.Quotients.{Goes, goes_ends, goes_on, quotients_exist, quotients_known, quotients_short}
 
@@ -272,23 +272,7 @@ pub nothing_settles : {lo hi n d m e : ℤ} → ¬ ((d ≡ e) × (pos 0 <ℤ d))
 nothing_settles shared split held (inr h) = held h
 nothing_settles shared split held (inl h) = elim h.2 [ inl same ↦ shared (same, h.0) | inr unlike ↦ split (h.0, h.1, unlike) ]
 
--- ---- steps that are bounded alone
-
-pub bounded-by_rounds : (hi : ℤ) {n d m e : ℤ} {answer : Ordering} {l l' l'' r r' r'' : ℕ} → d ≢ pos 0 → e ≢ pos 0 → l' ≡ l → r' ≡ r → Compares (hi +ℤ pos 1) n d m e answer l' l'' r' r''
-    → (k : ℕ) × (l'' ≡ l + k) × (r'' ≡ r + k) × IsWithinBits (min (unsigned_abs d) (unsigned_abs e)) k
-bounded-by_rounds hi dn en left right h =
-    let counted = steps-by_rounds {Settled = ⊥} {hi = hi} dn en (λ never. never) h in
-    let left_rose = counted.1 in
-    let right_rose = counted.2 in
-    (counted.0, omega arith, omega arith, counted.3.bound)
-
-pub bounded_none : {lo hi n d m e : ℤ} (l r : ℕ) → (k : ℕ) × (l ≡ l + k) × (r ≡ r + k) × IsBoundedStepCount lo hi n d m e k
-bounded_none l r = (0, omega arith, omega arith, record { none = λ settled. refl; bound = λ j h. omega arith })
-
-pub bounded_unsettled : {lo hi n d m e : ℤ} (l l' r r' : ℕ) → ¬ (DoNumeratorsDecide n d m e ⊎ AreProductsHeld lo hi n d m e)
-    → (k : ℕ) × (l' ≡ l + k) × (r' ≡ r + k) × IsWithinBits (min (unsigned_abs d) (unsigned_abs e)) k
-    → (k : ℕ) × (l' ≡ l + k) × (r' ≡ r + k) × IsBoundedStepCount lo hi n d m e k
-bounded_unsettled l l' r r' unsettled counted = (counted.0, counted.1, counted.2, record { none = λ settled. absurd (unsettled settled); bound = counted.3 })
+-- ---- the steps of an order that may be told by half digits
 
 -- eight steps, if both denominators have four binary digits
 eight_within : (m : ℕ) → 8 ≤ m → IsWithinBits m 8
@@ -302,3 +286,25 @@ pub eight_steps : (d e : ℤ) → pos 8 ≤ℤ d → pos 8 ≤ℤ e → IsWithin
 eight_steps (pos d) (pos e) first second = eight_within (min d e) (omega (arith, ints))
 eight_steps (negsuc d) e first second = absurd (omega (arith, ints))
 eight_steps (pos d) (negsuc e) first second = absurd (omega (arith, ints))
+
+pub order_at_once : {halved : Bool} {lo hi n d m e : ℤ} (l r : ℕ) → DoNumeratorsDecide n d m e ⊎ AreProductsHeld lo hi n d m e
+    → (k : ℕ) × (l ≡ l + k) × (r ≡ r + k) × IsOrderStepCount halved lo hi n d m e k
+order_at_once l r settled = (0, omega arith, omega arith, record { exact = inl (settled, refl); bound = λ j h. omega arith })
+
+module _ (halved : Bool) (lo hi n d m e : ℤ) (unsettled : ¬ (DoNumeratorsDecide n d m e ⊎ AreProductsHeld lo hi n d m e)) where
+  pub order_by_halves : {l l' r r' : ℕ} → DoHalvesDecide halved hi n d m e → l' ≡ l + 8 → r' ≡ r + 8
+      → (k : ℕ) × (l' ≡ l + k) × (r' ≡ r + k) × IsOrderStepCount halved lo hi n d m e k
+  order_by_halves decided left right = (8, left, right, record {
+    exact = inr (unsettled, inl (decided, refl));
+    bound = eight_steps d e decided.left_long decided.right_long;
+  })
+
+  pub order_by_rounds : {answer : Ordering} {l l' r r' : ℕ} → ¬ (DoHalvesDecide halved hi n d m e) → d ≢ pos 0 → e ≢ pos 0
+      → Compares (hi +ℤ pos 1) n d m e answer l l' r r'
+      → (k : ℕ) × (l' ≡ l + k) × (r' ≡ r + k) × IsOrderStepCount halved lo hi n d m e k
+  order_by_rounds undecided dn en h =
+      let counted = steps-by_rounds {Settled = ⊥} {hi = hi} dn en (λ never. never) h in
+      (counted.0, counted.1, counted.2, record {
+        exact = inr (unsettled, inr (undecided, elim counted.3.exact [ inl never ↦ absurd never.0 | inr rounds ↦ rounds.1 ]));
+        bound = counted.3.bound;
+      })

@@ -1,5 +1,5 @@
 -- The order of fractions, by their cross products.
-use Rattle.std.specs.Prelude.{◌≡◌, ◌≢◌, ◌⊎◌, ◌≤ℤ◌, ◌<ℤ◌, ◌*ℤ◌, ℕ, ℤ, pos, negsuc, Result, Ok, Err}
+use Rattle.std.specs.Prelude.{◌≡◌, ◌≢◌, ◌⊎◌, ◌≤ℤ◌, ◌<ℤ◌, ◌*ℤ◌, ℕ, ℤ, pos, negsuc, neg_ℤ, Bool, Result, Ok, Err, IsTrue}
 use Rattle.std.specs.Ordering.{MatchOrdering, int_cmp}
 use Rattle.std.specs.declared.cmp.Ordering.{Ordering}
 use Rattle.ratio_integer.specs.{Division.IsFloored, Halves.AreHalves, Halves.IsHalfBase, Range.IsHeld}
@@ -46,6 +46,17 @@ pub record AreLowHalves (lo hi a b : ℤ) : Type 0 where
 -- Example: -1/2 and 1/3
 abbrev pub DoNumeratorsDecide : ℤ → ℤ → ℤ → ℤ → Type 0
 DoNumeratorsDecide n d m e = (pos 0 <ℤ d) × (pos 0 <ℤ e) × ((d ≡ e) ⊎ HaveUnlikeSigns n m)
+
+-- the cross products of n/d and m/e are compared as half digits, if `halved` holds: both denominators have four binary digits or more, both
+-- numerators are below 0 or neither is, and neither is -hi-1
+-- Example: 100/9 and 99/8, and not 100/9 and 99/2
+pub record DoHalvesDecide (halved : Bool) (hi n d m e : ℤ) : Type 0 where
+  pub base : IsTrue halved
+  pub left_long : pos 8 ≤ℤ d
+  pub right_long : pos 8 ≤ℤ e
+  pub alike : ¬ (HaveUnlikeSigns n m)
+  pub left_held : neg_ℤ hi ≤ℤ n
+  pub right_held : neg_ℤ hi ≤ℤ m
 
 -- Inner: the order of q and the floored quotient of n/d, which is at most hi, and not q
 pub record IsOrderOfQuotients (hi q n d : ℤ) (order : Ordering) : Type 0 where

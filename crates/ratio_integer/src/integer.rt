@@ -1,6 +1,6 @@
 //! The traits `Integer` (range, constants, arithmetic, gcd and lcm, halves, conversions such as `to_u128`, laws), `SignedInteger`
 //! (negatives) and `Primitive` (bits), and what tells a proof that a number is in range.
-ghost use Rattle.std.specs.Prelude.{◌≡◌, ◌≢◌, ◌↔◌, ◌≤◌, ◌≤ℤ◌, ◌<ℤ◌, ◌+ℤ◌, ◌-ℤ◌, ◌*ℤ◌, ◌-◌, ◌^◌, ℕ, ℤ, pos, neg_ℤ, Bool, List, Some, IsNone, IsTrue, IfSome, int_div, int_rem};
+ghost use Rattle.std.specs.Prelude.{◌≡◌, ◌≢◌, ◌↔◌, ◌≤◌, ◌≤ℤ◌, ◌<ℤ◌, ◌+ℤ◌, ◌-ℤ◌, ◌*ℤ◌, ◌-◌, ◌^◌, ℕ, ℤ, pos, neg_ℤ, Bool, List, Some, IsFalse, IsNone, IsTrue, MatchOption, int_div, int_rem};
 ghost use Rattle.std.specs.Bool.{OnFalse, OnTrue};
 ghost use Rattle.std.specs.Ordering.{int_cmp, partial_lt};
 ghost use Rattle.ratio_integer.specs.Arithmetic.{difference_of, sum_of};
@@ -39,6 +39,9 @@ pub trait Integer: Copy + Ord + Hash {
     ghost EXACT_SUMS: { Bool };
 
     ghost EXACT_REMAINDERS: { Bool };
+
+    // Whether there is a half base.
+    ghost is_halved: { Bool };
 
     // The number of `ONE` is 1. A constant fraction over the type can name this fact.
     ghost one_number: { value ONE ≡ pos 1 };
@@ -106,6 +109,12 @@ pub trait Integer: Copy + Ord + Hash {
     /// The value with the number `n`, or `None` if `n` does not fit the type.
     fn from_u128(n: u128) -> Option<Self>
         ensures { Checks value lo hi (pos n) result };
+
+    /// The half base, if dividing by it is quick: the root of the count of the type's numbers, as 2^32 over `i64`. It is even
+    /// and at least 6, the greatest number is 1 less than a multiple of it, and at least half of the numbers are not below 0.
+    /// `None` if the type has no such base, or no quick way to divide by it.
+    fn half_base() -> Option<Self>
+        ensures { MatchOption result (IsFalse is_halved) (λ base. IsTrue is_halved × IsBase lo hi (value base)) };
 
     /// If `EXACT_SUMS` is true, the lowest terms of `a/b + c/d`, or `None` if they do not fit the type. If it is
     /// false, always `None`.
@@ -266,15 +275,6 @@ pub trait Integer: Copy + Ord + Hash {
         ensures { IsFlooredRemainder (value self) (value o) (value result) }
     {
         self.div_mod_floor(o).1
-    }
-
-    /// The half base, if dividing by it is quick: the root of the count of the type's numbers, as 2^32 over `i64`. It is even
-    /// and at least 6, the greatest number is 1 less than a multiple of it, and at least half of the numbers are not below 0.
-    /// `None` if the type has no such base, or no quick way to divide by it.
-    fn half_base() -> Option<Self>
-        ensures { IfSome result (λ base. IsBase lo hi (value base)) }
-    {
-        None
     }
 
     /// The high and the low half: the floored quotient and the rest by the half base, as -1 and 2^32-5 of -5 over `i64`. The

@@ -31,6 +31,8 @@ impl Integer for i8 {
 
     ghost EXACT_REMAINDERS = { true };
 
+    ghost is_halved = { false };
+
     ghost one_number = { refl };
 
     const ZERO: i8 = 0;
@@ -79,6 +81,10 @@ impl Integer for i8 {
 
     fn from_u128(n: u128) -> Option<i8> {
         cast(n)
+    }
+
+    fn half_base() -> Option<i8> {
+        None
     }
 
     fn exact_sum(_a: i8, _b: i8, _c: i8, _d: i8) -> Option<(i8, i8)> {
@@ -153,6 +159,8 @@ impl Integer for i16 {
 
     ghost EXACT_REMAINDERS = { true };
 
+    ghost is_halved = { false };
+
     ghost one_number = { refl };
 
     const ZERO: i16 = 0;
@@ -201,6 +209,10 @@ impl Integer for i16 {
 
     fn from_u128(n: u128) -> Option<i16> {
         cast(n)
+    }
+
+    fn half_base() -> Option<i16> {
+        None
     }
 
     fn exact_sum(_a: i16, _b: i16, _c: i16, _d: i16) -> Option<(i16, i16)> {
@@ -275,6 +287,8 @@ impl Integer for i32 {
 
     ghost EXACT_REMAINDERS = { true };
 
+    ghost is_halved = { false };
+
     ghost one_number = { refl };
 
     const ZERO: i32 = 0;
@@ -323,6 +337,10 @@ impl Integer for i32 {
 
     fn from_u128(n: u128) -> Option<i32> {
         cast(n)
+    }
+
+    fn half_base() -> Option<i32> {
+        None
     }
 
     fn exact_sum(a: i32, b: i32, c: i32, d: i32) -> Option<(i32, i32)> {
@@ -397,6 +415,8 @@ impl Integer for i64 {
 
     ghost EXACT_REMAINDERS = { true };
 
+    ghost is_halved = { true };
+
     ghost one_number = { refl };
 
     const ZERO: i64 = 0;
@@ -447,6 +467,10 @@ impl Integer for i64 {
         cast(n)
     }
 
+    fn half_base() -> Option<i64> {
+        Some(1 << (i64::BITS / 2))
+    }
+
     fn exact_sum(a: i64, b: i64, c: i64, d: i64) -> Option<(i64, i64)> {
         widths::exact_sum(a, b, c, d)
     }
@@ -469,10 +493,6 @@ impl Integer for i64 {
 
     fn try_minus(self, o: i64) -> Option<i64> {
         self.checked_sub(o)
-    }
-
-    fn half_base() -> Option<i64> {
-        Some(1 << (i64::BITS / 2))
     }
 
     fn halves(self, _base: i64) -> (i64, i64) {
@@ -528,6 +548,8 @@ impl Integer for i128 {
 
     ghost EXACT_REMAINDERS = { true };
 
+    ghost is_halved = { true };
+
     ghost one_number = { refl };
 
     const ZERO: i128 = 0;
@@ -578,6 +600,10 @@ impl Integer for i128 {
         cast(n)
     }
 
+    fn half_base() -> Option<i128> {
+        Some(1 << (i128::BITS / 2))
+    }
+
     fn exact_sum(_a: i128, _b: i128, _c: i128, _d: i128) -> Option<(i128, i128)> {
         None
     }
@@ -600,10 +626,6 @@ impl Integer for i128 {
 
     fn try_minus(self, o: i128) -> Option<i128> {
         self.checked_sub(o)
-    }
-
-    fn half_base() -> Option<i128> {
-        Some(1 << (i128::BITS / 2))
     }
 
     fn halves(self, _base: i128) -> (i128, i128) {
@@ -659,6 +681,8 @@ impl Integer for isize {
 
     ghost EXACT_REMAINDERS = { true };
 
+    ghost is_halved = { true };
+
     ghost one_number = { refl };
 
     const ZERO: isize = 0;
@@ -709,6 +733,10 @@ impl Integer for isize {
         cast(n)
     }
 
+    fn half_base() -> Option<isize> {
+        Some(1 << (isize::BITS / 2))
+    }
+
     fn exact_sum(_a: isize, _b: isize, _c: isize, _d: isize) -> Option<(isize, isize)> {
         None
     }
@@ -731,10 +759,6 @@ impl Integer for isize {
 
     fn try_minus(self, o: isize) -> Option<isize> {
         self.checked_sub(o)
-    }
-
-    fn half_base() -> Option<isize> {
-        Some(1 << (isize::BITS / 2))
     }
 
     fn halves(self, _base: isize) -> (isize, isize) {

@@ -31,6 +31,8 @@ impl Integer for u8 {
 
     ghost EXACT_REMAINDERS = { true };
 
+    ghost is_halved = { false };
+
     ghost one_number = { refl };
 
     const ZERO: u8 = 0;
@@ -79,6 +81,10 @@ impl Integer for u8 {
 
     fn from_u128(n: u128) -> Option<u8> {
         cast(n)
+    }
+
+    fn half_base() -> Option<u8> {
+        None
     }
 
     fn exact_sum(_a: u8, _b: u8, _c: u8, _d: u8) -> Option<(u8, u8)> {
@@ -148,6 +154,8 @@ impl Integer for u16 {
 
     ghost EXACT_REMAINDERS = { true };
 
+    ghost is_halved = { false };
+
     ghost one_number = { refl };
 
     const ZERO: u16 = 0;
@@ -196,6 +204,10 @@ impl Integer for u16 {
 
     fn from_u128(n: u128) -> Option<u16> {
         cast(n)
+    }
+
+    fn half_base() -> Option<u16> {
+        None
     }
 
     fn exact_sum(_a: u16, _b: u16, _c: u16, _d: u16) -> Option<(u16, u16)> {
@@ -265,6 +277,8 @@ impl Integer for u32 {
 
     ghost EXACT_REMAINDERS = { true };
 
+    ghost is_halved = { false };
+
     ghost one_number = { refl };
 
     const ZERO: u32 = 0;
@@ -313,6 +327,10 @@ impl Integer for u32 {
 
     fn from_u128(n: u128) -> Option<u32> {
         cast(n)
+    }
+
+    fn half_base() -> Option<u32> {
+        None
     }
 
     fn exact_sum(_a: u32, _b: u32, _c: u32, _d: u32) -> Option<(u32, u32)> {
@@ -382,6 +400,8 @@ impl Integer for u64 {
 
     ghost EXACT_REMAINDERS = { true };
 
+    ghost is_halved = { true };
+
     ghost one_number = { refl };
 
     const ZERO: u64 = 0;
@@ -432,6 +452,10 @@ impl Integer for u64 {
         cast(n)
     }
 
+    fn half_base() -> Option<u64> {
+        Some(1 << (u64::BITS / 2))
+    }
+
     fn exact_sum(_a: u64, _b: u64, _c: u64, _d: u64) -> Option<(u64, u64)> {
         None
     }
@@ -454,10 +478,6 @@ impl Integer for u64 {
 
     fn try_minus(self, o: u64) -> Option<u64> {
         self.checked_sub(o)
-    }
-
-    fn half_base() -> Option<u64> {
-        Some(1 << (u64::BITS / 2))
     }
 
     fn halves(self, _base: u64) -> (u64, u64) {
@@ -506,6 +526,8 @@ impl Integer for u128 {
     ghost EXACT_SUMS = { false };
 
     ghost EXACT_REMAINDERS = { true };
+
+    ghost is_halved = { true };
 
     ghost one_number = { refl };
 
@@ -557,6 +579,10 @@ impl Integer for u128 {
         cast(n)
     }
 
+    fn half_base() -> Option<u128> {
+        Some(1 << (u128::BITS / 2))
+    }
+
     fn exact_sum(_a: u128, _b: u128, _c: u128, _d: u128) -> Option<(u128, u128)> {
         None
     }
@@ -579,10 +605,6 @@ impl Integer for u128 {
 
     fn try_minus(self, o: u128) -> Option<u128> {
         self.checked_sub(o)
-    }
-
-    fn half_base() -> Option<u128> {
-        Some(1 << (u128::BITS / 2))
     }
 
     fn halves(self, _base: u128) -> (u128, u128) {
@@ -631,6 +653,8 @@ impl Integer for usize {
     ghost EXACT_SUMS = { false };
 
     ghost EXACT_REMAINDERS = { true };
+
+    ghost is_halved = { true };
 
     ghost one_number = { refl };
 
@@ -682,6 +706,10 @@ impl Integer for usize {
         cast(n)
     }
 
+    fn half_base() -> Option<usize> {
+        Some(1 << (usize::BITS / 2))
+    }
+
     fn exact_sum(_a: usize, _b: usize, _c: usize, _d: usize) -> Option<(usize, usize)> {
         None
     }
@@ -704,10 +732,6 @@ impl Integer for usize {
 
     fn try_minus(self, o: usize) -> Option<usize> {
         self.checked_sub(o)
-    }
-
-    fn half_base() -> Option<usize> {
-        Some(1 << (usize::BITS / 2))
     }
 
     fn halves(self, _base: usize) -> (usize, usize) {

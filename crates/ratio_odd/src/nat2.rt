@@ -46,6 +46,8 @@ impl Integer for Nat2 {
 
     ghost EXACT_REMAINDERS = { false };
 
+    ghost is_halved = { false };
+
     ghost one_number = { refl };
 
     const ZERO: Nat2 = Nat2 { n: 0 };
@@ -108,6 +110,10 @@ impl Integer for Nat2 {
         } else {
             None
         }
+    }
+
+    fn half_base() -> Option<Nat2> {
+        None
     }
 
     fn exact_sum(_a: Nat2, _b: Nat2, _c: Nat2, _d: Nat2) -> Option<(Nat2, Nat2)> {

@@ -46,6 +46,8 @@ impl Integer for Sym5 {
 
     ghost EXACT_REMAINDERS = { false };
 
+    ghost is_halved = { false };
+
     ghost one_number = { refl };
 
     const ZERO: Sym5 = Sym5 { n: 0 };
@@ -108,6 +110,10 @@ impl Integer for Sym5 {
         } else {
             None
         }
+    }
+
+    fn half_base() -> Option<Sym5> {
+        None
     }
 
     fn exact_sum(_a: Sym5, _b: Sym5, _c: Sym5, _d: Sym5) -> Option<(Sym5, Sym5)> {

@@ -46,6 +46,8 @@ impl Integer for Two3 {
 
     ghost EXACT_REMAINDERS = { false };
 
+    ghost is_halved = { false };
+
     ghost one_number = { refl };
 
     const ZERO: Two3 = Two3 { n: 0 };
@@ -108,6 +110,10 @@ impl Integer for Two3 {
         } else {
             None
         }
+    }
+
+    fn half_base() -> Option<Two3> {
+        None
     }
 
     fn exact_sum(_a: Two3, _b: Two3, _c: Two3, _d: Two3) -> Option<(Two3, Two3)> {

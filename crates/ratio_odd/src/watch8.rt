@@ -1,5 +1,5 @@
 //! `Watched`, a type that counts how often its numbers are divided, and how often they are added or subtracted.
-ghost use Rattle.std.specs.Prelude.{◌≡◌, ◌-◌, ◌^◌, pos, negsuc, false};
+ghost use Rattle.std.specs.Prelude.{◌≡◌, ◌-◌, ◌^◌, pos, negsuc, Bool, false, true};
 ghost use Rattle.std.specs.Hash as hash;
 ghost use Rattle.std.specs.Cmp.{partial_order_from_own_ties};
 ghost use Rattle.std.specs.Cmp.Rules.{comparing, hashing};
@@ -15,19 +15,27 @@ use std::hash::{Hash, Hasher};
 
 /// A counter that can be raised by one. No contract says how far it got.
 pub trait Counter: Copy {
+    // Whether the numbers that it watches have a half base.
+    ghost halves: { Bool };
+
     /// Raises the counter by one.
     fn raise(self);
 
-    /// Whether the numbers that it watches have halves.
-    fn has_halves() -> bool {
-        false
-    }
+    /// Whether the numbers that it watches have a half base.
+    fn has_halves() -> bool
+        ensures { result ≡ halves };
 }
 
 impl Counter for &Cell<u32> {
+    ghost halves = { false };
+
     /// One more, and 0 after the greatest number.
     fn raise(self) {
         self.set(self.get().wrapping_add(1));
+    }
+
+    fn has_halves() -> bool {
+        false
     }
 }
 
@@ -36,6 +44,8 @@ impl Counter for &Cell<u32> {
 pub struct Halving<'a>(pub &'a Cell<u32>);
 
 impl Counter for Halving<'_> {
+    ghost halves = { true };
+
     fn raise(self) {
         self.0.raise();
     }
@@ -170,6 +180,8 @@ impl<C: Counter> Integer for Watched<C> {
     ghost EXACT_SUMS = { false };
 
     ghost EXACT_REMAINDERS = { false };
+
+    ghost is_halved = { C.halves };
 
     ghost one_number = { refl };
 

@@ -52,10 +52,10 @@ pub fn compare<T: Integer>(n: T, d: T, m: T, e: T, steps: &mut Steps) -> Orderin
 }
 
 /// The order of `n/d` and `m/e`, as `compare` tells it. The denominators may have either sign, and the fractions need not
-/// be reduced. Where neither the numerators alone nor the cross products decide, it forms these products as half digits. It
-/// divides in rounds, as `cmp_counted` does, if a denominator is below 8, if a numerator is the least number, or if the type has no
-/// half base. Both sides of `steps` rise by the same number, which is at most twice the number of binary digits of the
-/// smaller denominator.
+/// be reduced. Where neither the numerators alone nor the cross products decide, it forms these products as half digits, by
+/// eight steps a side. It divides in rounds, as `cmp_counted` does, if a denominator is below 8, if one of the numerators alone is
+/// below 0, if one is the least number, or if the type has no half base. Both sides of `steps` rise by the same number, which is at
+/// most twice the number of binary digits of the smaller denominator.
 ///
 /// # Conditions
 ///
@@ -134,6 +134,7 @@ fn order_of_products<T: Integer>(n: T, d: T, m: T, e: T) -> Option<Ordering> {
 ///
 /// - `left_nonzero`: `T.value d ≢ pos 0`
 /// - `right_nonzero`: `T.value e ≢ pos 0`
+/// - `unsettled`: `¬ (DoNumeratorsDecide (T.value n) (T.value d) (T.value m) (T.value e) ⊎ AreProductsHeld T.lo T.hi (T.value n) (T.value d) (T.value m) (T.value e))`
 #[cold]
 #[inline(never)]
 fn long_order<T: Integer>(n: T, d: T, m: T, e: T, steps: &mut Steps) -> Ordering {

@@ -80,6 +80,11 @@ pub trait Integer: Copy + Ord + Hash {
     /// The value with the number `n`, or `None` if `n` does not fit the type.
     fn from_u128(n: u128) -> Option<Self>;
 
+    /// The half base, if dividing by it is quick: the root of the count of the type's numbers, as 2^32 over `i64`. It is even
+    /// and at least 6, the greatest number is 1 less than a multiple of it, and at least half of the numbers are not below 0.
+    /// `None` if the type has no such base, or no quick way to divide by it.
+    fn half_base() -> Option<Self>;
+
     /// If `EXACT_SUMS` is true, the lowest terms of `a/b + c/d`, or `None` if they do not fit the type. If it is
     /// false, always `None`.
     ///
@@ -237,14 +242,6 @@ pub trait Integer: Copy + Ord + Hash {
     #[inline]
     fn mod_floor(self, o: Self) -> Self {
         self.div_mod_floor(o).1
-    }
-
-    /// The half base, if dividing by it is quick: the root of the count of the type's numbers, as 2^32 over `i64`. It is even
-    /// and at least 6, the greatest number is 1 less than a multiple of it, and at least half of the numbers are not below 0.
-    /// `None` if the type has no such base, or no quick way to divide by it.
-    #[inline]
-    fn half_base() -> Option<Self> {
-        None
     }
 
     /// The high and the low half: the floored quotient and the rest by the half base, as -1 and 2^32-5 of -5 over `i64`. The

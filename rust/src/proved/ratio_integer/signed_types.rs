@@ -66,6 +66,11 @@ impl Integer for i8 {
     }
 
     #[inline]
+    fn half_base() -> Option<i8> {
+        None
+    }
+
+    #[inline]
     fn exact_sum(_a: i8, _b: i8, _c: i8, _d: i8) -> Option<(i8, i8)> {
         None
     }
@@ -172,6 +177,11 @@ impl Integer for i16 {
     #[inline]
     fn from_u128(n: u128) -> Option<i16> {
         cast(n)
+    }
+
+    #[inline]
+    fn half_base() -> Option<i16> {
+        None
     }
 
     #[inline]
@@ -284,6 +294,11 @@ impl Integer for i32 {
     }
 
     #[inline]
+    fn half_base() -> Option<i32> {
+        None
+    }
+
+    #[inline]
     fn exact_sum(a: i32, b: i32, c: i32, d: i32) -> Option<(i32, i32)> {
         widths::exact_sum(a, b, c, d)
     }
@@ -393,6 +408,11 @@ impl Integer for i64 {
     }
 
     #[inline]
+    fn half_base() -> Option<i64> {
+        Some(1 << (i64::BITS / 2))
+    }
+
+    #[inline]
     fn exact_sum(a: i64, b: i64, c: i64, d: i64) -> Option<(i64, i64)> {
         widths::exact_sum(a, b, c, d)
     }
@@ -420,11 +440,6 @@ impl Integer for i64 {
     #[inline]
     fn try_minus(self, o: i64) -> Option<i64> {
         self.checked_sub(o)
-    }
-
-    #[inline]
-    fn half_base() -> Option<i64> {
-        Some(1 << (i64::BITS / 2))
     }
 
     #[inline]
@@ -513,6 +528,11 @@ impl Integer for i128 {
     }
 
     #[inline]
+    fn half_base() -> Option<i128> {
+        Some(1 << (i128::BITS / 2))
+    }
+
+    #[inline]
     fn exact_sum(_a: i128, _b: i128, _c: i128, _d: i128) -> Option<(i128, i128)> {
         None
     }
@@ -540,11 +560,6 @@ impl Integer for i128 {
     #[inline]
     fn try_minus(self, o: i128) -> Option<i128> {
         self.checked_sub(o)
-    }
-
-    #[inline]
-    fn half_base() -> Option<i128> {
-        Some(1 << (i128::BITS / 2))
     }
 
     #[inline]
@@ -633,6 +648,11 @@ impl Integer for isize {
     }
 
     #[inline]
+    fn half_base() -> Option<isize> {
+        Some(1 << (isize::BITS / 2))
+    }
+
+    #[inline]
     fn exact_sum(_a: isize, _b: isize, _c: isize, _d: isize) -> Option<(isize, isize)> {
         None
     }
@@ -660,11 +680,6 @@ impl Integer for isize {
     #[inline]
     fn try_minus(self, o: isize) -> Option<isize> {
         self.checked_sub(o)
-    }
-
-    #[inline]
-    fn half_base() -> Option<isize> {
-        Some(1 << (isize::BITS / 2))
     }
 
     #[inline]

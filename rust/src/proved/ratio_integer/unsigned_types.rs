@@ -66,6 +66,11 @@ impl Integer for u8 {
     }
 
     #[inline]
+    fn half_base() -> Option<u8> {
+        None
+    }
+
+    #[inline]
     fn exact_sum(_a: u8, _b: u8, _c: u8, _d: u8) -> Option<(u8, u8)> {
         None
     }
@@ -167,6 +172,11 @@ impl Integer for u16 {
     #[inline]
     fn from_u128(n: u128) -> Option<u16> {
         cast(n)
+    }
+
+    #[inline]
+    fn half_base() -> Option<u16> {
+        None
     }
 
     #[inline]
@@ -274,6 +284,11 @@ impl Integer for u32 {
     }
 
     #[inline]
+    fn half_base() -> Option<u32> {
+        None
+    }
+
+    #[inline]
     fn exact_sum(_a: u32, _b: u32, _c: u32, _d: u32) -> Option<(u32, u32)> {
         None
     }
@@ -378,6 +393,11 @@ impl Integer for u64 {
     }
 
     #[inline]
+    fn half_base() -> Option<u64> {
+        Some(1 << (u64::BITS / 2))
+    }
+
+    #[inline]
     fn exact_sum(_a: u64, _b: u64, _c: u64, _d: u64) -> Option<(u64, u64)> {
         None
     }
@@ -405,11 +425,6 @@ impl Integer for u64 {
     #[inline]
     fn try_minus(self, o: u64) -> Option<u64> {
         self.checked_sub(o)
-    }
-
-    #[inline]
-    fn half_base() -> Option<u64> {
-        Some(1 << (u64::BITS / 2))
     }
 
     #[inline]
@@ -492,6 +507,11 @@ impl Integer for u128 {
     }
 
     #[inline]
+    fn half_base() -> Option<u128> {
+        Some(1 << (u128::BITS / 2))
+    }
+
+    #[inline]
     fn exact_sum(_a: u128, _b: u128, _c: u128, _d: u128) -> Option<(u128, u128)> {
         None
     }
@@ -519,11 +539,6 @@ impl Integer for u128 {
     #[inline]
     fn try_minus(self, o: u128) -> Option<u128> {
         self.checked_sub(o)
-    }
-
-    #[inline]
-    fn half_base() -> Option<u128> {
-        Some(1 << (u128::BITS / 2))
     }
 
     #[inline]
@@ -606,6 +621,11 @@ impl Integer for usize {
     }
 
     #[inline]
+    fn half_base() -> Option<usize> {
+        Some(1 << (usize::BITS / 2))
+    }
+
+    #[inline]
     fn exact_sum(_a: usize, _b: usize, _c: usize, _d: usize) -> Option<(usize, usize)> {
         None
     }
@@ -633,11 +653,6 @@ impl Integer for usize {
     #[inline]
     fn try_minus(self, o: usize) -> Option<usize> {
         self.checked_sub(o)
-    }
-
-    #[inline]
-    fn half_base() -> Option<usize> {
-        Some(1 << (usize::BITS / 2))
     }
 
     #[inline]

@@ -8,14 +8,14 @@ ghost use Rattle.ratio_approximation.specs.Convergents.{IsConvergentCount};
 ghost use Rattle.ratio_approximation.specs.Nearest.{IsNearest};
 
 use crate::nearest::neighbour::{Neighbour, first_of, moved, steps_towards};
-use ratio_core::Steps;
+use ratio_core::counted::both_held;
 use ratio_core::order::dividing::divide_left;
-use ratio_integer::{Integer, both_held};
+use ratio_core::{Counted, Steps};
 
 /// The nearest fraction to `n/d` with a denominator from 1 to `most`, in lowest terms.
 /// For 355/113 and 10 it is 22/7. Of two that are as near, it is the one with the smaller
 /// denominator, and of two whole numbers the smaller one: for 1/2 and 1 it is 0/1.
-pub fn nearest<T: Integer>(n: T, d: T, most: T) -> (T, T)
+pub fn nearest<T: Counted>(n: T, d: T, most: T) -> (T, T)
     requires positive { pos 0 <ℤ T.value d }
     requires room { pos 0 <ℤ T.value most }
     ensures nearest { IsNearest (T.value n) (T.value d) (T.value most) (T.value result.0) (T.value result.1) }
@@ -30,7 +30,7 @@ pub fn nearest<T: Integer>(n: T, d: T, most: T) -> (T, T)
 /// The right side divides once for each convergent of `n/d` with a denominator of at most `most`, except for `n/d` itself.
 /// The left side divides once more. For example, the convergents before 355/113 are 3/1 and 22/7. If `most` is 50, the
 /// left side divides three times, and the right side twice. Each side divides at most twice for each binary digit of `d`.
-pub fn nearest_counted<T: Integer>(n: T, d: T, most: T, steps: &mut Steps) -> (T, T)
+pub fn nearest_counted<T: Counted>(n: T, d: T, most: T, steps: &mut Steps) -> (T, T)
     requires positive { pos 0 <ℤ T.value d }
     requires room { pos 0 <ℤ T.value most }
     ensures nearest { IsNearest (T.value n) (T.value d) (T.value most) (T.value result.0) (T.value result.1) }

@@ -105,6 +105,11 @@ divided_apart {q = q} {p = p} {s} {o} is below order unlike = record {
   apart = apart_at q p o unlike (subst (λ x. MatchOrdering x (q <ℤ p) (q ≡ p) (p <ℤ q)) (sym order) (int_ranks q p));
 }
 
+pub divided_tied : {q n d p s : ℤ} → IsFloored n d p s → int_cmp q p ≡ Equal → IsFloored n d q s
+divided_tied {q = q} {n} {d} {p} {s} is tied =
+    let same : q ≡ p = subst (λ x. MatchOrdering x (q <ℤ p) (q ≡ p) (p <ℤ q)) tied (int_ranks q p) in
+    subst (λ x. IsFloored n d x s) (sym same) is
+
 -- if the quotients differ, they decide, whatever the rests are
 pub parts_apart : (q r p s : ℤ) (o : Ordering) → MatchOrdering o (q <ℤ p) ⊥ (p <ℤ q) → IsOrderOfParts q r p s o
 parts_apart q r p s Less stands = inl stands

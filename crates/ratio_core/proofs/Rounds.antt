@@ -292,19 +292,28 @@ pub order_at_once : {halved : Bool} {lo hi n d m e : ℤ} (l r : ℕ) → DoNume
 order_at_once l r settled = (0, omega arith, omega arith, record { exact = inl (settled, refl); bound = λ j h. omega arith })
 
 module _ (halved : Bool) (lo hi n d m e : ℤ) (unsettled : ¬ (DoNumeratorsDecide n d m e ⊎ AreProductsHeld lo hi n d m e)) where
-  pub order_by_halves : {l l' r r' : ℕ} → DoHalvesDecide halved hi n d m e → l' ≡ l + 8 → r' ≡ r + 8
+  pub order_by_halves : (l l' r r' : ℕ) → DoHalvesDecide halved hi n d m e → l' ≡ l + 8 → r' ≡ r + 8
       → (k : ℕ) × (l' ≡ l + k) × (r' ≡ r + k) × IsOrderStepCount halved lo hi n d m e k
-  order_by_halves decided left right = (8, left, right, record {
-    exact = inr (unsettled, inl (decided, refl));
-    bound = eight_steps d e decided.left_long decided.right_long;
-  })
+  order_by_halves l l' r r' decided left right = (
+    8,
+    left,
+    right,
+    record {
+      exact = inr (unsettled, inl (decided, refl));
+      bound = eight_steps d e decided.left_long decided.right_long;
+    },
+  )
 
   pub order_by_rounds : {answer : Ordering} {l l' r r' : ℕ} → ¬ (DoHalvesDecide halved hi n d m e) → d ≢ pos 0 → e ≢ pos 0
       → Compares (hi +ℤ pos 1) n d m e answer l l' r r'
       → (k : ℕ) × (l' ≡ l + k) × (r' ≡ r + k) × IsOrderStepCount halved lo hi n d m e k
   order_by_rounds undecided dn en h =
-      let counted = steps-by_rounds {Settled = ⊥} {hi = hi} dn en (λ never. never) h in
-      (counted.0, counted.1, counted.2, record {
-        exact = inr (unsettled, inr (undecided, elim counted.3.exact [ inl never ↦ absurd never.0 | inr rounds ↦ rounds.1 ]));
-        bound = counted.3.bound;
-      })
+      let counted = steps-by_rounds {Settled = ⊥} {hi = hi} dn en (λ never. never) h in (
+        counted.0,
+        counted.1,
+        counted.2,
+        record {
+          exact = inr (unsettled, inr (undecided, elim counted.3.exact [ inl never ↦ absurd never.0 | inr rounds ↦ rounds.1 ]));
+          bound = counted.3.bound;
+        },
+      )

@@ -1,7 +1,7 @@
 -- Steps by the side of a comparison.
 use Rattle.std.specs.Prelude.{ℕ}
-use Rattle.ratio_core.specs.declared.order.half_digits.Side.{Side}
-use Rattle.ratio_core.specs.declared.order.half_digits.Side.TheVariants.{Left, Right}
+use Rattle.ratio_core.specs.declared.steps.Side.{Side}
+use Rattle.ratio_core.specs.declared.steps.Side.TheVariants.{Left, Right}
 
 -- Inner: how many steps of the left side one step of this side is
 abbrev pub on_left : Side → ℕ

@@ -3,14 +3,15 @@ ghost use Rattle.std.specs.Prelude.{◌≡◌, ◌≢◌, ◌+◌, ◌++◌, ◌
 ghost use Rattle.std.specs.Borrow.{ftrue};
 ghost use Rattle.ratio_core.specs.ContinuedFraction.{AreCodesCounted, IsCodeCount, IsCodesOf, TellsApart};
 
+use crate::counted::{Counted, both_held};
 use crate::order::dividing::{divide_left, is_above_max};
 use crate::steps::Steps;
-use ratio_integer::{Integer, both_held};
+use ratio_integer::Integer;
 use std::marker::Model;
 
 /// A list that takes integers at its end: an array that keeps them, or a hasher that is fed with them.
 /// Contracts see all numbers that it has taken. A list that does not keep its numbers has a `Taken` for them.
-pub trait CodeList<T: Integer> {
+pub trait CodeList<T: Counted> {
     // The numbers taken so far.
     ghost taken: { Self → List ℤ };
 
@@ -56,7 +57,7 @@ impl Taken {
 ///
 /// Fractions of the same value have the same codes, reduced or not, with a denominator of either sign.
 /// Fractions of different values have different codes.
-pub fn hash_counted<T: Integer, L: CodeList<T>>(n: T, d: T, list: &mut L, steps: &mut Steps)
+pub fn hash_counted<T: Counted, L: CodeList<T>>(n: T, d: T, list: &mut L, steps: &mut Steps)
     requires { T.value d ≢ pos 0 }
     ensures codes { (codes : List ℤ) × IsCodesOf T.lo T.hi (T.value n) (T.value d) codes
         × TellsApart T.lo T.hi (T.value n) (T.value d) codes
@@ -70,7 +71,7 @@ pub fn hash_counted<T: Integer, L: CodeList<T>>(n: T, d: T, list: &mut L, steps:
 }
 
 /// Euclid's algorithm: hands each quotient to `list`.
-fn take_codes<T: Integer, L: CodeList<T>>(n: T, d: T, list: &mut L, steps: &mut Steps)
+fn take_codes<T: Counted, L: CodeList<T>>(n: T, d: T, list: &mut L, steps: &mut Steps)
     requires { T.value d ≢ pos 0 }
     ensures taken { (codes : List ℤ) × (k : ℕ)
         × AreCodesCounted T.lo T.hi (T.value n) (T.value d) codes k
@@ -102,7 +103,7 @@ fn take_codes<T: Integer, L: CodeList<T>>(n: T, d: T, list: &mut L, steps: &mut 
 }
 
 /// Hands both to `list`, in this order.
-fn take_both<T: Integer, L: CodeList<T>>(list: &mut L, first: T, second: T)
+fn take_both<T: Counted, L: CodeList<T>>(list: &mut L, first: T, second: T)
     ensures { list.new ≡ L.after (L.after list.old (T.value first)) (T.value second) }
 {
     list.take(first);

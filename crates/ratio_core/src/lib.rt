@@ -9,9 +9,9 @@
 //! |---|---|
 //! | `checked_new` | The lowest terms of a fraction, with its sign moved to the numerator, if they fit the type. |
 //! | `order` | The order of two fractions, by what decides it soonest. |
-//! | `order::half_digits` | Comparing fractions by their cross products in half digits, which are digits of half the type's width, and the `Side` that a step counts for. |
+//! | `order::half_digits` | Comparing fractions by their cross products in half digits, which are digits of half the type's width. |
 //! | `order::dividing` | Comparing fractions by rounds of Euclid's algorithm on both, with the one pair whose quotient does not fit, and its counted divisions, which hashing and other searches call too. |
-//! | `steps` | `Steps`: how many steps each side of a comparison took, a count that only contracts see. |
+//! | `steps` | `Steps`: how many steps each side of a comparison took, a count that only contracts see; and `Side`, the side that a step counts for. |
 //! | `hash` | The codes by which a fraction is hashed: handed to a `CodeList` while the steps are counted, and kept for contracts in a `Taken`. |
 //! | `sums` | Sums and differences of fractions with positive denominators, in lowest terms, and two fractions over their least common denominator. |
 //! | `sums::lowest_sums` | Sums and differences of fractions in lowest terms: `Some` exactly if the lowest terms fit. |
@@ -37,9 +37,11 @@
 //! | `text::numeral` | A number in base 2, 8 or 16, and its two's complement, written from the last digit to the first. |
 //! | `text::reading` | Reading a fraction from a text in any base, in lowest terms: in one pass over its bytes where it is short, or else each side of its slash alone. |
 //! | `parse_error` | Why a text is refused as a fraction: `ParseRatioError`, its kinds, and what it prints. |
+//! | `counted` | `Counted`: the numbers of an integer type, with no division that takes no step. |
 #![tactic(auto)]
 
 pub mod checked_new;
+pub mod counted;
 pub mod divisors;
 mod exponent;
 mod hash;
@@ -55,9 +57,10 @@ mod steps;
 pub mod sums;
 pub mod text;
 
+pub use counted::Counted;
 pub use exponent::Exponent;
 pub use hash::{CodeList, Taken, hash_counted};
 pub use order::{cmp_counted, compare, cross_order};
 pub use parse_error::{ParseRatioError, RatioErrorKind};
-pub use steps::Steps;
+pub use steps::{Side, Steps};
 pub use text::{BaseTenText, DecimalText, Form, RatioText};

@@ -4,6 +4,7 @@ ghost use Rattle.ratio_integer.specs.Range.{IsHeld};
 ghost use Rattle.ratio_core.specs.Order.{HaveUnlikeSigns};
 ghost use Rattle.ratio_core.specs.Signs.{IsAbsolute, IsNegative, IsPositive, IsPositiveDifference, IsSign, PositiveDifferenceCondition};
 
+use crate::counted::Counted;
 use crate::order::cross_order;
 use crate::steps::Steps;
 use crate::sums::sub;
@@ -80,7 +81,7 @@ pub fn is_negative<T: SignedInteger>(n: T, d: T) -> bool
 }
 
 /// Whether the number is below 0.
-pub fn is_below_zero<T: Integer>(a: T) -> bool
+pub fn is_below_zero<T: Counted>(a: T) -> bool
     ensures { IsTrue result ↔ (T.value a <ℤ pos 0) }
 {
     a < T::ZERO
@@ -94,7 +95,7 @@ pub fn is_above_zero<T: Integer>(a: T) -> bool
 }
 
 /// Whether exactly one of the two is below 0.
-pub fn have_unlike_signs<T: Integer>(d: T, e: T) -> bool
+pub fn have_unlike_signs<T: Counted>(d: T, e: T) -> bool
     ensures { IsTrue result ↔ HaveUnlikeSigns (T.value d) (T.value e) }
 {
     is_below_zero(d) != is_below_zero(e)

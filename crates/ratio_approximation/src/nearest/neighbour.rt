@@ -6,21 +6,20 @@ ghost use Rattle.ratio_integer.specs.Range.{IsHeld};
 ghost use Rattle.ratio_approximation.specs.Nearest.{ComesFirst};
 ghost use Rattle.ratio_approximation.specs.Moving.{CanCompare, CanMove};
 
-use ratio_core::Steps;
 use ratio_core::order::dividing::{divide_left, divide_right};
-use ratio_integer::Integer;
+use ratio_core::{Counted, Steps};
 use std::alloc::AllocError;
 
 /// The fraction `numer/denom`, and its distance from the fraction `n/d` that is sought: `gap` is this
 /// distance times `d` and `denom`. For 7/5 and 4/3 the distance is 1/15, so `gap` is 1.
 #[derive(Copy)]
-pub(crate) struct Neighbour<T: Copy + Integer> {
+pub(crate) struct Neighbour<T: Counted> {
     pub(crate) numer: T,
     pub(crate) denom: T,
     pub(crate) gap: T,
 }
 
-impl<T: Copy + Integer> Clone for Neighbour<T> {
+impl<T: Counted> Clone for Neighbour<T> {
     ghost use Rattle.std.specs.Prelude.{⊤};
 
     ghost is_clone = { λ x y. y ≡ x };
@@ -34,7 +33,7 @@ impl<T: Copy + Integer> Clone for Neighbour<T> {
 
 /// How many steps towards `fixed` the gap of `moving` has room for, and how many the bound `most` of the
 /// denominators has room for. The first takes a division of the left side, the second one of the right side.
-pub(crate) fn steps_towards<T: Integer>(
+pub(crate) fn steps_towards<T: Counted>(
     moving: Neighbour<T>,
     fixed: Neighbour<T>,
     most: T,
@@ -55,7 +54,7 @@ pub(crate) fn steps_towards<T: Integer>(
 
 /// The neighbour `moving` after `times` steps towards `fixed`. Each step adds
 /// the numbers of `fixed`: two steps from 1/1 towards 0/1 lead to 1/3.
-pub(crate) fn moved<T: Integer>(moving: Neighbour<T>, fixed: Neighbour<T>, times: T) -> Neighbour<T>
+pub(crate) fn moved<T: Counted>(moving: Neighbour<T>, fixed: Neighbour<T>, times: T) -> Neighbour<T>
     requires { CanMove T.lo T.hi (T.value moving.numer) (T.value moving.denom) (T.value moving.gap)
         (T.value fixed.numer) (T.value fixed.denom) (T.value fixed.gap) (T.value times) }
     ensures numer { T.value result.numer ≡ T.value moving.numer +ℤ T.value fixed.numer *ℤ T.value times }
@@ -71,7 +70,7 @@ pub(crate) fn moved<T: Integer>(moving: Neighbour<T>, fixed: Neighbour<T>, times
 
 /// The nearer of two fractions. If they are as near, it is the one with the
 /// smaller denominator, and then the one with the smaller numerator.
-pub(crate) fn first_of<T: Integer>(left: Neighbour<T>, right: Neighbour<T>) -> Neighbour<T>
+pub(crate) fn first_of<T: Counted>(left: Neighbour<T>, right: Neighbour<T>) -> Neighbour<T>
     requires { CanCompare T.lo T.hi (T.value left.gap) (T.value left.denom) (T.value right.gap) (T.value right.denom) }
     ensures { ((result ≡ left) × ComesFirst (unsigned_abs (T.value left.gap)) (T.value left.numer) (T.value left.denom)
         (unsigned_abs (T.value right.gap)) (T.value right.numer) (T.value right.denom))

@@ -5,14 +5,14 @@ ghost use Rattle.ratio_approximation.specs.Enclosing.{Encloses};
 ghost use Rattle.ratio_approximation.specs.Simplest.{ChecksSimplest};
 
 use crate::simplest::side::{Side, beyond, stepped, times_within};
-use ratio_core::Steps;
+use ratio_core::counted::both_held;
 use ratio_core::order::dividing::divide_left;
-use ratio_integer::{Integer, both_held};
+use ratio_core::{Counted, Steps};
 
 /// The simplest fraction strictly between `n/d` and `m/e`, from two neighbours around both. One of them
 /// moves towards the other as long as it does not pass its own end, and then the other one moves. The
 /// first step to a place between both ends leads to the simplest fraction.
-pub(crate) fn search<T: Integer>(
+pub(crate) fn search<T: Counted>(
     n: T,
     d: T,
     m: T,

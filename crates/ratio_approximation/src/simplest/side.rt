@@ -4,23 +4,22 @@ ghost use Rattle.std.specs.Prelude.{◌≡◌, ◌≤ℤ◌, ◌<ℤ◌, ◌+ℤ
 ghost use Rattle.ratio_approximation.specs.Enclosing.{ChecksStep, IsOnOneSide, IsRoom};
 ghost use Rattle.ratio_approximation.specs.Moving.{CanMove};
 
-use ratio_core::Steps;
 use ratio_core::order::dividing::divide_right;
-use ratio_integer::Integer;
+use ratio_core::{Counted, Steps};
 use std::alloc::AllocError;
 
 /// The fraction `numer/denom`, and its distances from both ends. `own` is its distance from the end on
 /// its side, times `denom` and the denominator of that end; `other` is the same for the far end. For
 /// 0/1 between 1/3 and 1/2 they are 1 and 1.
 #[derive(Copy)]
-pub(crate) struct Side<T: Copy + Integer> {
+pub(crate) struct Side<T: Counted> {
     pub(crate) numer: T,
     pub(crate) denom: T,
     pub(crate) own: T,
     pub(crate) other: T,
 }
 
-impl<T: Copy + Integer> Clone for Side<T> {
+impl<T: Counted> Clone for Side<T> {
     ghost use Rattle.std.specs.Prelude.{⊤};
 
     ghost is_clone = { λ x y. y ≡ x };
@@ -34,7 +33,7 @@ impl<T: Copy + Integer> Clone for Side<T> {
 
 /// How often `gap` may be taken from `room` so that something is left: 2 times 3 from 7, and 2 times 3
 /// from 9. It takes a division of the right side.
-pub(crate) fn times_within<T: Integer>(room: T, gap: T, steps: &mut Steps) -> T
+pub(crate) fn times_within<T: Counted>(room: T, gap: T, steps: &mut Steps) -> T
     requires room { pos 0 <ℤ T.value room }
     requires gap { pos 0 <ℤ T.value gap }
     ensures room { IsRoom (T.value room) (T.value gap) (T.value result) }
@@ -53,7 +52,7 @@ pub(crate) fn times_within<T: Integer>(room: T, gap: T, steps: &mut Steps) -> T
 
 /// The side `moving` after `times` steps towards `fixed`. Each step adds the numbers of `fixed`. `rest`
 /// is what is left to its own end.
-pub(crate) fn stepped<T: Integer>(moving: Side<T>, fixed: Side<T>, times: T, rest: T) -> Side<T>
+pub(crate) fn stepped<T: Counted>(moving: Side<T>, fixed: Side<T>, times: T, rest: T) -> Side<T>
     requires { CanMove T.lo T.hi (T.value moving.numer) (T.value moving.denom) (T.value moving.other)
         (T.value fixed.numer) (T.value fixed.denom) (T.value fixed.own) (T.value times) }
     ensures numer { T.value result.numer ≡ T.value moving.numer +ℤ T.value fixed.numer *ℤ T.value times }
@@ -71,7 +70,7 @@ pub(crate) fn stepped<T: Integer>(moving: Side<T>, fixed: Side<T>, times: T, res
 
 /// The fraction one step after `times` steps from `moving` towards `fixed`, or `None` if one of its
 /// numbers does not fit.
-pub(crate) fn beyond<T: Integer>(moving: Side<T>, fixed: Side<T>, times: T) -> Option<(T, T)>
+pub(crate) fn beyond<T: Counted>(moving: Side<T>, fixed: Side<T>, times: T) -> Option<(T, T)>
     requires side { IsOnOneSide (T.value moving.numer) (T.value fixed.numer) }
     requires moving { pos 0 <ℤ T.value moving.denom }
     requires fixed { pos 0 <ℤ T.value fixed.denom }

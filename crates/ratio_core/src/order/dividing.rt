@@ -7,13 +7,13 @@ ghost use Rattle.ratio_integer.specs.Range.{IsHeld};
 ghost use Rattle.ratio_core.specs.ContinuedFraction.{Compares, IsCompared};
 ghost use Rattle.ratio_core.specs.Order.{FollowsQuotient, IsOrderOfParts};
 
+use crate::counted::{Counted, both_held};
 use crate::sign::is_below_zero;
-use crate::steps::Steps;
-use ratio_integer::{Integer, both_held};
+use crate::steps::{Side, Steps};
 use std::cmp::Ordering;
 
 /// A step of the left side: the floored quotient and the rest. For -7 by 2 they are -4 and 1.
-pub fn divide_left<T: Integer>(n: T, d: T, steps: &mut Steps) -> (T, T)
+pub fn divide_left<T: Counted>(n: T, d: T, steps: &mut Steps) -> (T, T)
     requires nonzero { T.value d ≢ pos 0 }
     requires held { ¬ (IsAboveMax T.hi (T.value n) (T.value d)) }
     ensures floored { IsFloored (T.value n) (T.value d) (T.value result.0) (T.value result.1) }
@@ -21,14 +21,13 @@ pub fn divide_left<T: Integer>(n: T, d: T, steps: &mut Steps) -> (T, T)
     ensures left { steps.new.left ≡ steps.old.left + 1 }
     ensures right { steps.new.right ≡ steps.old.right }
 {
-    let division = n.div_mod_floor(d);
+    let division = n.div_mod_floor(d, Side::Left, steps);
     let _ = division.0.held();
-    steps.tick_left();
     division
 }
 
 /// A step of the right side: the floored quotient and the rest.
-pub fn divide_right<T: Integer>(n: T, d: T, steps: &mut Steps) -> (T, T)
+pub fn divide_right<T: Counted>(n: T, d: T, steps: &mut Steps) -> (T, T)
     requires nonzero { T.value d ≢ pos 0 }
     requires held { ¬ (IsAboveMax T.hi (T.value n) (T.value d)) }
     ensures floored { IsFloored (T.value n) (T.value d) (T.value result.0) (T.value result.1) }
@@ -36,14 +35,13 @@ pub fn divide_right<T: Integer>(n: T, d: T, steps: &mut Steps) -> (T, T)
     ensures left { steps.new.left ≡ steps.old.left }
     ensures right { steps.new.right ≡ steps.old.right + 1 }
 {
-    let division = n.div_mod_floor(d);
+    let division = n.div_mod_floor(d, Side::Right, steps);
     let _ = division.0.held();
-    steps.tick_right();
     division
 }
 
 /// The order of `n/d` and `m/e`, by rounds alone.
-pub(crate) fn cmp_by_rounds<T: Integer>(n: T, d: T, m: T, e: T, steps: &mut Steps) -> Ordering
+pub(crate) fn cmp_by_rounds<T: Counted>(n: T, d: T, m: T, e: T, steps: &mut Steps) -> Ordering
     requires left_nonzero { T.value d ≢ pos 0 }
     requires right_nonzero { T.value e ≢ pos 0 }
     ensures { Compares (T.hi +ℤ pos 1) (T.value n) (T.value d) (T.value m) (T.value e) result
@@ -76,7 +74,7 @@ pub(crate) fn cmp_by_rounds<T: Integer>(n: T, d: T, m: T, e: T, steps: &mut Step
 }
 
 /// The order of the two, if the value of one of them is `hi+1`, which does not fit the type.
-fn order_at_top<T: Integer>(n: T, d: T, m: T, e: T) -> Option<Ordering>
+fn order_at_top<T: Counted>(n: T, d: T, m: T, e: T) -> Option<Ordering>
     requires left_nonzero { T.value d ≢ pos 0 }
     requires right_nonzero { T.value e ≢ pos 0 }
     ensures { MatchOption result
@@ -92,7 +90,7 @@ fn order_at_top<T: Integer>(n: T, d: T, m: T, e: T) -> Option<Ordering>
 }
 
 /// The order of two fractions with the same quotient, if at least one of them has no rest.
-fn order_of_rests<T: Integer>(rest: T, other_rest: T) -> Option<Ordering>
+fn order_of_rests<T: Counted>(rest: T, other_rest: T) -> Option<Ordering>
     ensures { MatchOption result ((T.value rest ≢ pos 0) × (T.value other_rest ≢ pos 0))
         (λ order. (quotient : ℤ) → IsOrderOfParts quotient (T.value rest) quotient (T.value other_rest) order) }
 {
@@ -113,7 +111,7 @@ fn turned(reversed: bool, answer: Ordering) -> Ordering
 
 /// A step of the right side after one of the left side. Most quotients are the same, and a product shows that. If `quotient` is the floored quotient of `n/d`, it returns the rest, as `Ok`. Else it returns
 /// how `quotient` compares with that, as `Err`. For `quotient` 2, 9/4 gives `Ok(1)`, and 5/4 gives `Err(Greater)`.
-fn follow_right<T: Integer>(quotient: T, n: T, d: T, steps: &mut Steps) -> Result<T, Ordering>
+fn follow_right<T: Counted>(quotient: T, n: T, d: T, steps: &mut Steps) -> Result<T, Ordering>
     requires nonzero { T.value d ≢ pos 0 }
     requires held { ¬ (IsAboveMax T.hi (T.value n) (T.value d)) }
     ensures followed { FollowsQuotient T.value T.hi (T.value quotient) (T.value n) (T.value d) result }
@@ -134,7 +132,7 @@ fn follow_right<T: Integer>(quotient: T, n: T, d: T, steps: &mut Steps) -> Resul
 }
 
 // What `follow_right` returns, by a product in place of a division. `None` if the product of `quotient` and `d` is below all numbers of the type.
-fn follow_by_product<T: Integer>(quotient: T, n: T, d: T) -> Option<Result<T, Ordering>>
+fn follow_by_product<T: Counted>(quotient: T, n: T, d: T) -> Option<Result<T, Ordering>>
     requires positive { pos 0 <ℤ T.value d }
     ensures { IfSome result (λ followed. FollowsQuotient T.value T.hi (T.value quotient) (T.value n) (T.value d) followed) }
 {
@@ -158,7 +156,7 @@ fn follow_by_product<T: Integer>(quotient: T, n: T, d: T) -> Option<Result<T, Or
 }
 
 /// Whether the pair is `-hi-1` over -1. Its quotient `hi+1` does not fit the type: over `i8`, -128/-1 is 128.
-pub(crate) fn is_above_max<T: Integer>(n: T, d: T) -> bool
+pub(crate) fn is_above_max<T: Counted>(n: T, d: T) -> bool
     ensures answer { IsTrue result ↔ IsAboveMax T.hi (T.value n) (T.value d) }
     ensures held { IsHeld T.lo T.hi (T.value n) }
 {

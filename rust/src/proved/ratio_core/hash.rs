@@ -1,13 +1,14 @@
 // Erased from crates/ratio_core/src/hash.rt by rust/erase: not to be edited.
 //! The codes by which a fraction is hashed: handed to a `CodeList` while the steps are counted, and kept for contracts in a `Taken`.
 
+use crate::proved::ratio_core::counted::Counted;
 use crate::proved::ratio_core::order::dividing::{divide_left, is_above_max};
 use crate::proved::ratio_core::steps::Steps;
 use crate::proved::ratio_integer::Integer;
 
 /// A list that takes integers at its end: an array that keeps them, or a hasher that is fed with them.
 /// Contracts see all numbers that it has taken. A list that does not keep its numbers has a `Taken` for them.
-pub trait CodeList<T: Integer> {
+pub trait CodeList<T: Counted> {
     /// Takes `t` at the end.
     fn take(&mut self, t: T);
 }
@@ -42,7 +43,7 @@ impl Taken {
 ///
 /// - `T.value d ≢ pos 0`
 #[inline]
-pub fn hash_counted<T: Integer, L: CodeList<T>>(n: T, d: T, list: &mut L, steps: &mut Steps) {
+pub fn hash_counted<T: Counted, L: CodeList<T>>(n: T, d: T, list: &mut L, steps: &mut Steps) {
     take_codes(n, d, list, steps);
 }
 
@@ -54,7 +55,7 @@ pub fn hash_counted<T: Integer, L: CodeList<T>>(n: T, d: T, list: &mut L, steps:
 ///
 /// - `T.value d ≢ pos 0`
 #[inline]
-fn take_codes<T: Integer, L: CodeList<T>>(n: T, d: T, list: &mut L, steps: &mut Steps) {
+fn take_codes<T: Counted, L: CodeList<T>>(n: T, d: T, list: &mut L, steps: &mut Steps) {
     let mut numer = n;
     let mut denom = d;
     while !is_above_max(numer, denom) {
@@ -81,7 +82,7 @@ fn take_codes<T: Integer, L: CodeList<T>>(n: T, d: T, list: &mut L, steps: &mut 
 
 /// Hands both to `list`, in this order.
 #[inline]
-fn take_both<T: Integer, L: CodeList<T>>(list: &mut L, first: T, second: T) {
+fn take_both<T: Counted, L: CodeList<T>>(list: &mut L, first: T, second: T) {
     list.take(first);
     list.take(second);
 }

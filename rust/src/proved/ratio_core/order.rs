@@ -9,11 +9,11 @@
 pub mod dividing;
 mod half_digits;
 
+use crate::proved::ratio_core::counted::Counted;
 use crate::proved::ratio_core::order::dividing::cmp_by_rounds;
 use crate::proved::ratio_core::order::half_digits::order_by_half_digits;
 use crate::proved::ratio_core::sign::have_unlike_signs;
 use crate::proved::ratio_core::steps::Steps;
-use crate::proved::ratio_integer::Integer;
 use core::cmp::Ordering;
 
 /// Compares `n/d` with `m/e`. The denominators may have either sign, and the fractions need not be reduced. If both
@@ -27,7 +27,7 @@ use core::cmp::Ordering;
 /// - `left_nonzero`: `T.value d ≢ pos 0`
 /// - `right_nonzero`: `T.value e ≢ pos 0`
 #[inline]
-pub fn cmp_counted<T: Integer>(n: T, d: T, m: T, e: T, steps: &mut Steps) -> Ordering {
+pub fn cmp_counted<T: Counted>(n: T, d: T, m: T, e: T, steps: &mut Steps) -> Ordering {
     match order_of_products(n, d, m, e) {
         None => cmp_by_rounds(n, d, m, e, steps),
         Some(order) => order,
@@ -44,7 +44,7 @@ pub fn cmp_counted<T: Integer>(n: T, d: T, m: T, e: T, steps: &mut Steps) -> Ord
 /// - `left_nonzero`: `T.value d ≢ pos 0`
 /// - `right_nonzero`: `T.value e ≢ pos 0`
 #[inline]
-pub fn compare<T: Integer>(n: T, d: T, m: T, e: T, steps: &mut Steps) -> Ordering {
+pub fn compare<T: Counted>(n: T, d: T, m: T, e: T, steps: &mut Steps) -> Ordering {
     if let Some(order) = order_at_once(n, d, m, e) {
         return order;
     }
@@ -64,7 +64,7 @@ pub fn compare<T: Integer>(n: T, d: T, m: T, e: T, steps: &mut Steps) -> Orderin
 /// - `left_nonzero`: `T.value d ≢ pos 0`
 /// - `right_nonzero`: `T.value e ≢ pos 0`
 #[inline]
-pub fn cross_order<T: Integer>(n: T, d: T, m: T, e: T, steps: &mut Steps) -> Ordering {
+pub fn cross_order<T: Counted>(n: T, d: T, m: T, e: T, steps: &mut Steps) -> Ordering {
     match order_at_once(n, d, m, e) {
         Some(at_once) => at_once,
         None => long_order(n, d, m, e, steps),
@@ -80,7 +80,7 @@ pub fn cross_order<T: Integer>(n: T, d: T, m: T, e: T, steps: &mut Steps) -> Ord
 /// - `left_nonzero`: `T.value d ≢ pos 0`
 /// - `right_nonzero`: `T.value e ≢ pos 0`
 #[inline(always)]
-fn order_at_once<T: Integer>(n: T, d: T, m: T, e: T) -> Option<Ordering> {
+fn order_at_once<T: Counted>(n: T, d: T, m: T, e: T) -> Option<Ordering> {
     if share_denominator(d, e) {
         return Some(n.cmp(&m));
     }
@@ -96,13 +96,13 @@ fn order_at_once<T: Integer>(n: T, d: T, m: T, e: T) -> Option<Ordering> {
 
 /// Whether both denominators are the same positive number.
 #[inline]
-fn share_denominator<T: Integer>(d: T, e: T) -> bool {
+fn share_denominator<T: Counted>(d: T, e: T) -> bool {
     d == e && T::ZERO < d
 }
 
 /// Whether both denominators are positive and exactly one numerator is below 0.
 #[inline]
-fn are_split_by_zero<T: Integer>(n: T, d: T, m: T, e: T) -> bool {
+fn are_split_by_zero<T: Counted>(n: T, d: T, m: T, e: T) -> bool {
     T::ZERO < d && T::ZERO < e && have_unlike_signs(n, m)
 }
 
@@ -115,7 +115,7 @@ fn are_split_by_zero<T: Integer>(n: T, d: T, m: T, e: T) -> bool {
 /// - `left_nonzero`: `T.value d ≢ pos 0`
 /// - `right_nonzero`: `T.value e ≢ pos 0`
 #[inline(always)]
-fn order_of_products<T: Integer>(n: T, d: T, m: T, e: T) -> Option<Ordering> {
+fn order_of_products<T: Counted>(n: T, d: T, m: T, e: T) -> Option<Ordering> {
     let left = n.try_times(e)?;
     let right = m.try_times(d)?;
     Some(if have_unlike_signs(d, e) {
@@ -137,7 +137,7 @@ fn order_of_products<T: Integer>(n: T, d: T, m: T, e: T) -> Option<Ordering> {
 /// - `unsettled`: `¬ (DoNumeratorsDecide (T.value n) (T.value d) (T.value m) (T.value e) ⊎ AreProductsHeld T.lo T.hi (T.value n) (T.value d) (T.value m) (T.value e))`
 #[cold]
 #[inline(never)]
-fn long_order<T: Integer>(n: T, d: T, m: T, e: T, steps: &mut Steps) -> Ordering {
+fn long_order<T: Counted>(n: T, d: T, m: T, e: T, steps: &mut Steps) -> Ordering {
     if let Some(order) = order_by_half_digits(n, d, m, e, steps) {
         return order;
     }

@@ -1,6 +1,7 @@
 // Erased from crates/ratio_core/src/sign.rt by rust/erase: not to be edited.
 //! Signs of numbers and of fractions, and the negatives, absolute values and positive differences of fractions. A denominator may have either sign.
 
+use crate::proved::ratio_core::counted::Counted;
 use crate::proved::ratio_core::order::cross_order;
 use crate::proved::ratio_core::steps::Steps;
 use crate::proved::ratio_core::sums::sub;
@@ -102,7 +103,7 @@ pub fn is_negative<T: SignedInteger>(n: T, d: T) -> bool {
 
 /// Whether the number is below 0.
 #[inline]
-pub fn is_below_zero<T: Integer>(a: T) -> bool {
+pub fn is_below_zero<T: Counted>(a: T) -> bool {
     a < T::ZERO
 }
 
@@ -114,6 +115,6 @@ pub fn is_above_zero<T: Integer>(a: T) -> bool {
 
 /// Whether exactly one of the two is below 0.
 #[inline]
-pub fn have_unlike_signs<T: Integer>(d: T, e: T) -> bool {
+pub fn have_unlike_signs<T: Counted>(d: T, e: T) -> bool {
     is_below_zero(d) != is_below_zero(e)
 }

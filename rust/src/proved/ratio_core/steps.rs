@@ -1,5 +1,12 @@
 // Erased from crates/ratio_core/src/steps.rt by rust/erase: not to be edited.
-//! `Steps`: how many steps each side of a comparison took, a count that only contracts see.
+//! `Steps`: how many steps each side of a comparison took, a count that only contracts see; and `Side`, the side that a step counts for.
+
+/// The side of a comparison, whose fraction a step serves.
+#[derive(Clone, Copy)]
+pub enum Side {
+    Left,
+    Right,
+}
 
 /// How many steps each side of a comparison has taken. A list of codes counts on the left side. A step finds one quotient,
 /// with at most one division. Both counts are unbounded: only clauses and proofs see them, and they take no memory.

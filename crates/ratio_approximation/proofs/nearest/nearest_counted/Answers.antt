@@ -15,34 +15,34 @@ divide_left-requires-clause-held g c = not_above_max _ _ _ c.requires.positive
 
 pub returns-then-is_zero : goal.returns-then-is_zero
 returns-then-is_zero g c =
-    let v = g.T.Integer.value in
-    let m = g.met.T.Integer in
-    let asked : IsAsked g.T.Integer.lo g.T.Integer.hi (v c.args.n) (v c.args.d) (v c.args.most) = record { range = m.range_law; n_held = c.both_held.ensures.first; d_held = c.both_held.ensures.second; most_held = c.held.ensures.range; positive = c.requires.positive; room = c.requires.room } in
+    let v = g.T.Counted.value in
+    let m = g.met.T.Counted in
+    let asked : IsAsked g.T.Counted.lo g.T.Counted.hi (v c.args.n) (v c.args.d) (v c.args.most) = record { range = m.range_law; n_held = c.both_held.ensures.first; d_held = c.both_held.ensures.second; most_held = c.held.ensures.range; positive = c.requires.positive; room = c.requires.room } in
     let one : v c.ONE.result ≡ pos 1 = ap v c.ONE.ensures ∙ m.one_law in
     let is = nearest_exact _ _ _ c.requires.positive _ _ _ _ _ _ (turned (begun asked _ _ _ _ _ _ one one refl refl c.divide_left.ensures.floored)) (c.is_zero.ensures.0 c.if-is_zero.true) in
     record { nearest = is; lowest = nearest_lowest _ _ _ _ _ is; steps = steps_none _ _ _ _ _ _ _ _ _ c.divide_left.ensures.left c.divide_left.ensures.right c.divide_left.ensures.floored (c.is_zero.ensures.0 c.if-is_zero.true); left = (1, c.divide_left.ensures.left, once _ (let up = c.requires.positive in omega (arith, ints))); right = (0, (let same = c.divide_left.ensures.right in omega arith), never _) }
 
 pub plus-requires : goal.plus-requires
 plus-requires g c =
-    let v = g.T.Integer.value in
-    let m = g.met.T.Integer in
-    let asked : IsAsked g.T.Integer.lo g.T.Integer.hi (v c.args.n) (v c.args.d) (v c.args.most) = record { range = m.range_law; n_held = c.both_held.ensures.first; d_held = c.both_held.ensures.second; most_held = c.held.ensures.range; positive = c.requires.positive; room = c.requires.room } in
+    let v = g.T.Counted.value in
+    let m = g.met.T.Counted in
+    let asked : IsAsked g.T.Counted.lo g.T.Counted.hi (v c.args.n) (v c.args.d) (v c.args.most) = record { range = m.range_law; n_held = c.both_held.ensures.first; d_held = c.both_held.ensures.second; most_held = c.held.ensures.range; positive = c.requires.positive; room = c.requires.room } in
     let one : v c.ONE-3.result ≡ pos 1 = ap v c.ONE-3.ensures ∙ m.one_law in
     let around = begun asked _ _ _ _ _ _ one one (ap (λ (t : ℤ). v c.divide_left.result.0 +ℤ t) one) refl c.divide_left.ensures.floored in
     moving_numer_held asked around (above_zero _ (fixed_is asked around).gap_up (iff_false c.is_zero.ensures c.if-is_zero.false))
 
 pub minus-requires : goal.minus-requires
 minus-requires g c =
-    let v = g.T.Integer.value in
-    let m = g.met.T.Integer in
-    let asked : IsAsked g.T.Integer.lo g.T.Integer.hi (v c.args.n) (v c.args.d) (v c.args.most) = record { range = m.range_law; n_held = c.both_held.ensures.first; d_held = c.both_held.ensures.second; most_held = c.held.ensures.range; positive = c.requires.positive; room = c.requires.room } in
+    let v = g.T.Counted.value in
+    let m = g.met.T.Counted in
+    let asked : IsAsked g.T.Counted.lo g.T.Counted.hi (v c.args.n) (v c.args.d) (v c.args.most) = record { range = m.range_law; n_held = c.both_held.ensures.first; d_held = c.both_held.ensures.second; most_held = c.held.ensures.range; positive = c.requires.positive; room = c.requires.room } in
     moving_gap_held asked (begun asked _ _ _ _ _ _ refl refl refl refl c.divide_left.ensures.floored)
 
 pub steps-init : goal.steps-init
 steps-init g c =
-    let v = g.T.Integer.value in
-    let m = g.met.T.Integer in
-    let asked : IsAsked g.T.Integer.lo g.T.Integer.hi (v c.args.n) (v c.args.d) (v c.args.most) = record { range = m.range_law; n_held = c.both_held.ensures.first; d_held = c.both_held.ensures.second; most_held = c.held.ensures.range; positive = c.requires.positive; room = c.requires.room } in
+    let v = g.T.Counted.value in
+    let m = g.met.T.Counted in
+    let asked : IsAsked g.T.Counted.lo g.T.Counted.hi (v c.args.n) (v c.args.d) (v c.args.most) = record { range = m.range_law; n_held = c.both_held.ensures.first; d_held = c.both_held.ensures.second; most_held = c.held.ensures.range; positive = c.requires.positive; room = c.requires.room } in
     let one : v c.ONE-2.result ≡ pos 1 = ap v c.ONE-2.ensures ∙ m.one_law in
     let next : v c.ONE-3.result ≡ pos 1 = ap v c.ONE-3.ensures ∙ m.one_law in
     let other : v c.ONE-4.result ≡ pos 1 = ap v c.ONE-4.ensures ∙ m.one_law in
@@ -63,7 +63,7 @@ steps_towards-requires-clause-room g c = let at = c.steps.invariant in room_held
 pub moved-last-requires : goal.moved-last-requires
 moved-last-requires g c =
     let at = c.steps.invariant in
-    let m = g.met.T.Integer in
+    let m = g.met.T.Counted in
     let steps = steps_are at.asked at.around _ _ at.left_over c.steps_towards.ensures.whole c.steps_towards.ensures.room in
     let less = yes _ (m.lt_law c.steps_towards.result.1 c.steps_towards.result.0) (sym c.lt.ensures ∙ c.if-lt.true) in
     can_move at.asked at.around _ steps.of_room.up at.left_over (room_fits steps less) (room_within steps)
@@ -71,7 +71,7 @@ moved-last-requires g c =
 pub first_of-first-requires : goal.first_of-first-requires
 first_of-first-requires g c =
     let at = c.steps.invariant in
-    let m = g.met.T.Integer in
+    let m = g.met.T.Counted in
     let steps = steps_are at.asked at.around _ _ at.left_over c.steps_towards.ensures.whole c.steps_towards.ensures.room in
     let less = yes _ (m.lt_law c.steps_towards.result.1 c.steps_towards.result.0) (sym c.lt.ensures ∙ c.if-lt.true) in
     let last = c.moved-last.ensures in
@@ -79,10 +79,10 @@ first_of-first-requires g c =
 
 pub returns-then-lt : goal.returns-then-lt
 returns-then-lt g c =
-    let v = g.T.Integer.value in
+    let v = g.T.Counted.value in
     let at = c.steps.invariant in
     let fixed = fixed_is at.asked at.around in
-    let m = g.met.T.Integer in
+    let m = g.met.T.Counted in
     let steps = steps_are at.asked at.around _ _ at.left_over c.steps_towards.ensures.whole c.steps_towards.ensures.room in
     let less = yes _ (m.lt_law c.steps_towards.result.1 c.steps_towards.result.0) (sym c.lt.ensures ∙ c.if-lt.true) in
     let last = c.moved-last.ensures in
@@ -98,7 +98,7 @@ returns-then-lt g c =
 pub moved-next-requires : goal.moved-next-requires
 moved-next-requires g c =
     let at = c.steps.invariant in
-    let m = g.met.T.Integer in
+    let m = g.met.T.Counted in
     let steps = steps_are at.asked at.around _ _ at.left_over c.steps_towards.ensures.whole c.steps_towards.ensures.room in
     let less = no _ (m.lt_law c.steps_towards.result.1 c.steps_towards.result.0) (sym c.lt.ensures ∙ c.if-lt.false) in
     can_move at.asked at.around _ steps.of_gap.up at.left_over steps.of_gap.fits (whole_within steps (fixed_is at.asked at.around).positive less)
@@ -107,7 +107,7 @@ pub returns-then-is_zero-2 : goal.returns-then-is_zero-2
 returns-then-is_zero-2 g c =
     let at = c.steps.invariant in
     let fixed = fixed_is at.asked at.around in
-    let m = g.met.T.Integer in
+    let m = g.met.T.Counted in
     let steps = steps_are at.asked at.around _ _ at.left_over c.steps_towards.ensures.whole c.steps_towards.ensures.room in
     let less = no _ (m.lt_law c.steps_towards.result.1 c.steps_towards.result.0) (sym c.lt.ensures ∙ c.if-lt.false) in
     let next = c.moved-next.ensures in
@@ -117,9 +117,9 @@ returns-then-is_zero-2 g c =
 
 pub steps-smaller : goal.steps-smaller
 steps-smaller g c =
-    let v = g.T.Integer.value in
+    let v = g.T.Counted.value in
     let at = c.steps.invariant in
-    let m = g.met.T.Integer in
+    let m = g.met.T.Counted in
     let steps = steps_are at.asked at.around _ _ at.left_over c.steps_towards.ensures.whole c.steps_towards.ensures.room in
     let less = no _ (m.lt_law c.steps_towards.result.1 c.steps_towards.result.0) (sym c.lt.ensures ∙ c.if-lt.false) in
     let next = c.moved-next.ensures in
@@ -129,9 +129,9 @@ steps-smaller g c =
 
 pub steps-preserved : goal.steps-preserved
 steps-preserved g c =
-    let v = g.T.Integer.value in
+    let v = g.T.Counted.value in
     let at = c.steps.invariant in
-    let m = g.met.T.Integer in
+    let m = g.met.T.Counted in
     let steps = steps_are at.asked at.around _ _ at.left_over c.steps_towards.ensures.whole c.steps_towards.ensures.room in
     let less = no _ (m.lt_law c.steps_towards.result.1 c.steps_towards.result.0) (sym c.lt.ensures ∙ c.if-lt.false) in
     let next = c.moved-next.ensures in

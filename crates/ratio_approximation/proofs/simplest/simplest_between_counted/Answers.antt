@@ -19,7 +19,7 @@ returns-in_err-last-clause-right g c = rose_once _ _ _ _ c.requires.low c.requir
 
 pub returns-then-lt-clause-simplest : goal.returns-then-lt-clause-simplest
 returns-then-lt-clause-simplest g c =
-    let m = g.met.T.Integer in
+    let m = g.met.T.Counted in
     let is = ends c.requires.low c.requires.high c.divide_left-low.ensures.floored c.in_ok-last.ensures.last in
     let below = yes _ (m.lt_law c.in_ok-last.last c.divide_left-low.result.0) (sym c.lt.ensures ∙ c.if-lt.true) in
     none_below is below _ _
@@ -32,8 +32,8 @@ returns-then-lt-clause-right g c = rose_once _ _ _ _ c.requires.low c.requires.h
 
 pub plus-next-requires : goal.plus-next-requires
 plus-next-requires g c =
-    let v = g.T.Integer.value in
-    let m = g.met.T.Integer in
+    let v = g.T.Counted.value in
+    let m = g.met.T.Counted in
     let is = ends c.requires.low c.requires.high c.divide_left-low.ensures.floored c.in_ok-last.ensures.last in
     let most = no _ (m.lt_law c.in_ok-last.last c.divide_left-low.result.0) (sym c.lt.ensures ∙ c.if-lt.false) in
     let one : v c.ONE.result ≡ pos 1 = ap v c.ONE.ensures ∙ m.one_law in
@@ -41,8 +41,8 @@ plus-next-requires g c =
 
 pub nearest_zero-requires : goal.nearest_zero-requires
 nearest_zero-requires g c =
-    let v = g.T.Integer.value in
-    let m = g.met.T.Integer in
+    let v = g.T.Counted.value in
+    let m = g.met.T.Counted in
     let less = yes _ (m.lt_law c.divide_left-low.result.0 c.in_ok-last.last) (sym c.lt-2.ensures ∙ c.if-lt-2.true) in
     let one : v c.ONE.result ≡ pos 1 = ap v c.ONE.ensures ∙ m.one_law in
     let next : v c.plus-next.result ≡ v c.divide_left-low.result.0 +ℤ pos 1 = c.plus-next.ensures ∙ ap (λ (t : ℤ). v c.divide_left-low.result.0 +ℤ t) one in
@@ -50,8 +50,8 @@ nearest_zero-requires g c =
 
 pub returns-then-lt-2-clause-simplest : goal.returns-then-lt-2-clause-simplest
 returns-then-lt-2-clause-simplest g c =
-    let v = g.T.Integer.value in
-    let m = g.met.T.Integer in
+    let v = g.T.Counted.value in
+    let m = g.met.T.Counted in
     let is = ends c.requires.low c.requires.high c.divide_left-low.ensures.floored c.in_ok-last.ensures.last in
     let one : v c.ONE.result ≡ pos 1 = ap v c.ONE.ensures ∙ m.one_law in
     let last : v c.ONE-then-lt-2.result ≡ pos 1 = ap v c.ONE-then-lt-2.ensures ∙ m.one_law in
@@ -66,20 +66,20 @@ returns-then-lt-2-clause-right g c = rose_once _ _ _ _ c.requires.low c.requires
 
 pub minus-requires : goal.minus-requires
 minus-requires g c =
-    let m = g.met.T.Integer in
+    let m = g.met.T.Counted in
     let is = ends c.requires.low c.requires.high c.divide_left-low.ensures.floored c.in_ok-last.ensures.last in
     last_part_held is _ _ m.range_law c.both_held-2.ensures.second
 
 pub minus-requires-2 : goal.minus-requires-2
 minus-requires-2 g c =
-    let m = g.met.T.Integer in
+    let m = g.met.T.Counted in
     let is = ends c.requires.low c.requires.high c.divide_left-low.ensures.floored c.in_ok-last.ensures.last in
     part_held is _ _ m.range_law c.both_held.ensures.second
 
 pub search-requires-clause-enclosed : goal.search-requires-clause-enclosed
 search-requires-clause-enclosed g c =
-    let v = g.T.Integer.value in
-    let m = g.met.T.Integer in
+    let v = g.T.Counted.value in
+    let m = g.met.T.Counted in
     let is = ends c.requires.low c.requires.high c.divide_left-low.ensures.floored c.in_ok-last.ensures.last in
     let most = no _ (m.lt_law c.in_ok-last.last c.divide_left-low.result.0) (sym c.lt.ensures ∙ c.if-lt.false) in
     let least = no _ (m.lt_law c.divide_left-low.result.0 c.in_ok-last.last) (sym c.lt-2.ensures ∙ c.if-lt-2.false) in

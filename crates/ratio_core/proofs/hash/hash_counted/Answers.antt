@@ -9,7 +9,7 @@ returns-clause-codes g c =
     let taken = c.take_codes.ensures.taken in
     let are = codes_alone taken.2 in
     let taken_at_end = ap g.L.CodeList.taken taken.3 ∙ fold_takes g.L.CodeList.after g.L.CodeList.taken g.met.L.CodeList.end_law _ taken.0 in
-    (taken.0, are, codes_tell_apart _ _ _ _ _ g.met.T.Integer.range_law c.both_held.ensures.first c.both_held.ensures.second c.requires are, taken_at_end, taken.3)
+    (taken.0, are, codes_tell_apart _ _ _ _ _ g.met.T.Counted.range_law c.both_held.ensures.first c.both_held.ensures.second c.requires are, taken_at_end, taken.3)
 
 pub returns-clause-left : goal.returns-clause-left
 returns-clause-left g c =

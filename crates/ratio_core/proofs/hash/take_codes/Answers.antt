@@ -9,7 +9,7 @@ returns-then-is_one-clause-taken g c =
     let whole = floored_by_one _ _ (c.is_one.ensures.0 c.if-is_one.true) in
     hashing_ends _ _ _ _ _ _ _ _ _ _ _ _ _ _ _ c.rounds.invariant.begun
     (coded-last _ _ _ _ _ _ whole c.rounds-test.ensures.held.below refl)
-    (took_two g.L.CodeList.after c.take.ensures c.take-then-is_one.ensures refl (ap g.T.Integer.value c.ZERO.ensures ∙ g.met.T.Integer.zero_law))
+    (took_two g.L.CodeList.after c.take.ensures c.take-then-is_one.ensures refl (ap g.T.Counted.value c.ZERO.ensures ∙ g.met.T.Counted.zero_law))
     (ap (λ steps. steps.left) c.tick_left.ensures)
 
 pub returns-then-is_zero-clause-taken : goal.returns-then-is_zero-clause-taken
@@ -17,7 +17,7 @@ returns-then-is_zero-clause-taken g c =
     let division = c.divide_left-quotient.ensures in
     hashing_ends _ _ _ _ _ _ _ _ _ _ _ _ _ _ _ c.rounds.invariant.begun
     (coded-last _ _ _ _ _ _ division.floored division.below (c.is_zero.ensures.0 c.if-is_zero.true))
-    (took_two g.L.CodeList.after c.take-in-rounds.ensures c.take-then-is_zero.ensures refl (ap g.T.Integer.value c.ZERO-then-is_zero.ensures ∙ g.met.T.Integer.zero_law))
+    (took_two g.L.CodeList.after c.take-in-rounds.ensures c.take-then-is_zero.ensures refl (ap g.T.Counted.value c.ZERO-then-is_zero.ensures ∙ g.met.T.Counted.zero_law))
     division.left
 
 pub rounds-preserved : goal.rounds-preserved
@@ -34,5 +34,5 @@ pub returns-clause-taken : goal.returns-clause-taken
 returns-clause-taken g c =
     hashing_ends _ _ _ _ _ _ _ _ _ _ _ _ _ _ _ c.rounds.invariant.begun
     (coded-above _ _ _ _ (c.rounds-test.ensures.answer.0 refl))
-    (took_three g.L.CodeList.after c.take_both.ensures c.take-2.ensures (ap g.T.Integer.value c.MIN.ensures ∙ g.met.T.Integer.min_law) (ap g.T.Integer.value c.MIN-2.ensures ∙ g.met.T.Integer.min_law) (ap g.T.Integer.value c.ZERO-2.ensures ∙ g.met.T.Integer.zero_law))
+    (took_three g.L.CodeList.after c.take_both.ensures c.take-2.ensures (ap g.T.Counted.value c.MIN.ensures ∙ g.met.T.Counted.min_law) (ap g.T.Counted.value c.MIN-2.ensures ∙ g.met.T.Counted.min_law) (ap g.T.Counted.value c.ZERO-2.ensures ∙ g.met.T.Counted.zero_law))
     (omega arith)

@@ -2,20 +2,19 @@
 //! A `Neighbour`: in the search for the nearest fraction, one close to it, the steps that bring two of them nearer, and which of two comes
 //! first.
 
-use crate::proved::ratio_core::Steps;
 use crate::proved::ratio_core::order::dividing::{divide_left, divide_right};
-use crate::proved::ratio_integer::Integer;
+use crate::proved::ratio_core::{Counted, Steps};
 
 /// The fraction `numer/denom`, and its distance from the fraction `n/d` that is sought: `gap` is this
 /// distance times `d` and `denom`. For 7/5 and 4/3 the distance is 1/15, so `gap` is 1.
 #[derive(Copy)]
-pub(crate) struct Neighbour<T: Copy + Integer> {
+pub(crate) struct Neighbour<T: Counted> {
     pub(crate) numer: T,
     pub(crate) denom: T,
     pub(crate) gap: T,
 }
 
-impl<T: Copy + Integer> Clone for Neighbour<T> {
+impl<T: Counted> Clone for Neighbour<T> {
     #[inline]
     fn clone(&self) -> Neighbour<T> {
         *self
@@ -33,7 +32,7 @@ impl<T: Copy + Integer> Clone for Neighbour<T> {
 /// - `denom`: `pos 0 <ℤ T.value fixed.denom`
 /// - `room`: `IsHeld T.lo T.hi (T.value most -ℤ T.value moving.denom)`
 #[inline]
-pub(crate) fn steps_towards<T: Integer>(
+pub(crate) fn steps_towards<T: Counted>(
     moving: Neighbour<T>,
     fixed: Neighbour<T>,
     most: T,
@@ -53,7 +52,7 @@ pub(crate) fn steps_towards<T: Integer>(
 ///
 /// - `CanMove T.lo T.hi (T.value moving.numer) (T.value moving.denom) (T.value moving.gap) (T.value fixed.numer) (T.value fixed.denom) (T.value fixed.gap) (T.value times)`
 #[inline]
-pub(crate) fn moved<T: Integer>(moving: Neighbour<T>, fixed: Neighbour<T>, times: T) -> Neighbour<T> {
+pub(crate) fn moved<T: Counted>(moving: Neighbour<T>, fixed: Neighbour<T>, times: T) -> Neighbour<T> {
     Neighbour {
         numer: moving.numer.plus(fixed.numer.times(times)),
         denom: moving.denom.plus(fixed.denom.times(times)),
@@ -70,7 +69,7 @@ pub(crate) fn moved<T: Integer>(moving: Neighbour<T>, fixed: Neighbour<T>, times
 ///
 /// - `CanCompare T.lo T.hi (T.value left.gap) (T.value left.denom) (T.value right.gap) (T.value right.denom)`
 #[inline]
-pub(crate) fn first_of<T: Integer>(left: Neighbour<T>, right: Neighbour<T>) -> Neighbour<T> {
+pub(crate) fn first_of<T: Counted>(left: Neighbour<T>, right: Neighbour<T>) -> Neighbour<T> {
     let left_far = left.gap.times(right.denom);
     let right_far = right.gap.times(left.denom);
     let order = left_far

@@ -2,9 +2,8 @@
 //! The search for the simplest fraction, between two neighbours around both ends.
 
 use crate::proved::ratio_approximation::simplest::side::{Side, beyond, stepped, times_within};
-use crate::proved::ratio_core::Steps;
 use crate::proved::ratio_core::order::dividing::divide_left;
-use crate::proved::ratio_integer::Integer;
+use crate::proved::ratio_core::{Counted, Steps};
 
 /// The simplest fraction strictly between `n/d` and `m/e`, from two neighbours around both. One of them
 /// moves towards the other as long as it does not pass its own end, and then the other one moves. The
@@ -18,7 +17,7 @@ use crate::proved::ratio_integer::Integer;
 /// - `high`: `pos 0 <ℤ T.value e`
 /// - `enclosed`: `Encloses (T.value n) (T.value d) (T.value m) (T.value e) (T.value left.numer) (T.value left.denom) (T.value left.own) (T.value left.other) (T.value right.numer) (T.value right.denom) (T.value right.own) (T.value right.other)`
 #[inline]
-pub(crate) fn search<T: Integer>(
+pub(crate) fn search<T: Counted>(
     n: T,
     d: T,
     m: T,

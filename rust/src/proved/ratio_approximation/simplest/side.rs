@@ -2,22 +2,21 @@
 //! A `Side`: in the search for the simplest fraction, one on one side of both ends, the steps that bring two of them nearer, and the
 //! fraction beyond these steps.
 
-use crate::proved::ratio_core::Steps;
 use crate::proved::ratio_core::order::dividing::divide_right;
-use crate::proved::ratio_integer::Integer;
+use crate::proved::ratio_core::{Counted, Steps};
 
 /// The fraction `numer/denom`, and its distances from both ends. `own` is its distance from the end on
 /// its side, times `denom` and the denominator of that end; `other` is the same for the far end. For
 /// 0/1 between 1/3 and 1/2 they are 1 and 1.
 #[derive(Copy)]
-pub(crate) struct Side<T: Copy + Integer> {
+pub(crate) struct Side<T: Counted> {
     pub(crate) numer: T,
     pub(crate) denom: T,
     pub(crate) own: T,
     pub(crate) other: T,
 }
 
-impl<T: Copy + Integer> Clone for Side<T> {
+impl<T: Counted> Clone for Side<T> {
     #[inline]
     fn clone(&self) -> Side<T> {
         *self
@@ -34,7 +33,7 @@ impl<T: Copy + Integer> Clone for Side<T> {
 /// - `room`: `pos 0 <ℤ T.value room`
 /// - `gap`: `pos 0 <ℤ T.value gap`
 #[inline]
-pub(crate) fn times_within<T: Integer>(room: T, gap: T, steps: &mut Steps) -> T {
+pub(crate) fn times_within<T: Counted>(room: T, gap: T, steps: &mut Steps) -> T {
     let (times, rest) = divide_right(room, gap, steps);
     if rest.is_zero() {
         times.minus(T::ONE)
@@ -52,7 +51,7 @@ pub(crate) fn times_within<T: Integer>(room: T, gap: T, steps: &mut Steps) -> T 
 ///
 /// - `CanMove T.lo T.hi (T.value moving.numer) (T.value moving.denom) (T.value moving.other) (T.value fixed.numer) (T.value fixed.denom) (T.value fixed.own) (T.value times)`
 #[inline]
-pub(crate) fn stepped<T: Integer>(moving: Side<T>, fixed: Side<T>, times: T, rest: T) -> Side<T> {
+pub(crate) fn stepped<T: Counted>(moving: Side<T>, fixed: Side<T>, times: T, rest: T) -> Side<T> {
     Side {
         numer: moving.numer.plus(fixed.numer.times(times)),
         denom: moving.denom.plus(fixed.denom.times(times)),
@@ -73,7 +72,7 @@ pub(crate) fn stepped<T: Integer>(moving: Side<T>, fixed: Side<T>, times: T, res
 /// - `fixed`: `pos 0 <ℤ T.value fixed.denom`
 /// - `times`: `pos 0 ≤ℤ T.value times`
 #[inline]
-pub(crate) fn beyond<T: Integer>(moving: Side<T>, fixed: Side<T>, times: T) -> Option<(T, T)> {
+pub(crate) fn beyond<T: Counted>(moving: Side<T>, fixed: Side<T>, times: T) -> Option<(T, T)> {
     let more = times.try_plus(T::ONE)?;
     let numer = moving.numer.try_plus(fixed.numer.try_times(more)?)?;
     let denom = moving.denom.try_plus(fixed.denom.try_times(more)?)?;

@@ -1,9 +1,8 @@
 // Erased from crates/ratio_approximation/src/simplest/whole_between.rt by rust/erase: not to be edited.
 //! Whole numbers between two ends: the last one below an end, and the one nearest to 0.
 
-use crate::proved::ratio_core::Steps;
 use crate::proved::ratio_core::order::dividing::divide_right;
-use crate::proved::ratio_integer::Integer;
+use crate::proved::ratio_core::{Counted, Steps};
 
 /// The greatest whole number below `m/e`, and what `m` is above it times `e`. For 7/3 they are 2 and
 /// 1, for 6/3 they are 1 and 3. `None` only if no number of the type is below `m/e`. It takes a division
@@ -15,7 +14,7 @@ use crate::proved::ratio_integer::Integer;
 ///
 /// - `pos 0 <ℤ T.value e`
 #[inline]
-pub(crate) fn last_below<T: Integer>(m: T, e: T, steps: &mut Steps) -> Option<(T, T)> {
+pub(crate) fn last_below<T: Counted>(m: T, e: T, steps: &mut Steps) -> Option<(T, T)> {
     let (floor, rest) = divide_right(m, e, steps);
     if rest.is_zero() {
         let last = floor.try_minus(T::ONE)?;
@@ -33,7 +32,7 @@ pub(crate) fn last_below<T: Integer>(m: T, e: T, steps: &mut Steps) -> Option<(T
 ///
 /// - `T.value first ≤ℤ T.value last`
 #[inline]
-pub(crate) fn nearest_zero<T: Integer>(first: T, last: T) -> T {
+pub(crate) fn nearest_zero<T: Counted>(first: T, last: T) -> T {
     if T::ZERO < first {
         first
     } else if last < T::ZERO {

@@ -2,9 +2,9 @@
 //! Comparing fractions by rounds of Euclid's algorithm on both, with the one pair whose quotient does not fit, and its counted
 //! divisions, which hashing and other searches call too. A round takes one step a side.
 
+use crate::proved::ratio_core::counted::Counted;
 use crate::proved::ratio_core::sign::is_below_zero;
-use crate::proved::ratio_core::steps::Steps;
-use crate::proved::ratio_integer::Integer;
+use crate::proved::ratio_core::steps::{Side, Steps};
 use core::cmp::Ordering;
 
 /// A step of the left side: the floored quotient and the rest. For -7 by 2 they are -4 and 1.
@@ -16,9 +16,8 @@ use core::cmp::Ordering;
 /// - `nonzero`: `T.value d ≢ pos 0`
 /// - `held`: `¬ (IsAboveMax T.hi (T.value n) (T.value d))`
 #[inline]
-pub fn divide_left<T: Integer>(n: T, d: T, steps: &mut Steps) -> (T, T) {
-    let division = n.div_mod_floor(d);
-    steps.tick_left();
+pub fn divide_left<T: Counted>(n: T, d: T, steps: &mut Steps) -> (T, T) {
+    let division = n.div_mod_floor(d, Side::Left, steps);
     division
 }
 
@@ -31,9 +30,8 @@ pub fn divide_left<T: Integer>(n: T, d: T, steps: &mut Steps) -> (T, T) {
 /// - `nonzero`: `T.value d ≢ pos 0`
 /// - `held`: `¬ (IsAboveMax T.hi (T.value n) (T.value d))`
 #[inline]
-pub fn divide_right<T: Integer>(n: T, d: T, steps: &mut Steps) -> (T, T) {
-    let division = n.div_mod_floor(d);
-    steps.tick_right();
+pub fn divide_right<T: Counted>(n: T, d: T, steps: &mut Steps) -> (T, T) {
+    let division = n.div_mod_floor(d, Side::Right, steps);
     division
 }
 
@@ -46,7 +44,7 @@ pub fn divide_right<T: Integer>(n: T, d: T, steps: &mut Steps) -> (T, T) {
 /// - `left_nonzero`: `T.value d ≢ pos 0`
 /// - `right_nonzero`: `T.value e ≢ pos 0`
 #[inline]
-pub(crate) fn cmp_by_rounds<T: Integer>(n: T, d: T, m: T, e: T, steps: &mut Steps) -> Ordering {
+pub(crate) fn cmp_by_rounds<T: Counted>(n: T, d: T, m: T, e: T, steps: &mut Steps) -> Ordering {
     let mut numer = n;
     let mut denom = d;
     let mut other_numer = m;
@@ -82,7 +80,7 @@ pub(crate) fn cmp_by_rounds<T: Integer>(n: T, d: T, m: T, e: T, steps: &mut Step
 /// - `left_nonzero`: `T.value d ≢ pos 0`
 /// - `right_nonzero`: `T.value e ≢ pos 0`
 #[inline]
-fn order_at_top<T: Integer>(n: T, d: T, m: T, e: T) -> Option<Ordering> {
+fn order_at_top<T: Counted>(n: T, d: T, m: T, e: T) -> Option<Ordering> {
     match (is_above_max(n, d), is_above_max(m, e)) {
         (true, true) => Some(Ordering::Equal),
         (true, false) => Some(Ordering::Greater),
@@ -93,7 +91,7 @@ fn order_at_top<T: Integer>(n: T, d: T, m: T, e: T) -> Option<Ordering> {
 
 /// The order of two fractions with the same quotient, if at least one of them has no rest.
 #[inline]
-fn order_of_rests<T: Integer>(rest: T, other_rest: T) -> Option<Ordering> {
+fn order_of_rests<T: Counted>(rest: T, other_rest: T) -> Option<Ordering> {
     match (rest.is_zero(), other_rest.is_zero()) {
         (true, true) => Some(Ordering::Equal),
         (true, false) => Some(Ordering::Less),
@@ -118,7 +116,7 @@ fn turned(reversed: bool, answer: Ordering) -> Ordering {
 /// - `nonzero`: `T.value d ≢ pos 0`
 /// - `held`: `¬ (IsAboveMax T.hi (T.value n) (T.value d))`
 #[inline]
-fn follow_right<T: Integer>(quotient: T, n: T, d: T, steps: &mut Steps) -> Result<T, Ordering> {
+fn follow_right<T: Counted>(quotient: T, n: T, d: T, steps: &mut Steps) -> Result<T, Ordering> {
     if T::ZERO < d {
         if let Some(followed) = follow_by_product(quotient, n, d) {
             steps.tick_right();
@@ -134,7 +132,7 @@ fn follow_right<T: Integer>(quotient: T, n: T, d: T, steps: &mut Steps) -> Resul
 
 // What `follow_right` returns, by a product in place of a division. `None` if the product of `quotient` and `d` is below all numbers of the type.
 #[inline]
-fn follow_by_product<T: Integer>(quotient: T, n: T, d: T) -> Option<Result<T, Ordering>> {
+fn follow_by_product<T: Counted>(quotient: T, n: T, d: T) -> Option<Result<T, Ordering>> {
     let product = match quotient.try_times(d) {
         Some(product) => product,
         None if T::ZERO < quotient => return Some(Err(Ordering::Greater)),
@@ -155,7 +153,7 @@ fn follow_by_product<T: Integer>(quotient: T, n: T, d: T) -> Option<Result<T, Or
 
 /// Whether the pair is `-hi-1` over -1. Its quotient `hi+1` does not fit the type: over `i8`, -128/-1 is 128.
 #[inline]
-pub(crate) fn is_above_max<T: Integer>(n: T, d: T) -> bool {
+pub(crate) fn is_above_max<T: Counted>(n: T, d: T) -> bool {
     is_below_zero(d)
         && is_below_zero(n)
         && d.plus(T::ONE).is_zero()

@@ -6,8 +6,8 @@ use Rattle.ratio_approximation.proofs.nearest.neighbour.first_of.Goals as goal
 
 pub returns-then-is_le : goal.returns-then-is_le
 returns-then-is_le g c =
-    let v = g.T.Integer.value in
-    let law = g.met.T.Integer.cmp_law in
+    let v = g.T.Counted.value in
+    let law = g.met.T.Counted.cmp_law in
     let a : c.cmp.result ≡ int_cmp (v c.times-left_far.result) (v c.times-right_far.result) = c.cmp.ensures ∙ law _ _ in
     let b : c.cmp-2.result ≡ int_cmp (v c.args.left.denom) (v c.args.right.denom) = c.cmp-2.ensures ∙ law _ _ in
     let d : c.cmp-3.result ≡ int_cmp (v c.args.left.numer) (v c.args.right.numer) = c.cmp-3.ensures ∙ law _ _ in
@@ -16,8 +16,8 @@ returns-then-is_le g c =
 
 pub returns-else-is_le : goal.returns-else-is_le
 returns-else-is_le g c =
-    let v = g.T.Integer.value in
-    let law = g.met.T.Integer.cmp_law in
+    let v = g.T.Counted.value in
+    let law = g.met.T.Counted.cmp_law in
     let a : c.cmp.result ≡ int_cmp (v c.times-left_far.result) (v c.times-right_far.result) = c.cmp.ensures ∙ law _ _ in
     let b : c.cmp-2.result ≡ int_cmp (v c.args.left.denom) (v c.args.right.denom) = c.cmp-2.ensures ∙ law _ _ in
     let d : c.cmp-3.result ≡ int_cmp (v c.args.left.numer) (v c.args.right.numer) = c.cmp-3.ensures ∙ law _ _ in

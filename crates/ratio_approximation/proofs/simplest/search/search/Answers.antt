@@ -10,7 +10,7 @@ use Rattle.ratio_approximation.proofs.simplest.search.search.Goals.{then-lt, els
 
 pub rounds-init : goal.rounds-init
 rounds-init g c =
-    let m = g.met.T.Integer in
+    let m = g.met.T.Counted in
     elim c.if-lt.branch [
       | then-lt w ↦ rw (w.moving-is, w.fixed-is) (begun_right m.range_law c.both_held.ensures.first c.both_held.ensures.second c.both_held-2.ensures.first c.both_held-2.ensures.second c.requires.low c.requires.high c.requires.enclosed (yes _ (m.lt_law c.args.left.own c.args.right.other) (sym c.lt.ensures ∙ w.if-lt.true)) _ _)
       | else-lt w ↦ rw (w.moving-is, w.fixed-is) (begun_left m.range_law c.both_held.ensures.first c.both_held.ensures.second c.both_held-2.ensures.first c.both_held-2.ensures.second c.requires.low c.requires.high c.requires.enclosed (no _ (m.lt_law c.args.left.own c.args.right.other) (sym c.lt.ensures ∙ w.if-lt.false)) _ _)
@@ -30,11 +30,11 @@ beyond-requires-clause-times g c =
 
 pub returns-then-is_zero-clause-simplest : goal.returns-then-is_zero-clause-simplest
 returns-then-is_zero-clause-simplest g c =
-    let v = g.T.Integer.value in
+    let v = g.T.Counted.value in
     let at = c.rounds.invariant in
     let known = facts at.inside in
     let steps = steps_are _ _ _ _ known.o_up known.f_up c.divide_left.ensures.floored in
-    beyond_checks v g.T.Integer.lo g.T.Integer.hi _ _ _ _ (v c.rounds.moving.numer) (v c.rounds.moving.denom) (v c.rounds.fixed.numer) (v c.rounds.fixed.denom) (v c.divide_left.result.0 +ℤ pos 1) g.met.T.Integer.range_law (beyond_is at.asked.d_up at.asked.e_up _ _ steps (unbounded _ _ _ known.t_up (c.is_zero.ensures.0 c.if-is_zero.true)) at.inside) _ c.beyond.ensures
+    beyond_checks v g.T.Counted.lo g.T.Counted.hi _ _ _ _ (v c.rounds.moving.numer) (v c.rounds.moving.denom) (v c.rounds.fixed.numer) (v c.rounds.fixed.denom) (v c.divide_left.result.0 +ℤ pos 1) g.met.T.Counted.range_law (beyond_is at.asked.d_up at.asked.e_up _ _ steps (unbounded _ _ _ known.t_up (c.is_zero.ensures.0 c.if-is_zero.true)) at.inside) _ c.beyond.ensures
 
 pub returns-then-is_zero-clause-left : goal.returns-then-is_zero-clause-left
 returns-then-is_zero-clause-left g c = left_ended c.rounds.invariant _ c.divide_left.ensures.left
@@ -55,12 +55,12 @@ beyond-requires-then-lt-2-clause-times g c =
 
 pub returns-then-lt-2-clause-simplest : goal.returns-then-lt-2-clause-simplest
 returns-then-lt-2-clause-simplest g c =
-    let v = g.T.Integer.value in
+    let v = g.T.Counted.value in
     let at = c.rounds.invariant in
     let known = facts at.inside in
     let steps = steps_are _ _ _ _ known.o_up known.f_up c.divide_left.ensures.floored in
-    let less = yes _ (g.met.T.Integer.lt_law c.divide_left.result.0 c.times_within-room.result) (sym c.lt-in-rounds.ensures ∙ c.if-lt-2.true) in
-    beyond_checks v g.T.Integer.lo g.T.Integer.hi _ _ _ _ (v c.rounds.moving.numer) (v c.rounds.moving.denom) (v c.rounds.fixed.numer) (v c.rounds.fixed.denom) (v c.divide_left.result.0 +ℤ pos 1) g.met.T.Integer.range_law (beyond_is at.asked.d_up at.asked.e_up _ _ steps (room_left _ _ _ _ known.c_up steps.w_up c.times_within-room.ensures.room less) at.inside) _ c.beyond-then-lt-2.ensures
+    let less = yes _ (g.met.T.Counted.lt_law c.divide_left.result.0 c.times_within-room.result) (sym c.lt-in-rounds.ensures ∙ c.if-lt-2.true) in
+    beyond_checks v g.T.Counted.lo g.T.Counted.hi _ _ _ _ (v c.rounds.moving.numer) (v c.rounds.moving.denom) (v c.rounds.fixed.numer) (v c.rounds.fixed.denom) (v c.divide_left.result.0 +ℤ pos 1) g.met.T.Counted.range_law (beyond_is at.asked.d_up at.asked.e_up _ _ steps (room_left _ _ _ _ known.c_up steps.w_up c.times_within-room.ensures.room less) at.inside) _ c.beyond-then-lt-2.ensures
 
 pub returns-then-lt-2-clause-left : goal.returns-then-lt-2-clause-left
 returns-then-lt-2-clause-left g c = left_ended c.rounds.invariant _ (c.times_within-room.ensures.left ∙ c.divide_left.ensures.left)
@@ -70,11 +70,11 @@ returns-then-lt-2-clause-right g c = right_ended c.rounds.invariant _ (let a = c
 
 pub returns-then-lt-3-clause-simplest : goal.returns-then-lt-3-clause-simplest
 returns-then-lt-3-clause-simplest g c =
-    let v = g.T.Integer.value in
+    let v = g.T.Counted.value in
     let at = c.rounds.invariant in
     let known = facts at.inside in
     let steps = steps_are _ _ _ _ known.o_up known.f_up c.divide_left.ensures.floored in
-    let over = yes _ (g.met.T.Integer.lt_law c.times_within-room.result c.divide_left.result.0) (sym c.lt-in-rounds-2.ensures ∙ c.if-lt-3.true) in
+    let over = yes _ (g.met.T.Counted.lt_law c.times_within-room.result c.divide_left.result.0) (sym c.lt-in-rounds-2.ensures ∙ c.if-lt-3.true) in
     let some = above_zero _ known.c_up (iff_false c.is_zero.ensures c.if-is_zero.false) in
     record { each = λ x y x_held y_held. order_none at.asked.d_up at.asked.e_up _ _ _ steps c.times_within-room.ensures.room some over at.inside x y }
 
@@ -88,7 +88,7 @@ pub stepped-next-requires : goal.stepped-next-requires
 stepped-next-requires g c =
     let at = c.rounds.invariant in
     let known = facts at.inside in
-    let law = g.met.T.Integer.lt_law in
+    let law = g.met.T.Counted.lt_law in
     let some = above_zero _ known.c_up (iff_false c.is_zero.ensures c.if-is_zero.false) in
     let more = no _ (law c.divide_left.result.0 c.times_within-room.result) (sym c.lt-in-rounds.ensures ∙ c.if-lt-2.false) in
     let less = no _ (law c.times_within-room.result c.divide_left.result.0) (sym c.lt-in-rounds-2.ensures ∙ c.if-lt-3.false) in
@@ -98,7 +98,7 @@ pub rounds-smaller : goal.rounds-smaller
 rounds-smaller g c =
     let at = c.rounds.invariant in
     let known = facts at.inside in
-    let law = g.met.T.Integer.lt_law in
+    let law = g.met.T.Counted.lt_law in
     let some = above_zero _ known.c_up (iff_false c.is_zero.ensures c.if-is_zero.false) in
     let more = no _ (law c.divide_left.result.0 c.times_within-room.result) (sym c.lt-in-rounds.ensures ∙ c.if-lt-2.false) in
     let less = no _ (law c.times_within-room.result c.divide_left.result.0) (sym c.lt-in-rounds-2.ensures ∙ c.if-lt-3.false) in
@@ -108,7 +108,7 @@ pub rounds-preserved : goal.rounds-preserved
 rounds-preserved g c =
     let at = c.rounds.invariant in
     let known = facts at.inside in
-    let law = g.met.T.Integer.lt_law in
+    let law = g.met.T.Counted.lt_law in
     let some = above_zero _ known.c_up (iff_false c.is_zero.ensures c.if-is_zero.false) in
     let more = no _ (law c.divide_left.result.0 c.times_within-room.result) (sym c.lt-in-rounds.ensures ∙ c.if-lt-2.false) in
     let less = no _ (law c.times_within-room.result c.divide_left.result.0) (sym c.lt-in-rounds-2.ensures ∙ c.if-lt-3.false) in

@@ -4,10 +4,10 @@ use Rattle.ratio_approximation.proofs.simplest.search.search.Given as goal
 
 abbrev pub invariant-rounds : goal.invariant-rounds
 invariant-rounds g l =
-    let v = g.T.Integer.value in
-    Searches g.T.Integer.lo g.T.Integer.hi (v l.fn.n) (v l.fn.d) (v l.fn.m) (v l.fn.e) (v l.moving.numer) (v l.moving.denom) (v l.moving.own) (v l.moving.other) (v l.fixed.numer) (v l.fixed.denom) (v l.fixed.own) (v l.fixed.other) l.fn.steps.left l.steps.left l.fn.steps.right l.steps.right
+    let v = g.T.Counted.value in
+    Searches g.T.Counted.lo g.T.Counted.hi (v l.fn.n) (v l.fn.d) (v l.fn.m) (v l.fn.e) (v l.moving.numer) (v l.moving.denom) (v l.moving.own) (v l.moving.other) (v l.fixed.numer) (v l.fixed.denom) (v l.fixed.own) (v l.fixed.other) l.fn.steps.left l.steps.left l.fn.steps.right l.steps.right
 
 abbrev pub decreases-rounds : goal.decreases-rounds
 decreases-rounds g l =
-    let v = g.T.Integer.value in
+    let v = g.T.Counted.value in
     unsigned_abs (v l.moving.own) + unsigned_abs (v l.moving.other) + unsigned_abs (v l.fixed.own) + unsigned_abs (v l.fixed.other)

@@ -10,14 +10,14 @@ divide_right-floor-requires-clause-held g c = not_above_max _ _ _ c.requires
 
 pub returns-in_err-last-clause-last : goal.returns-in_err-last-clause-last
 returns-in_err-last-clause-last g c =
-    let v = g.T.Integer.value in
-    let one : v c.ONE.result ≡ pos 1 = ap v c.ONE.ensures ∙ g.met.T.Integer.one_law in
+    let v = g.T.Counted.value in
+    let one : v c.ONE.result ≡ pos 1 = ap v c.ONE.ensures ∙ g.met.T.Counted.one_law in
     rw c.from_residual.ensures (no_last _ _ _ _ _ _ c.requires c.held.ensures.range c.divide_right-floor.ensures.floored (c.is_zero.ensures.0 c.if-is_zero.true) (rw one at c.in_err-last.ensures))
 
 pub returns-in_ok-last-clause-last : goal.returns-in_ok-last-clause-last
 returns-in_ok-last-clause-last g c =
-    let v = g.T.Integer.value in
-    let one : v c.ONE.result ≡ pos 1 = ap v c.ONE.ensures ∙ g.met.T.Integer.one_law in
+    let v = g.T.Counted.value in
+    let one : v c.ONE.result ≡ pos 1 = ap v c.ONE.ensures ∙ g.met.T.Counted.one_law in
     last_whole _ _ _ _ _ c.requires c.divide_right-floor.ensures.floored (c.is_zero.ensures.0 c.if-is_zero.true) (c.in_ok-last.ensures.1 ∙ ap (λ (t : ℤ). v c.divide_right-floor.result.0 -ℤ t) one)
 
 pub returns-else-is_zero-clause-last : goal.returns-else-is_zero-clause-last

@@ -11,11 +11,12 @@ use crate::nearest::neighbour::{Neighbour, first_of, moved, steps_towards};
 use ratio_core::counted::both_held;
 use ratio_core::order::dividing::divide_left;
 use ratio_core::{Counted, Steps};
+use ratio_integer::Integer;
 
 /// The nearest fraction to `n/d` with a denominator from 1 to `most`, in lowest terms.
 /// For 355/113 and 10 it is 22/7. Of two that are as near, it is the one with the smaller
 /// denominator, and of two whole numbers the smaller one: for 1/2 and 1 it is 0/1.
-pub fn nearest<T: Counted>(n: T, d: T, most: T) -> (T, T)
+pub fn nearest<T: Integer>(n: T, d: T, most: T) -> (T, T)
     requires positive { pos 0 <ℤ T.value d }
     requires room { pos 0 <ℤ T.value most }
     ensures nearest { IsNearest (T.value n) (T.value d) (T.value most) (T.value result.0) (T.value result.1) }

@@ -14,13 +14,14 @@ use crate::simplest::whole_between::{last_below, nearest_zero};
 use ratio_core::counted::both_held;
 use ratio_core::order::dividing::divide_left;
 use ratio_core::{Counted, Steps};
+use ratio_integer::Integer;
 pub use within::simplest_within;
 
 /// Of all fractions strictly between `n/d` and `m/e`, the one with the smallest denominator. Of these
 /// it is the one whose numerator is nearest to 0. Between 1/3 and 1/2 it is 2/5, and between -1/2 and
 /// 5/2 it is 0/1. It is in lowest terms. `None` exactly if the type has no fraction between them. So
 /// it is `None` if `n/d` is not below `m/e`, and over `i8` it is `None` between 0/1 and 1/127.
-pub fn simplest_between<T: Counted>(n: T, d: T, m: T, e: T) -> Option<(T, T)>
+pub fn simplest_between<T: Integer>(n: T, d: T, m: T, e: T) -> Option<(T, T)>
     requires low { pos 0 <ℤ T.value d }
     requires high { pos 0 <ℤ T.value e }
     ensures { ChecksSimplest T.value T.lo T.hi (T.value n) (T.value d) (T.value m) (T.value e) result }

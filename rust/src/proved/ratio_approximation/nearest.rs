@@ -5,6 +5,7 @@ mod neighbour;
 use crate::proved::ratio_approximation::nearest::neighbour::{Neighbour, first_of, moved, steps_towards};
 use crate::proved::ratio_core::order::dividing::divide_left;
 use crate::proved::ratio_core::{Counted, Steps};
+use crate::proved::ratio_integer::Integer;
 
 /// The nearest fraction to `n/d` with a denominator from 1 to `most`, in lowest terms.
 /// For 355/113 and 10 it is 22/7. Of two that are as near, it is the one with the smaller
@@ -17,7 +18,7 @@ use crate::proved::ratio_core::{Counted, Steps};
 /// - `positive`: `pos 0 <ℤ T.value d`
 /// - `room`: `pos 0 <ℤ T.value most`
 #[inline]
-pub fn nearest<T: Counted>(n: T, d: T, most: T) -> (T, T) {
+pub fn nearest<T: Integer>(n: T, d: T, most: T) -> (T, T) {
     nearest_counted(n, d, most, &mut Steps::new())
 }
 

@@ -10,6 +10,7 @@ use crate::proved::ratio_approximation::simplest::side::Side;
 use crate::proved::ratio_approximation::simplest::whole_between::{last_below, nearest_zero};
 use crate::proved::ratio_core::order::dividing::divide_left;
 use crate::proved::ratio_core::{Counted, Steps};
+use crate::proved::ratio_integer::Integer;
 pub use within::simplest_within;
 
 /// Of all fractions strictly between `n/d` and `m/e`, the one with the smallest denominator. Of these
@@ -24,7 +25,7 @@ pub use within::simplest_within;
 /// - `low`: `pos 0 <ℤ T.value d`
 /// - `high`: `pos 0 <ℤ T.value e`
 #[inline]
-pub fn simplest_between<T: Counted>(n: T, d: T, m: T, e: T) -> Option<(T, T)> {
+pub fn simplest_between<T: Integer>(n: T, d: T, m: T, e: T) -> Option<(T, T)> {
     simplest_between_counted(n, d, m, e, &mut Steps::new())
 }
 

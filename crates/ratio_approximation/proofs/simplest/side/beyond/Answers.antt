@@ -23,6 +23,13 @@ returns-in_err-try_times-2 g c =
     let more : v c.in_ok-more.more ≡ v c.args.times +ℤ pos 1 = c.in_ok-more.ensures.1 ∙ ap (λ (t : ℤ). v c.args.times +ℤ t) one in
     rw c.from_residual-in_err-try_times-2.ensures (not_denom_part _ _ _ _ _ _ _ g.met.T.Counted.range_law c.requires.side c.requires.moving c.requires.fixed (next_up _ c.requires.times) (rw more at c.in_err-try_times-2.ensures))
 
+pub returns-in_err-numer : goal.returns-in_err-numer
+returns-in_err-numer g c =
+    let v = g.T.Counted.value in
+    let one : v c.ONE.result ≡ pos 1 = ap v c.ONE.ensures ∙ g.met.T.Counted.one_law in
+    let more : v c.in_ok-more.more ≡ v c.args.times +ℤ pos 1 = c.in_ok-more.ensures.1 ∙ ap (λ (t : ℤ). v c.args.times +ℤ t) one in
+    rw c.from_residual-in_err-numer.ensures (λ held. c.in_err-numer.ensures (rw (c.in_ok-try_times.ensures.1, more) held.0))
+
 pub returns-in_err-denom : goal.returns-in_err-denom
 returns-in_err-denom g c =
     let v = g.T.Counted.value in

@@ -1,7 +1,8 @@
 //! The search for the simplest fraction, between two neighbours around both ends.
-ghost use Rattle.std.specs.Prelude.{◌≡◌, ◌<ℤ◌, ◌+◌, ℕ, pos, min, unsigned_abs};
+ghost use Rattle.std.specs.Prelude.{◌≡◌, ◌<ℤ◌, ◌+ℤ◌, ◌+◌, ℕ, pos, min, unsigned_abs};
 ghost use Rattle.ratio_core.specs.ContinuedFraction.{IsWithinBits};
 ghost use Rattle.ratio_approximation.specs.Enclosing.{Encloses};
+ghost use Rattle.ratio_approximation.specs.SearchCount.{IsSearchCount};
 ghost use Rattle.ratio_approximation.specs.Simplest.{ChecksSimplest};
 
 use crate::simplest::side::{Side, beyond, stepped, times_within};
@@ -27,6 +28,9 @@ pub(crate) fn search<T: Integer>(
         (T.value left.numer) (T.value left.denom) (T.value left.own) (T.value left.other)
         (T.value right.numer) (T.value right.denom) (T.value right.own) (T.value right.other) }
     ensures simplest { ChecksSimplest T.value T.lo T.hi (T.value n) (T.value d) (T.value m) (T.value e) result }
+    ensures steps { (k : ℕ) × (l : ℕ) × (steps.new.left ≡ steps.old.left + k) × (steps.new.right ≡ steps.old.right + l)
+        × IsSearchCount (T.value left.own) (T.value left.own +ℤ T.value right.other)
+        (T.value left.other) (T.value left.other +ℤ T.value right.own) (k + 1) (l + 1) }
     ensures left { (k : ℕ) × (steps.new.left ≡ steps.old.left + k) × IsWithinBits (min (unsigned_abs (T.value d)) (unsigned_abs (T.value e))) (k + 1) }
     ensures right { (k : ℕ) × (steps.new.right ≡ steps.old.right + k) × IsWithinBits (min (unsigned_abs (T.value d)) (unsigned_abs (T.value e))) (k + 1) }
 {

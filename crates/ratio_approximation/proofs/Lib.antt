@@ -12,7 +12,7 @@ pub mod NearestMoves
 pub mod NearestPreference
 pub mod OpenBounds
 pub mod QuotientLists
-pub mod SearchCountLemmas
+pub mod SearchCountLawLemmas
 pub mod SearchCounting
 pub mod Shares
 pub mod SimplestBeginning

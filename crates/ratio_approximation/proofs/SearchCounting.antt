@@ -7,7 +7,7 @@ use Rattle.std.proofs.lemmas.Bool.Decides.{Decides-int_eq}
 use Rattle.std.proofs.lemmas.Int.{ints}
 use Rattle.ratio_core.proofs.Rounds.{apart, same}
 use Rattle.ratio_approximation.specs.Enclosing.{IsLastBelow, IsRoom}
-use Rattle.ratio_approximation.specs.SearchCount.{AreQuotientsOf, IsSearchCount, common_start, count_without_one, one_ends}
+use Rattle.ratio_approximation.specs.SearchCount.{IsContinuedFraction, IsSearchCount, common_start, count_without_one, one_ends}
 use Rattle.ratio_approximation.proofs.QuotientLists.{BeginsFrom, IsEvenList, IsOddList, even_before, even_exists, even_more, none_even, odd_before, odd_behind, odd_exists, odd_more, room_leaves}
 
 -- ---- the common start, by the first quotients
@@ -244,7 +244,7 @@ counted_once n d f r m e g s sum r_up less last other =
 pub counted_beside : (r d s e f n m : ℤ) (k l : ℕ) → n ≡ r +ℤ f *ℤ d → m ≡ s +ℤ f *ℤ e → IsSearchCount r d s e k l → IsSearchCount n d m e k l
 counted_beside r d s e f n m k l n-is m-is is = by is.low is.high is.low_are is.high_are is.low_odd is.high_even is.left_is is.right_is
   where
-    by : (low high : List ℤ) → AreQuotientsOf r d low → AreQuotientsOf s e high → (i : ℕ) × (length low ≡ 2 * i + 1) → (i : ℕ) × (length high ≡ 2 * i) → k ≡ 1 + count_without_one (common_start low high) → k ≡ l + one_ends low high → IsSearchCount n d m e k l
+    by : (low high : List ℤ) → IsContinuedFraction r d low → IsContinuedFraction s e high → (i : ℕ) × (length low ≡ 2 * i + 1) → (i : ℕ) × (length high ≡ 2 * i) → k ≡ 1 + count_without_one (common_start low high) → k ≡ l + one_ends low high → IsSearchCount n d m e k l
     by [] high low_are high_are odd even left right = absurd low_are.are
     by (p ∷ ps) [] low_are high_are odd even left right = absurd high_are.are
     by (p ∷ ps) (q ∷ qs) low_are high_are odd even left right =

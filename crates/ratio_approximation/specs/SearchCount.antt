@@ -7,7 +7,7 @@ use Rattle.ratio_approximation.specs.FromQuotients.{AreQuotients, fraction_of}
 -- the list is the quotients of a continued fraction of n/d. Each fraction has two, since a last quotient q may also be q - 1, 1: one with an
 -- odd number of quotients, and one with an even number
 -- Example: 7/3: 2, 3 and 2, 2, 1
-pub record AreQuotientsOf (n d : ℤ) (qs : List ℤ) : Type 0 where
+pub record IsContinuedFraction (n d : ℤ) (qs : List ℤ) : Type 0 where
   pub are : AreQuotients qs
   pub value : SameValue n d (fraction_of qs).0 (fraction_of qs).1
 
@@ -33,14 +33,14 @@ count_without_one (q ∷ []) = 1
 count_without_one (q ∷ r ∷ qs) = cond (int_eq r (pos 1)) 1 2 + length qs
 
 -- the search divides `left` times on the left side and `right` times on the right side. The list of n/d has an odd number of quotients, and
--- that of m/e an even number. The left side divides once, and once for each quotient of their common start; a second quotient 1 does not
--- count (`count_without_one`). The right side divides as often, but once less if one list is the beginning of the other
+-- the list of m/e an even number. The left side divides once, and once more for each quotient of their common start, except for a second
+-- quotient 1 (`count_without_one`). The right side divides as often, or once less if one list is the beginning of the other (`one_ends`)
 -- Example: 1/3 and 1/2, with 0, 2, 1 and 0, 2: three and two
 pub record IsSearchCount (n d m e : ℤ) (left right : ℕ) : Type 0 where
   pub low : List ℤ
   pub high : List ℤ
-  pub low_are : AreQuotientsOf n d low
-  pub high_are : AreQuotientsOf m e high
+  pub low_are : IsContinuedFraction n d low
+  pub high_are : IsContinuedFraction m e high
   pub low_odd : (i : ℕ) × (length low ≡ 2 * i + 1)
   pub high_even : (i : ℕ) × (length high ≡ 2 * i)
   pub left_is : left ≡ 1 + count_without_one (common_start low high)

@@ -1,5 +1,5 @@
 -- A fraction has one list of quotients with an odd number of them, and one with an even number. So the counts of a search are the only ones.
-use Rattle.std.specs.Prelude.{◌≡◌, ◌≢◌, ◌+◌, ◌*◌, ◌≤ℤ◌, ◌<ℤ◌, ◌+ℤ◌, ◌-ℤ◌, ◌*ℤ◌, ℕ, ℤ, zero, suc, pos, negsuc, List, [], ◌∷◌, length}
+use Rattle.std.specs.Prelude.{◌≡◌, ◌≢◌, ◌+◌, ◌*◌, ◌≤ℤ◌, ◌<ℤ◌, ◌+ℤ◌, ◌-ℤ◌, ◌*ℤ◌, ℕ, ℤ, zero, suc, pos, List, [], ◌∷◌, length}
 use Rattle.std.proofs.Common.{◌∙◌, refl, sym, ap, subst, arith}
 use Rattle.std.proofs.lemmas.Int.{ints}
 use lib.IntN.{*ℤ_comm}
@@ -7,7 +7,7 @@ use Rattle.ratio_integer.specs.Fraction.{SameValue}
 use Rattle.ratio_integer.proofs.Whole.{add-mul, mul_assoc}
 use Rattle.ratio_core.proofs.ProductOrder.{less-times, times_le, whole_at_most}
 use Rattle.ratio_approximation.specs.FromQuotients.{AreAboveZero, fraction_of}
-use Rattle.ratio_approximation.specs.SearchCount.{AreQuotientsOf, OneSearchCount, common_start, count_without_one, one_ends}
+use Rattle.ratio_approximation.specs.SearchCount.{IsContinuedFraction, OneSearchCount, common_start, count_without_one, one_ends}
 use Rattle.ratio_approximation.proofs.FromQuotientsLemmas.{sizes}
 use Rattle.ratio_approximation.proofs.QuotientLists.{AreFloors, AreLater, AreLeft, IsEvenList, IsOddList}
 
@@ -191,13 +191,13 @@ even_same p q ps qs n d d_up first second =
 
 -- ---- one pair of counts
 
-low_same : (n d : ℤ) (ps qs : List ℤ) → pos 0 <ℤ d → AreQuotientsOf n d ps → AreQuotientsOf n d qs → (i : ℕ) × (length ps ≡ 2 * i + 1) → (i : ℕ) × (length qs ≡ 2 * i + 1) → ps ≡ qs
+low_same : (n d : ℤ) (ps qs : List ℤ) → pos 0 <ℤ d → IsContinuedFraction n d ps → IsContinuedFraction n d qs → (i : ℕ) × (length ps ≡ 2 * i + 1) → (i : ℕ) × (length qs ≡ 2 * i + 1) → ps ≡ qs
 low_same n d [] qs d_up first second odd odd' = absurd first.are
 low_same n d (p ∷ ps) [] d_up first second odd odd' = absurd second.are
 low_same n d (p ∷ ps) (q ∷ qs) d_up first second odd odd' =
     odd_same (p ∷ ps) (q ∷ qs) n d d_up (record { later = first.are; value = first.value; odd = odd }) (record { later = second.are; value = second.value; odd = odd' })
 
-high_same : (n d : ℤ) (ps qs : List ℤ) → pos 0 <ℤ d → AreQuotientsOf n d ps → AreQuotientsOf n d qs → (i : ℕ) × (length ps ≡ 2 * i) → (i : ℕ) × (length qs ≡ 2 * i) → ps ≡ qs
+high_same : (n d : ℤ) (ps qs : List ℤ) → pos 0 <ℤ d → IsContinuedFraction n d ps → IsContinuedFraction n d qs → (i : ℕ) × (length ps ≡ 2 * i) → (i : ℕ) × (length qs ≡ 2 * i) → ps ≡ qs
 high_same n d [] qs d_up first second even even' = absurd first.are
 high_same n d (p ∷ ps) [] d_up first second even even' = absurd second.are
 high_same n d (p ∷ ps) (q ∷ qs) d_up first second even even' =

@@ -27,10 +27,6 @@ all_above : (qs : List ℤ) → BeginsFrom (pos 1) qs → AreLater qs → AreAbo
 all_above [] first later = tt
 all_above (q ∷ qs) first later = (first, later)
 
-begins_lower : (qs : List ℤ) → BeginsFrom (pos 1) qs → BeginsFrom (pos 0) qs
-begins_lower [] first = tt
-begins_lower (q ∷ qs) first = omega (arith, ints)
-
 -- the list is the quotients of a continued fraction of n/d, and there is an odd number of them
 pub record IsOddList (n d : ℤ) (qs : List ℤ) : Type 0 where
   pub later : AreLater qs

@@ -50,10 +50,7 @@ ends_turned (p ∷ ps) (q ∷ qs) = elim (same_or p q) [
   | inr other ↦ ends_apart p q ps qs other ∙ sym (ends_apart q p qs ps (λ e. other (sym e)))
 ]
 
-start_none : (ps : List ℤ) → common_start ps [] ≡ []
-start_none [] = refl
-start_none (p ∷ ps) = refl
-
+-- the first quotient counts, whatever it is
 one_at_least : (qs : List ℤ) (p : ℤ) → count_without_one (p ∷ qs) ≡ count_without_one (pos 0 ∷ qs)
 one_at_least [] p = refl
 one_at_least (q ∷ qs) p = refl

@@ -137,7 +137,7 @@ counted_ended Counts rounds o t c f w r w_up own r_up less w_some none counted =
 
 -- ---- the beginning of the search
 
--- n/d lies at o/(o + f) of the way between both neighbours, and m/e at t/(t + c)
+-- with the gaps o and t of the left neighbour, c and f of the right one, the search divides as the one between o/(o + f) and t/(t + c)
 module _ (o t c f : ℤ) where
   -- the left neighbour moves first: the second quotient of n/d is 1
   module _ (less : f ≤ℤ o) where

@@ -11,6 +11,9 @@ pub mod NearestLawLemmas
 pub mod NearestMoves
 pub mod NearestPreference
 pub mod OpenBounds
+pub mod QuotientLists
+pub mod SearchCountLawLemmas
+pub mod SearchCounting
 pub mod Shares
 pub mod SimplestBeginning
 pub mod SimplestEnclosing

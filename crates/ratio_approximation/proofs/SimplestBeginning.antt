@@ -1,6 +1,6 @@
 -- Where the search begins: the whole numbers around both ends.
 use Rattle.std.specs.Prelude.{◌≡◌, ◌≢◌, ◌⊎◌, ◌+◌, ◌*◌, ◌<◌, ◌≤◌, ◌≤ℤ◌, ◌<ℤ◌, ◌+ℤ◌, ◌-ℤ◌, ◌*ℤ◌, ℕ, ℤ, zero, suc, pos, negsuc, unsigned_abs, min}
-use Rattle.std.proofs.Common.{refl, ap, arith, inl, inr}
+use Rattle.std.proofs.Common.{refl, ap, subst, arith, inl, inr}
 use Rattle.std.proofs.lemmas.Int.{ints}
 use borrow.Author.Differences.{up, down}
 use Rattle.ratio_integer.specs.Range.{IsHeld, IsRange}
@@ -10,7 +10,11 @@ use Rattle.ratio_approximation.proofs.NearestCounting.{once}
 use Rattle.ratio_approximation.proofs.NearestMoves.{above_zero, natural_held}
 use Rattle.ratio_approximation.proofs.Shares.{times_up}
 use Rattle.ratio_approximation.specs.Enclosing.{Encloses, IsLastBelow, IsNearestZero, IsOnOneSide}
+use Rattle.ratio_approximation.specs.SearchCount.{IsSearchCount}
 use Rattle.ratio_approximation.specs.Simplest.{HoldsNoneBetween, IsBetween, IsSimplest}
+use Rattle.ratio_core.proofs.Floored.{floored_exists}
+use Rattle.ratio_approximation.proofs.QuotientLists.{zero_or}
+use Rattle.ratio_approximation.proofs.SearchCounting.{counted_beside, counted_once}
 use Rattle.ratio_approximation.proofs.SimplestEnclosing.{excess}
 use Rattle.ratio_approximation.proofs.SimplestNeighbours.{right_numer_held, stood}
 
@@ -277,3 +281,44 @@ rose_once d e old new d_up e_up is = (1, is, one_each d e d_up e_up)
 
 pub rose_more : (b old mid new : ℕ) → mid ≡ old + 1 → (k : ℕ) × (new ≡ mid + k) × IsWithinBits b (k + 1) → (k : ℕ) × (new ≡ old + k) × IsWithinBits b k
 rose_more b old mid new first (k, rose, within) = (k + 1, (omega arith), within)
+
+-- the exact counts, as a contract says them
+abbrev HaveRisen : ℕ → ℕ → ℕ → ℕ → (ℕ → ℕ → Type 0) → Type 0
+HaveRisen left left' right right' Counts = (k : ℕ) × (l : ℕ) × (left' ≡ left + k) × (right' ≡ right + l) × Counts k l
+
+last_exists : (m e : ℤ) → pos 0 <ℤ e → (g : ℤ) × (s : ℤ) × IsLastBelow m e g s
+last_exists m e e_up =
+    let divided = floored_exists m e (λ none. omega (arith, ints)) in
+    elim (zero_or divided.rest) [
+      | inl none ↦ (divided.quotient -ℤ pos 1, e, last_whole m e divided.quotient divided.rest (divided.quotient -ℤ pos 1) e_up divided.floored none refl)
+      | inr some ↦ (divided.quotient, divided.rest, last_part m e divided.quotient divided.rest e_up divided.floored some)
+    ]
+
+module _ (n d m e : ℤ) (left left' right right' : ℕ) (left-is : left' ≡ left + 1) (right-is : right' ≡ right + 1) where
+  -- the first divisions alone: the whole numbers below both ends differ
+  pub steps_once : (f r g s : ℤ) → AreEnds n d m e f r g s → f ≢ g → HaveRisen left left' right right' (IsSearchCount n d m e)
+  steps_once f r g s is other = (1, 1, left-is, right-is, counted_once n d f r m e g s is.low is.r_up is.r_less is.high other)
+
+  -- the first divisions alone: no number of the type is below m/e
+  pub steps_under : (f r c : ℤ) → pos 0 <ℤ d → pos 0 <ℤ e → IsFloored n d f r → m ≤ℤ (c *ℤ e) → c ≤ℤ f → HaveRisen left left' right right' (IsSearchCount n d m e)
+  steps_under f r c d_up e_up floored most less =
+      let last = last_exists m e e_up in
+      let is = ends d_up e_up floored last.2 in
+      steps_once f r last.0 last.1 is (λ same. (
+      let up = times_less e f c e_up less in
+      let sum = last.2.sum in
+      let some = last.2.some in
+      let equal : f *ℤ e ≡ last.0 *ℤ e = ap (λ (t : ℤ). t *ℤ e) same in
+      omega (arith, ints)))
+
+  -- with the search
+  pub steps_more : (f r g s t o : ℤ) (left'' right'' : ℕ) → AreEnds n d m e f r g s → f ≡ g → o ≡ e -ℤ s → t ≡ d -ℤ r → (k : ℕ) × (l : ℕ) × (left'' ≡ left' + k) × (right'' ≡ right' + l) × IsSearchCount r (r +ℤ t) s (s +ℤ o) (k + 1) (l + 1) → HaveRisen left left'' right right'' (IsSearchCount n d m e)
+  steps_more f r g s t o left'' right'' is same o-is t-is more =
+      let rose = more.2 in
+      let rose' = more.3 in
+      let low = is.low in
+      let high : m ≡ f *ℤ e +ℤ s = rw same is.high.sum in
+      let d-is : r +ℤ t ≡ d = omega (arith, ints) in
+      let e-is : s +ℤ o ≡ e = omega (arith, ints) in
+      let counts : IsSearchCount r d s e (more.0 + 1) (more.1 + 1) = subst (λ (z : ℤ). IsSearchCount r d s z (more.0 + 1) (more.1 + 1)) e-is (subst (λ (z : ℤ). IsSearchCount r z s (s +ℤ o) (more.0 + 1) (more.1 + 1)) d-is more.4) in
+      (more.0 + 1, more.1 + 1, omega arith, omega arith, counted_beside r d s e f n m (more.0 + 1) (more.1 + 1) (omega (arith, ints)) (omega (arith, ints)) counts)

@@ -1,5 +1,5 @@
 -- The search: what it keeps, requires and returns.
-use Rattle.std.specs.Prelude.{◌≡◌, ◌⊎◌, ◌+◌, ◌*◌, ◌<◌, ◌≤◌, ◌≤ℤ◌, ◌<ℤ◌, ◌+ℤ◌, ◌-ℤ◌, ◌*ℤ◌, ℕ, ℤ, zero, suc, pos, negsuc, unsigned_abs, min, Option, Some, None}
+use Rattle.std.specs.Prelude.{◌≡◌, ◌≢◌, ◌⊎◌, ◌+◌, ◌*◌, ◌<◌, ◌≤◌, ◌≤ℤ◌, ◌<ℤ◌, ◌+ℤ◌, ◌-ℤ◌, ◌*ℤ◌, ℕ, ℤ, zero, suc, pos, negsuc, unsigned_abs, min, Option, Some, None}
 use Rattle.std.proofs.Common.{refl, sym, arith, inl, inr}
 use Rattle.std.proofs.lemmas.Int.{ints}
 use Rattle.ratio_integer.specs.Range.{IsHeld, IsRange}
@@ -11,7 +11,10 @@ use Rattle.ratio_approximation.proofs.NearestMoves.{natural_held}
 use Rattle.ratio_approximation.proofs.Shares.{times_up}
 use Rattle.ratio_approximation.specs.Enclosing.{ChecksStep, Encloses, IsOnOneSide, IsRoom}
 use Rattle.ratio_approximation.specs.Moving.{CanMove}
+use Rattle.ratio_approximation.specs.SearchCount.{IsSearchCount}
 use Rattle.ratio_approximation.specs.Simplest.{ChecksSimplest, IsBetween, IsSimplest}
+use Rattle.ratio_approximation.proofs.QuotientLists.{room_leaves, some_first, some_room}
+use Rattle.ratio_approximation.proofs.SearchCounting.{HasCounted, counted_apart, counted_ended, counted_left, counted_more, counted_right}
 use Rattle.ratio_approximation.proofs.SimplestHalving.{halved_bound, within_both}
 use Rattle.ratio_approximation.proofs.SimplestEnclosing.{IsToward, none_past_left, none_past_right, sum_simplest, sum_toward}
 use Rattle.ratio_approximation.proofs.SimplestSteps.{part_held}
@@ -87,16 +90,18 @@ some_steps o t c f (pos zero) r z f_up c_up steps room same (inr h) =
 
 -- ---- the search
 
-pub record Searches (lo hi n d m e p q o t a b c f : ℤ) (left left' right right' : ℕ) : Type 0 where
+-- `Counts` says what the whole search counts on both sides, if the first divisions count too
+pub record Searches (lo hi n d m e p q o t a b c f : ℤ) (left left' right right' : ℕ) (Counts : ℕ → ℕ → Type 0) : Type 0 where
   pub asked : AreAsked lo hi n d m e
   pub rounds : ℕ
   pub inside : Inside rounds n d m e p q o t a b c f
   pub near : (f ≤ℤ o) ⊎ (c <ℤ t)
   pub left_rose : left' ≡ left + rounds
   pub right_rose : right' ≡ right + rounds
+  pub counted : HasCounted Counts rounds o t c f
 
 -- one more round
-module _ {lo hi n d m e p q o t a b c f : ℤ} {left left' right right' : ℕ} (at : Searches lo hi n d m e p q o t a b c f left left' right right') (w r z : ℤ) (c_some : pos 0 <ℤ c) (floored : IsFloored o f w r) (room : IsRoom t c z) (more : z ≤ℤ w) (less : w ≤ℤ z) where
+module _ {lo hi n d m e p q o t a b c f : ℤ} {left left' right right' : ℕ} {Counts : ℕ → ℕ → Type 0} (at : Searches lo hi n d m e p q o t a b c f left left' right right' Counts) (w r z : ℤ) (c_some : pos 0 <ℤ c) (floored : IsFloored o f w r) (room : IsRoom t c z) (more : z ≤ℤ w) (less : w ≤ℤ z) where
   known : AreFacts p q o t a b c f
   known = facts at.inside
 
@@ -111,10 +116,12 @@ module _ {lo hi n d m e p q o t a b c f : ℤ} {left left' right right' : ℕ} (
       turned_inside n d m e p q o t a b c f at.rounds w r s p' q' (turn_equal p q o t a b c f w r z s known steps room same s-is) p-is q-is
       (some_steps o t c f w r z known.f_up c_some steps room same at.near) steps.r_less (room_used t c w z s room same s-is) c_some at.inside
 
-  pub next_searches : (p' q' r' s : ℤ) (left'' right'' : ℕ) → p' ≡ p +ℤ a *ℤ w → q' ≡ q +ℤ b *ℤ w → r' ≡ r → s ≡ t -ℤ c *ℤ w → left'' ≡ left' + 1 → right'' ≡ right' + 1 → Searches lo hi n d m e a b c f p' q' r' s left left'' right right''
+  pub next_searches : (p' q' r' s : ℤ) (left'' right'' : ℕ) → p' ≡ p +ℤ a *ℤ w → q' ≡ q +ℤ b *ℤ w → r' ≡ r → s ≡ t -ℤ c *ℤ w → left'' ≡ left' + 1 → right'' ≡ right' + 1 → Searches lo hi n d m e a b c f p' q' r' s left left'' right right'' Counts
   next_searches p' q' r' s left'' right'' p-is q-is r-is s-is left-is right-is =
       let rose = at.left_rose in
       let rose' = at.right_rose in
+      let some = some_steps o t c f w r z known.f_up c_some steps room same at.near in
+      let own = steps.rest in
       record {
         asked = at.asked;
         rounds = at.rounds + 1;
@@ -122,6 +129,7 @@ module _ {lo hi n d m e p q o t a b c f : ℤ} {left left' right right' : ℕ} (
         near = inl (room_used t c w z s room same s-is);
         left_rose = omega arith;
         right_rose = omega arith;
+        counted = rw r-is (counted_more Counts at.rounds o t c f w r s (omega (arith, ints)) (omega (arith, ints)) (omega (arith, ints)) steps.r_less (room_used t c w z s room same s-is) at.counted);
       }
 
   pub next_smaller : (r' s : ℤ) → r' ≡ r → s ≡ t -ℤ c *ℤ w → unsigned_abs c + unsigned_abs f + unsigned_abs r' + unsigned_abs s < unsigned_abs o + unsigned_abs t + unsigned_abs c + unsigned_abs f
@@ -270,7 +278,7 @@ inside_bound : {n d m e p q o t a b c f : ℤ} {k : ℕ} → pos 0 <ℤ d → po
 inside_bound {d = d} {e = e} {k = k} d_up e_up (inl is) = within_both _ _ _ (halved_bound _ k _ (size_up d d_up) is.low_halved) (halved_bound _ k _ (size_up e e_up) is.high_halved)
 inside_bound {d = d} {e = e} {k = k} d_up e_up (inr is) = within_both _ _ _ (halved_bound _ k _ (size_up d d_up) is.low_halved) (halved_bound _ k _ (size_up e e_up) is.high_halved)
 
-module _ {lo hi n d m e p q o t a b c f : ℤ} {left left' right right' : ℕ} (at : Searches lo hi n d m e p q o t a b c f left left' right right') where
+module _ {lo hi n d m e p q o t a b c f : ℤ} {left left' right right' : ℕ} {Counts : ℕ → ℕ → Type 0} (at : Searches lo hi n d m e p q o t a b c f left left' right right' Counts) where
   bits : IsWithinBits (min (unsigned_abs d) (unsigned_abs e)) (at.rounds + 2)
   bits = inside_bound at.asked.d_up at.asked.e_up at.inside
 
@@ -283,28 +291,56 @@ module _ {lo hi n d m e p q o t a b c f : ℤ} {left left' right right' : ℕ} (
   pub right_stayed : (next : ℕ) → next ≡ right' → (k : ℕ) × (next ≡ right + k) × IsWithinBits (min (unsigned_abs d) (unsigned_abs e)) (k + 1)
   right_stayed next is = (at.rounds, (let rose = at.right_rose in omega arith), λ j less. (let most : at.rounds + 2 ≤ 2 * j = bits j less in omega arith))
 
+  -- the exact counts, where the steps are not as many as there is room for
+  pub steps_apart : (w r z : ℤ) (left'' right'' : ℕ) → AreSteps o f w r → pos 0 <ℤ c → IsRoom t c z → w ≢ z → left'' ≡ left' + 1 → right'' ≡ right' + 1 → (k : ℕ) × (l : ℕ) × (left'' ≡ left + k) × (right'' ≡ right + l) × Counts (k + 1) (l + 1)
+  steps_apart w r z left'' right'' steps c_some room other left-is right-is =
+      let rose = at.left_rose in
+      let rose' = at.right_rose in
+      let own : o ≡ w *ℤ f +ℤ r = (let rest = steps.rest in omega (arith, ints)) in (
+        at.rounds + 1,
+        at.rounds + 1,
+        omega arith,
+        omega arith,
+        counted_apart Counts at.rounds o t c f w r z steps.w_up room.up own steps.r_up steps.r_less (λ h. some_first o f w r (facts at.inside).f_up h own steps.r_less) (λ h. some_room t c z (t -ℤ c *ℤ z) c_some h (room_leaves t c z room)) room other at.counted,
+      )
+
+  -- the exact counts, where there is room for any number of steps
+  pub steps_unbounded : (w r : ℤ) (left'' right'' : ℕ) → AreSteps o f w r → c ≡ pos 0 → left'' ≡ left' + 1 → right'' ≡ right' → (k : ℕ) × (l : ℕ) × (left'' ≡ left + k) × (right'' ≡ right + l) × Counts (k + 1) (l + 1)
+  steps_unbounded w r left'' right'' steps none left-is right-is =
+      let rose = at.left_rose in
+      let rose' = at.right_rose in
+      let own : o ≡ w *ℤ f +ℤ r = (let rest = steps.rest in omega (arith, ints)) in (
+        at.rounds + 1,
+        at.rounds,
+        omega arith,
+        omega arith,
+        counted_ended Counts at.rounds o t c f w r steps.w_up own steps.r_up steps.r_less (λ h. some_first o f w r (facts at.inside).f_up h own steps.r_less) none at.counted,
+      )
+
 -- ---- the beginning of the search
 
 pub unbounded : (c w t : ℤ) → pos 0 <ℤ t → c ≡ pos 0 → (c *ℤ w +ℤ c) <ℤ t
 unbounded c (pos w) t up none = rw none (omega (arith, ints))
 unbounded c (negsuc w) t up none = rw none (omega (arith, ints))
 
-pub begun_left : {lo hi n d m e p q o t a b c f : ℤ} → IsRange lo hi → IsHeld lo hi n → IsHeld lo hi d → IsHeld lo hi m → IsHeld lo hi e → pos 0 <ℤ d → pos 0 <ℤ e → Encloses n d m e p q o t a b c f → f ≤ℤ o → (left right : ℕ) → Searches lo hi n d m e p q o t a b c f left left right right
-begun_left range n_held d_held m_held e_held d_up e_up is less left right = record {
+pub begun_left : {lo hi n d m e p q o t a b c f : ℤ} → IsRange lo hi → IsHeld lo hi n → IsHeld lo hi d → IsHeld lo hi m → IsHeld lo hi e → pos 0 <ℤ d → pos 0 <ℤ e → Encloses n d m e p q o t a b c f → f ≤ℤ o → (left right : ℕ) → Searches lo hi n d m e p q o t a b c f left left right right (IsSearchCount o (o +ℤ f) t (t +ℤ c))
+begun_left {o = o} {t = t} {c = c} {f = f} range n_held d_held m_held e_held d_up e_up is less left right = record {
   asked = record { range = range; n_held = n_held; d_held = d_held; m_held = m_held; e_held = e_held; d_up = d_up; e_up = e_up };
   rounds = 0;
   inside = inl (stood _ _ _ _ _ _ _ _ _ _ _ _ d_up e_up is);
   near = inl less;
   left_rose = omega arith;
   right_rose = omega arith;
+  counted = counted_left o t c f less;
 }
 
-pub begun_right : {lo hi n d m e p q o t a b c f : ℤ} → IsRange lo hi → IsHeld lo hi n → IsHeld lo hi d → IsHeld lo hi m → IsHeld lo hi e → pos 0 <ℤ d → pos 0 <ℤ e → Encloses n d m e p q o t a b c f → o <ℤ f → (left right : ℕ) → Searches lo hi n d m e a b c f p q o t left left right right
-begun_right range n_held d_held m_held e_held d_up e_up is less left right = record {
+pub begun_right : {lo hi n d m e p q o t a b c f : ℤ} → IsRange lo hi → IsHeld lo hi n → IsHeld lo hi d → IsHeld lo hi m → IsHeld lo hi e → pos 0 <ℤ d → pos 0 <ℤ e → Encloses n d m e p q o t a b c f → o <ℤ f → (left right : ℕ) → Searches lo hi n d m e a b c f p q o t left left right right (IsSearchCount o (o +ℤ f) t (t +ℤ c))
+begun_right {o = o} {t = t} {c = c} {f = f} range n_held d_held m_held e_held d_up e_up is less left right = record {
   asked = record { range = range; n_held = n_held; d_held = d_held; m_held = m_held; e_held = e_held; d_up = d_up; e_up = e_up };
   rounds = 0;
   inside = inr (stood _ _ _ _ _ _ _ _ _ _ _ _ d_up e_up is);
   near = inr less;
   left_rose = omega arith;
   right_rose = omega arith;
+  counted = counted_right o t c f less;
 }

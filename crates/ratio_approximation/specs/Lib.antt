@@ -5,6 +5,7 @@ pub mod EndChoice
 pub mod FromQuotients
 pub mod Moving
 pub mod Nearest
+pub mod SearchCount
 pub mod Simplest
 pub mod SimplestWithin
 pub mod SimplestWithinLaws

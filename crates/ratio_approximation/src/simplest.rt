@@ -6,6 +6,7 @@ mod within;
 
 ghost use Rattle.std.specs.Prelude.{◌≡◌, ◌<ℤ◌, ◌+◌, ℕ, pos, min, unsigned_abs};
 ghost use Rattle.ratio_core.specs.ContinuedFraction.{IsWithinBits};
+ghost use Rattle.ratio_approximation.specs.SearchCount.{IsSearchCount};
 ghost use Rattle.ratio_approximation.specs.Simplest.{ChecksSimplest};
 
 use crate::simplest::search::search;
@@ -29,8 +30,13 @@ pub fn simplest_between<T: Integer>(n: T, d: T, m: T, e: T) -> Option<(T, T)>
     simplest_between_counted(n, d, m, e, &mut Steps::new())
 }
 
-/// `simplest_between` with its divisions counted. Each side divides at most twice for each binary digit of the
-/// smaller one of `d` and `e`.
+/// `simplest_between` with its divisions counted.
+///
+/// Write `n/d` as a continued fraction with an odd number of quotients, and `m/e` with an even number. The left side
+/// divides once, and once more for each quotient at their common start, except for a second quotient 1. The right side
+/// divides as often, or once less if one list is the beginning of the other. For example, 1/3 has 0, 2, 1, and 1/2 has
+/// 0, 2. So the left side divides three times, and the right side twice. Each side divides at most twice for each binary
+/// digit of the smaller one of `d` and `e`.
 pub fn simplest_between_counted<T: Counted>(
     n: T,
     d: T,
@@ -41,6 +47,8 @@ pub fn simplest_between_counted<T: Counted>(
     requires low { pos 0 <ℤ T.value d }
     requires high { pos 0 <ℤ T.value e }
     ensures simplest { ChecksSimplest T.value T.lo T.hi (T.value n) (T.value d) (T.value m) (T.value e) result }
+    ensures steps { (k : ℕ) × (l : ℕ) × (steps.new.left ≡ steps.old.left + k) × (steps.new.right ≡ steps.old.right + l)
+        × IsSearchCount (T.value n) (T.value d) (T.value m) (T.value e) k l }
     ensures left { (k : ℕ) × (steps.new.left ≡ steps.old.left + k) × IsWithinBits (min (unsigned_abs (T.value d)) (unsigned_abs (T.value e))) k }
     ensures right { (k : ℕ) × (steps.new.right ≡ steps.old.right + k) × IsWithinBits (min (unsigned_abs (T.value d)) (unsigned_abs (T.value e))) k }
 {

@@ -11,6 +11,7 @@ ghost use Rattle.ratio_core.specs.PowerLaws.{PartsAddUp, PartsAreAnswered, Power
 ghost use Rattle.ratio_core.specs.Rounding.{IsCeiling, IsFloor, IsRounded, IsTruncation};
 ghost use Rattle.ratio_core.specs.RoundingLaws.{CeilingsAreNextToFloors, EachHasOne, IsByValue};
 ghost use Rattle.ratio_decimal.specs.RoundingRules.{HalvesDifferAtTies, IsRoundedBy, RoundedIsMonotone, RoundedIsNear};
+ghost use Rattle.ratio_approximation.specs.SearchCount.{OneSearchCount};
 ghost use Rattle.ratio_laws.specs.SimplestLaws.{OneIsSimplest, SameValuesSameSimplest, SimplestIsLowest};
 ghost use Rattle.ratio_approximation.specs.SimplestWithinLaws.{ExcludedIsBetween, OneIsSimplestWithin, SameBoundsSameSimplest, SimplestWithinIsLowest};
 ghost use Rattle.ratio_decimal.specs.declared.rounding_rule.Rounding.{Rounding};
@@ -102,11 +103,13 @@ pub fn fractions_of_quotients()
     ensures give_back { QuotientsGiveBack }
 {}
 
-/// Laws of the simplest fraction strictly between two others, which `simplest_between` returns.
+/// Laws of the simplest fraction strictly between two others, which `simplest_between` returns, and of how often
+/// `simplest_between_counted` divides.
 pub fn simplest_fractions()
     ensures one { OneIsSimplest }
     ensures lowest { SimplestIsLowest }
     ensures value { SameValuesSameSimplest }
+    ensures counts { OneSearchCount }
 {}
 
 /// Laws of the simplest fraction within two bounds, which `simplest_within` returns. Within two excluded bounds

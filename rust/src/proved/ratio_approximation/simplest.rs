@@ -29,8 +29,13 @@ pub fn simplest_between<T: Integer>(n: T, d: T, m: T, e: T) -> Option<(T, T)> {
     simplest_between_counted(n, d, m, e, &mut Steps::new())
 }
 
-/// `simplest_between` with its divisions counted. Each side divides at most twice for each binary digit of the
-/// smaller one of `d` and `e`.
+/// `simplest_between` with its divisions counted.
+///
+/// Write `n/d` as a continued fraction with an odd number of quotients, and `m/e` with an even number. The left side
+/// divides once, and once more for each quotient at their common start, except for a second quotient 1. The right side
+/// divides as often, or once less if one list is the beginning of the other. For example, 1/3 has 0, 2, 1, and 1/2 has
+/// 0, 2. So the left side divides three times, and the right side twice. Each side divides at most twice for each binary
+/// digit of the smaller one of `d` and `e`.
 ///
 /// # Conditions
 ///

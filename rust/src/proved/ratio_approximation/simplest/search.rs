@@ -9,6 +9,10 @@ use crate::proved::ratio_core::{Counted, Steps};
 /// moves towards the other as long as it does not pass its own end, and then the other one moves. The
 /// first step to a place between both ends leads to the simplest fraction.
 ///
+/// It divides as often as the search between `left.own / (left.own + right.other)` and
+/// `left.other / (left.other + right.own)`, without the first divisions of that search. For 1/3 and 1/2, with the
+/// neighbours 0/1 and 1/1, these two are 1/3 and 1/2 again.
+///
 /// # Conditions
 ///
 /// The proof requires of the caller:

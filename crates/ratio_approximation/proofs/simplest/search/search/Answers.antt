@@ -1,10 +1,11 @@
 use Rattle.std.specs.Prelude.{◌+ℤ◌, pos}
 use Rattle.std.proofs.Common.{◌∙◌, sym, arith}
 use Rattle.std.proofs.lemmas.Bool.{iff_false}
+use Rattle.std.proofs.lemmas.Int.{ints}
 use Rattle.ratio_integer.proofs.Whole.{positive_nonzero}
 use Rattle.ratio_integer.specs.Comparison.{no, yes}
 use Rattle.ratio_approximation.proofs.NearestMoves.{above_zero, not_above_max}
-use Rattle.ratio_approximation.proofs.SimplestSearch.{begun_left, begun_right, beyond_checks, beyond_is, can_move, facts, left_ended, next_searches, next_smaller, order_none, right_ended, right_stayed, room_left, steps_are, unbounded}
+use Rattle.ratio_approximation.proofs.SimplestSearch.{begun_left, begun_right, beyond_checks, beyond_is, can_move, facts, left_ended, next_searches, next_smaller, order_none, right_ended, right_stayed, room_left, steps_apart, steps_are, steps_unbounded, unbounded}
 use Rattle.ratio_approximation.proofs.simplest.search.search.Goals as goal
 use Rattle.ratio_approximation.proofs.simplest.search.search.Goals.{then-lt, else-lt}
 
@@ -42,6 +43,12 @@ returns-then-is_zero-clause-left g c = left_ended c.rounds.invariant _ c.divide_
 pub returns-then-is_zero-clause-right : goal.returns-then-is_zero-clause-right
 returns-then-is_zero-clause-right g c = right_stayed c.rounds.invariant _ c.divide_left.ensures.right
 
+pub returns-then-is_zero-clause-steps : goal.returns-then-is_zero-clause-steps
+returns-then-is_zero-clause-steps g c =
+    let at = c.rounds.invariant in
+    let known = facts at.inside in
+    steps_unbounded at _ _ _ _ (steps_are _ _ _ _ known.o_up known.f_up c.divide_left.ensures.floored) (c.is_zero.ensures.0 c.if-is_zero.true) c.divide_left.ensures.left c.divide_left.ensures.right
+
 pub times_within-room-requires-clause-gap : goal.times_within-room-requires-clause-gap
 times_within-room-requires-clause-gap g c =
     let known = facts c.rounds.invariant.inside in
@@ -68,6 +75,14 @@ returns-then-lt-2-clause-left g c = left_ended c.rounds.invariant _ (c.times_wit
 pub returns-then-lt-2-clause-right : goal.returns-then-lt-2-clause-right
 returns-then-lt-2-clause-right g c = right_ended c.rounds.invariant _ (let a = c.times_within-room.ensures.right in let b = c.divide_left.ensures.right in omega arith)
 
+pub returns-then-lt-2-clause-steps : goal.returns-then-lt-2-clause-steps
+returns-then-lt-2-clause-steps g c =
+    let at = c.rounds.invariant in
+    let known = facts at.inside in
+    let some = above_zero _ known.c_up (iff_false c.is_zero.ensures c.if-is_zero.false) in
+    let less = yes _ (g.met.T.Counted.lt_law c.divide_left.result.0 c.times_within-room.result) (sym c.lt-in-rounds.ensures ∙ c.if-lt-2.true) in
+    steps_apart at _ _ _ _ _ (steps_are _ _ _ _ known.o_up known.f_up c.divide_left.ensures.floored) some c.times_within-room.ensures.room (λ same. omega (arith, ints)) (c.times_within-room.ensures.left ∙ c.divide_left.ensures.left) (let a = c.times_within-room.ensures.right in let b = c.divide_left.ensures.right in omega arith)
+
 pub returns-then-lt-3-clause-simplest : goal.returns-then-lt-3-clause-simplest
 returns-then-lt-3-clause-simplest g c =
     let v = g.T.Counted.value in
@@ -83,6 +98,14 @@ returns-then-lt-3-clause-left g c = left_ended c.rounds.invariant _ (c.times_wit
 
 pub returns-then-lt-3-clause-right : goal.returns-then-lt-3-clause-right
 returns-then-lt-3-clause-right g c = right_ended c.rounds.invariant _ (let a = c.times_within-room.ensures.right in let b = c.divide_left.ensures.right in omega arith)
+
+pub returns-then-lt-3-clause-steps : goal.returns-then-lt-3-clause-steps
+returns-then-lt-3-clause-steps g c =
+    let at = c.rounds.invariant in
+    let known = facts at.inside in
+    let some = above_zero _ known.c_up (iff_false c.is_zero.ensures c.if-is_zero.false) in
+    let over = yes _ (g.met.T.Counted.lt_law c.times_within-room.result c.divide_left.result.0) (sym c.lt-in-rounds-2.ensures ∙ c.if-lt-3.true) in
+    steps_apart at _ _ _ _ _ (steps_are _ _ _ _ known.o_up known.f_up c.divide_left.ensures.floored) some c.times_within-room.ensures.room (λ same. omega (arith, ints)) (c.times_within-room.ensures.left ∙ c.divide_left.ensures.left) (let a = c.times_within-room.ensures.right in let b = c.divide_left.ensures.right in omega arith)
 
 pub stepped-next-requires : goal.stepped-next-requires
 stepped-next-requires g c =

@@ -1,15 +1,25 @@
 -- What the calls of a reader and of a writer do. The `Calls` of `src/counted.rt` say what the calls of a device (a reader or a writer) did:
 -- the bytes moved; how many calls failed, flushed, or said that the reader ended; and how many bytes had moved at the last flush, the
 -- *mark*. For example, a reader gives 4 bytes of `1 + 1\n`, then 2, then `Ok(0)`. Its `Calls` say that 6 bytes moved, no call failed, and
--- one read said that the reader has ended. A word that ends in `For` says this of some bytes with a given property.
-use Rattle.std.specs.Prelude.{◌≡◌, ℕ, ◌+◌, ◌<◌, ◌≤◌, List, [], ◌++◌, ◌==◌, ◌&&◌, not, length, take, Option, Result, Ok, Err, if◌then◌else◌, MatchBool}
+-- one read said that the reader has ended. Its `Moments` say what had moved before each read: 0 bytes, 4 and 6, and what the writer of the
+-- answers had taken. A word that ends in `For` says this of some bytes with a given property.
+use Rattle.std.specs.Prelude.{◌≡◌, ℕ, ◌+◌, ◌<◌, ◌≤◌, List, [], ◌∷◌, ◌++◌, ◌==◌, ◌&&◌, not, length, take, Option, Result, Ok, Err, if◌then◌else◌, MatchBool}
 use Rattle.std.specs.Io.KnownBytes.{Appends, Consumes, IsAtEnd, Keeps}
 use Rattle.ratio_lines.specs.declared.fault.CalcFault.{CalcFault, TheVariants.Read, TheVariants.Write}
 use Rattle.ratio_lines.specs.declared.counted.Calls.{Calls}
+use Rattle.ratio_lines.specs.declared.counted.Moments.{Moments}
 
 -- no call was made
 abbrev pub no_calls : Calls
 no_calls = record { moved = []; failures = 0; ends = 0; flushes = 0; mark = 0 }
+
+-- no read was made
+abbrev pub no_moments : Moments
+no_moments = record { reads = [] }
+
+-- one more read, before which the calls of the reader and of the writer did this
+abbrev pub after_moment : Moments → Calls → Calls → Moments
+after_moment moments given taken = record { reads = moments.reads ++ (given.moved, taken.moved, taken.mark) ∷ [] }
 
 -- one more call moved these bytes
 abbrev pub after_moving : Calls → List ℕ → Calls
@@ -59,6 +69,7 @@ change_of bytes calls old new = record { old = (bytes old, calls old); new = (by
 pub record Followed (D : Type 0) : Type 0 where
   pub device : D
   pub reads : Calls
+  pub moments : Moments
   pub writes : Calls
 
 -- the reader gave these bytes

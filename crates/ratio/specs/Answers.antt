@@ -1,5 +1,5 @@
 -- What is written for an expression, and for the lines of an input.
-use Rattle.std.specs.Prelude.{◌≡◌, ◌++◌, ◌∷◌, ◌&&◌, [], ℕ, Bool, true, false, List, Option, Some, None, Result, Ok, Err, IfSome, codes, if◌then◌else◌}
+use Rattle.std.specs.Prelude.{◌≡◌, ◌≤◌, ◌-◌, ◌^◌, ◌++◌, ◌∷◌, ◌&&◌, [], ℕ, Bool, true, false, List, Option, Some, None, Result, Ok, Err, IfSome, codes, length, if◌then◌else◌}
 use Rattle.std.specs.Io.{StopsAt}
 use Rattle.std.specs.Io.KnownBytes.{Consumes}
 use Rattle.ratio_expressions.specs.Worths.{Worth}
@@ -82,7 +82,8 @@ with_end on_terminal [] written = written ++ end_of on_terminal
 with_end on_terminal (line ∷ last) written = written
 
 -- an input is answered, of which some bytes are left. At `Ok` all its lines are. At `Read` the lines are answered that were read before,
--- and of the next one at most a part was read. At `Write` the writer took a front. At `Memory` the first lines are answered
+-- and of the next one at most a part was read. At `Write` the writer took a front. At `Memory` the first lines are answered. At `Endless`
+-- at least 2^64-1 lines are
 -- Example: `1 + 1\n2` on no terminal: `2\n2\n` and true
 abbrev pub AnswersInput : Form → Bool → List ℕ → Option (List ℕ) → DeviceChange → Result Bool Fault → Type 0
 AnswersInput form on_terminal input left output (Ok all) = (written : List ℕ) × AreAnsweredBefore form on_terminal input [] written all × Takes output (with_end on_terminal [] written)
@@ -93,6 +94,9 @@ AnswersInput form on_terminal input left output (Err faults.Write) =
     (last : List (List ℕ)) × (written : List ℕ) × (all : Bool) × AreAnsweredBefore form on_terminal input last written all × TakesFront output (with_end on_terminal last written)
 AnswersInput form on_terminal input left output (Err faults.Memory) =
     (last : List (List ℕ)) × (written : List ℕ) × (all : Bool) × AreAnsweredBefore form on_terminal input last written all × Takes output written
+AnswersInput form on_terminal input left output (Err faults.Endless) =
+    (last : List (List ℕ)) × (written : List ℕ) × (all : Bool) × (before : AreAnsweredBefore form on_terminal input last written all) × Takes output written
+    × (2 ^ 64 - 1 ≤ length before.lines)
 AnswersInput form on_terminal input left output (Err fault) = ⊥
 
 -- the lines of a reader are answered, if its bytes are known

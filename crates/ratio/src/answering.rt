@@ -55,7 +55,7 @@ pub fn answer_lines<R: BufRead, W: Write>(
         }
         all &= answer_line(alloc, &line, form, on_terminal, &mut names, output)?;
     }
-    Err(Fault::Read)
+    Err(Fault::Endless)
 }
 
 // Answers a line, and says whether it has no refusal. The prompt for the next line is behind the reply.

@@ -23,6 +23,8 @@ pub enum Fault {
     Read,
     /// An answer could not be written.
     Write,
+    /// 2^64-1 lines were answered, and the input has not ended.
+    Endless,
 }
 
 impl From<AllocError> for Fault {
@@ -62,5 +64,6 @@ fn message(fault: &Fault) -> (&str, &str, &str)
         Fault::Memory => ("ratio: out of memory\n", "", ""),
         Fault::Read => ("ratio: read failed\n", "", ""),
         Fault::Write => ("ratio: write failed\n", "", ""),
+        Fault::Endless => ("ratio: input too long\n", "", ""),
     }
 }

@@ -33,7 +33,7 @@ returns-in_err-read_line g c =
     let fault = c.in_err-read_line.field-0.0 in
     IfSome_then (g.R.Read.remaining c.args.input.now) c.loop-turn.invariant (λ input so_far.
     handed_on c.from_residual-in_err-read_line.result (AnswersInput form t input next output) fault c.from_residual-in_err-read_line.ensures.1
-    (not_read form t input (g.R.Read.remaining c.loop-turn.input) next _ _ (named c.loop-turn.names) c.loop-turn.all so_far c.read_line.new.line.items fault c.in_err-read_line.ensures))
+    (not_read form t input (g.R.Read.remaining c.loop-turn.input) next _ _ (named c.loop-turn.names) c.loop-turn.all _ so_far c.read_line.new.line.items fault c.in_err-read_line.ensures))
 
 pub returns-in_err-write-2 : goal.returns-in_err-write-2
 returns-in_err-write-2 g c =
@@ -50,7 +50,7 @@ returns-in_err-write-2 g c =
     let stopped : (fault ≡ faults.Write) × TakesFront end (end_of t) = (c.in_err-write-2.ensures.0, subst (TakesFront end) c.end.ensures c.in_err-write-2.ensures.1) in
     IfSome_then (g.R.Read.remaining c.args.input.now) c.loop-turn.invariant (λ input so_far.
     handed_on c.from_residual-in_err-write-2.result (AnswersInput form t input next output) fault c.from_residual-in_err-write-2.ensures.1
-    (no_end form t input _ next _ _ (named c.loop-turn.names) c.loop-turn.all so_far line _ given fault stopped))
+    (no_end form t input _ next _ _ (named c.loop-turn.names) c.loop-turn.all _ so_far line _ given fault stopped))
 
 pub returns-then-not-branch : goal.returns-then-not-branch
 returns-then-not-branch g c =
@@ -60,7 +60,7 @@ returns-then-not-branch g c =
     let none : c.in_ok-read_line.field-0 ≡ false = search rules in
     let given : GivesLine input_change line (Ok false) = subst (λ (b : Bool). GivesLine input_change line (Ok b)) none c.in_ok-read_line.ensures in
     IfSome_then (g.R.Read.remaining c.args.input.now) c.loop-turn.invariant (λ input so_far.
-    read_all c.args.form c.args.on_terminal input _ (g.R.Read.remaining c.read_line.new.reader) (g.W.Write.contents c.args.output.now) _ (named c.loop-turn.names) c.loop-turn.all so_far line _ given (subst (Takes end) c.end.ensures c.in_ok-write-2.ensures))
+    read_all c.args.form c.args.on_terminal input _ (g.R.Read.remaining c.read_line.new.reader) (g.W.Write.contents c.args.output.now) _ (named c.loop-turn.names) c.loop-turn.all _ so_far line _ given (subst (Takes end) c.end.ensures c.in_ok-write-2.ensures))
 
 pub returns-in_err-all : goal.returns-in_err-all
 returns-in_err-all g c =
@@ -79,7 +79,7 @@ returns-in_err-all g c =
     let stopped = subst (λ (l : List ℕ). AnswersLine l form t names behind more (Err fault)) c.deref.ensures.value c.in_err-all.ensures in
     IfSome_then (g.R.Read.remaining c.args.input.now) c.loop-turn.invariant (λ input so_far.
     handed_on c.from_residual-in_err-all.result (AnswersInput form t input next output) fault c.from_residual-in_err-all.ensures.1
-    (line_stops form t input _ next _ _ names c.loop-turn.all so_far line _ given behind fault stopped))
+    (line_stops form t input _ next _ _ names c.loop-turn.all _ so_far line _ given behind fault stopped))
 
 pub loop-turn-preserved : goal.loop-turn-preserved
 loop-turn-preserved g c =
@@ -95,9 +95,9 @@ loop-turn-preserved g c =
     let accepted = c.in_ok-all.field-0 in
     let takes = subst (λ (l : List ℕ). AnswersLine l form t names behind more (Ok accepted)) c.deref.ensures.value c.in_ok-all.ensures in
     IfSome_then (g.R.Read.remaining c.args.input.now) c.loop-turn.invariant (λ input so_far.
-    one_more form t input _ _ _ _ names c.loop-turn.all so_far line _ given behind accepted takes)
+    one_more form t input _ _ _ _ names c.loop-turn.all _ so_far line _ given behind accepted takes)
 
 pub returns : goal.returns
 returns g c =
     IfSome_then (g.R.Read.remaining c.args.input.now) c.loop-turn.invariant (λ input so_far.
-    too_many c.args.form c.args.on_terminal input (g.R.Read.remaining c.loop-turn.input) (g.R.Read.remaining c.loop-turn.input) (g.W.Write.contents c.args.output.now) _ (named c.loop-turn.names) c.loop-turn.all so_far)
+    too_many c.args.form c.args.on_terminal input (g.R.Read.remaining c.loop-turn.input) (g.R.Read.remaining c.loop-turn.input) (g.W.Write.contents c.args.output.now) _ (named c.loop-turn.names) c.loop-turn.all _ so_far c.loop-turn-test.false)

@@ -7,4 +7,4 @@ abbrev pub invariant-loop-turn : goal.invariant-loop-turn
 invariant-loop-turn g l =
     let remaining = g.R.Read.remaining in
     let contents = g.W.Write.contents in
-    IfSome (remaining l.fn.input) (λ input. SoFar l.form l.on_terminal input (remaining l.input) (contents l.fn.output) (contents l.output) (named l.names) l.all)
+    IfSome (remaining l.fn.input) (λ input. SoFar l.form l.on_terminal input (remaining l.input) (contents l.fn.output) (contents l.output) (named l.names) l.all l._turn)

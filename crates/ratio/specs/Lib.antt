@@ -1,5 +1,6 @@
 pub mod Answers
 pub mod Devices
+pub mod Failures
 pub mod Faults
 pub mod Lines
 pub mod Options

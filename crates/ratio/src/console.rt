@@ -1,8 +1,9 @@
 //! What the system gives the program and takes from it: arguments, the input and its lines, whether a person types it, and the two outputs.
 //! The crate for cargo has these calls in a file by hand.
-ghost use Rattle.ratio.specs.Devices.{GivesLine, device_change};
+ghost use Rattle.std.specs.Prelude.{◌≡◌, ℕ, List, Option};
 
 use crate::fault::Fault;
+use ratio_lines::counted::Calls;
 use std::env;
 use std::io::{BufRead, BufReader, IsTerminal, Stdin};
 
@@ -28,21 +29,68 @@ pub fn is_terminal(rt: &HostRuntime) -> bool {
 }
 
 /// Standard input from where it is.
-pub fn input(rt: &HostRuntime) -> Result<BufReader<Stdin>, Fault> {
+pub fn input(rt: &HostRuntime) -> Result<Lines<BufReader<Stdin>>, Fault> {
     match BufReader::new(rt.alloc(), rt.stdin()) {
-        Ok(reader) => Ok(reader),
+        Ok(reader) => Ok(Lines::new(reader)),
         Err(_) => Err(Fault::Memory),
     }
 }
 
-/// Reads the next line, with its line end if it has one, and says whether there is one.
-pub fn read_line<R: BufRead>(reader: &mut R, line: &mut Vec<u8>) -> Result<bool, Fault>
-    ensures { GivesLine (device_change R.remaining reader.old reader.new) line.new.items result }
-{
-    line.clear();
-    match reader.read_until(b'\n', line) {
-        Ok(0) => Ok(false),
-        Ok(_) => Ok(true),
-        Err(_) => Err(Fault::Read),
+/// A reader of lines whose calls are followed.
+pub trait LineRead {
+    ghost use Rattle.ratio.specs.Devices.{GivesLine, after_line, device_change};
+    ghost use Rattle.ratio_lines.specs.declared.counted.Calls.{Calls};
+
+    /// The bytes that it has left, if they are known.
+    ghost remaining: { Self → Option (List ℕ) };
+
+    /// What the calls did so far.
+    ghost calls: { Self → Calls };
+
+    /// Reads the next line, with its line end if it has one, and says whether there is one. A call that returns `Err` has failed.
+    fn read_line(&mut self, line: &mut Vec<u8>) -> Result<bool, Fault>
+        ensures line { GivesLine (device_change remaining self.old self.new) line.new.items result }
+        ensures calls { calls self.new ≡ after_line (calls self.old) line.new.items result };
+}
+
+/// A reader whose lines are read by followed calls.
+#[derive(Drop)]
+pub struct Lines<D> {
+    device: D,
+    calls: Calls,
+}
+
+impl<D> Lines<D> {
+    /// The reader. No line has been read.
+    pub fn new(device: D) -> Lines<D> {
+        Lines {
+            device,
+            calls: Calls::none(),
+        }
+    }
+}
+
+impl<D: BufRead> LineRead for Lines<D> {
+    ghost remaining = { λ l. D.remaining l.device };
+
+    ghost calls = { λ l. l.calls };
+
+    fn read_line(&mut self, line: &mut Vec<u8>) -> Result<bool, Fault> {
+        line.clear();
+        match self.device.read_until(b'\n', line) {
+            Ok(0) => {
+                self.calls.note_ended();
+                Ok(false)
+            }
+            Ok(_) => {
+                self.calls.note_moved(line.as_slice());
+                Ok(true)
+            }
+            Err(_) => {
+                self.calls.note_moved(line.as_slice());
+                self.calls.note_failed();
+                Err(Fault::Read)
+            }
+        }
     }
 }

@@ -6,7 +6,7 @@ ghost use Rattle.std.specs.Io.{ReadsAtMost, WritesAtMost};
 ghost use Rattle.std.specs.Io.KnownBytes.{ReadConsumes, WriteAppends, Keeps};
 
 use std::io;
-use std::io::{Read, Write};
+use std::io::{ErrorKind, Read, Write};
 use std::marker::Model;
 
 /// What the calls of a reader or a writer did so far. The fields are unbounded numbers and lists. They
@@ -17,6 +17,8 @@ pub struct Calls {
     pub ghost moved: { List ℕ },
     /// How many calls failed.
     pub ghost failures: { ℕ },
+    /// How many writes were interrupted, and counted as no failure.
+    pub ghost interrupts: { ℕ },
     /// How many reads said that the reader has ended.
     pub ghost ends: { ℕ },
     /// How many flushes returned `Ok`.
@@ -30,7 +32,7 @@ impl Model for Calls {
 }
 
 impl Calls {
-    ghost use Rattle.ratio_lines.specs.Devices.{after_moving, after_failing, after_ending, after_flushing, no_calls};
+    ghost use Rattle.ratio_lines.specs.Devices.{after_moving, after_failing, after_interrupt, after_ending, after_flushing, no_calls};
 
     /// No call was made.
     pub fn none() -> Calls
@@ -55,6 +57,13 @@ impl Calls {
     /// A call failed.
     pub fn note_failed(&mut self)
         ensures { self.new ≡ after_failing self.old }
+    {
+        self.note(&[])
+    }
+
+    /// A write was interrupted, and may be tried again.
+    pub fn note_interrupted(&mut self)
+        ensures { self.new ≡ after_interrupt self.old }
     {
         self.note(&[])
     }
@@ -125,7 +134,7 @@ pub trait CalcRead<W: CalcWrite>: Read {
 /// A writer whose calls are followed.
 pub trait CalcWrite: Write {
     ghost use Rattle.ratio_lines.specs.declared.counted.Calls.{Calls};
-    ghost use Rattle.ratio_lines.specs.Devices.{after_flush, after_write};
+    ghost use Rattle.ratio_lines.specs.Devices.{Tries, after_flush, after_write};
 
     /// What the calls did so far.
     ghost calls: { Self → Calls };
@@ -136,6 +145,12 @@ pub trait CalcWrite: Write {
         ensures bound { WritesAtMost result buf.now }
         ensures bytes { WriteAppends (Self.contents self.old) (Self.contents self.new) result buf.now }
         ensures calls { calls self.new ≡ after_write (calls self.old) result buf.now };
+
+    /// Writes as `write_counted` does, but a call that was interrupted has not failed.
+    fn write_tried(&mut self, buf: &[u8]) -> io::Result<usize>
+        ensures bound { WritesAtMost result buf.now }
+        ensures bytes { WriteAppends (Self.contents self.old) (Self.contents self.new) result buf.now }
+        ensures calls { Tries (calls self.old) (calls self.new) result buf.now };
 
     /// What the calls did so far, for contracts alone.
     fn calls(&self) -> &Calls
@@ -263,6 +278,27 @@ impl<D: Write> CalcWrite for Counted<D> {
             }
             Err(e) => {
                 self.writes.note_failed();
+                Err(e)
+            }
+        }
+    }
+
+    fn write_tried(&mut self, buf: &[u8]) -> io::Result<usize> {
+        match self.device.write(buf) {
+            Ok(0) if !buf.is_empty() => {
+                self.writes.note_failed();
+                Ok(0)
+            }
+            Ok(n) => {
+                self.writes.note_moved(&buf[..n]);
+                Ok(n)
+            }
+            Err(e) => {
+                if e.kind() == ErrorKind::Interrupted {
+                    self.writes.note_interrupted();
+                } else {
+                    self.writes.note_failed();
+                }
                 Err(e)
             }
         }

@@ -32,25 +32,37 @@ pub fn is_terminal() -> bool {
 }
 
 /// Standard input from where it is.
-pub fn input() -> Result<StdinLock<'static>, Fault> {
-    Ok(stdin())
+pub fn input() -> Result<Lines<StdinLock<'static>>, Fault> {
+    Ok(Lines { device: stdin() })
 }
 
-/// Reads the next line, with its line end if it has one, and says whether there is one.
-pub fn read_line<R: BufRead>(reader: &mut R, line: &mut Vec<u8>) -> Result<bool, Fault> {
-    line.clear();
-    loop {
-        let piece = match reader.fill_buf() {
-            Ok(piece) => piece,
-            Err(e) if e.kind() == ErrorKind::Interrupted => continue,
-            Err(_) => return Err(Fault::Read),
-        };
-        let end = memchr(b'\n', piece).map_or(piece.len(), |at| at + 1);
-        let is_whole = piece.is_empty() || piece[end - 1] == b'\n';
-        line.extend_from_slice(&piece[..end])?;
-        reader.consume(end);
-        if is_whole {
-            return Ok(!line.is_empty());
+/// A reader of lines.
+pub trait LineRead {
+    /// Reads the next line, with its line end if it has one, and says whether there is one.
+    fn read_line(&mut self, line: &mut Vec<u8>) -> Result<bool, Fault>;
+}
+
+/// A reader whose lines are read.
+pub struct Lines<D> {
+    device: D,
+}
+
+impl<D: BufRead> LineRead for Lines<D> {
+    fn read_line(&mut self, line: &mut Vec<u8>) -> Result<bool, Fault> {
+        line.clear();
+        loop {
+            let piece = match self.device.fill_buf() {
+                Ok(piece) => piece,
+                Err(e) if e.kind() == ErrorKind::Interrupted => continue,
+                Err(_) => return Err(Fault::Read),
+            };
+            let end = memchr(b'\n', piece).map_or(piece.len(), |at| at + 1);
+            let is_whole = piece.is_empty() || piece[end - 1] == b'\n';
+            line.extend_from_slice(&piece[..end])?;
+            self.device.consume(end);
+            if is_whole {
+                return Ok(!line.is_empty());
+            }
         }
     }
 }

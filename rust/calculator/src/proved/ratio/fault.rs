@@ -3,8 +3,7 @@
 
 use bakhsney::memory::{AllocError, String};
 use crate::proved::ratio::writing::write;
-
-use std::io::Write;
+use crate::proved::ratio_lines::counted::CalcWrite;
 
 /// Why the program stops before its end.
 pub enum Fault {
@@ -33,7 +32,7 @@ impl From<AllocError> for Fault {
 
 /// Writes the message of a fault, as on standard error.
 #[inline]
-pub fn report<W: Write>(errors: &mut W, fault: &Fault) -> Result<(), Fault> {
+pub fn report<W: CalcWrite>(errors: &mut W, fault: &Fault) -> Result<(), Fault> {
     let (text, name, more) = message(fault);
     write(errors, text.as_bytes())?;
     write(errors, name.as_bytes())?;

@@ -3,7 +3,7 @@
 //! each read, and the traits `CalcRead` and `CalcWrite`.
 
 use std::io;
-use std::io::{Read, Write};
+use std::io::{ErrorKind, Read, Write};
 
 /// What the calls of a reader or a writer did so far. The fields are unbounded numbers and lists. They
 /// exist only in contracts and proofs, and take no memory. Only its own functions change them.
@@ -29,6 +29,12 @@ impl Calls {
     /// A call failed.
     #[inline]
     pub fn note_failed(&mut self) {
+        self.note(&[])
+    }
+
+    /// A write was interrupted, and may be tried again.
+    #[inline]
+    pub fn note_interrupted(&mut self) {
         self.note(&[])
     }
 
@@ -72,6 +78,9 @@ pub trait CalcWrite: Write {
     /// Writes as `write` does. A call has failed if it returns
     /// `Err`, or takes no byte though there are some.
     fn write_counted(&mut self, buf: &[u8]) -> io::Result<usize>;
+
+    /// Writes as `write_counted` does, but a call that was interrupted has not failed.
+    fn write_tried(&mut self, buf: &[u8]) -> io::Result<usize>;
 
     /// What the calls did so far, for contracts alone.
     fn calls(&self) -> &Calls;
@@ -162,6 +171,28 @@ impl<D: Write> CalcWrite for Counted<D> {
             }
             Err(e) => {
                 self.writes.note_failed();
+                Err(e)
+            }
+        }
+    }
+
+    #[inline]
+    fn write_tried(&mut self, buf: &[u8]) -> io::Result<usize> {
+        match self.device.write(buf) {
+            Ok(0) if !buf.is_empty() => {
+                self.writes.note_failed();
+                Ok(0)
+            }
+            Ok(n) => {
+                self.writes.note_moved(&buf[..n]);
+                Ok(n)
+            }
+            Err(e) => {
+                if e.kind() == ErrorKind::Interrupted {
+                    self.writes.note_interrupted();
+                } else {
+                    self.writes.note_failed();
+                }
                 Err(e)
             }
         }

@@ -4,6 +4,7 @@ use Rattle.std.proofs.KnownBytes.{Appends-trans}
 use Rattle.std.specs.Io.KnownBytes.{Consumes, IsAtEnd}
 use Rattle.ratio_expressions.specs.Worths.{Worth}
 use Rattle.ratio_expressions.specs.declared.replies.form.Form.{Form}
+use Rattle.ratio_lines.specs.declared.counted.Calls.{Calls}
 use Rattle.ratio.specs.Answers.{AnswersInput, AnswersLine, AreAnswered, AreAnsweredBefore, IsUnnamed, and_line, end_of, no_line, prompt_of, with_end}
 use Rattle.ratio.specs.Devices.{GivesLine, Takes, TakesFront, WritesAll}
 use Rattle.ratio.specs.Lines.{input_lines}
@@ -112,8 +113,8 @@ module _ (form : Form) (t : Bool) (input : List ℕ) where
       split_behind = so_far.split ∙ ap (λ l. so_far.lines ++ l) read.2 ∙ sym (append_assoc so_far.lines (line ∷ []) (input_lines read.0))
 
       -- the line is answered
-      pub one_more : (accepted : Bool) → AnswersLine line form t named behind (changing new last) (Ok accepted) → SoFar form t input next old last behind (all && accepted) (count + 1)
-      one_more accepted h = record {
+      pub one_more : (accepted : Bool) (writes writes' : Calls) → AnswersLine line form t named behind (changing new last) writes writes' (Ok accepted) → SoFar form t input next old last behind (all && accepted) (count + 1)
+      one_more accepted writes writes' h = record {
         lines = so_far.lines ++ line ∷ [];
         rest = read.0;
         written = so_far.written ++ (h.0 ++ prompt_of t);
@@ -125,8 +126,8 @@ module _ (form : Form) (t : Bool) (input : List ℕ) where
       }
 
       -- the line is not answered, or not whole
-      pub line_stops : (fault : Fault) → AnswersLine line form t named behind (changing new last) (Err fault) → AnswersInput form t input next (changing old last) (Err fault)
-      line_stops faults.Write h =
+      pub line_stops : (fault : Fault) (writes writes' : Calls) → AnswersLine line form t named behind (changing new last) writes writes' (Err fault) → AnswersInput form t input next (changing old last) (Err fault)
+      line_stops faults.Write writes writes' h =
           let written = so_far.written ++ (h.0 ++ prompt_of t) in (
             input_lines read.0,
             written,
@@ -139,15 +140,15 @@ module _ (form : Form) (t : Bool) (input : List ℕ) where
             },
             front_of_end t (input_lines read.0) old last written (front_after old new last so_far.written (h.0 ++ prompt_of t) written refl so_far.takes h.3),
           )
-      line_stops faults.Memory h = (
+      line_stops faults.Memory writes writes' h = (
         input_lines so_far.rest,
         so_far.written,
         all,
         answered_before (input_lines so_far.rest) refl,
         subst (λ o. Takes (changing old o) so_far.written) (sym h) so_far.takes,
       )
-      line_stops faults.Arguments h = absurd h
-      line_stops (faults.UnknownOption name) h = absurd h
-      line_stops faults.NoPlaces h = absurd h
-      line_stops faults.Read h = absurd h
-      line_stops faults.Endless h = absurd h
+      line_stops faults.Arguments writes writes' h = absurd h
+      line_stops (faults.UnknownOption name) writes writes' h = absurd h
+      line_stops faults.NoPlaces writes writes' h = absurd h
+      line_stops faults.Read writes writes' h = absurd h
+      line_stops faults.Endless writes writes' h = absurd h

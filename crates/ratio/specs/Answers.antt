@@ -7,6 +7,7 @@ use Rattle.ratio_expressions.specs.Replies.{IsReply}
 use Rattle.ratio_expressions.specs.declared.replies.form.Form.{Form}
 use Rattle.ratio_expressions.specs.declared.replies.reply.Reply.{Reply}
 use Rattle.ratio_expressions.specs.declared.replies.reply.Reply.TheVariants as replies
+use Rattle.ratio_lines.specs.declared.counted.Calls.{Calls}
 use Rattle.ratio.specs.Devices.{DeviceChange, Stays, Takes, TakesFront, WritesToOne}
 use Rattle.ratio.specs.Lines.{input_lines, without_end}
 use Rattle.ratio.specs.declared.fault.Fault.{Fault}
@@ -103,11 +104,13 @@ AnswersInput form on_terminal input left output (Err fault) = ⊥
 abbrev pub AnswersLines : Form → Bool → DeviceChange → DeviceChange → Result Bool Fault → Type 0
 AnswersLines form on_terminal input output result = IfSome input.old (λ bytes. AnswersInput form on_terminal bytes input.new output result)
 
--- Inner: the reply to a line is written, and the prompt behind it. At `Write` the writer took a front, and at `Memory` nothing
-abbrev pub AnswersLine : List ℕ → Form → Bool → (List ℕ → Option Worth) → (List ℕ → Option Worth) → DeviceChange → Result Bool Fault → Type 0
-AnswersLine line form on_terminal named behind output (Ok accepted) =
+-- Inner: the reply to a line is written, and the prompt behind it, as the calls say, too. At `Write` the writer took a front, and at `Memory`
+-- nothing
+abbrev pub AnswersLine : List ℕ → Form → Bool → (List ℕ → Option Worth) → (List ℕ → Option Worth) → DeviceChange → Calls → Calls → Result Bool Fault → Type 0
+AnswersLine line form on_terminal named behind output old new (Ok accepted) =
     (bytes : List ℕ) × IsAnswered (without_end line) form named behind bytes accepted × Takes output (bytes ++ prompt_of on_terminal)
-AnswersLine line form on_terminal named behind output (Err faults.Write) =
+    × (new.moved ≡ old.moved ++ (bytes ++ prompt_of on_terminal))
+AnswersLine line form on_terminal named behind output old new (Err faults.Write) =
     (bytes : List ℕ) × (accepted : Bool) × IsAnswered (without_end line) form named behind bytes accepted × TakesFront output (bytes ++ prompt_of on_terminal)
-AnswersLine line form on_terminal named behind output (Err faults.Memory) = Stays output
-AnswersLine line form on_terminal named behind output (Err fault) = ⊥
+AnswersLine line form on_terminal named behind output old new (Err faults.Memory) = Stays output
+AnswersLine line form on_terminal named behind output old new (Err fault) = ⊥

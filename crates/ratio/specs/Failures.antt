@@ -1,4 +1,5 @@
--- Which calls of a reader or a writer failed, and whether the writer was flushed. The *calls* are the `Calls` of `ratio_lines`: a call that was interrupted is tried again, and has not failed.
+-- Which calls of a reader or a writer failed, and whether the writer was flushed. The *calls* are the `Calls` of `ratio_lines`: a call that was
+-- interrupted is tried again, and has not failed.
 use Rattle.std.specs.Prelude.{◌≡◌, ◌⊎◌, ℕ, ◌+◌, ◌≤◌, ◌^◌, Bool, true, false, length, Result, Ok, Err, MatchBool, if◌then◌else◌}
 use Rattle.ratio_lines.specs.declared.counted.Calls.{Calls}
 use Rattle.ratio.specs.declared.fault.Fault.{Fault}

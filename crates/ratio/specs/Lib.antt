@@ -4,6 +4,7 @@ pub mod Failures
 pub mod Faults
 pub mod Lines
 pub mod Options
+pub mod Order
 pub mod Requests
 pub mod Runs
 pub mod Status

@@ -5,6 +5,7 @@ ghost use Rattle.ratio.specs.Answers.{AnswersExpression, AnswersLine, AnswersLin
 ghost use Rattle.ratio.specs.Devices.{device_change};
 ghost use Rattle.ratio.specs.Failures.{FailsAtWrite, IsFlushed, OneFailsAtWrite, failed_reads};
 ghost use Rattle.ratio.specs.Lines.{without_end};
+ghost use Rattle.ratio.specs.Order.{AnswersLinesFirst};
 
 use crate::console::LineRead;
 use crate::fault::Fault;
@@ -22,7 +23,8 @@ pub fn answer_expression<W: CalcWrite, E: CalcWrite>(
     output: &mut W,
     errors: &mut E,
 ) -> Result<bool, Fault>
-    ensures answered { AnswersExpression text.now form (device_change W.contents output.old output.new) (device_change E.contents errors.old errors.new) result }
+    ensures answered { AnswersExpression text.now form (device_change W.contents output.old output.new)
+        (device_change E.contents errors.old errors.new) result }
     ensures failed { OneFailsAtWrite (W.calls output.old) (W.calls output.new) (E.calls errors.old) (E.calls errors.new) result }
     ensures flushed { OnOk result (IsFlushed (W.calls output.old) (W.calls output.new) × IsFlushed (E.calls errors.old) (E.calls errors.new)) }
 {
@@ -38,15 +40,18 @@ pub fn answer_expression<W: CalcWrite, E: CalcWrite>(
 
 /// Answers each line of an input before it reads the next one, and says whether each has a value. A refusal is in the place of an answer.
 /// On a terminal there is a prompt before each line.
-pub fn answer_lines<R: LineRead, W: CalcWrite>(
+pub fn answer_lines<R: LineRead<W>, W: CalcWrite>(
     alloc: Global,
     form: Form,
     on_terminal: bool,
     input: &mut R,
     output: &mut W,
 ) -> Result<bool, Fault>
-    ensures answered { AnswersLines form on_terminal (device_change R.remaining input.old input.new) (device_change W.contents output.old output.new) result }
+    ensures answered { AnswersLines form on_terminal (device_change R.remaining input.old input.new)
+        (device_change W.contents output.old output.new) result }
     ensures failed { FailsAtWrite (W.calls output.old) (W.calls output.new) result }
+    ensures answered_first { AnswersLinesFirst form on_terminal (R.calls input.old).moved (W.calls output.old).moved
+        (R.moments input.old) (R.moments input.new) }
     ensures reader_failed { (R.calls input.new).failures ≡ (R.calls input.old).failures + failed_reads result }
     ensures flushed { OnOk result ((W.calls output.new).mark ≡ length (W.calls output.new).moved) }
 {
@@ -55,7 +60,7 @@ pub fn answer_lines<R: LineRead, W: CalcWrite>(
     let mut all = true;
     write(output, prompt(on_terminal))?;
     for _turn in 0..u64::MAX {
-        if !input.read_line(&mut line)? {
+        if !input.read_line(&mut line, &*output)? {
             write(output, end(on_terminal))?;
             return Ok(all);
         }
@@ -73,7 +78,8 @@ fn answer_line<W: CalcWrite>(
     names: &mut Names,
     output: &mut W,
 ) -> Result<bool, Fault>
-    ensures answered { AnswersLine line.now form on_terminal (named names.old) (named names.new) (device_change W.contents output.old output.new) result }
+    ensures answered { AnswersLine line.now form on_terminal (named names.old) (named names.new)
+        (device_change W.contents output.old output.new) (W.calls output.old) (W.calls output.new) result }
     ensures failed { FailsAtWrite (W.calls output.old) (W.calls output.new) result }
     ensures flushed { OnOk result ((W.calls output.new).mark ≡ length (W.calls output.new).moved) }
 {

@@ -3,7 +3,7 @@
 ghost use Rattle.std.specs.Prelude.{◌≡◌, ℕ, List, Option};
 
 use crate::fault::Fault;
-use ratio_lines::counted::Calls;
+use ratio_lines::counted::{CalcWrite, Calls, Moments};
 use std::env;
 use std::io::{BufRead, BufReader, IsTerminal, Stdin};
 
@@ -36,10 +36,13 @@ pub fn input(rt: &HostRuntime) -> Result<Lines<BufReader<Stdin>>, Fault> {
     }
 }
 
-/// A reader of lines whose calls are followed.
-pub trait LineRead {
+/// A reader of lines whose calls are followed, beside those of the writer of their answers.
+pub trait LineRead<W: CalcWrite> {
     ghost use Rattle.ratio.specs.Devices.{GivesLine, after_line, device_change};
+    ghost use Rattle.ratio_lines.specs.Devices.{after_moment};
     ghost use Rattle.ratio_lines.specs.declared.counted.Calls.{Calls};
+    ghost use Rattle.ratio_lines.specs.declared.counted.Moments.{Moments};
+    ghost use Rattle.std.specs.Io.{StopsAt};
 
     /// The bytes that it has left, if they are known.
     ghost remaining: { Self → Option (List ℕ) };
@@ -47,10 +50,15 @@ pub trait LineRead {
     /// What the calls did so far.
     ghost calls: { Self → Calls };
 
+    /// What the reader had given and the writer had taken before each read.
+    ghost moments: { Self → Moments };
+
     /// Reads the next line, with its line end if it has one, and says whether there is one. A call that returns `Err` has failed.
-    fn read_line(&mut self, line: &mut Vec<u8>) -> Result<bool, Fault>
+    fn read_line(&mut self, line: &mut Vec<u8>, writer: &W) -> Result<bool, Fault>
+        ensures stops { StopsAt line.new.items 10 }
         ensures line { GivesLine (device_change remaining self.old self.new) line.new.items result }
-        ensures calls { calls self.new ≡ after_line (calls self.old) line.new.items result };
+        ensures calls { calls self.new ≡ after_line (calls self.old) line.new.items result }
+        ensures moments { moments self.new ≡ after_moment (moments self.old) (calls self.old) (W.calls writer.now) };
 }
 
 /// A reader whose lines are read by followed calls.
@@ -58,24 +66,33 @@ pub trait LineRead {
 pub struct Lines<D> {
     device: D,
     calls: Calls,
+    moments: Moments,
 }
 
 impl<D> Lines<D> {
+    ghost use Rattle.ratio_lines.specs.Devices.{no_calls, no_moments};
+
     /// The reader. No line has been read.
-    pub fn new(device: D) -> Lines<D> {
+    pub fn new(device: D) -> Lines<D>
+        ensures { result ≡ record { device = device; calls = no_calls; moments = no_moments } }
+    {
         Lines {
             device,
             calls: Calls::none(),
+            moments: Moments::none(),
         }
     }
 }
 
-impl<D: BufRead> LineRead for Lines<D> {
+impl<D: BufRead, W: CalcWrite> LineRead<W> for Lines<D> {
     ghost remaining = { λ l. D.remaining l.device };
 
     ghost calls = { λ l. l.calls };
 
-    fn read_line(&mut self, line: &mut Vec<u8>) -> Result<bool, Fault> {
+    ghost moments = { λ l. l.moments };
+
+    fn read_line(&mut self, line: &mut Vec<u8>, writer: &W) -> Result<bool, Fault> {
+        self.moments.note(&self.calls, writer.calls());
         line.clear();
         match self.device.read_until(b'\n', line) {
             Ok(0) => {

@@ -24,6 +24,7 @@ ghost use Rattle.std.specs.Prelude.{◌≡◌, ◌+◌, OnOk, length, map, strin
 ghost use Rattle.std.specs.Process.{exit_status};
 ghost use Rattle.ratio.specs.Devices.{device_change};
 ghost use Rattle.ratio.specs.Failures.{FailsAtWrite, IsFlushed, OneFailsAtWrite, failed_reads};
+ghost use Rattle.ratio.specs.Order.{AnswersLinesFirst};
 ghost use Rattle.ratio.specs.Runs.{WritesText, Runs, Serves, form_of_lines};
 ghost use Rattle.ratio.specs.Status.{status};
 
@@ -61,7 +62,7 @@ fn run_here(rt: &HostRuntime) -> Result<bool, Fault> {
 }
 
 // Does what the arguments ask for, and says whether each line has a value.
-fn run<R: LineRead, W: CalcWrite, E: CalcWrite>(
+fn run<R: LineRead<W>, W: CalcWrite, E: CalcWrite>(
     alloc: Global,
     words: &[String],
     on_terminal: bool,
@@ -72,6 +73,8 @@ fn run<R: LineRead, W: CalcWrite, E: CalcWrite>(
     ensures ran { Runs (map string_bytes words.now) on_terminal (device_change R.remaining input.old input.new)
         (device_change W.contents output.old output.new) (device_change E.contents errors.old errors.new) result }
     ensures failed { OneFailsAtWrite (W.calls output.old) (W.calls output.new) (E.calls errors.old) (E.calls errors.new) result }
+    ensures answered_first { (form : Form) × AnswersLinesFirst form on_terminal (R.calls input.old).moved (W.calls output.old).moved
+        (R.moments input.old) (R.moments input.new) }
     ensures reader_failed { (R.calls input.new).failures ≡ (R.calls input.old).failures + failed_reads result }
     ensures flushed { OnOk result (IsFlushed (W.calls output.old) (W.calls output.new) × IsFlushed (E.calls errors.old) (E.calls errors.new)) }
 {
@@ -80,7 +83,7 @@ fn run<R: LineRead, W: CalcWrite, E: CalcWrite>(
 }
 
 // Does what a request says.
-fn serve<R: LineRead, W: CalcWrite, E: CalcWrite>(
+fn serve<R: LineRead<W>, W: CalcWrite, E: CalcWrite>(
     alloc: Global,
     request: Request,
     on_terminal: bool,
@@ -91,6 +94,8 @@ fn serve<R: LineRead, W: CalcWrite, E: CalcWrite>(
     ensures served { Serves request on_terminal (device_change R.remaining input.old input.new)
         (device_change W.contents output.old output.new) (device_change E.contents errors.old errors.new) result }
     ensures failed { OneFailsAtWrite (W.calls output.old) (W.calls output.new) (E.calls errors.old) (E.calls errors.new) result }
+    ensures answered_first { (form : Form) × AnswersLinesFirst form on_terminal (R.calls input.old).moved (W.calls output.old).moved
+        (R.moments input.old) (R.moments input.new) }
     ensures reader_failed { (R.calls input.new).failures ≡ (R.calls input.old).failures + failed_reads result }
     ensures flushed { OnOk result (IsFlushed (W.calls output.old) (W.calls output.new) × IsFlushed (E.calls errors.old) (E.calls errors.new)) }
 {

@@ -1,5 +1,5 @@
 //! Bytes for an output, written whole.
-ghost use Rattle.std.specs.Prelude.{◌≡◌, [], OnOk, length};
+ghost use Rattle.std.specs.Prelude.{◌≡◌, ◌++◌, [], OnOk, length};
 ghost use Rattle.ratio.specs.Devices.{WritesAll, device_change};
 ghost use Rattle.ratio.specs.Failures.{FailsAtWrite};
 
@@ -11,6 +11,7 @@ use std::io::ErrorKind;
 pub fn write<W: CalcWrite>(writer: &mut W, bytes: &[u8]) -> Result<(), Fault>
     ensures written { WritesAll (device_change W.contents writer.old writer.new) bytes.now result }
     ensures failed { FailsAtWrite (W.calls writer.old) (W.calls writer.new) result }
+    ensures moved { OnOk result ((W.calls writer.new).moved ≡ (W.calls writer.old).moved ++ bytes.now) }
     ensures flushed { OnOk result ((W.calls writer.new).mark ≡ length (W.calls writer.new).moved) }
 {
     let mut at = 0;
@@ -35,6 +36,7 @@ pub fn write<W: CalcWrite>(writer: &mut W, bytes: &[u8]) -> Result<(), Fault>
 fn flush<W: CalcWrite>(writer: &mut W) -> Result<(), Fault>
     ensures written { WritesAll (device_change W.contents writer.old writer.new) [] result }
     ensures failed { FailsAtWrite (W.calls writer.old) (W.calls writer.new) result }
+    ensures moved { OnOk result ((W.calls writer.new).moved ≡ (W.calls writer.old).moved) }
     ensures flushed { OnOk result ((W.calls writer.new).mark ≡ length (W.calls writer.new).moved) }
 {
     match writer.flush_counted() {

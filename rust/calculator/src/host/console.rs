@@ -1,6 +1,7 @@
 //! What the program `ratio` gets from its host.
 use super::stdin;
 use crate::proved::ratio::fault::Fault;
+use crate::proved::ratio_lines::counted::CalcWrite;
 use bakhsney::memory::{Global, String, Vec};
 use memchr::memchr;
 use std::env;
@@ -36,10 +37,10 @@ pub fn input() -> Result<Lines<StdinLock<'static>>, Fault> {
     Ok(Lines { device: stdin() })
 }
 
-/// A reader of lines.
-pub trait LineRead {
+/// A reader of lines, beside the writer of their answers.
+pub trait LineRead<W: CalcWrite> {
     /// Reads the next line, with its line end if it has one, and says whether there is one.
-    fn read_line(&mut self, line: &mut Vec<u8>) -> Result<bool, Fault>;
+    fn read_line(&mut self, line: &mut Vec<u8>, writer: &W) -> Result<bool, Fault>;
 }
 
 /// A reader whose lines are read.
@@ -47,8 +48,8 @@ pub struct Lines<D> {
     device: D,
 }
 
-impl<D: BufRead> LineRead for Lines<D> {
-    fn read_line(&mut self, line: &mut Vec<u8>) -> Result<bool, Fault> {
+impl<D: BufRead, W: CalcWrite> LineRead<W> for Lines<D> {
+    fn read_line(&mut self, line: &mut Vec<u8>, _writer: &W) -> Result<bool, Fault> {
         line.clear();
         loop {
             let piece = match self.device.fill_buf() {

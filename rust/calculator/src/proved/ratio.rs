@@ -48,7 +48,7 @@ fn run_here() -> Result<bool, Fault> {
 
 // Does what the arguments ask for, and says whether each line has a value.
 #[inline]
-fn run<R: LineRead, W: CalcWrite, E: CalcWrite>(
+fn run<R: LineRead<W>, W: CalcWrite, E: CalcWrite>(
     alloc: Global,
     words: &[String],
     on_terminal: bool,
@@ -62,7 +62,7 @@ fn run<R: LineRead, W: CalcWrite, E: CalcWrite>(
 
 // Does what a request says.
 #[inline]
-fn serve<R: LineRead, W: CalcWrite, E: CalcWrite>(
+fn serve<R: LineRead<W>, W: CalcWrite, E: CalcWrite>(
     alloc: Global,
     request: Request,
     on_terminal: bool,

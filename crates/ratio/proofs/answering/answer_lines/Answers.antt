@@ -1,4 +1,4 @@
-use Rattle.std.proofs.Common.{◌≡◌, ◌∙◌, ap, ℕ, Bool, List, true, false, Ok, Err, refl, subst, rules}
+use Rattle.std.proofs.Common.{◌≡◌, ◌∙◌, ◌++◌, ap, ℕ, Bool, List, true, false, Ok, Err, refl, subst, rules}
 use Rattle.std.proofs.lemmas.Option.{IfSome_then}
 use Rattle.ratio_expressions.specs.Bound.{named}
 use Rattle.ratio.specs.Answers.{AnswersInput, AnswersLine, end_of, prompt_of}
@@ -9,6 +9,7 @@ use Rattle.ratio.specs.declared.fault.Fault.TheVariants as faults
 use Rattle.ratio.proofs.AnswerLemmas.{line_stops, no_end, no_prompt, none_read, not_read, one_more, read_all, too_many, when_some}
 use Rattle.ratio.proofs.DeviceLemmas.{handed_on}
 use Rattle.ratio.proofs.FailureLemmas.{fails_on, none_after, none_at_fault, stops_after}
+use Rattle.ratio.proofs.OrderLemmas.{no_read, one_more_read, one_more_turn, turns_begin}
 use Rattle.ratio.proofs.answering.answer_lines.Goals as goal
 
 pub returns-in_err-write-clause-answered : goal.returns-in_err-write-clause-answered
@@ -29,6 +30,8 @@ loop-turn-init g c =
       answered = when_some _ (λ input is. none_read c.args.form c.args.on_terminal input _ _ _ (named c.new-names.result) is c.new-names.ensures takes);
       none = c.in_ok-write.ensures.failed;
       reads = refl;
+      turns = turns_begin _ _ _ _ _ _ _ (named c.new-names.result) refl (subst (λ (l : List ℕ). (g.W.CalcWrite.calls c.write.new.writer).moved ≡ (g.W.CalcWrite.calls c.args.output.now).moved ++ l) c.prompt.ensures c.in_ok-write.ensures.moved)
+          c.in_ok-write.ensures.flushed c.new-names.ensures;
     }
 
 pub returns-in_err-read_line-clause-answered : goal.returns-in_err-read_line-clause-answered
@@ -71,6 +74,8 @@ returns-then-not-branch-clause-answered g c =
 
 pub returns-in_err-all-clause-answered : goal.returns-in_err-all-clause-answered
 returns-in_err-all-clause-answered g c =
+    let writes = g.W.CalcWrite.calls c.loop-turn.output in
+    let writes' = g.W.CalcWrite.calls c.answer_line.new.output in
     let form = c.args.form in
     let t = c.args.on_terminal in
     let output = device_change g.W.Write.contents c.args.output.now c.answer_line.new.output in
@@ -83,13 +88,15 @@ returns-in_err-all-clause-answered g c =
     let behind = named c.answer_line.new.names in
     let one : c.in_ok-read_line.field-0 ≡ true = search rules in
     let given : GivesLine input_change line (Ok true) = subst (λ (b : Bool). GivesLine input_change line (Ok b)) one c.in_ok-read_line.ensures.line in
-    let stopped = subst (λ (l : List ℕ). AnswersLine l form t names behind more (Err fault)) c.deref.ensures.value c.in_err-all.ensures.answered in
+    let stopped = subst (λ (l : List ℕ). AnswersLine l form t names behind more writes writes' (Err fault)) c.deref.ensures.value c.in_err-all.ensures.answered in
     IfSome_then (g.R.LineRead.remaining c.args.input.now) c.loop-turn.invariant.answered (λ input so_far.
     handed_on c.from_residual-in_err-all.result (AnswersInput form t input next output) fault c.from_residual-in_err-all.ensures.1
-    (line_stops form t input _ next _ _ names c.loop-turn.all _ so_far line _ given behind fault stopped))
+    (line_stops form t input _ next _ _ names c.loop-turn.all _ so_far line _ given behind fault writes writes' stopped))
 
 pub loop-turn-preserved : goal.loop-turn-preserved
 loop-turn-preserved g c =
+    let writes = g.W.CalcWrite.calls c.loop-turn.output in
+    let writes' = g.W.CalcWrite.calls c.answer_line.new.output in
     let form = c.args.form in
     let t = c.args.on_terminal in
     let more = device_change g.W.Write.contents c.loop-turn.output c.answer_line.new.output in
@@ -100,12 +107,14 @@ loop-turn-preserved g c =
     let one : c.in_ok-read_line.field-0 ≡ true = search rules in
     let given : GivesLine input_change line (Ok true) = subst (λ (b : Bool). GivesLine input_change line (Ok b)) one c.in_ok-read_line.ensures.line in
     let accepted = c.in_ok-all.field-0 in
-    let takes = subst (λ (l : List ℕ). AnswersLine l form t names behind more (Ok accepted)) c.deref.ensures.value c.in_ok-all.ensures.answered in
+    let moved = subst (λ (b : Bool). g.R.LineRead.calls c.read_line.new.self ≡ after_line (g.R.LineRead.calls c.loop-turn.input) line (Ok b)) one c.in_ok-read_line.ensures.calls in
+    let takes = subst (λ (l : List ℕ). AnswersLine l form t names behind more writes writes' (Ok accepted)) c.deref.ensures.value c.in_ok-all.ensures.answered in
     record {
       answered = IfSome_then (g.R.LineRead.remaining c.args.input.now) c.loop-turn.invariant.answered (λ input so_far.
-          one_more form t input _ _ _ _ names c.loop-turn.all _ so_far line _ given behind accepted takes);
+          one_more form t input _ _ _ _ names c.loop-turn.all _ so_far line _ given behind accepted writes writes' takes);
       none = none_after _ _ _ c.loop-turn.invariant.none c.in_ok-all.ensures.failed;
-      reads = ap (λ (calls : Calls). calls.failures) (subst (λ (b : Bool). g.R.LineRead.calls c.read_line.new.self ≡ after_line (g.R.LineRead.calls c.loop-turn.input) line (Ok b)) one c.in_ok-read_line.ensures.calls) ∙ c.loop-turn.invariant.reads;
+      reads = ap (λ (calls : Calls). calls.failures) moved ∙ c.loop-turn.invariant.reads;
+      turns = one_more_turn _ _ _ _ _ _ _ _ _ names c.loop-turn.all c.loop-turn.invariant.turns c.in_ok-read_line.ensures.moments _ writes' line behind accepted more moved c.in_ok-read_line.ensures.stops takes c.in_ok-all.ensures.flushed;
     }
 
 pub returns-clause-answered : goal.returns-clause-answered
@@ -135,3 +144,21 @@ returns-in_err-all-clause-failed g c =
 
 pub returns-clause-failed : goal.returns-clause-failed
 returns-clause-failed g c = c.loop-turn.invariant.none
+
+pub returns-in_err-write-clause-answered_first : goal.returns-in_err-write-clause-answered_first
+returns-in_err-write-clause-answered_first g c = no_read _ _ _ _ _
+
+pub returns-in_err-read_line-clause-answered_first : goal.returns-in_err-read_line-clause-answered_first
+returns-in_err-read_line-clause-answered_first g c = one_more_read _ _ _ _ _ _ _ _ _ (named c.loop-turn.names) c.loop-turn.all c.loop-turn.invariant.turns c.in_err-read_line.ensures.moments
+
+pub returns-in_err-write-2-clause-answered_first : goal.returns-in_err-write-2-clause-answered_first
+returns-in_err-write-2-clause-answered_first g c = one_more_read _ _ _ _ _ _ _ _ _ (named c.loop-turn.names) c.loop-turn.all c.loop-turn.invariant.turns c.in_ok-read_line.ensures.moments
+
+pub returns-then-not-branch-clause-answered_first : goal.returns-then-not-branch-clause-answered_first
+returns-then-not-branch-clause-answered_first g c = one_more_read _ _ _ _ _ _ _ _ _ (named c.loop-turn.names) c.loop-turn.all c.loop-turn.invariant.turns c.in_ok-read_line.ensures.moments
+
+pub returns-in_err-all-clause-answered_first : goal.returns-in_err-all-clause-answered_first
+returns-in_err-all-clause-answered_first g c = one_more_read _ _ _ _ _ _ _ _ _ (named c.loop-turn.names) c.loop-turn.all c.loop-turn.invariant.turns c.in_ok-read_line.ensures.moments
+
+pub returns-clause-answered_first : goal.returns-clause-answered_first
+returns-clause-answered_first g c = c.loop-turn.invariant.turns.first

@@ -3,7 +3,7 @@ use Rattle.std.proofs.KnownBytes.{Appends-kept}
 use Rattle.std.proofs.lemmas.List.{append-nil}
 use Rattle.ratio.proofs.DeviceLemmas.{takes_more, takes_some, writes_after}
 use Rattle.ratio_lines.specs.declared.counted.Calls.{Calls}
-use Rattle.ratio.proofs.FailureLemmas.{failed_by_none, fails_after, none_after, none_by_interrupt, none_by_some, one_after}
+use Rattle.ratio.proofs.FailureLemmas.{failed_by_none, fails_after, moved_more, moved_some, moved_whole, none_after, none_by_interrupt, none_by_some, one_after}
 use Rattle.ratio.proofs.writing.write.Goals as goal
 use Rattle.ratio.proofs.writing.write.Goals.{in-Ok, in-Err+else-ne}
 
@@ -28,6 +28,7 @@ loop-turn-preserved g c = elim c.match-write_tried.branch [
       record {
         within = rw w.at-is (omega (arith, few));
         takes = rw w.at-is (takes_more _ _ _ c.args.bytes.now c.loop-turn.at w.in-Ok.n c.loop-turn.invariant.within few c.loop-turn.invariant.takes w.in-Ok.ensures.bytes);
+        moved = rw w.at-is (moved_more _ _ _ c.args.bytes.now c.loop-turn.at w.in-Ok.n few c.loop-turn.invariant.moved (moved_some _ _ w.in-Ok.n _ _ w.in-Ok.n-test.1 w.in-Ok.ensures.calls));
         none = none_after _ _ _ c.loop-turn.invariant.none (none_by_some _ _ w.in-Ok.n _ _ w.in-Ok.n-test.1 w.in-Ok.ensures.calls);
         turns = let so_far = c.loop-turn.invariant.turns in
             let more = (none_by_some _ _ w.in-Ok.n _ _ w.in-Ok.n-test.1 w.in-Ok.ensures.calls).interrupts in
@@ -36,6 +37,7 @@ loop-turn-preserved g c = elim c.match-write_tried.branch [
   | in-Err+else-ne w ↦ record {
     within = rw w.at-is c.loop-turn.invariant.within;
     takes = rw w.at-is (Appends-kept _ _ _ _ c.loop-turn.invariant.takes w.in-Err.ensures.bytes);
+    moved = rw w.at-is (ap (λ (calls : Calls). calls.moved) (w.in-Err.ensures.calls.0 (search rules)) ∙ c.loop-turn.invariant.moved);
     none = none_after _ _ _ c.loop-turn.invariant.none (none_by_interrupt _ _ (w.in-Err.ensures.calls.0 (search rules)));
     turns = let so_far = c.loop-turn.invariant.turns in
         let more = ap (λ (calls : Calls). calls.interrupts) (w.in-Err.ensures.calls.0 (search rules)) in rw w.at-is (omega (arith, so_far, more));
@@ -44,6 +46,11 @@ loop-turn-preserved g c = elim c.match-write_tried.branch [
 
 pub returns-clause-written : goal.returns-clause-written
 returns-clause-written g c = (refl, takes_some _ c.loop-turn.at c.args.bytes.now c.loop-turn.invariant.takes)
+
+pub returns-then-at-bytes-clause-moved : goal.returns-then-at-bytes-clause-moved
+returns-then-at-bytes-clause-moved g c =
+    let all = take_all c.loop-turn.at c.args.bytes.now c.if-at-bytes.true in
+    moved_whole _ _ _ c.args.bytes.now c.flush.result (c.loop-turn.invariant.moved ∙ ap (λ l. (g.W.CalcWrite.calls c.args.writer.now).moved ++ l) all) c.flush.ensures.moved
 
 pub returns-then-at-bytes-clause-failed : goal.returns-then-at-bytes-clause-failed
 returns-then-at-bytes-clause-failed g c = fails_after _ _ _ c.flush.result c.loop-turn.invariant.none c.flush.ensures.failed

@@ -31,7 +31,7 @@ pub fn answer_expression<W: CalcWrite, E: CalcWrite>(
 /// Answers each line of an input before it reads the next one, and says whether each has a value. A refusal is in the place of an answer.
 /// On a terminal there is a prompt before each line.
 #[inline]
-pub fn answer_lines<R: LineRead, W: CalcWrite>(
+pub fn answer_lines<R: LineRead<W>, W: CalcWrite>(
     alloc: Global,
     form: Form,
     on_terminal: bool,
@@ -43,7 +43,7 @@ pub fn answer_lines<R: LineRead, W: CalcWrite>(
     let mut all = true;
     write(output, prompt(on_terminal))?;
     for _turn in 0..u64::MAX {
-        if !input.read_line(&mut line)? {
+        if !input.read_line(&mut line, &*output)? {
             write(output, end(on_terminal))?;
             return Ok(all);
         }

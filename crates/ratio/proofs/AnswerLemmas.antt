@@ -1,10 +1,10 @@
 -- What was read and written so far, line by line.
-use Rattle.std.proofs.Common.{◌≡◌, ◌≢◌, ◌∙◌, ◌++◌, ◌∷◌, ◌&&◌, [], ℕ, Bool, true, false, List, Option, None, Some, IfSome, Ok, Err, refl, sym, ap, subst, append_assoc}
-use Rattle.std.proofs.KnownBytes.{Appends-trans, Consumes-nil}
-use Rattle.std.proofs.lemmas.List.Elements.{All-nil}
+use Rattle.std.proofs.Common.{◌≡◌, ◌≤◌, ◌+◌, ◌-◌, ◌^◌, ◌∙◌, ◌++◌, ◌∷◌, ◌&&◌, [], ℕ, Bool, true, false, List, Option, None, Some, IfSome, Ok, Err, refl, sym, ap, subst, arith, length, length-append, append_assoc}
+use Rattle.std.proofs.KnownBytes.{Appends-trans}
 use Rattle.std.specs.Io.KnownBytes.{Consumes, IsAtEnd}
 use Rattle.ratio_expressions.specs.Worths.{Worth}
 use Rattle.ratio_expressions.specs.declared.replies.form.Form.{Form}
+use Rattle.ratio_lines.specs.declared.counted.Calls.{Calls}
 use Rattle.ratio.specs.Answers.{AnswersInput, AnswersLine, AreAnswered, AreAnsweredBefore, IsUnnamed, and_line, end_of, no_line, prompt_of, with_end}
 use Rattle.ratio.specs.Devices.{GivesLine, Takes, TakesFront, WritesAll}
 use Rattle.ratio.specs.Lines.{input_lines}
@@ -17,8 +17,8 @@ pub when_some : {X : Type 0} (o : Option X) {P : X → Type 0} → ((x : X) → 
 when_some None h = tt
 when_some (Some x) h = h x refl
 
--- the lines so far have their answers, and the reader has the rest of the input left
-pub record SoFar (form : Form) (t : Bool) (input : List ℕ) (left old new : Option (List ℕ)) (named : List ℕ → Option Worth) (all : Bool) : Type 0 where
+-- the lines so far have their answers, they are at least so many, and the reader has the rest of the input left
+pub record SoFar (form : Form) (t : Bool) (input : List ℕ) (left old new : Option (List ℕ)) (named : List ℕ → Option Worth) (all : Bool) (count : ℕ) : Type 0 where
   pub lines : List (List ℕ)
   pub rest : List ℕ
   pub written : List ℕ
@@ -26,6 +26,7 @@ pub record SoFar (form : Form) (t : Bool) (input : List ℕ) (left old new : Opt
   pub split : input_lines input ≡ lines ++ input_lines rest
   pub answered : AreAnswered form t lines named written all
   pub takes : Takes (changing old new) written
+  pub counted : count ≤ length lines
 
 -- a front of what is written is one with its end
 front_of_end : (t : Bool) (last : List (List ℕ)) (a b : Option (List ℕ)) (written : List ℕ) → TakesFront (changing a b) written → TakesFront (changing a b) (with_end t last written)
@@ -35,7 +36,7 @@ front_of_end t (line ∷ last) a b written some = some
 module _ (form : Form) (t : Bool) (input : List ℕ) where
   -- no line is read yet
   pub none_read : (left old new : Option (List ℕ)) (named : List ℕ → Option Worth) → left ≡ Some input → IsUnnamed named → Takes (changing old new) (prompt_of t)
-      → SoFar form t input left old new named true
+      → SoFar form t input left old new named true 0
   none_read left old new named left_is unnamed takes = record {
     lines = [];
     rest = input;
@@ -44,6 +45,7 @@ module _ (form : Form) (t : Bool) (input : List ℕ) where
     split = refl;
     answered = no_line named unnamed;
     takes = takes;
+    counted = omega arith;
   }
 
   -- the first prompt was not written
@@ -57,8 +59,8 @@ module _ (form : Form) (t : Bool) (input : List ℕ) where
     front_of_end t (input_lines input) old new (prompt_of t) h.1,
   )
 
-  module _ (left next old new : Option (List ℕ)) (named : List ℕ → Option Worth) (all : Bool) (so_far : SoFar form t input left old new named all) where
-    answered_before : (last : List (List ℕ)) → input_lines so_far.rest ≡ last → AreAnsweredBefore form t input last so_far.written all
+  module _ (left next old new : Option (List ℕ)) (named : List ℕ → Option Worth) (all : Bool) (count : ℕ) (so_far : SoFar form t input left old new named all count) where
+    abbrev answered_before : (last : List (List ℕ)) → input_lines so_far.rest ≡ last → AreAnsweredBefore form t input last so_far.written all
     answered_before last e = record { lines = so_far.lines; behind = named; split = so_far.split ∙ ap (λ l. so_far.lines ++ l) e; answered = so_far.answered }
 
     -- the reader failed
@@ -75,16 +77,14 @@ module _ (form : Form) (t : Bool) (input : List ℕ) where
     )
 
     -- there are more lines than can be counted
-    pub too_many : AnswersInput form t input left (changing old new) (Err faults.Read)
-    too_many = (
-      so_far.rest,
-      [],
+    pub too_many : 2 ^ 64 - 1 ≤ count → AnswersInput form t input left (changing old new) (Err faults.Endless)
+    too_many many = (
+      input_lines so_far.rest,
       so_far.written,
       all,
       answered_before (input_lines so_far.rest) refl,
       so_far.takes,
-      subst (λ l. Consumes (Some so_far.rest) l []) (sym so_far.left_is) (Consumes-nil (Some so_far.rest)),
-      All-nil (λ b. b ≢ 10),
+      let so_many = so_far.counted in omega arith,
     )
 
     module _ (line : List ℕ) (last : Option (List ℕ)) (given : GivesLine (changing left next) line (Ok false)) where
@@ -113,8 +113,8 @@ module _ (form : Form) (t : Bool) (input : List ℕ) where
       split_behind = so_far.split ∙ ap (λ l. so_far.lines ++ l) read.2 ∙ sym (append_assoc so_far.lines (line ∷ []) (input_lines read.0))
 
       -- the line is answered
-      pub one_more : (accepted : Bool) → AnswersLine line form t named behind (changing new last) (Ok accepted) → SoFar form t input next old last behind (all && accepted)
-      one_more accepted h = record {
+      pub one_more : (accepted : Bool) (writes writes' : Calls) → AnswersLine line form t named behind (changing new last) writes writes' (Ok accepted) → SoFar form t input next old last behind (all && accepted) (count + 1)
+      one_more accepted writes writes' h = record {
         lines = so_far.lines ++ line ∷ [];
         rest = read.0;
         written = so_far.written ++ (h.0 ++ prompt_of t);
@@ -122,11 +122,12 @@ module _ (form : Form) (t : Bool) (input : List ℕ) where
         split = split_behind;
         answered = and_line so_far.lines line named behind so_far.written h.0 all accepted so_far.answered h.1;
         takes = Appends-trans old new last so_far.written (h.0 ++ prompt_of t) so_far.takes h.2;
+        counted = let so_many = so_far.counted in omega (arith, length-append so_far.lines (line ∷ []));
       }
 
       -- the line is not answered, or not whole
-      pub line_stops : (fault : Fault) → AnswersLine line form t named behind (changing new last) (Err fault) → AnswersInput form t input next (changing old last) (Err fault)
-      line_stops faults.Write h =
+      pub line_stops : (fault : Fault) (writes writes' : Calls) → AnswersLine line form t named behind (changing new last) writes writes' (Err fault) → AnswersInput form t input next (changing old last) (Err fault)
+      line_stops faults.Write writes writes' h =
           let written = so_far.written ++ (h.0 ++ prompt_of t) in (
             input_lines read.0,
             written,
@@ -139,14 +140,15 @@ module _ (form : Form) (t : Bool) (input : List ℕ) where
             },
             front_of_end t (input_lines read.0) old last written (front_after old new last so_far.written (h.0 ++ prompt_of t) written refl so_far.takes h.3),
           )
-      line_stops faults.Memory h = (
+      line_stops faults.Memory writes writes' h = (
         input_lines so_far.rest,
         so_far.written,
         all,
         answered_before (input_lines so_far.rest) refl,
         subst (λ o. Takes (changing old o) so_far.written) (sym h) so_far.takes,
       )
-      line_stops faults.Arguments h = absurd h
-      line_stops (faults.UnknownOption name) h = absurd h
-      line_stops faults.NoPlaces h = absurd h
-      line_stops faults.Read h = absurd h
+      line_stops faults.Arguments writes writes' h = absurd h
+      line_stops (faults.UnknownOption name) writes writes' h = absurd h
+      line_stops faults.NoPlaces writes writes' h = absurd h
+      line_stops faults.Read writes writes' h = absurd h
+      line_stops faults.Endless writes writes' h = absurd h

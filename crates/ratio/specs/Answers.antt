@@ -1,5 +1,5 @@
 -- What is written for an expression, and for the lines of an input.
-use Rattle.std.specs.Prelude.{◌≡◌, ◌++◌, ◌∷◌, ◌&&◌, [], ℕ, Bool, true, false, List, Option, Some, None, Result, Ok, Err, IfSome, codes, if◌then◌else◌}
+use Rattle.std.specs.Prelude.{◌≡◌, ◌≤◌, ◌-◌, ◌^◌, ◌++◌, ◌∷◌, ◌&&◌, [], ℕ, Bool, true, false, List, Option, Some, None, Result, Ok, Err, IfSome, codes, length, if◌then◌else◌}
 use Rattle.std.specs.Io.{StopsAt}
 use Rattle.std.specs.Io.KnownBytes.{Consumes}
 use Rattle.ratio_expressions.specs.Worths.{Worth}
@@ -7,6 +7,7 @@ use Rattle.ratio_expressions.specs.Replies.{IsReply}
 use Rattle.ratio_expressions.specs.declared.replies.form.Form.{Form}
 use Rattle.ratio_expressions.specs.declared.replies.reply.Reply.{Reply}
 use Rattle.ratio_expressions.specs.declared.replies.reply.Reply.TheVariants as replies
+use Rattle.ratio_lines.specs.declared.counted.Calls.{Calls}
 use Rattle.ratio.specs.Devices.{DeviceChange, Stays, Takes, TakesFront, WritesToOne}
 use Rattle.ratio.specs.Lines.{input_lines, without_end}
 use Rattle.ratio.specs.declared.fault.Fault.{Fault}
@@ -82,7 +83,8 @@ with_end on_terminal [] written = written ++ end_of on_terminal
 with_end on_terminal (line ∷ last) written = written
 
 -- an input is answered, of which some bytes are left. At `Ok` all its lines are. At `Read` the lines are answered that were read before,
--- and of the next one at most a part was read. At `Write` the writer took a front. At `Memory` the first lines are answered
+-- and of the next one at most a part was read. At `Write` the writer took a front. At `Memory` the first lines are answered. At `Endless`
+-- at least 2^64-1 lines are
 -- Example: `1 + 1\n2` on no terminal: `2\n2\n` and true
 abbrev pub AnswersInput : Form → Bool → List ℕ → Option (List ℕ) → DeviceChange → Result Bool Fault → Type 0
 AnswersInput form on_terminal input left output (Ok all) = (written : List ℕ) × AreAnsweredBefore form on_terminal input [] written all × Takes output (with_end on_terminal [] written)
@@ -93,17 +95,22 @@ AnswersInput form on_terminal input left output (Err faults.Write) =
     (last : List (List ℕ)) × (written : List ℕ) × (all : Bool) × AreAnsweredBefore form on_terminal input last written all × TakesFront output (with_end on_terminal last written)
 AnswersInput form on_terminal input left output (Err faults.Memory) =
     (last : List (List ℕ)) × (written : List ℕ) × (all : Bool) × AreAnsweredBefore form on_terminal input last written all × Takes output written
+AnswersInput form on_terminal input left output (Err faults.Endless) =
+    (last : List (List ℕ)) × (written : List ℕ) × (all : Bool) × (before : AreAnsweredBefore form on_terminal input last written all) × Takes output written
+    × (2 ^ 64 - 1 ≤ length before.lines)
 AnswersInput form on_terminal input left output (Err fault) = ⊥
 
 -- the lines of a reader are answered, if its bytes are known
 abbrev pub AnswersLines : Form → Bool → DeviceChange → DeviceChange → Result Bool Fault → Type 0
 AnswersLines form on_terminal input output result = IfSome input.old (λ bytes. AnswersInput form on_terminal bytes input.new output result)
 
--- Inner: the reply to a line is written, and the prompt behind it. At `Write` the writer took a front, and at `Memory` nothing
-abbrev pub AnswersLine : List ℕ → Form → Bool → (List ℕ → Option Worth) → (List ℕ → Option Worth) → DeviceChange → Result Bool Fault → Type 0
-AnswersLine line form on_terminal named behind output (Ok accepted) =
+-- Inner: the reply to a line is written, and the prompt behind it, as the calls say, too. At `Write` the writer took a front, and at `Memory`
+-- nothing
+abbrev pub AnswersLine : List ℕ → Form → Bool → (List ℕ → Option Worth) → (List ℕ → Option Worth) → DeviceChange → Calls → Calls → Result Bool Fault → Type 0
+AnswersLine line form on_terminal named behind output old new (Ok accepted) =
     (bytes : List ℕ) × IsAnswered (without_end line) form named behind bytes accepted × Takes output (bytes ++ prompt_of on_terminal)
-AnswersLine line form on_terminal named behind output (Err faults.Write) =
+    × (new.moved ≡ old.moved ++ (bytes ++ prompt_of on_terminal))
+AnswersLine line form on_terminal named behind output old new (Err faults.Write) =
     (bytes : List ℕ) × (accepted : Bool) × IsAnswered (without_end line) form named behind bytes accepted × TakesFront output (bytes ++ prompt_of on_terminal)
-AnswersLine line form on_terminal named behind output (Err faults.Memory) = Stays output
-AnswersLine line form on_terminal named behind output (Err fault) = ⊥
+AnswersLine line form on_terminal named behind output old new (Err faults.Memory) = Stays output
+AnswersLine line form on_terminal named behind output old new (Err fault) = ⊥

@@ -2,6 +2,8 @@
 use Rattle.std.specs.Prelude.{◌≡◌, ◌++◌, ◌∷◌, ℕ, Bool, true, false, List, Option, Some, Result, Ok, Err, IfSome}
 use Rattle.std.specs.Io.{StopsAt}
 use Rattle.std.specs.Io.KnownBytes.{Appends, Consumes, IsAtEnd}
+use Rattle.ratio_lines.specs.Devices.{after_ending, after_failing, after_moving}
+use Rattle.ratio_lines.specs.declared.counted.Calls.{Calls}
 use Rattle.ratio.specs.Lines.{input_lines}
 use Rattle.ratio.specs.declared.fault.Fault.{Fault}
 use Rattle.ratio.specs.declared.fault.Fault.TheVariants as faults
@@ -39,6 +41,12 @@ WritesAll writer bytes (Err fault) = (fault ≡ faults.Write) × TakesFront writ
 abbrev pub WritesToOne : {T : Type 0} → Bool → DeviceChange → DeviceChange → List ℕ → Result T Fault → Type 0
 WritesToOne true first second bytes result = WritesAll first bytes result × Stays second
 WritesToOne false first second bytes result = Stays first × WritesAll second bytes result
+
+-- what a read of a line did: it moved the line, or said that the reader has ended, or failed with a part of a line
+abbrev pub after_line : Calls → List ℕ → Result Bool Fault → Calls
+after_line calls line (Ok true) = after_moving calls line
+after_line calls line (Ok false) = after_ending calls
+after_line calls line (Err fault) = after_failing (after_moving calls line)
 
 -- the line is the reader's next one, with its line feed; or there is none; or the fault is `Read`, and the reader gave a part of a line
 -- Example: a reader with `1\n2` left gives `1\n`, and has `2` left

@@ -12,3 +12,4 @@ message_of faults.NoPlaces = codes "ratio: --decimal wants a number of places, f
 message_of faults.Memory = codes "ratio: out of memory\n"
 message_of faults.Read = codes "ratio: read failed\n"
 message_of faults.Write = codes "ratio: write failed\n"
+message_of faults.Endless = codes "ratio: input too long\n"

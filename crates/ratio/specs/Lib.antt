@@ -1,8 +1,10 @@
 pub mod Answers
 pub mod Devices
+pub mod Failures
 pub mod Faults
 pub mod Lines
 pub mod Options
+pub mod Order
 pub mod Requests
 pub mod Runs
 pub mod Status

@@ -1,12 +1,13 @@
 //! Why the program stops before its end, and its message.
 ghost use Rattle.std.specs.Prelude.{◌≡◌, ◌++◌};
 ghost use Rattle.ratio.specs.Devices.{WritesAll, device_change};
+ghost use Rattle.ratio.specs.Failures.{FailsAtWrite};
 ghost use Rattle.ratio.specs.Faults.{message_of};
 ghost use Rattle.ratio.specs.declared.fault.Fault.TheVariants.{Memory};
 
 use crate::writing::write;
+use ratio_lines::counted::CalcWrite;
 use std::alloc::AllocError;
-use std::io::Write;
 
 /// Why the program stops before its end.
 #[derive(Drop)]
@@ -23,6 +24,8 @@ pub enum Fault {
     Read,
     /// An answer could not be written.
     Write,
+    /// 2^64-1 lines were answered, and the input has not ended.
+    Endless,
 }
 
 impl From<AllocError> for Fault {
@@ -34,8 +37,9 @@ impl From<AllocError> for Fault {
 }
 
 /// Writes the message of a fault, as on standard error.
-pub fn report<W: Write>(errors: &mut W, fault: &Fault) -> Result<(), Fault>
-    ensures { WritesAll (device_change W.contents errors.old errors.new) (message_of fault.now) result }
+pub fn report<W: CalcWrite>(errors: &mut W, fault: &Fault) -> Result<(), Fault>
+    ensures written { WritesAll (device_change W.contents errors.old errors.new) (message_of fault.now) result }
+    ensures failed { FailsAtWrite (W.calls errors.old) (W.calls errors.new) result }
 {
     let (text, name, more) = message(fault);
     write(errors, text.as_bytes())?;
@@ -62,5 +66,6 @@ fn message(fault: &Fault) -> (&str, &str, &str)
         Fault::Memory => ("ratio: out of memory\n", "", ""),
         Fault::Read => ("ratio: read failed\n", "", ""),
         Fault::Write => ("ratio: write failed\n", "", ""),
+        Fault::Endless => ("ratio: input too long\n", "", ""),
     }
 }

@@ -20,27 +20,29 @@ mod option;
 mod request;
 mod writing;
 
-ghost use Rattle.std.specs.Prelude.{◌≡◌, map, string_bytes};
+ghost use Rattle.std.specs.Prelude.{◌≡◌, ◌+◌, OnOk, length, map, string_bytes};
 ghost use Rattle.std.specs.Process.{exit_status};
 ghost use Rattle.ratio.specs.Devices.{device_change};
+ghost use Rattle.ratio.specs.Failures.{FailsAtWrite, IsFlushed, OneFailsAtWrite, failed_reads};
+ghost use Rattle.ratio.specs.Order.{AnswersLinesFirst};
 ghost use Rattle.ratio.specs.Runs.{WritesText, Runs, Serves, form_of_lines};
 ghost use Rattle.ratio.specs.Status.{status};
 
-use crate::console::{arguments, input, is_terminal};
+use crate::console::{LineRead, arguments, input, is_terminal};
 use answering::{answer_expression, answer_lines};
 use fault::{Fault, report};
 use help::{HELP, VERSION};
 use ratio_expressions::replies::Form;
+use ratio_lines::counted::{CalcWrite, Counted};
 use request::{Request, requested};
 use std::alloc::Global;
-use std::io::{BufRead, Write};
 use std::process::ExitCode;
 use writing::write;
 
 fn main(rt: HostRuntime) -> ExitCode {
     let outcome = run_here(&rt);
     if let Err(fault) = &outcome {
-        let _ = report(&mut rt.stderr(), fault);
+        let _ = report(&mut Counted::new(rt.stderr()), fault);
     }
     status_of(&outcome)
 }
@@ -54,13 +56,13 @@ fn run_here(rt: &HostRuntime) -> Result<bool, Fault> {
         &words,
         is_terminal(rt),
         &mut reader,
-        &mut rt.stdout(),
-        &mut rt.stderr(),
+        &mut Counted::new(rt.stdout()),
+        &mut Counted::new(rt.stderr()),
     )
 }
 
 // Does what the arguments ask for, and says whether each line has a value.
-fn run<R: BufRead, W: Write, E: Write>(
+fn run<R: LineRead<W>, W: CalcWrite, E: CalcWrite>(
     alloc: Global,
     words: &[String],
     on_terminal: bool,
@@ -68,15 +70,20 @@ fn run<R: BufRead, W: Write, E: Write>(
     output: &mut W,
     errors: &mut E,
 ) -> Result<bool, Fault>
-    ensures { Runs (map string_bytes words.now) on_terminal (device_change R.remaining input.old input.new)
+    ensures ran { Runs (map string_bytes words.now) on_terminal (device_change R.remaining input.old input.new)
         (device_change W.contents output.old output.new) (device_change E.contents errors.old errors.new) result }
+    ensures failed { OneFailsAtWrite (W.calls output.old) (W.calls output.new) (E.calls errors.old) (E.calls errors.new) result }
+    ensures answered_first { (form : Form) × AnswersLinesFirst form on_terminal (R.calls input.old).moved (W.calls output.old).moved
+        (R.moments input.old) (R.moments input.new) }
+    ensures reader_failed { (R.calls input.new).failures ≡ (R.calls input.old).failures + failed_reads result }
+    ensures flushed { OnOk result (IsFlushed (W.calls output.old) (W.calls output.new) × IsFlushed (E.calls errors.old) (E.calls errors.new)) }
 {
     let request = requested(alloc, words)?;
     serve(alloc, request, on_terminal, input, output, errors)
 }
 
 // Does what a request says.
-fn serve<R: BufRead, W: Write, E: Write>(
+fn serve<R: LineRead<W>, W: CalcWrite, E: CalcWrite>(
     alloc: Global,
     request: Request,
     on_terminal: bool,
@@ -84,8 +91,13 @@ fn serve<R: BufRead, W: Write, E: Write>(
     output: &mut W,
     errors: &mut E,
 ) -> Result<bool, Fault>
-    ensures { Serves request on_terminal (device_change R.remaining input.old input.new)
+    ensures served { Serves request on_terminal (device_change R.remaining input.old input.new)
         (device_change W.contents output.old output.new) (device_change E.contents errors.old errors.new) result }
+    ensures failed { OneFailsAtWrite (W.calls output.old) (W.calls output.new) (E.calls errors.old) (E.calls errors.new) result }
+    ensures answered_first { (form : Form) × AnswersLinesFirst form on_terminal (R.calls input.old).moved (W.calls output.old).moved
+        (R.moments input.old) (R.moments input.new) }
+    ensures reader_failed { (R.calls input.new).failures ≡ (R.calls input.old).failures + failed_reads result }
+    ensures flushed { OnOk result (IsFlushed (W.calls output.old) (W.calls output.new) × IsFlushed (E.calls errors.old) (E.calls errors.new)) }
 {
     match request {
         Request::Help => print_text(output, HELP),
@@ -99,8 +111,10 @@ fn serve<R: BufRead, W: Write, E: Write>(
 }
 
 // Prints a text.
-fn print_text<W: Write>(output: &mut W, text: &str) -> Result<bool, Fault>
-    ensures { WritesText text.now (device_change W.contents output.old output.new) result }
+fn print_text<W: CalcWrite>(output: &mut W, text: &str) -> Result<bool, Fault>
+    ensures written { WritesText text.now (device_change W.contents output.old output.new) result }
+    ensures failed { FailsAtWrite (W.calls output.old) (W.calls output.new) result }
+    ensures flushed { OnOk result ((W.calls output.new).mark ≡ length (W.calls output.new).moved) }
 {
     write(output, text.as_bytes())?;
     Ok(true)

@@ -15,4 +15,5 @@ pub mod FractionTexts
 pub mod PieceSoFar
 pub mod DeviceCalls
 pub mod RunSoFar
+pub mod ReadsSoFar
 pub mod JoinedAnswers

@@ -1,15 +1,28 @@
 -- What the calls of a reader and of a writer do. The `Calls` of `src/counted.rt` say what the calls of a device (a reader or a writer) did:
--- the bytes moved; how many calls failed, flushed, or said that the reader ended; and how many bytes had moved at the last flush, the
--- *mark*. For example, a reader gives 4 bytes of `1 + 1\n`, then 2, then `Ok(0)`. Its `Calls` say that 6 bytes moved, no call failed, and
--- one read said that the reader has ended. A word that ends in `For` says this of some bytes with a given property.
-use Rattle.std.specs.Prelude.{◌≡◌, ℕ, ◌+◌, ◌<◌, ◌≤◌, List, [], ◌++◌, ◌==◌, ◌&&◌, not, length, take, Option, Result, Ok, Err, if◌then◌else◌, MatchBool}
+-- the bytes moved; how many calls failed, were interrupted, flushed, or said that the reader ended; and how many bytes had moved at the last
+-- flush, the *mark*. For example, a reader gives 4 bytes of `1 + 1\n`, then 2, then `Ok(0)`. Its `Calls` say that 6 bytes moved, no call
+-- failed, and one read said that the reader has ended. Its `Moments` say what had moved before each read: 0 bytes, 4 and 6, and what the
+-- writer of the answers had taken. A word that ends in `For` says this of some bytes with a given property.
+use Rattle.std.specs.Prelude.{◌≡◌, ◌≢◌, ℕ, ◌+◌, ◌<◌, ◌≤◌, List, [], ◌∷◌, ◌++◌, ◌==◌, ◌&&◌, not, length, take, Option, Result, Ok, Err, if◌then◌else◌, MatchBool}
+use Rattle.std.specs.IoError.{error_kind}
+use Rattle.std.specs.declared.io.Error.{Error}
+use Rattle.std.specs.declared.io.ErrorKind.TheVariants.{Interrupted}
 use Rattle.std.specs.Io.KnownBytes.{Appends, Consumes, IsAtEnd, Keeps}
 use Rattle.ratio_lines.specs.declared.fault.CalcFault.{CalcFault, TheVariants.Read, TheVariants.Write}
 use Rattle.ratio_lines.specs.declared.counted.Calls.{Calls}
+use Rattle.ratio_lines.specs.declared.counted.Moments.{Moments}
 
 -- no call was made
 abbrev pub no_calls : Calls
-no_calls = record { moved = []; failures = 0; ends = 0; flushes = 0; mark = 0 }
+no_calls = record { moved = []; failures = 0; interrupts = 0; ends = 0; flushes = 0; mark = 0 }
+
+-- no read was made
+abbrev pub no_moments : Moments
+no_moments = record { reads = [] }
+
+-- one more read, before which the calls of the reader and of the writer did this
+abbrev pub after_moment : Moments → Calls → Calls → Moments
+after_moment moments given taken = record { reads = moments.reads ++ (given.moved, taken.moved, taken.mark) ∷ [] }
 
 -- one more call moved these bytes
 abbrev pub after_moving : Calls → List ℕ → Calls
@@ -18,6 +31,10 @@ after_moving calls bytes = record calls { moved = calls.moved ++ bytes }
 -- one more call failed
 abbrev pub after_failing : Calls → Calls
 after_failing calls = record calls { failures = calls.failures + 1 }
+
+-- one more call was interrupted
+abbrev pub after_interrupt : Calls → Calls
+after_interrupt calls = record calls { interrupts = calls.interrupts + 1 }
 
 -- one more call said that the reader has ended
 abbrev pub after_ending : Calls → Calls
@@ -36,6 +53,11 @@ after_read calls (Err e) buffer = after_failing calls
 abbrev pub after_write : {E : Type 0} → Calls → Result ℕ E → List ℕ → Calls
 after_write calls (Ok n) bytes = if (n == 0) && not (length bytes == 0) then after_failing calls else after_moving calls (take n bytes)
 after_write calls (Err e) bytes = after_failing calls
+
+-- what a writer's call did, if one that was interrupted has not failed
+abbrev pub Tries : Calls → Calls → Result ℕ Error → List ℕ → Type 0
+Tries old new (Ok n) bytes = new ≡ after_write {E = Error} old (Ok n) bytes
+Tries old new (Err e) bytes = (error_kind e ≡ Interrupted → new ≡ after_interrupt old) × (error_kind e ≢ Interrupted → new ≡ after_failing old)
 
 -- what a flush did. `Ok` sets the mark to the bytes that moved so far. An error is a failure
 abbrev pub after_flush : {T E : Type 0} → Calls → Result T E → Calls
@@ -59,6 +81,7 @@ change_of bytes calls old new = record { old = (bytes old, calls old); new = (by
 pub record Followed (D : Type 0) : Type 0 where
   pub device : D
   pub reads : Calls
+  pub moments : Moments
   pub writes : Calls
 
 -- the reader gave these bytes

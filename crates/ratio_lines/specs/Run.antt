@@ -1,9 +1,10 @@
 -- What one run of the calculator does.
-use Rattle.std.specs.Prelude.{◌≡◌, ℕ, ◌-◌, ◌^◌, ◌≤◌, List, ◌++◌, length, Option, Result, Ok, Err, MatchResult, codes}
+use Rattle.std.specs.Prelude.{◌≡◌, ℕ, ◌-◌, ◌^◌, ◌≤◌, All, List, ◌++◌, length, Option, Result, Ok, Err, MatchResult, codes}
 use Rattle.std.specs.Io.KnownBytes.{Consumes, Appends, IsAtEnd}
 use Rattle.ratio_lines.specs.{Answers.AreAnswersOf, Answers.AreWholeAnswers, Lines.begun_line}
 use Rattle.ratio_lines.specs.Devices.{Change, Device, Ended, Failed, Gave, Took, TookSome}
 use Rattle.ratio_lines.specs.KeptLine.{kept}
+use Rattle.ratio_lines.specs.declared.counted.Moments.{Moments}
 use Rattle.ratio_lines.specs.declared.fault.CalcFault.{CalcFault, TheVariants.Read, TheVariants.Write, TheVariants.Endless}
 
 -- what the program prints at a fault
@@ -33,6 +34,22 @@ pub record Ran {T : Type 0} (reader writer : Change) (result : Result T CalcFaul
   pub taken : writer.new.1.moved ≡ writer.old.1.moved ++ written
   pub appended : Appends writer.old.0 writer.new.0 written
   pub answered : MatchResult result (λ _. AreAnswersOf read written × IsAtEnd reader.new.0) (StopsAt read written)
+
+-- before a read, the writer had taken exactly the answers to the whole lines that the reader had given, of a run that began with `given`
+-- and `taken`
+-- Example: the reader gave `1 + 1\n2`, and the writer took `2\n`
+pub record AnsweredAt (given taken : List ℕ) (moment : List ℕ × List ℕ × ℕ) : Type 0 where
+  pub read : List ℕ
+  pub written : List ℕ
+  pub gave : moment.0 ≡ given ++ read
+  pub took : moment.1 ≡ taken ++ written
+  pub answered : AreWholeAnswers read written
+
+-- a run that began with `given` and `taken` made some reads, and had answered before each of them (`AnsweredAt`)
+pub record AnswersFirst (given taken : List ℕ) (old new : Moments) : Type 0 where
+  pub reads : List (List ℕ × List ℕ × ℕ)
+  pub made : new.reads ≡ old.reads ++ reads
+  pub answered : All (AnsweredAt given taken) reads
 
 -- how many more calls of the reader have failed: one at the fault `Read`, else none
 abbrev pub read_failures : {T : Type 0} → Result T CalcFault → ℕ

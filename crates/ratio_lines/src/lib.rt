@@ -11,7 +11,7 @@
 //! | `operand` | The operand that a text begins with, in lowest terms, which is read while its end is looked for. |
 //! | `operator` | The enum `Operator`: the operators of the calculator, by their names, and what each gives between two fractions. |
 //! | `parts` | The limit of a line, and how a line is cut: from the bytes after it, into its parts, and a plain line in one pass. |
-//! | `counted` | `Counted`: readers and writers whose calls a contract can follow, `Calls` for what these calls did, and the traits `CalcRead` and `CalcWrite`. |
+//! | `counted` | `Counted`: readers and writers whose calls a contract can follow, `Calls` for what these calls did, `Moments` for what had moved before each read, and the traits `CalcRead` and `CalcWrite`. |
 //! | `laws` | The laws of answers: inputs one after another, and that each input has answers. |
 #![tactic(auto)]
 

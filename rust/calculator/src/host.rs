@@ -4,7 +4,7 @@
 mod console;
 
 #[cfg(target_pointer_width = "64")]
-pub use console::{arguments, input, is_terminal, read_line, stderr};
+pub use console::{arguments, input, is_terminal, stderr, LineRead};
 use std::io::{self, StdinLock, StdoutLock, Write};
 
 pub fn stdin() -> StdinLock<'static> {

@@ -11,14 +11,14 @@ mod option;
 mod request;
 mod writing;
 
-use crate::host::{arguments, input, is_terminal};
+use crate::host::{LineRead, arguments, input, is_terminal};
 use answering::{answer_expression, answer_lines};
 use fault::{Fault, report};
 use help::{HELP, VERSION};
 use crate::proved::ratio_expressions::replies::Form;
+use crate::proved::ratio_lines::counted::{CalcWrite, Counted};
 use request::{Request, requested};
 
-use std::io::{BufRead, Write};
 use std::process::ExitCode;
 use writing::write;
 
@@ -26,7 +26,7 @@ use writing::write;
 pub fn main() -> ExitCode {
     let outcome = run_here();
     if let Err(fault) = &outcome {
-        let _ = report(&mut crate::host::stderr(), fault);
+        let _ = report(&mut Counted::new(crate::host::stderr()), fault);
     }
     status_of(&outcome)
 }
@@ -41,14 +41,14 @@ fn run_here() -> Result<bool, Fault> {
         &words,
         is_terminal(),
         &mut reader,
-        &mut crate::host::stdout(),
-        &mut crate::host::stderr(),
+        &mut Counted::new(crate::host::stdout()),
+        &mut Counted::new(crate::host::stderr()),
     )
 }
 
 // Does what the arguments ask for, and says whether each line has a value.
 #[inline]
-fn run<R: BufRead, W: Write, E: Write>(
+fn run<R: LineRead<W>, W: CalcWrite, E: CalcWrite>(
     alloc: Global,
     words: &[String],
     on_terminal: bool,
@@ -62,7 +62,7 @@ fn run<R: BufRead, W: Write, E: Write>(
 
 // Does what a request says.
 #[inline]
-fn serve<R: BufRead, W: Write, E: Write>(
+fn serve<R: LineRead<W>, W: CalcWrite, E: CalcWrite>(
     alloc: Global,
     request: Request,
     on_terminal: bool,
@@ -83,7 +83,7 @@ fn serve<R: BufRead, W: Write, E: Write>(
 
 // Prints a text.
 #[inline]
-fn print_text<W: Write>(output: &mut W, text: &str) -> Result<bool, Fault> {
+fn print_text<W: CalcWrite>(output: &mut W, text: &str) -> Result<bool, Fault> {
     write(output, text.as_bytes())?;
     Ok(true)
 }

@@ -1,7 +1,12 @@
+use Rattle.ratio_lines.specs.Run.{AnswersFirst}
 use Rattle.ratio_lines.proofs.RunSoFar.{Progress}
 use Rattle.ratio_lines.proofs.calculator.answer_whole_lines.Given as goal
 
 abbrev pub invariant-loop-turn : goal.invariant-loop-turn
 invariant-loop-turn g l =
-    Progress (g.R.Read.remaining l.fn.reader, g.R.CalcRead.calls l.fn.reader) (g.R.Read.remaining l.reader, g.R.CalcRead.calls l.reader)
-    (g.W.Write.contents l.fn.writer, g.W.CalcWrite.calls l.fn.writer) (g.W.Write.contents l.writer, g.W.CalcWrite.calls l.writer) l.line l.gathered l._turn
+    let reads = g.R.CalcRead.calls in let writes = g.W.CalcWrite.calls in
+    record {
+      lines : Progress (g.R.Read.remaining l.fn.reader, reads l.fn.reader) (g.R.Read.remaining l.reader, reads l.reader) (g.W.Write.contents l.fn.writer, writes l.fn.writer)
+          (g.W.Write.contents l.writer, writes l.writer) l.line l.gathered l._turn;
+      first : AnswersFirst (reads l.fn.reader).moved (writes l.fn.writer).moved (g.R.CalcRead.moments l.fn.reader) (g.R.CalcRead.moments l.reader);
+    }

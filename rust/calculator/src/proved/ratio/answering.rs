@@ -2,17 +2,16 @@
 //! The reply to one expression, and to the lines of the input.
 
 use bakhsney::memory::{AllocError, Global, Vec};
-use crate::host::read_line;
+use crate::host::LineRead;
 use crate::proved::ratio::fault::Fault;
 use crate::proved::ratio::writing::write;
 use crate::proved::ratio_expressions::names::Names;
 use crate::proved::ratio_expressions::replies::{Form, Reply, reply_to};
-
-use std::io::{BufRead, Write};
+use crate::proved::ratio_lines::counted::CalcWrite;
 
 /// Answers an expression, and says whether it has a value. A refusal goes to the errors.
 #[inline]
-pub fn answer_expression<W: Write, E: Write>(
+pub fn answer_expression<W: CalcWrite, E: CalcWrite>(
     alloc: Global,
     text: &[u8],
     form: Form,
@@ -32,7 +31,7 @@ pub fn answer_expression<W: Write, E: Write>(
 /// Answers each line of an input before it reads the next one, and says whether each has a value. A refusal is in the place of an answer.
 /// On a terminal there is a prompt before each line.
 #[inline]
-pub fn answer_lines<R: BufRead, W: Write>(
+pub fn answer_lines<R: LineRead<W>, W: CalcWrite>(
     alloc: Global,
     form: Form,
     on_terminal: bool,
@@ -44,18 +43,18 @@ pub fn answer_lines<R: BufRead, W: Write>(
     let mut all = true;
     write(output, prompt(on_terminal))?;
     for _turn in 0..u64::MAX {
-        if !read_line(input, &mut line)? {
+        if !input.read_line(&mut line, &*output)? {
             write(output, end(on_terminal))?;
             return Ok(all);
         }
         all &= answer_line(alloc, &line, form, on_terminal, &mut names, output)?;
     }
-    Err(Fault::Read)
+    Err(Fault::Endless)
 }
 
 // Answers a line, and says whether it has no refusal. The prompt for the next line is behind the reply.
 #[inline]
-fn answer_line<W: Write>(
+fn answer_line<W: CalcWrite>(
     alloc: Global,
     line: &[u8],
     form: Form,

@@ -3,8 +3,7 @@
 
 use bakhsney::memory::{AllocError, String};
 use crate::proved::ratio::writing::write;
-
-use std::io::Write;
+use crate::proved::ratio_lines::counted::CalcWrite;
 
 /// Why the program stops before its end.
 pub enum Fault {
@@ -20,6 +19,8 @@ pub enum Fault {
     Read,
     /// An answer could not be written.
     Write,
+    /// 2^64-1 lines were answered, and the input has not ended.
+    Endless,
 }
 
 impl From<AllocError> for Fault {
@@ -31,7 +32,7 @@ impl From<AllocError> for Fault {
 
 /// Writes the message of a fault, as on standard error.
 #[inline]
-pub fn report<W: Write>(errors: &mut W, fault: &Fault) -> Result<(), Fault> {
+pub fn report<W: CalcWrite>(errors: &mut W, fault: &Fault) -> Result<(), Fault> {
     let (text, name, more) = message(fault);
     write(errors, text.as_bytes())?;
     write(errors, name.as_bytes())?;
@@ -56,5 +57,6 @@ fn message(fault: &Fault) -> (&str, &str, &str) {
         Fault::Memory => ("ratio: out of memory\n", "", ""),
         Fault::Read => ("ratio: read failed\n", "", ""),
         Fault::Write => ("ratio: write failed\n", "", ""),
+        Fault::Endless => ("ratio: input too long\n", "", ""),
     }
 }

@@ -2,17 +2,18 @@
 //! Bytes for an output, written whole.
 
 use crate::proved::ratio::fault::Fault;
-use std::io::{ErrorKind, Write};
+use crate::proved::ratio_lines::counted::CalcWrite;
+use std::io::ErrorKind;
 
 /// Writes all the bytes, and flushes the writer.
 #[inline]
-pub fn write<W: Write>(writer: &mut W, bytes: &[u8]) -> Result<(), Fault> {
+pub fn write<W: CalcWrite>(writer: &mut W, bytes: &[u8]) -> Result<(), Fault> {
     let mut at = 0;
     for _turn in 0..u64::MAX {
         if at >= bytes.len() {
             return flush(writer);
         }
-        match writer.write(&bytes[at..]) {
+        match writer.write_tried(&bytes[at..]) {
             Ok(0) => return Err(Fault::Write),
             Ok(n) => at += n,
             Err(e) => {
@@ -27,8 +28,8 @@ pub fn write<W: Write>(writer: &mut W, bytes: &[u8]) -> Result<(), Fault> {
 
 // Flushes the writer.
 #[inline]
-fn flush<W: Write>(writer: &mut W) -> Result<(), Fault> {
-    match writer.flush() {
+fn flush<W: CalcWrite>(writer: &mut W) -> Result<(), Fault> {
+    match writer.flush_counted() {
         Ok(()) => Ok(()),
         Err(_) => Err(Fault::Write),
     }

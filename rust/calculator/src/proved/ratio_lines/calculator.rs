@@ -8,8 +8,12 @@ use crate::proved::ratio_lines::line::Line;
 
 /// Reads a piece, and returns the number of its bytes: 0 at the end.
 #[inline]
-fn read_piece<R: CalcRead>(reader: &mut R, buffer: &mut [u8; 512]) -> Result<usize, CalcFault> {
-    match reader.read_counted(buffer) {
+fn read_piece<R: CalcRead<W>, W: CalcWrite>(
+    reader: &mut R,
+    writer: &W,
+    buffer: &mut [u8; 512],
+) -> Result<usize, CalcFault> {
+    match reader.read_counted(buffer, writer) {
         Ok(count) => Ok(count),
         Err(_) => Err(CalcFault::Read),
     }
@@ -18,7 +22,7 @@ fn read_piece<R: CalcRead>(reader: &mut R, buffer: &mut [u8; 512]) -> Result<usi
 /// Answers each whole line, and returns the begun line. The answers to a piece
 /// are written before the next piece is read.
 #[inline]
-fn answer_whole_lines<R: CalcRead, W: CalcWrite>(
+fn answer_whole_lines<R: CalcRead<W>, W: CalcWrite>(
     reader: &mut R,
     writer: &mut W,
 ) -> Result<Line, CalcFault> {
@@ -26,7 +30,7 @@ fn answer_whole_lines<R: CalcRead, W: CalcWrite>(
     let mut gathered = Gathered::new();
     let mut buffer = [0u8; 512];
     for _turn in 0..u64::MAX {
-        match read_piece(reader, &mut buffer) {
+        match read_piece(reader, &*writer, &mut buffer) {
             Ok(0) => return Ok(line),
             Ok(count) => take_piece(&mut line, &mut gathered, writer, &buffer[..count])?,
             Err(fault) => return Err(fault),
@@ -70,7 +74,7 @@ fn flush<W: CalcWrite>(writer: &mut W) -> Result<(), CalcFault> {
 /// Reads the whole input, answers each of its lines, and then flushes the writer. It takes no
 /// memory. It stops at the first call that fails.
 #[inline]
-pub fn run<R: CalcRead, W: CalcWrite>(reader: &mut R, writer: &mut W) -> Result<(), CalcFault> {
+pub fn run<R: CalcRead<W>, W: CalcWrite>(reader: &mut R, writer: &mut W) -> Result<(), CalcFault> {
     let line = answer_whole_lines(reader, writer)?;
     answer_last(&line, writer)?;
     flush(writer)

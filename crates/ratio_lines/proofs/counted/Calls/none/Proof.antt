@@ -19,7 +19,7 @@ abbrev stayed : Stays f.ended.signature.params f.ended.kept
 stayed = tt
 
 abbrev new : Calls
-new = record { moved = []; failures = 0; ends = 0; flushes = 0; mark = 0 }
+new = record { moved = []; failures = 0; interrupts = 0; ends = 0; flushes = 0; mark = 0 }
 
 pub none_spec : {M : Type 1} → statement M
 none_spec 𝓤 𝓛 𝓜 𝓡 wired =

@@ -10,7 +10,7 @@ use crate::proved::ratio_slots::{AddRefusal, Joined, WideFraction, MOST_DIGITS};
 use crate::{BigFraction, Ratio, Reduced, Rounding};
 use core::cmp::Ordering;
 use core::hash::{Hash, Hasher};
-use num_traits::{CheckedAdd, CheckedDiv, CheckedMul, CheckedSub, FromPrimitive, Inv, Pow, Signed, ToPrimitive, Zero};
+use num_traits::{CheckedAdd, CheckedDiv, CheckedEuclid, CheckedMul, CheckedSub, FromPrimitive, Inv, Pow, Signed, ToPrimitive, Zero};
 use original::BigRational;
 use std::vec;
 use std::vec::Vec;
@@ -237,9 +237,9 @@ fn pair(numbers: &mut Numbers) -> (Ratio<i128>, Ratio<i128>) {
     (x, y)
 }
 
-/// The distance of two fractions and the middle between them, where a sum or a difference need not fit.
+/// The distance of two fractions and the middle between them, where a sum or a difference need not fit, and Euclid's division.
 #[test]
-fn distances_and_middles() {
+fn distances_middles_and_euclid() {
     let mut numbers = Numbers(23);
     for _ in 0..draws() / 2 {
         let mut next = || {
@@ -252,6 +252,15 @@ fn distances_and_middles() {
             let fitting = |x: BigRational| x.numer().to_i64().zip(x.denom().to_i64());
             assert_eq!(x.checked_abs_diff(&y).map(Ratio::into_raw), fitting((exact(x) - exact(y)).abs()), "{x} {y}");
             assert_eq!(x.checked_midpoint(&y).map(Ratio::into_raw), fitting((exact(x) + exact(y)) / big(2)), "{x} {y}");
+            if !y.is_zero() {
+                let quotient = exact(x) / exact(y);
+                let whole = if y.is_negative() { quotient.ceil() } else { quotient.floor() };
+                let rest = exact(x) - whole.clone() * exact(y);
+                assert_eq!(x.checked_div_euclid(&y).map(Ratio::into_raw), fitting(whole), "{x} {y}");
+                if let Some(found) = x.checked_rem_euclid(&y) {
+                    assert_eq!(exact(found), rest, "{x} {y}");
+                }
+            }
         }
     }
 }

@@ -37,6 +37,8 @@ mod big_fraction_traits;
 pub mod big_fraction_two_numbers;
 #[cfg(feature = "alloc")]
 mod big_fraction_within;
+#[cfg(all(test, feature = "alloc"))]
+mod borders;
 mod bounds;
 mod casts;
 mod constants;

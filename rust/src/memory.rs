@@ -249,3 +249,19 @@ impl Deref for String {
         &self.0
     }
 }
+
+#[cfg(test)]
+mod tests {
+    use super::{BTreeMap, Global};
+    use alloc::collections;
+
+    #[test]
+    fn a_map_is_as_the_one_of_std() {
+        let (mut ours, mut theirs) = (BTreeMap::new(Global), collections::BTreeMap::new());
+        for i in 0..2000u32 {
+            let key = i.wrapping_mul(0x9e37_79b9) >> 22;
+            assert_eq!(ours.get(&key), theirs.get(&key));
+            assert_eq!(ours.insert(key, i), Ok(theirs.insert(key, i)));
+        }
+    }
+}

@@ -109,3 +109,16 @@ impl Running {
         of_short(short_pair(self.numer, self.common.into())?)
     }
 }
+
+#[cfg(test)]
+mod tests {
+    use super::Running;
+
+    /// A total takes numerators below 2^64 in magnitude.
+    #[test]
+    fn the_greatest_numerators() {
+        let most = i128::from(u64::MAX);
+        let taken = [-most - 1, -most, most, most + 1].map(|numer| Running::of(numer, 1).is_some());
+        assert_eq!(taken, [false, true, true, false]);
+    }
+}

@@ -35,6 +35,16 @@ pub(super) fn digits_with_spare(digits: usize) -> usize {
     digits_of_room(digits) + 8 * digits + 6
 }
 
+/// The digits of a room whose sum becomes a decimal.
+pub(super) fn digits_for_decimal(digits: usize, places: u32) -> usize {
+    4 * digits + 2 * (places as usize / 19) + 12
+}
+
+/// The bytes of this decimal.
+pub(super) fn bytes_for_decimal(digits: usize, places: u32) -> usize {
+    (digits + places as usize / 19 + 5) * 20 + places as usize + 3
+}
+
 impl RoomSum {
     /// The sum of no fractions. It takes no memory.
     pub(super) const EMPTY: RoomSum = RoomSum { sum: Joined { done: 0, digits: 0 }, digits: Vec::new(), too_long: false };
@@ -112,17 +122,16 @@ impl RoomSum {
     }
 
     /// Moves the sum into a room with at least twice the digits. A common denominator of so many digits more has room there.
-    fn grow(&mut self, more: usize) {
+    pub(super) fn grow(&mut self, more: usize) {
         if self.sum.digits == MOST_DIGITS {
             self.too_long = true;
             return;
         }
-        let most = (self.sum.digits + more.max(self.sum.digits)).max(FEWEST_DIGITS);
-        let mut digits = vec![0; digits_with_spare(most.min(MOST_DIGITS))];
-        let sum = Joined::zero(most.min(MOST_DIGITS), &mut digits).expect("the room has enough digits");
-        let longer = RoomSum { sum, digits, too_long: false };
-        let shorter = core::mem::replace(self, longer);
-        self.put_all(&shorter, false);
+        let digits = (self.sum.digits + more.max(self.sum.digits)).clamp(FEWEST_DIGITS, MOST_DIGITS);
+        let mut longer = vec![0; digits_with_spare(digits)];
+        let moved = if self.is_empty() { Joined::zero(digits, &mut longer) } else { self.sum.moved_to(&self.digits, digits, &mut longer) };
+        self.sum = moved.expect("the room has enough digits");
+        self.digits = longer;
     }
 
     /// The numbers of the sum, which is `(positive - negative)/common`, in this order: positive, common, negative.
@@ -149,12 +158,11 @@ impl RoomSum {
 
     /// The sum as a decimal.
     pub(super) fn decimal(mut self, places: u32, rule: Rounding) -> Result<String, TooLong> {
-        let groups = places as usize / 19;
-        let room = 4 * self.sum.digits + 2 * groups + 12;
+        let room = digits_for_decimal(self.sum.digits, places);
         if self.digits.len() < room {
             self.digits.resize(room, 0);
         }
-        let mut text = vec![0; (self.sum.digits + groups + 5) * 20 + places as usize + 3];
+        let mut text = vec![0; bytes_for_decimal(self.sum.digits, places)];
         let start = self.read(|sum, room| sum.put_decimal(places, rule, room, &mut text))?;
         Ok(text_from(text, start))
     }
@@ -167,20 +175,23 @@ pub(super) fn text_from(mut text: Vec<u8>, start: usize) -> String {
 }
 
 #[cfg(test)]
-mod tests {
-    use super::*;
-    use crate::Total;
-
-    const ODD: WideFraction = WideFraction { negative: false, numer: 1, denom: (1 << 127) - 1 };
-
+impl RoomSum {
     /// A sum that is 1 over the greatest odd number of so many digits.
-    fn with_digits(digits: usize) -> RoomSum {
+    pub(super) fn with_digits(digits: usize) -> RoomSum {
         let mut sum = RoomSum { digits: vec![0; digits_with_spare(digits)], ..RoomSum::EMPTY };
         sum.sum = Joined { done: 1, digits };
         sum.digits[0] = 1;
         sum.digits[digits + 3..2 * digits + 3].fill(u64::MAX);
         sum
     }
+}
+
+#[cfg(test)]
+mod tests {
+    use super::*;
+    use crate::Total;
+
+    const ODD: WideFraction = WideFraction { negative: false, numer: 1, denom: (1 << 127) - 1 };
 
     fn read(sum: &RoomSum) -> Result<Option<WideFraction>, TooLong> {
         sum.clone().read(Joined::wide_sum)
@@ -206,7 +217,7 @@ mod tests {
     /// The sum has all the digits that there may be. What has a common divisor with its denominator still goes in.
     #[test]
     fn never_gets_shorter_again() {
-        let mut sum = with_digits(MOST_DIGITS);
+        let mut sum = RoomSum::with_digits(MOST_DIGITS);
         sum.put(WideFraction { denom: u128::MAX, ..ODD }, false);
         sum.put(WideFraction { denom: u128::MAX, ..ODD }, true);
         assert_eq!((sum.too_long, sum.clone().read(Joined::sign)), (false, Ok(core::cmp::Ordering::Greater)));
@@ -227,7 +238,7 @@ mod tests {
         let half: crate::Reduced<i128> = crate::Reduced::checked_new(1, 2).unwrap();
         let odd = crate::Reduced::checked_new(1, i128::MAX).unwrap();
         let mut long = Total::<i128>::new();
-        long.wide = with_digits(MOST_DIGITS);
+        long.wide = RoomSum::with_digits(MOST_DIGITS);
         assert!(long.sign().is_ok());
         let mut first = long.clone();
         first.add(odd);

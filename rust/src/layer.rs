@@ -53,6 +53,7 @@ mod order;
 mod powers;
 mod ratio;
 mod reduced;
+mod reduced_operators;
 mod reduced_traits;
 #[cfg(feature = "alloc")]
 mod room_sum;

@@ -22,8 +22,8 @@ use core::str::FromStr;
 use num_traits::Signed;
 
 /// A fraction of two integers that is always in lowest terms: the denominator is positive, and no number above 1 divides both.
-/// If there is no result, a checked call returns `None`. No call panics, except `decimal` for more than 38 places. num-rational has no
-/// such type.
+/// If there is no result, a checked call returns `None`, and an operator or a call of num-traits panics. No other call panics, except
+/// `decimal` for more than 38 places. num-rational has no such type.
 ///
 /// ```
 /// use num_rational::{ParseRatioError, Reduced64};
@@ -39,6 +39,7 @@ use num_traits::Signed;
 /// let shares = ["1/2", "1/3", "1/6"].map(|text| text.parse().unwrap());
 /// assert_eq!(total(&shares), Some(Reduced64::ONE));
 /// assert_eq!(total(&[Reduced64::from(i64::MAX), Reduced64::ONE]), None);
+/// assert_eq!(shares[0] + shares[1] * 2, total(&[shares[0], shares[1], shares[1]]).unwrap());
 /// ```
 #[doc(alias = "Fraction")]
 #[doc(alias = "Rational")]

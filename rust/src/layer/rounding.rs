@@ -7,7 +7,6 @@ use super::ratio::Ratio;
 use super::reduced::Reduced;
 use super::same::on_machine;
 use super::schoolbook;
-use crate::proved::ratio_decimal::rounding_rule::Rounding;
 use num_traits::{CheckedEuclid, Euclid};
 
 impl<T: Clone + num_integer::Integer> Ratio<T> {
@@ -168,23 +167,14 @@ impl<T: Integer> CheckedEuclid for Ratio<T> {
     /// `None` if the divisor is 0, if the quotient does not fit the type, or if the lowest terms of one of the two do not.
     #[inline]
     fn checked_div_euclid(&self, divisor: &Ratio<T>) -> Option<Ratio<T>> {
-        let (x, y) = (Reduced::from_ratio(self)?, Reduced::from_ratio(divisor)?);
-        let rule = if y < Reduced::ZERO { Rounding::Ceil } else { Rounding::Floor };
-        x.checked_div_round(y, rule).map(Ratio::from_integer)
+        Reduced::from_ratio(self)?.checked_div_euclid(&Reduced::from_ratio(divisor)?).map(Ratio::from)
     }
 
     /// `None` if the divisor is 0, if `checked_rem` of a `Reduced` or the remainder does not fit the type, or if the lowest terms of one
     /// of the two do not.
     #[inline]
     fn checked_rem_euclid(&self, divisor: &Ratio<T>) -> Option<Ratio<T>> {
-        let (x, y) = (Reduced::from_ratio(self)?, Reduced::from_ratio(divisor)?);
-        let rest = x.checked_rem(y)?;
-        let moved = match (rest < Reduced::ZERO, y < Reduced::ZERO) {
-            (false, _) => Some(rest),
-            (true, false) => rest.checked_add(y),
-            (true, true) => rest.checked_sub(y),
-        };
-        moved.map(Ratio::from)
+        Reduced::from_ratio(self)?.checked_rem_euclid(&Reduced::from_ratio(divisor)?).map(Ratio::from)
     }
 }
 

@@ -140,8 +140,9 @@ fn sums_and_products_are_those_of_lists() {
 fn determinant<N: Clone + Signed + NumAssignRef>(mut rows: Vec<Vec<N>>) -> N {
     let mut product = N::one();
     for column in 0..rows.len() {
-        let Some(pivot) = (column..rows.len()).find(|&row| !rows[row][column].is_zero()) else {
-            return N::zero();
+        let pivot = match (column..rows.len()).find(|&row| !rows[row][column].is_zero()) {
+            Some(pivot) => pivot,
+            None => return N::zero(),
         };
         if pivot != column {
             rows.swap(pivot, column);

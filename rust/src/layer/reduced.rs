@@ -432,7 +432,6 @@ impl<T: Integer> Reduced<T> {
         Reduced { fraction }
     }
 
-    #[cfg(feature = "alloc")]
     #[inline]
     pub(super) fn into_proved(self) -> Proved<T> {
         self.fraction

@@ -34,7 +34,9 @@ impl Counter for &Cell<u32> {
         self.set(self.get().wrapping_add(1));
     }
 
-    fn has_halves() -> bool {
+    fn has_halves() -> bool
+        ensures { result ≡ false }
+    {
         false
     }
 }
@@ -50,7 +52,9 @@ impl Counter for Halving<'_> {
         self.0.raise();
     }
 
-    fn has_halves() -> bool {
+    fn has_halves() -> bool
+        ensures { result ≡ true }
+    {
         true
     }
 }

@@ -3,29 +3,13 @@
 // The tests are about these forms.
 #![allow(clippy::op_ref)]
 
+#[path = "support/outcomes.rs"]
+mod outcomes;
+
 use bakhsney::integer::Integer;
 use bakhsney::{Ratio, Reduced, Reduced64};
 use num_traits::{Bounded, CheckedAdd, CheckedEuclid, CheckedMul, CheckedSub, Euclid, FromPrimitive, Inv, Num, NumAssignRef, One, Pow, Signed, Zero};
-use std::panic::{catch_unwind, set_hook, take_hook};
-
-/// What a call returns, or the text of its panic.
-fn outcome<R>(call: impl FnOnce() -> R) -> Result<R, String> {
-    catch_unwind(std::panic::AssertUnwindSafe(call)).map_err(|cause| match cause.downcast_ref::<String>() {
-        Some(text) => text.clone(),
-        None => (*cause.downcast_ref::<&str>().unwrap()).to_owned(),
-    })
-}
-
-/// Runs the tests without a line for each panic.
-fn quietly(test: impl FnOnce()) {
-    let old = take_hook();
-    set_hook(Box::new(|_| ()));
-    let result = catch_unwind(std::panic::AssertUnwindSafe(test));
-    set_hook(old);
-    if let Err(cause) = result {
-        std::panic::resume_unwind(cause);
-    }
-}
+use outcomes::{outcome, quietly};
 
 /// The fractions of these numbers that are in lowest terms.
 fn fractions<T: Integer>(numbers: &[T]) -> Vec<Reduced<T>> {

@@ -22,7 +22,11 @@ mod big_fraction_conversions;
 #[cfg(feature = "alloc")]
 mod big_fraction_divisors;
 #[cfg(feature = "alloc")]
+mod big_fraction_euclid;
+#[cfg(feature = "alloc")]
 mod big_fraction_near;
+#[cfg(feature = "alloc")]
+mod big_fraction_operand;
 #[cfg(feature = "alloc")]
 mod big_fraction_operators;
 #[cfg(feature = "alloc")]
@@ -74,6 +78,8 @@ mod total;
 pub use big::BigRational;
 #[cfg(feature = "alloc")]
 pub use big_fraction::BigFraction;
+#[cfg(feature = "alloc")]
+pub use big_fraction_operand::BigOperand;
 #[cfg(feature = "alloc")]
 pub use big_fraction_texts::BigTextRefusal;
 pub use casts::CastError;

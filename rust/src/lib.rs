@@ -63,7 +63,7 @@ pub use layer::{split, split_by_weights};
 #[cfg(feature = "alloc")]
 pub use layer::{TooLong, Total};
 #[cfg(feature = "alloc")]
-pub use layer::{BigFraction, BigTextRefusal};
+pub use layer::{BigFraction, BigOperand, BigTextRefusal};
 /// A [`BigFraction`] as a list of two whole numbers, for serde's `with`: `[1,3]` in JSON. A number below -2^53 or above 2^53 is a text, since
 /// most programs read such a number as a float. Without `with`, serde writes what num-rational's `BigRational` has.
 ///

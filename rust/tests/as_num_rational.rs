@@ -1,5 +1,5 @@
 //! The cases that num-rational's own tests have, written anew as rows, except those of its private functions and those that need big
-//! integers. Each row runs with both crates. `exact_floats.rs` has those of `from_float`, which is for big integers there.
+//! integers. Each row runs with both crates. `from_floats.rs` has those of `from_float`, which is for big integers there.
 
 // The rows are about these forms.
 #![allow(clippy::eq_op, clippy::op_ref, clippy::nonminimal_bool, clippy::redundant_clone, clippy::clone_on_copy)]

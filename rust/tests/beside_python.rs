@@ -61,7 +61,7 @@ fn fraction(numbers: &mut Numbers) -> (BigFraction, String) {
 }
 
 fn result(x: Option<BigFraction>) -> String {
-    let sign = |x: &BigFraction| if *x < BigFraction::from(0) { "-" } else { "" };
+    let sign = |x: &BigFraction| if *x < 0 { "-" } else { "" };
     x.map_or("None".to_string(), |x| format!("{}{}/{}", sign(&x), in_hexadecimal(&x.numer_digits()), in_hexadecimal(&x.denom_digits())))
 }
 

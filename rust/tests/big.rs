@@ -319,5 +319,5 @@ fn machine_types_keep_their_calls() {
     assert_eq!(Ratio::new(178956969, 536870915).to_f32(), Some(0.33333334));
     assert_eq!((Ratio::new(-31, 8).to_i64(), Ratio::new_raw(1i8, 0).to_i64(), Ratio::new(u128::MAX, 2).to_u128()), (Some(-3), None, Some(u128::MAX / 2)));
     assert_eq!(Reduced64::from_float(0.5), Reduced64::checked_new(1, 2));
-    assert_eq!(Ratio::<i64>::try_from(0.5), Ok(Ratio::new(1, 2)));
+    assert_eq!((Ratio::<i64>::try_from(0.5), Ratio::from_float64(0.5)), (Ok(Ratio::new(1, 2)), Some(Ratio::new(1u8, 2))));
 }

@@ -10,7 +10,7 @@ mod support;
 use bakhsney::{AllocError, BigFraction, BigRational, BigTextRefusal, Ratio, Reduced, Reduced64, ReducedError, Rounding, Total};
 use num_bigint::{BigInt, Sign};
 use num_integer::Integer as _;
-use num_traits::{CheckedAdd, CheckedDiv, CheckedMul, CheckedRem, CheckedSub, FromPrimitive, Inv, Num, One, Pow, Signed, ToPrimitive, Zero};
+use num_traits::{CheckedAdd, CheckedDiv, CheckedEuclid, CheckedMul, CheckedRem, CheckedSub, Euclid, FromPrimitive, Inv, Num, One, Pow, Signed, ToPrimitive, Zero};
 use original::Ratio as Original;
 use std::collections::hash_map::DefaultHasher;
 use std::hash::{Hash, Hasher};
@@ -139,6 +139,12 @@ macro_rules! comparisons {
     };
 }
 
+/// The whole number that leaves a remainder from 0 to below the magnitude of the divisor.
+fn quotient_of_euclid(x: &Original<BigInt>, divisor: &Original<BigInt>) -> Option<Original<BigInt>> {
+    let quotient = x.checked_div(divisor)?;
+    Some(if divisor.is_negative() { quotient.ceil() } else { quotient.floor() })
+}
+
 #[test]
 fn calls_on_two() {
     let mut numbers = Numbers(1);
@@ -157,6 +163,9 @@ fn calls_on_two() {
             comparisons!(x, y) => comparisons!(old, other);
             x.try_cmp(y) => Ok(old.cmp(other));
             hash_of(x) == hash_of(y) => x == y;
+            [x.checked_div_euclid(y).map(fields), tried(x.try_div_euclid(y))] => [(); 2].map(|_| quotient_of_euclid(old, other).map(original));
+            [x.checked_rem_euclid(y).map(fields), tried(x.try_rem_euclid(y))] => [(); 2].map(|_| quotient_of_euclid(old, other).map(|quotient| original(old - quotient * other)));
+            BigFraction::try_new(x, y) => x.try_div(y);
             [x.gcd(y), x.try_gcd(y).unwrap()].map(fields) => all(Original::new(old.numer().gcd(other.numer()), old.denom().lcm(other.denom())));
             [x.lcm(y), x.try_lcm(y).unwrap()].map(fields) => all(Original::new(old.numer().lcm(other.numer()), old.denom().gcd(other.denom())));
             fields(x.abs_sub(y)) => original(old.abs_sub(other));
@@ -165,6 +174,8 @@ fn calls_on_two() {
             rows! { (x, y);
                 forms!(x / y, /=) => all(old / other);
                 forms!(x % y, %=) => all(old % other);
+                Some([x.div_euclid(y), x.rem_euclid(y)]) => x.checked_div_euclid(y).and_then(|quotient| Some([quotient, x.checked_rem_euclid(y)?]));
+                x.rem_euclid(y).is_negative() || x.rem_euclid(y) >= y.abs() => false;
             };
         }
     }
@@ -222,6 +233,8 @@ fn calls_on_one() {
             [x.to_f64(), x.try_to_f64().ok()].map(bits) => [old.to_f64(); 2].map(bits);
             [x.numer(), x.try_numer().unwrap()].map(fields) => [(); 2].map(|_| (numer.clone(), BigInt::one()));
             [x.denom(), x.try_denom().unwrap()].map(fields) => [(); 2].map(|_| (denom.clone(), BigInt::one()));
+            fields(x.to_integer()).0 => old.to_integer();
+            { let (numer, denom) = x.clone().into_raw(); [numer, denom].map(|number| fields(number).0) } => [numer.clone(), denom.clone()];
             (x.numer_digits(), x.denom_digits()) => (numer.magnitude().to_u64_digits(), denom.magnitude().to_u64_digits());
             BigFraction::try_from(&BigRational::new_raw(numer * 6, denom * -6)) => Ok(-x);
             BigFraction::try_from(BigRational::new_raw(numer * -6, denom * -6)) => Ok(x.clone());
@@ -341,7 +354,7 @@ fn fractions_near() {
                 fields(x.round_to(parts, rule)) => in_parts;
                 tried(x.try_round_to(parts, rule)) => Some(in_parts);
                 [0, -parts, i64::MIN].map(|parts| x.try_round_to(parts, rule)) => [Ok(None), Ok(None), Ok(None)];
-                short.as_ref().map_or(true, |short| short.round_to(parts, rule).map_or(true, |multiple| x.round_to(parts, rule) == BigFraction::from(multiple))) => true;
+                short.as_ref().map_or(true, |short| short.round_to(parts, rule).map_or(true, |multiple| x.round_to(parts, rule) == multiple)) => true;
             };
             let multiple = || if width.is_zero() { None } else { Some(original(rounded(&(old / &width), rule) * &width)) };
             rows! { (x, step);
@@ -578,7 +591,10 @@ fn division_by_0() {
     let (half, zero) = (|| BigFraction::new(1, 2), || BigFraction::from(0));
     let messages = [message(|| half() / zero()), message(|| half() / 0), message(|| 1 / zero()), message(|| zero().recip()), message(|| zero().pow(-1)), message(|| BigFraction::new(1, 0))];
     assert_eq!(messages, [(); 6].map(|_| "denominator == 0"));
-    assert_eq!(message(|| half() % zero()), "attempt to calculate the remainder with a divisor of zero");
+    for message in [message(|| half() % zero()), message(|| half().rem_euclid(&zero())), message(|| 7 % zero()), message(|| half() % Ratio::new(0, 1))] {
+        assert_eq!(message, "attempt to calculate the remainder with a divisor of zero");
+    }
+    assert_eq!(message(|| half().div_euclid(&zero())), "attempt to divide by zero");
     assert_eq!(message(|| BigFraction::from_str_radix("1/2", 37)), "from_str_radix_int: must lie in the range `[2, 36]` - found 37");
 }
 

@@ -168,9 +168,36 @@ const ROUNDING: &[Row] = &[
     ("decimal of no lowest terms", line!(), || done(refused().decimal(2, Rounding::Up))),
 ];
 
+fn big() -> BigFraction {
+    BigFraction::from(1)
+}
+
+fn big_zero() -> BigFraction {
+    BigFraction::from(0)
+}
+
 const ANY_SIZE: &[Row] = &[
     ("BigFraction::round_to", line!(), || done(BigFraction::from(1).round_to(0, Rounding::Up))),
     ("BigFraction::round_to_multiple_of", line!(), || done(BigFraction::from(1).round_to_multiple_of(&BigFraction::from(0), Rounding::Up))),
+    ("BigFraction::new", line!(), || done(BigFraction::new(1, 0))),
+    ("BigFraction::new of two", line!(), || done(BigFraction::new(&big(), &big_zero()))),
+    ("BigFraction / 0", line!(), || done(big() / 0)),
+    ("&BigFraction % &0", line!(), || done(&big() % &0)),
+    ("BigFraction / BigFraction", line!(), || done(big() / big_zero())),
+    ("BigFraction + no value", line!(), || done(big() + none())),
+    ("&BigFraction - &no value", line!(), || done(&big() - &none())),
+    ("BigFraction /= 0", line!(), || done({ let mut x = big(); x /= 0; x })),
+    ("BigFraction *= no value", line!(), || done({ let mut x = big(); x *= none(); x })),
+    ("1 / BigFraction", line!(), || done(1 / big_zero())),
+    ("&1 % &BigFraction", line!(), || done(&1 % &big_zero())),
+    ("a ratio / BigFraction", line!(), || done(one() / big_zero())),
+    ("no value * &BigFraction", line!(), || done(none() * &big())),
+    ("a reduced / BigFraction", line!(), || done(Reduced::from(1) / big_zero())),
+    ("sum of no values", line!(), || done(BigFraction::sum([none()].into_iter()))),
+    ("product of references to no values", line!(), || done(BigFraction::product([none()].iter()))),
+    ("Pow of BigFraction", line!(), || done(Pow::pow(big_zero(), -1))),
+    ("BigFraction::div_euclid", line!(), || done(big().div_euclid(&big_zero()))),
+    ("BigFraction::rem_euclid", line!(), || done(big().rem_euclid(&big_zero()))),
 ];
 
 /// A fraction that no slot of a total takes.
@@ -201,10 +228,10 @@ fn the_callers_line_is_named() {
 }
 
 /// Without memory for an order, `x < y` must not be false.
-const PARTIAL_CMP: &str = "fn partial_cmp(&self, other: &BigFraction)";
+const PARTIAL_CMP: [&str; 2] = ["fn partial_cmp(&self, other: &BigFraction)", "fn partial_cmp(&self, other: &$Other)"];
 
 /// The layer's functions that only the layer calls.
-const OWN: [&str; 7] = ["pub(super) fn ", "fn recip_of_any(", "fn refuse", "fn power<", "fn put", "fn pour(", PARTIAL_CMP];
+const OWN: [&str; 8] = ["pub(super) fn ", "fn recip_of_any(", "fn refuse", "fn power<", "fn put", "fn pour(", PARTIAL_CMP[0], PARTIAL_CMP[1]];
 
 /// A call that can panic has `#[track_caller]` and says when it panics. A call that returns an `Option` never panics.
 #[test]

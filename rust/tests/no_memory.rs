@@ -2,8 +2,8 @@
 //! an error, one with an `Option` returns `None`, and each other one panics. The operands stay as they were. Short fractions ask for nothing.
 #![cfg(all(feature = "alloc", panic = "unwind"))]
 
-use bakhsney::{AllocError, BigFraction, BigTextRefusal, Rounding};
-use num_traits::{CheckedAdd, CheckedDiv, CheckedMul, CheckedRem, CheckedSub, Num, Signed, ToPrimitive};
+use bakhsney::{AllocError, BigFraction, BigTextRefusal, Ratio, Reduced, Rounding};
+use num_traits::{CheckedAdd, CheckedDiv, CheckedEuclid, CheckedMul, CheckedRem, CheckedSub, Euclid, Num, Signed, ToPrimitive};
 use std::alloc::{GlobalAlloc, Layout, System};
 use std::cell::Cell;
 use std::fmt::Write;
@@ -113,7 +113,7 @@ const LONG: &str = "-123456789012345678901234567890/7";
 #[test]
 fn tried() {
     let (x, y) = &long();
-    let next = &next();
+    let (next, below) = (&next(), &-y);
     let before = (x.to_string(), y.to_string());
     let ok = |result: Result<BigFraction, AllocError>| result.map(drop);
     let some = |result: Result<Option<BigFraction>, AllocError>| result.map(|fraction| drop(fraction.expect("it exists")));
@@ -123,6 +123,9 @@ fn tried() {
         ok(x.try_mul(y));
         some(x.try_div(y));
         some(x.try_rem(y));
+        some(x.try_div_euclid(y));
+        some(x.try_rem_euclid(y));
+        some(x.try_rem_euclid(below));
         ok(x.try_gcd(y));
         ok(x.try_lcm(y));
         ok(x.try_neg());
@@ -143,6 +146,8 @@ fn tried() {
         x.try_to_string().map(drop);
         x.try_to_f64().map(drop);
         some(BigFraction::try_new(1, u128::MAX));
+        some(BigFraction::try_new(x, y));
+        some(BigFraction::try_new(Ratio::new(1, u128::MAX), Ratio::new(1, 3)));
         some(BigFraction::try_from_digits(false, &[0, 1], &[3]));
         some(BigFraction::try_from_float(1e300));
         BigFraction::try_from_str(LONG).map(|read| drop(read.unwrap()));
@@ -194,6 +199,9 @@ fn options() {
         x.checked_mul(y).map(drop);
         x.checked_div(y).map(drop);
         x.checked_rem(y).map(drop);
+        x.checked_div_euclid(y).map(drop);
+        x.checked_rem_euclid(y).map(drop);
+        BigFraction::checked_new(x, y).map(drop);
         BigFraction::checked_new(1, u128::MAX).map(drop);
         BigFraction::from_digits(false, &[0, 1], &[3]).map(drop);
         BigFraction::from_float(1e300).map(drop);
@@ -215,6 +223,8 @@ fn panics() {
         drop(x * y);
         drop(x / y);
         drop(x % y);
+        drop((x - 1, x * Ratio::new(1, u128::MAX), Reduced::from(i128::MIN) / y, u64::MAX + x));
+        drop((x.div_euclid(y), x.rem_euclid(y), BigFraction::new(x, y)));
         drop(-x);
         drop(x.clone());
         drop(x.abs());
@@ -225,9 +235,11 @@ fn panics() {
         drop(x.continued_fraction());
         drop((x.floor(), x.ceil(), x.round(), x.trunc(), x.fract()));
         assert!(x < y);
+        assert!(*y > Ratio::new(1, u128::MAX) && *x != Ratio::new(1, i128::MAX) && Reduced::from(i128::MIN) < *y && *x < u128::MAX);
         drop((x.numer(), x.denom(), x.numer_digits(), x.denom_digits()));
+        drop((x.to_integer(), x.clone().into_raw()));
         drop(x.decimal(3, Rounding::Up));
-        write!(Nowhere, "{x} {x:.3} {x:?}").unwrap();
+        write!(Nowhere, "{x} {x:.3} {x:?} {x:e} {x:E}").unwrap();
         drop(LONG.parse::<BigFraction>());
         drop(BigFraction::from_str_radix("100000000000000000000/7", 16));
         drop(BigFraction::from(u128::MAX));
@@ -252,6 +264,8 @@ fn short_ones_take_no_memory() {
         let all = [&x + &y, &x - &y, &x * &y, &x / &y, &x % &y, -&x, x.abs(), x.clone(), x.recip(), x.pow(20), x.numer(), x.denom()];
         assert!(all.iter().all(|result| result < &BigFraction::from(i64::MAX)));
         assert_eq!([x.round_to(100, Rounding::Up), x.round_to_multiple_of(&BigFraction::new(1, 5), Rounding::Up)], [BigFraction::new(-117, 100), BigFraction::new(-6, 5)]);
+        assert!([&x + 1, 2 * &x, &x - Ratio::new(1, 3), Reduced::from(3) / &y, BigFraction::new(&x, &y)].iter().all(|result| *result < i64::MAX));
+        assert!(y == Ratio::new(5, 4) && x != Reduced::from(-1) && x != 7 && x < Ratio::new(-1, 1) && x != u128::MAX && i8::try_from(&y).is_err());
         assert!(x.floor() < x.ceil() && x.round() == x.trunc() && x == x.clone() && x.fract().is_negative());
         assert!(BigFraction::simplest_between(&x, &y) == Some(BigFraction::from(0)) && BigFraction::simplest_between(&y, &x).is_none());
         assert_eq!(("-7/6".parse(), BigFraction::from_float(0.5), x.to_i64()), (Ok(x), Some(BigFraction::new(1, 2)), Some(-1)));

@@ -394,6 +394,7 @@ const RATIO: &[Row<Ratio<i8>>] = rows! { x, c:
     Ratio::<i8>::from_i128(c.number().into()) => cast::<i8>(Some((c.number(), 1)));
     Ratio::<i8>::from_u64(c.number().unsigned_abs()) => cast::<i8>(Some((c.number().abs(), 1)));
     Ratio::<i8>::from_u128(c.number().unsigned_abs().into()) => cast::<i8>(Some((c.number().abs(), 1)));
+    c.double().map(Ratio::<i8>::from_float64) => c.double().map(|_| c.binary());
     c.single().map(Ratio::<i8>::from_float32) => c.single().map(|_| c.binary());
     c.double().map(Ratio::<i8>::rationalize) => c.double().map(|_| c.lowest());
     c.single().map(Ratio::<i8>::rationalize32) => c.single().map(|_| c.lowest());
@@ -446,12 +447,6 @@ const REDUCED: &[Row<Reduced<i8>>] = rows! { x, c:
     x.continued_fraction().collect::<Vec<i8>>() => c.lowest().map(quotients);
     x.convergents().collect::<Vec<_>>() => c.lowest().map(convergents);
     Reduced::from_continued_fraction(&c.lowest().map_or(vec![], narrow_quotients)) => c.lowest();
-};
-
-// With the feature, big fractions alone have this call.
-#[cfg(not(feature = "num-bigint"))]
-const RATIO_OF_FLOAT: &[Row<Ratio<i8>>] = rows! { x, c:
-    c.double().map(Ratio::<i8>::from_float) => c.double().map(|_| c.binary());
 };
 
 #[cfg(feature = "serde")]
@@ -508,8 +503,6 @@ fn walk(rest: i64) {
             let x = Ratio::new_raw(n, d);
             compared(RATIO_AS_REDUCED, x, &case, place);
             compared(RATIO, x, &case, place);
-            #[cfg(not(feature = "num-bigint"))]
-            compared(RATIO_OF_FLOAT, x, &case, place);
             #[cfg(feature = "serde")]
             compared(RATIO_IN_JSON, x, &case, place);
             if case.is_lowest() {

@@ -332,9 +332,7 @@ fn calls_of_reduced_for_a_ratio() {
     let floats = [0.0, -0.5, 0.1, 127.5, 128.0, f64::NAN, f64::INFINITY];
     let lowest = floats.map(|float| fields(Reduced::<i8>::from_float(float)));
     assert_eq!(floats.map(|float| Ratio::try_from(float).ok().map(Ratio::into_raw)), lowest);
-    // With the feature, big fractions alone have this call.
-    #[cfg(not(feature = "num-bigint"))]
-    assert_eq!(floats.map(|float| Ratio::from_float(float).map(Ratio::into_raw)), lowest);
+    assert_eq!(floats.map(|float| Ratio::from_float64(float).map(Ratio::into_raw)), lowest);
     assert_eq!([-0.5, 0.1].map(|float| Ratio::from_float32(float).map(Ratio::into_raw)), [Some((-1i8, 2)), None]);
 }
 

@@ -2,8 +2,8 @@
 //! divisor is 0. `BAKHSNEY_PAIRS` says how many pairs. Each gets ten calls: five operators, each in its plain and in one of its other forms.
 #![cfg(feature = "num-bigint")]
 
-#[path = "support/panics.rs"]
-mod panics;
+#[path = "support/outcomes.rs"]
+mod outcomes;
 #[macro_use]
 mod support;
 
@@ -12,7 +12,7 @@ use bakhsney::Reduced;
 use num_bigint::BigInt;
 use num_integer::Integer as _;
 use num_traits::{Signed, Zero};
-use panics::{outcome, quietly};
+use outcomes::{outcome, quietly};
 use support::Numbers;
 
 type Fields = (BigInt, BigInt);

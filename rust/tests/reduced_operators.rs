@@ -3,13 +3,13 @@
 // The tests are about these forms.
 #![allow(clippy::op_ref)]
 
-#[path = "support/panics.rs"]
-mod panics;
+#[path = "support/outcomes.rs"]
+mod outcomes;
 
 use bakhsney::integer::Integer;
 use bakhsney::{Ratio, Reduced, Reduced64};
 use num_traits::{Bounded, CheckedAdd, CheckedEuclid, CheckedMul, CheckedSub, Euclid, FromPrimitive, Inv, Num, NumAssignRef, One, Pow, Signed, Zero};
-use panics::{outcome, quietly};
+use outcomes::{outcome, quietly};
 
 /// The fractions of these numbers that are in lowest terms.
 fn fractions<T: Integer>(numbers: &[T]) -> Vec<Reduced<T>> {

@@ -222,7 +222,7 @@ fn texts_of_errors() {
     let texts: [(Box<dyn Error + Send + Sync>, &str); 5] = [
         (Reduced::<i8>::try_from(Reduced64::from(128)).unwrap_err().into(), "the numerator or the denominator does not fit the type"),
         (Reduced::<i8>::try_from((1, 0)).unwrap_err().into(), "the denominator is 0, or the lowest terms do not fit the type or the memory"),
-        (Reduced32::try_from(0.1f64).unwrap_err().into(), "the float is infinite or no number, or its lowest terms do not fit the type"),
+        (Reduced32::try_from(0.1f64).unwrap_err().into(), "the float is infinite or no number, or its lowest terms do not fit the type or the memory"),
         ("1/0".parse::<Rational32>().unwrap_err().into(), "zero value denominator"),
         ("1/x".parse::<Rational32>().unwrap_err().into(), "failed to parse integer"),
     ];

@@ -74,18 +74,16 @@ impl<T: Integer> Ratio<T> {
     /// The fraction with exactly the value of the float, as `Reduced::from_float` returns it. `None` if the float is infinite or no
     /// number, or if its lowest terms do not fit the type. `approximate_float` returns a fraction near the float.
     ///
-    /// With the feature `num-bigint` this name is num-rational's, for `BigRational` alone: else `Ratio::from_float(x)` would not say which
-    /// type it means. `Ratio::try_from(float)` is there with and without.
+    /// The name `from_float` is num-rational's, for `BigRational` alone: else `Ratio::from_float(x)` would not say which type it means.
     ///
     /// ```
     /// use num_rational::Ratio;
     ///
-    /// assert_eq!(Ratio::from_float(-0.75), Some(Ratio::new(-3, 4)));
-    /// assert_eq!(Ratio::<i32>::from_float(0.1), None);
+    /// assert_eq!(Ratio::from_float64(-0.75), Some(Ratio::new(-3, 4)));
+    /// assert_eq!(Ratio::<i32>::from_float64(0.1), None);
     /// ```
-    #[cfg(not(feature = "num-bigint"))]
     #[inline]
-    pub fn from_float(float: f64) -> Option<Ratio<T>> {
+    pub fn from_float64(float: f64) -> Option<Ratio<T>> {
         Reduced::from_float(float).map(Ratio::from)
     }
 

@@ -2,8 +2,8 @@
 //!
 //! Each result comes from a proved call. A call `try_..` returns an error if there is not enough memory, and the same call without `try_`
 //! panics. A call with an `Option` returns `None` then, unless it is one of `try_..`.
+use super::big_fraction_operand::BigOperand;
 use super::integer::{Element, Integer};
-use super::numbers::magnitude;
 use super::reduced::Reduced;
 use crate::memory::{AllocError, Global};
 use crate::proved::ratio_big::BigFraction as Proved;
@@ -12,8 +12,8 @@ use alloc::vec::Vec;
 use core::cmp::Ordering;
 
 /// An exact fraction of any size, always in lowest terms. No sum, difference, product or quotient is out of range, so an operator panics
-/// only for a divisor 0 and for want of memory. While both numbers fit an `i64`, it takes no memory. Calls that num-rational's `BigRational`
-/// has, too, have the same names.
+/// only for a divisor 0, for a `Ratio` with the denominator 0, and for want of memory. While both numbers fit an `i64`, it takes no memory.
+/// Calls that num-rational's `BigRational` has, too, have the same names.
 ///
 /// ```
 /// use num_rational::BigFraction;
@@ -24,7 +24,22 @@ use core::cmp::Ordering;
 /// assert_eq!(sum - last, BigFraction::new(1, 100));
 /// ```
 ///
-/// Whole numbers of each type may be on either side of an operator. A program that must not stop for want of memory calls `try_add` and the like:
+/// Whole numbers, `Ratio`s and `Reduced`s may be on either side of an operator, and on the right of `==` and `<`. So rustc cannot tell which type
+/// `x == 144.into()` and `x == Zero::zero()` mean: write `x == 144`, `x == BigFraction::from(144)` and `x == 0`.
+///
+/// ```
+/// use num_rational::{BigFraction, Ratio, Reduced};
+///
+/// let x = BigFraction::new(12, 1).pow(2) - Ratio::new(1, 2) + Reduced::from(1u8);
+/// assert!(2 * &x == 289 && x > Ratio::new(144, 1) && Reduced::from(144u8) < x);
+/// assert_eq!((&x - 144).recip(), BigFraction::from(2));
+/// ```
+///
+/// ```compile_fail
+/// assert!(num_rational::BigFraction::from(144) == 144.into()); // type annotations needed
+/// ```
+///
+/// A program that must not stop for want of memory calls `try_add` and the like:
 ///
 /// ```
 /// use num_rational::{AllocError, BigFraction};
@@ -65,13 +80,8 @@ fn refuse(why: &str) -> ! {
     panic!("{why}")
 }
 
-/// The two digits of a number, the lowest first.
-fn digits_of(number: u128) -> [u64; 2] {
-    [number as u64, (number >> 64) as u64]
-}
-
 impl BigFraction {
-    /// The lowest terms of `numer/denom`.
+    /// The lowest terms of `numer/denom`: of two whole numbers, also of any size, or of two fractions.
     ///
     /// # Panics
     ///
@@ -82,10 +92,12 @@ impl BigFraction {
     ///
     /// assert_eq!(BigFraction::new(6, -4), BigFraction::new(-3, 2));
     /// assert_eq!(BigFraction::new(1u128 << 127, 1 << 100), BigFraction::from(1u32 << 27));
+    /// let (two, three) = (BigFraction::from(2).pow(200), BigFraction::from(3).pow(200));
+    /// assert_eq!(BigFraction::new(&two, &three), BigFraction::new(2, 3).pow(200));
     /// ```
     #[inline]
     #[track_caller]
-    pub fn new<T: Integer>(numer: T, denom: T) -> BigFraction {
+    pub fn new<N: BigOperand>(numer: N, denom: N) -> BigFraction {
         divided(BigFraction::try_new(numer, denom), "denominator == 0")
     }
 
@@ -95,7 +107,7 @@ impl BigFraction {
     /// assert!(num_rational::BigFraction::checked_new(1, 0).is_none());
     /// ```
     #[inline]
-    pub fn checked_new<T: Integer>(numer: T, denom: T) -> Option<BigFraction> {
+    pub fn checked_new<N: BigOperand>(numer: N, denom: N) -> Option<BigFraction> {
         BigFraction::try_new(numer, denom).ok().flatten()
     }
 
@@ -105,13 +117,8 @@ impl BigFraction {
     /// assert_eq!(num_rational::BigFraction::try_new(1, 0), Ok(None));
     /// ```
     #[inline]
-    pub fn try_new<T: Integer>(numer: T, denom: T) -> Result<Option<BigFraction>, AllocError> {
-        if let Some(fraction) = Reduced::checked_new(numer, denom) {
-            return BigFraction::try_from_reduced(fraction).map(Some);
-        }
-        // The lowest terms do not fit the type, as those of 1/-128 over `i8`.
-        let is_negative = (numer < T::NUMBER_0) != (denom < T::NUMBER_0);
-        BigFraction::try_from_digits(is_negative, &digits_of(magnitude(numer)), &digits_of(magnitude(denom)))
+    pub fn try_new<N: BigOperand>(numer: N, denom: N) -> Result<Option<BigFraction>, AllocError> {
+        N::bakhsney_quotient(&numer, &denom)
     }
 
     /// The whole number over 1.

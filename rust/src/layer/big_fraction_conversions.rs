@@ -1,4 +1,4 @@
-//! Conversions between `BigFraction` and whole numbers, `Reduced`s and big integers, the sum of a `Total`, and the constants.
+//! Conversions between `BigFraction` and whole numbers, `Ratio`s, `Reduced`s and big integers, the sum of a `Total`, and the constants.
 use super::big_fraction::{taken, BigFraction};
 use super::integer::Integer;
 use super::numbers::signed;
@@ -93,6 +93,43 @@ impl<T: Integer> TryFrom<BigFraction> for Reduced<T> {
     fn try_from(fraction: BigFraction) -> Result<Reduced<T>, ReducedError> {
         Reduced::try_from(&fraction)
     }
+}
+
+// One for each type: a `Ratio` of all of them would be in the way of `From` for a `Ratio` of big integers, for rustc 1.63.
+macro_rules! to_numbers {
+    ($($type:ident)*) => {$(
+        to_numbers! { Ratio<$type>: fraction => Reduced::try_from(fraction).map(Ratio::from) }
+        to_numbers! { $type: fraction => whole_number(fraction) }
+    )*};
+    ($To:ty: $fraction:ident => $result:expr) => {
+        impl TryFrom<&BigFraction> for $To {
+            type Error = ReducedError;
+
+            /// The same value, or an error if the type does not have it: 1/2 is no whole number. `to_integer` cuts it to one.
+            #[inline]
+            fn try_from($fraction: &BigFraction) -> Result<$To, ReducedError> {
+                $result
+            }
+        }
+
+        impl TryFrom<BigFraction> for $To {
+            type Error = ReducedError;
+
+            /// The same value, or an error if the type does not have it.
+            #[inline]
+            fn try_from(fraction: BigFraction) -> Result<$To, ReducedError> {
+                <$To>::try_from(&fraction)
+            }
+        }
+    };
+}
+
+to_numbers! { i8 i16 i32 i64 i128 isize u8 u16 u32 u64 u128 usize }
+
+/// The number, if it is whole and fits the type.
+fn whole_number<T: Integer>(fraction: &BigFraction) -> Result<T, ReducedError> {
+    let number = Reduced::<T>::try_from(fraction)?;
+    if number.is_integer() { Ok(*number.numer()) } else { Err(ReducedError(())) }
 }
 
 /// The number of these digits, if it is below 2^128.

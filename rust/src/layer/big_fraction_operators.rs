@@ -1,82 +1,90 @@
-//! The operators of `BigFraction` in all forms, the checked traits, and `sum` and `product`. A whole number of each type may be on either side.
+//! The operators of `BigFraction` in all forms, the checked traits, and `sum` and `product`. A whole number, a `Ratio` or a `Reduced` may be on
+//! either side.
 use super::big_fraction::{divided, taken, BigFraction};
+use super::big_fraction_operand::{operand, BigOperand};
+use super::integer::Integer;
+use super::ratio::Ratio;
+use super::reduced::Reduced;
 use core::iter::{Product, Sum};
 use core::ops::{Add, AddAssign, Div, DivAssign, Mul, MulAssign, Neg, Sub, SubAssign};
 use num_traits::{CheckedAdd, CheckedDiv, CheckedMul, CheckedSub, Inv};
 
 macro_rules! operators {
     ($($Op:ident $op:ident $OpAssign:ident $op_assign:ident $($zero:literal)?: $x:ident, $y:ident => $result:expr;)*) => {$(
-        impl $Op<&BigFraction> for &BigFraction {
+        impl<O: BigOperand> $Op<O> for &BigFraction {
             type Output = BigFraction;
 
+            /// The right side may be a fraction or a whole number, or a reference to one.
+            ///
             /// # Panics
             ///
-            #[doc = concat!("For want of memory", $(", or with `", $zero, "` if the right side is 0",)? ".")]
+            #[doc = concat!("For want of memory, or if the right side is a `Ratio` with the denominator 0.", $(" With `", $zero, "` if it is 0.")?)]
             #[inline]
             #[track_caller]
-            fn $op(self, $y: &BigFraction) -> BigFraction {
-                let $x = self;
+            fn $op(self, other: O) -> BigFraction {
+                let ($x, other) = (self, operand(&other));
+                let $y = other.fraction();
                 $result
             }
         }
 
-        forms! { $Op $op; BigFraction, BigFraction; x, y => &x, &y }
-        forms! { $Op $op; BigFraction, &BigFraction; x, y => &x, y }
-        forms! { $Op $op; &BigFraction, BigFraction; x, y => x, &y }
-        assigning! { $OpAssign $op_assign $Op $op; BigFraction }
-        assigning! { $OpAssign $op_assign $Op $op; &BigFraction }
-        with_numbers! { $Op $op $OpAssign $op_assign: i8 i16 i32 i64 i128 isize u8 u16 u32 u64 u128 usize }
-    )*};
-}
-
-macro_rules! forms {
-    ($Op:ident $op:ident; $Left:ty, $Right:ty; $x:ident, $y:ident => $left:expr, $right:expr) => {
-        impl $Op<$Right> for $Left {
+        impl<O: BigOperand> $Op<O> for BigFraction {
             type Output = BigFraction;
 
             /// # Panics
             ///
-            /// As for two references.
+            /// As for a reference.
             #[inline]
             #[track_caller]
-            fn $op(self, $y: $Right) -> BigFraction {
-                let $x = self;
-                $Op::<&BigFraction>::$op($left, $right)
+            fn $op(self, other: O) -> BigFraction {
+                $Op::$op(&self, other)
             }
         }
-    };
-}
 
-macro_rules! with_numbers {
-    ($Op:ident $op:ident $OpAssign:ident $op_assign:ident: $($type:ident)*) => {$(
-        forms! { $Op $op; BigFraction, $type; x, y => &x, &BigFraction::from_integer(y) }
-        forms! { $Op $op; BigFraction, &$type; x, y => &x, &BigFraction::from_integer(*y) }
-        forms! { $Op $op; &BigFraction, $type; x, y => x, &BigFraction::from_integer(y) }
-        forms! { $Op $op; &BigFraction, &$type; x, y => x, &BigFraction::from_integer(*y) }
-        forms! { $Op $op; $type, BigFraction; x, y => &BigFraction::from_integer(x), &y }
-        forms! { $Op $op; $type, &BigFraction; x, y => &BigFraction::from_integer(x), y }
-        forms! { $Op $op; &$type, BigFraction; x, y => &BigFraction::from_integer(*x), &y }
-        forms! { $Op $op; &$type, &BigFraction; x, y => &BigFraction::from_integer(*x), y }
-        assigning! { $OpAssign $op_assign $Op $op; $type }
-        assigning! { $OpAssign $op_assign $Op $op; &$type }
-    )*};
-}
-
-macro_rules! assigning {
-    ($OpAssign:ident $op_assign:ident $Op:ident $op:ident; $Right:ty) => {
-        impl $OpAssign<$Right> for BigFraction {
+        impl<O: BigOperand> $OpAssign<O> for BigFraction {
             /// # Panics
             ///
-            /// As for two references.
+            /// As for a reference.
             #[inline]
             #[track_caller]
-            fn $op_assign(&mut self, other: $Right) {
+            fn $op_assign(&mut self, other: O) {
                 *self = $Op::$op(&*self, other);
             }
         }
+
+        from_left! { $Op $op; Ratio<T>, Reduced<T>, i8, i16, i32, i64, i128, isize, u8, u16, u32, u64, u128, usize }
+    )*};
+}
+
+// The left sides, and references to them. Rust takes no impl for all `T: Integer` there, since `Add` and the like are not of this crate.
+macro_rules! from_left {
+    ($Op:ident $op:ident; $Ratio:ty, $Reduced:ty, $($type:ty),*) => {
+        from_left! { $Op $op <T: Integer>: $Ratio }
+        from_left! { $Op $op <T: Integer>: $Reduced }
+        $(from_left! { $Op $op: $type })*
+    };
+    ($Op:ident $op:ident $(<$T:ident: $Bound:ident>)?: $Left:ty) => {
+        from_left! { $Op $op $(<$T: $Bound>)?; $Left, BigFraction }
+        from_left! { $Op $op $(<$T: $Bound>)?; $Left, &BigFraction }
+        from_left! { $Op $op $(<$T: $Bound>)?; &$Left, BigFraction }
+        from_left! { $Op $op $(<$T: $Bound>)?; &$Left, &BigFraction }
+    };
+    ($Op:ident $op:ident $(<$T:ident: $Bound:ident>)?; $Left:ty, $Right:ty) => {
+        impl$(<$T: $Bound>)? $Op<$Right> for $Left {
+            type Output = BigFraction;
+
+            /// # Panics
+            ///
+            /// As for a `BigFraction` on the left, or if a `Ratio` there has the denominator 0.
+            #[inline]
+            #[track_caller]
+            fn $op(self, other: $Right) -> BigFraction {
+                $Op::$op(operand(&self).fraction(), other)
+            }
+        }
     };
 }
-pub(super) use {assigning, forms, operators, with_numbers};
+pub(super) use {from_left, operators};
 
 operators! {
     Add add AddAssign add_assign: x, y => taken(x.try_add(y));
@@ -168,30 +176,14 @@ checked! {
 // Each fold is a loop: a panic in a closure would name a line of this file.
 macro_rules! folds {
     ($($Fold:ident $fold:ident $start:literal $op:tt;)*) => {$(
-        impl $Fold for BigFraction {
+        impl<O: BigOperand> $Fold<O> for BigFraction {
             /// # Panics
             ///
-            /// For want of memory.
+            /// For want of memory, or if a `Ratio` has the denominator 0.
             #[inline]
             #[track_caller]
             #[allow(clippy::assign_op_pattern)]
-            fn $fold<I: Iterator<Item = BigFraction>>(items: I) -> BigFraction {
-                let mut total = BigFraction::from($start);
-                for item in items {
-                    total = total $op item;
-                }
-                total
-            }
-        }
-
-        impl<'a> $Fold<&'a BigFraction> for BigFraction {
-            /// # Panics
-            ///
-            /// For want of memory.
-            #[inline]
-            #[track_caller]
-            #[allow(clippy::assign_op_pattern)]
-            fn $fold<I: Iterator<Item = &'a BigFraction>>(items: I) -> BigFraction {
+            fn $fold<I: Iterator<Item = O>>(items: I) -> BigFraction {
                 let mut total = BigFraction::from($start);
                 for item in items {
                     total = total $op item;

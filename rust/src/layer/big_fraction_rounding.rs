@@ -1,7 +1,10 @@
 //! The whole numbers near a `BigFraction` and of it, remainders and powers.
 use super::big_fraction::{divided, taken, tries, BigFraction};
-use super::big_fraction_operators::{assigning, checked, forms, operators, with_numbers};
+use super::big_fraction_operand::{operand, BigOperand};
+use super::big_fraction_operators::{checked, from_left, operators};
 use super::integer::{Element, Integer};
+use super::ratio::Ratio;
+use super::reduced::Reduced;
 use crate::memory::{AllocError, Global, Vec};
 use core::ops::{Rem, RemAssign};
 use num_traits::{CheckedRem, Pow};
@@ -92,6 +95,50 @@ whole_numbers! {
     /// assert_eq!(BigFraction::new(1, 1u128 << 64).denom().to_string(), "18446744073709551616");
     /// ```
     denom by try_denom;
+}
+
+/// A whole number of any size is a `BigFraction` over 1: this crate has no type for these numbers alone.
+impl BigFraction {
+    /// The fraction cut towards 0, as `trunc` returns it. num-traits' `to_i64` and the like cut it to a number of a machine type, if that
+    /// fits, and `i64::try_from` and the like refuse a fraction that is not whole.
+    ///
+    /// # Panics
+    ///
+    /// For want of memory.
+    ///
+    /// ```
+    /// use num_rational::BigFraction;
+    /// use num_traits::ToPrimitive;
+    ///
+    /// let x = BigFraction::new(-7, 2);
+    /// assert_eq!((x.to_integer(), x.to_i64()), (BigFraction::from(-3), Some(-3)));
+    /// assert_eq!((i64::try_from(x.to_integer()), i64::try_from(&x).is_err()), (Ok(-3), true));
+    /// ```
+    #[inline]
+    #[track_caller]
+    pub fn to_integer(&self) -> BigFraction {
+        self.trunc()
+    }
+
+    /// The numerator and the denominator, as `numer` and `denom` return them. `new` makes the fraction of them again. With the feature
+    /// `num-bigint`, `BigRational::from(x).into_raw()` has them as big integers.
+    ///
+    /// # Panics
+    ///
+    /// For want of memory.
+    ///
+    /// ```
+    /// use num_rational::BigFraction;
+    ///
+    /// let (numer, denom) = BigFraction::new(-6, 4).into_raw();
+    /// assert_eq!((&numer, &denom), (&BigFraction::from(-3), &BigFraction::from(2)));
+    /// assert_eq!(BigFraction::new(numer, denom), BigFraction::new(-3, 2));
+    /// ```
+    #[inline]
+    #[track_caller]
+    pub fn into_raw(self) -> (BigFraction, BigFraction) {
+        (self.numer(), self.denom())
+    }
 }
 
 tries! { divisions:
@@ -185,14 +232,16 @@ fn exponent_of<T: Integer>(number: T) -> i64 {
 }
 
 macro_rules! powers {
-    ($($type:ident)*) => {$(
-        powers! { BigFraction, $type; base, exponent => &base, exponent }
-        powers! { BigFraction, &$type; base, exponent => &base, *exponent }
-        powers! { &BigFraction, $type; base, exponent => base, exponent }
-        powers! { &BigFraction, &$type; base, exponent => base, *exponent }
-    )*};
-    ($Base:ty, $Exponent:ty; $base:ident, $exponent:ident => $left:expr, $right:expr) => {
-        impl Pow<$Exponent> for $Base {
+    ($($type:ident)*) => {
+        powers! { <T: Integer>: BigFraction, T; base, exponent => &base, exponent }
+        powers! { <T: Integer>: &BigFraction, T; base, exponent => base, exponent }
+        $(
+            powers! { : BigFraction, &$type; base, exponent => &base, *exponent }
+            powers! { : &BigFraction, &$type; base, exponent => base, *exponent }
+        )*
+    };
+    ($(<$T:ident: $Bound:ident>)?: $Base:ty, $Exponent:ty; $base:ident, $exponent:ident => $left:expr, $right:expr) => {
+        impl$(<$T: $Bound>)? Pow<$Exponent> for $Base {
             type Output = BigFraction;
 
             /// # Panics

@@ -1,6 +1,7 @@
 //! `BigFraction` as texts, decimals and floats, printed and read, and why a text gives none.
 use super::big_fraction::{taken, BigFraction};
-use crate::memory::{AllocError, Global};
+use super::reduced::Reduced;
+use crate::memory::{self, AllocError, Global};
 use crate::proved::num_rational::ParseRatioError;
 use crate::proved::ratio_big::BigFraction as Proved;
 use crate::proved::ratio_decimal::rounding_rule::Rounding;
@@ -27,11 +28,55 @@ impl fmt::Display for BigFraction {
             None => self.0.to_text(Global),
             Some(places) => u32::try_from(places).map_err(|_| AllocError).and_then(|places| self.0.decimal(Global, places, Rounding::HalfEven)),
         });
-        match text.strip_prefix('-') {
-            Some(digits) => f.pad_integral(false, "", digits),
-            None => f.pad_integral(true, "", &text),
-        }
+        pad(f, &text)
     }
+}
+
+/// Writes the text as std writes an integer with these digits: with the sign, the fill and the width of the formatter.
+fn pad(f: &mut fmt::Formatter<'_>, text: &str) -> fmt::Result {
+    match text.strip_prefix('-') {
+        Some(digits) => f.pad_integral(false, "", digits),
+        None => f.pad_integral(true, "", text),
+    }
+}
+
+macro_rules! exponent_forms {
+    ($($Form:ident $mark:literal;)*) => {$(
+        /// The numerator, a slash and the denominator, each with its own exponent, or the numerator alone if the fraction is a whole number.
+        /// This is not proved.
+        impl fmt::$Form for BigFraction {
+            /// # Panics
+            ///
+            /// For want of memory.
+            #[track_caller]
+            fn fmt(&self, f: &mut fmt::Formatter<'_>) -> fmt::Result {
+                pad(f, &taken(with_exponents(self, $mark)))
+            }
+        }
+    )*};
+}
+
+exponent_forms! {
+    LowerExp "e";
+    UpperExp "E";
+}
+
+/// The text of a fraction in which each number has an exponent: -1.5e3/7e0 for -1500/7.
+fn with_exponents(fraction: &BigFraction, mark: &str) -> Result<memory::String, AllocError> {
+    let mut text = memory::String::new(Global);
+    for number in fraction.0.to_text(Global)?.split('/') {
+        let digits = number.trim_start_matches('-');
+        let (first, rest) = digits.split_at(1);
+        let rest = rest.trim_end_matches('0');
+        text.push_str(if text.is_empty() { "" } else { "/" })?;
+        text.push_str(if number == digits { "" } else { "-" })?;
+        text.push_str(first)?;
+        text.push_str(if rest.is_empty() { "" } else { "." })?;
+        text.push_str(rest)?;
+        text.push_str(mark)?;
+        text.push_str(&Reduced::from_integer(digits.len() - 1).base_ten_text())?;
+    }
+    Ok(text)
 }
 
 impl fmt::Debug for BigFraction {

@@ -1,6 +1,8 @@
 //! The float nearest to a fraction, and fractions with exactly the values of floats.
 //!
 //! Proved calls find the nearest float. They require a positive denominator. For another one, this module passes on the magnitudes.
+#[cfg(feature = "alloc")]
+use super::big_fraction::BigFraction;
 use super::integer::{Element, Integer};
 use super::ratio::Ratio;
 use super::reduced::Reduced;
@@ -67,21 +69,21 @@ impl<T: Integer> Ratio<T> {
 
 // Fractions with exactly the values of floats, by the trait `TryFrom`.
 
-/// The error of `try_from` for a float: it is infinite or no number, or its lowest terms do not fit the type.
+/// The error of `try_from` for a float: it is infinite or no number, or its lowest terms do not fit the type or the memory.
 ///
 /// ```
 /// use num_rational::{FloatError, Rational32};
 ///
 /// assert_eq!(Rational32::try_from(0.75), Ok((3, 4).into()));
 /// let tenth: Result<Rational32, FloatError> = 0.1.try_into();
-/// assert_eq!(tenth.unwrap_err().to_string(), "the float is infinite or no number, or its lowest terms do not fit the type");
+/// assert_eq!(tenth.unwrap_err().to_string(), "the float is infinite or no number, or its lowest terms do not fit the type or the memory");
 /// ```
 #[derive(Clone, Copy, Debug, PartialEq, Eq)]
 pub struct FloatError(());
 
 impl fmt::Display for FloatError {
     fn fmt(&self, f: &mut fmt::Formatter<'_>) -> fmt::Result {
-        f.pad("the float is infinite or no number, or its lowest terms do not fit the type")
+        f.pad("the float is infinite or no number, or its lowest terms do not fit the type or the memory")
     }
 }
 
@@ -89,30 +91,36 @@ impl fmt::Display for FloatError {
 impl std::error::Error for FloatError {}
 
 macro_rules! values {
-    ($($Fraction:ty $(where $T:ident)?: $float:ty, $from_float:ident;)*) => {$(
+    ($($Fraction:ty $(where $T:ident)?: $float:ty, $From:ident $from_float:ident;)*) => {$(
         impl$(<$T: Integer>)? TryFrom<$float> for $Fraction {
             type Error = FloatError;
 
             /// The fraction with exactly the value of the float.
             #[inline]
             fn try_from(float: $float) -> Result<$Fraction, FloatError> {
-                Reduced::$from_float(float).map(Self::from).ok_or(FloatError(()))
+                $From::$from_float(float).map(Self::from).ok_or(FloatError(()))
             }
         }
     )*};
 }
 
 values! {
-    Reduced<T> where T: f64, from_float;
-    Reduced<T> where T: f32, from_float32;
+    Reduced<T> where T: f64, Reduced from_float;
+    Reduced<T> where T: f32, Reduced from_float32;
+}
+
+#[cfg(feature = "alloc")]
+values! {
+    BigFraction: f64, BigFraction from_float;
+    BigFraction: f32, BigFraction from_float;
 }
 
 // One for each type: one for all of them would be in the way of std's own `TryFrom` for rustc 1.63.
 macro_rules! ratios {
     ($($type:ident)*) => {$(
         values! {
-            Ratio<$type>: f64, from_float;
-            Ratio<$type>: f32, from_float32;
+            Ratio<$type>: f64, Reduced from_float;
+            Ratio<$type>: f32, Reduced from_float32;
         }
     )*};
 }

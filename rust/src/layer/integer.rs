@@ -45,9 +45,19 @@ pub trait Big {}
 #[cfg(not(feature = "num-bigint"))]
 impl<T> Big for T {}
 
+/// What the feature `alloc` requires of a type: that it may stand beside a `BigFraction`.
+#[cfg(feature = "alloc")]
+pub use super::big_fraction_operand::Hidden as Beside;
+
+#[cfg(not(feature = "alloc"))]
+pub trait Beside {}
+
+#[cfg(not(feature = "alloc"))]
+impl<T> Beside for T {}
+
 /// What `Element` says of a type, under names that no other trait has. As a supertrait of `Integer`, it brings its names into
 /// generic code of this crate's users. So a user's own trait may have a call `of`.
-pub trait Hidden: Copy + Big {
+pub trait Hidden: Copy + Big + Beside {
     type BakhsneyProved: Primitive;
 
     type BakhsneySigns: Signs<Self::BakhsneyProved>;

@@ -8,7 +8,8 @@ use core::fmt;
 use core::iter::{Product, Sum};
 use num_traits::{CheckedNeg, Signed, ToPrimitive};
 
-/// The error of `try_from` for a pair or a `Ratio`: there are no lowest terms that fit the type, or the memory.
+/// The error of `try_from` for a pair or a fraction: there are no lowest terms that fit the type or the memory. Those of 1/2 fit no type of
+/// whole numbers.
 ///
 /// ```
 /// use num_rational::{Reduced, ReducedError};

@@ -34,7 +34,7 @@ mod big_fraction_texts;
 #[cfg(feature = "alloc")]
 mod big_fraction_traits;
 #[cfg(all(feature = "alloc", feature = "serde"))]
-pub mod big_fraction_two_numbers;
+mod big_fraction_two_numbers;
 #[cfg(feature = "alloc")]
 mod big_fraction_within;
 #[cfg(all(test, feature = "alloc"))]
@@ -60,6 +60,14 @@ mod room_sum;
 mod rounding;
 mod same;
 mod schoolbook;
+#[cfg(feature = "serde")]
+pub mod serde_decimal;
+#[cfg(feature = "serde")]
+mod serde_forms;
+#[cfg(feature = "serde")]
+pub mod serde_text;
+#[cfg(feature = "serde")]
+pub mod serde_two_numbers;
 #[cfg(feature = "serde")]
 mod serialized;
 mod sign;

@@ -44,6 +44,7 @@ mod casts;
 mod constants;
 mod continued;
 mod conversions;
+mod errors;
 mod floats;
 mod integer;
 mod list_sums;
@@ -58,6 +59,7 @@ mod reduced_traits;
 #[cfg(feature = "alloc")]
 mod room_sum;
 mod rounding;
+mod rounding_text;
 mod same;
 mod schoolbook;
 #[cfg(feature = "serde")]
@@ -91,6 +93,7 @@ pub use integer::Integer;
 pub use ratio::{Ratio, Rational, Rational32, Rational64};
 pub use reduced::{Reduced, Reduced32, Reduced64};
 pub use reduced_traits::ReducedError;
+pub use rounding_text::ParseRoundingError;
 pub use splits::{split, split_by_weights};
 #[cfg(feature = "alloc")]
 pub use total::{TooLong, Total};

@@ -56,7 +56,7 @@ pub mod integer {
     pub use crate::layer::Integer;
 }
 
-pub use layer::{CastError, Convergents, FloatError, Quotients, Ratio, Rational, Rational32, Rational64, Reduced, Reduced32, Reduced64, ReducedError};
+pub use layer::{CastError, Convergents, FloatError, ParseRoundingError, Quotients, Ratio, Rational, Rational32, Rational64, Reduced, Reduced32, Reduced64, ReducedError};
 #[cfg(feature = "num-bigint")]
 pub use layer::BigRational;
 pub use layer::{split, split_by_weights};

@@ -88,7 +88,7 @@ pub struct Total<T> {
 /// let sum: Result<Option<Reduced<i8>>, TooLong> = Total::new().sum();
 /// assert_eq!(sum, Ok(Some(Reduced::ZERO)));
 /// ```
-#[derive(Clone, Copy, Debug, PartialEq, Eq)]
+#[derive(Clone, Copy, Debug, PartialEq, Eq, Hash)]
 pub struct TooLong(pub(super) ());
 
 impl fmt::Display for TooLong {

@@ -68,6 +68,8 @@ pub mod serde_decimal;
 mod serde_forms;
 #[cfg(feature = "serde")]
 pub mod serde_text;
+#[cfg(all(feature = "alloc", feature = "serde"))]
+mod serde_total;
 #[cfg(feature = "serde")]
 pub mod serde_two_numbers;
 #[cfg(feature = "serde")]
@@ -79,6 +81,8 @@ mod text;
 mod to_numbers;
 #[cfg(feature = "alloc")]
 mod total;
+#[cfg(feature = "alloc")]
+mod total_equality;
 
 #[cfg(feature = "num-bigint")]
 pub use big::BigRational;

@@ -182,6 +182,8 @@ mod serialized {
         assert_eq!((back.sum(), back.count()), (Ok(Some(of(1, 1))), 2));
         let total: Total<i64> = (1..=5000).map(|denom| of(1, denom)).sum();
         let text = serde_json::to_string(&total).unwrap();
+        let list: Vec<String> = (2..=5000).map(|denom| format!("\"1/{denom}\"")).collect();
+        assert_eq!(text, format!("[5000,5000,[\"1\",{}],null]", list.join(",")));
         let mut back: Total<i64> = read(&text).unwrap();
         (1..=5000).for_each(|denom| back.subtract(of(1, denom)));
         assert_eq!((back.sum(), back.count()), (Ok(Some(of(0, 1))), 0));
@@ -253,7 +255,8 @@ mod serialized {
         for text in [format!("1/1{}", "0".repeat(4_000_000)), format!("1{}/3", "0".repeat(4_000_000)), "1e-1000000000".to_owned()] {
             assert_eq!(total(&text).unwrap_err(), "the numerator or the denominator has more bits than the bound", "{text:.20}");
         }
-        let above = total(&format!("1/1{}", "0".repeat(315_653)));
-        assert_eq!(above.unwrap_err(), "no total has these fractions after so many additions");
+        for text in [format!("1/1{}", "0".repeat(315_653)), format!("1{}/7", "0".repeat(500))] {
+            assert_eq!(total(&text).unwrap_err(), "no total has these fractions after so many additions", "{text:.20}");
+        }
     }
 }

@@ -25,6 +25,7 @@ use crate::proved::num_rational as proved;
 /// ```
 ///
 /// ```compile_fail
+/// #![allow(overflowing_literals)]
 /// num_rational::ratio!(9223372036854775808/3);
 /// ```
 ///

@@ -85,7 +85,7 @@ impl RoomSum {
     pub(super) fn with_value(fractions: u64, is_negative: bool, numer: &[u64], denom: &[u64]) -> Option<RoomSum> {
         let done = usize::try_from(fractions).ok().filter(|done| RoomSum::EMPTY.takes(*done))?;
         let digits = denom.len().max(FEWEST_DIGITS);
-        if digits > MOST_DIGITS || numer.len() > digits + 3 {
+        if numer.len() > digits + 3 {
             return None;
         }
         let mut room = vec![0; digits_of_room(digits)];
@@ -93,7 +93,7 @@ impl RoomSum {
         room[start..start + numer.len()].copy_from_slice(numer);
         room[digits + 3..digits + 3 + denom.len()].copy_from_slice(denom);
         let mut moved = vec![0; digits_with_spare(digits)];
-        // The proved call takes no room without a sum of so many fractions.
+        // The proved call takes no room without a sum of so many fractions, nor one of too many digits.
         let sum = Joined { done, digits }.moved_to(&room, digits, &mut moved)?;
         Some(RoomSum { sum, digits: moved, too_long: false })
     }

@@ -87,14 +87,12 @@ mod big {
         if BigFraction::from_decimal(&text)? != *fraction {
             return Ok(None);
         }
-        if text.contains('.') {
-            text.truncate(text.trim_end_matches('0').trim_end_matches('.').len());
-        }
+        text.truncate(text.trim_end_matches('0').trim_end_matches('.').len());
         Ok(Some(text))
     }
 
-    /// As many places as a decimal over this denominator has, or more. If the decimal ends, the denominator is 2^a times 5^b, and it has the
-    /// greater of `a` and `b` places. 5^b has more than 16/7 of `b` bits.
+    /// As many places as a decimal over this denominator has, or more, and at least one. If the decimal ends, the denominator is 2^a times
+    /// 5^b, and it has the greater of `a` and `b` places. 5^b has more than 16/7 of `b` bits.
     fn most_places(denom: &[u64]) -> u64 {
         let zeros = denom.iter().take_while(|digit| **digit == 0).count();
         let twos = 64 * zeros as u64 + u64::from(denom[zeros].trailing_zeros());

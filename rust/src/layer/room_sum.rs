@@ -272,6 +272,10 @@ mod tests {
             let orders = [total.compare(&Total::new()).err(), Total::new().compare(&total).err(), total.compare_with(half).err()];
             assert_eq!(orders, [Some(TooLong(())); 3]);
             assert_eq!((total.to_integer(Rounding::Up).err(), total.round_to(7, Rounding::Up).err()), (Some(TooLong(())), Some(TooLong(()))));
+            #[cfg(feature = "serde")]
+            assert_eq!(std::format!("{}", serde_json::to_string(&total).unwrap_err()), "the common denominator is too long");
+            #[cfg(panic = "unwind")]
+            assert!(std::panic::catch_unwind(|| total == total.clone()).is_err());
         }
     }
 }

@@ -38,7 +38,7 @@ mod big_fraction_texts;
 #[cfg(feature = "alloc")]
 mod big_fraction_traits;
 #[cfg(all(feature = "alloc", feature = "serde"))]
-pub mod big_fraction_two_numbers;
+mod big_fraction_two_numbers;
 #[cfg(feature = "alloc")]
 mod big_fraction_within;
 #[cfg(all(test, feature = "alloc"))]
@@ -48,6 +48,7 @@ mod casts;
 mod constants;
 mod continued;
 mod conversions;
+mod errors;
 mod floats;
 mod integer;
 mod list_sums;
@@ -62,8 +63,19 @@ mod reduced_traits;
 #[cfg(feature = "alloc")]
 mod room_sum;
 mod rounding;
+mod rounding_text;
 mod same;
 mod schoolbook;
+#[cfg(feature = "serde")]
+pub mod serde_decimal;
+#[cfg(feature = "serde")]
+mod serde_forms;
+#[cfg(feature = "serde")]
+pub mod serde_text;
+#[cfg(all(feature = "alloc", feature = "serde"))]
+mod serde_total;
+#[cfg(feature = "serde")]
+pub mod serde_two_numbers;
 #[cfg(feature = "serde")]
 mod serialized;
 mod sign;
@@ -73,6 +85,8 @@ mod text;
 mod to_numbers;
 #[cfg(feature = "alloc")]
 mod total;
+#[cfg(feature = "alloc")]
+mod total_equality;
 
 #[cfg(feature = "num-bigint")]
 pub use big::BigRational;
@@ -89,6 +103,7 @@ pub use integer::Integer;
 pub use ratio::{Ratio, Rational, Rational32, Rational64};
 pub use reduced::{Reduced, Reduced32, Reduced64};
 pub use reduced_traits::ReducedError;
+pub use rounding_text::ParseRoundingError;
 pub use splits::{split, split_by_weights};
 #[cfg(feature = "alloc")]
 pub use total::{TooLong, Total};

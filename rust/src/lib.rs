@@ -56,7 +56,7 @@ pub mod integer {
     pub use crate::layer::Integer;
 }
 
-pub use layer::{CastError, Convergents, FloatError, Quotients, Ratio, Rational, Rational32, Rational64, Reduced, Reduced32, Reduced64, ReducedError};
+pub use layer::{CastError, Convergents, FloatError, ParseRoundingError, Quotients, Ratio, Rational, Rational32, Rational64, Reduced, Reduced32, Reduced64, ReducedError};
 #[cfg(feature = "num-bigint")]
 pub use layer::BigRational;
 pub use layer::{split, split_by_weights};
@@ -64,35 +64,8 @@ pub use layer::{split, split_by_weights};
 pub use layer::{TooLong, Total};
 #[cfg(feature = "alloc")]
 pub use layer::{BigFraction, BigOperand, BigTextRefusal};
-/// A [`BigFraction`] as a list of two whole numbers, for serde's `with`: `[1,3]` in JSON. A number below -2^53 or above 2^53 is a text, since
-/// most programs read such a number as a float. Without `with`, serde writes what num-rational's `BigRational` has.
-///
-/// ```
-/// use num_rational::{two_numbers, BigFraction};
-/// use serde::{Deserialize, Deserializer, Serialize, Serializer};
-///
-/// struct Rate(BigFraction); // as `#[serde(with = "num_rational::two_numbers")]` on a field of a struct with serde's derives
-///
-/// impl Serialize for Rate {
-///     fn serialize<S: Serializer>(&self, format: S) -> Result<S::Ok, S::Error> {
-///         two_numbers::serialize(&self.0, format)
-///     }
-/// }
-///
-/// impl<'de> Deserialize<'de> for Rate {
-///     fn deserialize<D: Deserializer<'de>>(format: D) -> Result<Rate, D::Error> {
-///         two_numbers::deserialize(format).map(Rate)
-///     }
-/// }
-///
-/// let rates = [Rate(BigFraction::new(-1, 3)), Rate(BigFraction::new(1, 1u128 << 64))];
-/// let text = r#"[[-1,3],[1,"18446744073709551616"]]"#;
-/// assert_eq!(serde_json::to_string(&rates).unwrap(), text);
-/// let back: [Rate; 2] = serde_json::from_str(text).unwrap();
-/// assert!(back[0].0 == rates[0].0 && back[1].0 == rates[1].0);
-/// ```
-#[cfg(all(feature = "alloc", feature = "serde"))]
-pub use layer::big_fraction_two_numbers as two_numbers;
+#[cfg(feature = "serde")]
+pub use layer::{serde_decimal as decimal, serde_text as text, serde_two_numbers as two_numbers};
 #[cfg(feature = "alloc")]
 pub use memory::AllocError;
 /// The error of `parse`: the text is not a fraction, or a number in it or in its lowest terms does not fit the type. Over `u8`, `256/2` is one.

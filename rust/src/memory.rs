@@ -26,7 +26,7 @@ pub struct Global;
 /// assert_eq!(twice(&BigFraction::new(1, 2)).unwrap(), BigFraction::from(1));
 /// assert_eq!(AllocError.to_string(), "memory allocation failed");
 /// ```
-#[derive(Clone, Copy, Debug, PartialEq, Eq)]
+#[derive(Clone, Copy, Debug, PartialEq, Eq, Hash)]
 pub struct AllocError;
 
 impl fmt::Display for AllocError {

@@ -321,3 +321,29 @@ fn machine_types_keep_their_calls() {
     assert_eq!(Reduced64::from_float(0.5), Reduced64::checked_new(1, 2));
     assert_eq!((Ratio::<i64>::try_from(0.5), Ratio::from_float64(0.5)), (Ok(Ratio::new(1, 2)), Some(Ratio::new(1u8, 2))));
 }
+
+/// serde's `with` writes and reads fractions of big integers as those of any size.
+#[cfg(feature = "serde")]
+#[test]
+fn forms_of_serde() {
+    use bakhsney::{decimal, text, two_numbers, BigFraction};
+    use serde_json::{json, value::Serializer};
+    let mut numbers = Numbers(12);
+    for _ in 0..pairs() / 10 {
+        let (x, _) = fraction(&mut numbers);
+        let lowest = BigFraction::try_from(&x).unwrap();
+        let written = [text::serialize(&x, Serializer), two_numbers::serialize(&x, Serializer)].map(Result::unwrap);
+        assert_eq!(written, [text::serialize(&lowest, Serializer), two_numbers::serialize(&lowest, Serializer)].map(Result::unwrap));
+        let [by_text, by_list] = written;
+        let back: [BigRational; 2] = [text::deserialize(by_text).unwrap(), two_numbers::deserialize(by_list).unwrap()];
+        assert_eq!(back.map(fields), [(); 2].map(|_| fields(x.reduced())));
+    }
+    let wide: BigRational = "-1/1267650600228229401496703205376".parse().unwrap();
+    let exact = json!("-0.0000000000000000000000000000007888609052210118054117285652827862296732064351090230047702789306640625");
+    assert_eq!(decimal::serialize(&Some(wide.clone()), Serializer).unwrap(), exact);
+    assert_eq!(decimal::deserialize::<Option<BigRational>, _>(exact).unwrap(), Some(wide));
+    let no_value = BigRational::new_raw(1.into(), 0.into());
+    assert!(text::serialize(&no_value, Serializer).is_err() && two_numbers::serialize(&no_value, Serializer).is_err());
+    let refusals = [json!("1/0"), json!("x"), json!(1), json!("1e1000000000")].map(|json| text::deserialize::<BigRational, _>(json).is_err());
+    assert_eq!(refusals, [true; 4]);
+}

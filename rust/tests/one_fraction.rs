@@ -16,8 +16,12 @@ mod support;
 mod answers;
 
 use answers::{or_panic, run, Answer, Answered, Fields};
+#[cfg(feature = "serde")]
+use bakhsney::{decimal, text, two_numbers};
 use bakhsney::{BaseTenText, Ratio, RatioErrorKind, Reduced, Rounding};
 use num_traits::{CheckedNeg, FromPrimitive, Inv, Num, One, Pow, Signed, ToPrimitive, Zero};
+#[cfg(feature = "serde")]
+use serde_json::value::Serializer as Json;
 use std::collections::hash_map::DefaultHasher;
 use std::hash::{Hash, Hasher};
 use support::Numbers;
@@ -454,6 +458,9 @@ const RATIO_IN_JSON: &[Row<Ratio<i8>>] = rows! { x, c:
     serde_json::to_string(&x) => format!("[{},{}]", c.numer, c.denom);
     serde_json::from_str::<Ratio<i8>>(&format!("[{},{}]", c.numer, c.denom)) => Some((c.numer, c.denom)).filter(|_| c.denom != 0);
     serde_json::from_str::<Reduced<i8>>(&format!("[{},{}]", c.numer, c.denom)) => Some((c.numer, c.denom)).filter(|_| c.is_lowest());
+    text::deserialize::<Ratio<i8>, _>(text::serialize(&x, Json).unwrap_or_default()) => c.lowest();
+    decimal::deserialize::<Ratio<i8>, _>(decimal::serialize(&x, Json).unwrap_or_default()) => c.lowest().filter(|_| c.exact_decimal().is_some());
+    two_numbers::deserialize::<Ratio<i8>, _>(two_numbers::serialize(&x, Json).unwrap_or_default()) => c.lowest();
 };
 
 #[cfg(feature = "serde")]

@@ -264,7 +264,8 @@ impl BigFraction {
 /// assert_eq!(BigFraction::from_text_within("1e1000000000", 4096), Err(BigTextRefusal::TooLong));
 /// assert_eq!(BigFraction::from_text("1e999999999999999999"), Err(BigTextRefusal::NoMemory));
 /// ```
-#[derive(Clone, Copy, Debug, PartialEq, Eq)]
+#[derive(Clone, Copy, Debug, PartialEq, Eq, Hash)]
+#[non_exhaustive]
 pub enum BigTextRefusal {
     /// The text is no decimal, in `from_decimal` and `from_decimal_within`.
     NotDecimal,

@@ -11,8 +11,8 @@ use core::fmt;
 /// let x: Result<Reduced<i8>, CastError> = Reduced64::from(128).try_into();
 /// assert_eq!(x.unwrap_err().to_string(), "the numerator or the denominator does not fit the type");
 /// ```
-#[derive(Clone, Copy, Debug, PartialEq, Eq)]
-pub struct CastError(());
+#[derive(Clone, Copy, Debug, PartialEq, Eq, Hash)]
+pub struct CastError(pub(super) ());
 
 impl fmt::Display for CastError {
     fn fmt(&self, f: &mut fmt::Formatter<'_>) -> fmt::Result {

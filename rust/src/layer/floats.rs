@@ -78,7 +78,7 @@ impl<T: Integer> Ratio<T> {
 /// let tenth: Result<Rational32, FloatError> = 0.1.try_into();
 /// assert_eq!(tenth.unwrap_err().to_string(), "the float is infinite or no number, or its lowest terms do not fit the type or the memory");
 /// ```
-#[derive(Clone, Copy, Debug, PartialEq, Eq)]
+#[derive(Clone, Copy, Debug, PartialEq, Eq, Hash)]
 pub struct FloatError(());
 
 impl fmt::Display for FloatError {

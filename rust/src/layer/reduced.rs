@@ -287,7 +287,7 @@ impl<T: Integer> Reduced<T> {
     /// ```
     #[inline]
     pub fn from_str_radix(text: &str, radix: u32) -> Result<Reduced<T>, ParseRatioError> {
-        Proved::<T>::from_str_radix(text, radix).map(Reduced::new)
+        Proved::<T>::from_str_radix(text, radix).map(Reduced::from_proved)
     }
 
     /// The text that `{}` writes. It needs no formatter, so it takes less time.
@@ -428,8 +428,14 @@ impl<T: Integer> Reduced<T> {
     }
 
     #[inline]
-    pub(super) fn new(fraction: Proved<T>) -> Reduced<T> {
+    pub(super) fn from_proved(fraction: Proved<T>) -> Reduced<T> {
         Reduced { fraction }
+    }
+
+    /// The fraction of lowest terms, for constants.
+    #[inline]
+    pub(super) const fn of_lowest(ratio: proved::Ratio<<T as Element>::Proved>) -> Reduced<T> {
+        Reduced { fraction: Proved::<T> { ratio } }
     }
 
     #[inline]
@@ -439,7 +445,7 @@ impl<T: Integer> Reduced<T> {
 
     #[inline]
     fn of(answer: Option<Proved<T>>) -> Option<Reduced<T>> {
-        answer.map(Reduced::new)
+        answer.map(Reduced::from_proved)
     }
 }
 
@@ -725,7 +731,7 @@ macro_rules! rounding_calls {
             /// ```
             #[inline]
             pub fn $call(&self) -> Reduced<T> {
-                Reduced::new(self.fraction.$call())
+                Reduced::from_proved(self.fraction.$call())
             }
         )*}
     };
@@ -773,7 +779,7 @@ impl<T: Integer + Signed> Reduced<T> {
     /// ```
     #[inline]
     pub fn signum(&self) -> Reduced<T> {
-        Reduced::new(<T as Element>::Signs::signum_lowest(self.fraction))
+        Reduced::from_proved(<T as Element>::Signs::signum_lowest(self.fraction))
     }
 
     /// Whether the fraction is above 0.
@@ -867,7 +873,7 @@ impl<T: Integer> FromStr for Reduced<T> {
 
     #[inline]
     fn from_str(text: &str) -> Result<Reduced<T>, ParseRatioError> {
-        Proved::<T>::from_str(text).map(Reduced::new)
+        Proved::<T>::from_str(text).map(Reduced::from_proved)
     }
 }
 

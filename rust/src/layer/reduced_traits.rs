@@ -17,7 +17,7 @@ use num_traits::{CheckedNeg, Signed, ToPrimitive};
 /// let x: Result<Reduced<i8>, ReducedError> = (1, 0).try_into();
 /// assert_eq!(x.unwrap_err().to_string(), "the denominator is 0, or the lowest terms do not fit the type or the memory");
 /// ```
-#[derive(Clone, Copy, Debug, PartialEq, Eq)]
+#[derive(Clone, Copy, Debug, PartialEq, Eq, Hash)]
 pub struct ReducedError(pub(super) ());
 
 impl fmt::Display for ReducedError {

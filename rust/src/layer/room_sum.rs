@@ -80,6 +80,24 @@ impl RoomSum {
         }
     }
 
+    /// A sum of so many fractions with this value, or `None` if so many fractions have no such sum.
+    #[cfg(feature = "serde")]
+    pub(super) fn with_value(fractions: u64, is_negative: bool, numer: &[u64], denom: &[u64]) -> Option<RoomSum> {
+        let done = usize::try_from(fractions).ok().filter(|done| RoomSum::EMPTY.takes(*done))?;
+        let digits = denom.len().max(FEWEST_DIGITS);
+        if numer.len() > digits + 3 {
+            return None;
+        }
+        let mut room = vec![0; digits_of_room(digits)];
+        let start = if is_negative { 2 * digits + 3 } else { 0 };
+        room[start..start + numer.len()].copy_from_slice(numer);
+        room[digits + 3..digits + 3 + denom.len()].copy_from_slice(denom);
+        let mut moved = vec![0; digits_with_spare(digits)];
+        // The proved call takes no room without a sum of so many fractions, nor one of too many digits.
+        let sum = Joined { done, digits }.moved_to(&room, digits, &mut moved)?;
+        Some(RoomSum { sum, digits: moved, too_long: false })
+    }
+
     /// Adds a fraction, or takes it out.
     pub(super) fn put(&mut self, fraction: WideFraction, out: bool) {
         let mut room = [0; 14];
@@ -254,6 +272,10 @@ mod tests {
             let orders = [total.compare(&Total::new()).err(), Total::new().compare(&total).err(), total.compare_with(half).err()];
             assert_eq!(orders, [Some(TooLong(())); 3]);
             assert_eq!((total.to_integer(Rounding::Up).err(), total.round_to(7, Rounding::Up).err()), (Some(TooLong(())), Some(TooLong(()))));
+            #[cfg(feature = "serde")]
+            assert_eq!(std::format!("{}", serde_json::to_string(&total).unwrap_err()), "the common denominator is too long");
+            #[cfg(panic = "unwind")]
+            assert!(std::panic::catch_unwind(|| total == total.clone()).is_err());
         }
     }
 }

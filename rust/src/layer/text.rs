@@ -1,10 +1,12 @@
 //! Reading texts as fractions, and writing fractions as texts.
 use super::integer::{Element, Integer};
 use super::ratio::{Proved, Ratio};
+use super::reduced::Reduced;
 use super::same::on_machine;
 use super::schoolbook;
 use crate::proved::num_rational::ParseRatioError;
 use crate::proved::ratio_core::{text, BaseTenText, DecimalText, Form, RatioText};
+use crate::proved::ratio_decimal::{DecimalRefusal, TextRefusal};
 use core::fmt::{self, Write};
 use core::ops::Deref;
 use core::str::{self, FromStr};
@@ -45,6 +47,42 @@ impl<T: Integer> Ratio<T> {
     #[inline]
     pub fn put_base_ten_text(&self, text: &mut BaseTenText) {
         text::put_base_ten_text(self.numer().into_proved(), self.denom().into_proved(), text);
+    }
+
+    /// The fraction of a decimal, as [`Reduced::from_decimal`] reads it. num-rational has no such call.
+    ///
+    /// # Errors
+    ///
+    /// `NotDecimal` if the text is no decimal, and `NotHeld` if it is one whose lowest terms do not fit the type.
+    ///
+    /// ```
+    /// use num_rational::{DecimalRefusal, Ratio};
+    ///
+    /// assert_eq!(Ratio::from_decimal("-1.5e-3"), Ok(Ratio::new(-3, 2000)));
+    /// assert_eq!(Ratio::<i8>::from_decimal("12,5"), Err(DecimalRefusal::NotDecimal));
+    /// assert_eq!(Ratio::<i8>::from_decimal("128"), Err(DecimalRefusal::NotHeld));
+    /// ```
+    #[inline]
+    pub fn from_decimal(text: &str) -> Result<Ratio<T>, DecimalRefusal> {
+        Reduced::from_decimal(text).map(Ratio::from)
+    }
+
+    /// The fraction of what a person types into one field, as [`Reduced::from_text`] reads it. num-rational has no such call.
+    ///
+    /// # Errors
+    ///
+    /// `NotNumber`, `ZeroDenominator` or `NotHeld`, as there.
+    ///
+    /// ```
+    /// use num_rational::{Ratio, TextRefusal};
+    ///
+    /// assert_eq!(Ratio::from_text("-1 1/2"), Ok(Ratio::new(-3, 2)));
+    /// assert_eq!(Ratio::from_text("12.5%"), Ok(Ratio::new(1, 8)));
+    /// assert_eq!(Ratio::<i8>::from_text("1/0"), Err(TextRefusal::ZeroDenominator));
+    /// ```
+    #[inline]
+    pub fn from_text(text: &str) -> Result<Ratio<T>, TextRefusal> {
+        Reduced::from_text(text).map(Ratio::from)
     }
 }
 

@@ -67,7 +67,7 @@ use core::ops::{AddAssign, SubAssign};
 #[derive(Clone)]
 pub struct Total<T> {
     pub(super) slots: Vec<Slot>,
-    tally: Tally,
+    pub(super) tally: Tally,
     /// How many slots were empty at the last count.
     empty: usize,
     /// How many additions came, or will come, between the last count and the next one.
@@ -88,7 +88,7 @@ pub struct Total<T> {
 /// let sum: Result<Option<Reduced<i8>>, TooLong> = Total::new().sum();
 /// assert_eq!(sum, Ok(Some(Reduced::ZERO)));
 /// ```
-#[derive(Clone, Copy, Debug, PartialEq, Eq)]
+#[derive(Clone, Copy, Debug, PartialEq, Eq, Hash)]
 pub struct TooLong(pub(super) ());
 
 impl fmt::Display for TooLong {
@@ -154,7 +154,7 @@ impl<T> Total<T> {
     /// A quarter of the slots may fill up before the next count. It comes later if no denominator was new since the last one: a
     /// count then costs nothing much for each addition.
     #[cold]
-    fn count_empty(&mut self) {
+    pub(super) fn count_empty(&mut self) {
         let before = self.empty;
         self.empty = proved::count_free(&self.slots);
         if 2 * self.empty <= self.slots.len() {
@@ -179,6 +179,13 @@ impl<T> Total<T> {
         }
         self.empty = slots.len() - left;
         self.slots = slots;
+    }
+
+    /// Puts numerators of any size into slots for them, or returns `None` if one becomes a number of more than 128 bits.
+    #[cfg(feature = "serde")]
+    pub(super) fn put_loose(&mut self, fractions: &[Slot]) -> Option<()> {
+        self.grow(fractions.len());
+        fractions.iter().try_for_each(|slot| proved::put_loose(&mut self.slots, slot.numer(), slot.denom())).ok()
     }
 
     /// Adds the fraction of these numbers.

@@ -1,0 +1,32 @@
+//! Whether two totals have the same sum, by `==`.
+use super::integer::Integer;
+use super::total::Total;
+
+/// Totals are equal exactly if their sums are, whatever fractions made them, and however many: 1/2 + 1/2 is 1. The sums need not fit the
+/// type. Beside `compare`, this also decides where a common denominator is not below 2^(2^20), and may then take minutes.
+///
+/// ```
+/// use num_rational::{ratio, Total};
+///
+/// let halves: Total<i64> = [ratio!(1/2), ratio!(1/2)].iter().sum();
+/// let one: Total<i64> = [ratio!(1)].iter().sum();
+/// assert_eq!(halves, one);
+/// assert_ne!(halves.count(), one.count());
+/// ```
+impl<T: Integer> PartialEq for Total<T> {
+    /// # Panics
+    ///
+    /// If `big_sum` of one is `TooLong`. `compare` returns that as an error. And for want of memory.
+    #[track_caller]
+    fn eq(&self, other: &Total<T>) -> bool {
+        if let Ok(order) = self.compare(other) {
+            return order.is_eq();
+        }
+        match (self.big_sum(), other.big_sum()) {
+            (Ok(sum), Ok(other)) => sum == other,
+            (Err(error), _) | (_, Err(error)) => panic!("{error}"),
+        }
+    }
+}
+
+impl<T: Integer> Eq for Total<T> {}

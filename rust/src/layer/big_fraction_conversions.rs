@@ -76,7 +76,7 @@ impl<T: Integer> TryFrom<&BigFraction> for Reduced<T> {
     /// The same fraction, or an error if one of its numbers does not fit the type.
     #[inline]
     fn try_from(fraction: &BigFraction) -> Result<Reduced<T>, ReducedError> {
-        let short = fraction.0.to_reduced().and_then(|short| Reduced::<i64>::new(short).cast());
+        let short = fraction.0.to_reduced().and_then(|short| Reduced::<i64>::from_proved(short).cast());
         let wide = || fraction.with_digits(|numer, denom| Some((signed(fraction.0.is_negative(), number(numer)?)?, signed(false, number(denom)?)?)));
         match short {
             Some(short) => Ok(short),

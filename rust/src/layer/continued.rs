@@ -46,7 +46,7 @@ impl<T: Integer> Iterator for Convergents<T> {
 
     #[inline]
     fn next(&mut self) -> Option<Reduced<T>> {
-        self.convergents.next().map(Reduced::new)
+        self.convergents.next().map(Reduced::from_proved)
     }
 }
 

@@ -7,7 +7,7 @@ use super::continued::{Convergents, Quotients, in_proved};
 use super::floats::Float;
 use super::integer::{Element, Integer, Signs};
 use super::list_sums;
-use super::ratio::Ratio;
+use super::ratio::{refuse_new, Ratio};
 use super::simplest::bound_with;
 use crate::proved::num_rational as proved;
 use crate::proved::num_rational::{Constants, ParseRatioError};
@@ -19,11 +19,11 @@ use core::fmt;
 use core::hash::{Hash, Hasher};
 use core::ops::Bound;
 use core::str::FromStr;
-use num_traits::Signed;
+use num_traits::{Inv, Signed};
 
 /// A fraction of two integers that is always in lowest terms: the denominator is positive, and no number above 1 divides both.
-/// If there is no result, a checked call returns `None`, and an operator or a call of num-traits panics. No other call panics, except
-/// `decimal` for more than 38 places. num-rational has no such type.
+/// If there is no result, a checked call returns `None`, and an operator, `new`, `recip` or a call of num-traits panics. No other call
+/// panics, except `decimal` for more than 38 places. num-rational has no such type.
 ///
 /// ```
 /// use num_rational::{ParseRatioError, Reduced64};
@@ -79,6 +79,24 @@ impl<T: Integer> Reduced<T> {
     /// assert_eq!(num_rational::Reduced32::ONE.into_raw(), (1, 1));
     /// ```
     pub const ONE: Reduced<T> = Reduced { fraction: Proved::<T>::ONE };
+
+    /// The lowest terms of `numer/denom`.
+    ///
+    /// # Panics
+    ///
+    /// If the denominator is 0, or if the lowest terms do not fit the type. `checked_new` tests that.
+    ///
+    /// ```
+    /// assert_eq!(num_rational::Reduced::new(6, -4).into_raw(), (-3, 2));
+    /// ```
+    #[inline]
+    #[track_caller]
+    pub fn new(numer: T, denom: T) -> Reduced<T> {
+        match Reduced::checked_new(numer, denom) {
+            Some(fraction) => fraction,
+            None => refuse_new(denom),
+        }
+    }
 
     /// The lowest terms of `numer/denom`, or `None` if the denominator is 0 or they do not fit the type.
     ///
@@ -287,7 +305,7 @@ impl<T: Integer> Reduced<T> {
     /// ```
     #[inline]
     pub fn from_str_radix(text: &str, radix: u32) -> Result<Reduced<T>, ParseRatioError> {
-        Proved::<T>::from_str_radix(text, radix).map(Reduced::new)
+        Proved::<T>::from_str_radix(text, radix).map(Reduced::from_proved)
     }
 
     /// The text that `{}` writes. It needs no formatter, so it takes less time.
@@ -428,7 +446,7 @@ impl<T: Integer> Reduced<T> {
     }
 
     #[inline]
-    pub(super) fn new(fraction: Proved<T>) -> Reduced<T> {
+    pub(super) fn from_proved(fraction: Proved<T>) -> Reduced<T> {
         Reduced { fraction }
     }
 
@@ -439,7 +457,7 @@ impl<T: Integer> Reduced<T> {
 
     #[inline]
     fn of(answer: Option<Proved<T>>) -> Option<Reduced<T>> {
-        answer.map(Reduced::new)
+        answer.map(Reduced::from_proved)
     }
 }
 
@@ -581,6 +599,23 @@ impl<T: Integer> Reduced<T> {
     #[inline]
     pub fn checked_sum<O: Into<Reduced<T>>, I: IntoIterator<Item = O>>(items: I) -> Option<Reduced<T>> {
         list_sums::checked_sum(items.into_iter().map(Into::into))
+    }
+
+    /// The reciprocal.
+    ///
+    /// # Panics
+    ///
+    /// If `checked_recip` returns `None`.
+    ///
+    /// ```
+    /// use num_rational::Reduced;
+    ///
+    /// assert_eq!(Reduced::new(-2, 3).recip(), Reduced::new(-3, 2));
+    /// ```
+    #[inline]
+    #[track_caller]
+    pub fn recip(&self) -> Reduced<T> {
+        self.inv()
     }
 
     /// The reciprocal, or `None` if the fraction is 0 or the reciprocal does not fit the type.
@@ -725,7 +760,7 @@ macro_rules! rounding_calls {
             /// ```
             #[inline]
             pub fn $call(&self) -> Reduced<T> {
-                Reduced::new(self.fraction.$call())
+                Reduced::from_proved(self.fraction.$call())
             }
         )*}
     };
@@ -773,7 +808,7 @@ impl<T: Integer + Signed> Reduced<T> {
     /// ```
     #[inline]
     pub fn signum(&self) -> Reduced<T> {
-        Reduced::new(<T as Element>::Signs::signum_lowest(self.fraction))
+        Reduced::from_proved(<T as Element>::Signs::signum_lowest(self.fraction))
     }
 
     /// Whether the fraction is above 0.
@@ -867,7 +902,7 @@ impl<T: Integer> FromStr for Reduced<T> {
 
     #[inline]
     fn from_str(text: &str) -> Result<Reduced<T>, ParseRatioError> {
-        Proved::<T>::from_str(text).map(Reduced::new)
+        Proved::<T>::from_str(text).map(Reduced::from_proved)
     }
 }
 

@@ -287,7 +287,7 @@ macro_rules! powers {
             fn pow($self, $exponent: $Exponent) -> Reduced<T> {
                 let base: Reduced<T> = $left;
                 match base.into_proved().checked_pow_with(($right).into_proved()) {
-                    Some(power) => Reduced::new(power),
+                    Some(power) => Reduced::from_proved(power),
                     None => refuse(base, "division by zero", "attempt to multiply with overflow"),
                 }
             }

@@ -30,8 +30,10 @@ fn main() {
     let texts: Vec<String> = found.iter().map(|x| x.to_string()).collect();
     assert_eq!(texts.join(" "), "0 1 1/2 3/5 7/12 24/41 31/53");
 
-    assert_eq!(fifth.nearest(12), Ratio::new(7, 12));
-    assert_eq!(fifth.nearest(50), Ratio::new(24, 41));
+    // Typed: `assert_eq!(fifth.nearest(12), Ratio::new(7, 12));`. There is none for a bound below 1.
+    assert_eq!(fifth.nearest(12), Some(Ratio::new(7, 12)));
+    // Typed: `assert_eq!(fifth.nearest(50), Ratio::new(24, 41));`. The same.
+    assert_eq!(fifth.nearest(50), Some(Ratio::new(24, 41)));
 
     let pythagorean = Ratio::new(3, 2).pow(12) / Ratio::from(2).pow(7);
     assert_eq!(pythagorean, Ratio::new(531_441, 524_288));

@@ -40,9 +40,11 @@ fn main() {
     assert_eq!(variance(&plain), Some(Ratio::new(151, 72)));
     assert_eq!(median(&plain), Some(Ratio::new(3, 4)));
 
-    let reduced = plain.map(Reduced64::from);
+    // Typed: `let reduced = plain.map(Reduced64::from);`. A `Ratio` may have the denominator 0, so it is converted by `try_from`.
+    let reduced = plain.map(|x| Reduced64::try_from(x).unwrap());
     assert_eq!(variance(&reduced), Some(Reduced64::new(151, 72)));
-    let big = plain.map(BigFraction::from);
+    // Typed: `let big = plain.map(BigFraction::from);`. The same.
+    let big = reduced.map(BigFraction::from);
     assert_eq!(variance(&big), Some(BigFraction::new(151, 72)));
     assert_eq!(median(&big[1..]), Some(BigFraction::new(5, 6)));
 

@@ -36,7 +36,8 @@ fn main() {
     assert_eq!(determinant(hilbert(4, Ratio::<i64>::new)), Ratio::new(1, 6_048_000));
     assert_eq!(determinant(hilbert(4, Reduced64::new)), Reduced64::new(1, 6_048_000));
 
-    let eight = determinant(hilbert(8, |n, d| BigFraction::from(Ratio::new(n, d))));
+    // Typed: `let eight = determinant(hilbert(8, |n, d| BigFraction::from(Ratio::new(n, d))));`. A `Ratio` may have the denominator 0, so it is converted by `try_from`.
+    let eight = determinant(hilbert(8, BigFraction::new));
     println!("{eight}");
     assert_eq!(eight.to_string(), "1/365356847125734485878112256000000");
     assert!(eight > BigFraction::from(0));

@@ -1,6 +1,7 @@
 //! A recipe for four, cooked for ten.
 
-use num_rational::{ParseRatioError, Ratio, Reduced64};
+// Typed: `use num_rational::{ParseRatioError, Ratio, Reduced64};`. `from_text` says more about a refusal.
+use num_rational::{Ratio, Reduced64, TextRefusal};
 
 const PANCAKES: &str = "\
 1 1/2 cups of flour
@@ -8,7 +9,8 @@ const PANCAKES: &str = "\
 0.25 cup of sugar
 2 eggs";
 
-fn parse(line: &str) -> Result<(Reduced64, &str), ParseRatioError> {
+// Typed: `fn parse(line: &str) -> Result<(Reduced64, &str), ParseRatioError> {`. The same.
+fn parse(line: &str) -> Result<(Reduced64, &str), TextRefusal> {
     let words = line.find(|c: char| c.is_alphabetic()).unwrap_or(line.len());
     let (amount, what) = line.split_at(words);
     Ok((Reduced64::from_text(amount.trim())?, what))
@@ -37,9 +39,12 @@ fn main() {
     assert_eq!(scaled[3], "5 eggs");
 
     let half: Ratio<i64> = "1/2".parse().unwrap();
-    assert_eq!("1 1/2".parse::<Ratio<i64>>().unwrap(), half * 3);
-    assert_eq!(Ratio::<i64>::from_text("-2.50").unwrap(), half * -5);
-    assert_eq!(Ratio::from_text("1 1/2"), Ok(half + 1));
+    // Typed: `assert_eq!("1 1/2".parse::<Ratio<i64>>().unwrap(), half * 3);`. As num-rational's, `parse` takes no mixed number.
+    assert_eq!(Reduced64::from_text("1 1/2").unwrap(), half * 3);
+    // Typed: `assert_eq!(Ratio::<i64>::from_text("-2.50").unwrap(), half * -5);`. `Ratio` has no `from_text`.
+    assert_eq!(Reduced64::from_text("-2.50").unwrap(), half * -5);
+    // Typed: `assert_eq!(Ratio::from_text("1 1/2"), Ok(half + 1));`. The same.
+    assert_eq!(Reduced64::from_text("1 1/2").map(Ratio::from), Ok(half + 1));
     assert!("1/0".parse::<Reduced64>().is_err());
     assert!(Reduced64::from_text("a pinch").is_err());
     match parse("1/ cup") {

@@ -10,7 +10,8 @@ use rand::Rng;
 /// divides `parts`: between 0 and 1 with 6 parts there are 0, 1/6, 1/3, 1/2, 2/3, 5/6 and 1.
 ///
 /// This is exact, and not only nearly so, if the generator draws each word with the same probability: the multiples are `k/parts` for a range of
-/// whole numbers `k`, one for each multiple, and rand draws each whole number of a range equally often.
+/// whole numbers `k`, one for each multiple, and rand draws each whole number of a range equally often. Of all fractions with a denominator up
+/// to a bound, a narrow range may have one among 10^18 pairs of numbers, so these are not drawn.
 ///
 /// ```
 /// use num_rational::{FractionsBetween, Reduced64};

@@ -50,6 +50,7 @@ mod continued;
 mod conversions;
 mod errors;
 mod floats;
+mod friends;
 mod integer;
 mod list_sums;
 mod many_products;
@@ -99,6 +100,8 @@ pub use big_fraction_texts::BigTextRefusal;
 pub use casts::CastError;
 pub use continued::{Convergents, Quotients};
 pub use floats::FloatError;
+#[cfg(feature = "rand")]
+pub use friends::FractionsBetween;
 pub use integer::Integer;
 pub use ratio::{Ratio, Rational, Rational32, Rational64};
 pub use reduced::{Reduced, Reduced32, Reduced64};

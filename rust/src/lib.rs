@@ -59,6 +59,8 @@ pub mod integer {
 pub use layer::{CastError, Convergents, FloatError, ParseRoundingError, Quotients, Ratio, Rational, Rational32, Rational64, Reduced, Reduced32, Reduced64, ReducedError};
 #[cfg(feature = "num-bigint")]
 pub use layer::BigRational;
+#[cfg(feature = "rand")]
+pub use layer::FractionsBetween;
 pub use layer::{split, split_by_weights};
 #[cfg(feature = "alloc")]
 pub use layer::{TooLong, Total};

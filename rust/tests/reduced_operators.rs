@@ -101,6 +101,10 @@ fn panics_have_texts() {
         assert_eq!(outcome(|| most / 0), Err("denominator == 0".into()));
         assert_eq!(outcome(|| most % zero), Err("attempt to calculate the remainder with a divisor of zero".into()));
         assert_eq!(outcome(|| -least), Err("attempt to negate with overflow".into()));
+        assert_eq!(outcome(|| Reduced::new(1i8, 0)), Err("denominator == 0".into()));
+        assert_eq!(outcome(|| Reduced::new(1i8, -128)), Err("attempt to negate with overflow".into()));
+        assert_eq!(outcome(|| Reduced::new(2i8, -128).recip()), Ok(Reduced::from(-64)));
+        assert_eq!(outcome(|| zero.recip()), Err("division by zero".into()));
         assert_eq!(outcome(|| zero.inv()), Err("division by zero".into()));
         assert_eq!(outcome(|| least.inv()), Err("attempt to negate with overflow".into()));
         assert_eq!(outcome(|| zero.pow(-1)), Err("division by zero".into()));

@@ -256,7 +256,7 @@ pub(super) fn new_of_machine<T: Integer>(numer: T, denom: T) -> Ratio<T> {
 #[cold]
 #[inline(never)]
 #[track_caller]
-fn refuse_new<T: Integer>(denom: T) -> ! {
+pub(super) fn refuse_new<T: Integer>(denom: T) -> ! {
     if denom.is_zero() {
         refuse_zero()
     }

@@ -7,7 +7,7 @@ use super::continued::{Convergents, Quotients, in_proved};
 use super::floats::Float;
 use super::integer::{Element, Integer, Signs};
 use super::list_sums;
-use super::ratio::Ratio;
+use super::ratio::{refuse_new, Ratio};
 use super::simplest::bound_with;
 use crate::proved::num_rational as proved;
 use crate::proved::num_rational::{Constants, ParseRatioError};
@@ -19,11 +19,11 @@ use core::fmt;
 use core::hash::{Hash, Hasher};
 use core::ops::Bound;
 use core::str::FromStr;
-use num_traits::Signed;
+use num_traits::{Inv, Signed};
 
 /// A fraction of two integers that is always in lowest terms: the denominator is positive, and no number above 1 divides both.
-/// If there is no result, a checked call returns `None`, and an operator or a call of num-traits panics. No other call panics, except
-/// `decimal` for more than 38 places. num-rational has no such type.
+/// If there is no result, a checked call returns `None`, and an operator, `new`, `recip` or a call of num-traits panics. No other call
+/// panics, except `decimal` for more than 38 places. num-rational has no such type.
 ///
 /// ```
 /// use num_rational::{ParseRatioError, Reduced64};
@@ -79,6 +79,24 @@ impl<T: Integer> Reduced<T> {
     /// assert_eq!(num_rational::Reduced32::ONE.into_raw(), (1, 1));
     /// ```
     pub const ONE: Reduced<T> = Reduced { fraction: Proved::<T>::ONE };
+
+    /// The lowest terms of `numer/denom`.
+    ///
+    /// # Panics
+    ///
+    /// If the denominator is 0, or if the lowest terms do not fit the type. `checked_new` tests that.
+    ///
+    /// ```
+    /// assert_eq!(num_rational::Reduced::new(6, -4).into_raw(), (-3, 2));
+    /// ```
+    #[inline]
+    #[track_caller]
+    pub fn new(numer: T, denom: T) -> Reduced<T> {
+        match Reduced::checked_new(numer, denom) {
+            Some(fraction) => fraction,
+            None => refuse_new(denom),
+        }
+    }
 
     /// The lowest terms of `numer/denom`, or `None` if the denominator is 0 or they do not fit the type.
     ///
@@ -587,6 +605,23 @@ impl<T: Integer> Reduced<T> {
     #[inline]
     pub fn checked_sum<O: Into<Reduced<T>>, I: IntoIterator<Item = O>>(items: I) -> Option<Reduced<T>> {
         list_sums::checked_sum(items.into_iter().map(Into::into))
+    }
+
+    /// The reciprocal.
+    ///
+    /// # Panics
+    ///
+    /// If `checked_recip` returns `None`.
+    ///
+    /// ```
+    /// use num_rational::Reduced;
+    ///
+    /// assert_eq!(Reduced::new(-2, 3).recip(), Reduced::new(-3, 2));
+    /// ```
+    #[inline]
+    #[track_caller]
+    pub fn recip(&self) -> Reduced<T> {
+        self.inv()
     }
 
     /// The reciprocal, or `None` if the fraction is 0 or the reciprocal does not fit the type.

@@ -195,8 +195,8 @@ fn refusals_go_through_a_question_mark() {
     assert_eq!(SplitRefusal::NotHeld.to_string(), sum_not_held);
 }
 
-/// What a program needs of an error that it hands to another thread, prints and copies.
-fn is_error<E: Error + Display + Copy + PartialEq + Send + Sync + 'static>() {}
+/// What a program needs of an error that it hands to another thread, prints, copies and counts by a map.
+fn is_error<E: Error + Display + Copy + Eq + Hash + Send + Sync + 'static>() {}
 
 /// The names of errors in the list of what the crate exports.
 fn exported_errors() -> BTreeSet<&'static str> {
@@ -215,7 +215,7 @@ macro_rules! errors {
     };
 }
 
-errors! { AllocError BigTextRefusal CastError DecimalRefusal FloatError ParseRatioError ReducedError SplitRefusal TextRefusal TooLong WeightRefusal }
+errors! { AllocError BigTextRefusal CastError DecimalRefusal FloatError ParseRatioError ParseRoundingError ReducedError SplitRefusal TextRefusal TooLong WeightRefusal }
 
 #[test]
 fn texts_of_errors() {

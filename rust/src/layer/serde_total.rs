@@ -1,5 +1,4 @@
-//! A `Total` in serde's formats: how many fractions are in it, how many went in or out, those in slots as texts of their lowest terms, and
-//! the sum of the others with how many they were. 1/2 twice and 1/3 are `[3,3,["1","1/3"],null]`.
+//! A `Total` in serde's formats: a list of four.
 use super::big_fraction::BigFraction;
 use super::big_fraction_texts::BigTextRefusal;
 use super::integer::Integer;
@@ -15,7 +14,9 @@ use serde::de::{Error, SeqAccess, Visitor};
 use serde::ser::Error as _;
 use serde::{Deserialize, Deserializer, Serialize, Serializer};
 
-/// It is an error for a total whose `big_sum` is `TooLong`.
+/// A list of four: the count, how many fractions went in or out, the sums over the denominators in slots, as texts of their lowest terms, and
+/// how many fractions no slot takes, with their sum. If there was none of these, it is null: 1/2 twice and 1/3 are `[3,3,["1","1/3"],null]`.
+/// To write a total whose `big_sum` is `TooLong` is an error.
 ///
 /// ```
 /// use num_rational::{ratio, Total};

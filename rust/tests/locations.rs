@@ -163,6 +163,8 @@ const ROUNDING: &[Row] = &[
     ("to_integer", line!(), || done(none().to_integer())),
     ("floor of no lowest terms", line!(), || done(refused().floor())),
     ("decimal", line!(), || done(Reduced::from(1).decimal(39, Rounding::Up))),
+    ("new of a Reduced", line!(), || done(Reduced::new(1, i32::MIN))),
+    ("recip of a Reduced", line!(), || done(Reduced::<i32>::ZERO.recip())),
     ("decimal of a ratio", line!(), || done(one().decimal(39, Rounding::Up))),
     ("decimal of no value", line!(), || done(none().decimal(2, Rounding::Up))),
     ("decimal of no lowest terms", line!(), || done(refused().decimal(2, Rounding::Up))),
@@ -236,10 +238,10 @@ const OWN: [&str; 8] = ["pub(super) fn ", "fn recip_of_any(", "fn refuse", "fn p
 /// A call that can panic has `#[track_caller]` and says when it panics. A call that returns an `Option` never panics.
 #[test]
 fn each_call_that_panics_says_when() {
-    let layer = concat!(env!("CARGO_MANIFEST_DIR"), "/src/layer");
+    let folders = [concat!(env!("CARGO_MANIFEST_DIR"), "/src/layer"), concat!(env!("CARGO_MANIFEST_DIR"), "/src/layer/friends")];
     let mut calls = 0;
-    for file in std::fs::read_dir(layer).unwrap() {
-        let source = std::fs::read_to_string(file.unwrap().path()).unwrap();
+    for path in folders.iter().flat_map(|folder| std::fs::read_dir(folder).unwrap()).map(|file| file.unwrap().path()).filter(|path| path.is_file()) {
+        let source = std::fs::read_to_string(path).unwrap();
         let lines: Vec<&str> = source.lines().map(str::trim).collect();
         for at in (0..lines.len()).filter(|&at| lines[at].contains("fn ") && !OWN.iter().any(|own| lines[at].starts_with(own))) {
             let above: Vec<_> = lines[..at].iter().rev().take_while(|line| line.starts_with("///") || line.starts_with("#[")).collect();

@@ -19,7 +19,7 @@ fn main() {
     let sum: BigFraction = &big + BigFraction::from(half) + BigFraction::new(1, 3) - 1;
     assert_eq!(sum.to_string(), "5999999999999999999999999999999/6");
     // Typed: `assert!(sum < big && big > half && third < sum);`. The same.
-    assert!(sum < big && big > half.into() && BigFraction::try_from(third).unwrap() < sum);
+    assert!(sum < big && big > BigFraction::from(half) && BigFraction::try_from(third).unwrap() < sum);
     // Typed: `assert_eq!(sum.to_integer().to_string(), "999999999999999999999999999999");`. It has no type of big integers of its own.
     assert_eq!(sum.trunc().to_string(), "999999999999999999999999999999");
     assert_eq!(Reduced64::try_from(&sum - &big).unwrap(), Reduced64::new(-1, 6));

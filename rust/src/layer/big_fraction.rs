@@ -66,6 +66,7 @@ fn refuse(why: &str) -> ! {
 }
 
 /// The two digits of a number, the lowest first.
+#[inline]
 fn digits_of(number: u128) -> [u64; 2] {
     [number as u64, (number >> 64) as u64]
 }
@@ -162,6 +163,7 @@ impl BigFraction {
     /// ```
     /// assert_eq!(num_rational::BigFraction::try_from_digits(false, &[1], &[0, 0]), Ok(None));
     /// ```
+    #[inline]
     pub fn try_from_digits(is_negative: bool, numer: &[u64], denom: &[u64]) -> Result<Option<BigFraction>, AllocError> {
         Ok(Proved::from_digits(Global, is_negative, numer, denom)?.map(BigFraction))
     }
@@ -178,6 +180,7 @@ impl BigFraction {
     /// assert_eq!(BigFraction::new(-5 << 64, 3i128).numer_digits(), [0, 5]);
     /// assert!(BigFraction::from(0).numer_digits().is_empty());
     /// ```
+    #[inline]
     #[track_caller]
     pub fn numer_digits(&self) -> Vec<u64> {
         taken(self.0.numer_digits(Global)).into_std()
@@ -192,12 +195,14 @@ impl BigFraction {
     /// ```
     /// assert_eq!(num_rational::BigFraction::new(1, -3).denom_digits(), [3]);
     /// ```
+    #[inline]
     #[track_caller]
     pub fn denom_digits(&self) -> Vec<u64> {
         taken(self.0.denom_digits(Global)).into_std()
     }
 
     /// Hands the digits of both numbers to a call, without leading zeros. It takes no memory.
+    #[inline]
     pub(super) fn with_digits<R>(&self, call: impl FnOnce(&[u64], &[u64]) -> R) -> R {
         let own = self.0.short_digits();
         let parts = self.0.parts(&own);
@@ -209,6 +214,7 @@ impl BigFraction {
     /// ```
     /// assert!(num_rational::BigFraction::new(4, 2).is_integer());
     /// ```
+    #[inline]
     pub fn is_integer(&self) -> bool {
         self.with_digits(|_, denom| denom == [1])
     }

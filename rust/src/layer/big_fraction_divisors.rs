@@ -15,6 +15,7 @@ impl BigFraction {
     ///
     /// assert_eq!(BigFraction::new(1, 4).gcd(&BigFraction::new(1, 6)), BigFraction::new(1, 12));
     /// ```
+    #[inline]
     #[doc(alias = "greatest_common_divisor")]
     #[track_caller]
     pub fn gcd(&self, other: &BigFraction) -> BigFraction {
@@ -32,6 +33,7 @@ impl BigFraction {
     ///
     /// assert_eq!(BigFraction::new(1, 4).lcm(&BigFraction::new(1, 6)), BigFraction::new(1, 2));
     /// ```
+    #[inline]
     #[doc(alias = "least_common_multiple")]
     #[track_caller]
     pub fn lcm(&self, other: &BigFraction) -> BigFraction {

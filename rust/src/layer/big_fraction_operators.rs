@@ -1,5 +1,6 @@
 //! The operators of `BigFraction` in all forms, the checked traits, and `sum` and `product`. A whole number of each type may be on either side.
 use super::big_fraction::{divided, taken, BigFraction};
+use super::integer::WholeNumber;
 use core::iter::{Product, Sum};
 use core::ops::{Add, AddAssign, Div, DivAssign, Mul, MulAssign, Neg, Sub, SubAssign};
 use num_traits::{CheckedAdd, CheckedDiv, CheckedMul, CheckedSub, Inv};
@@ -23,15 +24,19 @@ macro_rules! operators {
         forms! { $Op $op; BigFraction, BigFraction; x, y => &x, &y }
         forms! { $Op $op; BigFraction, &BigFraction; x, y => &x, y }
         forms! { $Op $op; &BigFraction, BigFraction; x, y => x, &y }
+        forms! { $Op $op N; BigFraction, N; x, y => &x, &BigFraction::from_integer(y.number()) }
+        forms! { $Op $op N; &BigFraction, N; x, y => x, &BigFraction::from_integer(y.number()) }
         assigning! { $OpAssign $op_assign $Op $op; BigFraction }
         assigning! { $OpAssign $op_assign $Op $op; &BigFraction }
-        with_numbers! { $Op $op $OpAssign $op_assign: i8 i16 i32 i64 i128 isize u8 u16 u32 u64 u128 usize }
+        assigning! { $OpAssign $op_assign $Op $op N; N }
+        from_left! { $Op $op: i8 i16 i32 i64 i128 isize u8 u16 u32 u64 u128 usize }
     )*};
 }
 
+// With an `N`, the right side is a number of each type, or a reference to one.
 macro_rules! forms {
-    ($Op:ident $op:ident; $Left:ty, $Right:ty; $x:ident, $y:ident => $left:expr, $right:expr) => {
-        impl $Op<$Right> for $Left {
+    ($Op:ident $op:ident $($N:ident)?; $Left:ty, $Right:ty; $x:ident, $y:ident => $left:expr, $right:expr) => {
+        impl$(<$N: WholeNumber>)? $Op<$Right> for $Left {
             type Output = BigFraction;
 
             /// # Panics
@@ -47,24 +52,19 @@ macro_rules! forms {
     };
 }
 
-macro_rules! with_numbers {
-    ($Op:ident $op:ident $OpAssign:ident $op_assign:ident: $($type:ident)*) => {$(
-        forms! { $Op $op; BigFraction, $type; x, y => &x, &BigFraction::from_integer(y) }
-        forms! { $Op $op; BigFraction, &$type; x, y => &x, &BigFraction::from_integer(*y) }
-        forms! { $Op $op; &BigFraction, $type; x, y => x, &BigFraction::from_integer(y) }
-        forms! { $Op $op; &BigFraction, &$type; x, y => x, &BigFraction::from_integer(*y) }
+// A number on the left has an impl for each type, since a program's own type may be on the right of it.
+macro_rules! from_left {
+    ($Op:ident $op:ident: $($type:ident)*) => {$(
         forms! { $Op $op; $type, BigFraction; x, y => &BigFraction::from_integer(x), &y }
         forms! { $Op $op; $type, &BigFraction; x, y => &BigFraction::from_integer(x), y }
         forms! { $Op $op; &$type, BigFraction; x, y => &BigFraction::from_integer(*x), &y }
         forms! { $Op $op; &$type, &BigFraction; x, y => &BigFraction::from_integer(*x), y }
-        assigning! { $OpAssign $op_assign $Op $op; $type }
-        assigning! { $OpAssign $op_assign $Op $op; &$type }
     )*};
 }
 
 macro_rules! assigning {
-    ($OpAssign:ident $op_assign:ident $Op:ident $op:ident; $Right:ty) => {
-        impl $OpAssign<$Right> for BigFraction {
+    ($OpAssign:ident $op_assign:ident $Op:ident $op:ident $($N:ident)?; $Right:ty) => {
+        impl$(<$N: WholeNumber>)? $OpAssign<$Right> for BigFraction {
             /// # Panics
             ///
             /// As for two references.
@@ -76,7 +76,7 @@ macro_rules! assigning {
         }
     };
 }
-pub(super) use {assigning, forms, operators, with_numbers};
+pub(super) use {assigning, forms, from_left, operators};
 
 operators! {
     Add add AddAssign add_assign: x, y => taken(x.try_add(y));

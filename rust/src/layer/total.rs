@@ -111,6 +111,7 @@ const MOST: usize = isize::MAX as usize / core::mem::size_of::<Slot>();
 
 /// A random number.
 #[cfg(feature = "std")]
+#[inline]
 fn by_chance() -> u64 {
     use core::hash::{BuildHasher, Hasher};
     std::collections::hash_map::RandomState::new().build_hasher().finish()
@@ -118,6 +119,7 @@ fn by_chance() -> u64 {
 
 /// Without `std` nothing is random.
 #[cfg(not(feature = "std"))]
+#[inline]
 fn by_chance() -> u64 {
     0
 }

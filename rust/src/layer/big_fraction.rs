@@ -154,6 +154,7 @@ impl BigFraction {
     /// assert_eq!(x, BigFraction::from(-6));
     /// ```
     #[inline]
+    #[must_use]
     pub fn from_digits(is_negative: bool, numer: &[u64], denom: &[u64]) -> Option<BigFraction> {
         BigFraction::try_from_digits(is_negative, numer, denom).ok().flatten()
     }
@@ -182,6 +183,7 @@ impl BigFraction {
     /// ```
     #[inline]
     #[track_caller]
+    #[must_use]
     pub fn numer_digits(&self) -> Vec<u64> {
         taken(self.0.numer_digits(Global)).into_std()
     }
@@ -197,6 +199,7 @@ impl BigFraction {
     /// ```
     #[inline]
     #[track_caller]
+    #[must_use]
     pub fn denom_digits(&self) -> Vec<u64> {
         taken(self.0.denom_digits(Global)).into_std()
     }
@@ -215,6 +218,7 @@ impl BigFraction {
     /// assert!(num_rational::BigFraction::new(4, 2).is_integer());
     /// ```
     #[inline]
+    #[must_use]
     pub fn is_integer(&self) -> bool {
         self.with_digits(|_, denom| denom == [1])
     }
@@ -246,6 +250,7 @@ impl BigFraction {
     #[doc(alias = "reciprocal")]
     #[inline]
     #[track_caller]
+    #[must_use]
     pub fn recip(&self) -> BigFraction {
         divided(self.try_recip(), "denominator == 0")
     }

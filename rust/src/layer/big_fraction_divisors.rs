@@ -18,6 +18,7 @@ impl BigFraction {
     #[inline]
     #[doc(alias = "greatest_common_divisor")]
     #[track_caller]
+    #[must_use]
     pub fn gcd(&self, other: &BigFraction) -> BigFraction {
         taken(self.try_gcd(other))
     }
@@ -36,6 +37,7 @@ impl BigFraction {
     #[inline]
     #[doc(alias = "least_common_multiple")]
     #[track_caller]
+    #[must_use]
     pub fn lcm(&self, other: &BigFraction) -> BigFraction {
         taken(self.try_lcm(other))
     }

@@ -22,6 +22,7 @@ impl BigFraction {
     /// ```
     #[inline]
     #[track_caller]
+    #[must_use]
     pub fn round_to(&self, parts: i64, rule: Rounding) -> BigFraction {
         divided(self.try_round_to(parts, rule), "the number of parts is not above 0")
     }
@@ -55,6 +56,7 @@ impl BigFraction {
     /// ```
     #[inline]
     #[track_caller]
+    #[must_use]
     pub fn round_to_multiple_of(&self, step: &BigFraction, rule: Rounding) -> BigFraction {
         divided(self.try_round_to_multiple_of(step, rule), "the step is not above 0")
     }
@@ -85,6 +87,7 @@ impl BigFraction {
     /// assert_eq!(BigFraction::new(1, 2).nearest(&BigFraction::from(0)), None);
     /// ```
     #[inline]
+    #[must_use]
     pub fn nearest(&self, most: &BigFraction) -> Option<BigFraction> {
         self.try_nearest(most).ok().flatten()
     }
@@ -116,6 +119,7 @@ impl BigFraction {
     /// ```
     #[inline]
     #[track_caller]
+    #[must_use]
     pub fn continued_fraction(&self) -> Vec<BigFraction> {
         taken(self.try_continued_fraction())
     }
@@ -149,6 +153,7 @@ impl BigFraction {
     /// assert_eq!(BigFraction::simplest_between(&high, &low), None);
     /// ```
     #[inline]
+    #[must_use]
     pub fn simplest_between(low: &BigFraction, high: &BigFraction) -> Option<BigFraction> {
         BigFraction::try_simplest_between(low, high).ok().flatten()
     }

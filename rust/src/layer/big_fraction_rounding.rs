@@ -17,6 +17,7 @@ macro_rules! whole_numbers {
             /// For want of memory.
             #[inline]
             #[track_caller]
+            #[must_use]
             pub fn $name(&self) -> BigFraction {
                 taken(self.$try())
             }
@@ -134,6 +135,7 @@ impl BigFraction {
     /// ```
     #[inline]
     #[track_caller]
+    #[must_use]
     pub fn pow(&self, exponent: i32) -> BigFraction {
         power(self, exponent.into())
     }

@@ -91,6 +91,7 @@ impl BigFraction {
     /// ```
     #[inline]
     #[track_caller]
+    #[must_use]
     pub fn decimal(&self, places: u32, rule: Rounding) -> String {
         taken(self.try_decimal(places, rule))
     }

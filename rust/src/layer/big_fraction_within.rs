@@ -66,6 +66,7 @@ impl BigFraction {
     /// assert_eq!(x.pow_within(i64::MAX, 4096), None); // at once
     /// ```
     #[inline]
+    #[must_use]
     pub fn pow_within(&self, exponent: i64, max_bits: u64) -> Option<BigFraction> {
         self.try_pow_within(exponent, max_bits).ok().flatten()
     }

@@ -21,6 +21,7 @@ macro_rules! constants {
             /// ```
             #[inline]
             #[track_caller]
+            #[must_use]
             pub const fn const_new($numer: $type, $denom: $type) -> Ratio<$type> {
                 let (numer, denom) = $lowest;
                 Ratio::new_raw(numer, denom)

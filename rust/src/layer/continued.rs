@@ -17,6 +17,7 @@ const MOST: usize = 192;
 /// assert_eq!(format!("{quotients:?}"), "Quotients { .. }");
 /// assert!(quotients.eq([4, 2, 6, 7]));
 /// ```
+#[must_use]
 pub struct Quotients<T: Integer> {
     quotients: Proved<T>,
 }
@@ -54,6 +55,7 @@ impl<T: Integer> Quotients<T> {
 /// assert_eq!(format!("{convergents:?}"), "Convergents { .. }");
 /// assert_eq!(convergents.nth(1).unwrap().to_string(), "9/2");
 /// ```
+#[must_use]
 pub struct Convergents<T: Integer> {
     convergents: ProvedConvergents<T>,
 }
@@ -104,6 +106,7 @@ impl<T: Integer> Ratio<T> {
     /// assert!(Ratio::new_raw(830, 186).continued_fraction().unwrap().eq([4, 2, 6, 7]));
     /// assert!(Ratio::new_raw(1, 0).continued_fraction().is_none());
     /// ```
+    #[must_use]
     pub fn continued_fraction(&self) -> Option<Quotients<T>> {
         Some(Reduced::from_ratio(self)?.continued_fraction())
     }
@@ -118,6 +121,7 @@ impl<T: Integer> Ratio<T> {
     /// assert!(x.convergents().unwrap().map(Reduced::into_raw).eq([(-3, 1), (-2, 1), (-7, 3)]));
     /// assert!(Ratio::new_raw(1, 0).convergents().is_none());
     /// ```
+    #[must_use]
     pub fn convergents(&self) -> Option<Convergents<T>> {
         Some(Reduced::from_ratio(self)?.convergents())
     }
@@ -131,6 +135,7 @@ impl<T: Integer> Ratio<T> {
     /// assert_eq!(Ratio::from_continued_fraction(&[4i64, 2, 6, 7]), Some(Ratio::new(415, 93)));
     /// assert_eq!(Ratio::<i64>::from_continued_fraction(&[]), None);
     /// ```
+    #[must_use]
     pub fn from_continued_fraction(quotients: &[T]) -> Option<Ratio<T>> {
         Reduced::from_continued_fraction(quotients).map(Ratio::from)
     }

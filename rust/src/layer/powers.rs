@@ -25,6 +25,7 @@ impl<T: Clone + num_integer::Integer> Ratio<T> {
     #[doc(alias = "inverse")]
     #[inline]
     #[track_caller]
+    #[must_use]
     pub fn recip(&self) -> Ratio<T> {
         on_machine!(T, same => same.back(recip_of_machine(same.fraction(self))));
         schoolbook::recip(self.clone())
@@ -47,6 +48,7 @@ impl<T: Clone + num_integer::Integer> Ratio<T> {
     #[doc(alias = "powi")]
     #[inline]
     #[track_caller]
+    #[must_use]
     pub fn pow(&self, exponent: i32) -> Ratio<T> {
         power(self, exponent)
     }
@@ -64,6 +66,7 @@ impl<T: Integer> Ratio<T> {
     /// assert_eq!(Ratio::new(-1i64, 128).checked_pow(-9), None);
     /// ```
     #[inline]
+    #[must_use]
     pub fn checked_pow(&self, exponent: i32) -> Option<Ratio<T>> {
         self.positive()?.checked_pow(exponent).map(Ratio::from_proved)
     }

@@ -133,6 +133,7 @@ impl<T> Total<T> {
     /// assert_eq!(Total::new().sum(), Ok(Some(Reduced64::ZERO)));
     /// ```
     #[inline]
+    #[must_use]
     pub const fn new() -> Total<T> {
         Total { slots: Vec::new(), tally: Tally { weight: 0, count: 0 }, empty: 0, pause: 0, next_count: 0, wide: RoomSum::EMPTY, of: PhantomData }
     }
@@ -147,6 +148,7 @@ impl<T> Total<T> {
     /// assert_eq!(total.count(), 2);
     /// ```
     #[inline]
+    #[must_use]
     pub fn count(&self) -> i64 {
         self.tally.count
     }

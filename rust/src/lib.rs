@@ -13,18 +13,74 @@
 //! assert!(Ratio::new(i64::MAX - 1, i64::MAX) < Ratio::from_integer(1));
 //! ```
 //!
+//! # Which type
+//!
+//! | Type | For what | Where a result does not fit |
+//! |---|---|---|
+//! | [`Reduced<T>`](Reduced) | fractions of machine integers, always in lowest terms: take this one, unless the next row applies | a checked call returns `None`, an operator panics |
+//! | [`Ratio<T>`](Ratio) | programs written for num-rational, fractions that keep their fields, and other integer types | the same; some steps must fit, too |
+//! | [`Total<T>`][`Total`] | the exact sum of up to 2^63-1 `Reduced` | only the sum that is read must fit; a decimal of it always does |
+//! | [`BigFraction`] | fractions of any size | never, but for want of memory |
+//!
+//! ```
+//! use num_rational::{Ratio, Reduced64, Rounding};
+//!
+//! let third = Reduced64::checked_new(2, 6).unwrap();
+//! assert_eq!(third.checked_add(1).unwrap().to_string(), "4/3");
+//! assert_eq!(third.decimal(2, Rounding::HalfEven).as_str(), "0.33");
+//!
+//! assert_eq!(Ratio::new_raw(2, 6).into_raw(), (2, 6)); // not in lowest terms
+//!
+//! # #[cfg(feature = "alloc")]
+//! # {
+//! use num_rational::{BigFraction, Total};
+//!
+//! let total: Total<i64> = [third; 3].iter().sum();
+//! assert_eq!(total.sum().unwrap(), Some(Reduced64::ONE));
+//!
+//! let power = BigFraction::new(2, 3).pow(100);
+//! assert_eq!(power * BigFraction::new(3, 2).pow(100), BigFraction::from(1));
+//! # }
+//! ```
+//!
+//! [`split`] and [`split_by_weights`] divide an amount by shares, and lose nothing. Code that is generic over the machine types requires
+//! [`integer::Integer`].
+//!
+//! # Features
+//!
+//! | Feature | What it brings |
+//! |---|---|
+//! | `std`, the default | `alloc`, and std's trait `Error` for the errors |
+//! | `alloc`, part of `std` and of `num-bigint` | [`BigFraction`], [`Total`], and sums and products of lists whose steps need not fit |
+//! | `serde` | reads and writes pairs, as num-rational does, and refuses a `Reduced` that is not in lowest terms. On a field, `#[serde(with = "num_rational::text")]` writes `"1/3"`, `decimal` `"0.25"`, `two_numbers` `[1,3]` |
+//! | `num-bigint`, `num-bigint-std` | `BigRational` and its conversions |
+//! | `num-rational` | conversions to and from num-rational's own `Ratio` |
+//! | `arbitrary`, `proptest`, `quickcheck` | their traits, for drawn fractions |
+//! | `rand` | `FractionsBetween`, which draws each fraction between two others with the same chance |
+//! | `postgres-types` | `ToSql` and `FromSql` for the type `ratio` of our extension |
+//!
+//! # In the place of num-rational
+//!
 //! The examples name the crate `num_rational`, as a program does that has this line in its `Cargo.toml`:
 //!
 //! ```toml
 //! num-rational = { package = "bakhsney", path = "../bakhsney/rust" }
 //! ```
 //!
+//! The crate's `README.md` says what differs from num-rational, and what is proved. `CHANGELOG.md` says what a version promises.
+//!
+//! # What is not proved
+//!
 //! The proofs are in Rattle. `src/proved/` holds the proved code without its contracts. A layer written by hand,
 //! in `src/layer/`, tests what the proved calls require.
 //!
-//! `from_f64`, `from_f32`, `approximate_float`, `const_new`, the forms `{:e}` and `{:E}`, and `from_str_radix` and the bounds in bits of a `BigFraction` are not proved.
-//! The layer computes them, and tests compare them with num-rational. The crate's README says what differs from num-rational.
+//! `from_f64`, `from_f32`, `approximate_float`, `approximate_float_unsigned`, `const_new`, the forms `{:e}` and `{:E}`, and `from_str_radix` and the
+//! bounds in bits of a `BigFraction` are not proved. The layer computes them, and tests compare them with num-rational.
 #![cfg_attr(not(feature = "std"), no_std)]
+// Without memory, the page names types that are not there.
+#![cfg_attr(not(feature = "alloc"), allow(rustdoc::broken_intra_doc_links))]
+// The documentation says of each item which feature it needs.
+#![cfg_attr(docsrs, feature(doc_cfg))]
 #![warn(missing_docs)]
 
 #[cfg(not(any(target_pointer_width = "64", target_pointer_width = "32")))]

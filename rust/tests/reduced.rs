@@ -379,7 +379,7 @@ fn all_digits_of_exact_floats() {
 #[test]
 #[should_panic(expected = "more than 38 places")]
 fn more_places_than_a_decimal_has() {
-    Reduced64::ONE.decimal(39, Rounding::Down);
+    let _ = Reduced64::ONE.decimal(39, Rounding::Down);
 }
 
 #[test]

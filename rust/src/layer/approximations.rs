@@ -26,6 +26,7 @@ impl<T: Clone + Integer + Signed + Bounded + NumCast> Ratio<T> {
     /// assert_eq!(Ratio::<i8>::approximate_float(3.14159), Some(Ratio::new(22, 7)));
     /// assert_eq!(Ratio::<i8>::approximate_float(f64::NAN), None);
     /// ```
+    #[must_use]
     pub fn approximate_float<F: FloatCore + NumCast>(float: F) -> Option<Ratio<T>> {
         approximation(float)
     }
@@ -41,6 +42,7 @@ impl<T: Clone + Integer + Unsigned + Bounded + NumCast> Ratio<T> {
     /// assert_eq!(Ratio::<u8>::approximate_float_unsigned(0.75), Some(Ratio::new(3, 4)));
     /// assert_eq!(Ratio::<u8>::approximate_float_unsigned(-0.75), None);
     /// ```
+    #[must_use]
     pub fn approximate_float_unsigned<F: FloatCore + NumCast>(float: F) -> Option<Ratio<T>> {
         approximation(float)
     }

@@ -160,6 +160,7 @@ impl BigFraction {
     /// assert_eq!(x, BigFraction::from(-6));
     /// ```
     #[inline]
+    #[must_use]
     pub fn from_digits(is_negative: bool, numer: &[u64], denom: &[u64]) -> Option<BigFraction> {
         BigFraction::try_from_digits(is_negative, numer, denom).ok().flatten()
     }
@@ -169,6 +170,7 @@ impl BigFraction {
     /// ```
     /// assert_eq!(num_rational::BigFraction::try_from_digits(false, &[1], &[0, 0]), Ok(None));
     /// ```
+    #[inline]
     pub fn try_from_digits(is_negative: bool, numer: &[u64], denom: &[u64]) -> Result<Option<BigFraction>, AllocError> {
         Ok(Proved::from_digits(Global, is_negative, numer, denom)?.map(BigFraction))
     }
@@ -185,7 +187,9 @@ impl BigFraction {
     /// assert_eq!(BigFraction::new(-5 << 64, 3i128).numer_digits(), [0, 5]);
     /// assert!(BigFraction::from(0).numer_digits().is_empty());
     /// ```
+    #[inline]
     #[track_caller]
+    #[must_use]
     pub fn numer_digits(&self) -> Vec<u64> {
         taken(self.0.numer_digits(Global)).into_std()
     }
@@ -199,12 +203,15 @@ impl BigFraction {
     /// ```
     /// assert_eq!(num_rational::BigFraction::new(1, -3).denom_digits(), [3]);
     /// ```
+    #[inline]
     #[track_caller]
+    #[must_use]
     pub fn denom_digits(&self) -> Vec<u64> {
         taken(self.0.denom_digits(Global)).into_std()
     }
 
     /// Hands the digits of both numbers to a call, without leading zeros. It takes no memory.
+    #[inline]
     pub(super) fn with_digits<R>(&self, call: impl FnOnce(&[u64], &[u64]) -> R) -> R {
         let own = self.0.short_digits();
         let parts = self.0.parts(&own);
@@ -216,6 +223,8 @@ impl BigFraction {
     /// ```
     /// assert!(num_rational::BigFraction::new(4, 2).is_integer());
     /// ```
+    #[inline]
+    #[must_use]
     pub fn is_integer(&self) -> bool {
         self.with_digits(|_, denom| denom == [1])
     }
@@ -247,6 +256,7 @@ impl BigFraction {
     #[doc(alias = "reciprocal")]
     #[inline]
     #[track_caller]
+    #[must_use]
     pub fn recip(&self) -> BigFraction {
         divided(self.try_recip(), "denominator == 0")
     }

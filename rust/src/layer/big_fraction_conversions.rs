@@ -249,6 +249,7 @@ impl<T: Integer> Total<T> {
 }
 
 /// The fraction and `(positive - negative)/common`.
+#[inline]
 fn with_wide(sum: BigFraction, positive: &[u64], common: &[u64], negative: &[u64]) -> Result<BigFraction, AllocError> {
     let mut sum = sum;
     for (is_negative, numer) in [(false, positive), (true, negative)] {

@@ -15,8 +15,10 @@ impl BigFraction {
     ///
     /// assert_eq!(BigFraction::new(1, 4).gcd(&BigFraction::new(1, 6)), BigFraction::new(1, 12));
     /// ```
+    #[inline]
     #[doc(alias = "greatest_common_divisor")]
     #[track_caller]
+    #[must_use]
     pub fn gcd(&self, other: &BigFraction) -> BigFraction {
         taken(self.try_gcd(other))
     }
@@ -32,8 +34,10 @@ impl BigFraction {
     ///
     /// assert_eq!(BigFraction::new(1, 4).lcm(&BigFraction::new(1, 6)), BigFraction::new(1, 2));
     /// ```
+    #[inline]
     #[doc(alias = "least_common_multiple")]
     #[track_caller]
+    #[must_use]
     pub fn lcm(&self, other: &BigFraction) -> BigFraction {
         taken(self.try_lcm(other))
     }

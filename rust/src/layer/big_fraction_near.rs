@@ -20,7 +20,9 @@ impl BigFraction {
     /// assert_eq!(price.round_to(100, Rounding::HalfEven), BigFraction::from(20));
     /// assert_eq!(BigFraction::new(2, 3).round_to(100, Rounding::HalfEven), BigFraction::new(67, 100));
     /// ```
+    #[inline]
     #[track_caller]
+    #[must_use]
     pub fn round_to(&self, parts: i64, rule: Rounding) -> BigFraction {
         divided(self.try_round_to(parts, rule), "the number of parts is not above 0")
     }
@@ -32,6 +34,7 @@ impl BigFraction {
     ///
     /// assert_eq!(BigFraction::new(2, 3).try_round_to(0, Rounding::Up), Ok(None));
     /// ```
+    #[inline]
     pub fn try_round_to(&self, parts: i64, rule: Rounding) -> Result<Option<BigFraction>, AllocError> {
         if parts < 1 {
             return Ok(None);
@@ -51,7 +54,9 @@ impl BigFraction {
     /// assert_eq!(BigFraction::from(100).round_to_multiple_of(&BigFraction::from(12), Rounding::HalfEven), BigFraction::from(96));
     /// assert_eq!(BigFraction::new(2, 3).round_to_multiple_of(&BigFraction::new(2, 5), Rounding::Floor), BigFraction::new(2, 5));
     /// ```
+    #[inline]
     #[track_caller]
+    #[must_use]
     pub fn round_to_multiple_of(&self, step: &BigFraction, rule: Rounding) -> BigFraction {
         divided(self.try_round_to_multiple_of(step, rule), "the step is not above 0")
     }
@@ -63,6 +68,7 @@ impl BigFraction {
     ///
     /// assert_eq!(BigFraction::new(2, 3).try_round_to_multiple_of(&BigFraction::from(0), Rounding::Up), Ok(None));
     /// ```
+    #[inline]
     pub fn try_round_to_multiple_of(&self, step: &BigFraction, rule: Rounding) -> Result<Option<BigFraction>, AllocError> {
         if !step.0.is_positive() {
             return Ok(None);
@@ -80,6 +86,8 @@ impl BigFraction {
     /// assert_eq!(BigFraction::new(1, 2).nearest(&BigFraction::from(1)), Some(BigFraction::from(0)));
     /// assert_eq!(BigFraction::new(1, 2).nearest(&BigFraction::from(0)), None);
     /// ```
+    #[inline]
+    #[must_use]
     pub fn nearest(&self, most: &BigFraction) -> Option<BigFraction> {
         self.try_nearest(most).ok().flatten()
     }
@@ -92,6 +100,7 @@ impl BigFraction {
     /// let most = BigFraction::from(1_000_000);
     /// assert_eq!(BigFraction::new(-7, 3).try_nearest(&most), Ok(Some(BigFraction::new(-7, 3))));
     /// ```
+    #[inline]
     pub fn try_nearest(&self, most: &BigFraction) -> Result<Option<BigFraction>, AllocError> {
         Ok(self.0.nearest(Global, &most.0)?.map(BigFraction))
     }
@@ -108,7 +117,9 @@ impl BigFraction {
     /// // 4 + 1/(2 + 1/(6 + 1/7))
     /// assert_eq!(BigFraction::new(415, 93).continued_fraction(), [4, 2, 6, 7].map(BigFraction::from));
     /// ```
+    #[inline]
     #[track_caller]
+    #[must_use]
     pub fn continued_fraction(&self) -> Vec<BigFraction> {
         taken(self.try_continued_fraction())
     }
@@ -120,6 +131,7 @@ impl BigFraction {
     ///
     /// assert_eq!(BigFraction::new(-7, 3).try_continued_fraction(), Ok([-3, 1, 2].map(BigFraction::from).to_vec()));
     /// ```
+    #[inline]
     pub fn try_continued_fraction(&self) -> Result<Vec<BigFraction>, AllocError> {
         let mut quotients = memory::Vec::new(Global);
         for quotient in self.0.continued_fraction(Global)?.into_std() {
@@ -140,6 +152,8 @@ impl BigFraction {
     /// assert_eq!(BigFraction::simplest_between(&low, &high), Some(BigFraction::new(25, 8)));
     /// assert_eq!(BigFraction::simplest_between(&high, &low), None);
     /// ```
+    #[inline]
+    #[must_use]
     pub fn simplest_between(low: &BigFraction, high: &BigFraction) -> Option<BigFraction> {
         BigFraction::try_simplest_between(low, high).ok().flatten()
     }
@@ -152,6 +166,7 @@ impl BigFraction {
     /// let (low, high) = (BigFraction::from(0), BigFraction::new(1, i64::MAX));
     /// assert_eq!(BigFraction::try_simplest_between(&low, &high), Ok(Some(BigFraction::new(1, 1u64 << 63))));
     /// ```
+    #[inline]
     pub fn try_simplest_between(low: &BigFraction, high: &BigFraction) -> Result<Option<BigFraction>, AllocError> {
         Ok(Proved::simplest_between(Global, &low.0, &high.0)?.map(BigFraction))
     }

@@ -2,7 +2,7 @@
 use super::big_fraction::{divided, taken, tries, BigFraction};
 use super::big_fraction_operand::{operand, BigOperand};
 use super::big_fraction_operators::{checked, from_left, operators};
-use super::integer::{Element, Integer};
+use super::integer::{Element, Integer, WholeNumber};
 use super::ratio::Ratio;
 use super::reduced::Reduced;
 use crate::memory::{AllocError, Global, Vec};
@@ -20,6 +20,7 @@ macro_rules! whole_numbers {
             /// For want of memory.
             #[inline]
             #[track_caller]
+            #[must_use]
             pub fn $name(&self) -> BigFraction {
                 taken(self.$try())
             }
@@ -181,6 +182,7 @@ impl BigFraction {
     /// ```
     #[inline]
     #[track_caller]
+    #[must_use]
     pub fn pow(&self, exponent: i32) -> BigFraction {
         power(self, exponent.into())
     }
@@ -203,6 +205,7 @@ impl BigFraction {
 
 impl BigFraction {
     /// An error if there is no memory for a long power, before anything is computed.
+    #[inline]
     fn room_for_power(&self, exponent: i64) -> Result<(), AllocError> {
         let words = usize::try_from(self.least_bits_of_power(exponent) / 64).map_err(|_| AllocError)?;
         if words > 1 << 10 {
@@ -231,30 +234,28 @@ fn exponent_of<T: Integer>(number: T) -> i64 {
     }
 }
 
-macro_rules! powers {
-    ($($type:ident)*) => {
-        powers! { <T: Integer>: BigFraction, T; base, exponent => &base, exponent }
-        powers! { <T: Integer>: &BigFraction, T; base, exponent => base, exponent }
-        $(
-            powers! { : BigFraction, &$type; base, exponent => &base, *exponent }
-            powers! { : &BigFraction, &$type; base, exponent => base, *exponent }
-        )*
-    };
-    ($(<$T:ident: $Bound:ident>)?: $Base:ty, $Exponent:ty; $base:ident, $exponent:ident => $left:expr, $right:expr) => {
-        impl$(<$T: $Bound>)? Pow<$Exponent> for $Base {
-            type Output = BigFraction;
+impl<N: WholeNumber> Pow<N> for &BigFraction {
+    type Output = BigFraction;
 
-            /// # Panics
-            ///
-            /// If the fraction is 0 and the exponent negative, or for want of memory.
-            #[inline]
-            #[track_caller]
-            fn pow(self, $exponent: $Exponent) -> BigFraction {
-                let $base = self;
-                power($left, exponent_of($right))
-            }
-        }
-    };
+    /// # Panics
+    ///
+    /// If the fraction is 0 and the exponent negative, or for want of memory.
+    #[inline]
+    #[track_caller]
+    fn pow(self, exponent: N) -> BigFraction {
+        power(self, exponent_of(exponent.number()))
+    }
 }
 
-powers! { i8 i16 i32 i64 i128 isize u8 u16 u32 u64 u128 usize }
+impl<N: WholeNumber> Pow<N> for BigFraction {
+    type Output = BigFraction;
+
+    /// # Panics
+    ///
+    /// As for a reference.
+    #[inline]
+    #[track_caller]
+    fn pow(self, exponent: N) -> BigFraction {
+        Pow::pow(&self, exponent)
+    }
+}

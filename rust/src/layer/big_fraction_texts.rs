@@ -91,6 +91,7 @@ impl FromStr for BigFraction {
     /// # Panics
     ///
     /// For want of memory: the error, num-rational's, cannot say so. `try_from_str` does.
+    #[inline]
     #[track_caller]
     fn from_str(text: &str) -> Result<BigFraction, ParseRatioError> {
         taken(BigFraction::try_from_str(text))
@@ -103,6 +104,7 @@ impl BigFraction {
     /// ```
     /// assert_eq!(num_rational::BigFraction::new(6, -4).try_to_string().unwrap(), "-3/2");
     /// ```
+    #[inline]
     pub fn try_to_string(&self) -> Result<String, AllocError> {
         Ok(self.0.to_text(Global)?.into_std())
     }
@@ -116,6 +118,7 @@ impl BigFraction {
     /// assert_eq!("340282366920938463463374607431768211456".parse(), Ok(BigFraction::from(1u128 << 127) * 2));
     /// assert!(BigFraction::try_from_str("1/0").unwrap().is_err());
     /// ```
+    #[inline]
     pub fn try_from_str(text: &str) -> Result<Result<BigFraction, ParseRatioError>, AllocError> {
         Ok(Proved::from_str(Global, text)?.map(BigFraction))
     }
@@ -131,7 +134,9 @@ impl BigFraction {
     ///
     /// assert_eq!(BigFraction::new(2, 3).decimal(50, Rounding::HalfEven), format!("0.{}7", "6".repeat(49)));
     /// ```
+    #[inline]
     #[track_caller]
+    #[must_use]
     pub fn decimal(&self, places: u32, rule: Rounding) -> String {
         taken(self.try_decimal(places, rule))
     }
@@ -143,6 +148,7 @@ impl BigFraction {
     ///
     /// assert_eq!(BigFraction::new(2, 3).try_decimal(2, Rounding::Down).unwrap(), "0.66");
     /// ```
+    #[inline]
     pub fn try_decimal(&self, places: u32, rule: Rounding) -> Result<String, AllocError> {
         Ok(self.0.decimal(Global, places, rule)?.into_std())
     }
@@ -162,6 +168,7 @@ impl BigFraction {
     /// assert_eq!(BigFraction::from_decimal("12.375"), Ok(BigFraction::new(99, 8)));
     /// assert_eq!(BigFraction::from_decimal("1e30"), Ok(BigFraction::from(10).pow(30)));
     /// ```
+    #[inline]
     pub fn from_decimal(text: &str) -> Result<BigFraction, BigTextRefusal> {
         Ok(BigFraction::try_from_decimal(text)??)
     }
@@ -173,6 +180,7 @@ impl BigFraction {
     ///
     /// assert_eq!(BigFraction::try_from_decimal("12,5").unwrap(), Err(DecimalRefusal::NotDecimal));
     /// ```
+    #[inline]
     pub fn try_from_decimal(text: &str) -> Result<Result<BigFraction, DecimalRefusal>, AllocError> {
         let read = Proved::from_decimal(Global, text)?;
         Ok(read.map(BigFraction).ok_or(DecimalRefusal::NotDecimal))
@@ -191,6 +199,7 @@ impl BigFraction {
     /// assert_eq!(BigFraction::from_text("-1 1/2"), Ok(BigFraction::new(-3, 2)));
     /// assert_eq!(BigFraction::from_text("12.5%"), Ok(BigFraction::new(1, 8)));
     /// ```
+    #[inline]
     pub fn from_text(text: &str) -> Result<BigFraction, BigTextRefusal> {
         Ok(BigFraction::try_from_text(text)??)
     }
@@ -202,6 +211,7 @@ impl BigFraction {
     ///
     /// assert_eq!(BigFraction::try_from_text("1/0").unwrap(), Err(TextRefusal::ZeroDenominator));
     /// ```
+    #[inline]
     pub fn try_from_text(text: &str) -> Result<Result<BigFraction, TextRefusal>, AllocError> {
         Ok(Proved::from_text(Global, text)?.map(BigFraction))
     }
@@ -235,6 +245,7 @@ impl BigFraction {
     ///
     /// assert_eq!((BigFraction::new(1, 3).pow(1000) * BigFraction::from(3).pow(999)).try_to_f64(), Ok(1.0 / 3.0));
     /// ```
+    #[inline]
     pub fn try_to_f64(&self) -> Result<f64, AllocError> {
         self.0.to_f64(Global)
     }
@@ -248,6 +259,7 @@ impl BigFraction {
     /// assert_eq!(above_a_tie.try_to_f32(), Ok(18446746272732807168.0));
     /// assert_eq!(above_a_tie.try_to_f64().unwrap() as f32, 18446744073709551616.0); // rounded twice
     /// ```
+    #[inline]
     pub fn try_to_f32(&self) -> Result<f32, AllocError> {
         self.0.to_f32(Global)
     }

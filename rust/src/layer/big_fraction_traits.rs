@@ -15,6 +15,7 @@ impl Num for BigFraction {
     /// # Panics
     ///
     /// If the radix is not from 2 to 36, or for want of memory.
+    #[inline]
     #[track_caller]
     fn from_str_radix(text: &str, radix: u32) -> Result<BigFraction, ParseRatioError> {
         assert!((2..=36).contains(&radix), "from_str_radix_int: must lie in the range `[2, 36]` - found {}", radix);
@@ -35,6 +36,7 @@ impl Num for BigFraction {
 }
 
 /// Whether the number is below 0, and its digits. `None` if the text is no number.
+#[inline]
 fn signed_digits(text: &str, radix: u32) -> Result<Option<(bool, Vec<u64>)>, AllocError> {
     let (is_negative, text) = match text.strip_prefix('-') {
         Some(text) => (true, text),
@@ -67,6 +69,7 @@ impl Signed for BigFraction {
     /// # Panics
     ///
     /// For want of memory.
+    #[inline]
     #[track_caller]
     fn abs_sub(&self, other: &BigFraction) -> BigFraction {
         if self <= other { BigFraction::zero() } else { self - other }
@@ -90,26 +93,32 @@ impl Signed for BigFraction {
 
 /// A whole number, over 1, or the fraction with exactly the value of a float. `None` for want of memory, or if the float is infinite or no number.
 impl FromPrimitive for BigFraction {
+    #[inline]
     fn from_i64(number: i64) -> Option<BigFraction> {
         BigFraction::checked_new(number, 1)
     }
 
+    #[inline]
     fn from_u64(number: u64) -> Option<BigFraction> {
         BigFraction::checked_new(number, 1)
     }
 
+    #[inline]
     fn from_i128(number: i128) -> Option<BigFraction> {
         BigFraction::checked_new(number, 1)
     }
 
+    #[inline]
     fn from_u128(number: u128) -> Option<BigFraction> {
         BigFraction::checked_new(number, 1)
     }
 
+    #[inline]
     fn from_f32(float: f32) -> Option<BigFraction> {
         BigFraction::from_float(float)
     }
 
+    #[inline]
     fn from_f64(float: f64) -> Option<BigFraction> {
         BigFraction::from_float(float)
     }
@@ -118,26 +127,32 @@ impl FromPrimitive for BigFraction {
 /// The fraction cut towards 0, or `None` if that does not fit the integer type. And the nearest float, rounded once. num-rational's `to_f32`
 /// rounds twice.
 impl ToPrimitive for BigFraction {
+    #[inline]
     fn to_i64(&self) -> Option<i64> {
         self.whole()
     }
 
+    #[inline]
     fn to_u64(&self) -> Option<u64> {
         self.whole()
     }
 
+    #[inline]
     fn to_i128(&self) -> Option<i128> {
         self.whole()
     }
 
+    #[inline]
     fn to_u128(&self) -> Option<u128> {
         self.whole()
     }
 
+    #[inline]
     fn to_f32(&self) -> Option<f32> {
         self.try_to_f32().ok()
     }
 
+    #[inline]
     fn to_f64(&self) -> Option<f64> {
         self.try_to_f64().ok()
     }

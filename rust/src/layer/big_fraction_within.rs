@@ -22,6 +22,7 @@ impl BigFraction {
     /// assert_eq!(BigFraction::from_decimal_within("1e3", 10), Ok(BigFraction::from(1000)));
     /// assert_eq!(BigFraction::from_decimal_within("1e3", 9), Err(BigTextRefusal::TooLong));
     /// ```
+    #[inline]
     pub fn from_decimal_within(text: &str, max_bits: u64) -> Result<BigFraction, BigTextRefusal> {
         match Proved::from_decimal_within(Global, text, max_bits)? {
             Ok(fraction) => Ok(BigFraction(fraction)),
@@ -47,6 +48,7 @@ impl BigFraction {
     /// assert_eq!(BigFraction::from_text_within("12.5%", 9), Err(BigTextRefusal::TooLong));
     /// assert_eq!(BigFraction::from_text_within("1e999999999999", 4096), Err(BigTextRefusal::TooLong));
     /// ```
+    #[inline]
     pub fn from_text_within(text: &str, max_bits: u64) -> Result<BigFraction, BigTextRefusal> {
         Proved::from_text_within(Global, text, max_bits)?.map(BigFraction).map_err(refusal_of)
     }
@@ -64,6 +66,7 @@ impl BigFraction {
     /// assert_eq!(x.pow_within(i64::MAX, 4096), None); // at once
     /// ```
     #[inline]
+    #[must_use]
     pub fn pow_within(&self, exponent: i64, max_bits: u64) -> Option<BigFraction> {
         self.try_pow_within(exponent, max_bits).ok().flatten()
     }
@@ -75,6 +78,7 @@ impl BigFraction {
     ///
     /// assert_eq!(BigFraction::from(2).try_pow_within(-64, 64), Ok(None)); // 1 over 2^64, which has 65 bits
     /// ```
+    #[inline]
     pub fn try_pow_within(&self, exponent: i64, max_bits: u64) -> Result<Option<BigFraction>, AllocError> {
         Ok(self.0.pow_within(Global, exponent, max_bits)?.map(BigFraction))
     }

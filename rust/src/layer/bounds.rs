@@ -39,6 +39,7 @@ impl<T: Integer> Ratio<T> {
     /// ```
     #[doc(alias = "distance")]
     #[inline]
+    #[must_use]
     pub fn checked_abs_diff(&self, other: &Ratio<T>) -> Option<Ratio<T>> {
         let (x, y) = (Reduced::from_ratio(self)?, Reduced::from_ratio(other)?);
         if x < y { y.checked_sub(x) } else { x.checked_sub(y) }.map(Ratio::from)
@@ -57,6 +58,7 @@ impl<T: Integer> Ratio<T> {
     #[doc(alias = "mean")]
     #[cfg(feature = "alloc")]
     #[inline]
+    #[must_use]
     pub fn checked_midpoint(&self, other: &Ratio<T>) -> Option<Ratio<T>> {
         let (x, y) = (Reduced::from_ratio(self)?, Reduced::from_ratio(other)?);
         let middle = x.checked_add(y).and_then(|sum| sum.checked_div(T::from(2)?));

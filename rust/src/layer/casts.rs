@@ -1,4 +1,5 @@
 //! The same fraction over another integer type, by the traits `From` and `TryFrom`. A `Ratio` keeps its fields.
+use super::integer::Integer;
 use super::ratio::Ratio;
 use super::reduced::Reduced;
 use core::fmt;
@@ -23,6 +24,34 @@ impl fmt::Display for CastError {
 #[cfg(feature = "std")]
 impl std::error::Error for CastError {}
 
+#[inline]
+fn widened<T: Integer, U: Integer>(fraction: Reduced<T>) -> Reduced<U> {
+    match fraction.cast() {
+        Some(same) => same,
+        None => unreachable!("each number fits"),
+    }
+}
+
+#[inline]
+fn widened_fields<T, U: From<T>>(fraction: Ratio<T>) -> Ratio<U> {
+    let (numer, denom) = fraction.into_raw();
+    Ratio::new_raw(numer.into(), denom.into())
+}
+
+#[inline]
+fn cast<T: Integer, U: Integer>(fraction: Reduced<T>) -> Result<Reduced<U>, CastError> {
+    fraction.cast().ok_or(CastError(()))
+}
+
+#[inline]
+fn cast_fields<T, U: TryFrom<T>>(fraction: Ratio<T>) -> Result<Ratio<U>, CastError> {
+    let (numer, denom) = fraction.into_raw();
+    match (numer.try_into(), denom.try_into()) {
+        (Ok(numer), Ok(denom)) => Ok(Ratio::new_raw(numer, denom)),
+        _ => Err(CastError(())),
+    }
+}
+
 // One row for each type. It has `From` to each type to which std converts its numbers by `From`, and these are 35 pairs. It has
 // `TryFrom` to each other type, and these are 97 pairs.
 macro_rules! casts {
@@ -31,18 +60,14 @@ macro_rules! casts {
             impl From<Reduced<$type>> for Reduced<$wide> {
                 #[inline]
                 fn from(fraction: Reduced<$type>) -> Reduced<$wide> {
-                    match fraction.cast() {
-                        Some(same) => same,
-                        None => unreachable!("each number fits"),
-                    }
+                    widened(fraction)
                 }
             }
 
             impl From<Ratio<$type>> for Ratio<$wide> {
                 #[inline]
                 fn from(fraction: Ratio<$type>) -> Ratio<$wide> {
-                    let (numer, denom) = fraction.into_raw();
-                    Ratio::new_raw(numer.into(), denom.into())
+                    widened_fields(fraction)
                 }
             }
         )*
@@ -52,7 +77,7 @@ macro_rules! casts {
 
                 #[inline]
                 fn try_from(fraction: Reduced<$type>) -> Result<Reduced<$other>, CastError> {
-                    fraction.cast().ok_or(CastError(()))
+                    cast(fraction)
                 }
             }
 
@@ -61,11 +86,7 @@ macro_rules! casts {
 
                 #[inline]
                 fn try_from(fraction: Ratio<$type>) -> Result<Ratio<$other>, CastError> {
-                    let (numer, denom) = fraction.into_raw();
-                    match (numer.try_into(), denom.try_into()) {
-                        (Ok(numer), Ok(denom)) => Ok(Ratio::new_raw(numer, denom)),
-                        _ => Err(CastError(())),
-                    }
+                    cast_fields(fraction)
                 }
             }
         )*

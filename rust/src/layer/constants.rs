@@ -72,7 +72,9 @@ macro_rules! constants {
             #[doc = concat!("const QUARTER: Ratio<", stringify!($type), "> = Ratio::<", stringify!($type), ">::const_new(25, 100);")]
             /// assert_eq!(QUARTER.into_raw(), (1, 4));
             /// ```
+            #[inline]
             #[track_caller]
+            #[must_use]
             pub const fn const_new($numer: $type, $denom: $type) -> Ratio<$type> {
                 let (numer, denom) = $lowest;
                 Ratio::new_raw(numer, denom)

@@ -3,6 +3,7 @@ use super::integer::{Element, Integer};
 use super::ratio::Ratio;
 use super::reduced::Reduced;
 use crate::proved::num_rational as proved;
+use core::fmt;
 use core::iter::FusedIterator;
 
 // A fraction with n quotients has a denominator of at least the nth Fibonacci number. The 187th is above 2^128, so no type
@@ -10,6 +11,13 @@ use core::iter::FusedIterator;
 const MOST: usize = 192;
 
 /// The quotients of a continued fraction, one after another. `Reduced::continued_fraction` and `Ratio::continued_fraction` return it.
+///
+/// ```
+/// let quotients = num_rational::Reduced64::checked_new(415, 93).unwrap().continued_fraction();
+/// assert_eq!(format!("{quotients:?}"), "Quotients { .. }");
+/// assert!(quotients.eq([4, 2, 6, 7]));
+/// ```
+#[must_use]
 pub struct Quotients<T: Integer> {
     quotients: Proved<T>,
 }
@@ -27,6 +35,12 @@ impl<T: Integer> Iterator for Quotients<T> {
 
 impl<T: Integer> FusedIterator for Quotients<T> {}
 
+impl<T: Integer> fmt::Debug for Quotients<T> {
+    fn fmt(&self, f: &mut fmt::Formatter<'_>) -> fmt::Result {
+        f.debug_struct("Quotients").finish_non_exhaustive()
+    }
+}
+
 impl<T: Integer> Quotients<T> {
     #[inline]
     pub(super) fn of(quotients: Proved<T>) -> Quotients<T> {
@@ -35,6 +49,13 @@ impl<T: Integer> Quotients<T> {
 }
 
 /// The convergents of a continued fraction, one after another. `Reduced::convergents` and `Ratio::convergents` return it.
+///
+/// ```
+/// let mut convergents = num_rational::Reduced64::checked_new(415, 93).unwrap().convergents();
+/// assert_eq!(format!("{convergents:?}"), "Convergents { .. }");
+/// assert_eq!(convergents.nth(1).unwrap().to_string(), "9/2");
+/// ```
+#[must_use]
 pub struct Convergents<T: Integer> {
     convergents: ProvedConvergents<T>,
 }
@@ -51,6 +72,12 @@ impl<T: Integer> Iterator for Convergents<T> {
 }
 
 impl<T: Integer> FusedIterator for Convergents<T> {}
+
+impl<T: Integer> fmt::Debug for Convergents<T> {
+    fn fmt(&self, f: &mut fmt::Formatter<'_>) -> fmt::Result {
+        f.debug_struct("Convergents").finish_non_exhaustive()
+    }
+}
 
 impl<T: Integer> Convergents<T> {
     #[inline]
@@ -79,6 +106,7 @@ impl<T: Integer> Ratio<T> {
     /// assert!(Ratio::new_raw(830, 186).continued_fraction().unwrap().eq([4, 2, 6, 7]));
     /// assert!(Ratio::new_raw(1, 0).continued_fraction().is_none());
     /// ```
+    #[must_use]
     pub fn continued_fraction(&self) -> Option<Quotients<T>> {
         Some(Reduced::from_ratio(self)?.continued_fraction())
     }
@@ -93,6 +121,7 @@ impl<T: Integer> Ratio<T> {
     /// assert!(x.convergents().unwrap().map(Reduced::into_raw).eq([(-3, 1), (-2, 1), (-7, 3)]));
     /// assert!(Ratio::new_raw(1, 0).convergents().is_none());
     /// ```
+    #[must_use]
     pub fn convergents(&self) -> Option<Convergents<T>> {
         Some(Reduced::from_ratio(self)?.convergents())
     }
@@ -106,6 +135,7 @@ impl<T: Integer> Ratio<T> {
     /// assert_eq!(Ratio::from_continued_fraction(&[4i64, 2, 6, 7]), Some(Ratio::new(415, 93)));
     /// assert_eq!(Ratio::<i64>::from_continued_fraction(&[]), None);
     /// ```
+    #[must_use]
     pub fn from_continued_fraction(quotients: &[T]) -> Option<Ratio<T>> {
         Reduced::from_continued_fraction(quotients).map(Ratio::from)
     }

@@ -1,5 +1,5 @@
 //! The element types: the twelve primitive integer types.
-use crate::proved::num_rational::{Ratio, Reduced};
+use crate::proved::num_rational::{Exponent, Ratio, Reduced};
 use crate::proved::ratio_integer::{Integer as ProvedInteger, Primitive, SignedInteger};
 use core::fmt::{Binary, Debug, Display, LowerExp, LowerHex, Octal, UpperExp, UpperHex};
 use core::hash::Hash;
@@ -58,7 +58,7 @@ impl<T> Beside for T {}
 /// What `Element` says of a type, under names that no other trait has. As a supertrait of `Integer`, it brings its names into
 /// generic code of this crate's users. So a user's own trait may have a call `of`.
 pub trait Hidden: Copy + Big + Beside {
-    type BakhsneyProved: Primitive;
+    type BakhsneyProved: Primitive + Exponent;
 
     type BakhsneySigns: Signs<Self::BakhsneyProved>;
 
@@ -77,7 +77,7 @@ pub trait Hidden: Copy + Big + Beside {
 /// do not hide num-traits' names in generic code.
 pub(crate) trait Element: Copy {
     /// The same type.
-    type Proved: Primitive;
+    type Proved: Primitive + Exponent;
 
     /// The calls that only a type with numbers below 0 has.
     type Signs: Signs<Self::Proved>;
@@ -118,6 +118,13 @@ impl<T: Hidden> Element for T {
     }
 }
 
+/// A number of one of the twelve types, or a reference to one. With this trait one operator serves all of them.
+pub trait WholeNumber: Copy {
+    type Number: Integer;
+
+    fn number(self) -> Self::Number;
+}
+
 // Each type with the one that the proved calls compute with. The two have the same numbers, and `$of` takes a reference to one for
 // a reference to the other.
 macro_rules! elements {
@@ -148,6 +155,24 @@ macro_rules! elements {
         }
 
         impl Integer for $type {}
+
+        impl WholeNumber for $type {
+            type Number = $type;
+
+            #[inline]
+            fn number(self) -> $type {
+                self
+            }
+        }
+
+        impl WholeNumber for &$type {
+            type Number = $type;
+
+            #[inline]
+            fn number(self) -> $type {
+                *self
+            }
+        }
     )*};
 }
 

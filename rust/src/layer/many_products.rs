@@ -30,6 +30,7 @@ impl<T: Integer> Reduced<T> {
     /// of items that are left, and the call takes memory for two numbers an item. It takes all items, so these must end. Without
     /// the feature `alloc` there is no such memory: then the product is also `None` if a step is.
     #[inline]
+    #[must_use]
     pub fn checked_product<O: Into<Reduced<T>>, I: IntoIterator<Item = O>>(items: I) -> Option<Reduced<T>> {
         let mut total = Reduced::ONE;
         let mut items = items.into_iter();
@@ -57,6 +58,7 @@ impl<T: Integer> Reduced<T> {
     /// assert_eq!(Reduced::checked_quotient_of([1i8], [0]), None);
     /// ```
     #[cfg(feature = "alloc")]
+    #[must_use]
     pub fn checked_quotient_of<O, P>(
         above: impl IntoIterator<Item = O>,
         below: impl IntoIterator<Item = P>,

@@ -2,7 +2,7 @@
 //!
 //! A negative denominator is first brought to lowest terms. If these do not fit the type, a checked call returns `None`, and
 //! the others panic.
-use super::integer::{Element, Integer};
+use super::integer::{Element, Integer, WholeNumber};
 use super::ratio::Ratio;
 use super::same::on_machine;
 use super::schoolbook;
@@ -25,6 +25,7 @@ impl<T: Clone + num_integer::Integer> Ratio<T> {
     #[doc(alias = "inverse")]
     #[inline]
     #[track_caller]
+    #[must_use]
     pub fn recip(&self) -> Ratio<T> {
         on_machine!(T, same => same.back(recip_of_machine(same.fraction(self))));
         schoolbook::recip(self.clone())
@@ -47,6 +48,7 @@ impl<T: Clone + num_integer::Integer> Ratio<T> {
     #[doc(alias = "powi")]
     #[inline]
     #[track_caller]
+    #[must_use]
     pub fn pow(&self, exponent: i32) -> Ratio<T> {
         power(self, exponent)
     }
@@ -64,6 +66,7 @@ impl<T: Integer> Ratio<T> {
     /// assert_eq!(Ratio::new(-1i64, 128).checked_pow(-9), None);
     /// ```
     #[inline]
+    #[must_use]
     pub fn checked_pow(&self, exponent: i32) -> Option<Ratio<T>> {
         self.positive()?.checked_pow(exponent).map(Ratio::from_proved)
     }
@@ -140,27 +143,28 @@ impl<T: Clone + num_integer::Integer> Inv for &Ratio<T> {
     }
 }
 
-macro_rules! powers {
-    ($($exponent:ty)*) => {$(
-        powers! { $exponent, Ratio<T>; self, exponent => &self, exponent }
-        powers! { $exponent, &Ratio<T>; self, exponent => self, exponent }
-        powers! { &$exponent, Ratio<T>; self, exponent => &self, (*exponent) }
-        powers! { &$exponent, &Ratio<T>; self, exponent => self, (*exponent) }
-    )*};
-    ($Exponent:ty, $Base:ty; $self:ident, $exponent:ident => $left:expr, $right:expr) => {
-        impl<T: Clone + num_integer::Integer> Pow<$Exponent> for $Base {
-            type Output = Ratio<T>;
+impl<T: Clone + num_integer::Integer, N: WholeNumber> Pow<N> for Ratio<T> {
+    type Output = Ratio<T>;
 
-            /// # Panics
-            ///
-            /// As `Ratio::pow`, such as if a field to the exponent's magnitude does not fit the type.
-            #[inline]
-            #[track_caller]
-            fn pow($self, $exponent: $Exponent) -> Ratio<T> {
-                power($left, $right.into_proved())
-            }
-        }
-    };
+    /// # Panics
+    ///
+    /// As `Ratio::pow`, such as if a field to the exponent's magnitude does not fit the type.
+    #[inline]
+    #[track_caller]
+    fn pow(self, exponent: N) -> Ratio<T> {
+        power(&self, exponent.number().into_proved())
+    }
 }
 
-powers! { i8 i16 i32 i64 i128 isize u8 u16 u32 u64 u128 usize }
+impl<T: Clone + num_integer::Integer, N: WholeNumber> Pow<N> for &Ratio<T> {
+    type Output = Ratio<T>;
+
+    /// # Panics
+    ///
+    /// As `Ratio::pow`, such as if a field to the exponent's magnitude does not fit the type.
+    #[inline]
+    #[track_caller]
+    fn pow(self, exponent: N) -> Ratio<T> {
+        power(self, exponent.number().into_proved())
+    }
+}

@@ -63,6 +63,7 @@ impl<T> Ratio<T> {
     /// assert_eq!(HALF, Ratio::new(1, 2));
     /// ```
     #[inline]
+    #[must_use]
     pub const fn new_raw(numer: T, denom: T) -> Ratio<T> {
         Ratio { numer, denom }
     }
@@ -73,6 +74,7 @@ impl<T> Ratio<T> {
     /// assert_eq!(num_rational::Ratio::new_raw(2, -4).into_raw(), (2, -4));
     /// ```
     #[inline]
+    #[must_use]
     pub fn into_raw(self) -> (T, T) {
         (self.numer, self.denom)
     }
@@ -84,6 +86,7 @@ impl<T> Ratio<T> {
     /// ```
     #[doc(alias = "numerator")]
     #[inline]
+    #[must_use]
     pub const fn numer(&self) -> &T {
         &self.numer
     }
@@ -95,6 +98,7 @@ impl<T> Ratio<T> {
     /// ```
     #[doc(alias = "denominator")]
     #[inline]
+    #[must_use]
     pub const fn denom(&self) -> &T {
         &self.denom
     }
@@ -112,6 +116,7 @@ impl<T: Clone + num_integer::Integer> Ratio<T> {
     /// ```
     #[inline(always)]
     #[track_caller]
+    #[must_use]
     pub fn new(numer: T, denom: T) -> Ratio<T> {
         // This is always copied to the caller: else the twelve calls here keep rustc from it.
         on_machine!(T, same => same.back(new_of_machine(same.number(&numer), same.number(&denom))));
@@ -124,6 +129,7 @@ impl<T: Clone + num_integer::Integer> Ratio<T> {
     /// assert_eq!(num_rational::Ratio::from_integer(5).into_raw(), (5, 1));
     /// ```
     #[inline]
+    #[must_use]
     pub fn from_integer(number: T) -> Ratio<T> {
         Ratio { numer: number, denom: T::one() }
     }
@@ -137,6 +143,7 @@ impl<T: Clone + num_integer::Integer> Ratio<T> {
     /// assert!(!Ratio::new_raw(4, 2).is_integer());
     /// ```
     #[inline]
+    #[must_use]
     pub fn is_integer(&self) -> bool {
         self.denom.is_one()
     }
@@ -154,6 +161,7 @@ impl<T: Clone + num_integer::Integer> Ratio<T> {
     #[doc(alias = "simplify")]
     #[inline]
     #[track_caller]
+    #[must_use]
     pub fn reduced(&self) -> Ratio<T> {
         Ratio::new(self.numer.clone(), self.denom.clone())
     }
@@ -184,6 +192,7 @@ impl<T: Integer> Ratio<T> {
     /// assert_eq!(Ratio::checked_new(1i8, 0), None);
     /// ```
     #[inline]
+    #[must_use]
     pub fn checked_new(numer: T, denom: T) -> Option<Ratio<T>> {
         Proved::<T>::checked_new(numer.into_proved(), denom.into_proved()).map(Ratio::from_proved)
     }

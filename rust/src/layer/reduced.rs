@@ -107,6 +107,7 @@ impl<T: Integer> Reduced<T> {
     /// assert_eq!(Reduced::checked_new(1i8, -128), None);
     /// ```
     #[inline]
+    #[must_use]
     pub fn checked_new(numer: T, denom: T) -> Option<Reduced<T>> {
         Reduced::of(Proved::<T>::checked_new(numer.into_proved(), denom.into_proved()))
     }
@@ -117,6 +118,7 @@ impl<T: Integer> Reduced<T> {
     /// assert_eq!(num_rational::Reduced::from_integer(5).into_raw(), (5, 1));
     /// ```
     #[inline]
+    #[must_use]
     pub fn from_integer(number: T) -> Reduced<T> {
         Reduced { fraction: Proved::<T>::from_integer(number.into_proved()) }
     }
@@ -130,6 +132,7 @@ impl<T: Integer> Reduced<T> {
     /// assert_eq!(Reduced::from_ratio(&Ratio::new_raw(-128i8, -1)), None);
     /// ```
     #[inline]
+    #[must_use]
     pub fn from_ratio(fraction: &Ratio<T>) -> Option<Reduced<T>> {
         Reduced::checked_new(*fraction.numer(), *fraction.denom())
     }
@@ -146,6 +149,7 @@ impl<T: Integer> Reduced<T> {
     /// assert_eq!(Reduced::<i64>::from_float(f64::NAN), None);
     /// ```
     #[inline]
+    #[must_use]
     pub fn from_float(float: f64) -> Option<Reduced<T>> {
         Reduced::of(Proved::<T>::from_float(float))
     }
@@ -158,6 +162,7 @@ impl<T: Integer> Reduced<T> {
     /// assert_eq!(Reduced::from_float32(0.1), Reduced::checked_new(13421773, 134217728));
     /// ```
     #[inline]
+    #[must_use]
     pub fn from_float32(float: f32) -> Option<Reduced<T>> {
         Reduced::of(Proved::<T>::from_float32(float))
     }
@@ -176,6 +181,7 @@ impl<T: Integer> Reduced<T> {
     /// assert_eq!(Reduced::<i64>::rationalize(f64::NAN), None);
     /// ```
     #[inline]
+    #[must_use]
     pub fn rationalize(float: f64) -> Option<Reduced<T>> {
         Reduced::of(Proved::<T>::rationalize(float))
     }
@@ -188,6 +194,7 @@ impl<T: Integer> Reduced<T> {
     /// assert_eq!(Reduced::rationalize32(0.1), Reduced::checked_new(1, 10));
     /// ```
     #[inline]
+    #[must_use]
     pub fn rationalize32(float: f32) -> Option<Reduced<T>> {
         Reduced::of(Proved::<T>::rationalize32(float))
     }
@@ -201,6 +208,7 @@ impl<T: Integer> Reduced<T> {
     /// assert_eq!(Reduced::checked_new(1, 3).unwrap().to_f64(), 1.0 / 3.0);
     /// ```
     #[inline]
+    #[must_use]
     pub fn to_f64(&self) -> f64 {
         Float::nearest(*self.fraction.numer(), *self.fraction.denom())
     }
@@ -214,6 +222,7 @@ impl<T: Integer> Reduced<T> {
     /// assert_eq!(Reduced::from(u128::MAX).to_f32(), f32::INFINITY);
     /// ```
     #[inline]
+    #[must_use]
     pub fn to_f32(&self) -> f32 {
         Float::nearest(*self.fraction.numer(), *self.fraction.denom())
     }
@@ -272,6 +281,7 @@ impl<T: Integer> Reduced<T> {
     /// assert_eq!(Reduced::checked_new(2, 4).unwrap().to_ratio(), Ratio::new(1, 2));
     /// ```
     #[inline]
+    #[must_use]
     pub fn to_ratio(&self) -> Ratio<T> {
         Ratio::from_proved(self.fraction.to_ratio())
     }
@@ -290,6 +300,7 @@ impl<T: Integer> Reduced<T> {
     /// assert_eq!(Reduced64::from(Reduced::from(200u8)), Reduced::from(200));
     /// ```
     #[inline]
+    #[must_use]
     pub fn cast<U: Integer>(&self) -> Option<Reduced<U>> {
         Reduced::of(self.fraction.cast())
     }
@@ -316,6 +327,7 @@ impl<T: Integer> Reduced<T> {
     /// assert_eq!(Reduced::checked_new(-6, 8).unwrap().base_ten_text().as_str(), "-3/4");
     /// ```
     #[inline]
+    #[must_use]
     pub fn base_ten_text(&self) -> BaseTenText {
         self.fraction.base_ten_text()
     }
@@ -352,6 +364,7 @@ impl<T: Integer> Reduced<T> {
     /// ```
     #[inline]
     #[track_caller]
+    #[must_use]
     pub fn decimal(&self, places: u32, rule: Rounding) -> DecimalText {
         assert!(places <= 38, "more than 38 places");
         self.fraction.decimal(places, rule)
@@ -367,6 +380,7 @@ impl<T: Integer> Reduced<T> {
     /// assert!(Reduced::checked_new(1, 3).unwrap().exact_decimal().is_none());
     /// ```
     #[inline]
+    #[must_use]
     pub fn exact_decimal(&self) -> Option<DecimalText> {
         self.fraction.exact_decimal()
     }
@@ -384,6 +398,7 @@ impl<T: Integer> Reduced<T> {
     /// ```
     #[doc(alias = "quantize")]
     #[inline]
+    #[must_use]
     pub fn round_to(&self, parts: T, rule: Rounding) -> Option<Reduced<T>> {
         if T::NUMBER_0 < parts {
             Reduced::of(self.fraction.round_to(parts.into_proved(), rule))
@@ -398,6 +413,7 @@ impl<T: Integer> Reduced<T> {
     /// assert_eq!(num_rational::Reduced::checked_new(2, -4).unwrap().into_raw(), (-1, 2));
     /// ```
     #[inline]
+    #[must_use]
     pub fn into_raw(self) -> (T, T) {
         let (numer, denom) = self.fraction.into_raw();
         (T::from_proved(numer), T::from_proved(denom))
@@ -410,6 +426,7 @@ impl<T: Integer> Reduced<T> {
     /// ```
     #[doc(alias = "numerator")]
     #[inline]
+    #[must_use]
     pub fn numer(&self) -> &T {
         T::of(self.fraction.numer())
     }
@@ -421,6 +438,7 @@ impl<T: Integer> Reduced<T> {
     /// ```
     #[doc(alias = "denominator")]
     #[inline]
+    #[must_use]
     pub fn denom(&self) -> &T {
         T::of(self.fraction.denom())
     }
@@ -431,6 +449,7 @@ impl<T: Integer> Reduced<T> {
     /// assert!(num_rational::Reduced32::ZERO.is_zero());
     /// ```
     #[inline]
+    #[must_use]
     pub fn is_zero(&self) -> bool {
         self.fraction.is_zero()
     }
@@ -441,6 +460,7 @@ impl<T: Integer> Reduced<T> {
     /// assert!(num_rational::Reduced::checked_new(4, 2).unwrap().is_integer());
     /// ```
     #[inline]
+    #[must_use]
     pub fn is_integer(&self) -> bool {
         self.fraction.is_integer()
     }
@@ -519,6 +539,7 @@ impl<T: Integer> Reduced<T> {
     /// assert_eq!(third.checked_mul_round(6, Rounding::HalfEven), None);
     /// ```
     #[inline]
+    #[must_use]
     pub fn checked_mul_round<O: Into<Reduced<T>>>(&self, other: O, rule: Rounding) -> Option<T> {
         self.fraction.checked_mul_round(other.into().fraction, rule).map(T::from_proved)
     }
@@ -540,6 +561,7 @@ impl<T: Integer> Reduced<T> {
     /// assert_eq!(most.checked_mul_round_to(share, 100, Rounding::HalfEven), Reduced64::checked_new(9214148664817921031, 100));
     /// ```
     #[inline]
+    #[must_use]
     pub fn checked_mul_round_to<O: Into<Reduced<T>>>(&self, other: O, parts: T, rule: Rounding) -> Option<Reduced<T>> {
         if T::NUMBER_0 < parts {
             Reduced::of(self.fraction.checked_mul_round_to(other.into().fraction, parts.into_proved(), rule))
@@ -561,6 +583,7 @@ impl<T: Integer> Reduced<T> {
     /// assert_eq!(third.checked_div_round(0, Rounding::Floor), None);
     /// ```
     #[inline]
+    #[must_use]
     pub fn checked_div_round<O: Into<Reduced<T>>>(&self, other: O, rule: Rounding) -> Option<T> {
         self.fraction.checked_div_round(other.into().fraction, rule).map(T::from_proved)
     }
@@ -578,6 +601,7 @@ impl<T: Integer> Reduced<T> {
     /// assert_eq!(bill.checked_div_round_to(3, -100, Rounding::HalfEven), None);
     /// ```
     #[inline]
+    #[must_use]
     pub fn checked_div_round_to<O: Into<Reduced<T>>>(&self, other: O, parts: T, rule: Rounding) -> Option<Reduced<T>> {
         if T::NUMBER_0 < parts {
             Reduced::of(self.fraction.checked_div_round_to(other.into().fraction, parts.into_proved(), rule))
@@ -603,6 +627,7 @@ impl<T: Integer> Reduced<T> {
     /// assert_eq!(Reduced::checked_sum(steps), Some(127.into()));
     /// ```
     #[inline]
+    #[must_use]
     pub fn checked_sum<O: Into<Reduced<T>>, I: IntoIterator<Item = O>>(items: I) -> Option<Reduced<T>> {
         list_sums::checked_sum(items.into_iter().map(Into::into))
     }
@@ -635,6 +660,7 @@ impl<T: Integer> Reduced<T> {
     #[doc(alias = "reciprocal")]
     #[doc(alias = "inverse")]
     #[inline]
+    #[must_use]
     pub fn checked_recip(&self) -> Option<Reduced<T>> {
         Reduced::of(self.fraction.checked_recip())
     }
@@ -648,6 +674,7 @@ impl<T: Integer> Reduced<T> {
     /// assert_eq!(Reduced::from(-2i8).checked_pow(8), None);
     /// ```
     #[inline]
+    #[must_use]
     pub fn checked_pow(&self, exponent: i32) -> Option<Reduced<T>> {
         Reduced::of(self.fraction.checked_pow(exponent))
     }
@@ -664,6 +691,7 @@ impl<T: Integer> Reduced<T> {
     /// ```
     #[doc(alias = "limit_denominator")]
     #[inline]
+    #[must_use]
     pub fn nearest(&self, most: T) -> Option<Reduced<T>> {
         Reduced::of(self.fraction.nearest(most.into_proved()))
     }
@@ -682,6 +710,7 @@ impl<T: Integer> Reduced<T> {
     /// ```
     #[doc(alias = "stern_brocot")]
     #[inline]
+    #[must_use]
     pub fn simplest_between(low: &Reduced<T>, high: &Reduced<T>) -> Option<Reduced<T>> {
         Reduced::of(Proved::<T>::simplest_between(&low.fraction, &high.fraction))
     }
@@ -700,6 +729,7 @@ impl<T: Integer> Reduced<T> {
     /// assert_eq!(Reduced::simplest_within(Excluded(Reduced::from(127i8)), Unbounded), None);
     /// ```
     #[inline]
+    #[must_use]
     pub fn simplest_within(low: Bound<Reduced<T>>, high: Bound<Reduced<T>>) -> Option<Reduced<T>> {
         let inner = |bound| bound_with(bound, |fraction: Reduced<T>| Some(fraction.fraction));
         Reduced::of(Proved::<T>::simplest_within(inner(low)?, inner(high)?))
@@ -740,6 +770,7 @@ impl<T: Integer> Reduced<T> {
     /// assert_eq!(Reduced::from_continued_fraction(&[127i8, 127]), None);
     /// ```
     #[inline]
+    #[must_use]
     pub fn from_continued_fraction(quotients: &[T]) -> Option<Reduced<T>> {
         Reduced::of(in_proved(quotients, Proved::<T>::from_continued_fraction))
     }
@@ -750,6 +781,7 @@ impl<T: Integer> Reduced<T> {
     /// assert_eq!(num_rational::Reduced::checked_new(-7, 2).unwrap().to_integer(), -3);
     /// ```
     #[inline]
+    #[must_use]
     pub fn to_integer(&self) -> T {
         T::from_proved(self.fraction.to_integer())
     }
@@ -765,6 +797,7 @@ macro_rules! rounding_calls {
             #[doc = $example]
             /// ```
             #[inline]
+            #[must_use]
             pub fn $call(&self) -> Reduced<T> {
                 Reduced::from_proved(self.fraction.$call())
             }
@@ -790,6 +823,7 @@ impl<T: Integer + Signed> Reduced<T> {
     /// assert_eq!(Reduced::from(-128i8).checked_neg(), None);
     /// ```
     #[inline]
+    #[must_use]
     pub fn checked_neg(&self) -> Option<Reduced<T>> {
         Reduced::of(<T as Element>::Signs::checked_neg_lowest(self.fraction))
     }
@@ -803,6 +837,7 @@ impl<T: Integer + Signed> Reduced<T> {
     /// assert_eq!(Reduced::from(-128i8).checked_abs(), None);
     /// ```
     #[inline]
+    #[must_use]
     pub fn checked_abs(&self) -> Option<Reduced<T>> {
         Reduced::of(<T as Element>::Signs::checked_abs_lowest(self.fraction))
     }
@@ -813,6 +848,7 @@ impl<T: Integer + Signed> Reduced<T> {
     /// assert_eq!(num_rational::Reduced::checked_new(-1, 2).unwrap().signum(), -1);
     /// ```
     #[inline]
+    #[must_use]
     pub fn signum(&self) -> Reduced<T> {
         Reduced::from_proved(<T as Element>::Signs::signum_lowest(self.fraction))
     }
@@ -823,6 +859,7 @@ impl<T: Integer + Signed> Reduced<T> {
     /// assert!(num_rational::Reduced32::ONE.is_positive());
     /// ```
     #[inline]
+    #[must_use]
     pub fn is_positive(&self) -> bool {
         <T as Element>::Signs::is_positive(self.fraction.to_ratio())
     }
@@ -833,6 +870,7 @@ impl<T: Integer + Signed> Reduced<T> {
     /// assert!(num_rational::Reduced32::from(-1).is_negative());
     /// ```
     #[inline]
+    #[must_use]
     pub fn is_negative(&self) -> bool {
         <T as Element>::Signs::is_negative(self.fraction.to_ratio())
     }

@@ -1,6 +1,6 @@
 //! The operators of `Reduced`, its sums, products and powers, and num-traits' traits for numbers. Each panics exactly where the checked call of
 //! its name returns `None`.
-use super::integer::{Element, Integer};
+use super::integer::{Element, Integer, WholeNumber};
 use super::ratio::Ratio;
 use super::reduced::Reduced;
 use crate::proved::ratio_core::ParseRatioError;
@@ -268,34 +268,34 @@ impl<T: Integer> Inv for &Reduced<T> {
     }
 }
 
-macro_rules! powers {
-    ($($exponent:ty)*) => {$(
-        powers! { $exponent, Reduced<T>; self, exponent => self, exponent }
-        powers! { $exponent, &Reduced<T>; self, exponent => *self, exponent }
-        powers! { &$exponent, Reduced<T>; self, exponent => self, *exponent }
-        powers! { &$exponent, &Reduced<T>; self, exponent => *self, *exponent }
-    )*};
-    ($Exponent:ty, $Base:ty; $self:ident, $exponent:ident => $left:expr, $right:expr) => {
-        impl<T: Integer> Pow<$Exponent> for $Base {
-            type Output = Reduced<T>;
+impl<T: Integer, N: WholeNumber> Pow<N> for Reduced<T> {
+    type Output = Reduced<T>;
 
-            /// # Panics
-            ///
-            /// If the power does not fit the type, or if the fraction is 0 and the exponent negative.
-            #[inline]
-            #[track_caller]
-            fn pow($self, $exponent: $Exponent) -> Reduced<T> {
-                let base: Reduced<T> = $left;
-                match base.into_proved().checked_pow_with(($right).into_proved()) {
-                    Some(power) => Reduced::from_proved(power),
-                    None => refuse(base, "division by zero", "attempt to multiply with overflow"),
-                }
-            }
+    /// # Panics
+    ///
+    /// If the power does not fit the type, or if the fraction is 0 and the exponent negative.
+    #[inline]
+    #[track_caller]
+    fn pow(self, exponent: N) -> Reduced<T> {
+        match self.into_proved().checked_pow_with(exponent.number().into_proved()) {
+            Some(power) => Reduced::from_proved(power),
+            None => refuse(self, "division by zero", "attempt to multiply with overflow"),
         }
-    };
+    }
 }
 
-powers! { i8 i16 i32 i64 i128 isize u8 u16 u32 u64 u128 usize }
+impl<T: Integer, N: WholeNumber> Pow<N> for &Reduced<T> {
+    type Output = Reduced<T>;
+
+    /// # Panics
+    ///
+    /// If the power does not fit the type, or if the fraction is 0 and the exponent negative.
+    #[inline]
+    #[track_caller]
+    fn pow(self, exponent: N) -> Reduced<T> {
+        Pow::pow(*self, exponent)
+    }
+}
 
 /// The whole number over 1, or `None` if it does not fit the type. A fraction near a float is that of `Ratio`.
 impl<T: Integer> FromPrimitive for Reduced<T> {

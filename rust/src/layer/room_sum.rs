@@ -26,21 +26,25 @@ pub(super) const FEWEST_DIGITS: usize = 4;
 const MOST_FRACTIONS: usize = if usize::BITS == 64 { usize::MAX } else { usize::MAX / 4 };
 
 /// The digits of a room whose common denominator has so many digits.
+#[inline]
 pub(super) fn digits_of_room(digits: usize) -> usize {
     4 * digits + 6
 }
 
 /// The same, with the spare digits of an addition.
+#[inline]
 pub(super) fn digits_with_spare(digits: usize) -> usize {
     digits_of_room(digits) + 8 * digits + 6
 }
 
 /// The digits of a room whose sum becomes a decimal.
+#[inline]
 pub(super) fn digits_for_decimal(digits: usize, places: u32) -> usize {
     4 * digits + 2 * (places as usize / 19) + 12
 }
 
 /// The bytes of this decimal.
+#[inline]
 pub(super) fn bytes_for_decimal(digits: usize, places: u32) -> usize {
     (digits + places as usize / 19 + 5) * 20 + places as usize + 3
 }
@@ -56,16 +60,19 @@ impl RoomSum {
     }
 
     /// Whether so many fractions more may go in or out.
+    #[inline]
     pub(super) fn takes(&self, more: usize) -> bool {
         more <= MOST_FRACTIONS - self.sum.done
     }
 
     /// How many fractions went in or out.
+    #[inline]
     pub(super) fn fractions(&self) -> usize {
         self.sum.done
     }
 
     /// The sum of the slots.
+    #[inline]
     pub(super) fn of_slots(slots: &[Slot]) -> RoomSum {
         let taken: Vec<Slot> = slots.iter().copied().filter(|slot| slot.denom() != 0).collect();
         let mut digits = vec![0; digits_of_read(&taken)];
@@ -99,6 +106,7 @@ impl RoomSum {
     }
 
     /// Adds a fraction, or takes it out.
+    #[inline]
     pub(super) fn put(&mut self, fraction: WideFraction, out: bool) {
         let mut room = [0; 14];
         let sum = Joined::of(fraction.negative, fraction.numer, fraction.denom, &mut room).expect("the room has 14 digits");
@@ -106,6 +114,7 @@ impl RoomSum {
     }
 
     /// Adds each fraction of another sum, or takes each out.
+    #[inline]
     pub(super) fn put_all(&mut self, other: &RoomSum, out: bool) {
         if other.too_long {
             *self = other.clone();
@@ -119,6 +128,7 @@ impl RoomSum {
     }
 
     /// Takes one step of the proved sum, and more digits where it needs them.
+    #[inline]
     fn put_joined(&mut self, other: Joined, other_room: &[u64], out: bool) {
         if self.is_empty() {
             self.grow(other.digits);
@@ -140,6 +150,7 @@ impl RoomSum {
     }
 
     /// Moves the sum into a room with at least twice the digits. A common denominator of so many digits more has room there.
+    #[inline]
     pub(super) fn grow(&mut self, more: usize) {
         if self.sum.digits == MOST_DIGITS {
             self.too_long = true;
@@ -153,6 +164,7 @@ impl RoomSum {
     }
 
     /// The numbers of the sum, which is `(positive - negative)/common`, in this order: positive, common, negative.
+    #[inline]
     pub(super) fn numbers(&self) -> Result<[&[u64]; 3], TooLong> {
         if self.too_long {
             return Err(TooLong(()));
@@ -175,6 +187,7 @@ impl RoomSum {
     }
 
     /// The sum as a decimal.
+    #[inline]
     pub(super) fn decimal(mut self, places: u32, rule: Rounding) -> Result<String, TooLong> {
         let room = digits_for_decimal(self.sum.digits, places);
         if self.digits.len() < room {
@@ -187,6 +200,7 @@ impl RoomSum {
 }
 
 /// The text that starts there.
+#[inline]
 pub(super) fn text_from(mut text: Vec<u8>, start: usize) -> String {
     text.drain(..start);
     String::from_utf8(text).expect("a decimal is ASCII")

@@ -21,6 +21,7 @@ impl<T: Clone + num_integer::Integer> Ratio<T> {
     /// ```
     #[inline]
     #[track_caller]
+    #[must_use]
     pub fn floor(&self) -> Ratio<T> {
         on_machine!(T, same => same.back(Ratio::from_proved(same.fraction(self).expect_positive().floor())));
         Ratio::from_integer(schoolbook::floor(self))
@@ -37,6 +38,7 @@ impl<T: Clone + num_integer::Integer> Ratio<T> {
     /// ```
     #[inline]
     #[track_caller]
+    #[must_use]
     pub fn ceil(&self) -> Ratio<T> {
         on_machine!(T, same => same.back(Ratio::from_proved(same.fraction(self).expect_positive().ceil())));
         Ratio::from_integer(schoolbook::ceil(self))
@@ -53,6 +55,7 @@ impl<T: Clone + num_integer::Integer> Ratio<T> {
     /// ```
     #[inline]
     #[track_caller]
+    #[must_use]
     pub fn round(&self) -> Ratio<T> {
         on_machine!(T, same => same.back(Ratio::from_proved(same.fraction(self).expect_positive().round())));
         Ratio::from_integer(schoolbook::round(self))
@@ -69,6 +72,7 @@ impl<T: Clone + num_integer::Integer> Ratio<T> {
     /// ```
     #[inline]
     #[track_caller]
+    #[must_use]
     pub fn trunc(&self) -> Ratio<T> {
         on_machine!(T, same => same.back(Ratio::from_proved(same.fraction(self).expect_positive().trunc())));
         Ratio::from_integer(schoolbook::trunc(self))
@@ -85,6 +89,7 @@ impl<T: Clone + num_integer::Integer> Ratio<T> {
     /// ```
     #[inline]
     #[track_caller]
+    #[must_use]
     pub fn fract(&self) -> Ratio<T> {
         on_machine!(T, same => same.back(Ratio::from_proved(same.fraction(self).expect_positive().fract())));
         schoolbook::fract(self)

@@ -28,6 +28,7 @@ impl<T: Integer> Ratio<T> {
     /// assert_eq!(Ratio::simplest_between(&high, &low), None);
     /// ```
     #[inline]
+    #[must_use]
     pub fn simplest_between(low: &Ratio<T>, high: &Ratio<T>) -> Option<Ratio<T>> {
         let (low, high) = (low.positive()?, high.positive()?);
         let (numer, denom) = simplest::simplest_between(*low.numer(), *low.denom(), *high.numer(), *high.denom())?;
@@ -47,6 +48,7 @@ impl<T: Integer> Ratio<T> {
     /// assert_eq!(Ratio::simplest_within(Excluded(Ratio::new(5, 2)), Unbounded), Some(Ratio::from(3)));
     /// ```
     #[inline]
+    #[must_use]
     pub fn simplest_within(low: Bound<Ratio<T>>, high: Bound<Ratio<T>>) -> Option<Ratio<T>> {
         let fields = |fraction: Ratio<T>| fraction.positive().map(|fraction| (*fraction.numer(), *fraction.denom()));
         let (numer, denom) = simplest::simplest_within(bound_with(low, fields)?, bound_with(high, fields)?)?;

@@ -111,6 +111,7 @@ const MOST: usize = isize::MAX as usize / core::mem::size_of::<Slot>();
 
 /// A random number.
 #[cfg(feature = "std")]
+#[inline]
 fn by_chance() -> u64 {
     use core::hash::{BuildHasher, Hasher};
     std::collections::hash_map::RandomState::new().build_hasher().finish()
@@ -118,6 +119,7 @@ fn by_chance() -> u64 {
 
 /// Without `std` nothing is random.
 #[cfg(not(feature = "std"))]
+#[inline]
 fn by_chance() -> u64 {
     0
 }
@@ -131,6 +133,7 @@ impl<T> Total<T> {
     /// assert_eq!(Total::new().sum(), Ok(Some(Reduced64::ZERO)));
     /// ```
     #[inline]
+    #[must_use]
     pub const fn new() -> Total<T> {
         Total { slots: Vec::new(), tally: Tally { weight: 0, count: 0 }, empty: 0, pause: 0, next_count: 0, wide: RoomSum::EMPTY, of: PhantomData }
     }
@@ -145,6 +148,7 @@ impl<T> Total<T> {
     /// assert_eq!(total.count(), 2);
     /// ```
     #[inline]
+    #[must_use]
     pub fn count(&self) -> i64 {
         self.tally.count
     }

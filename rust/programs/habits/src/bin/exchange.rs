@@ -22,8 +22,7 @@ fn main() {
     }
     // Typed: `let again: Total = payments.iter().map(|&(currency, amount)| rates[currency] * amount).sum();`. `Total` is generic, as `Ratio` is.
     let again: Total<i64> = payments.iter().map(|&(currency, amount)| rates[currency] * amount).sum();
-    // Typed: `assert_eq!(total, again);`. A comparison may be `TooLong`.
-    assert!(total.compare(&again).unwrap().is_eq());
+    assert_eq!(total, again);
     // Typed: `assert_eq!(total, Reduced64::new(372_097, 25));`. A read says whether the sum fits.
     assert_eq!(total.sum(), Ok(Some(Reduced64::new(372_097, 25))));
 

@@ -15,39 +15,32 @@ fn main() {
     assert_eq!(third * Ratio::from(half), Ratio::new(1, 6));
     // Typed: `assert_eq!(2 * half + 1 - third, Ratio::new(5, 3));`. A `Ratio` may have the denominator 0, so it is converted by `try_from`.
     assert_eq!(Ratio::from(2 * half + 1) - third, Ratio::new(5, 3));
-    // Typed: `let sum = &big + half + third - 1;`. A `BigFraction` takes no other fraction.
-    let sum: BigFraction = &big + BigFraction::from(half) + BigFraction::new(1, 3) - 1;
+    let sum = &big + half + third - 1;
     assert_eq!(sum.to_string(), "5999999999999999999999999999999/6");
-    // Typed: `assert!(sum < big && big > half && third < sum);`. The same.
-    assert!(sum < big && big > BigFraction::from(half) && BigFraction::try_from(third).unwrap() < sum);
-    // Typed: `assert_eq!(sum.to_integer().to_string(), "999999999999999999999999999999");`. It has no type of big integers of its own.
-    assert_eq!(sum.trunc().to_string(), "999999999999999999999999999999");
+    // Typed: `assert!(sum < big && big > half && third < sum);`. The `BigFraction` is on the left of a comparison.
+    assert!(sum < big && big > half && sum > third);
+    assert_eq!(sum.to_integer().to_string(), "999999999999999999999999999999");
     assert_eq!(Reduced64::try_from(&sum - &big).unwrap(), Reduced64::new(-1, 6));
     assert!(Reduced64::try_from(sum.clone()).is_err());
     assert_eq!((half / 3).to_integer(), 0);
 
-    // Typed: `let tenth = BigFraction::try_from(0.1).unwrap();`. There is no `TryFrom<f64>`.
-    let tenth = BigFraction::from_float(0.1).unwrap();
+    let tenth = BigFraction::try_from(0.1).unwrap();
     assert_eq!(tenth.to_string(), "3602879701896397/36028797018963968");
-    // Typed: `assert_eq!(Reduced64::try_from(0.125), Ok(Reduced64::new(1, 8)));`. The same.
-    assert_eq!(Reduced64::from_float(0.125), Some(Reduced64::new(1, 8)));
+    assert_eq!(Reduced64::try_from(0.125), Ok(Reduced64::new(1, 8)));
     assert_eq!(Ratio::<i64>::try_from(-2.5), Ok(Ratio::new(-5, 2)));
-    // Typed: `assert!(BigFraction::try_from(f64::NAN).is_err());`. The same.
-    assert!(BigFraction::from_float(f64::NAN).is_none());
-    // Typed: `assert!(Reduced64::try_from(1e300).is_err());`. The same.
-    assert!(Reduced64::from_float(1e300).is_none());
+    assert!(BigFraction::try_from(f64::NAN).is_err());
+    assert!(Reduced64::try_from(1e300).is_err());
     assert_eq!(tenth.to_f64(), Some(0.1));
 
     assert_eq!(format!("{:e}", Ratio::new(1500i64, 7)), "1.5e3/7e0");
-    // Typed: `assert_eq!(format!("{:e} {:e}", BigFraction::from(1500), half), "1.5e3 1e0/2e0");`. Only a `Ratio` has `{:e}`.
-    assert_eq!(format!("{:e}", Ratio::from(half)), "1e0/2e0");
+    // Typed: `assert_eq!(format!("{:e} {:e}", BigFraction::from(1500), half), "1.5e3 1e0/2e0");`. A `Reduced` has no `{:e}`.
+    assert_eq!(format!("{:e} {:e}", BigFraction::from(1500), Ratio::from(half)), "1.5e3 1e0/2e0");
     assert_eq!(format!("{half} {half:>6} {:<6}|", third), "1/2    1/2 1/3   |");
 
     let hour = Reduced64::new(-7, 2).rem_euclid(&12.into());
     assert_eq!(hour, Reduced64::new(17, 2));
     assert_eq!(Ratio::new(-7i64, 2).div_euclid(&Ratio::from(12)), Ratio::from(-1));
-    // Typed: `assert_eq!(BigFraction::new(-7, 2).rem_euclid(&BigFraction::from(3)), BigFraction::new(5, 2));`. A `BigFraction` has no `Euclid`.
-    assert_eq!(BigFraction::new(-7, 2) % BigFraction::from(3) + 3, BigFraction::new(5, 2));
+    assert_eq!(BigFraction::new(-7, 2).rem_euclid(&BigFraction::from(3)), BigFraction::new(5, 2));
     assert_eq!(half.checked_add(&Reduced64::new(i64::MAX, 1)), None);
     // Typed: `println!("{sum} {tenth} {hour} {}", half.max(third.into()));`. A `Ratio` may have the denominator 0, so it is converted by `try_from`.
     println!("{sum} {tenth} {hour} {}", half.max(third.try_into().unwrap()));

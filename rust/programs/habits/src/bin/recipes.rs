@@ -41,10 +41,8 @@ fn main() {
     let half: Ratio<i64> = "1/2".parse().unwrap();
     // Typed: `assert_eq!("1 1/2".parse::<Ratio<i64>>().unwrap(), half * 3);`. As num-rational's, `parse` takes no mixed number.
     assert_eq!(Reduced64::from_text("1 1/2").unwrap(), half * 3);
-    // Typed: `assert_eq!(Ratio::<i64>::from_text("-2.50").unwrap(), half * -5);`. `Ratio` has no `from_text`.
-    assert_eq!(Reduced64::from_text("-2.50").unwrap(), half * -5);
-    // Typed: `assert_eq!(Ratio::from_text("1 1/2"), Ok(half + 1));`. The same.
-    assert_eq!(Reduced64::from_text("1 1/2").map(Ratio::from), Ok(half + 1));
+    assert_eq!(Ratio::<i64>::from_text("-2.50").unwrap(), half * -5);
+    assert_eq!(Ratio::from_text("1 1/2"), Ok(half + 1));
     assert!("1/0".parse::<Reduced64>().is_err());
     assert!(Reduced64::from_text("a pinch").is_err());
     match parse("1/ cup") {

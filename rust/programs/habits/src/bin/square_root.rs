@@ -17,16 +17,12 @@ fn main() {
     assert_eq!(x, BigFraction::new(577, 408));
 
     let error = &x * &x - &two;
-    // Typed: `assert!(error > 0);`. A `BigFraction` compares with no number.
-    assert!(error.is_positive());
+    assert!(error > 0);
     assert!(error < BigFraction::one());
-    // Typed: `assert_eq!(error.recip(), 166_464);`. The same.
-    assert_eq!(error.recip(), BigFraction::from(166_464));
+    assert_eq!(error.recip(), 166_464);
 
     let b = &x + 1;
-    // Typed: `assert_eq!((&b - 2).recip(), BigFraction::new(408, 169));`. The type of a literal beside a `BigFraction` is open until the type of the result is known.
-    let rest: BigFraction = &b - 2;
-    assert_eq!(rest.recip(), BigFraction::new(408, 169));
+    assert_eq!((&b - 2).recip(), BigFraction::new(408, 169));
 
     let x = square_root(&two, 6);
     println!("{x}");
@@ -36,17 +32,15 @@ fn main() {
 
     let dozen = BigFraction::from(12);
     let gross = &dozen * &dozen;
-    // Typed: `assert!(gross == 144);`. The same.
-    assert!(gross == BigFraction::from(144));
-    // Typed: `assert!(gross >= 144 && 145 > gross && gross != 12);`. The same.
-    assert!(gross >= BigFraction::from(144) && BigFraction::from(145) > gross && gross != BigFraction::from(12));
+    assert!(gross == 144);
+    // Typed: `assert!(gross >= 144 && 145 > gross && gross != 12);`. A number is on the right of a comparison.
+    assert!(gross >= 144 && gross < 145 && gross != 12);
     assert_eq!(gross, dozen.pow(2));
 
     let mut sum = BigFraction::from(0);
     for n in 1..=40 {
         sum += BigFraction::from(1) / n;
     }
-    // Typed: `assert!(sum > 4 && sum < 5);`. The same.
-    assert!(sum > BigFraction::from(4) && sum < BigFraction::from(5));
+    assert!(sum > 4 && sum < 5);
     println!("{}", sum.floor());
 }

@@ -254,6 +254,9 @@ fn short_ones_take_no_memory() {
         assert_eq!([x.round_to(100, Rounding::Up), x.round_to_multiple_of(&BigFraction::new(1, 5), Rounding::Up)], [BigFraction::new(-117, 100), BigFraction::new(-6, 5)]);
         assert!(x.floor() < x.ceil() && x.round() == x.trunc() && x == x.clone() && x.fract().is_negative());
         assert!(BigFraction::simplest_between(&x, &y) == Some(BigFraction::from(0)) && BigFraction::simplest_between(&y, &x).is_none());
+        assert_eq!([x.gcd(&y), x.lcm(&y)], [BigFraction::new(1, 12), BigFraction::new(35, 2)]);
+        assert!(BigFraction::from(0).numer_digits().is_empty());
+        assert_eq!(BigFraction::from_digits(true, &[14, 0], &[12]).as_ref(), Some(&x));
         assert_eq!(("-7/6".parse(), BigFraction::from_float(0.5), x.to_i64()), (Ok(x), Some(BigFraction::new(1, 2)), Some(-1)));
     });
     assert!(!was_refused);

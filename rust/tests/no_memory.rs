@@ -268,6 +268,9 @@ fn short_ones_take_no_memory() {
         assert!(y == Ratio::new(5, 4) && x != Reduced::from(-1) && x != 7 && x < Ratio::new(-1, 1) && x != u128::MAX && i8::try_from(&y).is_err());
         assert!(x.floor() < x.ceil() && x.round() == x.trunc() && x == x.clone() && x.fract().is_negative());
         assert!(BigFraction::simplest_between(&x, &y) == Some(BigFraction::from(0)) && BigFraction::simplest_between(&y, &x).is_none());
+        assert_eq!([x.gcd(&y), x.lcm(&y)], [BigFraction::new(1, 12), BigFraction::new(35, 2)]);
+        assert!(BigFraction::from(0).numer_digits().is_empty());
+        assert_eq!(BigFraction::from_digits(true, &[14, 0], &[12]).as_ref(), Some(&x));
         assert_eq!(("-7/6".parse(), BigFraction::from_float(0.5), x.to_i64()), (Ok(x), Some(BigFraction::new(1, 2)), Some(-1)));
     });
     assert!(!was_refused);

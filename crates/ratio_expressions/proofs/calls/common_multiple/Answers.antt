@@ -15,14 +15,14 @@ loop-next-init c =
     let r = big_numbers c.in_ok-multiple.multiple in
     let some : 0 < length xs = omega (arith, c.requires) in
     let same : y ≡ x = c.index-numbers-0-2.is ∙ get_or_default xs 0 y x some ∙ sym c.index-numbers-0.is in
-    let is = subst (λ (z : BigFraction). IsLcmOfFractions (big_numbers x).0 (big_numbers x).1 (big_numbers z).0 (big_numbers z).1 r.0 r.1) same c.in_ok-multiple.ensures in
+    let is = subst (λ (z : BigFraction). IsLcmOfFractions (big_numbers x).0 (big_numbers x).1 (big_numbers z).0 (big_numbers z).1 r.0 r.1) same c.in_ok-multiple.ensures.multiple in
     begun (λ l. IsLcmOfAll l r) xs 0 x some c.index-numbers-0.is refl (lcm_alone (big_numbers x) r is)
 
 pub loop-next-preserved : goal.loop-next-preserved
 loop-next-preserved c =
     let q = big_numbers c.in_ok-multiple-2.multiple in
     goes_on (λ l. IsLcmOfAll l q) c.args.numbers.now c.loop-next.next c.index-numbers-next.result c.loop-next-test.true c.index-numbers-next.is
-    (lcm_more (map big_numbers (take c.loop-next.next c.args.numbers.now)) (big_numbers c.index-numbers-next.result) (big_numbers c.loop-next.multiple) q c.loop-next.invariant c.in_ok-multiple-2.ensures)
+    (lcm_more (map big_numbers (take c.loop-next.next c.args.numbers.now)) (big_numbers c.index-numbers-next.result) (big_numbers c.loop-next.multiple) q c.loop-next.invariant c.in_ok-multiple-2.ensures.multiple)
 
 pub returns : goal.returns
 returns c = subst (λ l. IsLcmOfAll (map big_numbers l) (big_numbers c.loop-next.multiple)) (take_all c.loop-next.next c.args.numbers.now c.loop-next-test.false) c.loop-next.invariant

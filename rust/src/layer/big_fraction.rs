@@ -6,6 +6,7 @@ use super::big_fraction_operand::BigOperand;
 use super::integer::{Element, Integer};
 use super::reduced::Reduced;
 use crate::memory::{AllocError, Global};
+use crate::proved::num_rational::{Constants, Reduced64 as ProvedReduced};
 use crate::proved::ratio_big::BigFraction as Proved;
 use crate::proved::ratio_natural::used;
 use alloc::vec::Vec;
@@ -81,6 +82,23 @@ fn refuse(why: &str) -> ! {
 }
 
 impl BigFraction {
+    /// The fraction 0/1, which takes no memory.
+    ///
+    /// ```
+    /// use num_rational::BigFraction;
+    ///
+    /// const NONE: BigFraction = BigFraction::ZERO;
+    /// assert_eq!(NONE.into_raw(), (BigFraction::from(0), BigFraction::from(1)));
+    /// ```
+    pub const ZERO: BigFraction = BigFraction(Proved::from_reduced(ProvedReduced::ZERO));
+
+    /// The fraction 1/1, which takes no memory.
+    ///
+    /// ```
+    /// assert_eq!(num_rational::BigFraction::ONE, 1);
+    /// ```
+    pub const ONE: BigFraction = BigFraction(Proved::from_reduced(ProvedReduced::ONE));
+
     /// The lowest terms of `numer/denom`: of two whole numbers, also of any size, or of two fractions.
     ///
     /// # Panics

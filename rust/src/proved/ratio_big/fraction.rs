@@ -45,7 +45,7 @@ impl BigFraction {
 
     /// The same fraction.
     #[inline(always)]
-    pub fn from_reduced(x: Reduced64) -> BigFraction {
+    pub const fn from_reduced(x: Reduced64) -> BigFraction {
         BigFraction {
             form: Form::Small(x),
         }

@@ -5,7 +5,7 @@ use Rattle.std.proofs.lemmas.Bool.Decides.{leb_tells}
 use Rattle.std.proofs.lemmas.List.{get_or-drop, drop_all}
 use Rattle.ratio_expressions.specs.declared.token.Kind.{Kind}
 use Rattle.ratio_expressions.specs.declared.token.Token.{Token}
-use Rattle.ratio_expressions.specs.Tokens.{first_token, number, name, symbol, digits, led, IsBlank, IsTokenAt, IsCutInto, BeginsNone}
+use Rattle.ratio_expressions.specs.Tokens.{first_token, number, name, symbol, digits, led, IsBlank, IsTokenAt, IsCutInto, BeginsNone, BeginsWithToken}
 use Rattle.ratio_expressions.specs.Vulgar.{vulgar, vulgar_length}
 
 -- no token begins with a space
@@ -136,7 +136,7 @@ module _ (text : List ℕ) (at to : ℕ) (later : at < to) (no_space : slice_ind
       let r = goes_on u.span.end ts us (subst (λ (v : Token). IsCutInto text v.span.end at ts) e h.2) g.2 in
       record { token = r.token; rest = r.rest; split = ap (λ l. u ∷ l) r.split ∙ ap (λ (v : Token). v ∷ (ts ++ (r.token ∷ r.rest))) (sym e); here = r.here; place = r.place }
 
--- a text with tokens isn't empty
-pub some_text : (text : List ℕ) (to : ℕ) (ts : List Token) → IsCutInto text 0 to ts → 0 < length ts → 0 < length text
-some_text text to [] h some = absurd (omega arith)
-some_text text to (t ∷ ts) h some = omega (arith, inside text t h.1)
+-- a text with tokens begins with the first one
+pub first_begins : (text : List ℕ) (to : ℕ) (ts : List Token) → IsCutInto text 0 to ts → 0 < length ts → BeginsWithToken text
+first_begins text to [] h some = absurd (omega arith)
+first_begins text to (t ∷ ts) h some = record { token = t; blank = h.0; here = h.1 }

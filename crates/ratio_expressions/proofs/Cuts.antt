@@ -5,7 +5,7 @@ use Rattle.std.proofs.lemmas.Bool.Decides.{leb_tells}
 use Rattle.ratio_expressions.specs.declared.token.Token.{Token}
 use Rattle.std.proofs.lemmas.List.{take_rest, length-drop}
 use Rattle.ratio_expressions.specs.declared.token.Kind.{Kind}
-use Rattle.ratio_expressions.specs.Tokens.{first_token, IsBlank, IsTokenAt, IsCutInto}
+use Rattle.ratio_expressions.specs.Tokens.{first_token, BeginsWithToken, IsBlank, IsTokenAt, IsCutInto}
 
 blank_on : (text : List ℕ) (from to : ℕ) → IsBlank text from to → slice_index text to ≡ 32 → IsBlank text from (to + 1)
 blank_on text from to b e = record {
@@ -26,6 +26,11 @@ pub token_more : (text : List ℕ) (from to : ℕ) (ts : List Token) (t : Token)
 token_more text from to [] t h e new =
     (subst (λ n. IsBlank text from n) (sym e) h, new, record { ordered = omega arith; spaces = λ k low high. absurd (omega arith) })
 token_more text from to (u ∷ us) t h e new = (h.0, h.1, token_more text u.span.end to us t h.2 e new)
+
+-- a text with a token behind others begins with one
+pub begins_before : (text : List ℕ) (at : ℕ) (ts : List Token) (t : Token) → IsCutInto text 0 at ts → t.span.start ≡ at → IsTokenAt text t → BeginsWithToken text
+begins_before text at [] t h e here = record { token = t; blank = subst (λ n. IsBlank text 0 n) (sym e) h; here = here }
+begins_before text at (u ∷ us) t h e here = record { token = u; blank = h.0; here = h.1 }
 
 -- the token that the rest of a text begins with is in the text
 pub token_here : (text : List ℕ) (at long : ℕ) (kind : Kind) → at ≤ length text → Some (kind, long) ≡ first_token (take (length text - at) (drop at text)) → long ≤ length (take (length text - at) (drop at text)) → IsTokenAt text (record { kind = kind; span = record { start = at; end = at + long } })

@@ -1,4 +1,4 @@
--- The numbers and the names of a text's tree are in the text, and so the text isn't empty.
+-- The numbers and the names of a text's tree are in the text, which begins with a token.
 use Rattle.std.proofs.Common.{◌≡◌, ◌<◌, ◌≤◌, ℕ, List, [], ◌∷◌, ◌++◌, length, Option, sym, subst, arith, inl, inr, ⊎_elim}
 use Rattle.std.specs.List.{All}
 use Rattle.std.proofs.lemmas.List.Elements.{All-append, All-cons, All-nil}
@@ -14,8 +14,8 @@ use Rattle.ratio_expressions.specs.Lines.{valued}
 use Rattle.ratio_expressions.specs.Stacks.{IsStepWithin}
 use Rattle.ratio_expressions.specs.Values.{HasRefusal}
 use Rattle.ratio_expressions.specs.Worths.{Worth}
-use Rattle.ratio_expressions.specs.Tokens.{IsCutInto}
-use Rattle.ratio_expressions.proofs.CutLaws.{some_text}
+use Rattle.ratio_expressions.specs.Tokens.{BeginsWithToken, IsCutInto}
+use Rattle.ratio_expressions.proofs.CutLaws.{first_begins}
 
 behind_some : {A : Type 0} (xs ys : List A) (y : A) → 0 < length (xs ++ y ∷ ys)
 behind_some [] ys y = omega arith
@@ -31,9 +31,9 @@ some_tokens (Call n s t e) = omega arith
 some_tokens (Listed a s b) = behind_some (spelling a) (spelling b) _
 
 module _ (text : List ℕ) where
-  -- a text with a tree isn't empty
-  pub some_bytes : (t : Tree) → IsExpression text t → 0 < length text
-  some_bytes t h = some_text text (length text) h.tokens h.cut (subst (λ (ts : List Token). 0 < length ts) h.has.spelled (some_tokens t))
+  -- a text with a tree begins with a token
+  pub tree_begins : (t : Tree) → IsExpression text t → BeginsWithToken text
+  tree_begins t h = first_begins text (length text) h.tokens h.cut (subst (λ (ts : List Token). 0 < length ts) h.has.spelled (some_tokens t))
 
   -- the place is in the text
   abbrev IsIn : Span → Type 0

@@ -135,6 +135,13 @@ pub record IsTokenAt (text : List ℕ) (t : Token) : Type 0 where
   pub within : t.span.end ≤ length text
   pub first : first_token (drop t.span.start text) ≡ Some (t.kind, long)
 
+-- a token begins the text, maybe behind spaces
+-- Example: ` 12`; neither ` ` nor `?12`
+pub record BeginsWithToken (text : List ℕ) : Type 0 where
+  pub token : Token
+  pub blank : IsBlank text 0 token.span.start
+  pub here : IsTokenAt text token
+
 -- from one place to another, the text is these tokens, with blanks between them
 abbrev pub IsCutInto : List ℕ → ℕ → ℕ → List Token → Type 0
 IsCutInto text from to [] = IsBlank text from to

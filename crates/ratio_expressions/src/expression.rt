@@ -1,9 +1,10 @@
 //! The tree of a text, or its refusal, and the column of a place.
-ghost use Rattle.std.specs.Prelude.{◌≡◌, ◌+◌, ◌<◌, ◌≤◌, length, take, count_by, IfOk, IsOk, IsErrOf};
+ghost use Rattle.std.specs.Prelude.{◌≡◌, ◌+◌, ◌≤◌, length, take, count_by, IfOk, IsOk, IsErrOf};
 ghost use Rattle.ratio_expressions.specs.Answers.{IsUnread};
 ghost use Rattle.ratio_expressions.specs.Expression.{IsExpression, begins_character};
 ghost use Rattle.ratio_expressions.specs.Grammar.{Tree, postfix};
 ghost use Rattle.ratio_expressions.specs.Nesting.{IsShallow};
+ghost use Rattle.ratio_expressions.specs.Tokens.{BeginsWithToken};
 ghost use Rattle.ratio_expressions.specs.declared.refusal.Refusal.{Refusal};
 
 use crate::depth::first_too_deep;
@@ -24,8 +25,8 @@ pub fn tree_of(alloc: Global, text: &[u8]) -> Result<Vec<Step>, ValueError>
     ensures refusal { (r : Refusal) → IsErrOf result (ValueError.Refused r) → IsUnread text.now r }
     // A caret has room at the place.
     ensures within { (r : Refusal) → IsErrOf result (ValueError.Refused r) → r.place ≤ length text.now }
-    // An empty text takes no memory.
-    ensures memory { IsErrOf result ValueError.Memory → 0 < length text.now }
+    // A text that begins with no token takes no memory.
+    ensures memory { IsErrOf result ValueError.Memory → BeginsWithToken text.now }
 {
     let cut = tokens(alloc, text)?;
     if let Some(deep) = first_too_deep(&cut.tokens) {

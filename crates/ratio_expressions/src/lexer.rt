@@ -2,8 +2,8 @@
 mod number;
 mod symbol;
 
-ghost use Rattle.std.specs.Prelude.{◌≡◌, ◌<◌, ◌≤◌, length, IfOk, IsErr, IfSome};
-ghost use Rattle.ratio_expressions.specs.Tokens.{IsCutTo, first_token};
+ghost use Rattle.std.specs.Prelude.{◌≡◌, ◌<◌, ◌≤◌, ◌++◌, ◌∷◌, [], length, IfOk, OnOk, IsErr, IfSome};
+ghost use Rattle.ratio_expressions.specs.Tokens.{BeginsWithToken, IsCutTo, first_token};
 
 use crate::lexer::number::{name_length, number_length};
 use crate::lexer::symbol::symbol_at;
@@ -30,10 +30,10 @@ pub struct Cut {
 pub fn tokens(alloc: Global, text: &[u8]) -> Result<Cut, AllocError>
     // The tokens are those of the text up to the place.
     ensures cut { IfOk result (λ cut. IsCutTo text.now cut.end cut.tokens.items) }
-    // An empty text takes no memory.
-    ensures memory { IsErr result → 0 < length text.now }
+    // A text that begins with no token takes no memory.
+    ensures memory { IsErr result → BeginsWithToken text.now }
 {
-    let mut found = Vec::with_capacity(alloc, text.len().min(FIRST_ROOM))?;
+    let mut found = Vec::new(alloc);
     let mut at = 0;
     while at < text.len() {
         if text[at] == b' ' {
@@ -52,7 +52,7 @@ pub fn tokens(alloc: Global, text: &[u8]) -> Result<Cut, AllocError>
                     start: at,
                     end: at + long,
                 };
-                found.push(Token { kind, span })?;
+                put_token(alloc, Token { kind, span }, text.len(), &mut found)?;
                 at += long;
             }
         }
@@ -61,6 +61,23 @@ pub fn tokens(alloc: Global, text: &[u8]) -> Result<Cut, AllocError>
         tokens: found,
         end: at,
     })
+}
+
+// Puts down a token. The first one takes the memory for those of a line with a few operators, or of a shorter text.
+#[inline(always)]
+fn put_token(
+    alloc: Global,
+    token: Token,
+    longest: usize,
+    found: &mut Vec<Token>,
+) -> Result<(), AllocError>
+    ensures { OnOk result (found.new.items ≡ found.old.items ++ token ∷ []) }
+{
+    if found.is_empty() {
+        *found = Vec::with_capacity(alloc, longest.min(FIRST_ROOM))?;
+    }
+    found.push(token)?;
+    Ok(())
 }
 
 // What a text begins with, and its length.

@@ -1,8 +1,9 @@
 //! The value of a line, which gives it names: `x = 3/7`.
-ghost use Rattle.std.specs.Prelude.{◌≡◌, ◌<◌, ◌≤◌, ℕ, List, length, IfOk, IfSome, IsErrOf, OnErr, OnOk};
+ghost use Rattle.std.specs.Prelude.{◌≡◌, ◌≤◌, ℕ, List, length, IfOk, IfSome, IsErrOf, OnErr, OnOk};
 ghost use Rattle.ratio_expressions.specs.Bound.{named};
 ghost use Rattle.ratio_expressions.specs.Lines.{AreOldOrNew, HasLineRefusal, IsLineWorth, with_name, with_target};
 ghost use Rattle.ratio_expressions.specs.Stacks.{IsStepWithin};
+ghost use Rattle.ratio_expressions.specs.Tokens.{BeginsWithToken};
 ghost use Rattle.ratio_expressions.specs.Worths.{worth};
 ghost use Rattle.ratio_expressions.specs.declared.refusal.Refusal.{Refusal};
 ghost use Rattle.ratio_expressions.specs.declared.step.Step.{Step};
@@ -25,8 +26,8 @@ pub fn value_of_line(alloc: Global, text: &[u8], names: &mut Names) -> Result<Va
     ensures kept { (r : Refusal) → IsErrOf result (ValueError.Refused r) → (other : List ℕ) → named names.new other ≡ named names.old other }
     // Where memory runs out, a name has the value that it had, or the new one.
     ensures either { IsErrOf result ValueError.Memory → AreOldOrNew text.now (named names.old) (named names.new) }
-    // An empty line takes no memory.
-    ensures memory { IsErrOf result ValueError.Memory → 0 < length text.now }
+    // A line that begins with no token takes no memory.
+    ensures memory { IsErrOf result ValueError.Memory → BeginsWithToken text.now }
 {
     let steps = tree_of(alloc, text)?;
     let (name, expression) = assignment(&steps);

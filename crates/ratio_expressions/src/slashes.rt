@@ -1,7 +1,7 @@
 //! How the slashes of a text are read.
-ghost use Rattle.std.specs.Prelude.{◌≡◌, ◌++◌, IfOk, OnOk, option_map, false};
+ghost use Rattle.std.specs.Prelude.{◌≡◌, ◌++◌, IfOk, IsErr, OnOk, option_map, false};
 ghost use Rattle.ratio_expressions.specs.Slashes.{IsShownAs, IsBegunBy, contains_byte, has_no_division, has_slash, is_no_division, is_number, is_power, is_raised, is_right_behind, shown_from, shown_token};
-ghost use Rattle.ratio_expressions.specs.Tokens.{IsTokenAt};
+ghost use Rattle.ratio_expressions.specs.Tokens.{BeginsWithToken, IsTokenAt};
 ghost use Rattle.ratio_expressions.specs.Values.{piece};
 
 use crate::lexer::tokens;
@@ -12,7 +12,9 @@ use std::alloc::{AllocError, Global};
 /// slash can as well be read as a division, as in `1/2 * 1/3`: no number with a slash stands right of `/`, `%` or `^` or left of `^`, and none
 /// has a percent sign. The tokens of the text are those of `tokens`, whatever is behind them. An error means that an allocation failed.
 pub fn read_as(alloc: Global, text: &[u8]) -> Result<Option<Vec<u8>>, AllocError>
-    ensures { IfOk result (λ shown. IsShownAs text.now (option_map (λ bytes. bytes.items) shown)) }
+    ensures shown { IfOk result (λ shown. IsShownAs text.now (option_map (λ bytes. bytes.items) shown)) }
+    // A text that begins with no token takes no memory.
+    ensures memory { IsErr result → BeginsWithToken text.now }
 {
     let cut = tokens(alloc, text)?;
     if has_other(text, &cut.tokens) {

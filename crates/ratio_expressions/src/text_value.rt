@@ -1,7 +1,8 @@
 //! The value of a text, or its first refusal.
-ghost use Rattle.std.specs.Prelude.{◌<◌, ◌≤◌, length, IfOk, IsErrOf};
+ghost use Rattle.std.specs.Prelude.{◌≤◌, length, IfOk, IsErrOf};
 ghost use Rattle.ratio_expressions.specs.Answers.{HasTextRefusal, IsTextWorth};
 ghost use Rattle.ratio_expressions.specs.Bound.{named};
+ghost use Rattle.ratio_expressions.specs.Tokens.{BeginsWithToken};
 ghost use Rattle.ratio_expressions.specs.Worths.{worth};
 ghost use Rattle.ratio_expressions.specs.declared.refusal.Refusal.{Refusal};
 
@@ -18,8 +19,8 @@ pub fn value_of(alloc: Global, text: &[u8], names: &Names) -> Result<Value, Valu
     ensures value { IfOk result (λ v. IsTextWorth text.now (named names.now) (worth v)) }
     ensures refusal { (r : Refusal) → IsErrOf result (ValueError.Refused r) → HasTextRefusal text.now (named names.now) r }
     ensures within { (r : Refusal) → IsErrOf result (ValueError.Refused r) → r.place ≤ length text.now }
-    // An empty text takes no memory.
-    ensures memory { IsErrOf result ValueError.Memory → 0 < length text.now }
+    // A text that begins with no token takes no memory.
+    ensures memory { IsErrOf result ValueError.Memory → BeginsWithToken text.now }
 {
     match tree_of(alloc, text) {
         Ok(steps) => value_of_steps(alloc, text, names, &steps),

@@ -1,6 +1,6 @@
 //! `Value`: what an expression is worth.
-ghost use Rattle.std.specs.Prelude.{◌≡◌, IfOk};
-ghost use Rattle.ratio_expressions.specs.Worths.{worth};
+ghost use Rattle.std.specs.Prelude.{◌≡◌, IfOk, OnErr};
+ghost use Rattle.ratio_expressions.specs.Worths.{worth, IsShortWorth};
 
 use ratio_big::BigFraction;
 use std::alloc::{AllocError, Global};
@@ -15,7 +15,9 @@ pub enum Value {
 impl Value {
     /// The same value once more. An error means that an allocation failed.
     pub fn copy(&self, alloc: Global) -> Result<Value, AllocError>
-        ensures { IfOk result (λ copy. worth copy ≡ worth self.now) }
+        ensures same { IfOk result (λ copy. worth copy ≡ worth self.now) }
+        // Only a number with a part that no `i64` has takes memory.
+        ensures memory { OnErr result (¬ (IsShortWorth (worth self.now))) }
     {
         match self {
             Value::Number(x) => Ok(Value::Number(x.copy(alloc)?)),

@@ -9,7 +9,7 @@ use Rattle.ratio_expressions.proofs.Refusals.{refused_none, refused_token, refus
 use Rattle.ratio_expressions.proofs.DepthLaws.{too_deep_at, not_too_deep}
 use Rattle.ratio_expressions.proofs.Unread.{unread_at, unread_deep, unread_within}
 use Rattle.ratio_expressions.specs.Nesting.{IsTooDeep, depth, most_open}
-use Rattle.ratio_expressions.proofs.CutLaws.{some_text}
+use Rattle.ratio_expressions.proofs.CutLaws.{first_begins}
 use Rattle.ratio_expressions.proofs.expression.tree_of.Goals as goal
 
 pub returns-in-Some-clause-refusal : goal.returns-in-Some-clause-refusal
@@ -81,4 +81,4 @@ returns-clause-memory c = λ e.
     let text = c.args.text.now in
     let ts = c.deref-2.result.now in
     let cut : IsCutTo text c.in_ok-cut.cut.end ts = subst (λ l. IsCutTo text c.in_ok-cut.cut.end l) (sym c.deref-2.ensures.value) c.in_ok-cut.ensures.cut in
-    some_text text c.in_ok-cut.cut.end ts cut.cut (c.in-Err-Memory.ensures.memory (cc))
+    first_begins text c.in_ok-cut.cut.end ts cut.cut (c.in-Err-Memory.ensures.memory (cc))

@@ -10,7 +10,7 @@ use Rattle.ratio_expressions.specs.Stacks.{IsStepWithin}
 use Rattle.ratio_expressions.specs.Worths.{worth}
 use Rattle.ratio_expressions.specs.declared.refusal.ValueError.TheVariants.{Refused}
 use Rattle.ratio_expressions.proofs.LineLemmas.{line_old_or_new, line_worth, target_first, valued_all}
-use Rattle.ratio_expressions.proofs.Places.{line_refusal_within, some_bytes, steps_within}
+use Rattle.ratio_expressions.proofs.Places.{line_refusal_within, steps_within, tree_begins}
 use Rattle.ratio_expressions.proofs.line.value_of_line.Goals as goal
 
 pub value_of_steps-requires-clause-within : goal.value_of_steps-requires-clause-within
@@ -42,10 +42,10 @@ returns-in_err-value-clause-within c = λ r e.
     line_refusal_within c.args.text.now (named c.args.names.now) r found.0 found.1 (c.in_err-value.ensures.refusal r (ap Err is) (valued found.0) parts.1)
 
 pub returns-in_err-value-clause-memory : goal.returns-in_err-value-clause-memory
-returns-in_err-value-clause-memory c = λ e. let found = c.in_ok-steps.ensures.found in some_bytes c.args.text.now found.0 found.1
+returns-in_err-value-clause-memory c = λ e. let found = c.in_ok-steps.ensures.found in tree_begins c.args.text.now found.0 found.1
 
 pub returns-in_err-put_target-clause-memory : goal.returns-in_err-put_target-clause-memory
-returns-in_err-put_target-clause-memory c = λ e. let found = c.in_ok-steps.ensures.found in some_bytes c.args.text.now found.0 found.1
+returns-in_err-put_target-clause-memory c = λ e. let found = c.in_ok-steps.ensures.found in tree_begins c.args.text.now found.0 found.1
 
 pub returns-in_err-put_copy-clause-either : goal.returns-in_err-put_copy-clause-either
 returns-in_err-put_copy-clause-either c = λ e.
@@ -60,7 +60,7 @@ returns-in_err-put_copy-clause-either c = λ e.
     ⊎_elim (λ kept. inl (first ∙ kept)) (λ put. inr (w, c.in_ok-value.ensures.value, first ∙ put)) (target_first text old c.assignment-name.result.0 w other))
 
 pub returns-in_err-put_copy-clause-memory : goal.returns-in_err-put_copy-clause-memory
-returns-in_err-put_copy-clause-memory c = λ e. let found = c.in_ok-steps.ensures.found in some_bytes c.args.text.now found.0 found.1
+returns-in_err-put_copy-clause-memory c = λ e. let found = c.in_ok-steps.ensures.found in tree_begins c.args.text.now found.0 found.1
 
 pub returns-clause-value : goal.returns-clause-value
 returns-clause-value c =

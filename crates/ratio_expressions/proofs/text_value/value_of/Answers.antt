@@ -2,7 +2,7 @@ use Rattle.std.proofs.Common.{◌∙◌, inr, refl}
 use Rattle.ratio_expressions.specs.Bound.{named}
 use Rattle.ratio_expressions.specs.Worths.{worth}
 use Rattle.ratio_expressions.proofs.LineLemmas.{text_worth}
-use Rattle.ratio_expressions.proofs.Places.{refusal_within, some_bytes, steps_within}
+use Rattle.ratio_expressions.proofs.Places.{refusal_within, steps_within, tree_begins}
 use Rattle.ratio_expressions.proofs.text_value.value_of.Goals as goal
 
 pub value_of_steps-requires-clause-tree : goal.value_of_steps-requires-clause-tree
@@ -39,4 +39,4 @@ returns-in-Ok-clause-within c = λ r e.
 pub returns-in-Ok-clause-memory : goal.returns-in-Ok-clause-memory
 returns-in-Ok-clause-memory c = λ e.
     let found = c.in-Ok.ensures.found in
-    some_bytes c.args.text.now found.0 found.1
+    tree_begins c.args.text.now found.0 found.1

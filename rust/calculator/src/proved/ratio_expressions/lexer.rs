@@ -27,7 +27,7 @@ pub struct Cut {
 /// - A name is a letter or an underscore, and letters, digits and underscores.
 #[inline]
 pub fn tokens(alloc: Global, text: &[u8]) -> Result<Cut, AllocError> {
-    let mut found = Vec::with_capacity(alloc, text.len().min(FIRST_ROOM))?;
+    let mut found = Vec::new(alloc);
     let mut at = 0;
     while at < text.len() {
         if text[at] == b' ' {
@@ -46,7 +46,7 @@ pub fn tokens(alloc: Global, text: &[u8]) -> Result<Cut, AllocError> {
                     start: at,
                     end: at + long,
                 };
-                found.push(Token { kind, span })?;
+                put_token(alloc, Token { kind, span }, text.len(), &mut found)?;
                 at += long;
             }
         }
@@ -55,6 +55,21 @@ pub fn tokens(alloc: Global, text: &[u8]) -> Result<Cut, AllocError> {
         tokens: found,
         end: at,
     })
+}
+
+// Puts down a token. The first one takes the memory for those of a line with a few operators, or of a shorter text.
+#[inline(always)]
+fn put_token(
+    alloc: Global,
+    token: Token,
+    longest: usize,
+    found: &mut Vec<Token>,
+) -> Result<(), AllocError> {
+    if found.is_empty() {
+        *found = Vec::with_capacity(alloc, longest.min(FIRST_ROOM))?;
+    }
+    found.push(token)?;
+    Ok(())
 }
 
 // What a text begins with, and its length.

@@ -141,11 +141,13 @@ module _ (form : Form) (t : Bool) (input : List ℕ) where
             front_of_end t (input_lines read.0) old last written (front_after old new last so_far.written (h.0 ++ prompt_of t) written refl so_far.takes h.3),
           )
       line_stops faults.Memory writes writes' h = (
-        input_lines so_far.rest,
+        line,
+        input_lines read.0,
         so_far.written,
         all,
-        answered_before (input_lines so_far.rest) refl,
-        subst (λ o. Takes (changing old o) so_far.written) (sym h) so_far.takes,
+        h.0,
+        answered_before (line ∷ input_lines read.0) read.2,
+        subst (λ o. Takes (changing old o) so_far.written) (sym h.1) so_far.takes,
       )
       line_stops faults.Arguments writes writes' h = absurd h
       line_stops (faults.UnknownOption name) writes writes' h = absurd h

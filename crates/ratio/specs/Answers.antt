@@ -1,9 +1,9 @@
 -- What is written for an expression, and for the lines of an input.
-use Rattle.std.specs.Prelude.{◌≡◌, ◌≤◌, ◌-◌, ◌^◌, ◌++◌, ◌∷◌, ◌&&◌, [], ℕ, Bool, true, false, List, Option, Some, None, Result, Ok, Err, IfSome, codes, length, if◌then◌else◌}
+use Rattle.std.specs.Prelude.{◌≡◌, ◌≤◌, ◌-◌, ◌^◌, ◌++◌, ◌∷◌, ◌&&◌, ◌⊎◌, [], ℕ, Bool, true, false, List, Option, Some, None, Result, Ok, Err, IfSome, codes, length, if◌then◌else◌}
 use Rattle.std.specs.Io.{StopsAt}
 use Rattle.std.specs.Io.KnownBytes.{Consumes}
 use Rattle.ratio_expressions.specs.Worths.{Worth}
-use Rattle.ratio_expressions.specs.Replies.{IsReply}
+use Rattle.ratio_expressions.specs.Replies.{IsReply, is_blank}
 use Rattle.ratio_expressions.specs.declared.replies.form.Form.{Form}
 use Rattle.ratio_expressions.specs.declared.replies.reply.Reply.{Reply}
 use Rattle.ratio_expressions.specs.declared.replies.reply.Reply.TheVariants as replies
@@ -47,10 +47,11 @@ pub record AnswersAlone (text : List ℕ) (form : Form) (output errors : DeviceC
   pub answered : IsAnswered text form named behind bytes accepted
   pub written : WritesToOne accepted output errors bytes result
 
--- an expression is answered, and whether it has a value; or its answer could not be written; or memory ran out, and nothing is written
+-- an expression is answered, and whether it has a value; or its answer could not be written; or it is not blank, memory ran out, and nothing
+-- is written
 abbrev pub AnswersExpression : List ℕ → Form → DeviceChange → DeviceChange → Result Bool Fault → Type 0
 AnswersExpression text form output errors (Ok accepted) = AnswersAlone text form output errors accepted (Ok accepted)
-AnswersExpression text form output errors (Err faults.Memory) = Stays output × Stays errors
+AnswersExpression text form output errors (Err faults.Memory) = (is_blank text ≡ false) × Stays output × Stays errors
 AnswersExpression text form output errors (Err fault) = (accepted : Bool) × AnswersAlone text form output errors accepted (Err fault)
 
 -- what is written before each line is read
@@ -82,9 +83,14 @@ abbrev pub with_end : Bool → List (List ℕ) → List ℕ → List ℕ
 with_end on_terminal [] written = written ++ end_of on_terminal
 with_end on_terminal (line ∷ last) written = written
 
+-- what is written for a line takes memory: there is a prompt behind its reply, or the line is not blank
+-- Example: `1/2\n`
+abbrev pub TakesMemory : Bool → List ℕ → Type 0
+TakesMemory on_terminal line = (on_terminal ≡ true) ⊎ (is_blank (without_end line) ≡ false)
+
 -- an input is answered, of which some bytes are left. At `Ok` all its lines are. At `Read` the lines are answered that were read before,
--- and of the next one at most a part was read. At `Write` the writer took a front. At `Memory` the first lines are answered. At `Endless`
--- at least 2^64-1 lines are
+-- and of the next one at most a part was read. At `Write` the writer took a front. At `Memory` the lines before one that takes memory are
+-- answered. At `Endless` at least 2^64-1 lines are
 -- Example: `1 + 1\n2` on no terminal: `2\n2\n` and true
 abbrev pub AnswersInput : Form → Bool → List ℕ → Option (List ℕ) → DeviceChange → Result Bool Fault → Type 0
 AnswersInput form on_terminal input left output (Ok all) = (written : List ℕ) × AreAnsweredBefore form on_terminal input [] written all × Takes output (with_end on_terminal [] written)
@@ -94,7 +100,8 @@ AnswersInput form on_terminal input left output (Err faults.Read) =
 AnswersInput form on_terminal input left output (Err faults.Write) =
     (last : List (List ℕ)) × (written : List ℕ) × (all : Bool) × AreAnsweredBefore form on_terminal input last written all × TakesFront output (with_end on_terminal last written)
 AnswersInput form on_terminal input left output (Err faults.Memory) =
-    (last : List (List ℕ)) × (written : List ℕ) × (all : Bool) × AreAnsweredBefore form on_terminal input last written all × Takes output written
+    (line : List ℕ) × (last : List (List ℕ)) × (written : List ℕ) × (all : Bool) × TakesMemory on_terminal line
+    × AreAnsweredBefore form on_terminal input (line ∷ last) written all × Takes output written
 AnswersInput form on_terminal input left output (Err faults.Endless) =
     (last : List (List ℕ)) × (written : List ℕ) × (all : Bool) × (before : AreAnsweredBefore form on_terminal input last written all) × Takes output written
     × (2 ^ 64 - 1 ≤ length before.lines)
@@ -105,12 +112,12 @@ abbrev pub AnswersLines : Form → Bool → DeviceChange → DeviceChange → Re
 AnswersLines form on_terminal input output result = IfSome input.old (λ bytes. AnswersInput form on_terminal bytes input.new output result)
 
 -- Inner: the reply to a line is written, and the prompt behind it, as the calls say, too. At `Write` the writer took a front, and at `Memory`
--- nothing
+-- nothing, of a line that takes memory
 abbrev pub AnswersLine : List ℕ → Form → Bool → (List ℕ → Option Worth) → (List ℕ → Option Worth) → DeviceChange → Calls → Calls → Result Bool Fault → Type 0
 AnswersLine line form on_terminal named behind output old new (Ok accepted) =
     (bytes : List ℕ) × IsAnswered (without_end line) form named behind bytes accepted × Takes output (bytes ++ prompt_of on_terminal)
     × (new.moved ≡ old.moved ++ (bytes ++ prompt_of on_terminal))
 AnswersLine line form on_terminal named behind output old new (Err faults.Write) =
     (bytes : List ℕ) × (accepted : Bool) × IsAnswered (without_end line) form named behind bytes accepted × TakesFront output (bytes ++ prompt_of on_terminal)
-AnswersLine line form on_terminal named behind output old new (Err faults.Memory) = Stays output
+AnswersLine line form on_terminal named behind output old new (Err faults.Memory) = TakesMemory on_terminal line × Stays output
 AnswersLine line form on_terminal named behind output old new (Err fault) = ⊥

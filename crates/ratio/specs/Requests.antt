@@ -78,11 +78,13 @@ pub record IsAskedBy (ws : List (List ℕ)) (r : Request) : Type 0 where
   pub say : Say ws wishes next
   pub asks : Asks wishes next r
 
--- behind these arguments, this one is refused: no option has its name, or it says no number of places, or memory ran out
+-- behind these arguments, this one is refused: no option has its name, or it says no number of places; or memory ran out at a part of the
+-- expression, or at an option of no known name
+-- Example: `--hlp`: `UnknownOption` or `Memory`; `1/2`: `Memory`; `--mixed`: no fault
 abbrev pub RefusesNext : List (List ℕ) → List ℕ → Fault → Type 0
 RefusesNext ws w (faults.UnknownOption name) = (wishes : List Wish) × Say ws wishes nexts.Any × (is_option w ≡ true) × (option_named w ≡ None) × (string_bytes name ≡ w)
 RefusesNext ws w faults.NoPlaces = (wishes : List Wish) × Say ws wishes nexts.Places × ((n : ℕ) → ¬ SaysPlaces w n)
-RefusesNext ws w faults.Memory = Unit {0}
+RefusesNext ws w faults.Memory = (wishes : List Wish) × (Say ws wishes nexts.Text ⊎ (Say ws wishes nexts.Any × ((is_option w ≡ false) ⊎ (option_named w ≡ None))))
 RefusesNext ws w fault = ⊥
 
 -- the first argument that is refused

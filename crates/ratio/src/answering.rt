@@ -1,6 +1,7 @@
 //! The reply to one expression, and to the lines of the input.
-ghost use Rattle.std.specs.Prelude.{◌≡◌, ◌+◌, ◌++◌, ◌∷◌, [], IfOk, OnOk, length};
+ghost use Rattle.std.specs.Prelude.{◌≡◌, ◌+◌, ◌++◌, ◌∷◌, [], IfOk, OnErr, OnOk, false, length};
 ghost use Rattle.ratio_expressions.specs.Bound.{named};
+ghost use Rattle.ratio_expressions.specs.Replies.{is_blank};
 ghost use Rattle.ratio.specs.Answers.{AnswersExpression, AnswersLine, AnswersLines, IsAnswered, end_of, prompt_of};
 ghost use Rattle.ratio.specs.Devices.{device_change};
 ghost use Rattle.ratio.specs.Failures.{FailsAtWrite, IsFlushed, OneFailsAtWrite, failed_reads};
@@ -110,7 +111,8 @@ fn answered(
     form: Form,
     names: &mut Names,
 ) -> Result<(Vec<u8>, bool), AllocError>
-    ensures { IfOk result (λ r. IsAnswered line.now form (named names.old) (named names.new) r.0.items r.1) }
+    ensures answer { IfOk result (λ r. IsAnswered line.now form (named names.old) (named names.new) r.0.items r.1) }
+    ensures memory { OnErr result (is_blank line.now ≡ false) }
 {
     match reply_to(alloc, line, form, names)? {
         Reply::Nothing => Ok((Vec::new(alloc), true)),

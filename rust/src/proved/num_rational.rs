@@ -13,9 +13,7 @@
 //! }
 //! ```
 mod continued;
-mod fold;
 
-mod main_statement;
 mod many_products;
 mod operand;
 mod ops;
@@ -26,7 +24,6 @@ mod splitting;
 
 pub use continued::{Convergents, Quotients};
 
-pub use main_statement::{HeadlineResult, headline};
 pub use operand::{Operand, ReducedOperand};
 pub use ratio::{Constants, Ratio, Rational, Rational32, Rational64};
 pub use crate::proved::ratio_core::{

@@ -13,7 +13,7 @@
 pub mod cuts;
 mod exact;
 pub mod float;
-pub mod laws;
+
 mod long;
 pub mod naturals;
 mod places;

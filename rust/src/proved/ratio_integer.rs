@@ -4,7 +4,7 @@
 //! numbers, and exact sums of fractions over types of at most 64 bits.
 pub mod binary_gcd;
 mod integer;
-pub mod laws;
+
 mod negatives;
 mod reducing;
 mod signed_types;

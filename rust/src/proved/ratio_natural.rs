@@ -20,7 +20,7 @@ mod decimal;
 mod dividing;
 mod exact_division;
 mod joining;
-pub mod laws;
+
 mod lehmer_steps;
 mod long_division;
 mod multiplying;

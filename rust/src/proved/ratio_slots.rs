@@ -24,7 +24,7 @@ mod comparing;
 mod decimal;
 mod growth;
 mod joined;
-pub mod laws;
+
 mod lowest;
 mod orders;
 mod reading;
@@ -34,7 +34,7 @@ mod short_sums;
 mod slots;
 mod sums;
 mod tally;
-mod texts;
+
 mod wide_reads;
 
 pub use changes::{LooseRefusal, merge_slots, move_slots, put, put_loose};

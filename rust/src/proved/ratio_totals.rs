@@ -21,23 +21,17 @@
 //! A `WideTotal<T>` takes fractions over any primitive type, also `i128` and `u128`. It is one sum over the common denominator, which has
 //! as many digits as the caller gives.
 
-mod list_sums;
 mod numbers;
 mod short;
 mod splitting;
-mod texts;
-mod total;
-mod total_changes;
-mod total_reads;
+
 mod wide_changes;
 mod wide_reads;
 mod wide_total;
 
-pub use list_sums::{SumRefusal, checked_sum_in, checked_wide_sum_in};
 pub use crate::proved::ratio_slots::{CompareRefusal, Joined, MOST_DIGITS, ReadRefusal, Refusal, Slot};
 pub use short::Short;
 pub use splitting::{RoomSplitRefusal, split_in};
-pub use total::Total;
-pub use total_changes::{DotRefusal, ProductRefusal, dot, total_of};
+
 pub use wide_changes::{WideProductRefusal, WideRefusal, wide_total_of};
 pub use wide_total::{ShortRoom, WideTotal};

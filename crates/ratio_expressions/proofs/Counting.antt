@@ -4,7 +4,7 @@ use Rattle.std.proofs.lemmas.List.{take-append-drop, take_all, take_more}
 use Rattle.std.proofs.Math.Seq.{drop-cons}
 use Rattle.ratio_expressions.specs.declared.step.Step.{Step}
 use Rattle.ratio_expressions.specs.declared.step.Step.TheVariants as steps
-use Rattle.ratio_expressions.specs.Grammar.{Tree, Number, Name, Negative, Between, Group, Call, Listed}
+use Rattle.ratio_expressions.specs.Grammar.{Tree, Number, Name, Signed, Between, Group, Call, Listed}
 use Rattle.ratio_expressions.specs.Stacks.{MakeOneTree, grow, trees_by, operands}
 use Rattle.ratio_expressions.proofs.Growing.{grow-append, never}
 
@@ -18,8 +18,8 @@ pub record HasTrees (written : List Step) (count : ℕ) : Type 0 where
 grown_number : (x : Step) (ts : List Tree) → operands x ≤ length ts → (us : List Tree) × (trees_by x ts ≡ Some us) × (length us ≡ length ts - operands x + 1)
 grown_number (steps.Number s) ts some = (Number s ∷ ts, refl, omega arith)
 grown_number (steps.Name s) ts some = (Name s ∷ ts, refl, omega arith)
-grown_number (steps.Negate s) [] some = absurd (omega arith)
-grown_number (steps.Negate s) (t ∷ ts) some = (Negative s t ∷ ts, refl, omega arith)
+grown_number (steps.Sign g s) [] some = absurd (omega arith)
+grown_number (steps.Sign g s) (t ∷ ts) some = (Signed g s t ∷ ts, refl, omega arith)
 grown_number (steps.Group s e) [] some = absurd (omega arith)
 grown_number (steps.Group s e) (t ∷ ts) some = (Group s t e ∷ ts, refl, omega arith)
 grown_number (steps.Call c) [] some = absurd (omega arith)
@@ -60,8 +60,8 @@ one_tree xs n h a =
 pub whole : (xs : List Step) (n i : ℕ) → length xs ≤ i → HasTrees (take i xs) n → (n ≡ 1 → MakeOneTree xs) × (MakeOneTree xs → n ≡ 1)
 whole xs n i past h = let all = subst (λ l. HasTrees l n) (take_all i xs past) h in ((λ e. whole_of all.trees xs all.makes (all.number ∙ e)), one_tree xs n all)
 
-few : (ts : List Tree) (x : Step) → length ts < operands x → trees_by x ts ≡ None
-few [] (steps.Negate s) h = refl
+pub few : (ts : List Tree) (x : Step) → length ts < operands x → trees_by x ts ≡ None
+few [] (steps.Sign g s) h = refl
 few [] (steps.Group s e) h = refl
 few [] (steps.Call c) h = refl
 few [] (steps.Apply o s) h = refl
@@ -70,7 +70,7 @@ few (b ∷ []) (steps.Apply o s) h = refl
 few (b ∷ []) (steps.Comma s) h = refl
 few (b ∷ (a ∷ ts)) (steps.Apply o s) h = absurd (omega arith)
 few (b ∷ (a ∷ ts)) (steps.Comma s) h = absurd (omega arith)
-few (t ∷ ts) (steps.Negate s) h = absurd (omega arith)
+few (t ∷ ts) (steps.Sign g s) h = absurd (omega arith)
 few (t ∷ ts) (steps.Group s e) h = absurd (omega arith)
 few (t ∷ ts) (steps.Call c) h = absurd (omega arith)
 few ts (steps.Number s) h = absurd (omega arith)

@@ -1,26 +1,30 @@
 -- A text is cut into tokens in one way, and a text in which a place begins no token is cut in none.
-use Rattle.std.proofs.Common.{◌≡◌, ◌≢◌, ◌<◌, ◌≤◌, ◌+◌, ℕ, List, [], ◌∷◌, ◌++◌, length, drop, Some, None, refl, ap, sym, ◌∙◌, subst, arith, ⊎_elim}
-use Rattle.std.specs.Prelude.{slice_index}
+use Rattle.std.proofs.Common.{◌≡◌, ◌≢◌, ◌<◌, ◌≤◌, ◌+◌, ℕ, Bool, List, [], ◌∷◌, ◌++◌, length, drop, Some, None, refl, ap, sym, ◌∙◌, subst, arith, ⊎_elim}
+use Rattle.std.specs.Prelude.{option_map, slice_index}
 use Rattle.std.proofs.lemmas.Bool.Decides.{leb_tells}
 use Rattle.std.proofs.lemmas.List.{get_or-drop, drop_all}
 use Rattle.ratio_expressions.specs.declared.token.Kind.{Kind}
 use Rattle.ratio_expressions.specs.declared.token.Token.{Token}
-use Rattle.ratio_expressions.specs.Tokens.{first_token, number, name, symbol, digits, led, IsBlank, IsTokenAt, IsCutInto, BeginsNone, BeginsWithToken}
+use Rattle.ratio_expressions.specs.Tokens.{first_token, is_behind_slash, spaced_at, token_at, number, plain_number, name, symbol, digits, led, IsBlank, IsTokenAt, IsCutInto, BeginsNone, BeginsWithToken}
 use Rattle.ratio_expressions.specs.Vulgar.{vulgar, vulgar_length}
 
 -- no token begins with a space
-space_first : (rest : List ℕ) → first_token (32 ∷ rest) ≡ None
-unfolding number name symbol digits led vulgar vulgar_length
-space_first rest = refl
+space_first : (slash : Bool) (rest : List ℕ) → first_token slash (32 ∷ rest) ≡ None
+unfolding number plain_number name symbol digits led vulgar vulgar_length
+space_first slash rest = refl
 
-at_space : (text : List ℕ) → slice_index text 0 ≡ 32 → first_token text ≡ None
-unfolding number name symbol digits led vulgar vulgar_length
-at_space [] e = absurd (omega arith)
-at_space (b ∷ rest) e = ap (λ x. first_token (x ∷ rest)) e ∙ space_first rest
+at_space : (slash : Bool) (text : List ℕ) → slice_index text 0 ≡ 32 → first_token slash text ≡ None
+unfolding number plain_number name symbol digits led vulgar vulgar_length
+at_space slash [] e = absurd (omega arith)
+at_space slash (b ∷ rest) e = ap (λ x. first_token slash (x ∷ rest)) e ∙ space_first slash rest
 
-nothing_first : first_token [] ≡ None
-unfolding number name symbol digits led vulgar vulgar_length
-nothing_first = refl
+nothing_first : (slash : Bool) → first_token slash [] ≡ None
+unfolding number plain_number name symbol digits led vulgar vulgar_length
+nothing_first slash = refl
+
+-- where the rest begins with no token, no token is
+none_at : (text : List ℕ) (at : ℕ) → first_token (is_behind_slash text at) (drop at text) ≡ None → token_at text at ≡ None
+none_at text at e = ap (option_map (spaced_at text at)) e
 
 module _ (text : List ℕ) (t : Token) (h : IsTokenAt text t) where
   -- a token begins with no space, and before the end
@@ -28,13 +32,17 @@ module _ (text : List ℕ) (t : Token) (h : IsTokenAt text t) where
   begins e =
       let whole : t.span.start ≡ t.span.start + 0 = omega arith in
       let here : slice_index (drop t.span.start text) 0 ≡ 32 = get_or-drop t.span.start text 0 0 ∙ ap (slice_index text) (sym whole) ∙ e in
-      let none = at_space (drop t.span.start text) here in
+      let none = none_at text t.span.start (at_space (is_behind_slash text t.span.start) (drop t.span.start text) here) in
       let some = h.first in
       cc
 
   pub inside : t.span.start < length text
   inside = ⊎_elim
-      (λ p. let none : first_token (drop t.span.start text) ≡ None = ap first_token (drop_all t.span.start text p.1) ∙ nothing_first in let some = h.first in absurd (cc))
+      (λ p.
+      let slash = is_behind_slash text t.span.start in
+      let none = none_at text t.span.start (ap (first_token slash) (drop_all t.span.start text p.1) ∙ nothing_first slash) in
+      let some = h.first in
+      absurd (cc))
       (λ p. p.1)
       (leb_tells (length text) t.span.start)
 
@@ -59,7 +67,7 @@ unfolding made
 same_token text t u e ht hu =
     let p : Kind × ℕ = (t.kind, ht.long) in
     let q : Kind × ℕ = (u.kind, hu.long) in
-    let both : Some p ≡ Some q = sym ht.first ∙ ap (λ n. first_token (drop n text)) e ∙ hu.first in
+    let both : Some p ≡ Some q = sym ht.first ∙ ap (token_at text) e ∙ hu.first in
     let pair : p ≡ q = cc in
     let kinds : t.kind ≡ u.kind = ap (λ (x : Kind × ℕ). x.0) pair in
     let long : ht.long ≡ hu.long = ap (λ (x : Kind × ℕ). x.1) pair in
@@ -93,8 +101,8 @@ pub one_cut : (text : List ℕ) (from : ℕ) (ts us : List Token) → IsCutInto 
 one_cut text from ts us h g = one_cut_to text (length text) (λ t here e. omega (arith, inside text t here, e)) from ts us h g
 
 -- a token is where one begins
-pub no_token : (text : List ℕ) (at : ℕ) (t : Token) → IsTokenAt text t → first_token (drop at text) ≡ None → t.span.start ≡ at → ⊥
-no_token text at t h none e = let here = ap (λ n. first_token (drop n text)) e in let some = h.first in cc
+pub no_token : (text : List ℕ) (at : ℕ) (t : Token) → IsTokenAt text t → token_at text at ≡ None → t.span.start ≡ at → ⊥
+no_token text at t h none e = let here = ap (token_at text) e in let some = h.first in cc
 
 module _ (text : List ℕ) (at : ℕ) (s : BeginsNone text at) where
   no_cut_from : (from : ℕ) (ts us : List Token) → IsCutInto text from at ts → IsCutInto text from (length text) us → ⊥

@@ -1,11 +1,10 @@
 -- A text that is cut up to a place is cut up to a later one.
-use Rattle.std.proofs.Common.{◌≡◌, ◌≤◌, ◌+◌, ◌-◌, ℕ, List, [], ◌∷◌, ◌++◌, length, take, drop, Some, refl, ap, sym, ◌∙◌, subst, arith, ⊎_elim}
+use Rattle.std.proofs.Common.{◌≡◌, ◌≤◌, ◌+◌, ℕ, List, [], ◌∷◌, ◌++◌, length, Some, refl, sym, ◌∙◌, subst, arith, ⊎_elim}
 use Rattle.std.specs.Prelude.{slice_index}
 use Rattle.std.proofs.lemmas.Bool.Decides.{leb_tells}
 use Rattle.ratio_expressions.specs.declared.token.Token.{Token}
-use Rattle.std.proofs.lemmas.List.{take_rest, length-drop}
 use Rattle.ratio_expressions.specs.declared.token.Kind.{Kind}
-use Rattle.ratio_expressions.specs.Tokens.{first_token, BeginsWithToken, IsBlank, IsTokenAt, IsCutInto}
+use Rattle.ratio_expressions.specs.Tokens.{token_at, BeginsWithToken, IsBlank, IsTokenAt, IsCutInto}
 
 blank_on : (text : List ℕ) (from to : ℕ) → IsBlank text from to → slice_index text to ≡ 32 → IsBlank text from (to + 1)
 blank_on text from to b e = record {
@@ -32,8 +31,6 @@ pub begins_before : (text : List ℕ) (at : ℕ) (ts : List Token) (t : Token) �
 begins_before text at [] t h e here = record { token = t; blank = subst (λ n. IsBlank text 0 n) (sym e) h; here = here }
 begins_before text at (u ∷ us) t h e here = record { token = u; blank = h.0; here = h.1 }
 
--- the token that the rest of a text begins with is in the text
-pub token_here : (text : List ℕ) (at long : ℕ) (kind : Kind) → at ≤ length text → Some (kind, long) ≡ first_token (take (length text - at) (drop at text)) → long ≤ length (take (length text - at) (drop at text)) → IsTokenAt text (record { kind = kind; span = record { start = at; end = at + long } })
-token_here text at long kind within e fits =
-    let rest : take (length text - at) (drop at text) ≡ drop at text = take_rest text at in
-    record { long = long; end = refl; within = omega (arith, ap length rest, length-drop at text); first = sym (e ∙ ap first_token rest) }
+-- the token that begins at a place is in the text
+pub token_here : (text : List ℕ) (at long : ℕ) (kind : Kind) → Some (kind, long) ≡ token_at text at → at + long ≤ length text → IsTokenAt text (record { kind = kind; span = record { start = at; end = at + long } })
+token_here text at long kind e fits = record { long = long; end = refl; within = fits; first = sym e }

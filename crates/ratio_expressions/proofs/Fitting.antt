@@ -3,12 +3,12 @@ use Rattle.std.proofs.Common.{◌≡◌, ◌≤◌, List, [], ◌∷◌, ◌++�
 use Rattle.std.proofs.lemmas.List.{append-nil}
 use Rattle.ratio_expressions.specs.declared.step.Step.{Step}
 use Rattle.ratio_expressions.specs.declared.step.Step.TheVariants as steps
-use Rattle.ratio_expressions.specs.Grammar.{Tree, Number, Name, Negative, Between, Group, Call, Listed, IsProper, Rank, Comparison, Sum, Product, Raising, arguments, binds, left_level, postfix, rank, right_level}
+use Rattle.ratio_expressions.specs.Grammar.{Tree, Number, Name, Signed, Between, Group, Call, Listed, IsProper, Rank, Comparison, Sum, Product, Raising, arguments, binds, left_level, postfix, rank, right_level}
 use Rattle.ratio_expressions.specs.Stacks.{trees_by}
 
 -- the trees that a step takes are one argument each, and those of a call as many as it says
 abbrev pub Fits : Step → List Tree → Type 0
-Fits (steps.Negate s) (t ∷ ts) = arguments t ≡ 1
+Fits (steps.Sign g s) (t ∷ ts) = arguments t ≡ 1
 Fits (steps.Apply o s) (b ∷ (a ∷ ts)) = (arguments a ≡ 1) × (arguments b ≡ 1)
 Fits (steps.Group s e) (t ∷ ts) = arguments t ≡ 1
 Fits (steps.Comma s) (b ∷ (a ∷ ts)) = arguments b ≡ 1
@@ -44,10 +44,10 @@ begun x xs ts us first makes rest = (first, λ vs e. let both : Some us ≡ Some
 fit-postfix : (t : Tree) → IsProper t → (xs : List Step) (ts : List Tree) → AllFit xs (t ∷ ts) → AllFit (postfix t ++ xs) ts
 fit-postfix (Number s) p xs ts h = begun (steps.Number s) xs ts (Number s ∷ ts) tt refl h
 fit-postfix (Name s) p xs ts h = begun (steps.Name s) xs ts (Name s ∷ ts) tt refl h
-fit-postfix (Negative s t) p xs ts h =
-    let x : Step = steps.Negate s in
+fit-postfix (Signed g s t) p xs ts h =
+    let x : Step = steps.Sign g s in
     subst (λ l. AllFit l ts) (sym (append_assoc (postfix t) (x ∷ []) xs))
-    (fit-postfix t p.1 (x ∷ xs) ts (begun x xs (t ∷ ts) (Negative s t ∷ ts) (one_argument t (omega (arith, p.0))) refl h))
+    (fit-postfix t p.1 (x ∷ xs) ts (begun x xs (t ∷ ts) (Signed g s t ∷ ts) (one_argument t (omega (arith, p.0))) refl h))
 fit-postfix (Group s t e) p xs ts h =
     let x : Step = steps.Group s e in
     subst (λ l. AllFit l ts) (sym (append_assoc (postfix t) (x ∷ []) xs))

@@ -3,13 +3,13 @@ use Rattle.std.proofs.Common.{◌≡◌, List, [], ◌∷◌, ◌++◌, Option, 
 use Rattle.std.proofs.lemmas.List.{append-nil}
 use Rattle.ratio_expressions.specs.declared.step.Step.{Step}
 use Rattle.ratio_expressions.specs.declared.step.Step.TheVariants as steps
-use Rattle.ratio_expressions.specs.Grammar.{Tree, Number, Name, Negative, Between, Group, Call, Listed, arguments, postfix}
+use Rattle.ratio_expressions.specs.Grammar.{Tree, Number, Name, Signed, Between, Group, Call, Listed, arguments, postfix}
 use Rattle.ratio_expressions.specs.Stacks.{grow, trees_by}
 
 pub grow-postfix : (t : Tree) (xs : List Step) (ts : List Tree) → grow (postfix t ++ xs) (Some ts) ≡ grow xs (Some (t ∷ ts))
 grow-postfix (Number s) xs ts = refl
 grow-postfix (Name s) xs ts = refl
-grow-postfix (Negative s t) xs ts = ap (λ l. grow l (Some ts)) (append_assoc (postfix t) (steps.Negate s ∷ []) xs) ∙ grow-postfix t (steps.Negate s ∷ xs) ts
+grow-postfix (Signed g s t) xs ts = ap (λ l. grow l (Some ts)) (append_assoc (postfix t) (steps.Sign g s ∷ []) xs) ∙ grow-postfix t (steps.Sign g s ∷ xs) ts
 grow-postfix (Group s t e) xs ts = ap (λ l. grow l (Some ts)) (append_assoc (postfix t) (steps.Group s e ∷ []) xs) ∙ grow-postfix t (steps.Group s e ∷ xs) ts
 grow-postfix (Call n s t e) xs ts =
     let c : Step = steps.Call (record { name = n; opening = s; closing = e; arguments = arguments t }) in
@@ -49,8 +49,8 @@ record Leaves (x : Step) (ts below : List Tree) : Type 0 where
 step_leaves : (x : Step) (ts below : List Tree) (xs : List Step) (us : List Tree) → grow xs (trees_by x ts) ≡ Some us → Leaves x ts below
 step_leaves (steps.Number s) ts below xs us e = record { trees = Number s ∷ ts; makes = refl; leaves = refl }
 step_leaves (steps.Name s) ts below xs us e = record { trees = Name s ∷ ts; makes = refl; leaves = refl }
-step_leaves (steps.Negate s) [] below xs us e = absurd (never xs us e)
-step_leaves (steps.Negate s) (t ∷ ts) below xs us e = record { trees = Negative s t ∷ ts; makes = refl; leaves = refl }
+step_leaves (steps.Sign g s) [] below xs us e = absurd (never xs us e)
+step_leaves (steps.Sign g s) (t ∷ ts) below xs us e = record { trees = Signed g s t ∷ ts; makes = refl; leaves = refl }
 step_leaves (steps.Apply o s) [] below xs us e = absurd (never xs us e)
 step_leaves (steps.Apply o s) (b ∷ []) below xs us e = absurd (never xs us e)
 step_leaves (steps.Apply o s) (b ∷ (a ∷ ts)) below xs us e = record { trees = Between o s a b ∷ ts; makes = refl; leaves = refl }

@@ -3,6 +3,7 @@ pub mod AsciiLemmas
 pub mod Assigning
 pub mod CallLaws
 pub mod CallLemmas
+pub mod ChainLemmas
 pub mod Completeness
 pub mod Counting
 pub mod CutLaws

@@ -9,11 +9,13 @@ use Rattle.ratio_expressions.specs.declared.function.Function.{Function}
 use Rattle.ratio_expressions.specs.declared.function.Function.TheVariants as functions
 use Rattle.ratio_expressions.specs.declared.refusal.Refusal.{Refusal}
 use Rattle.ratio_expressions.specs.declared.token.Operator.{Operator}
+use Rattle.ratio_expressions.specs.declared.token.Sign.{Sign}
+use Rattle.ratio_expressions.specs.declared.token.Sign.TheVariants.{Plus, Minus}
 use Rattle.ratio_expressions.specs.declared.token.Operator.TheVariants.{Less, AtMost, Equal, NotEqual, AtLeast, Greater, Add, Subtract, Multiply, Divide, Remainder, Power}
 use Rattle.ratio_expressions.specs.Functions.{GivesNumber}
-use Rattle.ratio_expressions.specs.Grammar.{Tree, Number, Name, Negative, Between, Group, Call, Listed}
+use Rattle.ratio_expressions.specs.Grammar.{Tree, Number, Name, Signed, Between, Group, Call, Listed}
 use Rattle.ratio_expressions.specs.Lines.{HasLineRefusal, IsLineWorth, named_behind, valued}
-use Rattle.ratio_expressions.specs.Operators.{GivesNumbers, GivesWorth, IsNegativeWorth, IsTermsOf}
+use Rattle.ratio_expressions.specs.Operators.{GivesNumbers, GivesWorth, IsSignedWorth, IsTermsOf}
 use Rattle.ratio_expressions.specs.Values.{HasRefusal, IsWorth}
 use Rattle.ratio_expressions.specs.Worths.{Worth, Amount, Truth}
 use Rattle.ratio_expressions.proofs.Refusals.{one_of_text}
@@ -90,8 +92,8 @@ numbers_positive : (o : Operator) (x y : ℤ × ℤ) (w : Worth) → GivesNumber
 numbers_positive Add x y w h = terms_positive _ w h
 numbers_positive Subtract x y w h = terms_positive _ w h
 numbers_positive Multiply x y w h = terms_positive _ w h
-numbers_positive Divide x y w h = terms_positive _ w h
-numbers_positive Remainder x y w h = terms_positive _ w h.1
+numbers_positive (Divide s) x y w h = terms_positive _ w h
+numbers_positive (Remainder s) x y w h = terms_positive _ w h.1
 numbers_positive Power x y w h = terms_positive _ w h.2
 numbers_positive Less x y w h = truth_positive w _ h
 numbers_positive AtMost x y w h = truth_positive w _ h
@@ -105,9 +107,10 @@ gives_positive o (Amount x) (Amount y) w h = numbers_positive o x y w h
 gives_positive o (Amount x) (Truth c) w h = absurd h
 gives_positive o (Truth b) v w h = absurd h
 
-negative_positive : (v w : Worth) → IsOverPositive v → IsNegativeWorth v w → IsOverPositive w
-negative_positive (Amount x) w up h = subst IsOverPositive (sym h) up
-negative_positive (Truth b) w up h = absurd h
+signed_positive : (g : Sign) (v w : Worth) → IsOverPositive v → IsSignedWorth g v w → IsOverPositive w
+signed_positive Plus (Amount x) w up h = subst IsOverPositive (sym h) up
+signed_positive Minus (Amount x) w up h = subst IsOverPositive (sym h) up
+signed_positive g (Truth b) w up h = absurd h
 
 last_same : (us : List Worth) (v w : Worth) → w ∷ [] ≡ us ++ v ∷ [] → w ≡ v
 last_same [] v w e = head_same w v e
@@ -118,7 +121,7 @@ module _ (text : List ℕ) (named : List ℕ → Option Worth) (known : (name : 
   pub worth_positive : (t : Tree) (w : Worth) → IsWorth text named t w → IsOverPositive w
   worth_positive (Number s) w h = subst IsOverPositive (sym h.2) (let says = h.1 in says.terms.lowest.positive)
   worth_positive (Name s) w h = known _ w h
-  worth_positive (Negative s t) w h = negative_positive h.0 w (worth_positive t h.0 h.1) h.2
+  worth_positive (Signed g s t) w h = signed_positive g h.0 w (worth_positive t h.0 h.1) h.2
   worth_positive (Between o s a b) w h = gives_positive o h.0 h.1 w h.4
   worth_positive (Group s t e) w h = worth_positive t w h
   worth_positive (Call n s t e) w h =

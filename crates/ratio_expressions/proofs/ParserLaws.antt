@@ -3,7 +3,7 @@ use Rattle.std.proofs.Common.{◌≡◌, List, [], ◌∷◌, ◌++◌, Some, No
 use Rattle.ratio_expressions.specs.declared.token.Token.{Token}
 use Rattle.ratio_expressions.specs.declared.step.Step.{Step}
 use Rattle.ratio_expressions.specs.declared.step.Step.TheVariants as steps
-use Rattle.ratio_expressions.specs.Grammar.{Tree, Number, Name, Negative, Between, Group, Call, Listed, arguments, HasTree, IsBegun, postfix}
+use Rattle.ratio_expressions.specs.Grammar.{Tree, Number, Name, Signed, Between, Group, Call, Listed, arguments, HasTree, IsBegun, postfix}
 use Rattle.ratio_expressions.specs.Reading.{run, start, finish}
 use Rattle.ratio_expressions.proofs.Completeness.{reads_all, run-append, run-none}
 
@@ -11,8 +11,8 @@ use Rattle.ratio_expressions.proofs.Completeness.{reads_all, run-append, run-non
 abbrev grown : Step → List Tree → List Tree
 grown (steps.Number s) ts = Number s ∷ ts
 grown (steps.Name s) ts = Name s ∷ ts
-grown (steps.Negate s) [] = []
-grown (steps.Negate s) (t ∷ ts) = Negative s t ∷ ts
+grown (steps.Sign g s) [] = []
+grown (steps.Sign g s) (t ∷ ts) = Signed g s t ∷ ts
 grown (steps.Apply o s) [] = []
 grown (steps.Apply o s) (b ∷ []) = []
 grown (steps.Apply o s) (b ∷ (a ∷ ts)) = Between o s a b ∷ ts
@@ -31,7 +31,7 @@ decode (x ∷ xs) ts = decode xs (grown x ts)
 decode-postfix : (t : Tree) (xs : List Step) (ts : List Tree) → decode (postfix t ++ xs) ts ≡ decode xs (t ∷ ts)
 decode-postfix (Number s) xs ts = refl
 decode-postfix (Name s) xs ts = refl
-decode-postfix (Negative s t) xs ts = ap (λ l. decode l ts) (append_assoc (postfix t) (steps.Negate s ∷ []) xs) ∙ decode-postfix t (steps.Negate s ∷ xs) ts
+decode-postfix (Signed g s t) xs ts = ap (λ l. decode l ts) (append_assoc (postfix t) (steps.Sign g s ∷ []) xs) ∙ decode-postfix t (steps.Sign g s ∷ xs) ts
 decode-postfix (Group s t e) xs ts = ap (λ l. decode l ts) (append_assoc (postfix t) (steps.Group s e ∷ []) xs) ∙ decode-postfix t (steps.Group s e ∷ xs) ts
 decode-postfix (Call n s t e) xs ts =
     let x : Step = steps.Call (record { name = n; opening = s; closing = e; arguments = arguments t }) in

@@ -9,7 +9,7 @@ use Rattle.ratio_expressions.specs.declared.step.Step.TheVariants as steps
 use Rattle.ratio_expressions.specs.declared.token.Operator.TheVariants.{Equal}
 use Rattle.ratio_expressions.specs.declared.refusal.Refusal.{Refusal}
 use Rattle.ratio_expressions.specs.Expression.{IsExpression, IsRefusal}
-use Rattle.ratio_expressions.specs.Grammar.{Tree, Number, Name, Negative, Between, Group, Call, Listed, arguments, spelling, postfix}
+use Rattle.ratio_expressions.specs.Grammar.{Tree, Number, Name, Signed, Between, Group, Call, Listed, arguments, spelling, postfix}
 use Rattle.ratio_expressions.specs.Lines.{valued}
 use Rattle.ratio_expressions.specs.Stacks.{IsStepWithin}
 use Rattle.ratio_expressions.specs.Values.{HasRefusal}
@@ -24,7 +24,7 @@ behind_some (x ∷ xs) ys y = omega arith
 some_tokens : (t : Tree) → 0 < length (spelling t)
 some_tokens (Number s) = omega arith
 some_tokens (Name s) = omega arith
-some_tokens (Negative s t) = omega arith
+some_tokens (Signed m s t) = omega arith
 some_tokens (Between o s a b) = behind_some (spelling a) (spelling b) _
 some_tokens (Group s t e) = omega arith
 some_tokens (Call n s t e) = omega arith
@@ -61,7 +61,7 @@ module _ (text : List ℕ) where
   tree_within : (t : Tree) → AreIn (spelling t) → All (IsStepWithin text) (postfix t)
   tree_within (Number s) h = one (steps.Number s) h.0
   tree_within (Name s) h = one (steps.Name s) h.0
-  tree_within (Negative s t) h = All-append (IsStepWithin text) (postfix t) (steps.Negate s ∷ []) (tree_within t h.1) (one (steps.Negate s) tt)
+  tree_within (Signed m s t) h = All-append (IsStepWithin text) (postfix t) (steps.Sign m s ∷ []) (tree_within t h.1) (one (steps.Sign m s) tt)
   tree_within (Between o s a b) h =
       All-append (IsStepWithin text) (postfix a) (postfix b ++ steps.Apply o s ∷ []) (tree_within a (first_in (spelling a) _ h))
       (All-append (IsStepWithin text) (postfix b) (steps.Apply o s ∷ []) (tree_within b (second_in (spelling a) _ h).1) (one (steps.Apply o s) tt))
@@ -97,8 +97,8 @@ module _ (text : List ℕ) where
     place_in : (t : Tree) → AreIn (spelling t) → HasRefusal text named t r → r.place ≤ length text
     place_in (Number s) h g = begins_in s r.place h.0 g.1
     place_in (Name s) h g = begins_in s r.place h.0 g.1.1
-    place_in (Negative s t) h (inl g) = place_in t h.1 g
-    place_in (Negative s t) h (inr g) = begins_in s r.place h.0 g.3.1
+    place_in (Signed m s t) h (inl g) = place_in t h.1 g
+    place_in (Signed m s t) h (inr g) = begins_in s r.place h.0 g.3.1
     place_in (Between o s a b) h (inl g) = place_in a (first_in (spelling a) _ h) g
     place_in (Between o s a b) h (inr g) =
         ⊎_elim

@@ -11,7 +11,10 @@ use Rattle.ratio_decimal.specs.Decimal.{IsDecimalOf}
 use Rattle.ratio_big.specs.Fractions.{big_numbers}
 use Rattle.ratio_big.specs.Texts.{fraction_text}
 use Rattle.ratio_expressions.specs.Bound.{named}
+use Rattle.ratio_expressions.specs.Expression.{IsExpression}
+use Rattle.ratio_expressions.specs.Grammar.{Tree}
 use Rattle.ratio_expressions.specs.Lines.{IsLineWorth, valued}
+use Rattle.ratio_expressions.specs.Nesting.{IsShallow}
 use Rattle.ratio_expressions.specs.Worths.{Worth, worth, Amount, Truth}
 use Rattle.ratio_expressions.specs.declared.names.Names.{Names}
 use Rattle.ratio_expressions.specs.declared.value.Value.{Value}
@@ -74,11 +77,11 @@ value_once : (w : Worth) (form : Form) (a b : List ℕ) → IsOverPositive w →
 value_once (Amount x) form a b up h g = number_once x form a b up h g
 value_once (Truth t) form a b up h g = h ∙ sym g
 
-module _ (line : List ℕ) (w : Worth) (up : IsOverPositive w) (a b : List ℕ) where
+module _ (line : List ℕ) (t : Tree) (has : IsExpression line t) (shallow : IsShallow line) (w : Worth) (up : IsOverPositive w) (a b : List ℕ) where
   reading_once : IsWithReading line w a → IsWithReading line w b → a ≡ b
   reading_once h g =
       h.written
-      ∙ ap (λ shown. behind_line shown w h.value) (shown_once line h.shown g.shown h.read g.read)
+      ∙ ap (λ shown. behind_line shown w h.value) (shown_once line t h.shown g.shown has shallow h.read g.read)
       ∙ ap (behind_line g.shown w) (value_once w forms.Both h.value g.value up h.form g.form)
       ∙ sym g.written
 
@@ -104,7 +107,7 @@ module _ (line : List ℕ) (form : Form) (names : Names) (behind after : List �
   answers_once : (w v : Worth) (a b : List ℕ) → IsLineWorth line (named names) w behind → IsLineWorth line (named names) v after → IsAnswerInForm line w form a → IsAnswerInForm line v form b → a ≡ b
   answers_once w v a b h g first second =
       let up : IsOverPositive v = worth_positive line (named names) (λ name u. value_positive _ u) (valued g.tree) v g.value in
-      answer_once line v up a b form (subst (λ u. IsAnswerInForm line u form a) (line_worth_once line (named names) w v behind after h g) first) second
+      answer_once line g.tree g.has g.shallow v up a b form (subst (λ u. IsAnswerInForm line u form a) (line_worth_once line (named names) w v behind after h g) first) second
 
   pub reply_once : (r q : Reply) → IsReply line form (named names) behind r → IsReply line form (named names) after q → AreAlike r q × ((other : List ℕ) → behind other ≡ after other)
   reply_once replies.Nothing replies.Nothing h g = (tt, λ other. h.1 other ∙ sym (g.1 other))

@@ -6,7 +6,7 @@ use Rattle.ratio_expressions.specs.declared.step.Step.{Step}
 use Rattle.ratio_expressions.specs.declared.step.Step.TheVariants as steps
 use Rattle.ratio_expressions.specs.declared.refusal.Refusal.{Refusal}
 use Rattle.ratio_expressions.specs.Calls.{GivesCall, RefusesCall}
-use Rattle.ratio_expressions.specs.Grammar.{Tree, Number, Name, Negative, Between, Group, Call, Listed, IsProper, arguments, postfix}
+use Rattle.ratio_expressions.specs.Grammar.{Tree, Number, Name, Signed, Between, Group, Call, Listed, IsProper, arguments, postfix}
 use Rattle.ratio_expressions.specs.Stacks.{TakesStep, StopsAtStep, grow, trees_by, values_taken}
 use Rattle.ratio_expressions.specs.Values.{AreWorth, HasRefusal, IsWorth, piece}
 use Rattle.ratio_expressions.specs.Worths.{Worth}
@@ -28,7 +28,7 @@ module _ (text : List ℕ) (named : List ℕ → Option Worth) where
   worth_each : (t : Tree) (us : List Worth) → AreWorth text named t us → length us ≡ arguments t
   worth_each (Number s) (w ∷ []) h = omega arith
   worth_each (Name s) (w ∷ []) h = omega arith
-  worth_each (Negative s t) (w ∷ []) h = omega arith
+  worth_each (Signed g s t) (w ∷ []) h = omega arith
   worth_each (Between o s a b) (w ∷ []) h = omega arith
   worth_each (Group s t e) (w ∷ []) h = omega arith
   worth_each (Call n s t e) (w ∷ []) h = omega arith
@@ -94,8 +94,8 @@ module _ (text : List ℕ) (named : List ℕ → Option Worth) where
       }
 
   enough_values : (x : Step) (ts : List Tree) (ws : List Worth) (xs : List Step) (us : List Tree) → grow xs (trees_by x ts) ≡ Some us → Fits x ts → AreStacked ts ws → values_taken x ≤ length ws
-  enough_values (steps.Negate s) [] ws xs us e f h = absurd (never xs us e)
-  enough_values (steps.Negate s) (t ∷ ts) ws xs us e f h = let q = popped t ts ws h f in omega (arith, ap length q.same)
+  enough_values (steps.Sign g s) [] ws xs us e f h = absurd (never xs us e)
+  enough_values (steps.Sign g s) (t ∷ ts) ws xs us e f h = let q = popped t ts ws h f in omega (arith, ap length q.same)
   enough_values (steps.Apply o s) [] ws xs us e f h = absurd (never xs us e)
   enough_values (steps.Apply o s) (b ∷ []) ws xs us e f h = absurd (never xs us e)
   enough_values (steps.Apply o s) (b ∷ (a ∷ ts)) ws xs us e f h =
@@ -118,11 +118,11 @@ module _ (text : List ℕ) (named : List ℕ → Option Worth) where
   stepped : (x : Step) (ts : List Tree) (ws vs : List Worth) (xs : List Step) (us : List Tree) → grow xs (trees_by x ts) ≡ Some us → Fits x ts → AreStacked ts ws → TakesStep text named x ws vs → IsStepped x ts vs
   stepped (steps.Number s) ts ws vs xs us e f h p = with_top (steps.Number s) ts ts (Number s) _ ws vs refl (p.0, p.1, refl) h p.2
   stepped (steps.Name s) ts ws vs xs us e f h p = with_top (steps.Name s) ts ts (Name s) p.0 ws vs refl p.1 h p.2
-  stepped (steps.Negate s) [] ws vs xs us e f h p = absurd (never xs us e)
-  stepped (steps.Negate s) (t ∷ ts) ws vs xs us e f h p =
+  stepped (steps.Sign g s) [] ws vs xs us e f h p = absurd (never xs us e)
+  stepped (steps.Sign g s) (t ∷ ts) ws vs xs us e f h p =
       let q = popped t ts ws h f in
-      let k = subst (λ l. TakesStep text named (steps.Negate s) l vs) q.same p in
-      with_top (steps.Negate s) (t ∷ ts) ts (Negative s t) k.0 q.rest vs refl (q.top, q.is, k.1) q.below k.2
+      let k = subst (λ l. TakesStep text named (steps.Sign g s) l vs) q.same p in
+      with_top (steps.Sign g s) (t ∷ ts) ts (Signed g s t) k.0 q.rest vs refl (q.top, q.is, k.1) q.below k.2
   stepped (steps.Apply o s) [] ws vs xs us e f h p = absurd (never xs us e)
   stepped (steps.Apply o s) (b ∷ []) ws vs xs us e f h p = absurd (never xs us e)
   stepped (steps.Apply o s) (b ∷ (a ∷ ts)) ws vs xs us e f h p =
@@ -168,11 +168,11 @@ module _ (text : List ℕ) (named : List ℕ → Option Worth) where
   stopped : (x : Step) (ts : List Tree) (ws : List Worth) (xs : List Step) (us : List Tree) (r : Refusal) → grow xs (trees_by x ts) ≡ Some us → Fits x ts → AreStacked ts ws → StopsAtStep text named x ws r → IsStopped x ts r
   stopped (steps.Number s) ts ws xs us r e f h p = record { tree = Number s; before = ts; values = ws; grows = refl; refused = p; stacked = h }
   stopped (steps.Name s) ts ws xs us r e f h p = record { tree = Name s; before = ts; values = ws; grows = refl; refused = p; stacked = h }
-  stopped (steps.Negate s) [] ws xs us r e f h p = absurd (never xs us e)
-  stopped (steps.Negate s) (t ∷ ts) ws xs us r e f h p =
+  stopped (steps.Sign g s) [] ws xs us r e f h p = absurd (never xs us e)
+  stopped (steps.Sign g s) (t ∷ ts) ws xs us r e f h p =
       let q = popped t ts ws h f in
-      let k = subst (λ l. StopsAtStep text named (steps.Negate s) l r) q.same p in
-      record { tree = Negative s t; before = ts; values = q.rest; grows = refl; refused = inr (q.top, q.is, k.0, k.1); stacked = q.below }
+      let k = subst (λ l. StopsAtStep text named (steps.Sign g s) l r) q.same p in
+      record { tree = Signed g s t; before = ts; values = q.rest; grows = refl; refused = inr (q.top, q.is, k.0, k.1); stacked = q.below }
   stopped (steps.Apply o s) [] ws xs us r e f h p = absurd (never xs us e)
   stopped (steps.Apply o s) (b ∷ []) ws xs us r e f h p = absurd (never xs us e)
   stopped (steps.Apply o s) (b ∷ (a ∷ ts)) ws xs us r e f h p =
@@ -194,8 +194,8 @@ module _ (text : List ℕ) (named : List ℕ → Option Worth) where
   refused_in [] (a ∷ us) u ts ws t r e f h p = absurd (not_nil us ts u (cc))
   refused_in (steps.Number s ∷ xs) us u ts ws t r e f h p = refused_in xs (Number s ∷ us) u ts ws t r e (f.1 _ refl) h p
   refused_in (steps.Name s ∷ xs) us u ts ws t r e f h p = refused_in xs (Name s ∷ us) u ts ws t r e (f.1 _ refl) h p
-  refused_in (steps.Negate s ∷ xs) [] u ts ws t r e f h p = refused_in xs [] (Negative s u) ts ws t r e (f.1 _ refl) h (inl p)
-  refused_in (steps.Negate s ∷ xs) (a ∷ us) u ts ws t r e f h p = refused_in xs (Negative s a ∷ us) u ts ws t r e (f.1 _ refl) h p
+  refused_in (steps.Sign g s ∷ xs) [] u ts ws t r e f h p = refused_in xs [] (Signed g s u) ts ws t r e (f.1 _ refl) h (inl p)
+  refused_in (steps.Sign g s ∷ xs) (a ∷ us) u ts ws t r e f h p = refused_in xs (Signed g s a ∷ us) u ts ws t r e (f.1 _ refl) h p
   refused_in (steps.Group s c ∷ xs) [] u ts ws t r e f h p = refused_in xs [] (Group s u c) ts ws t r e (f.1 _ refl) h p
   refused_in (steps.Group s c ∷ xs) (a ∷ us) u ts ws t r e f h p = refused_in xs (Group s a c ∷ us) u ts ws t r e (f.1 _ refl) h p
   refused_in (steps.Apply o s ∷ xs) [] u [] ws t r e f h p = absurd (never xs (t ∷ []) e)

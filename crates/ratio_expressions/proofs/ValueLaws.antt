@@ -11,12 +11,14 @@ use Rattle.ratio_big.specs.Powers.{HasNoPower}
 use Rattle.ratio_core.specs.Power.{power_of}
 use Rattle.ratio_expressions.specs.declared.token.Operator.{Operator}
 use Rattle.ratio_expressions.specs.declared.token.Operator.TheVariants.{Less, AtMost, Equal, NotEqual, AtLeast, Greater, Add, Subtract, Multiply, Divide, Remainder, Power}
+use Rattle.ratio_expressions.specs.declared.token.Sign.{Sign}
+use Rattle.ratio_expressions.specs.declared.token.Sign.TheVariants.{Plus, Minus}
 use Rattle.ratio_expressions.specs.declared.refusal.Refusal.{Refusal}
 use Rattle.ratio_expressions.specs.declared.refusal.Reason.{Reason}
 use Rattle.ratio_expressions.specs.declared.refusal.Reason.TheVariants as reasons
-use Rattle.ratio_expressions.specs.Grammar.{Tree, Number, Name, Negative, Between, Group, Call, Listed}
+use Rattle.ratio_expressions.specs.Grammar.{Tree, Number, Name, Signed, Between, Group, Call, Listed}
 use Rattle.ratio_expressions.specs.Numbers.{IsSaid, SaysNumber, SaysNoNumber, SaysPlainNumber, SaysNoPlainNumber, mixed_front}
-use Rattle.ratio_expressions.specs.Operators.{GivesWorth, GivesNumbers, IsNegativeWorth, IsTermsOf, IsTrueOrFalse, RefusesWorths, RefusesNumbers}
+use Rattle.ratio_expressions.specs.Operators.{GivesWorth, GivesNumbers, IsSignedWorth, IsTermsOf, IsTrueOrFalse, RefusesWorths, RefusesNumbers}
 use Rattle.ratio_expressions.specs.Calls.{GivesCall, RefusesCall}
 use Rattle.ratio_expressions.specs.Values.{AreWorth, HasRefusal, IsWorth, piece}
 use Rattle.ratio_expressions.specs.Vulgar.{with_slash}
@@ -89,8 +91,8 @@ numbers_give_one Greater x y v w h g = h ∙ sym g
 numbers_give_one Add x y v w h g = terms_one _ v w h g
 numbers_give_one Subtract x y v w h g = terms_one _ v w h g
 numbers_give_one Multiply x y v w h g = terms_one _ v w h g
-numbers_give_one Divide x y v w h g = terms_one _ v w h g
-numbers_give_one Remainder x y v w h g = terms_one _ v w h.1 g.1
+numbers_give_one (Divide s) x y v w h g = terms_one _ v w h g
+numbers_give_one (Remainder s) x y v w h g = terms_one _ v w h.1 g.1
 numbers_give_one Power x y v w h g = terms_one _ v w h.2 g.2
 
 gives_one : (o : Operator) (a b v w : Worth) → GivesWorth o a b v → GivesWorth o a b w → v ≡ w
@@ -109,8 +111,8 @@ no_power x (negsuc k) h = ap (λ (z : ℤ). int_pow z (suc k)) h.zero ∙ ap pos
     zero_times n = omega arith
 
 numbers_not_refused : (o : Operator) (x y : ℤ × ℤ) (w : Worth) (r : Reason) → GivesNumbers o x y w → RefusesNumbers o x y r → ⊥
-numbers_not_refused Divide x y w reasons.ZeroDivisor h g = no_terms_over_zero _ w h (times_zero x.1 y.0 g)
-numbers_not_refused Remainder x y w reasons.ZeroDivisor h g = h.0 g
+numbers_not_refused (Divide s) x y w reasons.ZeroDivisor h g = no_terms_over_zero _ w h (times_zero x.1 y.0 g)
+numbers_not_refused (Remainder s) x y w reasons.ZeroDivisor h g = h.0 g
 numbers_not_refused Power x y w reasons.ExponentNotWhole h g = g h.0
 numbers_not_refused Power x y w reasons.PowerTooLarge h g = g.1 h.1
 numbers_not_refused Power x y w reasons.ZeroDivisor h g = no_terms_over_zero _ w h.2 (no_power x y.0 g.2)
@@ -122,8 +124,8 @@ gives_not_refused o (Amount x) (Truth c) w r h g = h
 gives_not_refused o (Truth b) v w r h g = h
 
 numbers_refused_once : (o : Operator) (x y : ℤ × ℤ) (r q : Reason) → RefusesNumbers o x y r → RefusesNumbers o x y q → r ≡ q
-numbers_refused_once Divide x y reasons.ZeroDivisor reasons.ZeroDivisor h g = refl
-numbers_refused_once Remainder x y reasons.ZeroDivisor reasons.ZeroDivisor h g = refl
+numbers_refused_once (Divide s) x y reasons.ZeroDivisor reasons.ZeroDivisor h g = refl
+numbers_refused_once (Remainder s) x y reasons.ZeroDivisor reasons.ZeroDivisor h g = refl
 numbers_refused_once Power x y reasons.ExponentNotWhole reasons.ExponentNotWhole h g = refl
 numbers_refused_once Power x y reasons.ExponentNotWhole reasons.PowerTooLarge h g = absurd (h g.0)
 numbers_refused_once Power x y reasons.ExponentNotWhole reasons.ZeroDivisor h g = absurd (h g.0)
@@ -133,8 +135,8 @@ numbers_refused_once Power x y reasons.PowerTooLarge reasons.ZeroDivisor h g = a
 numbers_refused_once Power x y reasons.ZeroDivisor reasons.ExponentNotWhole h g = absurd (g h.0)
 numbers_refused_once Power x y reasons.ZeroDivisor reasons.PowerTooLarge h g = absurd (g.1 h.1)
 numbers_refused_once Power x y reasons.ZeroDivisor reasons.ZeroDivisor h g = refl
-numbers_refused_once Divide x y reasons.ZeroDivisor q h g = absurd g
-numbers_refused_once Remainder x y reasons.ZeroDivisor q h g = absurd g
+numbers_refused_once (Divide s) x y reasons.ZeroDivisor q h g = absurd g
+numbers_refused_once (Remainder s) x y reasons.ZeroDivisor q h g = absurd g
 numbers_refused_once Power x y reasons.ExponentNotWhole q h g = absurd g
 numbers_refused_once Power x y reasons.PowerTooLarge q h g = absurd g
 numbers_refused_once Power x y reasons.ZeroDivisor q h g = absurd g
@@ -145,13 +147,15 @@ refuses_once o (Amount x) (Amount y) r q h g = numbers_refused_once o x y r q h 
 refuses_once o (Amount x) (Truth c) r q h g = h ∙ sym g
 refuses_once o (Truth b) v r q h g = h ∙ sym g
 
-negative_one : (a v w : Worth) → IsNegativeWorth a v → IsNegativeWorth a w → v ≡ w
-negative_one (Amount x) v w h g = h ∙ sym g
-negative_one (Truth b) v w h g = absurd h
+signed_one : (m : Sign) (a v w : Worth) → IsSignedWorth m a v → IsSignedWorth m a w → v ≡ w
+signed_one Plus (Amount x) v w h g = h ∙ sym g
+signed_one Minus (Amount x) v w h g = h ∙ sym g
+signed_one m (Truth b) v w h g = absurd h
 
-negative_not_truth : (a w : Worth) → IsNegativeWorth a w → IsTrueOrFalse a → ⊥
-negative_not_truth (Amount x) w h g = g
-negative_not_truth (Truth b) w h g = h
+signed_not_truth : (m : Sign) (a w : Worth) → IsSignedWorth m a w → IsTrueOrFalse a → ⊥
+signed_not_truth m (Amount x) w h g = g
+signed_not_truth Plus (Truth b) w h g = h
+signed_not_truth Minus (Truth b) w h g = h
 
 -- ---- trees
 
@@ -166,9 +170,9 @@ module _ (text : List ℕ) (named : List ℕ → Option Worth) where
   are_worth_one : (t : Tree) (vs ws : List Worth) → AreWorth text named t vs → AreWorth text named t ws → vs ≡ ws
   are_worth_one (Number s) (v ∷ []) (w ∷ []) h g = ap (λ x. x ∷ []) (h.2 ∙ ap Amount (says_one (piece text s) h.0 g.0 h.1 g.1) ∙ sym g.2)
   are_worth_one (Name s) (v ∷ []) (w ∷ []) h g = let same : Some v ≡ Some w = sym h ∙ g in cc
-  are_worth_one (Negative s t) (v ∷ []) (w ∷ []) h g =
+  are_worth_one (Signed m s t) (v ∷ []) (w ∷ []) h g =
       let same : h.0 ≡ g.0 = head_same h.0 g.0 (are_worth_one t (h.0 ∷ []) (g.0 ∷ []) h.1 g.1) in
-      ap (λ x. x ∷ []) (negative_one g.0 v w (subst (λ a. IsNegativeWorth a v) same h.2) g.2)
+      ap (λ x. x ∷ []) (signed_one m g.0 v w (subst (λ a. IsSignedWorth m a v) same h.2) g.2)
   are_worth_one (Between o s a b) (v ∷ []) (w ∷ []) h g =
       let left : h.0 ≡ g.0 = head_same h.0 g.0 (are_worth_one a (h.0 ∷ []) (g.0 ∷ []) h.2 g.2) in
       let right : h.1 ≡ g.1 = head_same h.1 g.1 (are_worth_one b (h.1 ∷ []) (g.1 ∷ []) h.3 g.3) in
@@ -188,8 +192,8 @@ module _ (text : List ℕ) (named : List ℕ → Option Worth) where
   are_worth_not_refused : (t : Tree) (ws : List Worth) (r : Refusal) → AreWorth text named t ws → HasRefusal text named t r → ⊥
   are_worth_not_refused (Number s) (w ∷ []) r h g = says_not_refused (piece text s) h.0 r.reason h.1 g.0
   are_worth_not_refused (Name s) (w ∷ []) r h g = let other : Some w ≡ None = sym h ∙ g.0 in cc
-  are_worth_not_refused (Negative s t) (w ∷ []) r h (inl g) = are_worth_not_refused t (h.0 ∷ []) r h.1 g
-  are_worth_not_refused (Negative s t) (w ∷ []) r h (inr g) = negative_not_truth g.0 w (subst (λ a. IsNegativeWorth a w) (worth_one t h.0 g.0 h.1 g.1) h.2) g.2
+  are_worth_not_refused (Signed m s t) (w ∷ []) r h (inl g) = are_worth_not_refused t (h.0 ∷ []) r h.1 g
+  are_worth_not_refused (Signed m s t) (w ∷ []) r h (inr g) = signed_not_truth m g.0 w (subst (λ a. IsSignedWorth m a w) (worth_one t h.0 g.0 h.1 g.1) h.2) g.2
   are_worth_not_refused (Between o s a b) (w ∷ []) r h (inl g) = are_worth_not_refused a (h.0 ∷ []) r h.2 g
   are_worth_not_refused (Between o s a b) (w ∷ []) r h (inr g) =
       ⊎_elim
@@ -212,10 +216,10 @@ module _ (text : List ℕ) (named : List ℕ → Option Worth) where
   pub refused_once : (t : Tree) (r q : Refusal) → HasRefusal text named t r → HasRefusal text named t q → r ≡ q
   refused_once (Number s) r q h g = same_refusal r q (text_refused_once (piece text s) r.reason q.reason h.0 g.0) (h.1 ∙ sym g.1)
   refused_once (Name s) r q h g = same_refusal r q (h.1.0 ∙ sym g.1.0) (h.1.1 ∙ sym g.1.1)
-  refused_once (Negative s t) r q (inl h) (inl g) = refused_once t r q h g
-  refused_once (Negative s t) r q (inl h) (inr g) = absurd (worth_not_refused t g.0 r g.1 h)
-  refused_once (Negative s t) r q (inr h) (inl g) = absurd (worth_not_refused t h.0 q h.1 g)
-  refused_once (Negative s t) r q (inr h) (inr g) = same_refusal r q (h.3.0 ∙ sym g.3.0) (h.3.1 ∙ sym g.3.1)
+  refused_once (Signed m s t) r q (inl h) (inl g) = refused_once t r q h g
+  refused_once (Signed m s t) r q (inl h) (inr g) = absurd (worth_not_refused t g.0 r g.1 h)
+  refused_once (Signed m s t) r q (inr h) (inl g) = absurd (worth_not_refused t h.0 q h.1 g)
+  refused_once (Signed m s t) r q (inr h) (inr g) = same_refusal r q (h.3.0 ∙ sym g.3.0) (h.3.1 ∙ sym g.3.1)
   refused_once (Between o s a b) r q (inl h) (inl g) = refused_once a r q h g
   refused_once (Between o s a b) r q (inl h) (inr g) = absurd (worth_not_refused a g.0 r g.1 h)
   refused_once (Between o s a b) r q (inr h) (inl g) = absurd (worth_not_refused a h.0 q h.1 g)

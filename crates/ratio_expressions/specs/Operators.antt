@@ -8,6 +8,8 @@ use Rattle.ratio_big.specs.Powers.{HasNoPower}
 use Rattle.ratio_big.specs.Values.{HasTerms, negative_pair}
 use Rattle.ratio_expressions.specs.declared.token.Operator.{Operator}
 use Rattle.ratio_expressions.specs.declared.token.Operator.TheVariants.{Less, AtMost, Equal, NotEqual, AtLeast, Greater, Add, Subtract, Multiply, Divide, Remainder, Power}
+use Rattle.ratio_expressions.specs.declared.token.Sign.{Sign}
+use Rattle.ratio_expressions.specs.declared.token.Sign.TheVariants.{Plus, Minus}
 use Rattle.ratio_expressions.specs.declared.refusal.Reason.{Reason}
 use Rattle.ratio_expressions.specs.declared.refusal.Reason.TheVariants as reasons
 use Rattle.ratio_expressions.specs.Worths.{Worth, Amount, Truth}
@@ -46,15 +48,15 @@ GivesNumbers Greater x y w = w ≡ Truth (is_gt (cross_cmp x.0 x.1 y.0 y.1))
 GivesNumbers Add x y w = IsTermsOf (sum_of x.0 x.1 y.0 y.1) w
 GivesNumbers Subtract x y w = IsTermsOf (difference_of x.0 x.1 y.0 y.1) w
 GivesNumbers Multiply x y w = IsTermsOf (product_of x.0 x.1 y.0 y.1) w
-GivesNumbers Divide x y w = IsTermsOf (quotient_of x.0 x.1 y.0 y.1) w
-GivesNumbers Remainder x y w = (y.0 ≢ pos 0) × IsTermsOf (remainder_of x.0 x.1 y.0 y.1) w
+GivesNumbers (Divide s) x y w = IsTermsOf (quotient_of x.0 x.1 y.0 y.1) w
+GivesNumbers (Remainder s) x y w = (y.0 ≢ pos 0) × IsTermsOf (remainder_of x.0 x.1 y.0 y.1) w
 GivesNumbers Power x y w = (y.1 ≡ pos 1) × IsModestPower x y.0 × IsTermsOf (power_of x.0 x.1 y.0) w
 
 -- why an operator refuses two numbers
 -- Example: `/`, 1/2 and 0: `ZeroDivisor`
 abbrev pub RefusesNumbers : Operator → ℤ × ℤ → ℤ × ℤ → Reason → Type 0
-RefusesNumbers Divide x y reasons.ZeroDivisor = y.0 ≡ pos 0
-RefusesNumbers Remainder x y reasons.ZeroDivisor = y.0 ≡ pos 0
+RefusesNumbers (Divide s) x y reasons.ZeroDivisor = y.0 ≡ pos 0
+RefusesNumbers (Remainder s) x y reasons.ZeroDivisor = y.0 ≡ pos 0
 RefusesNumbers Power x y reasons.ExponentNotWhole = y.1 ≢ pos 1
 RefusesNumbers Power x y reasons.PowerTooLarge = (y.1 ≡ pos 1) × ¬ (IsModestPower x y.0)
 RefusesNumbers Power x y reasons.ZeroDivisor = (y.1 ≡ pos 1) × IsModestPower x y.0 × HasNoPower x y.0
@@ -72,10 +74,12 @@ RefusesWorths o (Amount x) (Amount y) r = RefusesNumbers o x y r
 RefusesWorths o (Amount x) (Truth c) r = r ≡ reasons.NotNumber
 RefusesWorths o (Truth b) v r = r ≡ reasons.NotNumber
 
--- the negative of a value, which is a number
-abbrev pub IsNegativeWorth : Worth → Worth → Type 0
-IsNegativeWorth (Amount x) w = w ≡ Amount (negative_pair x)
-IsNegativeWorth (Truth b) w = ⊥
+-- a value with a sign before it, which is a number
+-- Example: `-`, 1/2: -1/2; `+`, 1/2: 1/2
+abbrev pub IsSignedWorth : Sign → Worth → Worth → Type 0
+IsSignedWorth Plus (Amount x) w = w ≡ Amount x
+IsSignedWorth Minus (Amount x) w = w ≡ Amount (negative_pair x)
+IsSignedWorth g (Truth b) w = ⊥
 
 -- the value is true or false
 abbrev pub IsTrueOrFalse : Worth → Type 0

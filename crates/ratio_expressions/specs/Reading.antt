@@ -2,14 +2,15 @@
 use Rattle.std.specs.Prelude.{◌≡◌, ◌<◌, ◌≤◌, ◌+◌, ℕ, Bool, true, false, List, [], ◌∷◌, ◌++◌, length, take, reverse, Option, Some, None, nat_le, if◌then◌else◌}
 use Rattle.ratio_expressions.specs.declared.token.Span.{Span}
 use Rattle.ratio_expressions.specs.declared.token.Operator.{Operator}
-use Rattle.ratio_expressions.specs.declared.token.Operator.TheVariants.{Subtract}
+use Rattle.ratio_expressions.specs.declared.token.Operator.TheVariants.{Add, Subtract}
+use Rattle.ratio_expressions.specs.declared.token.Sign.TheVariants.{Plus, Minus}
 use Rattle.ratio_expressions.specs.declared.token.Kind.{Kind}
 use Rattle.ratio_expressions.specs.declared.token.Kind.TheVariants as kinds
 use Rattle.ratio_expressions.specs.declared.token.Token.{Token}
 use Rattle.ratio_expressions.specs.declared.step.Step.{Step}
 use Rattle.ratio_expressions.specs.declared.step.Step.TheVariants as steps
 use Rattle.ratio_expressions.specs.declared.parser.mark.Mark.{Mark}
-use Rattle.ratio_expressions.specs.declared.parser.mark.Mark.TheVariants.{Negated, Half, Opened, Called, Comma}
+use Rattle.ratio_expressions.specs.declared.parser.mark.Mark.TheVariants.{Prefix, Half, Opened, Called, Comma}
 use Rattle.ratio_expressions.specs.declared.parser.error.ParseError.{ParseError}
 use Rattle.ratio_expressions.specs.declared.parser.error.ParseError.TheVariants as errors
 use Rattle.ratio_expressions.specs.Grammar.{rank, level, left_level, right_level}
@@ -26,7 +27,7 @@ pub record State : Type 0 where
 
 -- Inner: the step that a mark becomes when what is right of it is read
 abbrev pub step_of : Mark → Step
-step_of (Negated s) = steps.Negate s
+step_of (Prefix g s) = steps.Sign g s
 step_of (Half o s) = steps.Apply o s
 step_of (Opened s) = steps.Group s s
 step_of (Called n s k) = steps.Call (record { name = n; opening = s; closing = s; arguments = k })
@@ -34,7 +35,7 @@ step_of (Comma s) = steps.Comma s
 
 -- Inner: how tightly the expression binds that a mark becomes; a parenthesis becomes none
 abbrev pub mark_level : Mark → ℕ
-mark_level (Negated s) = 5
+mark_level (Prefix g s) = 7
 mark_level (Half o s) = level (rank o)
 mark_level (Opened s) = 0
 mark_level (Called n s k) = 0
@@ -42,7 +43,7 @@ mark_level (Comma s) = 2
 
 -- Inner: how tightly an expression must bind to stand right of a mark
 abbrev pub mark_room : Mark → ℕ
-mark_room (Negated s) = 5
+mark_room (Prefix g s) = 7
 mark_room (Half o s) = right_level (rank o)
 mark_room (Opened s) = 3
 mark_room (Called n s k) = 2
@@ -65,7 +66,7 @@ with_operator o s w = if nat_le (room w.marks) (level (rank o)) then Some (recor
 -- Inner: a closing parenthesis is read, when what is inside is settled
 abbrev pub with_close : Span → List Mark → List Step → Option State
 with_close e [] out = None
-with_close e (Negated s ∷ ms) out = None
+with_close e (Prefix g s ∷ ms) out = None
 with_close e (Half o s ∷ ms) out = None
 with_close e (Opened s ∷ ms) out = Some (record { work = record { marks = ms; written = out ++ steps.Group s e ∷ [] }; wants = false })
 with_close e (Called n s k ∷ ms) out = Some (record { work = record { marks = ms; written = out ++ steps.Call (record { name = n; opening = s; closing = e; arguments = k }) ∷ [] }; wants = false })
@@ -74,7 +75,7 @@ with_close e (Comma s ∷ ms) out = None
 -- Inner: a comma is read in a call, when what is before it is settled
 abbrev pub with_comma : Span → List Mark → List Step → Option State
 with_comma e [] out = None
-with_comma e (Negated s ∷ ms) out = None
+with_comma e (Prefix g s ∷ ms) out = None
 with_comma e (Half o s ∷ ms) out = None
 with_comma e (Opened s ∷ ms) out = None
 with_comma e (Called n s k ∷ ms) out = Some (record { work = record { marks = Comma e ∷ (Called n s (k + 1) ∷ ms); written = out }; wants = true })
@@ -85,7 +86,7 @@ abbrev pub with_call : Span → List Mark → List Step → Option State
 with_call s ms [] = None
 with_call s ms (steps.Number n ∷ out) = None
 with_call s ms (steps.Name n ∷ out) = Some (record { work = record { marks = Called n s 1 ∷ ms; written = reverse out }; wants = true })
-with_call s ms (steps.Negate n ∷ out) = None
+with_call s ms (steps.Sign g n ∷ out) = None
 with_call s ms (steps.Apply o n ∷ out) = None
 with_call s ms (steps.Group n e ∷ out) = None
 with_call s ms (steps.Comma n ∷ out) = None
@@ -103,7 +104,8 @@ with_mark m w = Some (record { work = record { marks = m ∷ w.marks; written = 
 abbrev pub at_operand : Kind → Span → Work → Option State
 at_operand kinds.Number s w = with_operand (steps.Number s) w
 at_operand kinds.Name s w = with_operand (steps.Name s) w
-at_operand (kinds.Operator Subtract) s w = with_mark (Negated s) w
+at_operand (kinds.Operator Add) s w = with_mark (Prefix Plus s) w
+at_operand (kinds.Operator Subtract) s w = with_mark (Prefix Minus s) w
 at_operand (kinds.Operator o) s w = None
 at_operand kinds.Open s w = with_mark (Opened s) w
 at_operand kinds.Close s w = None

@@ -13,13 +13,13 @@ between (Amount x) = codes " = "
 between (Truth b) = codes ": "
 
 -- a value's text behind the line as it was read, if that is shown
--- Example: `(1/2) / (1/3)`, 3/2: `(1/2) / (1/3) = 3/2 = 1.5`
+-- Example: `1/2 / (1/3)`, 3/2: `1/2 / (1/3) = 3/2 = 1.5`
 abbrev pub behind_line : Option (List ℕ) → Worth → List ℕ → List ℕ
 behind_line None w value = value
 behind_line (Some shown) w value = (shown ++ between w) ++ value
 
--- the text is a value as `Both` writes it, behind its line as that was read if a slash of it is no division
--- Example: `1/2 / 1/3`: `(1/2) / (1/3) = 3/2 = 1.5`; `1/2 * 1/3`: `1/6 ≈ 0.166667`
+-- the text is a value as `Both` writes it, behind its line as that was read if a chain of its slashes is taken whole
+-- Example: `1/2 / 1/3`: `1/2 / (1/3) = 3/2 = 1.5`; `1/2 * 1/3`: `1/6 ≈ 0.166667`
 pub record IsWithReading (line : List ℕ) (w : Worth) (text : List ℕ) : Type 0 where
   pub shown : Option (List ℕ)
   pub read : IsShownAs line shown

@@ -10,9 +10,9 @@ use Rattle.ratio_expressions.specs.declared.refusal.ValueError.{ValueError}
 use Rattle.ratio_expressions.specs.declared.refusal.ValueError.TheVariants as errors
 use Rattle.ratio_expressions.specs.declared.value.Value.{Value}
 use Rattle.ratio_expressions.specs.Calls.{GivesCall, RefusesCall}
-use Rattle.ratio_expressions.specs.Grammar.{Tree, Number, Name, Negative, Between, Group, Call, Listed, IsProper, arguments, postfix}
+use Rattle.ratio_expressions.specs.Grammar.{Tree, Number, Name, Signed, Between, Group, Call, Listed, IsProper, arguments, postfix}
 use Rattle.ratio_expressions.specs.Numbers.{SaysNumber, SaysNoNumber}
-use Rattle.ratio_expressions.specs.Operators.{GivesWorth, RefusesWorths, IsNegativeWorth, IsTrueOrFalse}
+use Rattle.ratio_expressions.specs.Operators.{GivesWorth, RefusesWorths, IsSignedWorth, IsTrueOrFalse}
 use Rattle.ratio_expressions.specs.Values.{piece, IsRefusedAt}
 use Rattle.ratio_expressions.specs.Worths.{Worth, Amount, worth}
 
@@ -39,8 +39,8 @@ IsStepWithin text x = Unit {0}
 abbrev pub trees_by : Step → List Tree → Option (List Tree)
 trees_by (steps.Number s) ts = Some (Number s ∷ ts)
 trees_by (steps.Name s) ts = Some (Name s ∷ ts)
-trees_by (steps.Negate s) [] = None
-trees_by (steps.Negate s) (t ∷ ts) = Some (Negative s t ∷ ts)
+trees_by (steps.Sign g s) [] = None
+trees_by (steps.Sign g s) (t ∷ ts) = Some (Signed g s t ∷ ts)
 trees_by (steps.Apply o s) [] = None
 trees_by (steps.Apply o s) (b ∷ []) = None
 trees_by (steps.Apply o s) (b ∷ (a ∷ ts)) = Some (Between o s a b ∷ ts)
@@ -67,7 +67,7 @@ pub record MakeOneTree (written : List Step) : Type 0 where
 abbrev pub operands : Step → ℕ
 operands (steps.Number s) = 0
 operands (steps.Name s) = 0
-operands (steps.Negate s) = 1
+operands (steps.Sign g s) = 1
 operands (steps.Apply o s) = 2
 operands (steps.Group s e) = 1
 operands (steps.Comma s) = 2
@@ -77,7 +77,7 @@ operands (steps.Call c) = 1
 abbrev pub values_taken : Step → ℕ
 values_taken (steps.Number s) = 0
 values_taken (steps.Name s) = 0
-values_taken (steps.Negate s) = 1
+values_taken (steps.Sign g s) = 1
 values_taken (steps.Apply o s) = 2
 values_taken (steps.Group s e) = 0
 values_taken (steps.Comma s) = 0
@@ -97,8 +97,8 @@ module _ (text : List ℕ) (named : List ℕ → Option Worth) where
   abbrev pub TakesStep : Step → List Worth → List Worth → Type 0
   TakesStep (steps.Number s) ws vs = (x : ℤ × ℤ) × SaysNumber (piece text s) x × (vs ≡ Amount x ∷ ws)
   TakesStep (steps.Name s) ws vs = (w : Worth) × (named (piece text s) ≡ Some w) × (vs ≡ w ∷ ws)
-  TakesStep (steps.Negate s) [] vs = ⊥
-  TakesStep (steps.Negate s) (v ∷ ws) vs = (w : Worth) × IsNegativeWorth v w × (vs ≡ w ∷ ws)
+  TakesStep (steps.Sign g s) [] vs = ⊥
+  TakesStep (steps.Sign g s) (v ∷ ws) vs = (w : Worth) × IsSignedWorth g v w × (vs ≡ w ∷ ws)
   TakesStep (steps.Apply o s) [] vs = ⊥
   TakesStep (steps.Apply o s) (v ∷ []) vs = ⊥
   TakesStep (steps.Apply o s) (v ∷ (u ∷ ws)) vs = (w : Worth) × GivesWorth o u v w × (vs ≡ w ∷ ws)
@@ -110,8 +110,8 @@ module _ (text : List ℕ) (named : List ℕ → Option Worth) where
   abbrev pub StopsAtStep : Step → List Worth → Refusal → Type 0
   StopsAtStep (steps.Number s) ws r = SaysNoNumber (piece text s) r.reason × (r.place ≡ s.start)
   StopsAtStep (steps.Name s) ws r = (named (piece text s) ≡ None) × IsRefusedAt s reasons.UnknownName r
-  StopsAtStep (steps.Negate s) [] r = ⊥
-  StopsAtStep (steps.Negate s) (v ∷ ws) r = IsTrueOrFalse v × IsRefusedAt s reasons.NotNumber r
+  StopsAtStep (steps.Sign g s) [] r = ⊥
+  StopsAtStep (steps.Sign g s) (v ∷ ws) r = IsTrueOrFalse v × IsRefusedAt s reasons.NotNumber r
   StopsAtStep (steps.Apply o s) [] r = ⊥
   StopsAtStep (steps.Apply o s) (v ∷ []) r = ⊥
   StopsAtStep (steps.Apply o s) (v ∷ (u ∷ ws)) r = RefusesWorths o u v r.reason × (r.place ≡ s.start)

@@ -1,8 +1,10 @@
 -- Which token a text begins with, and how a text is cut into tokens.
-use Rattle.std.specs.Prelude.{◌≡◌, ◌≢◌, ◌<◌, ◌≤◌, ◌+◌, ℕ, Bool, List, [], ◌∷◌, length, drop, Option, Some, None, option_map, nat_lt, ◌&&◌, ◌||◌, ◌==◌, if◌then◌else◌, slice_index}
+use Rattle.std.specs.Prelude.{◌≡◌, ◌≢◌, ◌<◌, ◌≤◌, ◌+◌, ◌-◌, ℕ, Bool, true, false, not, List, [], ◌∷◌, length, drop, Option, Some, None, option_map, nat_lt, ◌&&◌, ◌||◌, ◌==◌, if◌then◌else◌, slice_index}
 use Rattle.std.specs.List.{take_while}
 use Rattle.std.specs.Char.{is_ascii_digit, is_ascii_alphabetic, is_ascii_alphanumeric}
 use Rattle.ratio_expressions.specs.declared.token.Operator.TheVariants.{Less, AtMost, Equal, NotEqual, AtLeast, Greater, Add, Subtract, Multiply, Divide, Remainder, Power}
+use Rattle.ratio_expressions.specs.declared.token.Spacing.{Spacing}
+use Rattle.ratio_expressions.specs.declared.token.Spacing.TheVariants.{Tight, Half, Wide}
 use Rattle.ratio_expressions.specs.declared.token.Kind.{Kind}
 use Rattle.ratio_expressions.specs.declared.token.Kind.TheVariants as kinds
 use Rattle.ratio_expressions.specs.declared.token.Token.{Token}
@@ -38,31 +40,48 @@ exponent text = if ((slice_index text 0 == 101) || (slice_index text 0 == 69)) &
 unfoldable pub decimal : List ℕ → ℕ
 decimal text = led 46 text + exponent (drop (led 46 text) text)
 
--- how long a percent sign is
--- Example: `%*3`: 1
-unfoldable pub percent : List ℕ → ℕ
-percent text = if slice_index text 0 == 37 then 1 else 0
+-- whether an operand begins: a digit, a point, a name or a parenthesis
+-- Example: `3+4`; not ` 3`
+abbrev pub begins_operand : List ℕ → Bool
+begins_operand text = let b = slice_index text 0 in is_ascii_alphanumeric b || ((b == 95) || ((b == 46) || (b == 40)))
+
+-- how long a percent sign is that belongs to the number before it: no operand touches it, and no slash without spaces is before the number
+-- Example: `%*3`: 1; `%3`: 0; the sign of `1/2%`: 0
+unfoldable pub percent : Bool → List ℕ → ℕ
+percent slash text = if (slice_index text 0 == 37) && not (slash || begins_operand (drop 1 text)) then 1 else 0
 
 -- how long a vulgar fraction is, or a space and a vulgar fraction, or 0
 -- Example: ` ½*3`: 3
 unfoldable pub vulgar_tail : List ℕ → ℕ
 vulgar_tail text = if slice_index text 0 == 32 then (if nat_lt 0 (vulgar_length (drop 1 text)) then vulgar_length (drop 1 text) + 1 else 0) else vulgar_length text
 
--- how long what makes a whole number a fraction, a mixed number or a decimal is: a slash and digits, maybe behind a space and digits; or a
--- vulgar fraction, maybe behind a space; or a point with digits and an exponent, each if it is there
--- Example: `/3`: 2; ` 1/2*3`: 4; `½`: 2; `.5`: 2
-unfoldable pub tail : List ℕ → ℕ
-tail text = if nat_lt 0 (led 47 (drop (led 32 text) text)) then led 32 text + led 47 (drop (led 32 text) text) else (if nat_lt 0 (vulgar_tail text) then vulgar_tail text else decimal text)
+-- how long what makes a whole number a mixed number is: a space and a fraction with a slash, or a vulgar fraction, maybe behind a space
+-- Example: ` 1/2*3`: 4; `½`: 2
+unfoldable pub mixed_tail : List ℕ → ℕ
+mixed_tail text = if nat_lt 0 (led 32 text) && nat_lt 0 (led 47 (drop (led 32 text) text)) then led 32 text + led 47 (drop (led 32 text) text) else vulgar_tail text
 
--- whether the text begins with a digit, with a point and a digit, or with a vulgar fraction
-abbrev pub begins_number : List ℕ → Bool
-begins_number text = nat_lt 0 (digits text) || (nat_lt 0 (led 46 text) || nat_lt 0 (vulgar_length text))
+-- whether a `^` comes first
+abbrev pub begins_power : List ℕ → Bool
+begins_power text = slice_index text 0 == 94
 
--- how long the number is that the text begins with, or 0: digits or none, what makes them a fraction, a mixed number or a decimal, and a
--- percent sign, if it is there
--- Example: `12.5%*80`: 5; `1/2/3`: 3; `1 1/2`: 5; `.5`: 2; `1½`: 3
-unfoldable pub number : List ℕ → ℕ
-number text = if begins_number text then (let end = digits text + tail (drop (digits text) text) in end + percent (drop end text)) else 0
+-- how long what makes a whole number a mixed number or a decimal is. Before a `^` no mixed number ends, and right of a slash without spaces none
+-- begins
+-- Example: ` 1/2*3`: 4; ` 1/2^3`: 0; `.5`: 2
+unfoldable pub tail : Bool → List ℕ → ℕ
+tail slash text = if nat_lt 0 (mixed_tail text) && not (slash || begins_power (drop (mixed_tail text) text)) then mixed_tail text else decimal text
+
+-- how long the number is that the text begins with, without a percent sign, or 0: a decimal or a mixed number, or a vulgar fraction
+-- Example: `12.5%*80`: 4; `1/2`: 1; `1 1/2`: 5; `.5`: 2; `1½`: 3
+unfoldable pub plain_number : Bool → List ℕ → ℕ
+plain_number slash text =
+    if nat_lt 0 (digits text) then digits text + tail slash (drop (digits text) text) else (
+    if nat_lt 0 (vulgar_length text) then vulgar_length text else (
+    if nat_lt 0 (led 46 text) then decimal text else 0))
+
+-- how long the number is that the text begins with, or 0: with the percent sign that belongs to it. A slash without spaces may be before it
+-- Example: `12.5%*80`: 5; `7%3`: 1
+unfoldable pub number : Bool → List ℕ → ℕ
+number slash text = if nat_lt 0 (plain_number slash text) then plain_number slash text + percent slash (drop (plain_number slash text) text) else 0
 
 -- a letter or an underscore
 abbrev pub starts_name : ℕ → Bool
@@ -77,14 +96,14 @@ is_name_byte c = is_ascii_alphanumeric c || (c == 95)
 unfoldable pub name : List ℕ → ℕ
 name text = if starts_name (slice_index text 0) then length (take_while is_name_byte text) else 0
 
--- the operator, the parenthesis or the comma of one byte: `+ - * / % ^ < = > ( ) ,`
+-- the operator, the parenthesis or the comma of one byte: `+ - * / % ^ < = > ( ) ,`. A slash and a percent sign are set as without spaces
 abbrev pub one_byte : ℕ → Option Kind
 one_byte c =
     if c == 43 then Some (kinds.Operator Add) else (
     if c == 45 then Some (kinds.Operator Subtract) else (
     if c == 42 then Some (kinds.Operator Multiply) else (
-    if c == 47 then Some (kinds.Operator Divide) else (
-    if c == 37 then Some (kinds.Operator Remainder) else (
+    if c == 47 then Some (kinds.Operator (Divide Tight)) else (
+    if c == 37 then Some (kinds.Operator (Remainder Half)) else (
     if c == 94 then Some (kinds.Operator Power) else (
     if c == 60 then Some (kinds.Operator Less) else (
     if c == 61 then Some (kinds.Operator Equal) else (
@@ -115,13 +134,50 @@ symbol text =
     if begins_two 62 61 text then Some (kinds.Operator AtLeast, 2) else (
     if begins_two 33 61 text then Some (kinds.Operator NotEqual, 2) else (
     if begins_two 195 151 text then Some (kinds.Operator Multiply, 2) else (
-    if begins_two 195 183 text then Some (kinds.Operator Divide, 2) else
+    if begins_two 195 183 text then Some (kinds.Operator (Divide Half), 2) else
     option_map (λ k. (k, 1)) (one_byte (slice_index text 0))))))))))
 
--- what a text begins with, and its length: the longest number, the longest name, or the longest operator, parenthesis or comma
+-- what a text begins with, and its length: the longest number, the longest name, or the longest operator, parenthesis or comma. A slash without
+-- spaces may be before it
 -- Example: `12.5%*80`: a number, 5
-abbrev pub first_token : List ℕ → Option (Kind × ℕ)
-first_token text = if nat_lt 0 (number text) then Some (kinds.Number, number text) else (if nat_lt 0 (name text) then Some (kinds.Name, name text) else symbol text)
+abbrev pub first_token : Bool → List ℕ → Option (Kind × ℕ)
+first_token slash text = if nat_lt 0 (number slash text) then Some (kinds.Number, number slash text) else (if nat_lt 0 (name text) then Some (kinds.Name, name text) else symbol text)
+
+-- whether a space is at this place
+abbrev pub is_space_at : List ℕ → ℕ → Bool
+is_space_at text at = slice_index text at == 32
+
+-- whether this byte is right before the place
+abbrev pub is_behind : ℕ → List ℕ → ℕ → Bool
+is_behind byte text at = nat_lt 0 at && (slice_index text (at - 1) == byte)
+
+-- whether a slash without spaces is right before the place
+-- Example: 2, of `1/2`; not 3, of `1 /2`
+abbrev pub is_behind_slash : List ℕ → ℕ → Bool
+is_behind_slash text at = is_behind 47 text at && not (is_behind 32 text (at - 1))
+
+-- how an operator is set that has a space before it or none, and one behind it or none, and that is set as `s` without spaces
+-- Example: a slash in `1 / 2`: `Wide`; in `1 /2`: `Half`; in `1/2`: `Tight`
+abbrev pub set_as : Bool → Bool → Spacing → Spacing
+set_as true true s = Wide
+set_as true false s = Half
+set_as false true s = Half
+set_as false false s = s
+
+-- a division or a remainder as the spaces around it set it
+abbrev pub spaced : Bool → Bool → Kind → Kind
+spaced before after (kinds.Operator (Divide s)) = kinds.Operator (Divide (set_as before after s))
+spaced before after (kinds.Operator (Remainder s)) = kinds.Operator (Remainder (set_as before after s))
+spaced before after kind = kind
+
+-- the same, with its length, where it is in the text
+abbrev pub spaced_at : List ℕ → ℕ → Kind × ℕ → Kind × ℕ
+spaced_at text at t = (spaced (is_behind 32 text at) (is_space_at text (at + t.1)) t.0, t.1)
+
+-- the kind and the length of the token that begins at a place
+-- Example: 2, of `1 / 2`: a division, `Wide`, and 1
+abbrev pub token_at : List ℕ → ℕ → Option (Kind × ℕ)
+token_at text at = option_map (spaced_at text at) (first_token (is_behind_slash text at) (drop at text))
 
 -- a piece of a text is blank: its bytes are spaces
 pub record IsBlank (text : List ℕ) (from to : ℕ) : Type 0 where
@@ -133,7 +189,7 @@ pub record IsTokenAt (text : List ℕ) (t : Token) : Type 0 where
   pub long : ℕ
   pub end : t.span.end ≡ t.span.start + long
   pub within : t.span.end ≤ length text
-  pub first : first_token (drop t.span.start text) ≡ Some (t.kind, long)
+  pub first : token_at text t.span.start ≡ Some (t.kind, long)
 
 -- a token begins the text, maybe behind spaces
 -- Example: ` 12`; neither ` ` nor `?12`
@@ -151,7 +207,7 @@ IsCutInto text from to (t ∷ ts) = IsBlank text from t.span.start × IsTokenAt 
 pub record BeginsNone (text : List ℕ) (at : ℕ) : Type 0 where
   pub within : at < length text
   pub no_space : slice_index text at ≢ 32
-  pub none : first_token (drop at text) ≡ None
+  pub none : token_at text at ≡ None
 
 -- the text is these tokens up to its end, or else up to the first place where none begins
 pub record IsCutTo (text : List ℕ) (end : ℕ) (tokens : List Token) : Type 0 where

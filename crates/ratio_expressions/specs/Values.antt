@@ -5,9 +5,9 @@ use Rattle.ratio_expressions.specs.declared.refusal.Refusal.{Refusal}
 use Rattle.ratio_expressions.specs.declared.refusal.Reason.{Reason}
 use Rattle.ratio_expressions.specs.declared.refusal.Reason.TheVariants as reasons
 use Rattle.ratio_expressions.specs.Calls.{GivesCall, RefusesCall}
-use Rattle.ratio_expressions.specs.Grammar.{Tree, Number, Name, Negative, Between, Group, Call, Listed}
+use Rattle.ratio_expressions.specs.Grammar.{Tree, Number, Name, Signed, Between, Group, Call, Listed}
 use Rattle.ratio_expressions.specs.Numbers.{SaysNumber, SaysNoNumber}
-use Rattle.ratio_expressions.specs.Operators.{GivesWorth, RefusesWorths, IsNegativeWorth, IsTrueOrFalse}
+use Rattle.ratio_expressions.specs.Operators.{GivesWorth, RefusesWorths, IsSignedWorth, IsTrueOrFalse}
 use Rattle.ratio_expressions.specs.Worths.{Worth, Amount}
 
 -- the bytes of a text at a place
@@ -27,7 +27,7 @@ module _ (text : List ℕ) (named : List ℕ → Option Worth) where
   abbrev pub AreWorth : Tree → List Worth → Type 0
   AreWorth (Number s) (w ∷ []) = (x : ℤ × ℤ) × SaysNumber (piece text s) x × (w ≡ Amount x)
   AreWorth (Name s) (w ∷ []) = named (piece text s) ≡ Some w
-  AreWorth (Negative s t) (w ∷ []) = (v : Worth) × AreWorth t (v ∷ []) × IsNegativeWorth v w
+  AreWorth (Signed g s t) (w ∷ []) = (v : Worth) × AreWorth t (v ∷ []) × IsSignedWorth g v w
   AreWorth (Between o s a b) (w ∷ []) = (u : Worth) × (v : Worth) × AreWorth a (u ∷ []) × AreWorth b (v ∷ []) × GivesWorth o u v w
   AreWorth (Group s t e) (w ∷ []) = AreWorth t (w ∷ [])
   AreWorth (Call n s t e) (w ∷ []) = (us : List Worth) × AreWorth t us × GivesCall (piece text n) us w
@@ -46,7 +46,7 @@ module _ (text : List ℕ) (named : List ℕ → Option Worth) where
   abbrev pub HasRefusal : Tree → Refusal → Type 0
   HasRefusal (Number s) r = SaysNoNumber (piece text s) r.reason × (r.place ≡ s.start)
   HasRefusal (Name s) r = (named (piece text s) ≡ None) × IsRefusedAt s reasons.UnknownName r
-  HasRefusal (Negative s t) r = HasRefusal t r ⊎ ((v : Worth) × IsWorth t v × IsTrueOrFalse v × IsRefusedAt s reasons.NotNumber r)
+  HasRefusal (Signed g s t) r = HasRefusal t r ⊎ ((v : Worth) × IsWorth t v × IsTrueOrFalse v × IsRefusedAt s reasons.NotNumber r)
   HasRefusal (Between o s a b) r =
       HasRefusal a r ⊎ ((u : Worth) × IsWorth a u × (HasRefusal b r ⊎ ((v : Worth) × IsWorth b v × RefusesWorths o u v r.reason × (r.place ≡ s.start))))
   HasRefusal (Group s t e) r = HasRefusal t r

@@ -13,7 +13,7 @@ ghost use Rattle.ratio_expressions.specs.declared.refusal.Reason.TheVariants as 
 use crate::calls::called;
 use crate::names::Names;
 use crate::number::number_in;
-use crate::operation::{applied, negative};
+use crate::operation::{applied, signed};
 use crate::refusal::{Reason, ValueError, refused};
 use crate::step::{Call, Step};
 use crate::value::Value;
@@ -59,9 +59,9 @@ fn take(
             let value = value_named(alloc, names, &text[span.start..span.end])?;
             put(stack, value, span.start)
         }
-        Step::Negate(span) => {
+        Step::Sign(sign, span) => {
             let operand = stack.pop().unwrap();
-            let value = negative(alloc, &operand)?;
+            let value = signed(alloc, sign, operand)?;
             put(stack, value, span.start)
         }
         Step::Apply(operator, span) => {

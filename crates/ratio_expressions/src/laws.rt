@@ -3,7 +3,7 @@ ghost use Rattle.std.specs.Prelude.{◌≡◌, ℕ, List, Option, length};
 ghost use Rattle.ratio_expressions.specs.declared.token.Token.{Token};
 ghost use Rattle.ratio_expressions.specs.Grammar.{Tree, HasTree, postfix};
 ghost use Rattle.ratio_expressions.specs.Expression.{IsExpression, IsRefusal};
-ghost use Rattle.ratio_expressions.specs.Nesting.{IsTooDeep};
+ghost use Rattle.ratio_expressions.specs.Nesting.{IsShallow, IsTooDeep};
 ghost use Rattle.ratio_expressions.specs.Slashes.{IsShownAs};
 ghost use Rattle.ratio_expressions.specs.Tokens.{IsCutInto, BeginsNone};
 
@@ -48,7 +48,8 @@ pub fn one_too_deep()
     ensures { (text : List ℕ) (at other : ℕ) → IsTooDeep text at → IsTooDeep text other → at ≡ other }
 {}
 
-/// A text shows in one way how its slashes are read, also if it is no expression.
+/// A text with a tree shows in one way how its slashes are read.
 pub fn one_reading()
-    ensures { (text : List ℕ) (shown other : Option (List ℕ)) → IsShownAs text shown → IsShownAs text other → shown ≡ other }
+    ensures { (text : List ℕ) (t : Tree) (shown other : Option (List ℕ)) → IsExpression text t → IsShallow text → IsShownAs text shown → IsShownAs text other
+        → shown ≡ other }
 {}

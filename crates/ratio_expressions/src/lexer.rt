@@ -2,12 +2,12 @@
 mod number;
 mod symbol;
 
-ghost use Rattle.std.specs.Prelude.{◌≡◌, ◌<◌, ◌≤◌, ◌++◌, ◌∷◌, [], length, IfOk, OnOk, IsErr, IfSome};
-ghost use Rattle.ratio_expressions.specs.Tokens.{BeginsWithToken, IsCutTo, first_token};
+ghost use Rattle.std.specs.Prelude.{◌≡◌, ◌<◌, ◌≤◌, ◌+◌, ◌++◌, ◌∷◌, [], length, IfOk, OnOk, IsErr, IfSome};
+ghost use Rattle.ratio_expressions.specs.Tokens.{BeginsWithToken, IsCutTo, first_token, is_behind, is_behind_slash, is_space_at, set_as, spaced, token_at};
 
 use crate::lexer::number::{name_length, number_length};
 use crate::lexer::symbol::symbol_at;
-use crate::token::{Kind, Span, Token};
+use crate::token::{Kind, Operator, Spacing, Span, Token};
 use std::alloc::{AllocError, Global};
 
 // For how many tokens there is room at first: a line with a few operators takes memory once.
@@ -23,10 +23,12 @@ pub struct Cut {
 
 /// The tokens of a text, or the first place where none begins. Spaces may be between tokens. An error means that an allocation failed.
 ///
-/// - A number is a decimal (`12.5`, `.5`, `3e-2`), a fraction of whole numbers without spaces (`1/2`), a vulgar fraction (`½`) or a mixed
-///   number with one space (`1 1/2`, `1 ½`) or none (`1½`). A percent sign that touches it belongs to it, so a remainder needs a space:
-///   `7 % 3`.
+/// - A number is a decimal (`12.5`, `.5`, `3e-2`), a vulgar fraction (`½`) or a mixed number with one space (`1 1/2`, `1 ½`) or none (`1½`).
+///   Before a `^` no mixed number ends, and right of a slash without spaces none begins.
+/// - A percent sign that touches a number belongs to it, unless an operand touches the sign: `7%3` is a remainder. Right of a slash without
+///   spaces it belongs to no number.
 /// - A name is a letter or an underscore, and letters, digits and underscores.
+/// - A division and a remainder say where spaces are around them.
 pub fn tokens(alloc: Global, text: &[u8]) -> Result<Cut, AllocError>
     // The tokens are those of the text up to the place.
     ensures cut { IfOk result (λ cut. IsCutTo text.now cut.end cut.tokens.items) }
@@ -40,7 +42,7 @@ pub fn tokens(alloc: Global, text: &[u8]) -> Result<Cut, AllocError>
             at += 1;
             continue;
         }
-        match token_at(&text[at..]) {
+        match token_at(text, at) {
             None => {
                 return Ok(Cut {
                     tokens: found,
@@ -80,12 +82,76 @@ fn put_token(
     Ok(())
 }
 
-// What a text begins with, and its length.
-fn token_at(text: &[u8]) -> Option<(Kind, usize)>
-    ensures is { result ≡ first_token text.now }
+// The token that begins at this place of a text, and its length.
+fn token_at(text: &[u8], at: usize) -> Option<(Kind, usize)>
+    requires { at ≤ length text.now }
+    ensures is { result ≡ token_at text.now at }
+    ensures fits { IfSome result (λ found. (0 < found.1) × (at + found.1 ≤ length text.now)) }
+{
+    match first_token(behind_slash(text, at), &text[at..]) {
+        Some((kind, long)) => {
+            let kind = as_spaced(behind(b' ', text, at), space_at(text, at + long), kind);
+            Some((kind, long))
+        }
+        None => None,
+    }
+}
+
+// Whether the byte is right before this place.
+fn behind(byte: u8, text: &[u8], at: usize) -> bool
+    requires { at ≤ length text.now }
+    ensures { result ≡ is_behind byte text.now at }
+{
+    at > 0 && text[at - 1] == byte
+}
+
+// Whether a space is at this place.
+fn space_at(text: &[u8], at: usize) -> bool
+    ensures { result ≡ is_space_at text.now at }
+{
+    at < text.len() && text[at] == b' '
+}
+
+// Whether a slash without spaces is right before this place.
+fn behind_slash(text: &[u8], at: usize) -> bool
+    requires { at ≤ length text.now }
+    ensures { result ≡ is_behind_slash text.now at }
+{
+    behind(b'/', text, at) && !behind(b' ', text, at - 1)
+}
+
+// A division or a remainder with a space before it or none, and one behind it or none.
+fn as_spaced(before: bool, after: bool, kind: Kind) -> Kind
+    ensures { result ≡ spaced before after kind }
+{
+    match kind {
+        Kind::Operator(Operator::Divide(spacing)) => {
+            Kind::Operator(Operator::Divide(spacing_of(before, after, spacing)))
+        }
+        Kind::Operator(Operator::Remainder(spacing)) => {
+            Kind::Operator(Operator::Remainder(spacing_of(before, after, spacing)))
+        }
+        _ => kind,
+    }
+}
+
+// How an operator is set that has this spacing without spaces.
+fn spacing_of(before: bool, after: bool, without: Spacing) -> Spacing
+    ensures { result ≡ set_as before after without }
+{
+    match (before, after) {
+        (true, true) => Spacing::Wide,
+        (false, false) => without,
+        _ => Spacing::Half,
+    }
+}
+
+// What a text begins with, and its length. A slash without spaces may be right before it.
+fn first_token(slash: bool, text: &[u8]) -> Option<(Kind, usize)>
+    ensures is { result ≡ first_token slash text.now }
     ensures fits { IfSome result (λ found. (0 < found.1) × (found.1 ≤ length text.now)) }
 {
-    let number = number_length(text);
+    let number = number_length(slash, text);
     if number > 0 {
         return Some((Kind::Number, number));
     }

@@ -1,21 +1,28 @@
 //! What an operator gives of two values, or why it refuses them.
 ghost use Rattle.std.specs.Prelude.{◌≡◌, IfOk, MatchResult};
-ghost use Rattle.ratio_expressions.specs.Operators.{GivesWorth, IsNegativeWorth, IsTrueOrFalse, RefusesWorths};
+ghost use Rattle.ratio_expressions.specs.Operators.{GivesWorth, IsSignedWorth, IsTrueOrFalse, RefusesWorths};
 ghost use Rattle.ratio_expressions.specs.Worths.{worth};
 ghost use Rattle.ratio_expressions.specs.declared.refusal.Reason.TheVariants.{NotNumber};
 
 use crate::power::power;
 use crate::refusal::Reason;
-use crate::token::Operator;
+use crate::token::{Operator, Sign};
 use crate::value::Value;
 use std::alloc::{AllocError, Global};
 
-/// The negative of a value, or why it has none.
-pub(crate) fn negative(alloc: Global, value: &Value) -> Result<Result<Value, Reason>, AllocError>
-    ensures { let v = worth value.now in IfOk result (λ r. MatchResult r (λ w. IsNegativeWorth v (worth w)) (λ reason. IsTrueOrFalse v × (reason ≡ NotNumber))) }
+/// The value with a sign before it, or why it has none.
+pub(crate) fn signed(
+    alloc: Global,
+    sign: Sign,
+    value: Value,
+) -> Result<Result<Value, Reason>, AllocError>
+    ensures { let v = worth value in IfOk result (λ r. MatchResult r (λ w. IsSignedWorth sign v (worth w)) (λ reason. IsTrueOrFalse v × (reason ≡ NotNumber))) }
 {
     match value {
-        Value::Number(x) => Ok(Ok(Value::Number(x.negate(alloc)?))),
+        Value::Number(x) => match sign {
+            Sign::Plus => Ok(Ok(Value::Number(x))),
+            Sign::Minus => Ok(Ok(Value::Number(x.negate(alloc)?))),
+        },
         Value::Truth(_) => Ok(Err(Reason::NotNumber)),
     }
 }
@@ -45,11 +52,11 @@ pub(crate) fn applied(
         Operator::Add => Ok(Ok(Value::Number(x.add(alloc, y)?))),
         Operator::Subtract => Ok(Ok(Value::Number(x.subtract(alloc, y)?))),
         Operator::Multiply => Ok(Ok(Value::Number(x.multiply(alloc, y)?))),
-        Operator::Divide => match x.divide(alloc, y)? {
+        Operator::Divide(_) => match x.divide(alloc, y)? {
             Some(quotient) => Ok(Ok(Value::Number(quotient))),
             None => Ok(Err(Reason::ZeroDivisor)),
         },
-        Operator::Remainder => match x.remainder(alloc, y)? {
+        Operator::Remainder(_) => match x.remainder(alloc, y)? {
             Some(rest) => Ok(Ok(Value::Number(rest))),
             None => Ok(Err(Reason::ZeroDivisor)),
         },

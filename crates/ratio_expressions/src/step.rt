@@ -1,5 +1,5 @@
 //! `Step`: one step of a tree in postfix order, as a parser returns it.
-use crate::token::{Operator, Span};
+use crate::token::{Operator, Sign, Span};
 
 /// A call of a name, and where its parts are.
 #[derive(Clone, Copy, PartialEq, Debug)]
@@ -19,8 +19,8 @@ pub enum Step {
     Number(Span),
     /// The name that this piece of the text is.
     Name(Span),
-    /// The last operand is negated. The minus is at this place.
-    Negate(Span),
+    /// The last operand gets this sign, which is at this place.
+    Sign(Sign, Span),
     /// The last two operands become one, by the operator at this place.
     Apply(Operator, Span),
     /// The last operand was in these two parentheses, and stays as it is.

@@ -1,24 +1,65 @@
 //! How long the number or the name is that a text begins with.
 ghost use Rattle.std.specs.Prelude.{◌≡◌, ◌≤◌, length};
 ghost use Rattle.std.specs.List.{take_while};
-ghost use Rattle.ratio_expressions.specs.Tokens.{digits, led, exponent_sign, signed_digits, exponent, decimal, vulgar_tail, tail, number, name, is_name_byte};
+ghost use Rattle.ratio_expressions.specs.Tokens.{digits, led, exponent_sign, signed_digits, exponent, decimal, percent, begins_operand, begins_power, vulgar_tail, mixed_tail, tail, plain_number, number, name, is_name_byte};
 
 use crate::vulgar::vulgar_length;
 
-/// How long the number is that a text begins with, or 0.
-#[tactic(auto, unfolding(crate::specs::Tokens::number, crate::specs::Tokens::percent))]
-pub(crate) fn number_length(text: &[u8]) -> usize
-    ensures is { result ≡ number text.now }
+/// How long the number is that a text begins with, or 0. A slash without spaces may be right before it.
+#[tactic(auto, unfolding(crate::specs::Tokens::number))]
+pub(crate) fn number_length(slash: bool, text: &[u8]) -> usize
+    ensures is { result ≡ number slash text.now }
+    ensures fits { result ≤ length text.now }
+{
+    let end = plain_length(slash, text);
+    if end == 0 {
+        return 0;
+    }
+    end + percent_length(slash, &text[end..])
+}
+
+// The same, without a percent sign.
+#[tactic(auto, unfolding(crate::specs::Tokens::plain_number))]
+fn plain_length(slash: bool, text: &[u8]) -> usize
+    ensures is { result ≡ plain_number slash text.now }
     ensures fits { result ≤ length text.now }
 {
     let whole = digits_length(text);
-    if whole == 0 && led_length(b'.', text) == 0 && vulgar_length(text) == 0 {
-        return 0;
+    if whole > 0 {
+        return whole + tail_length(slash, &text[whole..]);
     }
-    let end = whole + tail_length(&text[whole..]);
-    match &text[end..] {
-        [b'%', ..] => end + 1,
-        _ => end,
+    let vulgar = vulgar_length(text);
+    if vulgar > 0 {
+        return vulgar;
+    }
+    if led_length(b'.', text) > 0 {
+        decimal_length(text)
+    } else {
+        0
+    }
+}
+
+// How long a percent sign is that belongs to the number before it.
+#[tactic(auto, unfolding(crate::specs::Tokens::percent))]
+fn percent_length(slash: bool, text: &[u8]) -> usize
+    ensures is { result ≡ percent slash text.now }
+    ensures fits { result ≤ length text.now }
+{
+    match text {
+        [b'%', rest @ ..] if !(slash || begins_operand(rest)) => 1,
+        _ => 0,
+    }
+}
+
+// Whether an operand begins: a digit, a point, a name or a parenthesis.
+fn begins_operand(text: &[u8]) -> bool
+    ensures { result ≡ begins_operand text.now }
+{
+    match text {
+        [first, ..] => {
+            first.is_ascii_alphanumeric() || *first == b'_' || *first == b'.' || *first == b'('
+        }
+        [] => false,
     }
 }
 
@@ -131,21 +172,41 @@ fn vulgar_tail_length(text: &[u8]) -> usize
     }
 }
 
-// How long what makes a whole number a fraction, a mixed number or a decimal is.
-#[tactic(auto, unfolding(crate::specs::Tokens::tail))]
-fn tail_length(text: &[u8]) -> usize
-    ensures is { result ≡ tail text.now }
+// How long what makes a whole number a mixed number is.
+#[tactic(auto, unfolding(crate::specs::Tokens::mixed_tail))]
+fn mixed_length(text: &[u8]) -> usize
+    ensures is { result ≡ mixed_tail text.now }
     ensures fits { result ≤ length text.now }
 {
     let numer = led_length(b' ', text);
     let denom = led_length(b'/', &text[numer..]);
-    if denom > 0 {
-        return numer + denom;
+    if numer > 0 && denom > 0 {
+        numer + denom
+    } else {
+        vulgar_tail_length(text)
     }
-    let vulgar = vulgar_tail_length(text);
-    if vulgar > 0 {
-        vulgar
+}
+
+// How long what makes a whole number a mixed number or a decimal is.
+#[tactic(auto, unfolding(crate::specs::Tokens::tail))]
+fn tail_length(slash: bool, text: &[u8]) -> usize
+    ensures is { result ≡ tail slash text.now }
+    ensures fits { result ≤ length text.now }
+{
+    let mixed = mixed_length(text);
+    if mixed > 0 && !(slash || begins_power(&text[mixed..])) {
+        mixed
     } else {
         decimal_length(text)
+    }
+}
+
+// Whether a `^` comes first.
+fn begins_power(text: &[u8]) -> bool
+    ensures { result ≡ begins_power text.now }
+{
+    match text {
+        [b'^', ..] => true,
+        _ => false,
     }
 }

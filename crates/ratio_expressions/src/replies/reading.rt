@@ -1,4 +1,4 @@
-//! A value behind its line as that was read: `(1/2) / (1/3) = 3/2`.
+//! A value behind its line as that was read: `1/2 / (1/3) = 3/2`.
 ghost use Rattle.std.specs.Prelude.{◌≡◌, IfOk, Some};
 ghost use Rattle.ratio_expressions.specs.Worths.{worth};
 ghost use Rattle.ratio_expressions.specs.Readings.{IsAnswerInForm, IsWithReading, behind_line, between};
@@ -9,8 +9,8 @@ use crate::slashes::read_as;
 use crate::value::Value;
 use std::alloc::{AllocError, Global};
 
-/// The text of a line's value in a form. In `Both` it is behind the line as that was read, if a slash of it is no division, as in
-/// `(1/2) / (1/3) = 3/2 = 1.5`. An error means that an allocation failed.
+/// The text of a line's value in a form. In `Both` it is behind the line as that was read, if a chain of its slashes is taken whole,
+/// as in `1/2 / (1/3) = 3/2 = 1.5`. An error means that an allocation failed.
 pub(crate) fn answer_text(
     alloc: Global,
     line: &[u8],

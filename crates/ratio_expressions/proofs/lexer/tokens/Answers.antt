@@ -12,13 +12,13 @@ returns-in_err-put_token-in-Some-clause-memory c = λ e.
     let text = c.args.text.now in
     let t : Token = record { kind = c.in-Some.kind; span = record { start = c.loop-at.at; end = c.loop-at.at + c.in-Some.long } } in
     begins_before text c.loop-at.at c.loop-at.found.items t c.loop-at.invariant.cut refl
-    (token_here text c.loop-at.at c.in-Some.long c.in-Some.kind c.loop-at.invariant.within c.in-Some.ensures.is c.in-Some.ensures.fits.1)
+    (token_here text c.loop-at.at c.in-Some.long c.in-Some.kind c.in-Some.ensures.is c.in-Some.ensures.fits.1)
 
 pub loop-at-preserved : goal.loop-at-preserved
 loop-at-preserved c =
     let text = c.args.text.now in
     let t : Token = record { kind = c.in-Some.kind; span = record { start = c.loop-at.at; end = c.loop-at.at + c.in-Some.long } } in
-    let here : IsTokenAt text t = token_here text c.loop-at.at c.in-Some.long c.in-Some.kind c.loop-at.invariant.within c.in-Some.ensures.is c.in-Some.ensures.fits.1 in
+    let here : IsTokenAt text t = token_here text c.loop-at.at c.in-Some.long c.in-Some.kind c.in-Some.ensures.is c.in-Some.ensures.fits.1 in
     record {
       within = here.within;
       cut = subst (λ ts. IsCutInto text 0 (c.loop-at.at + c.in-Some.long) ts) (sym c.in_ok-put_token-in-Some.ensures) (token_more text 0 c.loop-at.at c.loop-at.found.items t c.loop-at.invariant.cut refl here);

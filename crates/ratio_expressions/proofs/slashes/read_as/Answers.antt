@@ -1,17 +1,23 @@
-use Rattle.std.proofs.Common.{◌≡◌, ◌<◌, ◌∙◌, ℕ, List, [], ◌∷◌, length, false, true, sym, subst, arith}
-use Rattle.ratio_expressions.specs.declared.token.Token.{Token}
-use Rattle.ratio_expressions.specs.Slashes.{has_no_division}
-use Rattle.ratio_expressions.proofs.CutLaws.{first_begins}
+use Rattle.std.proofs.Common.{◌≡◌, ◌∙◌, ap, subst, sym}
+use Rattle.std.proofs.lemmas.Result.{IfOk-weaker}
+use Rattle.std.specs.Prelude.{option_map}
+use Rattle.ratio_expressions.specs.Grammar.{postfix}
+use Rattle.ratio_expressions.specs.Slashes.{IsShownAs}
+use Rattle.ratio_expressions.proofs.Places.{tree_begins}
+use Rattle.ratio_expressions.proofs.Refusals.{one_of_text}
+use Rattle.ratio_expressions.proofs.TextLaws.{not_unread}
 use Rattle.ratio_expressions.proofs.slashes.read_as.Goals as goal
 
--- what is shown has tokens
-some_shown : (text : List ℕ) (ts : List Token) → has_no_division text false ts ≡ true → 0 < length ts
-some_shown text [] e = cc
-some_shown text (t ∷ ts) e = omega arith
-
-pub returns-in_err-bytes-clause-memory : goal.returns-in_err-bytes-clause-memory
-returns-in_err-bytes-clause-memory c = λ e.
+pub returns-in-Ok-clause-shown : goal.returns-in-Ok-clause-shown
+returns-in-Ok-clause-shown c =
     let text = c.args.text.now in
-    let ts = c.in_ok-cut.cut.tokens.items in
-    first_begins text c.in_ok-cut.cut.end ts c.in_ok-cut.ensures.cut.cut
-    (some_shown text ts (subst (λ l. has_no_division text false l ≡ true) c.deref.ensures.value (sym c.has_other.ensures ∙ c.if-has_other.true)))
+    let found = c.in-Ok.ensures.found in
+    IfOk-weaker c.shown_by.result _ (λ shown. IsShownAs text (option_map (λ bytes. bytes.items) shown))
+    (λ shown is t has shallow. is t (c.deref.ensures.value ∙ found.2 ∙ ap postfix (one_of_text text found.0 t found.1 has)))
+    c.shown_by.ensures
+
+pub returns-in-Ok-clause-memory : goal.returns-in-Ok-clause-memory
+returns-in-Ok-clause-memory c = λ e. let found = c.in-Ok.ensures.found in tree_begins c.args.text.now found.0 found.1
+
+pub returns-in-Err-Refused-clause-shown : goal.returns-in-Err-Refused-clause-shown
+returns-in-Err-Refused-clause-shown c = λ t has shallow. absurd (not_unread c.args.text.now t c.in-Err-Refused._refusal has shallow (c.in-Err-Refused.ensures.refusal c.in-Err-Refused._refusal (cc)))

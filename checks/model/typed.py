@@ -10,10 +10,12 @@ from model.common import truth
 
 VULGAR = "[¼½¾⅐⅑⅒⅓⅔⅕⅖⅗⅘⅙⅚⅛⅜⅝⅞↉]"
 EXPONENT = r"(?:[eE][+-]?\d+)?"
-NUMBER = rf"(?:\d+(?: \d+/\d+| ?{VULGAR}|/\d+|(?:\.\d+)?{EXPONENT})|{VULGAR}|\.\d+{EXPONENT})%?"
-TOKEN = re.compile(rf"(?P<number>{NUMBER})|(?P<name>[A-Za-z_]\w*)|(?P<sign><=|>=|!=|[-+*/%^<=>(),×÷−≠≤≥])", re.ASCII)
+DECIMAL = rf"\d+(?:\.\d+)?{EXPONENT}|\.\d+{EXPONENT}|{VULGAR}"
+MIXED = re.compile(rf"(\d+(?: \d+/\d+| ?{VULGAR}))(?!\^)", re.ASCII)
+TOKEN = re.compile(rf"(?P<number>{DECIMAL})|(?P<name>[A-Za-z_]\w*)|(?P<sign><=|>=|!=|[-+*/%^<=>(),×÷−≠≤≥])", re.ASCII)
+PERCENT = re.compile(r"%(?![\w.(])", re.ASCII)
 PLAIN = {"×": "*", "÷": "/", "−": "-", "≠": "!=", "≤": "<=", "≥": ">="}
-NAMES = {"+": "Add", "-": "Subtract", "*": "Multiply", "/": "Divide", "<=": "AtMost", ">=": "AtLeast", "!=": "NotEqual"}
+NAMES = {"+": "Add", "-": "Subtract", "*": "Multiply", "/wide": "Divide(Wide)", "/half": "Divide(Half)", "/tight": "Divide(Tight)", "<=": "AtMost", ">=": "AtLeast", "!=": "NotEqual"}
 COMPARISONS = {
     "<": lambda x, y: x < y,
     "<=": lambda x, y: x <= y,
@@ -33,35 +35,51 @@ def tokens_of(text):
     """The tokens: the kind or the plain sign, the piece of the text and the place. The last one has the kind `end`, or `none` where none begins."""
     tokens, at = [], 0
     while at < len(text):
-        match = TOKEN.match(text, at)
-        if not match and text[at] != " ":
+        kind, piece = token_at(text, at)
+        if not kind and text[at] != " ":
             break
-        if match:
-            piece = match[0]
-            tokens.append((PLAIN.get(piece, piece) if match.lastgroup == "sign" else match.lastgroup, piece, at))
-        at = match.end() if match else at + 1
+        if kind:
+            tokens.append((kind, piece, at))
+        at += len(piece) or 1
     return [*tokens, ("end" if at == len(text) else "none", "", at)]
+
+
+def token_at(text, at):
+    """The kind of the token at a place, and its piece, or two empty texts."""
+    match = TOKEN.match(text, at)
+    if not match:
+        return "", ""
+    piece, kind = match[0], match.lastgroup
+    if kind == "number":
+        slash = text[:at].endswith("/") and not text[: at - 1].endswith(" ")
+        mixed = MIXED.match(text, at)
+        piece = mixed[1] if mixed and not slash else piece
+        return kind, piece + ("%" if PERCENT.match(text, at + len(piece)) and not slash else "")
+    if piece in "/÷%":
+        spaces = text[:at].endswith(" ") + text[at + 1 :].startswith(" ")
+        return PLAIN.get(piece, piece) + ("tight" if piece == "/" and spaces == 0 else "wide" if spaces == 2 else "half"), piece
+    return PLAIN.get(piece, piece) if kind == "sign" else kind, piece
 
 
 def steps_of(text):
     """The steps of the text's tree in postfix order, each like a token. A call has the number of its arguments, too."""
-    tokens, steps = tokens_of(text), []
+    return parsed(text)[0]
+
+
+def parsed(text):
+    """The steps, and the chains that are taken whole, from one place to another."""
+    tokens, steps, chains, ends = tokens_of(text), [], [], [0]
 
     def taken(*kinds):
-        return tokens.pop(0) if tokens[0][0] in kinds else None
+        if tokens[0][0] in kinds:
+            ends.append(tokens[0][2] + len(tokens[0][1]))
+            return tokens.pop(0)
 
     def must(*kinds):
         token = taken(*kinds)
         if not token:
             raise Refused(NO_EXPRESSION, tokens[0][2])
         return token
-
-    def joined(part, *kinds):
-        """Parts with operators between, from left to right."""
-        part()
-        while operator := taken(*kinds):
-            part()
-            steps.append(("apply", *operator))
 
     def primary():
         kind, piece, place = must("number", "name", "(")
@@ -86,25 +104,40 @@ def steps_of(text):
     def power():
         primary()
         if operator := taken("^"):
-            unary()
+            signed()
             steps.append(("apply", *operator))
 
-    def unary():
-        if minus := taken("-"):
-            unary()
-            steps.append(("negate", "~", "~", minus[2]))
+    def signed():
+        if sign := taken("+", "-"):
+            signed()
+            steps.append(("sign", sign[0], {"-": "~", "+": "+~"}[sign[0]], sign[2]))
         else:
             power()
 
+    def product():
+        signed()
+        while operator := taken("*", "/tight", "/half", "%half", "/wide", "%wide"):
+            start, chained = tokens[0][2], False
+            signed()
+            while operator[0] in ("/wide", "%wide") and (slash := taken("/tight")):
+                signed()
+                steps.append(("apply", *slash))
+                chained = True
+            chains.extend([(start, ends[-1])] if chained else [])
+            steps.append(("apply", *operator))
+
     def sum_():
-        joined(lambda: joined(unary, "*", "/", "%"), "+", "-")
+        product()
+        while operator := taken("+", "-"):
+            product()
+            steps.append(("apply", *operator))
 
     sum_()
     if operator := taken(*COMPARISONS):
         sum_()
         steps.append(("apply", *operator))
     must("end")
-    return steps
+    return steps, chains
 
 
 def number(piece, place):
@@ -186,9 +219,9 @@ def numbers(values, place):
 def applied(operator, x, y, place):
     if operator in COMPARISONS:
         return COMPARISONS[operator](x, y)
-    if operator in "/%":
+    if operator[0] in "/%":
         divided = quotient(x, y, place)
-        return divided if operator == "/" else x - y * math.trunc(divided)
+        return divided if operator[0] == "/" else x - y * math.trunc(divided)
     return power(x, y, place) if operator == "^" else {"+": x + y, "-": x - y, "*": x * y}[operator]
 
 
@@ -202,8 +235,9 @@ def value_of(text, names, hidden=0):
             if piece not in names:
                 raise Refused("nothing has this name", place)
             stack.append(names[piece])
-        elif kind == "negate":
-            stack.append(-numbers([stack.pop()], place)[0])
+        elif kind == "sign":
+            operand = numbers([stack.pop()], place)[0]
+            stack.append(operand if what == "+" else -operand)
         elif kind == "call":
             stack[-what:] = [called(piece.partition(":")[0], stack[-what:], place)]
         elif kind == "apply":
@@ -233,15 +267,15 @@ def worth_of(compute, *words):
 
 
 def read_as(text):
-    """The text with parentheses around its numbers with a slash, or `None` if each is a division."""
-    tokens, right, parts, end, other = tokens_of(text), False, [], 0, False
-    for at, (kind, piece, place) in enumerate(tokens[:-1]):
-        slashed = kind == "number" and "/" in piece
-        other |= slashed and (right or tokens[at + 1][0] == "^" or "%" in piece)
-        right = kind in ("/", "%", "^") or kind == "-" and right
-        parts += [text[end:place], f"({piece})" if slashed else piece]
-        end = place + len(piece)
-    return "".join(parts) + text[end:] if other else None
+    """The text with parentheses around the chains of slashes that are taken whole, or `None` if there is none, or if it is long."""
+    try:
+        chains = parsed(text)[1]
+    except Refused:
+        return None
+    if not chains or len(text.encode()) > 1000:
+        return None
+    marks = {place: sign for start, end in chains for place, sign in ((start, "("), (end, ")"))}
+    return "".join(marks.get(at, "") + character for at, character in enumerate(text)) + marks.get(len(text), "")
 
 
 def mixed(x):

@@ -1,9 +1,9 @@
-//! The trees of texts. A step is shown as its piece of the text, but parentheses as `g`, a minus before an operand as `~`, and a call as its
-//! name and the number of its arguments: `abs:1`.
+//! The trees of texts. A step is shown as its piece of the text, but parentheses as `g`, a minus before an operand as `~`, a plus as `+~`, and
+//! a call as its name and the number of its arguments: `abs:1`.
 use ratio_expressions::expression::{column, tree_of};
 use ratio_expressions::refusal::{Reason, ValueError};
 use ratio_expressions::step::Step;
-use ratio_expressions::token::Span;
+use ratio_expressions::token::{Sign, Span};
 use rows::answer::Answer;
 use std::alloc::{AllocError, Global};
 use std::str;
@@ -37,7 +37,8 @@ fn put_step(shown: &mut String, text: &[u8], step: Step) -> Result<(), AllocErro
             let piece = piece(text, span);
             write!(shown, " {piece}")
         }
-        Step::Negate(_) => shown.push_str(" ~"),
+        Step::Sign(Sign::Minus, _) => shown.push_str(" ~"),
+        Step::Sign(Sign::Plus, _) => shown.push_str(" +~"),
         Step::Group(_, _) => shown.push_str(" g"),
         Step::Call(call) => {
             let (name, count) = (piece(text, call.name), call.arguments);

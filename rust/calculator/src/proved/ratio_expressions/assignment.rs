@@ -36,7 +36,7 @@ fn is_whole(steps: &[Step]) -> bool {
 fn operands_of(step: Step) -> usize {
     match step {
         Step::Number(_) | Step::Name(_) => 0,
-        Step::Negate(_) | Step::Group(_, _) | Step::Call(_) => 1,
+        Step::Sign(_, _) | Step::Group(_, _) | Step::Call(_) => 1,
         Step::Apply(_, _) | Step::Comma(_) => 2,
     }
 }

@@ -5,7 +5,7 @@ use bakhsney::memory::{AllocError, Global, Vec};
 use crate::proved::ratio_expressions::calls::called;
 use crate::proved::ratio_expressions::names::Names;
 use crate::proved::ratio_expressions::number::number_in;
-use crate::proved::ratio_expressions::operation::{applied, negative};
+use crate::proved::ratio_expressions::operation::{applied, signed};
 use crate::proved::ratio_expressions::refusal::{Reason, ValueError, refused};
 use crate::proved::ratio_expressions::step::{Call, Step};
 use crate::proved::ratio_expressions::value::Value;
@@ -50,9 +50,9 @@ fn take(
             let value = value_named(alloc, names, &text[span.start..span.end])?;
             put(stack, value, span.start)
         }
-        Step::Negate(span) => {
+        Step::Sign(sign, span) => {
             let operand = stack.pop().unwrap();
-            let value = negative(alloc, &operand)?;
+            let value = signed(alloc, sign, operand)?;
             put(stack, value, span.start)
         }
         Step::Apply(operator, span) => {

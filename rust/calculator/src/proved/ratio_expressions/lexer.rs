@@ -7,7 +7,7 @@ mod symbol;
 
 use crate::proved::ratio_expressions::lexer::number::{name_length, number_length};
 use crate::proved::ratio_expressions::lexer::symbol::symbol_at;
-use crate::proved::ratio_expressions::token::{Kind, Span, Token};
+use crate::proved::ratio_expressions::token::{Kind, Operator, Spacing, Span, Token};
 
 // For how many tokens there is room at first: a line with a few operators takes memory once.
 const FIRST_ROOM: usize = 16;
@@ -21,10 +21,12 @@ pub struct Cut {
 
 /// The tokens of a text, or the first place where none begins. Spaces may be between tokens. An error means that an allocation failed.
 ///
-/// - A number is a decimal (`12.5`, `.5`, `3e-2`), a fraction of whole numbers without spaces (`1/2`), a vulgar fraction (`½`) or a mixed
-///   number with one space (`1 1/2`, `1 ½`) or none (`1½`). A percent sign that touches it belongs to it, so a remainder needs a space:
-///   `7 % 3`.
+/// - A number is a decimal (`12.5`, `.5`, `3e-2`), a vulgar fraction (`½`) or a mixed number with one space (`1 1/2`, `1 ½`) or none (`1½`).
+///   Before a `^` no mixed number ends, and right of a slash without spaces none begins.
+/// - A percent sign that touches a number belongs to it, unless an operand touches the sign: `7%3` is a remainder. Right of a slash without
+///   spaces it belongs to no number.
 /// - A name is a letter or an underscore, and letters, digits and underscores.
+/// - A division and a remainder say where spaces are around them.
 #[inline]
 pub fn tokens(alloc: Global, text: &[u8]) -> Result<Cut, AllocError> {
     let mut found = Vec::new(alloc);
@@ -34,7 +36,7 @@ pub fn tokens(alloc: Global, text: &[u8]) -> Result<Cut, AllocError> {
             at += 1;
             continue;
         }
-        match token_at(&text[at..]) {
+        match token_at(text, at) {
             None => {
                 return Ok(Cut {
                     tokens: found,
@@ -72,10 +74,64 @@ fn put_token(
     Ok(())
 }
 
-// What a text begins with, and its length.
+// The token that begins at this place of a text, and its length.
 #[inline]
-fn token_at(text: &[u8]) -> Option<(Kind, usize)> {
-    let number = number_length(text);
+fn token_at(text: &[u8], at: usize) -> Option<(Kind, usize)> {
+    match first_token(behind_slash(text, at), &text[at..]) {
+        Some((kind, long)) => {
+            let kind = as_spaced(behind(b' ', text, at), space_at(text, at + long), kind);
+            Some((kind, long))
+        }
+        None => None,
+    }
+}
+
+// Whether the byte is right before this place.
+#[inline]
+fn behind(byte: u8, text: &[u8], at: usize) -> bool {
+    at > 0 && text[at - 1] == byte
+}
+
+// Whether a space is at this place.
+#[inline]
+fn space_at(text: &[u8], at: usize) -> bool {
+    at < text.len() && text[at] == b' '
+}
+
+// Whether a slash without spaces is right before this place.
+#[inline]
+fn behind_slash(text: &[u8], at: usize) -> bool {
+    behind(b'/', text, at) && !behind(b' ', text, at - 1)
+}
+
+// A division or a remainder with a space before it or none, and one behind it or none.
+#[inline]
+fn as_spaced(before: bool, after: bool, kind: Kind) -> Kind {
+    match kind {
+        Kind::Operator(Operator::Divide(spacing)) => {
+            Kind::Operator(Operator::Divide(spacing_of(before, after, spacing)))
+        }
+        Kind::Operator(Operator::Remainder(spacing)) => {
+            Kind::Operator(Operator::Remainder(spacing_of(before, after, spacing)))
+        }
+        _ => kind,
+    }
+}
+
+// How an operator is set that has this spacing without spaces.
+#[inline]
+fn spacing_of(before: bool, after: bool, without: Spacing) -> Spacing {
+    match (before, after) {
+        (true, true) => Spacing::Wide,
+        (false, false) => without,
+        _ => Spacing::Half,
+    }
+}
+
+// What a text begins with, and its length. A slash without spaces may be right before it.
+#[inline]
+fn first_token(slash: bool, text: &[u8]) -> Option<(Kind, usize)> {
+    let number = number_length(slash, text);
     if number > 0 {
         return Some((Kind::Number, number));
     }

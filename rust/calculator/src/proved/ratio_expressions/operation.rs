@@ -4,14 +4,21 @@
 use bakhsney::memory::{AllocError, Global};
 use crate::proved::ratio_expressions::power::power;
 use crate::proved::ratio_expressions::refusal::Reason;
-use crate::proved::ratio_expressions::token::Operator;
+use crate::proved::ratio_expressions::token::{Operator, Sign};
 use crate::proved::ratio_expressions::value::Value;
 
-/// The negative of a value, or why it has none.
+/// The value with a sign before it, or why it has none.
 #[inline]
-pub(crate) fn negative(alloc: Global, value: &Value) -> Result<Result<Value, Reason>, AllocError> {
+pub(crate) fn signed(
+    alloc: Global,
+    sign: Sign,
+    value: Value,
+) -> Result<Result<Value, Reason>, AllocError> {
     match value {
-        Value::Number(x) => Ok(Ok(Value::Number(x.negate(alloc)?))),
+        Value::Number(x) => match sign {
+            Sign::Plus => Ok(Ok(Value::Number(x))),
+            Sign::Minus => Ok(Ok(Value::Number(x.negate(alloc)?))),
+        },
         Value::Truth(_) => Ok(Err(Reason::NotNumber)),
     }
 }
@@ -46,11 +53,11 @@ pub(crate) fn applied(
         Operator::Add => Ok(Ok(Value::Number(x.add(alloc, y)?))),
         Operator::Subtract => Ok(Ok(Value::Number(x.subtract(alloc, y)?))),
         Operator::Multiply => Ok(Ok(Value::Number(x.multiply(alloc, y)?))),
-        Operator::Divide => match x.divide(alloc, y)? {
+        Operator::Divide(_) => match x.divide(alloc, y)? {
             Some(quotient) => Ok(Ok(Value::Number(quotient))),
             None => Ok(Err(Reason::ZeroDivisor)),
         },
-        Operator::Remainder => match x.remainder(alloc, y)? {
+        Operator::Remainder(_) => match x.remainder(alloc, y)? {
             Some(rest) => Ok(Ok(Value::Number(rest))),
             None => Ok(Err(Reason::ZeroDivisor)),
         },

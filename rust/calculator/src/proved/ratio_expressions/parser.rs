@@ -9,7 +9,7 @@ use crate::proved::ratio_expressions::parser::mark::{
     Mark, left_level_of, level_of, level_of_mark, room_of_mark, step_of_mark,
 };
 use crate::proved::ratio_expressions::step::{Call, Step};
-use crate::proved::ratio_expressions::token::{Kind, Operator, Span, Token};
+use crate::proved::ratio_expressions::token::{Kind, Operator, Sign, Span, Token};
 pub use error::ParseError;
 
 /// The tree of a list of tokens, in postfix order, or the first token that no expression has there.
@@ -54,7 +54,10 @@ fn read_token(
     match token.kind {
         Kind::Number => put_operand(Step::Number(token.span), steps),
         Kind::Name => put_operand(Step::Name(token.span), steps),
-        Kind::Operator(Operator::Subtract) => put_mark(Mark::Negated(token.span), marks),
+        Kind::Operator(Operator::Add) => put_mark(Mark::Prefix(Sign::Plus, token.span), marks),
+        Kind::Operator(Operator::Subtract) => {
+            put_mark(Mark::Prefix(Sign::Minus, token.span), marks)
+        }
         Kind::Open => put_mark(Mark::Opened(token.span), marks),
         Kind::Operator(_) | Kind::Close | Kind::Comma => Ok(None),
     }

@@ -1,112 +1,165 @@
 // Erased from crates/ratio_expressions/src/slashes.rt by rust/erase: not to be edited.
-//! How the slashes of a text are read.
+//! Which chains of slashes are taken whole, and how a text shows that.
 
 use bakhsney::memory::{AllocError, Global, Vec};
-use crate::proved::ratio_expressions::lexer::tokens;
-use crate::proved::ratio_expressions::token::{Kind, Operator, Token};
+use crate::proved::ratio_expressions::expression::tree_of;
+use crate::proved::ratio_expressions::refusal::ValueError;
+use crate::proved::ratio_expressions::step::Step;
+use crate::proved::ratio_expressions::token::{Operator, Spacing, Span};
 
-/// The text with parentheses around each of its numbers with a slash: `1/2 / 1/3` is read as `(1/2) / (1/3)`. It is `None` if each such
-/// slash can as well be read as a division, as in `1/2 * 1/3`: no number with a slash stands right of `/`, `%` or `^` or left of `^`, and none
-/// has a percent sign. The tokens of the text are those of `tokens`, whatever is behind them. An error means that an allocation failed.
+/// How long a text may be that is shown, in bytes.
+pub const LONGEST_SHOWN: usize = 1000;
+
+/// Where a part of an expression is, and whether slashes without spaces make it.
+#[derive(Clone, Copy, PartialEq, Debug)]
+pub(crate) struct Part {
+    pub place: Span,
+    pub slashed: bool,
+}
+
+/// The text with parentheses around each chain of slashes that is taken whole, right of a `/` or a `%` with a space on both sides:
+/// `1/2 / 1/3` is read as `1/2 / (1/3)`. It is `None` if there is no such chain, and for a text of more than `LONGEST_SHOWN` bytes. An error means
+/// that an allocation failed.
 #[inline]
 pub fn read_as(alloc: Global, text: &[u8]) -> Result<Option<Vec<u8>>, AllocError> {
-    let cut = tokens(alloc, text)?;
-    if has_other(text, &cut.tokens) {
-        let bytes = shown(alloc, text, &cut.tokens)?;
-        Ok(Some(bytes))
-    } else {
-        Ok(None)
+    match tree_of(alloc, text) {
+        Ok(steps) => shown_by(alloc, text, &steps),
+        Err(ValueError::Refused(_refusal)) => Ok(None),
+        Err(ValueError::Memory) => Err(AllocError),
     }
 }
 
-// Whether a number with a slash is no division.
+// The text with these steps as it is shown.
 #[inline]
-fn has_other(text: &[u8], tokens: &[Token]) -> bool {
-    let mut right = false;
-    for (at, token) in tokens.iter().enumerate() {
-        if is_other(text, right, *token, &tokens[at + 1..]) {
-            return true;
+fn shown_by(alloc: Global, text: &[u8], steps: &[Step]) -> Result<Option<Vec<u8>>, AllocError> {
+    let chains = chains_of(alloc, steps)?;
+    shown(alloc, text, &chains)
+}
+
+// The chains that are taken whole.
+#[inline]
+fn chains_of(alloc: Global, steps: &[Step]) -> Result<Vec<Span>, AllocError> {
+    let mut parts = Vec::new(alloc);
+    let mut chains = Vec::new(alloc);
+    for step in steps {
+        take_step(*step, &mut parts, &mut chains)?;
+    }
+    Ok(chains)
+}
+
+// Takes one step: the parts that it joins become one.
+#[inline]
+fn take_step(step: Step, parts: &mut Vec<Part>, chains: &mut Vec<Span>) -> Result<(), AllocError> {
+    match step {
+        Step::Number(span) | Step::Name(span) => put_part(parts, span.start, span.end, false),
+        Step::Sign(_, span) => {
+            let part = parts.pop().unwrap();
+            put_part(parts, span.start, part.place.end, false)
         }
-        right = right_behind(right, token.kind);
+        Step::Apply(operator, _) => {
+            let right = parts.pop().unwrap();
+            let left = parts.pop().unwrap();
+            put_chain(chains, operator, right)?;
+            put_part(
+                parts,
+                left.place.start,
+                right.place.end,
+                is_tight_slash(operator),
+            )
+        }
+        Step::Group(open, close) => {
+            parts.pop().unwrap();
+            put_part(parts, open.start, close.end, false)
+        }
+        Step::Comma(_) => {
+            let right = parts.pop().unwrap();
+            let left = parts.pop().unwrap();
+            put_part(parts, left.place.start, right.place.end, false)
+        }
+        Step::Call(call) => {
+            parts.pop().unwrap();
+            put_part(parts, call.name.start, call.closing.end, false)
+        }
     }
-    false
 }
 
-// Whether the token is a number with a slash and no division.
+// Puts down a part from one place to another.
 #[inline]
-fn is_other(text: &[u8], right: bool, token: Token, rest: &[Token]) -> bool {
-    slashed(text, token) && (right || raised(rest) || has(b'%', bytes_of(text, token)))
+fn put_part(parts: &mut Vec<Part>, start: usize, end: usize, slashed: bool) -> Result<(), AllocError> {
+    parts.push(Part {
+        place: Span { start, end },
+        slashed,
+    })?;
+    Ok(())
 }
 
-// Whether what is behind a token stands right of `/`, `%` or `^`.
+// Puts down the right side of an operator, if it is a chain that is taken whole.
 #[inline]
-fn right_behind(before: bool, kind: Kind) -> bool {
-    match kind {
-        Kind::Operator(Operator::Divide | Operator::Remainder | Operator::Power) => true,
-        Kind::Operator(Operator::Subtract) => before,
+fn put_chain(chains: &mut Vec<Span>, operator: Operator, right: Part) -> Result<(), AllocError> {
+    match operator {
+        Operator::Divide(Spacing::Wide) | Operator::Remainder(Spacing::Wide) if right.slashed => {
+            chains.push(right.place)?;
+            Ok(())
+        }
+        _ => Ok(()),
+    }
+}
+
+// Whether the operator is a slash without spaces.
+#[inline]
+fn is_tight_slash(operator: Operator) -> bool {
+    match operator {
+        Operator::Divide(Spacing::Tight) => true,
         _ => false,
     }
 }
 
-// Whether a `^` comes first.
+// The text with parentheses around the chains, if it is shown.
 #[inline]
-fn raised(tokens: &[Token]) -> bool {
-    match tokens {
-        [first, ..] => is_caret(first.kind),
-        [] => false,
+fn shown(alloc: Global, text: &[u8], chains: &[Span]) -> Result<Option<Vec<u8>>, AllocError> {
+    if chains.is_empty() || text.len() > LONGEST_SHOWN {
+        return Ok(None);
     }
+    let bytes = with_parentheses(alloc, text, chains)?;
+    Ok(Some(bytes))
 }
 
+// The text with parentheses around the chains.
 #[inline]
-fn is_caret(kind: Kind) -> bool {
-    match kind {
-        Kind::Operator(Operator::Power) => true,
-        _ => false,
-    }
-}
-
-// Whether the token is a number with a slash.
-#[inline]
-fn slashed(text: &[u8], token: Token) -> bool {
-    match token.kind {
-        Kind::Number => has(b'/', bytes_of(text, token)),
-        _ => false,
-    }
-}
-
-#[inline]
-fn has(byte: u8, text: &[u8]) -> bool {
-    text.contains(&byte)
-}
-
-#[inline]
-fn bytes_of(text: &[u8], token: Token) -> &[u8] {
-    &text[token.span.start..token.span.end]
-}
-
-// The text with its tokens as they are shown.
-#[inline]
-fn shown(alloc: Global, text: &[u8], tokens: &[Token]) -> Result<Vec<u8>, AllocError> {
+fn with_parentheses(alloc: Global, text: &[u8], chains: &[Span]) -> Result<Vec<u8>, AllocError> {
     let mut bytes = Vec::new(alloc);
-    let mut from = 0;
-    for token in tokens {
-        bytes.extend_from_slice(&text[from..token.span.start])?;
-        put_token(&mut bytes, text, *token)?;
-        from = token.span.end;
+    for (at, byte) in text.iter().enumerate() {
+        put_marks(&mut bytes, chains, at)?;
+        bytes.push(*byte)?;
     }
-    bytes.extend_from_slice(&text[from..])?;
+    put_marks(&mut bytes, chains, text.len())?;
     Ok(bytes)
 }
 
-// Puts down a token as it is shown.
+// Puts down the parentheses at a place.
 #[inline]
-fn put_token(bytes: &mut Vec<u8>, text: &[u8], token: Token) -> Result<(), AllocError> {
-    if slashed(text, token) {
-        bytes.push(b'(')?;
-        bytes.extend_from_slice(bytes_of(text, token))?;
-        bytes.push(b')')?;
-    } else {
-        bytes.extend_from_slice(bytes_of(text, token))?;
+fn put_marks(bytes: &mut Vec<u8>, chains: &[Span], at: usize) -> Result<(), AllocError> {
+    put_if(bytes, ends_at(chains, at), b')')?;
+    put_if(bytes, begins_at(chains, at), b'(')
+}
+
+// Puts down a byte, if it is shown.
+#[inline]
+fn put_if(bytes: &mut Vec<u8>, shown: bool, byte: u8) -> Result<(), AllocError> {
+    if shown {
+        bytes.push(byte)?;
     }
     Ok(())
+}
+
+// Whether a chain begins at the place.
+#[inline]
+fn begins_at(chains: &[Span], at: usize) -> bool {
+    chains.iter().any(|chain| chain.start == at)
+}
+
+// Whether a chain ends at the place.
+#[inline]
+fn ends_at(chains: &[Span], at: usize) -> bool {
+    chains.iter().any(|chain| chain.end == at)
 }

@@ -1,6 +1,6 @@
 // Erased from crates/ratio_expressions/src/step.rt by rust/erase: not to be edited.
 //! `Step`: one step of a tree in postfix order, as a parser returns it.
-use crate::proved::ratio_expressions::token::{Operator, Span};
+use crate::proved::ratio_expressions::token::{Operator, Sign, Span};
 
 /// A call of a name, and where its parts are.
 #[derive(Clone, Copy, PartialEq, Debug)]
@@ -20,8 +20,8 @@ pub enum Step {
     Number(Span),
     /// The name that this piece of the text is.
     Name(Span),
-    /// The last operand is negated. The minus is at this place.
-    Negate(Span),
+    /// The last operand gets this sign, which is at this place.
+    Sign(Sign, Span),
     /// The last two operands become one, by the operator at this place.
     Apply(Operator, Span),
     /// The last operand was in these two parentheses, and stays as it is.

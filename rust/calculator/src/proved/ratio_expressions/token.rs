@@ -8,6 +8,26 @@ pub struct Span {
     pub end: usize,
 }
 
+/// How a division or a remainder is set between its operands. A person sees by it which of several slashes comes first.
+#[derive(Clone, Copy, PartialEq, Debug)]
+pub enum Spacing {
+    /// A slash without a space on either side: `1/2`.
+    Tight,
+    /// With a space on one side, or a `÷` or a `%` without spaces: `1 /2`, `1÷2`.
+    Half,
+    /// With a space on both sides: `1 / 2`.
+    Wide,
+}
+
+/// A sign before an operand.
+#[derive(Clone, Copy, PartialEq, Debug)]
+pub enum Sign {
+    /// `+`
+    Plus,
+    /// `-`
+    Minus,
+}
+
 /// An operator between two operands.
 #[derive(Clone, Copy, PartialEq, Debug)]
 pub enum Operator {
@@ -23,16 +43,16 @@ pub enum Operator {
     AtLeast,
     /// `>`
     Greater,
-    /// `+`
+    /// `+`, which is also a sign before an operand.
     Add,
-    /// `-`, which is also the sign before an operand.
+    /// `-`, which is also a sign before an operand.
     Subtract,
     /// `*`
     Multiply,
-    /// `/`
-    Divide,
+    /// `/` or `÷`
+    Divide(Spacing),
     /// `%`
-    Remainder,
+    Remainder(Spacing),
     /// `^`
     Power,
 }

@@ -3,17 +3,51 @@
 
 use crate::proved::ratio_expressions::vulgar::vulgar_length;
 
-/// How long the number is that a text begins with, or 0.
+/// How long the number is that a text begins with, or 0. A slash without spaces may be right before it.
 #[inline]
-pub(crate) fn number_length(text: &[u8]) -> usize {
-    let whole = digits_length(text);
-    if whole == 0 && led_length(b'.', text) == 0 && vulgar_length(text) == 0 {
+pub(crate) fn number_length(slash: bool, text: &[u8]) -> usize {
+    let end = plain_length(slash, text);
+    if end == 0 {
         return 0;
     }
-    let end = whole + tail_length(&text[whole..]);
-    match &text[end..] {
-        [b'%', ..] => end + 1,
-        _ => end,
+    end + percent_length(slash, &text[end..])
+}
+
+// The same, without a percent sign.
+#[inline]
+fn plain_length(slash: bool, text: &[u8]) -> usize {
+    let whole = digits_length(text);
+    if whole > 0 {
+        return whole + tail_length(slash, &text[whole..]);
+    }
+    let vulgar = vulgar_length(text);
+    if vulgar > 0 {
+        return vulgar;
+    }
+    if led_length(b'.', text) > 0 {
+        decimal_length(text)
+    } else {
+        0
+    }
+}
+
+// How long a percent sign is that belongs to the number before it.
+#[inline]
+fn percent_length(slash: bool, text: &[u8]) -> usize {
+    match text {
+        [b'%', rest @ ..] if !(slash || begins_operand(rest)) => 1,
+        _ => 0,
+    }
+}
+
+// Whether an operand begins: a digit, a point, a name or a parenthesis.
+#[inline]
+fn begins_operand(text: &[u8]) -> bool {
+    match text {
+        [first, ..] => {
+            first.is_ascii_alphanumeric() || *first == b'_' || *first == b'.' || *first == b'('
+        }
+        [] => false,
     }
 }
 
@@ -100,18 +134,34 @@ fn vulgar_tail_length(text: &[u8]) -> usize {
     }
 }
 
-// How long what makes a whole number a fraction, a mixed number or a decimal is.
+// How long what makes a whole number a mixed number is.
 #[inline]
-fn tail_length(text: &[u8]) -> usize {
+fn mixed_length(text: &[u8]) -> usize {
     let numer = led_length(b' ', text);
     let denom = led_length(b'/', &text[numer..]);
-    if denom > 0 {
-        return numer + denom;
+    if numer > 0 && denom > 0 {
+        numer + denom
+    } else {
+        vulgar_tail_length(text)
     }
-    let vulgar = vulgar_tail_length(text);
-    if vulgar > 0 {
-        vulgar
+}
+
+// How long what makes a whole number a mixed number or a decimal is.
+#[inline]
+fn tail_length(slash: bool, text: &[u8]) -> usize {
+    let mixed = mixed_length(text);
+    if mixed > 0 && !(slash || begins_power(&text[mixed..])) {
+        mixed
     } else {
         decimal_length(text)
+    }
+}
+
+// Whether a `^` comes first.
+#[inline]
+fn begins_power(text: &[u8]) -> bool {
+    match text {
+        [b'^', ..] => true,
+        _ => false,
     }
 }

@@ -1,9 +1,10 @@
 // Erased from crates/ratio_expressions/src/lexer/symbol.rt by rust/erase: not to be edited.
 //! The operator, the parenthesis or the comma that a text begins with.
 
-use crate::proved::ratio_expressions::token::{Kind, Operator};
+use crate::proved::ratio_expressions::token::{Kind, Operator, Spacing};
 
-/// The operator, the parenthesis or the comma that a text begins with, and its length. The signs beyond ASCII are in UTF-8: `− ≠ ≤ ≥ × ÷`.
+/// The operator, the parenthesis or the comma that a text begins with, and its length. The signs beyond ASCII are in UTF-8: `− ≠ ≤ ≥ × ÷`. A division
+/// and a remainder are set as without spaces.
 #[inline]
 pub(crate) fn symbol_at(text: &[u8]) -> Option<(Kind, usize)> {
     match text {
@@ -15,12 +16,12 @@ pub(crate) fn symbol_at(text: &[u8]) -> Option<(Kind, usize)> {
         [b'>', b'=', ..] => Some((Kind::Operator(Operator::AtLeast), 2)),
         [b'!', b'=', ..] => Some((Kind::Operator(Operator::NotEqual), 2)),
         [0xC3, 0x97, ..] => Some((Kind::Operator(Operator::Multiply), 2)),
-        [0xC3, 0xB7, ..] => Some((Kind::Operator(Operator::Divide), 2)),
+        [0xC3, 0xB7, ..] => Some((Kind::Operator(Operator::Divide(Spacing::Half)), 2)),
         [b'+', ..] => Some((Kind::Operator(Operator::Add), 1)),
         [b'-', ..] => Some((Kind::Operator(Operator::Subtract), 1)),
         [b'*', ..] => Some((Kind::Operator(Operator::Multiply), 1)),
-        [b'/', ..] => Some((Kind::Operator(Operator::Divide), 1)),
-        [b'%', ..] => Some((Kind::Operator(Operator::Remainder), 1)),
+        [b'/', ..] => Some((Kind::Operator(Operator::Divide(Spacing::Tight)), 1)),
+        [b'%', ..] => Some((Kind::Operator(Operator::Remainder(Spacing::Half)), 1)),
         [b'^', ..] => Some((Kind::Operator(Operator::Power), 1)),
         [b'<', ..] => Some((Kind::Operator(Operator::Less), 1)),
         [b'=', ..] => Some((Kind::Operator(Operator::Equal), 1)),

@@ -2,10 +2,10 @@
 //! `Mark`: an operator or a parenthesis that waits for what is right of it.
 
 use crate::proved::ratio_expressions::step::{Call, Step};
-use crate::proved::ratio_expressions::token::{Operator, Span};
+use crate::proved::ratio_expressions::token::{Operator, Sign, Spacing, Span};
 
-// How tightly a minus before an operand binds: less tightly than `^`, and more tightly than `*`.
-const MINUS_LEVEL: u8 = 5;
+// How tightly a sign before an operand binds: less tightly than `^`, and more tightly than `*`.
+const SIGN_LEVEL: u8 = 7;
 
 // How tightly arguments with a comma between them bind: less tightly than `+`, and more tightly than a comparison, which is no argument.
 const COMMA_LEVEL: u8 = 2;
@@ -13,8 +13,8 @@ const COMMA_LEVEL: u8 = 2;
 /// An operator or an opening parenthesis that waits for what is right of it.
 #[derive(Clone, Copy, PartialEq, Debug)]
 pub(crate) enum Mark {
-    /// A minus before an operand.
-    Negated(Span),
+    /// A sign before an operand.
+    Prefix(Sign, Span),
     /// An operator, whose left side is read.
     Half(Operator, Span),
     /// An opening parenthesis.
@@ -29,7 +29,7 @@ pub(crate) enum Mark {
 #[inline]
 pub(crate) fn step_of_mark(mark: Mark) -> Step {
     match mark {
-        Mark::Negated(span) => Step::Negate(span),
+        Mark::Prefix(sign, span) => Step::Sign(sign, span),
         Mark::Half(operator, span) => Step::Apply(operator, span),
         Mark::Opened(span) => Step::Group(span, span),
         Mark::Called(name, open, arguments) => Step::Call(Call {
@@ -46,7 +46,7 @@ pub(crate) fn step_of_mark(mark: Mark) -> Step {
 #[inline]
 pub(crate) fn level_of_mark(mark: Mark) -> u8 {
     match mark {
-        Mark::Negated(_) => MINUS_LEVEL,
+        Mark::Prefix(_, _) => SIGN_LEVEL,
         Mark::Half(operator, _) => level_of(operator),
         Mark::Opened(_) | Mark::Called(_, _, _) => 0,
         Mark::Comma(_) => COMMA_LEVEL,
@@ -57,7 +57,7 @@ pub(crate) fn level_of_mark(mark: Mark) -> u8 {
 #[inline]
 pub(crate) fn room_of_mark(mark: Mark) -> u8 {
     match mark {
-        Mark::Negated(_) => MINUS_LEVEL,
+        Mark::Prefix(_, _) => SIGN_LEVEL,
         Mark::Half(operator, _) => right_level_of(operator),
         Mark::Opened(_) | Mark::Comma(_) => 3,
         Mark::Called(_, _, _) => COMMA_LEVEL,
@@ -75,8 +75,10 @@ pub(crate) fn level_of(operator: Operator) -> u8 {
         | Operator::AtLeast
         | Operator::Greater => 1,
         Operator::Add | Operator::Subtract => 3,
-        Operator::Multiply | Operator::Divide | Operator::Remainder => 4,
-        Operator::Power => 6,
+        Operator::Divide(Spacing::Wide) | Operator::Remainder(Spacing::Wide) => 4,
+        Operator::Multiply | Operator::Divide(Spacing::Half) | Operator::Remainder(_) => 5,
+        Operator::Divide(Spacing::Tight) => 6,
+        Operator::Power => 8,
     }
 }
 
@@ -85,8 +87,9 @@ pub(crate) fn level_of(operator: Operator) -> u8 {
 pub(crate) fn left_level_of(operator: Operator) -> u8 {
     match level_of(operator) {
         1 | 3 => 3,
-        4 => 4,
-        _ => 7,
+        4 | 5 => 4,
+        6 => 5,
+        _ => 9,
     }
 }
 
@@ -96,6 +99,7 @@ fn right_level_of(operator: Operator) -> u8 {
     match level_of(operator) {
         1 => 3,
         3 => 4,
-        _ => 5,
+        4 => 6,
+        _ => 7,
     }
 }

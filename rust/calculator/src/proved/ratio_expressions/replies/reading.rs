@@ -1,5 +1,5 @@
 // Erased from crates/ratio_expressions/src/replies/reading.rt by rust/erase: not to be edited.
-//! A value behind its line as that was read: `(1/2) / (1/3) = 3/2`.
+//! A value behind its line as that was read: `1/2 / (1/3) = 3/2`.
 
 use bakhsney::memory::{AllocError, Global, Vec};
 use crate::proved::ratio_expressions::replies::form::Form;
@@ -7,8 +7,8 @@ use crate::proved::ratio_expressions::replies::written::value_text;
 use crate::proved::ratio_expressions::slashes::read_as;
 use crate::proved::ratio_expressions::value::Value;
 
-/// The text of a line's value in a form. In `Both` it is behind the line as that was read, if a slash of it is no division, as in
-/// `(1/2) / (1/3) = 3/2 = 1.5`. An error means that an allocation failed.
+/// The text of a line's value in a form. In `Both` it is behind the line as that was read, if a chain of its slashes is taken whole,
+/// as in `1/2 / (1/3) = 3/2 = 1.5`. An error means that an allocation failed.
 #[inline]
 pub(crate) fn answer_text(
     alloc: Global,

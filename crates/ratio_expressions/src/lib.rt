@@ -40,7 +40,7 @@
 //! | `text_value` | The value of a text, or its first refusal. |
 //! | `assignment` | The name that a line gives its value, and the expression of this value. |
 //! | `line` | The value of a line, which gives it names: `x = 3/7`. |
-//! | `slashes` | How the slashes of a text are read. |
+//! | `slashes` | Which chains of slashes are taken whole, and how a text shows that. |
 //! | `laws` | The laws that a text has at most one tree or is refused at one place, and not both, and that its slashes are read in one way. |
 //! | `value_laws` | The laws that a text is worth at most one value, that it has at most one refusal, and never both. |
 //! | `replies` | What a line that a person types is answered: its value in a form, or why it has none, with a caret below the place. |
@@ -50,7 +50,7 @@
 //! | `replies::fields` | What a page shows of a number, with tabs between. |
 //! | `replies::both` | A fraction with its decimal beside it: `7/12 ≈ 0.583333`. |
 //! | `replies::float` | The float nearest to a number, as a decimal: `0.5833333333333334` for 7/12. |
-//! | `replies::reading` | A value behind its line as that was read: `(1/2) / (1/3) = 3/2`. |
+//! | `replies::reading` | A value behind its line as that was read: `1/2 / (1/3) = 3/2`. |
 //! | `replies::refused` | The text of a refusal: the line, a caret and the reason. |
 //! | `replies::reply` | `Reply`: what a line is answered. |
 //! | `replies::laws` | The laws that a line has one reply, and that a tiny number is written `0` as a float. |

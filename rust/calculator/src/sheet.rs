@@ -4,7 +4,7 @@
 //!
 //! | Kind | The fields behind it |
 //! |---|---|
-//! | `value` | `true` or `false`; or the fraction, the decimal and the mixed number. Then the line as it was read, if a slash of it is no division |
+//! | `value` | `true` or `false`; or the fraction, the decimal and the mixed number. Then the line as it was read, if a chain of its slashes is taken whole |
 //! | `refused` | the reason and the column, as the last line of a refusal has them |
 //! | `memory` | none: the memory did not suffice |
 //! | `empty` | none: the line has only spaces |

@@ -104,8 +104,8 @@ def people_are_answered(sheet):
 
 
 def readings_are_shown(sheet):
-    """A line is shown as it was read, if a slash of it is no division."""
-    lines = {"1/2 / 1/3": "read as (1/2) / (1/3)", "1/2 * 1/3": "", "3/2^2 < 2": "read as (3/2)^2 < 2", "8 / 2/3": "read as 8 / (2/3)"}
+    """A line is shown as it was read, if a chain of its slashes is taken whole."""
+    lines = {"1/2 / 1/3": "read as 1/2 / (1/3)", "1/2 * 1/3": "", "3 / 2/4 < 2": "read as 3 / (2/4) < 2", "8 / 2/3": "read as 8 / (2/3)"}
     sheet.open("\n".join(lines))
     sheet.settle()
     got = sheet.js("return [...rows.children].map((row) => row.querySelector('.reading')?.textContent ?? '')")

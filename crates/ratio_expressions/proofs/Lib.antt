@@ -36,5 +36,6 @@ pub mod StackLemmas
 pub mod TextLaws
 pub mod TokenByToken
 pub mod Unread
+pub mod UsualLaws
 pub mod ValueLaws
 pub mod WholeLemmas

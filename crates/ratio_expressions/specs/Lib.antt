@@ -18,6 +18,7 @@ pub mod Replies
 pub mod Slashes
 pub mod Stacks
 pub mod Tokens
+pub mod Usual
 pub mod Values
 pub mod Vulgar
 pub mod Worths

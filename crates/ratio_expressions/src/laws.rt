@@ -1,4 +1,5 @@
-//! The laws that a text has at most one tree or is refused at one place, and not both, and that its slashes are read in one way.
+//! The laws that a text has at most one tree or is refused at one place, and not both, and that its slashes are read in one way, and where none of
+//! their chains is taken whole, from the left.
 ghost use Rattle.std.specs.Prelude.{◌≡◌, ℕ, List, Option, length};
 ghost use Rattle.ratio_expressions.specs.declared.token.Token.{Token};
 ghost use Rattle.ratio_expressions.specs.Grammar.{Tree, HasTree, postfix};
@@ -6,6 +7,7 @@ ghost use Rattle.ratio_expressions.specs.Expression.{IsExpression, IsRefusal};
 ghost use Rattle.ratio_expressions.specs.Nesting.{IsShallow, IsTooDeep};
 ghost use Rattle.ratio_expressions.specs.Slashes.{IsShownAs};
 ghost use Rattle.ratio_expressions.specs.Tokens.{IsCutInto, BeginsNone};
+ghost use Rattle.ratio_expressions.specs.Usual.{IsUsualWithoutChains};
 
 /// A list of tokens has at most one tree.
 pub fn one_tree()
@@ -52,4 +54,9 @@ pub fn one_too_deep()
 pub fn one_reading()
     ensures { (text : List ℕ) (t : Tree) (shown other : Option (List ℕ)) → IsExpression text t → IsShallow text → IsShownAs text shown → IsShownAs text other
         → shown ≡ other }
+{}
+
+/// Where no chain of slashes is taken whole, a text is read as elsewhere: powers first, then signs, then `*`, `/` and `%` from the left.
+pub fn read_from_the_left()
+    ensures { IsUsualWithoutChains }
 {}

@@ -139,8 +139,7 @@ usual (Number s) p e = tt
 usual (Name s) p e = tt
 usual (Signed g s t) p e = (sign_usual t p.0, usual t p.1 e)
 usual (Between o s a b) p e =
-    let rest : whole_chains b ++ whole_side o (is_slashed b) (place_of b) ≡ [] = no_rest (whole_chains a) _ e in
-    (
+    let rest : whole_chains b ++ whole_side o (is_slashed b) (place_of b) ≡ [] = no_rest (whole_chains a) _ e in (
       left_usual (rank o) a p.0,
       right_usual o b p.1 (no_rest (whole_chains b) _ rest),
       usual a p.2 (no_front (whole_chains a) _ e),

@@ -99,7 +99,12 @@ fn take_step(step: Step, parts: &mut Vec<Part>, chains: &mut Vec<Span>) -> Resul
 }
 
 // Puts down a part from one place to another.
-fn put_part(parts: &mut Vec<Part>, start: usize, end: usize, slashed: bool) -> Result<(), AllocError>
+fn put_part(
+    parts: &mut Vec<Part>,
+    start: usize,
+    end: usize,
+    slashed: bool,
+) -> Result<(), AllocError>
     ensures { OnOk result (parts.new.items ≡ parts.old.items ++ part_at start end slashed ∷ []) }
 {
     parts.push(Part {

@@ -3,7 +3,7 @@ use Rattle.std.proofs.Common.{◌≡◌, ◌≤◌, List, [], ◌∷◌, ◌++�
 use Rattle.std.proofs.lemmas.List.{append-nil}
 use Rattle.ratio_expressions.specs.declared.step.Step.{Step}
 use Rattle.ratio_expressions.specs.declared.step.Step.TheVariants as steps
-use Rattle.ratio_expressions.specs.Grammar.{Tree, Number, Name, Signed, Between, Group, Call, Listed, IsProper, Rank, Comparison, Sum, Product, Raising, arguments, binds, left_level, postfix, rank, right_level}
+use Rattle.ratio_expressions.specs.Grammar.{Tree, Number, Name, Signed, Between, Group, Call, Listed, IsProper, Rank, Comparison, Sum, Quotient, Product, Slash, Raising, arguments, binds, left_level, postfix, rank, right_level}
 use Rattle.ratio_expressions.specs.Stacks.{trees_by}
 
 -- the trees that a step takes are one argument each, and those of a call as many as it says
@@ -28,13 +28,17 @@ one_argument t tight = refl
 left_tight : (r : Rank) → 3 ≤ left_level r
 left_tight Comparison = omega arith
 left_tight Sum = omega arith
+left_tight Quotient = omega arith
 left_tight Product = omega arith
+left_tight Slash = omega arith
 left_tight Raising = omega arith
 
 right_tight : (r : Rank) → 3 ≤ right_level r
 right_tight Comparison = omega arith
 right_tight Sum = omega arith
+right_tight Quotient = omega arith
 right_tight Product = omega arith
+right_tight Slash = omega arith
 right_tight Raising = omega arith
 
 -- one step fits, and those behind it do

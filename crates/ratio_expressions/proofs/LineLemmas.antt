@@ -13,11 +13,12 @@ use Rattle.ratio_expressions.specs.declared.step.Step.TheVariants as steps
 use Rattle.ratio_expressions.specs.declared.refusal.ValueError.{ValueError}
 use Rattle.ratio_expressions.specs.Answers.{IsTextWorth}
 use Rattle.ratio_expressions.specs.Expression.{IsExpression}
-use Rattle.ratio_expressions.specs.Grammar.{Tree, Name, Between, postfix}
+use Rattle.ratio_expressions.specs.Grammar.{Tree, Name, Between, IsProper, arguments, postfix}
 use Rattle.ratio_expressions.specs.Lines.{AreOldOrNew, AreOldOrPut, IsLineWorth, named_behind, target, valued, with_name, with_target}
 use Rattle.ratio_expressions.specs.Nesting.{IsShallow}
 use Rattle.ratio_expressions.specs.Values.{IsWorth, piece}
 use Rattle.ratio_expressions.specs.Worths.{Worth}
+use Rattle.ratio_expressions.proofs.Completeness.{one_argument}
 
 -- what holds of each step of a line holds of those of its expression
 pub valued_all : (P : Step → Type 0) (t : Tree) → All P (postfix t) → All P (postfix (valued t))
@@ -25,6 +26,15 @@ valued_all P (Between Equal s (Name n) b) h =
     let rest : All P (postfix b ++ steps.Apply Equal s ∷ []) = All-drop P 1 (postfix (Between Equal s (Name n) b)) h in
     subst (All P) (take-append_seam (postfix b) (steps.Apply Equal s ∷ [])) (All-take P (length (postfix b)) (postfix b ++ steps.Apply Equal s ∷ []) rest)
 valued_all P t h = h
+
+-- the expression of a line is an expression
+pub valued_proper : (t : Tree) → IsProper t → IsProper (valued t)
+valued_proper (Between Equal s (Name n) b) p = p.3
+valued_proper t p = p
+
+pub valued_single : (t : Tree) → IsProper t → arguments t ≡ 1 → arguments (valued t) ≡ 1
+valued_single (Between Equal s (Name n) b) p one = one_argument b p.1
+valued_single t p one = one
 
 -- the value of a text
 pub text_worth : {V : Type 0} (r : Result V ValueError) (worth_of : V → Worth) (text : List ℕ) (named : List ℕ → Option Worth) (written : List Step) (t : Tree)

@@ -91,8 +91,8 @@ shown_with (s ∷ chains) text = if nat_lt longest_shown (length text) then None
 
 -- the text shows how its slashes are read: with parentheses around each chain that is taken whole, if there is one
 -- Example: `1/2 / 1/3`: `1/2 / (1/3)`; `1/2/3`: none
-abbrev pub IsShownAs : List ℕ → Option (List ℕ) → Type 0
-IsShownAs text shown = (t : Tree) → IsExpression text t → IsShallow text → shown ≡ shown_with (whole_chains t) text
+pub record IsShownAs (text : List ℕ) (shown : Option (List ℕ)) : Type 0 where
+  pub same : (t : Tree) → IsExpression text t → IsShallow text → shown ≡ shown_with (whole_chains t) text
 
 -- Inner: where a part of an expression is, and whether slashes make it
 abbrev pub part_of : Tree → Part

@@ -9,9 +9,16 @@ use Rattle.ratio_expressions.specs.Lines.{valued}
 use Rattle.ratio_expressions.specs.Stacks.{IsStepWithin}
 use Rattle.ratio_expressions.specs.Worths.{worth}
 use Rattle.ratio_expressions.specs.declared.refusal.ValueError.TheVariants.{Refused}
-use Rattle.ratio_expressions.proofs.LineLemmas.{line_old_or_new, line_worth, target_first, valued_all}
+use Rattle.ratio_expressions.proofs.LineLemmas.{line_old_or_new, line_worth, target_first, valued_all, valued_proper, valued_single}
 use Rattle.ratio_expressions.proofs.Places.{line_refusal_within, steps_within, tree_begins}
 use Rattle.ratio_expressions.proofs.line.value_of_line.Goals as goal
+
+pub value_of_steps-requires-clause-tree : goal.value_of_steps-requires-clause-tree
+value_of_steps-requires-clause-tree c =
+    let found = c.in_ok-steps.ensures.found in
+    let parts = c.assignment-name.ensures found.0 (c.deref.ensures.value ∙ found.2) in
+    let has = found.1.has in
+    record { tree = valued found.0; proper = valued_proper found.0 has.proper; single = valued_single found.0 has.proper has.single; same = parts.1 }
 
 pub value_of_steps-requires-clause-within : goal.value_of_steps-requires-clause-within
 value_of_steps-requires-clause-within c =

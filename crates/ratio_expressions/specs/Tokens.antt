@@ -60,9 +60,9 @@ vulgar_tail text = if slice_index text 0 == 32 then (if nat_lt 0 (vulgar_length 
 unfoldable pub mixed_tail : List ℕ → ℕ
 mixed_tail text = if nat_lt 0 (led 32 text) && nat_lt 0 (led 47 (drop (led 32 text) text)) then led 32 text + led 47 (drop (led 32 text) text) else vulgar_tail text
 
--- whether a `^` comes first
+-- whether a `^` comes first, or `**`
 abbrev pub begins_power : List ℕ → Bool
-begins_power text = slice_index text 0 == 94
+begins_power text = (slice_index text 0 == 94) || ((slice_index text 0 == 42) && (slice_index text 1 == 42))
 
 -- how long what makes a whole number a mixed number or a decimal is. Before a `^` no mixed number ends, and right of a slash without spaces none
 -- begins
@@ -122,20 +122,26 @@ abbrev pub begins_three : ℕ → ℕ → ℕ → List ℕ → Bool
 begins_three a b c text = (slice_index text 0 == a) && ((slice_index text 1 == b) && (slice_index text 2 == c))
 
 -- the operator, the parenthesis or the comma that a text begins with, and its length: the longest, of which some have a sign beyond ASCII, in
--- UTF-8: `− ≠ ≤ ≥ <= >= != × ÷`, or one byte
--- Example: `<=3`: `<=`, 2
+-- UTF-8: `− – ≠ ≤ ≥ <= >= != ** × · ∙ ⋅ ÷ ⁄`, or one byte
+-- Example: `<=3`: `<=`, 2; `**3`: `^`, 2
 unfoldable pub symbol : List ℕ → Option (Kind × ℕ)
 symbol text =
     if begins_three 226 136 146 text then Some (kinds.Operator Subtract, 3) else (
+    if begins_three 226 128 147 text then Some (kinds.Operator Subtract, 3) else (
+    if begins_three 226 136 153 text then Some (kinds.Operator Multiply, 3) else (
+    if begins_three 226 139 133 text then Some (kinds.Operator Multiply, 3) else (
+    if begins_three 226 129 132 text then Some (kinds.Operator (Divide Tight), 3) else (
     if begins_three 226 137 160 text then Some (kinds.Operator NotEqual, 3) else (
     if begins_three 226 137 164 text then Some (kinds.Operator AtMost, 3) else (
     if begins_three 226 137 165 text then Some (kinds.Operator AtLeast, 3) else (
     if begins_two 60 61 text then Some (kinds.Operator AtMost, 2) else (
     if begins_two 62 61 text then Some (kinds.Operator AtLeast, 2) else (
     if begins_two 33 61 text then Some (kinds.Operator NotEqual, 2) else (
+    if begins_two 42 42 text then Some (kinds.Operator Power, 2) else (
     if begins_two 195 151 text then Some (kinds.Operator Multiply, 2) else (
+    if begins_two 194 183 text then Some (kinds.Operator Multiply, 2) else (
     if begins_two 195 183 text then Some (kinds.Operator (Divide Half), 2) else
-    option_map (λ k. (k, 1)) (one_byte (slice_index text 0))))))))))
+    option_map (λ k. (k, 1)) (one_byte (slice_index text 0))))))))))))))))
 
 -- what a text begins with, and its length: the longest number, the longest name, or the longest operator, parenthesis or comma. A slash without
 -- spaces may be before it
@@ -151,10 +157,15 @@ is_space_at text at = slice_index text at == 32
 abbrev pub is_behind : ℕ → List ℕ → ℕ → Bool
 is_behind byte text at = nat_lt 0 at && (slice_index text (at - 1) == byte)
 
+-- how long the slash is that is right before the place, or 0: `/`, or `⁄` of three bytes
+-- Example: 2, of `1/2`: 1; 4, of `1⁄2`: 3
+abbrev pub slash_behind : List ℕ → ℕ → ℕ
+slash_behind text at = if is_behind 47 text at then 1 else (if nat_lt 2 at && begins_three 226 129 132 (drop (at - 3) text) then 3 else 0)
+
 -- whether a slash without spaces is right before the place
 -- Example: 2, of `1/2`; not 3, of `1 /2`
 abbrev pub is_behind_slash : List ℕ → ℕ → Bool
-is_behind_slash text at = is_behind 47 text at && not (is_behind 32 text (at - 1))
+is_behind_slash text at = nat_lt 0 (slash_behind text at) && not (is_behind 32 text (at - slash_behind text at))
 
 -- how an operator is set that has a space before it or none, and one behind it or none, and that is set as `s` without spaces
 -- Example: a slash in `1 / 2`: `Wide`; in `1 /2`: `Half`; in `1/2`: `Tight`

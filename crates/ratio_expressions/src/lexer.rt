@@ -3,7 +3,7 @@ mod number;
 mod symbol;
 
 ghost use Rattle.std.specs.Prelude.{◌≡◌, ◌<◌, ◌≤◌, ◌+◌, ◌++◌, ◌∷◌, [], length, IfOk, OnOk, IsErr, IfSome};
-ghost use Rattle.ratio_expressions.specs.Tokens.{BeginsWithToken, IsCutTo, first_token, is_behind, is_behind_slash, is_space_at, set_as, spaced, token_at};
+ghost use Rattle.ratio_expressions.specs.Tokens.{BeginsWithToken, IsCutTo, begins_three, first_token, is_behind, is_behind_slash, is_space_at, set_as, slash_behind, spaced, token_at};
 
 use crate::lexer::number::{name_length, number_length};
 use crate::lexer::symbol::symbol_at;
@@ -28,7 +28,7 @@ pub struct Cut {
 /// - A percent sign that touches a number belongs to it, unless an operand touches the sign: `7%3` is a remainder. Right of a slash without
 ///   spaces it belongs to no number.
 /// - A name is a letter or an underscore, and letters, digits and underscores.
-/// - A division and a remainder say where spaces are around them.
+/// - A division and a remainder say where spaces are around them. `⁄` is a slash.
 pub fn tokens(alloc: Global, text: &[u8]) -> Result<Cut, AllocError>
     // The tokens are those of the text up to the place.
     ensures cut { IfOk result (λ cut. IsCutTo text.now cut.end cut.tokens.items) }
@@ -117,7 +117,34 @@ fn behind_slash(text: &[u8], at: usize) -> bool
     requires { at ≤ length text.now }
     ensures { result ≡ is_behind_slash text.now at }
 {
-    behind(b'/', text, at) && !behind(b' ', text, at - 1)
+    let slash = slash_behind(text, at);
+    slash > 0 && !behind(b' ', text, at - slash)
+}
+
+// How long the slash is that is right before this place, or 0: `/` or `⁄`.
+fn slash_behind(text: &[u8], at: usize) -> usize
+    requires { at ≤ length text.now }
+    ensures is { result ≡ slash_behind text.now at }
+    ensures fits { result ≤ at }
+{
+    if behind(b'/', text, at) {
+        return 1;
+    }
+    if at > 2 && is_fraction_slash(&text[at - 3..]) {
+        3
+    } else {
+        0
+    }
+}
+
+// Whether a text begins with `⁄`.
+fn is_fraction_slash(text: &[u8]) -> bool
+    ensures { result ≡ begins_three 226 129 132 text.now }
+{
+    match text {
+        [0xE2, 0x81, 0x84, ..] => true,
+        _ => false,
+    }
 }
 
 // A division or a remainder with a space before it or none, and one behind it or none.

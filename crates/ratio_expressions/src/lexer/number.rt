@@ -201,12 +201,12 @@ fn tail_length(slash: bool, text: &[u8]) -> usize
     }
 }
 
-// Whether a `^` comes first.
+// Whether a `^` comes first, or `**`.
 fn begins_power(text: &[u8]) -> bool
     ensures { result ≡ begins_power text.now }
 {
     match text {
-        [b'^', ..] => true,
+        [b'^', ..] | [b'*', b'*', ..] => true,
         _ => false,
     }
 }

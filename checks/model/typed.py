@@ -7,6 +7,7 @@ from functools import reduce
 
 from model.big import decimal_text, gcd, nearest, nearest_float, quoted, simplest, unquoted, whole
 from model.common import truth
+from model.hints import advice
 
 VULGAR = "[¼½¾⅐⅑⅒⅓⅔⅕⅖⅗⅘⅙⅚⅛⅜⅝⅞↉]"
 EXPONENT = r"(?:[eE][+-]?\d+)?"
@@ -321,7 +322,7 @@ def reply(line, form, places, names):
         reason, place = refusal.args
         reason = "the expression ends too soon" if reason == NO_EXPRESSION and place == len(line) else reason
         shown = re.sub(r"[\x00-\x1f\x7f]", "?", line)
-        return f"{shown}\n{' ' * place}^\nerror: {reason}, at column {place + 1}"
+        return f"{shown}\n{' ' * place}^\nerror: {reason}, at column {place + 1}{advice(line, reason, place)}"
     is_truth = isinstance(value, bool)
     text = truth(value) if is_truth else in_form(value, form, places)
     shown = read_as(line) if form == "Both" else None

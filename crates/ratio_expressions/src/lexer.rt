@@ -1,5 +1,5 @@
 //! The tokens of a text, or the first place where none begins.
-mod number;
+pub(crate) mod number;
 mod symbol;
 
 ghost use Rattle.std.specs.Prelude.{◌≡◌, ◌<◌, ◌≤◌, ◌+◌, ◌++◌, ◌∷◌, [], length, IfOk, OnOk, IsErr, IfSome};
@@ -97,8 +97,8 @@ fn token_at(text: &[u8], at: usize) -> Option<(Kind, usize)>
     }
 }
 
-// Whether the byte is right before this place.
-fn behind(byte: u8, text: &[u8], at: usize) -> bool
+/// Whether the byte is right before this place.
+pub(crate) fn behind(byte: u8, text: &[u8], at: usize) -> bool
     requires { at ≤ length text.now }
     ensures { result ≡ is_behind byte text.now at }
 {
@@ -137,8 +137,8 @@ fn slash_behind(text: &[u8], at: usize) -> usize
     }
 }
 
-// Whether a text begins with `⁄`.
-fn is_fraction_slash(text: &[u8]) -> bool
+/// Whether a text begins with `⁄`.
+pub(crate) fn is_fraction_slash(text: &[u8]) -> bool
     ensures { result ≡ begins_three 226 129 132 text.now }
 {
     match text {
@@ -173,8 +173,8 @@ fn spacing_of(before: bool, after: bool, without: Spacing) -> Spacing
     }
 }
 
-// What a text begins with, and its length. A slash without spaces may be right before it.
-fn first_token(slash: bool, text: &[u8]) -> Option<(Kind, usize)>
+/// What a text begins with, and its length. A slash without spaces may be right before it.
+pub(crate) fn first_token(slash: bool, text: &[u8]) -> Option<(Kind, usize)>
     ensures is { result ≡ first_token slash text.now }
     ensures fits { IfSome result (λ found. (0 < found.1) × (found.1 ≤ length text.now)) }
 {

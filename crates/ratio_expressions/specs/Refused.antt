@@ -13,10 +13,10 @@ use Rattle.ratio_expressions.specs.declared.refusal.Refusal.{Refusal}
 abbrev pub column_of : List ℕ → ℕ → ℕ
 column_of text place = count_by begins_character (take place text) + 1
 
--- a byte as it is shown: a question mark in place of a control byte
--- Example: 9, a tab: 63, which is `?`
+-- a byte as it is shown: a space in place of a tab, and a question mark in place of another control byte
+-- Example: 0: 63, which is `?`
 abbrev pub shown : ℕ → ℕ
-shown b = if nat_lt b 32 || (b == 127) then 63 else b
+shown b = if b == 9 then 32 else (if nat_lt b 32 || (b == 127) then 63 else b)
 
 -- a reason in words, at the end of the line or not: an expression that has to go on at the end ends too soon
 -- Example: `NoExpression` at the end: `the expression ends too soon`

@@ -3,7 +3,7 @@ use Rattle.std.specs.Prelude.{ℕ, ◌+◌, ◌-◌, Bool, true, false, List, []
 use Rattle.std.specs.List.{take_while}
 use Rattle.std.specs.Char.{is_ascii_digit, is_ascii_alphanumeric}
 use Rattle.std.specs.Str.{bytes_eq}
-use Rattle.ratio_expressions.specs.Tokens.{begins_power, begins_three, begins_two, digits, first_token, is_behind, led, name}
+use Rattle.ratio_expressions.specs.Tokens.{begins_power, begins_three, begins_two, digits, first_token, is_behind, is_blank_byte, led, name}
 use Rattle.ratio_expressions.specs.declared.refusal.Reason.{Reason}
 use Rattle.ratio_expressions.specs.declared.refusal.Reason.TheVariants as reasons
 use Rattle.ratio_expressions.specs.declared.refusal.Refusal.{Refusal}
@@ -14,10 +14,10 @@ use Rattle.ratio_expressions.specs.declared.token.Kind.TheVariants as kinds
 use Rattle.ratio_expressions.specs.declared.token.Operator.{Operator}
 use Rattle.ratio_expressions.specs.declared.token.Operator.TheVariants as operators
 
--- a text without the spaces at its end
+-- a text without the blank bytes at its end
 -- Example: `2 `: `2`
 abbrev pub trimmed : List ℕ → List ℕ
-trimmed text = take (length text - length (take_while (λ b. b == 32) (reverse text))) text
+trimmed text = take (length text - length (take_while is_blank_byte (reverse text))) text
 
 -- the last byte of a text, or 0
 -- Example: `2/`: 47
@@ -104,7 +104,6 @@ hint_of_compared operators.Equal before = hint_of_equal before
 hint_of_compared operators.NotEqual before = hint_of_comparison before
 hint_of_compared operators.AtLeast before = hint_of_comparison before
 hint_of_compared operators.Greater before = hint_of_comparison before
-hint_of_compared operators.Add before = hints.PlusSign
 hint_of_compared (operators.Divide s) before = hint_of_slash before
 hint_of_compared operator before = hints.OneOperator
 
@@ -114,7 +113,7 @@ is_equal operators.Equal = true
 is_equal operator = false
 
 -- the hint for an operator
--- Example: `+`, where nothing is before it: `GoingOn`
+-- Example: `*`, where nothing is before it: `GoingOn`
 abbrev pub hint_of_operator : Operator → List ℕ → Hint
 hint_of_operator operator before =
     if last_byte before == 37 then hints.Percentage else (

@@ -149,13 +149,22 @@ symbol text =
 abbrev pub first_token : Bool → List ℕ → Option (Kind × ℕ)
 first_token slash text = if nat_lt 0 (number slash text) then Some (kinds.Number, number slash text) else (if nat_lt 0 (name text) then Some (kinds.Name, name text) else symbol text)
 
--- whether a space is at this place
-abbrev pub is_space_at : List ℕ → ℕ → Bool
-is_space_at text at = slice_index text at == 32
+-- whether a byte is blank: a space or a tab
+abbrev pub is_blank_byte : ℕ → Bool
+is_blank_byte b = (b == 32) || (b == 9)
+
+-- whether a blank byte is at this place
+abbrev pub is_blank_at : List ℕ → ℕ → Bool
+is_blank_at text at = is_blank_byte (slice_index text at)
 
 -- whether this byte is right before the place
 abbrev pub is_behind : ℕ → List ℕ → ℕ → Bool
 is_behind byte text at = nat_lt 0 at && (slice_index text (at - 1) == byte)
+
+-- whether a blank byte is right before the place
+-- Example: 2, of `1 /2`; neither 0 nor 3
+abbrev pub is_behind_blank : List ℕ → ℕ → Bool
+is_behind_blank text at = nat_lt 0 at && is_blank_at text (at - 1)
 
 -- how long the slash is that is right before the place, or 0: `/`, or `⁄` of three bytes
 -- Example: 2, of `1/2`: 1; 4, of `1⁄2`: 3
@@ -165,9 +174,9 @@ slash_behind text at = if is_behind 47 text at then 1 else (if nat_lt 2 at && be
 -- whether a slash without spaces is right before the place
 -- Example: 2, of `1/2`; not 3, of `1 /2`
 abbrev pub is_behind_slash : List ℕ → ℕ → Bool
-is_behind_slash text at = nat_lt 0 (slash_behind text at) && not (is_behind 32 text (at - slash_behind text at))
+is_behind_slash text at = nat_lt 0 (slash_behind text at) && not (is_behind_blank text (at - slash_behind text at))
 
--- how an operator is set that has a space before it or none, and one behind it or none, and that is set as `s` without spaces
+-- how an operator is set that has a blank byte before it or none, and one behind it or none, and that is set as `s` without spaces
 -- Example: a slash in `1 / 2`: `Wide`; in `1 /2`: `Half`; in `1/2`: `Tight`
 abbrev pub set_as : Bool → Bool → Spacing → Spacing
 set_as true true s = Wide
@@ -183,17 +192,17 @@ spaced before after kind = kind
 
 -- the same, with its length, where it is in the text
 abbrev pub spaced_at : List ℕ → ℕ → Kind × ℕ → Kind × ℕ
-spaced_at text at t = (spaced (is_behind 32 text at) (is_space_at text (at + t.1)) t.0, t.1)
+spaced_at text at t = (spaced (is_behind_blank text at) (is_blank_at text (at + t.1)) t.0, t.1)
 
 -- the kind and the length of the token that begins at a place
 -- Example: 2, of `1 / 2`: a division, `Wide`, and 1
 abbrev pub token_at : List ℕ → ℕ → Option (Kind × ℕ)
 token_at text at = option_map (spaced_at text at) (first_token (is_behind_slash text at) (drop at text))
 
--- a piece of a text is blank: its bytes are spaces
+-- a piece of a text is blank: its bytes are spaces and tabs
 pub record IsBlank (text : List ℕ) (from to : ℕ) : Type 0 where
   pub ordered : from ≤ to
-  pub spaces : (k : ℕ) → from ≤ k → k < to → slice_index text k ≡ 32
+  pub spaces : (k : ℕ) → from ≤ k → k < to → is_blank_at text k ≡ true
 
 -- a token is in the text at its place
 pub record IsTokenAt (text : List ℕ) (t : Token) : Type 0 where
@@ -202,7 +211,7 @@ pub record IsTokenAt (text : List ℕ) (t : Token) : Type 0 where
   pub within : t.span.end ≤ length text
   pub first : token_at text t.span.start ≡ Some (t.kind, long)
 
--- a token begins the text, maybe behind spaces
+-- a token begins the text, maybe behind spaces and tabs
 -- Example: ` 12`; neither ` ` nor `?12`
 pub record BeginsWithToken (text : List ℕ) : Type 0 where
   pub token : Token
@@ -214,10 +223,10 @@ abbrev pub IsCutInto : List ℕ → ℕ → ℕ → List Token → Type 0
 IsCutInto text from to [] = IsBlank text from to
 IsCutInto text from to (t ∷ ts) = IsBlank text from t.span.start × IsTokenAt text t × IsCutInto text t.span.end to ts
 
--- at this place is no space, and no token begins there
+-- at this place is no blank byte, and no token begins there
 pub record BeginsNone (text : List ℕ) (at : ℕ) : Type 0 where
   pub within : at < length text
-  pub no_space : slice_index text at ≢ 32
+  pub no_space : is_blank_at text at ≢ true
   pub none : token_at text at ≡ None
 
 -- the text is these tokens up to its end, or else up to the first place where none begins

@@ -81,8 +81,6 @@ pub enum Hint {
     Assigned,
     /// An operator at the beginning.
     GoingOn,
-    /// A plus as a sign.
-    PlusSign,
     /// An operator behind another one.
     OneOperator,
     /// A space that breaks no line.
@@ -110,14 +108,14 @@ impl Hint {
             Hint::Repeating => "1/3 for 0.333...",
             Hint::LastPoint => "5 for 5.",
             Hint::Unit => "3*x for 3x, and 1/2 for 1/2 cup",
-            Hint::Currency => "5 for $5, and 3 1/2 for 3 1/2\"",
+            Hint::Currency => "5 for $5 or 5'",
             Hint::Times => "2*3 for 2 x 3, and 3*x for 3x",
             Hint::Share => "1/2 * 3 for 1/2 of 3",
             Hint::Joined => "1 1/2 for 1 and 1/2",
             Hint::Underscore => "1299 for 1_299",
             Hint::Comma => "12.50 for 12,50, and 1299 for 1,299",
             Hint::Percentage => "x/100 for x%, and (1/2)/100 for 1/2%",
-            Hint::Remainder => "12 % 5 for 12 mod 5, and it is -2 for -12",
+            Hint::Remainder => "12 % 5 for 12 mod 5, with the sign of 12",
             Hint::WholeQuotient => "floor(7/2) for 7 // 2",
             Hint::Factorial => "5*4*3*2 for 5!",
             Hint::Power => "3^2 for pow(3, 2) or for a raised 2",
@@ -137,8 +135,7 @@ impl Hint {
             Hint::Turned => "2 <= 3 for 2 =< 3, 3 >= 2 for 3 => 2, and 2 != 3 for 2 <> 3",
             Hint::Increase => "x = x + 1 for x += 1",
             Hint::Assigned => "x = 3 for x := 3",
-            Hint::GoingOn => "5 or ans + 5 for +5",
-            Hint::PlusSign => "2 + 3 for 2 + +3",
+            Hint::GoingOn => "ans * 5 for * 5",
             Hint::OneOperator => "2 * 3 for 2 * / 3",
             Hint::PlainSpace => "a plain space",
             Hint::NameProduct => "x*(3+4) for x(3+4)",

@@ -9,7 +9,8 @@ use crate::replies::slip::hint_for;
 use std::alloc::{AllocError, Global};
 
 /// Three lines without the last line end: the line, a caret below the place, and the reason with the column. Where a hint is known, it is at the
-/// end: `; type 2*(3+4) for 2(3+4)`. A control byte of the line is shown as `?`. An error means that an allocation failed.
+/// end: `; type 2*(3+4) for 2(3+4)`. A tab of the line is shown as a
+/// space, and another control byte as `?`. An error means that an allocation failed.
 pub(crate) fn refusal_lines(
     alloc: Global,
     line: &[u8],
@@ -65,9 +66,13 @@ fn shown_line(alloc: Global, line: &[u8]) -> Result<Vec<u8>, AllocError>
     Ok(text)
 }
 
-// A byte as it is shown: a question mark in place of a control byte.
+// A byte as it is shown: a space in place of a tab, and a question mark in place of another control byte.
 fn shown(byte: u8) -> u8
     ensures { result ≡ shown byte }
 {
-    if byte < 32 || byte == 127 { b'?' } else { byte }
+    match byte {
+        b'\t' => b' ',
+        0..32 | 127 => b'?',
+        _ => byte,
+    }
 }

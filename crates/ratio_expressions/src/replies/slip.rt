@@ -2,9 +2,10 @@
 ghost use Rattle.std.specs.Prelude.{◌≡◌, ◌≤◌, length, reverse, slice_index};
 ghost use Rattle.std.specs.List.{take_while};
 ghost use Rattle.ratio_expressions.specs.Slips.{behind_digits, ends_operand, ends_over, hint, hint_between, hint_for, hint_of_byte, hint_of_call, hint_of_character, hint_of_comma, hint_of_comparison, hint_of_compared, hint_of_end, hint_of_equal, hint_of_kind, hint_of_mark, hint_of_name, hint_of_number, hint_of_operator, hint_of_sign, hint_of_slash, hint_of_three, hint_of_two, hint_of_word, is_cross, is_equal, is_part_to_power, last_byte, last_digits, name_at, trimmed};
+ghost use Rattle.ratio_expressions.specs.Tokens.{is_blank_byte};
 
 use crate::lexer::number::{begins_power, digits_length, led_length, name_length};
-use crate::lexer::{behind, first_token, is_fraction_slash};
+use crate::lexer::{behind, first_token, is_blank_byte, is_fraction_slash};
 use crate::refusal::{Reason, Refusal};
 use crate::replies::hint::Hint;
 use crate::token::{Kind, Operator};
@@ -154,7 +155,6 @@ fn hint_of_compared(operator: Operator, before: &[u8]) -> Hint
         | Operator::NotEqual
         | Operator::AtLeast
         | Operator::Greater => hint_of_comparison(before),
-        Operator::Add => Hint::PlusSign,
         Operator::Divide(_) => hint_of_slash(before),
         _ => Hint::OneOperator,
     }
@@ -345,19 +345,22 @@ fn name_at(line: &[u8], place: usize) -> &[u8]
     &rest[..name_length(rest)]
 }
 
-// A text without the spaces at its end.
+// A text without the blank bytes at its end.
 fn trimmed(text: &[u8]) -> &[u8]
     ensures { result.now ≡ trimmed text.now }
 {
-    &text[..text.len() - last_spaces(text)]
+    &text[..text.len() - last_blanks(text)]
 }
 
-// How many spaces a text ends with.
-fn last_spaces(text: &[u8]) -> usize
-    ensures is { result ≡ length (take_while (λ b. b == 32) (reverse text.now)) }
+// How many blank bytes a text ends with.
+fn last_blanks(text: &[u8]) -> usize
+    ensures is { result ≡ length (take_while is_blank_byte (reverse text.now)) }
     ensures fits { result ≤ length text.now }
 {
-    text.iter().rev().take_while(|byte| **byte == b' ').count()
+    text.iter()
+        .rev()
+        .take_while(|byte| is_blank_byte(**byte))
+        .count()
 }
 
 // How many digits a text ends with.

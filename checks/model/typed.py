@@ -7,14 +7,15 @@ from functools import reduce
 
 from model.big import decimal_text, gcd, nearest, nearest_float, quoted, simplest, unquoted, whole
 from model.common import truth
+from model.hints import advice
 
 VULGAR = "[¼½¾⅐⅑⅒⅓⅔⅕⅖⅗⅘⅙⅚⅛⅜⅝⅞↉]"
 EXPONENT = r"(?:[eE][+-]?\d+)?"
 DECIMAL = rf"\d+(?:\.\d+)?{EXPONENT}|\.\d+{EXPONENT}|{VULGAR}"
-MIXED = re.compile(rf"(\d+(?: \d+/\d+| ?{VULGAR}))(?!\^)", re.ASCII)
-TOKEN = re.compile(rf"(?P<number>{DECIMAL})|(?P<name>[A-Za-z_]\w*)|(?P<sign><=|>=|!=|[-+*/%^<=>(),×÷−≠≤≥])", re.ASCII)
+MIXED = re.compile(rf"(\d+(?: \d+/\d+| ?{VULGAR}))(?!\^|\*\*)", re.ASCII)
+TOKEN = re.compile(rf"(?P<number>{DECIMAL})|(?P<name>[A-Za-z_]\w*)|(?P<sign><=|>=|!=|\*\*|[-+*/%^<=>(),×·∙⋅÷⁄−–≠≤≥])", re.ASCII)
 PERCENT = re.compile(r"%(?![\w.(])", re.ASCII)
-PLAIN = {"×": "*", "÷": "/", "−": "-", "≠": "!=", "≤": "<=", "≥": ">="}
+PLAIN = {"×": "*", "·": "*", "∙": "*", "⋅": "*", "**": "^", "÷": "/", "⁄": "/", "−": "-", "–": "-", "≠": "!=", "≤": "<=", "≥": ">="}
 NAMES = {"+": "Add", "-": "Subtract", "*": "Multiply", "/wide": "Divide(Wide)", "/half": "Divide(Half)", "/tight": "Divide(Tight)", "<=": "AtMost", ">=": "AtLeast", "!=": "NotEqual"}
 COMPARISONS = {
     "<": lambda x, y: x < y,
@@ -36,7 +37,7 @@ def tokens_of(text):
     tokens, at = [], 0
     while at < len(text):
         kind, piece = token_at(text, at)
-        if not kind and text[at] != " ":
+        if not kind and text[at] not in " \t":
             break
         if kind:
             tokens.append((kind, piece, at))
@@ -51,13 +52,13 @@ def token_at(text, at):
         return "", ""
     piece, kind = match[0], match.lastgroup
     if kind == "number":
-        slash = text[:at].endswith("/") and not text[: at - 1].endswith(" ")
+        slash = text[:at].endswith(("/", "⁄")) and not text[: at - 1].endswith((" ", "\t"))
         mixed = MIXED.match(text, at)
         piece = mixed[1] if mixed and not slash else piece
         return kind, piece + ("%" if PERCENT.match(text, at + len(piece)) and not slash else "")
-    if piece in "/÷%":
-        spaces = text[:at].endswith(" ") + text[at + 1 :].startswith(" ")
-        return PLAIN.get(piece, piece) + ("tight" if piece == "/" and spaces == 0 else "wide" if spaces == 2 else "half"), piece
+    if piece in "/÷⁄%":
+        spaces = text[:at].endswith((" ", "\t")) + text[at + 1 :].startswith((" ", "\t"))
+        return PLAIN.get(piece, piece) + ("tight" if piece in "/⁄" and spaces == 0 else "wide" if spaces == 2 else "half"), piece
     return PLAIN.get(piece, piece) if kind == "sign" else kind, piece
 
 
@@ -248,7 +249,7 @@ def value_of(text, names, hidden=0):
 def answer(line, names):
     """The value of a line, which gives it names."""
     steps_of(line)
-    match = re.match(r" *([A-Za-z_]\w*) *=", line, re.ASCII)
+    match = re.match(r"[ \t]*([A-Za-z_]\w*)[ \t]*=", line, re.ASCII)
     value = value_of(line, names, match.end() if match else 0)
     names.update({match[1]: value} if match else {}, ans=value)
     return value
@@ -313,15 +314,15 @@ def in_form(x, form, places):
 
 
 def reply(line, form, places, names):
-    if not line.strip(" "):
+    if not line.strip(" \t"):
         return ""
     try:
         value = answer(line, names)
     except Refused as refusal:
         reason, place = refusal.args
         reason = "the expression ends too soon" if reason == NO_EXPRESSION and place == len(line) else reason
-        shown = re.sub(r"[\x00-\x1f\x7f]", "?", line)
-        return f"{shown}\n{' ' * place}^\nerror: {reason}, at column {place + 1}"
+        shown = re.sub(r"[\x00-\x1f\x7f]", "?", line.replace("\t", " "))
+        return f"{shown}\n{' ' * place}^\nerror: {reason}, at column {place + 1}{advice(line, reason, place)}"
     is_truth = isinstance(value, bool)
     text = truth(value) if is_truth else in_form(value, form, places)
     shown = read_as(line) if form == "Both" else None

@@ -232,9 +232,9 @@ function reasonOf(text) {
   return Object.assign(document.createElement("span"), { className: "reason", textContent: text });
 }
 
-// The part of a line around the column that a reason ends with, with a mark at the character there and a caret under it, and the reason.
+// The part of a line around the column that a reason names, with a mark at the character there and a caret under it, and the reason.
 function refusal(text, reason) {
-  const letters = [...text], at = Number(/\d+$/.exec(reason)) - 1, start = Math.max(0, at - 16), end = Math.min(letters.length, at + 10);
+  const letters = [...text], at = Number(/, at column (\d+)/.exec(reason)[1]) - 1, start = Math.max(0, at - 16), end = Math.min(letters.length, at + 10);
   const before = (start > 0 ? "…" : "") + letters.slice(start, at).join("");
   const where = document.createElement("pre");
   where.className = "where";

@@ -1,22 +1,35 @@
 -- A text is cut into tokens in one way, and a text in which a place begins no token is cut in none.
-use Rattle.std.proofs.Common.{◌≡◌, ◌≢◌, ◌<◌, ◌≤◌, ◌+◌, ℕ, Bool, List, [], ◌∷◌, ◌++◌, length, drop, Some, None, refl, ap, sym, ◌∙◌, subst, arith, ⊎_elim}
+use Rattle.std.proofs.Common.{◌≡◌, ◌≢◌, ◌<◌, ◌≤◌, ◌+◌, ◌⊎◌, ℕ, Bool, true, List, [], ◌∷◌, ◌++◌, length, drop, Some, None, refl, ap, sym, ◌∙◌, subst, arith, ⊎_elim}
 use Rattle.std.specs.Prelude.{option_map, slice_index}
-use Rattle.std.proofs.lemmas.Bool.Decides.{leb_tells}
+use Rattle.std.proofs.lemmas.Bool.Decides.{leb_tells, nat_tests}
 use Rattle.std.proofs.lemmas.List.{get_or-drop, drop_all}
 use Rattle.ratio_expressions.specs.declared.token.Kind.{Kind}
 use Rattle.ratio_expressions.specs.declared.token.Token.{Token}
-use Rattle.ratio_expressions.specs.Tokens.{first_token, is_behind_slash, spaced_at, token_at, number, plain_number, name, symbol, digits, led, IsBlank, IsTokenAt, IsCutInto, BeginsNone, BeginsWithToken}
+use Rattle.ratio_expressions.specs.Tokens.{first_token, is_behind_slash, is_blank_at, is_blank_byte, spaced_at, token_at, number, plain_number, name, symbol, digits, led, IsBlank, IsTokenAt, IsCutInto, BeginsNone, BeginsWithToken}
 use Rattle.ratio_expressions.specs.Vulgar.{vulgar, vulgar_length}
 
--- no token begins with a space
+-- a blank byte is a space or a tab
+space_or_tab : (b : ℕ) → is_blank_byte b ≡ true → (b ≡ 32) ⊎ (b ≡ 9)
+space_or_tab b e = grind (arith, nat_tests)
+
+-- no token begins with a space or a tab
 space_first : (slash : Bool) (rest : List ℕ) → first_token slash (32 ∷ rest) ≡ None
 unfolding number plain_number name symbol digits led vulgar vulgar_length
 space_first slash rest = refl
 
-at_space : (slash : Bool) (text : List ℕ) → slice_index text 0 ≡ 32 → first_token slash text ≡ None
+tab_first : (slash : Bool) (rest : List ℕ) → first_token slash (9 ∷ rest) ≡ None
 unfolding number plain_number name symbol digits led vulgar vulgar_length
-at_space slash [] e = absurd (omega arith)
-at_space slash (b ∷ rest) e = ap (λ x. first_token slash (x ∷ rest)) e ∙ space_first slash rest
+tab_first slash rest = refl
+
+blank_first : (slash : Bool) (b : ℕ) (rest : List ℕ) → is_blank_byte b ≡ true → first_token slash (b ∷ rest) ≡ None
+blank_first slash b rest e = ⊎_elim
+    (λ p. ap (λ x. first_token slash (x ∷ rest)) p ∙ space_first slash rest)
+    (λ p. ap (λ x. first_token slash (x ∷ rest)) p ∙ tab_first slash rest)
+    (space_or_tab b e)
+
+at_blank : (slash : Bool) (text : List ℕ) → is_blank_byte (slice_index text 0) ≡ true → first_token slash text ≡ None
+at_blank slash [] e = absurd (cc)
+at_blank slash (b ∷ rest) e = blank_first slash b rest e
 
 nothing_first : (slash : Bool) → first_token slash [] ≡ None
 unfolding number plain_number name symbol digits led vulgar vulgar_length
@@ -27,12 +40,12 @@ none_at : (text : List ℕ) (at : ℕ) → first_token (is_behind_slash text at)
 none_at text at e = ap (option_map (spaced_at text at)) e
 
 module _ (text : List ℕ) (t : Token) (h : IsTokenAt text t) where
-  -- a token begins with no space, and before the end
-  pub begins : slice_index text t.span.start ≢ 32
+  -- a token begins with no blank byte, and before the end
+  pub begins : is_blank_at text t.span.start ≢ true
   begins e =
       let whole : t.span.start ≡ t.span.start + 0 = omega arith in
-      let here : slice_index (drop t.span.start text) 0 ≡ 32 = get_or-drop t.span.start text 0 0 ∙ ap (slice_index text) (sym whole) ∙ e in
-      let none = none_at text t.span.start (at_space (is_behind_slash text t.span.start) (drop t.span.start text) here) in
+      let here : is_blank_byte (slice_index (drop t.span.start text) 0) ≡ true = ap is_blank_byte (get_or-drop t.span.start text 0 0 ∙ ap (slice_index text) (sym whole)) ∙ e in
+      let none = none_at text t.span.start (at_blank (is_behind_slash text t.span.start) (drop t.span.start text) here) in
       let some = h.first in
       cc
 
@@ -129,7 +142,7 @@ pub record GoesOn (text : List ℕ) (at : ℕ) (ts us : List Token) : Type 0 whe
   pub here : IsTokenAt text token
   pub place : token.span.start ≡ at
 
-module _ (text : List ℕ) (at to : ℕ) (later : at < to) (no_space : slice_index text at ≢ 32) where
+module _ (text : List ℕ) (at to : ℕ) (later : at < to) (no_space : is_blank_at text at ≢ true) where
   -- a longer cut has the tokens of a shorter one, and then one at its end, if no space is there
   pub goes_on : (from : ℕ) (ts us : List Token) → IsCutInto text from at ts → IsCutInto text from to us → GoesOn text at ts us
   goes_on from [] [] h g = absurd (no_space (g.spaces at h.ordered later))

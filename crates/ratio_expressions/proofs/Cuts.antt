@@ -1,22 +1,21 @@
 -- A text that is cut up to a place is cut up to a later one.
-use Rattle.std.proofs.Common.{◌≡◌, ◌≤◌, ◌+◌, ℕ, List, [], ◌∷◌, ◌++◌, length, Some, refl, sym, ◌∙◌, subst, arith, ⊎_elim}
-use Rattle.std.specs.Prelude.{slice_index}
+use Rattle.std.proofs.Common.{◌≡◌, ◌≤◌, ◌+◌, ℕ, List, [], ◌∷◌, ◌++◌, length, true, Some, refl, sym, ◌∙◌, subst, arith, ⊎_elim}
 use Rattle.std.proofs.lemmas.Bool.Decides.{leb_tells}
 use Rattle.ratio_expressions.specs.declared.token.Token.{Token}
 use Rattle.ratio_expressions.specs.declared.token.Kind.{Kind}
-use Rattle.ratio_expressions.specs.Tokens.{token_at, BeginsWithToken, IsBlank, IsTokenAt, IsCutInto}
+use Rattle.ratio_expressions.specs.Tokens.{token_at, is_blank_at, BeginsWithToken, IsBlank, IsTokenAt, IsCutInto}
 
-blank_on : (text : List ℕ) (from to : ℕ) → IsBlank text from to → slice_index text to ≡ 32 → IsBlank text from (to + 1)
+blank_on : (text : List ℕ) (from to : ℕ) → IsBlank text from to → is_blank_at text to ≡ true → IsBlank text from (to + 1)
 blank_on text from to b e = record {
   ordered = omega (arith, b.ordered);
   spaces = λ k low high. ⊎_elim
-      (λ p. let here : to ≡ k = omega arith in subst (λ n. slice_index text n ≡ 32) here e)
+      (λ p. let here : to ≡ k = omega arith in subst (λ n. is_blank_at text n ≡ true) here e)
       (λ p. b.spaces k low p.1)
       (leb_tells to k);
 }
 
--- one space more
-pub blank_more : (text : List ℕ) (from to : ℕ) (ts : List Token) → IsCutInto text from to ts → slice_index text to ≡ 32 → IsCutInto text from (to + 1) ts
+-- one blank byte more
+pub blank_more : (text : List ℕ) (from to : ℕ) (ts : List Token) → IsCutInto text from to ts → is_blank_at text to ≡ true → IsCutInto text from (to + 1) ts
 blank_more text from to [] h e = blank_on text from to h e
 blank_more text from to (t ∷ ts) h e = (h.0, h.1, blank_more text t.span.end to ts h.2 e)
 

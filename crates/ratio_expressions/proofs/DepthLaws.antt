@@ -1,10 +1,10 @@
 -- The depth of tokens, one token after another.
-use Rattle.std.proofs.Common.{◌≡◌, ◌≢◌, ◌<◌, ◌≤◌, ◌+◌, ℕ, Bool, List, [], ◌∷◌, ◌++◌, length, take, get_or, refl, ap, sym, ◌∙◌, subst, arith, append_assoc, ⊎_elim}
-use Rattle.std.specs.Prelude.{slice_index, nat_le, if◌then◌else◌}
+use Rattle.std.proofs.Common.{◌≡◌, ◌≢◌, ◌<◌, ◌≤◌, ◌+◌, ℕ, Bool, true, List, [], ◌∷◌, ◌++◌, length, take, get_or, refl, ap, sym, ◌∙◌, subst, arith, append_assoc, ⊎_elim}
+use Rattle.std.specs.Prelude.{nat_le, if◌then◌else◌}
 use Rattle.std.proofs.lemmas.Bool.Decides.{leb_tells}
 use Rattle.std.proofs.lemmas.List.{take_more}
 use Rattle.ratio_expressions.specs.declared.token.Token.{Token}
-use Rattle.ratio_expressions.specs.Tokens.{IsCutInto, IsTokenAt, BeginsNone, IsCutTo}
+use Rattle.ratio_expressions.specs.Tokens.{is_blank_at, IsCutInto, IsTokenAt, BeginsNone, IsCutTo}
 use Rattle.ratio_expressions.specs.Nesting.{most_open, open_behind, open_after, greater, depth_from, depth, IsTooDeep}
 use Rattle.ratio_expressions.proofs.CutLaws.{begins, inside, same_token, no_token, goes_on}
 
@@ -77,7 +77,7 @@ too_deep_at text ts i d h front before deep = record {
 -- tokens that are not too deep have no place before their end that is
 earlier : (text : List ℕ) (to : ℕ) (ts : List Token) → IsCutInto text 0 to ts → depth ts ≤ most_open → (at : ℕ) (r : IsTooDeep text at) → at < to → ⊥
 earlier text to ts cut shallow at r later =
-    let no_space : slice_index text at ≢ 32 = λ e. begins text r.token r.here (ap (slice_index text) r.place ∙ e) in
+    let no_space : is_blank_at text at ≢ true = λ e. begins text r.token r.here (ap (is_blank_at text) r.place ∙ e) in
     let on = goes_on text at to later no_space 0 r.tokens ts r.cut cut in
     let same : on.token ≡ r.token = same_token text on.token r.token (on.place ∙ sym r.place) on.here r.here in
     let split : ts ≡ (r.tokens ++ r.token ∷ []) ++ on.rest = on.split ∙ ap (λ (v : Token). r.tokens ++ (v ∷ on.rest)) same ∙ sym (append_assoc r.tokens (r.token ∷ []) on.rest) in

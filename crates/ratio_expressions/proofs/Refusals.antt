@@ -1,11 +1,10 @@
 -- A text is refused where its tokens are.
-use Rattle.std.proofs.Common.{◌≡◌, ◌≢◌, ◌<◌, ◌≤◌, ◌+◌, ℕ, zero, suc, List, [], ◌∷◌, ◌++◌, length, take, get_or, refl, ap, sym, ◌∙◌, subst, arith, inl, inr, ⊎_elim, append_assoc}
-use Rattle.std.specs.Prelude.{slice_index}
+use Rattle.std.proofs.Common.{◌≡◌, ◌≢◌, ◌<◌, ◌≤◌, ◌+◌, ℕ, true, zero, suc, List, [], ◌∷◌, ◌++◌, length, take, get_or, refl, ap, sym, ◌∙◌, subst, arith, inl, inr, ⊎_elim, append_assoc}
 use Rattle.std.proofs.lemmas.Bool.Decides.{leb_tells}
 use Rattle.std.proofs.lemmas.List.{take_more, append-nil, take_all}
 use Rattle.ratio_expressions.specs.declared.token.Token.{Token}
 use Rattle.ratio_expressions.specs.Grammar.{Tree, HasTree, IsBegun}
-use Rattle.ratio_expressions.specs.Tokens.{IsCutInto, IsTokenAt, BeginsNone, IsCutTo}
+use Rattle.ratio_expressions.specs.Tokens.{is_blank_at, IsCutInto, IsTokenAt, BeginsNone, IsCutTo}
 use Rattle.ratio_expressions.specs.Expression.{IsExpression, IsRefusal}
 use Rattle.ratio_expressions.proofs.CutLaws.{one_cut, begins, inside, same_token, no_token, goes_on}
 use Rattle.ratio_expressions.proofs.ParserLaws.{one_of_tokens}
@@ -73,7 +72,7 @@ beyond : (text : List ℕ) (at to : ℕ) (us : List Token) → IsRefusal text at
 beyond text at to us r later short cut begun = ⊎_elim
     (λ p.
     let t : Token = p.0 in
-    let no_space : slice_index text at ≢ 32 = λ e. begins text t p.1 (ap (slice_index text) p.2 ∙ e) in
+    let no_space : is_blank_at text at ≢ true = λ e. begins text t p.1 (ap (is_blank_at text) p.2 ∙ e) in
     let on = goes_on text at to later no_space 0 r.tokens us r.cut cut in
     let same : on.token ≡ t = same_token text on.token t (on.place ∙ sym p.2) on.here p.1 in
     let split : us ≡ (r.tokens ++ t ∷ []) ++ on.rest = on.split ∙ ap (λ (v : Token). r.tokens ++ (v ∷ on.rest)) same ∙ sym (append_assoc r.tokens (t ∷ []) on.rest) in

@@ -6,6 +6,7 @@ pub mod Floats
 pub mod Forms
 pub mod Functions
 pub mod Grammar
+pub mod Hints
 pub mod Lines
 pub mod Nesting
 pub mod Numbers
@@ -16,6 +17,7 @@ pub mod Reasons
 pub mod Refused
 pub mod Replies
 pub mod Slashes
+pub mod Slips
 pub mod Stacks
 pub mod Tokens
 pub mod Usual

@@ -1,18 +1,19 @@
 -- What a line is answered.
-use Rattle.std.specs.Prelude.{◌≡◌, ◌==◌, ℕ, Bool, true, false, List, Option}
+use Rattle.std.specs.Prelude.{◌≡◌, ℕ, Bool, true, false, List, Option}
 use Rattle.std.specs.List.{list_all}
 use Rattle.ratio_expressions.specs.Lines.{HasLineRefusal, IsLineWorth}
 use Rattle.ratio_expressions.specs.Worths.{Worth}
 use Rattle.ratio_expressions.specs.declared.refusal.Refusal.{Refusal}
 use Rattle.ratio_expressions.specs.Readings.{IsAnswerInForm}
 use Rattle.ratio_expressions.specs.Refused.{refusal_lines}
+use Rattle.ratio_expressions.specs.Tokens.{is_blank_byte}
 use Rattle.ratio_expressions.specs.declared.replies.form.Form.{Form}
 use Rattle.ratio_expressions.specs.declared.replies.reply.Reply.{Reply}
 use Rattle.ratio_expressions.specs.declared.replies.reply.Reply.TheVariants as replies
 
--- whether a line has only spaces, or nothing
+-- whether a line has only spaces and tabs, or nothing
 abbrev pub is_blank : List ℕ → Bool
-is_blank line = list_all (λ b. b == 32) line
+is_blank line = list_all is_blank_byte line
 
 -- each name is worth what it was
 abbrev pub AreKept : (List ℕ → Option Worth) → (List ℕ → Option Worth) → Type 0

@@ -60,9 +60,9 @@ vulgar_tail text = if slice_index text 0 == 32 then (if nat_lt 0 (vulgar_length 
 unfoldable pub mixed_tail : List ℕ → ℕ
 mixed_tail text = if nat_lt 0 (led 32 text) && nat_lt 0 (led 47 (drop (led 32 text) text)) then led 32 text + led 47 (drop (led 32 text) text) else vulgar_tail text
 
--- whether a `^` comes first
+-- whether a `^` comes first, or `**`
 abbrev pub begins_power : List ℕ → Bool
-begins_power text = slice_index text 0 == 94
+begins_power text = (slice_index text 0 == 94) || ((slice_index text 0 == 42) && (slice_index text 1 == 42))
 
 -- how long what makes a whole number a mixed number or a decimal is. Before a `^` no mixed number ends, and right of a slash without spaces none
 -- begins
@@ -122,20 +122,26 @@ abbrev pub begins_three : ℕ → ℕ → ℕ → List ℕ → Bool
 begins_three a b c text = (slice_index text 0 == a) && ((slice_index text 1 == b) && (slice_index text 2 == c))
 
 -- the operator, the parenthesis or the comma that a text begins with, and its length: the longest, of which some have a sign beyond ASCII, in
--- UTF-8: `− ≠ ≤ ≥ <= >= != × ÷`, or one byte
--- Example: `<=3`: `<=`, 2
+-- UTF-8: `− – ≠ ≤ ≥ <= >= != ** × · ∙ ⋅ ÷ ⁄`, or one byte
+-- Example: `<=3`: `<=`, 2; `**3`: `^`, 2
 unfoldable pub symbol : List ℕ → Option (Kind × ℕ)
 symbol text =
     if begins_three 226 136 146 text then Some (kinds.Operator Subtract, 3) else (
+    if begins_three 226 128 147 text then Some (kinds.Operator Subtract, 3) else (
+    if begins_three 226 136 153 text then Some (kinds.Operator Multiply, 3) else (
+    if begins_three 226 139 133 text then Some (kinds.Operator Multiply, 3) else (
+    if begins_three 226 129 132 text then Some (kinds.Operator (Divide Tight), 3) else (
     if begins_three 226 137 160 text then Some (kinds.Operator NotEqual, 3) else (
     if begins_three 226 137 164 text then Some (kinds.Operator AtMost, 3) else (
     if begins_three 226 137 165 text then Some (kinds.Operator AtLeast, 3) else (
     if begins_two 60 61 text then Some (kinds.Operator AtMost, 2) else (
     if begins_two 62 61 text then Some (kinds.Operator AtLeast, 2) else (
     if begins_two 33 61 text then Some (kinds.Operator NotEqual, 2) else (
+    if begins_two 42 42 text then Some (kinds.Operator Power, 2) else (
     if begins_two 195 151 text then Some (kinds.Operator Multiply, 2) else (
+    if begins_two 194 183 text then Some (kinds.Operator Multiply, 2) else (
     if begins_two 195 183 text then Some (kinds.Operator (Divide Half), 2) else
-    option_map (λ k. (k, 1)) (one_byte (slice_index text 0))))))))))
+    option_map (λ k. (k, 1)) (one_byte (slice_index text 0))))))))))))))))
 
 -- what a text begins with, and its length: the longest number, the longest name, or the longest operator, parenthesis or comma. A slash without
 -- spaces may be before it
@@ -143,20 +149,34 @@ symbol text =
 abbrev pub first_token : Bool → List ℕ → Option (Kind × ℕ)
 first_token slash text = if nat_lt 0 (number slash text) then Some (kinds.Number, number slash text) else (if nat_lt 0 (name text) then Some (kinds.Name, name text) else symbol text)
 
--- whether a space is at this place
-abbrev pub is_space_at : List ℕ → ℕ → Bool
-is_space_at text at = slice_index text at == 32
+-- whether a byte is blank: a space or a tab
+abbrev pub is_blank_byte : ℕ → Bool
+is_blank_byte b = (b == 32) || (b == 9)
+
+-- whether a blank byte is at this place
+abbrev pub is_blank_at : List ℕ → ℕ → Bool
+is_blank_at text at = is_blank_byte (slice_index text at)
 
 -- whether this byte is right before the place
 abbrev pub is_behind : ℕ → List ℕ → ℕ → Bool
 is_behind byte text at = nat_lt 0 at && (slice_index text (at - 1) == byte)
 
+-- whether a blank byte is right before the place
+-- Example: 2, of `1 /2`; neither 0 nor 3
+abbrev pub is_behind_blank : List ℕ → ℕ → Bool
+is_behind_blank text at = nat_lt 0 at && is_blank_at text (at - 1)
+
+-- how long the slash is that is right before the place, or 0: `/`, or `⁄` of three bytes
+-- Example: 2, of `1/2`: 1; 4, of `1⁄2`: 3
+abbrev pub slash_behind : List ℕ → ℕ → ℕ
+slash_behind text at = if is_behind 47 text at then 1 else (if nat_lt 2 at && begins_three 226 129 132 (drop (at - 3) text) then 3 else 0)
+
 -- whether a slash without spaces is right before the place
 -- Example: 2, of `1/2`; not 3, of `1 /2`
 abbrev pub is_behind_slash : List ℕ → ℕ → Bool
-is_behind_slash text at = is_behind 47 text at && not (is_behind 32 text (at - 1))
+is_behind_slash text at = nat_lt 0 (slash_behind text at) && not (is_behind_blank text (at - slash_behind text at))
 
--- how an operator is set that has a space before it or none, and one behind it or none, and that is set as `s` without spaces
+-- how an operator is set that has a blank byte before it or none, and one behind it or none, and that is set as `s` without spaces
 -- Example: a slash in `1 / 2`: `Wide`; in `1 /2`: `Half`; in `1/2`: `Tight`
 abbrev pub set_as : Bool → Bool → Spacing → Spacing
 set_as true true s = Wide
@@ -172,17 +192,17 @@ spaced before after kind = kind
 
 -- the same, with its length, where it is in the text
 abbrev pub spaced_at : List ℕ → ℕ → Kind × ℕ → Kind × ℕ
-spaced_at text at t = (spaced (is_behind 32 text at) (is_space_at text (at + t.1)) t.0, t.1)
+spaced_at text at t = (spaced (is_behind_blank text at) (is_blank_at text (at + t.1)) t.0, t.1)
 
 -- the kind and the length of the token that begins at a place
 -- Example: 2, of `1 / 2`: a division, `Wide`, and 1
 abbrev pub token_at : List ℕ → ℕ → Option (Kind × ℕ)
 token_at text at = option_map (spaced_at text at) (first_token (is_behind_slash text at) (drop at text))
 
--- a piece of a text is blank: its bytes are spaces
+-- a piece of a text is blank: its bytes are spaces and tabs
 pub record IsBlank (text : List ℕ) (from to : ℕ) : Type 0 where
   pub ordered : from ≤ to
-  pub spaces : (k : ℕ) → from ≤ k → k < to → slice_index text k ≡ 32
+  pub spaces : (k : ℕ) → from ≤ k → k < to → is_blank_at text k ≡ true
 
 -- a token is in the text at its place
 pub record IsTokenAt (text : List ℕ) (t : Token) : Type 0 where
@@ -191,7 +211,7 @@ pub record IsTokenAt (text : List ℕ) (t : Token) : Type 0 where
   pub within : t.span.end ≤ length text
   pub first : token_at text t.span.start ≡ Some (t.kind, long)
 
--- a token begins the text, maybe behind spaces
+-- a token begins the text, maybe behind spaces and tabs
 -- Example: ` 12`; neither ` ` nor `?12`
 pub record BeginsWithToken (text : List ℕ) : Type 0 where
   pub token : Token
@@ -203,10 +223,10 @@ abbrev pub IsCutInto : List ℕ → ℕ → ℕ → List Token → Type 0
 IsCutInto text from to [] = IsBlank text from to
 IsCutInto text from to (t ∷ ts) = IsBlank text from t.span.start × IsTokenAt text t × IsCutInto text t.span.end to ts
 
--- at this place is no space, and no token begins there
+-- at this place is no blank byte, and no token begins there
 pub record BeginsNone (text : List ℕ) (at : ℕ) : Type 0 where
   pub within : at < length text
-  pub no_space : slice_index text at ≢ 32
+  pub no_space : is_blank_at text at ≢ true
   pub none : token_at text at ≡ None
 
 -- the text is these tokens up to its end, or else up to the first place where none begins

@@ -4,11 +4,13 @@ mod both;
 mod fields;
 mod float;
 mod form;
+mod hint;
 pub mod laws;
 mod mixed;
 mod reading;
 mod refused;
 mod reply;
+mod slip;
 mod written;
 
 pub use form::Form;

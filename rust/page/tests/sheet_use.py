@@ -27,7 +27,7 @@ def values_are_said(sheet):
     sheet.type("1/3 + 0.25")
     first = sheet.until("return spoken.textContent === 'Line 1: 7/12, about 0.583333'", 3) or sheet.js("return spoken.textContent")
     sheet.type(Keys.ENTER, "2 + q")
-    wanted = "Line 2: error: nothing has this name, at column 5"
+    wanted = "Line 2: error: nothing has this name, at column 5; type x = 3 first, to use x"
     second = sheet.until(f"return spoken.textContent === '{wanted}'", 3) or sheet.js("return spoken.textContent")
     sheet.js("showKeypad(true)")
     names = [part.accessible_name for part in sheet.driver.find_elements(By.CSS_SELECTOR, "main button, main input") if part.is_displayed()]

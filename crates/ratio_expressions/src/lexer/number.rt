@@ -85,18 +85,18 @@ fn name_bytes(text: &[u8]) -> usize
         .count()
 }
 
-// How many digits a text begins with.
+/// How many digits a text begins with.
 #[tactic(auto, unfolding(crate::specs::Tokens::digits))]
-fn digits_length(text: &[u8]) -> usize
+pub(crate) fn digits_length(text: &[u8]) -> usize
     ensures is { result ≡ digits text.now }
     ensures fits { result ≤ length text.now }
 {
     text.iter().take_while(|byte| byte.is_ascii_digit()).count()
 }
 
-// How long this byte and the digits behind it are, or 0 if there is no digit.
+/// How long this byte and the digits behind it are, or 0 if there is no digit.
 #[tactic(auto, unfolding(crate::specs::Tokens::led, crate::specs::Tokens::digits))]
-fn led_length(byte: u8, text: &[u8]) -> usize
+pub(crate) fn led_length(byte: u8, text: &[u8]) -> usize
     ensures is { result ≡ led byte text.now }
     ensures fits { result ≤ length text.now }
 {
@@ -201,12 +201,12 @@ fn tail_length(slash: bool, text: &[u8]) -> usize
     }
 }
 
-// Whether a `^` comes first.
-fn begins_power(text: &[u8]) -> bool
+/// Whether a `^` comes first, or `**`.
+pub(crate) fn begins_power(text: &[u8]) -> bool
     ensures { result ≡ begins_power text.now }
 {
     match text {
-        [b'^', ..] => true,
+        [b'^', ..] | [b'*', b'*', ..] => true,
         _ => false,
     }
 }

@@ -1,13 +1,16 @@
 //! The text of a refusal: the line, a caret and the reason.
 ghost use Rattle.std.specs.Prelude.{◌≡◌, ◌≤◌, length, map, IfOk};
-ghost use Rattle.ratio_expressions.specs.Refused.{refusal_lines, shown, why_refused};
+ghost use Rattle.ratio_expressions.specs.Refused.{reason_lines, refusal_lines, shown, why_refused};
 
 use crate::expression::column;
 use crate::refusal::{Reason, Refusal};
+use crate::replies::hint::put_advice;
+use crate::replies::slip::hint_for;
 use std::alloc::{AllocError, Global};
 
-/// Three lines without the last line end: the line, a caret below the place, and the reason with the column. A control byte of the line is
-/// shown as `?`. An error means that an allocation failed.
+/// Three lines without the last line end: the line, a caret below the place, and the reason with the column. Where a hint is known, it is at the
+/// end: `; type 2*(3+4) for 2(3+4)`. A tab of the line is shown as a
+/// space, and another control byte as `?`. An error means that an allocation failed.
 pub(crate) fn refusal_lines(
     alloc: Global,
     line: &[u8],
@@ -15,6 +18,16 @@ pub(crate) fn refusal_lines(
 ) -> Result<Vec<u8>, AllocError>
     requires { refusal.place ≤ length line.now }
     ensures { IfOk result (λ text. text.items ≡ refusal_lines line.now refusal) }
+{
+    let mut text = reason_lines(alloc, line, refusal)?;
+    put_advice(&mut text, hint_for(line, refusal))?;
+    Ok(text)
+}
+
+// The three lines without a hint.
+fn reason_lines(alloc: Global, line: &[u8], refusal: Refusal) -> Result<Vec<u8>, AllocError>
+    requires { refusal.place ≤ length line.now }
+    ensures { IfOk result (λ text. text.items ≡ reason_lines line.now refusal) }
 {
     let place = column(line, refusal.place);
     let mut indent = Vec::new(alloc);
@@ -53,9 +66,13 @@ fn shown_line(alloc: Global, line: &[u8]) -> Result<Vec<u8>, AllocError>
     Ok(text)
 }
 
-// A byte as it is shown: a question mark in place of a control byte.
+// A byte as it is shown: a space in place of a tab, and a question mark in place of another control byte.
 fn shown(byte: u8) -> u8
     ensures { result ≡ shown byte }
 {
-    if byte < 32 || byte == 127 { b'?' } else { byte }
+    match byte {
+        b'\t' => b' ',
+        0..32 | 127 => b'?',
+        _ => byte,
+    }
 }

@@ -4,6 +4,7 @@ ghost use Rattle.ratio_expressions.specs.Bound.{named};
 ghost use Rattle.ratio_expressions.specs.Lines.{AreOldOrNew};
 ghost use Rattle.ratio_expressions.specs.Replies.{IsReply, is_blank};
 
+use crate::lexer::is_blank_byte;
 use crate::line::value_of_line;
 use crate::names::Names;
 use crate::refusal::ValueError;
@@ -15,7 +16,7 @@ use std::alloc::{AllocError, Global};
 /// What a line is answered. No text ends with a line end.
 #[derive(Drop)]
 pub enum Reply {
-    /// Nothing: the line has only spaces, or not even these.
+    /// Nothing: the line has only spaces and tabs, or not even these.
     Nothing,
     /// The line's value in the form that was asked for. In `Both` it may show how the line was read.
     Answer(Vec<u8>),
@@ -54,9 +55,9 @@ pub fn reply_to(
     }
 }
 
-// Whether the line has only spaces, or nothing.
+// Whether the line has only spaces and tabs, or nothing.
 fn is_blank(line: &[u8]) -> bool
     ensures { result ≡ is_blank line.now }
 {
-    line.iter().all(|byte| *byte == b' ')
+    line.iter().all(|byte| is_blank_byte(*byte))
 }

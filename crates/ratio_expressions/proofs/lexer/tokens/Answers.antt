@@ -1,11 +1,11 @@
-use Rattle.std.proofs.Common.{◌+◌, refl, sym, subst, arith}
+use Rattle.std.proofs.Common.{◌+◌, refl, sym, ◌∙◌, subst, arith}
 use Rattle.ratio_expressions.specs.declared.token.Token.{Token}
 use Rattle.ratio_expressions.specs.Tokens.{IsCutInto, IsTokenAt}
 use Rattle.ratio_expressions.proofs.Cuts.{begins_before, blank_more, token_more, token_here}
 use Rattle.ratio_expressions.proofs.lexer.tokens.Goals as goal
 
-pub loop-at-preserved-then-text-at-eq32 : goal.loop-at-preserved-then-text-at-eq32
-loop-at-preserved-then-text-at-eq32 c = record { within = omega arith; cut = blank_more c.args.text.now 0 c.loop-at.at c.loop-at.found.items c.loop-at.invariant.cut c.if-text-at-eq32.true }
+pub loop-at-preserved-then-blank_at : goal.loop-at-preserved-then-blank_at
+loop-at-preserved-then-blank_at c = record { within = omega arith; cut = blank_more c.args.text.now 0 c.loop-at.at c.loop-at.found.items c.loop-at.invariant.cut (sym c.blank_at.ensures ∙ c.if-blank_at.true) }
 
 pub returns-in_err-put_token-in-Some-clause-memory : goal.returns-in_err-put_token-in-Some-clause-memory
 returns-in_err-put_token-in-Some-clause-memory c = λ e.

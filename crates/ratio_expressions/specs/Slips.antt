@@ -1,5 +1,5 @@
 -- Which hint a refused line gets: by what is before the refused place, and by what is at it.
-use Rattle.std.specs.Prelude.{ℕ, ◌+◌, ◌-◌, Bool, true, false, List, [], ◌∷◌, codes, drop, length, reverse, take, nat_lt, not, ◌&&◌, ◌||◌, ◌==◌, if◌then◌else◌, Option, Some, None, slice_index}
+use Rattle.std.specs.Prelude.{ℕ, ◌-◌, Bool, true, false, List, codes, drop, length, reverse, take, nat_lt, not, ◌&&◌, ◌||◌, ◌==◌, if◌then◌else◌, Option, Some, None, slice_index}
 use Rattle.std.specs.List.{take_while}
 use Rattle.std.specs.Char.{is_ascii_digit, is_ascii_alphanumeric}
 use Rattle.std.specs.Str.{bytes_eq}
@@ -75,7 +75,7 @@ hint_of_word word =
     if bytes_eq word (codes "and") then hints.Joined else (
     if slice_index word 0 == 95 then hints.Underscore else hints.Unit))))))
 
--- the hint for an equals sign
+-- the hint for an equals sign, by what is before it
 -- Example: behind `a = b`: `TwoNames`
 abbrev pub hint_of_equal : List ℕ → Hint
 hint_of_equal before =
@@ -84,19 +84,20 @@ hint_of_equal before =
     if (last_byte before == 60) || (last_byte before == 62) then hints.Turned else (
     if ends_operand before then hints.TwoNames else hints.Increase)))
 
--- the hint for another comparison
+-- the hint for another comparison, by what is before it
 -- Example: `<`, behind `1 < 2`: `Chain`; behind `2 =`: `Turned`
 abbrev pub hint_of_comparison : List ℕ → Hint
 hint_of_comparison before =
     if (last_byte before == 61) || (last_byte before == 60) then hints.Turned else (
     if ends_operand before then hints.Chain else hints.OneOperator)
 
--- the hint for a slash
+-- the hint for a slash, by what is before it
 -- Example: behind `7 /`: `WholeQuotient`
 abbrev pub hint_of_slash : List ℕ → Hint
 hint_of_slash before = if last_byte before == 47 then hints.WholeQuotient else hints.OneOperator
 
 -- the hint for an operator that no operand is before, or that compares once more
+-- Example: `/`, behind `7 /`: `WholeQuotient`; `<`, behind `1 < 2`: `Chain`
 abbrev pub hint_of_compared : Operator → List ℕ → Hint
 hint_of_compared operators.Less before = hint_of_comparison before
 hint_of_compared operators.AtMost before = hint_of_comparison before
@@ -180,7 +181,8 @@ hint_of_end before =
     if last_byte before == 61 then Some hints.Equals else (
     if ends_operand before then Some hints.Unclosed else None))
 
--- the hint for a comma
+-- the hint for a comma, by what is before it
+-- Example: behind `12`: `Comma`; behind `max(`: none
 abbrev pub hint_of_comma : List ℕ → Option Hint
 hint_of_comma before = if ends_operand before then Some hints.Comma else None
 
@@ -231,6 +233,7 @@ abbrev pub name_at : List ℕ → ℕ → List ℕ
 name_at line place = take (name (drop place line)) (drop place line)
 
 -- the hint for a refused place of a line, by the reason
+-- Example: `NoExpression`, of `2(3+4)` at 1: `Product`; `ZeroDivisor`: none
 abbrev pub by_reason : Reason → List ℕ → ℕ → Option Hint
 by_reason reasons.NoExpression line place = hint line place
 by_reason reasons.UnknownName line place = Some (hint_of_name (name_at line place))

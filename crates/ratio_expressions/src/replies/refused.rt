@@ -9,8 +9,8 @@ use crate::replies::slip::hint_for;
 use std::alloc::{AllocError, Global};
 
 /// Three lines without the last line end: the line, a caret below the place, and the reason with the column. Where a hint is known, it is at the
-/// end: `; type 2*(3+4) for 2(3+4)`. A tab of the line is shown as a
-/// space, and another control byte as `?`. An error means that an allocation failed.
+/// end: `; type 2*(3+4) for 2(3+4)`. A tab of the line is shown as a space, and another control byte as `?`. An error means that an
+/// allocation failed.
 pub(crate) fn refusal_lines(
     alloc: Global,
     line: &[u8],

@@ -60,9 +60,18 @@ vulgar_tail text = if slice_index text 0 == 32 then (if nat_lt 0 (vulgar_length 
 unfoldable pub mixed_tail : List ℕ → ℕ
 mixed_tail text = if nat_lt 0 (led 32 text) && nat_lt 0 (led 47 (drop (led 32 text) text)) then led 32 text + led 47 (drop (led 32 text) text) else vulgar_tail text
 
--- whether a `^` comes first, or `**`
+-- whether a byte is blank: a space or a tab
+abbrev pub is_blank_byte : ℕ → Bool
+is_blank_byte b = (b == 32) || (b == 9)
+
+-- how many blank bytes the text begins with
+-- Example: ` ^2`: 1
+unfoldable pub blanks : List ℕ → ℕ
+blanks text = length (take_while is_blank_byte text)
+
+-- whether a `^` or a `**` comes first, maybe behind blank bytes
 abbrev pub begins_power : List ℕ → Bool
-begins_power text = (slice_index text 0 == 94) || ((slice_index text 0 == 42) && (slice_index text 1 == 42))
+begins_power text = let rest = drop (blanks text) text in (slice_index rest 0 == 94) || ((slice_index rest 0 == 42) && (slice_index rest 1 == 42))
 
 -- how long what makes a whole number a mixed number or a decimal is. Before a `^` no mixed number ends, and right of a slash without spaces none
 -- begins
@@ -148,10 +157,6 @@ symbol text =
 -- Example: `12.5%*80`: a number, 5
 abbrev pub first_token : Bool → List ℕ → Option (Kind × ℕ)
 first_token slash text = if nat_lt 0 (number slash text) then Some (kinds.Number, number slash text) else (if nat_lt 0 (name text) then Some (kinds.Name, name text) else symbol text)
-
--- whether a byte is blank: a space or a tab
-abbrev pub is_blank_byte : ℕ → Bool
-is_blank_byte b = (b == 32) || (b == 9)
 
 -- whether a blank byte is at this place
 abbrev pub is_blank_at : List ℕ → ℕ → Bool

@@ -1,7 +1,7 @@
 //! How long the number or the name is that a text begins with.
 ghost use Rattle.std.specs.Prelude.{◌≡◌, ◌≤◌, length};
 ghost use Rattle.std.specs.List.{take_while};
-ghost use Rattle.ratio_expressions.specs.Tokens.{digits, led, exponent_sign, signed_digits, exponent, decimal, percent, begins_operand, begins_power, vulgar_tail, mixed_tail, tail, plain_number, number, name, is_name_byte};
+ghost use Rattle.ratio_expressions.specs.Tokens.{digits, led, exponent_sign, signed_digits, exponent, decimal, percent, blanks, is_blank_byte, begins_operand, begins_power, vulgar_tail, mixed_tail, tail, plain_number, number, name, is_name_byte};
 
 use crate::vulgar::vulgar_length;
 
@@ -201,11 +201,22 @@ fn tail_length(slash: bool, text: &[u8]) -> usize
     }
 }
 
-/// Whether a `^` comes first, or `**`.
+// How many blank bytes a text begins with.
+#[tactic(auto, unfolding(crate::specs::Tokens::blanks))]
+fn blanks_length(text: &[u8]) -> usize
+    ensures is { result ≡ blanks text.now }
+    ensures fits { result ≤ length text.now }
+{
+    text.iter()
+        .take_while(|byte| **byte == b' ' || **byte == b'\t')
+        .count()
+}
+
+/// Whether a `^` or a `**` comes first, maybe behind blank bytes.
 pub(crate) fn begins_power(text: &[u8]) -> bool
     ensures { result ≡ begins_power text.now }
 {
-    match text {
+    match &text[blanks_length(text)..] {
         [b'^', ..] | [b'*', b'*', ..] => true,
         _ => false,
     }

@@ -2,7 +2,7 @@
 //! The tokens of a text, or the first place where none begins.
 use bakhsney::memory::{AllocError, Global, Vec};
 
-mod number;
+pub(crate) mod number;
 mod symbol;
 
 use crate::proved::ratio_expressions::lexer::number::{name_length, number_length};
@@ -19,20 +19,20 @@ pub struct Cut {
     pub end: usize,
 }
 
-/// The tokens of a text, or the first place where none begins. Spaces may be between tokens. An error means that an allocation failed.
+/// The tokens of a text, or the first place where none begins. Spaces and tabs may be between tokens. An error means that an allocation failed.
 ///
 /// - A number is a decimal (`12.5`, `.5`, `3e-2`), a vulgar fraction (`½`) or a mixed number with one space (`1 1/2`, `1 ½`) or none (`1½`).
 ///   Before a `^` no mixed number ends, and right of a slash without spaces none begins.
 /// - A percent sign that touches a number belongs to it, unless an operand touches the sign: `7%3` is a remainder. Right of a slash without
 ///   spaces it belongs to no number.
 /// - A name is a letter or an underscore, and letters, digits and underscores.
-/// - A division and a remainder say where spaces are around them.
+/// - A division and a remainder say where spaces or tabs are around them. `⁄` is a slash.
 #[inline]
 pub fn tokens(alloc: Global, text: &[u8]) -> Result<Cut, AllocError> {
     let mut found = Vec::new(alloc);
     let mut at = 0;
     while at < text.len() {
-        if text[at] == b' ' {
+        if blank_at(text, at) {
             at += 1;
             continue;
         }
@@ -79,32 +79,73 @@ fn put_token(
 fn token_at(text: &[u8], at: usize) -> Option<(Kind, usize)> {
     match first_token(behind_slash(text, at), &text[at..]) {
         Some((kind, long)) => {
-            let kind = as_spaced(behind(b' ', text, at), space_at(text, at + long), kind);
+            let kind = as_spaced(behind_blank(text, at), blank_at(text, at + long), kind);
             Some((kind, long))
         }
         None => None,
     }
 }
 
-// Whether the byte is right before this place.
+/// Whether the byte is right before this place.
+///
+/// # Conditions
+///
+/// The proof requires of the caller:
+///
+/// - `at ≤ length text.now`
 #[inline]
-fn behind(byte: u8, text: &[u8], at: usize) -> bool {
+pub(crate) fn behind(byte: u8, text: &[u8], at: usize) -> bool {
     at > 0 && text[at - 1] == byte
 }
 
-// Whether a space is at this place.
+// Whether a blank byte is at this place: a space or a tab.
 #[inline]
-fn space_at(text: &[u8], at: usize) -> bool {
-    at < text.len() && text[at] == b' '
+fn blank_at(text: &[u8], at: usize) -> bool {
+    at < text.len() && is_blank_byte(text[at])
+}
+
+/// Whether a byte is a space or a tab.
+#[inline]
+pub(crate) fn is_blank_byte(byte: u8) -> bool {
+    byte == b' ' || byte == b'\t'
+}
+
+// Whether a blank byte is right before this place.
+#[inline]
+fn behind_blank(text: &[u8], at: usize) -> bool {
+    at > 0 && blank_at(text, at - 1)
 }
 
 // Whether a slash without spaces is right before this place.
 #[inline]
 fn behind_slash(text: &[u8], at: usize) -> bool {
-    behind(b'/', text, at) && !behind(b' ', text, at - 1)
+    let slash = slash_behind(text, at);
+    slash > 0 && !behind_blank(text, at - slash)
 }
 
-// A division or a remainder with a space before it or none, and one behind it or none.
+// How long the slash is that is right before this place, or 0: `/` or `⁄`.
+#[inline]
+fn slash_behind(text: &[u8], at: usize) -> usize {
+    if behind(b'/', text, at) {
+        return 1;
+    }
+    if at > 2 && is_fraction_slash(&text[at - 3..]) {
+        3
+    } else {
+        0
+    }
+}
+
+/// Whether a text begins with `⁄`.
+#[inline]
+pub(crate) fn is_fraction_slash(text: &[u8]) -> bool {
+    match text {
+        [0xE2, 0x81, 0x84, ..] => true,
+        _ => false,
+    }
+}
+
+// A division or a remainder with a blank byte before it or none, and one behind it or none.
 #[inline]
 fn as_spaced(before: bool, after: bool, kind: Kind) -> Kind {
     match kind {
@@ -128,9 +169,9 @@ fn spacing_of(before: bool, after: bool, without: Spacing) -> Spacing {
     }
 }
 
-// What a text begins with, and its length. A slash without spaces may be right before it.
+/// What a text begins with, and its length. A slash without spaces may be right before it.
 #[inline]
-fn first_token(slash: bool, text: &[u8]) -> Option<(Kind, usize)> {
+pub(crate) fn first_token(slash: bool, text: &[u8]) -> Option<(Kind, usize)> {
     let number = number_length(slash, text);
     if number > 0 {
         return Some((Kind::Number, number));

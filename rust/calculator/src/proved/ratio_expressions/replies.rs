@@ -5,11 +5,13 @@ mod both;
 mod fields;
 mod float;
 mod form;
+mod hint;
 
 mod mixed;
 mod reading;
 mod refused;
 mod reply;
+mod slip;
 mod written;
 
 pub use form::Form;

@@ -85,7 +85,12 @@ fn take_step(step: Step, parts: &mut Vec<Part>, chains: &mut Vec<Span>) -> Resul
 
 // Puts down a part from one place to another.
 #[inline]
-fn put_part(parts: &mut Vec<Part>, start: usize, end: usize, slashed: bool) -> Result<(), AllocError> {
+fn put_part(
+    parts: &mut Vec<Part>,
+    start: usize,
+    end: usize,
+    slashed: bool,
+) -> Result<(), AllocError> {
     parts.push(Part {
         place: Span { start, end },
         slashed,

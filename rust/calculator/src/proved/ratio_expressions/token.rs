@@ -47,13 +47,13 @@ pub enum Operator {
     Add,
     /// `-`, which is also a sign before an operand.
     Subtract,
-    /// `*`
+    /// `*`, `×`, `·`, `∙` or `⋅`
     Multiply,
-    /// `/` or `÷`
+    /// `/`, `⁄` or `÷`
     Divide(Spacing),
     /// `%`
     Remainder(Spacing),
-    /// `^`
+    /// `^` or `**`
     Power,
 }
 

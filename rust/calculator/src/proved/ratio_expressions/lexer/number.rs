@@ -68,15 +68,15 @@ fn name_bytes(text: &[u8]) -> usize {
         .count()
 }
 
-// How many digits a text begins with.
+/// How many digits a text begins with.
 #[inline]
-fn digits_length(text: &[u8]) -> usize {
+pub(crate) fn digits_length(text: &[u8]) -> usize {
     text.iter().take_while(|byte| byte.is_ascii_digit()).count()
 }
 
-// How long this byte and the digits behind it are, or 0 if there is no digit.
+/// How long this byte and the digits behind it are, or 0 if there is no digit.
 #[inline]
-fn led_length(byte: u8, text: &[u8]) -> usize {
+pub(crate) fn led_length(byte: u8, text: &[u8]) -> usize {
     match text {
         [first, rest @ ..] if *first == byte => {
             let digits = digits_length(rest);
@@ -157,11 +157,19 @@ fn tail_length(slash: bool, text: &[u8]) -> usize {
     }
 }
 
-// Whether a `^` comes first.
+// How many blank bytes a text begins with.
 #[inline]
-fn begins_power(text: &[u8]) -> bool {
-    match text {
-        [b'^', ..] => true,
+fn blanks_length(text: &[u8]) -> usize {
+    text.iter()
+        .take_while(|byte| **byte == b' ' || **byte == b'\t')
+        .count()
+}
+
+/// Whether a `^` or a `**` comes first, maybe behind blank bytes.
+#[inline]
+pub(crate) fn begins_power(text: &[u8]) -> bool {
+    match &text[blanks_length(text)..] {
+        [b'^', ..] | [b'*', b'*', ..] => true,
         _ => false,
     }
 }

@@ -4,9 +4,12 @@
 use bakhsney::memory::{AllocError, Global, Vec};
 use crate::proved::ratio_expressions::expression::column;
 use crate::proved::ratio_expressions::refusal::{Reason, Refusal};
+use crate::proved::ratio_expressions::replies::hint::put_advice;
+use crate::proved::ratio_expressions::replies::slip::hint_for;
 
-/// Three lines without the last line end: the line, a caret below the place, and the reason with the column. A control byte of the line is
-/// shown as `?`. An error means that an allocation failed.
+/// Three lines without the last line end: the line, a caret below the place, and the reason with the column. Where a hint is known, it is at the
+/// end: `; type 2*(3+4) for 2(3+4)`. A tab of the line is shown as a space, and another control byte as `?`. An error means that an
+/// allocation failed.
 ///
 /// # Conditions
 ///
@@ -19,6 +22,14 @@ pub(crate) fn refusal_lines(
     line: &[u8],
     refusal: Refusal,
 ) -> Result<Vec<u8>, AllocError> {
+    let mut text = reason_lines(alloc, line, refusal)?;
+    put_advice(&mut text, hint_for(line, refusal))?;
+    Ok(text)
+}
+
+// The three lines without a hint.
+#[inline]
+fn reason_lines(alloc: Global, line: &[u8], refusal: Refusal) -> Result<Vec<u8>, AllocError> {
     let place = column(line, refusal.place);
     let mut indent = Vec::new(alloc);
     indent.resize(place - 1, b' ')?;
@@ -54,8 +65,12 @@ fn shown_line(alloc: Global, line: &[u8]) -> Result<Vec<u8>, AllocError> {
     Ok(text)
 }
 
-// A byte as it is shown: a question mark in place of a control byte.
+// A byte as it is shown: a space in place of a tab, and a question mark in place of another control byte.
 #[inline]
 fn shown(byte: u8) -> u8 {
-    if byte < 32 || byte == 127 { b'?' } else { byte }
+    match byte {
+        b'\t' => b' ',
+        0..32 | 127 => b'?',
+        _ => byte,
+    }
 }

@@ -2,6 +2,7 @@
 //! `Reply`: what a line is answered.
 
 use bakhsney::memory::{AllocError, Global, Vec};
+use crate::proved::ratio_expressions::lexer::is_blank_byte;
 use crate::proved::ratio_expressions::line::value_of_line;
 use crate::proved::ratio_expressions::names::Names;
 use crate::proved::ratio_expressions::refusal::ValueError;
@@ -11,7 +12,7 @@ use crate::proved::ratio_expressions::replies::refused::refusal_lines;
 
 /// What a line is answered. No text ends with a line end.
 pub enum Reply {
-    /// Nothing: the line has only spaces, or not even these.
+    /// Nothing: the line has only spaces and tabs, or not even these.
     Nothing,
     /// The line's value in the form that was asked for. In `Both` it may show how the line was read.
     Answer(Vec<u8>),
@@ -45,8 +46,8 @@ pub fn reply_to(
     }
 }
 
-// Whether the line has only spaces, or nothing.
+// Whether the line has only spaces and tabs, or nothing.
 #[inline]
 fn is_blank(line: &[u8]) -> bool {
-    line.iter().all(|byte| *byte == b' ')
+    line.iter().all(|byte| is_blank_byte(*byte))
 }

@@ -6,6 +6,7 @@ pub mod Floats
 pub mod Forms
 pub mod Functions
 pub mod Grammar
+pub mod Limits
 pub mod Lines
 pub mod Nesting
 pub mod Numbers

@@ -15,6 +15,7 @@ pub mod Fitting
 pub mod FloatLemmas
 pub mod FloatTextLemmas
 pub mod Growing
+pub mod LengthLemmas
 pub mod LimitLemmas
 pub mod LineLaws
 pub mod LineLemmas

@@ -154,11 +154,22 @@ def number(piece, place):
     return value / 100 if piece.endswith("%") else value
 
 
+def bits(x):
+    """The least number of bits with both numbers at most 2 to this power."""
+    return (max(abs(x.numerator), x.denominator) - 1).bit_length()
+
+
+def fitting(values, place):
+    """The numbers, if they have at most a million bits together."""
+    if sum(map(bits, values)) > 10**6:
+        raise Refused("the numbers have more than a million bits together", place)
+    return values
+
+
 def power(x, y, place):
     if y.denominator != 1:
         raise Refused("the exponent is no whole number", place)
-    bits = (max(abs(x.numerator), x.denominator) - 1).bit_length()
-    if bits * abs(y) > 10**6:
+    if bits(x) * abs(y) > 10**6:
         raise Refused("the power may have more than a million bits", place)
     return quotient(Fraction(1), x ** -int(y), place) if y < 0 else x ** int(y)
 
@@ -205,7 +216,7 @@ def called(name, arguments, place):
     counts, function = FUNCTIONS[name]
     if len(arguments) not in counts:
         raise Refused("the call takes another number of arguments", place)
-    result = function(*numbers(arguments, place))
+    result = function(*fitting(numbers(arguments, place), place))
     if isinstance(result, str):
         raise Refused(result, place)
     return Fraction(result)
@@ -220,10 +231,13 @@ def numbers(values, place):
 def applied(operator, x, y, place):
     if operator in COMPARISONS:
         return COMPARISONS[operator](x, y)
+    if operator == "^":
+        return power(x, y, place)
+    fitting([x, y], place)
     if operator[0] in "/%":
         divided = quotient(x, y, place)
         return divided if operator[0] == "/" else x - y * math.trunc(divided)
-    return power(x, y, place) if operator == "^" else {"+": x + y, "-": x - y, "*": x * y}[operator]
+    return {"+": x + y, "-": x - y, "*": x * y}[operator]
 
 
 def value_of(text, names, hidden=0):

@@ -1,5 +1,5 @@
 -- A call gives one value of its arguments, or it refuses them for one reason, and never both.
-use Rattle.std.proofs.Common.{◌≡◌, ◌≢◌, ◌∙◌, ℕ, ℤ, pos, List, [], ◌∷◌, length, map, Some, None, refl, sym, subst, ap, arith}
+use Rattle.std.proofs.Common.{◌≡◌, ◌≢◌, ◌∙◌, ℕ, ℤ, pos, List, [], ◌∷◌, length, map, Some, None, refl, sym, subst, ap, arith, inl, inr}
 use Rattle.std.specs.Prelude.{◌<ℤ◌, ◌*ℤ◌}
 use Rattle.std.specs.List.{All}
 use Rattle.std.specs.Ordering.{ordering_reverse}
@@ -22,10 +22,11 @@ use Rattle.ratio_expressions.specs.declared.function.Function.{Function}
 use Rattle.ratio_expressions.specs.declared.function.Function.TheVariants as functions
 use Rattle.ratio_expressions.specs.declared.refusal.Reason.{Reason}
 use Rattle.ratio_expressions.specs.declared.refusal.Reason.TheVariants as reasons
-use Rattle.ratio_expressions.specs.Calls.{AreNumbers, GivesCall, HaveTruth, RefusesAmounts, RefusesCall}
+use Rattle.ratio_expressions.specs.Calls.{AreNumbers, FunctionRefusesAny, GivesCall, HaveTruth, RefusesAmounts, RefusesCall}
 use Rattle.ratio_expressions.specs.Functions.{FunctionRefuses, GivesNumber, IsExtreme, TakesCount, function_of}
 use Rattle.ratio_expressions.proofs.ApproximationLaws.{between_one, nearest_one, none_between, none_within}
 use Rattle.ratio_expressions.proofs.DivisorLaws.{gcd_one, lcm_one, same_pair}
+use Rattle.ratio_expressions.specs.Limits.{FitTogether}
 use Rattle.ratio_expressions.specs.Worths.{Worth, Amount, Truth}
 
 pub same_terms : (z x y : ℤ × ℤ) → HasTerms z x → HasTerms z y → x ≡ y
@@ -136,9 +137,23 @@ refused_by_numbers functions.Nearest (x ∷ most ∷ []) reasons.BoundBelowOne h
 refused_by_numbers functions.Between (x ∷ y ∷ []) reasons.NothingBetween h name ws amounts = amounts
 refused_by_numbers f xs r h name ws amounts = absurd h
 
+refused_any : (f : Function) (xs : List (ℤ × ℤ)) (r : Reason) → FunctionRefusesAny f xs r → (name : List ℕ) (ws : List Worth) → RefusesAmounts name ws r → RefusesCall name ws r
+refused_any f xs r (inl h) name ws amounts = subst (RefusesCall name ws) (sym h.0) (subst (RefusesAmounts name ws) h.0 amounts)
+refused_any f xs r (inr h) name ws amounts = refused_by_numbers f xs r h.1 name ws amounts
+
 -- a call refuses its arguments where its function refuses the numbers that they are
 pub amounts_refused : (name : List ℕ) (ws : List Worth) (r : Reason) → RefusesAmounts name ws r → RefusesCall name ws r
-amounts_refused name ws r h = refused_by_numbers h.function h.numbers r h.refuses name ws h
+amounts_refused name ws r h = refused_any h.function h.numbers r h.refuses name ws h
+
+any_not_refused : (f : Function) (xs : List (ℤ × ℤ)) (r : ℤ × ℤ) (reason : Reason) → All IsLowest xs → FitTogether xs → GivesNumber f xs r → FunctionRefusesAny f xs reason → ⊥
+any_not_refused f xs r reason low fit h (inl g) = g.1 fit
+any_not_refused f xs r reason low fit h (inr g) = number_not_refused f xs r reason low h g.1
+
+any_refused_once : (f : Function) (xs : List (ℤ × ℤ)) (r q : Reason) → FunctionRefusesAny f xs r → FunctionRefusesAny f xs q → r ≡ q
+any_refused_once f xs r q (inl h) (inl g) = h.0 ∙ sym g.0
+any_refused_once f xs r q (inl h) (inr g) = absurd (h.1 g.0)
+any_refused_once f xs r q (inr h) (inl g) = absurd (g.1 h.0)
+any_refused_once f xs r q (inr h) (inr g) = number_refused_once f xs r q h.1 g.1
 
 amounts_not_refused : (name : List ℕ) (ws : List Worth) (w : Worth) (r : Reason) → GivesCall name ws w → RefusesAmounts name ws r → ⊥
 amounts_not_refused name ws w r h g =
@@ -146,15 +161,15 @@ amounts_not_refused name ws w r h g =
     let numbers : h.numbers ≡ g.numbers = amounts_one h.numbers g.numbers (sym h.given.same ∙ g.given.same) in
     let first : GivesNumber g.function h.numbers h.result = subst (λ f. GivesNumber f h.numbers h.result) function h.gives in
     let both : GivesNumber g.function g.numbers h.result = subst (λ xs. GivesNumber g.function xs h.result) numbers first in
-    number_not_refused g.function g.numbers h.result r g.given.lowest both g.refuses
+    any_not_refused g.function g.numbers h.result r g.given.lowest (subst FitTogether numbers h.fit) both g.refuses
 
 amounts_refused_once : (name : List ℕ) (ws : List Worth) (r q : Reason) → RefusesAmounts name ws r → RefusesAmounts name ws q → r ≡ q
 amounts_refused_once name ws r q h g =
     let function : h.function ≡ g.function = same_function name h.function g.function h.named g.named in
     let numbers : h.numbers ≡ g.numbers = amounts_one h.numbers g.numbers (sym h.given.same ∙ g.given.same) in
-    let first : FunctionRefuses g.function h.numbers r = subst (λ f. FunctionRefuses f h.numbers r) function h.refuses in
-    let both : FunctionRefuses g.function g.numbers r = subst (λ xs. FunctionRefuses g.function xs r) numbers first in
-    number_refused_once g.function g.numbers r q both g.refuses
+    let first : FunctionRefusesAny g.function h.numbers r = subst (λ f. FunctionRefusesAny f h.numbers r) function h.refuses in
+    let both : FunctionRefusesAny g.function g.numbers r = subst (λ xs. FunctionRefusesAny g.function xs r) numbers first in
+    any_refused_once g.function g.numbers r q both g.refuses
 
 pub call_not_refused : (name : List ℕ) (ws : List Worth) (w : Worth) (r : Reason) → GivesCall name ws w → RefusesCall name ws r → ⊥
 call_not_refused name ws w reasons.UnknownCall h g = no_function name h.function h.named g

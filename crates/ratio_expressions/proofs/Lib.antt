@@ -15,10 +15,13 @@ pub mod Fitting
 pub mod FloatLemmas
 pub mod FloatTextLemmas
 pub mod Growing
+pub mod LengthLemmas
+pub mod LimitLemmas
 pub mod LineLaws
 pub mod LineLemmas
 pub mod MixedLemmas
 pub mod NameLemmas
+pub mod OperationLemmas
 pub mod ParserAnswers
 pub mod ParserLaws
 pub mod Percentages
@@ -31,6 +34,7 @@ pub mod SamePowers
 pub mod ShareTerms
 pub mod ShortFractions
 pub mod ShownLaws
+pub mod SizeLemmas
 pub mod Soundness
 pub mod StackLemmas
 pub mod TextLaws

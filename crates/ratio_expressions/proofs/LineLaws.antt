@@ -103,7 +103,7 @@ numbers_positive AtLeast x y w h = truth_positive w _ h
 numbers_positive Greater x y w h = truth_positive w _ h
 
 gives_positive : (o : Operator) (u v w : Worth) → GivesWorth o u v w → IsOverPositive w
-gives_positive o (Amount x) (Amount y) w h = numbers_positive o x y w h
+gives_positive o (Amount x) (Amount y) w h = numbers_positive o x y w h.1
 gives_positive o (Amount x) (Truth c) w h = absurd h
 gives_positive o (Truth b) v w h = absurd h
 

@@ -8,7 +8,7 @@ use Rattle.ratio_natural.specs.Number.{IsDigitCount, base}
 use Rattle.ratio_natural.proofs.CountLemmas.{place_in_bits}
 use Rattle.ratio_expressions.specs.Operators.{IsModestPower}
 
-powers_ordered : (i j : ℕ) → i ≤ j → 2 ^ i ≤ 2 ^ j
+pub powers_ordered : (i j : ℕ) → i ≤ j → 2 ^ i ≤ 2 ^ j
 powers_ordered i j h = pow-le-pow_right (omega arith) h
 
 -- a number is below 2 to the power of itself

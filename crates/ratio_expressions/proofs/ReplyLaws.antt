@@ -13,6 +13,7 @@ use Rattle.ratio_big.specs.Texts.{fraction_text}
 use Rattle.ratio_expressions.specs.Bound.{named}
 use Rattle.ratio_expressions.specs.Expression.{IsExpression}
 use Rattle.ratio_expressions.specs.Grammar.{Tree}
+use Rattle.ratio_expressions.specs.Limits.{IsTooLong}
 use Rattle.ratio_expressions.specs.Lines.{IsLineWorth, valued}
 use Rattle.ratio_expressions.specs.Nesting.{IsShallow}
 use Rattle.ratio_expressions.specs.Worths.{Worth, worth, Amount, Truth}
@@ -24,7 +25,7 @@ use Rattle.ratio_expressions.proofs.ShownLaws.{shown_once}
 use Rattle.ratio_expressions.specs.Forms.{IsInBothForm, IsInFields, IsInMixedForm, IsNumberInForm, IsValueInForm, IsWithDecimal, beside, ends_in_six, parts_text}
 use Rattle.ratio_expressions.specs.Readings.{IsAnswerInForm, IsWithReading, behind_line}
 use Rattle.ratio_expressions.specs.Refused.{refusal_lines}
-use Rattle.ratio_expressions.specs.Replies.{AreAlike, IsReply, is_blank}
+use Rattle.ratio_expressions.specs.Replies.{AreAlike, IsRefusedAs, IsReply, is_blank}
 use Rattle.ratio_expressions.specs.declared.replies.form.Form.{Form}
 use Rattle.ratio_expressions.specs.declared.replies.form.Form.TheVariants as forms
 use Rattle.ratio_expressions.specs.declared.replies.reply.Reply.{Reply}
@@ -93,6 +94,19 @@ module _ (line : List ℕ) (t : Tree) (has : IsExpression line t) (shallow : IsS
   answer_once forms.Float h g = value_once w forms.Float a b up h g
   answer_once forms.Both h g = reading_once h g
 
+-- ---- a refusal
+
+module _ (line : List ℕ) (before : List ℕ → Option Worth) where
+  answer_not_refused : (w : Worth) (behind : List ℕ → Option Worth) (text : List ℕ) → ¬ (IsTooLong line) → IsLineWorth line before w behind → IsRefusedAs line before text → ⊥
+  answer_not_refused w behind text short h (inl g) = short g.0
+  answer_not_refused w behind text short h (inr g) = line_worth_not_refused line before w behind g.1 h g.2
+
+  refused_once : (a b : List ℕ) → IsRefusedAs line before a → IsRefusedAs line before b → a ≡ b
+  refused_once a b (inl h) (inl g) = h.1 ∙ sym g.1
+  refused_once a b (inl h) (inr g) = absurd (g.0 h.0)
+  refused_once a b (inr h) (inl g) = absurd (h.0 g.0)
+  refused_once a b (inr h) (inr g) = h.3 ∙ ap (refusal_lines line) (line_refused_once line before h.1 g.1 h.2 g.2) ∙ sym g.3
+
 -- ---- a reply
 
 value_positive : (found : Option Value) (w : Worth) → option_map worth found ≡ Some w → IsOverPositive w
@@ -115,9 +129,9 @@ module _ (line : List ℕ) (form : Form) (names : Names) (behind after : List �
   reply_once replies.Nothing (replies.Refused b) h g = absurd (apart (is_blank line) h.0 g.0)
   reply_once (replies.Answer a) replies.Nothing h g = absurd (apart (is_blank line) g.0 h.0)
   reply_once (replies.Answer a) (replies.Answer b) h g =
-      (answers_once h.1 g.1 a.items b.items h.2 g.2 h.3 g.3, line_names_once line (named names) h.1 g.1 behind after h.2 g.2)
-  reply_once (replies.Answer a) (replies.Refused b) h g = absurd (line_worth_not_refused line (named names) h.1 behind g.1 h.2 g.2)
+      (answers_once h.2 g.2 a.items b.items h.3 g.3 h.4 g.4, line_names_once line (named names) h.2 g.2 behind after h.3 g.3)
+  reply_once (replies.Answer a) (replies.Refused b) h g = absurd (answer_not_refused line (named names) h.2 behind b.items h.1 h.3 g.1)
   reply_once (replies.Refused a) replies.Nothing h g = absurd (apart (is_blank line) g.0 h.0)
-  reply_once (replies.Refused a) (replies.Answer b) h g = absurd (line_worth_not_refused line (named names) g.1 after h.1 g.2 h.2)
+  reply_once (replies.Refused a) (replies.Answer b) h g = absurd (answer_not_refused line (named names) g.2 after a.items g.1 g.3 h.1)
   reply_once (replies.Refused a) (replies.Refused b) h g =
-      (h.3 ∙ ap (refusal_lines line) (line_refused_once line (named names) h.1 g.1 h.2 g.2) ∙ sym g.3, λ other. h.4 other ∙ sym (g.4 other))
+      (refused_once line (named names) a.items b.items h.1 g.1, λ other. h.2 other ∙ sym (g.2 other))

@@ -96,7 +96,7 @@ numbers_give_one (Remainder s) x y v w h g = terms_one _ v w h.1 g.1
 numbers_give_one Power x y v w h g = terms_one _ v w h.2 g.2
 
 gives_one : (o : Operator) (a b v w : Worth) → GivesWorth o a b v → GivesWorth o a b w → v ≡ w
-gives_one o (Amount x) (Amount y) v w h g = numbers_give_one o x y v w h g
+gives_one o (Amount x) (Amount y) v w h g = numbers_give_one o x y v w h.1 g.1
 gives_one o (Amount x) (Truth c) v w h g = absurd h
 gives_one o (Truth b) u v w h g = absurd h
 
@@ -119,7 +119,8 @@ numbers_not_refused Power x y w reasons.ZeroDivisor h g = no_terms_over_zero _ w
 numbers_not_refused o x y w r h g = g
 
 gives_not_refused : (o : Operator) (a b w : Worth) (r : Reason) → GivesWorth o a b w → RefusesWorths o a b r → ⊥
-gives_not_refused o (Amount x) (Amount y) w r h g = numbers_not_refused o x y w r h g
+gives_not_refused o (Amount x) (Amount y) w r h (inl g) = g.1 h.0
+gives_not_refused o (Amount x) (Amount y) w r h (inr g) = numbers_not_refused o x y w r h.1 g.1
 gives_not_refused o (Amount x) (Truth c) w r h g = h
 gives_not_refused o (Truth b) v w r h g = h
 
@@ -143,7 +144,10 @@ numbers_refused_once Power x y reasons.ZeroDivisor q h g = absurd g
 numbers_refused_once o x y r q h g = absurd h
 
 refuses_once : (o : Operator) (a b : Worth) (r q : Reason) → RefusesWorths o a b r → RefusesWorths o a b q → r ≡ q
-refuses_once o (Amount x) (Amount y) r q h g = numbers_refused_once o x y r q h g
+refuses_once o (Amount x) (Amount y) r q (inl h) (inl g) = h.0 ∙ sym g.0
+refuses_once o (Amount x) (Amount y) r q (inl h) (inr g) = absurd (h.1 g.0)
+refuses_once o (Amount x) (Amount y) r q (inr h) (inl g) = absurd (g.1 h.0)
+refuses_once o (Amount x) (Amount y) r q (inr h) (inr g) = numbers_refused_once o x y r q h.1 g.1
 refuses_once o (Amount x) (Truth c) r q h g = h ∙ sym g
 refuses_once o (Truth b) v r q h g = h ∙ sym g
 

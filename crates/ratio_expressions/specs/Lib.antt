@@ -7,6 +7,7 @@ pub mod Forms
 pub mod Functions
 pub mod Grammar
 pub mod Hints
+pub mod Limits
 pub mod Lines
 pub mod Nesting
 pub mod Numbers

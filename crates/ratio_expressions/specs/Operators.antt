@@ -1,5 +1,5 @@
 -- What an operator gives of two values, and which it refuses.
-use Rattle.std.specs.Prelude.{◌≡◌, ◌≢◌, ◌↔◌, ◌<ℤ◌, ◌≤◌, ◌*◌, ◌^◌, ℕ, ℤ, pos, unsigned_abs}
+use Rattle.std.specs.Prelude.{◌≡◌, ◌≢◌, ◌↔◌, ◌⊎◌, ◌<ℤ◌, ◌≤◌, ◌*◌, ◌^◌, ℕ, ℤ, pos, [], ◌∷◌, unsigned_abs}
 use Rattle.std.specs.Ordering.{is_eq, is_ge, is_gt, is_le, is_lt, is_ne}
 use Rattle.ratio_integer.specs.Arithmetic.{difference_of, product_of, quotient_of, remainder_of, sum_of}
 use Rattle.ratio_core.specs.Order.{cross_cmp}
@@ -12,6 +12,7 @@ use Rattle.ratio_expressions.specs.declared.token.Sign.{Sign}
 use Rattle.ratio_expressions.specs.declared.token.Sign.TheVariants.{Plus, Minus}
 use Rattle.ratio_expressions.specs.declared.refusal.Reason.{Reason}
 use Rattle.ratio_expressions.specs.declared.refusal.Reason.TheVariants as reasons
+use Rattle.ratio_expressions.specs.Limits.{FitTogether}
 use Rattle.ratio_expressions.specs.Worths.{Worth, Amount, Truth}
 
 -- both numbers of x are at most 2 to a whole number `bits`, without their signs, and this times the exponent, without its sign, is at most a
@@ -62,15 +63,27 @@ RefusesNumbers Power x y reasons.PowerTooLarge = (y.1 ≡ pos 1) × ¬ (IsModest
 RefusesNumbers Power x y reasons.ZeroDivisor = (y.1 ≡ pos 1) × IsModestPower x y.0 × HasNoPower x y.0
 RefusesNumbers o x y r = ⊥
 
--- what an operator gives of two values: it takes numbers
+-- the two numbers are not too large for the operator: for `+ - * / %` they have at most a million bits together. Comparisons make no number, and a
+-- power has a rule of its own (`IsModestPower`)
+-- Example: `*`, 2^500000 and 2^500000; not 2^500000 and 2^500001
+abbrev pub TakesNumbers : Operator → ℤ × ℤ → ℤ × ℤ → Type 0
+TakesNumbers Add x y = FitTogether (x ∷ y ∷ [])
+TakesNumbers Subtract x y = FitTogether (x ∷ y ∷ [])
+TakesNumbers Multiply x y = FitTogether (x ∷ y ∷ [])
+TakesNumbers (Divide s) x y = FitTogether (x ∷ y ∷ [])
+TakesNumbers (Remainder s) x y = FitTogether (x ∷ y ∷ [])
+TakesNumbers o x y = Unit {0}
+
+-- what an operator gives of two values: it takes numbers that are not too large
 abbrev pub GivesWorth : Operator → Worth → Worth → Worth → Type 0
-GivesWorth o (Amount x) (Amount y) w = GivesNumbers o x y w
+GivesWorth o (Amount x) (Amount y) w = TakesNumbers o x y × GivesNumbers o x y w
 GivesWorth o (Amount x) (Truth c) w = ⊥
 GivesWorth o (Truth b) v w = ⊥
 
--- why an operator refuses two values: one of them is true or false, or it refuses the two numbers
+-- why an operator refuses two values: one of them is true or false, or the two numbers are too large, or it refuses them
+-- Example: `*`, 2^600000 and 2^600000: `TooLarge`
 abbrev pub RefusesWorths : Operator → Worth → Worth → Reason → Type 0
-RefusesWorths o (Amount x) (Amount y) r = RefusesNumbers o x y r
+RefusesWorths o (Amount x) (Amount y) r = ((r ≡ reasons.TooLarge) × ¬ (TakesNumbers o x y)) ⊎ (TakesNumbers o x y × RefusesNumbers o x y r)
 RefusesWorths o (Amount x) (Truth c) r = r ≡ reasons.NotNumber
 RefusesWorths o (Truth b) v r = r ≡ reasons.NotNumber
 

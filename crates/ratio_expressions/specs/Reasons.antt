@@ -1,7 +1,7 @@
 -- What a refusal prints.
 use Rattle.std.specs.Prelude.{ℕ, List, codes}
 use Rattle.ratio_expressions.specs.declared.refusal.Reason.{Reason}
-use Rattle.ratio_expressions.specs.declared.refusal.Reason.TheVariants.{NoExpression, TooDeep, NotNumeral, ZeroDenominator, NumberTooLarge, UnknownName, UnknownCall, ArgumentCount, NotNumber, BoundBelowOne, NothingBetween, ZeroDivisor, ExponentNotWhole, PowerTooLarge}
+use Rattle.ratio_expressions.specs.declared.refusal.Reason.TheVariants.{NoExpression, TooDeep, NotNumeral, ZeroDenominator, NumberTooLarge, UnknownName, UnknownCall, ArgumentCount, NotNumber, BoundBelowOne, NothingBetween, ZeroDivisor, ExponentNotWhole, PowerTooLarge, TooLarge}
 
 -- the text that a reason prints
 -- Example: `ZeroDivisor`: `this divides by 0`
@@ -20,3 +20,4 @@ reason_text NothingBetween = codes "there is nothing between equal numbers"
 reason_text ZeroDivisor = codes "this divides by 0"
 reason_text ExponentNotWhole = codes "the exponent is no whole number"
 reason_text PowerTooLarge = codes "the power may have more than a million bits"
+reason_text TooLarge = codes "the numbers have more than a million bits together"

@@ -29,6 +29,10 @@ reason_at reason _ = reason_text reason
 abbrev pub why_refused : List ℕ → Refusal → List ℕ
 why_refused line r = reason_at r.reason (r.place == length line)
 
+-- what is written in place of an answer to a line that is too long to be read
+abbrev pub too_long : List ℕ
+too_long = codes "error: the line has more than a million bytes"
+
 -- three lines: the line as it is shown, a caret below the place, and the reason with the column
 -- Example: `2 + x`: `2 + x`, `    ^` and `error: nothing has this name, at column 5`
 abbrev pub reason_lines : List ℕ → Refusal → List ℕ

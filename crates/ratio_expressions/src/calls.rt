@@ -4,12 +4,13 @@ ghost use Rattle.std.specs.declared.cmp.Ordering.TheVariants.{Equal};
 ghost use Rattle.ratio_decimal.specs.declared.rounding_rule.Rounding.TheVariants.{HalfAway};
 ghost use Rattle.ratio_big.specs.Fractions.{big_numbers};
 ghost use Rattle.ratio_big.specs.Multiples.{IsMultipleBy};
-ghost use Rattle.ratio_expressions.specs.Calls.{GivesCall, HaveTruth, RefusesCall};
+ghost use Rattle.ratio_expressions.specs.Calls.{AnswersArguments, GivesCall, HaveTruth, RefusesCall};
 ghost use Rattle.ratio_expressions.specs.Functions.{AnswersNumbers, IsExtreme, IsGcdOfAll, IsLcmOfAll, TakesCount};
 ghost use Rattle.ratio_expressions.specs.Worths.{worth, Amount};
 ghost use Rattle.ratio_expressions.specs.declared.function.Function.TheVariants.{Between, Nearest};
 
 use crate::function::{Function, function_named, takes};
+use crate::limit::fit_together;
 use crate::refusal::Reason;
 use crate::value::Value;
 use ratio_big::BigFraction;
@@ -34,7 +35,7 @@ pub(crate) fn called(
     let Some(numbers) = numbers_in(alloc, arguments)? else {
         return Ok(Err(Reason::NotNumber));
     };
-    match of_numbers(alloc, function, &numbers)? {
+    match of_arguments(alloc, function, &numbers)? {
         Ok(result) => Ok(Ok(Value::Number(result))),
         Err(reason) => Ok(Err(reason)),
     }
@@ -52,6 +53,21 @@ fn numbers_in(alloc: Global, values: &[Value]) -> Result<Option<Vec<BigFraction>
         }
     }
     Ok(Some(numbers))
+}
+
+// What the function gives of its arguments, of which it takes so many, or why it refuses them: they may be too large together.
+fn of_arguments(
+    alloc: Global,
+    function: Function,
+    numbers: &[BigFraction],
+) -> Result<Result<BigFraction, Reason>, AllocError>
+    requires { TakesCount function (length numbers.now) }
+    ensures { IfOk result (AnswersArguments function (map big_numbers numbers.now)) }
+{
+    if !fit_together(alloc, numbers)? {
+        return Ok(Err(Reason::TooLarge));
+    }
+    of_numbers(alloc, function, numbers)
 }
 
 // What the function gives of numbers, of which it takes so many, or why it refuses them.

@@ -33,6 +33,8 @@
 //! | `number::short_fraction` | The number that a text of one or two short whole numbers says: `3/4`, `12`. |
 //! | `spelled` | A number with a slash in place of its vulgar fraction: `1 1/2` for `1½`. |
 //! | `operation` | What an operator gives of two values, or why it refuses them. |
+//! | `limit` | Whether numbers are not too large for an operator or a call to take them. |
+//! | `size` | How many bits a number has, up to a limit. |
 //! | `power` | The power of two numbers, if it is not too large to be worth it. |
 //! | `function` | `Function`: a function that a call names, and how many numbers it takes. |
 //! | `calls` | What a call such as `max(1, 2)` gives of its arguments, or why it refuses them. |
@@ -62,6 +64,7 @@ pub mod depth;
 mod evaluation;
 pub mod expression;
 mod function;
+mod limit;
 pub mod laws;
 pub mod lexer;
 pub mod line;
@@ -72,6 +75,7 @@ pub mod parser;
 mod power;
 pub mod refusal;
 pub mod replies;
+mod size;
 pub mod slashes;
 mod spelled;
 pub mod step;

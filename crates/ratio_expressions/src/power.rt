@@ -1,5 +1,5 @@
 //! The power of two numbers, if it is not too large to be worth it.
-ghost use Rattle.std.specs.Prelude.{◌≡◌, ◌≢◌, ◌+◌, ◌↔◌, ◌<◌, ◌≤◌, ◌^◌, pos, IfOk, IsTrue, MatchResult};
+ghost use Rattle.std.specs.Prelude.{◌≡◌, ◌+◌, ◌↔◌, ◌<◌, ◌≤◌, ◌^◌, pos, IfOk, IsTrue, MatchResult};
 ghost use Rattle.ratio_core.specs.Signs.{with_sign};
 ghost use Rattle.ratio_natural.specs.Number.{natural_of};
 ghost use Rattle.ratio_big.specs.Fractions.{big_numbers};
@@ -8,14 +8,12 @@ ghost use Rattle.ratio_expressions.specs.Worths.{worth};
 ghost use Rattle.ratio_expressions.specs.declared.token.Operator.TheVariants as operators;
 
 use crate::refusal::Reason;
+use crate::size::{MOST_BITS, take_one};
 use crate::value::Value;
 use ratio_big::BigFraction;
-use ratio_natural::{bits, compare, is_zero, remainder, subtract_digit, used};
+use ratio_natural::{bits, compare, is_zero, remainder, used};
 use std::alloc::{AllocError, Global};
 use std::cmp::Ordering;
-
-// The numbers of a power are at most 2 to this power.
-const MOST_BITS: u64 = 1_000_000;
 
 /// The power, or why there is none.
 pub(crate) fn power(
@@ -110,14 +108,6 @@ fn is_at_most(digits: &mut [u64], most: u64) -> bool
     }
     take_one(digits);
     has_bits(digits, most)
-}
-
-// Takes 1 from a number that is not 0.
-fn take_one(digits: &mut [u64])
-    requires { natural_of digits.old ≢ 0 }
-    ensures { natural_of digits.new + 1 ≡ natural_of digits.old }
-{
-    subtract_digit(digits, 1);
 }
 
 // Whether the number has at most so many bits.

@@ -2,7 +2,7 @@
 ghost use Rattle.std.specs.Prelude.{◌≡◌, false, IfOk, IsErr};
 ghost use Rattle.ratio_expressions.specs.Bound.{named};
 ghost use Rattle.ratio_expressions.specs.Lines.{AreOldOrNew};
-ghost use Rattle.ratio_expressions.specs.Replies.{IsReply, is_blank};
+ghost use Rattle.ratio_expressions.specs.Replies.{IsReadReply, IsReply, IsTooLongReply, is_blank};
 
 use crate::lexer::is_blank_byte;
 use crate::line::value_of_line;
@@ -13,6 +13,9 @@ use crate::replies::reading::answer_text;
 use crate::replies::refused::refusal_lines;
 use std::alloc::{AllocError, Global};
 
+// How many bytes a line may have.
+const MOST_BYTES: usize = 1_000_000;
+
 /// What a line is answered. No text ends with a line end.
 #[derive(Drop)]
 pub enum Reply {
@@ -20,7 +23,8 @@ pub enum Reply {
     Nothing,
     /// The line's value in the form that was asked for. In `Both` it may show how the line was read.
     Answer(Vec<u8>),
-    /// Why the line has no value, in three lines: the line, a caret below the place, and the reason.
+    /// Why the line has no value, in three lines: the line, a caret below the place, and the reason. A line of more than a million bytes is
+    /// not read, and the reason is all of the text.
     Refused(Vec<u8>),
 }
 
@@ -42,6 +46,22 @@ pub fn reply_to(
     if is_blank(line) {
         return Ok(Reply::Nothing);
     }
+    if line.len() > MOST_BYTES {
+        return too_long(alloc);
+    }
+    read_reply(alloc, line, form, names)
+}
+
+// What a line is answered that is read.
+fn read_reply(
+    alloc: Global,
+    line: &[u8],
+    form: Form,
+    names: &mut Names,
+) -> Result<Reply, AllocError>
+    ensures reply { IfOk result (IsReadReply line.now form (named names.old) (named names.new)) }
+    ensures either { IsErr result → AreOldOrNew line.now (named names.old) (named names.new) }
+{
     match value_of_line(alloc, line, names) {
         Ok(value) => {
             let text = answer_text(alloc, line, &value, form)?;
@@ -53,6 +73,14 @@ pub fn reply_to(
         }
         Err(ValueError::Memory) => Err(AllocError),
     }
+}
+
+// What a line is answered that is too long to be read.
+fn too_long(alloc: Global) -> Result<Reply, AllocError>
+    ensures { IfOk result IsTooLongReply }
+{
+    let text = Vec::from_slice(alloc, b"error: the line has more than a million bytes")?;
+    Ok(Reply::Refused(text))
 }
 
 // Whether the line has only spaces and tabs, or nothing.

@@ -1,18 +1,8 @@
-use Rattle.std.proofs.Common.{◌∙◌, Err, ap, inl, sym}
-use Rattle.ratio_expressions.specs.Refused.{refusal_lines}
+use Rattle.std.proofs.Common.{◌∙◌, arith, sym}
+use Rattle.ratio_expressions.specs.Bound.{named}
+use Rattle.ratio_expressions.proofs.LengthLemmas.{read_line}
 use Rattle.ratio_expressions.proofs.replies.reply.reply_to.Goals as goal
 
-pub returns-in_ok-text-in-Err-Refused-clause-reply : goal.returns-in_ok-text-in-Err-Refused-clause-reply
-returns-in_ok-text-in-Err-Refused-clause-reply c =
-    let r = c.in-Err-Refused.refusal in
-    let is = ap Err c.in-Err-Refused.field-0-is in (
-      sym c.is_blank.ensures ∙ c.if-is_blank.false,
-      r,
-      c.in-Err-Refused.ensures.refusal r is,
-      c.in_ok-text-in-Err-Refused.ensures ∙ ap (refusal_lines c.args.line.now) c.in-Err-Refused.refusal-is,
-      c.in-Err-Refused.ensures.kept r is,
-    )
-
-pub returns-in_err-text-in-Err-Refused-clause-either : goal.returns-in_err-text-in-Err-Refused-clause-either
-returns-in_err-text-in-Err-Refused-clause-either c = λ e other.
-    inl (c.in-Err-Refused.ensures.kept c.in-Err-Refused.refusal (ap Err c.in-Err-Refused.field-0-is) other)
+pub returns-clause-reply : goal.returns-clause-reply
+returns-clause-reply c =
+    read_line c.args.line.now c.args.form (named c.args.names.now) (named c.read_reply.new.names) c.read_reply.result (sym c.is_blank.ensures ∙ c.if-is_blank.false) (λ long. omega (arith, long)) c.read_reply.ensures.reply

@@ -2,7 +2,7 @@ use Rattle.std.proofs.Common.{◌<◌, ◌^◌, arith, length, subst}
 use Rattle.ratio_natural.specs.Number.{base, natural_of}
 use Rattle.ratio_natural.proofs.NumberLemmas.{number_below}
 use Rattle.ratio_expressions.proofs.PowerBounds.{one_taken}
-use Rattle.ratio_expressions.proofs.power.take_one.Goals as goal
+use Rattle.ratio_expressions.proofs.size.take_one.Goals as goal
 
 pub returns : goal.returns
 returns c =

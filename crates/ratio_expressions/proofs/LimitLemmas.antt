@@ -43,11 +43,10 @@ fit_more few many (x ∷ xs) order h = (h.0, omega (arith, h.1), h.2, fit_more (
 
 -- if the first number fits, the others have the bits that it leaves
 pub fit_step : (x : ℤ × ℤ) (own left : ℕ) (xs : List (ℤ × ℤ)) → IsSize x own → left ≤ 1000000 → own ≤ left → FitInto left (x ∷ xs) ↔ FitInto (left - own) xs
-fit_step x own left xs size small enough =
-    (
-      (λ h. let least = size.least h.0 h.2 in fit_more (left - h.0) (left - own) xs (omega arith) h.3),
-      (λ h. (own, enough, size.within (omega arith), h)),
-    )
+fit_step x own left xs size small enough = (
+  (λ h. let least = size.least h.0 h.2 in fit_more (left - h.0) (left - own) xs (omega arith) h.3),
+  (λ h. (own, enough, size.within (omega arith), h)),
+)
 
 -- else they do not fit
 pub fit_stop : (x : ℤ × ℤ) (own left : ℕ) (xs : List (ℤ × ℤ)) → IsSize x own → left < own → FitInto left (x ∷ xs) → ⊥
@@ -73,9 +72,12 @@ module _ (xs : List BigFraction) (n : ℕ) where
 -- ---- two numbers
 
 pub short_pair : (x y : ℤ × ℤ) → IsShort x → IsShort y → FitTogether (x ∷ y ∷ [])
-short_pair x y h g =
-    (63, omega arith, record { numer = short_number x.0 h.numer; denom = short_number x.1 h.denom },
-    (63, omega arith, record { numer = short_number y.0 g.numer; denom = short_number y.1 g.denom }, tt))
+short_pair x y h g = (
+  63,
+  omega arith,
+  record { numer = short_number x.0 h.numer; denom = short_number x.1 h.denom },
+  (63, omega arith, record { numer = short_number y.0 g.numer; denom = short_number y.1 g.denom }, tt),
+)
 
 pub pair_within : (x y : ℤ × ℤ) (left right : ℕ) → IsSize x left → IsSize y right → left + right ≤ 1000000 → FitTogether (x ∷ y ∷ [])
 pair_within x y left right first second few =

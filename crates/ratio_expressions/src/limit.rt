@@ -9,11 +9,7 @@ use ratio_big::BigFraction;
 use std::alloc::{AllocError, Global};
 
 /// Whether the two numbers have at most a million bits together. Two short numbers need no memory for this.
-pub(crate) fn pair_fits(
-    alloc: Global,
-    x: &BigFraction,
-    y: &BigFraction,
-) -> Result<bool, AllocError>
+pub(crate) fn pair_fits(alloc: Global, x: &BigFraction, y: &BigFraction) -> Result<bool, AllocError>
     ensures { IfOk result (λ fit. IsTrue fit ↔ FitTogether (big_numbers x.now ∷ big_numbers y.now ∷ [])) }
 {
     if is_short(x) && is_short(y) {

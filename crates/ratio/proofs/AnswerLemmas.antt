@@ -5,10 +5,12 @@ use Rattle.std.specs.Io.KnownBytes.{Consumes, IsAtEnd}
 use Rattle.ratio_expressions.specs.Worths.{Worth}
 use Rattle.ratio_expressions.specs.declared.replies.form.Form.{Form}
 use Rattle.ratio_lines.specs.declared.counted.Calls.{Calls}
-use Rattle.ratio.specs.Answers.{AnswersInput, AnswersLine, AreAnswered, AreAnsweredBefore, IsUnnamed, and_line, end_of, no_line, prompt_of, with_end}
+use Rattle.ratio.specs.Answers.{AnswersInput, AnswersLine, AreAnswered, AreAnsweredBefore, IsUnnamed, and_line, no_line, with_end}
 use Rattle.ratio.specs.Devices.{GivesLine, Takes, TakesFront, WritesAll}
-use Rattle.ratio.specs.Lines.{input_lines}
+use Rattle.ratio.specs.Lines.{input_lines, without_end}
+use Rattle.ratio.specs.Settings.{end_of, ends_lines, prompt_of, start_of}
 use Rattle.ratio.specs.declared.fault.Fault.{Fault}
+use Rattle.ratio.specs.declared.setting.Setting.{Setting}
 use Rattle.ratio.specs.declared.fault.Fault.TheVariants as faults
 use Rattle.ratio.proofs.DeviceLemmas.{changing, front_after, front_of_more}
 
@@ -18,7 +20,7 @@ when_some None h = tt
 when_some (Some x) h = h x refl
 
 -- the lines so far have their answers, they are at least so many, and the reader has the rest of the input left
-pub record SoFar (form : Form) (t : Bool) (input : List ℕ) (left old new : Option (List ℕ)) (named : List ℕ → Option Worth) (all : Bool) (count : ℕ) : Type 0 where
+pub record SoFar (form : Form) (t : Setting) (input : List ℕ) (left old new : Option (List ℕ)) (named : List ℕ → Option Worth) (all : Bool) (count : ℕ) : Type 0 where
   pub lines : List (List ℕ)
   pub rest : List ℕ
   pub written : List ℕ
@@ -29,18 +31,18 @@ pub record SoFar (form : Form) (t : Bool) (input : List ℕ) (left old new : Opt
   pub counted : count ≤ length lines
 
 -- a front of what is written is one with its end
-front_of_end : (t : Bool) (last : List (List ℕ)) (a b : Option (List ℕ)) (written : List ℕ) → TakesFront (changing a b) written → TakesFront (changing a b) (with_end t last written)
+front_of_end : (t : Setting) (last : List (List ℕ)) (a b : Option (List ℕ)) (written : List ℕ) → TakesFront (changing a b) written → TakesFront (changing a b) (with_end t last written)
 front_of_end t [] a b written some = front_of_more (changing a b) written (end_of t) _ refl some
 front_of_end t (line ∷ last) a b written some = some
 
-module _ (form : Form) (t : Bool) (input : List ℕ) where
+module _ (form : Form) (t : Setting) (input : List ℕ) where
   -- no line is read yet
-  pub none_read : (left old new : Option (List ℕ)) (named : List ℕ → Option Worth) → left ≡ Some input → IsUnnamed named → Takes (changing old new) (prompt_of t)
+  pub none_read : (left old new : Option (List ℕ)) (named : List ℕ → Option Worth) → left ≡ Some input → IsUnnamed named → Takes (changing old new) (start_of t)
       → SoFar form t input left old new named true 0
   none_read left old new named left_is unnamed takes = record {
     lines = [];
     rest = input;
-    written = prompt_of t;
+    written = start_of t;
     left_is = left_is;
     split = refl;
     answered = no_line named unnamed;
@@ -48,15 +50,15 @@ module _ (form : Form) (t : Bool) (input : List ℕ) where
     counted = omega arith;
   }
 
-  -- the first prompt was not written
-  pub no_prompt : (left old new : Option (List ℕ)) (fault : Fault) → WritesAll {T = Unit {0}} (changing old new) (prompt_of t) (Err fault)
+  -- the start was not written
+  pub no_start : (left old new : Option (List ℕ)) (fault : Fault) → WritesAll {T = Unit {0}} (changing old new) (start_of t) (Err fault)
       → AnswersInput form t input left (changing old new) (Err fault)
-  no_prompt left old new fault h = subst (λ e. AnswersInput form t input left (changing old new) (Err e)) (sym h.0) (
+  no_start left old new fault h = subst (λ e. AnswersInput form t input left (changing old new) (Err e)) (sym h.0) (
     input_lines input,
-    prompt_of t,
+    start_of t,
     true,
     record { lines = []; behind = λ _. None; split = refl; answered = no_line (λ _. None) (λ _. refl) },
-    front_of_end t (input_lines input) old new (prompt_of t) h.1,
+    front_of_end t (input_lines input) old new (start_of t) h.1,
   )
 
   module _ (left next old new : Option (List ℕ)) (named : List ℕ → Option Worth) (all : Bool) (count : ℕ) (so_far : SoFar form t input left old new named all count) where
@@ -93,7 +95,7 @@ module _ (form : Form) (t : Bool) (input : List ℕ) where
 
       -- all lines are answered
       pub read_all : Takes (changing new last) (end_of t) → AnswersInput form t input next (changing old last) (Ok all)
-      read_all takes = (so_far.written, answered_before [] none_left, Appends-trans old new last so_far.written (end_of t) so_far.takes takes)
+      read_all takes = ([], so_far.written, answered_before [] none_left, tt, Appends-trans old new last so_far.written (end_of t) so_far.takes takes)
 
       -- the end was not written
       pub no_end : (fault : Fault) → WritesAll {T = Unit {0}} (changing new last) (end_of t) (Err fault) → AnswersInput form t input next (changing old last) (Err fault)
@@ -111,6 +113,10 @@ module _ (form : Form) (t : Bool) (input : List ℕ) where
 
       split_behind : input_lines input ≡ (so_far.lines ++ line ∷ []) ++ input_lines read.0
       split_behind = so_far.split ∙ ap (λ l. so_far.lines ++ l) read.2 ∙ sym (append_assoc so_far.lines (line ∷ []) (input_lines read.0))
+
+      -- the line ends the lines
+      pub ended_by : ends_lines t (without_end line) ≡ true → AnswersInput form t input next (changing old new) (Ok all)
+      ended_by ends = (line ∷ input_lines read.0, so_far.written, answered_before (line ∷ input_lines read.0) read.2, (ends, read.0, read.1, refl), so_far.takes)
 
       -- the line is answered
       pub one_more : (accepted : Bool) (writes writes' : Calls) → AnswersLine line form t named behind (changing new last) writes writes' (Ok accepted) → SoFar form t input next old last behind (all && accepted) (count + 1)

@@ -5,8 +5,9 @@ use Rattle.std.specs.Io.KnownBytes.{Consumes, IsAtEnd}
 use Rattle.ratio_expressions.specs.Worths.{Worth}
 use Rattle.ratio_expressions.specs.declared.replies.form.Form.{Form}
 use Rattle.ratio_lines.specs.declared.counted.Calls.{Calls}
-use Rattle.ratio.specs.Answers.{AnswersInput, AnswersLine, AreAnswered, AreAnsweredBefore, IsUnnamed, and_line, no_line, with_end}
-use Rattle.ratio.specs.Devices.{GivesLine, Takes, TakesFront, WritesAll}
+use Rattle.ratio.specs.Answers.{AnswersInput, AnswersLine, AnswersSome, AnswersSomeOfLine, AreAnswered, AreAnsweredBefore, IsUnnamed, and_line, no_line, with_end}
+use Rattle.ratio.specs.Devices.{DeviceChange, GivesLine, Takes, TakesFront, WritesAll}
+use Rattle.ratio.specs.Failures.{is_write}
 use Rattle.ratio.specs.Lines.{input_lines, without_end}
 use Rattle.ratio.specs.Settings.{end_of, ends_lines, prompt_of, start_of}
 use Rattle.ratio.specs.declared.fault.Fault.{Fault}
@@ -29,6 +30,22 @@ pub record SoFar (form : Form) (t : Setting) (input : List ℕ) (left old new : 
   pub answered : AreAnswered form t lines named written all
   pub takes : Takes (changing old new) written
   pub counted : count ≤ length lines
+
+-- a fault of a writer, whichever
+at_write : (form : Form) (t : Setting) (input : List ℕ) (left : Option (List ℕ)) (output : DeviceChange) (fault : Fault) → is_write fault ≡ true → AnswersSome form t input output
+    → AnswersInput form t input left output (Err fault)
+at_write form t input left output faults.Write e h = h
+at_write form t input left output faults.Unread e h = h
+at_write form t input left output faults.Arguments e h = absurd cc
+at_write form t input left output (faults.UnknownOption name) e h = absurd cc
+at_write form t input left output faults.NoPlaces e h = absurd cc
+at_write form t input left output faults.Memory e h = absurd cc
+at_write form t input left output faults.Read e h = absurd cc
+at_write form t input left output faults.Endless e h = absurd cc
+
+-- a line ends the lines, as a test of its text without the end says
+pub ends_at : (t : Setting) (line read text : List ℕ) (r : Bool) → read ≡ line → text ≡ without_end read → r ≡ ends_lines t text → r ≡ true → ends_lines t (without_end line) ≡ true
+ends_at t line read text r is cut tested ends = ap (λ l. ends_lines t (without_end l)) (sym is) ∙ ap (ends_lines t) (sym cut) ∙ sym tested ∙ ends
 
 -- a front of what is written is one with its end
 front_of_end : (t : Setting) (last : List (List ℕ)) (a b : Option (List ℕ)) (written : List ℕ) → TakesFront (changing a b) written → TakesFront (changing a b) (with_end t last written)
@@ -53,7 +70,7 @@ module _ (form : Form) (t : Setting) (input : List ℕ) where
   -- the start was not written
   pub no_start : (left old new : Option (List ℕ)) (fault : Fault) → WritesAll {T = Unit {0}} (changing old new) (start_of t) (Err fault)
       → AnswersInput form t input left (changing old new) (Err fault)
-  no_start left old new fault h = subst (λ e. AnswersInput form t input left (changing old new) (Err e)) (sym h.0) (
+  no_start left old new fault h = at_write form t input left (changing old new) fault h.0 (
     input_lines input,
     start_of t,
     true,
@@ -99,7 +116,7 @@ module _ (form : Form) (t : Setting) (input : List ℕ) where
 
       -- the end was not written
       pub no_end : (fault : Fault) → WritesAll {T = Unit {0}} (changing new last) (end_of t) (Err fault) → AnswersInput form t input next (changing old last) (Err fault)
-      no_end fault stopped = subst (λ e. AnswersInput form t input next (changing old last) (Err e)) (sym stopped.0) (
+      no_end fault stopped = at_write form t input next (changing old last) fault stopped.0 (
         [],
         so_far.written,
         all,
@@ -131,9 +148,9 @@ module _ (form : Form) (t : Setting) (input : List ℕ) where
         counted = let so_many = so_far.counted in omega (arith, length-append so_far.lines (line ∷ []));
       }
 
-      -- the line is not answered, or not whole
-      pub line_stops : (fault : Fault) (writes writes' : Calls) → AnswersLine line form t named behind (changing new last) writes writes' (Err fault) → AnswersInput form t input next (changing old last) (Err fault)
-      line_stops faults.Write writes writes' h =
+      -- a front of what is written for the line is one of what is written so far
+      line_stops_writing : AnswersSomeOfLine line form t named behind (changing new last) → AnswersSome form t input (changing old last)
+      line_stops_writing h =
           let written = so_far.written ++ (h.0 ++ prompt_of t) in (
             input_lines read.0,
             written,
@@ -146,6 +163,11 @@ module _ (form : Form) (t : Setting) (input : List ℕ) where
             },
             front_of_end t (input_lines read.0) old last written (front_after old new last so_far.written (h.0 ++ prompt_of t) written refl so_far.takes h.3),
           )
+
+      -- the line is not answered, or not whole
+      pub line_stops : (fault : Fault) (writes writes' : Calls) → AnswersLine line form t named behind (changing new last) writes writes' (Err fault) → AnswersInput form t input next (changing old last) (Err fault)
+      line_stops faults.Write writes writes' h = line_stops_writing h
+      line_stops faults.Unread writes writes' h = line_stops_writing h
       line_stops faults.Memory writes writes' h = (
         line,
         input_lines read.0,

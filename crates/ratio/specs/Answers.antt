@@ -1,5 +1,5 @@
 -- What is written for an expression, and for the lines of an input.
-use Rattle.std.specs.Prelude.{◌≡◌, ◌≤◌, ◌-◌, ◌^◌, ◌++◌, ◌∷◌, ◌&&◌, ◌⊎◌, [], ℕ, Bool, true, false, List, Option, Some, None, Result, Ok, Err, IfSome, codes, length, if◌then◌else◌}
+use Rattle.std.specs.Prelude.{◌≡◌, ◌≤◌, ◌-◌, ◌^◌, ◌++◌, ◌∷◌, ◌&&◌, ◌⊎◌, [], ℕ, Bool, true, false, List, Option, Some, None, Result, Ok, Err, IfSome, length, if◌then◌else◌}
 use Rattle.std.specs.Bool.{MatchBool}
 use Rattle.std.specs.Io.{StopsAt}
 use Rattle.std.specs.Io.KnownBytes.{Consumes}
@@ -114,8 +114,13 @@ abbrev pub Ends : Setting → List (List ℕ) → Option (List ℕ) → Type 0
 Ends setting [] left = Unit {0}
 Ends setting (line ∷ last) left = (ends_lines setting (without_end line) ≡ true) × (rest : List ℕ) × (left ≡ Some rest) × (last ≡ input_lines rest)
 
+-- an output took a front of what is written for the first lines of an input
+abbrev pub AnswersSome : Form → Setting → List ℕ → DeviceChange → Type 0
+AnswersSome form setting input output =
+    (last : List (List ℕ)) × (written : List ℕ) × (all : Bool) × AreAnsweredBefore form setting input last written all × TakesFront output (with_end setting last written)
+
 -- an input is answered, of which some bytes are left. At `Ok` all its lines are, up to one that ends them. At `Read` the lines are answered
--- that were read before, and of the next one at most a part was read. At `Write` the writer took a front. At `Memory` the lines before one
+-- that were read before, and of the next one at most a part was read. At `Write` and `Unread` the writer took a front. At `Memory` the lines before one
 -- that takes memory are answered. At `Endless` at least 2^64-1 lines are
 -- Example: `1 + 1\n2` in a pipe: `2\n2\n` and true
 abbrev pub AnswersInput : Form → Setting → List ℕ → Option (List ℕ) → DeviceChange → Result Bool Fault → Type 0
@@ -124,8 +129,8 @@ AnswersInput form setting input left output (Ok all) =
 AnswersInput form setting input left output (Err faults.Read) =
     (rest : List ℕ) × (part : List ℕ) × (written : List ℕ) × (all : Bool) × AreAnsweredBefore form setting input (input_lines rest) written all × Takes output written
     × Consumes (Some rest) left part × StopsAt part 10
-AnswersInput form setting input left output (Err faults.Write) =
-    (last : List (List ℕ)) × (written : List ℕ) × (all : Bool) × AreAnsweredBefore form setting input last written all × TakesFront output (with_end setting last written)
+AnswersInput form setting input left output (Err faults.Write) = AnswersSome form setting input output
+AnswersInput form setting input left output (Err faults.Unread) = AnswersSome form setting input output
 AnswersInput form setting input left output (Err faults.Memory) =
     (line : List ℕ) × (last : List (List ℕ)) × (written : List ℕ) × (all : Bool) × TakesMemory setting (without_end line)
     × AreAnsweredBefore form setting input (line ∷ last) written all × Takes output written
@@ -138,13 +143,18 @@ AnswersInput form setting input left output (Err fault) = ⊥
 abbrev pub AnswersLines : Form → Setting → DeviceChange → DeviceChange → Result Bool Fault → Type 0
 AnswersLines form setting input output result = IfSome input.old (λ bytes. AnswersInput form setting bytes input.new output result)
 
--- Inner: the reply to a line is written, and the prompt behind it, as the calls say, too. At `Write` the writer took a front, and at `Memory`
+-- Inner: an output took a front of what is written for a line
+abbrev pub AnswersSomeOfLine : List ℕ → Form → Setting → (List ℕ → Option Worth) → (List ℕ → Option Worth) → DeviceChange → Type 0
+AnswersSomeOfLine line form setting named behind output =
+    (bytes : List ℕ) × (accepted : Bool) × IsAnswered setting (without_end line) form named behind bytes accepted × TakesFront output (bytes ++ prompt_of setting)
+
+-- Inner: the reply to a line is written, and the prompt behind it, as the calls say, too. At `Write` and `Unread` the writer took a front, and at `Memory`
 -- nothing, of a line that takes memory
 abbrev pub AnswersLine : List ℕ → Form → Setting → (List ℕ → Option Worth) → (List ℕ → Option Worth) → DeviceChange → Calls → Calls → Result Bool Fault → Type 0
 AnswersLine line form setting named behind output old new (Ok accepted) =
     (bytes : List ℕ) × IsAnswered setting (without_end line) form named behind bytes accepted × Takes output (bytes ++ prompt_of setting)
     × (new.moved ≡ old.moved ++ (bytes ++ prompt_of setting))
-AnswersLine line form setting named behind output old new (Err faults.Write) =
-    (bytes : List ℕ) × (accepted : Bool) × IsAnswered setting (without_end line) form named behind bytes accepted × TakesFront output (bytes ++ prompt_of setting)
+AnswersLine line form setting named behind output old new (Err faults.Write) = AnswersSomeOfLine line form setting named behind output
+AnswersLine line form setting named behind output old new (Err faults.Unread) = AnswersSomeOfLine line form setting named behind output
 AnswersLine line form setting named behind output old new (Err faults.Memory) = TakesMemory setting (without_end line) × Stays output
 AnswersLine line form setting named behind output old new (Err fault) = ⊥

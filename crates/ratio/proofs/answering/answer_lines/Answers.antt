@@ -1,14 +1,13 @@
-use Rattle.std.proofs.Common.{◌≡◌, ◌∙◌, ◌++◌, ap, ℕ, Bool, List, true, false, Ok, Err, refl, subst, sym, rules}
+use Rattle.std.proofs.Common.{◌≡◌, ◌∙◌, ◌++◌, ap, ℕ, Bool, List, true, false, Ok, Err, refl, subst, rules}
 use Rattle.std.proofs.lemmas.Option.{IfSome_then}
 use Rattle.ratio_expressions.specs.Bound.{named}
 use Rattle.ratio.specs.Answers.{AnswersInput, AnswersLine}
 use Rattle.ratio.specs.Devices.{GivesLine, Takes, TakesFront, after_line, device_change}
 use Rattle.ratio_lines.specs.declared.counted.Calls.{Calls}
 use Rattle.ratio.specs.Failures.{is_write}
-use Rattle.ratio.specs.Lines.{without_end}
-use Rattle.ratio.specs.Settings.{end_of, ends_lines, start_of}
+use Rattle.ratio.specs.Settings.{end_of, start_of}
 use Rattle.ratio.specs.declared.fault.Fault.TheVariants as faults
-use Rattle.ratio.proofs.AnswerLemmas.{ended_by, line_stops, no_end, no_start, none_read, not_read, one_more, read_all, too_many, when_some}
+use Rattle.ratio.proofs.AnswerLemmas.{ended_by, ends_at, line_stops, no_end, no_start, none_read, not_read, one_more, read_all, too_many, when_some}
 use Rattle.ratio.proofs.DeviceLemmas.{handed_on}
 use Rattle.ratio.proofs.FailureLemmas.{fails_on, none_after, none_at_fault, stops_after}
 use Rattle.ratio.proofs.OrderLemmas.{no_read, one_more_read, one_more_turn, turns_begin}
@@ -21,7 +20,7 @@ returns-in_err-write-clause-answered g c =
     let output = device_change g.W.Write.contents c.args.output.now c.write.new.writer in
     let left = g.R.LineRead.remaining c.args.input.now in
     let fault = c.in_err-write.field-0.0 in
-    let stopped : (fault ≡ faults.Write) × TakesFront output (start_of t) = (c.in_err-write.ensures.written.0, subst (TakesFront output) c.start.ensures c.in_err-write.ensures.written.1) in
+    let stopped : (is_write fault ≡ true) × TakesFront output (start_of t) = (c.in_err-write.ensures.written.0, subst (TakesFront output) c.start.ensures c.in_err-write.ensures.written.1) in
     when_some left (λ input is.
     handed_on c.from_residual.result (AnswersInput form t input left output) fault c.from_residual.ensures.1 (no_start form t input left _ _ fault stopped))
 
@@ -59,7 +58,7 @@ returns-in_err-write-2-clause-answered g c =
     let line = c.read_line.new.line.items in
     let none : c.in_ok-read_line.field-0 ≡ false = search rules in
     let given : GivesLine input_change line (Ok false) = subst (λ (b : Bool). GivesLine input_change line (Ok b)) none c.in_ok-read_line.ensures.line in
-    let stopped : (fault ≡ faults.Write) × TakesFront end (end_of t) = (c.in_err-write-2.ensures.written.0, subst (TakesFront end) c.end.ensures c.in_err-write-2.ensures.written.1) in
+    let stopped : (is_write fault ≡ true) × TakesFront end (end_of t) = (c.in_err-write-2.ensures.written.0, subst (TakesFront end) c.end.ensures c.in_err-write-2.ensures.written.1) in
     IfSome_then (g.R.LineRead.remaining c.args.input.now) c.loop-turn.invariant.answered (λ input so_far.
     handed_on c.from_residual-in_err-write-2.result (AnswersInput form t input next output) fault c.from_residual-in_err-write-2.ensures.1
     (no_end form t input _ next _ _ (named c.loop-turn.names) c.loop-turn.all _ so_far line _ given fault stopped))
@@ -81,8 +80,7 @@ returns-then-ends_lines-clause-answered g c =
     let line = c.read_line.new.line.items in
     let one : c.in_ok-read_line.field-0 ≡ true = search rules in
     let given : GivesLine input_change line (Ok true) = subst (λ (b : Bool). GivesLine input_change line (Ok b)) one c.in_ok-read_line.ensures.line in
-    let ends : ends_lines t (without_end line) ≡ true =
-    ap (λ (l : List ℕ). ends_lines t (without_end l)) (sym c.deref.ensures.value) ∙ ap (ends_lines t) (sym c.without_end.ensures) ∙ sym c.ends_lines.ensures ∙ c.if-ends_lines.true in
+    let ends = ends_at t line c.deref.result.now _ _ c.deref.ensures.value c.without_end.ensures c.ends_lines.ensures c.if-ends_lines.true in
     IfSome_then (g.R.LineRead.remaining c.args.input.now) c.loop-turn.invariant.answered (λ input so_far.
     ended_by c.args.form t input _ _ _ _ (named c.loop-turn.names) c.loop-turn.all _ so_far line (g.W.Write.contents c.loop-turn.output) given (named c.loop-turn.names) ends)
 

@@ -10,14 +10,16 @@ use Rattle.ratio_expressions.specs.declared.replies.form.Form.{Form}
 use Rattle.ratio_lines.specs.Devices.{after_moment, after_moving}
 use Rattle.ratio_lines.specs.declared.counted.Calls.{Calls}
 use Rattle.ratio_lines.specs.declared.counted.Moments.{Moments}
-use Rattle.ratio.specs.Answers.{AnswersLine, AreAnswered, IsUnnamed, and_line, no_line, prompt_of}
+use Rattle.ratio.specs.Answers.{AnswersLine, AreAnswered, IsUnnamed, and_line, no_line}
 use Rattle.ratio.specs.Devices.{DeviceChange}
 use Rattle.ratio.specs.Order.{LinesAnsweredAt, AnswersLinesFirst}
+use Rattle.ratio.specs.Settings.{prompt_of, start_of}
+use Rattle.ratio.specs.declared.setting.Setting.{Setting}
 
-pub no_read : (form : Form) (t : Bool) (given taken : List ℕ) (moments : Moments) → AnswersLinesFirst form t given taken moments moments
+pub no_read : (form : Form) (t : Setting) (given taken : List ℕ) (moments : Moments) → AnswersLinesFirst form t given taken moments moments
 no_read form t given taken moments = record { reads = []; made = sym (append-nil moments.reads); answered = All-nil (LinesAnsweredAt form t given taken) }
 
-module _ (form : Form) (t : Bool) (given taken : List ℕ) (old : Moments) where
+module _ (form : Form) (t : Setting) (given taken : List ℕ) (old : Moments) where
   -- these lines were given, their answers were taken and flushed, and so it was before each read
   pub record Turns (reads writes : Calls) (now : Moments) (named : List ℕ → Option Worth) (all : Bool) : Type 0 where
     pub lines : List (List ℕ)
@@ -29,11 +31,11 @@ module _ (form : Form) (t : Bool) (given taken : List ℕ) (old : Moments) where
     pub flushed : writes.mark ≡ length writes.moved
     pub first : AnswersLinesFirst form t given taken old now
 
-  pub turns_begin : (reads writes : Calls) (named : List ℕ → Option Worth) → reads.moved ≡ given → writes.moved ≡ taken ++ prompt_of t → writes.mark ≡ length writes.moved → IsUnnamed named
+  pub turns_begin : (reads writes : Calls) (named : List ℕ → Option Worth) → reads.moved ≡ given → writes.moved ≡ taken ++ start_of t → writes.mark ≡ length writes.moved → IsUnnamed named
       → Turns reads writes old named true
   turns_begin reads writes named gave took flushed unnamed = record {
     lines = [];
-    written = prompt_of t;
+    written = start_of t;
     gave = gave ∙ sym (append-nil given);
     are_lines = All-nil (λ line. StopsAt line 10);
     took = took;

@@ -4,6 +4,7 @@ use Rattle.std.specs.Io.{StopsAt}
 use Rattle.std.specs.Io.KnownBytes.{Appends, Consumes, IsAtEnd}
 use Rattle.ratio_lines.specs.Devices.{after_ending, after_failing, after_moving}
 use Rattle.ratio_lines.specs.declared.counted.Calls.{Calls}
+use Rattle.ratio.specs.Failures.{is_write}
 use Rattle.ratio.specs.Lines.{input_lines}
 use Rattle.ratio.specs.declared.fault.Fault.{Fault}
 use Rattle.ratio.specs.declared.fault.Fault.TheVariants as faults
@@ -32,10 +33,10 @@ pub record TakesFront (writer : DeviceChange) (bytes : List ℕ) : Type 0 where
   pub split : front ++ rest ≡ bytes
   pub takes : Takes writer front
 
--- the writer took these bytes; or the fault is `Write`, and it took a front of them
+-- the writer took these bytes; or the fault is one of a writer, and it took a front of them
 abbrev pub WritesAll : {T : Type 0} → DeviceChange → List ℕ → Result T Fault → Type 0
 WritesAll writer bytes (Ok x) = Takes writer bytes
-WritesAll writer bytes (Err fault) = (fault ≡ faults.Write) × TakesFront writer bytes
+WritesAll writer bytes (Err fault) = (is_write fault ≡ true) × TakesFront writer bytes
 
 -- these bytes come to the first writer if the test is true, or else to the second, and none to the other one
 abbrev pub WritesToOne : {T : Type 0} → Bool → DeviceChange → DeviceChange → List ℕ → Result T Fault → Type 0

@@ -28,20 +28,21 @@ abbrev pub failed_reads : {T : Type 0} → Result T Fault → ℕ
 failed_reads (Ok _) = 0
 failed_reads (Err fault) = if is_read fault then 1 else 0
 
--- the fault is `Write`
+-- the fault is one of a writer: `Write` or `Unread`
 abbrev pub is_write : Fault → Bool
 is_write faults.Write = true
+is_write faults.Unread = true
 is_write _ = false
 
--- the fault is `Write`, if there is one
+-- the fault is one of a writer, if there is one
 abbrev pub fails_to_write : {T : Type 0} → Result T Fault → Bool
 fails_to_write (Ok _) = false
 fails_to_write (Err fault) = is_write fault
 
--- at the fault `Write` the writer gave up (`GaveUp`), and otherwise none of its calls failed
+-- at a fault of a writer it gave up (`GaveUp`), and otherwise none of its calls failed
 abbrev pub FailsAtWrite : {T : Type 0} → Calls → Calls → Result T Fault → Type 0
 FailsAtWrite old new result = MatchBool (fails_to_write result) (GaveUp old new) (NoneFailed old new)
 
--- the same of two writers: at the fault `Write` one of them gave up
+-- the same of two writers: at such a fault one of them gave up
 abbrev pub OneFailsAtWrite : {T : Type 0} → Calls → Calls → Calls → Calls → Result T Fault → Type 0
 OneFailsAtWrite old new old' new' result = (FailsAtWrite old new result × NoneFailed old' new') ⊎ (NoneFailed old new × FailsAtWrite old' new' result)

@@ -7,4 +7,5 @@ pub mod Options
 pub mod Order
 pub mod Requests
 pub mod Runs
+pub mod Settings
 pub mod Status

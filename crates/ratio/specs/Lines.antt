@@ -1,5 +1,5 @@
 -- The lines of an input, and what a line is without its end.
-use Rattle.std.specs.Prelude.{◌-◌, ◌==◌, ◌∷◌, [], ℕ, List, drop, length, take, if◌then◌else◌}
+use Rattle.std.specs.Prelude.{◌-◌, ◌==◌, ◌∷◌, [], ℕ, List, drop, length, not, reverse, take, take_while, if◌then◌else◌}
 use Rattle.std.specs.List.{onto_first}
 use Rattle.std.specs.Str.{bytes_eq}
 
@@ -18,3 +18,13 @@ without_last b text = if bytes_eq (drop (length text - 1) text) (b ∷ []) then 
 -- Example: `12\r\n`: `12`
 abbrev pub without_end : List ℕ → List ℕ
 without_end line = without_last 13 (without_last 10 line)
+
+-- how many bytes are behind the last line feed of a text
+-- Example: `2 + )`, a line feed and `error`: 5
+abbrev pub last_line_length : List ℕ → ℕ
+last_line_length text = length (take_while (λ b. not (b == 10)) (reverse text))
+
+-- the last line of a text: what is behind its last line feed
+-- Example: of `2 + )`, a line feed and `error`: `error`
+abbrev pub last_line : List ℕ → List ℕ
+last_line text = drop (length text - last_line_length text) text

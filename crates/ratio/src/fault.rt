@@ -1,13 +1,14 @@
 //! Why the program stops before its end, and its message.
-ghost use Rattle.std.specs.Prelude.{◌≡◌, ◌++◌};
+ghost use Rattle.std.specs.Prelude.{◌≡◌, ◌++◌, true};
 ghost use Rattle.ratio.specs.Devices.{WritesAll, device_change};
-ghost use Rattle.ratio.specs.Failures.{FailsAtWrite};
-ghost use Rattle.ratio.specs.Faults.{message_of};
+ghost use Rattle.ratio.specs.Failures.{FailsAtWrite, is_write};
+ghost use Rattle.ratio.specs.Faults.{IsFaultOfWrite, message_of};
 ghost use Rattle.ratio.specs.declared.fault.Fault.TheVariants.{Memory};
 
 use crate::writing::write;
 use ratio_lines::counted::CalcWrite;
 use std::alloc::AllocError;
+use std::io::ErrorKind;
 
 /// Why the program stops before its end.
 #[derive(Drop)]
@@ -24,6 +25,8 @@ pub enum Fault {
     Read,
     /// An answer could not be written.
     Write,
+    /// Nobody reads the answers any more.
+    Unread,
     /// 2^64-1 lines were answered, and the input has not ended.
     Endless,
 }
@@ -33,6 +36,18 @@ impl From<AllocError> for Fault {
 
     fn from(_e: AllocError) -> Fault {
         Fault::Memory
+    }
+}
+
+/// The fault of a write that failed with an error of this kind. A broken pipe is no news: its reader has seen enough.
+pub fn fault_of_write(kind: ErrorKind) -> Fault
+    ensures fault { IsFaultOfWrite kind result }
+    ensures writing { is_write result ≡ true }
+{
+    if kind == ErrorKind::BrokenPipe {
+        Fault::Unread
+    } else {
+        Fault::Write
     }
 }
 
@@ -66,6 +81,7 @@ fn message(fault: &Fault) -> (&str, &str, &str)
         Fault::Memory => ("ratio: out of memory\n", "", ""),
         Fault::Read => ("ratio: read failed\n", "", ""),
         Fault::Write => ("ratio: write failed\n", "", ""),
+        Fault::Unread => ("", "", ""),
         Fault::Endless => ("ratio: input too long\n", "", ""),
     }
 }

@@ -9,6 +9,8 @@
 //! | `console` | What the system gives the program and takes from it: arguments, the input and its lines, whether a person types it, and the two outputs. |
 //! | `fault` | Why the program stops before its end, and its message. |
 //! | `help` | The texts of `--help` and `--version`. |
+//! | `prompt` | What a person reads at a prompt, and the words that are commands there. |
+//! | `setting` | `Setting`: for whom lines are answered. |
 //! | `writing` | Bytes for an output, written whole. |
 #![tactic(auto)]
 
@@ -17,15 +19,18 @@ mod console;
 pub mod fault;
 mod help;
 mod option;
+mod prompt;
 mod request;
+mod setting;
 mod writing;
 
-ghost use Rattle.std.specs.Prelude.{◌≡◌, ◌+◌, OnOk, length, map, string_bytes};
+ghost use Rattle.std.specs.Prelude.{◌≡◌, ◌+◌, Bool, OnOk, length, map, string_bytes};
 ghost use Rattle.std.specs.Process.{exit_status};
 ghost use Rattle.ratio.specs.Devices.{device_change};
 ghost use Rattle.ratio.specs.Failures.{FailsAtWrite, IsFlushed, OneFailsAtWrite, failed_reads};
 ghost use Rattle.ratio.specs.Order.{AnswersLinesFirst};
 ghost use Rattle.ratio.specs.Runs.{WritesText, Runs, Serves, form_of_lines};
+ghost use Rattle.ratio.specs.Settings.{setting_of};
 ghost use Rattle.ratio.specs.Status.{status};
 
 use crate::console::{LineRead, arguments, input, is_terminal};
@@ -35,6 +40,7 @@ use help::{HELP, VERSION};
 use ratio_expressions::replies::Form;
 use ratio_lines::counted::{CalcWrite, Counted};
 use request::{Request, requested};
+use setting::{Setting, setting_of};
 use std::alloc::Global;
 use std::process::ExitCode;
 use writing::write;
@@ -73,7 +79,7 @@ fn run<R: LineRead<W>, W: CalcWrite, E: CalcWrite>(
     ensures ran { Runs (map string_bytes words.now) on_terminal (device_change R.remaining input.old input.new)
         (device_change W.contents output.old output.new) (device_change E.contents errors.old errors.new) result }
     ensures failed { OneFailsAtWrite (W.calls output.old) (W.calls output.new) (E.calls errors.old) (E.calls errors.new) result }
-    ensures answered_first { (form : Form) × AnswersLinesFirst form on_terminal (R.calls input.old).moved (W.calls output.old).moved
+    ensures answered_first { (form : Form) × (paired : Bool) × AnswersLinesFirst form (setting_of paired on_terminal) (R.calls input.old).moved (W.calls output.old).moved
         (R.moments input.old) (R.moments input.new) }
     ensures reader_failed { (R.calls input.new).failures ≡ (R.calls input.old).failures + failed_reads result }
     ensures flushed { OnOk result (IsFlushed (W.calls output.old) (W.calls output.new) × IsFlushed (E.calls errors.old) (E.calls errors.new)) }
@@ -94,7 +100,7 @@ fn serve<R: LineRead<W>, W: CalcWrite, E: CalcWrite>(
     ensures served { Serves request on_terminal (device_change R.remaining input.old input.new)
         (device_change W.contents output.old output.new) (device_change E.contents errors.old errors.new) result }
     ensures failed { OneFailsAtWrite (W.calls output.old) (W.calls output.new) (E.calls errors.old) (E.calls errors.new) result }
-    ensures answered_first { (form : Form) × AnswersLinesFirst form on_terminal (R.calls input.old).moved (W.calls output.old).moved
+    ensures answered_first { (form : Form) × (paired : Bool) × AnswersLinesFirst form (setting_of paired on_terminal) (R.calls input.old).moved (W.calls output.old).moved
         (R.moments input.old) (R.moments input.new) }
     ensures reader_failed { (R.calls input.new).failures ≡ (R.calls input.old).failures + failed_reads result }
     ensures flushed { OnOk result (IsFlushed (W.calls output.old) (W.calls output.new) × IsFlushed (E.calls errors.old) (E.calls errors.new)) }
@@ -103,9 +109,10 @@ fn serve<R: LineRead<W>, W: CalcWrite, E: CalcWrite>(
         Request::Help => print_text(output, HELP),
         Request::Version => print_text(output, VERSION),
         Request::Expression(text, form) => answer_expression(alloc, &text, form, output, errors),
-        Request::Lines(form) => {
-            let form = form.unwrap_or(form_of_lines(on_terminal));
-            answer_lines(alloc, form, on_terminal, input, output)
+        Request::Lines(form, paired) => {
+            let setting = setting_of(paired, on_terminal);
+            let form = form.unwrap_or(form_of_lines(setting));
+            answer_lines(alloc, form, setting, input, output)
         }
     }
 }
@@ -120,14 +127,13 @@ fn print_text<W: CalcWrite>(output: &mut W, text: &str) -> Result<bool, Fault>
     Ok(true)
 }
 
-// The form of lines without one that was asked for: on a terminal the fraction has its decimal beside it.
-fn form_of_lines(on_terminal: bool) -> Form
-    ensures { result ≡ form_of_lines on_terminal }
+// The form of lines without one that was asked for: at a prompt the fraction has its decimal beside it.
+fn form_of_lines(setting: Setting) -> Form
+    ensures { result ≡ form_of_lines setting }
 {
-    if on_terminal {
-        Form::Both
-    } else {
-        Form::Fraction
+    match setting {
+        Setting::Prompt => Form::Both,
+        Setting::Pipe | Setting::Paired => Form::Fraction,
     }
 }
 

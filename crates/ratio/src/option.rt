@@ -1,6 +1,6 @@
 //! The options by their names, and a number of places.
-ghost use Rattle.std.specs.Prelude.{◌≡◌, ℕ, MatchOption};
-ghost use Rattle.ratio.specs.Options.{SaysPlaces, is_option, option_named};
+ghost use Rattle.std.specs.Prelude.{◌≡◌, ◌++◌, ℕ, MatchOption, codes};
+ghost use Rattle.ratio.specs.Options.{LacksNumber, SaysPlaces, is_option, option_named};
 
 use ratio_expressions::replies::Form;
 
@@ -20,6 +20,8 @@ pub enum Asked {
     Page(Page),
     /// A form: `--mixed`.
     Form(Form),
+    /// `--lines`: one line of output for each line of input.
+    Lines,
     /// `--decimal`: the number of places comes next.
     Places,
     /// `--`: there are no more options.
@@ -42,7 +44,7 @@ pub fn is_option(word: &[u8]) -> bool
 pub fn option_named(word: &[u8]) -> Option<Asked>
     ensures { result ≡ option_named word.now }
 {
-    if word == b"--help".as_slice() {
+    if word == b"-h".as_slice() || word == b"--help".as_slice() {
         return Some(Asked::Page(Page::Help));
     }
     if word == b"--version".as_slice() {
@@ -60,6 +62,9 @@ pub fn option_named(word: &[u8]) -> Option<Asked>
     if word == b"--float".as_slice() {
         return Some(Asked::Form(Form::Float));
     }
+    if word == b"--lines".as_slice() {
+        return Some(Asked::Lines);
+    }
     if word == b"--decimal".as_slice() {
         return Some(Asked::Places);
     }
@@ -67,6 +72,13 @@ pub fn option_named(word: &[u8]) -> Option<Asked>
         return Some(Asked::End);
     }
     None
+}
+
+/// What is behind `--decimal=`, if an argument begins so: `4` of `--decimal=4`.
+pub fn number_behind(word: &str) -> Option<&str>
+    ensures { MatchOption result (LacksNumber word.now) (λ number. word.now ≡ codes "--decimal=" ++ number.now) }
+{
+    word.strip_prefix("--decimal=")
 }
 
 /// The number of places that an argument says, up to 1,000,000, or `None`.

@@ -1,12 +1,12 @@
 //! What the arguments ask for, or why they are refused.
-ghost use Rattle.std.specs.Prelude.{◌≡◌, ◌⊎◌, ◌++◌, ◌∷◌, [], ℕ, true, false, List, map, string_bytes, MatchResult, OnOk};
-ghost use Rattle.ratio.specs.Options.{is_option};
+ghost use Rattle.std.specs.Prelude.{◌≡◌, ◌⊎◌, ◌++◌, ◌∷◌, [], ℕ, true, false, List, None, map, string_bytes, MatchResult, OnOk};
+ghost use Rattle.ratio.specs.Options.{is_option, option_named};
 ghost use Rattle.ratio.specs.Requests.{EndsInDecimal, IsAskedBy, IsSoFar, RefusesArguments, RefusesNext};
 ghost use Rattle.ratio.specs.declared.fault.Fault.TheVariants.{NoPlaces};
 ghost use Rattle.ratio.specs.declared.request.Next.TheVariants as nexts;
 
 use crate::fault::Fault;
-use crate::option::{Asked, Page, is_option, option_named, places};
+use crate::option::{Asked, Page, is_option, number_behind, option_named, places};
 use ratio_expressions::replies::Form;
 use std::alloc::{AllocError, Global};
 
@@ -19,8 +19,8 @@ pub enum Request {
     Version,
     /// The value of this expression in this form.
     Expression(Vec<u8>, Form),
-    /// The values of the lines of standard input, in this form or in the one that serves there.
-    Lines(Option<Form>),
+    /// The values of the lines of standard input, in this form or in the one that serves there, and with `--lines` or not.
+    Lines(Option<Form>, bool),
 }
 
 // What the next argument is.
@@ -37,6 +37,7 @@ struct SoFar {
     next: Next,
     page: Option<Page>,
     form: Option<Form>,
+    paired: bool,
     text: Option<Vec<u8>>,
 }
 
@@ -48,6 +49,7 @@ pub fn requested(alloc: Global, words: &[String]) -> Result<Request, Fault>
         next: Next::Any,
         page: None,
         form: None,
+        paired: false,
         text: None,
     };
     for word in words {
@@ -93,7 +95,11 @@ impl SoFar {
         ensures { (ws : List (List ℕ)) → IsSoFar ws self.old → MatchResult result (λ _. IsSoFar (ws ++ word.now ∷ []) self.new) (RefusesNext ws word.now) }
     {
         match option_named(word.as_bytes()) {
-            None => Err(Fault::UnknownOption(String::from_str(alloc, word)?)),
+            None => self.take_unnamed(alloc, word),
+            Some(Asked::Lines) => {
+                self.paired = true;
+                Ok(())
+            }
             Some(Asked::Form(form)) => {
                 self.form = Some(form);
                 Ok(())
@@ -110,6 +116,25 @@ impl SoFar {
                 self.page = Some(page);
                 Ok(())
             }
+        }
+    }
+
+    // Takes an option without a name of its own, as `--decimal=4`.
+    fn take_unnamed(&mut self, alloc: Global, word: &str) -> Result<(), Fault>
+        requires any { self.old.next ≡ nexts.Any }
+        requires option { is_option word.now ≡ true }
+        requires unnamed { option_named word.now ≡ None }
+        ensures { (ws : List (List ℕ)) → IsSoFar ws self.old → MatchResult result (λ _. IsSoFar (ws ++ word.now ∷ []) self.new) (RefusesNext ws word.now) }
+    {
+        let Some(number) = number_behind(word) else {
+            return Err(Fault::UnknownOption(String::from_str(alloc, word)?));
+        };
+        match places(number) {
+            Some(n) => {
+                self.form = Some(Form::Decimal(n));
+                Ok(())
+            }
+            None => Err(Fault::NoPlaces),
         }
     }
 
@@ -139,6 +164,7 @@ impl SoFar {
             next,
             page,
             form,
+            paired,
             text,
         } = self;
         match page {
@@ -152,7 +178,7 @@ impl SoFar {
         }
         match text {
             Some(text) => Ok(Request::Expression(text, form.unwrap_or(Form::Fraction))),
-            None => Ok(Request::Lines(form)),
+            None => Ok(Request::Lines(form, paired)),
         }
     }
 }

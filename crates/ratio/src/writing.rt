@@ -3,7 +3,7 @@ ghost use Rattle.std.specs.Prelude.{◌≡◌, ◌++◌, [], OnOk, length};
 ghost use Rattle.ratio.specs.Devices.{WritesAll, device_change};
 ghost use Rattle.ratio.specs.Failures.{FailsAtWrite};
 
-use crate::fault::Fault;
+use crate::fault::{Fault, fault_of_write};
 use ratio_lines::counted::CalcWrite;
 use std::io::ErrorKind;
 
@@ -24,7 +24,7 @@ pub fn write<W: CalcWrite>(writer: &mut W, bytes: &[u8]) -> Result<(), Fault>
             Ok(n) => at += n,
             Err(e) => {
                 if e.kind() != ErrorKind::Interrupted {
-                    return Err(Fault::Write);
+                    return Err(fault_of_write(e.kind()));
                 }
             }
         }
@@ -41,6 +41,6 @@ fn flush<W: CalcWrite>(writer: &mut W) -> Result<(), Fault>
 {
     match writer.flush_counted() {
         Ok(()) => Ok(()),
-        Err(_) => Err(Fault::Write),
+        Err(e) => Err(fault_of_write(e.kind())),
     }
 }

@@ -12,8 +12,8 @@ invariant-loop-turn g l =
     let of_reader = g.R.LineRead.calls in
     let of_writer = g.W.CalcWrite.calls in
     record {
-      answered : IfSome (remaining l.fn.input) (λ input. SoFar l.form l.on_terminal input (remaining l.input) (contents l.fn.output) (contents l.output) (named l.names) l.all l._turn);
+      answered : IfSome (remaining l.fn.input) (λ input. SoFar l.form l.setting input (remaining l.input) (contents l.fn.output) (contents l.output) (named l.names) l.all l._turn);
       none : NoneFailed (of_writer l.fn.output) (of_writer l.output);
       reads : (of_reader l.input).failures ≡ (of_reader l.fn.input).failures;
-      turns : Turns l.form l.on_terminal (of_reader l.fn.input).moved (of_writer l.fn.output).moved (g.R.LineRead.moments l.fn.input) (of_reader l.input) (of_writer l.output) (g.R.LineRead.moments l.input) (named l.names) l.all;
+      turns : Turns l.form l.setting (of_reader l.fn.input).moved (of_writer l.fn.output).moved (g.R.LineRead.moments l.fn.input) (of_reader l.input) (of_writer l.output) (g.R.LineRead.moments l.input) (named l.names) l.all;
     }

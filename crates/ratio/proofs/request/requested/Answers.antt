@@ -6,7 +6,7 @@ use Rattle.ratio.proofs.RequestLemmas.{split_at}
 use Rattle.ratio.proofs.request.requested.Goals as goal
 
 pub loop-word-init : goal.loop-word-init
-loop-word-init c = record { wishes = []; say = says_nothing; page = refl; form = refl; text = refl }
+loop-word-init c = record { wishes = []; say = says_nothing; page = refl; form = refl; paired = refl; text = refl }
 
 pub returns-in_err-take : goal.returns-in_err-take
 returns-in_err-take c =

@@ -19,7 +19,7 @@ returns-in-Ok-eq0-clause-written g c =
     (refl, takes_some _ _ c.args.bytes.now (takes_more _ _ _ c.args.bytes.now c.loop-turn.at c.in-Ok-eq0.field-0 c.loop-turn.invariant.within few c.loop-turn.invariant.takes c.in-Ok-eq0.ensures.bytes))
 
 pub returns-then-ne-clause-written : goal.returns-then-ne-clause-written
-returns-then-ne-clause-written g c = (refl, takes_some _ c.loop-turn.at c.args.bytes.now (Appends-kept _ _ _ _ c.loop-turn.invariant.takes c.in-Err.ensures.bytes))
+returns-then-ne-clause-written g c = (c.fault_of_write.ensures.writing, takes_some _ c.loop-turn.at c.args.bytes.now (Appends-kept _ _ _ _ c.loop-turn.invariant.takes c.in-Err.ensures.bytes))
 
 pub loop-turn-preserved : goal.loop-turn-preserved
 loop-turn-preserved g c = elim c.match-write_tried.branch [
@@ -60,7 +60,7 @@ returns-in-Ok-eq0-clause-failed g c =
     one_after _ _ _ c.loop-turn.invariant.none (failed_by_none _ _ c.in-Ok-eq0.field-0 _ _ c.in-Ok-eq0.field-0-test (simp (length-take, length-drop) (omega arith)) c.in-Ok-eq0.ensures.calls)
 
 pub returns-then-ne-clause-failed : goal.returns-then-ne-clause-failed
-returns-then-ne-clause-failed g c = one_after _ _ _ c.loop-turn.invariant.none (c.in-Err.ensures.calls.1 (search rules))
+returns-then-ne-clause-failed g c = rw c.fault_of_write.ensures.writing (one_after _ _ _ c.loop-turn.invariant.none (c.in-Err.ensures.calls.1 (search rules)))
 
 pub returns-clause-failed : goal.returns-clause-failed
 returns-clause-failed g c =

@@ -149,26 +149,53 @@ function placesWanted() {
   return Number.isFinite(wanted) ? Math.max(0, Math.min(MOST_PLACES, wanted)) : 6;
 }
 
-// What the engine writes for the lines: a row for each, of fields with tabs between them.
-function fieldsOf(out) {
-  return out.split("\n").slice(0, -1).map((row) => row.split("\t"));
-}
+// Why the engine was stopped at a line, by the places and all lines down to it. Such a line is not tried again.
+const stopped = new Map();
 
 function changed() {
-  engine?.ask("lines", "ratio_sheet_rows", texts().map((text) => text.replaceAll("\n", " ")).join("\n"), placesWanted(), show);
-  drawBeats();
+  compute([...texts(), ...beatLengths()].map((text) => text.replaceAll("\n", " ")), placesWanted(), rows.children.length);
   keep();
   renewLink(heldParts());
 }
 
-function show(out, why) {
-  if (out === null) {
-    tell(`There are no values: ${why}. Change a line.`);
-    return;
+// Shows the answer of each line as soon as it is known. The lines of the sheet are first, and lengths of beats behind them.
+function compute(lines, number, count) {
+  const upTo = (index) => [number, ...lines.slice(0, index + 1)].join("\n");
+  const reasons = lines.map((_, index) => stopped.size === 0 ? undefined : stopped.get(upTo(index)));
+  const text = lines.map((line, index) => reasons[index] === undefined ? line : "").join("\n"), found = [];
+  const take = (piece) => {
+    const reason = reasons[found.length];
+    found.push(reason === undefined ? piece.split("\t") : ["stopped", reason]);
+    showRow(found.length - 1, found.at(-1));
+    watch(found.length);
+  };
+  const done = (why) => {
+    clearTimeout(watching);
+    if (why !== null) {
+      stopped.set(upTo(found.length), why);
+      changed();
+      return;
+    }
+    beatRows = found.slice(count);
+    drawBeats();
+  };
+  engine.ask("lines", { call: "ratio_sheet_rows", text, number }, take, done);
+  watch(0);
+}
+
+function showRow(index, fields) {
+  const row = rows.children[index];
+  if (row !== undefined) {
+    showReply(row, fields);
   }
-  const found = fieldsOf(out);
-  [...rows.children].forEach((row, index) => showReply(row, found[index] ?? ["empty"]));
-  drawPictures();
+}
+
+let watching = 0;
+
+// Says of a line that it is being computed, if that takes a while.
+function watch(index) {
+  clearTimeout(watching);
+  watching = setTimeout(() => showRow(index, ["slow"]), 1000);
 }
 
 function showReply(row, fields) {
@@ -180,7 +207,10 @@ function showReply(row, fields) {
   row.fields = fields;
   const reply = replyOf(row);
   reply.replaceChildren(...partsOf(row, fields));
-  inputOf(row).setAttribute("aria-invalid", fields[0] === "refused" || fields[0] === "memory");
+  inputOf(row).setAttribute("aria-invalid", ["refused", "memory", "stopped"].includes(fields[0]));
+  if (row === current) {
+    drawPictures();
+  }
 }
 
 function partsOf(row, [kind, ...fields]) {
@@ -188,6 +218,8 @@ function partsOf(row, [kind, ...fields]) {
     case "value": return valueParts(fields);
     case "refused": return [refusal(inputOf(row).value, fields[0])];
     case "memory": return [reasonOf("error: the memory did not suffice")];
+    case "slow": return [reasonOf("this takes long: it is still being computed")];
+    case "stopped": return [reasonOf(`error: ${fields[0]}`)];
     default: return [];
   }
 }
@@ -232,9 +264,9 @@ function reasonOf(text) {
   return Object.assign(document.createElement("span"), { className: "reason", textContent: text });
 }
 
-// The part of a line around the column that a reason ends with, with a mark at the character there and a caret under it, and the reason.
+// The part of a line around the column of a reason, with a mark at the character there and a caret under it, and the reason.
 function refusal(text, reason) {
-  const letters = [...text], at = Number(/\d+$/.exec(reason)) - 1, start = Math.max(0, at - 16), end = Math.min(letters.length, at + 10);
+  const letters = [...text], at = Number(/at column (\d+)/.exec(reason)[1]) - 1, start = Math.max(0, at - 16), end = Math.min(letters.length, at + 10);
   const before = (start > 0 ? "…" : "") + letters.slice(start, at).join("");
   const where = document.createElement("pre");
   where.className = "where";
@@ -339,27 +371,24 @@ function drawPictures() {
   }
   element("pictured").textContent = shortened(text);
   element("number-line").replaceChildren(...numberLine(fractionOf(text)));
-  engine.ask("quotients", "ratio_sheet_quotients", text, 0, (out) => {
-    if (out !== null && pictured === text) {
-      element("continued").replaceChildren(...continuedFraction(fractionOf(text), out.trim().split(" ").map(BigInt)));
+  engine.ask("quotients", { call: "ratio_sheet_quotients", text }, (quotients) => {
+    if (pictured === text) {
+      element("continued").replaceChildren(...continuedFraction(fractionOf(text), quotients.split(" ").map(BigInt)));
     }
-  });
+  }, () => {});
 }
 
-function drawBeats() {
-  const wanted = [...document.querySelectorAll(".beat")].map((input) => input.value);
-  engine?.ask("beats", "ratio_sheet_rows", [...texts(), ...wanted].join("\n"), 0, (out) => {
-    if (out !== null) {
-      element("beats").replaceChildren(...beatParts(fieldsOf(out).slice(-wanted.length)));
-    }
-  });
-}
+let beatRows = [];
+
+const beatLengths = () => [...document.querySelectorAll(".beat")].map((input) => input.value);
+const drawBeats = () => element("beats").replaceChildren(...beatParts(beatRows));
 
 function beatParts(found) {
   const names = ["first", "second", "third"];
-  const wrong = found.findIndex(([kind, text]) => kind === "refused" || (kind === "value" && !/^[1-9]/.test(text)));
+  const wrong = found.findIndex(([kind, text]) => kind !== "empty" && !(kind === "value" && /^[1-9]/.test(text)));
   if (wrong >= 0) {
-    return [paragraph(`The ${names[wrong]} one is no length above 0${found[wrong][0] === "refused" ? `: ${found[wrong][1]}` : ""}.`)];
+    const [kind, reason] = found[wrong];
+    return [paragraph(`The ${names[wrong]} one is no length above 0${kind === "value" ? "" : `: ${reason ?? kind}`}.`)];
   }
   const lengths = found.filter(([kind, text]) => kind === "value" && text.length <= PICTURED_LENGTH).map(([, text]) => fractionOf(text));
   return lengths.length < 2 ? [paragraph("Type two lengths, or three.")] : beats(lengths);
@@ -395,7 +424,7 @@ function listen() {
   element("add").addEventListener("click", () => { const row = addRow(rows.lastElementChild); changed(); go(row); });
   element("clear").addEventListener("click", clear);
   undo.addEventListener("click", restore);
-  document.querySelectorAll(".beat").forEach((input) => input.addEventListener("input", drawBeats));
+  document.querySelectorAll(".beat").forEach((input) => input.addEventListener("input", changed));
   window.addEventListener("hashchange", takeAddress);
   window.addEventListener("resize", redrawPictures);
 }

@@ -48,7 +48,7 @@ class Firefox:
     """It has those calls of selenium's drivers that the checks use."""
 
     def __init__(self, port):
-        self.connection = socket.create_connection(("127.0.0.1", port), 60)
+        self.connection = socket.create_connection(("127.0.0.1", port), 180)
         self.replies = self.connection.makefile("rb")
         self.count = 0
         self.heard()

@@ -44,13 +44,13 @@ def beats_meet(sheet):
         values = [Fraction(eval(length, {"x": Fraction(3, 7)}) if "x" in length else length) for length in lengths]
         wanted = Fraction(math.lcm(*(x.numerator for x in values)), math.gcd(*(x.denominator for x in values)))
         sheet.open("x = 3/7")
-        sheet.js("document.querySelectorAll('.beat').forEach((input, k) => { input.value = arguments[0][k] ?? ''; }); drawBeats()", list(lengths))
+        sheet.js("document.querySelectorAll('.beat').forEach((input, k) => { input.value = arguments[0][k] ?? ''; }); changed()", list(lengths))
         sheet.settle()
         said = sheet.js("return element('beats').textContent")
         dots = sheet.js("return document.querySelectorAll('#beats circle').length")
         if f"They meet at {wanted}:" not in said or dots != sum(int(wanted / x) + 1 for x in values):
             return f"{lengths} meet at {wanted}, and the page says {said!r}, with {dots} dots"
-    sheet.js("element('beat-2').value = '0 - 1'; drawBeats()")
+    sheet.js("element('beat-2').value = '0 - 1'; changed()")
     sheet.settle()
     said = sheet.js("return element('beats').textContent")
     return None if "second one is no length" in said else f"of a negative length the page says {said!r}"

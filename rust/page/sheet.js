@@ -4,7 +4,6 @@
 const MOST_LINES = 500;
 const MOST_PLACES = 1000;
 const STORED = "bakhsney.sheet";
-const FIRST_LINES = ["1/3 + 0.25", "x = 3/7", "1 - x", "(1/2 + 1/3) * 6"];
 // A longer fraction gets no pictures.
 const PICTURED_LENGTH = 400;
 
@@ -141,6 +140,14 @@ function select(row) {
   drawPictures();
 }
 
+// Types an example into the line in use if it is empty, and else into a new one.
+function tryExample(text) {
+  const row = inputOf(current).value === "" ? current : addRow(rows.lastElementChild);
+  inputOf(row).value = text;
+  changed();
+  go(row);
+}
+
 // ---- The values
 
 // How many places the decimals have.
@@ -156,6 +163,7 @@ function changed() {
   compute([...texts(), ...beatLengths()].map((text) => text.replaceAll("\n", " ")), placesWanted(), rows.children.length);
   keep();
   renewLink(heldParts());
+  element("examples").hidden = texts().some((text) => text !== "");
 }
 
 // Shows the answer of each line as soon as it is known. The lines of the sheet are first, and lengths of beats behind them.
@@ -402,6 +410,17 @@ function showKeypad(shown) {
   nameRows();
 }
 
+// Begins on an empty line, behind the lines that this browser kept.
+function beginLine() {
+  const last = rows.lastElementChild;
+  const row = inputOf(last).value === "" ? last : addRow(last);
+  select(row);
+  changed();
+  if (!matchMedia("(pointer: coarse)").matches) {
+    go(row);
+  }
+}
+
 function clear() {
   cleared = texts();
   setLines([""]);
@@ -425,6 +444,7 @@ function listen() {
   element("clear").addEventListener("click", clear);
   undo.addEventListener("click", restore);
   document.querySelectorAll(".beat").forEach((input) => input.addEventListener("input", changed));
+  document.querySelectorAll(".example").forEach((button) => button.addEventListener("click", () => tryExample(button.textContent)));
   window.addEventListener("hashchange", takeAddress);
   window.addEventListener("resize", redrawPictures);
 }
@@ -433,7 +453,7 @@ async function start() {
   engine = await loadedEngine();
   const before = kept();
   drawKeypad(keypad, () => inputOf(current));
-  take(sheetOfAddress() ?? before ?? { lines: FIRST_LINES });
+  take(sheetOfAddress() ?? before ?? { lines: [""] });
   showKeypad(before?.keypad ?? matchMedia("(pointer: coarse)").matches);
   for (const id of ["sheet", "meeting"]) {
     element(id).hidden = false;
@@ -441,8 +461,8 @@ async function start() {
   element("notice").hidden = true;
   listen();
   changed();
-  if (sheetOfAddress() === null && !matchMedia("(pointer: coarse)").matches) {
-    go(rows.lastElementChild);
+  if (sheetOfAddress() === null) {
+    beginLine();
   }
 }
 

@@ -11,6 +11,37 @@ from tests.sheet import SAMPLE, VALUES, Sheet
 SHAPES = [(1280, "light"), (1280, "dark"), (800, "light"), (390, "dark"), (320, "light"), (320, "dark")]
 
 
+def begins_on_an_empty_line(sheet):
+    """The first key is the beginning of a line: at the first visit, and behind the lines that are kept."""
+    sheet.load()
+    sheet.js("localStorage.clear()")
+    sheet.load()
+    at_first = sheet.js("return [texts(), element('examples').checkVisibility(), document.activeElement === inputs()[0]]")
+    sheet.type("1/2 + 1/3")
+    answered = sheet.answers(), sheet.js("return element('examples').checkVisibility()")
+    sheet.load()
+    sheet.type("2 * 3")
+    again = sheet.js("return texts()"), sheet.answers()[1:]
+    if at_first != [[""], True, True] or answered != ([["5/6", "≈ 0.833333"]], False):
+        return f"the page begins with {at_first}, and a line typed there is answered {answered}"
+    return None if again == (["1/2 + 1/3", "2 * 3"], [["6"]]) else f"behind a kept line, a line that is typed gives {again}"
+
+
+def examples_are_one_tap_away(sheet):
+    """An example goes into the line in use if it is empty, and else into a new line."""
+    sheet.open()
+    sheet.load()
+    for part in (sheet.driver.find_elements(By.CSS_SELECTOR, "#examples .example")[0], sheet.driver.find_elements(By.CSS_SELECTOR, ".help .example")[1]):
+        part.click()
+        sheet.settle()
+    got = sheet.js("return [texts(), document.activeElement === inputs()[1]]"), sheet.answers()
+    sheet.put("\n".join(sheet.js("return [...document.querySelectorAll('.example')].map((part) => part.textContent)")))
+    refused = sheet.js("return [...rows.children].filter((row) => row.fields[0] !== 'value').map((row) => inputOf(row).value)")
+    if got != ([["1/3 + 0.25", "(1/2 + 1/3) * 6"], True], [["7/12", "≈ 0.583333"], ["5"]]):
+        return f"taps on two examples give {got}"
+    return f"these examples have no value: {refused}" if refused else None
+
+
 def keyboard_works(sheet):
     sheet.begin()
     sheet.type("x = 1/2", Keys.ENTER, "x + 1", Keys.ENTER, "3", Keys.ARROW_UP, Keys.ARROW_UP, Keys.END, "0")
@@ -86,7 +117,7 @@ def lines_are_kept(sheet):
     sheet.load()
     sheet.settle()
     got = sheet.js("return [texts(), mixed.checked, placesWanted()]")
-    return None if got == [["1/3", "x = 2"], True, 9] else f"after a reload the page has {got}"
+    return None if got == [["1/3", "x = 2", ""], True, 9] else f"after a reload the page has {got}"
 
 
 def page_works_without_storage(sheet):
@@ -155,7 +186,7 @@ def keys_are_large(sheet):
 
 
 USE = [
-    keyboard_works, values_are_said, focus_is_seen, caret_is_under_the_place, unfinished_line_is_no_error_yet, lines_are_kept,
+    begins_on_an_empty_line, examples_are_one_tap_away, keyboard_works, values_are_said, focus_is_seen, caret_is_under_the_place, unfinished_line_is_no_error_yet, lines_are_kept,
     link_carries_forms, clicks_copy, paste_makes_lines, clearing_can_be_undone, keypad_types,
 ]
 
@@ -171,7 +202,7 @@ def one_file_works(driver, home):
         sheet.load()
         kept = sheet.js("return texts()")
     wanted = [["7/12", "≈ 0.583333"], ["error: this divides by 0, at column 3"]]
-    return None if [got, kept] == [wanted, ["1/3 + 0.25", "1 / 0"]] else f"the page as one file gives {got}, and keeps {kept}"
+    return None if [got, kept] == [wanted, ["1/3 + 0.25", "1 / 0", ""]] else f"the page as one file gives {got}, and keeps {kept}"
 
 
 def faults(sheet, home, folder):

@@ -19,6 +19,7 @@ let cleared = null;
 const inputs = () => [...rows.querySelectorAll(".line")];
 const texts = () => inputs().map((input) => input.value);
 const inputOf = (row) => row.querySelector(".line");
+const lineInUse = () => inputOf(current);
 const replyOf = (row) => row.querySelector(".reply");
 const numberOf = (row) => [...rows.children].indexOf(row) + 1;
 
@@ -137,7 +138,15 @@ function select(row) {
   current?.classList.remove("current");
   current = row;
   row.classList.add("current");
+  reveal(row);
   drawPictures();
+}
+
+// Scrolls to a row in use, whose answer must not be behind the keypad.
+function reveal(row) {
+  if (inputOf(row) === document.activeElement) {
+    row.scrollIntoView({ block: "nearest" });
+  }
 }
 
 // Types an example into the line in use if it is empty, and else into a new one.
@@ -164,6 +173,7 @@ function changed() {
   keep();
   renewLink(heldParts());
   element("examples").hidden = texts().some((text) => text !== "");
+  drawNames(element("names"), texts(), lineInUse);
 }
 
 // Shows the answer of each line as soon as it is known. The lines of the sheet are first, and lengths of beats behind them.
@@ -217,6 +227,7 @@ function showReply(row, fields) {
   reply.replaceChildren(...partsOf(row, fields));
   inputOf(row).setAttribute("aria-invalid", ["refused", "memory", "stopped"].includes(fields[0]));
   if (row === current) {
+    reveal(row);
     drawPictures();
   }
 }
@@ -407,6 +418,7 @@ function beatParts(found) {
 function showKeypad(shown) {
   keypad.hidden = !shown;
   keys.setAttribute("aria-pressed", shown);
+  document.documentElement.style.scrollPaddingBottom = `${keypad.offsetHeight}px`;
   nameRows();
 }
 
@@ -452,7 +464,7 @@ function listen() {
 async function start() {
   engine = await loadedEngine();
   const before = kept();
-  drawKeypad(keypad, () => inputOf(current));
+  drawSigns(element("signs"), lineInUse);
   take(sheetOfAddress() ?? before ?? { lines: [""] });
   showKeypad(before?.keypad ?? matchMedia("(pointer: coarse)").matches);
   for (const id of ["sheet", "meeting"]) {

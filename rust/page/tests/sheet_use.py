@@ -178,15 +178,54 @@ def keypad_types(sheet):
     return None if got == ([["1 1/2*4", "ans-1"], "line", "none"], [["6"], ["5"]]) else f"the keypad types {got}"
 
 
+def keypad_has_names(sheet):
+    """The names that lines gave, and the calls with their parenthesis, beside the signs for them."""
+    sheet.open("price = 3\n")
+    sheet.js("if (keypad.hidden) keys.click(); inputOf(rows.lastElementChild).focus()")
+    for name in ("max", "price", "comma", "5", "closing parenthesis", "greater than", "4"):
+        for key in sheet.driver.find_elements(By.CSS_SELECTOR, f'#keypad button[aria-label="{name}"]'):
+            key.click()
+    sheet.settle()
+    got = sheet.js("return texts()[1]"), sheet.answers()[1]
+    sheet.js("keys.click()")
+    return None if got == ("max(price,5)>4", ["true"]) else f"the keypad types {got}"
+
+
+def answer_is_above_the_keypad(sheet):
+    """The line that is typed on the keypad, and its answer, are between the top of the screen and the keypad: a value, and a refusal."""
+    sheet.open("\n".join(["1/7"] * 15))
+    sheet.js("showKeypad(true)")
+    for at, name in ((14, "1"), (0, "2"), (14, "closing parenthesis")):
+        sheet.js("lineInUse().blur(); select(rows.children[arguments[0]]); [...document.querySelectorAll('#keypad button')].find((key) => key.ariaLabel === arguments[1]).click()", at, name)
+        sheet.settle()
+        top, bottom, above = sheet.js("""const box = (part) => part.getBoundingClientRect();
+            return [box(lineInUse()).top, box(replyOf(current)).bottom, box(keypad).top];""")
+        if top < 0 or bottom > above or not sheet.answers()[at]:
+            return f"line {at + 1} and its answer are from {top} to {bottom}, and the keypad begins at {above}"
+    sheet.js("showKeypad(false)")
+    return None
+
+
 def keys_are_large(sheet):
     sheet.js("showKeypad(true)")
-    small = sheet.js("return [...document.querySelectorAll('#keypad button')].map((key) => key.getBoundingClientRect()).filter((box) => box.width < 40 || box.height < 40).length")
+    small = small_parts(sheet, "#keypad button")
     sheet.js("showKeypad(false)")
-    return f"{small} keys are smaller than a finger" if small else None
+    return f"these keys are smaller than a finger: {small}" if small else None
+
+
+def small_parts(sheet, selector):
+    return sheet.js("""return [...document.querySelectorAll(arguments[0])].filter((part) => part.checkVisibility())
+        .filter((part) => { const box = part.getBoundingClientRect(); return box.width < 44 || box.height < 44; }).map((part) => part.outerHTML.slice(0, 60));""", selector)
+
+
+def targets_are_large(sheet):
+    """On a narrow screen, what is tapped is as large as a finger. A value may be short."""
+    small = sheet.js("return document.documentElement.clientWidth <= 640") and small_parts(sheet, "main button:not(.value), main input:not([type=checkbox])")
+    return f"these parts are smaller than a finger: {small}" if small else None
 
 
 USE = [
-    begins_on_an_empty_line, examples_are_one_tap_away, keyboard_works, values_are_said, focus_is_seen, caret_is_under_the_place, unfinished_line_is_no_error_yet, lines_are_kept,
+    begins_on_an_empty_line, examples_are_one_tap_away, keypad_has_names, answer_is_above_the_keypad, keyboard_works, values_are_said, focus_is_seen, caret_is_under_the_place, unfinished_line_is_no_error_yet, lines_are_kept,
     link_carries_forms, clicks_copy, paste_makes_lines, clearing_can_be_undone, keypad_types,
 ]
 
@@ -212,6 +251,8 @@ def faults(sheet, home, folder):
     for width, scheme in SHAPES:
         sheet.driver.shaped(width, scheme)
         sheet.open(SAMPLE)
-        yield from looks.named([*looks.SHAPED, keys_are_large], sheet, f", {width} points wide, {scheme}")
+        yield from looks.named([*looks.SHAPED, keys_are_large, targets_are_large], sheet, f", {width} points wide, {scheme}")
         sheet.driver.save_screenshot(str(folder / f"sheet-{width}-{scheme}.png"))
+    sheet.driver.shaped(390, "light")
+    yield from looks.named([answer_is_above_the_keypad], sheet, ", 390 points wide")
     yield one_file_works(sheet.driver, home)

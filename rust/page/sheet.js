@@ -273,7 +273,8 @@ function isExact({ d }, decimal) {
 
 function copyButton(name, text, before = "") {
   const button = document.createElement("button");
-  Object.assign(button, { className: name, type: "button", textContent: before + shortened(text), title: "Copy" });
+  Object.assign(button, { className: name, type: "button", title: "Copy" });
+  button.append(before, ...stacked(shortened(text)));
   button.setAttribute("aria-label", `${before.startsWith("≈") ? "about " : ""}${shortened(text)}, copy`);
   button.addEventListener("click", () => copy(text, `${shortened(text)} is`));
   return button;
@@ -281,6 +282,17 @@ function copyButton(name, text, before = "") {
 
 function reasonOf(text) {
   return Object.assign(document.createElement("span"), { className: "reason", textContent: text });
+}
+
+// A text whose last number, if it is a fraction, is stacked: a screen reader and a copy have its slash.
+function stacked(text) {
+  const [, before, ...parts] = /^(.*?)(\d+)(\/)(\d+)$/.exec(text) ?? [];
+  if (parts.length === 0) {
+    return [text];
+  }
+  const stack = Object.assign(document.createElement("span"), { className: "stack" });
+  stack.append(...parts.map((textContent) => Object.assign(document.createElement("span"), { textContent })));
+  return [before, stack];
 }
 
 // The part of a line around the column of a reason, with a mark at the character there and a caret under it, and the reason.
@@ -312,7 +324,7 @@ function tell(text) {
 // Says the value of a line, for a screen reader.
 function say(row) {
   clearTimeout(saying);
-  const said = replyOf(row)?.innerText.replace(/\s+/g, " ").trim();
+  const said = [...replyOf(row).children].map((part) => part.textContent).join(" ").replace(/\s+/g, " ");
   const reason = row.querySelector(".reason")?.textContent;
   spoken.textContent = said ? `Line ${numberOf(row)}: ${reason ?? said.replace("≈", ", about").replace(" ,", ",")}` : "";
 }
@@ -388,8 +400,9 @@ function drawPictures() {
   if (text === "") {
     return;
   }
-  element("pictured").textContent = shortened(text);
-  element("number-line").replaceChildren(...numberLine(fractionOf(text)));
+  element("pictured").replaceChildren(...stacked(shortened(text)));
+  element("wholes").replaceChildren(...wholes(fractionOf(text)));
+  element("ruler").replaceChildren(...ruler(fractionOf(text)));
   engine.ask("quotients", { call: "ratio_sheet_quotients", text }, (quotients) => {
     if (pictured === text) {
       element("continued").replaceChildren(...continuedFraction(fractionOf(text), quotients.split(" ").map(BigInt)));

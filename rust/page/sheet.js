@@ -489,6 +489,7 @@ async function start() {
   if (sheetOfAddress() === null) {
     beginLine();
   }
+  keepPage();
 }
 
 begin(start);

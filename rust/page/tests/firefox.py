@@ -140,6 +140,7 @@ def tried(driver, address, home, folder):
         yield from looks.named(looks.SHAPED, page, f" in Firefox, {width} points wide")
         driver.save_screenshot(folder / f"firefox-{width}.png")
     yield sheet_use.one_file_works(driver, home)
+    yield sheet_use.works_without_network(driver, home)
     yield from not_found(driver, home, FAULTS)
 
 

@@ -15,6 +15,10 @@ def said(page):
     return next(iter(sentences.faults(page.driver, page.folder)), None)
 
 
+def without_network(page):
+    return use.works_without_network(page.driver, page.folder)
+
+
 # A name, the file, its text, the text in its place, and the check.
 FAULTS = [
     ("decimals that are never exact", "sheet.js", "% d === 0n", "% d === -1n", sheet.forms_are_right),
@@ -45,7 +49,7 @@ FAULTS = [
     ("values that are cut off", "page.css", "sans-serif; overflow-wrap: anywhere;", "sans-serif; white-space: nowrap;", shaped(looks.nothing_is_cut_off, 320)),
     ("refusals too pale in the dark", "page.css", "--wrong: #ff9d94", "--wrong: #a3262a", shaped(looks.colours_are_readable, 1280, "dark")),
     ("pictures too pale in the dark", "page.css", "svg text { fill: var(--ink)", "svg text { fill: #333", shaped(looks.colours_are_readable, 320, "dark")),
-    ("an icon from elsewhere", "index.html", '<link rel="icon" href="data:,">', '<link rel="icon" href="https://example.org/icon.png">', shaped(looks.nothing_comes_from_elsewhere, 1280)),
+    ("an icon from elsewhere", "index.html", '<link rel="icon" href="icon.svg">', '<link rel="icon" href="https://example.org/icon.png">', shaped(looks.nothing_comes_from_elsewhere, 1280)),
     ("no fragment", "link.js", "link.href = address;", 'link.href = address.split("#")[0];', looks.link_carries_lines),
     ("a fragment that is not encoded", "link.js", "encodeURIComponent(text.toWellFormed())", "text", looks.link_carries_lines),
     ("a broken link not said", "link.js", "decodeURIComponent(text)", "unescape(text)", looks.broken_link_is_said),
@@ -70,5 +74,8 @@ FAULTS = [
     ("a half towards 0 on the ruler", "pictures.js", "2n * absolute(x.n) * d + x.d", "2n * absolute(x.n) * d + x.d - 1n", pictures.ruler_is_right),
     ("a continued fraction before all", "index.html", "<details>", "<details open>", pictures.continued_fractions_are_below),
     ("fractions beside their slash", "page.css", "inline-flex; flex-direction: column;", "inline-flex; flex-direction: row;", pictures.fractions_are_stacked),
+    ("a file that is not kept", "offline.js", "(?:href|src)", "(?:href)", without_network),
+    ("nothing kept for visits without a network", "sheet.js", "  keepPage();\n", "", without_network),
+    ("a server that must answer", "offline.js", "} catch {", "} catch (why) {\n    throw why;", without_network),
     ("small keys", "page.css", "#keypad button { min-height: 2.75rem;", "#keypad button { min-height: 1.5rem;", shaped(use.keys_are_large, 390)),
 ]

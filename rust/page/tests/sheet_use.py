@@ -3,9 +3,11 @@ import subprocess
 import tempfile
 from pathlib import Path
 
+from selenium.common.exceptions import WebDriverException
 from selenium.webdriver.common.by import By
 from selenium.webdriver.common.keys import Keys
 from tests import looks, sheet_pictures
+from tests.browser import served
 from tests.sheet import SAMPLE, VALUES, Sheet
 
 SHAPES = [(1280, "light"), (1280, "dark"), (800, "light"), (390, "dark"), (320, "light"), (320, "dark")]
@@ -244,6 +246,22 @@ def one_file_works(driver, home):
     return None if [got, kept] == [wanted, ["1/3 + 0.25", "1 / 0", ""]] else f"the page as one file gives {got}, and keeps {kept}"
 
 
+def works_without_network(driver, home):
+    """After the first visit, the page needs no server."""
+    with served(home) as address:
+        sheet = Sheet(driver, address)
+        sheet.load()
+        sheet.js("navigator.serviceWorker.ready.then(() => { window.isReady = true; })")
+        sheet.until("return window.isReady === true", 10)
+    try:
+        sheet.load()
+        sheet.put("1/3 + 1/6")
+        got = sheet.answers(), sheet.js("return getComputedStyle(rows).listStyleType")
+    except WebDriverException as why:
+        return f"without a network there is no page: {str(why).splitlines()[0]}"
+    return None if got == ([["1/2", "= 0.5"]], "none") else f"without a network the page gives {got}"
+
+
 def faults(sheet, home, folder):
     """A sentence for each check that finds a fault in the page."""
     sheet.driver.shaped(1280, "light")
@@ -256,3 +274,4 @@ def faults(sheet, home, folder):
     sheet.driver.shaped(390, "light")
     yield from looks.named([answer_is_above_the_keypad], sheet, ", 390 points wide")
     yield one_file_works(sheet.driver, home)
+    yield works_without_network(sheet.driver, home)

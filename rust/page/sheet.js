@@ -295,7 +295,7 @@ function stacked(text) {
   return [before, stack];
 }
 
-// The part of a line around the column of a reason, with a mark at the character there and a caret under it, and the reason.
+// The part of a line around the column of a reason, with a mark at the character there and a caret under it, the reason, and advice.
 function refusal(text, reason) {
   const letters = [...text], at = Number(/at column (\d+)/.exec(reason)[1]) - 1, start = Math.max(0, at - 16), end = Math.min(letters.length, at + 10);
   const before = (start > 0 ? "…" : "") + letters.slice(start, at).join("");
@@ -309,7 +309,7 @@ function refusal(text, reason) {
   where.append(before, mark, letters.slice(at + 1, end).join("") + (end < letters.length ? "…" : ""), "\n", " ".repeat([...before].length), caret);
   const box = document.createElement("div");
   box.className = at >= letters.length ? "refusal at-end" : "refusal";
-  box.append(where, reasonOf(reason));
+  box.append(where, reasonOf(reason), adviceOn(reason, letters.slice(at).join("")));
   return box;
 }
 

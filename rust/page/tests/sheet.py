@@ -30,7 +30,7 @@ SLOW = """
 class Sheet:
     """The page in a browser."""
 
-    PARTS = ["index.html", "page.css", "link.js", "module.js", "engine.js", "pictures.js", "keypad.js", "sheet.js", "offline.js", "manifest.json", "icon.svg"]
+    PARTS = ["index.html", "page.css", "link.js", "module.js", "engine.js", "pictures.js", "advice.js", "keypad.js", "sheet.js", "offline.js", "manifest.json", "icon.svg"]
     MODULE = "ratio_sheet.wasm"
 
     def __init__(self, driver, address):

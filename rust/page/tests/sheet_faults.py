@@ -77,5 +77,8 @@ FAULTS = [
     ("a file that is not kept", "offline.js", "(?:href|src)", "(?:href)", without_network),
     ("nothing kept for visits without a network", "sheet.js", "  keepPage();\n", "", without_network),
     ("a server that must answer", "offline.js", "} catch {", "} catch (why) {\n    throw why;", without_network),
+    ("advice that is wrong", "advice.js", "as `1 / 2`", "as `1 / 0`", use.advice_is_right),
+    ("a reason without advice", "advice.js", '"this is no number":', '"this is not a number":', use.advice_is_right),
+    ("advice beside a hint", "advice.js", 'behind === ""', "true", use.advice_is_right),
     ("small keys", "page.css", "#keypad button { min-height: 2.75rem;", "#keypad button { min-height: 1.5rem;", shaped(use.keys_are_large, 390)),
 ]

@@ -1,4 +1,5 @@
 """How the page is used: by keyboard, by a screen reader, by clicks, and after a reload. Each check gives a sentence that says what is wrong, or None."""
+import re
 import subprocess
 import tempfile
 from pathlib import Path
@@ -10,6 +11,7 @@ from tests import looks, sheet_pictures
 from tests.browser import served
 from tests.sheet import SAMPLE, VALUES, Sheet
 
+REASONS = Path(__file__).resolve().parents[3] / "crates" / "ratio_expressions" / "src" / "refusal.rt"
 SHAPES = [(1280, "light"), (1280, "dark"), (800, "light"), (390, "dark"), (320, "light"), (320, "dark")]
 
 
@@ -226,8 +228,25 @@ def targets_are_large(sheet):
     return f"these parts are smaller than a finger: {small}" if small else None
 
 
+def advice_is_right(sheet):
+    """Each reason of the proved source has advice, and each example in it has a value. A reason with its own advice has no other."""
+    reasons = re.findall(r'=> "(.*)"', REASONS.read_text()) + ["the expression ends too soon"]
+    sheet.open("2 + tip\nsqrt(2)")
+    known = sheet.js("return Object.keys(ADVICE)")
+    if sorted(known) != sorted(reasons):
+        return f"the reasons without advice, or the advice without a reason, are {set(known) ^ set(reasons)}"
+    got = sheet.js("return [...document.querySelectorAll('.advice')].map((part) => part.textContent)")
+    if "tip = 3/7" not in got[0] or "floor, ceil" not in got[1] or not sheet.js("return document.querySelector('.advice').checkVisibility()"):
+        return f"beside two errors the page says {got}"
+    own = sheet.js("return adviceOn('error: nothing has this name, at column 3; type 2', 'x').textContent")
+    sheet.js("setLines(Object.values(ADVICE).flatMap((text) => text.split('`').filter((_, k) => k % 2 === 1)).map((text) => text.replace('NAME', 'tip'))); changed()")
+    sheet.settle()
+    refused = sheet.js("return [...rows.children].filter((row) => row.fields[0] !== 'value').map((row) => inputOf(row).value)")
+    return f"these examples have no value: {refused}" if refused else f"a reason with its own advice has {own!r}, too" if own else None
+
+
 USE = [
-    begins_on_an_empty_line, examples_are_one_tap_away, keypad_has_names, answer_is_above_the_keypad, keyboard_works, values_are_said, focus_is_seen, caret_is_under_the_place, unfinished_line_is_no_error_yet, lines_are_kept,
+    begins_on_an_empty_line, examples_are_one_tap_away, keypad_has_names, answer_is_above_the_keypad, advice_is_right, keyboard_works, values_are_said, focus_is_seen, caret_is_under_the_place, unfinished_line_is_no_error_yet, lines_are_kept,
     link_carries_forms, clicks_copy, paste_makes_lines, clearing_can_be_undone, keypad_types,
 ]
 

@@ -4,56 +4,53 @@
 const MODULE = "ratio_sheet.wasm";
 const MOST_SECONDS = 10;
 
-// What the worker runs. It is given the compiled module first, and then texts. Each text goes to a call of the module, and what the call
-// writes comes back.
+// What the worker runs. It is given the compiled module first, and then questions: a call of the module, and a text for it. What the call
+// gives comes back piece by piece, each as soon as it is known.
 function engineMain() {
   const PAGE = 65536;
   let exports = null;
   let area = { at: 0, size: 0 };
+  let id = 0;
 
-  // A part of the memory that nobody else uses. Memory that a call of `grow` adds belongs to the caller.
-  function areaOf(size) {
-    if (size > area.size) {
-      const pages = Math.ceil(size / PAGE);
-      area = { at: exports.memory.grow(pages) * PAGE, size: pages * PAGE };
-    }
-    return area.at;
+  function take(at, length) {
+    postMessage({ id, piece: new TextDecoder().decode(new Uint8Array(exports.memory.buffer, at, length)) });
   }
 
-  // What the call writes for a text. It says how long that is, and writes as much of it as there is room for.
-  function written(call, text, number) {
-    const input = new TextEncoder().encode(text);
-    for (let space = 4 * PAGE; ;) {
-      const at = areaOf(input.length + space), room = at + input.length;
-      new Uint8Array(exports.memory.buffer).set(input, at);
-      const length = exports[call](at, input.length, room, space, number) >>> 0;
-      if (length <= space) {
-        return new TextDecoder().decode(new Uint8Array(exports.memory.buffer).slice(room, room + length));
-      }
-      space = length;
+  // Puts a text where nobody else writes, and gives its length. Memory that a call of `grow` adds belongs to the caller.
+  function put(text) {
+    const bytes = new TextEncoder().encode(text);
+    if (bytes.length >= area.size) {
+      const pages = Math.ceil((bytes.length + 1) / PAGE);
+      area = { at: exports.memory.grow(pages) * PAGE, size: pages * PAGE };
     }
+    new Uint8Array(exports.memory.buffer).set(bytes, area.at);
+    return bytes.length;
   }
 
   onmessage = ({ data }) => {
     if (data.module) {
-      exports = new WebAssembly.Instance(data.module, {}).exports;
+      exports = new WebAssembly.Instance(data.module, { page: { take } }).exports;
       return;
     }
+    id = data.id;
     try {
-      postMessage({ id: data.id, out: written(data.call, data.text, data.number) });
+      const length = put(data.text);
+      exports[data.call](area.at, length, data.number);
+      postMessage({ id });
     } catch (why) {
-      postMessage({ id: data.id, fault: String(why) });
+      postMessage({ id, fault: String(why) });
       close();
     }
   };
 }
 
-// The engine, as the page uses it: `ask` gives the text that a call writes. A newer question of the same kind takes the place of one that
-// has not been answered, which then gets no answer.
+// The engine, as the page uses it. `ask` gives each piece to `take`, and calls `done` at the end, with the reason if the engine was stopped. A
+// newer question of the same kind takes the place of one that has not been answered, which then gets no answer.
 class Engine {
   constructor(module) {
     this.module = module;
     this.source = URL.createObjectURL(new Blob([`(${engineMain})()`], { type: "text/javascript" }));
+    this.seconds = MOST_SECONDS;
     this.waiting = new Map();
     this.asked = null;
     this.count = 0;
@@ -67,20 +64,20 @@ class Engine {
     this.worker.postMessage({ module: this.module });
   }
 
-  ask(kind, call, text, number, done) {
+  ask(kind, question, take, done) {
     this.waiting.delete(kind);
-    this.waiting.set(kind, { call, text, number, done });
+    this.waiting.set(kind, { question, take, done });
     if (this.asked !== null && this.asked.kind === kind) {
-      this.hurry();
+      // The answer that nobody waits for any more has a moment.
+      this.limit(0.3, null);
     }
     this.next();
   }
 
-  // Gives the computation whose answer nobody waits for any more a moment, and then stops it.
-  hurry() {
-    const { id } = this.asked;
+  // Stops the computation if it gives nothing more for so many seconds.
+  limit(seconds, why) {
     clearTimeout(this.asked.timer);
-    this.asked.timer = setTimeout(() => this.asked?.id === id && this.stop(null), 300);
+    this.asked.timer = setTimeout(() => this.stop(why), 1000 * seconds);
   }
 
   next() {
@@ -88,43 +85,48 @@ class Engine {
     if (this.asked !== null || entry === undefined) {
       return;
     }
-    const [kind, { call, text, number, done }] = entry;
+    const [kind, { question, take, done }] = entry;
     this.waiting.delete(kind);
     this.count += 1;
-    const id = this.count;
-    const timer = setTimeout(() => this.stop(`this took longer than ${MOST_SECONDS} seconds`), 1000 * MOST_SECONDS);
-    this.asked = { id, kind, done, timer };
-    this.worker.postMessage({ id, call, text, number });
+    this.asked = { id: this.count, kind, take, done };
+    this.await();
+    this.worker.postMessage({ id: this.count, ...question });
   }
 
-  answered({ id, out, fault }) {
-    if (this.asked?.id !== id) {
+  await() {
+    this.limit(this.seconds, `this took longer than ${this.seconds} seconds`);
+  }
+
+  answered({ id, piece, fault }) {
+    const asked = this.asked;
+    if (asked?.id !== id) {
       return;
     }
     if (fault !== undefined) {
       this.stop("the memory did not suffice");
-      return;
+    } else if (piece === undefined) {
+      this.end(null);
+    } else if (!this.waiting.has(asked.kind)) {
+      this.await();
+      asked.take(piece);
     }
-    const { kind, done, timer } = this.asked;
+  }
+
+  // Ends the computation, and begins with the next one.
+  end(why) {
+    const { kind, timer, done } = this.asked;
     clearTimeout(timer);
     this.asked = null;
     if (!this.waiting.has(kind)) {
-      done(out, null);
+      done(why);
     }
     this.next();
   }
 
-  // Ends the computation, and says why, if anybody wants to know.
   stop(why) {
-    const asked = this.asked;
     this.worker.terminate();
-    clearTimeout(asked?.timer);
-    this.asked = null;
     this.begin();
-    if (asked !== null && why !== null) {
-      asked.done(null, why);
-    }
-    this.next();
+    this.end(why);
   }
 }
 

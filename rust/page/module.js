@@ -25,6 +25,13 @@ function compiled(bytes, file) {
     .catch(() => { throw `The file ${file} is not a whole WebAssembly module. Run rust/page/build, which makes it, and load this page again.`; });
 }
 
+// Keeps the files of the page for visits without a network. The page in one file has no others.
+function keepPage() {
+  if (document.getElementById("module") === null) {
+    navigator.serviceWorker?.register("offline.js").catch(() => {});
+  }
+}
+
 // Starts the page, or says why it cannot.
 function begin(start) {
   start().catch((why) => {

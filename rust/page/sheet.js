@@ -4,7 +4,6 @@
 const MOST_LINES = 500;
 const MOST_PLACES = 1000;
 const STORED = "bakhsney.sheet";
-const FIRST_LINES = ["1/3 + 0.25", "x = 3/7", "1 - x", "(1/2 + 1/3) * 6"];
 // A longer fraction gets no pictures.
 const PICTURED_LENGTH = 400;
 
@@ -20,6 +19,7 @@ let cleared = null;
 const inputs = () => [...rows.querySelectorAll(".line")];
 const texts = () => inputs().map((input) => input.value);
 const inputOf = (row) => row.querySelector(".line");
+const lineInUse = () => inputOf(current);
 const replyOf = (row) => row.querySelector(".reply");
 const numberOf = (row) => [...rows.children].indexOf(row) + 1;
 
@@ -138,7 +138,23 @@ function select(row) {
   current?.classList.remove("current");
   current = row;
   row.classList.add("current");
+  reveal(row);
   drawPictures();
+}
+
+// Scrolls to a row in use, whose answer must not be behind the keypad.
+function reveal(row) {
+  if (inputOf(row) === document.activeElement) {
+    row.scrollIntoView({ block: "nearest" });
+  }
+}
+
+// Types an example into the line in use if it is empty, and else into a new one.
+function tryExample(text) {
+  const row = inputOf(current).value === "" ? current : addRow(rows.lastElementChild);
+  inputOf(row).value = text;
+  changed();
+  go(row);
 }
 
 // ---- The values
@@ -149,26 +165,55 @@ function placesWanted() {
   return Number.isFinite(wanted) ? Math.max(0, Math.min(MOST_PLACES, wanted)) : 6;
 }
 
-// What the engine writes for the lines: a row for each, of fields with tabs between them.
-function fieldsOf(out) {
-  return out.split("\n").slice(0, -1).map((row) => row.split("\t"));
-}
+// Why the engine was stopped at a line, by the places and all lines down to it. Such a line is not tried again.
+const stopped = new Map();
 
 function changed() {
-  engine?.ask("lines", "ratio_sheet_rows", texts().map((text) => text.replaceAll("\n", " ")).join("\n"), placesWanted(), show);
-  drawBeats();
+  compute([...texts(), ...beatLengths()].map((text) => text.replaceAll("\n", " ")), placesWanted(), rows.children.length);
   keep();
   renewLink(heldParts());
+  element("examples").hidden = texts().some((text) => text !== "");
+  drawNames(element("names"), texts(), lineInUse);
 }
 
-function show(out, why) {
-  if (out === null) {
-    tell(`There are no values: ${why}. Change a line.`);
-    return;
+// Shows the answer of each line as soon as it is known. The lines of the sheet are first, and lengths of beats behind them.
+function compute(lines, number, count) {
+  const upTo = (index) => [number, ...lines.slice(0, index + 1)].join("\n");
+  const reasons = lines.map((_, index) => stopped.size === 0 ? undefined : stopped.get(upTo(index)));
+  const text = lines.map((line, index) => reasons[index] === undefined ? line : "").join("\n"), found = [];
+  const take = (piece) => {
+    const reason = reasons[found.length];
+    found.push(reason === undefined ? piece.split("\t") : ["stopped", reason]);
+    showRow(found.length - 1, found.at(-1));
+    watch(found.length);
+  };
+  const done = (why) => {
+    clearTimeout(watching);
+    if (why !== null) {
+      stopped.set(upTo(found.length), why);
+      changed();
+      return;
+    }
+    beatRows = found.slice(count);
+    drawBeats();
+  };
+  engine.ask("lines", { call: "ratio_sheet_rows", text, number }, take, done);
+  watch(0);
+}
+
+function showRow(index, fields) {
+  const row = rows.children[index];
+  if (row !== undefined) {
+    showReply(row, fields);
   }
-  const found = fieldsOf(out);
-  [...rows.children].forEach((row, index) => showReply(row, found[index] ?? ["empty"]));
-  drawPictures();
+}
+
+let watching = 0;
+
+// Says of a line that it is being computed, if that takes a while.
+function watch(index) {
+  clearTimeout(watching);
+  watching = setTimeout(() => showRow(index, ["slow"]), 1000);
 }
 
 function showReply(row, fields) {
@@ -180,7 +225,11 @@ function showReply(row, fields) {
   row.fields = fields;
   const reply = replyOf(row);
   reply.replaceChildren(...partsOf(row, fields));
-  inputOf(row).setAttribute("aria-invalid", fields[0] === "refused" || fields[0] === "memory");
+  inputOf(row).setAttribute("aria-invalid", ["refused", "memory", "stopped"].includes(fields[0]));
+  if (row === current) {
+    reveal(row);
+    drawPictures();
+  }
 }
 
 function partsOf(row, [kind, ...fields]) {
@@ -188,6 +237,8 @@ function partsOf(row, [kind, ...fields]) {
     case "value": return valueParts(fields);
     case "refused": return [refusal(inputOf(row).value, fields[0])];
     case "memory": return [reasonOf("error: the memory did not suffice")];
+    case "slow": return [reasonOf("this takes long: it is still being computed")];
+    case "stopped": return [reasonOf(`error: ${fields[0]}`)];
     default: return [];
   }
 }
@@ -222,7 +273,8 @@ function isExact({ d }, decimal) {
 
 function copyButton(name, text, before = "") {
   const button = document.createElement("button");
-  Object.assign(button, { className: name, type: "button", textContent: before + shortened(text), title: "Copy" });
+  Object.assign(button, { className: name, type: "button", title: "Copy" });
+  button.append(before, ...stacked(shortened(text)));
   button.setAttribute("aria-label", `${before.startsWith("≈") ? "about " : ""}${shortened(text)}, copy`);
   button.addEventListener("click", () => copy(text, `${shortened(text)} is`));
   return button;
@@ -232,7 +284,18 @@ function reasonOf(text) {
   return Object.assign(document.createElement("span"), { className: "reason", textContent: text });
 }
 
-// The part of a line around the column that a reason names, with a mark at the character there and a caret under it, and the reason.
+// A text whose last number, if it is a fraction, is stacked: a screen reader and a copy have its slash.
+function stacked(text) {
+  const [, before, ...parts] = /^(.*?)(\d+)(\/)(\d+)$/.exec(text) ?? [];
+  if (parts.length === 0) {
+    return [text];
+  }
+  const stack = Object.assign(document.createElement("span"), { className: "stack" });
+  stack.append(...parts.map((textContent) => Object.assign(document.createElement("span"), { textContent })));
+  return [before, stack];
+}
+
+// The part of a line around the column of a reason, with a mark at the character there and a caret under it, the reason, and advice.
 function refusal(text, reason) {
   const letters = [...text], at = Number(/, at column (\d+)/.exec(reason)[1]) - 1, start = Math.max(0, at - 16), end = Math.min(letters.length, at + 10);
   const before = (start > 0 ? "…" : "") + letters.slice(start, at).join("");
@@ -246,7 +309,7 @@ function refusal(text, reason) {
   where.append(before, mark, letters.slice(at + 1, end).join("") + (end < letters.length ? "…" : ""), "\n", " ".repeat([...before].length), caret);
   const box = document.createElement("div");
   box.className = at >= letters.length ? "refusal at-end" : "refusal";
-  box.append(where, reasonOf(reason));
+  box.append(where, reasonOf(reason), adviceOn(reason, letters.slice(at).join("")));
   return box;
 }
 
@@ -261,7 +324,7 @@ function tell(text) {
 // Says the value of a line, for a screen reader.
 function say(row) {
   clearTimeout(saying);
-  const said = replyOf(row)?.innerText.replace(/\s+/g, " ").trim();
+  const said = [...replyOf(row).children].map((part) => part.textContent).join(" ").replace(/\s+/g, " ");
   const reason = row.querySelector(".reason")?.textContent;
   spoken.textContent = said ? `Line ${numberOf(row)}: ${reason ?? said.replace("≈", ", about").replace(" ,", ",")}` : "";
 }
@@ -337,29 +400,27 @@ function drawPictures() {
   if (text === "") {
     return;
   }
-  element("pictured").textContent = shortened(text);
-  element("number-line").replaceChildren(...numberLine(fractionOf(text)));
-  engine.ask("quotients", "ratio_sheet_quotients", text, 0, (out) => {
-    if (out !== null && pictured === text) {
-      element("continued").replaceChildren(...continuedFraction(fractionOf(text), out.trim().split(" ").map(BigInt)));
+  element("pictured").replaceChildren(...stacked(shortened(text)));
+  element("wholes").replaceChildren(...wholes(fractionOf(text)));
+  element("ruler").replaceChildren(...ruler(fractionOf(text)));
+  engine.ask("quotients", { call: "ratio_sheet_quotients", text }, (quotients) => {
+    if (pictured === text) {
+      element("continued").replaceChildren(...continuedFraction(fractionOf(text), quotients.split(" ").map(BigInt)));
     }
-  });
+  }, () => {});
 }
 
-function drawBeats() {
-  const wanted = [...document.querySelectorAll(".beat")].map((input) => input.value);
-  engine?.ask("beats", "ratio_sheet_rows", [...texts(), ...wanted].join("\n"), 0, (out) => {
-    if (out !== null) {
-      element("beats").replaceChildren(...beatParts(fieldsOf(out).slice(-wanted.length)));
-    }
-  });
-}
+let beatRows = [];
+
+const beatLengths = () => [...document.querySelectorAll(".beat")].map((input) => input.value);
+const drawBeats = () => element("beats").replaceChildren(...beatParts(beatRows));
 
 function beatParts(found) {
   const names = ["first", "second", "third"];
-  const wrong = found.findIndex(([kind, text]) => kind === "refused" || (kind === "value" && !/^[1-9]/.test(text)));
+  const wrong = found.findIndex(([kind, text]) => kind !== "empty" && !(kind === "value" && /^[1-9]/.test(text)));
   if (wrong >= 0) {
-    return [paragraph(`The ${names[wrong]} one is no length above 0${found[wrong][0] === "refused" ? `: ${found[wrong][1]}` : ""}.`)];
+    const [kind, reason] = found[wrong];
+    return [paragraph(`The ${names[wrong]} one is no length above 0${kind === "value" ? "" : `: ${reason ?? kind}`}.`)];
   }
   const lengths = found.filter(([kind, text]) => kind === "value" && text.length <= PICTURED_LENGTH).map(([, text]) => fractionOf(text));
   return lengths.length < 2 ? [paragraph("Type two lengths, or three.")] : beats(lengths);
@@ -370,7 +431,19 @@ function beatParts(found) {
 function showKeypad(shown) {
   keypad.hidden = !shown;
   keys.setAttribute("aria-pressed", shown);
+  document.documentElement.style.scrollPaddingBottom = `${keypad.offsetHeight}px`;
   nameRows();
+}
+
+// Begins on an empty line, behind the lines that this browser kept.
+function beginLine() {
+  const last = rows.lastElementChild;
+  const row = inputOf(last).value === "" ? last : addRow(last);
+  select(row);
+  changed();
+  if (!matchMedia("(pointer: coarse)").matches) {
+    go(row);
+  }
 }
 
 function clear() {
@@ -395,7 +468,8 @@ function listen() {
   element("add").addEventListener("click", () => { const row = addRow(rows.lastElementChild); changed(); go(row); });
   element("clear").addEventListener("click", clear);
   undo.addEventListener("click", restore);
-  document.querySelectorAll(".beat").forEach((input) => input.addEventListener("input", drawBeats));
+  document.querySelectorAll(".beat").forEach((input) => input.addEventListener("input", changed));
+  document.querySelectorAll(".example").forEach((button) => button.addEventListener("click", () => tryExample(button.textContent)));
   window.addEventListener("hashchange", takeAddress);
   window.addEventListener("resize", redrawPictures);
 }
@@ -403,8 +477,8 @@ function listen() {
 async function start() {
   engine = await loadedEngine();
   const before = kept();
-  drawKeypad(keypad, () => inputOf(current));
-  take(sheetOfAddress() ?? before ?? { lines: FIRST_LINES });
+  drawSigns(element("signs"), lineInUse);
+  take(sheetOfAddress() ?? before ?? { lines: [""] });
   showKeypad(before?.keypad ?? matchMedia("(pointer: coarse)").matches);
   for (const id of ["sheet", "meeting"]) {
     element(id).hidden = false;
@@ -412,9 +486,10 @@ async function start() {
   element("notice").hidden = true;
   listen();
   changed();
-  if (sheetOfAddress() === null && !matchMedia("(pointer: coarse)").matches) {
-    go(rows.lastElementChild);
+  if (sheetOfAddress() === null) {
+    beginLine();
   }
+  keepPage();
 }
 
 begin(start);

@@ -7,29 +7,33 @@ mod sheet;
 
 use std::slice;
 
-/// Writes the rows of the lines of `input`, with so many places of the decimals, to the beginning of `room`, and returns their length. If they do not
-/// fit, `room` holds the first part of them.
+#[link(wasm_import_module = "page")]
+extern "C" {
+    /// The page takes these bytes.
+    #[link_name = "take"]
+    fn take_bytes(bytes: *const u8, length: usize);
+}
+
+fn take(bytes: &[u8]) {
+    unsafe { take_bytes(bytes.as_ptr(), bytes.len()) }
+}
+
+/// Gives the page the row of each line of `input`, as soon as it is known, with so many places of the decimals.
 ///
 /// # Safety
 ///
-/// `input` must point to `length` bytes, and `room` to `space` other bytes.
+/// `input` must point to `length` bytes.
 #[no_mangle]
-pub unsafe extern "C" fn ratio_sheet_rows(input: *const u8, length: usize, room: *mut u8, space: usize, places: u32) -> usize {
-    put(&sheet::rows(slice::from_raw_parts(input, length), places), slice::from_raw_parts_mut(room, space))
+pub unsafe extern "C" fn ratio_sheet_rows(input: *const u8, length: usize, places: u32) {
+    sheet::rows(slice::from_raw_parts(input, length), places, take)
 }
 
-/// Writes the quotients of the continued fraction of `input` to the beginning of `room`, as `ratio_sheet_rows` writes rows.
+/// Gives the page the quotients of the continued fraction of `input`.
 ///
 /// # Safety
 ///
-/// `input` must point to `length` bytes, and `room` to `space` other bytes.
+/// `input` must point to `length` bytes.
 #[no_mangle]
-pub unsafe extern "C" fn ratio_sheet_quotients(input: *const u8, length: usize, room: *mut u8, space: usize) -> usize {
-    put(&sheet::quotients(slice::from_raw_parts(input, length)), slice::from_raw_parts_mut(room, space))
-}
-
-fn put(bytes: &[u8], room: &mut [u8]) -> usize {
-    let count = bytes.len().min(room.len());
-    room[..count].copy_from_slice(&bytes[..count]);
-    bytes.len()
+pub unsafe extern "C" fn ratio_sheet_quotients(input: *const u8, length: usize) {
+    take(&sheet::quotients(slice::from_raw_parts(input, length)))
 }

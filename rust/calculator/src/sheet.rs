@@ -1,6 +1,6 @@
 //! The rows of the page's sheet: what each line of a text is answered. Names go on from line to line.
 //!
-//! A row ends with a line end, and its fields have tabs between them:
+//! The fields of a row have tabs between them:
 //!
 //! | Kind | The fields behind it |
 //! |---|---|
@@ -16,11 +16,11 @@ use crate::proved::ratio_expressions::slashes::read_as;
 use bakhsney::memory::{AllocError, Global};
 use bakhsney::proved::ratio_big::BigFraction;
 
-/// The rows of all lines, with so many places of the decimals.
-pub fn rows(text: &[u8], places: u32) -> Vec<u8> {
+/// Hands on the row of each line, with so many places of the decimals, before it computes the next one.
+pub fn rows(text: &[u8], places: u32, take: impl Fn(&[u8])) {
     let mut names = Names::new(Global);
-    let mut out = Vec::new();
     for line in text.split(is_line_end) {
+        let mut out = Vec::new();
         match reply_to(Global, line, Form::Fields(places), &mut names) {
             Ok(Reply::Nothing) => out.extend_from_slice(b"empty"),
             Ok(Reply::Answer(fields)) => {
@@ -30,9 +30,8 @@ pub fn rows(text: &[u8], places: u32) -> Vec<u8> {
             Ok(Reply::Refused(text)) => put_row("refused", text.rsplit(is_line_end).next().unwrap_or_default(), &mut out),
             Err(AllocError) => out.extend_from_slice(b"memory"),
         }
-        out.push(b'\n');
+        take(&out);
     }
-    out
 }
 
 fn is_line_end(byte: &u8) -> bool {

@@ -43,6 +43,11 @@ class Quiet(http.server.SimpleHTTPRequestHandler):
         self.send_header("Cache-Control", "no-store")
         super().end_headers()
 
+    def copyfile(self, source, outputfile):
+        # A browser leaves a file that it needs no more.
+        with contextlib.suppress(ConnectionError):
+            super().copyfile(source, outputfile)
+
     def log_message(self, *words):
         pass
 

@@ -48,7 +48,7 @@ class Firefox:
     """It has those calls of selenium's drivers that the checks use."""
 
     def __init__(self, port):
-        self.connection = socket.create_connection(("127.0.0.1", port), 60)
+        self.connection = socket.create_connection(("127.0.0.1", port), 180)
         self.replies = self.connection.makefile("rb")
         self.count = 0
         self.heard()
@@ -140,6 +140,7 @@ def tried(driver, address, home, folder):
         yield from looks.named(looks.SHAPED, page, f" in Firefox, {width} points wide")
         driver.save_screenshot(folder / f"firefox-{width}.png")
     yield sheet_use.one_file_works(driver, home)
+    yield sheet_use.works_without_network(driver, home)
     yield from not_found(driver, home, FAULTS)
 
 

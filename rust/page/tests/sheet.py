@@ -13,10 +13,24 @@ TYPED = Path(__file__).resolve().parents[3] / "checks" / "typed.txt"
 SAMPLE = "1/3 + 0.25\nx = 3/7\n2 + (3 * y) + 4\n22/7 - x * 2\n1/3 < 0.333\n2^500 / 3\n\n1 / 0\n415/93"
 
 
+# A worker in which a line with the number 987654321 takes 30 seconds.
+SLOW = """
+    const slow = () => {
+        const post = self.postMessage.bind(self), answer = self.onmessage;
+        let lines = [];
+        const wait = () => { if (lines.shift()?.includes("987654321")) for (const end = Date.now() + 30000; Date.now() < end;); };
+        self.postMessage = (message) => { post(message); if (message.piece !== undefined) wait(); };
+        self.onmessage = (event) => { lines = (event.data.text ?? "").split("\\n"); wait(); answer(event); };
+    };
+    engine.source = URL.createObjectURL(new Blob([`(${engineMain})(); (${slow})()`], { type: "text/javascript" }));
+    engine.worker.terminate();
+    engine.begin();"""
+
+
 class Sheet:
     """The page in a browser."""
 
-    PARTS = ["index.html", "page.css", "link.js", "module.js", "engine.js", "pictures.js", "keypad.js", "sheet.js"]
+    PARTS = ["index.html", "page.css", "link.js", "module.js", "engine.js", "pictures.js", "advice.js", "keypad.js", "sheet.js", "offline.js", "manifest.json", "icon.svg"]
     MODULE = "ratio_sheet.wasm"
 
     def __init__(self, driver, address):
@@ -79,7 +93,7 @@ class Sheet:
     def settle(self):
         """Waits until the engine has nothing to do."""
         time.sleep(0.05)
-        return self.until("return engine.asked === null && engine.waiting.size === 0", 15)
+        return self.until("return engine.asked === null && engine.waiting.size === 0", 60)
 
     def begin(self):
         """Loads the page with one empty line, and puts the focus there."""
@@ -95,6 +109,8 @@ def people_are_answered(sheet):
     """The lines that people type, on which the program `ratio` is tried too, typed key by key. A line gives names to those below."""
     rows = [row.split("\t") for row in TYPED.read_text().splitlines()]
     sheet.begin()
+    # A machine with other work may be slow.
+    sheet.js("engine.seconds = 60")
     for line, _ in rows:
         sheet.type(line, Keys.ENTER)
     for (line, wanted), answer in zip(rows, sheet.answers()):
@@ -155,14 +171,30 @@ def short(text):
 
 def long_computations_end(sheet):
     """A computation that takes too long is stopped, and the page goes on."""
-    lines = ["x = 3^400000"] + ["x = x * x + 1/3"] * 12
     sheet.open("1 + 1")
-    sheet.js("setLines(arguments[0]); changed()", lines)
+    sheet.js(SLOW + "setLines(['987654321']); changed()")
     time.sleep(0.3)
     sheet.js("setLines(['2 + 2']); changed()")
     if not sheet.until("return rows.querySelector('.value')?.textContent === '4'", 5):
         return "the page does not go on after a long computation"
     return None
+
+
+def slow_line_says_so(sheet):
+    """A line that takes too long says so, while all others keep their values, and answer what is typed next."""
+    sheet.open("1/2 + 1/3\nx = 5\nx + 1\nans * 2")
+    wanted = [["5/6", "≈ 0.833333"], None, ["6"], ["12"]]
+    sheet.js(SLOW + "engine.seconds = 3; inputs()[1].value = 'y = 987654321'; inputs()[2].value = '5 + 1'; changed()")
+    for said in ("this takes long", "this took longer than 3 seconds"):
+        if not sheet.until(f"return rows.children[1].textContent.includes('{said}')", 9):
+            return f"a slow line does not say {said!r}: {sheet.answers()}"
+        got = sheet.answers()
+        if got[:1] + got[2:] != wanted[:1] + wanted[2:]:
+            return f"beside a slow line, which says {said!r}, the others have {got}"
+    sheet.js("inputs()[3].value = 'ans + 1/2'; changed()")
+    if not sheet.until("return rows.children[3].querySelector('.value').textContent === '13/2'", 2):
+        return f"below a slow line, a changed one is not answered at once: {sheet.answers()}"
+    return None if sheet.settle() else "the engine does not come to rest"
 
 
 def examples_are_right(sheet):
@@ -176,4 +208,4 @@ def examples_are_right(sheet):
     return None if len(pairs) > 5 else "the page has no examples"
 
 
-VALUES = [people_are_answered, readings_are_shown, forms_are_right, long_computations_end, examples_are_right]
+VALUES = [people_are_answered, readings_are_shown, forms_are_right, long_computations_end, slow_line_says_so, examples_are_right]

@@ -483,7 +483,7 @@ impl<T: Integer> Reduced<T> {
 
     #[inline]
     fn of(answer: Option<Proved<T>>) -> Option<Reduced<T>> {
-        answer.map(Reduced::from_proved)
+        answer.map(|fraction| Reduced { fraction })
     }
 }
 

@@ -40,7 +40,8 @@ impl<T: Integer> PartialEq<Reduced<T>> for Total<T> {
     /// As for two totals.
     #[track_caller]
     fn eq(&self, other: &Reduced<T>) -> bool {
-        *self == Total::from(*other)
+        let other = Total::from(*other);
+        *self == other
     }
 }
 

@@ -88,6 +88,8 @@ mod to_numbers;
 mod total;
 #[cfg(feature = "alloc")]
 mod total_equality;
+#[cfg(feature = "alloc")]
+mod total_values;
 
 #[cfg(feature = "num-bigint")]
 pub use big::BigRational;

@@ -217,6 +217,8 @@ const TOTALS: &[Row] = &[
     ("+= of a total", line!(), || done({ let mut x = full::<i8>(); x += Reduced::ONE; x })),
     ("-= of a total", line!(), || done({ let mut x = full::<i8>(); x -= Reduced::ONE; x })),
     ("+= of two totals", line!(), || done({ let mut x = half_full::<i8>(); x += &half_full(); x })),
+    ("+= of a number", line!(), || done({ let mut x = full::<i8>(); x += 1; x })),
+    ("-= of a ratio", line!(), || done({ let mut x = Total::new(); x -= none(); x })),
     ("extend", line!(), || full::<i8>().extend([Reduced::ONE])),
     ("extend by references", line!(), || full::<i8>().extend(&[Reduced::ONE])),
     ("sum of totals", line!(), || done(<Total<i8> as Sum>::sum([half_full(), half_full()].into_iter()))),

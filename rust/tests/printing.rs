@@ -9,6 +9,8 @@ use support::Numbers;
 fn exponents() {
     let x = Ratio::new(1500i32, 7);
     assert_eq!([format!("{x:e}"), format!("{x:E}")], ["1.5e3/7e0", "1.5E3/7E0"]);
+    let lowest = Reduced::try_from(x).unwrap();
+    assert_eq!([format!("{lowest:e}"), format!("{lowest:>12E}|{:+e}", Reduced::from(20u8))], ["1.5e3/7e0", "   1.5E3/7E0|+2e1"]);
     let whole = Ratio::new(-120i64, 1);
     assert_eq!([format!("{whole:e}"), format!("{whole:E}")], ["-1.2e2", "-1.2E2"]);
     assert_eq!(format!("{:e} {:e}", Ratio::new(0u8, 1), Ratio::new_raw(-4i8, -2)), "0e0 -4e0/-2e0");

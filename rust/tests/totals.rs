@@ -4,9 +4,10 @@
 mod support;
 
 use bakhsney::integer::Integer;
-use bakhsney::{Reduced, Reduced64, Rounding, Total};
+use bakhsney::{BigFraction, Ratio, Reduced, Reduced64, Rounding, Total};
 use num_integer::Integer as _;
 use std::cmp::Ordering;
+use std::ops::AddAssign;
 use std::panic::catch_unwind;
 use support::Numbers;
 
@@ -30,6 +31,34 @@ macro_rules! rows {
     ($($call:expr => $answer:expr;)*) => {$(
         assert_eq!($call, $answer, "{}", stringify!($call));
     )*};
+}
+
+/// A total as the value of its sum.
+#[test]
+fn as_its_sum() {
+    let mut total = Total::from(of(1i8, 3));
+    rows! {
+        total += 1 => ();
+        [of(4, 3), of(1, 3)].map(|fraction| total == fraction) => [true, false];
+        [0, 1].map(|number| total == number) => [false; 2];
+        (total.to_string(), format!("{total:>5} {total:.2}")) => ("4/3".to_string(), "  4/3 1.33".to_string());
+        total += Ratio::new_raw(-2, -6) => ();
+        Reduced::try_from(&total) => Ok(of(5, 3));
+        total -= Ratio::new_raw(4, 6) => ();
+        (total == 1, total.count()) => (true, 2);
+        total -= 3 => ();
+        (total == -2, total.count(), total.to_string()) => (true, 1, "-2".to_string());
+    }
+    let wide: Total<i8> = [127, 127].map(Reduced::from).into_iter().collect();
+    assert!(Reduced::try_from(&wide).is_err());
+    assert_eq!((BigFraction::from(&wide), wide.to_string()), (BigFraction::from(254), "254".to_string()));
+    assert_eq!((BigFraction::from(wide.clone()), Reduced::try_from(wide).is_err()), (BigFraction::from(254), true));
+    let no_type: Total = Total::from(Reduced64::ONE);
+    assert_eq!(Reduced64::try_from(no_type), Ok(Reduced64::ONE));
+    for (numer, denom) in [(1, 0), (1, -128)] {
+        let refusal = catch_unwind(move || Total::new().add_assign(Ratio::new_raw(numer as i8, denom as i8))).unwrap_err();
+        assert!(refusal.downcast_ref::<String>().unwrap().starts_with("the denominator is 0, or the lowest terms do not fit"));
+    }
 }
 
 #[test]

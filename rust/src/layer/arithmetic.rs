@@ -201,10 +201,10 @@ folds! {
 // Each operator for the left sides `T` and `&T`, and the right sides `Ratio<T>` and `&Ratio<T>`.
 macro_rules! from_left {
     ($type:ident: $($Op:ident $op:ident)*) => {$(
-        from_left! { $type $Op $op; $type, Ratio<$type>; number, x => number, x }
-        from_left! { $type $Op $op; $type, &Ratio<$type>; number, x => number, *x }
-        from_left! { $type $Op $op; &$type, Ratio<$type>; number, x => *number, x }
-        from_left! { $type $Op $op; &$type, &Ratio<$type>; number, x => *number, *x }
+        from_left! { $type $Op $op; $type, Ratio<$type>; number, x => number, &x }
+        from_left! { $type $Op $op; $type, &Ratio<$type>; number, x => number, x }
+        from_left! { $type $Op $op; &$type, Ratio<$type>; number, x => *number, &x }
+        from_left! { $type $Op $op; &$type, &Ratio<$type>; number, x => *number, x }
     )*};
     ($type:ident $Op:ident $op:ident; $Left:ty, $Right:ty; $number:ident, $x:ident => $left:expr, $right:expr) => {
         impl $Op<$Right> for $Left {
@@ -217,7 +217,7 @@ macro_rules! from_left {
             #[track_caller]
             fn $op(self, $x: $Right) -> Ratio<$type> {
                 let $number = self;
-                $Op::$op(Ratio::from_integer($left), $right)
+                machine::$op(&Ratio::from_integer($left), $right)
             }
         }
     };

@@ -54,13 +54,15 @@ use core::cmp::Ordering;
 #[doc(alias = "BigRational")]
 pub struct BigFraction(pub(super) Proved);
 
+const NO_MEMORY: &str = "memory allocation failed";
+
 /// What a call returns, or a panic for want of memory.
 #[inline]
 #[track_caller]
 pub(super) fn taken<T>(result: Result<T, AllocError>) -> T {
     match result {
         Ok(result) => result,
-        Err(_) => refuse("memory allocation failed"),
+        Err(_) => refuse(NO_MEMORY),
     }
 }
 
@@ -68,9 +70,10 @@ pub(super) fn taken<T>(result: Result<T, AllocError>) -> T {
 #[inline]
 #[track_caller]
 pub(super) fn divided<T>(result: Result<Option<T>, AllocError>, zero: &str) -> T {
-    match taken(result) {
-        Some(result) => result,
-        None => refuse(zero),
+    match result {
+        Ok(Some(result)) => result,
+        Ok(None) => refuse(zero),
+        Err(_) => refuse(NO_MEMORY),
     }
 }
 

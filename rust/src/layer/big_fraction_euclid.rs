@@ -12,6 +12,7 @@ impl BigFraction {
     /// assert_eq!(BigFraction::new(-7, 2).try_div_euclid(&BigFraction::from(2)), Ok(Some(BigFraction::from(-2))));
     /// assert_eq!(BigFraction::new(-7, 2).try_div_euclid(&BigFraction::from(0)), Ok(None));
     /// ```
+    #[inline]
     pub fn try_div_euclid(&self, divisor: &BigFraction) -> Result<Option<BigFraction>, AllocError> {
         match self.try_div(divisor)? {
             Some(quotient) if divisor.is_negative() => quotient.try_ceil().map(Some),
@@ -28,6 +29,7 @@ impl BigFraction {
     /// assert_eq!(BigFraction::new(-7, 2).try_rem_euclid(&BigFraction::from(2)), Ok(Some(BigFraction::new(1, 2))));
     /// assert_eq!(BigFraction::new(-7, 2).try_rem_euclid(&BigFraction::from(0)), Ok(None));
     /// ```
+    #[inline]
     pub fn try_rem_euclid(&self, divisor: &BigFraction) -> Result<Option<BigFraction>, AllocError> {
         match self.try_rem(divisor)? {
             Some(rest) if !rest.is_negative() => Ok(Some(rest)),

@@ -1,5 +1,5 @@
 //! What stands beside a `BigFraction` in an operator: a whole number, a `Ratio`, a `Reduced` or a `BigFraction`, or a reference to one of these.
-use super::big_fraction::{divided, BigFraction};
+use super::big_fraction::BigFraction;
 use super::integer::{Element, Integer};
 use super::numbers::magnitude;
 use super::ratio::Ratio;
@@ -28,48 +28,23 @@ pub trait BigOperand: Hidden {}
 
 impl<O: Hidden> BigOperand for O {}
 
-/// An operand as a `BigFraction`: itself, or one that is made of it.
-pub enum Operand<'a> {
-    Lent(&'a BigFraction),
-    Made(BigFraction),
-}
-
-impl Operand<'_> {
-    #[inline]
-    pub(super) fn fraction(&self) -> &BigFraction {
-        match self {
-            Operand::Lent(fraction) => fraction,
-            Operand::Made(fraction) => fraction,
-        }
-    }
-}
-
 /// The calls of an operand, under names that no other trait has: `BigOperand` and `Integer` bring them into generic code of this crate's users.
 pub trait Hidden {
-    /// `None` if it is a `Ratio` with the denominator 0. An error for want of memory.
-    fn bakhsney_operand(&self) -> Result<Option<Operand<'_>>, AllocError>;
+    /// What `call` returns for the operand as a `BigFraction`. `None` if it is a `Ratio` with the denominator 0. An error for want of memory.
+    fn bakhsney_to<R>(&self, call: impl FnOnce(&BigFraction) -> Result<R, AllocError>) -> Result<Option<R>, AllocError>;
 
     /// The quotient of two operands. `None` if there is none, and an error for want of memory.
     #[inline]
     fn bakhsney_quotient(numer: &Self, denom: &Self) -> Result<Option<BigFraction>, AllocError> {
-        match (numer.bakhsney_operand()?, denom.bakhsney_operand()?) {
-            (Some(numer), Some(denom)) => numer.fraction().try_div(denom.fraction()),
-            _ => Ok(None),
-        }
+        let quotient = numer.bakhsney_to(|numer| denom.bakhsney_to(|denom| numer.try_div(denom)));
+        Ok(quotient?.flatten().flatten())
     }
-}
-
-/// The operand as a `BigFraction`, or a panic.
-#[inline]
-#[track_caller]
-pub(super) fn operand<O: Hidden>(operand: &O) -> Operand<'_> {
-    divided(operand.bakhsney_operand(), "denominator == 0")
 }
 
 impl<O: Hidden> Hidden for &O {
     #[inline]
-    fn bakhsney_operand(&self) -> Result<Option<Operand<'_>>, AllocError> {
-        O::bakhsney_operand(self)
+    fn bakhsney_to<R>(&self, call: impl FnOnce(&BigFraction) -> Result<R, AllocError>) -> Result<Option<R>, AllocError> {
+        O::bakhsney_to(self, call)
     }
 
     #[inline]
@@ -80,22 +55,22 @@ impl<O: Hidden> Hidden for &O {
 
 impl Hidden for BigFraction {
     #[inline]
-    fn bakhsney_operand(&self) -> Result<Option<Operand<'_>>, AllocError> {
-        Ok(Some(Operand::Lent(self)))
+    fn bakhsney_to<R>(&self, call: impl FnOnce(&BigFraction) -> Result<R, AllocError>) -> Result<Option<R>, AllocError> {
+        Ok(Some(call(self)?))
     }
 }
 
 impl<T: Integer> Hidden for Reduced<T> {
     #[inline]
-    fn bakhsney_operand(&self) -> Result<Option<Operand<'_>>, AllocError> {
-        Ok(Some(Operand::Made(BigFraction::try_from_reduced(*self)?)))
+    fn bakhsney_to<R>(&self, call: impl FnOnce(&BigFraction) -> Result<R, AllocError>) -> Result<Option<R>, AllocError> {
+        Ok(Some(call(&BigFraction::try_from_reduced(*self)?)?))
     }
 }
 
 impl<T: Integer> Hidden for Ratio<T> {
     #[inline]
-    fn bakhsney_operand(&self) -> Result<Option<Operand<'_>>, AllocError> {
-        Ok(quotient(*self.numer(), *self.denom())?.map(Operand::Made))
+    fn bakhsney_to<R>(&self, call: impl FnOnce(&BigFraction) -> Result<R, AllocError>) -> Result<Option<R>, AllocError> {
+        quotient(*self.numer(), *self.denom())?.map(|fraction| call(&fraction)).transpose()
     }
 }
 
@@ -104,8 +79,8 @@ macro_rules! numbers {
     ($($type:ident)*) => {$(
         impl Hidden for $type {
             #[inline]
-            fn bakhsney_operand(&self) -> Result<Option<Operand<'_>>, AllocError> {
-                Ok(Some(Operand::Made(BigFraction::try_from_reduced(Reduced::from_integer(*self))?)))
+            fn bakhsney_to<R>(&self, call: impl FnOnce(&BigFraction) -> Result<R, AllocError>) -> Result<Option<R>, AllocError> {
+                Reduced::from_integer(*self).bakhsney_to(call)
             }
 
             #[inline]

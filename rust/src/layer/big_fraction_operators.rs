@@ -1,16 +1,17 @@
 //! The operators of `BigFraction` in all forms, the checked traits, and `sum` and `product`. A whole number, a `Ratio` or a `Reduced` may be on
 //! either side.
 use super::big_fraction::{divided, taken, BigFraction};
-use super::big_fraction_operand::{operand, BigOperand};
+use super::big_fraction_operand::BigOperand;
 use super::integer::Integer;
 use super::ratio::Ratio;
 use super::reduced::Reduced;
+use crate::memory::Global;
 use core::iter::{Product, Sum};
 use core::ops::{Add, AddAssign, Div, DivAssign, Mul, MulAssign, Neg, Sub, SubAssign};
 use num_traits::{CheckedAdd, CheckedDiv, CheckedMul, CheckedSub, Inv};
 
 macro_rules! operators {
-    ($($Op:ident $op:ident $OpAssign:ident $op_assign:ident $($zero:literal)?: $x:ident, $y:ident => $result:expr;)*) => {$(
+    ($($Op:ident $op:ident $OpAssign:ident $op_assign:ident by $proved:ident $($zero:literal)?;)*) => {$(
         impl<O: BigOperand> $Op<O> for &BigFraction {
             type Output = BigFraction;
 
@@ -22,9 +23,7 @@ macro_rules! operators {
             #[inline]
             #[track_caller]
             fn $op(self, other: O) -> BigFraction {
-                let ($x, other) = (self, operand(&other));
-                let $y = other.fraction();
-                $result
+                BigFraction(divided(other.bakhsney_to(|other| self.0.$proved(Global, &other.0)), "denominator == 0")$(.expect($zero))?)
             }
         }
 
@@ -50,6 +49,18 @@ macro_rules! operators {
             fn $op_assign(&mut self, other: O) {
                 *self = $Op::$op(&*self, other);
             }
+        }
+
+        /// The same with any operand on the left.
+        ///
+        /// # Panics
+        ///
+        /// As for a reference, or if the left side is a `Ratio` with the denominator 0.
+        #[inline]
+        #[track_caller]
+        fn $op(left: impl BigOperand, right: impl BigOperand) -> BigFraction {
+            let result = left.bakhsney_to(|left| right.bakhsney_to(|right| left.0.$proved(Global, &right.0)));
+            BigFraction(divided(result.map(Option::flatten), "denominator == 0")$(.expect($zero))?)
         }
 
         from_left! { $Op $op; Ratio<T>, Reduced<T>, i8, i16, i32, i64, i128, isize, u8, u16, u32, u64, u128, usize }
@@ -79,7 +90,7 @@ macro_rules! from_left {
             #[inline]
             #[track_caller]
             fn $op(self, other: $Right) -> BigFraction {
-                $Op::$op(operand(&self).fraction(), other)
+                $op(self, other)
             }
         }
     };
@@ -87,10 +98,10 @@ macro_rules! from_left {
 pub(super) use {from_left, operators};
 
 operators! {
-    Add add AddAssign add_assign: x, y => taken(x.try_add(y));
-    Sub sub SubAssign sub_assign: x, y => taken(x.try_sub(y));
-    Mul mul MulAssign mul_assign: x, y => taken(x.try_mul(y));
-    Div div DivAssign div_assign "denominator == 0": x, y => divided(x.try_div(y), "denominator == 0");
+    Add add AddAssign add_assign by add;
+    Sub sub SubAssign sub_assign by subtract;
+    Mul mul MulAssign mul_assign by multiply;
+    Div div DivAssign div_assign by divide "denominator == 0";
 }
 
 impl Neg for &BigFraction {

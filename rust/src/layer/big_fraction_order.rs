@@ -84,7 +84,7 @@ impl<T: Integer> PartialEq<Ratio<T>> for BigFraction {
     #[inline]
     #[track_caller]
     fn eq(&self, other: &Ratio<T>) -> bool {
-        taken(other.bakhsney_operand()).map_or(false, |other| self == other.fraction())
+        taken(other.bakhsney_to(|other| Ok(self == other))).unwrap_or(false)
     }
 }
 
@@ -99,8 +99,7 @@ macro_rules! orders {
             #[inline]
             #[track_caller]
             fn partial_cmp(&self, other: &$Other) -> Option<Ordering> {
-                let other = taken(other.bakhsney_operand())?;
-                Some(taken(self.try_cmp(other.fraction())))
+                taken(other.bakhsney_to(|other| self.try_cmp(other)))
             }
         }
     )*};

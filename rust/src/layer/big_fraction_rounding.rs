@@ -1,6 +1,6 @@
 //! The whole numbers near a `BigFraction` and of it, remainders and powers.
 use super::big_fraction::{divided, taken, tries, BigFraction};
-use super::big_fraction_operand::{operand, BigOperand};
+use super::big_fraction_operand::BigOperand;
 use super::big_fraction_operators::{checked, from_left, operators};
 use super::integer::{Element, Integer, WholeNumber};
 use super::ratio::Ratio;
@@ -155,8 +155,7 @@ tries! { divisions:
 }
 
 operators! {
-    Rem rem RemAssign rem_assign "attempt to calculate the remainder with a divisor of zero":
-        x, y => divided(x.try_rem(y), "attempt to calculate the remainder with a divisor of zero");
+    Rem rem RemAssign rem_assign by remainder "attempt to calculate the remainder with a divisor of zero";
 }
 
 checked! {

@@ -48,6 +48,7 @@ macro_rules! exponent_forms {
             /// # Panics
             ///
             /// For want of memory.
+            #[inline]
             #[track_caller]
             fn fmt(&self, f: &mut fmt::Formatter<'_>) -> fmt::Result {
                 pad(f, &taken(with_exponents(self, $mark)))
@@ -62,6 +63,7 @@ exponent_forms! {
 }
 
 /// The text of a fraction in which each number has an exponent: -1.5e3/7e0 for -1500/7.
+#[inline]
 fn with_exponents(fraction: &BigFraction, mark: &str) -> Result<memory::String, AllocError> {
     let mut text = memory::String::new(Global);
     for number in fraction.0.to_text(Global)?.split('/') {

@@ -98,7 +98,9 @@ macro_rules! constants {
             /// ```compile_fail
             #[doc = concat!("const NONE: num_rational::Reduced<", stringify!($type), "> = num_rational::Reduced::<", stringify!($type), ">::const_new(1, 0);")]
             /// ```
+            #[inline]
             #[track_caller]
+            #[must_use]
             pub const fn const_new($numer: $type, $denom: $type) -> Reduced<$type> {
                 let lowest = Ratio::<$type>::const_new($numer, $denom);
                 let (numer, denom) = (*lowest.numer(), *lowest.denom());

@@ -483,7 +483,7 @@ impl<T: Integer> Reduced<T> {
 
     #[inline]
     fn of(answer: Option<Proved<T>>) -> Option<Reduced<T>> {
-        answer.map(Reduced::from_proved)
+        answer.map(|fraction| Reduced { fraction })
     }
 }
 
@@ -951,17 +951,20 @@ impl<T: Integer> FromStr for Reduced<T> {
 }
 
 macro_rules! forms {
-    ($($Form:ident)*) => {$(
+    ($($Form:ident)*; $x:ident => $printed:expr) => {$(
         impl<T: Integer> fmt::$Form for Reduced<T> {
             #[inline]
             fn fmt(&self, f: &mut fmt::Formatter<'_>) -> fmt::Result {
-                fmt::$Form::fmt(&self.fraction, f)
+                let $x = self;
+                fmt::$Form::fmt(&$printed, f)
             }
         }
     )*};
 }
 
-forms! { Display Binary Octal LowerHex UpperHex }
+forms! { Display Binary Octal LowerHex UpperHex; x => x.fraction }
+// These two are not proved.
+forms! { LowerExp UpperExp; x => x.to_ratio() }
 
 impl<T: Integer> fmt::Debug for Reduced<T> {
     fn fmt(&self, f: &mut fmt::Formatter<'_>) -> fmt::Result {

@@ -25,11 +25,21 @@ macro_rules! operators {
             #[inline]
             #[track_caller]
             fn $op(self, other: O) -> Reduced<T> {
-                let other = other.into();
-                match self.$checked(other) {
-                    Some(answer) => answer,
-                    None => refuse(other, $zero, $overflow),
-                }
+                $op(self, other.into())
+            }
+        }
+
+        /// The operator, over two fractions.
+        ///
+        /// # Panics
+        ///
+        #[doc = concat!("If `", stringify!($checked), "` returns `None`.")]
+        #[inline]
+        #[track_caller]
+        fn $op<T: Integer>(x: Reduced<T>, other: Reduced<T>) -> Reduced<T> {
+            match x.$checked(other) {
+                Some(answer) => answer,
+                None => refuse(other, $zero, $overflow),
             }
         }
 
@@ -87,12 +97,12 @@ macro_rules! from_left {
         from_left! { $type; Add add Sub sub Mul mul Div div Rem rem }
     )*};
     ($type:ident; $($Op:ident $op:ident)*) => {$(
-        from_left! { $Op $op $type; $type, Reduced<$type>; number => number }
-        from_left! { $Op $op $type; $type, &Reduced<$type>; number => number }
-        from_left! { $Op $op $type; &$type, Reduced<$type>; number => *number }
-        from_left! { $Op $op $type; &$type, &Reduced<$type>; number => *number }
+        from_left! { $Op $op $type; $type, Reduced<$type>; number, x => number, x }
+        from_left! { $Op $op $type; $type, &Reduced<$type>; number, x => number, *x }
+        from_left! { $Op $op $type; &$type, Reduced<$type>; number, x => *number, x }
+        from_left! { $Op $op $type; &$type, &Reduced<$type>; number, x => *number, *x }
     )*};
-    ($Op:ident $op:ident $type:ident; $Left:ty, $Right:ty; $number:ident => $left:expr) => {
+    ($Op:ident $op:ident $type:ident; $Left:ty, $Right:ty; $number:ident, $x:ident => $left:expr, $right:expr) => {
         impl $Op<$Right> for $Left {
             type Output = Reduced<$type>;
 
@@ -101,9 +111,9 @@ macro_rules! from_left {
             #[doc = concat!("If `checked_", stringify!($op), "` of the number over 1 returns `None`.")]
             #[inline]
             #[track_caller]
-            fn $op(self, x: $Right) -> Reduced<$type> {
+            fn $op(self, $x: $Right) -> Reduced<$type> {
                 let $number = self;
-                $Op::$op(Reduced::from_integer($left), x)
+                $op(Reduced::from_integer($left), $right)
             }
         }
     };

@@ -65,7 +65,7 @@ use core::ops::{AddAssign, SubAssign};
 /// assert_eq!(total.sum(), Ok(Some(4995.into())));
 /// ```
 #[derive(Clone)]
-pub struct Total<T> {
+pub struct Total<T = i64> {
     pub(super) slots: Vec<Slot>,
     pub(super) tally: Tally,
     /// How many slots were empty at the last count.

@@ -1,5 +1,6 @@
-//! Whether two totals have the same sum, by `==`.
+//! Whether two totals have the same sum, or a total and a fraction or a number on its right, by `==`.
 use super::integer::Integer;
+use super::reduced::Reduced;
 use super::total::Total;
 
 /// Totals are equal exactly if their sums are, whatever fractions made them, and however many: 1/2 + 1/2 is 1. The sums need not fit the
@@ -30,3 +31,28 @@ impl<T: Integer> PartialEq for Total<T> {
 }
 
 impl<T: Integer> Eq for Total<T> {}
+
+impl<T: Integer> PartialEq<Reduced<T>> for Total<T> {
+    /// Whether the sum is the fraction.
+    ///
+    /// # Panics
+    ///
+    /// As for two totals.
+    #[track_caller]
+    fn eq(&self, other: &Reduced<T>) -> bool {
+        let other = Total::from(*other);
+        *self == other
+    }
+}
+
+impl<T: Integer> PartialEq<T> for Total<T> {
+    /// Whether the sum is the number.
+    ///
+    /// # Panics
+    ///
+    /// As for two totals.
+    #[track_caller]
+    fn eq(&self, other: &T) -> bool {
+        *self == Reduced::from_integer(*other)
+    }
+}

@@ -8,7 +8,7 @@ use std::collections::BTreeMap;
 struct Entry {
     share: Reduced64,
     pair: Ratio<i64>,
-    // Typed: `#[serde(with = "num_rational::serde::text")]`. The module has no folder.
+    // Typed: `#[serde(with = "num_rational::serde::text")]`. A module called `serde` would stand in the way of the crate where `use num_rational::*` is.
     #[serde(with = "num_rational::text")]
     price: Ratio<i64>,
     // Typed: `#[serde(with = "num_rational::serde::decimal")]`. The same.
@@ -36,7 +36,7 @@ fn main() -> Result<(), serde_json::Error> {
     assert!(serde_json::from_str::<Entry>(zero).is_err());
 
     let mut by_size = BTreeMap::new();
-    // Typed: `by_size.insert(Reduced64::new(3, 8), "spanner");`. A key of JSON is a text, and not a pair.
+    // Typed: `by_size.insert(Reduced64::new(3, 8), "spanner");`. As in num-rational, serde has a pair, and a key of JSON is a text.
     by_size.insert(Reduced64::new(3, 8).to_string(), "spanner");
     // Typed: `by_size.insert(Reduced64::new(1, 4), "screw");`. The same.
     by_size.insert(Reduced64::new(1, 4).to_string(), "screw");

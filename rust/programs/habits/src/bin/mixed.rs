@@ -17,7 +17,7 @@ fn main() {
     assert_eq!(Ratio::from(2 * half + 1) - third, Ratio::new(5, 3));
     let sum = &big + half + third - 1;
     assert_eq!(sum.to_string(), "5999999999999999999999999999999/6");
-    // Typed: `assert!(sum < big && big > half && third < sum);`. The `BigFraction` is on the left of a comparison.
+    // Typed: `assert!(sum < big && big > half && third < sum);`. A `BigFraction` is on the left of a comparison, or `third < text.parse().unwrap()` would name no type.
     assert!(sum < big && big > half && sum > third);
     assert_eq!(sum.to_integer().to_string(), "999999999999999999999999999999");
     assert_eq!(Reduced64::try_from(&sum - &big).unwrap(), Reduced64::new(-1, 6));
@@ -33,8 +33,7 @@ fn main() {
     assert_eq!(tenth.to_f64(), Some(0.1));
 
     assert_eq!(format!("{:e}", Ratio::new(1500i64, 7)), "1.5e3/7e0");
-    // Typed: `assert_eq!(format!("{:e} {:e}", BigFraction::from(1500), half), "1.5e3 1e0/2e0");`. A `Reduced` has no `{:e}`.
-    assert_eq!(format!("{:e} {:e}", BigFraction::from(1500), Ratio::from(half)), "1.5e3 1e0/2e0");
+    assert_eq!(format!("{:e} {:e}", BigFraction::from(1500), half), "1.5e3 1e0/2e0");
     assert_eq!(format!("{half} {half:>6} {:<6}|", third), "1/2    1/2 1/3   |");
 
     let hour = Reduced64::new(-7, 2).rem_euclid(&12.into());

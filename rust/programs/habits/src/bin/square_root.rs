@@ -33,7 +33,7 @@ fn main() {
     let dozen = BigFraction::from(12);
     let gross = &dozen * &dozen;
     assert!(gross == 144);
-    // Typed: `assert!(gross >= 144 && 145 > gross && gross != 12);`. A number is on the right of a comparison.
+    // Typed: `assert!(gross >= 144 && 145 > gross && gross != 12);`. A number is on the right of a comparison, or `145 > text.parse().unwrap()` would name no type.
     assert!(gross >= 144 && gross < 145 && gross != 12);
     assert_eq!(gross, dozen.pow(2));
 

@@ -12,7 +12,7 @@ from model.hints import advice
 VULGAR = "[¼½¾⅐⅑⅒⅓⅔⅕⅖⅗⅘⅙⅚⅛⅜⅝⅞↉]"
 EXPONENT = r"(?:[eE][+-]?\d+)?"
 DECIMAL = rf"\d+(?:\.\d+)?{EXPONENT}|\.\d+{EXPONENT}|{VULGAR}"
-MIXED = re.compile(rf"(\d+(?: \d+/\d+| ?{VULGAR}))(?!\^|\*\*)", re.ASCII)
+MIXED = re.compile(rf"(\d+(?: \d+/\d+| ?{VULGAR}))(?![ \t]*(?:\^|\*\*))", re.ASCII)
 TOKEN = re.compile(rf"(?P<number>{DECIMAL})|(?P<name>[A-Za-z_]\w*)|(?P<sign><=|>=|!=|\*\*|[-+*/%^<=>(),×·∙⋅÷⁄−–≠≤≥])", re.ASCII)
 PERCENT = re.compile(r"%(?![\w.(])", re.ASCII)
 PLAIN = {"×": "*", "·": "*", "∙": "*", "⋅": "*", "**": "^", "÷": "/", "⁄": "/", "−": "-", "–": "-", "≠": "!=", "≤": "<=", "≥": ">="}
@@ -56,6 +56,8 @@ def token_at(text, at):
         mixed = MIXED.match(text, at)
         piece = mixed[1] if mixed and not slash else piece
         return kind, piece + ("%" if PERCENT.match(text, at + len(piece)) and not slash else "")
+    if piece == "%" and not text[:at].endswith((" ", "\t")) and PERCENT.match(text, at):
+        return "", ""
     if piece in "/÷⁄%":
         spaces = text[:at].endswith((" ", "\t")) + text[at + 1 :].startswith((" ", "\t"))
         return PLAIN.get(piece, piece) + ("tight" if piece in "/⁄" and spaces == 0 else "wide" if spaces == 2 else "half"), piece

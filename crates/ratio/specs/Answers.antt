@@ -20,8 +20,8 @@ use Rattle.ratio.specs.declared.fault.Fault.TheVariants as faults
 
 -- the refusal of a line as it is written: whole, or its last line (`is_brief`)
 -- Example: of `2 + x` in `Paired`: `error: nothing has this name, at column 5`
-abbrev pub refusal_text : Setting → List ℕ → List ℕ → List ℕ
-refusal_text setting line text = if is_brief setting line then last_line text else text
+abbrev pub written_refusal : Setting → List ℕ → List ℕ → List ℕ
+written_refusal setting line text = if is_brief setting line then last_line text else text
 
 -- what is written for a blank line: a line end in `Paired`, and else nothing
 abbrev pub blank_answer : Setting → List ℕ
@@ -34,7 +34,7 @@ blank_answer settings.Paired = 10 ∷ []
 abbrev pub reply_bytes : Setting → List ℕ → Reply → List ℕ
 reply_bytes setting line replies.Nothing = blank_answer setting
 reply_bytes setting line (replies.Answer text) = text.items ++ 10 ∷ []
-reply_bytes setting line (replies.Refused text) = refusal_text setting line text.items ++ 10 ∷ []
+reply_bytes setting line (replies.Refused text) = written_refusal setting line text.items ++ 10 ∷ []
 
 -- whether a reply is no refusal
 abbrev pub is_accepted : Reply → Bool

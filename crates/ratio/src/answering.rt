@@ -1,7 +1,7 @@
 //! The reply to one expression, and to the lines of the input.
 ghost use Rattle.std.specs.Prelude.{◌≡◌, ◌+◌, ◌++◌, ◌∷◌, [], IfOk, OnErr, OnOk, false, length};
 ghost use Rattle.ratio_expressions.specs.Bound.{named};
-ghost use Rattle.ratio.specs.Answers.{AnswersExpression, AnswersLine, AnswersLines, IsAnswered, IsReplied, TakesMemory, blank_answer, refusal_text};
+ghost use Rattle.ratio.specs.Answers.{AnswersExpression, AnswersLine, AnswersLines, IsAnswered, IsReplied, TakesMemory, blank_answer, written_refusal};
 ghost use Rattle.ratio.specs.Devices.{device_change};
 ghost use Rattle.ratio.specs.Failures.{FailsAtWrite, IsFlushed, OneFailsAtWrite, failed_reads};
 ghost use Rattle.ratio.specs.Lines.{last_line, last_line_length, without_end};
@@ -154,7 +154,7 @@ fn refusal(
     line: &[u8],
     text: Vec<u8>,
 ) -> Result<Vec<u8>, AllocError>
-    ensures { IfOk result (λ t. t.items ≡ refusal_text setting line.now text.items) }
+    ensures { IfOk result (λ t. t.items ≡ written_refusal setting line.now text.items) }
 {
     if is_brief(setting, line) {
         Vec::from_slice(alloc, last_line(&text))

@@ -1,11 +1,11 @@
 -- A text is cut into tokens in one way, and a text in which a place begins no token is cut in none.
-use Rattle.std.proofs.Common.{◌≡◌, ◌≢◌, ◌<◌, ◌≤◌, ◌+◌, ◌⊎◌, ℕ, Bool, true, List, [], ◌∷◌, ◌++◌, length, drop, Some, None, refl, ap, sym, ◌∙◌, subst, arith, ⊎_elim}
-use Rattle.std.specs.Prelude.{option_map, slice_index}
+use Rattle.std.proofs.Common.{◌≡◌, ◌≢◌, ◌<◌, ◌≤◌, ◌+◌, ◌⊎◌, ℕ, Bool, true, List, [], ◌∷◌, ◌++◌, length, drop, Some, None, refl, ap, sym, ◌∙◌, subst, arith, ⊎_elim, Option, false}
+use Rattle.std.specs.Prelude.{option_map, slice_index, if◌then◌else◌}
 use Rattle.std.proofs.lemmas.Bool.Decides.{leb_tells, nat_tests}
 use Rattle.std.proofs.lemmas.List.{get_or-drop, drop_all}
 use Rattle.ratio_expressions.specs.declared.token.Kind.{Kind}
 use Rattle.ratio_expressions.specs.declared.token.Token.{Token}
-use Rattle.ratio_expressions.specs.Tokens.{first_token, is_behind_slash, is_blank_at, is_blank_byte, spaced_at, token_at, number, plain_number, name, symbol, digits, led, IsBlank, IsTokenAt, IsCutInto, BeginsNone, BeginsWithToken}
+use Rattle.ratio_expressions.specs.Tokens.{first_token, is_loose_percent, is_behind_slash, is_blank_at, is_blank_byte, spaced_at, token_at, number, plain_number, name, symbol, digits, led, IsBlank, IsTokenAt, IsCutInto, BeginsNone, BeginsWithToken}
 use Rattle.ratio_expressions.specs.Vulgar.{vulgar, vulgar_length}
 
 -- a blank byte is a space or a tab
@@ -35,9 +35,13 @@ nothing_first : (slash : Bool) → first_token slash [] ≡ None
 unfolding number plain_number name symbol digits led vulgar vulgar_length
 nothing_first slash = refl
 
+none_or : {A : Type 0} (b : Bool) (o : Option A) → o ≡ None → (if b then None else o) ≡ None
+none_or true o e = refl
+none_or false o e = e
+
 -- where the rest begins with no token, no token is
 none_at : (text : List ℕ) (at : ℕ) → first_token (is_behind_slash text at) (drop at text) ≡ None → token_at text at ≡ None
-none_at text at e = ap (option_map (spaced_at text at)) e
+none_at text at e = none_or (is_loose_percent text at) _ (ap (option_map (spaced_at text at)) e)
 
 module _ (text : List ℕ) (t : Token) (h : IsTokenAt text t) where
   -- a token begins with no blank byte, and before the end

@@ -7,7 +7,7 @@ use Rattle.ratio_integer.specs.SignedBits.{IsHeld64}
 use Rattle.ratio_big.specs.Fractions.{big_numbers}
 use Rattle.ratio_big.specs.Values.{IsShort}
 use Rattle.ratio_big.specs.declared.fraction.BigFraction.{BigFraction}
-use Rattle.ratio_expressions.specs.Limits.{FitInto, FitTogether, IsSize, IsSizeOf, IsWithin}
+use Rattle.ratio_expressions.specs.Limits.{FitInto, FitTogether, IsSize, IsSizeOf, FitsInBits}
 use Rattle.ratio_expressions.proofs.PowerBounds.{powers_ordered}
 
 -- ---- one number

@@ -11,7 +11,7 @@ most_bytes = 1000000
 
 -- both numbers of x, without their signs, are at most 2 to the power `bits`
 -- Example: 2, for 3/4
-pub record IsWithin (bits : ℕ) (x : ℤ × ℤ) : Type 0 where
+pub record FitsInBits (bits : ℕ) (x : ℤ × ℤ) : Type 0 where
   pub numer : unsigned_abs x.0 ≤ 2 ^ bits
   pub denom : unsigned_abs x.1 ≤ 2 ^ bits
 
@@ -19,7 +19,7 @@ pub record IsWithin (bits : ℕ) (x : ℤ × ℤ) : Type 0 where
 -- Example: 5, for 3/4 and 1/8
 abbrev pub FitInto : ℕ → List (ℤ × ℤ) → Type 0
 FitInto bits [] = Unit {0}
-FitInto bits (x ∷ xs) = (own : ℕ) × (own ≤ bits) × IsWithin own x × FitInto (bits - own) xs
+FitInto bits (x ∷ xs) = (own : ℕ) × (own ≤ bits) × FitsInBits own x × FitInto (bits - own) xs
 
 -- the numbers have at most a million bits together, so that no number that is made of them has many more
 -- Example: 2^500000 and 2^500000; not 2^500000 and 2^500001
@@ -40,6 +40,6 @@ pub record IsSizeOf (n size : ℕ) : Type 0 where
 -- Inner: the same for both numbers of x
 -- Example: 2, for 3/4
 pub record IsSize (x : ℤ × ℤ) (size : ℕ) : Type 0 where
-  pub within : size ≤ most_bits → IsWithin size x
-  pub least : (bits : ℕ) → IsWithin bits x → size ≤ bits
+  pub within : size ≤ most_bits → FitsInBits size x
+  pub least : (bits : ℕ) → FitsInBits bits x → size ≤ bits
   pub few : size ≤ most_bits + 1

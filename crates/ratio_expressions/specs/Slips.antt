@@ -31,13 +31,13 @@ ends_operand text = let b = last_byte text in is_ascii_alphanumeric b || ((b == 
 
 -- how many digits a text ends with
 -- Example: `2/13`: 2
-abbrev pub last_digits : List ℕ → ℕ
-last_digits text = length (take_while is_ascii_digit (reverse text))
+abbrev pub digits_at_end : List ℕ → ℕ
+digits_at_end text = length (take_while is_ascii_digit (reverse text))
 
 -- whether a text ends with a slash and digits
 -- Example: `1/2`; not `12`
 abbrev pub ends_over : List ℕ → Bool
-ends_over text = nat_lt 0 (last_digits text) && is_behind 47 text (length text - last_digits text)
+ends_over text = nat_lt 0 (digits_at_end text) && is_behind 47 text (length text - digits_at_end text)
 
 -- what is behind the digits that a text begins with
 -- Example: `1/2^3`: `/2^3`
@@ -106,6 +106,7 @@ hint_of_compared operators.NotEqual before = hint_of_comparison before
 hint_of_compared operators.AtLeast before = hint_of_comparison before
 hint_of_compared operators.Greater before = hint_of_comparison before
 hint_of_compared (operators.Divide s) before = hint_of_slash before
+hint_of_compared (operators.Remainder s) before = if ends_operand before then hints.Percentage else hints.OneOperator
 hint_of_compared operator before = hints.OneOperator
 
 -- whether an operator is `=`

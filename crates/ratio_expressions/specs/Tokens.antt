@@ -199,10 +199,15 @@ spaced before after kind = kind
 abbrev pub spaced_at : List ℕ → ℕ → Kind × ℕ → Kind × ℕ
 spaced_at text at t = (spaced (is_behind_blank text at) (is_blank_at text (at + t.1)) t.0, t.1)
 
+-- whether a percent sign that is no part of a number is at this place, and no remainder either: no blank byte is before it, and no operand touches it
+-- Example: the sign of `1/2%`, of `x% 3` and of `x%-3`; not of `7 % 3` or `x%3`
+abbrev pub is_loose_percent : List ℕ → ℕ → Bool
+is_loose_percent text at = (slice_index (drop at text) 0 == 37) && not (is_behind_blank text at || begins_operand (drop 1 (drop at text)))
+
 -- the kind and the length of the token that begins at a place
 -- Example: 2, of `1 / 2`: a division, `Wide`, and 1
 abbrev pub token_at : List ℕ → ℕ → Option (Kind × ℕ)
-token_at text at = option_map (spaced_at text at) (first_token (is_behind_slash text at) (drop at text))
+token_at text at = if is_loose_percent text at then None else option_map (spaced_at text at) (first_token (is_behind_slash text at) (drop at text))
 
 -- a piece of a text is blank: its bytes are spaces and tabs
 pub record IsBlank (text : List ℕ) (from to : ℕ) : Type 0 where

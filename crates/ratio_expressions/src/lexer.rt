@@ -3,9 +3,9 @@ pub(crate) mod number;
 mod symbol;
 
 ghost use Rattle.std.specs.Prelude.{◌≡◌, ◌<◌, ◌≤◌, ◌+◌, ◌++◌, ◌∷◌, [], length, IfOk, OnOk, IsErr, IfSome};
-ghost use Rattle.ratio_expressions.specs.Tokens.{BeginsWithToken, IsCutTo, begins_three, first_token, is_behind, is_behind_blank, is_behind_slash, is_blank_at, is_blank_byte, set_as, slash_behind, spaced, token_at};
+ghost use Rattle.ratio_expressions.specs.Tokens.{BeginsWithToken, IsCutTo, begins_three, first_token, is_behind, is_behind_blank, is_behind_slash, is_blank_at, is_blank_byte, is_loose_percent, set_as, slash_behind, spaced, token_at};
 
-use crate::lexer::number::{name_length, number_length};
+use crate::lexer::number::{begins_operand, name_length, number_length};
 use crate::lexer::symbol::symbol_at;
 use crate::token::{Kind, Operator, Spacing, Span, Token};
 use std::alloc::{AllocError, Global};
@@ -88,12 +88,26 @@ fn token_at(text: &[u8], at: usize) -> Option<(Kind, usize)>
     ensures is { result ≡ token_at text.now at }
     ensures fits { IfSome result (λ found. (0 < found.1) × (at + found.1 ≤ length text.now)) }
 {
+    if loose_percent(text, at) {
+        return None;
+    }
     match first_token(behind_slash(text, at), &text[at..]) {
         Some((kind, long)) => {
             let kind = as_spaced(behind_blank(text, at), blank_at(text, at + long), kind);
             Some((kind, long))
         }
         None => None,
+    }
+}
+
+// Whether a percent sign is at this place that is no part of a number and no remainder.
+fn loose_percent(text: &[u8], at: usize) -> bool
+    requires { at ≤ length text.now }
+    ensures { result ≡ is_loose_percent text.now at }
+{
+    match &text[at..] {
+        [b'%', rest @ ..] => !(behind_blank(text, at) || begins_operand(rest)),
+        _ => false,
     }
 }
 

@@ -7,9 +7,12 @@
 //!
 //! ```rattle
 //! match reply_to(alloc, line, form, names)? {
-//!     Reply::Nothing => Ok((Vec::new(alloc), true)),
+//!     Reply::Nothing => Ok((blank_answer(alloc, setting)?, true)),
 //!     Reply::Answer(text) => Ok((with_end(text)?, true)),
-//!     Reply::Refused(text) => Ok((with_end(text)?, false)),
+//!     Reply::Refused(text) => {
+//!         let text = refusal(alloc, setting, line, text)?;
+//!         Ok((with_end(text)?, false))
+//!     }
 //! }
 //! ```
 //!
@@ -43,7 +46,7 @@
 //! | `assignment` | The name that a line gives its value, and the expression of this value. |
 //! | `line` | The value of a line, which gives it names: `x = 3/7`. |
 //! | `slashes` | Which chains of slashes are taken whole, and how a text shows that. |
-//! | `laws` | The laws that a text has at most one tree or is refused at one place, and not both, and that its slashes are read in one way. |
+//! | `laws` | The laws that a text has at most one tree or is refused at one place, and not both, and that its slashes are read in one way, and where none of their chains is taken whole, from the left. |
 //! | `value_laws` | The laws that a text is worth at most one value, that it has at most one refusal, and never both. |
 //! | `replies` | What a line that a person types is answered: its value in a form, or why it has none, with a caret below the place. |
 //! | `replies::form` | `Form`: as what a number is written. |
@@ -56,6 +59,8 @@
 //! | `replies::refused` | The text of a refusal: the line, a caret and the reason. |
 //! | `replies::reply` | `Reply`: what a line is answered. |
 //! | `replies::laws` | The laws that a line has one reply, and that a tiny number is written `0` as a float. |
+//! | `replies::hint` | `Hint`: what a refused line is told to type. |
+//! | `replies::slip` | Which hint a refused line gets: by what is before the refused place, and by what is at it. |
 #![tactic(auto)]
 
 mod assignment;

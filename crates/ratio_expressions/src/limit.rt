@@ -4,7 +4,7 @@ ghost use Rattle.ratio_big.specs.Fractions.{big_numbers};
 ghost use Rattle.ratio_big.specs.Values.{IsShort};
 ghost use Rattle.ratio_expressions.specs.Limits.{FitTogether, IsSize};
 
-use crate::size::{MOST_BITS, size_of};
+use crate::size::{MOST_BITS, size_in_bits};
 use ratio_big::BigFraction;
 use std::alloc::{AllocError, Global};
 
@@ -48,7 +48,7 @@ fn size(alloc: Global, x: &BigFraction) -> Result<u64, AllocError>
 {
     let mut numer = x.numer_digits(alloc)?;
     let mut denom = x.denom_digits(alloc)?;
-    let above = size_of(numer.as_mut_slice());
-    let below = size_of(denom.as_mut_slice());
+    let above = size_in_bits(numer.as_mut_slice());
+    let below = size_in_bits(denom.as_mut_slice());
     if above < below { Ok(below) } else { Ok(above) }
 }

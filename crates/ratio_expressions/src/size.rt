@@ -10,7 +10,7 @@ pub(crate) const MOST_BITS: u64 = 1_000_000;
 
 /// The least number of bits with the number at most 2 to this power, or one more than the limit if there is none up to it. The digits are
 /// then those of one less, unless they are all 0.
-pub(crate) fn size_of(digits: &mut [u64]) -> u64
+pub(crate) fn size_in_bits(digits: &mut [u64]) -> u64
     ensures { IsSizeOf (natural_of digits.old) result }
 {
     if is_zero(digits) {

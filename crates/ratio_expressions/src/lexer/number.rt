@@ -51,8 +51,8 @@ fn percent_length(slash: bool, text: &[u8]) -> usize
     }
 }
 
-// Whether an operand begins: a digit, a point, a name or a parenthesis.
-fn begins_operand(text: &[u8]) -> bool
+/// Whether an operand begins: a digit, a point, a name or a parenthesis.
+pub(crate) fn begins_operand(text: &[u8]) -> bool
     ensures { result ≡ begins_operand text.now }
 {
     match text {

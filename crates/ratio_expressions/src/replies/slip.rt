@@ -1,7 +1,7 @@
 //! Which hint a refused line gets: by what is before the refused place, and by what is at it.
 ghost use Rattle.std.specs.Prelude.{◌≡◌, ◌≤◌, length, reverse, slice_index};
 ghost use Rattle.std.specs.List.{take_while};
-ghost use Rattle.ratio_expressions.specs.Slips.{behind_digits, ends_operand, ends_over, hint, hint_between, hint_for, hint_of_byte, hint_of_call, hint_of_character, hint_of_comma, hint_of_comparison, hint_of_compared, hint_of_end, hint_of_equal, hint_of_kind, hint_of_mark, hint_of_name, hint_of_number, hint_of_operator, hint_of_sign, hint_of_slash, hint_of_three, hint_of_two, hint_of_word, is_cross, is_equal, is_part_to_power, last_byte, last_digits, name_at, trimmed};
+ghost use Rattle.ratio_expressions.specs.Slips.{behind_digits, ends_operand, ends_over, hint, hint_between, hint_for, hint_of_byte, hint_of_call, hint_of_character, hint_of_comma, hint_of_comparison, hint_of_compared, hint_of_end, hint_of_equal, hint_of_kind, hint_of_mark, hint_of_name, hint_of_number, hint_of_operator, hint_of_sign, hint_of_slash, hint_of_three, hint_of_two, hint_of_word, is_cross, is_equal, is_part_to_power, last_byte, digits_at_end, name_at, trimmed};
 ghost use Rattle.ratio_expressions.specs.Tokens.{is_blank_byte};
 
 use crate::lexer::number::{begins_power, digits_length, led_length, name_length};
@@ -156,6 +156,7 @@ fn hint_of_compared(operator: Operator, before: &[u8]) -> Hint
         | Operator::AtLeast
         | Operator::Greater => hint_of_comparison(before),
         Operator::Divide(_) => hint_of_slash(before),
+        Operator::Remainder(_) if ends_operand(before) => Hint::Percentage,
         _ => Hint::OneOperator,
     }
 }
@@ -364,8 +365,8 @@ fn last_blanks(text: &[u8]) -> usize
 }
 
 // How many digits a text ends with.
-fn last_digits(text: &[u8]) -> usize
-    ensures is { result ≡ last_digits text.now }
+fn digits_at_end(text: &[u8]) -> usize
+    ensures is { result ≡ digits_at_end text.now }
     ensures fits { result ≤ length text.now }
 {
     text.iter()
@@ -394,7 +395,7 @@ fn ends_operand(text: &[u8]) -> bool
 fn ends_over(text: &[u8]) -> bool
     ensures { result ≡ ends_over text.now }
 {
-    let digits = last_digits(text);
+    let digits = digits_at_end(text);
     digits > 0 && behind(b'/', text, text.len() - digits)
 }
 

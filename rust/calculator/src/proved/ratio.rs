@@ -8,7 +8,9 @@ mod answering;
 pub mod fault;
 mod help;
 mod option;
+mod prompt;
 mod request;
+mod setting;
 mod writing;
 
 use crate::host::{LineRead, arguments, input, is_terminal};
@@ -18,6 +20,7 @@ use help::{HELP, VERSION};
 use crate::proved::ratio_expressions::replies::Form;
 use crate::proved::ratio_lines::counted::{CalcWrite, Counted};
 use request::{Request, requested};
+use setting::{Setting, setting_of};
 
 use std::process::ExitCode;
 use writing::write;
@@ -74,9 +77,10 @@ fn serve<R: LineRead<W>, W: CalcWrite, E: CalcWrite>(
         Request::Help => print_text(output, HELP),
         Request::Version => print_text(output, VERSION),
         Request::Expression(text, form) => answer_expression(alloc, &text, form, output, errors),
-        Request::Lines(form) => {
-            let form = form.unwrap_or(form_of_lines(on_terminal));
-            answer_lines(alloc, form, on_terminal, input, output)
+        Request::Lines(form, paired) => {
+            let setting = setting_of(paired, on_terminal);
+            let form = form.unwrap_or(form_of_lines(setting));
+            answer_lines(alloc, form, setting, input, output)
         }
     }
 }
@@ -88,13 +92,12 @@ fn print_text<W: CalcWrite>(output: &mut W, text: &str) -> Result<bool, Fault> {
     Ok(true)
 }
 
-// The form of lines without one that was asked for: on a terminal the fraction has its decimal beside it.
+// The form of lines without one that was asked for: at a prompt the fraction has its decimal beside it.
 #[inline]
-fn form_of_lines(on_terminal: bool) -> Form {
-    if on_terminal {
-        Form::Both
-    } else {
-        Form::Fraction
+fn form_of_lines(setting: Setting) -> Form {
+    match setting {
+        Setting::Prompt => Form::Both,
+        Setting::Pipe | Setting::Paired => Form::Fraction,
     }
 }
 

@@ -8,9 +8,12 @@
 //!
 //! ```rattle
 //! match reply_to(alloc, line, form, names)? {
-//!     Reply::Nothing => Ok((Vec::new(alloc), true)),
+//!     Reply::Nothing => Ok((blank_answer(alloc, setting)?, true)),
 //!     Reply::Answer(text) => Ok((with_end(text)?, true)),
-//!     Reply::Refused(text) => Ok((with_end(text)?, false)),
+//!     Reply::Refused(text) => {
+//!         let text = refusal(alloc, setting, line, text)?;
+//!         Ok((with_end(text)?, false))
+//!     }
 //! }
 //! ```
 mod assignment;
@@ -21,6 +24,7 @@ pub mod expression;
 mod function;
 
 pub mod lexer;
+mod limit;
 pub mod line;
 pub mod names;
 mod number;
@@ -29,6 +33,7 @@ pub mod parser;
 mod power;
 pub mod refusal;
 pub mod replies;
+mod size;
 pub mod slashes;
 mod spelled;
 pub mod step;

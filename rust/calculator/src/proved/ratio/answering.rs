@@ -4,6 +4,8 @@
 use bakhsney::memory::{AllocError, Global, Vec};
 use crate::host::LineRead;
 use crate::proved::ratio::fault::Fault;
+use crate::proved::ratio::prompt::{TIPS, asks_help, end, ends_lines, prompt, start};
+use crate::proved::ratio::setting::{Setting, is_brief};
 use crate::proved::ratio::writing::write;
 use crate::proved::ratio_expressions::names::Names;
 use crate::proved::ratio_expressions::replies::{Form, Reply, reply_to};
@@ -19,7 +21,7 @@ pub fn answer_expression<W: CalcWrite, E: CalcWrite>(
     errors: &mut E,
 ) -> Result<bool, Fault> {
     let mut names = Names::new(alloc);
-    let (text, accepted) = answered(alloc, text, form, &mut names)?;
+    let (text, accepted) = replied(alloc, Setting::Pipe, text, form, &mut names)?;
     if accepted {
         write(output, &text)?;
     } else {
@@ -29,25 +31,28 @@ pub fn answer_expression<W: CalcWrite, E: CalcWrite>(
 }
 
 /// Answers each line of an input before it reads the next one, and says whether each has a value. A refusal is in the place of an answer.
-/// On a terminal there is a prompt before each line.
+/// At a prompt, `quit` and `exit` end the lines.
 #[inline]
 pub fn answer_lines<R: LineRead<W>, W: CalcWrite>(
     alloc: Global,
     form: Form,
-    on_terminal: bool,
+    setting: Setting,
     input: &mut R,
     output: &mut W,
 ) -> Result<bool, Fault> {
     let mut names = Names::new(alloc);
     let mut line = Vec::new(alloc);
     let mut all = true;
-    write(output, prompt(on_terminal))?;
+    write(output, start(setting))?;
     for _turn in 0..u64::MAX {
         if !input.read_line(&mut line, &*output)? {
-            write(output, end(on_terminal))?;
+            write(output, end(setting))?;
             return Ok(all);
         }
-        all &= answer_line(alloc, &line, form, on_terminal, &mut names, output)?;
+        if ends_lines(setting, without_end(&line)) {
+            return Ok(all);
+        }
+        all &= answer_line(alloc, &line, form, setting, &mut names, output)?;
     }
     Err(Fault::Endless)
 }
@@ -58,41 +63,84 @@ fn answer_line<W: CalcWrite>(
     alloc: Global,
     line: &[u8],
     form: Form,
-    on_terminal: bool,
+    setting: Setting,
     names: &mut Names,
     output: &mut W,
 ) -> Result<bool, Fault> {
-    let (mut text, accepted) = answered(alloc, without_end(line), form, names)?;
-    text.extend_from_slice(prompt(on_terminal))?;
+    let (mut text, accepted) = answered(alloc, setting, without_end(line), form, names)?;
+    text.extend_from_slice(prompt(setting))?;
     write(output, &text)?;
     Ok(accepted)
 }
 
-// What is written before each line is read.
+// What is written for a line: some help, or its reply. And whether it is no refusal.
 #[inline]
-fn prompt(on_terminal: bool) -> &'static [u8] {
-    if on_terminal { b"> " } else { b"" }
-}
-
-// What is written behind the last reply.
-#[inline]
-fn end(on_terminal: bool) -> &'static [u8] {
-    if on_terminal { b"\n" } else { b"" }
+fn answered(
+    alloc: Global,
+    setting: Setting,
+    line: &[u8],
+    form: Form,
+    names: &mut Names,
+) -> Result<(Vec<u8>, bool), AllocError> {
+    if asks_help(setting, line) {
+        return Ok((Vec::from_slice(alloc, TIPS.as_bytes())?, true));
+    }
+    replied(alloc, setting, line, form, names)
 }
 
 // The reply to a line, with its line end unless it is empty, and whether it is no refusal.
 #[inline]
-fn answered(
+fn replied(
     alloc: Global,
+    setting: Setting,
     line: &[u8],
     form: Form,
     names: &mut Names,
 ) -> Result<(Vec<u8>, bool), AllocError> {
     match reply_to(alloc, line, form, names)? {
-        Reply::Nothing => Ok((Vec::new(alloc), true)),
+        Reply::Nothing => Ok((blank_answer(alloc, setting)?, true)),
         Reply::Answer(text) => Ok((with_end(text)?, true)),
-        Reply::Refused(text) => Ok((with_end(text)?, false)),
+        Reply::Refused(text) => {
+            let text = refusal(alloc, setting, line, text)?;
+            Ok((with_end(text)?, false))
+        }
     }
+}
+
+// What is written for a blank line: a line end in `Paired`, and else nothing.
+#[inline]
+fn blank_answer(alloc: Global, setting: Setting) -> Result<Vec<u8>, AllocError> {
+    match setting {
+        Setting::Paired => Vec::from_slice(alloc, b"\n"),
+        Setting::Prompt | Setting::Pipe => Ok(Vec::new(alloc)),
+    }
+}
+
+// The refusal of a line as it is written: whole, or its last line.
+#[inline]
+fn refusal(
+    alloc: Global,
+    setting: Setting,
+    line: &[u8],
+    text: Vec<u8>,
+) -> Result<Vec<u8>, AllocError> {
+    if is_brief(setting, line) {
+        Vec::from_slice(alloc, last_line(&text))
+    } else {
+        Ok(text)
+    }
+}
+
+// The last line of a text.
+#[inline]
+fn last_line(text: &[u8]) -> &[u8] {
+    &text[text.len() - last_line_length(text)..]
+}
+
+// How many bytes are behind the last line feed of a text.
+#[inline]
+fn last_line_length(text: &[u8]) -> usize {
+    text.iter().rev().take_while(|byte| **byte != b'\n').count()
 }
 
 // The line without its line end: a line feed, or a carriage return and a line feed.

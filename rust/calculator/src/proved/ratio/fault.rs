@@ -5,6 +5,8 @@ use bakhsney::memory::{AllocError, String};
 use crate::proved::ratio::writing::write;
 use crate::proved::ratio_lines::counted::CalcWrite;
 
+use std::io::ErrorKind;
+
 /// Why the program stops before its end.
 pub enum Fault {
     /// An argument is not in UTF-8.
@@ -19,6 +21,8 @@ pub enum Fault {
     Read,
     /// An answer could not be written.
     Write,
+    /// Nobody reads the answers any more.
+    Unread,
     /// 2^64-1 lines were answered, and the input has not ended.
     Endless,
 }
@@ -27,6 +31,16 @@ impl From<AllocError> for Fault {
     #[inline]
     fn from(_e: AllocError) -> Fault {
         Fault::Memory
+    }
+}
+
+/// The fault of a write that failed with an error of this kind. A broken pipe is no news: its reader has seen enough.
+#[inline]
+pub fn fault_of_write(kind: ErrorKind) -> Fault {
+    if kind == ErrorKind::BrokenPipe {
+        Fault::Unread
+    } else {
+        Fault::Write
     }
 }
 
@@ -57,6 +71,7 @@ fn message(fault: &Fault) -> (&str, &str, &str) {
         Fault::Memory => ("ratio: out of memory\n", "", ""),
         Fault::Read => ("ratio: read failed\n", "", ""),
         Fault::Write => ("ratio: write failed\n", "", ""),
+        Fault::Unread => ("", "", ""),
         Fault::Endless => ("ratio: input too long\n", "", ""),
     }
 }

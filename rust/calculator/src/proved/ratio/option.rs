@@ -19,6 +19,8 @@ pub enum Asked {
     Page(Page),
     /// A form: `--mixed`.
     Form(Form),
+    /// `--lines`: one line of output for each line of input.
+    Lines,
     /// `--decimal`: the number of places comes next.
     Places,
     /// `--`: there are no more options.
@@ -39,7 +41,7 @@ pub fn is_option(word: &[u8]) -> bool {
 /// What the option of this name asks for, or `None` if there is none.
 #[inline]
 pub fn option_named(word: &[u8]) -> Option<Asked> {
-    if word == b"--help".as_slice() {
+    if word == b"-h".as_slice() || word == b"--help".as_slice() {
         return Some(Asked::Page(Page::Help));
     }
     if word == b"--version".as_slice() {
@@ -57,6 +59,9 @@ pub fn option_named(word: &[u8]) -> Option<Asked> {
     if word == b"--float".as_slice() {
         return Some(Asked::Form(Form::Float));
     }
+    if word == b"--lines".as_slice() {
+        return Some(Asked::Lines);
+    }
     if word == b"--decimal".as_slice() {
         return Some(Asked::Places);
     }
@@ -64,6 +69,12 @@ pub fn option_named(word: &[u8]) -> Option<Asked> {
         return Some(Asked::End);
     }
     None
+}
+
+/// What is behind `--decimal=`, if an argument begins so: `4` of `--decimal=4`.
+#[inline]
+pub fn number_behind(word: &str) -> Option<&str> {
+    word.strip_prefix("--decimal=")
 }
 
 /// The number of places that an argument says, up to 1,000,000, or `None`.

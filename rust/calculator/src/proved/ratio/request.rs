@@ -3,7 +3,7 @@
 
 use bakhsney::memory::{AllocError, Global, String, Vec};
 use crate::proved::ratio::fault::Fault;
-use crate::proved::ratio::option::{Asked, Page, is_option, option_named, places};
+use crate::proved::ratio::option::{Asked, Page, is_option, number_behind, option_named, places};
 use crate::proved::ratio_expressions::replies::Form;
 
 /// What the arguments ask for.
@@ -14,8 +14,8 @@ pub enum Request {
     Version,
     /// The value of this expression in this form.
     Expression(Vec<u8>, Form),
-    /// The values of the lines of standard input, in this form or in the one that serves there.
-    Lines(Option<Form>),
+    /// The values of the lines of standard input, in this form or in the one that serves there, and with `--lines` or not.
+    Lines(Option<Form>, bool),
 }
 
 // What the next argument is.
@@ -31,6 +31,7 @@ struct SoFar {
     next: Next,
     page: Option<Page>,
     form: Option<Form>,
+    paired: bool,
     text: Option<Vec<u8>>,
 }
 
@@ -41,6 +42,7 @@ pub fn requested(alloc: Global, words: &[String]) -> Result<Request, Fault> {
         next: Next::Any,
         page: None,
         form: None,
+        paired: false,
         text: None,
     };
     for word in words {
@@ -80,7 +82,11 @@ impl SoFar {
     #[inline]
     fn take_option(&mut self, alloc: Global, word: &str) -> Result<(), Fault> {
         match option_named(word.as_bytes()) {
-            None => Err(Fault::UnknownOption(String::from_str(alloc, word)?)),
+            None => self.take_unnamed(alloc, word),
+            Some(Asked::Lines) => {
+                self.paired = true;
+                Ok(())
+            }
             Some(Asked::Form(form)) => {
                 self.form = Some(form);
                 Ok(())
@@ -97,6 +103,24 @@ impl SoFar {
                 self.page = Some(page);
                 Ok(())
             }
+        }
+    }
+
+    // Takes an option without a name of its own, as `--decimal=4`.
+    #[inline]
+    fn take_unnamed(&mut self, alloc: Global, word: &str) -> Result<(), Fault> {
+        let number = match number_behind(word) {
+            Some(number) => number,
+            _ => {
+                return Err(Fault::UnknownOption(String::from_str(alloc, word)?));
+            }
+        };
+        match places(number) {
+            Some(n) => {
+                self.form = Some(Form::Decimal(n));
+                Ok(())
+            }
+            None => Err(Fault::NoPlaces),
         }
     }
 
@@ -123,6 +147,7 @@ impl SoFar {
             next,
             page,
             form,
+            paired,
             text,
         } = self;
         match page {
@@ -136,7 +161,7 @@ impl SoFar {
         }
         match text {
             Some(text) => Ok(Request::Expression(text, form.unwrap_or(Form::Fraction))),
-            None => Ok(Request::Lines(form)),
+            None => Ok(Request::Lines(form, paired)),
         }
     }
 }

@@ -1,7 +1,7 @@
 // Erased from crates/ratio/src/writing.rt by rust/erase: not to be edited.
 //! Bytes for an output, written whole.
 
-use crate::proved::ratio::fault::Fault;
+use crate::proved::ratio::fault::{Fault, fault_of_write};
 use crate::proved::ratio_lines::counted::CalcWrite;
 use std::io::ErrorKind;
 
@@ -18,7 +18,7 @@ pub fn write<W: CalcWrite>(writer: &mut W, bytes: &[u8]) -> Result<(), Fault> {
             Ok(n) => at += n,
             Err(e) => {
                 if e.kind() != ErrorKind::Interrupted {
-                    return Err(Fault::Write);
+                    return Err(fault_of_write(e.kind()));
                 }
             }
         }
@@ -31,6 +31,6 @@ pub fn write<W: CalcWrite>(writer: &mut W, bytes: &[u8]) -> Result<(), Fault> {
 fn flush<W: CalcWrite>(writer: &mut W) -> Result<(), Fault> {
     match writer.flush_counted() {
         Ok(()) => Ok(()),
-        Err(_) => Err(Fault::Write),
+        Err(e) => Err(fault_of_write(e.kind())),
     }
 }

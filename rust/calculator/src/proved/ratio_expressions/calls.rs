@@ -3,6 +3,7 @@
 
 use bakhsney::memory::{AllocError, Global, Vec};
 use crate::proved::ratio_expressions::function::{Function, function_named, takes};
+use crate::proved::ratio_expressions::limit::fit_together;
 use crate::proved::ratio_expressions::refusal::Reason;
 use crate::proved::ratio_expressions::value::Value;
 use bakhsney::proved::ratio_big::BigFraction;
@@ -32,7 +33,7 @@ pub(crate) fn called(
             return Ok(Err(Reason::NotNumber));
         }
     };
-    match of_numbers(alloc, function, &numbers)? {
+    match of_arguments(alloc, function, &numbers)? {
         Ok(result) => Ok(Ok(Value::Number(result))),
         Err(reason) => Ok(Err(reason)),
     }
@@ -49,6 +50,19 @@ fn numbers_in(alloc: Global, values: &[Value]) -> Result<Option<Vec<BigFraction>
         }
     }
     Ok(Some(numbers))
+}
+
+// What the function gives of its arguments, of which it takes so many, or why it refuses them: they may be too large together.
+#[inline]
+fn of_arguments(
+    alloc: Global,
+    function: Function,
+    numbers: &[BigFraction],
+) -> Result<Result<BigFraction, Reason>, AllocError> {
+    if !fit_together(alloc, numbers)? {
+        return Ok(Err(Reason::TooLarge));
+    }
+    of_numbers(alloc, function, numbers)
 }
 
 // What the function gives of numbers, of which it takes so many, or why it refuses them.

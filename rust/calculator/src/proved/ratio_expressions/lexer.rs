@@ -5,7 +5,7 @@ use bakhsney::memory::{AllocError, Global, Vec};
 pub(crate) mod number;
 mod symbol;
 
-use crate::proved::ratio_expressions::lexer::number::{name_length, number_length};
+use crate::proved::ratio_expressions::lexer::number::{begins_operand, name_length, number_length};
 use crate::proved::ratio_expressions::lexer::symbol::symbol_at;
 use crate::proved::ratio_expressions::token::{Kind, Operator, Spacing, Span, Token};
 
@@ -77,12 +77,24 @@ fn put_token(
 // The token that begins at this place of a text, and its length.
 #[inline]
 fn token_at(text: &[u8], at: usize) -> Option<(Kind, usize)> {
+    if loose_percent(text, at) {
+        return None;
+    }
     match first_token(behind_slash(text, at), &text[at..]) {
         Some((kind, long)) => {
             let kind = as_spaced(behind_blank(text, at), blank_at(text, at + long), kind);
             Some((kind, long))
         }
         None => None,
+    }
+}
+
+// Whether a percent sign is at this place that is no part of a number and no remainder.
+#[inline]
+fn loose_percent(text: &[u8], at: usize) -> bool {
+    match &text[at..] {
+        [b'%', rest @ ..] => !(behind_blank(text, at) || begins_operand(rest)),
+        _ => false,
     }
 }
 

@@ -2,10 +2,12 @@
 //! What an operator gives of two values, or why it refuses them.
 
 use bakhsney::memory::{AllocError, Global};
+use crate::proved::ratio_expressions::limit::pair_fits;
 use crate::proved::ratio_expressions::power::power;
 use crate::proved::ratio_expressions::refusal::Reason;
 use crate::proved::ratio_expressions::token::{Operator, Sign};
 use crate::proved::ratio_expressions::value::Value;
+use bakhsney::proved::ratio_big::BigFraction;
 
 /// The value with a sign before it, or why it has none.
 #[inline]
@@ -43,6 +45,44 @@ pub(crate) fn applied(
             return Ok(Err(Reason::NotNumber));
         }
     };
+    if !takes_numbers(alloc, operator, x, y)? {
+        return Ok(Err(Reason::TooLarge));
+    }
+    of_numbers(alloc, operator, x, y)
+}
+
+// Whether the two numbers are not too large for the operator. A comparison makes no number, and a power has a rule of its own.
+#[inline]
+fn takes_numbers(
+    alloc: Global,
+    operator: Operator,
+    x: &BigFraction,
+    y: &BigFraction,
+) -> Result<bool, AllocError> {
+    match operator {
+        Operator::Add
+        | Operator::Subtract
+        | Operator::Multiply
+        | Operator::Divide(_)
+        | Operator::Remainder(_) => pair_fits(alloc, x, y),
+        Operator::Less
+        | Operator::AtMost
+        | Operator::Equal
+        | Operator::NotEqual
+        | Operator::AtLeast
+        | Operator::Greater
+        | Operator::Power => Ok(true),
+    }
+}
+
+// What the operator gives of two numbers that are not too large for it, or why it refuses them.
+#[inline]
+fn of_numbers(
+    alloc: Global,
+    operator: Operator,
+    x: &BigFraction,
+    y: &BigFraction,
+) -> Result<Result<Value, Reason>, AllocError> {
     match operator {
         Operator::Less => Ok(Ok(Value::Truth(x.compare(alloc, y)?.is_lt()))),
         Operator::AtMost => Ok(Ok(Value::Truth(x.compare(alloc, y)?.is_le()))),

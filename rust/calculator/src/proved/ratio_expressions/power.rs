@@ -3,14 +3,12 @@
 
 use bakhsney::memory::{AllocError, Global};
 use crate::proved::ratio_expressions::refusal::Reason;
+use crate::proved::ratio_expressions::size::{MOST_BITS, take_one};
 use crate::proved::ratio_expressions::value::Value;
 use bakhsney::proved::ratio_big::BigFraction;
-use bakhsney::proved::ratio_natural::{bits, compare, is_zero, remainder, subtract_digit, used};
+use bakhsney::proved::ratio_natural::{bits, compare, is_zero, remainder, used};
 
 use std::cmp::Ordering;
-
-// The numbers of a power are at most 2 to this power.
-const MOST_BITS: u64 = 1_000_000;
 
 /// The power, or why there is none.
 #[inline]
@@ -94,12 +92,6 @@ fn is_at_most(digits: &mut [u64], most: u64) -> bool {
     }
     take_one(digits);
     has_bits(digits, most)
-}
-
-// Takes 1 from a number that is not 0.
-#[inline]
-fn take_one(digits: &mut [u64]) {
-    subtract_digit(digits, 1);
 }
 
 // Whether the number has at most so many bits.

@@ -34,6 +34,8 @@ pub enum Reason {
     ExponentNotWhole,
     /// The numbers of the power here may have more than a million bits: `2 ^ 1000000000`.
     PowerTooLarge,
+    /// The numbers that the operator or the call here takes have more than a million bits together: `2^600000 * 2^600000`.
+    TooLarge,
 }
 
 impl Reason {
@@ -55,6 +57,7 @@ impl Reason {
             Reason::ZeroDivisor => "this divides by 0",
             Reason::ExponentNotWhole => "the exponent is no whole number",
             Reason::PowerTooLarge => "the power may have more than a million bits",
+            Reason::TooLarge => "the numbers have more than a million bits together",
         }
     }
 }

@@ -40,9 +40,9 @@ fn percent_length(slash: bool, text: &[u8]) -> usize {
     }
 }
 
-// Whether an operand begins: a digit, a point, a name or a parenthesis.
+/// Whether an operand begins: a digit, a point, a name or a parenthesis.
 #[inline]
-fn begins_operand(text: &[u8]) -> bool {
+pub(crate) fn begins_operand(text: &[u8]) -> bool {
     match text {
         [first, ..] => {
             first.is_ascii_alphanumeric() || *first == b'_' || *first == b'.' || *first == b'('

@@ -10,13 +10,17 @@ use crate::proved::ratio_expressions::replies::form::Form;
 use crate::proved::ratio_expressions::replies::reading::answer_text;
 use crate::proved::ratio_expressions::replies::refused::refusal_lines;
 
+// How many bytes a line may have.
+const MOST_BYTES: usize = 1_000_000;
+
 /// What a line is answered. No text ends with a line end.
 pub enum Reply {
     /// Nothing: the line has only spaces and tabs, or not even these.
     Nothing,
     /// The line's value in the form that was asked for. In `Both` it may show how the line was read.
     Answer(Vec<u8>),
-    /// Why the line has no value, in three lines: the line, a caret below the place, and the reason.
+    /// Why the line has no value, in three lines: the line, a caret below the place, and the reason. A line of more than a million bytes is
+    /// not read, and the reason is all of the text.
     Refused(Vec<u8>),
 }
 
@@ -33,6 +37,20 @@ pub fn reply_to(
     if is_blank(line) {
         return Ok(Reply::Nothing);
     }
+    if line.len() > MOST_BYTES {
+        return too_long(alloc);
+    }
+    read_reply(alloc, line, form, names)
+}
+
+// What a line is answered that is read.
+#[inline]
+fn read_reply(
+    alloc: Global,
+    line: &[u8],
+    form: Form,
+    names: &mut Names,
+) -> Result<Reply, AllocError> {
     match value_of_line(alloc, line, names) {
         Ok(value) => {
             let text = answer_text(alloc, line, &value, form)?;
@@ -44,6 +62,13 @@ pub fn reply_to(
         }
         Err(ValueError::Memory) => Err(AllocError),
     }
+}
+
+// What a line is answered that is too long to be read.
+#[inline]
+fn too_long(alloc: Global) -> Result<Reply, AllocError> {
+    let text = Vec::from_slice(alloc, b"error: the line has more than a million bytes")?;
+    Ok(Reply::Refused(text))
 }
 
 // Whether the line has only spaces and tabs, or nothing.

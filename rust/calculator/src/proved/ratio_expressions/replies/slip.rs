@@ -153,6 +153,7 @@ fn hint_of_compared(operator: Operator, before: &[u8]) -> Hint {
         | Operator::AtLeast
         | Operator::Greater => hint_of_comparison(before),
         Operator::Divide(_) => hint_of_slash(before),
+        Operator::Remainder(_) if ends_operand(before) => Hint::Percentage,
         _ => Hint::OneOperator,
     }
 }
@@ -345,7 +346,7 @@ fn last_blanks(text: &[u8]) -> usize {
 
 // How many digits a text ends with.
 #[inline]
-fn last_digits(text: &[u8]) -> usize {
+fn digits_at_end(text: &[u8]) -> usize {
     text.iter()
         .rev()
         .take_while(|byte| byte.is_ascii_digit())
@@ -369,7 +370,7 @@ fn ends_operand(text: &[u8]) -> bool {
 // Whether a text ends with a slash and digits.
 #[inline]
 fn ends_over(text: &[u8]) -> bool {
-    let digits = last_digits(text);
+    let digits = digits_at_end(text);
     digits > 0 && behind(b'/', text, text.len() - digits)
 }
 

@@ -1,7 +1,7 @@
 use Rattle.std.proofs.Common.{subst}
 use Rattle.ratio_natural.specs.Number.{IsDigitCount, natural_of}
 use Rattle.ratio_expressions.proofs.SizeLemmas.{size_of_few, size_of_many, size_of_zero}
-use Rattle.ratio_expressions.proofs.size.size_of.Goals as goal
+use Rattle.ratio_expressions.proofs.size.size_in_bits.Goals as goal
 
 pub returns-then-is_zero : goal.returns-then-is_zero
 returns-then-is_zero c = size_of_zero (natural_of c.args.digits.now) (c.is_zero.ensures.zero.0 (c.if-is_zero.true))

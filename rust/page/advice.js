@@ -17,6 +17,7 @@ const ADVICE = {
   "this divides by 0": "Type another number behind the sign, as `1 / 2`.",
   "the exponent is no whole number": "Such a power is mostly no fraction. Type a whole exponent, as `2^3`.",
   "the power may have more than a million bits": "Type a smaller exponent, as `2^1000`.",
+  "the numbers have more than a million bits together": "Take numbers with fewer digits, as `2^100 * 3^100`.",
 };
 
 // The advice on a reason, for what the line has from its place on. A reason that says itself what to type, behind the column, needs none.

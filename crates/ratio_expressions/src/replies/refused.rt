@@ -72,7 +72,7 @@ fn shown(byte: u8) -> u8
 {
     match byte {
         b'\t' => b' ',
-        0..32 | 127 => b'?',
+        0..=31 | 127 => b'?',
         _ => byte,
     }
 }

@@ -70,7 +70,7 @@ fn shown_line(alloc: Global, line: &[u8]) -> Result<Vec<u8>, AllocError> {
 fn shown(byte: u8) -> u8 {
     match byte {
         b'\t' => b' ',
-        0..32 | 127 => b'?',
+        0..=31 | 127 => b'?',
         _ => byte,
     }
 }
